@@ -1,0 +1,7 @@
+pub mod ErrorText
+pub mod Refusal
+pub mod SeverityText
+pub mod Text
+pub mod V2Types
+pub mod Version
+pub mod Walk

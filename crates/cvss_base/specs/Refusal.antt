@@ -1,0 +1,93 @@
+-- The first reason why a text is no vector. Pieces are counted from 0, and the reason at the least
+-- place counts.
+use Rattle.std.specs.Prelude.{◌≡◌, ◌≢◌, ℕ, ◌<◌, List, [], length, slice_get, slice_index_or, Some}
+use Rattle.cvss_base.specs.Text.{pieces, IsComponent, name_part, value_part}
+use Rattle.cvss_base.specs.Version.{Version, read}
+
+-- a reason, with the text or the metric that it names
+pub data Refusal (K : Type 0) : Type 0 where
+  BadComponent : List ℕ → Refusal K
+  UnknownName : List ℕ → Refusal K
+  BadValue : K → List ℕ → Refusal K
+  Repeated : K → Refusal K
+  Missing : K → Refusal K
+
+-- the piece at a place
+abbrev pub piece_at : List (List ℕ) → ℕ → List ℕ
+piece_at parts place = slice_index_or parts place []
+
+-- the name and the value of the component at a place, as they are read
+abbrev pub name_at : {V K : Type 0} → Version V K → List (List ℕ) → ℕ → List ℕ
+name_at version parts place = read version (name_part (piece_at parts place))
+
+abbrev pub value_at : {V K : Type 0} → Version V K → List (List ℕ) → ℕ → List ℕ
+value_at version parts place = read version (value_part (piece_at parts place))
+
+-- the text, as it is read, spells a value of the metric
+pub record IsSpelling {V K : Type 0} (version : Version V K) (kind : K) (text : List ℕ) : Type 0 where
+  pub value : version.Value kind
+  pub spelled : read version (version.spelling kind value) ≡ text
+
+-- a component before this place has the metric's name
+pub record IsNamedBefore {V K : Type 0} (version : Version V K) (parts : List (List ℕ)) (place : ℕ) (kind : K) : Type 0 where
+  pub earlier : ℕ
+  pub is_before : earlier < place
+  pub same_name : name_at version parts earlier ≡ version.name kind
+
+-- what is wrong with the component at a place: no metric has its name, or else the metric has no
+-- such value, or else an earlier component has the same name
+abbrev pub FaultAt : {V K : Type 0} → Version V K → List (List ℕ) → ℕ → Refusal K → Type 0
+FaultAt version parts place (UnknownName name) =
+    (name ≡ name_at version parts place) × ((kind : _) → version.name kind ≢ name)
+FaultAt {K} version parts place (BadValue blamed value) =
+    (kind : K) × (blamed ≡ version.blamed kind) × (version.name kind ≡ name_at version parts place)
+    × (value ≡ value_at version parts place) × ¬ (IsSpelling version kind value)
+FaultAt version parts place (Repeated kind) =
+    (version.name kind ≡ name_at version parts place)
+    × IsSpelling version kind (value_at version parts place)
+    × IsNamedBefore version parts place kind
+FaultAt version parts place (BadComponent _) = ⊥
+FaultAt version parts place (Missing _) = ⊥
+
+-- no component before this place has a fault
+pub record HasNoFaultBefore {V K : Type 0} (version : Version V K) (parts : List (List ℕ)) (place : ℕ) : Type 0 where
+  pub none : (earlier : ℕ) (reason : Refusal K) → earlier < place → ¬ (FaultAt version parts earlier reason)
+
+-- each piece before this place is a component
+pub record AreComponentsBefore (parts : List (List ℕ)) (place : ℕ) : Type 0 where
+  pub each : (earlier : ℕ) → earlier < place → IsComponent (piece_at parts earlier)
+
+-- this piece is the first that is no component
+pub record IsFirstBadPiece (parts : List (List ℕ)) (piece : List ℕ) : Type 0 where
+  pub place : ℕ
+  pub within : place < length parts
+  pub is : piece ≡ piece_at parts place
+  pub bad : ¬ (IsComponent piece)
+  pub earlier : AreComponentsBefore parts place
+
+-- this is the fault of the first component that has one
+pub record IsFirstFault {V K : Type 0} (version : Version V K) (parts : List (List ℕ)) (reason : Refusal K) : Type 0 where
+  pub place : ℕ
+  pub within : place < length parts
+  pub fault : FaultAt version parts place reason
+  pub earlier : HasNoFaultBefore version parts place
+
+-- no component has a fault, and this is the first mandatory metric that none names
+pub record IsFirstMissing {V K : Type 0} (version : Version V K) (parts : List (List ℕ)) (kind : K) : Type 0 where
+  pub faultless : HasNoFaultBefore version parts (length parts)
+  pub place : ℕ
+  pub is : slice_get version.mandatory place ≡ Some kind
+  pub absent : ¬ (IsNamedBefore version parts (length parts) kind)
+  pub earlier : (before : ℕ) (other : K) → before < place → slice_get version.mandatory before ≡ Some other → IsNamedBefore version parts (length parts) other
+
+-- the reason of least place among the components, or else the first missing metric
+abbrev pub IsFirstReason : {V K : Type 0} → Version V K → List (List ℕ) → Refusal K → Type 0
+IsFirstReason version parts (Missing kind) = IsFirstMissing version parts kind
+IsFirstReason version parts reason = IsFirstFault version parts reason
+
+-- the first reason why the text, which has no piece that tells a version, is refused
+abbrev pub IsFirstRefusal : {V K : Type 0} → Version V K → List ℕ → Refusal K → Type 0
+IsFirstRefusal version text (BadComponent piece) = IsFirstBadPiece (pieces text) piece
+IsFirstRefusal version text reason =
+    AreComponentsBefore (pieces text) (length (pieces text))
+    × IsFirstReason version (pieces text) reason

@@ -1,0 +1,14 @@
+//! What all versions of CVSS share: errors, severities, metric types, exact numbers, and the texts
+//! that vectors are written in.
+#![tactic(auto)]
+
+mod error;
+mod severity;
+pub mod v2;
+pub mod walk;
+
+pub use error::Error;
+pub use severity::Severity;
+
+/// The word that begins the text of a vector, from version 3.0 on (v3.1 specification, section 6).
+pub const PREFIX: &str = "CVSS";

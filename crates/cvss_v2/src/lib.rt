@@ -1,0 +1,7 @@
+//! CVSS v2: its metrics, vectors and scores.
+#![tactic(auto)]
+
+pub mod metric;
+
+pub use cvss_base::v2::MetricType;
+pub use metric::Metric;

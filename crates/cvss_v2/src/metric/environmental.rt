@@ -1,0 +1,295 @@
+//! The environmental metrics (guide, section 2.3).
+
+ghost use Rattle.std.specs.Prelude.{Some};
+ghost use Rattle.cvss_base.specs.declared.v2.MetricType.TheVariants.{CDP, TD, CR, IR, AR};
+ghost use Rattle.cvss_v2.specs.Table.{metric_component};
+
+use crate::metric::{Metric, MetricType};
+use std::fmt;
+
+/// What loss beside the system may come of it (guide, section 2.3.1).
+#[derive(Clone, Copy, Debug, PartialEq, Eq, PartialOrd, Ord)]
+pub enum CollateralDamagePotential {
+    None,
+    Low,
+    LowMedium,
+    MediumHigh,
+    High,
+    NotDefined,
+}
+
+impl Metric for CollateralDamagePotential {
+    const TYPE: MetricType = MetricType::CDP;
+
+    ghost TYPE = { CDP };
+
+    ghost value = { λ metric. metric };
+
+    fn as_str(self) -> &'static str {
+        match self {
+            CollateralDamagePotential::None => "N",
+            CollateralDamagePotential::Low => "L",
+            CollateralDamagePotential::LowMedium => "LM",
+            CollateralDamagePotential::MediumHigh => "MH",
+            CollateralDamagePotential::High => "H",
+            CollateralDamagePotential::NotDefined => "ND",
+        }
+    }
+
+    fn thousandths(self) -> u64 {
+        match self {
+            CollateralDamagePotential::None => 0,
+            CollateralDamagePotential::Low => 100,
+            CollateralDamagePotential::LowMedium => 300,
+            CollateralDamagePotential::MediumHigh => 400,
+            CollateralDamagePotential::High => 500,
+            CollateralDamagePotential::NotDefined => 0,
+        }
+    }
+
+    fn read_bytes(text: &[u8]) -> Option<Self> {
+        match text {
+            b"N" => Some(CollateralDamagePotential::None),
+            b"L" => Some(CollateralDamagePotential::Low),
+            b"LM" => Some(CollateralDamagePotential::LowMedium),
+            b"MH" => Some(CollateralDamagePotential::MediumHigh),
+            b"H" => Some(CollateralDamagePotential::High),
+            b"ND" => Some(CollateralDamagePotential::NotDefined),
+            _ => None,
+        }
+    }
+}
+
+impl fmt::Display for CollateralDamagePotential {
+    ghost output = { λ metric. Some (metric_component CDP metric) };
+
+    fn fmt<W: fmt::Write>(&self, f: &mut fmt::Formatter<W>) -> fmt::Result {
+        let name = Self::TYPE.name();
+        let value = self.as_str();
+        write!(f, "{name}:{value}")
+    }
+}
+
+/// How many of the systems are vulnerable (guide, section 2.3.2).
+#[derive(Clone, Copy, Debug, PartialEq, Eq, PartialOrd, Ord)]
+pub enum TargetDistribution {
+    None,
+    Low,
+    Medium,
+    High,
+    NotDefined,
+}
+
+impl Metric for TargetDistribution {
+    const TYPE: MetricType = MetricType::TD;
+
+    ghost TYPE = { TD };
+
+    ghost value = { λ metric. metric };
+
+    fn as_str(self) -> &'static str {
+        match self {
+            TargetDistribution::None => "N",
+            TargetDistribution::Low => "L",
+            TargetDistribution::Medium => "M",
+            TargetDistribution::High => "H",
+            TargetDistribution::NotDefined => "ND",
+        }
+    }
+
+    fn thousandths(self) -> u64 {
+        match self {
+            TargetDistribution::None => 0,
+            TargetDistribution::Low => 250,
+            TargetDistribution::Medium => 750,
+            TargetDistribution::High => 1000,
+            TargetDistribution::NotDefined => 1000,
+        }
+    }
+
+    fn read_bytes(text: &[u8]) -> Option<Self> {
+        match text {
+            b"N" => Some(TargetDistribution::None),
+            b"L" => Some(TargetDistribution::Low),
+            b"M" => Some(TargetDistribution::Medium),
+            b"H" => Some(TargetDistribution::High),
+            b"ND" => Some(TargetDistribution::NotDefined),
+            _ => None,
+        }
+    }
+}
+
+impl fmt::Display for TargetDistribution {
+    ghost output = { λ metric. Some (metric_component TD metric) };
+
+    fn fmt<W: fmt::Write>(&self, f: &mut fmt::Formatter<W>) -> fmt::Result {
+        let name = Self::TYPE.name();
+        let value = self.as_str();
+        write!(f, "{name}:{value}")
+    }
+}
+
+/// How much confidentiality matters to the user (guide, section 2.3.3).
+#[derive(Clone, Copy, Debug, PartialEq, Eq, PartialOrd, Ord)]
+pub enum ConfidentialityRequirement {
+    Low,
+    Medium,
+    High,
+    NotDefined,
+}
+
+impl Metric for ConfidentialityRequirement {
+    const TYPE: MetricType = MetricType::CR;
+
+    ghost TYPE = { CR };
+
+    ghost value = { λ metric. metric };
+
+    fn as_str(self) -> &'static str {
+        match self {
+            ConfidentialityRequirement::Low => "L",
+            ConfidentialityRequirement::Medium => "M",
+            ConfidentialityRequirement::High => "H",
+            ConfidentialityRequirement::NotDefined => "ND",
+        }
+    }
+
+    fn thousandths(self) -> u64 {
+        match self {
+            ConfidentialityRequirement::Low => 500,
+            ConfidentialityRequirement::Medium => 1000,
+            ConfidentialityRequirement::High => 1510,
+            ConfidentialityRequirement::NotDefined => 1000,
+        }
+    }
+
+    fn read_bytes(text: &[u8]) -> Option<Self> {
+        match text {
+            b"L" => Some(ConfidentialityRequirement::Low),
+            b"M" => Some(ConfidentialityRequirement::Medium),
+            b"H" => Some(ConfidentialityRequirement::High),
+            b"ND" => Some(ConfidentialityRequirement::NotDefined),
+            _ => None,
+        }
+    }
+}
+
+impl fmt::Display for ConfidentialityRequirement {
+    ghost output = { λ metric. Some (metric_component CR metric) };
+
+    fn fmt<W: fmt::Write>(&self, f: &mut fmt::Formatter<W>) -> fmt::Result {
+        let name = Self::TYPE.name();
+        let value = self.as_str();
+        write!(f, "{name}:{value}")
+    }
+}
+
+/// How much integrity matters to the user (guide, section 2.3.3).
+#[derive(Clone, Copy, Debug, PartialEq, Eq, PartialOrd, Ord)]
+pub enum IntegrityRequirement {
+    Low,
+    Medium,
+    High,
+    NotDefined,
+}
+
+impl Metric for IntegrityRequirement {
+    const TYPE: MetricType = MetricType::IR;
+
+    ghost TYPE = { IR };
+
+    ghost value = { λ metric. metric };
+
+    fn as_str(self) -> &'static str {
+        match self {
+            IntegrityRequirement::Low => "L",
+            IntegrityRequirement::Medium => "M",
+            IntegrityRequirement::High => "H",
+            IntegrityRequirement::NotDefined => "ND",
+        }
+    }
+
+    fn thousandths(self) -> u64 {
+        match self {
+            IntegrityRequirement::Low => 500,
+            IntegrityRequirement::Medium => 1000,
+            IntegrityRequirement::High => 1510,
+            IntegrityRequirement::NotDefined => 1000,
+        }
+    }
+
+    fn read_bytes(text: &[u8]) -> Option<Self> {
+        match text {
+            b"L" => Some(IntegrityRequirement::Low),
+            b"M" => Some(IntegrityRequirement::Medium),
+            b"H" => Some(IntegrityRequirement::High),
+            b"ND" => Some(IntegrityRequirement::NotDefined),
+            _ => None,
+        }
+    }
+}
+
+impl fmt::Display for IntegrityRequirement {
+    ghost output = { λ metric. Some (metric_component IR metric) };
+
+    fn fmt<W: fmt::Write>(&self, f: &mut fmt::Formatter<W>) -> fmt::Result {
+        let name = Self::TYPE.name();
+        let value = self.as_str();
+        write!(f, "{name}:{value}")
+    }
+}
+
+/// How much availability matters to the user (guide, section 2.3.3).
+#[derive(Clone, Copy, Debug, PartialEq, Eq, PartialOrd, Ord)]
+pub enum AvailabilityRequirement {
+    Low,
+    Medium,
+    High,
+    NotDefined,
+}
+
+impl Metric for AvailabilityRequirement {
+    const TYPE: MetricType = MetricType::AR;
+
+    ghost TYPE = { AR };
+
+    ghost value = { λ metric. metric };
+
+    fn as_str(self) -> &'static str {
+        match self {
+            AvailabilityRequirement::Low => "L",
+            AvailabilityRequirement::Medium => "M",
+            AvailabilityRequirement::High => "H",
+            AvailabilityRequirement::NotDefined => "ND",
+        }
+    }
+
+    fn thousandths(self) -> u64 {
+        match self {
+            AvailabilityRequirement::Low => 500,
+            AvailabilityRequirement::Medium => 1000,
+            AvailabilityRequirement::High => 1510,
+            AvailabilityRequirement::NotDefined => 1000,
+        }
+    }
+
+    fn read_bytes(text: &[u8]) -> Option<Self> {
+        match text {
+            b"L" => Some(AvailabilityRequirement::Low),
+            b"M" => Some(AvailabilityRequirement::Medium),
+            b"H" => Some(AvailabilityRequirement::High),
+            b"ND" => Some(AvailabilityRequirement::NotDefined),
+            _ => None,
+        }
+    }
+}
+
+impl fmt::Display for AvailabilityRequirement {
+    ghost output = { λ metric. Some (metric_component AR metric) };
+
+    fn fmt<W: fmt::Write>(&self, f: &mut fmt::Formatter<W>) -> fmt::Result {
+        let name = Self::TYPE.name();
+        let value = self.as_str();
+        write!(f, "{name}:{value}")
+    }
+}

@@ -1,0 +1,181 @@
+//! The temporal metrics (guide, section 2.2).
+
+ghost use Rattle.std.specs.Prelude.{Some};
+ghost use Rattle.cvss_base.specs.declared.v2.MetricType.TheVariants.{E, RL, RC};
+ghost use Rattle.cvss_v2.specs.Table.{metric_component};
+
+use crate::metric::{Metric, MetricType};
+use std::fmt;
+
+/// How far techniques or code to exploit are developed (guide, section 2.2.1).
+#[derive(Clone, Copy, Debug, PartialEq, Eq, PartialOrd, Ord)]
+pub enum Exploitability {
+    Unproven,
+    ProofOfConcept,
+    Functional,
+    High,
+    NotDefined,
+}
+
+impl Metric for Exploitability {
+    const TYPE: MetricType = MetricType::E;
+
+    ghost TYPE = { E };
+
+    ghost value = { λ metric. metric };
+
+    fn as_str(self) -> &'static str {
+        match self {
+            Exploitability::Unproven => "U",
+            Exploitability::ProofOfConcept => "POC",
+            Exploitability::Functional => "F",
+            Exploitability::High => "H",
+            Exploitability::NotDefined => "ND",
+        }
+    }
+
+    fn thousandths(self) -> u64 {
+        match self {
+            Exploitability::Unproven => 850,
+            Exploitability::ProofOfConcept => 900,
+            Exploitability::Functional => 950,
+            Exploitability::High => 1000,
+            Exploitability::NotDefined => 1000,
+        }
+    }
+
+    fn read_bytes(text: &[u8]) -> Option<Self> {
+        match text {
+            b"U" => Some(Exploitability::Unproven),
+            b"POC" => Some(Exploitability::ProofOfConcept),
+            b"F" => Some(Exploitability::Functional),
+            b"H" => Some(Exploitability::High),
+            b"ND" => Some(Exploitability::NotDefined),
+            _ => None,
+        }
+    }
+}
+
+impl fmt::Display for Exploitability {
+    ghost output = { λ metric. Some (metric_component E metric) };
+
+    fn fmt<W: fmt::Write>(&self, f: &mut fmt::Formatter<W>) -> fmt::Result {
+        let name = Self::TYPE.name();
+        let value = self.as_str();
+        write!(f, "{name}:{value}")
+    }
+}
+
+/// How far the remedy is (guide, section 2.2.2).
+#[derive(Clone, Copy, Debug, PartialEq, Eq, PartialOrd, Ord)]
+pub enum RemediationLevel {
+    OfficialFix,
+    TemporaryFix,
+    Workaround,
+    Unavailable,
+    NotDefined,
+}
+
+impl Metric for RemediationLevel {
+    const TYPE: MetricType = MetricType::RL;
+
+    ghost TYPE = { RL };
+
+    ghost value = { λ metric. metric };
+
+    fn as_str(self) -> &'static str {
+        match self {
+            RemediationLevel::OfficialFix => "OF",
+            RemediationLevel::TemporaryFix => "TF",
+            RemediationLevel::Workaround => "W",
+            RemediationLevel::Unavailable => "U",
+            RemediationLevel::NotDefined => "ND",
+        }
+    }
+
+    fn thousandths(self) -> u64 {
+        match self {
+            RemediationLevel::OfficialFix => 870,
+            RemediationLevel::TemporaryFix => 900,
+            RemediationLevel::Workaround => 950,
+            RemediationLevel::Unavailable => 1000,
+            RemediationLevel::NotDefined => 1000,
+        }
+    }
+
+    fn read_bytes(text: &[u8]) -> Option<Self> {
+        match text {
+            b"OF" => Some(RemediationLevel::OfficialFix),
+            b"TF" => Some(RemediationLevel::TemporaryFix),
+            b"W" => Some(RemediationLevel::Workaround),
+            b"U" => Some(RemediationLevel::Unavailable),
+            b"ND" => Some(RemediationLevel::NotDefined),
+            _ => None,
+        }
+    }
+}
+
+impl fmt::Display for RemediationLevel {
+    ghost output = { λ metric. Some (metric_component RL metric) };
+
+    fn fmt<W: fmt::Write>(&self, f: &mut fmt::Formatter<W>) -> fmt::Result {
+        let name = Self::TYPE.name();
+        let value = self.as_str();
+        write!(f, "{name}:{value}")
+    }
+}
+
+/// How sure the report is (guide, section 2.2.3).
+#[derive(Clone, Copy, Debug, PartialEq, Eq, PartialOrd, Ord)]
+pub enum ReportConfidence {
+    Unconfirmed,
+    Uncorroborated,
+    Confirmed,
+    NotDefined,
+}
+
+impl Metric for ReportConfidence {
+    const TYPE: MetricType = MetricType::RC;
+
+    ghost TYPE = { RC };
+
+    ghost value = { λ metric. metric };
+
+    fn as_str(self) -> &'static str {
+        match self {
+            ReportConfidence::Unconfirmed => "UC",
+            ReportConfidence::Uncorroborated => "UR",
+            ReportConfidence::Confirmed => "C",
+            ReportConfidence::NotDefined => "ND",
+        }
+    }
+
+    fn thousandths(self) -> u64 {
+        match self {
+            ReportConfidence::Unconfirmed => 900,
+            ReportConfidence::Uncorroborated => 950,
+            ReportConfidence::Confirmed => 1000,
+            ReportConfidence::NotDefined => 1000,
+        }
+    }
+
+    fn read_bytes(text: &[u8]) -> Option<Self> {
+        match text {
+            b"UC" => Some(ReportConfidence::Unconfirmed),
+            b"UR" => Some(ReportConfidence::Uncorroborated),
+            b"C" => Some(ReportConfidence::Confirmed),
+            b"ND" => Some(ReportConfidence::NotDefined),
+            _ => None,
+        }
+    }
+}
+
+impl fmt::Display for ReportConfidence {
+    ghost output = { λ metric. Some (metric_component RC metric) };
+
+    fn fmt<W: fmt::Write>(&self, f: &mut fmt::Formatter<W>) -> fmt::Result {
+        let name = Self::TYPE.name();
+        let value = self.as_str();
+        write!(f, "{name}:{value}")
+    }
+}
