@@ -1,8 +1,8 @@
 -- The first reason why a text is no vector. Pieces are counted from 0, and the reason at the least
 -- place counts.
-use Rattle.std.specs.Prelude.{◌≡◌, ◌≢◌, ℕ, ◌<◌, List, [], length, slice_get, slice_index_or, Some}
+use Rattle.std.specs.Prelude.{◌≡◌, ◌≢◌, ℕ, ◌<◌, Bool, true, false, List, [], length, slice_get, slice_index_or, Some}
 use Rattle.cvss_base.specs.Text.{pieces, IsComponent, name_part, value_part}
-use Rattle.cvss_base.specs.Version.{Version, read}
+use Rattle.cvss_base.specs.Version.{Version, read, reading}
 
 -- a reason, with the text or the metric that it names
 pub data Refusal (K : Type 0) : Type 0 where
@@ -11,6 +11,12 @@ pub data Refusal (K : Type 0) : Type 0 where
   BadValue : K → List ℕ → Refusal K
   Repeated : K → Refusal K
   Missing : K → Refusal K
+
+-- whether the reason names a part of the text
+abbrev pub carries_text : {K : Type 0} → Refusal K → Bool
+carries_text (Repeated _) = false
+carries_text (Missing _) = false
+carries_text _ = true
 
 -- the piece at a place
 abbrev pub piece_at : List (List ℕ) → ℕ → List ℕ
@@ -23,10 +29,14 @@ name_at version parts place = read version (name_part (piece_at parts place))
 abbrev pub value_at : {V K : Type 0} → Version V K → List (List ℕ) → ℕ → List ℕ
 value_at version parts place = read version (value_part (piece_at parts place))
 
+-- the text spells a value
+pub record Spells {X : Type 0} (spelling : X → List ℕ) (text : List ℕ) : Type 0 where
+  pub value : X
+  pub spelled : spelling value ≡ text
+
 -- the text, as it is read, spells a value of the metric
-pub record IsSpelling {V K : Type 0} (version : Version V K) (kind : K) (text : List ℕ) : Type 0 where
-  pub value : version.Value kind
-  pub spelled : read version (version.spelling kind value) ≡ text
+abbrev pub IsSpelling : {V K : Type 0} → Version V K → K → List ℕ → Type 0
+IsSpelling version kind text = Spells (reading version kind) text
 
 -- a component before this place has the metric's name
 pub record IsNamedBefore {V K : Type 0} (version : Version V K) (parts : List (List ℕ)) (place : ℕ) (kind : K) : Type 0 where

@@ -27,6 +27,10 @@ pub record Version (V K : Type 0) : Type 1 where
 abbrev pub read : {V K : Type 0} → Version V K → List ℕ → List ℕ
 read version text = read_as version.any_case text
 
+-- the spelling of a metric's value, as it is read
+abbrev pub reading : {V K : Type 0} → (version : Version V K) → (kind : K) → version.Value kind → List ℕ
+reading version kind value = read version (version.spelling kind value)
+
 -- the spelling of the vector's value for a metric
 abbrev pub held : {V K : Type 0} → Version V K → V → K → Option (List ℕ)
 held version v kind = option_map (version.spelling kind) (version.value_of v kind)

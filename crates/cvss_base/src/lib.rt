@@ -4,11 +4,13 @@
 
 mod error;
 mod severity;
+mod text;
 pub mod v2;
 pub mod walk;
 
 pub use error::Error;
 pub use severity::Severity;
+pub use text::copied_text;
 
 /// The word that begins the text of a vector, from version 3.0 on (v3.1 specification, section 6).
 pub const PREFIX: &str = "CVSS";

@@ -1,8 +1,11 @@
 //! The qualitative severity ratings (v3.1 specification, section 5; v4.0 specification, section 6).
 
-ghost use Rattle.std.specs.Prelude.{◌≡◌, map, Some};
-ghost use Rattle.cvss_base.specs.SeverityText.{text_of};
+ghost use Rattle.std.specs.Prelude.{◌≡◌, IfOk, IfErr, IfSome, Some};
+ghost use Rattle.cvss_base.specs.SeverityText.{text_of, lowered};
+ghost use Rattle.cvss_base.specs.Told.{TellsNoSeverity};
 
+use crate::error::Error;
+use std::alloc::Global;
 use std::fmt;
 
 /// A qualitative severity rating. CVSS v2 scores are rated by the last four alone.
@@ -16,6 +19,14 @@ pub enum Severity {
 }
 
 impl Severity {
+    const ALL: [Severity; 5] = [
+        Severity::None,
+        Severity::Low,
+        Severity::Medium,
+        Severity::High,
+        Severity::Critical,
+    ];
+
     /// The rating in lower case.
     pub fn as_str(self) -> &'static str
         ensures { result.now ≡ text_of self }
@@ -27,6 +38,35 @@ impl Severity {
             Severity::High => "high",
             Severity::Critical => "critical",
         }
+    }
+
+    /// The rating with this name, in any ASCII case.
+    ///
+    /// # Errors
+    ///
+    /// `InvalidSeverity` with the text as it was given.
+    pub fn from_str(alloc: Global, text: &str) -> Result<Severity, Error>
+        ensures named { IfOk result (λ severity. text_of severity ≡ lowered text.now) }
+        ensures read { (severity : Severity) → text_of severity ≡ lowered text.now
+            → result ≡ Ok severity }
+        ensures refused { IfErr result (TellsNoSeverity text.now) }
+    {
+        match Severity::read(text) {
+            Some(severity) => Ok(severity),
+            None => Err(Error::InvalidSeverity {
+                name: String::from_str(alloc, text)?,
+            }),
+        }
+    }
+
+    fn read(text: &str) -> Option<Severity>
+        ensures named { IfSome result (λ severity. text_of severity ≡ lowered text.now) }
+        ensures read { (severity : Severity) → text_of severity ≡ lowered text.now
+            → result ≡ Some severity }
+    {
+        Severity::ALL
+            .into_iter()
+            .find(|severity| text.eq_ignore_ascii_case(severity.as_str()))
     }
 }
 

@@ -1,8 +1,12 @@
 //! The metric types of CVSS v2 (guide, section 2).
 
-ghost use Rattle.std.specs.Prelude.{◌≡◌, ◌≢◌, IfSome, IfNone, Some};
+ghost use Rattle.std.specs.Prelude.{◌≡◌, IfSome, IfOk, IfErr, Some};
+ghost use Rattle.cvss_base.specs.Refusal.{UnknownName};
+ghost use Rattle.cvss_base.specs.Told.{TellsV2};
 ghost use Rattle.cvss_base.specs.V2Types.{name_of, description_of};
 
+use crate::error::Error;
+use std::alloc::Global;
 use std::fmt;
 
 /// One of the fourteen metrics of CVSS v2.
@@ -71,8 +75,8 @@ impl MetricType {
 
     /// The metric type with this abbreviation, exactly as it is written.
     pub fn named(name: &[u8]) -> Option<MetricType>
-        ensures known { IfSome result (λ kind. name_of kind ≡ name.now) }
-        ensures unknown { IfNone result ((kind : MetricType) → name_of kind ≢ name.now) }
+        ensures named { IfSome result (λ kind. name_of kind ≡ name.now) }
+        ensures read { (kind : MetricType) → name_of kind ≡ name.now → result ≡ Some kind }
     {
         match name {
             b"A" => Some(MetricType::A),
@@ -90,6 +94,24 @@ impl MetricType {
             b"IR" => Some(MetricType::IR),
             b"AR" => Some(MetricType::AR),
             _ => None,
+        }
+    }
+
+    /// The metric type with this abbreviation, exactly as it is written.
+    ///
+    /// # Errors
+    ///
+    /// `UnknownMetric` with the text where no metric has this name.
+    pub fn from_str(alloc: Global, text: &str) -> Result<MetricType, Error>
+        ensures named { IfOk result (λ kind. name_of kind ≡ text.now) }
+        ensures read { (kind : MetricType) → name_of kind ≡ text.now → result ≡ Ok kind }
+        ensures refused { IfErr result (TellsV2 (UnknownName text.now)) }
+    {
+        match MetricType::named(text.as_bytes()) {
+            Some(kind) => Ok(kind),
+            None => Err(Error::UnknownMetric {
+                name: String::from_str(alloc, text)?,
+            }),
         }
     }
 }

@@ -2,8 +2,8 @@
 //! the part of the text that it names.
 
 ghost use Rattle.std.specs.Prelude.{◌≡◌, ◌≢◌, IfSome, IfNone, IfErr, OnOk};
-ghost use Rattle.cvss_base.specs.Version.{Version, read};
-ghost use Rattle.cvss_base.specs.Walk.{Puts, IsSlip, IsLawful, IsMissingFrom};
+ghost use Rattle.cvss_base.specs.Version.{Version, read, reading};
+ghost use Rattle.cvss_base.specs.Walk.{Puts, IsSlip, IsLawful, first_missing};
 
 /// Why a value does not go into a vector.
 #[derive(Clone, Copy, Debug, PartialEq, Eq)]
@@ -48,11 +48,12 @@ pub trait Components: Copy {
     /// Puts a value into its place, which has to be empty.
     fn put(&mut self, kind: Self::Kind, value: &[u8]) -> Result<(), Slip>
         ensures put { OnOk result (Puts version self.old kind (read version value.now) self.new) }
-        ensures slip { IfErr result (IsSlip version self.old kind (read version value.now)) };
+        ensures slip { IfErr result
+            (IsSlip (reading version kind) (version.value_of self.old kind) (read version value.now)) };
 
     /// The first metric that every vector has and this one lacks.
     fn first_missing(&self) -> Option<Self::Kind>
-        ensures { IsMissingFrom version self.now result };
+        ensures { result ≡ first_missing version self.now };
 
     ghost lawful: { IsLawful version };
 }

@@ -1,6 +1,6 @@
 -- The metrics of CVSS v2, by the tables of the guide: section 2.1 (base), 2.2 (temporal) and 2.3
 -- (environmental) for the values and their spellings, section 3.2 for their weights.
-use Rattle.std.specs.Prelude.{ℕ, List, [], ◌∷◌, codes, slice_index_or}
+use Rattle.std.specs.Prelude.{ℕ, List, [], ◌∷◌, codes}
 use Rattle.cvss_base.specs.Text.{component}
 use Rattle.cvss_base.specs.V2Types.{name_of}
 use Rattle.cvss_base.specs.declared.v2.MetricType.{MetricType}
@@ -34,23 +34,6 @@ use Rattle.cvss_v2.specs.declared.metric.environmental.IntegrityRequirement.TheV
 use Rattle.cvss_v2.specs.declared.metric.environmental.AvailabilityRequirement.{AvailabilityRequirement}
 use Rattle.cvss_v2.specs.declared.metric.environmental.AvailabilityRequirement.TheVariants as availability_requirement
 
--- each value of a metric: how it is spelled, and its weight in thousandths
-abbrev pub rows_of : MetricType → List (List ℕ × ℕ)
-rows_of AV = (codes "L", 395) ∷ (codes "A", 646) ∷ (codes "N", 1000) ∷ []
-rows_of AC = (codes "H", 350) ∷ (codes "M", 610) ∷ (codes "L", 710) ∷ []
-rows_of Au = (codes "M", 450) ∷ (codes "S", 560) ∷ (codes "N", 704) ∷ []
-rows_of C = (codes "N", 0) ∷ (codes "P", 275) ∷ (codes "C", 660) ∷ []
-rows_of I = (codes "N", 0) ∷ (codes "P", 275) ∷ (codes "C", 660) ∷ []
-rows_of A = (codes "N", 0) ∷ (codes "P", 275) ∷ (codes "C", 660) ∷ []
-rows_of E = (codes "U", 850) ∷ (codes "POC", 900) ∷ (codes "F", 950) ∷ (codes "H", 1000) ∷ (codes "ND", 1000) ∷ []
-rows_of RL = (codes "OF", 870) ∷ (codes "TF", 900) ∷ (codes "W", 950) ∷ (codes "U", 1000) ∷ (codes "ND", 1000) ∷ []
-rows_of RC = (codes "UC", 900) ∷ (codes "UR", 950) ∷ (codes "C", 1000) ∷ (codes "ND", 1000) ∷ []
-rows_of CDP = (codes "N", 0) ∷ (codes "L", 100) ∷ (codes "LM", 300) ∷ (codes "MH", 400) ∷ (codes "H", 500) ∷ (codes "ND", 0) ∷ []
-rows_of TD = (codes "N", 0) ∷ (codes "L", 250) ∷ (codes "M", 750) ∷ (codes "H", 1000) ∷ (codes "ND", 1000) ∷ []
-rows_of CR = (codes "L", 500) ∷ (codes "M", 1000) ∷ (codes "H", 1510) ∷ (codes "ND", 1000) ∷ []
-rows_of IR = (codes "L", 500) ∷ (codes "M", 1000) ∷ (codes "H", 1510) ∷ (codes "ND", 1000) ∷ []
-rows_of AR = (codes "L", 500) ∷ (codes "M", 1000) ∷ (codes "H", 1510) ∷ (codes "ND", 1000) ∷ []
-
 -- the type of a metric's values
 abbrev pub Value : MetricType → Type 0
 Value AV = AccessVector
@@ -68,67 +51,63 @@ Value CR = ConfidentialityRequirement
 Value IR = IntegrityRequirement
 Value AR = AvailabilityRequirement
 
--- where the value stands among those of its metric
-abbrev pub place_of : (kind : MetricType) → Value kind → ℕ
-place_of AV access_vector.Local = 0
-place_of AV access_vector.AdjacentNetwork = 1
-place_of AV access_vector.Network = 2
-place_of AC access_complexity.High = 0
-place_of AC access_complexity.Medium = 1
-place_of AC access_complexity.Low = 2
-place_of Au authentication.Multiple = 0
-place_of Au authentication.Single = 1
-place_of Au authentication.None = 2
-place_of C confidentiality_impact.None = 0
-place_of C confidentiality_impact.Partial = 1
-place_of C confidentiality_impact.Complete = 2
-place_of I integrity_impact.None = 0
-place_of I integrity_impact.Partial = 1
-place_of I integrity_impact.Complete = 2
-place_of A availability_impact.None = 0
-place_of A availability_impact.Partial = 1
-place_of A availability_impact.Complete = 2
-place_of E exploitability.Unproven = 0
-place_of E exploitability.ProofOfConcept = 1
-place_of E exploitability.Functional = 2
-place_of E exploitability.High = 3
-place_of E exploitability.NotDefined = 4
-place_of RL remediation_level.OfficialFix = 0
-place_of RL remediation_level.TemporaryFix = 1
-place_of RL remediation_level.Workaround = 2
-place_of RL remediation_level.Unavailable = 3
-place_of RL remediation_level.NotDefined = 4
-place_of RC report_confidence.Unconfirmed = 0
-place_of RC report_confidence.Uncorroborated = 1
-place_of RC report_confidence.Confirmed = 2
-place_of RC report_confidence.NotDefined = 3
-place_of CDP collateral_damage_potential.None = 0
-place_of CDP collateral_damage_potential.Low = 1
-place_of CDP collateral_damage_potential.LowMedium = 2
-place_of CDP collateral_damage_potential.MediumHigh = 3
-place_of CDP collateral_damage_potential.High = 4
-place_of CDP collateral_damage_potential.NotDefined = 5
-place_of TD target_distribution.None = 0
-place_of TD target_distribution.Low = 1
-place_of TD target_distribution.Medium = 2
-place_of TD target_distribution.High = 3
-place_of TD target_distribution.NotDefined = 4
-place_of CR confidentiality_requirement.Low = 0
-place_of CR confidentiality_requirement.Medium = 1
-place_of CR confidentiality_requirement.High = 2
-place_of CR confidentiality_requirement.NotDefined = 3
-place_of IR integrity_requirement.Low = 0
-place_of IR integrity_requirement.Medium = 1
-place_of IR integrity_requirement.High = 2
-place_of IR integrity_requirement.NotDefined = 3
-place_of AR availability_requirement.Low = 0
-place_of AR availability_requirement.Medium = 1
-place_of AR availability_requirement.High = 2
-place_of AR availability_requirement.NotDefined = 3
-
--- the row of a value
+-- how a value is spelled, and its weight in thousandths
 abbrev pub row_of : (kind : MetricType) → Value kind → List ℕ × ℕ
-row_of kind value = slice_index_or (rows_of kind) (place_of kind value) ([], 0)
+row_of AV access_vector.Local = (codes "L", 395)
+row_of AV access_vector.AdjacentNetwork = (codes "A", 646)
+row_of AV access_vector.Network = (codes "N", 1000)
+row_of AC access_complexity.High = (codes "H", 350)
+row_of AC access_complexity.Medium = (codes "M", 610)
+row_of AC access_complexity.Low = (codes "L", 710)
+row_of Au authentication.Multiple = (codes "M", 450)
+row_of Au authentication.Single = (codes "S", 560)
+row_of Au authentication.None = (codes "N", 704)
+row_of C confidentiality_impact.None = (codes "N", 0)
+row_of C confidentiality_impact.Partial = (codes "P", 275)
+row_of C confidentiality_impact.Complete = (codes "C", 660)
+row_of I integrity_impact.None = (codes "N", 0)
+row_of I integrity_impact.Partial = (codes "P", 275)
+row_of I integrity_impact.Complete = (codes "C", 660)
+row_of A availability_impact.None = (codes "N", 0)
+row_of A availability_impact.Partial = (codes "P", 275)
+row_of A availability_impact.Complete = (codes "C", 660)
+row_of E exploitability.Unproven = (codes "U", 850)
+row_of E exploitability.ProofOfConcept = (codes "POC", 900)
+row_of E exploitability.Functional = (codes "F", 950)
+row_of E exploitability.High = (codes "H", 1000)
+row_of E exploitability.NotDefined = (codes "ND", 1000)
+row_of RL remediation_level.OfficialFix = (codes "OF", 870)
+row_of RL remediation_level.TemporaryFix = (codes "TF", 900)
+row_of RL remediation_level.Workaround = (codes "W", 950)
+row_of RL remediation_level.Unavailable = (codes "U", 1000)
+row_of RL remediation_level.NotDefined = (codes "ND", 1000)
+row_of RC report_confidence.Unconfirmed = (codes "UC", 900)
+row_of RC report_confidence.Uncorroborated = (codes "UR", 950)
+row_of RC report_confidence.Confirmed = (codes "C", 1000)
+row_of RC report_confidence.NotDefined = (codes "ND", 1000)
+row_of CDP collateral_damage_potential.None = (codes "N", 0)
+row_of CDP collateral_damage_potential.Low = (codes "L", 100)
+row_of CDP collateral_damage_potential.LowMedium = (codes "LM", 300)
+row_of CDP collateral_damage_potential.MediumHigh = (codes "MH", 400)
+row_of CDP collateral_damage_potential.High = (codes "H", 500)
+row_of CDP collateral_damage_potential.NotDefined = (codes "ND", 0)
+row_of TD target_distribution.None = (codes "N", 0)
+row_of TD target_distribution.Low = (codes "L", 250)
+row_of TD target_distribution.Medium = (codes "M", 750)
+row_of TD target_distribution.High = (codes "H", 1000)
+row_of TD target_distribution.NotDefined = (codes "ND", 1000)
+row_of CR confidentiality_requirement.Low = (codes "L", 500)
+row_of CR confidentiality_requirement.Medium = (codes "M", 1000)
+row_of CR confidentiality_requirement.High = (codes "H", 1510)
+row_of CR confidentiality_requirement.NotDefined = (codes "ND", 1000)
+row_of IR integrity_requirement.Low = (codes "L", 500)
+row_of IR integrity_requirement.Medium = (codes "M", 1000)
+row_of IR integrity_requirement.High = (codes "H", 1510)
+row_of IR integrity_requirement.NotDefined = (codes "ND", 1000)
+row_of AR availability_requirement.Low = (codes "L", 500)
+row_of AR availability_requirement.Medium = (codes "M", 1000)
+row_of AR availability_requirement.High = (codes "H", 1510)
+row_of AR availability_requirement.NotDefined = (codes "ND", 1000)
 
 -- how the value is spelled
 abbrev pub spelling_of : (kind : MetricType) → Value kind → List ℕ

@@ -2,6 +2,8 @@
 #![tactic(auto)]
 
 pub mod metric;
+mod vector;
 
 pub use cvss_base::v2::MetricType;
 pub use metric::Metric;
+pub use vector::Vector;

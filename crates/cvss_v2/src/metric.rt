@@ -1,6 +1,9 @@
 //! The metrics of CVSS v2, each an enum of its values.
 
-ghost use Rattle.std.specs.Prelude.{◌≡◌, IfSome, Some};
+ghost use Rattle.std.specs.Prelude.{◌≡◌, ◌*◌, ◌^◌, ◌≤◌, pos, IfSome, IfOk, IfErr, Some};
+ghost use Rattle.std.proofs.Common.{rules};
+ghost use Rattle.cvss_base.specs.Refusal.{BadValue};
+ghost use Rattle.cvss_base.specs.Told.{TellsV2};
 ghost use Rattle.cvss_base.specs.V2Types.{name_of};
 ghost use Rattle.cvss_base.specs.declared.v2.MetricType.{MetricType};
 ghost use Rattle.cvss_v2.specs.Table.{Value, spelling_of, weight_of};
@@ -9,8 +12,13 @@ pub mod base;
 pub mod environmental;
 pub mod temporal;
 
+use cvss_base::Error;
 pub use cvss_base::v2::MetricType;
+use std::alloc::Global;
 use std::fmt;
+
+/// A thousandth, in counts of 10^-24.
+const THOUSANDTH: i128 = 1_000_000_000_000_000_000_000;
 
 /// A metric: an enum of the values that the guide gives for its type.
 pub trait Metric: Copy + Clone + fmt::Debug + fmt::Display + Eq + Ord {
@@ -35,10 +43,56 @@ pub trait Metric: Copy + Clone + fmt::Debug + fmt::Display + Eq + Ord {
         ensures read { (metric : Self) → spelling_of TYPE (value metric) ≡ text.now
             → result ≡ Some metric };
 
+    /// The value with this spelling.
+    fn read(text: &str) -> Option<Self>
+        ensures spelled { IfSome result (λ metric. spelling_of TYPE (value metric) ≡ text.now) }
+        ensures read { (metric : Self) → spelling_of TYPE (value metric) ≡ text.now
+            → result ≡ Some metric }
+    {
+        Self::read_bytes(text.as_bytes())
+    }
+
+    /// The value with this spelling.
+    ///
+    /// # Errors
+    ///
+    /// `InvalidMetricV2` with the text where the metric has no such value.
+    fn from_str(alloc: Global, text: &str) -> Result<Self, Error>
+        ensures spelled { IfOk result (λ metric. spelling_of TYPE (value metric) ≡ text.now) }
+        ensures read { (metric : Self) → spelling_of TYPE (value metric) ≡ text.now
+            → result ≡ Ok metric }
+        ensures refused { IfErr result (TellsV2 (BadValue TYPE text.now)) }
+    {
+        match Self::read(text) {
+            Some(metric) => Ok(metric),
+            None => {
+                let value = String::from_str(alloc, text)?;
+                Err(Error::InvalidMetricV2 {
+                    metric_type: Self::TYPE,
+                    value,
+                })
+            }
+        }
+    }
+
+    /// The value's weight, in counts of 10^-24 (guide, section 3.2).
+    fn score(self) -> i128
+        ensures { result ≡ pos (weight_of TYPE (value self) * 10 ^ 21) }
+    {
+        i128::from(self.thousandths()) * THOUSANDTH
+    }
+
     /// The metric's abbreviation.
     fn name() -> &'static str
         ensures { result.now ≡ name_of TYPE }
     {
         Self::TYPE.name()
     }
+
+    // Each value of the table is a value of the enum, and no two values are one.
+    ghost given: { (x : Value TYPE) → (metric : Self) × value metric ≡ x };
+
+    ghost one: { (x y : Self) → value x ≡ value y → x ≡ y };
+
+    ghost light: { (x : Self) → weight_of TYPE (value x) ≤ 1510 };
 }

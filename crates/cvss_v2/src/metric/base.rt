@@ -1,6 +1,7 @@
 //! The base metrics (guide, section 2.1).
 
-ghost use Rattle.std.specs.Prelude.{Some};
+ghost use Rattle.std.specs.Prelude.{Some, refl};
+ghost use Rattle.std.proofs.Common.{rules};
 ghost use Rattle.cvss_base.specs.declared.v2.MetricType.TheVariants.{AV, AC, Au, C, I, A};
 ghost use Rattle.cvss_v2.specs.Table.{metric_component};
 
@@ -21,6 +22,12 @@ impl Metric for AccessVector {
     ghost TYPE = { AV };
 
     ghost value = { λ metric. metric };
+
+    ghost given = { λ x. (x, refl) };
+
+    ghost one = { λ x y same. same };
+
+    ghost light = { Prim.search rules };
 
     fn as_str(self) -> &'static str {
         match self {
@@ -73,6 +80,12 @@ impl Metric for AccessComplexity {
 
     ghost value = { λ metric. metric };
 
+    ghost given = { λ x. (x, refl) };
+
+    ghost one = { λ x y same. same };
+
+    ghost light = { Prim.search rules };
+
     fn as_str(self) -> &'static str {
         match self {
             AccessComplexity::High => "H",
@@ -123,6 +136,12 @@ impl Metric for Authentication {
     ghost TYPE = { Au };
 
     ghost value = { λ metric. metric };
+
+    ghost given = { λ x. (x, refl) };
+
+    ghost one = { λ x y same. same };
+
+    ghost light = { Prim.search rules };
 
     fn as_str(self) -> &'static str {
         match self {
@@ -175,6 +194,12 @@ impl Metric for ConfidentialityImpact {
 
     ghost value = { λ metric. metric };
 
+    ghost given = { λ x. (x, refl) };
+
+    ghost one = { λ x y same. same };
+
+    ghost light = { Prim.search rules };
+
     fn as_str(self) -> &'static str {
         match self {
             ConfidentialityImpact::None => "N",
@@ -226,6 +251,12 @@ impl Metric for IntegrityImpact {
 
     ghost value = { λ metric. metric };
 
+    ghost given = { λ x. (x, refl) };
+
+    ghost one = { λ x y same. same };
+
+    ghost light = { Prim.search rules };
+
     fn as_str(self) -> &'static str {
         match self {
             IntegrityImpact::None => "N",
@@ -276,6 +307,12 @@ impl Metric for AvailabilityImpact {
     ghost TYPE = { A };
 
     ghost value = { λ metric. metric };
+
+    ghost given = { λ x. (x, refl) };
+
+    ghost one = { λ x y same. same };
+
+    ghost light = { Prim.search rules };
 
     fn as_str(self) -> &'static str {
         match self {

@@ -1,6 +1,7 @@
 //! The environmental metrics (guide, section 2.3).
 
-ghost use Rattle.std.specs.Prelude.{Some};
+ghost use Rattle.std.specs.Prelude.{Some, refl};
+ghost use Rattle.std.proofs.Common.{rules};
 ghost use Rattle.cvss_base.specs.declared.v2.MetricType.TheVariants.{CDP, TD, CR, IR, AR};
 ghost use Rattle.cvss_v2.specs.Table.{metric_component};
 
@@ -24,6 +25,12 @@ impl Metric for CollateralDamagePotential {
     ghost TYPE = { CDP };
 
     ghost value = { λ metric. metric };
+
+    ghost given = { λ x. (x, refl) };
+
+    ghost one = { λ x y same. same };
+
+    ghost light = { Prim.search rules };
 
     fn as_str(self) -> &'static str {
         match self {
@@ -87,6 +94,12 @@ impl Metric for TargetDistribution {
 
     ghost value = { λ metric. metric };
 
+    ghost given = { λ x. (x, refl) };
+
+    ghost one = { λ x y same. same };
+
+    ghost light = { Prim.search rules };
+
     fn as_str(self) -> &'static str {
         match self {
             TargetDistribution::None => "N",
@@ -145,6 +158,12 @@ impl Metric for ConfidentialityRequirement {
 
     ghost value = { λ metric. metric };
 
+    ghost given = { λ x. (x, refl) };
+
+    ghost one = { λ x y same. same };
+
+    ghost light = { Prim.search rules };
+
     fn as_str(self) -> &'static str {
         match self {
             ConfidentialityRequirement::Low => "L",
@@ -200,6 +219,12 @@ impl Metric for IntegrityRequirement {
 
     ghost value = { λ metric. metric };
 
+    ghost given = { λ x. (x, refl) };
+
+    ghost one = { λ x y same. same };
+
+    ghost light = { Prim.search rules };
+
     fn as_str(self) -> &'static str {
         match self {
             IntegrityRequirement::Low => "L",
@@ -254,6 +279,12 @@ impl Metric for AvailabilityRequirement {
     ghost TYPE = { AR };
 
     ghost value = { λ metric. metric };
+
+    ghost given = { λ x. (x, refl) };
+
+    ghost one = { λ x y same. same };
+
+    ghost light = { Prim.search rules };
 
     fn as_str(self) -> &'static str {
         match self {

@@ -1,6 +1,7 @@
 //! The temporal metrics (guide, section 2.2).
 
-ghost use Rattle.std.specs.Prelude.{Some};
+ghost use Rattle.std.specs.Prelude.{Some, refl};
+ghost use Rattle.std.proofs.Common.{rules};
 ghost use Rattle.cvss_base.specs.declared.v2.MetricType.TheVariants.{E, RL, RC};
 ghost use Rattle.cvss_v2.specs.Table.{metric_component};
 
@@ -23,6 +24,12 @@ impl Metric for Exploitability {
     ghost TYPE = { E };
 
     ghost value = { λ metric. metric };
+
+    ghost given = { λ x. (x, refl) };
+
+    ghost one = { λ x y same. same };
+
+    ghost light = { Prim.search rules };
 
     fn as_str(self) -> &'static str {
         match self {
@@ -83,6 +90,12 @@ impl Metric for RemediationLevel {
 
     ghost value = { λ metric. metric };
 
+    ghost given = { λ x. (x, refl) };
+
+    ghost one = { λ x y same. same };
+
+    ghost light = { Prim.search rules };
+
     fn as_str(self) -> &'static str {
         match self {
             RemediationLevel::OfficialFix => "OF",
@@ -140,6 +153,12 @@ impl Metric for ReportConfidence {
     ghost TYPE = { RC };
 
     ghost value = { λ metric. metric };
+
+    ghost given = { λ x. (x, refl) };
+
+    ghost one = { λ x y same. same };
+
+    ghost light = { Prim.search rules };
 
     fn as_str(self) -> &'static str {
         match self {

@@ -1,0 +1,76 @@
+//! How a vector is filled from its components.
+
+ghost use Rattle.std.specs.Prelude.{◌≡◌, ◌≢◌, IfErr, IfSome, OnOk, Some, None};
+ghost use Rattle.std.proofs.Common.{rules};
+ghost use Rattle.cvss_v2.specs.Table.{spelling_of};
+ghost use Rattle.cvss_v2.specs.Vector.{v2};
+ghost use Rattle.cvss_v2.specs.VectorLaws.{v2_is_lawful};
+ghost use Rattle.cvss_base.specs.Walk.{Fills, IsSlip};
+
+use crate::metric::{Metric, MetricType};
+use crate::vector::Vector;
+use cvss_base::walk::{Components, Slip};
+
+impl Components for Vector {
+    type Kind = MetricType;
+
+    ghost version = { v2 };
+
+    ghost lawful = { v2_is_lawful };
+
+    fn kind_named(name: &[u8]) -> Option<MetricType> {
+        MetricType::named(name)
+    }
+
+    fn blamed(kind: MetricType) -> MetricType {
+        kind
+    }
+
+    fn put(&mut self, kind: MetricType, value: &[u8]) -> Result<(), Slip> {
+        match kind {
+            MetricType::AV => fill(&mut self.av, value),
+            MetricType::AC => fill(&mut self.ac, value),
+            MetricType::Au => fill(&mut self.au, value),
+            MetricType::C => fill(&mut self.c, value),
+            MetricType::I => fill(&mut self.i, value),
+            MetricType::A => fill(&mut self.a, value),
+            MetricType::E => fill(&mut self.e, value),
+            MetricType::RL => fill(&mut self.rl, value),
+            MetricType::RC => fill(&mut self.rc, value),
+            MetricType::CDP => fill(&mut self.cdp, value),
+            MetricType::TD => fill(&mut self.td, value),
+            MetricType::CR => fill(&mut self.cr, value),
+            MetricType::IR => fill(&mut self.ir, value),
+            MetricType::AR => fill(&mut self.ar, value),
+        }
+    }
+
+    fn first_missing(&self) -> Option<MetricType> {
+        match self {
+            Vector { av: None, .. } => Some(MetricType::AV),
+            Vector { ac: None, .. } => Some(MetricType::AC),
+            Vector { au: None, .. } => Some(MetricType::Au),
+            Vector { c: None, .. } => Some(MetricType::C),
+            Vector { i: None, .. } => Some(MetricType::I),
+            Vector { a: None, .. } => Some(MetricType::A),
+            _ => None,
+        }
+    }
+}
+
+/// Reads a value into its place, which has to be empty.
+fn fill<M: Metric>(place: &mut Option<M>, text: &[u8]) -> Result<(), Slip>
+    ensures filled { OnOk result
+        (Fills (λ x. spelling_of M.TYPE (M.value x)) place.old text.now place.new) }
+    ensures slip { IfErr result
+        (IsSlip (λ x. spelling_of M.TYPE (M.value x)) place.old text.now) }
+{
+    let Some(metric) = M::read_bytes(text) else {
+        return Err(Slip::Invalid);
+    };
+    if place.is_some() {
+        return Err(Slip::Repeated);
+    }
+    *place = Some(metric);
+    Ok(())
+}
