@@ -1,4 +1,5 @@
 pub mod ErrorText
+pub mod Printing
 pub mod Refusal
 pub mod SeverityText
 pub mod Text

@@ -3,6 +3,7 @@
 #![tactic(auto)]
 
 mod error;
+pub mod print;
 mod severity;
 mod text;
 pub mod v2;

@@ -31,7 +31,7 @@ pub enum Fault<'a, K> {
 
 /// A vector of some version, as the walk over its text fills it.
 pub trait Components: Copy {
-    type Kind: Copy;
+    type Kind: Copy + 'static;
 
     ghost version: { Version Self Self.Kind };
 

@@ -1,12 +1,13 @@
 //! The metrics of CVSS v2, each an enum of its values.
 
-ghost use Rattle.std.specs.Prelude.{◌≡◌, ◌*◌, ◌^◌, ◌≤◌, pos, IfSome, IfOk, IfErr, Some};
+ghost use Rattle.std.specs.Prelude.{◌≡◌, ◌∷◌, ◌*◌, ◌^◌, ◌≤◌, pos, IfSome, IfOk, IfErr, Some};
 ghost use Rattle.std.proofs.Common.{rules};
 ghost use Rattle.cvss_base.specs.Refusal.{BadValue};
 ghost use Rattle.cvss_base.specs.Told.{TellsV2};
 ghost use Rattle.cvss_base.specs.V2Types.{name_of};
 ghost use Rattle.cvss_base.specs.declared.v2.MetricType.{MetricType};
-ghost use Rattle.cvss_v2.specs.Table.{Value, spelling_of, weight_of};
+ghost use Rattle.cvss_v2.specs.Table.{Value, spelling_of, weight_of, metric_component};
+ghost use Rattle.cvss_base.specs.Text.{slash};
 
 pub mod base;
 pub mod environmental;
@@ -32,6 +33,10 @@ pub trait Metric: Copy + Clone + fmt::Debug + fmt::Display + Eq + Ord {
     /// How the value is spelled in a vector.
     fn as_str(self) -> &'static str
         ensures { result.now ≡ spelling_of TYPE (value self) };
+
+    /// A slash and the component that stands for the value in a vector.
+    fn slashed(self) -> &'static str
+        ensures { result.now ≡ slash ∷ metric_component TYPE (value self) };
 
     /// The value's weight in thousandths (guide, section 3.2).
     fn thousandths(self) -> u64

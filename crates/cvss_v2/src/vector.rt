@@ -1,5 +1,6 @@
 //! A vector of CVSS v2.
 
+mod printing;
 mod reading;
 
 use crate::metric::base::{

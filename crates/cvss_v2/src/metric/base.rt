@@ -37,6 +37,14 @@ impl Metric for AccessVector {
         }
     }
 
+    fn slashed(self) -> &'static str {
+        match self {
+            AccessVector::Local => "/AV:L",
+            AccessVector::AdjacentNetwork => "/AV:A",
+            AccessVector::Network => "/AV:N",
+        }
+    }
+
     fn thousandths(self) -> u64 {
         match self {
             AccessVector::Local => 395,
@@ -91,6 +99,14 @@ impl Metric for AccessComplexity {
             AccessComplexity::High => "H",
             AccessComplexity::Medium => "M",
             AccessComplexity::Low => "L",
+        }
+    }
+
+    fn slashed(self) -> &'static str {
+        match self {
+            AccessComplexity::High => "/AC:H",
+            AccessComplexity::Medium => "/AC:M",
+            AccessComplexity::Low => "/AC:L",
         }
     }
 
@@ -151,6 +167,14 @@ impl Metric for Authentication {
         }
     }
 
+    fn slashed(self) -> &'static str {
+        match self {
+            Authentication::Multiple => "/Au:M",
+            Authentication::Single => "/Au:S",
+            Authentication::None => "/Au:N",
+        }
+    }
+
     fn thousandths(self) -> u64 {
         match self {
             Authentication::Multiple => 450,
@@ -205,6 +229,14 @@ impl Metric for ConfidentialityImpact {
             ConfidentialityImpact::None => "N",
             ConfidentialityImpact::Partial => "P",
             ConfidentialityImpact::Complete => "C",
+        }
+    }
+
+    fn slashed(self) -> &'static str {
+        match self {
+            ConfidentialityImpact::None => "/C:N",
+            ConfidentialityImpact::Partial => "/C:P",
+            ConfidentialityImpact::Complete => "/C:C",
         }
     }
 
@@ -265,6 +297,14 @@ impl Metric for IntegrityImpact {
         }
     }
 
+    fn slashed(self) -> &'static str {
+        match self {
+            IntegrityImpact::None => "/I:N",
+            IntegrityImpact::Partial => "/I:P",
+            IntegrityImpact::Complete => "/I:C",
+        }
+    }
+
     fn thousandths(self) -> u64 {
         match self {
             IntegrityImpact::None => 0,
@@ -319,6 +359,14 @@ impl Metric for AvailabilityImpact {
             AvailabilityImpact::None => "N",
             AvailabilityImpact::Partial => "P",
             AvailabilityImpact::Complete => "C",
+        }
+    }
+
+    fn slashed(self) -> &'static str {
+        match self {
+            AvailabilityImpact::None => "/A:N",
+            AvailabilityImpact::Partial => "/A:P",
+            AvailabilityImpact::Complete => "/A:C",
         }
     }
 

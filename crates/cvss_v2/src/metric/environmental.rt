@@ -43,6 +43,17 @@ impl Metric for CollateralDamagePotential {
         }
     }
 
+    fn slashed(self) -> &'static str {
+        match self {
+            CollateralDamagePotential::None => "/CDP:N",
+            CollateralDamagePotential::Low => "/CDP:L",
+            CollateralDamagePotential::LowMedium => "/CDP:LM",
+            CollateralDamagePotential::MediumHigh => "/CDP:MH",
+            CollateralDamagePotential::High => "/CDP:H",
+            CollateralDamagePotential::NotDefined => "/CDP:ND",
+        }
+    }
+
     fn thousandths(self) -> u64 {
         match self {
             CollateralDamagePotential::None => 0,
@@ -110,6 +121,16 @@ impl Metric for TargetDistribution {
         }
     }
 
+    fn slashed(self) -> &'static str {
+        match self {
+            TargetDistribution::None => "/TD:N",
+            TargetDistribution::Low => "/TD:L",
+            TargetDistribution::Medium => "/TD:M",
+            TargetDistribution::High => "/TD:H",
+            TargetDistribution::NotDefined => "/TD:ND",
+        }
+    }
+
     fn thousandths(self) -> u64 {
         match self {
             TargetDistribution::None => 0,
@@ -170,6 +191,15 @@ impl Metric for ConfidentialityRequirement {
             ConfidentialityRequirement::Medium => "M",
             ConfidentialityRequirement::High => "H",
             ConfidentialityRequirement::NotDefined => "ND",
+        }
+    }
+
+    fn slashed(self) -> &'static str {
+        match self {
+            ConfidentialityRequirement::Low => "/CR:L",
+            ConfidentialityRequirement::Medium => "/CR:M",
+            ConfidentialityRequirement::High => "/CR:H",
+            ConfidentialityRequirement::NotDefined => "/CR:ND",
         }
     }
 
@@ -234,6 +264,15 @@ impl Metric for IntegrityRequirement {
         }
     }
 
+    fn slashed(self) -> &'static str {
+        match self {
+            IntegrityRequirement::Low => "/IR:L",
+            IntegrityRequirement::Medium => "/IR:M",
+            IntegrityRequirement::High => "/IR:H",
+            IntegrityRequirement::NotDefined => "/IR:ND",
+        }
+    }
+
     fn thousandths(self) -> u64 {
         match self {
             IntegrityRequirement::Low => 500,
@@ -292,6 +331,15 @@ impl Metric for AvailabilityRequirement {
             AvailabilityRequirement::Medium => "M",
             AvailabilityRequirement::High => "H",
             AvailabilityRequirement::NotDefined => "ND",
+        }
+    }
+
+    fn slashed(self) -> &'static str {
+        match self {
+            AvailabilityRequirement::Low => "/AR:L",
+            AvailabilityRequirement::Medium => "/AR:M",
+            AvailabilityRequirement::High => "/AR:H",
+            AvailabilityRequirement::NotDefined => "/AR:ND",
         }
     }
 

@@ -41,6 +41,16 @@ impl Metric for Exploitability {
         }
     }
 
+    fn slashed(self) -> &'static str {
+        match self {
+            Exploitability::Unproven => "/E:U",
+            Exploitability::ProofOfConcept => "/E:POC",
+            Exploitability::Functional => "/E:F",
+            Exploitability::High => "/E:H",
+            Exploitability::NotDefined => "/E:ND",
+        }
+    }
+
     fn thousandths(self) -> u64 {
         match self {
             Exploitability::Unproven => 850,
@@ -106,6 +116,16 @@ impl Metric for RemediationLevel {
         }
     }
 
+    fn slashed(self) -> &'static str {
+        match self {
+            RemediationLevel::OfficialFix => "/RL:OF",
+            RemediationLevel::TemporaryFix => "/RL:TF",
+            RemediationLevel::Workaround => "/RL:W",
+            RemediationLevel::Unavailable => "/RL:U",
+            RemediationLevel::NotDefined => "/RL:ND",
+        }
+    }
+
     fn thousandths(self) -> u64 {
         match self {
             RemediationLevel::OfficialFix => 870,
@@ -166,6 +186,15 @@ impl Metric for ReportConfidence {
             ReportConfidence::Uncorroborated => "UR",
             ReportConfidence::Confirmed => "C",
             ReportConfidence::NotDefined => "ND",
+        }
+    }
+
+    fn slashed(self) -> &'static str {
+        match self {
+            ReportConfidence::Unconfirmed => "/RC:UC",
+            ReportConfidence::Uncorroborated => "/RC:UR",
+            ReportConfidence::Confirmed => "/RC:C",
+            ReportConfidence::NotDefined => "/RC:ND",
         }
     }
 
