@@ -1,4 +1,6 @@
 pub mod ErrorText
+pub mod Listing
+pub mod MetricsLeft
 pub mod Printing
 pub mod Refusal
 pub mod SeverityText

@@ -2,7 +2,7 @@
 -- Version and Refusal.
 use Rattle.std.specs.Prelude.{◌≡◌, ◌≢◌, ℕ, ◌||◌, ◌⊎◌, List, [], length, map, take, Option, Some, None, IsSome, Contains, find, is_none, slice_get, ◌<◌, count_by, ◌==◌}
 use Rattle.std.specs.List.{range_with_len, position_or_len}
-use Rattle.std.specs.Str.{bytes_eq}
+use Rattle.std.specs.Str.{bytes_eq, IsUtf8}
 use Rattle.cvss_base.specs.declared.walk.Slip.{Slip}
 use Rattle.cvss_base.specs.declared.walk.Slip.TheVariants.{Invalid, Repeated as Twice}
 use Rattle.cvss_base.specs.declared.walk.Fault.{Fault}
@@ -106,3 +106,11 @@ IsFaultOf version v piece (Repeated kind) =
     × IsSome (version.value_of v kind)
 IsFaultOf version v piece (BadComponent _) = ⊥
 IsFaultOf version v piece (Missing _) = ⊥
+
+-- the part of a text that a fault names is text
+abbrev pub NamesText : {K : Type 0} → Fault K → Type 0
+NamesText (InvalidComponent piece) = IsUtf8 piece.now
+NamesText (UnknownMetric name) = IsUtf8 name.now
+NamesText (InvalidMetric _ value) = IsUtf8 value.now
+NamesText (DuplicateMetric _) = Unit {0}
+NamesText (MissingMandatoryMetric _) = Unit {0}

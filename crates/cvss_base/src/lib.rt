@@ -3,6 +3,7 @@
 #![tactic(auto)]
 
 mod error;
+pub mod metrics;
 pub mod print;
 mod severity;
 mod text;

@@ -2,6 +2,7 @@
 
 mod printing;
 mod reading;
+mod refusing;
 
 use crate::metric::base::{
     AccessComplexity, AccessVector, Authentication, AvailabilityImpact, ConfidentialityImpact,
