@@ -5,34 +5,34 @@ use Rattle.cvss_base.specs.Text.{component}
 use Rattle.cvss_base.specs.V2Types.{name_of}
 use Rattle.cvss_base.specs.declared.v2.MetricType.{MetricType}
 use Rattle.cvss_base.specs.declared.v2.MetricType.TheVariants.{A, AC, AV, Au, C, I, E, RL, RC, CDP, TD, CR, IR, AR}
-use Rattle.cvss_v2.specs.declared.metric.base.AccessVector.{AccessVector}
-use Rattle.cvss_v2.specs.declared.metric.base.AccessVector.TheVariants as access_vector
-use Rattle.cvss_v2.specs.declared.metric.base.AccessComplexity.{AccessComplexity}
-use Rattle.cvss_v2.specs.declared.metric.base.AccessComplexity.TheVariants as access_complexity
-use Rattle.cvss_v2.specs.declared.metric.base.Authentication.{Authentication}
-use Rattle.cvss_v2.specs.declared.metric.base.Authentication.TheVariants as authentication
-use Rattle.cvss_v2.specs.declared.metric.base.ConfidentialityImpact.{ConfidentialityImpact}
-use Rattle.cvss_v2.specs.declared.metric.base.ConfidentialityImpact.TheVariants as confidentiality_impact
-use Rattle.cvss_v2.specs.declared.metric.base.IntegrityImpact.{IntegrityImpact}
-use Rattle.cvss_v2.specs.declared.metric.base.IntegrityImpact.TheVariants as integrity_impact
-use Rattle.cvss_v2.specs.declared.metric.base.AvailabilityImpact.{AvailabilityImpact}
-use Rattle.cvss_v2.specs.declared.metric.base.AvailabilityImpact.TheVariants as availability_impact
+use Rattle.cvss_v2.specs.declared.metric.base.access.AccessVector.{AccessVector}
+use Rattle.cvss_v2.specs.declared.metric.base.access.AccessVector.TheVariants as access_vector
+use Rattle.cvss_v2.specs.declared.metric.base.access.AccessComplexity.{AccessComplexity}
+use Rattle.cvss_v2.specs.declared.metric.base.access.AccessComplexity.TheVariants as access_complexity
+use Rattle.cvss_v2.specs.declared.metric.base.access.Authentication.{Authentication}
+use Rattle.cvss_v2.specs.declared.metric.base.access.Authentication.TheVariants as authentication
+use Rattle.cvss_v2.specs.declared.metric.base.impact.ConfidentialityImpact.{ConfidentialityImpact}
+use Rattle.cvss_v2.specs.declared.metric.base.impact.ConfidentialityImpact.TheVariants as confidentiality_impact
+use Rattle.cvss_v2.specs.declared.metric.base.impact.IntegrityImpact.{IntegrityImpact}
+use Rattle.cvss_v2.specs.declared.metric.base.impact.IntegrityImpact.TheVariants as integrity_impact
+use Rattle.cvss_v2.specs.declared.metric.base.impact.AvailabilityImpact.{AvailabilityImpact}
+use Rattle.cvss_v2.specs.declared.metric.base.impact.AvailabilityImpact.TheVariants as availability_impact
 use Rattle.cvss_v2.specs.declared.metric.temporal.Exploitability.{Exploitability}
 use Rattle.cvss_v2.specs.declared.metric.temporal.Exploitability.TheVariants as exploitability
 use Rattle.cvss_v2.specs.declared.metric.temporal.RemediationLevel.{RemediationLevel}
 use Rattle.cvss_v2.specs.declared.metric.temporal.RemediationLevel.TheVariants as remediation_level
 use Rattle.cvss_v2.specs.declared.metric.temporal.ReportConfidence.{ReportConfidence}
 use Rattle.cvss_v2.specs.declared.metric.temporal.ReportConfidence.TheVariants as report_confidence
-use Rattle.cvss_v2.specs.declared.metric.environmental.CollateralDamagePotential.{CollateralDamagePotential}
-use Rattle.cvss_v2.specs.declared.metric.environmental.CollateralDamagePotential.TheVariants as collateral_damage_potential
-use Rattle.cvss_v2.specs.declared.metric.environmental.TargetDistribution.{TargetDistribution}
-use Rattle.cvss_v2.specs.declared.metric.environmental.TargetDistribution.TheVariants as target_distribution
-use Rattle.cvss_v2.specs.declared.metric.environmental.ConfidentialityRequirement.{ConfidentialityRequirement}
-use Rattle.cvss_v2.specs.declared.metric.environmental.ConfidentialityRequirement.TheVariants as confidentiality_requirement
-use Rattle.cvss_v2.specs.declared.metric.environmental.IntegrityRequirement.{IntegrityRequirement}
-use Rattle.cvss_v2.specs.declared.metric.environmental.IntegrityRequirement.TheVariants as integrity_requirement
-use Rattle.cvss_v2.specs.declared.metric.environmental.AvailabilityRequirement.{AvailabilityRequirement}
-use Rattle.cvss_v2.specs.declared.metric.environmental.AvailabilityRequirement.TheVariants as availability_requirement
+use Rattle.cvss_v2.specs.declared.metric.environmental.loss.CollateralDamagePotential.{CollateralDamagePotential}
+use Rattle.cvss_v2.specs.declared.metric.environmental.loss.CollateralDamagePotential.TheVariants as collateral_damage_potential
+use Rattle.cvss_v2.specs.declared.metric.environmental.loss.TargetDistribution.{TargetDistribution}
+use Rattle.cvss_v2.specs.declared.metric.environmental.loss.TargetDistribution.TheVariants as target_distribution
+use Rattle.cvss_v2.specs.declared.metric.environmental.requirement.ConfidentialityRequirement.{ConfidentialityRequirement}
+use Rattle.cvss_v2.specs.declared.metric.environmental.requirement.ConfidentialityRequirement.TheVariants as confidentiality_requirement
+use Rattle.cvss_v2.specs.declared.metric.environmental.requirement.IntegrityRequirement.{IntegrityRequirement}
+use Rattle.cvss_v2.specs.declared.metric.environmental.requirement.IntegrityRequirement.TheVariants as integrity_requirement
+use Rattle.cvss_v2.specs.declared.metric.environmental.requirement.AvailabilityRequirement.{AvailabilityRequirement}
+use Rattle.cvss_v2.specs.declared.metric.environmental.requirement.AvailabilityRequirement.TheVariants as availability_requirement
 
 -- the type of a metric's values
 abbrev pub Value : MetricType → Type 0
@@ -116,6 +116,40 @@ spelling_of kind value = (row_of kind value).0
 -- the value's weight, in thousandths
 abbrev pub weight_of : (kind : MetricType) → Value kind → ℕ
 weight_of kind value = (row_of kind value).1
+
+-- the greatest weight of a metric's values
+abbrev pub greatest_weight : MetricType → ℕ
+greatest_weight AV = 1000
+greatest_weight AC = 710
+greatest_weight Au = 704
+greatest_weight C = 660
+greatest_weight I = 660
+greatest_weight A = 660
+greatest_weight E = 1000
+greatest_weight RL = 1000
+greatest_weight RC = 1000
+greatest_weight CDP = 500
+greatest_weight TD = 1000
+greatest_weight CR = 1510
+greatest_weight IR = 1510
+greatest_weight AR = 1510
+
+-- the weight of an absent metric: nothing in the base group, and else that of Not Defined
+abbrev pub absent_weight : MetricType → ℕ
+absent_weight AV = 0
+absent_weight AC = 0
+absent_weight Au = 0
+absent_weight C = 0
+absent_weight I = 0
+absent_weight A = 0
+absent_weight E = weight_of E exploitability.NotDefined
+absent_weight RL = weight_of RL remediation_level.NotDefined
+absent_weight RC = weight_of RC report_confidence.NotDefined
+absent_weight CDP = weight_of CDP collateral_damage_potential.NotDefined
+absent_weight TD = weight_of TD target_distribution.NotDefined
+absent_weight CR = weight_of CR confidentiality_requirement.NotDefined
+absent_weight IR = weight_of IR integrity_requirement.NotDefined
+absent_weight AR = weight_of AR availability_requirement.NotDefined
 
 -- the metric's name, a colon and the value's spelling
 abbrev pub metric_component : (kind : MetricType) → Value kind → List ℕ

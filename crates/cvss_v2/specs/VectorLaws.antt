@@ -4,20 +4,20 @@ use Rattle.std.proofs.Common.{ap, sym, ◌∙◌, lit<}
 use Rattle.cvss_base.specs.Walk.{IsLawful, dividers}
 use Rattle.cvss_base.specs.declared.v2.MetricType.{MetricType}
 use Rattle.cvss_base.specs.declared.v2.MetricType.TheVariants.{A, AC, AV, Au, C, I, E, RL, RC, CDP, TD, CR, IR, AR}
-use Rattle.cvss_v2.specs.declared.metric.base.AccessVector.TheVariants as access_vector
-use Rattle.cvss_v2.specs.declared.metric.base.AccessComplexity.TheVariants as access_complexity
-use Rattle.cvss_v2.specs.declared.metric.base.Authentication.TheVariants as authentication
-use Rattle.cvss_v2.specs.declared.metric.base.ConfidentialityImpact.TheVariants as confidentiality_impact
-use Rattle.cvss_v2.specs.declared.metric.base.IntegrityImpact.TheVariants as integrity_impact
-use Rattle.cvss_v2.specs.declared.metric.base.AvailabilityImpact.TheVariants as availability_impact
+use Rattle.cvss_v2.specs.declared.metric.base.access.AccessVector.TheVariants as access_vector
+use Rattle.cvss_v2.specs.declared.metric.base.access.AccessComplexity.TheVariants as access_complexity
+use Rattle.cvss_v2.specs.declared.metric.base.access.Authentication.TheVariants as authentication
+use Rattle.cvss_v2.specs.declared.metric.base.impact.ConfidentialityImpact.TheVariants as confidentiality_impact
+use Rattle.cvss_v2.specs.declared.metric.base.impact.IntegrityImpact.TheVariants as integrity_impact
+use Rattle.cvss_v2.specs.declared.metric.base.impact.AvailabilityImpact.TheVariants as availability_impact
 use Rattle.cvss_v2.specs.declared.metric.temporal.Exploitability.TheVariants as exploitability
 use Rattle.cvss_v2.specs.declared.metric.temporal.RemediationLevel.TheVariants as remediation_level
 use Rattle.cvss_v2.specs.declared.metric.temporal.ReportConfidence.TheVariants as report_confidence
-use Rattle.cvss_v2.specs.declared.metric.environmental.CollateralDamagePotential.TheVariants as collateral_damage_potential
-use Rattle.cvss_v2.specs.declared.metric.environmental.TargetDistribution.TheVariants as target_distribution
-use Rattle.cvss_v2.specs.declared.metric.environmental.ConfidentialityRequirement.TheVariants as confidentiality_requirement
-use Rattle.cvss_v2.specs.declared.metric.environmental.IntegrityRequirement.TheVariants as integrity_requirement
-use Rattle.cvss_v2.specs.declared.metric.environmental.AvailabilityRequirement.TheVariants as availability_requirement
+use Rattle.cvss_v2.specs.declared.metric.environmental.loss.CollateralDamagePotential.TheVariants as collateral_damage_potential
+use Rattle.cvss_v2.specs.declared.metric.environmental.loss.TargetDistribution.TheVariants as target_distribution
+use Rattle.cvss_v2.specs.declared.metric.environmental.requirement.ConfidentialityRequirement.TheVariants as confidentiality_requirement
+use Rattle.cvss_v2.specs.declared.metric.environmental.requirement.IntegrityRequirement.TheVariants as integrity_requirement
+use Rattle.cvss_v2.specs.declared.metric.environmental.requirement.AvailabilityRequirement.TheVariants as availability_requirement
 use Rattle.cvss_v2.specs.declared.vector.Vector.{Vector}
 use Rattle.cvss_v2.specs.Table.{Value, spelling_of}
 use Rattle.cvss_v2.specs.Vector.{v2, value_at}

@@ -1,13 +1,13 @@
 //! The metrics of CVSS v2, each an enum of its values.
 
-ghost use Rattle.std.specs.Prelude.{◌≡◌, ◌∷◌, ◌*◌, ◌^◌, ◌≤◌, pos, IfSome, IfOk, IfErr, Some};
-ghost use Rattle.std.proofs.Common.{rules};
+ghost use Rattle.std.specs.Prelude.{◌≡◌, ◌∷◌, ◌*◌, ◌^◌, pos, IfSome, IfOk, IfErr, Some};
 ghost use Rattle.cvss_base.specs.Refusal.{BadValue};
 ghost use Rattle.cvss_base.specs.Told.{TellsV2};
 ghost use Rattle.cvss_base.specs.V2Types.{name_of};
 ghost use Rattle.cvss_base.specs.declared.v2.MetricType.{MetricType};
 ghost use Rattle.cvss_v2.specs.Table.{Value, spelling_of, weight_of, metric_component};
-ghost use Rattle.cvss_base.specs.Text.{slash};
+ghost use Rattle.cvss_base.specs.Text.{slash, component};
+ghost use Rattle.std.specs.Fmt.{WritesOnOk};
 
 pub mod base;
 pub mod environmental;
@@ -94,10 +94,18 @@ pub trait Metric: Copy + Clone + fmt::Debug + fmt::Display + Eq + Ord {
         Self::TYPE.name()
     }
 
-    // Each value of the table is a value of the enum, and no two values are one.
-    ghost given: { (x : Value TYPE) → (metric : Self) × value metric ≡ x };
+    // Each value of the table is a value of the enum.
+    ghost covers: { (x : Value TYPE) → (metric : Self) × value metric ≡ x };
+}
 
-    ghost one: { (x y : Self) → value x ≡ value y → x ≡ y };
-
-    ghost light: { (x : Self) → weight_of TYPE (value x) ≤ 1510 };
+/// Writes the component of a metric and a spelling.
+pub(crate) fn write_component<W: fmt::Write>(
+    kind: MetricType,
+    spelling: &str,
+    f: &mut fmt::Formatter<W>,
+) -> fmt::Result
+    ensures { WritesOnOk W.write_str_gives f.old result
+        (component (name_of kind) spelling.now) f.new }
+{
+    write!(f, "{}:{spelling}", kind.name())
 }

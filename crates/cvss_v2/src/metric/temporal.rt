@@ -1,11 +1,10 @@
 //! The temporal metrics (guide, section 2.2).
 
 ghost use Rattle.std.specs.Prelude.{Some, refl};
-ghost use Rattle.std.proofs.Common.{rules};
 ghost use Rattle.cvss_base.specs.declared.v2.MetricType.TheVariants.{E, RL, RC};
 ghost use Rattle.cvss_v2.specs.Table.{metric_component};
 
-use crate::metric::{Metric, MetricType};
+use crate::metric::{Metric, MetricType, write_component};
 use std::fmt;
 
 /// How far techniques or code to exploit are developed (guide, section 2.2.1).
@@ -25,11 +24,7 @@ impl Metric for Exploitability {
 
     ghost value = { λ metric. metric };
 
-    ghost given = { λ x. (x, refl) };
-
-    ghost one = { λ x y same. same };
-
-    ghost light = { Prim.search rules };
+    ghost covers = { λ x. (x, refl) };
 
     fn as_str(self) -> &'static str {
         match self {
@@ -77,9 +72,7 @@ impl fmt::Display for Exploitability {
     ghost output = { λ metric. Some (metric_component E metric) };
 
     fn fmt<W: fmt::Write>(&self, f: &mut fmt::Formatter<W>) -> fmt::Result {
-        let name = Self::TYPE.name();
-        let value = self.as_str();
-        write!(f, "{name}:{value}")
+        write_component(Self::TYPE, self.as_str(), f)
     }
 }
 
@@ -100,11 +93,7 @@ impl Metric for RemediationLevel {
 
     ghost value = { λ metric. metric };
 
-    ghost given = { λ x. (x, refl) };
-
-    ghost one = { λ x y same. same };
-
-    ghost light = { Prim.search rules };
+    ghost covers = { λ x. (x, refl) };
 
     fn as_str(self) -> &'static str {
         match self {
@@ -152,9 +141,7 @@ impl fmt::Display for RemediationLevel {
     ghost output = { λ metric. Some (metric_component RL metric) };
 
     fn fmt<W: fmt::Write>(&self, f: &mut fmt::Formatter<W>) -> fmt::Result {
-        let name = Self::TYPE.name();
-        let value = self.as_str();
-        write!(f, "{name}:{value}")
+        write_component(Self::TYPE, self.as_str(), f)
     }
 }
 
@@ -174,11 +161,7 @@ impl Metric for ReportConfidence {
 
     ghost value = { λ metric. metric };
 
-    ghost given = { λ x. (x, refl) };
-
-    ghost one = { λ x y same. same };
-
-    ghost light = { Prim.search rules };
+    ghost covers = { λ x. (x, refl) };
 
     fn as_str(self) -> &'static str {
         match self {
@@ -222,8 +205,6 @@ impl fmt::Display for ReportConfidence {
     ghost output = { λ metric. Some (metric_component RC metric) };
 
     fn fmt<W: fmt::Write>(&self, f: &mut fmt::Formatter<W>) -> fmt::Result {
-        let name = Self::TYPE.name();
-        let value = self.as_str();
-        write!(f, "{name}:{value}")
+        write_component(Self::TYPE, self.as_str(), f)
     }
 }

@@ -1,0 +1,113 @@
+#!/usr/bin/env python3
+"""A second implementation of CVSS v2 lines, on fractions, written from the guide alone.
+
+Reads lines on standard input and writes the answer to each on standard output. It shares no code
+with the crates: its answers are expected values for them.
+"""
+import sys
+from fractions import Fraction
+
+IMPACT = {"N": "0", "P": "0.275", "C": "0.660"}
+REQUIREMENT = {"L": "0.5", "M": "1", "H": "1.51", "ND": "1"}
+# In printing order: the name in words, and the weight of each spelling.
+METRICS = {
+    "AV": ("Access Vector", {"L": "0.395", "A": "0.646", "N": "1"}),
+    "AC": ("Access Complexity", {"H": "0.35", "M": "0.61", "L": "0.71"}),
+    "Au": ("Authentication", {"M": "0.45", "S": "0.56", "N": "0.704"}),
+    "C": ("Confidentiality Impact", IMPACT),
+    "I": ("Integrity Impact", IMPACT),
+    "A": ("Availability Impact", IMPACT),
+    "E": ("Exploitability", {"U": "0.85", "POC": "0.9", "F": "0.95", "H": "1", "ND": "1"}),
+    "RL": ("Remediation Level", {"OF": "0.87", "TF": "0.9", "W": "0.95", "U": "1", "ND": "1"}),
+    "RC": ("Report Confidence", {"UC": "0.9", "UR": "0.95", "C": "1", "ND": "1"}),
+    "CDP": ("Collateral Damage Potential",
+            {"N": "0", "L": "0.1", "LM": "0.3", "MH": "0.4", "H": "0.5", "ND": "0"}),
+    "TD": ("Target Distribution", {"N": "0", "L": "0.25", "M": "0.75", "H": "1", "ND": "1"}),
+    "CR": ("Confidentiality Requirement", REQUIREMENT),
+    "IR": ("Integrity Requirement", REQUIREMENT),
+    "AR": ("Availability Requirement", REQUIREMENT),
+}
+MANDATORY = ["AV", "AC", "Au", "C", "I", "A"]
+
+
+class Refused(Exception):
+    pass
+
+
+def described(name):
+    return f"CVSSv2 {name} ({METRICS[name][0]}) metric"
+
+
+def read(text):
+    """The vector as a dictionary, or the first reason why the text is refused."""
+    pieces = text.split("/")
+    for piece in pieces:
+        if piece.count(":") != 1:
+            raise Refused(f"invalid CVSS metric group component: `{piece}`")
+    vector = {}
+    for piece in pieces:
+        name, value = piece.split(":")
+        if name not in METRICS:
+            raise Refused(f"unknown CVSS metric name: `{name}`")
+        if value not in METRICS[name][1]:
+            raise Refused(f"invalid {described(name)}: `{value}`")
+        if name in vector:
+            raise Refused(f"duplicate {described(name)}")
+        vector[name] = value
+    for name in MANDATORY:
+        if name not in vector:
+            raise Refused(f"missing mandatory {described(name)}")
+    return vector
+
+
+def canonical(vector):
+    return "/".join(f"{name}:{vector[name]}" for name in METRICS if name in vector)
+
+
+def weight(vector, name):
+    return Fraction(METRICS[name][1][vector[name]])
+
+
+def tenths(x):
+    """The nearest tenth to x + 10^-6, half away from zero."""
+    x = (x + Fraction(1, 1_000_000)) * 10
+    sign = -1 if x < 0 else 1
+    return sign * ((2 * abs(x) + 1) // 2)
+
+
+def base_score(vector):
+    c, i, a = (weight(vector, name) for name in "CIA")
+    impact = Fraction("10.41") * (1 - (1 - c) * (1 - i) * (1 - a))
+    av, ac, au = (weight(vector, name) for name in ("AV", "AC", "Au"))
+    exploitability = 20 * av * ac * au
+    f = Fraction("1.176") if impact else 0
+    return max(0, tenths((Fraction("0.6") * impact + Fraction("0.4") * exploitability
+                          - Fraction("1.5")) * f))
+
+
+def answer(line):
+    try:
+        text = line.decode("utf-8")
+    except UnicodeDecodeError:
+        return "error: not UTF-8"
+    try:
+        vector = read(text)
+    except Refused as reason:
+        return f"error: {reason}"
+    score = base_score(vector)
+    severity = "low" if score < 40 else "medium" if score < 70 else "high"
+    return f"{canonical(vector)} {score // 10}.{score % 10} {severity}"
+
+
+def main():
+    data = sys.stdin.buffer.read()
+    lines = data.split(b"\n")
+    if lines[-1] == b"":
+        lines.pop()
+    for line in lines:
+        line = line[:-1] if line.endswith(b"\r") else line
+        sys.stdout.buffer.write(answer(line).encode("utf-8") + b"\n")
+
+
+if __name__ == "__main__":
+    main()

@@ -1,0 +1,185 @@
+//! How an attacker gets at the component (guide, sections 2.1.1 to 2.1.3).
+
+ghost use Rattle.std.specs.Prelude.{Some, refl};
+ghost use Rattle.cvss_base.specs.declared.v2.MetricType.TheVariants.{AV, AC, Au};
+ghost use Rattle.cvss_v2.specs.Table.{metric_component};
+
+use crate::metric::{Metric, MetricType, write_component};
+use std::fmt;
+
+/// How near to the component the attacker has to be (guide, section 2.1.1).
+#[derive(Clone, Copy, Debug, PartialEq, Eq, PartialOrd, Ord)]
+pub enum AccessVector {
+    Local,
+    AdjacentNetwork,
+    Network,
+}
+
+impl Metric for AccessVector {
+    const TYPE: MetricType = MetricType::AV;
+
+    ghost TYPE = { AV };
+
+    ghost value = { λ metric. metric };
+
+    ghost covers = { λ x. (x, refl) };
+
+    fn as_str(self) -> &'static str {
+        match self {
+            AccessVector::Local => "L",
+            AccessVector::AdjacentNetwork => "A",
+            AccessVector::Network => "N",
+        }
+    }
+
+    fn slashed(self) -> &'static str {
+        match self {
+            AccessVector::Local => "/AV:L",
+            AccessVector::AdjacentNetwork => "/AV:A",
+            AccessVector::Network => "/AV:N",
+        }
+    }
+
+    fn thousandths(self) -> u64 {
+        match self {
+            AccessVector::Local => 395,
+            AccessVector::AdjacentNetwork => 646,
+            AccessVector::Network => 1000,
+        }
+    }
+
+    fn read_bytes(text: &[u8]) -> Option<Self> {
+        match text {
+            b"L" => Some(AccessVector::Local),
+            b"A" => Some(AccessVector::AdjacentNetwork),
+            b"N" => Some(AccessVector::Network),
+            _ => None,
+        }
+    }
+}
+
+impl fmt::Display for AccessVector {
+    ghost output = { λ metric. Some (metric_component AV metric) };
+
+    fn fmt<W: fmt::Write>(&self, f: &mut fmt::Formatter<W>) -> fmt::Result {
+        write_component(Self::TYPE, self.as_str(), f)
+    }
+}
+
+/// How hard the attack is once the attacker has access (guide, section 2.1.2).
+#[derive(Clone, Copy, Debug, PartialEq, Eq, PartialOrd, Ord)]
+pub enum AccessComplexity {
+    High,
+    Medium,
+    Low,
+}
+
+impl Metric for AccessComplexity {
+    const TYPE: MetricType = MetricType::AC;
+
+    ghost TYPE = { AC };
+
+    ghost value = { λ metric. metric };
+
+    ghost covers = { λ x. (x, refl) };
+
+    fn as_str(self) -> &'static str {
+        match self {
+            AccessComplexity::High => "H",
+            AccessComplexity::Medium => "M",
+            AccessComplexity::Low => "L",
+        }
+    }
+
+    fn slashed(self) -> &'static str {
+        match self {
+            AccessComplexity::High => "/AC:H",
+            AccessComplexity::Medium => "/AC:M",
+            AccessComplexity::Low => "/AC:L",
+        }
+    }
+
+    fn thousandths(self) -> u64 {
+        match self {
+            AccessComplexity::High => 350,
+            AccessComplexity::Medium => 610,
+            AccessComplexity::Low => 710,
+        }
+    }
+
+    fn read_bytes(text: &[u8]) -> Option<Self> {
+        match text {
+            b"H" => Some(AccessComplexity::High),
+            b"M" => Some(AccessComplexity::Medium),
+            b"L" => Some(AccessComplexity::Low),
+            _ => None,
+        }
+    }
+}
+
+impl fmt::Display for AccessComplexity {
+    ghost output = { λ metric. Some (metric_component AC metric) };
+
+    fn fmt<W: fmt::Write>(&self, f: &mut fmt::Formatter<W>) -> fmt::Result {
+        write_component(Self::TYPE, self.as_str(), f)
+    }
+}
+
+/// How often the attacker has to authenticate (guide, section 2.1.3).
+#[derive(Clone, Copy, Debug, PartialEq, Eq, PartialOrd, Ord)]
+pub enum Authentication {
+    Multiple,
+    Single,
+    None,
+}
+
+impl Metric for Authentication {
+    const TYPE: MetricType = MetricType::Au;
+
+    ghost TYPE = { Au };
+
+    ghost value = { λ metric. metric };
+
+    ghost covers = { λ x. (x, refl) };
+
+    fn as_str(self) -> &'static str {
+        match self {
+            Authentication::Multiple => "M",
+            Authentication::Single => "S",
+            Authentication::None => "N",
+        }
+    }
+
+    fn slashed(self) -> &'static str {
+        match self {
+            Authentication::Multiple => "/Au:M",
+            Authentication::Single => "/Au:S",
+            Authentication::None => "/Au:N",
+        }
+    }
+
+    fn thousandths(self) -> u64 {
+        match self {
+            Authentication::Multiple => 450,
+            Authentication::Single => 560,
+            Authentication::None => 704,
+        }
+    }
+
+    fn read_bytes(text: &[u8]) -> Option<Self> {
+        match text {
+            b"M" => Some(Authentication::Multiple),
+            b"S" => Some(Authentication::Single),
+            b"N" => Some(Authentication::None),
+            _ => None,
+        }
+    }
+}
+
+impl fmt::Display for Authentication {
+    ghost output = { λ metric. Some (metric_component Au metric) };
+
+    fn fmt<W: fmt::Write>(&self, f: &mut fmt::Formatter<W>) -> fmt::Result {
+        write_component(Self::TYPE, self.as_str(), f)
+    }
+}

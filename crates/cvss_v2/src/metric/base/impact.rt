@@ -1,0 +1,185 @@
+//! What an attack does to the component (guide, sections 2.1.4 to 2.1.6).
+
+ghost use Rattle.std.specs.Prelude.{Some, refl};
+ghost use Rattle.cvss_base.specs.declared.v2.MetricType.TheVariants.{C, I, A};
+ghost use Rattle.cvss_v2.specs.Table.{metric_component};
+
+use crate::metric::{Metric, MetricType, write_component};
+use std::fmt;
+
+/// What an attack discloses (guide, section 2.1.4).
+#[derive(Clone, Copy, Debug, PartialEq, Eq, PartialOrd, Ord)]
+pub enum ConfidentialityImpact {
+    None,
+    Partial,
+    Complete,
+}
+
+impl Metric for ConfidentialityImpact {
+    const TYPE: MetricType = MetricType::C;
+
+    ghost TYPE = { C };
+
+    ghost value = { λ metric. metric };
+
+    ghost covers = { λ x. (x, refl) };
+
+    fn as_str(self) -> &'static str {
+        match self {
+            ConfidentialityImpact::None => "N",
+            ConfidentialityImpact::Partial => "P",
+            ConfidentialityImpact::Complete => "C",
+        }
+    }
+
+    fn slashed(self) -> &'static str {
+        match self {
+            ConfidentialityImpact::None => "/C:N",
+            ConfidentialityImpact::Partial => "/C:P",
+            ConfidentialityImpact::Complete => "/C:C",
+        }
+    }
+
+    fn thousandths(self) -> u64 {
+        match self {
+            ConfidentialityImpact::None => 0,
+            ConfidentialityImpact::Partial => 275,
+            ConfidentialityImpact::Complete => 660,
+        }
+    }
+
+    fn read_bytes(text: &[u8]) -> Option<Self> {
+        match text {
+            b"N" => Some(ConfidentialityImpact::None),
+            b"P" => Some(ConfidentialityImpact::Partial),
+            b"C" => Some(ConfidentialityImpact::Complete),
+            _ => None,
+        }
+    }
+}
+
+impl fmt::Display for ConfidentialityImpact {
+    ghost output = { λ metric. Some (metric_component C metric) };
+
+    fn fmt<W: fmt::Write>(&self, f: &mut fmt::Formatter<W>) -> fmt::Result {
+        write_component(Self::TYPE, self.as_str(), f)
+    }
+}
+
+/// What an attack changes (guide, section 2.1.5).
+#[derive(Clone, Copy, Debug, PartialEq, Eq, PartialOrd, Ord)]
+pub enum IntegrityImpact {
+    None,
+    Partial,
+    Complete,
+}
+
+impl Metric for IntegrityImpact {
+    const TYPE: MetricType = MetricType::I;
+
+    ghost TYPE = { I };
+
+    ghost value = { λ metric. metric };
+
+    ghost covers = { λ x. (x, refl) };
+
+    fn as_str(self) -> &'static str {
+        match self {
+            IntegrityImpact::None => "N",
+            IntegrityImpact::Partial => "P",
+            IntegrityImpact::Complete => "C",
+        }
+    }
+
+    fn slashed(self) -> &'static str {
+        match self {
+            IntegrityImpact::None => "/I:N",
+            IntegrityImpact::Partial => "/I:P",
+            IntegrityImpact::Complete => "/I:C",
+        }
+    }
+
+    fn thousandths(self) -> u64 {
+        match self {
+            IntegrityImpact::None => 0,
+            IntegrityImpact::Partial => 275,
+            IntegrityImpact::Complete => 660,
+        }
+    }
+
+    fn read_bytes(text: &[u8]) -> Option<Self> {
+        match text {
+            b"N" => Some(IntegrityImpact::None),
+            b"P" => Some(IntegrityImpact::Partial),
+            b"C" => Some(IntegrityImpact::Complete),
+            _ => None,
+        }
+    }
+}
+
+impl fmt::Display for IntegrityImpact {
+    ghost output = { λ metric. Some (metric_component I metric) };
+
+    fn fmt<W: fmt::Write>(&self, f: &mut fmt::Formatter<W>) -> fmt::Result {
+        write_component(Self::TYPE, self.as_str(), f)
+    }
+}
+
+/// What an attack makes unavailable (guide, section 2.1.6).
+#[derive(Clone, Copy, Debug, PartialEq, Eq, PartialOrd, Ord)]
+pub enum AvailabilityImpact {
+    None,
+    Partial,
+    Complete,
+}
+
+impl Metric for AvailabilityImpact {
+    const TYPE: MetricType = MetricType::A;
+
+    ghost TYPE = { A };
+
+    ghost value = { λ metric. metric };
+
+    ghost covers = { λ x. (x, refl) };
+
+    fn as_str(self) -> &'static str {
+        match self {
+            AvailabilityImpact::None => "N",
+            AvailabilityImpact::Partial => "P",
+            AvailabilityImpact::Complete => "C",
+        }
+    }
+
+    fn slashed(self) -> &'static str {
+        match self {
+            AvailabilityImpact::None => "/A:N",
+            AvailabilityImpact::Partial => "/A:P",
+            AvailabilityImpact::Complete => "/A:C",
+        }
+    }
+
+    fn thousandths(self) -> u64 {
+        match self {
+            AvailabilityImpact::None => 0,
+            AvailabilityImpact::Partial => 275,
+            AvailabilityImpact::Complete => 660,
+        }
+    }
+
+    fn read_bytes(text: &[u8]) -> Option<Self> {
+        match text {
+            b"N" => Some(AvailabilityImpact::None),
+            b"P" => Some(AvailabilityImpact::Partial),
+            b"C" => Some(AvailabilityImpact::Complete),
+            _ => None,
+        }
+    }
+}
+
+impl fmt::Display for AvailabilityImpact {
+    ghost output = { λ metric. Some (metric_component A metric) };
+
+    fn fmt<W: fmt::Write>(&self, f: &mut fmt::Formatter<W>) -> fmt::Result {
+        write_component(Self::TYPE, self.as_str(), f)
+    }
+}

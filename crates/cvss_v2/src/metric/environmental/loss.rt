@@ -1,0 +1,151 @@
+//! How much may be lost, and how often (guide, sections 2.3.1 and 2.3.2).
+
+ghost use Rattle.std.specs.Prelude.{Some, refl};
+ghost use Rattle.cvss_base.specs.declared.v2.MetricType.TheVariants.{CDP, TD};
+ghost use Rattle.cvss_v2.specs.Table.{metric_component};
+
+use crate::metric::{Metric, MetricType, write_component};
+use std::fmt;
+
+/// What loss beside the system may come of it (guide, section 2.3.1).
+#[derive(Clone, Copy, Debug, PartialEq, Eq, PartialOrd, Ord)]
+pub enum CollateralDamagePotential {
+    None,
+    Low,
+    LowMedium,
+    MediumHigh,
+    High,
+    NotDefined,
+}
+
+impl Metric for CollateralDamagePotential {
+    const TYPE: MetricType = MetricType::CDP;
+
+    ghost TYPE = { CDP };
+
+    ghost value = { λ metric. metric };
+
+    ghost covers = { λ x. (x, refl) };
+
+    fn as_str(self) -> &'static str {
+        match self {
+            CollateralDamagePotential::None => "N",
+            CollateralDamagePotential::Low => "L",
+            CollateralDamagePotential::LowMedium => "LM",
+            CollateralDamagePotential::MediumHigh => "MH",
+            CollateralDamagePotential::High => "H",
+            CollateralDamagePotential::NotDefined => "ND",
+        }
+    }
+
+    fn slashed(self) -> &'static str {
+        match self {
+            CollateralDamagePotential::None => "/CDP:N",
+            CollateralDamagePotential::Low => "/CDP:L",
+            CollateralDamagePotential::LowMedium => "/CDP:LM",
+            CollateralDamagePotential::MediumHigh => "/CDP:MH",
+            CollateralDamagePotential::High => "/CDP:H",
+            CollateralDamagePotential::NotDefined => "/CDP:ND",
+        }
+    }
+
+    fn thousandths(self) -> u64 {
+        match self {
+            CollateralDamagePotential::None => 0,
+            CollateralDamagePotential::Low => 100,
+            CollateralDamagePotential::LowMedium => 300,
+            CollateralDamagePotential::MediumHigh => 400,
+            CollateralDamagePotential::High => 500,
+            CollateralDamagePotential::NotDefined => 0,
+        }
+    }
+
+    fn read_bytes(text: &[u8]) -> Option<Self> {
+        match text {
+            b"N" => Some(CollateralDamagePotential::None),
+            b"L" => Some(CollateralDamagePotential::Low),
+            b"LM" => Some(CollateralDamagePotential::LowMedium),
+            b"MH" => Some(CollateralDamagePotential::MediumHigh),
+            b"H" => Some(CollateralDamagePotential::High),
+            b"ND" => Some(CollateralDamagePotential::NotDefined),
+            _ => None,
+        }
+    }
+}
+
+impl fmt::Display for CollateralDamagePotential {
+    ghost output = { λ metric. Some (metric_component CDP metric) };
+
+    fn fmt<W: fmt::Write>(&self, f: &mut fmt::Formatter<W>) -> fmt::Result {
+        write_component(Self::TYPE, self.as_str(), f)
+    }
+}
+
+/// How many of the systems are vulnerable (guide, section 2.3.2).
+#[derive(Clone, Copy, Debug, PartialEq, Eq, PartialOrd, Ord)]
+pub enum TargetDistribution {
+    None,
+    Low,
+    Medium,
+    High,
+    NotDefined,
+}
+
+impl Metric for TargetDistribution {
+    const TYPE: MetricType = MetricType::TD;
+
+    ghost TYPE = { TD };
+
+    ghost value = { λ metric. metric };
+
+    ghost covers = { λ x. (x, refl) };
+
+    fn as_str(self) -> &'static str {
+        match self {
+            TargetDistribution::None => "N",
+            TargetDistribution::Low => "L",
+            TargetDistribution::Medium => "M",
+            TargetDistribution::High => "H",
+            TargetDistribution::NotDefined => "ND",
+        }
+    }
+
+    fn slashed(self) -> &'static str {
+        match self {
+            TargetDistribution::None => "/TD:N",
+            TargetDistribution::Low => "/TD:L",
+            TargetDistribution::Medium => "/TD:M",
+            TargetDistribution::High => "/TD:H",
+            TargetDistribution::NotDefined => "/TD:ND",
+        }
+    }
+
+    fn thousandths(self) -> u64 {
+        match self {
+            TargetDistribution::None => 0,
+            TargetDistribution::Low => 250,
+            TargetDistribution::Medium => 750,
+            TargetDistribution::High => 1000,
+            TargetDistribution::NotDefined => 1000,
+        }
+    }
+
+    fn read_bytes(text: &[u8]) -> Option<Self> {
+        match text {
+            b"N" => Some(TargetDistribution::None),
+            b"L" => Some(TargetDistribution::Low),
+            b"M" => Some(TargetDistribution::Medium),
+            b"H" => Some(TargetDistribution::High),
+            b"ND" => Some(TargetDistribution::NotDefined),
+            _ => None,
+        }
+    }
+}
+
+impl fmt::Display for TargetDistribution {
+    ghost output = { λ metric. Some (metric_component TD metric) };
+
+    fn fmt<W: fmt::Write>(&self, f: &mut fmt::Formatter<W>) -> fmt::Result {
+        write_component(Self::TYPE, self.as_str(), f)
+    }
+}

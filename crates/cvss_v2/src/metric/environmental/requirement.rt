@@ -1,0 +1,200 @@
+//! What matters to the user (guide, section 2.3.3).
+
+ghost use Rattle.std.specs.Prelude.{Some, refl};
+ghost use Rattle.cvss_base.specs.declared.v2.MetricType.TheVariants.{CR, IR, AR};
+ghost use Rattle.cvss_v2.specs.Table.{metric_component};
+
+use crate::metric::{Metric, MetricType, write_component};
+use std::fmt;
+
+/// How much confidentiality matters to the user (guide, section 2.3.3).
+#[derive(Clone, Copy, Debug, PartialEq, Eq, PartialOrd, Ord)]
+pub enum ConfidentialityRequirement {
+    Low,
+    Medium,
+    High,
+    NotDefined,
+}
+
+impl Metric for ConfidentialityRequirement {
+    const TYPE: MetricType = MetricType::CR;
+
+    ghost TYPE = { CR };
+
+    ghost value = { λ metric. metric };
+
+    ghost covers = { λ x. (x, refl) };
+
+    fn as_str(self) -> &'static str {
+        match self {
+            ConfidentialityRequirement::Low => "L",
+            ConfidentialityRequirement::Medium => "M",
+            ConfidentialityRequirement::High => "H",
+            ConfidentialityRequirement::NotDefined => "ND",
+        }
+    }
+
+    fn slashed(self) -> &'static str {
+        match self {
+            ConfidentialityRequirement::Low => "/CR:L",
+            ConfidentialityRequirement::Medium => "/CR:M",
+            ConfidentialityRequirement::High => "/CR:H",
+            ConfidentialityRequirement::NotDefined => "/CR:ND",
+        }
+    }
+
+    fn thousandths(self) -> u64 {
+        match self {
+            ConfidentialityRequirement::Low => 500,
+            ConfidentialityRequirement::Medium => 1000,
+            ConfidentialityRequirement::High => 1510,
+            ConfidentialityRequirement::NotDefined => 1000,
+        }
+    }
+
+    fn read_bytes(text: &[u8]) -> Option<Self> {
+        match text {
+            b"L" => Some(ConfidentialityRequirement::Low),
+            b"M" => Some(ConfidentialityRequirement::Medium),
+            b"H" => Some(ConfidentialityRequirement::High),
+            b"ND" => Some(ConfidentialityRequirement::NotDefined),
+            _ => None,
+        }
+    }
+}
+
+impl fmt::Display for ConfidentialityRequirement {
+    ghost output = { λ metric. Some (metric_component CR metric) };
+
+    fn fmt<W: fmt::Write>(&self, f: &mut fmt::Formatter<W>) -> fmt::Result {
+        write_component(Self::TYPE, self.as_str(), f)
+    }
+}
+
+/// How much integrity matters to the user (guide, section 2.3.3).
+#[derive(Clone, Copy, Debug, PartialEq, Eq, PartialOrd, Ord)]
+pub enum IntegrityRequirement {
+    Low,
+    Medium,
+    High,
+    NotDefined,
+}
+
+impl Metric for IntegrityRequirement {
+    const TYPE: MetricType = MetricType::IR;
+
+    ghost TYPE = { IR };
+
+    ghost value = { λ metric. metric };
+
+    ghost covers = { λ x. (x, refl) };
+
+    fn as_str(self) -> &'static str {
+        match self {
+            IntegrityRequirement::Low => "L",
+            IntegrityRequirement::Medium => "M",
+            IntegrityRequirement::High => "H",
+            IntegrityRequirement::NotDefined => "ND",
+        }
+    }
+
+    fn slashed(self) -> &'static str {
+        match self {
+            IntegrityRequirement::Low => "/IR:L",
+            IntegrityRequirement::Medium => "/IR:M",
+            IntegrityRequirement::High => "/IR:H",
+            IntegrityRequirement::NotDefined => "/IR:ND",
+        }
+    }
+
+    fn thousandths(self) -> u64 {
+        match self {
+            IntegrityRequirement::Low => 500,
+            IntegrityRequirement::Medium => 1000,
+            IntegrityRequirement::High => 1510,
+            IntegrityRequirement::NotDefined => 1000,
+        }
+    }
+
+    fn read_bytes(text: &[u8]) -> Option<Self> {
+        match text {
+            b"L" => Some(IntegrityRequirement::Low),
+            b"M" => Some(IntegrityRequirement::Medium),
+            b"H" => Some(IntegrityRequirement::High),
+            b"ND" => Some(IntegrityRequirement::NotDefined),
+            _ => None,
+        }
+    }
+}
+
+impl fmt::Display for IntegrityRequirement {
+    ghost output = { λ metric. Some (metric_component IR metric) };
+
+    fn fmt<W: fmt::Write>(&self, f: &mut fmt::Formatter<W>) -> fmt::Result {
+        write_component(Self::TYPE, self.as_str(), f)
+    }
+}
+
+/// How much availability matters to the user (guide, section 2.3.3).
+#[derive(Clone, Copy, Debug, PartialEq, Eq, PartialOrd, Ord)]
+pub enum AvailabilityRequirement {
+    Low,
+    Medium,
+    High,
+    NotDefined,
+}
+
+impl Metric for AvailabilityRequirement {
+    const TYPE: MetricType = MetricType::AR;
+
+    ghost TYPE = { AR };
+
+    ghost value = { λ metric. metric };
+
+    ghost covers = { λ x. (x, refl) };
+
+    fn as_str(self) -> &'static str {
+        match self {
+            AvailabilityRequirement::Low => "L",
+            AvailabilityRequirement::Medium => "M",
+            AvailabilityRequirement::High => "H",
+            AvailabilityRequirement::NotDefined => "ND",
+        }
+    }
+
+    fn slashed(self) -> &'static str {
+        match self {
+            AvailabilityRequirement::Low => "/AR:L",
+            AvailabilityRequirement::Medium => "/AR:M",
+            AvailabilityRequirement::High => "/AR:H",
+            AvailabilityRequirement::NotDefined => "/AR:ND",
+        }
+    }
+
+    fn thousandths(self) -> u64 {
+        match self {
+            AvailabilityRequirement::Low => 500,
+            AvailabilityRequirement::Medium => 1000,
+            AvailabilityRequirement::High => 1510,
+            AvailabilityRequirement::NotDefined => 1000,
+        }
+    }
+
+    fn read_bytes(text: &[u8]) -> Option<Self> {
+        match text {
+            b"L" => Some(AvailabilityRequirement::Low),
+            b"M" => Some(AvailabilityRequirement::Medium),
+            b"H" => Some(AvailabilityRequirement::High),
+            b"ND" => Some(AvailabilityRequirement::NotDefined),
+            _ => None,
+        }
+    }
+}
+
+impl fmt::Display for AvailabilityRequirement {
+    ghost output = { λ metric. Some (metric_component AR metric) };
+
+    fn fmt<W: fmt::Write>(&self, f: &mut fmt::Formatter<W>) -> fmt::Result {
+        write_component(Self::TYPE, self.as_str(), f)
+    }
+}
