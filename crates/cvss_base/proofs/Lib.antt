@@ -1,1 +1,14 @@
+mod AnswerLemmas
+mod CanonicalLemmas
+mod ComponentLemmas
+mod DenotesLemmas
+mod JoinLemmas
+mod LawLemmas
+mod MissingLemmas
+mod OnceLemmas
+mod PieceLemmas
 mod PrintLemmas
+mod RefusalLemmas
+mod TextLemmas
+mod Utf8Lemmas
+mod WalkLemmas

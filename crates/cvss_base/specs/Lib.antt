@@ -1,6 +1,7 @@
 pub mod ErrorText
 pub mod Listing
 pub mod MetricsLeft
+pub mod Pieces
 pub mod Printing
 pub mod Refusal
 pub mod SeverityText

@@ -1,6 +1,6 @@
 -- What the private walk over the components does at each step. What callers rely on stands in
 -- Version and Refusal.
-use Rattle.std.specs.Prelude.{◌≡◌, ◌≢◌, ℕ, ◌||◌, ◌⊎◌, List, [], length, map, take, Option, Some, None, IsSome, Contains, find, is_none, slice_get, ◌<◌, count_by, ◌==◌}
+use Rattle.std.specs.Prelude.{◌≡◌, ◌≢◌, ℕ, ◌||◌, ◌⊎◌, List, [], length, map, take, Option, Some, None, IsSome, Contains, slice_get, find, is_none, ◌<◌, count_by, ◌==◌, ⊤}
 use Rattle.std.specs.List.{range_with_len, position_or_len}
 use Rattle.std.specs.Str.{bytes_eq, IsUtf8}
 use Rattle.cvss_base.specs.declared.walk.Slip.{Slip}
@@ -93,6 +93,14 @@ reason_of version (InvalidMetric kind value) = BadValue kind (read version value
 reason_of version (DuplicateMetric kind) = Repeated kind
 reason_of version (MissingMandatoryMetric kind) = Missing kind
 
+-- the text that a fault shows is UTF-8
+abbrev pub ShowsUtf8 : {K : Type 0} → Fault K → Type 0
+ShowsUtf8 (InvalidComponent piece) = IsUtf8 piece.now
+ShowsUtf8 (UnknownMetric name) = IsUtf8 name.now
+ShowsUtf8 (InvalidMetric kind value) = IsUtf8 value.now
+ShowsUtf8 (DuplicateMetric kind) = ⊤
+ShowsUtf8 (MissingMandatoryMetric kind) = ⊤
+
 -- the fault of a component, where the vector holds those before it
 abbrev pub IsFaultOf : {V K : Type 0} → Version V K → V → List ℕ → Refusal K → Type 0
 IsFaultOf {V} {K} version v piece (UnknownName name) =
@@ -106,11 +114,3 @@ IsFaultOf version v piece (Repeated kind) =
     × IsSome (version.value_of v kind)
 IsFaultOf version v piece (BadComponent _) = ⊥
 IsFaultOf version v piece (Missing _) = ⊥
-
--- the part of a text that a fault names is text
-abbrev pub NamesText : {K : Type 0} → Fault K → Type 0
-NamesText (InvalidComponent piece) = IsUtf8 piece.now
-NamesText (UnknownMetric name) = IsUtf8 name.now
-NamesText (InvalidMetric _ value) = IsUtf8 value.now
-NamesText (DuplicateMetric _) = Unit {0}
-NamesText (MissingMandatoryMetric _) = Unit {0}

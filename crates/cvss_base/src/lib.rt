@@ -4,6 +4,7 @@
 
 mod error;
 pub mod metrics;
+pub mod pieces;
 pub mod print;
 mod severity;
 mod text;

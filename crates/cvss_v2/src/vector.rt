@@ -1,5 +1,7 @@
 //! A vector of CVSS v2.
 
+ghost use Rattle.std.specs.Prelude.{◌≡◌, IfOk, IfErr, IsErrAnd, Ok};
+
 mod printing;
 mod reading;
 mod refusing;
@@ -13,6 +15,10 @@ use crate::metric::environmental::{
     IntegrityRequirement, TargetDistribution,
 };
 use crate::metric::temporal::{Exploitability, RemediationLevel, ReportConfidence};
+use crate::vector::refusing::error_of;
+use cvss_base::Error;
+use cvss_base::walk::read_vector;
+use std::alloc::Global;
 
 /// A vector of CVSS v2 (guide, section 2.4): at most one value for each metric.
 ///
@@ -33,4 +39,38 @@ pub struct Vector {
     pub cr: Option<ConfidentialityRequirement>,
     pub ir: Option<IntegrityRequirement>,
     pub ar: Option<AvailabilityRequirement>,
+}
+
+impl Vector {
+    ghost use Rattle.cvss_base.specs.Refusal.{Refusal, IsFirstRefusal};
+    ghost use Rattle.cvss_base.specs.Told.{TellsV2};
+    ghost use Rattle.cvss_base.specs.Version.{Denotes, IsComplete};
+    ghost use Rattle.cvss_base.specs.declared.v2.MetricType.{MetricType};
+    ghost use Rattle.cvss_v2.specs.Vector.{v2, TellsFirst};
+
+    /// The vector that a text denotes: its components in any order, each once, with slashes between
+    /// them (guide, section 2.4). Accepting takes no memory.
+    ///
+    /// # Errors
+    ///
+    /// The first reason why the text is no vector with all base metrics: `InvalidComponent`,
+    /// `UnknownMetric`, `InvalidMetricV2`, `DuplicateMetricV2` or `MissingMandatoryMetricV2`;
+    /// `OutOfMemory` in place of one that carries text.
+    pub fn from_str(alloc: Global, text: &str) -> Result<Vector, Error>
+        // Accepted: what is given is what the text denotes, and each such vector is given.
+        ensures denoted { IfOk result (λ vector. Denotes v2 text.now vector) }
+        ensures complete { IfOk result (λ vector. IsComplete v2 vector) }
+        ensures accepts { (vector : Vector) → Denotes v2 text.now vector
+            → IsComplete v2 vector → result ≡ Ok vector }
+        // Refused: for the first reason, and wherever there is one. Memory is the answer only where
+        // the reason carries text.
+        ensures refused { IfErr result (λ error. TellsFirst text.now error) }
+        ensures refuses { (reason : Refusal MetricType) → IsFirstRefusal v2 text.now reason
+            → IsErrAnd result (TellsV2 reason) }
+    {
+        match read_vector(text.as_bytes(), Vector::default()) {
+            Ok(vector) => Ok(vector),
+            Err(fault) => Err(error_of(alloc, fault)),
+        }
+    }
 }

@@ -3,7 +3,7 @@
 ghost use Rattle.std.specs.Prelude.{◌≡◌, true, Some, IfOk, IfErr, OnErr};
 ghost use Rattle.cvss_base.specs.Refusal.{carries_text};
 ghost use Rattle.cvss_base.specs.Told.{TellsV2, v2_reason};
-ghost use Rattle.cvss_base.specs.Walk.{NamesText, reason_of};
+ghost use Rattle.cvss_base.specs.Walk.{ShowsUtf8, reason_of};
 ghost use Rattle.cvss_v2.specs.Vector.{v2};
 
 use crate::metric::MetricType;
@@ -13,7 +13,7 @@ use std::alloc::{AllocError, Global};
 
 /// The error that tells a fault, or that there is no memory for the text that the fault names.
 pub(crate) fn error_of(alloc: Global, fault: Fault<'_, MetricType>) -> Error
-    ensures { NamesText fault.entry → TellsV2 (reason_of v2 fault.entry) result }
+    ensures { ShowsUtf8 fault.entry → TellsV2 (reason_of v2 fault.entry) result }
 {
     match copied_error(alloc, fault) {
         Ok(error) => error,
@@ -22,7 +22,7 @@ pub(crate) fn error_of(alloc: Global, fault: Fault<'_, MetricType>) -> Error
 }
 
 fn copied_error(alloc: Global, fault: Fault<'_, MetricType>) -> Result<Error, AllocError>
-    ensures told { NamesText fault.entry
+    ensures told { ShowsUtf8 fault.entry
         → IfOk result (λ error. v2_reason error ≡ Some (reason_of v2 fault.entry)) }
     ensures lacks_memory { OnErr result (carries_text (reason_of v2 fault.entry) ≡ true) }
 {

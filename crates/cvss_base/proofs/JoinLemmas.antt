@@ -1,0 +1,52 @@
+-- The pieces of a join, and of the components of a vector.
+use Rattle.std.proofs.Common.{◌≡◌, ℕ, ◌<◌, Bool, false, eqb, List, [], ◌∷◌, length, refl, sym, ap, ◌∙◌, arith}
+use Rattle.std.specs.List.{All, count_by}
+use Rattle.std.proofs.lemmas.List.Elements.{All-nil, All-cons, All-head, All-tail, All-from_get_or}
+use Rattle.std.proofs.lemmas.List.Splits.{slice_split_none, slice_split_at}
+use Rattle.cvss_base.specs.Text.{slash, pieces, joined, IsComponent}
+use Rattle.cvss_base.specs.Version.{Version, read, AreComponentsOf}
+use Rattle.cvss_base.specs.Refusal.{piece_at}
+use Rattle.cvss_base.specs.Walk.{IsLawful, dividers}
+use Rattle.cvss_base.proofs.TextLemmas.{none_passes, count_by-cons, dividers-read, slashes-read, colons-read, slashes-component, IsComponent-component}
+use Rattle.cvss_base.proofs.LawLemmas.{name_plain}
+use Rattle.cvss_base.proofs.ComponentLemmas.{piece_held}
+
+-- no byte of the piece is a slash
+pub record IsUncut (piece : List ℕ) : Type 0 where
+  pub no_slash : count_by (λ byte. eqb byte slash) piece ≡ 0
+
+All-from_count : (p : ℕ → Bool) (text : List ℕ) → count_by p text ≡ 0 → All (λ byte. p byte ≡ false) text
+All-from_count p [] none = All-nil (λ byte. p byte ≡ false)
+All-from_count p (byte ∷ text) none =
+    let fails = none_passes (p byte) (count_by p text) (sym (count_by-cons p byte text) ∙ none) in
+    All-cons (λ each. p each ≡ false) byte text fails.0 (All-from_count p text fails.1)
+
+-- the pieces of a join are the list that was joined
+pub pieces-joined : (part : List ℕ) (parts : List (List ℕ)) → All IsUncut (part ∷ parts) → pieces (joined (part ∷ parts)) ≡ part ∷ parts
+pieces-joined part [] uncut = slice_split_none (λ byte. eqb byte slash) part (All-from_count (λ byte. eqb byte slash) part (All-head IsUncut part [] uncut).no_slash)
+pieces-joined part (next ∷ parts) uncut =
+    slice_split_at (λ byte. eqb byte slash) part slash (joined (next ∷ parts)) (All-from_count (λ byte. eqb byte slash) part (All-head IsUncut part (next ∷ parts) uncut).no_slash) refl
+    ∙ ap (λ rest. part ∷ rest) (pieces-joined next parts (All-tail IsUncut part (next ∷ parts) uncut))
+
+joined_back : (parts : List (List ℕ)) → 0 < length parts → All IsUncut parts → pieces (joined parts) ≡ parts
+joined_back [] some uncut = absurd (omega arith)
+joined_back (part ∷ parts) some uncut = pieces-joined part parts uncut
+
+module _ {V K : Type 0} (version : Version V K) (lawful : IsLawful version) (v : V) (parts : List (List ℕ)) (components : AreComponentsOf version parts v) where
+  value_plain : (kind : K) (value : version.Value kind) → dividers (read version (version.spelling kind value)) ≡ 0
+  value_plain kind value = dividers-read version.any_case (version.spelling kind value) ∙ lawful.spelling_plain kind value
+
+  -- each piece of the vector's components is a component, and has no slash
+  pub piece_is_component : (place : ℕ) → place < length parts → IsComponent (piece_at parts place)
+  piece_is_component place within =
+      let held = piece_held version lawful v parts place components within in
+      let is = IsComponent-component (version.name held.kind) (read version (version.spelling held.kind held.value)) (name_plain version lawful held.kind) (value_plain held.kind held.value) in
+      record { one_colon = sym (colons-read version.any_case (piece_at parts place)) ∙ rw held.is is.one_colon }
+
+  pub piece_is_uncut : (place : ℕ) → place < length parts → IsUncut (piece_at parts place)
+  piece_is_uncut place within =
+      let held = piece_held version lawful v parts place components within in
+      record { no_slash = sym (slashes-read version.any_case (piece_at parts place)) ∙ rw held.is (slashes-component (version.name held.kind) (read version (version.spelling held.kind held.value)) (name_plain version lawful held.kind) (value_plain held.kind held.value)) }
+
+  pub pieces_are : 0 < length parts → pieces (joined parts) ≡ parts
+  pieces_are some = joined_back parts some (All-from_get_or IsUncut parts [] piece_is_uncut)

@@ -1,0 +1,110 @@
+-- The steps of the walk over the components.
+use Rattle.std.proofs.Common.{◌≡◌, ℕ, ◌+◌, ◌<◌, ◌≤◌, List, [], ◌∷◌, length, take, Option, Some, None, IsSome, below_more, refl, sym, ap, ◌∙◌, subst, arith}
+use Rattle.std.specs.List.{filter_map}
+use Rattle.std.proofs.lemmas.List.{get_or-take, take_more, take_all, length-take-le}
+use Rattle.std.proofs.lemmas.List.Splits.{join_with_byte-slice_split}
+use Rattle.std.proofs.lemmas.Option.{none-some}
+use Rattle.std.proofs.lemmas.List.Sorted.{IsPermutation-refl}
+use Rattle.cvss_base.specs.Text.{slash, pieces, IsComponent, name_part, value_part, component}
+use Rattle.cvss_base.specs.Version.{Version, read, component_of, AreComponentsOf, Denotes}
+use Rattle.cvss_base.specs.Refusal.{Refusal, BadComponent, UnknownName, BadValue, Repeated, Missing, IsSpelling, piece_at, FaultAt, IsNamedBefore, IsFirstFault, IsFirstMissing}
+use Rattle.cvss_base.specs.Walk.{IsLawful, HasNoValue, Adds, HasRead, IsFaultOf, LacksFirst}
+use Rattle.cvss_base.proofs.TextLemmas.{name_part-read, value_part-read, name_part-component, value_part-component}
+use Rattle.cvss_base.proofs.LawLemmas.{name_plain, names_differ}
+use Rattle.cvss_base.proofs.ComponentLemmas.{adds_component, held_stands, piece_held}
+
+-- the value that is there
+pub value_from : {A : Type 0} (option : Option A) → IsSome option → (value : A) × (option ≡ Some value)
+value_from None is = cc
+value_from (Some value) is = (value, refl)
+
+none_absent : {A : Type 0} (option : Option A) → option ≡ None → IsSome option → ⊥
+none_absent option none is = let value = value_from option is in none-some value.0 (sym none ∙ value.1)
+
+module _ {V K : Type 0} (version : Version V K) (lawful : IsLawful version) where
+  -- the name and the value of a piece that stands for a component
+  pub name_from : (piece : List ℕ) (kind : K) (text : List ℕ) → read version piece ≡ component (version.name kind) text → read version (name_part piece) ≡ version.name kind
+  name_from piece kind text is =
+      sym (name_part-read version.any_case piece) ∙ (ap name_part is ∙ name_part-component (version.name kind) text (name_plain version lawful kind))
+
+  pub value_from_piece : (piece : List ℕ) (kind : K) (text : List ℕ) → read version piece ≡ component (version.name kind) text → read version (value_part piece) ≡ text
+  value_from_piece piece kind text is =
+      sym (value_part-read version.any_case piece) ∙ (ap value_part is ∙ value_part-component (version.name kind) text (name_plain version lawful kind))
+
+  -- where the vector holds the components before a place, its values are the metrics named there
+  module _ (v : V) (parts : List (List ℕ)) (place : ℕ) (within : place ≤ length parts) (components : AreComponentsOf version (take place parts) v) where
+    pub named_is_held : (kind : K) → IsNamedBefore version parts place kind → IsSome (version.value_of v kind)
+    named_is_held kind named =
+        let taken = length-take-le place parts within in
+        let held = piece_held version lawful v (take place parts) named.earlier components (omega (arith, taken, named.is_before)) in
+        let here = get_or-take place parts named.earlier [] named.is_before in
+        let is_kind : held.kind ≡ kind = names_differ version lawful held.kind kind (sym (name_from (piece_at parts named.earlier) held.kind _ (ap (read version) (sym here) ∙ held.is)) ∙ named.same_name) in
+        subst (λ each. IsSome (version.value_of v each)) is_kind (rw held.held)
+
+    pub held_is_named : (kind : K) → IsSome (version.value_of v kind) → IsNamedBefore version parts place kind
+    held_is_named kind held =
+        let value = value_from (version.value_of v kind) held in
+        let stands = held_stands version lawful v (take place parts) kind value.0 components value.1 in
+        let before : stands.place < place = omega (arith, length-take-le place parts within, stands.within) in
+        record { earlier = stands.place; is_before = before; same_name = name_from (piece_at parts stands.place) kind _ (ap (read version) (sym (get_or-take place parts stands.place [] before)) ∙ stands.is) }
+
+    -- a component that is no fault of the vector is none at its place
+    pub fault_at : (reason : Refusal K) → IsFaultOf version v (piece_at parts place) reason → FaultAt version parts place reason
+    fault_at (BadComponent piece) fault = fault
+    fault_at (UnknownName name) fault = fault
+    fault_at (BadValue kind value) fault = fault
+    fault_at (Repeated kind) (named, spelling, held) = (named, spelling, held_is_named kind held)
+    fault_at (Missing kind) fault = fault
+
+    -- a component that goes into the vector has no fault
+    pub no_fault_at : (new : V) → Adds version v (piece_at parts place) new → (reason : Refusal K) → FaultAt version parts place reason → ⊥
+    no_fault_at new adds (BadComponent piece) fault = fault
+    no_fault_at new adds (UnknownName name) (is, unknown) = unknown adds.kind (adds.named ∙ sym is)
+    no_fault_at new adds (BadValue blamed value) (kind, _, named, is, no_spelling) =
+        let is_kind : adds.kind ≡ kind = names_differ version lawful adds.kind kind (adds.named ∙ sym named) in
+        no_spelling (subst (λ each. IsSpelling version each value) is_kind (record { value = adds.puts.fills.value; spelled = adds.puts.fills.spelled ∙ sym is }))
+    no_fault_at new adds (Repeated kind) (named, _, earlier) =
+        let is_kind : adds.kind ≡ kind = names_differ version lawful adds.kind kind (adds.named ∙ sym named) in
+        none_absent (version.value_of v kind) (subst (λ each. version.value_of v each ≡ None) is_kind adds.puts.fills.was_empty) (named_is_held kind earlier)
+    no_fault_at new adds (Missing kind) fault = fault
+
+  -- the start, a step and the end of the walk
+  components_none : (v : V) → HasNoValue version v → (kinds : List K) → filter_map (component_of version v) kinds ≡ []
+  components_none v empty [] = refl
+  components_none v empty (kind ∷ kinds) = rw (empty.none kind) (components_none v empty kinds)
+
+  pub HasRead-none : (parts : List (List ℕ)) (v : V) → HasNoValue version v → HasRead version parts 0 v
+  HasRead-none parts v empty = record { components = record { each_once = rw (components_none v empty version.printed) (IsPermutation-refl []) }; faultless = record { none = λ earlier reason below. absurd (omega arith) } }
+
+  module _ (parts : List (List ℕ)) (place : ℕ) (within : place < length parts) (piece : List ℕ) (here : piece ≡ piece_at parts place) where
+    pub HasRead-more : (old new : V) → IsComponent piece → Adds version old piece new → HasRead version parts place old → HasRead version parts (place + 1) new
+    HasRead-more old new is adds before =
+        let added = subst (λ text. Adds version old text new) here adds in
+        record {
+          components = rw (take_more parts place [] within) (adds_component version lawful old new (take place parts) (piece_at parts place) added (rw here at is) before.components);
+          faultless = record { none = λ earlier reason below. below_more (λ each. (fault : Refusal K) → FaultAt version parts each fault → ⊥) place (λ each inside fault. before.faultless.none each fault inside) (no_fault_at old parts place (omega arith) before.components new added) earlier below reason };
+        }
+
+    pub IsFirstFault-at : (v : V) (reason : Refusal K) → IsFaultOf version v piece reason → HasRead version parts place v → IsFirstFault version parts reason
+    IsFirstFault-at v reason fault before = record { place = place; within = within; fault = fault_at v parts place (omega arith) before.components reason (subst (λ text. IsFaultOf version v text reason) here fault); earlier = before.faultless }
+
+  pub AreComponentsOf-all : (parts : List (List ℕ)) (v : V) → HasRead version parts (length parts) v → AreComponentsOf version parts v
+  AreComponentsOf-all parts v all = rw (take_all (length parts) parts (omega arith)) at all.components
+
+  -- the first mandatory metric that the vector lacks is the first that no component names
+  pub IsFirstMissing-from : (parts : List (List ℕ)) (v : V) (kind : K) → HasRead version parts (length parts) v → LacksFirst version v kind → IsFirstMissing version parts kind
+  IsFirstMissing-from parts v kind all lacks = record {
+    faultless = all.faultless;
+    place = lacks.place;
+    is = lacks.is;
+    absent = λ named. none_absent (version.value_of v kind) lacks.absent (named_is_held v parts (length parts) (omega arith) all.components kind named);
+    earlier = λ before other below is. held_is_named v parts (length parts) (omega arith) all.components other (lacks.earlier before other below is);
+  }
+
+  -- a text without a front, all of whose components were read, denotes the vector
+  pub Denotes-from : (text : List ℕ) (v : V) → version.front v ≡ [] → HasRead version (pieces text) (length (pieces text)) v → Denotes version text v
+  Denotes-from text v frontless all = record {
+    parts = pieces text;
+    text_is = rw frontless (sym (join_with_byte-slice_split slash text));
+    components = AreComponentsOf-all (pieces text) v all;
+  }

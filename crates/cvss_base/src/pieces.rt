@@ -1,0 +1,73 @@
+//! How the text of a vector is cut into pieces, and a component into its name and its value.
+
+ghost use Rattle.std.specs.Prelude.{◌≡◌, ◌↔◌, IsTrue, MatchOption, Some, length, ◌==◌};
+ghost use Rattle.std.specs.Iterator.{YieldsFirstRef, item_count};
+ghost use Rattle.std.specs.List.{position};
+ghost use Rattle.cvss_base.specs.Text.{IsComponent, name_part, value_part, pieces};
+ghost use Rattle.cvss_base.specs.Pieces.{pieces_left};
+ghost use Rattle.cvss_base.specs.Refusal.{AreComponentsBefore, IsFirstBadPiece};
+
+/// The pieces of a text, cut at each slash.
+#[derive(Clone, Copy, Debug)]
+pub struct Pieces<'a> {
+    rest: Option<&'a [u8]>,
+}
+
+impl<'a> Iterator for Pieces<'a> {
+    type Item = &'a [u8];
+
+    ghost next_gives = { YieldsFirstRef pieces_left };
+
+    ghost remaining = { item_count pieces_left };
+
+    fn next(&mut self) -> Option<&'a [u8]> {
+        let rest = self.rest?;
+        if let Some(at) = first_place(rest, b'/') {
+            self.rest = Some(&rest[at + 1..]);
+            Some(&rest[..at])
+        } else {
+            self.rest = None;
+            Some(rest)
+        }
+    }
+}
+
+/// The pieces of a text.
+pub fn pieces_of(text: &[u8]) -> Pieces<'_>
+    ensures { pieces_left result ≡ pieces text.now }
+{
+    Pieces { rest: Some(text) }
+}
+
+/// The place of the first byte with this value.
+fn first_place(text: &[u8], value: u8) -> Option<usize>
+    ensures { result ≡ position (λ byte. byte == value) text.now }
+{
+    text.iter().position(|byte| *byte == value)
+}
+
+/// Whether the piece has exactly one colon.
+fn is_component(piece: &[u8]) -> bool
+    ensures { IsTrue result ↔ IsComponent piece.now }
+{
+    piece.iter().filter(|byte| **byte == b':').count() == 1
+}
+
+/// The first piece of a text that is no component.
+pub fn first_bad_piece(text: &[u8]) -> Option<&[u8]>
+    ensures { MatchOption result
+        (AreComponentsBefore (pieces text.now) (length (pieces text.now)))
+        (λ piece. IsFirstBadPiece (pieces text.now) piece.now) }
+{
+    pieces_of(text).find(|piece| !is_component(piece))
+}
+
+/// The name and the value of a component.
+pub fn parts_of(piece: &[u8]) -> (&[u8], &[u8])
+    requires { IsComponent piece.now }
+    ensures name { result.0.now ≡ name_part piece.now }
+    ensures value { result.1.now ≡ value_part piece.now }
+{
+    let at = first_place(piece, b':').unwrap();
+    (&piece[..at], &piece[at + 1..])
+}
