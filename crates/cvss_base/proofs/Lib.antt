@@ -1,7 +1,8 @@
 mod AnswerLemmas
-mod CanonicalLemmas
+pub mod CanonicalLemmas
 mod ComponentLemmas
 mod DenotesLemmas
+pub mod ExactLemmas
 mod JoinLemmas
 mod LawLemmas
 mod MissingLemmas
@@ -9,6 +10,8 @@ mod OnceLemmas
 mod PieceLemmas
 mod PrintLemmas
 mod RefusalLemmas
+pub mod RoundingLemmas
+mod StandardFacts
 mod TextLemmas
 mod Utf8Lemmas
 mod WalkLemmas

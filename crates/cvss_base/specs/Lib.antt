@@ -1,9 +1,11 @@
 pub mod ErrorText
+pub mod Exact
 pub mod Listing
 pub mod MetricsLeft
 pub mod Pieces
 pub mod Printing
 pub mod Refusal
+pub mod Rounding
 pub mod SeverityText
 pub mod Text
 pub mod Told

@@ -4,6 +4,7 @@
 
 mod error;
 pub mod metrics;
+mod number;
 pub mod pieces;
 pub mod print;
 mod severity;
@@ -12,6 +13,7 @@ pub mod v2;
 pub mod walk;
 
 pub use error::Error;
+pub use number::{LIMIT, ONE, TENTH, roundings_are_unique};
 pub use severity::Severity;
 pub use text::copied_text;
 

@@ -1,1 +1,4 @@
+mod CountLemmas
 mod PutLemmas
+mod ScoreLemmas
+mod StandardFacts

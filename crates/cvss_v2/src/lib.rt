@@ -1,9 +1,13 @@
 //! CVSS v2: its metrics, vectors and scores.
 #![tactic(auto)]
 
+mod equations;
 pub mod metric;
+mod score;
 mod vector;
+mod weights;
 
 pub use cvss_base::v2::MetricType;
 pub use metric::Metric;
+pub use score::Score;
 pub use vector::Vector;

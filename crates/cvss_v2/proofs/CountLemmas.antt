@@ -1,0 +1,131 @@
+-- What the whole numbers of the code say of the exact numbers of the equations.
+use Rattle.std.proofs.Common.{◌≡◌, ℕ, ◌+◌, ◌-◌, ◌*◌, ◌^◌, ◌≤◌, ℤ, pos, ◌+ℤ◌, ◌-ℤ◌, ◌*ℤ◌, ◌≤ℤ◌, neg_ℤ, arith, refl, ap, ◌∙◌, lit<, zero, suc, negsuc, ◌≢◌, subst, sym}
+use Rattle.std.proofs.lemmas.Int.{ints}
+use Rattle.std.proofs.Math.Nat.{mul-le-mul, mul-le-mul_right}
+use borrow.Author.Differences.{up, down}
+use Rattle.cvss_base.specs.Exact.{ratio, ◌over◌, of_count, thousandths, tenths, ◌⊕◌, ◌⊖◌, ◌⊗◌, ◌≈◌}
+use Rattle.cvss_base.specs.Rounding.{IsRoundedV2}
+use Rattle.cvss_base.proofs.ExactLemmas.{times_times, times_sum, times_difference}
+use Rattle.cvss_base.proofs.RoundingLemmas.{v2-equal}
+use Rattle.cvss_v2.specs.Scores.{rest, impact_of, f_thousandths, base_number, temporal_number, environmental_number}
+
+-- three factors that are known
+product_of : (x y z : ℤ) (k m n : ℕ) → x ≡ pos k → y ≡ pos m → z ≡ pos n → x *ℤ y *ℤ z ≡ pos (k * m * n)
+product_of x y z k m n is_k is_m is_n = rw (is_k, is_m, is_n) refl
+
+-- a weight of at most 1, taken from 1
+rest_is : (n : ℕ) → n ≤ 1_000_000 → (rest (n over 1_000_000)).top ≡ pos (1_000_000 - n)
+rest_is n small = omega (arith, ints)
+
+-- the product of three such rests is at most 1
+rests_bound : (c i a : ℕ) → (1_000_000 - c) * (1_000_000 - i) * (1_000_000 - a) ≤ 10 ^ 18
+rests_bound c i a =
+    let bound : (n : ℕ) → 1_000_000 - n ≤ 1_000_000 = λ n. omega arith in
+    mul-le-mul (mul-le-mul (bound c) (bound i)) (bound a)
+
+-- Impact as a count, of weights in millionths
+pub impact_is : (count : ℤ) (c i a : ℕ) → c ≤ 1_000_000 → i ≤ 1_000_000 → a ≤ 1_000_000
+    → count ≡ pos ((10 ^ 18 - (1_000_000 - c) * (1_000_000 - i) * (1_000_000 - a)) * 10_410_000)
+    → of_count count ≈ impact_of (c over 1_000_000) (i over 1_000_000) (a over 1_000_000)
+impact_is count c i a small_c small_i small_a is_count =
+    let rests = product_of _ _ _ (1_000_000 - c) (1_000_000 - i) (1_000_000 - a)
+    (rest_is c small_c) (rest_is i small_i) (rest_is a small_a) in
+    record { equal = omega (arith, ints, rests, rests_bound c i a) }
+
+-- f of an impact that is not 0
+f_with_impact : (top : ℤ) → top ≢ pos 0 → f_thousandths top ≡ 1176
+f_with_impact (pos zero) some = absurd (some refl)
+f_with_impact (pos (suc n)) some = refl
+f_with_impact (negsuc n) some = refl
+
+-- the base score of two counts, rounded in 10^-28
+pub base_rounded : (impact exploitability : ℤ) {number r s : ℤ} → impact ≢ pos 0
+    → number ≡ (pos 6 *ℤ impact +ℤ pos 4 *ℤ exploitability -ℤ pos (15 * 10 ^ 24)) *ℤ pos 1176 → r ≡ s
+    → IsRoundedV2 (ratio number (10 ^ 28)) r
+    → IsRoundedV2 (base_number (of_count impact) (of_count exploitability)) s
+base_rounded impact exploitability {number} some is_number same rounded =
+    let sum = 6 over 10 ⊗ of_count impact ⊕ 4 over 10 ⊗ of_count exploitability ⊖ 15 over 10 in
+    let is_product : ratio number (10 ^ 28) ≈ sum ⊗ thousandths 1176 = record { equal = omega (arith, ints) } in
+    let is_base = subst (λ (n : ℕ). ratio number (10 ^ 28) ≈ sum ⊗ thousandths n)
+    (sym (f_with_impact impact some)) is_product in
+    v2-equal (lit< tt) (lit< tt) is_base same rounded
+
+-- the temporal score of a base score, rounded in 10^-28
+pub temporal_rounded : (base : ℤ) (e rl rc : ℕ) {product number r s : ℤ} {weights : ℕ}
+    → weights ≡ e * rl * rc → product ≡ base *ℤ pos weights → number ≡ product *ℤ pos (10 ^ 18) → r ≡ s
+    → IsRoundedV2 (ratio number (10 ^ 28)) r
+    → IsRoundedV2 (temporal_number (tenths base) (thousandths e) (thousandths rl) (thousandths rc)) s
+temporal_rounded base e rl rc {number = number} are_weights is_product is_number same rounded =
+    let grouped = ap (λ z. z *ℤ pos rc) (times_times base (pos e) rl) ∙ times_times base (pos (e * rl)) rc in
+    let is_weighted = is_product ∙ ap (λ n. base *ℤ pos n) are_weights ∙ sym grouped in
+    let is_temporal : ratio number (10 ^ 28)
+    ≈ temporal_number (tenths base) (thousandths e) (thousandths rl) (thousandths rc) =
+    record { equal = omega (arith, ints, is_weighted) } in
+    v2-equal (lit< tt) (lit< tt) is_temporal same rounded
+
+-- what damage leaves of a temporal score and what it adds, in 10^-4
+damage_parted : (temporal : ℤ) (cdp left : ℕ) → cdp + left ≡ 1000
+    → temporal *ℤ pos 10_000 +ℤ (pos 100 -ℤ temporal *ℤ pos 1) *ℤ pos cdp *ℤ pos 10
+    ≡ temporal *ℤ pos (10 * left) +ℤ pos (1000 * cdp)
+damage_parted temporal cdp left whole =
+    omega (
+      arith,
+      ints,
+      times_difference (pos 100) (temporal *ℤ pos 1) cdp,
+      times_times temporal (pos 1) cdp,
+      ap (λ n. up temporal * n) whole,
+      ap (λ n. down temporal * n) whole,
+    )
+
+-- the environmental score of an adjusted temporal score, rounded in 10^-28
+pub environmental_rounded : (temporal : ℤ) (cdp td : ℕ) {undamaged number r s : ℤ} {left damaged : ℕ}
+    → cdp ≤ 1000 → left ≡ (1000 - cdp) * td * 1 → damaged ≡ 100 * cdp * td → undamaged ≡ temporal *ℤ pos left
+    → number ≡ (undamaged +ℤ pos damaged) *ℤ pos (10 ^ 21) → r ≡ s
+    → IsRoundedV2 (ratio number (10 ^ 28)) r
+    → IsRoundedV2 (environmental_number (tenths temporal) (thousandths cdp) (thousandths td)) s
+environmental_rounded temporal cdp td {number = number} small is_left is_damaged is_undamaged is_number same rounded =
+    let rate = 1000 - cdp in
+    let is_product = is_undamaged ∙ ap (λ n. temporal *ℤ pos n) is_left in
+    let parted = ap (λ z. z *ℤ pos td) (damage_parted temporal cdp rate (omega arith)) in
+    let parts = times_sum (temporal *ℤ pos (10 * rate)) (pos (1000 * cdp)) td in
+    let grouped = times_times temporal (pos (10 * rate)) td in
+    let is_environmental : ratio number (10 ^ 28)
+    ≈ environmental_number (tenths temporal) (thousandths cdp) (thousandths td) =
+    record { equal = omega (arith, ints, is_product, parted, parts, grouped) } in
+    v2-equal (lit< tt) (lit< tt) is_environmental same rounded
+
+-- a count, rounded in 10^-28
+pub count_rounded : (count : ℤ) {number r : ℤ} → number ≡ count *ℤ pos 10_000
+    → IsRoundedV2 (ratio number (10 ^ 28)) r → IsRoundedV2 (of_count count) r
+count_rounded count {number} is_number rounded =
+    let is_count : ratio number (10 ^ 28) ≈ of_count count = record { equal = omega (arith, ints) } in
+    v2-equal (lit< tt) (lit< tt) is_count refl rounded
+
+-- a number of 10^-28 from -m tenths on is rounded to no less
+pub rounded_low : {number r s : ℤ} (m : ℕ) → neg_ℤ (pos (m * 10 ^ 27)) ≤ℤ number → r ≡ s
+    → IsRoundedV2 (ratio number (10 ^ 28)) r → neg_ℤ (pos m) ≤ℤ s
+rounded_low m low same rounded = omega (arith, ints, rounded.lifted.nearest.to_half_above.at_most)
+
+-- and one of at most n tenths to no more
+pub rounded_high : {number r s : ℤ} (n : ℕ) → number ≤ℤ pos (n * 10 ^ 27) → r ≡ s
+    → IsRoundedV2 (ratio number (10 ^ 28)) r → s ≤ℤ pos n
+rounded_high n high same rounded = omega (arith, ints, rounded.lifted.nearest.from_half_below.at_most)
+
+-- a number from -m on, times weights
+pub product_low : (number : ℤ) (m weights : ℕ) → neg_ℤ (pos m) ≤ℤ number
+    → neg_ℤ (pos (m * weights)) ≤ℤ (number *ℤ pos weights)
+product_low number m weights low =
+    let parts : down number ≤ up number + m = omega (arith, ints) in
+    omega (arith, ints, mul-le-mul_right weights parts)
+
+-- a number of at most n, times weights
+pub product_high : (number : ℤ) (n weights : ℕ) → number ≤ℤ pos n → (number *ℤ pos weights) ≤ℤ pos (n * weights)
+product_high number n weights high =
+    let parts : up number ≤ n + down number = omega (arith, ints) in
+    omega (arith, ints, mul-le-mul_right weights parts)
+
+-- the weights of what damage leaves and of what it adds make up the target distribution
+pub weights_add : (cdp td : ℕ) → cdp ≤ 1000 → (1000 - cdp) * td * 1 + cdp * td ≡ 1000 * td
+weights_add cdp td small =
+    let whole : 1000 - cdp + cdp ≡ 1000 = omega arith in
+    omega (arith, ap (λ n. n * td) whole)

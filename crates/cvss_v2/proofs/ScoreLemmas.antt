@@ -1,0 +1,78 @@
+-- The equations give the same numbers for equal sub-scores and weights.
+use Rattle.std.proofs.Common.{◌≡◌, ℕ, ◌*◌, ◌^◌, ◌<◌, ℤ, pos, ◌*ℤ◌, arith, refl, ap, lit<, zero, suc, negsuc, subst, sym}
+use Rattle.std.proofs.lemmas.Int.{ints}
+use Rattle.cvss_base.specs.Exact.{Exact, ◌over◌, whole, of_count, thousandths, ◌≈◌}
+use Rattle.cvss_base.specs.Rounding.{IsRoundedV2}
+use Rattle.cvss_base.proofs.ExactLemmas.{equal_refl, equal_trans, sum_equal, difference_equal, product_equal}
+use Rattle.cvss_base.proofs.RoundingLemmas.{v2-equal}
+use Rattle.cvss_v2.specs.declared.weights.Weights.{Weights}
+use Rattle.cvss_v2.specs.Scores.{rest, impact_of, f_thousandths, f, base_number, impact, exploitability, IsBase, IsTemporal}
+
+rest_equal : {x x' : Exact} → x ≈ x' → rest x ≈ rest x'
+rest_equal same = difference_equal (equal_refl (whole 1)) same
+
+impact_of_equal : {c c' i i' a a' : Exact} → c ≈ c' → i ≈ i' → a ≈ a' → impact_of c i a ≈ impact_of c' i' a'
+impact_of_equal same_c same_i same_a =
+    let rests = product_equal (product_equal (rest_equal same_c) (rest_equal same_i)) (rest_equal same_a) in
+    product_equal (equal_refl (1041 over 100)) (rest_equal rests)
+
+-- Impact may be taken of weights in millionths
+pub impact_in_millionths : (w : Weights) {count n : ℤ} → count ≡ n
+    → of_count n
+    ≈ impact_of ((w.c * 1000) over 1_000_000) ((w.i * 1000) over 1_000_000) ((w.a * 1000) over 1_000_000)
+    → of_count count ≈ impact w
+impact_in_millionths w {count} {n} is_n of_millionths =
+    let same : (n : ℕ) → (n * 1000) over 1_000_000 ≈ thousandths n = λ n. record { equal = omega (arith, ints) } in
+    let is_impact = equal_trans (lit< tt) of_millionths (impact_of_equal (same w.c) (same w.i) (same w.a)) in
+    subst (λ (m : ℤ). of_count m ≈ impact w) (sym is_n) is_impact
+
+-- the tops of equal numbers are both 0 or both not
+f_thousandths_equal : (m n : ℤ) (p q : ℕ) → 0 < p → 0 < q → m *ℤ pos q ≡ n *ℤ pos p
+    → f_thousandths m ≡ f_thousandths n
+f_thousandths_equal (pos zero) (pos zero) p q some_p some_q same = refl
+f_thousandths_equal (pos zero) (pos (suc n)) p q some_p some_q same = absurd (omega (arith, ints))
+f_thousandths_equal (pos zero) (negsuc n) p q some_p some_q same = absurd (omega (arith, ints))
+f_thousandths_equal (pos (suc m)) (pos zero) p q some_p some_q same = absurd (omega (arith, ints))
+f_thousandths_equal (negsuc m) (pos zero) p q some_p some_q same = absurd (omega (arith, ints))
+f_thousandths_equal (pos (suc m)) (pos (suc n)) p q some_p some_q same = refl
+f_thousandths_equal (pos (suc m)) (negsuc n) p q some_p some_q same = refl
+f_thousandths_equal (negsuc m) (pos (suc n)) p q some_p some_q same = refl
+f_thousandths_equal (negsuc m) (negsuc n) p q some_p some_q same = refl
+
+f_equal : {x x' : Exact} → 0 < x.bottom → 0 < x'.bottom → x ≈ x' → f x ≈ f x'
+f_equal {x} {x'} some_x some_x' same =
+    let same_f = f_thousandths_equal x.top x'.top x.bottom x'.bottom some_x some_x' same.equal in
+    record { equal = ap (λ n. pos n *ℤ pos 1000) same_f }
+
+base_number_equal : {x x' y y' : Exact} → 0 < x.bottom → 0 < x'.bottom → x ≈ x' → y ≈ y'
+    → base_number x y ≈ base_number x' y'
+base_number_equal some_x some_x' same_x same_y =
+    let impacts = product_equal (equal_refl (6 over 10)) same_x in
+    let exploitabilities = product_equal (equal_refl (4 over 10)) same_y in
+    product_equal (difference_equal (sum_equal impacts exploitabilities) (equal_refl (15 over 10)))
+    (f_equal some_x some_x' same_x)
+
+-- equal impacts have one base score
+pub base_equal : (w : Weights) {x y : Exact} {r : ℤ} → 0 < x.bottom → 0 < y.bottom → x ≈ y
+    → IsBase w x r → IsBase w y r
+base_equal w some_x some_y same is_base =
+    let same_number = base_number_equal some_x some_y same (equal_refl (exploitability w)) in
+    v2-equal (omega arith) (omega arith) same_number refl is_base
+
+-- and one temporal score
+pub temporal_equal : (w : Weights) {x y : Exact} {r : ℤ} → 0 < x.bottom → 0 < y.bottom → x ≈ y
+    → IsTemporal w x r → IsTemporal w y r
+temporal_equal w some_x some_y same is_temporal = record {
+  base = is_temporal.base;
+  is_base = base_equal w some_x some_y same is_temporal.is_base;
+  is_rounded = is_temporal.is_rounded;
+}
+
+-- the base score may be taken of counts
+pub base_of_counts : (w : Weights) (impact i exploitable x : ℤ) {r s : ℤ} → of_count exploitable ≈ exploitability w
+    → IsRoundedV2 (base_number (of_count i) (of_count x)) r → i ≡ impact → x ≡ exploitable → r ≡ s
+    → IsBase w (of_count impact) s
+base_of_counts w impact i exploitable x is_exploitability rounded same_i same_x same_tenths =
+    let x_is = subst (λ (m : ℤ). of_count m ≈ exploitability w) (sym same_x) is_exploitability in
+    let i_is : of_count i ≈ of_count impact = record { equal = ap (λ m. m *ℤ pos (10 ^ 24)) same_i } in
+    v2-equal (lit< tt) (lit< tt) (base_number_equal (lit< tt) (lit< tt) i_is x_is) same_tenths rounded

@@ -1,0 +1,12 @@
+use Rattle.std.proofs.Common.{arith, of_z, to_z}
+use Rattle.std.specs.Int.{w128}
+use Rattle.std.proofs.lemmas.Int.{ints}
+use Rattle.cvss_v2.proofs.ScoreLemmas.{base_of_counts}
+use Rattle.cvss_v2.proofs.weights.Weights.base.Goals as goal
+
+pub returns-clause-value : goal.returns-clause-value
+returns-clause-value c =
+    base_of_counts c.args.self.now c.args.impact (to_z w128 (of_z w128 c.value.result))
+    c.exploitability.result (to_z w128 (of_z w128 c.value-2.result))
+    c.exploitability.ensures.value c.base_tenths.ensures.value
+    (omega (arith, ints)) (omega (arith, ints)) (omega (arith, ints))
