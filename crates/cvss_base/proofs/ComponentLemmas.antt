@@ -19,7 +19,7 @@ unless (inl is) not = absurd (not is)
 unless (inr is) not = is
 
 -- maps that agree at each element give one list
-filter_map-agree : {X Y : Type 0} (f g : X → Option Y) (xs : List X) → All (λ x. f x ≡ g x) xs → filter_map f xs ≡ filter_map g xs
+pub filter_map-agree : {X Y : Type 0} (f g : X → Option Y) (xs : List X) → All (λ x. f x ≡ g x) xs → filter_map f xs ≡ filter_map g xs
 filter_map-agree f g [] all = refl
 filter_map-agree f g (x ∷ xs) all = cc (All-head (λ x. f x ≡ g x) x xs all, filter_map-agree f g xs (All-tail (λ x. f x ≡ g x) x xs all))
 

@@ -5,6 +5,7 @@ mod DenotesLemmas
 pub mod ExactLemmas
 mod JoinLemmas
 mod LawLemmas
+mod ListingLemmas
 mod MissingLemmas
 mod OnceLemmas
 mod PieceLemmas
@@ -12,6 +13,7 @@ mod PrintLemmas
 mod RefusalLemmas
 pub mod RoundingLemmas
 mod StandardFacts
+mod SameLemmas
 mod TextLemmas
 mod Utf8Lemmas
 mod WalkLemmas

@@ -97,7 +97,7 @@ module _ (p : ℕ → Bool) where
   position-within (byte ∷ text) one = within_step (p byte) (position_or_len p text) (count_by p text) (length text) (position-within text) (sym (count_by-cons byte text) ∙ one)
 
 -- the dividers of a component
-colons-le : (text : List ℕ) → count_by (λ byte. eqb byte colon) text ≤ dividers text
+pub colons-le : (text : List ℕ) → count_by (λ byte. eqb byte colon) text ≤ dividers text
 colons-le text = sum_by-le-sum_by _ _ text (λ byte. grind (arith, nat_tests))
 
 slashes-le : (text : List ℕ) → count_by (λ byte. eqb byte slash) text ≤ dividers text

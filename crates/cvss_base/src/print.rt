@@ -1,10 +1,10 @@
 //! How a vector's components are printed, once for all versions.
 
-ghost use Rattle.std.specs.Prelude.{◌≡◌, Some, drop, if◌then◌else◌};
+ghost use Rattle.std.specs.Prelude.{◌≡◌, ◌↔◌, IsTrue, Some, drop, if◌then◌else◌};
 ghost use Rattle.std.specs.Option.{option_copied};
 ghost use Rattle.std.specs.Fmt.{DisplaysOnOk, WritesOnOk};
 ghost use Rattle.cvss_base.specs.Text.{joined};
-ghost use Rattle.cvss_base.specs.Version.{component_of, components_of};
+ghost use Rattle.cvss_base.specs.Version.{component_of, components_of, canonical_text};
 ghost use Rattle.cvss_base.specs.Printing.{slashed, StartsWithSlash};
 
 use crate::walk::Components;
@@ -50,4 +50,26 @@ pub fn write_components<V: Printed, W: fmt::Write>(
         }
     }
     Ok(())
+}
+
+/// Whether two vectors of one front have the same components, which is whether their texts are the
+/// same, and whether they are one vector.
+pub fn same_components<V: Printed>(left: &V, right: &V) -> bool
+    requires { V.version.front left.now ≡ V.version.front right.now }
+    ensures texts { IsTrue result
+        ↔ (canonical_text V.version left.now ≡ canonical_text V.version right.now) }
+    ensures vectors { IsTrue result ↔ (left.now ≡ right.now) }
+{
+    for kind in V::printed() {
+        if !same_text(left.slashed(*kind), right.slashed(*kind)) {
+            return false;
+        }
+    }
+    true
+}
+
+fn same_text(left: Option<&'static str>, right: Option<&'static str>) -> bool
+    ensures { IsTrue result ↔ (option_copied left.entry ≡ option_copied right.entry) }
+{
+    left == right
 }

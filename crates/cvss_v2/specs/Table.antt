@@ -162,3 +162,7 @@ printed = AV ∷ AC ∷ Au ∷ C ∷ I ∷ A ∷ E ∷ RL ∷ RC ∷ CDP ∷ TD 
 -- the metrics that every vector has, in the order in which they are missed
 abbrev pub mandatory : List MetricType
 mandatory = AV ∷ AC ∷ Au ∷ C ∷ I ∷ A ∷ []
+
+-- the order in which the metrics of a vector are listed
+abbrev pub listed : List MetricType
+listed = AC ∷ Au ∷ AV ∷ C ∷ I ∷ A ∷ CR ∷ IR ∷ AR ∷ CDP ∷ TD ∷ E ∷ RC ∷ RL ∷ []

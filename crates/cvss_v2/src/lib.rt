@@ -10,4 +10,4 @@ mod weights;
 pub use cvss_base::v2::MetricType;
 pub use metric::Metric;
 pub use score::Score;
-pub use vector::Vector;
+pub use vector::{Metrics, Vector};

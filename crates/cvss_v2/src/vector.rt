@@ -1,7 +1,8 @@
 //! A vector of CVSS v2.
 
-ghost use Rattle.std.specs.Prelude.{◌≡◌, IfOk, IfErr, IsErrAnd, Ok};
+ghost use Rattle.std.specs.Prelude.{◌≡◌, ◌↔◌, IsTrue, IfOk, IfErr, IsErrAnd, Ok};
 
+mod listing;
 mod printing;
 mod reading;
 mod refusing;
@@ -18,7 +19,9 @@ use crate::metric::environmental::{
 use crate::metric::temporal::{Exploitability, RemediationLevel, ReportConfidence};
 use crate::vector::refusing::error_of;
 use cvss_base::Error;
+use cvss_base::print::same_components;
 use cvss_base::walk::read_vector;
+pub use listing::Metrics;
 use std::alloc::Global;
 
 /// A vector of CVSS v2 (guide, section 2.4): at most one value for each metric.
@@ -45,7 +48,7 @@ pub struct Vector {
 impl Vector {
     ghost use Rattle.cvss_base.specs.Refusal.{Refusal, IsFirstRefusal};
     ghost use Rattle.cvss_base.specs.Told.{TellsV2};
-    ghost use Rattle.cvss_base.specs.Version.{Denotes, IsComplete};
+    ghost use Rattle.cvss_base.specs.Version.{canonical_text, Denotes, IsComplete};
     ghost use Rattle.cvss_base.specs.declared.v2.MetricType.{MetricType};
     ghost use Rattle.cvss_v2.specs.Vector.{v2, TellsFirst};
 
@@ -73,5 +76,14 @@ impl Vector {
             Ok(vector) => Ok(vector),
             Err(fault) => Err(error_of(alloc, fault)),
         }
+    }
+
+    /// Whether two vectors have one canonical text, which is whether they are equal.
+    pub fn same_text(&self, other: &Vector) -> bool
+        ensures vectors { IsTrue result ↔ (self.now ≡ other.now) }
+        ensures texts { IsTrue result
+            ↔ (canonical_text v2 self.now ≡ canonical_text v2 other.now) }
+    {
+        same_components(self, other)
     }
 }
