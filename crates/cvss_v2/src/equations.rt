@@ -128,20 +128,24 @@ fn whole_tenths(number: u128) -> u64
     requires { number < 10 ^ 36 }
     ensures { result ≡ number / 10 ^ 27 }
 {
-    // A tenth is 2^27 times 5^13 times 5^14, which divide faster in turn.
-    by_five_to_13(number >> 27) / 6_103_515_625
+    // A tenth is 2^27 * 5^13 * 5^14, whose factors divide in 64 bits.
+    by_five_to_13(number >> 27) / FIVE_TO_14
 }
 
-/// The quotient by 5^13, by two divisions of 64 bits.
+/// The quotient by 5^13, from the halves of the number.
 fn by_five_to_13(number: u128) -> u64
     requires { number < 2 ^ 93 }
-    ensures { result ≡ number / 1_220_703_125 }
+    ensures { result ≡ number / 5 ^ 13 }
 {
     let high = (number >> 32) as u64;
     let low = (number & 0xffff_ffff) as u64;
-    let rest = (high % 1_220_703_125 << 32) + low;
-    (high / 1_220_703_125 << 32) + rest / 1_220_703_125
+    let rest = ((high % FIVE_TO_13) << 32) + low;
+    ((high / FIVE_TO_13) << 32) + rest / FIVE_TO_13
 }
 
 /// Half of a tenth in 10^-28.
 const HALF_TENTH: u128 = 500_000_000_000_000_000_000_000_000;
+
+const FIVE_TO_13: u64 = 1_220_703_125;
+
+const FIVE_TO_14: u64 = 6_103_515_625;

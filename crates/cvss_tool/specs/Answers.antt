@@ -1,0 +1,96 @@
+-- The answers that the program writes to the lines of its input.
+use Rattle.std.specs.Prelude.{◌≡◌, ℕ, ◌*◌, ◌/◌, ◌%◌, ◌^◌, ◌⊎◌, Bool, true, false, List, [], ◌∷◌, ◌++◌, codes, flat_map, ℤ, pos, String, ⊤}
+use Rattle.std.specs.Fmt.{decimal}
+use Rattle.std.specs.Str.{IsUtf8}
+use Rattle.std.specs.String.{string_bytes}
+use Rattle.std.specs.declared.alloc.Global.{Global}
+use Rattle.cvss.specs.ErrorType.{Error}
+use Rattle.cvss.specs.VectorTypeV2.{Vector}
+use Rattle.cvss.specs.ErrorText.{error_text}
+use Rattle.cvss.specs.SeverityText.{text_of as severity_text}
+use Rattle.cvss.specs.Version.{canonical_text, Denotes, IsComplete}
+use Rattle.cvss.specs.RatingV2.{rating_of}
+use Rattle.cvss.specs.ScoresV2.{IsBaseScore}
+use Rattle.cvss.specs.VectorV2.{v2, TellsFirst}
+use Rattle.cvss.specs.WeightsV2.{weights_of}
+
+-- an answer to one line, as its text without the byte 10 that ends it
+pub data Answer : Type 0 where
+  Accepted Refused : List ℕ → Answer
+
+-- the answer's text
+abbrev pub text_of : Answer → List ℕ
+text_of (Accepted text) = text
+text_of (Refused text) = text
+
+-- the line was accepted
+abbrev pub is_accepted : Answer → Bool
+is_accepted (Accepted text) = true
+is_accepted (Refused text) = false
+
+-- the line was refused
+abbrev pub is_refused : Answer → Bool
+is_refused (Accepted text) = false
+is_refused (Refused text) = true
+
+-- a score of so many tenths: units, point, one decimal
+abbrev pub score_text : ℕ → List ℕ
+score_text tenths = decimal (tenths / 10) ++ codes "." ++ decimal (tenths % 10)
+
+-- a score of so many tenths, as a count of 10^-24
+abbrev pub score_of : ℕ → ℤ
+score_of tenths = pos (tenths * 10 ^ 23)
+
+-- a vector's canonical text, its score and the score's rating
+abbrev pub vector_answer : Vector → ℕ → List ℕ
+vector_answer vector tenths =
+    canonical_text v2 vector ++ codes " " ++ score_text tenths ++ codes " "
+    ++ severity_text (rating_of (score_of tenths))
+
+-- the line is a text that denotes a complete vector, and the answer is this vector's
+pub record IsAcceptance (line answer : List ℕ) : Type 0 where
+  pub utf8 : IsUtf8 line
+  pub vector : Vector
+  pub denoted : Denotes v2 line vector
+  pub complete : IsComplete v2 vector
+  pub tenths : ℕ
+  pub scored : IsBaseScore (weights_of vector) (score_of tenths)
+  pub is : answer ≡ vector_answer vector tenths
+
+-- the line is a text that is no vector, and the answer is an error that tells the first reason
+pub record IsRefusal (line answer : List ℕ) : Type 0 where
+  pub utf8 : IsUtf8 line
+  pub error : Error
+  pub told : TellsFirst line error
+  pub is : answer ≡ codes "error: " ++ error_text error
+
+-- the line is no text
+pub record IsNoText (line answer : List ℕ) : Type 0 where
+  pub not_utf8 : ¬ (IsUtf8 line)
+  pub is : answer ≡ codes "error: not UTF-8"
+
+-- this is an answer to the line
+unfoldable pub IsAnswer : List ℕ → Answer → Type 0
+IsAnswer line (Accepted text) = IsAcceptance line text
+IsAnswer line (Refused text) = IsRefusal line text ⊎ IsNoText line text
+
+-- each line has its answer, in the order of the lines
+abbrev pub IsAnswers : List (List ℕ) → List Answer → Type 0
+IsAnswers [] [] = ⊤
+IsAnswers [] (answer ∷ answers) = ⊥
+IsAnswers (line ∷ lines) [] = ⊥
+IsAnswers (line ∷ lines) (answer ∷ answers) = IsAnswer line answer × IsAnswers lines answers
+
+-- what is written for one answer: its text and a byte 10
+abbrev pub written_answer : Answer → List ℕ
+written_answer answer = text_of answer ++ 10 ∷ []
+
+-- what is written for a list of answers
+abbrev pub written_answers : List Answer → List ℕ
+written_answers answers = flat_map written_answer answers
+
+-- the vector's answer and a byte 10 are written behind the earlier answers
+pub record WritesVector (vector : Vector) (old new : String Global) : Type 0 where
+  pub tenths : ℕ
+  pub scored : IsBaseScore (weights_of vector) (score_of tenths)
+  pub written : string_bytes new ≡ string_bytes old ++ written_answer (Accepted (vector_answer vector tenths))

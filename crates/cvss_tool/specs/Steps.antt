@@ -1,0 +1,63 @@
+-- What the private code of a run does between two reads. No public clause cites it.
+use Rattle.std.specs.Prelude.{◌≡◌, ℕ, ◌+◌, ◌-◌, ◌^◌, ◌<◌, ◌≤◌, ◌≢◌, min, All, Bool, List, length, slice_index, [], ◌∷◌, ◌++◌, take, Option, if◌then◌else◌, string_bytes}
+use Rattle.std.specs.Io.KnownBytes.{Appends, Keeps}
+use Rattle.cvss_tool.specs.Answers.{Answer, IsAnswers, is_accepted, is_refused, written_answers}
+use Rattle.cvss_tool.specs.declared.fault.RunFault.{RunFault}
+use Rattle.cvss_tool.specs.declared.fault.RunFault.TheVariants.{Read, Write, Memory}
+use Rattle.cvss_tool.specs.declared.pending.Pending.{Pending}
+use Rattle.cvss_tool.specs.declared.summary.Summary.{Summary}
+
+-- no line ends in these bytes
+abbrev pub NoLineEnd : List ℕ → Type 0
+NoLineEnd bytes = All (λ byte. byte ≢ 10) bytes
+
+-- the place of the first byte 10, or the length where there is none
+pub record IsFirstLineEnd (bytes : List ℕ) (place : ℕ) : Type 0 where
+  pub within : place ≤ length bytes
+  pub before : (k : ℕ) → k < place → slice_index bytes k ≢ 10
+  pub found : place < length bytes → slice_index bytes place ≡ 10
+
+-- a count that goes on from an earlier one, and stops at the maximum of a `u64`
+abbrev pub counted_on : ℕ → (Answer → Bool) → List Answer → ℕ
+counted_on count test [] = count
+counted_on count test (answer ∷ answers) =
+    counted_on (if test answer then min (count + 1) (2 ^ 64 - 1) else count) test answers
+
+-- the answers are counted
+pub record Counts (old : Summary) (answers : List Answer) (new : Summary) : Type 0 where
+  pub accepted : new.accepted ≡ counted_on old.accepted is_accepted answers
+  pub refused : new.refused ≡ counted_on old.refused is_refused answers
+
+-- nothing is counted yet
+abbrev pub no_lines : Summary
+no_lines = record { accepted = 0; refused = 0 }
+
+-- answers of the lines were added to the answers that aren't written yet, and counted
+pub record Gathers (old new : Pending) (lines : List (List ℕ)) : Type 0 where
+  pub answers : List Answer
+  pub answered : IsAnswers lines answers
+  pub added : string_bytes new.answers ≡ string_bytes old.answers ++ written_answers answers
+  pub counted : Counts old.summary answers new.summary
+
+-- answers of the lines were written and counted
+pub record Writes (old new : Summary) (lines : List (List ℕ))
+    (written written' : Option (List ℕ)) : Type 0 where
+  pub answers : List Answer
+  pub answered : IsAnswers lines answers
+  pub appended : Appends written written' (written_answers answers)
+  pub counted : Counts old answers new
+
+-- a beginning of the answers of the lines was written
+pub record WritesBeginning (lines : List (List ℕ)) (written written' : Option (List ℕ))
+    : Type 0 where
+  pub answers : List Answer
+  pub count : ℕ
+  pub answered : IsAnswers lines answers
+  pub appended : Appends written written' (take count (written_answers answers))
+
+-- a fault before all answers of the lines were written; where memory was refused, none is
+pub record StopsAt (fault : RunFault) (lines : List (List ℕ))
+    (written written' : Option (List ℕ)) : Type 0 where
+  pub no_read : fault ≢ Read
+  pub memory : fault ≡ Memory → Keeps written written'
+  pub write : fault ≡ Write → WritesBeginning lines written written'
