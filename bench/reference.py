@@ -65,24 +65,50 @@ def canonical(vector):
 
 
 def weight(vector, name):
-    return Fraction(METRICS[name][1][vector[name]])
+    """The weight of a metric, where an absent one counts as the guide says."""
+    if name in vector:
+        return Fraction(METRICS[name][1][vector[name]])
+    return Fraction(0 if name in MANDATORY or name == "CDP" else 1)
 
 
 def tenths(x):
-    """The nearest tenth to x + 10^-6, half away from zero."""
+    """The nearest tenth to x + 10^-6, half away from zero, in tenths."""
     x = (x + Fraction(1, 1_000_000)) * 10
     sign = -1 if x < 0 else 1
     return sign * ((2 * abs(x) + 1) // 2)
 
 
-def base_score(vector):
-    c, i, a = (weight(vector, name) for name in "CIA")
-    impact = Fraction("10.41") * (1 - (1 - c) * (1 - i) * (1 - a))
-    av, ac, au = (weight(vector, name) for name in ("AV", "AC", "Au"))
-    exploitability = 20 * av * ac * au
+def impact(vector, requirements):
+    rests = Fraction(1)
+    for name, requirement in zip("CIA", requirements):
+        wanted = weight(vector, requirement) if requirement else 1
+        rests *= 1 - weight(vector, name) * wanted
+    return Fraction("10.41") * (1 - rests)
+
+
+def base(vector, impact):
+    exploitability = 20 * weight(vector, "AV") * weight(vector, "AC") * weight(vector, "Au")
     f = Fraction("1.176") if impact else 0
-    return max(0, tenths((Fraction("0.6") * impact + Fraction("0.4") * exploitability
-                          - Fraction("1.5")) * f))
+    return tenths((Fraction("0.6") * impact + Fraction("0.4") * exploitability
+                   - Fraction("1.5")) * f)
+
+
+def temporal(vector, impact):
+    return tenths(Fraction(base(vector, impact), 10) * weight(vector, "E")
+                  * weight(vector, "RL") * weight(vector, "RC"))
+
+
+def environmental(vector):
+    adjusted = min(Fraction(10), impact(vector, ["CR", "IR", "AR"]))
+    score = Fraction(temporal(vector, adjusted), 10)
+    return tenths((score + (10 - score) * weight(vector, "CDP")) * weight(vector, "TD"))
+
+
+def scores(vector):
+    """The published base, temporal and environmental score, in tenths."""
+    own = impact(vector, [None, None, None])
+    return [max(0, score) for score in
+            (base(vector, own), temporal(vector, own), environmental(vector))]
 
 
 def answer(line):
@@ -94,7 +120,7 @@ def answer(line):
         vector = read(text)
     except Refused as reason:
         return f"error: {reason}"
-    score = base_score(vector)
+    score = scores(vector)[0]
     severity = "low" if score < 40 else "medium" if score < 70 else "high"
     return f"{canonical(vector)} {score // 10}.{score % 10} {severity}"
 

@@ -1,0 +1,269 @@
+//! Tests of the scores, with the guide's examples and values of the Rust crate.
+
+use cvss::v2::metric::base::{
+    AccessComplexity, AccessVector, Authentication, AvailabilityImpact, ConfidentialityImpact,
+    IntegrityImpact,
+};
+use cvss::v2::{Score, Vector};
+use cvss::{LIMIT, ONE, Severity};
+use std::test::Fail;
+
+const TENTH: i128 = ONE / 10;
+
+/// A millionth of a score point.
+const MILLIONTH: i128 = ONE / 1_000_000;
+
+/// The tenths of a score that is a whole number of them.
+fn tenths_of(score: Score) -> Option<i128> {
+    let value = score.value();
+    (value % TENTH == 0).then_some(value / TENTH)
+}
+
+#[test]
+fn scores_vectors(rt: HostRuntime) -> Result<(), Fail> {
+    let rows = [
+        (
+            "AV:N/AC:L/Au:N/C:N/I:N/A:C/E:F/RL:OF/RC:C/CDP:H/TD:H/CR:M/IR:M/AR:H",
+            78,
+            64,
+            92,
+        ),
+        (
+            "AV:N/AC:L/Au:N/C:C/I:C/A:C/E:F/RL:OF/RC:C/CDP:H/TD:H/CR:M/IR:M/AR:L",
+            100,
+            83,
+            90,
+        ),
+        (
+            "AV:L/AC:H/Au:N/C:C/I:C/A:C/E:POC/RL:OF/RC:C/CDP:H/TD:H/CR:M/IR:M/AR:M",
+            62,
+            49,
+            75,
+        ),
+        ("AV:N/AC:L/Au:S/C:C/I:C/A:C/E:F/RL:U/RC:C", 90, 86, 86),
+        (
+            "AV:N/AC:M/Au:N/C:C/I:C/A:P/RL:TF/RC:UC/CDP:MH/TD:M/IR:L/AR:H",
+            90,
+            73,
+            62,
+        ),
+        (
+            "AV:L/AC:H/Au:M/C:N/I:P/A:N/E:F/RL:TF/RC:UR/CDP:MH/TD:ND/CR:H/IR:L/AR:L",
+            8,
+            6,
+            39,
+        ),
+        (
+            "AV:L/AC:H/Au:M/C:N/I:N/A:P/E:H/RL:ND/TD:H/CR:L/IR:H/AR:L",
+            8,
+            8,
+            0,
+        ),
+        ("AV:N/AC:L/Au:N/C:N/I:N/A:N", 0, 0, 0),
+    ];
+    for (text, base, temporal, environmental) in rows {
+        let vector = Vector::from_str(rt.alloc(), text)?;
+        assert_eq!(rt; tenths_of(vector.score()), Some(base), "{text}");
+        assert_eq!(rt;
+            tenths_of(vector.temporal_score()),
+            Some(temporal),
+            "{text}"
+        );
+        assert_eq!(rt;
+            tenths_of(vector.environmental_score()),
+            Some(environmental),
+            "{text}"
+        );
+    }
+    Ok(())
+}
+
+#[test]
+fn sub_scores_of_the_guide(rt: HostRuntime) -> Result<(), Fail> {
+    let rows = [
+        ("AV:N/AC:L/Au:N/C:N/I:N/A:C/CR:M/IR:M/AR:H", 69, 100, 100),
+        ("AV:N/AC:L/Au:N/C:C/I:C/A:C/CR:M/IR:M/AR:L", 100, 100, 96),
+        ("AV:L/AC:H/Au:N/C:C/I:C/A:C/CR:M/IR:M/AR:M", 100, 19, 100),
+    ];
+    for (text, impact, exploitability, adjusted_impact) in rows {
+        let vector = Vector::from_str(rt.alloc(), text)?;
+        assert_eq!(rt;
+            tenths_of(rounded(vector.impact())?),
+            Some(impact),
+            "{text}"
+        );
+        assert_eq!(rt;
+            tenths_of(rounded(vector.exploitability())?),
+            Some(exploitability),
+            "{text}"
+        );
+        assert_eq!(rt;
+            tenths_of(rounded(vector.adjusted_impact())?),
+            Some(adjusted_impact),
+            "{text}"
+        );
+    }
+    Ok(())
+}
+
+/// The score, rounded to a tenth.
+fn rounded(score: Score) -> Result<Score, &'static str> {
+    let value = score.value();
+    if -LIMIT <= value && value <= LIMIT {
+        Ok(Score::new(value).roundup())
+    } else {
+        Err("beyond the limit")
+    }
+}
+
+#[test]
+fn rounds_half_away_from_zero_after_a_millionth(rt: HostRuntime) -> Result<(), Fail> {
+    let rows = [
+        (8_549_995, 85),
+        (8_550_000, 86),
+        (49_998, 0),
+        (49_999, 1),
+        (-50_000, 0),
+        (-50_001, -1),
+    ];
+    for (millionths, tenths) in rows {
+        let score = Score::new(i128::wrapping_mul(millionths, MILLIONTH));
+        assert_eq!(rt; tenths_of(rounded(score)?), Some(tenths), "{millionths}");
+    }
+    for limit in [LIMIT, -LIMIT] {
+        assert_eq!(rt; rounded(Score::new(limit))?.value(), limit);
+    }
+    Ok(())
+}
+
+#[test]
+fn internal_temporal_scores_at_the_limits(rt: HostRuntime) {
+    let vector = Vector::default();
+    let rows = [(LIMIT, 7_055_982), (-LIMIT, -7_056_018), (1, -18), (0, 0)];
+    for (impact, tenths) in rows {
+        let score = if -LIMIT <= impact && impact <= LIMIT {
+            vector.temporal_score_internal(Score::new(impact))
+        } else {
+            Score::new(1)
+        };
+        assert_eq!(rt; tenths_of(score), Some(tenths), "{impact}");
+    }
+}
+
+#[test]
+fn rates_scores(rt: HostRuntime) {
+    let rows = [
+        (i128::MIN, Severity::Low),
+        (4 * ONE - 1, Severity::Low),
+        (4 * ONE, Severity::Medium),
+        (7 * ONE - 1, Severity::Medium),
+        (7 * ONE, Severity::High),
+        (i128::MAX, Severity::High),
+    ];
+    for (count, severity) in rows {
+        let score = Score::from(count);
+        assert_eq!(rt; i128::from(score), count);
+        assert!(rt; score == Score::new(count));
+        assert!(rt; score.severity() == severity, "{count}");
+        assert!(rt; Severity::from(score) == severity, "{count}");
+    }
+    assert_eq!(rt; Score::default().value(), 0);
+    assert!(rt; Score::new(-1) < Score::default());
+}
+
+const ACCESS_VECTORS: [AccessVector; 3] = [
+    AccessVector::Local,
+    AccessVector::AdjacentNetwork,
+    AccessVector::Network,
+];
+
+const ACCESS_COMPLEXITIES: [AccessComplexity; 3] = [
+    AccessComplexity::High,
+    AccessComplexity::Medium,
+    AccessComplexity::Low,
+];
+
+const AUTHENTICATIONS: [Authentication; 3] = [
+    Authentication::Multiple,
+    Authentication::Single,
+    Authentication::None,
+];
+
+const CONFIDENTIALITY_IMPACTS: [ConfidentialityImpact; 3] = [
+    ConfidentialityImpact::None,
+    ConfidentialityImpact::Partial,
+    ConfidentialityImpact::Complete,
+];
+
+const INTEGRITY_IMPACTS: [IntegrityImpact; 3] = [
+    IntegrityImpact::None,
+    IntegrityImpact::Partial,
+    IntegrityImpact::Complete,
+];
+
+const AVAILABILITY_IMPACTS: [AvailabilityImpact; 3] = [
+    AvailabilityImpact::None,
+    AvailabilityImpact::Partial,
+    AvailabilityImpact::Complete,
+];
+
+/// All vectors with base metrics alone, AV the slowest and A the fastest, values as declared.
+fn base_vectors(alloc: std::alloc::Global) -> Result<Vec<Vector>, std::alloc::AllocError> {
+    let mut vectors = Vec::new(alloc);
+    for av in ACCESS_VECTORS {
+        for ac in ACCESS_COMPLEXITIES {
+            for au in AUTHENTICATIONS {
+                let access = Vector {
+                    av: Some(av),
+                    ac: Some(ac),
+                    au: Some(au),
+                    ..Vector::default()
+                };
+                push_impacts(access, &mut vectors)?;
+            }
+        }
+    }
+    Ok(vectors)
+}
+
+fn push_impacts(access: Vector, vectors: &mut Vec<Vector>) -> Result<(), std::alloc::AllocError> {
+    for c in CONFIDENTIALITY_IMPACTS {
+        for i in INTEGRITY_IMPACTS {
+            for a in AVAILABILITY_IMPACTS {
+                vectors.push(Vector {
+                    c: Some(c),
+                    i: Some(i),
+                    a: Some(a),
+                    ..access
+                })?;
+            }
+        }
+    }
+    Ok(())
+}
+
+#[test]
+fn scores_of_all_base_vectors(rt: HostRuntime) -> Result<(), Fail> {
+    let mut sum = 0u64;
+    let mut checksum = 0u64;
+    let mut counts = [0u64; 5];
+    let vectors = base_vectors(rt.alloc())?;
+    for vector in &vectors {
+        let tenths = u64::try_from(tenths_of(vector.score()).ok_or("no tenth")?)?;
+        sum = sum.wrapping_add(tenths);
+        checksum = checksum.wrapping_mul(101).wrapping_add(tenths) % 2_147_483_647;
+        let class = match tenths {
+            0 => 0,
+            1..40 => 1,
+            40..70 => 2,
+            70..90 => 3,
+            _ => 4,
+        };
+        counts[class] = counts[class].wrapping_add(1);
+    }
+    assert_eq!(rt; vectors.len(), 729);
+    assert_eq!(rt; sum, 38_007);
+    assert_eq!(rt; checksum, 688_688_529);
+    assert_eq!(rt; counts, [27, 134, 441, 112, 15]);
+    Ok(())
+}
