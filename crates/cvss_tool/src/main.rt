@@ -9,6 +9,8 @@ mod pending;
 mod run;
 mod search;
 mod summary;
+#[cfg(test)]
+mod tests;
 mod write;
 
 pub use exit::{exit_status, fault_text};
