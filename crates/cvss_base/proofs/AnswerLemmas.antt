@@ -1,6 +1,6 @@
 -- What follows for a text from the one answer that the walk gives.
-use Rattle.std.proofs.Common.{◌≡◌, ℕ, List, [], length, Result, Ok, Err, sym, ap, ◌∙◌}
-use Rattle.std.specs.Result.{MatchResult, IfOk, IfErr, IsErrAnd}
+use Rattle.std.proofs.Common.{◌≡◌, ℕ, List, [], length, Result, Ok, Err, subst, sym, ap, ◌∙◌}
+use Rattle.std.specs.Result.{MatchResult, IfOk, IsErrAnd}
 use Rattle.cvss_base.specs.declared.walk.Fault.{Fault}
 use Rattle.cvss_base.specs.Text.{pieces}
 use Rattle.cvss_base.specs.Version.{Version, Denotes, IsComplete}
@@ -29,9 +29,13 @@ module _ {V K : Type 0} (version : Version V K) (lawful : IsLawful version) (tex
   refusal_from components (Repeated kind) is = (components, is)
   refusal_from components (Missing kind) is = (components, is)
 
-  pub IsAnswer-from : (empty : V) (answer : Result V (Fault K)) → version.front empty ≡ [] → AreComponentsBefore (pieces text) (length (pieces text)) → IfOk answer (λ v. HasRead version (pieces text) (length (pieces text)) v) → IfOk answer (λ v. version.front v ≡ version.front empty) → IfOk answer (λ v. IsComplete version v) → IfErr answer (λ fault. IsFirstReason version (pieces text) (reason_of version fault)) → IsAnswer version text answer
-  IsAnswer-from empty (Ok v) frontless components all front complete _ = record { frontless = front ∙ frontless; all = all; complete = complete }
-  IsAnswer-from empty (Err fault) frontless components _ _ _ refused = refusal_from components (reason_of version fault) refused
+  -- whatever pieces were read, they are those of the text
+  module _ (parts : List (List ℕ)) (are : parts ≡ pieces text) where
+    pub IsReadFrom-parts : (v : V) → version.front v ≡ [] → HasRead version parts (length parts) v → IsComplete version v → IsReadFrom version text v
+    IsReadFrom-parts v frontless all complete = record { frontless = frontless; all = subst (λ list. HasRead version list (length list) v) are all; complete = complete }
+
+    pub IsFirstRefusal-parts : (reason : Refusal K) → AreComponentsBefore (pieces text) (length (pieces text)) → (AreComponentsBefore parts (length parts) → IsFirstReason version parts reason) → IsFirstRefusal version text reason
+    IsFirstRefusal-parts reason components first = refusal_from components reason (subst (λ list. AreComponentsBefore list (length list) → IsFirstReason version list reason) are first components)
 
   pub denoted-from : (answer : Result V (Fault K)) → IsAnswer version text answer → IfOk answer (λ v. Denotes version text v)
   denoted-from (Ok v) is = Denotes-from version lawful text v is.frontless is.all

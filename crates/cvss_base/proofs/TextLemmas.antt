@@ -123,9 +123,12 @@ module _ (name value : List ℕ) (name_plain : dividers name ≡ 0) where
     pub slashes-component : count_by (λ byte. eqb byte slash) (component name value) ≡ 0
     slashes-component = omega (arith, counted (λ byte. eqb byte slash), slashes-le name, slashes-le value)
 
--- a component is its name, the colon and its value
-pub component-parts : (piece : List ℕ) → IsComponent piece → piece ≡ component (name_part piece) (value_part piece)
-component-parts piece is =
-    let within = position-within (λ byte. eqb byte colon) piece is.one_colon in
+-- a piece with a colon is its name, the colon and its value
+pub colon-parts : (piece : List ℕ) → position_or_len (λ byte. eqb byte colon) piece < length piece → piece ≡ component (name_part piece) (value_part piece)
+colon-parts piece within =
     let at_colon = eqb-true _ _ (passes_at_first (λ byte. eqb byte colon) piece 0 within) in
     split_at_first (λ byte. eqb byte colon) piece 0 within ∙ rw at_colon
+
+pub component-parts : (piece : List ℕ) → IsComponent piece → piece ≡ component (name_part piece) (value_part piece)
+component-parts piece is =
+    colon-parts piece (position-within (λ byte. eqb byte colon) piece is.one_colon)

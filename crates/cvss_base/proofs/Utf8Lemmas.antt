@@ -1,17 +1,16 @@
 -- The pieces of a text in UTF-8, and their parts, are UTF-8.
-use Rattle.std.proofs.Common.{◌≡◌, ℕ, zero, suc, ◌+◌, ◌<◌, ◌≤◌, List, [], length, get_or, take, drop, eqb, Option, Some, None, refl, arith}
+use Rattle.std.proofs.Common.{◌≡◌, ℕ, zero, suc, ◌+◌, ◌<◌, ◌≤◌, List, [], ◌∷◌, length, get_or, take, drop, Option, Some, None, refl, sym, ap, ◌∙◌, arith}
 use Rattle.std.specs.List.{All, position}
 use Rattle.std.specs.Str.{IsUtf8}
 use Rattle.std.proofs.lemmas.Bool.{eqb-true}
-use Rattle.std.proofs.lemmas.List.{length-drop}
-use Rattle.std.proofs.lemmas.List.Elements.{All-nil, All-cons, All-get_or}
+use Rattle.std.proofs.lemmas.List.{length-append, length-drop, get_or_at, take_at, drop_at, drop-drop}
+use Rattle.std.proofs.lemmas.List.Elements.{All-nil, All-cons}
 use Rattle.std.proofs.lemmas.List.Quantifiers.{position-Some}
-use Rattle.std.proofs.lemmas.List.Sums.{passes_at_first}
 use Rattle.std.proofs.lemmas.Str.{IsUtf8-take, IsUtf8-drop, IsCharBoundary-before_ascii, IsCharBoundary-after_ascii}
-use Rattle.cvss_base.specs.Text.{colon, pieces, IsComponent, name_part, value_part}
-use Rattle.cvss_base.specs.Refusal.{piece_at, IsFirstBadPiece}
+use Rattle.cvss_base.specs.Text.{colon, pieces, component}
+use Rattle.cvss_base.specs.Pieces.{AreParts}
+use Rattle.cvss_base.specs.Refusal.{IsFirstBadPiece}
 use Rattle.cvss_base.proofs.PieceLemmas.{is_slash, pieces-first, pieces-last}
-use Rattle.cvss_base.proofs.TextLemmas.{position-within}
 
 -- a text cut at an ASCII byte
 record AreUtf8 (front rest : List ℕ) : Type 0 where
@@ -34,20 +33,24 @@ pieces_from (suc size) text (Some at) short found is =
     rw (pieces-first text at found) (All-cons IsUtf8 (take at text) _ parts.front_is (pieces_from size (drop (at + 1) text) (position is_slash (drop (at + 1) text)) (omega (arith, length-drop (at + 1) text)) refl parts.rest_is))
 
 -- each piece
-pub IsUtf8-piece : (text : List ℕ) (place : ℕ) → place < length (pieces text) → IsUtf8 text → IsUtf8 (piece_at (pieces text) place)
-IsUtf8-piece text place within is = All-get_or IsUtf8 (pieces text) place [] within (pieces_from (length text) text (position is_slash text) (omega arith) refl is)
+pub IsUtf8-pieces : (text : List ℕ) → IsUtf8 text → All IsUtf8 (pieces text)
+IsUtf8-pieces text is = pieces_from (length text) text (position is_slash text) (omega arith) refl is
 
 pub IsUtf8-bad_piece : (text piece : List ℕ) → IsFirstBadPiece (pieces text) piece → IsUtf8 text → IsUtf8 piece
-IsUtf8-bad_piece text piece bad is = rw bad.is (IsUtf8-piece text bad.place bad.within is)
+IsUtf8-bad_piece text piece bad is = rw bad.is (IsUtf8-pieces text is bad.place [] bad.within)
 
--- the name and the value of a component
-component_cut : (piece : List ℕ) → IsComponent piece → IsUtf8 piece → AreUtf8 (name_part piece) (value_part piece)
-component_cut piece component is =
-    let within = position-within (λ byte. eqb byte colon) piece component.one_colon in
-    cut piece _ within (omega (arith, eqb-true _ _ (passes_at_first (λ byte. eqb byte colon) piece 0 within))) is
+-- the texts before and after a colon
+colon_cut : (name value : List ℕ) → IsUtf8 (component name value) → AreUtf8 name value
+colon_cut name value is =
+    let whole = component name value in
+    let parts = cut whole (length name) (omega (arith, length-append name (colon ∷ value))) (omega (arith, get_or_at name colon value 0 (length name) refl)) is in
+    record {
+      front_is = rw (take_at name (colon ∷ value) (length name) refl) at parts.front_is;
+      rest_is = rw (sym (drop-drop 1 (length name) whole) ∙ ap (drop 1) (drop_at name (colon ∷ value) (length name) refl)) at parts.rest_is;
+    }
 
-pub IsUtf8-name_part : (piece : List ℕ) → IsComponent piece → IsUtf8 piece → IsUtf8 (name_part piece)
-IsUtf8-name_part piece component is = (component_cut piece component is).front_is
+pub IsUtf8-name : (piece name value : List ℕ) → AreParts piece name value → IsUtf8 piece → IsUtf8 name
+IsUtf8-name piece name value parts is = (colon_cut name value (rw parts.cut at is)).front_is
 
-pub IsUtf8-value_part : (piece : List ℕ) → IsComponent piece → IsUtf8 piece → IsUtf8 (value_part piece)
-IsUtf8-value_part piece component is = (component_cut piece component is).rest_is
+pub IsUtf8-value : (piece name value : List ℕ) → AreParts piece name value → IsUtf8 piece → IsUtf8 value
+IsUtf8-value piece name value parts is = (colon_cut name value (rw parts.cut at is)).rest_is

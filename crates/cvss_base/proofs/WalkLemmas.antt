@@ -6,10 +6,11 @@ use Rattle.std.proofs.lemmas.List.Splits.{join_with_byte-slice_split}
 use Rattle.std.proofs.lemmas.Option.{none-some}
 use Rattle.std.proofs.lemmas.List.Sorted.{IsPermutation-refl}
 use Rattle.cvss_base.specs.Text.{slash, pieces, IsComponent, name_part, value_part, component}
+use Rattle.cvss_base.specs.Pieces.{AreParts}
 use Rattle.cvss_base.specs.Version.{Version, read, component_of, AreComponentsOf, Denotes}
 use Rattle.cvss_base.specs.Refusal.{Refusal, BadComponent, UnknownName, BadValue, Repeated, Missing, IsSpelling, piece_at, FaultAt, IsNamedBefore, IsFirstFault, IsFirstMissing}
-use Rattle.cvss_base.specs.Walk.{IsLawful, HasNoValue, Adds, HasRead, IsFaultOf, LacksFirst}
-use Rattle.cvss_base.proofs.TextLemmas.{name_part-read, value_part-read, name_part-component, value_part-component}
+use Rattle.cvss_base.specs.Walk.{IsLawful, dividers, HasNoValue, Puts, Adds, HasRead, IsFaultOf, LacksFirst}
+use Rattle.cvss_base.proofs.TextLemmas.{name_part-read, value_part-read, name_part-component, value_part-component, dividers-read, IsComponent-component}
 use Rattle.cvss_base.proofs.LawLemmas.{name_plain, names_differ}
 use Rattle.cvss_base.proofs.ComponentLemmas.{adds_component, held_stands, piece_held}
 
@@ -67,6 +68,14 @@ module _ {V K : Type 0} (version : Version V K) (lawful : IsLawful version) wher
         let is_kind : adds.kind ≡ kind = names_differ version lawful adds.kind kind (adds.named ∙ sym named) in
         none_absent (version.value_of v kind) (subst (λ each. version.value_of v each ≡ None) is_kind adds.puts.fills.was_empty) (named_is_held kind earlier)
     no_fault_at new adds (Missing kind) fault = fault
+
+  -- a piece that was read has one colon, since no name and no value has one
+  pub IsComponent-read : (old new : V) (piece name value : List ℕ) (kind : K) → AreParts piece name value → version.name kind ≡ read version name → Puts version old kind (read version value) new → IsComponent piece
+  IsComponent-read old new piece name value kind parts named puts =
+      let spelling = version.spelling kind puts.fills.value in
+      rw parts.cut (IsComponent-component name value
+      (sym (dividers-read version.any_case name) ∙ (ap dividers (sym named) ∙ name_plain version lawful kind))
+      (sym (dividers-read version.any_case value) ∙ (ap dividers (sym puts.fills.spelled) ∙ (dividers-read version.any_case spelling ∙ lawful.spelling_plain kind puts.fills.value))))
 
   -- the start, a step and the end of the walk
   components_none : (v : V) → HasNoValue version v → (kinds : List K) → filter_map (component_of version v) kinds ≡ []

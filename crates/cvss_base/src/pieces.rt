@@ -3,8 +3,8 @@
 ghost use Rattle.std.specs.Prelude.{◌≡◌, ◌↔◌, IsTrue, MatchOption, Some, length, ◌==◌};
 ghost use Rattle.std.specs.Iterator.{YieldsFirstRef, item_count};
 ghost use Rattle.std.specs.List.{position};
-ghost use Rattle.cvss_base.specs.Text.{IsComponent, name_part, value_part, pieces};
-ghost use Rattle.cvss_base.specs.Pieces.{pieces_left};
+ghost use Rattle.cvss_base.specs.Text.{IsComponent, pieces};
+ghost use Rattle.cvss_base.specs.Pieces.{pieces_left, AreParts};
 ghost use Rattle.cvss_base.specs.Refusal.{AreComponentsBefore, IsFirstBadPiece};
 
 /// The pieces of a text, cut at each slash.
@@ -22,13 +22,9 @@ impl<'a> Iterator for Pieces<'a> {
 
     fn next(&mut self) -> Option<&'a [u8]> {
         let rest = self.rest?;
-        if let Some(at) = first_place(rest, b'/') {
-            self.rest = Some(&rest[at + 1..]);
-            Some(&rest[..at])
-        } else {
-            self.rest = None;
-            Some(rest)
-        }
+        let end = first_place(rest, b'/').unwrap_or(rest.len());
+        self.rest = rest.get(end + 1..);
+        Some(&rest[..end])
     }
 }
 
@@ -62,12 +58,11 @@ pub fn first_bad_piece(text: &[u8]) -> Option<&[u8]>
     pieces_of(text).find(|piece| !is_component(piece))
 }
 
-/// The name and the value of a component.
-pub fn parts_of(piece: &[u8]) -> (&[u8], &[u8])
-    requires { IsComponent piece.now }
-    ensures name { result.0.now ≡ name_part piece.now }
-    ensures value { result.1.now ≡ value_part piece.now }
+/// The texts before and after the first colon of a piece.
+pub fn parts_of(piece: &[u8]) -> Option<(&[u8], &[u8])>
+    ensures { MatchOption result (¬ (IsComponent piece.now))
+        (λ parts. AreParts piece.now parts.0.now parts.1.now) }
 {
-    let at = first_place(piece, b':').unwrap();
-    (&piece[..at], &piece[at + 1..])
+    let at = first_place(piece, b':')?;
+    Some((&piece[..at], &piece[at + 1..]))
 }

@@ -1,14 +1,16 @@
 //! The walk over a vector's components, once for all versions. It takes no memory: a fault borrows
 //! the part of the text that it names.
 
-ghost use Rattle.std.specs.Prelude.{◌≡◌, ◌≢◌, ◌↔◌, IsTrue, IfSome, IfNone, IfOk, IfErr, OnOk, IsErrAnd, Ok, List, [], MatchResult, MatchOption, length};
+ghost use Rattle.std.specs.Prelude.{◌≡◌, ◌≢◌, IfSome, IfNone, IfOk, IfErr, OnOk, IsErrAnd, Ok, List, [], length};
+ghost use Rattle.std.specs.List.{All};
 ghost use Rattle.std.specs.Str.{IsUtf8};
-ghost use Rattle.cvss_base.specs.Text.{IsComponent, name_part, value_part, pieces};
+ghost use Rattle.cvss_base.specs.Pieces.{pieces_left};
+ghost use Rattle.cvss_base.specs.Text.{IsComponent};
 ghost use Rattle.cvss_base.specs.Version.{Version, read, reading, Denotes, IsComplete};
 ghost use Rattle.cvss_base.specs.Refusal.{AreComponentsBefore, Refusal, IsFirstFault, IsFirstReason, IsFirstRefusal};
 ghost use Rattle.cvss_base.specs.Walk.{HasNoValue, IsEmpty, Puts, IsSlip, IsLawful, Adds, HasRead, IsFaultOf, first_missing, ShowsUtf8, reason_of};
 
-use crate::pieces::{first_bad_piece, parts_of, pieces_of};
+use crate::pieces::{Pieces, first_bad_piece, parts_of, pieces_of};
 
 /// Why a value does not go into a vector.
 #[derive(Clone, Copy, Debug, PartialEq, Eq)]
@@ -68,12 +70,15 @@ fn read_component<'a, V: Components>(
     piece: &'a [u8],
     vector: &mut V,
 ) -> Result<(), Fault<'a, V::Kind>>
-    requires { IsComponent piece.now }
-    ensures read { MatchResult result (λ _. Adds V.version vector.old piece.now vector.new)
-        (λ fault. IsFaultOf V.version vector.old piece.now (reason_of V.version fault)) }
+    ensures component { OnOk result (IsComponent piece.now) }
+    ensures read { OnOk result (Adds V.version vector.old piece.now vector.new) }
+    ensures refused { IfErr result (λ fault. IsComponent piece.now
+        → IsFaultOf V.version vector.old piece.now (reason_of V.version fault)) }
     ensures shown { IsUtf8 piece.now → IfErr result ShowsUtf8 }
 {
-    let (name, value) = parts_of(piece);
+    let Some((name, value)) = parts_of(piece) else {
+        return Err(Fault::InvalidComponent(piece));
+    };
     let Some(kind) = V::kind_named(name) else {
         return Err(Fault::UnknownMetric(name));
     };
@@ -84,40 +89,43 @@ fn read_component<'a, V: Components>(
     }
 }
 
-/// Reads all components of a text into the vector.
-pub fn read_components<'a, V: Components>(
-    text: &'a [u8],
+/// Reads the components that are left of a text into the vector.
+// A call of its own keeps the vector in memory, which is faster than a local for each field.
+#[inline(never)]
+fn read_components<'a, V: Components>(
+    left: Pieces<'a>,
     vector: &mut V,
 ) -> Result<(), Fault<'a, V::Kind>>
-    requires components { AreComponentsBefore (pieces text.now) (length (pieces text.now)) }
-    requires empty { HasNoValue V.version vector.old }
-    ensures read { OnOk result
-        (HasRead V.version (pieces text.now) (length (pieces text.now)) vector.new) }
+    requires { HasNoValue V.version vector.old }
+    ensures read { OnOk result (HasRead V.version (pieces_left left.entry)
+        (length (pieces_left left.entry)) vector.new) }
     ensures front { OnOk result (V.version.front vector.new ≡ V.version.front vector.old) }
-    ensures refused { IfErr result
-        (λ fault. IsFirstFault V.version (pieces text.now) (reason_of V.version fault)) }
-    ensures shown { IsUtf8 text.now → IfErr result ShowsUtf8 }
+    ensures refused { IfErr result (λ fault.
+        AreComponentsBefore (pieces_left left.entry) (length (pieces_left left.entry))
+        → IsFirstFault V.version (pieces_left left.entry) (reason_of V.version fault)) }
+    ensures shown { All IsUtf8 (pieces_left left.entry) → IfErr result ShowsUtf8 }
 {
-    for piece in pieces_of(text) {
+    for piece in left {
         read_component(piece, vector)?;
     }
     Ok(())
 }
 
-/// Reads all components of a text into an empty vector, which then has to be complete.
-pub fn read_complete<'a, V: Components>(text: &'a [u8], empty: V) -> Result<V, Fault<'a, V::Kind>>
-    requires components { AreComponentsBefore (pieces text.now) (length (pieces text.now)) }
-    requires empty { HasNoValue V.version empty }
-    ensures read { IfOk result
-        (λ v. HasRead V.version (pieces text.now) (length (pieces text.now)) v) }
+/// Reads the components that are left of a text into a vector without values, which then has to be
+/// complete. The fault is the first only where each of these pieces is a component.
+pub fn read_complete<'a, V: Components>(left: Pieces<'a>, empty: V) -> Result<V, Fault<'a, V::Kind>>
+    requires { HasNoValue V.version empty }
+    ensures read { IfOk result (λ v. HasRead V.version (pieces_left left.entry)
+        (length (pieces_left left.entry)) v) }
     ensures front { IfOk result (λ v. V.version.front v ≡ V.version.front empty) }
     ensures complete { IfOk result (λ v. IsComplete V.version v) }
-    ensures refused { IfErr result
-        (λ fault. IsFirstReason V.version (pieces text.now) (reason_of V.version fault)) }
-    ensures shown { IsUtf8 text.now → IfErr result ShowsUtf8 }
+    ensures refused { IfErr result (λ fault.
+        AreComponentsBefore (pieces_left left.entry) (length (pieces_left left.entry))
+        → IsFirstReason V.version (pieces_left left.entry) (reason_of V.version fault)) }
+    ensures shown { All IsUtf8 (pieces_left left.entry) → IfErr result ShowsUtf8 }
 {
     let mut vector = empty;
-    read_components(text, &mut vector)?;
+    read_components(left, &mut vector)?;
     match vector.first_missing() {
         Some(kind) => Err(Fault::MissingMandatoryMetric(kind)),
         None => Ok(vector),
@@ -140,8 +148,11 @@ pub fn read_vector<'a, V: Components>(text: &'a [u8], empty: V) -> Result<V, Fau
     // The text that a refusal shows.
     ensures shown { IsUtf8 text.now → IfErr result ShowsUtf8 }
 {
-    match first_bad_piece(text) {
-        Some(piece) => Err(Fault::InvalidComponent(piece)),
-        None => read_complete(text, empty),
+    match read_complete(pieces_of(text), empty) {
+        Ok(vector) => Ok(vector),
+        Err(fault) => match first_bad_piece(text) {
+            Some(piece) => Err(Fault::InvalidComponent(piece)),
+            None => Err(fault),
+        },
     }
 }

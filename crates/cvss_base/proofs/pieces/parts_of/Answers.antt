@@ -1,8 +1,12 @@
-use Rattle.std.proofs.Common.{eqb}
-use Rattle.std.proofs.lemmas.Bool.{lt-ltb}
-use Rattle.cvss_base.specs.Text.{colon}
-use Rattle.cvss_base.proofs.TextLemmas.{position-within}
+use Rattle.std.proofs.Common.{◌+◌, sym, ◌∙◌}
+use Rattle.std.proofs.lemmas.List.{take_rest}
+use Rattle.cvss_base.proofs.PieceLemmas.{AreParts-first, no_component}
 use Rattle.cvss_base.proofs.pieces.parts_of.Goals as goal
 
-pub unwrap-at-requires : goal.unwrap-at-requires
-unwrap-at-requires c = rw (c.first_place.ensures, lt-ltb _ _ (position-within (λ byte. eqb byte colon) c.args.piece.now c.requires.one_colon))
+pub returns-in_err-at : goal.returns-in_err-at
+returns-in_err-at c = rw c.from_residual.ensures (no_component c.args.piece.now (sym c.first_place.ensures ∙ c.in_err-at.was))
+
+pub returns : goal.returns
+returns c =
+    let piece = c.args.piece.now in
+    rw (take_rest piece (c.in_ok-at.at + 1)) (AreParts-first piece c.in_ok-at.at (sym c.first_place.ensures ∙ c.in_ok-at.was))
