@@ -1,4 +1,4 @@
--- A vector's canonical text denotes it, and no other vector with its front has that text.
+-- A text denotes at most one vector with a front, and a vector's canonical text denotes it.
 use Rattle.std.proofs.Common.{◌≡◌, ℕ, List, [], ◌∷◌, ◌++◌, length, refl, sym, ap, ◌∙◌, subst, eqb, arith}
 use Rattle.std.specs.List.{All, count_by}
 use Rattle.std.proofs.lemmas.List.{append_cancel_left, length-append}
@@ -45,14 +45,17 @@ module _ {V K : Type 0} (version : Version V K) (lawful : IsLawful version) wher
   own_components : (v : V) → AreComponentsOf version (components_of version v) v
   own_components v = record { each_once = IsPermutation-refl _ }
 
-  are_parts : (v : V) → All IsPart (components_of version v)
-  are_parts v = All-from_get_or IsPart (components_of version v) [] (λ place within. record { is = piece_is_component version lawful v (components_of version v) (own_components v) place within; uncut = piece_is_uncut version lawful v (components_of version v) (own_components v) place within })
+  are_parts : (v : V) (parts : List (List ℕ)) → AreComponentsOf version parts v → All IsPart parts
+  are_parts v parts components = All-from_get_or IsPart parts [] (λ place within. record { is = piece_is_component version lawful v parts components place within; uncut = piece_is_uncut version lawful v parts components place within })
 
   pub canonical_text-denotes : (v : V) → Denotes version (canonical_text version v) v
   canonical_text-denotes v = record { parts = components_of version v; text_is = refl; components = own_components v }
 
+  pub denoted_once : (v w : V) (text : List ℕ) → version.front v ≡ version.front w → Denotes version text v → Denotes version text w → v ≡ w
+  denoted_once v w text front of_v of_w =
+      let texts : joined (version.front w ++ of_v.parts) ≡ joined (version.front w ++ of_w.parts) = ap (λ pieces. joined (pieces ++ of_v.parts)) (sym front) ∙ (sym of_v.text_is ∙ of_w.text_is) in
+      let parts : of_v.parts ≡ of_w.parts = joined_same _ _ (are_parts v of_v.parts of_v.components) (are_parts w of_w.parts of_w.components) (cancel_front (version.front w) _ _ texts) in
+      vectors_same version lawful v w of_w.parts front (subst (λ each. AreComponentsOf version each v) parts of_v.components) of_w.components
+
   pub canonical_text-same : (v w : V) → version.front v ≡ version.front w → canonical_text version v ≡ canonical_text version w → v ≡ w
-  canonical_text-same v w front same =
-      let texts : joined (version.front w ++ components_of version v) ≡ joined (version.front w ++ components_of version w) = ap (λ pieces. joined (pieces ++ components_of version v)) (sym front) ∙ same in
-      let components : components_of version v ≡ components_of version w = joined_same _ _ (are_parts v) (are_parts w) (cancel_front (version.front w) _ _ texts) in
-      vectors_same version lawful v w (components_of version w) front (subst (λ parts. AreComponentsOf version parts v) components (own_components v)) (own_components w)
+  canonical_text-same v w front same = denoted_once v w (canonical_text version w) front (subst (λ text. Denotes version text v) same (canonical_text-denotes v)) (canonical_text-denotes w)

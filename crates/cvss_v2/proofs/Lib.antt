@@ -2,3 +2,5 @@ mod CountLemmas
 mod PutLemmas
 mod ScoreLemmas
 mod StandardFacts
+mod TextLemmas
+mod WeightLemmas

@@ -1,9 +1,10 @@
 //! The scores of a vector.
 
-ghost use Rattle.std.specs.Prelude.{◌≡◌, ◌≤◌, option_map, unwrap_or};
+ghost use Rattle.std.specs.Prelude.{◌≡◌, ◌≤◌, option_map, unwrap_or, codes};
+ghost use Rattle.cvss_base.specs.declared.v2.MetricType.{MetricType};
 ghost use Rattle.cvss_base.specs.Exact.{of_count, ◌≈◌, IsWithinLimit};
 ghost use Rattle.cvss_v2.specs.Scores.{impact, adjusted_impact, exploitability, IsTemporal, IsInTenths, IsBaseScore, IsTemporalScore, IsEnvironmentalScore, IsFromZeroToTen};
-ghost use Rattle.cvss_v2.specs.Table.{weight_of, greatest_weight};
+ghost use Rattle.cvss_v2.specs.Table.{Value, spelling_of, weight_of, absent_weight, greatest_weight};
 ghost use Rattle.cvss_v2.specs.Weights.{IsFromTable, weights_of};
 
 use crate::metric::Metric;
@@ -33,6 +34,13 @@ impl Vector {
             ar: weight(self.ar, 1000),
         }
     }
+
+    /// The law that a value that is not defined weighs as much as its metric when that is absent, so
+    /// that both give the same scores (guide, sections 2.2 and 2.3). It does nothing.
+    pub fn not_defined_weighs_as_absent()
+        ensures { (kind : MetricType) → (value : Value kind) → spelling_of kind value ≡ codes "ND"
+            → weight_of kind value ≡ absent_weight kind }
+    {}
 
     /// The impact sub-score (guide, section 3.2.1), which is exact.
     pub fn impact(&self) -> Score
