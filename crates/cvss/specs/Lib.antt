@@ -5,6 +5,7 @@ pub use Rattle.cvss_base.specs.Told
 pub use Rattle.cvss_base.specs.Version
 pub use Rattle.cvss_base.specs.declared.error.Error as ErrorType
 pub use Rattle.cvss_v2.specs.Rating as RatingV2
+pub use Rattle.cvss_v2.specs.ScoreLaws as ScoreLawsV2
 pub use Rattle.cvss_v2.specs.Scores as ScoresV2
 pub use Rattle.cvss_v2.specs.Vector as VectorV2
 pub use Rattle.cvss_v2.specs.Weights as WeightsV2

@@ -1,6 +1,7 @@
-//! Tests of the public calls, with values from outside.
+//! Callers of the public calls that are proved, and tests with values from outside.
 #![tactic(auto)]
 
+pub mod callers;
 #[cfg(test)]
 mod errors;
 #[cfg(test)]

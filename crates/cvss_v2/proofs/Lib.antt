@@ -3,4 +3,5 @@ mod PutLemmas
 mod ScoreLemmas
 mod StandardFacts
 mod TextLemmas
+mod UniqueLemmas
 mod WeightLemmas

@@ -1,6 +1,6 @@
--- A value that is not defined weighs as much as its absent metric.
-use Rattle.std.specs.Prelude.{◌≡◌, ℕ, Bool, true, false, codes, bytes_eq, refl}
-use Rattle.std.proofs.Common.{subst}
+-- A metric that is not defined weighs as much as one that is absent, so vectors that define the same have the same weights.
+use Rattle.std.specs.Prelude.{Bool, true, false, codes, bytes_eq, option_map, unwrap_or, IfSome}
+use Rattle.std.proofs.Common.{◌≡◌, inl, inr, ℕ, Option, Some, None, refl, sym, ap, ◌∙◌, subst}
 use Rattle.cvss_base.specs.declared.v2.MetricType.{MetricType}
 use Rattle.cvss_base.specs.declared.v2.MetricType.TheVariants.{A, AC, AV, Au, C, I, E, RL, RC, CDP, TD, CR, IR, AR}
 use Rattle.cvss_v2.specs.declared.metric.base.access.AccessVector.TheVariants as access_vector
@@ -17,7 +17,11 @@ use Rattle.cvss_v2.specs.declared.metric.environmental.loss.TargetDistribution.T
 use Rattle.cvss_v2.specs.declared.metric.environmental.requirement.ConfidentialityRequirement.TheVariants as confidentiality_requirement
 use Rattle.cvss_v2.specs.declared.metric.environmental.requirement.IntegrityRequirement.TheVariants as integrity_requirement
 use Rattle.cvss_v2.specs.declared.metric.environmental.requirement.AvailabilityRequirement.TheVariants as availability_requirement
+use Rattle.cvss_v2.specs.declared.vector.Vector.{Vector}
+use Rattle.cvss_v2.specs.ScoreLaws.{DefineTheSame}
 use Rattle.cvss_v2.specs.Table.{Value, spelling_of, weight_of, absent_weight}
+use Rattle.cvss_v2.specs.Vector.{value_at}
+use Rattle.cvss_v2.specs.Weights.{weight_in, weights_of}
 
 abbrev choice : Bool → ℕ → ℕ → ℕ
 choice true one other = one
@@ -53,6 +57,35 @@ weighed IR _ = refl
 weighed AR availability_requirement.Low = refl
 weighed AR _ = refl
 
-pub not_defined : (kind : MetricType) (value : Value kind) → spelling_of kind value ≡ codes "ND" → weight_of kind value ≡ absent_weight kind
+not_defined : (kind : MetricType) (value : Value kind) → spelling_of kind value ≡ codes "ND" → weight_of kind value ≡ absent_weight kind
 not_defined kind value spelled =
     subst (λ text. choice (bytes_eq text (codes "ND")) (weight_of kind value) (absent_weight kind) ≡ absent_weight kind) spelled (weighed kind value)
+
+undefined_weight : (kind : MetricType) (held : Option (Value kind)) → IfSome held (λ value. spelling_of kind value ≡ codes "ND")
+    → unwrap_or (option_map (weight_of kind) held) (absent_weight kind) ≡ absent_weight kind
+undefined_weight kind None is_not_defined = refl
+undefined_weight kind (Some value) is_not_defined = not_defined kind value is_not_defined
+
+one_weight : (v w : Vector) → DefineTheSame v w → (kind : MetricType) → weight_in v kind ≡ weight_in w kind
+one_weight v w same kind = elim (same kind) [
+  | inl is_same ↦ ap (λ held. unwrap_or (option_map (weight_of kind) held) (absent_weight kind)) is_same
+  | inr not_defined_both ↦ undefined_weight kind (value_at v kind) not_defined_both.0 ∙ sym (undefined_weight kind (value_at w kind) not_defined_both.1)
+]
+
+pub one_weights : (v w : Vector) → DefineTheSame v w → weights_of v ≡ weights_of w
+one_weights v w same =
+    let av = one_weight v w same AV in
+    let ac = one_weight v w same AC in
+    let au = one_weight v w same Au in
+    let c = one_weight v w same C in
+    let i = one_weight v w same I in
+    let a = one_weight v w same A in
+    let e = one_weight v w same E in
+    let rl = one_weight v w same RL in
+    let rc = one_weight v w same RC in
+    let cdp = one_weight v w same CDP in
+    let td = one_weight v w same TD in
+    let cr = one_weight v w same CR in
+    let ir = one_weight v w same IR in
+    let ar = one_weight v w same AR in
+    cc

@@ -1,4 +1,5 @@
 pub mod Rating
+pub mod ScoreLaws
 pub mod Scores
 pub mod Table
 pub mod Vector

@@ -1,0 +1,10 @@
+use Rattle.cvss_v2.proofs.UniqueLemmas.{base_score_once, temporal_score_once, environmental_score_once, internal_once}
+use Rattle.cvss_v2.proofs.vector.Vector.scores_are_unique.Goals as goal
+
+pub returns : goal.returns
+returns c = record {
+  base = base_score_once;
+  temporal = temporal_score_once;
+  environmental = environmental_score_once;
+  internal = internal_once;
+}

@@ -1,0 +1,20 @@
+-- What the laws of the scores speak of: guide, sections 2.2 and 2.3 (a metric that is Not Defined is
+-- skipped by the equations).
+use Rattle.std.specs.Prelude.{◌≡◌, ◌⊎◌, IfSome, codes, ℤ}
+use Rattle.cvss_base.specs.declared.v2.MetricType.{MetricType}
+use Rattle.cvss_v2.specs.declared.vector.Vector.{Vector}
+use Rattle.cvss_v2.specs.Table.{spelling_of}
+use Rattle.cvss_v2.specs.Vector.{value_at}
+
+-- the vector has no value for the metric, or the value ND
+abbrev pub IsNotDefined : Vector → MetricType → Type 0
+IsNotDefined v kind = IfSome (value_at v kind) (λ value. spelling_of kind value ≡ codes "ND")
+
+-- of each metric both vectors have the same value, or it is not defined in both
+abbrev pub DefineTheSame : Vector → Vector → Type 0
+DefineTheSame v w =
+    (kind : MetricType) → (value_at v kind ≡ value_at w kind) ⊎ (IsNotDefined v kind × IsNotDefined w kind)
+
+-- no two counts are this score
+abbrev pub IsOneCount : (ℤ → Type 0) → Type 0
+IsOneCount IsScore = (r s : ℤ) → IsScore r → IsScore s → r ≡ s
