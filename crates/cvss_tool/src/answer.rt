@@ -1,6 +1,7 @@
 //! The answer to one line.
 
-ghost use Rattle.std.specs.Prelude.{◌≡◌, ◌++◌, ℕ, ◌*◌, ◌^◌, pos, IfOk, OnOk, string_bytes};
+ghost use Rattle.std.specs.Prelude.{◌≡◌, ◌++◌, ℕ, ◌*◌, ◌^◌, pos, ◌≤◌, IfOk, OnOk, string_bytes};
+ghost use Rattle.std.specs.Fmt.{decimal};
 ghost use Rattle.cvss.specs.ScoresV2.{IsInTenths, IsFromZeroToTen};
 ghost use Rattle.cvss_tool.specs.Answers.{Answer, IsAnswer, WritesVector, is_accepted, score_of, written_answer};
 
@@ -8,8 +9,7 @@ use cvss::Error;
 use cvss::v2::{Score, Vector};
 use std::alloc::{AllocError, Global};
 
-/// A tenth of a score point, in counts of 10^-24.
-const TENTH: u128 = 100_000_000_000_000_000_000_000;
+const FIVE_TO_23: u64 = 11_920_928_955_078_125;
 
 /// Appends the answer to a line, and a byte 10. Tells whether the line was accepted.
 ///
@@ -45,8 +45,33 @@ fn write_vector(vector: &Vector, answers: &mut String) -> Result<(), AllocError>
 {
     let score = vector.score();
     let tenths = tenths_of(score);
-    let (units, decimal) = (tenths / 10, tenths % 10);
-    writeln!(answers, "{vector} {units}.{decimal} {}", score.severity())
+    write!(answers, "{vector} ")?;
+    answers.push_str(digits(tenths / 10))?;
+    answers.push_str(".")?;
+    answers.push_str(digits(tenths % 10))?;
+    answers.push_str(" ")?;
+    answers.push_str(score.severity().as_str())?;
+    answers.push_str("\n")
+}
+
+/// A number from 0 to 10 in decimal.
+fn digits(number: u8) -> &'static str
+    requires { number ≤ 10 }
+    ensures { result.now ≡ decimal number }
+{
+    match number {
+        0 => "0",
+        1 => "1",
+        2 => "2",
+        3 => "3",
+        4 => "4",
+        5 => "5",
+        6 => "6",
+        7 => "7",
+        8 => "8",
+        9 => "9",
+        _ => "10",
+    }
 }
 
 /// The tenths of a published score.
@@ -54,5 +79,6 @@ fn tenths_of(score: Score) -> u8
     requires { IsInTenths IsFromZeroToTen score }
     ensures { score ≡ score_of result }
 {
-    (score.value().unsigned_abs() / TENTH) as u8
+    // A tenth is 2^23 * 5^23 counts, so the division is one of 64 bits.
+    ((score.value().unsigned_abs() >> 23) as u64 / FIVE_TO_23) as u8
 }
