@@ -1,5 +1,6 @@
 pub mod AnswersLemmas
 pub mod ChunkLemmas
+mod DigitLemmas
 mod LineFacts
 pub mod LinesLemmas
 pub mod RunLemmas

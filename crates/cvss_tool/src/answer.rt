@@ -55,6 +55,7 @@ fn write_vector(vector: &Vector, answers: &mut String) -> Result<(), AllocError>
 }
 
 /// A number from 0 to 10 in decimal.
+#[tactic(auto, using(crate::proofs::DigitLemmas::below_ten, crate::proofs::DigitLemmas::ten))]
 fn digits(number: u8) -> &'static str
     requires { number ≤ 10 }
     ensures { result.now ≡ decimal number }
