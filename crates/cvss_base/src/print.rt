@@ -3,7 +3,7 @@
 ghost use Rattle.std.specs.Prelude.{◌≡◌, ◌↔◌, IsTrue, Some, drop, if◌then◌else◌};
 ghost use Rattle.std.specs.Option.{option_copied};
 ghost use Rattle.std.specs.Fmt.{DisplaysOnOk, WritesOnOk};
-ghost use Rattle.cvss_base.specs.Text.{joined};
+ghost use Rattle.cvss_base.specs.Text.{component, joined};
 ghost use Rattle.cvss_base.specs.Version.{component_of, components_of, canonical_text};
 ghost use Rattle.cvss_base.specs.Printing.{slashed, StartsWithSlash};
 
@@ -19,6 +19,17 @@ pub trait Printed: Components {
     /// A slash and the vector's component for a metric.
     fn slashed(&self, kind: Self::Kind) -> Option<&'static str>
         ensures { option_copied result ≡ slashed (component_of Self.version self.now kind) };
+}
+
+/// Writes a component: a metric's name, a colon and the spelling of a value.
+pub fn write_component<W: fmt::Write>(
+    name: &str,
+    spelling: &str,
+    f: &mut fmt::Formatter<W>,
+) -> fmt::Result
+    ensures { WritesOnOk W.write_str_gives f.old result (component name.now spelling.now) f.new }
+{
+    write!(f, "{name}:{spelling}")
 }
 
 /// Writes a component, and the slash before it unless it is the first.

@@ -49,10 +49,10 @@ weight_if_not_defined kind value false = absent_weight kind
 -- the value with a value's spelling, its slashes and colons, and its weight if it is ND
 abbrev facts_of : (kind : MetricType) → Value kind → Option (Value kind) × ℕ × ℕ
 facts_of kind value = (
-    value_spelled kind (spelling_of kind value),
-    dividers (spelling_of kind value),
-    weight_if_not_defined kind value (bytes_eq (spelling_of kind value) (codes "ND")),
-  )
+  value_spelled kind (spelling_of kind value),
+  dividers (spelling_of kind value),
+  weight_if_not_defined kind value (bytes_eq (spelling_of kind value) (codes "ND")),
+)
 
 -- each value is the one with its spelling, which has no slash and no colon; ND weighs as absent
 table_law : (kind : MetricType) (value : Value kind) → facts_of kind value ≡ (Some value, 0, absent_weight kind)

@@ -6,8 +6,7 @@ ghost use Rattle.cvss_base.specs.Told.{TellsV2};
 ghost use Rattle.cvss_base.specs.V2Types.{name_of};
 ghost use Rattle.cvss_base.specs.declared.v2.MetricType.{MetricType};
 ghost use Rattle.cvss_v2.specs.Table.{Value, spelling_of, weight_of, metric_component};
-ghost use Rattle.cvss_base.specs.Text.{slash, component};
-ghost use Rattle.std.specs.Fmt.{WritesOnOk};
+ghost use Rattle.cvss_base.specs.Text.{slash};
 
 pub mod base;
 pub mod environmental;
@@ -96,16 +95,4 @@ pub trait Metric: Copy + Clone + fmt::Debug + fmt::Display + Eq + Ord {
 
     // Each value of the table is a value of the enum.
     ghost covers: { (x : Value TYPE) → (metric : Self) × value metric ≡ x };
-}
-
-/// Writes the component of a metric and a spelling.
-pub(crate) fn write_component<W: fmt::Write>(
-    kind: MetricType,
-    spelling: &str,
-    f: &mut fmt::Formatter<W>,
-) -> fmt::Result
-    ensures { WritesOnOk W.write_str_gives f.old result
-        (component (name_of kind) spelling.now) f.new }
-{
-    write!(f, "{}:{spelling}", kind.name())
 }

@@ -4,7 +4,8 @@ ghost use Rattle.std.specs.Prelude.{Some, refl};
 ghost use Rattle.cvss_base.specs.declared.v2.MetricType.TheVariants.{E, RL, RC};
 ghost use Rattle.cvss_v2.specs.Table.{metric_component};
 
-use crate::metric::{Metric, MetricType, write_component};
+use crate::metric::{Metric, MetricType};
+use cvss_base::print::write_component;
 use std::fmt;
 
 /// How far techniques or code to exploit are developed (guide, section 2.2.1).
@@ -72,7 +73,7 @@ impl fmt::Display for Exploitability {
     ghost output = { λ metric. Some (metric_component E metric) };
 
     fn fmt<W: fmt::Write>(&self, f: &mut fmt::Formatter<W>) -> fmt::Result {
-        write_component(Self::TYPE, self.as_str(), f)
+        write_component(Self::TYPE.name(), self.as_str(), f)
     }
 }
 
@@ -141,7 +142,7 @@ impl fmt::Display for RemediationLevel {
     ghost output = { λ metric. Some (metric_component RL metric) };
 
     fn fmt<W: fmt::Write>(&self, f: &mut fmt::Formatter<W>) -> fmt::Result {
-        write_component(Self::TYPE, self.as_str(), f)
+        write_component(Self::TYPE.name(), self.as_str(), f)
     }
 }
 
@@ -205,6 +206,6 @@ impl fmt::Display for ReportConfidence {
     ghost output = { λ metric. Some (metric_component RC metric) };
 
     fn fmt<W: fmt::Write>(&self, f: &mut fmt::Formatter<W>) -> fmt::Result {
-        write_component(Self::TYPE, self.as_str(), f)
+        write_component(Self::TYPE.name(), self.as_str(), f)
     }
 }

@@ -4,7 +4,8 @@ ghost use Rattle.std.specs.Prelude.{Some, refl};
 ghost use Rattle.cvss_base.specs.declared.v2.MetricType.TheVariants.{AV, AC, Au};
 ghost use Rattle.cvss_v2.specs.Table.{metric_component};
 
-use crate::metric::{Metric, MetricType, write_component};
+use crate::metric::{Metric, MetricType};
+use cvss_base::print::write_component;
 use std::fmt;
 
 /// How near to the component the attacker has to be (guide, section 2.1.1).
@@ -62,7 +63,7 @@ impl fmt::Display for AccessVector {
     ghost output = { λ metric. Some (metric_component AV metric) };
 
     fn fmt<W: fmt::Write>(&self, f: &mut fmt::Formatter<W>) -> fmt::Result {
-        write_component(Self::TYPE, self.as_str(), f)
+        write_component(Self::TYPE.name(), self.as_str(), f)
     }
 }
 
@@ -121,7 +122,7 @@ impl fmt::Display for AccessComplexity {
     ghost output = { λ metric. Some (metric_component AC metric) };
 
     fn fmt<W: fmt::Write>(&self, f: &mut fmt::Formatter<W>) -> fmt::Result {
-        write_component(Self::TYPE, self.as_str(), f)
+        write_component(Self::TYPE.name(), self.as_str(), f)
     }
 }
 
@@ -180,6 +181,6 @@ impl fmt::Display for Authentication {
     ghost output = { λ metric. Some (metric_component Au metric) };
 
     fn fmt<W: fmt::Write>(&self, f: &mut fmt::Formatter<W>) -> fmt::Result {
-        write_component(Self::TYPE, self.as_str(), f)
+        write_component(Self::TYPE.name(), self.as_str(), f)
     }
 }

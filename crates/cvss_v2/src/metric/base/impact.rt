@@ -4,7 +4,8 @@ ghost use Rattle.std.specs.Prelude.{Some, refl};
 ghost use Rattle.cvss_base.specs.declared.v2.MetricType.TheVariants.{C, I, A};
 ghost use Rattle.cvss_v2.specs.Table.{metric_component};
 
-use crate::metric::{Metric, MetricType, write_component};
+use crate::metric::{Metric, MetricType};
+use cvss_base::print::write_component;
 use std::fmt;
 
 /// What an attack discloses (guide, section 2.1.4).
@@ -62,7 +63,7 @@ impl fmt::Display for ConfidentialityImpact {
     ghost output = { λ metric. Some (metric_component C metric) };
 
     fn fmt<W: fmt::Write>(&self, f: &mut fmt::Formatter<W>) -> fmt::Result {
-        write_component(Self::TYPE, self.as_str(), f)
+        write_component(Self::TYPE.name(), self.as_str(), f)
     }
 }
 
@@ -121,7 +122,7 @@ impl fmt::Display for IntegrityImpact {
     ghost output = { λ metric. Some (metric_component I metric) };
 
     fn fmt<W: fmt::Write>(&self, f: &mut fmt::Formatter<W>) -> fmt::Result {
-        write_component(Self::TYPE, self.as_str(), f)
+        write_component(Self::TYPE.name(), self.as_str(), f)
     }
 }
 
@@ -180,6 +181,6 @@ impl fmt::Display for AvailabilityImpact {
     ghost output = { λ metric. Some (metric_component A metric) };
 
     fn fmt<W: fmt::Write>(&self, f: &mut fmt::Formatter<W>) -> fmt::Result {
-        write_component(Self::TYPE, self.as_str(), f)
+        write_component(Self::TYPE.name(), self.as_str(), f)
     }
 }

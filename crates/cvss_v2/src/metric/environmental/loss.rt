@@ -4,7 +4,8 @@ ghost use Rattle.std.specs.Prelude.{Some, refl};
 ghost use Rattle.cvss_base.specs.declared.v2.MetricType.TheVariants.{CDP, TD};
 ghost use Rattle.cvss_v2.specs.Table.{metric_component};
 
-use crate::metric::{Metric, MetricType, write_component};
+use crate::metric::{Metric, MetricType};
+use cvss_base::print::write_component;
 use std::fmt;
 
 /// What loss beside the system may come of it (guide, section 2.3.1).
@@ -77,7 +78,7 @@ impl fmt::Display for CollateralDamagePotential {
     ghost output = { λ metric. Some (metric_component CDP metric) };
 
     fn fmt<W: fmt::Write>(&self, f: &mut fmt::Formatter<W>) -> fmt::Result {
-        write_component(Self::TYPE, self.as_str(), f)
+        write_component(Self::TYPE.name(), self.as_str(), f)
     }
 }
 
@@ -146,6 +147,6 @@ impl fmt::Display for TargetDistribution {
     ghost output = { λ metric. Some (metric_component TD metric) };
 
     fn fmt<W: fmt::Write>(&self, f: &mut fmt::Formatter<W>) -> fmt::Result {
-        write_component(Self::TYPE, self.as_str(), f)
+        write_component(Self::TYPE.name(), self.as_str(), f)
     }
 }

@@ -4,7 +4,8 @@ ghost use Rattle.std.specs.Prelude.{Some, refl};
 ghost use Rattle.cvss_base.specs.declared.v2.MetricType.TheVariants.{CR, IR, AR};
 ghost use Rattle.cvss_v2.specs.Table.{metric_component};
 
-use crate::metric::{Metric, MetricType, write_component};
+use crate::metric::{Metric, MetricType};
+use cvss_base::print::write_component;
 use std::fmt;
 
 /// How much confidentiality matters to the user (guide, section 2.3.3).
@@ -67,7 +68,7 @@ impl fmt::Display for ConfidentialityRequirement {
     ghost output = { λ metric. Some (metric_component CR metric) };
 
     fn fmt<W: fmt::Write>(&self, f: &mut fmt::Formatter<W>) -> fmt::Result {
-        write_component(Self::TYPE, self.as_str(), f)
+        write_component(Self::TYPE.name(), self.as_str(), f)
     }
 }
 
@@ -131,7 +132,7 @@ impl fmt::Display for IntegrityRequirement {
     ghost output = { λ metric. Some (metric_component IR metric) };
 
     fn fmt<W: fmt::Write>(&self, f: &mut fmt::Formatter<W>) -> fmt::Result {
-        write_component(Self::TYPE, self.as_str(), f)
+        write_component(Self::TYPE.name(), self.as_str(), f)
     }
 }
 
@@ -195,6 +196,6 @@ impl fmt::Display for AvailabilityRequirement {
     ghost output = { λ metric. Some (metric_component AR metric) };
 
     fn fmt<W: fmt::Write>(&self, f: &mut fmt::Formatter<W>) -> fmt::Result {
-        write_component(Self::TYPE, self.as_str(), f)
+        write_component(Self::TYPE.name(), self.as_str(), f)
     }
 }
