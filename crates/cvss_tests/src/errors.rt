@@ -2,53 +2,53 @@
 
 use cvss::v2::MetricType;
 use cvss::{Error, LIMIT, ONE, PREFIX, Severity};
+use std::alloc::Global;
+use std::process::Abort;
 use std::test::Fail;
 
-#[test]
-fn prints_errors(rt: HostRuntime) -> Result<(), Fail> {
-    let text = |s: &str| String::from_str(rt.alloc(), s);
-    let metric_type = MetricType::CDP;
-    let rows = [
-        (
-            Error::InvalidComponent {
-                component: text("AV")?,
-            },
-            "invalid CVSS metric group component: `AV`",
-        ),
-        (
-            Error::InvalidMetricV2 {
-                metric_type,
-                value: text("q")?,
-            },
-            "invalid CVSSv2 CDP (Collateral Damage Potential) metric: `q`",
-        ),
-        (
-            Error::DuplicateMetricV2 { metric_type },
-            "duplicate CVSSv2 CDP (Collateral Damage Potential) metric",
-        ),
-        (
-            Error::MissingMandatoryMetricV2 {
-                metric_type: MetricType::Au,
-            },
-            "missing mandatory CVSSv2 Au (Authentication) metric",
-        ),
-        (
-            Error::InvalidSeverity {
-                name: text("lowest")?,
-            },
-            "invalid CVSS Qualitative Severity Rating: `lowest`",
-        ),
-        (
-            Error::UnknownMetric { name: text("")? },
-            "unknown CVSS metric name: ``",
-        ),
-        (Error::OutOfMemory, "out of memory"),
-    ];
-    for (error, expected) in &rows {
-        assert_eq!(rt; error.to_string(rt.alloc())?.as_str(), *expected);
-        assert!(rt; error.clone()? == *error, "{expected}");
-    }
+/// Prints one error, and copies it.
+fn is_printed(rt: &impl Abort, alloc: Global, error: &Error, expected: &str) -> Result<(), Fail> {
+    assert_eq!(rt; error.to_string(alloc)?.as_str(), expected);
+    assert!(rt; error.clone()? == *error, "{expected}");
     Ok(())
+}
+
+#[test]
+fn prints_errors_that_carry_text(rt: HostRuntime) -> Result<(), Fail> {
+    let alloc = rt.alloc();
+    let component = String::from_str(alloc, "AV")?;
+    let error = Error::InvalidComponent { component };
+    is_printed(
+        &rt,
+        alloc,
+        &error,
+        "invalid CVSS metric group component: `AV`",
+    )?;
+    let value = String::from_str(alloc, "q")?;
+    let metric_type = MetricType::CDP;
+    let error = Error::InvalidMetricV2 { metric_type, value };
+    let expected = "invalid CVSSv2 CDP (Collateral Damage Potential) metric: `q`";
+    is_printed(&rt, alloc, &error, expected)?;
+    let name = String::from_str(alloc, "lowest")?;
+    let error = Error::InvalidSeverity { name };
+    let expected = "invalid CVSS Qualitative Severity Rating: `lowest`";
+    is_printed(&rt, alloc, &error, expected)?;
+    let name = String::from_str(alloc, "")?;
+    let error = Error::UnknownMetric { name };
+    is_printed(&rt, alloc, &error, "unknown CVSS metric name: ``")
+}
+
+#[test]
+fn prints_errors_without_text(rt: HostRuntime) -> Result<(), Fail> {
+    let metric_type = MetricType::CDP;
+    let error = Error::DuplicateMetricV2 { metric_type };
+    let expected = "duplicate CVSSv2 CDP (Collateral Damage Potential) metric";
+    is_printed(&rt, rt.alloc(), &error, expected)?;
+    let metric_type = MetricType::Au;
+    let error = Error::MissingMandatoryMetricV2 { metric_type };
+    let expected = "missing mandatory CVSSv2 Au (Authentication) metric";
+    is_printed(&rt, rt.alloc(), &error, expected)?;
+    is_printed(&rt, rt.alloc(), &Error::OutOfMemory, "out of memory")
 }
 
 #[test]

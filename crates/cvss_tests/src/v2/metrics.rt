@@ -12,7 +12,7 @@ use std::test::Fail;
 /// One thousandth of a score point.
 const THOUSANDTH: i128 = 1_000_000_000_000_000_000_000;
 
-/// Reads, prints and weighs one value by all calls that a metric has.
+/// Names, spells, weighs and reads one value.
 fn is_spelled<M: Metric + Drop>(
     rt: &impl Abort,
     alloc: Global,
@@ -27,11 +27,20 @@ fn is_spelled<M: Metric + Drop>(
     assert_eq!(rt; metric.score() / THOUSANDTH, thousandths);
     assert_eq!(rt; metric.score() % THOUSANDTH, 0);
     assert!(rt; M::read(spelling) == Some(metric), "{spelling}");
+    is_printed(rt, alloc, metric, component)
+}
+
+/// Reads and prints one value by the calls that may take memory.
+fn is_printed<M: Metric + Drop>(
+    rt: &impl Abort,
+    alloc: Global,
+    metric: M,
+    component: (&str, &str),
+) -> Result<(), Fail> {
+    let (name, spelling) = component;
     assert!(rt; M::from_str(alloc, spelling) == Ok(metric), "{spelling}");
-    assert_eq!(rt;
-        metric.to_string(alloc)?.as_str(),
-        format!(in alloc; "{name}:{spelling}")?.as_str()
-    );
+    let expected = format!(in alloc; "{name}:{spelling}")?;
+    assert_eq!(rt; metric.to_string(alloc)?.as_str(), expected.as_str());
     Ok(())
 }
 
