@@ -1,5 +1,6 @@
 //! Tests of CVSS v2.
 
+mod base_vectors;
 mod metrics;
 mod scores;
 mod texts;
