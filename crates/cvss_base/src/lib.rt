@@ -3,6 +3,7 @@
 #![tactic(auto)]
 
 mod error;
+pub mod laws;
 pub mod metrics;
 mod number;
 pub mod pieces;
@@ -13,7 +14,7 @@ pub mod v2;
 pub mod walk;
 
 pub use error::Error;
-pub use number::{LIMIT, ONE, TENTH, roundings_are_unique};
+pub use number::{LIMIT, ONE, TENTH};
 pub use severity::Severity;
 pub use text::copied_text;
 

@@ -8,7 +8,7 @@ ghost use Rattle.cvss.specs.Version.{IsComplete};
 ghost use Rattle.cvss_tests.specs.Canonical.{IsCanonicalTextOf};
 
 use cvss::Error;
-use cvss::v2::Vector;
+use cvss::v2::{Vector, laws};
 use std::alloc::Global;
 
 /// Prints a complete vector and reads what was printed, which gives the vector back.
@@ -16,7 +16,7 @@ pub fn printed_and_read(alloc: Global, vector: &Vector) -> Result<Vector, Error>
     requires { IsComplete v2 vector.now }
     ensures { (result ≡ Ok vector.now) ⊎ (result ≡ Err OutOfMemory) }
 {
-    Vector::texts_denote_one_vector();
+    laws::texts_denote_one_vector();
     let text = vector.to_string(alloc)?;
     Vector::from_str(alloc, text.as_str())
 }
@@ -33,7 +33,7 @@ pub fn read_and_printed(alloc: Global, text: &str) -> Result<String, Error>
 pub fn twice_is_once(alloc: Global, text: &str) -> Result<bool, Error>
     ensures { IfOk result (λ same. IsTrue same) }
 {
-    Vector::texts_denote_one_vector();
+    laws::texts_denote_one_vector();
     let once = read_and_printed(alloc, text)?;
     let twice = read_and_printed(alloc, once.as_str())?;
     Ok(once == twice)
@@ -47,8 +47,8 @@ pub fn not_defined_scores_as_absent(left: &Vector, right: &Vector) -> (bool, boo
     ensures temporal { IsTrue result.1 }
     ensures environmental { IsTrue result.2 }
 {
-    Vector::not_defined_weighs_as_absent();
-    Vector::scores_are_unique();
+    laws::not_defined_weighs_as_absent();
+    laws::scores_are_unique();
     (
         left.score() == right.score(),
         left.temporal_score() == right.temporal_score(),

@@ -2,6 +2,7 @@
 #![tactic(auto)]
 
 mod equations;
+pub mod laws;
 pub mod metric;
 mod score;
 mod vector;

@@ -1,6 +1,6 @@
 //! A vector of CVSS v2.
 
-ghost use Rattle.std.specs.Prelude.{◌≡◌, ◌↔◌, ℕ, List, IsTrue, IfOk, IfErr, IsErrAnd, Ok};
+ghost use Rattle.std.specs.Prelude.{◌≡◌, ◌↔◌, IsTrue, IfOk, IfErr, IsErrAnd, Ok};
 
 mod listing;
 mod printing;
@@ -77,15 +77,6 @@ impl Vector {
             Err(fault) => Err(error_of(alloc, fault)),
         }
     }
-
-    /// The law that a text denotes at most one vector, and a canonical text its own: so what is
-    /// printed is read as the vector that was printed, if that is complete. It does nothing.
-    #[tactic(auto, using(crate::proofs::TextLemmas::own_text))]
-    pub fn texts_denote_one_vector()
-        ensures own { (vector : Vector) → Denotes v2 (canonical_text v2 vector) vector }
-        ensures one { (text : List ℕ) → (left right : Vector)
-            → Denotes v2 text left → Denotes v2 text right → left ≡ right }
-    {}
 
     /// Whether two vectors have one canonical text, which is whether they are equal.
     pub fn same_text(&self, other: &Vector) -> bool

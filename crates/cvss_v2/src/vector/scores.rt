@@ -1,12 +1,9 @@
 //! The scores of a vector.
 
-ghost use Rattle.std.specs.Prelude.{◌≡◌, ◌≤◌, option_map, unwrap_or, ℤ};
+ghost use Rattle.std.specs.Prelude.{◌≡◌, ◌≤◌, option_map, unwrap_or};
 ghost use Rattle.cvss_base.specs.Exact.{of_count, ◌≈◌, IsWithinLimit};
 ghost use Rattle.cvss_v2.specs.Scores.{impact, adjusted_impact, exploitability, IsTemporal, IsInTenths, IsBaseScore, IsTemporalScore, IsEnvironmentalScore, IsFromZeroToTen};
-ghost use Rattle.cvss_v2.specs.ScoreLaws.{DefineTheSame, IsOneCount};
 ghost use Rattle.cvss_v2.specs.Table.{weight_of, greatest_weight};
-ghost use Rattle.cvss_v2.specs.declared.vector.Vector.{Vector};
-ghost use Rattle.cvss_v2.specs.declared.weights.Weights.{Weights};
 ghost use Rattle.cvss_v2.specs.Weights.{IsFromTable, weights_of};
 
 use crate::metric::Metric;
@@ -36,22 +33,6 @@ impl Vector {
             ar: weight(self.ar, 1000),
         }
     }
-
-    /// The law that a metric that is `ND` and one that is absent weigh the same, so that all scores
-    /// are the same (guide, sections 2.2 and 2.3). It does nothing.
-    pub fn not_defined_weighs_as_absent()
-        ensures { (left right : Vector) → DefineTheSame left right
-            → weights_of left ≡ weights_of right }
-    {}
-
-    /// The law that weights give one score of each kind. It does nothing.
-    pub fn scores_are_unique()
-        ensures base { (w : Weights) → IsOneCount (IsBaseScore w) }
-        ensures temporal { (w : Weights) → IsOneCount (IsTemporalScore w) }
-        ensures environmental { (w : Weights) → IsOneCount (IsEnvironmentalScore w) }
-        ensures internal { (w : Weights) → (impact : ℤ)
-            → IsOneCount (IsInTenths (IsTemporal w (of_count impact))) }
-    {}
 
     /// The impact sub-score (guide, section 3.2.1), which is exact.
     pub fn impact(&self) -> Score

@@ -1,5 +1,5 @@
 use Rattle.cvss_v2.proofs.WeightLemmas.{one_weights}
-use Rattle.cvss_v2.proofs.vector.Vector.not_defined_weighs_as_absent.Goals as goal
+use Rattle.cvss_v2.proofs.laws.not_defined_weighs_as_absent.Goals as goal
 
 pub returns : goal.returns
 returns c = one_weights

@@ -1,5 +1,5 @@
 use Rattle.cvss_v2.proofs.UniqueLemmas.{base_score_once, temporal_score_once, environmental_score_once, internal_once}
-use Rattle.cvss_v2.proofs.vector.Vector.scores_are_unique.Goals as goal
+use Rattle.cvss_v2.proofs.laws.scores_are_unique.Goals as goal
 
 pub returns : goal.returns
 returns c = record {
