@@ -4,7 +4,7 @@ use Rattle.std.proofs.lemmas.List.{take_all}
 use Rattle.std.proofs.lemmas.Option.{slice_get_within, get_or_from_slice_get}
 use Rattle.cvss_base.specs.Text.{pieces, joined, name_part, value_part, component}
 use Rattle.cvss_base.specs.Version.{Version, read, AreComponentsOf, Denotes, IsComplete}
-use Rattle.cvss_base.specs.Refusal.{Refusal, BadComponent, UnknownName, BadValue, Repeated, Missing, IsSpelling, piece_at, FaultAt, IsFirstRefusal}
+use Rattle.cvss_base.specs.Refusal.{Refusal, BadComponent, WrongPrefix, WrongVersion, UnknownName, BadValue, Repeated, Missing, IsSpelling, piece_at, FaultAt, AreComponentsBefore, IsFirstBadPiece, IsFirstReason}
 use Rattle.cvss_base.specs.Walk.{IsLawful}
 use Rattle.cvss_base.proofs.TextLemmas.{name_part-component, value_part-component}
 use Rattle.cvss_base.proofs.LawLemmas.{name_plain, names_differ}
@@ -46,6 +46,8 @@ module _ {V K : Type 0} (version : Version V K) (lawful : IsLawful version) wher
   -- the pieces of a vector's components have no fault
   no_fault_held : (v : V) (parts : List (List ℕ)) (place : ℕ) → AreComponentsOf version parts v → place < length parts → (reason : Refusal K) → FaultAt version parts place reason → ⊥
   no_fault_held v parts place components within (BadComponent piece) none = none
+  no_fault_held v parts place components within (WrongPrefix prefix) none = none
+  no_fault_held v parts place components within (WrongVersion told) none = none
   no_fault_held v parts place components within (Missing kind) none = none
   no_fault_held v parts place components within (UnknownName name) (is, unknown) =
       let held = piece_held version lawful v parts place components within in
@@ -57,14 +59,15 @@ module _ {V K : Type 0} (version : Version V K) (lawful : IsLawful version) wher
   no_fault_held v parts place components within (Repeated kind) (named, _, before) =
       names_apart version lawful v kind parts before.earlier place components before.is_before within before.same_name (sym named)
 
-  -- where the pieces of a text are the components of a complete vector, the text has no refusal
-  pub no_refusal : (v : V) (text : List ℕ) → AreComponentsOf version (pieces text) v → IsComplete version v → (reason : Refusal K) → IsFirstRefusal version text reason → ⊥
-  no_refusal v text components complete (BadComponent piece) bad = bad.bad (rw bad.is (piece_is_component version lawful v (pieces text) components bad.place bad.within))
-  no_refusal v text components complete (UnknownName name) (_, is) = no_fault_held v (pieces text) is.place components is.within (UnknownName name) is.fault
-  no_refusal v text components complete (BadValue kind value) (_, is) = no_fault_held v (pieces text) is.place components is.within (BadValue kind value) is.fault
-  no_refusal v text components complete (Repeated kind) (_, is) = no_fault_held v (pieces text) is.place components is.within (Repeated kind) is.fault
-  no_refusal v text components complete (Missing kind) (_, missing) =
-      let parts = pieces text in
+  -- pieces that are the components of a complete vector have no reason to be refused
+  pub no_reason : (v : V) (parts : List (List ℕ)) → AreComponentsOf version parts v → IsComplete version v → (reason : Refusal K) → IsFirstReason version parts reason → ⊥
+  no_reason v parts components complete (BadComponent piece) is = is.fault
+  no_reason v parts components complete (WrongPrefix prefix) is = is.fault
+  no_reason v parts components complete (WrongVersion told) is = is.fault
+  no_reason v parts components complete (UnknownName name) is = no_fault_held v parts is.place components is.within (UnknownName name) is.fault
+  no_reason v parts components complete (BadValue kind value) is = no_fault_held v parts is.place components is.within (BadValue kind value) is.fault
+  no_reason v parts components complete (Repeated kind) is = no_fault_held v parts is.place components is.within (Repeated kind) is.fault
+  no_reason v parts components complete (Missing kind) missing =
       let held = complete.present kind (missing.place, slice_get_within version.mandatory missing.place kind missing.is, get_or_from_slice_get version.mandatory missing.place kind kind missing.is) in
       missing.absent (held_is_named version lawful v parts (length parts) (omega arith) (rw (take_all (length parts) parts (omega arith)) components) kind held)
 

@@ -1,14 +1,16 @@
 -- What a version's laws say of its names and of its printing order.
-use Rattle.std.proofs.Common.{◌≡◌, ◌≢◌, ℕ, ◌+◌, ◌<◌, List, ◌∷◌, ◌++◌, length, get_or, take, drop, map, Some, sym, ap, ◌∙◌, arith}
+use Rattle.std.proofs.Common.{◌≡◌, ◌≢◌, ℕ, ◌+◌, ◌<◌, true, false, List, ◌∷◌, ◌++◌, length, get_or, take, drop, map, find, Some, None, sym, ap, ◌∙◌, arith}
 use Rattle.std.specs.List.{slice_get, position_or_len, All}
 use Rattle.std.specs.Option.{option_map}
 use Rattle.std.specs.Str.{bytes_eq}
 use Rattle.std.proofs.lemmas.List.{take-append-drop, drop_more, get_or-take, get_or-drop, get_or-map, length-take-le, length-drop}
 use Rattle.std.proofs.lemmas.List.FromFn.{get_or-range_with_len}
 use Rattle.std.proofs.lemmas.Option.{slice_get-map, slice_get_within, get_or_from_slice_get, same_Some}
+use Rattle.std.proofs.lemmas.Slice.Eq.{bytes_eq-Decides}
 use Rattle.cvss_base.specs.Text.{component}
 use Rattle.cvss_base.specs.Version.{Version, read}
 use Rattle.cvss_base.specs.Walk.{IsLawful, dividers, place_of}
+use Rattle.cvss_base.proofs.FindLemmas.{found_passes, not_found}
 use Rattle.cvss_base.proofs.TextLemmas.{read-component}
 
 -- the printing order, cut at one metric, which stands nowhere else
@@ -62,3 +64,15 @@ module _ {V K : Type 0} (version : Version V K) (lawful : IsLawful version) wher
         not_before = λ k d inside is. omega (arith, length-take-le place printed (omega arith), only_place kind k d (omega (arith, length-take-le place printed (omega arith))) (sym (get_or-take place printed k d (omega (arith, length-take-le place printed (omega arith)))) ∙ is));
         not_after = λ k d inside is. omega (arith, only_place kind (place + 1 + k) d (omega (arith, length-drop (place + 1) printed)) (sym (get_or-drop (place + 1) printed k d) ∙ is));
       }
+
+  -- the metric that is found by a name has it, and where none is found none has it
+  pub named_known : (name : List ℕ) (kind : K) → Some kind ≡ find (λ each. bytes_eq name (version.name each)) version.printed → version.name kind ≡ name
+  named_known name kind found = sym ((bytes_eq-Decides name (version.name kind)).0 (found_passes (λ each. bytes_eq name (version.name each)) version.printed kind (sym found)))
+
+  pub named_unknown : (name : List ℕ) → None ≡ find (λ each. bytes_eq name (version.name each)) version.printed → (kind : K) → version.name kind ≢ name
+  named_unknown name none kind named =
+      let place = place_of version kind in
+      let fails = not_found (λ each. bytes_eq name (version.name each)) version.printed place kind (sym none) (slice_get_within version.printed place kind (lawful.placed kind)) in
+      let here = get_or_from_slice_get version.printed place kind kind (lawful.placed kind) in
+      let passes : bytes_eq name (version.name kind) ≡ true = (bytes_eq-Decides name (version.name kind)).1 (sym named) in
+      let no : true ≡ false = sym passes ∙ (ap (λ each. bytes_eq name (version.name each)) (sym here) ∙ fails) in cc

@@ -1,48 +1,9 @@
 -- The first mandatory metric that a vector lacks, by its place.
-use Rattle.std.proofs.Common.{◌≡◌, ℕ, zero, suc, ◌<◌, Bool, true, false, List, [], ◌∷◌, length, get_or, Option, Some, None, IsSome, find, is_none, slice_get, cond, refl, subst, arith}
+use Rattle.std.proofs.Common.{◌≡◌, true, false, Option, Some, None, IsSome, Contains, is_none, refl, subst}
+use Rattle.std.proofs.lemmas.Option.{slice_get_within, get_or_from_slice_get}
 use Rattle.cvss_base.specs.Version.{Version, IsComplete}
 use Rattle.cvss_base.specs.Walk.{first_missing, LacksFirst}
-
--- an item that passes a test, and none before it does
-record IsFirstPassing {K : Type 0} (test : K → Bool) (items : List K) (item : K) : Type 0 where
-  place : ℕ
-  is : slice_get items place ≡ Some item
-  passes : test item ≡ true
-  earlier : (before : ℕ) (other : K) → before < place → slice_get items before ≡ Some other → test other ≡ false
-
-module _ {K : Type 0} (test : K → Bool) where
-  first_here : (item : K) (items : List K) (found : K) → test item ≡ true → Some item ≡ Some found → IsFirstPassing test (item ∷ items) found
-  first_here item items found passes is =
-      let same : item ≡ found = cc in
-      record { place = 0; is = is; passes = subst (λ x. test x ≡ true) same passes; earlier = λ before other below. absurd (omega arith) }
-
-  first_later : (item : K) (items : List K) (found : K) → test item ≡ false → IsFirstPassing test items found → IsFirstPassing test (item ∷ items) found
-  first_later item items found fails rest = record {
-    place = suc rest.place;
-    is = rest.is;
-    passes = rest.passes;
-    earlier = later;
-  } where
-    later : (before : ℕ) (other : K) → before < suc rest.place → slice_get (item ∷ items) before ≡ Some other → test other ≡ false
-    later zero other below is = let same : item ≡ other = cc in subst (λ x. test x ≡ false) same fails
-    later (suc before) other below is = rest.earlier before other (omega arith) is
-
-  found_first : (items : List K) (found : K) → find test items ≡ Some found → IsFirstPassing test items found
-  found_first [] found is = absurd cc
-  found_first (item ∷ items) found is = by_test (test item) refl is (found_first items found)
-    where
-      by_test : (b : Bool) → test item ≡ b → cond b (Some item) (find test items) ≡ Some found → (find test items ≡ Some found → IsFirstPassing test items found) → IsFirstPassing test (item ∷ items) found
-      by_test true passes here rest = first_here item items found passes here
-      by_test false fails later rest = first_later item items found fails (rest later)
-
-  not_found : (items : List K) (place : ℕ) (default : K) → find test items ≡ None → place < length items → test (get_or items place default) ≡ false
-  not_found [] place default none within = absurd (omega arith)
-  not_found (item ∷ items) place default none within = by_test (test item) refl place none within (λ at. not_found items at default)
-    where
-      by_test : (b : Bool) → test item ≡ b → (at : ℕ) → cond b (Some item) (find test items) ≡ None → at < length (item ∷ items) → ((later : ℕ) → find test items ≡ None → later < length items → test (get_or items later default) ≡ false) → test (get_or (item ∷ items) at default) ≡ false
-      by_test true passes at some inside rest = absurd cc
-      by_test false fails zero nothing inside rest = fails
-      by_test false fails (suc at) nothing inside rest = rest at nothing (omega arith)
+use Rattle.cvss_base.proofs.FindLemmas.{found_first, not_found}
 
 is_none_true : {X : Type 0} (o : Option X) → is_none o ≡ true → o ≡ None
 is_none_true None is = refl
@@ -70,3 +31,12 @@ module _ {V K : Type 0} (version : Version V K) (v : V) where
         (subst (λ other. is_none (version.value_of v other) ≡ false) is
         (not_found (λ other. is_none (version.value_of v other)) version.mandatory place kind none within));
   }
+
+  -- the metric that is missing is a mandatory one
+  pub Contains-missing : (kind : K) → first_missing version v ≡ Some kind → Contains version.mandatory kind
+  Contains-missing kind found =
+      let lacks = LacksFirst-from kind found in (
+        lacks.place,
+        slice_get_within version.mandatory lacks.place kind lacks.is,
+        get_or_from_slice_get version.mandatory lacks.place kind kind lacks.is,
+      )

@@ -1,5 +1,5 @@
 -- The text of a vector's components, as it grows by one component after another.
-use Rattle.std.proofs.Common.{◌≡◌, ℕ, ◌+◌, ◌<◌, ◌≤◌, Bool, true, false, List, [], ◌∷◌, ◌++◌, length, get_or, take, drop, Option, Some, None, if◌then◌else◌, refl, sym, ap, ◌∙◌, append_assoc, append-nil}
+use Rattle.std.proofs.Common.{◌≡◌, ℕ, ◌+◌, ◌<◌, ◌≤◌, Bool, true, false, List, [], ◌∷◌, ◌++◌, length, get_or, take, drop, Option, Some, None, unwrap_or, if◌then◌else◌, refl, sym, ap, ◌∙◌, append_assoc, append-nil}
 use Rattle.std.specs.List.{filter_map, cons_option}
 use Rattle.std.specs.Fmt.{HasWritten, IsPlainFormatter}
 use Rattle.std.specs.declared.fmt.Formatter.{Formatter}
@@ -7,7 +7,8 @@ use Rattle.std.proofs.Output.{has_written_append, has_written_of_eq}
 use Rattle.std.proofs.lemmas.List.{take_more, take_all}
 use Rattle.std.proofs.lemmas.List.Elements.{filter_map-append}
 use Rattle.cvss_base.specs.Text.{joined, slash}
-use Rattle.cvss_base.specs.Printing.{slashed}
+use Rattle.cvss_base.specs.Printing.{slashed, slashed_text, slashed_texts}
+use Rattle.cvss_base.specs.Version.{Version, component_of}
 
 -- whether there is no piece
 abbrev is_empty : List (List ℕ) → Bool
@@ -89,3 +90,17 @@ slashed_some (Some piece) text is = (piece, refl, cc)
 pub slashed_none : (component : Option (List ℕ)) → None ≡ slashed component → component ≡ None
 slashed_none None is = refl
 slashed_none (Some piece) is = absurd (let no : None ≡ Some (slash ∷ piece) = is in cc)
+
+-- a first piece and the components of some metrics, joined: the piece, and each component behind a slash
+joined-cons_option : (first : List ℕ) (part : Option (List ℕ)) (parts : List (List ℕ)) → joined (first ∷ cons_option part parts) ≡ joined ((first ++ unwrap_or (slashed part) []) ∷ parts)
+joined-cons_option first None parts = ap (λ text. joined (text ∷ parts)) (sym (append-nil first))
+joined-cons_option first (Some part) [] = refl
+joined-cons_option first (Some part) (next ∷ parts) = sym (append_assoc first (slash ∷ part) (slash ∷ joined (next ∷ parts)))
+
+module _ {V K : Type 0} (version : Version V K) (v : V) where
+  pub joined-slashed : (first : List ℕ) (kinds : List K) → joined (first ∷ filter_map (component_of version v) kinds) ≡ first ++ slashed_texts version v kinds
+  joined-slashed first [] = sym (append-nil first)
+  joined-slashed first (kind ∷ kinds) =
+      joined-cons_option first (component_of version v kind) (filter_map (component_of version v) kinds)
+      ∙ joined-slashed (first ++ slashed_text version v kind) kinds
+      ∙ append_assoc first (slashed_text version v kind) (slashed_texts version v kinds)

@@ -1,11 +1,11 @@
 -- A text has at most one first refusal.
-use Rattle.std.proofs.Common.{◌≡◌, inl, inr, ℕ, ◌<◌, List, length, sym, ap, ◌∙◌, subst}
+use Rattle.std.proofs.Common.{◌≡◌, inl, inr, ℕ, ◌<◌, List, Contains, drop, length, sym, ap, ◌∙◌, subst}
 use Rattle.std.specs.List.{slice_get}
 use Rattle.std.proofs.lemmas.Bool.{cases_order}
 use Rattle.std.proofs.lemmas.Option.{same_Some}
 use Rattle.cvss_base.specs.Text.{pieces}
 use Rattle.cvss_base.specs.Version.{Version}
-use Rattle.cvss_base.specs.Refusal.{Refusal, BadComponent, UnknownName, BadValue, Repeated, Missing, IsSpelling, piece_at, name_at, value_at, FaultAt, AreComponentsBefore, IsFirstBadPiece, IsFirstFault, IsFirstMissing, IsFirstRefusal}
+use Rattle.cvss_base.specs.Refusal.{Refusal, BadComponent, WrongPrefix, WrongVersion, UnknownName, BadValue, Repeated, Missing, IsSpelling, piece_at, name_at, value_at, FaultAt, AreComponentsBefore, IsFirstBadPiece, IsFirstFault, IsFirstMissing, IsFirstReason, IsWrongPrefix, IsWrongVersion, TellsVersion, IsReasonBehind, BadPiecesFirst}
 use Rattle.cvss_base.specs.Walk.{IsLawful}
 use Rattle.cvss_base.proofs.LawLemmas.{names_differ}
 
@@ -19,11 +19,21 @@ bad_pieces_same parts piece other first second =
     let same = same_place first.place second.place (λ before. first.bad (rw first.is (second.earlier.each first.place before))) (λ before. second.bad (rw second.is (first.earlier.each second.place before))) in
     first.is ∙ (ap (piece_at parts) same ∙ sym second.is)
 
--- which of the three kinds of first refusal a reason is
+-- which of the two kinds of reason among components a reason is
 data IsSortOf {V K : Type 0} (version : Version V K) (parts : List (List ℕ)) : Refusal K → Type 0 where
-  bad_piece : {piece : List ℕ} → IsFirstBadPiece parts piece → IsSortOf version parts (BadComponent piece)
-  fault : {reason : Refusal K} → AreComponentsBefore parts (length parts) → IsFirstFault version parts reason → IsSortOf version parts reason
-  missing : {kind : K} → AreComponentsBefore parts (length parts) → IsFirstMissing version parts kind → IsSortOf version parts (Missing kind)
+  fault : {reason : Refusal K} → IsFirstFault version parts reason → IsSortOf version parts reason
+  missing : {kind : K} → IsFirstMissing version parts kind → IsSortOf version parts (Missing kind)
+
+-- and which of the three behind a version piece
+data IsSortBehind {V K : Type 0} (version : Version V K) (parts : List (List ℕ)) : Refusal K → Type 0 where
+  wrong_prefix : {prefix : List ℕ} → IsWrongPrefix (piece_at parts 0) prefix → IsSortBehind version parts (WrongPrefix prefix)
+  wrong_version : {told : List ℕ} → IsWrongVersion version (piece_at parts 0) told → IsSortBehind version parts (WrongVersion told)
+  behind : {reason : Refusal K} → TellsVersion version (piece_at parts 0) → IsFirstReason version (drop 1 parts) reason → IsSortBehind version parts reason
+
+-- whether a reason is a bad piece
+pub data IsSortFirst {K : Type 0} (IsReason : Refusal K → Type 0) (text : List ℕ) : Refusal K → Type 0 where
+  bad_piece : {piece : List ℕ} → IsFirstBadPiece (pieces text) piece → IsSortFirst IsReason text (BadComponent piece)
+  later : {reason : Refusal K} → AreComponentsBefore (pieces text) (length (pieces text)) → IsReason reason → IsSortFirst IsReason text reason
 
 module _ {V K : Type 0} (version : Version V K) (lawful : IsLawful version) (parts : List (List ℕ)) where
   -- a value cannot be both bad and repeated
@@ -35,8 +45,12 @@ module _ {V K : Type 0} (version : Version V K) (lawful : IsLawful version) (par
   -- a place has one fault
   faults_same : (place : ℕ) (reason other : Refusal K) → FaultAt version parts place reason → FaultAt version parts place other → reason ≡ other
   faults_same place (BadComponent piece) other none _ = absurd none
+  faults_same place (WrongPrefix prefix) other none _ = absurd none
+  faults_same place (WrongVersion told) other none _ = absurd none
   faults_same place (Missing kind) other none _ = absurd none
   faults_same place reason (BadComponent piece) _ none = absurd none
+  faults_same place reason (WrongPrefix prefix) _ none = absurd none
+  faults_same place reason (WrongVersion told) _ none = absurd none
   faults_same place reason (Missing kind) _ none = absurd none
   faults_same place (UnknownName name) (UnknownName other) (is, _) (also, _) = ap UnknownName (is ∙ sym also)
   faults_same place (UnknownName name) (BadValue blamed value) (is, unknown) (kind, _, named, _, _) = absurd (unknown kind (named ∙ sym is))
@@ -63,24 +77,65 @@ module _ {V K : Type 0} (version : Version V K) (lawful : IsLawful version) (par
       same_Some kind other (sym first.is ∙ (ap (slice_get version.mandatory) same ∙ second.is))
 
   sorts_same : (reason other : Refusal K) → IsSortOf version parts reason → IsSortOf version parts other → reason ≡ other
-  sorts_same _ _ (bad_piece first) (bad_piece second) = ap BadComponent (bad_pieces_same parts _ _ first second)
-  sorts_same _ _ (bad_piece first) (fault components _) = absurd (first.bad (rw first.is (components.each first.place first.within)))
-  sorts_same _ _ (bad_piece first) (missing components _) = absurd (first.bad (rw first.is (components.each first.place first.within)))
-  sorts_same _ _ (fault components _) (bad_piece second) = absurd (second.bad (rw second.is (components.each second.place second.within)))
-  sorts_same reason other (fault _ first) (fault _ second) = first_faults_same reason other first second
-  sorts_same reason _ (fault _ first) (missing _ second) = absurd (second.faultless.none first.place reason first.within first.fault)
-  sorts_same _ _ (missing components _) (bad_piece second) = absurd (second.bad (rw second.is (components.each second.place second.within)))
-  sorts_same _ other (missing _ first) (fault _ second) = absurd (first.faultless.none second.place other second.within second.fault)
-  sorts_same _ _ (missing _ first) (missing _ second) = ap Missing (first_missing_same _ _ first second)
+  sorts_same reason other (fault first) (fault second) = first_faults_same reason other first second
+  sorts_same reason _ (fault first) (missing second) = absurd (second.faultless.none first.place reason first.within first.fault)
+  sorts_same _ other (missing first) (fault second) = absurd (first.faultless.none second.place other second.within second.fault)
+  sorts_same _ _ (missing first) (missing second) = ap Missing (first_missing_same _ _ first second)
 
-module _ {V K : Type 0} (version : Version V K) (lawful : IsLawful version) (text : List ℕ) where
-  sort_of : (reason : Refusal K) → IsFirstRefusal version text reason → IsSortOf version (pieces text) reason
-  sort_of (BadComponent piece) is = bad_piece is
-  sort_of (Missing kind) (components, is) = missing components is
-  sort_of (UnknownName name) (components, is) = fault components is
-  sort_of (BadValue kind value) (components, is) = fault components is
-  sort_of (Repeated kind) (components, is) = fault components is
+  sort_of : (reason : Refusal K) → IsFirstReason version parts reason → IsSortOf version parts reason
+  sort_of (BadComponent piece) is = fault is
+  sort_of (WrongPrefix prefix) is = fault is
+  sort_of (WrongVersion told) is = fault is
+  sort_of (Missing kind) is = missing is
+  sort_of (UnknownName name) is = fault is
+  sort_of (BadValue kind value) is = fault is
+  sort_of (Repeated kind) is = fault is
 
-  -- two first refusals of a text are one
-  pub refusals_same : (reason other : Refusal K) → IsFirstRefusal version text reason → IsFirstRefusal version text other → reason ≡ other
-  refusals_same reason other first second = sorts_same version lawful (pieces text) reason other (sort_of reason first) (sort_of other second)
+  -- two first reasons of some components are one
+  pub reasons_same : (reason other : Refusal K) → IsFirstReason version parts reason → IsFirstReason version parts other → reason ≡ other
+  reasons_same reason other first second = sorts_same reason other (sort_of reason first) (sort_of other second)
+
+module _ {V K : Type 0} (version : Version V K) (lawful : IsLawful version) (parts : List (List ℕ)) where
+  sorts_behind_same : (reason other : Refusal K) → IsSortBehind version parts reason → IsSortBehind version parts other → reason ≡ other
+  sorts_behind_same _ _ (wrong_prefix first) (wrong_prefix second) = ap WrongPrefix (first.is ∙ sym second.is)
+  sorts_behind_same _ _ (wrong_prefix first) (wrong_version second) = absurd (first.wrong (first.is ∙ second.prefix))
+  sorts_behind_same _ _ (wrong_prefix first) (behind tells _) = absurd (first.wrong (first.is ∙ tells.prefix))
+  sorts_behind_same _ _ (wrong_version first) (wrong_prefix second) = absurd (second.wrong (second.is ∙ first.prefix))
+  sorts_behind_same _ _ (wrong_version first) (wrong_version second) = ap WrongVersion (first.is ∙ sym second.is)
+  sorts_behind_same _ _ (wrong_version first) (behind tells _) = absurd (first.wrong (subst (Contains version.supported) (sym first.is) tells.supported))
+  sorts_behind_same _ _ (behind tells _) (wrong_prefix second) = absurd (second.wrong (second.is ∙ tells.prefix))
+  sorts_behind_same _ _ (behind tells _) (wrong_version second) = absurd (second.wrong (subst (Contains version.supported) (sym second.is) tells.supported))
+  sorts_behind_same reason other (behind _ first) (behind _ second) = reasons_same version lawful (drop 1 parts) reason other first second
+
+  sort_behind : (reason : Refusal K) → IsReasonBehind version parts reason → IsSortBehind version parts reason
+  sort_behind (BadComponent piece) (tells, is) = behind tells is
+  sort_behind (WrongPrefix prefix) is = wrong_prefix is
+  sort_behind (WrongVersion told) is = wrong_version is
+  sort_behind (Missing kind) (tells, is) = behind tells is
+  sort_behind (UnknownName name) (tells, is) = behind tells is
+  sort_behind (BadValue kind value) (tells, is) = behind tells is
+  sort_behind (Repeated kind) (tells, is) = behind tells is
+
+  -- two reasons behind a version piece are one
+  pub reasons_behind_same : (reason other : Refusal K) → IsReasonBehind version parts reason → IsReasonBehind version parts other → reason ≡ other
+  reasons_behind_same reason other first second = sorts_behind_same reason other (sort_behind reason first) (sort_behind other second)
+
+module _ {K : Type 0} (IsReason : Refusal K → Type 0) (text : List ℕ) where
+  pub sort_first : (reason : Refusal K) → BadPiecesFirst IsReason text reason → IsSortFirst IsReason text reason
+  sort_first (BadComponent piece) is = bad_piece is
+  sort_first (WrongPrefix prefix) (components, is) = later components is
+  sort_first (WrongVersion told) (components, is) = later components is
+  sort_first (Missing kind) (components, is) = later components is
+  sort_first (UnknownName name) (components, is) = later components is
+  sort_first (BadValue kind value) (components, is) = later components is
+  sort_first (Repeated kind) (components, is) = later components is
+
+  sorts_first_same : ((one two : Refusal K) → IsReason one → IsReason two → one ≡ two) → (reason other : Refusal K) → IsSortFirst IsReason text reason → IsSortFirst IsReason text other → reason ≡ other
+  sorts_first_same same _ _ (bad_piece first) (bad_piece second) = ap BadComponent (bad_pieces_same (pieces text) _ _ first second)
+  sorts_first_same same _ _ (bad_piece first) (later components _) = absurd (first.bad (rw first.is (components.each first.place first.within)))
+  sorts_first_same same _ _ (later components _) (bad_piece second) = absurd (second.bad (rw second.is (components.each second.place second.within)))
+  sorts_first_same same reason other (later _ first) (later _ second) = same reason other first second
+
+  -- two first refusals of a text are one, where two later reasons are
+  pub refusals_same : ((one two : Refusal K) → IsReason one → IsReason two → one ≡ two) → (reason other : Refusal K) → BadPiecesFirst IsReason text reason → BadPiecesFirst IsReason text other → reason ≡ other
+  refusals_same same reason other first second = sorts_first_same same reason other (sort_first reason first) (sort_first other second)

@@ -1,11 +1,13 @@
 -- Texts as they are read, and components cut at their colon.
-use Rattle.std.proofs.Common.{◌≡◌, ℕ, ◌+◌, ◌<◌, ◌≤◌, Bool, true, false, cond, not, ◌||◌, eqb, suc, one-add, List, [], ◌∷◌, ◌++◌, length, drop, map, refl, sym, ap, ◌∙◌, arith}
+use Rattle.std.proofs.Common.{◌≡◌, ℕ, ◌+◌, ◌<◌, ◌≤◌, Bool, true, false, cond, not, ◌||◌, IsTrue, ◌↔◌, eqb, suc, one-add, List, [], ◌∷◌, ◌++◌, length, drop, map, refl, sym, ap, ◌∙◌, arith}
 use Rattle.std.specs.Char.{to_ascii_uppercase}
 use Rattle.std.specs.List.{count_by, position_or_len, before_first, after_first}
-use Rattle.std.proofs.lemmas.Bool.{eqb-true}
+use Rattle.std.proofs.lemmas.Bool.{eqb-true, false_from_ne_true}
 use Rattle.std.proofs.lemmas.Bool.Decides.{nat_tests}
 use Rattle.std.proofs.lemmas.List.{map-append, map-id, take-map, drop-map, take_at, drop_at, drop-drop}
 use Rattle.std.proofs.lemmas.List.Sums.{sum_by-cons, sum_by-append, sum_by-le-sum_by, split_at_first, passes_at_first}
+use Rattle.std.specs.Str.{bytes_eq}
+use Rattle.std.proofs.lemmas.Slice.Eq.{bytes_eq-Decides}
 use Rattle.cvss_base.specs.Text.{slash, colon, IsComponent, name_part, value_part, component, read_as}
 use Rattle.cvss_base.specs.Walk.{dividers}
 
@@ -132,3 +134,9 @@ colon-parts piece within =
 pub component-parts : (piece : List ℕ) → IsComponent piece → piece ≡ component (name_part piece) (value_part piece)
 component-parts piece is =
     colon-parts piece (position-within (λ byte. eqb byte colon) piece is.one_colon)
+
+-- a test that tells whether two texts are one is their comparison
+pub bytes_eq_when : (test : Bool) (text other : List ℕ) → (IsTrue test ↔ (text ≡ other)) → test ≡ bytes_eq text other
+bytes_eq_when true text other same = sym ((bytes_eq-Decides text other).1 (same.0 refl))
+bytes_eq_when false text other same =
+    sym (false_from_ne_true (bytes_eq text other) (λ found. let no : false ≡ true = same.1 ((bytes_eq-Decides text other).0 found) in cc))

@@ -8,8 +8,8 @@ use Rattle.std.proofs.lemmas.List.Sorted.{IsPermutation-refl}
 use Rattle.cvss_base.specs.Text.{slash, pieces, IsComponent, name_part, value_part, component}
 use Rattle.cvss_base.specs.Pieces.{AreParts}
 use Rattle.cvss_base.specs.Version.{Version, read, component_of, AreComponentsOf, Denotes}
-use Rattle.cvss_base.specs.Refusal.{Refusal, BadComponent, UnknownName, BadValue, Repeated, Missing, IsSpelling, piece_at, FaultAt, IsNamedBefore, IsFirstFault, IsFirstMissing}
-use Rattle.cvss_base.specs.Walk.{IsLawful, dividers, HasNoValue, Puts, Adds, HasRead, IsFaultOf, LacksFirst}
+use Rattle.cvss_base.specs.Refusal.{Refusal, BadComponent, WrongPrefix, WrongVersion, UnknownName, BadValue, Repeated, Missing, IsSpelling, piece_at, FaultAt, IsNamedBefore, IsFirstFault, IsFirstMissing}
+use Rattle.cvss_base.specs.Walk.{IsLawful, IsCut, dividers, HasNoValue, Puts, Adds, HasRead, IsFaultOf, LacksFirst}
 use Rattle.cvss_base.proofs.TextLemmas.{name_part-read, value_part-read, name_part-component, value_part-component, dividers-read, IsComponent-component}
 use Rattle.cvss_base.proofs.LawLemmas.{name_plain, names_differ}
 use Rattle.cvss_base.proofs.ComponentLemmas.{adds_component, held_stands, piece_held}
@@ -21,6 +21,10 @@ value_from (Some value) is = (value, refl)
 
 none_absent : {A : Type 0} (option : Option A) → option ≡ None → IsSome option → ⊥
 none_absent option none is = let value = value_from option is in none-some value.0 (sym none ∙ value.1)
+
+-- a piece that is cut behind a metric's name is cut at its first colon
+pub AreParts-cut : {V K : Type 0} (version : Version V K) {piece value : List ℕ} {kind : K} → IsCut version piece kind value → AreParts piece (name_part piece) value
+AreParts-cut version is = record { cut = is.cut; name_is = refl; value_is = is.value_is }
 
 module _ {V K : Type 0} (version : Version V K) (lawful : IsLawful version) where
   -- the name and the value of a piece that stands for a component
@@ -55,6 +59,8 @@ module _ {V K : Type 0} (version : Version V K) (lawful : IsLawful version) wher
     fault_at (UnknownName name) fault = fault
     fault_at (BadValue kind value) fault = fault
     fault_at (Repeated kind) (named, spelling, held) = (named, spelling, held_is_named kind held)
+    fault_at (WrongPrefix prefix) fault = fault
+    fault_at (WrongVersion told) fault = fault
     fault_at (Missing kind) fault = fault
 
     -- a component that goes into the vector has no fault
@@ -67,6 +73,8 @@ module _ {V K : Type 0} (version : Version V K) (lawful : IsLawful version) wher
     no_fault_at new adds (Repeated kind) (named, _, earlier) =
         let is_kind : adds.kind ≡ kind = names_differ version lawful adds.kind kind (adds.named ∙ sym named) in
         none_absent (version.value_of v kind) (subst (λ each. version.value_of v each ≡ None) is_kind adds.puts.fills.was_empty) (named_is_held kind earlier)
+    no_fault_at new adds (WrongPrefix prefix) fault = fault
+    no_fault_at new adds (WrongVersion told) fault = fault
     no_fault_at new adds (Missing kind) fault = fault
 
   -- a piece that was read has one colon, since no name and no value has one

@@ -2,24 +2,28 @@
 use Rattle.std.specs.Prelude.{ℕ, List, ◌++◌, codes}
 use Rattle.std.specs.String.{string_bytes}
 use Rattle.cvss_base.specs.declared.error.Error.{Error}
-use Rattle.cvss_base.specs.declared.error.Error.TheVariants.{InvalidComponent, InvalidMetricV2, DuplicateMetricV2, MissingMandatoryMetricV2, InvalidSeverity, UnknownMetric, OutOfMemory}
-use Rattle.cvss_base.specs.declared.v2.MetricType.{MetricType}
+use Rattle.cvss_base.specs.declared.error.Error.TheVariants.{InvalidComponent, InvalidPrefix, UnsupportedVersion, InvalidMetricV2, DuplicateMetricV2, MissingMandatoryMetricV2, InvalidMetricV3, DuplicateMetricV3, InvalidSeverity, UnknownMetric, OutOfMemory}
 use Rattle.cvss_base.specs.V2Types as v2
+use Rattle.cvss_base.specs.V3Types as v3
 
 -- the text between back ticks
 abbrev quoted : List ℕ → List ℕ
 quoted text = codes "`" ++ text ++ codes "`"
 
 -- a metric's abbreviation, and its name in parentheses
-abbrev described : MetricType → List ℕ
-described kind = v2.name_of kind ++ codes " (" ++ v2.description_of kind ++ codes ")"
+abbrev described : List ℕ → List ℕ → List ℕ
+described name description = name ++ codes " (" ++ description ++ codes ")"
 
 -- the refusal's text
 abbrev pub error_text : Error → List ℕ
 error_text (InvalidComponent component) = codes "invalid CVSS metric group component: " ++ quoted (string_bytes component)
-error_text (InvalidMetricV2 kind value) = codes "invalid CVSSv2 " ++ described kind ++ codes " metric: " ++ quoted (string_bytes value)
-error_text (DuplicateMetricV2 kind) = codes "duplicate CVSSv2 " ++ described kind ++ codes " metric"
-error_text (MissingMandatoryMetricV2 kind) = codes "missing mandatory CVSSv2 " ++ described kind ++ codes " metric"
+error_text (InvalidPrefix prefix) = codes "invalid CVSS string prefix: " ++ quoted (string_bytes prefix)
+error_text (UnsupportedVersion version) = codes "unsupported CVSS version: " ++ string_bytes version
+error_text (InvalidMetricV2 kind value) = codes "invalid CVSSv2 " ++ described (v2.name_of kind) (v2.description_of kind) ++ codes " metric: " ++ quoted (string_bytes value)
+error_text (DuplicateMetricV2 kind) = codes "duplicate CVSSv2 " ++ described (v2.name_of kind) (v2.description_of kind) ++ codes " metric"
+error_text (MissingMandatoryMetricV2 kind) = codes "missing mandatory CVSSv2 " ++ described (v2.name_of kind) (v2.description_of kind) ++ codes " metric"
+error_text (InvalidMetricV3 kind value) = codes "invalid CVSSv3 " ++ described (v3.name_of kind) (v3.description_of kind) ++ codes " metric: " ++ quoted (string_bytes value)
+error_text (DuplicateMetricV3 kind) = codes "duplicate CVSSv3 " ++ described (v3.name_of kind) (v3.description_of kind) ++ codes " metric"
 error_text (InvalidSeverity name) = codes "invalid CVSS Qualitative Severity Rating: " ++ quoted (string_bytes name)
 error_text (UnknownMetric name) = codes "unknown CVSS metric name: " ++ quoted (string_bytes name)
 error_text OutOfMemory = codes "out of memory"

@@ -2,6 +2,7 @@ pub mod ErrorText
 pub mod Exact
 pub mod Listing
 pub mod MetricsLeft
+pub mod Order
 pub mod Pieces
 pub mod Printing
 pub mod Refusal
@@ -10,5 +11,6 @@ pub mod SeverityText
 pub mod Text
 pub mod Told
 pub mod V2Types
+pub mod V3Types
 pub mod Version
 pub mod Walk

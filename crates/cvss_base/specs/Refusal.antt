@@ -1,12 +1,14 @@
--- The first reason why a text is no vector. Pieces are counted from 0, and the reason at the least
--- place counts.
-use Rattle.std.specs.Prelude.{◌≡◌, ◌≢◌, ℕ, ◌<◌, Bool, true, false, List, [], length, slice_get, slice_index_or, Some}
+-- The first reason why a text is no vector: v3.1 specification, section 6; v4.0 specification, section 7.
+-- Pieces are counted from 0, and the reason at the least place counts.
+use Rattle.std.specs.Prelude.{◌≡◌, ◌≢◌, ℕ, ◌<◌, Bool, true, false, List, [], length, drop, codes, slice_get, slice_index_or, Some, Contains}
 use Rattle.cvss_base.specs.Text.{pieces, IsComponent, name_part, value_part}
 use Rattle.cvss_base.specs.Version.{Version, read, reading}
 
 -- a reason, with the text or the metric that it names
 pub data Refusal (K : Type 0) : Type 0 where
   BadComponent : List ℕ → Refusal K
+  WrongPrefix : List ℕ → Refusal K
+  WrongVersion : List ℕ → Refusal K
   UnknownName : List ℕ → Refusal K
   BadValue : K → List ℕ → Refusal K
   Repeated : K → Refusal K
@@ -57,6 +59,8 @@ FaultAt version parts place (Repeated kind) =
     × IsSpelling version kind (value_at version parts place)
     × IsNamedBefore version parts place kind
 FaultAt version parts place (BadComponent _) = ⊥
+FaultAt version parts place (WrongPrefix _) = ⊥
+FaultAt version parts place (WrongVersion _) = ⊥
 FaultAt version parts place (Missing _) = ⊥
 
 -- no component before this place has a fault
@@ -95,9 +99,40 @@ abbrev pub IsFirstReason : {V K : Type 0} → Version V K → List (List ℕ) �
 IsFirstReason version parts (Missing kind) = IsFirstMissing version parts kind
 IsFirstReason version parts reason = IsFirstFault version parts reason
 
+-- a piece that is no component goes before each other reason
+abbrev pub BadPiecesFirst : {K : Type 0} → (Refusal K → Type 0) → List ℕ → Refusal K → Type 0
+BadPiecesFirst IsReason text (BadComponent piece) = IsFirstBadPiece (pieces text) piece
+BadPiecesFirst IsReason text reason =
+    AreComponentsBefore (pieces text) (length (pieces text)) × IsReason reason
+
 -- the first reason why the text, which has no piece that tells a version, is refused
 abbrev pub IsFirstRefusal : {V K : Type 0} → Version V K → List ℕ → Refusal K → Type 0
-IsFirstRefusal version text (BadComponent piece) = IsFirstBadPiece (pieces text) piece
-IsFirstRefusal version text reason =
-    AreComponentsBefore (pieces text) (length (pieces text))
-    × IsFirstReason version (pieces text) reason
+IsFirstRefusal version text = BadPiecesFirst (IsFirstReason version (pieces text)) text
+
+-- the piece that has to tell the version does not begin with CVSS
+pub record IsWrongPrefix (piece prefix : List ℕ) : Type 0 where
+  pub is : prefix ≡ name_part piece
+  pub wrong : prefix ≢ codes "CVSS"
+
+-- it does, but the version that it tells is not supported
+pub record IsWrongVersion {V K : Type 0} (version : Version V K) (piece told : List ℕ) : Type 0 where
+  pub prefix : name_part piece ≡ codes "CVSS"
+  pub is : told ≡ value_part piece
+  pub wrong : ¬ (Contains version.supported told)
+
+-- it tells a supported version
+pub record TellsVersion {V K : Type 0} (version : Version V K) (piece : List ℕ) : Type 0 where
+  pub prefix : name_part piece ≡ codes "CVSS"
+  pub supported : Contains version.supported (value_part piece)
+
+-- what is wrong with a text of components: the first of them is no version piece, or else those behind
+-- it have this first reason
+abbrev pub IsReasonBehind : {V K : Type 0} → Version V K → List (List ℕ) → Refusal K → Type 0
+IsReasonBehind version parts (WrongPrefix prefix) = IsWrongPrefix (piece_at parts 0) prefix
+IsReasonBehind version parts (WrongVersion told) = IsWrongVersion version (piece_at parts 0) told
+IsReasonBehind version parts reason =
+    TellsVersion version (piece_at parts 0) × IsFirstReason version (drop 1 parts) reason
+
+-- the first reason why the text, whose first piece has to tell the version, is refused
+abbrev pub IsFirstRefusalBehind : {V K : Type 0} → Version V K → List ℕ → Refusal K → Type 0
+IsFirstRefusalBehind version text = BadPiecesFirst (IsReasonBehind version (pieces text)) text

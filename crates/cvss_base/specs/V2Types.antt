@@ -1,5 +1,5 @@
 -- CVSS v2 guide, sections 2.1 to 2.4: the metrics, by their abbreviations and their names.
-use Rattle.std.specs.Prelude.{ℕ, List, codes}
+use Rattle.std.specs.Prelude.{ℕ, List, [], ◌∷◌, codes}
 use Rattle.cvss_base.specs.declared.v2.MetricType.{MetricType}
 use Rattle.cvss_base.specs.declared.v2.MetricType.TheVariants.{A, AC, AV, Au, C, I, E, RL, RC, CDP, TD, CR, IR, AR}
 
@@ -36,3 +36,7 @@ description_of TD = codes "Target Distribution"
 description_of CR = codes "Confidentiality Requirement"
 description_of IR = codes "Integrity Requirement"
 description_of AR = codes "Availability Requirement"
+
+-- the metrics as they are compared, the least first
+abbrev pub declared : List MetricType
+declared = A ∷ AC ∷ AV ∷ Au ∷ C ∷ I ∷ E ∷ RL ∷ RC ∷ CDP ∷ TD ∷ CR ∷ IR ∷ AR ∷ []

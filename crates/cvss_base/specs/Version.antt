@@ -1,6 +1,6 @@
 -- What a version of CVSS brings to the grammar of vectors, and the words of that grammar: CVSS v2
 -- guide, section 2.4; v3.1 specification, section 6; v4.0 specification, section 7.
-use Rattle.std.specs.Prelude.{◌≡◌, ℕ, Bool, List, ◌++◌, map, Option, IsSome, Contains, IsPermutation, option_map}
+use Rattle.std.specs.Prelude.{◌≡◌, ℕ, Bool, List, [], ◌∷◌, ◌++◌, codes, map, Option, IsSome, Contains, IsPermutation, option_map}
 use Rattle.std.specs.List.{filter_map}
 use Rattle.cvss_base.specs.Text.{joined, component, read_as}
 
@@ -22,6 +22,8 @@ pub record Version (V K : Type 0) : Type 1 where
   pub blamed : K → K
   -- the piece that tells the version, where there is one
   pub front : V → List (List ℕ)
+  -- the versions that this piece may tell
+  pub supported : List (List ℕ)
 
 -- the text as the version reads it
 abbrev pub read : {V K : Type 0} → Version V K → List ℕ → List ℕ
@@ -60,3 +62,18 @@ pub record Denotes {V K : Type 0} (version : Version V K) (text : List ℕ) (v :
 -- the vector has each metric that it must have
 pub record IsComplete {V K : Type 0} (version : Version V K) (v : V) : Type 0 where
   pub present : (kind : K) → Contains version.mandatory kind → IsSome (version.value_of v kind)
+
+-- the piece that tells a version
+abbrev pub version_piece : List ℕ → List ℕ
+version_piece told = component (codes "CVSS") told
+
+-- the vector's piece tells a version that is supported
+pub record IsSupported {V K : Type 0} (version : Version V K) (v : V) : Type 0 where
+  pub told : List ℕ
+  pub front_is : version.front v ≡ version_piece told ∷ []
+  pub supported : Contains version.supported told
+
+-- a vector behind a version piece is well formed: it is complete, and its version is supported
+pub record IsWellFormed {V K : Type 0} (version : Version V K) (v : V) : Type 0 where
+  pub complete : IsComplete version v
+  pub supported : IsSupported version v

@@ -1,15 +1,16 @@
 -- What the private walk over the components does at each step. What callers rely on stands in
 -- Version and Refusal.
-use Rattle.std.specs.Prelude.{◌≡◌, ◌≢◌, ℕ, ◌||◌, ◌⊎◌, List, [], length, map, take, Option, Some, None, IsSome, Contains, slice_get, find, is_none, ◌<◌, count_by, ◌==◌, ⊤}
+use Rattle.std.specs.Prelude.{◌≡◌, ◌≢◌, ℕ, ◌||◌, ◌⊎◌, List, [], ◌∷◌, length, map, take, Option, Some, None, IsSome, Result, OnOk, IfErr, Contains, slice_get, find, is_none, ◌<◌, count_by, ◌==◌, ⊤}
 use Rattle.std.specs.List.{range_with_len, position_or_len}
 use Rattle.std.specs.Str.{bytes_eq, IsUtf8}
 use Rattle.cvss_base.specs.declared.walk.Slip.{Slip}
 use Rattle.cvss_base.specs.declared.walk.Slip.TheVariants.{Invalid, Repeated as Twice}
 use Rattle.cvss_base.specs.declared.walk.Fault.{Fault}
-use Rattle.cvss_base.specs.declared.walk.Fault.TheVariants.{InvalidComponent, UnknownMetric, InvalidMetric, DuplicateMetric, MissingMandatoryMetric}
-use Rattle.cvss_base.specs.Text.{slash, colon, name_part, value_part}
-use Rattle.cvss_base.specs.Version.{Version, read, reading, AreComponentsOf}
-use Rattle.cvss_base.specs.Refusal.{Refusal, BadComponent, UnknownName, BadValue, Repeated, Missing, IsSpelling, Spells, HasNoFaultBefore}
+use Rattle.cvss_base.specs.declared.walk.Fault.TheVariants.{InvalidComponent, InvalidPrefix, UnsupportedVersion, UnknownMetric, InvalidMetric, DuplicateMetric, MissingMandatoryMetric}
+use Rattle.cvss_base.specs.Order.{place_in}
+use Rattle.cvss_base.specs.Text.{slash, colon, pieces, name_part, value_part, component}
+use Rattle.cvss_base.specs.Version.{Version, read, reading, version_piece, AreComponentsOf, IsComplete}
+use Rattle.cvss_base.specs.Refusal.{Refusal, BadComponent, WrongPrefix, WrongVersion, UnknownName, BadValue, Repeated, Missing, IsSpelling, Spells, HasNoFaultBefore, IsWrongPrefix, IsWrongVersion}
 
 -- how many bytes of the text divide pieces, or names from values
 abbrev pub dividers : List ℕ → ℕ
@@ -17,8 +18,7 @@ dividers text = count_by (λ byte. byte == slash || byte == colon) text
 
 -- the place of a metric in the printing order, which its name tells
 abbrev pub place_of : {V K : Type 0} → Version V K → K → ℕ
-place_of version kind =
-    position_or_len (λ other. bytes_eq (version.name other) (version.name kind)) version.printed
+place_of version kind = place_in version.name version.printed kind
 
 -- what the walk needs to know of a version
 pub record IsLawful {V K : Type 0} (version : Version V K) : Type 0 where
@@ -57,11 +57,48 @@ abbrev pub IsSlip : {X : Type 0} → (X → List ℕ) → Option X → List ℕ 
 IsSlip spelling place text Invalid = ¬ (Spells spelling text)
 IsSlip spelling place text Twice = Spells spelling text × IsSome place
 
+-- what filling a place with the value that has this spelling answers
+pub record IsFilled {X : Type 0} (spelling : X → List ℕ) (old : Option X) (text : List ℕ) (answer : Result (Unit {0}) Slip) (new : Option X) : Type 0 where
+  pub filled : OnOk answer (Fills spelling old text new)
+  pub slip : IfErr answer (IsSlip spelling old text)
+
 -- the vector gains the value with this spelling, and keeps all else
 pub record Puts {V K : Type 0} (version : Version V K) (old : V) (kind : K) (text : List ℕ) (new : V) : Type 0 where
   pub fills : Fills (reading version kind) (version.value_of old kind) text (version.value_of new kind)
   pub others : (other : K) → (other ≡ kind) ⊎ (version.value_of new other ≡ version.value_of old other)
   pub front : version.front new ≡ version.front old
+
+-- what putting a value into a vector answers
+pub record IsPut {V K : Type 0} (version : Version V K) (old : V) (kind : K) (text : List ℕ) (answer : Result (Unit {0}) Slip) (new : V) : Type 0 where
+  pub put : OnOk answer (Puts version old kind text new)
+  pub slip : IfErr answer (IsSlip (reading version kind) (version.value_of old kind) text)
+
+-- the piece is a component of this metric, and the value is what stands behind its first colon
+pub record IsCut {V K : Type 0} (version : Version V K) (piece : List ℕ) (kind : K) (value : List ℕ) : Type 0 where
+  pub named : version.name kind ≡ read version (name_part piece)
+  pub value_is : value ≡ value_part piece
+  pub cut : piece ≡ component (name_part piece) value
+
+-- why a piece starts no vector
+abbrev pub IsFrontFault : {V K : Type 0} → Version V K → List ℕ → Refusal K → Type 0
+IsFrontFault version piece (WrongPrefix prefix) = IsWrongPrefix piece prefix
+IsFrontFault version piece (WrongVersion told) = IsWrongVersion version piece told
+IsFrontFault version piece _ = ⊥
+
+-- a vector without values, whose piece tells this version
+pub record Starts {V K : Type 0} (version : Version V K) (told : List ℕ) (v : V) : Type 0 where
+  pub front_is : version.front v ≡ version_piece told ∷ []
+  pub valueless : HasNoValue version v
+  pub supported : Contains version.supported told
+
+-- the piece is a version piece, and the vector is the one that it starts
+pub record StartsWith {V K : Type 0} (version : Version V K) (piece : List ℕ) (v : V) : Type 0 where
+  pub is : piece ≡ version_piece (value_part piece)
+  pub starts : Starts version (value_part piece) v
+
+-- what the walk needs to know of a version piece: the versions that are supported have no divider
+pub record IsLawfulFront {V K : Type 0} (version : Version V K) : Type 0 where
+  pub plain : map dividers version.supported ≡ map (λ _. 0) version.supported
 
 -- the vector lacks this mandatory metric, and none that stands before it
 pub record LacksFirst {V K : Type 0} (version : Version V K) (v : V) (kind : K) : Type 0 where
@@ -88,18 +125,22 @@ pub record HasRead {V K : Type 0} (version : Version V K) (parts : List (List �
 -- the reason that a fault stands for, with its text as it is read
 abbrev pub reason_of : {V K : Type 0} → Version V K → Fault K → Refusal K
 reason_of version (InvalidComponent piece) = BadComponent piece.now
+reason_of version (InvalidPrefix prefix) = WrongPrefix prefix.now
+reason_of version (UnsupportedVersion told) = WrongVersion told.now
 reason_of version (UnknownMetric name) = UnknownName (read version name.now)
 reason_of version (InvalidMetric kind value) = BadValue kind (read version value.now)
 reason_of version (DuplicateMetric kind) = Repeated kind
 reason_of version (MissingMandatoryMetric kind) = Missing kind
 
--- the text that a fault shows is UTF-8
-abbrev pub ShowsUtf8 : {K : Type 0} → Fault K → Type 0
-ShowsUtf8 (InvalidComponent piece) = IsUtf8 piece.now
-ShowsUtf8 (UnknownMetric name) = IsUtf8 name.now
-ShowsUtf8 (InvalidMetric kind value) = IsUtf8 value.now
-ShowsUtf8 (DuplicateMetric kind) = ⊤
-ShowsUtf8 (MissingMandatoryMetric kind) = ⊤
+-- the fault can be told: its text is UTF-8, and the metric that is missing is a mandatory one
+abbrev pub IsTellable : {V K : Type 0} → Version V K → Fault K → Type 0
+IsTellable version (InvalidComponent piece) = IsUtf8 piece.now
+IsTellable version (InvalidPrefix prefix) = IsUtf8 prefix.now
+IsTellable version (UnsupportedVersion told) = IsUtf8 told.now
+IsTellable version (UnknownMetric name) = IsUtf8 name.now
+IsTellable version (InvalidMetric kind value) = IsUtf8 value.now
+IsTellable version (DuplicateMetric kind) = ⊤
+IsTellable version (MissingMandatoryMetric kind) = Contains version.mandatory kind
 
 -- the fault of a component, where the vector holds those before it
 abbrev pub IsFaultOf : {V K : Type 0} → Version V K → V → List ℕ → Refusal K → Type 0
@@ -113,4 +154,16 @@ IsFaultOf version v piece (Repeated kind) =
     × IsSpelling version kind (read version (value_part piece))
     × IsSome (version.value_of v kind)
 IsFaultOf version v piece (BadComponent _) = ⊥
+IsFaultOf version v piece (WrongPrefix _) = ⊥
+IsFaultOf version v piece (WrongVersion _) = ⊥
 IsFaultOf version v piece (Missing _) = ⊥
+
+-- the text is a version piece and components, which the complete vector holds
+pub record IsReadBehind {V K : Type 0} (version : Version V K) (text : List ℕ) (v : V) : Type 0 where
+  pub told : List ℕ
+  pub parts : List (List ℕ)
+  pub cut : pieces text ≡ version_piece told ∷ parts
+  pub front_is : version.front v ≡ version_piece told ∷ []
+  pub supported : Contains version.supported told
+  pub all : HasRead version parts (length parts) v
+  pub complete : IsComplete version v

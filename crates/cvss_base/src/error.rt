@@ -3,9 +3,10 @@
 ghost use Rattle.std.specs.Prelude.{◌≡◌, Some};
 ghost use Rattle.cvss_base.specs.declared.error.Error.TheVariants.{OutOfMemory};
 ghost use Rattle.cvss_base.specs.ErrorText.{error_text};
+ghost use Rattle.cvss_base.specs.Told.{TellsUnknown};
 
-use crate::v2;
-use std::alloc::AllocError;
+use crate::{v2, v3};
+use std::alloc::{AllocError, Global};
 use std::fmt;
 
 /// Why a text is no vector, metric or severity.
@@ -14,6 +15,14 @@ pub enum Error {
     /// A piece of the text has no colon, or more than one.
     InvalidComponent {
         component: String,
+    },
+    /// The text does not begin with `CVSS`.
+    InvalidPrefix {
+        prefix: String,
+    },
+    /// The version that the text begins with is not one that is read.
+    UnsupportedVersion {
+        version: String,
     },
     /// The metric has no such value.
     InvalidMetricV2 {
@@ -28,6 +37,15 @@ pub enum Error {
     MissingMandatoryMetricV2 {
         metric_type: v2::MetricType,
     },
+    /// The metric has no such value.
+    InvalidMetricV3 {
+        metric_type: v3::MetricType,
+        value: String,
+    },
+    /// The metric stands twice in the text.
+    DuplicateMetricV3 {
+        metric_type: v3::MetricType,
+    },
     /// No severity has this name.
     InvalidSeverity {
         name: String,
@@ -40,6 +58,18 @@ pub enum Error {
     OutOfMemory,
 }
 
+impl Error {
+    /// The error that no metric has this name.
+    pub(crate) fn unknown_metric(alloc: Global, name: &str) -> Error
+        ensures { TellsUnknown name.now result }
+    {
+        match String::from_str(alloc, name) {
+            Ok(name) => Error::UnknownMetric { name },
+            Err(_) => Error::OutOfMemory,
+        }
+    }
+}
+
 impl fmt::Display for Error {
     ghost output = { λ error. Some (error_text error) };
 
@@ -48,21 +78,40 @@ impl fmt::Display for Error {
             Error::InvalidComponent { component } => {
                 write!(f, "invalid CVSS metric group component: `{component}`")
             }
-            Error::InvalidMetricV2 { metric_type, value } => {
-                let name = metric_type.name();
-                let description = metric_type.description();
-                write!(f, "invalid CVSSv2 {name} ({description}) metric: `{value}`")
+            Error::InvalidPrefix { prefix } => write!(f, "invalid CVSS string prefix: `{prefix}`"),
+            Error::UnsupportedVersion { version } => {
+                write!(f, "unsupported CVSS version: {version}")
             }
-            Error::DuplicateMetricV2 { metric_type } => {
-                let name = metric_type.name();
-                let description = metric_type.description();
-                write!(f, "duplicate CVSSv2 {name} ({description}) metric")
-            }
-            Error::MissingMandatoryMetricV2 { metric_type } => {
-                let name = metric_type.name();
-                let description = metric_type.description();
-                write!(f, "missing mandatory CVSSv2 {name} ({description}) metric")
-            }
+            Error::InvalidMetricV2 { metric_type, value } => write!(
+                f,
+                "invalid CVSSv2 {} ({}) metric: `{value}`",
+                metric_type.name(),
+                metric_type.description()
+            ),
+            Error::DuplicateMetricV2 { metric_type } => write!(
+                f,
+                "duplicate CVSSv2 {} ({}) metric",
+                metric_type.name(),
+                metric_type.description()
+            ),
+            Error::MissingMandatoryMetricV2 { metric_type } => write!(
+                f,
+                "missing mandatory CVSSv2 {} ({}) metric",
+                metric_type.name(),
+                metric_type.description()
+            ),
+            Error::InvalidMetricV3 { metric_type, value } => write!(
+                f,
+                "invalid CVSSv3 {} ({}) metric: `{value}`",
+                metric_type.name(),
+                metric_type.description()
+            ),
+            Error::DuplicateMetricV3 { metric_type } => write!(
+                f,
+                "duplicate CVSSv3 {} ({}) metric",
+                metric_type.name(),
+                metric_type.description()
+            ),
             Error::InvalidSeverity { name } => {
                 write!(f, "invalid CVSS Qualitative Severity Rating: `{name}`")
             }

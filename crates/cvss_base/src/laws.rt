@@ -1,6 +1,13 @@
-//! The law of roundings, the contract of a function that does nothing.
+//! Laws, each the contract of a function that does nothing.
 
+ghost use Rattle.cvss_base.specs.Order.{ComparesAs};
+ghost use Rattle.cvss_base.specs.SeverityText as severity;
+ghost use Rattle.cvss_base.specs.V2Types as v2_types;
+ghost use Rattle.cvss_base.specs.V3Types as v3_types;
 ghost use Rattle.cvss_base.specs.Rounding.{RoundsOneWay, IsRoundedV2, IsRoundedV30, IsRoundedV31, IsRoundedV4, IsNearestEven};
+
+use crate::severity::Severity;
+use crate::{v2, v3};
 
 /// Equal numbers have at most one rounding of each kind.
 #[tactic(auto, using(crate::proofs::RoundingLemmas::unique_roundings))]
@@ -10,4 +17,11 @@ pub fn roundings_are_unique()
     ensures v31 { RoundsOneWay IsRoundedV31 }
     ensures v4 { RoundsOneWay IsRoundedV4 }
     ensures printing { RoundsOneWay IsNearestEven }
+{}
+
+/// Severities and metric types compare as they are declared in the tables.
+pub fn orders_are_declared()
+    ensures severity { ComparesAs severity.text_of severity.declared ⟦<Severity as Ord>⟧.cmp }
+    ensures v2 { ComparesAs v2_types.name_of v2_types.declared ⟦<v2::MetricType as Ord>⟧.cmp }
+    ensures v3 { ComparesAs v3_types.name_of v3_types.declared ⟦<v3::MetricType as Ord>⟧.cmp }
 {}

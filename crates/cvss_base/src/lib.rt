@@ -3,20 +3,22 @@
 #![tactic(auto)]
 
 mod error;
+pub mod front;
 pub mod laws;
 pub mod metrics;
 mod number;
 pub mod pieces;
 pub mod print;
+pub mod refusing;
 mod severity;
 mod text;
 pub mod v2;
+pub mod v3;
 pub mod walk;
 
 pub use error::Error;
 pub use number::{LIMIT, ONE, TENTH};
 pub use severity::Severity;
-pub use text::copied_text;
 
 /// The word that begins the text of a vector, from version 3.0 on (v3.1 specification, section 6).
 pub const PREFIX: &str = "CVSS";

@@ -1,6 +1,6 @@
 //! How the text of a vector is cut into pieces, and a component into its name and its value.
 
-ghost use Rattle.std.specs.Prelude.{◌≡◌, ◌↔◌, IsTrue, MatchOption, Some, length, ◌==◌};
+ghost use Rattle.std.specs.Prelude.{◌≡◌, ◌↔◌, ◌∷◌, IsTrue, MatchOption, Some, length, ◌==◌};
 ghost use Rattle.std.specs.Iterator.{YieldsFirstRef, item_count};
 ghost use Rattle.std.specs.List.{position};
 ghost use Rattle.cvss_base.specs.Text.{IsComponent, pieces};
@@ -21,11 +21,19 @@ impl<'a> Iterator for Pieces<'a> {
     ghost remaining = { item_count pieces_left };
 
     fn next(&mut self) -> Option<&'a [u8]> {
-        let rest = self.rest?;
-        let end = first_place(rest, b'/').unwrap_or(rest.len());
-        self.rest = rest.get(end + 1..);
-        Some(&rest[..end])
+        let (piece, left) = front_of(self.rest?);
+        *self = left;
+        Some(piece)
     }
+}
+
+/// The first piece of a text, and those behind it.
+pub(crate) fn front_of(text: &[u8]) -> (&[u8], Pieces<'_>)
+    ensures { pieces text.now ≡ result.0.now ∷ pieces_left result.1 }
+{
+    let end = first_place(text, b'/').unwrap_or(text.len());
+    let rest = text.get(end + 1..);
+    (&text[..end], Pieces { rest })
 }
 
 /// The pieces of a text.

@@ -1,9 +1,9 @@
 //! How a vector's components are printed, once for all versions.
 
-ghost use Rattle.std.specs.Prelude.{◌≡◌, ◌↔◌, IsTrue, Some, drop, if◌then◌else◌};
+ghost use Rattle.std.specs.Prelude.{◌≡◌, ◌↔◌, IsTrue, Some, [], drop, unwrap_or, if◌then◌else◌};
 ghost use Rattle.std.specs.Option.{option_copied};
 ghost use Rattle.std.specs.Fmt.{DisplaysOnOk, WritesOnOk};
-ghost use Rattle.cvss_base.specs.Text.{component, joined};
+ghost use Rattle.cvss_base.specs.Text.{joined};
 ghost use Rattle.cvss_base.specs.Version.{component_of, components_of, canonical_text};
 ghost use Rattle.cvss_base.specs.Printing.{slashed, StartsWithSlash};
 
@@ -12,37 +12,50 @@ use std::fmt;
 
 /// A vector of some version, as it is printed.
 pub trait Printed: Components {
-    /// The metrics in printing order.
-    fn printed() -> &'static [Self::Kind]
-        ensures { result.now ≡ Self.version.printed };
-
     /// A slash and the vector's component for a metric.
     fn slashed(&self, kind: Self::Kind) -> Option<&'static str>
         ensures { option_copied result ≡ slashed (component_of Self.version self.now kind) };
 }
 
-/// Writes a component: a metric's name, a colon and the spelling of a value.
+/// Writes a component that has a slash before it, without the slash.
 pub fn write_component<W: fmt::Write>(
-    name: &str,
-    spelling: &str,
+    slashed: &'static str,
     f: &mut fmt::Formatter<W>,
 ) -> fmt::Result
-    ensures { WritesOnOk W.write_str_gives f.old result (component name.now spelling.now) f.new }
+    requires { StartsWithSlash slashed.now }
+    ensures { WritesOnOk W.write_str_gives f.old result (drop 1 slashed.now) f.new }
 {
-    write!(f, "{name}:{spelling}")
+    f.write_str(&slashed[1..])
+}
+
+/// Writes a component with the slash before it, if there is one.
+pub fn write_slashed<W: fmt::Write>(
+    slashed: Option<&'static str>,
+    f: &mut fmt::Formatter<W>,
+) -> fmt::Result
+    ensures { WritesOnOk W.write_str_gives f.old result (unwrap_or (option_copied slashed.entry) []) f.new }
+{
+    match slashed {
+        Some(text) => f.write_str(text),
+        None => Ok(()),
+    }
 }
 
 /// Writes a component, and the slash before it unless it is the first.
-fn write_slashed<W: fmt::Write>(
-    text: &'static str,
+fn write_in_turn<W: fmt::Write>(
+    slashed: &'static str,
     is_first: bool,
     f: &mut fmt::Formatter<W>,
 ) -> fmt::Result
-    requires { StartsWithSlash text.now }
+    requires { StartsWithSlash slashed.now }
     ensures { WritesOnOk W.write_str_gives f.old result
-        (if is_first then drop 1 text.now else text.now) f.new }
+        (if is_first then drop 1 slashed.now else slashed.now) f.new }
 {
-    f.write_str(if is_first { &text[1..] } else { text })
+    if is_first {
+        write_component(slashed, f)
+    } else {
+        f.write_str(slashed)
+    }
 }
 
 /// Writes the components of a vector in printing order, with a slash between each two.
@@ -56,7 +69,7 @@ pub fn write_components<V: Printed, W: fmt::Write>(
     let mut is_first = true;
     for kind in V::printed() {
         if let Some(text) = vector.slashed(*kind) {
-            write_slashed(text, is_first, f)?;
+            write_in_turn(text, is_first, f)?;
             is_first = false;
         }
     }

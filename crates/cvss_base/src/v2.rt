@@ -1,8 +1,7 @@
 //! The metric types of CVSS v2 (guide, section 2).
 
-ghost use Rattle.std.specs.Prelude.{◌≡◌, IfSome, IfOk, IfErr, Some};
-ghost use Rattle.cvss_base.specs.Refusal.{UnknownName};
-ghost use Rattle.cvss_base.specs.Told.{TellsV2};
+ghost use Rattle.std.specs.Prelude.{◌≡◌, IfOk, IfErr, Some, find, bytes_eq};
+ghost use Rattle.cvss_base.specs.Told.{TellsUnknown};
 ghost use Rattle.cvss_base.specs.V2Types.{name_of, description_of};
 
 use crate::error::Error;
@@ -29,6 +28,23 @@ pub enum MetricType {
 }
 
 impl MetricType {
+    const ALL: [MetricType; 14] = [
+        MetricType::A,
+        MetricType::AC,
+        MetricType::AV,
+        MetricType::Au,
+        MetricType::C,
+        MetricType::I,
+        MetricType::E,
+        MetricType::RL,
+        MetricType::RC,
+        MetricType::CDP,
+        MetricType::TD,
+        MetricType::CR,
+        MetricType::IR,
+        MetricType::AR,
+    ];
+
     /// The abbreviation that stands for the metric in a vector (guide, section 2.4).
     pub fn name(self) -> &'static str
         ensures { result.now ≡ name_of self }
@@ -73,28 +89,10 @@ impl MetricType {
         }
     }
 
-    /// The metric type with this abbreviation, exactly as it is written.
-    pub fn named(name: &[u8]) -> Option<MetricType>
-        ensures named { IfSome result (λ kind. name_of kind ≡ name.now) }
-        ensures read { (kind : MetricType) → name_of kind ≡ name.now → result ≡ Some kind }
+    fn named(name: &str, all: &[MetricType]) -> Option<MetricType>
+        ensures { result ≡ find (λ kind. bytes_eq (name_of kind) name.now) all.now }
     {
-        match name {
-            b"A" => Some(MetricType::A),
-            b"AC" => Some(MetricType::AC),
-            b"AV" => Some(MetricType::AV),
-            b"Au" => Some(MetricType::Au),
-            b"C" => Some(MetricType::C),
-            b"I" => Some(MetricType::I),
-            b"E" => Some(MetricType::E),
-            b"RL" => Some(MetricType::RL),
-            b"RC" => Some(MetricType::RC),
-            b"CDP" => Some(MetricType::CDP),
-            b"TD" => Some(MetricType::TD),
-            b"CR" => Some(MetricType::CR),
-            b"IR" => Some(MetricType::IR),
-            b"AR" => Some(MetricType::AR),
-            _ => None,
-        }
+        all.iter().copied().find(|kind| kind.name() == name)
     }
 
     /// The metric type with this abbreviation, exactly as it is written.
@@ -102,16 +100,15 @@ impl MetricType {
     /// # Errors
     ///
     /// `UnknownMetric` with the text where no metric has this name.
+    #[tactic(auto, using(crate::proofs::TypeLemmas::named_v2, crate::proofs::TypeLemmas::known_v2))]
     pub fn from_str(alloc: Global, text: &str) -> Result<MetricType, Error>
         ensures named { IfOk result (λ kind. name_of kind ≡ text.now) }
         ensures read { (kind : MetricType) → name_of kind ≡ text.now → result ≡ Ok kind }
-        ensures refused { IfErr result (TellsV2 (UnknownName text.now)) }
+        ensures refused { IfErr result (TellsUnknown text.now) }
     {
-        match MetricType::named(text.as_bytes()) {
+        match MetricType::named(text, &MetricType::ALL) {
             Some(kind) => Ok(kind),
-            None => Err(Error::UnknownMetric {
-                name: String::from_str(alloc, text)?,
-            }),
+            None => Err(Error::unknown_metric(alloc, text)),
         }
     }
 }

@@ -1,14 +1,14 @@
 //! The walk over a vector's components, once for all versions. It takes no memory: a fault borrows
 //! the part of the text that it names.
 
-ghost use Rattle.std.specs.Prelude.{◌≡◌, ◌≢◌, IfSome, IfNone, IfOk, IfErr, OnOk, IsErrAnd, Ok, List, [], length};
+ghost use Rattle.std.specs.Prelude.{◌≡◌, ◌↔◌, IsTrue, bytes_eq, find, IfSome, IfOk, IfErr, OnOk, IsErrAnd, Ok, [], length};
 ghost use Rattle.std.specs.List.{All};
 ghost use Rattle.std.specs.Str.{IsUtf8};
 ghost use Rattle.cvss_base.specs.Pieces.{pieces_left};
-ghost use Rattle.cvss_base.specs.Text.{IsComponent};
-ghost use Rattle.cvss_base.specs.Version.{Version, read, reading, Denotes, IsComplete};
+ghost use Rattle.cvss_base.specs.Text.{IsComponent, raised, read_as};
+ghost use Rattle.cvss_base.specs.Version.{Version, read, Denotes, IsComplete};
 ghost use Rattle.cvss_base.specs.Refusal.{AreComponentsBefore, Refusal, IsFirstFault, IsFirstReason, IsFirstRefusal};
-ghost use Rattle.cvss_base.specs.Walk.{HasNoValue, IsEmpty, Puts, IsSlip, IsLawful, Adds, HasRead, IsFaultOf, first_missing, ShowsUtf8, reason_of};
+ghost use Rattle.cvss_base.specs.Walk.{HasNoValue, IsEmpty, IsPut, IsCut, IsLawful, Adds, HasRead, IsFaultOf, first_missing, IsTellable, reason_of};
 
 use crate::pieces::{Pieces, first_bad_piece, parts_of, pieces_of};
 
@@ -26,6 +26,10 @@ pub enum Slip {
 pub enum Fault<'a, K> {
     /// A piece of the text has no colon, or more than one.
     InvalidComponent(&'a [u8]),
+    /// The text does not begin with `CVSS`.
+    InvalidPrefix(&'a [u8]),
+    /// The version that the text begins with is not supported.
+    UnsupportedVersion(&'a [u8]),
     /// No metric has this name.
     UnknownMetric(&'a [u8]),
     /// The metric has no such value.
@@ -42,11 +46,22 @@ pub trait Components: Copy {
 
     ghost version: { Version Self Self.Kind };
 
-    /// The metric with this name.
-    fn kind_named(name: &[u8]) -> Option<Self::Kind>
-        ensures known { IfSome result (λ kind. version.name kind ≡ read version name.now) }
-        ensures unknown { IfNone result
-            ((kind : Self.Kind) → version.name kind ≢ read version name.now) };
+    /// Whether names and values are read in any ASCII case.
+    fn any_case() -> bool
+        ensures { result ≡ version.any_case };
+
+    /// The metrics in printing order.
+    fn printed() -> &'static [Self::Kind]
+        ensures { result.now ≡ version.printed };
+
+    /// The metric's name.
+    fn name(kind: Self::Kind) -> &'static str
+        ensures { result.now ≡ version.name kind };
+
+    /// The metric that a piece begins with, and what stands behind the colon after its name. It may
+    /// be `None` for any piece, which is then cut the longer way.
+    fn cut(piece: &[u8]) -> Option<(Self::Kind, &[u8])>
+        ensures { IfSome result (λ cut. IsCut version piece.now cut.0 cut.1.now) };
 
     /// The metric that a refused value is reported under.
     fn blamed(kind: Self::Kind) -> Self::Kind
@@ -54,15 +69,47 @@ pub trait Components: Copy {
 
     /// Puts a value into its place, which has to be empty.
     fn put(&mut self, kind: Self::Kind, value: &[u8]) -> Result<(), Slip>
-        ensures put { OnOk result (Puts version self.old kind (read version value.now) self.new) }
-        ensures slip { IfErr result
-            (IsSlip (reading version kind) (version.value_of self.old kind) (read version value.now)) };
+        ensures { IsPut version self.old kind (read version value.now) result self.new };
 
     /// The first metric that every vector has and this one lacks.
     fn first_missing(&self) -> Option<Self::Kind>
         ensures { result ≡ first_missing version self.now };
 
     ghost lawful: { IsLawful version };
+}
+
+/// The metric with this name.
+fn kind_named<V: Components>(name: &[u8]) -> Option<V::Kind>
+    ensures { result ≡ find (λ kind. bytes_eq (read V.version name.now) (V.version.name kind))
+        V.version.printed }
+{
+    V::printed().iter().copied().find(|kind| is_read_as(
+        V::any_case(),
+        name,
+        V::name(*kind).as_bytes(),
+    ))
+}
+
+/// The metric that a piece names, and the value behind its colon.
+#[inline(always)]
+fn cut_component<'a, V: Components>(
+    piece: &'a [u8],
+) -> Result<(V::Kind, &'a [u8]), Fault<'a, V::Kind>>
+    ensures cut { IfOk result (λ cut. IsCut V.version piece.now cut.0 cut.1.now) }
+    ensures refused { IfErr result (λ fault. (v : V) → IsComponent piece.now
+        → IsFaultOf V.version v piece.now (reason_of V.version fault)) }
+    ensures tellable { IsUtf8 piece.now → IfErr result (IsTellable V.version) }
+{
+    if let Some(cut) = V::cut(piece) {
+        return Ok(cut);
+    }
+    let Some((name, value)) = parts_of(piece) else {
+        return Err(Fault::InvalidComponent(piece));
+    };
+    match kind_named::<V>(name) {
+        Some(kind) => Ok((kind, value)),
+        None => Err(Fault::UnknownMetric(name)),
+    }
 }
 
 /// Reads one component into the vector.
@@ -74,14 +121,9 @@ fn read_component<'a, V: Components>(
     ensures read { OnOk result (Adds V.version vector.old piece.now vector.new) }
     ensures refused { IfErr result (λ fault. IsComponent piece.now
         → IsFaultOf V.version vector.old piece.now (reason_of V.version fault)) }
-    ensures shown { IsUtf8 piece.now → IfErr result ShowsUtf8 }
+    ensures tellable { IsUtf8 piece.now → IfErr result (IsTellable V.version) }
 {
-    let Some((name, value)) = parts_of(piece) else {
-        return Err(Fault::InvalidComponent(piece));
-    };
-    let Some(kind) = V::kind_named(name) else {
-        return Err(Fault::UnknownMetric(name));
-    };
+    let (kind, value) = cut_component::<V>(piece)?;
     match vector.put(kind, value) {
         Ok(()) => Ok(()),
         Err(Slip::Invalid) => Err(Fault::InvalidMetric(V::blamed(kind), value)),
@@ -103,7 +145,7 @@ fn read_components<'a, V: Components>(
     ensures refused { IfErr result (λ fault.
         AreComponentsBefore (pieces_left left.entry) (length (pieces_left left.entry))
         → IsFirstFault V.version (pieces_left left.entry) (reason_of V.version fault)) }
-    ensures shown { All IsUtf8 (pieces_left left.entry) → IfErr result ShowsUtf8 }
+    ensures tellable { All IsUtf8 (pieces_left left.entry) → IfErr result (IsTellable V.version) }
 {
     for piece in left {
         read_component(piece, vector)?;
@@ -113,7 +155,10 @@ fn read_components<'a, V: Components>(
 
 /// Reads the components that are left of a text into a vector without values, which then has to be
 /// complete. The fault is the first only where each of these pieces is a component.
-pub fn read_complete<'a, V: Components>(left: Pieces<'a>, empty: V) -> Result<V, Fault<'a, V::Kind>>
+pub(crate) fn read_complete<'a, V: Components>(
+    left: Pieces<'a>,
+    empty: V,
+) -> Result<V, Fault<'a, V::Kind>>
     requires { HasNoValue V.version empty }
     ensures read { IfOk result (λ v. HasRead V.version (pieces_left left.entry)
         (length (pieces_left left.entry)) v) }
@@ -122,7 +167,7 @@ pub fn read_complete<'a, V: Components>(left: Pieces<'a>, empty: V) -> Result<V,
     ensures refused { IfErr result (λ fault.
         AreComponentsBefore (pieces_left left.entry) (length (pieces_left left.entry))
         → IsFirstReason V.version (pieces_left left.entry) (reason_of V.version fault)) }
-    ensures shown { All IsUtf8 (pieces_left left.entry) → IfErr result ShowsUtf8 }
+    ensures tellable { All IsUtf8 (pieces_left left.entry) → IfErr result (IsTellable V.version) }
 {
     let mut vector = empty;
     read_components(left, &mut vector)?;
@@ -145,8 +190,8 @@ pub fn read_vector<'a, V: Components>(text: &'a [u8], empty: V) -> Result<V, Fau
         (λ fault. IsFirstRefusal V.version text.now (reason_of V.version fault)) }
     ensures refuses { (reason : Refusal V.Kind) → IsFirstRefusal V.version text.now reason
         → IsErrAnd result (λ fault. reason_of V.version fault ≡ reason) }
-    // The text that a refusal shows.
-    ensures shown { IsUtf8 text.now → IfErr result ShowsUtf8 }
+    // A refusal can be told.
+    ensures tellable { IsUtf8 text.now → IfErr result (IsTellable V.version) }
 {
     match read_complete(pieces_of(text), empty) {
         Ok(vector) => Ok(vector),
@@ -155,4 +200,27 @@ pub fn read_vector<'a, V: Components>(text: &'a [u8], empty: V) -> Result<V, Fau
             None => Err(fault),
         },
     }
+}
+
+/// Whether a text is read as this name.
+#[tactic(auto, using(crate::proofs::TextLemmas::bytes_eq_when))]
+fn is_read_as(any_case: bool, text: &[u8], name: &[u8]) -> bool
+    ensures { result ≡ bytes_eq (read_as any_case text.now) name.now }
+{
+    if any_case {
+        is_raised_as(text, name)
+    } else {
+        text == name
+    }
+}
+
+/// Whether a text is this name once its ASCII letters are raised.
+fn is_raised_as(text: &[u8], name: &[u8]) -> bool
+    ensures { IsTrue result ↔ (raised text.now ≡ name.now) }
+{
+    text.len() == name.len()
+        && text
+            .iter()
+            .zip(name)
+            .all(|(byte, letter)| byte.to_ascii_uppercase() == *letter)
 }

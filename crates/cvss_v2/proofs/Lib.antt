@@ -1,5 +1,4 @@
 mod CountLemmas
-mod PutLemmas
 mod ScoreLemmas
 mod StandardFacts
 mod TextLemmas

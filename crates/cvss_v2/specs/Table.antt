@@ -1,6 +1,7 @@
 -- The metrics of CVSS v2, by the tables of the guide: section 2.1 (base), 2.2 (temporal) and 2.3
 -- (environmental) for the values and their spellings, section 3.2 for their weights.
 use Rattle.std.specs.Prelude.{ℕ, List, [], ◌∷◌, codes}
+use Rattle.cvss_base.specs.Order.{place_in}
 use Rattle.cvss_base.specs.Text.{component}
 use Rattle.cvss_base.specs.V2Types.{name_of}
 use Rattle.cvss_base.specs.declared.v2.MetricType.{MetricType}
@@ -50,6 +51,23 @@ Value TD = TargetDistribution
 Value CR = ConfidentialityRequirement
 Value IR = IntegrityRequirement
 Value AR = AvailabilityRequirement
+
+-- all values of a metric, in the order in which they are compared
+abbrev pub values_of : (kind : MetricType) → List (Value kind)
+values_of AV = access_vector.Local ∷ access_vector.AdjacentNetwork ∷ access_vector.Network ∷ []
+values_of AC = access_complexity.High ∷ access_complexity.Medium ∷ access_complexity.Low ∷ []
+values_of Au = authentication.Multiple ∷ authentication.Single ∷ authentication.None ∷ []
+values_of C = confidentiality_impact.None ∷ confidentiality_impact.Partial ∷ confidentiality_impact.Complete ∷ []
+values_of I = integrity_impact.None ∷ integrity_impact.Partial ∷ integrity_impact.Complete ∷ []
+values_of A = availability_impact.None ∷ availability_impact.Partial ∷ availability_impact.Complete ∷ []
+values_of E = exploitability.Unproven ∷ exploitability.ProofOfConcept ∷ exploitability.Functional ∷ exploitability.High ∷ exploitability.NotDefined ∷ []
+values_of RL = remediation_level.OfficialFix ∷ remediation_level.TemporaryFix ∷ remediation_level.Workaround ∷ remediation_level.Unavailable ∷ remediation_level.NotDefined ∷ []
+values_of RC = report_confidence.Unconfirmed ∷ report_confidence.Uncorroborated ∷ report_confidence.Confirmed ∷ report_confidence.NotDefined ∷ []
+values_of CDP = collateral_damage_potential.None ∷ collateral_damage_potential.Low ∷ collateral_damage_potential.LowMedium ∷ collateral_damage_potential.MediumHigh ∷ collateral_damage_potential.High ∷ collateral_damage_potential.NotDefined ∷ []
+values_of TD = target_distribution.None ∷ target_distribution.Low ∷ target_distribution.Medium ∷ target_distribution.High ∷ target_distribution.NotDefined ∷ []
+values_of CR = confidentiality_requirement.Low ∷ confidentiality_requirement.Medium ∷ confidentiality_requirement.High ∷ confidentiality_requirement.NotDefined ∷ []
+values_of IR = integrity_requirement.Low ∷ integrity_requirement.Medium ∷ integrity_requirement.High ∷ integrity_requirement.NotDefined ∷ []
+values_of AR = availability_requirement.Low ∷ availability_requirement.Medium ∷ availability_requirement.High ∷ availability_requirement.NotDefined ∷ []
 
 -- how a value is spelled, and its weight in thousandths
 abbrev pub row_of : (kind : MetricType) → Value kind → List ℕ × ℕ
@@ -112,6 +130,10 @@ row_of AR availability_requirement.NotDefined = (codes "ND", 1000)
 -- how the value is spelled
 abbrev pub spelling_of : (kind : MetricType) → Value kind → List ℕ
 spelling_of kind value = (row_of kind value).0
+
+-- the value's place among all values of its metric
+abbrev pub rank_of : (kind : MetricType) → Value kind → ℕ
+rank_of kind value = place_in (spelling_of kind) (values_of kind) value
 
 -- the value's weight, in thousandths
 abbrev pub weight_of : (kind : MetricType) → Value kind → ℕ

@@ -18,24 +18,7 @@ use Rattle.cvss_v2.specs.declared.metric.environmental.loss.TargetDistribution.T
 use Rattle.cvss_v2.specs.declared.metric.environmental.requirement.ConfidentialityRequirement.TheVariants as confidentiality_requirement
 use Rattle.cvss_v2.specs.declared.metric.environmental.requirement.IntegrityRequirement.TheVariants as integrity_requirement
 use Rattle.cvss_v2.specs.declared.metric.environmental.requirement.AvailabilityRequirement.TheVariants as availability_requirement
-use Rattle.cvss_v2.specs.Table.{Value, spelling_of, weight_of, absent_weight}
-
--- all values of a metric
-abbrev values_of : (kind : MetricType) → List (Value kind)
-values_of AV = access_vector.Local ∷ access_vector.AdjacentNetwork ∷ access_vector.Network ∷ []
-values_of AC = access_complexity.High ∷ access_complexity.Medium ∷ access_complexity.Low ∷ []
-values_of Au = authentication.Multiple ∷ authentication.Single ∷ authentication.None ∷ []
-values_of C = confidentiality_impact.None ∷ confidentiality_impact.Partial ∷ confidentiality_impact.Complete ∷ []
-values_of I = integrity_impact.None ∷ integrity_impact.Partial ∷ integrity_impact.Complete ∷ []
-values_of A = availability_impact.None ∷ availability_impact.Partial ∷ availability_impact.Complete ∷ []
-values_of E = exploitability.Unproven ∷ exploitability.ProofOfConcept ∷ exploitability.Functional ∷ exploitability.High ∷ exploitability.NotDefined ∷ []
-values_of RL = remediation_level.OfficialFix ∷ remediation_level.TemporaryFix ∷ remediation_level.Workaround ∷ remediation_level.Unavailable ∷ remediation_level.NotDefined ∷ []
-values_of RC = report_confidence.Unconfirmed ∷ report_confidence.Uncorroborated ∷ report_confidence.Confirmed ∷ report_confidence.NotDefined ∷ []
-values_of CDP = collateral_damage_potential.None ∷ collateral_damage_potential.Low ∷ collateral_damage_potential.LowMedium ∷ collateral_damage_potential.MediumHigh ∷ collateral_damage_potential.High ∷ collateral_damage_potential.NotDefined ∷ []
-values_of TD = target_distribution.None ∷ target_distribution.Low ∷ target_distribution.Medium ∷ target_distribution.High ∷ target_distribution.NotDefined ∷ []
-values_of CR = confidentiality_requirement.Low ∷ confidentiality_requirement.Medium ∷ confidentiality_requirement.High ∷ confidentiality_requirement.NotDefined ∷ []
-values_of IR = integrity_requirement.Low ∷ integrity_requirement.Medium ∷ integrity_requirement.High ∷ integrity_requirement.NotDefined ∷ []
-values_of AR = availability_requirement.Low ∷ availability_requirement.Medium ∷ availability_requirement.High ∷ availability_requirement.NotDefined ∷ []
+use Rattle.cvss_v2.specs.Table.{Value, values_of, spelling_of, weight_of, absent_weight}
 
 -- the value with this spelling
 abbrev value_spelled : (kind : MetricType) → List ℕ → Option (Value kind)

@@ -1,8 +1,5 @@
 -- A vector of CVSS v2 as a map from metrics to values: guide, section 2.4.
 use Rattle.std.specs.Prelude.{ℕ, false, List, [], Option}
-use Rattle.cvss_base.specs.Refusal.{Refusal, IsFirstRefusal}
-use Rattle.cvss_base.specs.Told.{TellsV2}
-use Rattle.cvss_base.specs.declared.error.Error.{Error}
 use Rattle.cvss_base.specs.V2Types.{name_of}
 use Rattle.cvss_base.specs.Version.{Version}
 use Rattle.cvss_base.specs.declared.v2.MetricType.{MetricType}
@@ -39,10 +36,5 @@ v2 = record {
   mandatory = mandatory;
   blamed = λ kind. kind;
   front = λ _. [];
+  supported = [];
 }
-
--- the error tells the first reason why the text is refused
-pub record TellsFirst (text : List ℕ) (error : Error) : Type 0 where
-  pub reason : Refusal MetricType
-  pub first : IsFirstRefusal v2 text reason
-  pub told : TellsV2 reason error

@@ -2,11 +2,12 @@
 
 ghost use Rattle.std.specs.Prelude.{◌≡◌, ◌∷◌, ◌*◌, ◌^◌, pos, IfSome, IfOk, IfErr, Some};
 ghost use Rattle.cvss_base.specs.Refusal.{BadValue};
-ghost use Rattle.cvss_base.specs.Told.{TellsV2};
+ghost use Rattle.cvss_base.specs.Told.{Tells, v2_reason};
 ghost use Rattle.cvss_base.specs.V2Types.{name_of};
 ghost use Rattle.cvss_base.specs.declared.v2.MetricType.{MetricType};
-ghost use Rattle.cvss_v2.specs.Table.{Value, spelling_of, weight_of, metric_component};
+ghost use Rattle.cvss_v2.specs.Table.{Value, spelling_of, weight_of, metric_component, rank_of};
 ghost use Rattle.cvss_base.specs.Text.{slash};
+ghost use Rattle.std.specs.Ordering.{nat_cmp};
 
 pub mod base;
 pub mod environmental;
@@ -29,10 +30,6 @@ pub trait Metric: Copy + Clone + fmt::Debug + fmt::Display + Eq + Ord {
 
     ghost value: { Self → Value TYPE };
 
-    /// How the value is spelled in a vector.
-    fn as_str(self) -> &'static str
-        ensures { result.now ≡ spelling_of TYPE (value self) };
-
     /// A slash and the component that stands for the value in a vector.
     fn slashed(self) -> &'static str
         ensures { result.now ≡ slash ∷ metric_component TYPE (value self) };
@@ -46,6 +43,13 @@ pub trait Metric: Copy + Clone + fmt::Debug + fmt::Display + Eq + Ord {
         ensures spelled { IfSome result (λ metric. spelling_of TYPE (value metric) ≡ text.now) }
         ensures read { (metric : Self) → spelling_of TYPE (value metric) ≡ text.now
             → result ≡ Some metric };
+
+    /// How the value is spelled in a vector.
+    fn as_str(self) -> &'static str
+        ensures { result.now ≡ spelling_of TYPE (value self) }
+    {
+        &self.slashed()[Self::TYPE.name().len() + 2..]
+    }
 
     /// The value with this spelling.
     fn read(text: &str) -> Option<Self>
@@ -65,7 +69,7 @@ pub trait Metric: Copy + Clone + fmt::Debug + fmt::Display + Eq + Ord {
         ensures spelled { IfOk result (λ metric. spelling_of TYPE (value metric) ≡ text.now) }
         ensures read { (metric : Self) → spelling_of TYPE (value metric) ≡ text.now
             → result ≡ Ok metric }
-        ensures refused { IfErr result (TellsV2 (BadValue TYPE text.now)) }
+        ensures refused { IfErr result (Tells v2_reason (BadValue TYPE text.now)) }
     {
         match Self::read(text) {
             Some(metric) => Ok(metric),
@@ -95,4 +99,8 @@ pub trait Metric: Copy + Clone + fmt::Debug + fmt::Display + Eq + Ord {
 
     // Each value of the table is a value of the enum.
     ghost covers: { (x : Value TYPE) → (metric : Self) × value metric ≡ x };
+
+    // Values compare as they are declared in the table.
+    ghost ordered: { (x y : Self) → ⟦<Self as Ord>⟧.cmp x y
+        ≡ nat_cmp (rank_of TYPE (value x)) (rank_of TYPE (value y)) };
 }

@@ -1,6 +1,6 @@
 //! A vector of CVSS v2.
 
-ghost use Rattle.std.specs.Prelude.{◌≡◌, ◌↔◌, IsTrue, IfOk, IfErr, IsErrAnd, Ok};
+ghost use Rattle.std.specs.Prelude.{◌≡◌, ◌↔◌, IsTrue, IfSome, IfOk, IfErr, IsErrAnd, Some, Ok};
 
 mod listing;
 mod printing;
@@ -17,9 +17,9 @@ use crate::metric::environmental::{
     IntegrityRequirement, TargetDistribution,
 };
 use crate::metric::temporal::{Exploitability, RemediationLevel, ReportConfidence};
-use crate::vector::refusing::error_of;
 use cvss_base::Error;
 use cvss_base::print::same_components;
+use cvss_base::refusing::vector_of;
 use cvss_base::walk::read_vector;
 pub use listing::Metrics;
 use std::alloc::Global;
@@ -47,10 +47,11 @@ pub struct Vector {
 
 impl Vector {
     ghost use Rattle.cvss_base.specs.Refusal.{Refusal, IsFirstRefusal};
-    ghost use Rattle.cvss_base.specs.Told.{TellsV2};
+    ghost use Rattle.cvss_base.specs.Told.{Tells, TellsFirst, v2_reason};
     ghost use Rattle.cvss_base.specs.Version.{canonical_text, Denotes, IsComplete};
+    ghost use Rattle.cvss_base.specs.Walk.{IsEmpty};
     ghost use Rattle.cvss_base.specs.declared.v2.MetricType.{MetricType};
-    ghost use Rattle.cvss_v2.specs.Vector.{v2, TellsFirst};
+    ghost use Rattle.cvss_v2.specs.Vector.{v2};
 
     /// The vector that a text denotes: its components in any order, each once, with slashes between
     /// them (guide, section 2.4). Accepting takes no memory.
@@ -68,14 +69,28 @@ impl Vector {
             → IsComplete v2 vector → result ≡ Ok vector }
         // Refused: for the first reason, and wherever there is one. Memory is the answer only where
         // the reason carries text.
-        ensures refused { IfErr result (λ error. TellsFirst text.now error) }
+        ensures refused { IfErr result (TellsFirst v2_reason (IsFirstRefusal v2 text.now)) }
         ensures refuses { (reason : Refusal MetricType) → IsFirstRefusal v2 text.now reason
-            → IsErrAnd result (TellsV2 reason) }
+            → IsErrAnd result (Tells v2_reason reason) }
     {
-        match read_vector(text.as_bytes(), Vector::default()) {
-            Ok(vector) => Ok(vector),
-            Err(fault) => Err(error_of(alloc, fault)),
-        }
+        vector_of(alloc, text, Vector::empty())
+    }
+
+    /// The vector that a text denotes, if there is one. It takes no memory.
+    pub fn read_bytes(text: &[u8]) -> Option<Vector>
+        ensures denoted { IfSome result (λ vector. Denotes v2 text.now vector) }
+        ensures complete { IfSome result (λ vector. IsComplete v2 vector) }
+        ensures accepts { (vector : Vector) → Denotes v2 text.now vector
+            → IsComplete v2 vector → result ≡ Some vector }
+    {
+        read_vector(text, Vector::empty()).ok()
+    }
+
+    /// The vector without metrics.
+    fn empty() -> Vector
+        ensures { IsEmpty v2 result }
+    {
+        Vector::default()
     }
 
     /// Whether two vectors have one canonical text, which is whether they are equal.

@@ -1,6 +1,7 @@
 //! The temporal metrics (guide, section 2.2).
 
 ghost use Rattle.std.specs.Prelude.{Some, refl};
+ghost use Rattle.std.proofs.Common.{rules};
 ghost use Rattle.cvss_base.specs.declared.v2.MetricType.TheVariants.{E, RL, RC};
 ghost use Rattle.cvss_v2.specs.Table.{metric_component};
 
@@ -27,15 +28,7 @@ impl Metric for Exploitability {
 
     ghost covers = { λ x. (x, refl) };
 
-    fn as_str(self) -> &'static str {
-        match self {
-            Exploitability::Unproven => "U",
-            Exploitability::ProofOfConcept => "POC",
-            Exploitability::Functional => "F",
-            Exploitability::High => "H",
-            Exploitability::NotDefined => "ND",
-        }
-    }
+    ghost ordered = { Prim.search rules };
 
     fn slashed(self) -> &'static str {
         match self {
@@ -73,7 +66,7 @@ impl fmt::Display for Exploitability {
     ghost output = { λ metric. Some (metric_component E metric) };
 
     fn fmt<W: fmt::Write>(&self, f: &mut fmt::Formatter<W>) -> fmt::Result {
-        write_component(Self::TYPE.name(), self.as_str(), f)
+        write_component(self.slashed(), f)
     }
 }
 
@@ -96,15 +89,7 @@ impl Metric for RemediationLevel {
 
     ghost covers = { λ x. (x, refl) };
 
-    fn as_str(self) -> &'static str {
-        match self {
-            RemediationLevel::OfficialFix => "OF",
-            RemediationLevel::TemporaryFix => "TF",
-            RemediationLevel::Workaround => "W",
-            RemediationLevel::Unavailable => "U",
-            RemediationLevel::NotDefined => "ND",
-        }
-    }
+    ghost ordered = { Prim.search rules };
 
     fn slashed(self) -> &'static str {
         match self {
@@ -142,7 +127,7 @@ impl fmt::Display for RemediationLevel {
     ghost output = { λ metric. Some (metric_component RL metric) };
 
     fn fmt<W: fmt::Write>(&self, f: &mut fmt::Formatter<W>) -> fmt::Result {
-        write_component(Self::TYPE.name(), self.as_str(), f)
+        write_component(self.slashed(), f)
     }
 }
 
@@ -164,14 +149,7 @@ impl Metric for ReportConfidence {
 
     ghost covers = { λ x. (x, refl) };
 
-    fn as_str(self) -> &'static str {
-        match self {
-            ReportConfidence::Unconfirmed => "UC",
-            ReportConfidence::Uncorroborated => "UR",
-            ReportConfidence::Confirmed => "C",
-            ReportConfidence::NotDefined => "ND",
-        }
-    }
+    ghost ordered = { Prim.search rules };
 
     fn slashed(self) -> &'static str {
         match self {
@@ -206,6 +184,6 @@ impl fmt::Display for ReportConfidence {
     ghost output = { λ metric. Some (metric_component RC metric) };
 
     fn fmt<W: fmt::Write>(&self, f: &mut fmt::Formatter<W>) -> fmt::Result {
-        write_component(Self::TYPE.name(), self.as_str(), f)
+        write_component(self.slashed(), f)
     }
 }

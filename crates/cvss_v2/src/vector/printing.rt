@@ -1,42 +1,22 @@
 //! How a vector is printed.
 
-ghost use Rattle.std.specs.Prelude.{◌≡◌, Some, option_map};
+ghost use Rattle.std.specs.Prelude.{◌≡◌, Some, [], ◌∷◌, drop, option_map, unwrap_or};
+ghost use Rattle.std.specs.Fmt.{WritesOnOk};
 ghost use Rattle.std.specs.Option.{option_copied};
-ghost use Rattle.cvss_base.specs.Printing.{slashed};
+ghost use Rattle.cvss_base.specs.Printing.{slashed, slashed_texts};
 ghost use Rattle.cvss_base.specs.Text.{component};
 ghost use Rattle.cvss_base.specs.V2Types.{name_of};
 ghost use Rattle.cvss_base.specs.Version.{canonical_text};
-ghost use Rattle.cvss_v2.specs.Table.{spelling_of};
+ghost use Rattle.cvss_base.specs.declared.v2.MetricType.TheVariants.{A, AC, Au, C, I, E, RL, RC, CDP, TD, CR, IR, AR};
+ghost use Rattle.cvss_v2.specs.Table.{spelling_of, printed};
 ghost use Rattle.cvss_v2.specs.Vector.{v2};
 
 use crate::metric::{Metric, MetricType};
 use crate::vector::Vector;
-use cvss_base::print::{Printed, write_components};
+use cvss_base::print::{Printed, write_component, write_components, write_slashed};
 use std::fmt;
 
-/// The metrics in printing order (guide, section 2.4).
-const PRINTED: [MetricType; 14] = [
-    MetricType::AV,
-    MetricType::AC,
-    MetricType::Au,
-    MetricType::C,
-    MetricType::I,
-    MetricType::A,
-    MetricType::E,
-    MetricType::RL,
-    MetricType::RC,
-    MetricType::CDP,
-    MetricType::TD,
-    MetricType::CR,
-    MetricType::IR,
-    MetricType::AR,
-];
-
 impl Printed for Vector {
-    fn printed() -> &'static [MetricType] {
-        &PRINTED
-    }
-
     fn slashed(&self, kind: MetricType) -> Option<&'static str> {
         match kind {
             MetricType::AV => slashed_value(self.av),
@@ -65,10 +45,69 @@ fn slashed_value<M: Metric>(value: Option<M>) -> Option<&'static str>
     value.map(|metric| metric.slashed())
 }
 
+/// Writes a slash and the component of a value, if there is one.
+fn write_value<M: Metric, W: fmt::Write>(value: Option<M>, f: &mut fmt::Formatter<W>) -> fmt::Result
+    ensures { WritesOnOk W.write_str_gives f.old result (unwrap_or (slashed
+        (option_map (component (name_of M.TYPE))
+        (option_map (λ metric. spelling_of M.TYPE (M.value metric)) value))) []) f.new }
+{
+    write_slashed(slashed_value(value), f)
+}
+
+impl Vector {
+    /// Writes the base metrics behind the first, each with a slash before it.
+    fn write_base<W: fmt::Write>(&self, f: &mut fmt::Formatter<W>) -> fmt::Result
+        ensures { WritesOnOk W.write_str_gives f.old result
+            (slashed_texts v2 self.now (AC ∷ Au ∷ C ∷ I ∷ A ∷ [])) f.new }
+    {
+        write_value(self.ac, f)?;
+        write_value(self.au, f)?;
+        write_value(self.c, f)?;
+        write_value(self.i, f)?;
+        write_value(self.a, f)
+    }
+
+    /// Writes the temporal metrics, each with a slash before it.
+    fn write_temporal<W: fmt::Write>(&self, f: &mut fmt::Formatter<W>) -> fmt::Result
+        ensures { WritesOnOk W.write_str_gives f.old result
+            (slashed_texts v2 self.now (E ∷ RL ∷ RC ∷ [])) f.new }
+    {
+        write_value(self.e, f)?;
+        write_value(self.rl, f)?;
+        write_value(self.rc, f)
+    }
+
+    /// Writes the environmental metrics, each with a slash before it.
+    fn write_environmental<W: fmt::Write>(&self, f: &mut fmt::Formatter<W>) -> fmt::Result
+        ensures { WritesOnOk W.write_str_gives f.old result
+            (slashed_texts v2 self.now (CDP ∷ TD ∷ CR ∷ IR ∷ AR ∷ [])) f.new }
+    {
+        write_value(self.cdp, f)?;
+        write_value(self.td, f)?;
+        write_value(self.cr, f)?;
+        write_value(self.ir, f)?;
+        write_value(self.ar, f)
+    }
+
+    /// Writes all metrics but the first, each with a slash before it.
+    fn write_others<W: fmt::Write>(&self, f: &mut fmt::Formatter<W>) -> fmt::Result
+        ensures { WritesOnOk W.write_str_gives f.old result
+            (slashed_texts v2 self.now (drop 1 printed)) f.new }
+    {
+        self.write_base(f)?;
+        self.write_temporal(f)?;
+        self.write_environmental(f)
+    }
+}
+
 impl fmt::Display for Vector {
     ghost output = { λ vector. Some (canonical_text v2 vector) };
 
     fn fmt<W: fmt::Write>(&self, f: &mut fmt::Formatter<W>) -> fmt::Result {
-        write_components(self, f)
+        let Some(av) = self.av else {
+            return write_components(self, f);
+        };
+        write_component(av.slashed(), f)?;
+        self.write_others(f)
     }
 }

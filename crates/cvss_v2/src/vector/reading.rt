@@ -1,15 +1,31 @@
 //! How a vector is filled from its components.
 
-ghost use Rattle.std.specs.Prelude.{◌≡◌, ◌≢◌, IfErr, IfSome, OnOk, Some, None};
-ghost use Rattle.std.proofs.Common.{rules};
 ghost use Rattle.cvss_v2.specs.Table.{spelling_of};
 ghost use Rattle.cvss_v2.specs.Vector.{v2};
 ghost use Rattle.cvss_v2.specs.VectorLaws.{v2_is_lawful};
-ghost use Rattle.cvss_base.specs.Walk.{Fills, IsSlip};
+ghost use Rattle.cvss_base.specs.Walk.{IsFilled};
 
 use crate::metric::{Metric, MetricType};
 use crate::vector::Vector;
 use cvss_base::walk::{Components, Slip};
+
+/// The metrics in printing order (guide, section 2.4).
+const PRINTED: [MetricType; 14] = [
+    MetricType::AV,
+    MetricType::AC,
+    MetricType::Au,
+    MetricType::C,
+    MetricType::I,
+    MetricType::A,
+    MetricType::E,
+    MetricType::RL,
+    MetricType::RC,
+    MetricType::CDP,
+    MetricType::TD,
+    MetricType::CR,
+    MetricType::IR,
+    MetricType::AR,
+];
 
 impl Components for Vector {
     type Kind = MetricType;
@@ -18,8 +34,36 @@ impl Components for Vector {
 
     ghost lawful = { v2_is_lawful };
 
-    fn kind_named(name: &[u8]) -> Option<MetricType> {
-        MetricType::named(name)
+    fn any_case() -> bool {
+        false
+    }
+
+    fn printed() -> &'static [MetricType] {
+        &PRINTED
+    }
+
+    fn name(kind: MetricType) -> &'static str {
+        kind.name()
+    }
+
+    fn cut(piece: &[u8]) -> Option<(MetricType, &[u8])> {
+        match piece {
+            [b'A', b'V', b':', value @ ..] => Some((MetricType::AV, value)),
+            [b'A', b'C', b':', value @ ..] => Some((MetricType::AC, value)),
+            [b'A', b'u', b':', value @ ..] => Some((MetricType::Au, value)),
+            [b'C', b':', value @ ..] => Some((MetricType::C, value)),
+            [b'I', b':', value @ ..] => Some((MetricType::I, value)),
+            [b'A', b':', value @ ..] => Some((MetricType::A, value)),
+            [b'E', b':', value @ ..] => Some((MetricType::E, value)),
+            [b'R', b'L', b':', value @ ..] => Some((MetricType::RL, value)),
+            [b'R', b'C', b':', value @ ..] => Some((MetricType::RC, value)),
+            [b'C', b'D', b'P', b':', value @ ..] => Some((MetricType::CDP, value)),
+            [b'T', b'D', b':', value @ ..] => Some((MetricType::TD, value)),
+            [b'C', b'R', b':', value @ ..] => Some((MetricType::CR, value)),
+            [b'I', b'R', b':', value @ ..] => Some((MetricType::IR, value)),
+            [b'A', b'R', b':', value @ ..] => Some((MetricType::AR, value)),
+            _ => None,
+        }
     }
 
     fn blamed(kind: MetricType) -> MetricType {
@@ -60,10 +104,7 @@ impl Components for Vector {
 
 /// Reads a value into its place, which has to be empty.
 fn fill<M: Metric>(place: &mut Option<M>, text: &[u8]) -> Result<(), Slip>
-    ensures filled { OnOk result
-        (Fills (λ x. spelling_of M.TYPE (M.value x)) place.old text.now place.new) }
-    ensures slip { IfErr result
-        (IsSlip (λ x. spelling_of M.TYPE (M.value x)) place.old text.now) }
+    ensures { IsFilled (λ x. spelling_of M.TYPE (M.value x)) place.old text.now result place.new }
 {
     let Some(metric) = M::read_bytes(text) else {
         return Err(Slip::Invalid);

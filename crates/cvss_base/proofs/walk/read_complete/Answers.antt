@@ -1,6 +1,6 @@
 use Rattle.std.proofs.Common.{sym}
 use Rattle.cvss_base.specs.Pieces.{pieces_left}
-use Rattle.cvss_base.proofs.MissingLemmas.{LacksFirst-from, IsComplete-from}
+use Rattle.cvss_base.proofs.MissingLemmas.{LacksFirst-from, IsComplete-from, Contains-missing}
 use Rattle.cvss_base.proofs.WalkLemmas.{IsFirstMissing-from}
 use Rattle.cvss_base.proofs.walk.read_complete.Goals as goal
 
@@ -10,3 +10,6 @@ returns-in-Some-clause-refused g c = λ _. IsFirstMissing-from g.V.Components.ve
 pub returns-in-None-clause-complete : goal.returns-in-None-clause-complete
 returns-in-None-clause-complete g c =
     IsComplete-from g.V.Components.version c.read_components.new.vector (sym c.in-None.ensures)
+
+pub returns-in-Some-clause-tellable : goal.returns-in-Some-clause-tellable
+returns-in-Some-clause-tellable g c = λ _. Contains-missing g.V.Components.version c.read_components.new.vector c.in-Some.kind (sym c.in-Some.ensures)

@@ -22,8 +22,8 @@ returns-in_err-read_component-clause-refused g c =
     let exit = err_from_is_err_and c.from_residual.result c.from_residual.ensures.1 in
     rw (exit.1, exit.2) (λ components. IsFirstFault-at g.V.Components.version g.met.V.Components.lawful (pieces_left c.args.left) (length c.loop-piece.yielded) turn.0 c.in-Some.piece.now turn.1 c.loop-piece.vector (reason_of g.V.Components.version c.in_err-read_component.field-0.0) (c.in_err-read_component.ensures.refused (rw turn.1 (components.each _ turn.0))) c.loop-piece.invariant.0)
 
-pub returns-in_err-read_component-clause-shown : goal.returns-in_err-read_component-clause-shown
-returns-in_err-read_component-clause-shown g c = λ is.
+pub returns-in_err-read_component-clause-tellable : goal.returns-in_err-read_component-clause-tellable
+returns-in_err-read_component-clause-tellable g c = λ is.
     let turn = piece_in_turn (pieces_left c.args.left) _ _ c.next.new.self c.loop-piece.yielded _ c.in-Some.piece (ap pieces_left c.into_iter-piece-iterator.ensures.into_iter_gives) c.loop-piece.yielded_by c.in-Some.is c.next.ensures.steps in
     let exit = err_from_is_err_and c.from_residual.result c.from_residual.ensures.1 in
-    rw (exit.1, exit.2) (c.in_err-read_component.ensures.shown (rw turn.1 (is _ [] turn.0)))
+    rw (exit.1, exit.2) (c.in_err-read_component.ensures.tellable (rw turn.1 (is _ [] turn.0)))

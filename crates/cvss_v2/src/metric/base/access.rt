@@ -1,6 +1,7 @@
 //! How an attacker gets at the component (guide, sections 2.1.1 to 2.1.3).
 
 ghost use Rattle.std.specs.Prelude.{Some, refl};
+ghost use Rattle.std.proofs.Common.{rules};
 ghost use Rattle.cvss_base.specs.declared.v2.MetricType.TheVariants.{AV, AC, Au};
 ghost use Rattle.cvss_v2.specs.Table.{metric_component};
 
@@ -25,13 +26,7 @@ impl Metric for AccessVector {
 
     ghost covers = { λ x. (x, refl) };
 
-    fn as_str(self) -> &'static str {
-        match self {
-            AccessVector::Local => "L",
-            AccessVector::AdjacentNetwork => "A",
-            AccessVector::Network => "N",
-        }
-    }
+    ghost ordered = { Prim.search rules };
 
     fn slashed(self) -> &'static str {
         match self {
@@ -63,7 +58,7 @@ impl fmt::Display for AccessVector {
     ghost output = { λ metric. Some (metric_component AV metric) };
 
     fn fmt<W: fmt::Write>(&self, f: &mut fmt::Formatter<W>) -> fmt::Result {
-        write_component(Self::TYPE.name(), self.as_str(), f)
+        write_component(self.slashed(), f)
     }
 }
 
@@ -84,13 +79,7 @@ impl Metric for AccessComplexity {
 
     ghost covers = { λ x. (x, refl) };
 
-    fn as_str(self) -> &'static str {
-        match self {
-            AccessComplexity::High => "H",
-            AccessComplexity::Medium => "M",
-            AccessComplexity::Low => "L",
-        }
-    }
+    ghost ordered = { Prim.search rules };
 
     fn slashed(self) -> &'static str {
         match self {
@@ -122,7 +111,7 @@ impl fmt::Display for AccessComplexity {
     ghost output = { λ metric. Some (metric_component AC metric) };
 
     fn fmt<W: fmt::Write>(&self, f: &mut fmt::Formatter<W>) -> fmt::Result {
-        write_component(Self::TYPE.name(), self.as_str(), f)
+        write_component(self.slashed(), f)
     }
 }
 
@@ -143,13 +132,7 @@ impl Metric for Authentication {
 
     ghost covers = { λ x. (x, refl) };
 
-    fn as_str(self) -> &'static str {
-        match self {
-            Authentication::Multiple => "M",
-            Authentication::Single => "S",
-            Authentication::None => "N",
-        }
-    }
+    ghost ordered = { Prim.search rules };
 
     fn slashed(self) -> &'static str {
         match self {
@@ -181,6 +164,6 @@ impl fmt::Display for Authentication {
     ghost output = { λ metric. Some (metric_component Au metric) };
 
     fn fmt<W: fmt::Write>(&self, f: &mut fmt::Formatter<W>) -> fmt::Result {
-        write_component(Self::TYPE.name(), self.as_str(), f)
+        write_component(self.slashed(), f)
     }
 }

@@ -1,6 +1,7 @@
 //! What an attack does to the component (guide, sections 2.1.4 to 2.1.6).
 
 ghost use Rattle.std.specs.Prelude.{Some, refl};
+ghost use Rattle.std.proofs.Common.{rules};
 ghost use Rattle.cvss_base.specs.declared.v2.MetricType.TheVariants.{C, I, A};
 ghost use Rattle.cvss_v2.specs.Table.{metric_component};
 
@@ -25,13 +26,7 @@ impl Metric for ConfidentialityImpact {
 
     ghost covers = { λ x. (x, refl) };
 
-    fn as_str(self) -> &'static str {
-        match self {
-            ConfidentialityImpact::None => "N",
-            ConfidentialityImpact::Partial => "P",
-            ConfidentialityImpact::Complete => "C",
-        }
-    }
+    ghost ordered = { Prim.search rules };
 
     fn slashed(self) -> &'static str {
         match self {
@@ -63,7 +58,7 @@ impl fmt::Display for ConfidentialityImpact {
     ghost output = { λ metric. Some (metric_component C metric) };
 
     fn fmt<W: fmt::Write>(&self, f: &mut fmt::Formatter<W>) -> fmt::Result {
-        write_component(Self::TYPE.name(), self.as_str(), f)
+        write_component(self.slashed(), f)
     }
 }
 
@@ -84,13 +79,7 @@ impl Metric for IntegrityImpact {
 
     ghost covers = { λ x. (x, refl) };
 
-    fn as_str(self) -> &'static str {
-        match self {
-            IntegrityImpact::None => "N",
-            IntegrityImpact::Partial => "P",
-            IntegrityImpact::Complete => "C",
-        }
-    }
+    ghost ordered = { Prim.search rules };
 
     fn slashed(self) -> &'static str {
         match self {
@@ -122,7 +111,7 @@ impl fmt::Display for IntegrityImpact {
     ghost output = { λ metric. Some (metric_component I metric) };
 
     fn fmt<W: fmt::Write>(&self, f: &mut fmt::Formatter<W>) -> fmt::Result {
-        write_component(Self::TYPE.name(), self.as_str(), f)
+        write_component(self.slashed(), f)
     }
 }
 
@@ -143,13 +132,7 @@ impl Metric for AvailabilityImpact {
 
     ghost covers = { λ x. (x, refl) };
 
-    fn as_str(self) -> &'static str {
-        match self {
-            AvailabilityImpact::None => "N",
-            AvailabilityImpact::Partial => "P",
-            AvailabilityImpact::Complete => "C",
-        }
-    }
+    ghost ordered = { Prim.search rules };
 
     fn slashed(self) -> &'static str {
         match self {
@@ -181,6 +164,6 @@ impl fmt::Display for AvailabilityImpact {
     ghost output = { λ metric. Some (metric_component A metric) };
 
     fn fmt<W: fmt::Write>(&self, f: &mut fmt::Formatter<W>) -> fmt::Result {
-        write_component(Self::TYPE.name(), self.as_str(), f)
+        write_component(self.slashed(), f)
     }
 }

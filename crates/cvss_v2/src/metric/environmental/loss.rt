@@ -1,6 +1,7 @@
 //! How much may be lost, and how often (guide, sections 2.3.1 and 2.3.2).
 
 ghost use Rattle.std.specs.Prelude.{Some, refl};
+ghost use Rattle.std.proofs.Common.{rules};
 ghost use Rattle.cvss_base.specs.declared.v2.MetricType.TheVariants.{CDP, TD};
 ghost use Rattle.cvss_v2.specs.Table.{metric_component};
 
@@ -28,16 +29,7 @@ impl Metric for CollateralDamagePotential {
 
     ghost covers = { λ x. (x, refl) };
 
-    fn as_str(self) -> &'static str {
-        match self {
-            CollateralDamagePotential::None => "N",
-            CollateralDamagePotential::Low => "L",
-            CollateralDamagePotential::LowMedium => "LM",
-            CollateralDamagePotential::MediumHigh => "MH",
-            CollateralDamagePotential::High => "H",
-            CollateralDamagePotential::NotDefined => "ND",
-        }
-    }
+    ghost ordered = { Prim.search rules };
 
     fn slashed(self) -> &'static str {
         match self {
@@ -78,7 +70,7 @@ impl fmt::Display for CollateralDamagePotential {
     ghost output = { λ metric. Some (metric_component CDP metric) };
 
     fn fmt<W: fmt::Write>(&self, f: &mut fmt::Formatter<W>) -> fmt::Result {
-        write_component(Self::TYPE.name(), self.as_str(), f)
+        write_component(self.slashed(), f)
     }
 }
 
@@ -101,15 +93,7 @@ impl Metric for TargetDistribution {
 
     ghost covers = { λ x. (x, refl) };
 
-    fn as_str(self) -> &'static str {
-        match self {
-            TargetDistribution::None => "N",
-            TargetDistribution::Low => "L",
-            TargetDistribution::Medium => "M",
-            TargetDistribution::High => "H",
-            TargetDistribution::NotDefined => "ND",
-        }
-    }
+    ghost ordered = { Prim.search rules };
 
     fn slashed(self) -> &'static str {
         match self {
@@ -147,6 +131,6 @@ impl fmt::Display for TargetDistribution {
     ghost output = { λ metric. Some (metric_component TD metric) };
 
     fn fmt<W: fmt::Write>(&self, f: &mut fmt::Formatter<W>) -> fmt::Result {
-        write_component(Self::TYPE.name(), self.as_str(), f)
+        write_component(self.slashed(), f)
     }
 }

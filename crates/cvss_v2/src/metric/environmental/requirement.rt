@@ -1,6 +1,7 @@
 //! What matters to the user (guide, section 2.3.3).
 
 ghost use Rattle.std.specs.Prelude.{Some, refl};
+ghost use Rattle.std.proofs.Common.{rules};
 ghost use Rattle.cvss_base.specs.declared.v2.MetricType.TheVariants.{CR, IR, AR};
 ghost use Rattle.cvss_v2.specs.Table.{metric_component};
 
@@ -26,14 +27,7 @@ impl Metric for ConfidentialityRequirement {
 
     ghost covers = { λ x. (x, refl) };
 
-    fn as_str(self) -> &'static str {
-        match self {
-            ConfidentialityRequirement::Low => "L",
-            ConfidentialityRequirement::Medium => "M",
-            ConfidentialityRequirement::High => "H",
-            ConfidentialityRequirement::NotDefined => "ND",
-        }
-    }
+    ghost ordered = { Prim.search rules };
 
     fn slashed(self) -> &'static str {
         match self {
@@ -68,7 +62,7 @@ impl fmt::Display for ConfidentialityRequirement {
     ghost output = { λ metric. Some (metric_component CR metric) };
 
     fn fmt<W: fmt::Write>(&self, f: &mut fmt::Formatter<W>) -> fmt::Result {
-        write_component(Self::TYPE.name(), self.as_str(), f)
+        write_component(self.slashed(), f)
     }
 }
 
@@ -90,14 +84,7 @@ impl Metric for IntegrityRequirement {
 
     ghost covers = { λ x. (x, refl) };
 
-    fn as_str(self) -> &'static str {
-        match self {
-            IntegrityRequirement::Low => "L",
-            IntegrityRequirement::Medium => "M",
-            IntegrityRequirement::High => "H",
-            IntegrityRequirement::NotDefined => "ND",
-        }
-    }
+    ghost ordered = { Prim.search rules };
 
     fn slashed(self) -> &'static str {
         match self {
@@ -132,7 +119,7 @@ impl fmt::Display for IntegrityRequirement {
     ghost output = { λ metric. Some (metric_component IR metric) };
 
     fn fmt<W: fmt::Write>(&self, f: &mut fmt::Formatter<W>) -> fmt::Result {
-        write_component(Self::TYPE.name(), self.as_str(), f)
+        write_component(self.slashed(), f)
     }
 }
 
@@ -154,14 +141,7 @@ impl Metric for AvailabilityRequirement {
 
     ghost covers = { λ x. (x, refl) };
 
-    fn as_str(self) -> &'static str {
-        match self {
-            AvailabilityRequirement::Low => "L",
-            AvailabilityRequirement::Medium => "M",
-            AvailabilityRequirement::High => "H",
-            AvailabilityRequirement::NotDefined => "ND",
-        }
-    }
+    ghost ordered = { Prim.search rules };
 
     fn slashed(self) -> &'static str {
         match self {
@@ -196,6 +176,6 @@ impl fmt::Display for AvailabilityRequirement {
     ghost output = { λ metric. Some (metric_component AR metric) };
 
     fn fmt<W: fmt::Write>(&self, f: &mut fmt::Formatter<W>) -> fmt::Result {
-        write_component(Self::TYPE.name(), self.as_str(), f)
+        write_component(self.slashed(), f)
     }
 }

@@ -1,0 +1,178 @@
+-- Texts behind a version piece: what a reader of them has read, and why it refuses.
+use Rattle.std.proofs.Common.{◌≡◌, ℕ, ◌+◌, ◌<◌, zero, suc, List, [], ◌∷◌, ◌++◌, length, get_or, map, codes, Result, Ok, Err, IfErr, refl, subst, sym, ap, ◌∙◌, add-one, arith}
+use Rattle.std.specs.List.{All, Contains}
+use Rattle.std.specs.Result.{IsErrAnd}
+use Rattle.std.proofs.lemmas.List.{get_or-map}
+use Rattle.std.specs.Str.{IsUtf8}
+use Rattle.std.proofs.lemmas.List.Elements.{All-cons, All-head, All-tail, All-from_get_or}
+use Rattle.std.proofs.lemmas.List.Splits.{join_with_byte-slice_split}
+use Rattle.cvss_base.specs.declared.walk.Fault.{Fault}
+use Rattle.cvss_base.specs.Text.{slash, pieces, joined, name_part, value_part, IsComponent}
+use Rattle.cvss_base.specs.Version.{Version, version_piece, Denotes, IsComplete, IsWellFormed, AreComponentsOf}
+use Rattle.cvss_base.specs.Refusal.{Refusal, BadComponent, WrongPrefix, WrongVersion, UnknownName, BadValue, Repeated, Missing, AreComponentsBefore, piece_at, IsFirstReason, IsReasonBehind, IsFirstRefusalBehind, TellsVersion}
+use Rattle.cvss_base.specs.Walk.{IsLawful, IsLawfulFront, IsReadBehind, IsFrontFault, HasRead, StartsWith, dividers, reason_of}
+use Rattle.cvss_base.proofs.AnswerLemmas as answer
+use Rattle.cvss_base.proofs.DenotesLemmas.{vectors_same, no_reason}
+use Rattle.cvss_base.proofs.JoinLemmas.{IsUncut, pieces-joined, piece_is_component, piece_is_uncut}
+use Rattle.cvss_base.proofs.RefusalLemmas.{IsSortFirst, bad_piece, later, sort_first, reasons_behind_same, refusals_same}
+use Rattle.cvss_base.proofs.TextLemmas.{IsComponent-component, slashes-component, name_part-component, value_part-component}
+use Rattle.cvss_base.proofs.Utf8Lemmas.{IsUtf8-pieces}
+use Rattle.cvss_base.proofs.WalkLemmas.{AreComponentsOf-all}
+
+-- the answer is the vector that was read, or else the first refusal
+abbrev pub IsAnswer : {V K : Type 0} → Version V K → List ℕ → Result V (Fault K) → Type 0
+IsAnswer version text = answer.IsAnswer version (IsReadBehind version text) (IsFirstRefusalBehind version text)
+
+-- a text is a version piece and the components of a vector of that version
+record IsText {V K : Type 0} (version : Version V K) (text : List ℕ) (v : V) : Type 0 where
+  told : List ℕ
+  parts : List (List ℕ)
+  cut : pieces text ≡ version_piece told ∷ parts
+  front_is : version.front v ≡ version_piece told ∷ []
+  supported : Contains version.supported told
+  components : AreComponentsOf version parts v
+  complete : IsComplete version v
+
+module _ {V K : Type 0} (version : Version V K) (front : IsLawfulFront version) where
+  told_plain : (told : List ℕ) → Contains version.supported told → dividers told ≡ 0
+  told_plain told (place, within, is) =
+      sym (ap dividers is)
+      ∙ (sym (get_or-map dividers version.supported place told 0 within)
+      ∙ (ap (λ list. get_or list place 0) front.plain
+      ∙ get_or-map (λ _. 0) version.supported place told 0 within))
+
+  module _ (told : List ℕ) (supported : Contains version.supported told) where
+    pub front_is_component : IsComponent (version_piece told)
+    front_is_component = IsComponent-component (codes "CVSS") told refl (told_plain told supported)
+
+    front_is_uncut : IsUncut (version_piece told)
+    front_is_uncut = record { no_slash = slashes-component (codes "CVSS") told refl (told_plain told supported) }
+
+    front_tells : TellsVersion version (version_piece told)
+    front_tells = record {
+      prefix = name_part-component (codes "CVSS") told refl;
+      supported = subst (Contains version.supported) (sym (value_part-component (codes "CVSS") told refl)) supported;
+    }
+
+module _ {V K : Type 0} (version : Version V K) (lawful : IsLawful version) (front : IsLawfulFront version) (text : List ℕ) where
+  text_read : (v : V) → IsReadBehind version text v → IsText version text v
+  text_read v is = record {
+    told = is.told;
+    parts = is.parts;
+    cut = is.cut;
+    front_is = is.front_is;
+    supported = is.supported;
+    components = AreComponentsOf-all version lawful is.parts v is.all;
+    complete = is.complete;
+  }
+
+  text_denoted : (v : V) → Denotes version text v → IsWellFormed version v → IsText version text v
+  text_denoted v denotes formed =
+      let told = formed.supported.told in
+      let uncut = All-cons IsUncut (version_piece told) denotes.parts
+      (front_is_uncut version front told formed.supported.supported)
+      (All-from_get_or IsUncut denotes.parts [] (piece_is_uncut version lawful v denotes.parts denotes.components)) in
+      let text_is : text ≡ joined (version_piece told ∷ denotes.parts) =
+      denotes.text_is ∙ ap (λ pieces. joined (pieces ++ denotes.parts)) formed.supported.front_is in
+      record {
+        told = told;
+        parts = denotes.parts;
+        cut = ap pieces text_is ∙ pieces-joined (version_piece told) denotes.parts uncut;
+        front_is = formed.supported.front_is;
+        supported = formed.supported.supported;
+        components = denotes.components;
+        complete = formed.complete;
+      }
+
+  -- one text has one vector
+  texts_same : (v w : V) → IsText version text v → IsText version text w → v ≡ w
+  texts_same v w of_v of_w =
+      let both : version_piece of_v.told ∷ of_v.parts ≡ version_piece of_w.told ∷ of_w.parts = sym of_v.cut ∙ of_w.cut in
+      let parts : of_v.parts ≡ of_w.parts = cc in
+      let fronts : version.front v ≡ version.front w = of_v.front_is ∙ (let first : version_piece of_v.told ≡ version_piece of_w.told = cc in ap (λ piece. piece ∷ []) first) ∙ sym of_w.front_is in
+      vectors_same version lawful v w of_w.parts fronts (subst (λ list. AreComponentsOf version list v) parts of_v.components) of_w.components
+
+  is_component_at : (v : V) (is : IsText version text v) (place : ℕ) → place < length (version_piece is.told ∷ is.parts) → IsComponent (get_or (version_piece is.told ∷ is.parts) place [])
+  is_component_at v is zero within = front_is_component version front is.told is.supported
+  is_component_at v is (suc place) within = piece_is_component version lawful v is.parts is.components place (omega arith)
+
+  -- and no reason to be refused
+  no_reason_behind : (v : V) (is : IsText version text v) → (reason : Refusal K) → IsReasonBehind version (version_piece is.told ∷ is.parts) reason → ⊥
+  no_reason_behind v is (WrongPrefix prefix) wrong = wrong.wrong (wrong.is ∙ (front_tells version front is.told is.supported).prefix)
+  no_reason_behind v is (WrongVersion told) wrong = wrong.wrong (subst (Contains version.supported) (sym wrong.is) (front_tells version front is.told is.supported).supported)
+  no_reason_behind v is (BadComponent piece) (_, first) = no_reason version lawful v is.parts is.components is.complete (BadComponent piece) first
+  no_reason_behind v is (UnknownName name) (_, first) = no_reason version lawful v is.parts is.components is.complete (UnknownName name) first
+  no_reason_behind v is (BadValue kind value) (_, first) = no_reason version lawful v is.parts is.components is.complete (BadValue kind value) first
+  no_reason_behind v is (Repeated kind) (_, first) = no_reason version lawful v is.parts is.components is.complete (Repeated kind) first
+  no_reason_behind v is (Missing kind) (_, first) = no_reason version lawful v is.parts is.components is.complete (Missing kind) first
+
+  no_refusal : (v : V) → IsText version text v → (reason : Refusal K) → IsSortFirst (IsReasonBehind version (pieces text)) text reason → ⊥
+  no_refusal v is _ (bad_piece bad) =
+      bad.bad (rw bad.is (rw is.cut (is_component_at v is bad.place (rw is.cut at bad.within))))
+  no_refusal v is reason (later _ reasoned) =
+      no_reason_behind v is reason (subst (λ parts. IsReasonBehind version parts reason) is.cut reasoned)
+
+  pub denoted : (v : V) → IsReadBehind version text v → Denotes version text v
+  denoted v is = record {
+    parts = is.parts;
+    text_is = sym (join_with_byte-slice_split slash text) ∙ (ap joined is.cut ∙ ap (λ pieces. joined (pieces ++ is.parts)) (sym is.front_is));
+    components = AreComponentsOf-all version lawful is.parts v is.all;
+  }
+
+  pub accepts : (result : Result V (Fault K)) → IsAnswer version text result → (v : V) → Denotes version text v → IsWellFormed version v → result ≡ Ok v
+  accepts result is v denotes formed =
+      let meant = text_denoted v denotes formed in
+      answer.accepts-from version (IsReadBehind version text) (IsFirstRefusalBehind version text) result is v
+      (λ w read. texts_same w v (text_read w read) meant)
+      (λ reason first. no_refusal v meant reason (sort_first _ text reason first))
+
+  pub refuses : (result : Result V (Fault K)) → IsAnswer version text result → (reason : Refusal K) → IsFirstRefusalBehind version text reason → IsErrAnd result (λ fault. reason_of version fault ≡ reason)
+  refuses result is =
+      answer.refuses-from version (IsReadBehind version text) (IsFirstRefusalBehind version text) result is
+      (λ w read reason first. no_refusal w (text_read w read) reason (sort_first _ text reason first))
+      (refusals_same (IsReasonBehind version (pieces text)) text (reasons_behind_same version lawful (pieces text)))
+
+module _ (text piece : List ℕ) (parts : List (List ℕ)) (cut : pieces text ≡ piece ∷ parts) where
+  pub IsUtf8-front : IsUtf8 text → IsUtf8 piece
+  IsUtf8-front is = All-head IsUtf8 piece parts (subst (All IsUtf8) cut (IsUtf8-pieces text is))
+
+  pub IsUtf8-behind : IsUtf8 text → All IsUtf8 parts
+  IsUtf8-behind is = All-tail IsUtf8 piece parts (subst (All IsUtf8) cut (IsUtf8-pieces text is))
+
+module _ {V K : Type 0} (version : Version V K) (text piece : List ℕ) (parts : List (List ℕ)) (cut : pieces text ≡ piece ∷ parts) (components : AreComponentsBefore (pieces text) (length (pieces text))) where
+  first_is_component : IsComponent piece
+  first_is_component = subst (λ list. IsComponent (piece_at list 0)) cut (components.each 0 (omega (arith, ap length cut)))
+
+  -- a fault of the first piece is a first refusal
+  pub front_fault_first : (reason : Refusal K) → (IsComponent piece → IsFrontFault version piece reason) → IsFirstRefusalBehind version text reason
+  front_fault_first (BadComponent bad) fault = absurd (fault first_is_component)
+  front_fault_first (UnknownName name) fault = absurd (fault first_is_component)
+  front_fault_first (BadValue kind value) fault = absurd (fault first_is_component)
+  front_fault_first (Repeated kind) fault = absurd (fault first_is_component)
+  front_fault_first (Missing kind) fault = absurd (fault first_is_component)
+  front_fault_first (WrongPrefix prefix) fault = (components, rw cut (fault first_is_component))
+  front_fault_first (WrongVersion told) fault = (components, rw cut (fault first_is_component))
+
+  components_behind : AreComponentsBefore parts (length parts)
+  components_behind = record { each = λ place before. rw add-one at (subst (λ list. IsComponent (piece_at list (place + 1))) cut (components.each (place + 1) (omega (arith, ap length cut)))) }
+
+  -- and a first reason of the components behind a version piece
+  reason_behind_first : (reason : Refusal K) → TellsVersion version piece → (AreComponentsBefore parts (length parts) → IsFirstReason version parts reason) → IsFirstRefusalBehind version text reason
+  reason_behind_first (BadComponent bad) tells first = absurd ((first components_behind).fault)
+  reason_behind_first (WrongPrefix prefix) tells first = absurd ((first components_behind).fault)
+  reason_behind_first (WrongVersion told) tells first = absurd ((first components_behind).fault)
+  reason_behind_first (UnknownName name) tells first = (components, rw cut (tells, first components_behind))
+  reason_behind_first (BadValue kind value) tells first = (components, rw cut (tells, first components_behind))
+  reason_behind_first (Repeated kind) tells first = (components, rw cut (tells, first components_behind))
+  reason_behind_first (Missing kind) tells first = (components, rw cut (tells, first components_behind))
+
+-- a piece that starts a vector tells its version
+pub TellsVersion-started : {V K : Type 0} (version : Version V K) (piece : List ℕ) (v : V) → StartsWith version piece v → TellsVersion version piece
+TellsVersion-started version piece v is = record {
+  prefix = ap name_part is.is ∙ name_part-component (codes "CVSS") (value_part piece) refl;
+  supported = is.starts.supported;
+}
+
+pub refused_behind : {V K : Type 0} (version : Version V K) (text piece : List ℕ) (parts : List (List ℕ)) → pieces text ≡ piece ∷ parts → TellsVersion version piece → (result : Result V (Fault K)) → IfErr result (λ fault. AreComponentsBefore parts (length parts) → IsFirstReason version parts (reason_of version fault)) → IfErr result (λ fault. AreComponentsBefore (pieces text) (length (pieces text)) → IsFirstRefusalBehind version text (reason_of version fault))
+refused_behind version text piece parts cut tells (Ok v) first = tt
+refused_behind version text piece parts cut tells (Err fault) first = λ components. reason_behind_first version text piece parts cut components (reason_of version fault) tells first

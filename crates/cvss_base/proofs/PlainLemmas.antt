@@ -1,0 +1,63 @@
+-- Texts of components alone: what a reader of them has read, and why it refuses.
+use Rattle.std.proofs.Common.{◌≡◌, ℕ, List, [], length, Result, subst, sym, ◌∙◌}
+use Rattle.std.specs.Result.{IsErrAnd}
+use Rattle.std.proofs.Common.{Ok}
+use Rattle.cvss_base.specs.declared.walk.Fault.{Fault}
+use Rattle.cvss_base.specs.Text.{pieces}
+use Rattle.cvss_base.specs.Version.{Version, Denotes, IsComplete, AreComponentsOf}
+use Rattle.cvss_base.specs.Refusal.{Refusal, BadComponent, WrongPrefix, WrongVersion, UnknownName, BadValue, Repeated, Missing, AreComponentsBefore, IsFirstReason, IsFirstRefusal}
+use Rattle.cvss_base.specs.Walk.{IsLawful, HasRead, reason_of}
+use Rattle.cvss_base.proofs.AnswerLemmas as answer
+use Rattle.cvss_base.proofs.DenotesLemmas.{vectors_same, pieces_denoted, no_reason}
+use Rattle.cvss_base.proofs.JoinLemmas.{piece_is_component}
+use Rattle.cvss_base.proofs.RefusalLemmas.{IsSortFirst, bad_piece, later, sort_first, reasons_same, refusals_same}
+use Rattle.cvss_base.proofs.WalkLemmas.{AreComponentsOf-all, Denotes-from}
+
+-- a complete vector without a front, which holds the components of a text
+pub record IsReadFrom {V K : Type 0} (version : Version V K) (text : List ℕ) (v : V) : Type 0 where
+  pub frontless : version.front v ≡ []
+  pub all : HasRead version (pieces text) (length (pieces text)) v
+  pub complete : IsComplete version v
+
+-- the answer is the vector that was read, or else the first refusal
+abbrev pub IsAnswer : {V K : Type 0} → Version V K → List ℕ → Result V (Fault K) → Type 0
+IsAnswer version text = answer.IsAnswer version (IsReadFrom version text) (IsFirstRefusal version text)
+
+module _ {V K : Type 0} (version : Version V K) (lawful : IsLawful version) (text : List ℕ) where
+  refusal_from : AreComponentsBefore (pieces text) (length (pieces text)) → (reason : Refusal K) → IsFirstReason version (pieces text) reason → IsFirstRefusal version text reason
+  refusal_from components (BadComponent piece) is = absurd is.fault
+  refusal_from components (WrongPrefix prefix) is = (components, is)
+  refusal_from components (WrongVersion told) is = (components, is)
+  refusal_from components (UnknownName name) is = (components, is)
+  refusal_from components (BadValue kind value) is = (components, is)
+  refusal_from components (Repeated kind) is = (components, is)
+  refusal_from components (Missing kind) is = (components, is)
+
+  -- whatever pieces were read, they are those of the text
+  module _ (parts : List (List ℕ)) (are : parts ≡ pieces text) where
+    pub IsReadFrom-parts : (v : V) → version.front v ≡ [] → HasRead version parts (length parts) v → IsComplete version v → IsReadFrom version text v
+    IsReadFrom-parts v frontless all complete = record { frontless = frontless; all = subst (λ list. HasRead version list (length list) v) are all; complete = complete }
+
+    pub IsFirstRefusal-parts : (reason : Refusal K) → AreComponentsBefore (pieces text) (length (pieces text)) → (AreComponentsBefore parts (length parts) → IsFirstReason version parts reason) → IsFirstRefusal version text reason
+    IsFirstRefusal-parts reason components first = refusal_from components reason (subst (λ list. AreComponentsBefore list (length list) → IsFirstReason version list reason) are first components)
+
+  -- where the pieces of a text are the components of a complete vector, the text has no refusal
+  no_refusal : (v : V) → AreComponentsOf version (pieces text) v → IsComplete version v → (reason : Refusal K) → IsSortFirst (IsFirstReason version (pieces text)) text reason → ⊥
+  no_refusal v components complete _ (bad_piece bad) = bad.bad (rw bad.is (piece_is_component version lawful v (pieces text) components bad.place bad.within))
+  no_refusal v components complete reason (later _ is) = no_reason version lawful v (pieces text) components complete reason is
+
+  pub denoted : (v : V) → IsReadFrom version text v → Denotes version text v
+  denoted v is = Denotes-from version lawful text v is.frontless is.all
+
+  pub accepts : (result : Result V (Fault K)) → IsAnswer version text result → (v : V) → version.front v ≡ [] → Denotes version text v → IsComplete version v → result ≡ Ok v
+  accepts result is v frontless denotes complete =
+      let components = pieces_denoted version lawful v text frontless denotes complete in
+      answer.accepts-from version (IsReadFrom version text) (IsFirstRefusal version text) result is v
+      (λ w read. vectors_same version lawful w v (pieces text) (read.frontless ∙ sym frontless) (AreComponentsOf-all version lawful (pieces text) w read.all) components)
+      (λ reason first. no_refusal v components complete reason (sort_first _ text reason first))
+
+  pub refuses : (result : Result V (Fault K)) → IsAnswer version text result → (reason : Refusal K) → IsFirstRefusal version text reason → IsErrAnd result (λ fault. reason_of version fault ≡ reason)
+  refuses result is =
+      answer.refuses-from version (IsReadFrom version text) (IsFirstRefusal version text) result is
+      (λ w read reason first. no_refusal w (AreComponentsOf-all version lawful (pieces text) w read.all) read.complete reason (sort_first _ text reason first))
+      (refusals_same (IsFirstReason version (pieces text)) text (reasons_same version lawful (pieces text)))

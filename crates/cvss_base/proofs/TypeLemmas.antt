@@ -1,0 +1,29 @@
+-- Each metric type is the first of its name among those that are declared.
+use Rattle.std.specs.Prelude.{◌≡◌, ℕ, List, Some, find, bytes_eq, refl}
+use Rattle.std.proofs.Common.{subst}
+use Rattle.std.proofs.lemmas.Slice.Eq.{bytes_eq-Decides}
+use Rattle.cvss_base.specs.declared.v2.MetricType as v2
+use Rattle.cvss_base.specs.declared.v2.MetricType.TheVariants as v2_type
+use Rattle.cvss_base.specs.declared.v3.MetricType as v3
+use Rattle.cvss_base.specs.declared.v3.MetricType.TheVariants as v3_type
+use Rattle.cvss_base.proofs.FindLemmas.{found_passes}
+use Rattle.cvss_base.specs.V2Types as v2_types
+use Rattle.cvss_base.specs.V3Types as v3_types
+
+own_v2 : (kind : v2.MetricType) → find (λ other. bytes_eq (v2_types.name_of other) (v2_types.name_of kind)) v2_types.declared ≡ Some kind
+own_v2 = elim [ v2_type.A ↦ refl | v2_type.AC ↦ refl | v2_type.AV ↦ refl | v2_type.Au ↦ refl | v2_type.C ↦ refl | v2_type.I ↦ refl | v2_type.E ↦ refl | v2_type.RL ↦ refl | v2_type.RC ↦ refl | v2_type.CDP ↦ refl | v2_type.TD ↦ refl | v2_type.CR ↦ refl | v2_type.IR ↦ refl | v2_type.AR ↦ refl ]
+
+pub named_v2 : (kind : v2.MetricType) (text : List ℕ) → v2_types.name_of kind ≡ text → find (λ other. bytes_eq (v2_types.name_of other) text) v2_types.declared ≡ Some kind
+named_v2 kind text same = subst (λ name. find (λ other. bytes_eq (v2_types.name_of other) name) v2_types.declared ≡ Some kind) same (own_v2 kind)
+
+own_v3 : (kind : v3.MetricType) → find (λ other. bytes_eq (v3_types.name_of other) (v3_types.name_of kind)) v3_types.declared ≡ Some kind
+own_v3 = elim [ v3_type.A ↦ refl | v3_type.AC ↦ refl | v3_type.AV ↦ refl | v3_type.C ↦ refl | v3_type.I ↦ refl | v3_type.PR ↦ refl | v3_type.S ↦ refl | v3_type.UI ↦ refl | v3_type.E ↦ refl | v3_type.RL ↦ refl | v3_type.RC ↦ refl | v3_type.CR ↦ refl | v3_type.IR ↦ refl | v3_type.AR ↦ refl | v3_type.MAV ↦ refl | v3_type.MAC ↦ refl | v3_type.MPR ↦ refl | v3_type.MUI ↦ refl | v3_type.MS ↦ refl | v3_type.MC ↦ refl | v3_type.MI ↦ refl | v3_type.MA ↦ refl ]
+
+pub named_v3 : (kind : v3.MetricType) (text : List ℕ) → v3_types.name_of kind ≡ text → find (λ other. bytes_eq (v3_types.name_of other) text) v3_types.declared ≡ Some kind
+named_v3 kind text same = subst (λ name. find (λ other. bytes_eq (v3_types.name_of other) name) v3_types.declared ≡ Some kind) same (own_v3 kind)
+
+pub known_v2 : (kind : v2.MetricType) (text : List ℕ) → find (λ other. bytes_eq (v2_types.name_of other) text) v2_types.declared ≡ Some kind → v2_types.name_of kind ≡ text
+known_v2 kind text found = (bytes_eq-Decides _ _).0 (found_passes (λ other. bytes_eq (v2_types.name_of other) text) v2_types.declared kind found)
+
+pub known_v3 : (kind : v3.MetricType) (text : List ℕ) → find (λ other. bytes_eq (v3_types.name_of other) text) v3_types.declared ≡ Some kind → v3_types.name_of kind ≡ text
+known_v3 kind text found = (bytes_eq-Decides _ _).0 (found_passes (λ other. bytes_eq (v3_types.name_of other) text) v3_types.declared kind found)

@@ -1,0 +1,78 @@
+//! Texts that begin with a piece that tells their version, once for all versions that have one.
+
+ghost use Rattle.std.specs.Prelude.{◌≡◌, IfSome, IfNone, IfOk, IfErr, IsErrAnd, Contains, Ok, length};
+ghost use Rattle.std.specs.Str.{IsUtf8};
+ghost use Rattle.cvss_base.specs.Refusal.{Refusal, AreComponentsBefore, IsFirstRefusalBehind};
+ghost use Rattle.cvss_base.specs.Text.{pieces, IsComponent};
+ghost use Rattle.cvss_base.specs.Version.{Denotes, IsWellFormed};
+ghost use Rattle.cvss_base.specs.Walk.{Starts, StartsWith, IsReadBehind, IsFrontFault, IsTellable, IsLawfulFront, reason_of};
+
+use crate::PREFIX;
+use crate::pieces::{first_bad_piece, front_of, parts_of};
+use crate::walk::{Components, Fault, read_complete};
+
+/// A vector of some version, whose text begins with the piece that tells the version.
+pub trait Fronted: Components {
+    /// A vector without values, of the version that is told exactly so, if that is supported.
+    fn start(told: &[u8]) -> Option<Self>
+        ensures started { IfSome result (Starts Self.version told.now) }
+        ensures unsupported { IfNone result (¬ (Contains Self.version.supported told.now)) };
+
+    ghost plain: { IsLawfulFront Self.version };
+}
+
+/// Reads a text that begins with a version piece, or finds the first reason why it is refused.
+pub fn read_behind<'a, V: Fronted>(text: &'a [u8]) -> Result<V, Fault<'a, V::Kind>>
+    // Accepted: what is given is what the text denotes, and each such vector is given.
+    ensures denoted { IfOk result (λ v. Denotes V.version text.now v) }
+    ensures well_formed { IfOk result (λ v. IsWellFormed V.version v) }
+    ensures accepts { (v : V) → Denotes V.version text.now v → IsWellFormed V.version v
+        → result ≡ Ok v }
+    // Refused: for the first reason, and wherever there is one.
+    ensures refused { IfErr result
+        (λ fault. IsFirstRefusalBehind V.version text.now (reason_of V.version fault)) }
+    ensures refuses { (reason : Refusal V.Kind) → IsFirstRefusalBehind V.version text.now reason
+        → IsErrAnd result (λ fault. reason_of V.version fault ≡ reason) }
+    // A refusal can be told.
+    ensures tellable { IsUtf8 text.now → IfErr result (IsTellable V.version) }
+{
+    match read_pieces(text) {
+        Ok(vector) => Ok(vector),
+        Err(fault) => match first_bad_piece(text) {
+            Some(piece) => Err(Fault::InvalidComponent(piece)),
+            None => Err(fault),
+        },
+    }
+}
+
+/// Reads the version piece and the components behind it. The fault is the first only where each
+/// piece is a component.
+fn read_pieces<'a, V: Fronted>(text: &'a [u8]) -> Result<V, Fault<'a, V::Kind>>
+    ensures read { IfOk result (IsReadBehind V.version text.now) }
+    ensures refused { IfErr result (λ fault.
+        AreComponentsBefore (pieces text.now) (length (pieces text.now))
+        → IsFirstRefusalBehind V.version text.now (reason_of V.version fault)) }
+    ensures tellable { IsUtf8 text.now → IfErr result (IsTellable V.version) }
+{
+    let (front, left) = front_of(text);
+    read_complete(left, start(front)?)
+}
+
+/// The vector without values that a version piece starts.
+fn start<'a, V: Fronted>(front: &'a [u8]) -> Result<V, Fault<'a, V::Kind>>
+    ensures started { IfOk result (StartsWith V.version front.now) }
+    ensures refused { IfErr result (λ fault.
+        IsComponent front.now → IsFrontFault V.version front.now (reason_of V.version fault)) }
+    ensures tellable { IsUtf8 front.now → IfErr result (IsTellable V.version) }
+{
+    let Some((name, told)) = parts_of(front) else {
+        return Err(Fault::InvalidComponent(front));
+    };
+    if name != PREFIX.as_bytes() {
+        return Err(Fault::InvalidPrefix(name));
+    }
+    match V::start(told) {
+        Some(empty) => Ok(empty),
+        None => Err(Fault::UnsupportedVersion(told)),
+    }
+}

@@ -1,0 +1,154 @@
+//! The metric types of CVSS v3.0 and v3.1 (v3.1 specification, sections 2 to 4).
+
+ghost use Rattle.std.specs.Prelude.{◌≡◌, IfOk, IfErr, Some, find, bytes_eq};
+ghost use Rattle.cvss_base.specs.Told.{TellsUnknown};
+ghost use Rattle.cvss_base.specs.V3Types.{name_of, description_of};
+
+use crate::error::Error;
+use std::alloc::Global;
+use std::fmt;
+
+/// One of the twenty-two metrics of CVSS v3.0 and v3.1.
+#[derive(Clone, Copy, Debug, PartialEq, Eq, PartialOrd, Ord)]
+pub enum MetricType {
+    A,
+    AC,
+    AV,
+    C,
+    I,
+    PR,
+    S,
+    UI,
+    E,
+    RL,
+    RC,
+    CR,
+    IR,
+    AR,
+    MAV,
+    MAC,
+    MPR,
+    MUI,
+    MS,
+    MC,
+    MI,
+    MA,
+}
+
+impl MetricType {
+    const ALL: [MetricType; 22] = [
+        MetricType::A,
+        MetricType::AC,
+        MetricType::AV,
+        MetricType::C,
+        MetricType::I,
+        MetricType::PR,
+        MetricType::S,
+        MetricType::UI,
+        MetricType::E,
+        MetricType::RL,
+        MetricType::RC,
+        MetricType::CR,
+        MetricType::IR,
+        MetricType::AR,
+        MetricType::MAV,
+        MetricType::MAC,
+        MetricType::MPR,
+        MetricType::MUI,
+        MetricType::MS,
+        MetricType::MC,
+        MetricType::MI,
+        MetricType::MA,
+    ];
+
+    /// The abbreviation that stands for the metric in a vector (v3.1 specification, section 6).
+    pub fn name(self) -> &'static str
+        ensures { result.now ≡ name_of self }
+    {
+        match self {
+            MetricType::A => "A",
+            MetricType::AC => "AC",
+            MetricType::AV => "AV",
+            MetricType::C => "C",
+            MetricType::I => "I",
+            MetricType::PR => "PR",
+            MetricType::S => "S",
+            MetricType::UI => "UI",
+            MetricType::E => "E",
+            MetricType::RL => "RL",
+            MetricType::RC => "RC",
+            MetricType::CR => "CR",
+            MetricType::IR => "IR",
+            MetricType::AR => "AR",
+            MetricType::MAV => "MAV",
+            MetricType::MAC => "MAC",
+            MetricType::MPR => "MPR",
+            MetricType::MUI => "MUI",
+            MetricType::MS => "MS",
+            MetricType::MC => "MC",
+            MetricType::MI => "MI",
+            MetricType::MA => "MA",
+        }
+    }
+
+    /// The metric's name in words.
+    pub fn description(self) -> &'static str
+        ensures { result.now ≡ description_of self }
+    {
+        match self {
+            MetricType::A => "Availability Impact",
+            MetricType::AC => "Attack Complexity",
+            MetricType::AV => "Attack Vector",
+            MetricType::C => "Confidentiality Impact",
+            MetricType::I => "Integrity Impact",
+            MetricType::PR => "Privileges Required",
+            MetricType::S => "Scope",
+            MetricType::UI => "User Interaction",
+            MetricType::E => "Exploit Code Maturity",
+            MetricType::RL => "Remediation Level",
+            MetricType::RC => "Report Confidence",
+            MetricType::CR => "Confidentiality Requirements",
+            MetricType::IR => "Integrity Requirements",
+            MetricType::AR => "Availability Requirements",
+            MetricType::MAV => "Modified Attack Vector",
+            MetricType::MAC => "Modified Attack Complexity",
+            MetricType::MPR => "Modified Privileges Required",
+            MetricType::MUI => "Modified User Interaction",
+            MetricType::MS => "Modified Scope",
+            MetricType::MC => "Modified Confidentiality",
+            MetricType::MI => "Modified Integrity",
+            MetricType::MA => "Modified Availability",
+        }
+    }
+
+    fn named(name: &str, all: &[MetricType]) -> Option<MetricType>
+        ensures { result ≡ find (λ kind. bytes_eq (name_of kind) name.now) all.now }
+    {
+        all.iter().copied().find(|kind| kind.name() == name)
+    }
+
+    /// The metric type with this abbreviation, exactly as it is written.
+    ///
+    /// # Errors
+    ///
+    /// `UnknownMetric` with the text where no metric has this name.
+    #[tactic(auto, using(crate::proofs::TypeLemmas::named_v3, crate::proofs::TypeLemmas::known_v3))]
+    pub fn from_str(alloc: Global, text: &str) -> Result<MetricType, Error>
+        ensures named { IfOk result (λ kind. name_of kind ≡ text.now) }
+        ensures read { (kind : MetricType) → name_of kind ≡ text.now → result ≡ Ok kind }
+        ensures refused { IfErr result (TellsUnknown text.now) }
+    {
+        match MetricType::named(text, &MetricType::ALL) {
+            Some(kind) => Ok(kind),
+            None => Err(Error::unknown_metric(alloc, text)),
+        }
+    }
+}
+
+impl fmt::Display for MetricType {
+    ghost output = { λ kind. Some (name_of kind) };
+
+    fn fmt<W: fmt::Write>(&self, f: &mut fmt::Formatter<W>) -> fmt::Result {
+        f.write_str(self.name())
+    }
+}
