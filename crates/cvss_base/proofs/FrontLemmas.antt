@@ -4,18 +4,19 @@ use Rattle.std.specs.List.{All, Contains}
 use Rattle.std.specs.Result.{IsErrAnd}
 use Rattle.std.proofs.lemmas.List.{get_or-map}
 use Rattle.std.specs.Str.{IsUtf8}
-use Rattle.std.proofs.lemmas.List.Elements.{All-cons, All-head, All-tail, All-from_get_or}
+use Rattle.std.proofs.lemmas.List.Elements.{All-nil, All-cons, All-head, All-tail, All-from_get_or}
 use Rattle.std.proofs.lemmas.List.Splits.{join_with_byte-slice_split}
+use Rattle.std.proofs.lemmas.Str.{IsUtf8-from_ascii}
 use Rattle.cvss_base.specs.declared.walk.Fault.{Fault}
 use Rattle.cvss_base.specs.Text.{slash, pieces, joined, name_part, value_part, IsComponent}
 use Rattle.cvss_base.specs.Version.{Version, version_piece, Denotes, IsComplete, IsWellFormed, AreComponentsOf}
 use Rattle.cvss_base.specs.Refusal.{Refusal, BadComponent, WrongPrefix, WrongVersion, UnknownName, BadValue, Repeated, Missing, AreComponentsBefore, piece_at, IsFirstReason, IsReasonBehind, IsFirstRefusalBehind, TellsVersion}
-use Rattle.cvss_base.specs.Walk.{IsLawful, IsLawfulFront, IsReadBehind, IsFrontFault, HasRead, StartsWith, dividers, reason_of}
+use Rattle.cvss_base.specs.Walk.{IsLawful, IsLawfulFront, IsReadBehind, IsFrontFault, HasRead, StartsWith, foreign_bytes, reason_of}
 use Rattle.cvss_base.proofs.AnswerLemmas as answer
 use Rattle.cvss_base.proofs.DenotesLemmas.{vectors_same, no_reason}
-use Rattle.cvss_base.proofs.JoinLemmas.{IsUncut, pieces-joined, piece_is_component, piece_is_uncut}
+use Rattle.cvss_base.proofs.JoinLemmas.{IsUncut, IsUtf8-denoting, none_beyond, pieces-joined, piece_is_component, piece_is_uncut}
 use Rattle.cvss_base.proofs.RefusalLemmas.{IsSortFirst, bad_piece, later, sort_first, reasons_behind_same, refusals_same}
-use Rattle.cvss_base.proofs.TextLemmas.{IsComponent-component, slashes-component, name_part-component, value_part-component}
+use Rattle.cvss_base.proofs.TextLemmas.{IsComponent-component, beyond-component, slashes-component, name_part-component, value_part-component}
 use Rattle.cvss_base.proofs.Utf8Lemmas.{IsUtf8-pieces}
 use Rattle.cvss_base.proofs.WalkLemmas.{AreComponentsOf-all}
 
@@ -34,10 +35,10 @@ record IsText {V K : Type 0} (version : Version V K) (text : List ℕ) (v : V) :
   complete : IsComplete version v
 
 module _ {V K : Type 0} (version : Version V K) (front : IsLawfulFront version) where
-  told_plain : (told : List ℕ) → Contains version.supported told → dividers told ≡ 0
+  told_plain : (told : List ℕ) → Contains version.supported told → foreign_bytes told ≡ 0
   told_plain told (place, within, is) =
-      sym (ap dividers is)
-      ∙ (sym (get_or-map dividers version.supported place told 0 within)
+      sym (ap foreign_bytes is)
+      ∙ (sym (get_or-map foreign_bytes version.supported place told 0 within)
       ∙ (ap (λ list. get_or list place 0) front.plain
       ∙ get_or-map (λ _. 0) version.supported place told 0 within))
 
@@ -47,6 +48,9 @@ module _ {V K : Type 0} (version : Version V K) (front : IsLawfulFront version) 
 
     front_is_uncut : IsUncut (version_piece told)
     front_is_uncut = record { no_slash = slashes-component (codes "CVSS") told refl (told_plain told supported) }
+
+    front_is_utf8 : IsUtf8 (version_piece told)
+    front_is_utf8 = IsUtf8-from_ascii (version_piece told) (none_beyond (version_piece told) (beyond-component (codes "CVSS") told refl (told_plain told supported)))
 
     front_tells : TellsVersion version (version_piece told)
     front_tells = record {
@@ -118,6 +122,11 @@ module _ {V K : Type 0} (version : Version V K) (lawful : IsLawful version) (fro
     text_is = sym (join_with_byte-slice_split slash text) ∙ (ap joined is.cut ∙ ap (λ pieces. joined (pieces ++ is.parts)) (sym is.front_is));
     components = AreComponentsOf-all version lawful is.parts v is.all;
   }
+
+  pub utf8 : (v : V) → IsReadBehind version text v → IsUtf8 text
+  utf8 v is =
+      let denotes = denoted v is in
+      rw (denotes.text_is, is.front_is) (IsUtf8-denoting version lawful v denotes.parts denotes.components (version_piece is.told ∷ []) (All-cons IsUtf8 (version_piece is.told) [] (front_is_utf8 version front is.told is.supported) (All-nil IsUtf8)))
 
   pub accepts : (result : Result V (Fault K)) → IsAnswer version text result → (v : V) → Denotes version text v → IsWellFormed version v → result ≡ Ok v
   accepts result is v denotes formed =

@@ -9,7 +9,7 @@ use Rattle.std.proofs.lemmas.Option.{slice_get-map, slice_get_within, get_or_fro
 use Rattle.std.proofs.lemmas.Slice.Eq.{bytes_eq-Decides}
 use Rattle.cvss_base.specs.Text.{component}
 use Rattle.cvss_base.specs.Version.{Version, read}
-use Rattle.cvss_base.specs.Walk.{IsLawful, dividers, place_of}
+use Rattle.cvss_base.specs.Walk.{IsLawful, foreign_bytes, place_of}
 use Rattle.cvss_base.proofs.FindLemmas.{found_passes, not_found}
 use Rattle.cvss_base.proofs.TextLemmas.{read-component}
 
@@ -33,8 +33,8 @@ module _ {V K : Type 0} (version : Version V K) (lawful : IsLawful version) wher
   pub name_read : (kind : K) → read version (version.name kind) ≡ version.name kind
   name_read = at_each (λ kind. read version (version.name kind)) version.name lawful.names_read
 
-  pub name_plain : (kind : K) → dividers (version.name kind) ≡ 0
-  name_plain = at_each (λ kind. dividers (version.name kind)) (λ _. 0) lawful.names_plain
+  pub name_plain : (kind : K) → foreign_bytes (version.name kind) ≡ 0
+  name_plain = at_each (λ kind. foreign_bytes (version.name kind)) (λ _. 0) lawful.names_plain
 
   pub names_differ : (kind other : K) → version.name kind ≡ version.name other → kind ≡ other
   names_differ kind other same =

@@ -6,7 +6,7 @@ use Rattle.std.proofs.lemmas.List.{drop-drop, drop_at}
 use Rattle.cvss_base.specs.Text.{colon, slash, component, value_part}
 use Rattle.cvss_base.specs.Printing.{slashed}
 use Rattle.cvss_base.proofs.TextLemmas.{position-none, colons-le, count_by-cons}
-use Rattle.cvss_base.specs.Walk.{dividers}
+use Rattle.cvss_base.specs.Walk.{foreign_bytes}
 
 -- the value of a component whose name has no colon
 value_part-no_colon : (name value : List ℕ) → count_by (λ byte. eqb byte colon) name ≡ 0 → value_part (component name value) ≡ value
@@ -18,7 +18,7 @@ value_part-no_colon name value none =
     ∙ ap (drop 1) (drop_at name (colon ∷ value) (length name) refl))
 
 -- the printed component gives the spelling back
-pub held-from_slashed : (name : List ℕ) (held : Option (List ℕ)) (text : List ℕ) → dividers name ≡ 0 → Some text ≡ slashed (option_map (component name) held) → Some (value_part text) ≡ held
+pub held-from_slashed : (name : List ℕ) (held : Option (List ℕ)) (text : List ℕ) → foreign_bytes name ≡ 0 → Some text ≡ slashed (option_map (component name) held) → Some (value_part text) ≡ held
 held-from_slashed name None text plain is = absurd (let no : Some text ≡ None = is in cc)
 held-from_slashed name (Some spelling) text plain is =
     let text_is : text ≡ component (slash ∷ name) spelling = cc in

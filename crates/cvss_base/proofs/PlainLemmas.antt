@@ -9,7 +9,9 @@ use Rattle.cvss_base.specs.Refusal.{Refusal, BadComponent, WrongPrefix, WrongVer
 use Rattle.cvss_base.specs.Walk.{IsLawful, HasRead, reason_of}
 use Rattle.cvss_base.proofs.AnswerLemmas as answer
 use Rattle.cvss_base.proofs.DenotesLemmas.{vectors_same, pieces_denoted, no_reason}
-use Rattle.cvss_base.proofs.JoinLemmas.{piece_is_component}
+use Rattle.std.specs.Str.{IsUtf8}
+use Rattle.std.proofs.lemmas.List.Elements.{All-nil}
+use Rattle.cvss_base.proofs.JoinLemmas.{piece_is_component, IsUtf8-denoting}
 use Rattle.cvss_base.proofs.RefusalLemmas.{IsSortFirst, bad_piece, later, sort_first, reasons_same, refusals_same}
 use Rattle.cvss_base.proofs.WalkLemmas.{AreComponentsOf-all, Denotes-from}
 
@@ -48,6 +50,11 @@ module _ {V K : Type 0} (version : Version V K) (lawful : IsLawful version) (tex
 
   pub denoted : (v : V) → IsReadFrom version text v → Denotes version text v
   denoted v is = Denotes-from version lawful text v is.frontless is.all
+
+  pub utf8 : (v : V) → IsReadFrom version text v → IsUtf8 text
+  utf8 v is =
+      let denotes = denoted v is in
+      rw denotes.text_is (IsUtf8-denoting version lawful v denotes.parts denotes.components (version.front v) (rw is.frontless (All-nil IsUtf8)))
 
   pub accepts : (result : Result V (Fault K)) → IsAnswer version text result → (v : V) → version.front v ≡ [] → Denotes version text v → IsComplete version v → result ≡ Ok v
   accepts result is v frontless denotes complete =

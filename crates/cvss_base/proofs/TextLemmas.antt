@@ -1,5 +1,5 @@
 -- Texts as they are read, and components cut at their colon.
-use Rattle.std.proofs.Common.{◌≡◌, ℕ, ◌+◌, ◌<◌, ◌≤◌, Bool, true, false, cond, not, ◌||◌, IsTrue, ◌↔◌, eqb, suc, one-add, List, [], ◌∷◌, ◌++◌, length, drop, map, refl, sym, ap, ◌∙◌, arith}
+use Rattle.std.proofs.Common.{◌≡◌, ℕ, ◌+◌, ◌<◌, ◌≤◌, Bool, true, false, cond, not, ◌||◌, IsTrue, ◌↔◌, eqb, ltb, suc, one-add, List, [], ◌∷◌, ◌++◌, length, drop, map, refl, sym, ap, ◌∙◌, arith}
 use Rattle.std.specs.Char.{to_ascii_uppercase}
 use Rattle.std.specs.List.{count_by, position_or_len, before_first, after_first}
 use Rattle.std.proofs.lemmas.Bool.{eqb-true, false_from_ne_true}
@@ -9,7 +9,7 @@ use Rattle.std.proofs.lemmas.List.Sums.{sum_by-cons, sum_by-append, sum_by-le-su
 use Rattle.std.specs.Str.{bytes_eq}
 use Rattle.std.proofs.lemmas.Slice.Eq.{bytes_eq-Decides}
 use Rattle.cvss_base.specs.Text.{slash, colon, IsComponent, name_part, value_part, component, read_as}
-use Rattle.cvss_base.specs.Walk.{dividers}
+use Rattle.cvss_base.specs.Walk.{is_foreign, foreign_bytes}
 
 -- what a byte is read as
 abbrev pub letter : Bool → ℕ → ℕ
@@ -31,6 +31,14 @@ letter_is_colon false byte = refl
 pub letter_is_slash : (any_case : Bool) (byte : ℕ) → eqb (letter any_case byte) slash ≡ eqb byte slash
 letter_is_slash true byte = raised_eq byte slash (omega arith)
 letter_is_slash false byte = refl
+
+letter_is_beyond : (any_case : Bool) (byte : ℕ) → ltb 127 (letter any_case byte) ≡ ltb 127 byte
+letter_is_beyond true byte = grind (arith, nat_tests)
+letter_is_beyond false byte = refl
+
+letter_is_foreign : (any_case : Bool) (byte : ℕ) → is_foreign (letter any_case byte) ≡ is_foreign byte
+letter_is_foreign true byte = grind (arith, nat_tests)
+letter_is_foreign false byte = refl
 
 -- a test that does not see how bytes are read
 module _ (p : ℕ → Bool) (f : ℕ → ℕ) (keeps : (byte : ℕ) → p (f byte) ≡ p byte) where
@@ -72,8 +80,11 @@ module _ (any_case : Bool) where
   pub slashes-read : (piece : List ℕ) → count_by (λ byte. eqb byte slash) (read_as any_case piece) ≡ count_by (λ byte. eqb byte slash) piece
   slashes-read piece = rw (read_as_is_map any_case piece) (count_by-map (λ byte. eqb byte slash) (letter any_case) (letter_is_slash any_case) piece)
 
-  pub dividers-read : (piece : List ℕ) → dividers (read_as any_case piece) ≡ dividers piece
-  dividers-read piece = rw (read_as_is_map any_case piece) (count_by-map (λ byte. eqb byte slash || eqb byte colon) (letter any_case) (λ byte. cc (letter_is_slash any_case byte, letter_is_colon any_case byte)) piece)
+  pub beyond-read : (piece : List ℕ) → count_by (ltb 127) (read_as any_case piece) ≡ count_by (ltb 127) piece
+  beyond-read piece = rw (read_as_is_map any_case piece) (count_by-map (ltb 127) (letter any_case) (letter_is_beyond any_case) piece)
+
+  pub foreign_bytes-read : (piece : List ℕ) → foreign_bytes (read_as any_case piece) ≡ foreign_bytes piece
+  foreign_bytes-read piece = rw (read_as_is_map any_case piece) (count_by-map is_foreign (letter any_case) (letter_is_foreign any_case) piece)
 
 -- a text without a byte that passes
 pub none_passes : (b : Bool) (n : ℕ) → cond b 1 0 + n ≡ 0 → (b ≡ false) × (n ≡ 0)
@@ -98,14 +109,17 @@ module _ (p : ℕ → Bool) where
   position-within [] one = absurd (omega arith)
   position-within (byte ∷ text) one = within_step (p byte) (position_or_len p text) (count_by p text) (length text) (position-within text) (sym (count_by-cons byte text) ∙ one)
 
--- the dividers of a component
-pub colons-le : (text : List ℕ) → count_by (λ byte. eqb byte colon) text ≤ dividers text
+-- the foreign_bytes of a component
+pub colons-le : (text : List ℕ) → count_by (λ byte. eqb byte colon) text ≤ foreign_bytes text
 colons-le text = sum_by-le-sum_by _ _ text (λ byte. grind (arith, nat_tests))
 
-slashes-le : (text : List ℕ) → count_by (λ byte. eqb byte slash) text ≤ dividers text
+slashes-le : (text : List ℕ) → count_by (λ byte. eqb byte slash) text ≤ foreign_bytes text
 slashes-le text = sum_by-le-sum_by _ _ text (λ byte. grind (arith, nat_tests))
 
-module _ (name value : List ℕ) (name_plain : dividers name ≡ 0) where
+beyond-le : (text : List ℕ) → count_by (ltb 127) text ≤ foreign_bytes text
+beyond-le text = sum_by-le-sum_by _ _ text (λ byte. grind (arith, nat_tests))
+
+module _ (name value : List ℕ) (name_plain : foreign_bytes name ≡ 0) where
   colon_place : position_or_len (λ byte. eqb byte colon) (component name value) ≡ length name
   colon_place = position-none (λ byte. eqb byte colon) name value colon (omega (arith, colons-le name)) refl
 
@@ -118,9 +132,13 @@ module _ (name value : List ℕ) (name_plain : dividers name ≡ 0) where
   counted : (p : ℕ → Bool) → count_by p (component name value) ≡ count_by p name + (cond (p colon) 1 0 + count_by p value)
   counted p = sum_by-append (λ x. cond (p x) 1 0) name (colon ∷ value) ∙ ap (λ n. count_by p name + n) (count_by-cons p colon value)
 
-  module _ (value_plain : dividers value ≡ 0) where
+  module _ (value_plain : foreign_bytes value ≡ 0) where
     pub IsComponent-component : IsComponent (component name value)
     IsComponent-component = record { one_colon = omega (arith, counted (λ byte. eqb byte colon), colons-le name, colons-le value) }
+
+    -- no byte of it is beyond ASCII
+    pub beyond-component : count_by (ltb 127) (component name value) ≡ 0
+    beyond-component = omega (arith, counted (ltb 127), beyond-le name, beyond-le value)
 
     pub slashes-component : count_by (λ byte. eqb byte slash) (component name value) ≡ 0
     slashes-component = omega (arith, counted (λ byte. eqb byte slash), slashes-le name, slashes-le value)

@@ -9,8 +9,8 @@ use Rattle.cvss_base.specs.Text.{slash, pieces, IsComponent, name_part, value_pa
 use Rattle.cvss_base.specs.Pieces.{AreParts}
 use Rattle.cvss_base.specs.Version.{Version, read, component_of, AreComponentsOf, Denotes}
 use Rattle.cvss_base.specs.Refusal.{Refusal, BadComponent, WrongPrefix, WrongVersion, UnknownName, BadValue, Repeated, Missing, IsSpelling, piece_at, FaultAt, IsNamedBefore, IsFirstFault, IsFirstMissing}
-use Rattle.cvss_base.specs.Walk.{IsLawful, IsCut, dividers, HasNoValue, Puts, Adds, HasRead, IsFaultOf, LacksFirst}
-use Rattle.cvss_base.proofs.TextLemmas.{name_part-read, value_part-read, name_part-component, value_part-component, dividers-read, IsComponent-component}
+use Rattle.cvss_base.specs.Walk.{IsLawful, IsCut, foreign_bytes, HasNoValue, Puts, Adds, HasRead, IsFaultOf, LacksFirst}
+use Rattle.cvss_base.proofs.TextLemmas.{name_part-read, value_part-read, name_part-component, value_part-component, foreign_bytes-read, IsComponent-component}
 use Rattle.cvss_base.proofs.LawLemmas.{name_plain, names_differ}
 use Rattle.cvss_base.proofs.ComponentLemmas.{adds_component, held_stands, piece_held}
 
@@ -82,8 +82,8 @@ module _ {V K : Type 0} (version : Version V K) (lawful : IsLawful version) wher
   IsComponent-read old new piece name value kind parts named puts =
       let spelling = version.spelling kind puts.fills.value in
       rw parts.cut (IsComponent-component name value
-      (sym (dividers-read version.any_case name) ∙ (ap dividers (sym named) ∙ name_plain version lawful kind))
-      (sym (dividers-read version.any_case value) ∙ (ap dividers (sym puts.fills.spelled) ∙ (dividers-read version.any_case spelling ∙ lawful.spelling_plain kind puts.fills.value))))
+      (sym (foreign_bytes-read version.any_case name) ∙ (ap foreign_bytes (sym named) ∙ name_plain version lawful kind))
+      (sym (foreign_bytes-read version.any_case value) ∙ (ap foreign_bytes (sym puts.fills.spelled) ∙ (foreign_bytes-read version.any_case spelling ∙ lawful.spelling_plain kind puts.fills.value))))
 
   -- the start, a step and the end of the walk
   components_none : (v : V) → HasNoValue version v → (kinds : List K) → filter_map (component_of version v) kinds ≡ []

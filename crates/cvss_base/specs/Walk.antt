@@ -1,6 +1,6 @@
 -- What the private walk over the components does at each step. What callers rely on stands in
 -- Version and Refusal.
-use Rattle.std.specs.Prelude.{◌≡◌, ◌≢◌, ℕ, ◌||◌, ◌⊎◌, List, [], ◌∷◌, length, map, take, Option, Some, None, IsSome, Result, OnOk, IfErr, Contains, slice_get, find, is_none, ◌<◌, count_by, ◌==◌, ⊤}
+use Rattle.std.specs.Prelude.{◌≡◌, ◌≢◌, ℕ, Bool, nat_lt, ◌||◌, ◌⊎◌, List, [], ◌∷◌, length, map, take, Option, Some, None, IsSome, Result, OnOk, IfErr, Contains, slice_get, find, is_none, ◌<◌, count_by, ◌==◌, ⊤}
 use Rattle.std.specs.List.{range_with_len, position_or_len}
 use Rattle.std.specs.Str.{bytes_eq, IsUtf8}
 use Rattle.cvss_base.specs.declared.walk.Slip.{Slip}
@@ -12,9 +12,13 @@ use Rattle.cvss_base.specs.Text.{slash, colon, pieces, name_part, value_part, co
 use Rattle.cvss_base.specs.Version.{Version, read, reading, version_piece, AreComponentsOf, IsComplete}
 use Rattle.cvss_base.specs.Refusal.{Refusal, BadComponent, WrongPrefix, WrongVersion, UnknownName, BadValue, Repeated, Missing, IsSpelling, Spells, HasNoFaultBefore, IsWrongPrefix, IsWrongVersion}
 
--- how many bytes of the text divide pieces, or names from values
-abbrev pub dividers : List ℕ → ℕ
-dividers text = count_by (λ byte. byte == slash || byte == colon) text
+-- a byte that no name and no spelling has: it divides, or is not ASCII
+abbrev pub is_foreign : ℕ → Bool
+is_foreign byte = byte == slash || byte == colon || nat_lt 127 byte
+
+-- how many bytes of the text are such
+abbrev pub foreign_bytes : List ℕ → ℕ
+foreign_bytes text = count_by is_foreign text
 
 -- the place of a metric in the printing order, which its name tells
 abbrev pub place_of : {V K : Type 0} → Version V K → K → ℕ
@@ -25,11 +29,11 @@ pub record IsLawful {V K : Type 0} (version : Version V K) : Type 0 where
   -- each metric is printed at one place, which its name tells
   pub placed : (kind : K) → slice_get version.printed (place_of version kind) ≡ Some kind
   pub in_order : map (place_of version) version.printed ≡ range_with_len 0 (length version.printed)
-  -- names are read as they are, and have no divider
+  -- names are read as they are, and have no foreign byte
   pub names_read : map (λ kind. read version (version.name kind)) version.printed ≡ map version.name version.printed
-  pub names_plain : map (λ kind. dividers (version.name kind)) version.printed ≡ map (λ _. 0) version.printed
-  -- the spellings of a metric differ, as they are read, and have no divider
-  pub spelling_plain : (kind : K) (value : version.Value kind) → dividers (version.spelling kind value) ≡ 0
+  pub names_plain : map (λ kind. foreign_bytes (version.name kind)) version.printed ≡ map (λ _. 0) version.printed
+  -- the spellings of a metric differ, as they are read, and have no foreign byte
+  pub spelling_plain : (kind : K) (value : version.Value kind) → foreign_bytes (version.spelling kind value) ≡ 0
   pub one_value : (kind : K) (x y : version.Value kind) → read version (version.spelling kind x) ≡ read version (version.spelling kind y) → x ≡ y
   -- a vector is its front and its values
   pub one_vector : (v w : V) → version.front v ≡ version.front w → ((kind : K) → version.value_of v kind ≡ version.value_of w kind) → v ≡ w
@@ -96,9 +100,9 @@ pub record StartsWith {V K : Type 0} (version : Version V K) (piece : List ℕ) 
   pub is : piece ≡ version_piece (value_part piece)
   pub starts : Starts version (value_part piece) v
 
--- what the walk needs to know of a version piece: the versions that are supported have no divider
+-- what the walk needs to know of a version piece: the versions that are supported have no foreign byte
 pub record IsLawfulFront {V K : Type 0} (version : Version V K) : Type 0 where
-  pub plain : map dividers version.supported ≡ map (λ _. 0) version.supported
+  pub plain : map foreign_bytes version.supported ≡ map (λ _. 0) version.supported
 
 -- the vector lacks this mandatory metric, and none that stands before it
 pub record LacksFirst {V K : Type 0} (version : Version V K) (v : V) (kind : K) : Type 0 where

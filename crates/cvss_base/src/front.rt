@@ -1,6 +1,6 @@
 //! Texts that begin with a piece that tells their version, once for all versions that have one.
 
-ghost use Rattle.std.specs.Prelude.{◌≡◌, IfSome, IfNone, IfOk, IfErr, IsErrAnd, Contains, Ok, length};
+ghost use Rattle.std.specs.Prelude.{◌≡◌, IfSome, IfNone, IfOk, IfErr, OnOk, IsErrAnd, Contains, Ok, length};
 ghost use Rattle.std.specs.Str.{IsUtf8};
 ghost use Rattle.cvss_base.specs.Refusal.{Refusal, AreComponentsBefore, IsFirstRefusalBehind};
 ghost use Rattle.cvss_base.specs.Text.{pieces, IsComponent};
@@ -28,6 +28,7 @@ pub fn read_behind<'a, V: Fronted>(text: &'a [u8]) -> Result<V, Fault<'a, V::Kin
     ensures well_formed { IfOk result (λ v. IsWellFormed V.version v) }
     ensures accepts { (v : V) → Denotes V.version text.now v → IsWellFormed V.version v
         → result ≡ Ok v }
+    ensures utf8 { OnOk result (IsUtf8 text.now) }
     // Refused: for the first reason, and wherever there is one.
     ensures refused { IfErr result
         (λ fault. IsFirstRefusalBehind V.version text.now (reason_of V.version fault)) }

@@ -185,6 +185,7 @@ pub fn read_vector<'a, V: Components>(text: &'a [u8], empty: V) -> Result<V, Fau
     ensures complete { IfOk result (λ v. IsComplete V.version v) }
     ensures accepts { (v : V) → V.version.front v ≡ [] → Denotes V.version text.now v
         → IsComplete V.version v → result ≡ Ok v }
+    ensures utf8 { OnOk result (IsUtf8 text.now) }
     // Refused: for the first reason, and wherever there is one.
     ensures refused { IfErr result
         (λ fault. IsFirstRefusal V.version text.now (reason_of V.version fault)) }

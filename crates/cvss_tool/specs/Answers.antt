@@ -11,7 +11,9 @@ use Rattle.cvss.specs.SeverityText.{text_of as severity_text}
 use Rattle.cvss.specs.Version.{canonical_text, Denotes, IsComplete}
 use Rattle.cvss.specs.RatingV2.{rating_of}
 use Rattle.cvss.specs.ScoresV2.{IsBaseScore}
-use Rattle.cvss.specs.VectorV2.{v2, TellsFirst}
+use Rattle.cvss.specs.VectorV2.{v2}
+use Rattle.cvss.specs.Refusal.{IsFirstRefusal}
+use Rattle.cvss.specs.Told.{TellsFirst, v2_reason}
 use Rattle.cvss.specs.WeightsV2.{weights_of}
 
 -- an answer to one line, as its text without the byte 10 that ends it
@@ -61,7 +63,7 @@ pub record IsAcceptance (line answer : List ℕ) : Type 0 where
 pub record IsRefusal (line answer : List ℕ) : Type 0 where
   pub utf8 : IsUtf8 line
   pub error : Error
-  pub told : TellsFirst line error
+  pub told : TellsFirst v2_reason (IsFirstRefusal v2 line) error
   pub is : answer ≡ codes "error: " ++ error_text error
 
 -- the line is no text
@@ -94,3 +96,9 @@ pub record WritesVector (vector : Vector) (old new : String Global) : Type 0 whe
   pub tenths : ℕ
   pub scored : IsBaseScore (weights_of vector) (score_of tenths)
   pub written : string_bytes new ≡ string_bytes old ++ written_answer (Accepted (vector_answer vector tenths))
+
+-- a refusal's answer and a byte 10 are written behind the earlier answers
+pub record WritesRefusal (line : List ℕ) (old new : String Global) : Type 0 where
+  pub text : List ℕ
+  pub refused : IsRefusal line text ⊎ IsNoText line text
+  pub written : string_bytes new ≡ string_bytes old ++ written_answer (Refused text)

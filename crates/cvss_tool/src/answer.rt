@@ -3,7 +3,10 @@
 ghost use Rattle.std.specs.Prelude.{◌≡◌, ◌++◌, ℕ, ◌*◌, ◌^◌, pos, ◌≤◌, IfOk, OnOk, string_bytes};
 ghost use Rattle.std.specs.Fmt.{decimal};
 ghost use Rattle.cvss.specs.ScoresV2.{IsInTenths, IsFromZeroToTen};
-ghost use Rattle.cvss_tool.specs.Answers.{Answer, IsAnswer, WritesVector, is_accepted, score_of, written_answer};
+ghost use Rattle.cvss.specs.Version.{Denotes, IsComplete};
+ghost use Rattle.cvss.specs.VectorTypeV2.{Vector};
+ghost use Rattle.cvss.specs.VectorV2.{v2};
+ghost use Rattle.cvss_tool.specs.Answers.{Answer, IsAnswer, WritesRefusal, WritesVector, is_accepted, score_of, written_answer};
 
 use cvss::Error;
 use cvss::v2::{Score, Vector};
@@ -23,20 +26,28 @@ pub(crate) fn answer_line(
         × (accepted ≡ is_accepted answer)
         × (string_bytes answers.new ≡ string_bytes answers.old ++ written_answer answer)) }
 {
+    if let Some(vector) = Vector::read_bytes(line) {
+        write_vector(&vector, answers)?;
+        return Ok(true);
+    }
+    write_refusal(alloc, line, answers)?;
+    Ok(false)
+}
+
+/// Writes why a line is no vector, and a byte 10.
+fn write_refusal(alloc: Global, line: &[u8], answers: &mut String) -> Result<(), AllocError>
+    requires { (vector : Vector) → Denotes v2 line.now vector → ¬ (IsComplete v2 vector) }
+    ensures { OnOk result (WritesRefusal line.now answers.old answers.new) }
+{
     let Ok(text) = str::from_utf8(line) else {
         answers.push_str("error: not UTF-8\n")?;
-        return Ok(false);
+        return Ok(());
     };
     match Vector::from_str(alloc, text) {
-        Ok(vector) => {
-            write_vector(&vector, answers)?;
-            Ok(true)
-        }
-        Err(error) => {
-            writeln!(answers, "error: {error}")?;
-            Ok(false)
-        }
+        Ok(_) => unreachable!(),
+        Err(error) => writeln!(answers, "error: {error}")?,
     }
+    Ok(())
 }
 
 /// Writes a vector's text, its score and the score's rating, and a byte 10.

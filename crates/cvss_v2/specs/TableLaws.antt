@@ -1,7 +1,7 @@
 -- What holds of each value in the table of CVSS v2, checked value by value.
 use Rattle.std.specs.Prelude.{◌≡◌, ℕ, Bool, true, false, List, [], ◌∷◌, Option, Some, find, bytes_eq, codes, unwrap_or, refl}
 use Rattle.std.proofs.Common.{ap, sym, ◌∙◌, subst}
-use Rattle.cvss_base.specs.Walk.{dividers}
+use Rattle.cvss_base.specs.Walk.{foreign_bytes}
 use Rattle.cvss_base.specs.declared.v2.MetricType.{MetricType}
 use Rattle.cvss_base.specs.declared.v2.MetricType.TheVariants.{A, AC, AV, Au, C, I, E, RL, RC, CDP, TD, CR, IR, AR}
 use Rattle.cvss_v2.specs.declared.metric.base.access.AccessVector.TheVariants as access_vector
@@ -33,7 +33,7 @@ weight_if_not_defined kind value false = absent_weight kind
 abbrev facts_of : (kind : MetricType) → Value kind → Option (Value kind) × ℕ × ℕ
 facts_of kind value = (
   value_spelled kind (spelling_of kind value),
-  dividers (spelling_of kind value),
+  foreign_bytes (spelling_of kind value),
   weight_if_not_defined kind value (bytes_eq (spelling_of kind value) (codes "ND")),
 )
 
@@ -69,7 +69,7 @@ table_law AR availability_requirement.Low = refl
 table_law AR _ = refl
 
 -- no spelling has a slash or a colon
-pub plain_spelling : (kind : MetricType) (value : Value kind) → dividers (spelling_of kind value) ≡ 0
+pub plain_spelling : (kind : MetricType) (value : Value kind) → foreign_bytes (spelling_of kind value) ≡ 0
 plain_spelling kind value = ap (λ facts. facts.1) (table_law kind value)
 
 -- each value is the one with its spelling

@@ -1,6 +1,6 @@
 //! A vector of CVSS v2.
 
-ghost use Rattle.std.specs.Prelude.{◌≡◌, ◌↔◌, IsTrue, IfSome, IfOk, IfErr, IsErrAnd, Some, Ok};
+ghost use Rattle.std.specs.Prelude.{◌≡◌, ◌↔◌, IsTrue, IfSome, IsSome, IfOk, IfErr, IsErrAnd, Some, Ok};
 
 mod listing;
 mod printing;
@@ -46,6 +46,7 @@ pub struct Vector {
 }
 
 impl Vector {
+    ghost use Rattle.std.specs.Str.{IsUtf8};
     ghost use Rattle.cvss_base.specs.Refusal.{Refusal, IsFirstRefusal};
     ghost use Rattle.cvss_base.specs.Told.{Tells, TellsFirst, v2_reason};
     ghost use Rattle.cvss_base.specs.Version.{canonical_text, Denotes, IsComplete};
@@ -82,6 +83,7 @@ impl Vector {
         ensures complete { IfSome result (λ vector. IsComplete v2 vector) }
         ensures accepts { (vector : Vector) → Denotes v2 text.now vector
             → IsComplete v2 vector → result ≡ Some vector }
+        ensures utf8 { IsSome result → IsUtf8 text.now }
     {
         read_vector(text, Vector::empty()).ok()
     }

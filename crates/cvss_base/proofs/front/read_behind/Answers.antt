@@ -1,13 +1,16 @@
 use Rattle.std.proofs.Common.{Ok, Err}
 use Rattle.cvss_base.specs.declared.walk.Fault.TheVariants.{InvalidComponent}
 use Rattle.cvss_base.specs.Walk.{reason_of}
-use Rattle.cvss_base.proofs.FrontLemmas.{IsAnswer, denoted, accepts, refuses}
+use Rattle.cvss_base.proofs.FrontLemmas.{IsAnswer, denoted, utf8, accepts, refuses}
 use Rattle.cvss_base.proofs.Utf8Lemmas.{IsUtf8-bad_piece}
 use Rattle.cvss_base.proofs.front.read_behind.Given.{Over}
 use Rattle.cvss_base.proofs.front.read_behind.Goals as goal
 
 pub returns-in-Ok-clause-denoted : goal.returns-in-Ok-clause-denoted
 returns-in-Ok-clause-denoted g c = denoted g.V.Components.version g.met.V.Components.lawful g.met.V.Fronted.plain c.args.text.now c.in-Ok.vector c.in-Ok.ensures.read
+
+pub returns-in-Ok-clause-utf8 : goal.returns-in-Ok-clause-utf8
+returns-in-Ok-clause-utf8 g c = utf8 g.V.Components.version g.met.V.Components.lawful g.met.V.Fronted.plain c.args.text.now c.in-Ok.vector c.in-Ok.ensures.read
 
 pub returns-in-Ok-clause-accepts : goal.returns-in-Ok-clause-accepts
 returns-in-Ok-clause-accepts g c = accepts g.V.Components.version g.met.V.Components.lawful g.met.V.Fronted.plain c.args.text.now (Ok c.in-Ok.vector) c.in-Ok.ensures.read

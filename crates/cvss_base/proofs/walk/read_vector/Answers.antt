@@ -2,7 +2,7 @@ use Rattle.std.proofs.Common.{Ok, Err, ◌∙◌}
 use Rattle.cvss_base.specs.declared.walk.Fault.TheVariants.{InvalidComponent}
 use Rattle.cvss_base.specs.Pieces.{pieces_left}
 use Rattle.cvss_base.specs.Walk.{reason_of}
-use Rattle.cvss_base.proofs.PlainLemmas.{IsAnswer, IsReadFrom-parts, IsFirstRefusal-parts, denoted, accepts, refuses}
+use Rattle.cvss_base.proofs.PlainLemmas.{IsAnswer, IsReadFrom-parts, IsFirstRefusal-parts, denoted, utf8, accepts, refuses}
 use Rattle.cvss_base.proofs.Utf8Lemmas.{IsUtf8-pieces, IsUtf8-bad_piece}
 use Rattle.cvss_base.proofs.walk.read_vector.Given.{Over}
 use Rattle.cvss_base.proofs.walk.read_vector.Goals as goal
@@ -15,6 +15,9 @@ refused g c = IsFirstRefusal-parts g.V.Components.version g.met.V.Components.law
 
 pub returns-in-Ok-clause-denoted : goal.returns-in-Ok-clause-denoted
 returns-in-Ok-clause-denoted g c = denoted g.V.Components.version g.met.V.Components.lawful c.args.text.now c.in-Ok.vector (accepted g c)
+
+pub returns-in-Ok-clause-utf8 : goal.returns-in-Ok-clause-utf8
+returns-in-Ok-clause-utf8 g c = utf8 g.V.Components.version g.met.V.Components.lawful c.args.text.now c.in-Ok.vector (accepted g c)
 
 pub returns-in-Ok-clause-accepts : goal.returns-in-Ok-clause-accepts
 returns-in-Ok-clause-accepts g c = accepts g.V.Components.version g.met.V.Components.lawful c.args.text.now (Ok c.in-Ok.vector) (accepted g c)

@@ -1,0 +1,30 @@
+use Rattle.std.proofs.Common.{◌++◌, codes, inl, inr, refl, rules, subst}
+use Rattle.cvss.specs.ErrorText.{error_text}
+use Rattle.cvss.specs.Refusal.{IsFirstRefusal}
+use Rattle.cvss.specs.Told.{TellsFirst, v2_reason}
+use Rattle.cvss.specs.VectorV2.{v2}
+use Rattle.cvss_tool.proofs.answer.write_refusal.Goals as goal
+
+pub returns-in_default : goal.returns-in_default
+returns-in_default c = record {
+  text = codes "error: not UTF-8";
+  refused = inr (record { not_utf8 = c.in_default.ensures.cases.0; is = refl });
+  written = c.in_ok-push_str.ensures.bytes;
+}
+
+pub returns : goal.returns
+returns c =
+    let error = c.in-Err.error in
+    record {
+      text = codes "error: " ++ error_text error;
+      refused =
+          inl (record {
+            utf8 = c.in-Ok.ensures.cases.1;
+            error = error;
+            told =
+                subst (λ text. TellsFirst v2_reason (IsFirstRefusal v2 text) error) c.in-Ok.ensures.cases.0
+                c.in-Err.ensures.refused;
+            is = refl;
+          });
+      written = search rules;
+    }
