@@ -10,3 +10,5 @@ pub use Rattle.cvss_v2.specs.Scores as ScoresV2
 pub use Rattle.cvss_v2.specs.Vector as VectorV2
 pub use Rattle.cvss_v2.specs.Weights as WeightsV2
 pub use Rattle.cvss_v2.specs.declared.vector.Vector as VectorTypeV2
+pub use Rattle.cvss_v3.specs.Vector as VectorV3
+pub use Rattle.cvss_v3.specs.declared.vector.Vector as VectorTypeV3

@@ -13,6 +13,7 @@ use Rattle.cvss_base.specs.Version.{Version, version_piece, Denotes, IsComplete,
 use Rattle.cvss_base.specs.Refusal.{Refusal, BadComponent, WrongPrefix, WrongVersion, UnknownName, BadValue, Repeated, Missing, AreComponentsBefore, piece_at, IsFirstReason, IsReasonBehind, IsFirstRefusalBehind, TellsVersion}
 use Rattle.cvss_base.specs.Walk.{IsLawful, IsLawfulFront, IsReadBehind, IsFrontFault, HasRead, StartsWith, foreign_bytes, reason_of}
 use Rattle.cvss_base.proofs.AnswerLemmas as answer
+use Rattle.cvss_base.proofs.CanonicalLemmas.{denoted_once}
 use Rattle.cvss_base.proofs.DenotesLemmas.{vectors_same, no_reason}
 use Rattle.cvss_base.proofs.JoinLemmas.{IsUncut, IsUtf8-denoting, none_beyond, pieces-joined, piece_is_component, piece_is_uncut}
 use Rattle.cvss_base.proofs.RefusalLemmas.{IsSortFirst, bad_piece, later, sort_first, reasons_behind_same, refusals_same}
@@ -34,6 +35,9 @@ record IsText {V K : Type 0} (version : Version V K) (text : List ℕ) (v : V) :
   components : AreComponentsOf version parts v
   complete : IsComplete version v
 
+piece_uncut : (told : List ℕ) → foreign_bytes told ≡ 0 → IsUncut (version_piece told)
+piece_uncut told plain = record { no_slash = slashes-component (codes "CVSS") told refl plain }
+
 module _ {V K : Type 0} (version : Version V K) (front : IsLawfulFront version) where
   told_plain : (told : List ℕ) → Contains version.supported told → foreign_bytes told ≡ 0
   told_plain told (place, within, is) =
@@ -43,11 +47,8 @@ module _ {V K : Type 0} (version : Version V K) (front : IsLawfulFront version) 
       ∙ get_or-map (λ _. 0) version.supported place told 0 within))
 
   module _ (told : List ℕ) (supported : Contains version.supported told) where
-    pub front_is_component : IsComponent (version_piece told)
+    front_is_component : IsComponent (version_piece told)
     front_is_component = IsComponent-component (codes "CVSS") told refl (told_plain told supported)
-
-    front_is_uncut : IsUncut (version_piece told)
-    front_is_uncut = record { no_slash = slashes-component (codes "CVSS") told refl (told_plain told supported) }
 
     front_is_utf8 : IsUtf8 (version_piece told)
     front_is_utf8 = IsUtf8-from_ascii (version_piece told) (none_beyond (version_piece told) (beyond-component (codes "CVSS") told refl (told_plain told supported)))
@@ -70,18 +71,36 @@ module _ {V K : Type 0} (version : Version V K) (lawful : IsLawful version) (fro
     complete = is.complete;
   }
 
+  -- the pieces of a text that denotes a vector
+  pieces_denoted_behind : (v : V) (denotes : Denotes version text v) (told : List ℕ) → version.front v ≡ version_piece told ∷ [] → foreign_bytes told ≡ 0 → pieces text ≡ version_piece told ∷ denotes.parts
+  pieces_denoted_behind v denotes told front_is plain =
+      let uncut = All-cons IsUncut (version_piece told) denotes.parts (piece_uncut told plain)
+      (All-from_get_or IsUncut denotes.parts [] (piece_is_uncut version lawful v denotes.parts denotes.components)) in
+      let text_is : text ≡ joined (version_piece told ∷ denotes.parts) =
+      denotes.text_is ∙ ap (λ pieces. joined (pieces ++ denotes.parts)) front_is in
+      ap pieces text_is ∙ pieces-joined (version_piece told) denotes.parts uncut
+
+  -- vectors that one text denotes have one front, and are one
+  pub fronts_same : (v w : V) → Denotes version text v → Denotes version text w → version.front v ≡ version.front w
+  fronts_same v w of_v of_w =
+      let piece_v = front.fronts v in
+      let piece_w = front.fronts w in
+      let both : version_piece piece_v.told ∷ of_v.parts ≡ version_piece piece_w.told ∷ of_w.parts =
+      sym (pieces_denoted_behind v of_v piece_v.told piece_v.front_is piece_v.plain)
+      ∙ pieces_denoted_behind w of_w piece_w.told piece_w.front_is piece_w.plain in
+      let first : version_piece piece_v.told ≡ version_piece piece_w.told = cc in
+      piece_v.front_is ∙ (ap (λ piece. piece ∷ []) first ∙ sym piece_w.front_is)
+
+  pub denoted_once_behind : (v w : V) → Denotes version text v → Denotes version text w → v ≡ w
+  denoted_once_behind v w of_v of_w = denoted_once version lawful v w text (fronts_same v w of_v of_w) of_v of_w
+
   text_denoted : (v : V) → Denotes version text v → IsWellFormed version v → IsText version text v
   text_denoted v denotes formed =
       let told = formed.supported.told in
-      let uncut = All-cons IsUncut (version_piece told) denotes.parts
-      (front_is_uncut version front told formed.supported.supported)
-      (All-from_get_or IsUncut denotes.parts [] (piece_is_uncut version lawful v denotes.parts denotes.components)) in
-      let text_is : text ≡ joined (version_piece told ∷ denotes.parts) =
-      denotes.text_is ∙ ap (λ pieces. joined (pieces ++ denotes.parts)) formed.supported.front_is in
       record {
         told = told;
         parts = denotes.parts;
-        cut = ap pieces text_is ∙ pieces-joined (version_piece told) denotes.parts uncut;
+        cut = pieces_denoted_behind v denotes told formed.supported.front_is (told_plain version front told formed.supported.supported);
         front_is = formed.supported.front_is;
         supported = formed.supported.supported;
         components = denotes.components;

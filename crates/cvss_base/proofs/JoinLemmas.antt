@@ -41,11 +41,11 @@ pub none_beyond : (text : List ℕ) → count_by (ltb 127) text ≡ 0 → IsAsci
 none_beyond text none place =
     let each = All-from_count (ltb 127) text none in
     elim (cases_order place (length text)) [
-      inl same ↦ rw (get_or_past text place 0 (omega arith)) (omega arith)
+      | inl same ↦ rw (get_or_past text place 0 (omega arith)) (omega arith)
       | inr apart ↦ elim apart [
-          inl within ↦ omega (arith, ltb-false 127 _ (each place 0 within))
-          | inr past ↦ rw (get_or_past text place 0 (omega arith)) (omega arith)
-        ]
+        | inl within ↦ omega (arith, ltb-false 127 _ (each place 0 within))
+        | inr past ↦ rw (get_or_past text place 0 (omega arith)) (omega arith)
+      ]
     ]
 
 -- texts in UTF-8 with slashes between them

@@ -7,11 +7,11 @@ use Rattle.std.proofs.lemmas.List.{take-append-drop, drop_more, get_or-take, get
 use Rattle.std.proofs.lemmas.List.FromFn.{get_or-range_with_len}
 use Rattle.std.proofs.lemmas.Option.{slice_get-map, slice_get_within, get_or_from_slice_get, same_Some}
 use Rattle.std.proofs.lemmas.Slice.Eq.{bytes_eq-Decides}
-use Rattle.cvss_base.specs.Text.{component}
+use Rattle.cvss_base.specs.Text.{component, name_part, value_part}
 use Rattle.cvss_base.specs.Version.{Version, read}
-use Rattle.cvss_base.specs.Walk.{IsLawful, foreign_bytes, place_of}
+use Rattle.cvss_base.specs.Walk.{IsLawful, IsCut, foreign_bytes, place_of}
 use Rattle.cvss_base.proofs.FindLemmas.{found_passes, not_found}
-use Rattle.cvss_base.proofs.TextLemmas.{read-component}
+use Rattle.cvss_base.proofs.TextLemmas.{read-component, foreign_bytes-read, name_part-component, value_part-component}
 
 -- the printing order, cut at one metric, which stands nowhere else
 pub record IsCutAt {K : Type 0} (printed : List K) (kind : K) : Type 0 where
@@ -76,3 +76,14 @@ module _ {V K : Type 0} (version : Version V K) (lawful : IsLawful version) wher
       let here = get_or_from_slice_get version.printed place kind kind (lawful.placed kind) in
       let passes : bytes_eq name (version.name kind) ≡ true = (bytes_eq-Decides name (version.name kind)).1 (sym named) in
       let no : true ≡ false = sym passes ∙ (ap (λ each. bytes_eq name (version.name each)) (sym here) ∙ fails) in cc
+
+  -- a piece that begins with a metric's name and a colon is cut there
+  pub IsCut_named : (piece name value : List ℕ) (kind : K) → piece ≡ component name value → version.name kind ≡ read version name → IsCut version piece kind value
+  IsCut_named piece name value kind is named =
+      let plain : foreign_bytes name ≡ 0 = sym (foreign_bytes-read version.any_case name) ∙ (ap foreign_bytes (sym named) ∙ name_plain kind) in
+      let is_name : name_part piece ≡ name = ap name_part is ∙ name_part-component name value plain in
+      record {
+        named = named ∙ ap (read version) (sym is_name);
+        value_is = sym (ap value_part is ∙ value_part-component name value plain);
+        cut = is ∙ ap (λ each. component each value) (sym is_name);
+      }

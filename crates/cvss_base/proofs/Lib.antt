@@ -4,11 +4,12 @@ mod ComponentLemmas
 mod DenotesLemmas
 pub mod ExactLemmas
 mod FindLemmas
-mod FrontLemmas
+pub mod FrontLemmas
 mod JoinLemmas
-mod LawLemmas
+pub mod LawLemmas
 mod ListingLemmas
 mod MissingLemmas
+pub mod NumeralLemmas
 mod OnceLemmas
 mod PieceLemmas
 mod PlainLemmas

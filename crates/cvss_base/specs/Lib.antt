@@ -2,6 +2,7 @@ pub mod ErrorText
 pub mod Exact
 pub mod Listing
 pub mod MetricsLeft
+pub mod Numeral
 pub mod Order
 pub mod Pieces
 pub mod Printing

@@ -100,8 +100,15 @@ pub record StartsWith {V K : Type 0} (version : Version V K) (piece : List ℕ) 
   pub is : piece ≡ version_piece (value_part piece)
   pub starts : Starts version (value_part piece) v
 
--- what the walk needs to know of a version piece: the versions that are supported have no foreign byte
+-- the vector's front is a version piece without a foreign byte
+pub record HasVersionPiece {V K : Type 0} (version : Version V K) (v : V) : Type 0 where
+  pub told : List ℕ
+  pub front_is : version.front v ≡ version_piece told ∷ []
+  pub plain : foreign_bytes told ≡ 0
+
+-- what the walk needs to know of version pieces: no byte of them is foreign
 pub record IsLawfulFront {V K : Type 0} (version : Version V K) : Type 0 where
+  pub fronts : (v : V) → HasVersionPiece version v
   pub plain : map foreign_bytes version.supported ≡ map (λ _. 0) version.supported
 
 -- the vector lacks this mandatory metric, and none that stands before it

@@ -6,3 +6,5 @@ pub mod callers;
 mod errors;
 #[cfg(test)]
 mod v2;
+#[cfg(test)]
+mod v3;

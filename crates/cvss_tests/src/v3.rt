@@ -1,0 +1,4 @@
+//! Tests of CVSS v3.
+
+mod metrics;
+mod texts;

@@ -1,0 +1,57 @@
+//! The metrics of a vector, as a list.
+
+ghost use Rattle.std.specs.Prelude.{◌≡◌};
+ghost use Rattle.cvss_base.specs.Listing.{listed_metrics};
+ghost use Rattle.cvss_base.specs.MetricsLeft.{metrics_left};
+ghost use Rattle.cvss_v3_metric.specs.Table.{listed};
+ghost use Rattle.cvss_v3.specs.Vector.{v3};
+
+use crate::metric::MetricType;
+use crate::vector::Vector;
+use cvss_base::metrics::{self, Listed};
+
+/// The metrics that a vector has, each with the spelling of its value; at most 22.
+pub type Metrics = metrics::Metrics<Vector>;
+
+/// The metrics in the order in which they are listed.
+const LISTED: [MetricType; 22] = [
+    MetricType::AV,
+    MetricType::AC,
+    MetricType::PR,
+    MetricType::UI,
+    MetricType::S,
+    MetricType::C,
+    MetricType::I,
+    MetricType::A,
+    MetricType::E,
+    MetricType::RL,
+    MetricType::RC,
+    MetricType::MAV,
+    MetricType::MAC,
+    MetricType::MPR,
+    MetricType::MUI,
+    MetricType::MS,
+    MetricType::MC,
+    MetricType::MI,
+    MetricType::CR,
+    MetricType::IR,
+    MetricType::AR,
+    MetricType::MA,
+];
+
+impl Listed for Vector {
+    ghost order = { listed };
+
+    fn listed() -> &'static [MetricType] {
+        &LISTED
+    }
+}
+
+impl Vector {
+    /// The type and the spelling of each metric that the vector has. It takes no memory.
+    pub fn metrics(&self) -> Metrics
+        ensures { metrics_left v3 listed result ≡ listed_metrics v3 self.now listed }
+    {
+        Metrics::of(self)
+    }
+}

@@ -1,0 +1,184 @@
+//! How a vector is filled from its components.
+
+ghost use Rattle.std.specs.Prelude.{◌≡◌, IfSome};
+ghost use Rattle.cvss_base.specs.Text.{raised};
+ghost use Rattle.cvss_base.specs.V3Types.{name_of};
+ghost use Rattle.cvss_base.specs.Walk.{HasNoValue, IsFilled};
+ghost use Rattle.cvss_v3_metric.specs.Table.{spelling_of};
+ghost use Rattle.cvss_v3.specs.Vector.{v3};
+ghost use Rattle.cvss_v3.specs.VectorLaws.{v3_is_lawful, v3_fronts_are_lawful};
+
+use crate::metric::{Metric, MetricType};
+use crate::vector::Vector;
+use cvss_base::front::Fronted;
+use cvss_base::pieces::cut_early;
+use cvss_base::walk::{Components, Slip};
+
+/// The metrics in printing order (v3.1 specification, section 6).
+const PRINTED: [MetricType; 22] = [
+    MetricType::AV,
+    MetricType::AC,
+    MetricType::PR,
+    MetricType::UI,
+    MetricType::S,
+    MetricType::C,
+    MetricType::I,
+    MetricType::A,
+    MetricType::E,
+    MetricType::RL,
+    MetricType::RC,
+    MetricType::CR,
+    MetricType::IR,
+    MetricType::AR,
+    MetricType::MAV,
+    MetricType::MAC,
+    MetricType::MPR,
+    MetricType::MUI,
+    MetricType::MS,
+    MetricType::MC,
+    MetricType::MI,
+    MetricType::MA,
+];
+
+impl Components for Vector {
+    type Kind = MetricType;
+
+    ghost version = { v3 };
+
+    ghost lawful = { v3_is_lawful };
+
+    fn any_case() -> bool {
+        true
+    }
+
+    fn printed() -> &'static [MetricType] {
+        &PRINTED
+    }
+
+    fn name(kind: MetricType) -> &'static str {
+        kind.name()
+    }
+
+    fn cut(piece: &[u8]) -> Option<(MetricType, &[u8])> {
+        let (name, value) = cut_early(piece)?;
+        Some((named(name)?, value))
+    }
+
+    fn blamed(kind: MetricType) -> MetricType {
+        match kind {
+            MetricType::MAV => MetricType::AV,
+            MetricType::MAC => MetricType::AC,
+            MetricType::MPR => MetricType::PR,
+            MetricType::MUI => MetricType::UI,
+            MetricType::MS => MetricType::S,
+            MetricType::MC => MetricType::C,
+            MetricType::MI => MetricType::I,
+            MetricType::MA => MetricType::A,
+            kind => kind,
+        }
+    }
+
+    fn put(&mut self, kind: MetricType, value: &[u8]) -> Result<(), Slip> {
+        match kind {
+            MetricType::AV => fill(&mut self.av, value),
+            MetricType::AC => fill(&mut self.ac, value),
+            MetricType::PR => fill(&mut self.pr, value),
+            MetricType::UI => fill(&mut self.ui, value),
+            MetricType::S => fill(&mut self.s, value),
+            MetricType::C => fill(&mut self.c, value),
+            MetricType::I => fill(&mut self.i, value),
+            MetricType::A => fill(&mut self.a, value),
+            MetricType::E => fill(&mut self.e, value),
+            MetricType::RL => fill(&mut self.rl, value),
+            MetricType::RC => fill(&mut self.rc, value),
+            MetricType::CR => fill(&mut self.cr, value),
+            MetricType::IR => fill(&mut self.ir, value),
+            MetricType::AR => fill(&mut self.ar, value),
+            MetricType::MAV => fill(&mut self.mav, value),
+            MetricType::MAC => fill(&mut self.mac, value),
+            MetricType::MPR => fill(&mut self.mpr, value),
+            MetricType::MUI => fill(&mut self.mui, value),
+            MetricType::MS => fill(&mut self.ms, value),
+            MetricType::MC => fill(&mut self.mc, value),
+            MetricType::MI => fill(&mut self.mi, value),
+            MetricType::MA => fill(&mut self.ma, value),
+        }
+    }
+
+    fn first_missing(&self) -> Option<MetricType> {
+        None
+    }
+}
+
+impl Fronted for Vector {
+    ghost plain = { v3_fronts_are_lawful };
+
+    fn start(told: &[u8]) -> Option<Vector> {
+        let minor_version = match told {
+            b"3.0" => 0,
+            b"3.1" => 1,
+            _ => return None,
+        };
+        Some(Vector::empty(minor_version))
+    }
+}
+
+impl Vector {
+    /// The vector without metrics.
+    fn empty(minor_version: usize) -> Vector
+        ensures version { result.minor_version ≡ minor_version }
+        ensures valueless { HasNoValue v3 result }
+    {
+        Vector {
+            minor_version,
+            ..Vector::default()
+        }
+    }
+}
+
+/// The metric with this name, in any ASCII case.
+fn named(name: &[u8]) -> Option<MetricType>
+    ensures { IfSome result (λ kind. name_of kind ≡ raised name.now) }
+{
+    match name {
+        [b'A' | b'a', b'V' | b'v'] => Some(MetricType::AV),
+        [b'A' | b'a', b'C' | b'c'] => Some(MetricType::AC),
+        [b'P' | b'p', b'R' | b'r'] => Some(MetricType::PR),
+        [b'U' | b'u', b'I' | b'i'] => Some(MetricType::UI),
+        [b'S' | b's'] => Some(MetricType::S),
+        [b'C' | b'c'] => Some(MetricType::C),
+        [b'I' | b'i'] => Some(MetricType::I),
+        [b'A' | b'a'] => Some(MetricType::A),
+        [b'E' | b'e'] => Some(MetricType::E),
+        [b'R' | b'r', b'L' | b'l'] => Some(MetricType::RL),
+        [b'R' | b'r', b'C' | b'c'] => Some(MetricType::RC),
+        [b'C' | b'c', b'R' | b'r'] => Some(MetricType::CR),
+        [b'I' | b'i', b'R' | b'r'] => Some(MetricType::IR),
+        [b'A' | b'a', b'R' | b'r'] => Some(MetricType::AR),
+        [b'M' | b'm', b'A' | b'a', b'V' | b'v'] => Some(MetricType::MAV),
+        [b'M' | b'm', b'A' | b'a', b'C' | b'c'] => Some(MetricType::MAC),
+        [b'M' | b'm', b'P' | b'p', b'R' | b'r'] => Some(MetricType::MPR),
+        [b'M' | b'm', b'U' | b'u', b'I' | b'i'] => Some(MetricType::MUI),
+        [b'M' | b'm', b'S' | b's'] => Some(MetricType::MS),
+        [b'M' | b'm', b'C' | b'c'] => Some(MetricType::MC),
+        [b'M' | b'm', b'I' | b'i'] => Some(MetricType::MI),
+        [b'M' | b'm', b'A' | b'a'] => Some(MetricType::MA),
+        _ => None,
+    }
+}
+
+/// Reads a value into its place, which has to be empty.
+#[tactic(auto, using(cvss_v3_metric::specs::TableLaws::raised_spelling))]
+fn fill<M: Metric>(place: &mut Option<M>, text: &[u8]) -> Result<(), Slip>
+    ensures { IsFilled (λ x. raised (spelling_of M.TYPE (M.value x))) place.old (raised text.now)
+        result place.new }
+{
+    let Some(metric) = M::read_bytes(text) else {
+        return Err(Slip::Invalid);
+    };
+    if place.is_some() {
+        return Err(Slip::Repeated);
+    }
+    *place = Some(metric);
+    Ok(())
+}

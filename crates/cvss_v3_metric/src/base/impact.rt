@@ -1,0 +1,237 @@
+//! The impact on the component that suffers most (v3.1 specification, section 2.3).
+
+ghost use Rattle.std.specs.Prelude.{◌≡◌, ◌∷◌, Some, refl};
+ghost use Rattle.std.proofs.Common.{rules};
+ghost use Rattle.cvss_base.specs.declared.v3.MetricType.TheVariants.{C, I, A, MC, MI, MA};
+ghost use Rattle.cvss_base.specs.Text.{slash};
+ghost use Rattle.cvss_v3_metric.specs.Table.{metric_component};
+
+use crate::environmental::{BaseMetric, Modified};
+use crate::metric::{Metric, MetricType};
+use cvss_base::print::write_component;
+use std::fmt;
+
+/// What becomes known to those who may not know it (v3.1 specification, section 2.3.1).
+#[derive(Clone, Copy, Debug, PartialEq, Eq, PartialOrd, Ord)]
+pub enum Confidentiality {
+    None,
+    Low,
+    High,
+}
+
+impl Metric for Confidentiality {
+    const TYPE: MetricType = MetricType::C;
+
+    const FAULT_TYPE: MetricType = MetricType::C;
+
+    ghost TYPE = { C };
+
+    ghost FAULT_TYPE = { C };
+
+    ghost value = { λ metric. metric };
+
+    ghost law = { record { covers = λ x. (x, refl); ordered = Prim.search rules; fault = refl } };
+
+    fn row(self) -> (&'static str, Option<u64>) {
+        match self {
+            Confidentiality::None => ("/C:N", Some(0)),
+            Confidentiality::Low => ("/C:L", Some(22)),
+            Confidentiality::High => ("/C:H", Some(56)),
+        }
+    }
+
+    fn read_bytes(text: &[u8]) -> Option<Self> {
+        match text {
+            b"N" | b"n" => Some(Confidentiality::None),
+            b"L" | b"l" => Some(Confidentiality::Low),
+            b"H" | b"h" => Some(Confidentiality::High),
+            _ => None,
+        }
+    }
+}
+
+impl fmt::Display for Confidentiality {
+    ghost output = { λ metric. Some (metric_component C metric) };
+
+    fn fmt<W: fmt::Write>(&self, f: &mut fmt::Formatter<W>) -> fmt::Result {
+        write_component(self.row().0, f)
+    }
+}
+
+impl BaseMetric for Confidentiality {
+    const MODIFIED_TYPE: MetricType = MetricType::MC;
+
+    ghost MODIFIED_TYPE = { MC };
+
+    ghost modified = { λ metric. metric };
+
+    ghost base_law = { record {
+      covers = λ x. (x, refl);
+      row = λ x. refl;
+      place = Prim.search rules;
+      blamed = refl;
+      weighed = Prim.search rules;
+      defined = Prim.search rules;
+    } };
+
+    fn modified_slashed(metric: Modified<Self>) -> &'static str
+        ensures { result.now ≡ slash ∷ metric_component MC metric }
+    {
+        match metric {
+            Modified::NotDefined => "/MC:X",
+            Modified::Modified(Confidentiality::None) => "/MC:N",
+            Modified::Modified(Confidentiality::Low) => "/MC:L",
+            Modified::Modified(Confidentiality::High) => "/MC:H",
+        }
+    }
+}
+
+/// What can no longer be trusted to be genuine (v3.1 specification, section 2.3.2).
+#[derive(Clone, Copy, Debug, PartialEq, Eq, PartialOrd, Ord)]
+pub enum Integrity {
+    None,
+    Low,
+    High,
+}
+
+impl Metric for Integrity {
+    const TYPE: MetricType = MetricType::I;
+
+    const FAULT_TYPE: MetricType = MetricType::I;
+
+    ghost TYPE = { I };
+
+    ghost FAULT_TYPE = { I };
+
+    ghost value = { λ metric. metric };
+
+    ghost law = { record { covers = λ x. (x, refl); ordered = Prim.search rules; fault = refl } };
+
+    fn row(self) -> (&'static str, Option<u64>) {
+        match self {
+            Integrity::None => ("/I:N", Some(0)),
+            Integrity::Low => ("/I:L", Some(22)),
+            Integrity::High => ("/I:H", Some(56)),
+        }
+    }
+
+    fn read_bytes(text: &[u8]) -> Option<Self> {
+        match text {
+            b"N" | b"n" => Some(Integrity::None),
+            b"L" | b"l" => Some(Integrity::Low),
+            b"H" | b"h" => Some(Integrity::High),
+            _ => None,
+        }
+    }
+}
+
+impl fmt::Display for Integrity {
+    ghost output = { λ metric. Some (metric_component I metric) };
+
+    fn fmt<W: fmt::Write>(&self, f: &mut fmt::Formatter<W>) -> fmt::Result {
+        write_component(self.row().0, f)
+    }
+}
+
+impl BaseMetric for Integrity {
+    const MODIFIED_TYPE: MetricType = MetricType::MI;
+
+    ghost MODIFIED_TYPE = { MI };
+
+    ghost modified = { λ metric. metric };
+
+    ghost base_law = { record {
+      covers = λ x. (x, refl);
+      row = λ x. refl;
+      place = Prim.search rules;
+      blamed = refl;
+      weighed = Prim.search rules;
+      defined = Prim.search rules;
+    } };
+
+    fn modified_slashed(metric: Modified<Self>) -> &'static str
+        ensures { result.now ≡ slash ∷ metric_component MI metric }
+    {
+        match metric {
+            Modified::NotDefined => "/MI:X",
+            Modified::Modified(Integrity::None) => "/MI:N",
+            Modified::Modified(Integrity::Low) => "/MI:L",
+            Modified::Modified(Integrity::High) => "/MI:H",
+        }
+    }
+}
+
+/// What can no longer be used (v3.1 specification, section 2.3.3).
+#[derive(Clone, Copy, Debug, PartialEq, Eq, PartialOrd, Ord)]
+pub enum Availability {
+    None,
+    Low,
+    High,
+}
+
+impl Metric for Availability {
+    const TYPE: MetricType = MetricType::A;
+
+    const FAULT_TYPE: MetricType = MetricType::A;
+
+    ghost TYPE = { A };
+
+    ghost FAULT_TYPE = { A };
+
+    ghost value = { λ metric. metric };
+
+    ghost law = { record { covers = λ x. (x, refl); ordered = Prim.search rules; fault = refl } };
+
+    fn row(self) -> (&'static str, Option<u64>) {
+        match self {
+            Availability::None => ("/A:N", Some(0)),
+            Availability::Low => ("/A:L", Some(22)),
+            Availability::High => ("/A:H", Some(56)),
+        }
+    }
+
+    fn read_bytes(text: &[u8]) -> Option<Self> {
+        match text {
+            b"N" | b"n" => Some(Availability::None),
+            b"L" | b"l" => Some(Availability::Low),
+            b"H" | b"h" => Some(Availability::High),
+            _ => None,
+        }
+    }
+}
+
+impl fmt::Display for Availability {
+    ghost output = { λ metric. Some (metric_component A metric) };
+
+    fn fmt<W: fmt::Write>(&self, f: &mut fmt::Formatter<W>) -> fmt::Result {
+        write_component(self.row().0, f)
+    }
+}
+
+impl BaseMetric for Availability {
+    const MODIFIED_TYPE: MetricType = MetricType::MA;
+
+    ghost MODIFIED_TYPE = { MA };
+
+    ghost modified = { λ metric. metric };
+
+    ghost base_law = { record {
+      covers = λ x. (x, refl);
+      row = λ x. refl;
+      place = Prim.search rules;
+      blamed = refl;
+      weighed = Prim.search rules;
+      defined = Prim.search rules;
+    } };
+
+    fn modified_slashed(metric: Modified<Self>) -> &'static str
+        ensures { result.now ≡ slash ∷ metric_component MA metric }
+    {
+        match metric {
+            Modified::NotDefined => "/MA:X",
+            Modified::Modified(Availability::None) => "/MA:N",
+            Modified::Modified(Availability::Low) => "/MA:L",
+            Modified::Modified(Availability::High) => "/MA:H",
+        }
+    }
+}

@@ -1,0 +1,83 @@
+//! Whether somebody has to help (v3.1 specification, section 2.1.4).
+
+ghost use Rattle.std.specs.Prelude.{◌≡◌, ◌∷◌, Some, refl};
+ghost use Rattle.std.proofs.Common.{rules};
+ghost use Rattle.cvss_base.specs.declared.v3.MetricType.TheVariants.{UI, MUI};
+ghost use Rattle.cvss_base.specs.Text.{slash};
+ghost use Rattle.cvss_v3_metric.specs.Table.{metric_component};
+
+use crate::environmental::{BaseMetric, Modified};
+use crate::metric::{Metric, MetricType};
+use cvss_base::print::write_component;
+use std::fmt;
+
+/// Whether a person other than the attacker has to take part (v3.1 specification, section 2.1.4).
+#[derive(Clone, Copy, Debug, PartialEq, Eq, PartialOrd, Ord)]
+pub enum UserInteraction {
+    Required,
+    None,
+}
+
+impl Metric for UserInteraction {
+    const TYPE: MetricType = MetricType::UI;
+
+    const FAULT_TYPE: MetricType = MetricType::UI;
+
+    ghost TYPE = { UI };
+
+    ghost FAULT_TYPE = { UI };
+
+    ghost value = { λ metric. metric };
+
+    ghost law = { record { covers = λ x. (x, refl); ordered = Prim.search rules; fault = refl } };
+
+    fn row(self) -> (&'static str, Option<u64>) {
+        match self {
+            UserInteraction::Required => ("/UI:R", Some(62)),
+            UserInteraction::None => ("/UI:N", Some(85)),
+        }
+    }
+
+    fn read_bytes(text: &[u8]) -> Option<Self> {
+        match text {
+            b"R" | b"r" => Some(UserInteraction::Required),
+            b"N" | b"n" => Some(UserInteraction::None),
+            _ => None,
+        }
+    }
+}
+
+impl fmt::Display for UserInteraction {
+    ghost output = { λ metric. Some (metric_component UI metric) };
+
+    fn fmt<W: fmt::Write>(&self, f: &mut fmt::Formatter<W>) -> fmt::Result {
+        write_component(self.row().0, f)
+    }
+}
+
+impl BaseMetric for UserInteraction {
+    const MODIFIED_TYPE: MetricType = MetricType::MUI;
+
+    ghost MODIFIED_TYPE = { MUI };
+
+    ghost modified = { λ metric. metric };
+
+    ghost base_law = { record {
+      covers = λ x. (x, refl);
+      row = λ x. refl;
+      place = Prim.search rules;
+      blamed = refl;
+      weighed = Prim.search rules;
+      defined = Prim.search rules;
+    } };
+
+    fn modified_slashed(metric: Modified<Self>) -> &'static str
+        ensures { result.now ≡ slash ∷ metric_component MUI metric }
+    {
+        match metric {
+            Modified::NotDefined => "/MUI:X",
+            Modified::Modified(UserInteraction::Required) => "/MUI:R",
+            Modified::Modified(UserInteraction::None) => "/MUI:N",
+        }
+    }
+}

@@ -1,0 +1,109 @@
+//! What the attacker may do beforehand (v3.1 specification, section 2.1.3).
+
+ghost use Rattle.std.specs.Prelude.{◌∷◌, ◌≡◌, ◌*◌, ◌^◌, pos, Some, refl};
+ghost use Rattle.std.proofs.Common.{rules};
+ghost use Rattle.cvss_base.specs.declared.v3.MetricType.TheVariants.{PR, MPR};
+ghost use Rattle.cvss_base.specs.Text.{slash};
+ghost use Rattle.cvss_v3_metric.specs.Table.{metric_component, scoped_weight};
+
+use crate::environmental::{BaseMetric, Modified};
+use crate::metric::{HUNDREDTH, Metric, MetricType};
+use cvss_base::print::write_component;
+use std::fmt;
+
+/// The privileges that the attacker has to have before the attack (v3.1 specification, section
+/// 2.1.3).
+#[derive(Clone, Copy, Debug, PartialEq, Eq, PartialOrd, Ord)]
+pub enum PrivilegesRequired {
+    High,
+    Low,
+    None,
+}
+
+impl Metric for PrivilegesRequired {
+    const TYPE: MetricType = MetricType::PR;
+
+    const FAULT_TYPE: MetricType = MetricType::PR;
+
+    ghost TYPE = { PR };
+
+    ghost FAULT_TYPE = { PR };
+
+    ghost value = { λ metric. metric };
+
+    ghost law = { record { covers = λ x. (x, refl); ordered = Prim.search rules; fault = refl } };
+
+    fn row(self) -> (&'static str, Option<u64>) {
+        match self {
+            PrivilegesRequired::High => ("/PR:H", Some(27)),
+            PrivilegesRequired::Low => ("/PR:L", Some(62)),
+            PrivilegesRequired::None => ("/PR:N", Some(85)),
+        }
+    }
+
+    fn read_bytes(text: &[u8]) -> Option<Self> {
+        match text {
+            b"H" | b"h" => Some(PrivilegesRequired::High),
+            b"L" | b"l" => Some(PrivilegesRequired::Low),
+            b"N" | b"n" => Some(PrivilegesRequired::None),
+            _ => None,
+        }
+    }
+}
+
+impl fmt::Display for PrivilegesRequired {
+    ghost output = { λ metric. Some (metric_component PR metric) };
+
+    fn fmt<W: fmt::Write>(&self, f: &mut fmt::Formatter<W>) -> fmt::Result {
+        write_component(self.row().0, f)
+    }
+}
+
+impl BaseMetric for PrivilegesRequired {
+    const MODIFIED_TYPE: MetricType = MetricType::MPR;
+
+    ghost MODIFIED_TYPE = { MPR };
+
+    ghost modified = { λ metric. metric };
+
+    ghost base_law = { record {
+      covers = λ x. (x, refl);
+      row = λ x. refl;
+      place = Prim.search rules;
+      blamed = refl;
+      weighed = Prim.search rules;
+      defined = Prim.search rules;
+    } };
+
+    fn modified_slashed(metric: Modified<Self>) -> &'static str
+        ensures { result.now ≡ slash ∷ metric_component MPR metric }
+    {
+        match metric {
+            Modified::NotDefined => "/MPR:X",
+            Modified::Modified(PrivilegesRequired::High) => "/MPR:H",
+            Modified::Modified(PrivilegesRequired::Low) => "/MPR:L",
+            Modified::Modified(PrivilegesRequired::None) => "/MPR:N",
+        }
+    }
+}
+
+impl PrivilegesRequired {
+    /// The value's weight in hundredths, which is higher where the scope changes (v3.1 specification,
+    /// section 7.4).
+    pub fn scoped_hundredths(self, scope_changed: bool) -> u64
+        ensures { result ≡ scoped_weight scope_changed self }
+    {
+        match (self, scope_changed) {
+            (PrivilegesRequired::High, true) => 50,
+            (PrivilegesRequired::Low, true) => 68,
+            _ => self.hundredths().unwrap(),
+        }
+    }
+
+    /// The value's weight in counts of 10^-24, which is higher where the scope changes.
+    pub fn scoped_score(self, scope_change: bool) -> i128
+        ensures { result ≡ pos (scoped_weight scope_change self * 10 ^ 22) }
+    {
+        i128::from(self.scoped_hundredths(scope_change)) * HUNDREDTH
+    }
+}

@@ -1,0 +1,64 @@
+//! How far the impact goes (v3.1 specification, section 2.2).
+
+ghost use Rattle.std.specs.Prelude.{◌≡◌, ◌↔◌, IsTrue, Some, refl};
+ghost use Rattle.std.proofs.Common.{rules};
+ghost use Rattle.cvss_base.specs.declared.v3.MetricType.TheVariants.{S};
+ghost use Rattle.cvss_v3_metric.specs.Table.{metric_component};
+
+use crate::metric::{Metric, MetricType};
+use cvss_base::print::write_component;
+use std::fmt;
+
+/// Whether the impact goes beyond the vulnerable component's security authority (v3.1 specification,
+/// section 2.2).
+#[derive(Clone, Copy, Debug, PartialEq, Eq, PartialOrd, Ord)]
+pub enum Scope {
+    Unchanged,
+    Changed,
+}
+
+impl Metric for Scope {
+    const TYPE: MetricType = MetricType::S;
+
+    const FAULT_TYPE: MetricType = MetricType::S;
+
+    ghost TYPE = { S };
+
+    ghost FAULT_TYPE = { S };
+
+    ghost value = { λ metric. metric };
+
+    ghost law = { record { covers = λ x. (x, refl); ordered = Prim.search rules; fault = refl } };
+
+    fn row(self) -> (&'static str, Option<u64>) {
+        match self {
+            Scope::Unchanged => ("/S:U", None),
+            Scope::Changed => ("/S:C", None),
+        }
+    }
+
+    fn read_bytes(text: &[u8]) -> Option<Self> {
+        match text {
+            b"U" | b"u" => Some(Scope::Unchanged),
+            b"C" | b"c" => Some(Scope::Changed),
+            _ => None,
+        }
+    }
+}
+
+impl fmt::Display for Scope {
+    ghost output = { λ metric. Some (metric_component S metric) };
+
+    fn fmt<W: fmt::Write>(&self, f: &mut fmt::Formatter<W>) -> fmt::Result {
+        write_component(self.row().0, f)
+    }
+}
+
+impl Scope {
+    /// Whether the impact goes beyond the vulnerable component's security authority.
+    pub fn is_changed(self) -> bool
+        ensures { IsTrue result ↔ (self ≡ Scope.Changed) }
+    {
+        self == Scope::Changed
+    }
+}

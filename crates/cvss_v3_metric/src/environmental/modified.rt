@@ -1,0 +1,114 @@
+//! The modified base metrics (v3.1 specification, section 4.2).
+
+ghost use Rattle.std.specs.Prelude.{◌≡◌, ◌∷◌, ◌*◌, ◌^◌, pos, Some, refl};
+ghost use Rattle.cvss_base.specs.Text.{slash};
+ghost use Rattle.cvss_base.specs.declared.v3.MetricType.{MetricType};
+ghost use Rattle.cvss_v3_metric.specs.Table.{Value, weight_of, scoped_weight, metric_component};
+ghost use Rattle.cvss_v3_metric.specs.Metrics.{IsBaseMetric};
+ghost use Rattle.cvss_v3_metric.specs.Modified.{replaced, weight_if_set};
+
+use crate::base::PrivilegesRequired;
+use crate::metric::{HUNDREDTH, Metric, MetricType};
+use cvss_base::print::write_component;
+use std::fmt;
+
+/// A value that replaces that of the base metric, if one is set. It has no weight of its own.
+#[derive(Clone, Copy, Debug, PartialEq, Eq, PartialOrd, Ord)]
+pub enum Modified<T> {
+    NotDefined,
+    Modified(T),
+}
+
+/// A base metric that a modified metric can replace.
+pub trait BaseMetric: Metric {
+    ghost use Rattle.cvss_v3_metric.specs.declared.environmental.modified.Modified.{Modified};
+
+    /// The modified metric.
+    const MODIFIED_TYPE: MetricType;
+
+    ghost MODIFIED_TYPE: { MetricType };
+
+    ghost modified: { Modified Self → Value MODIFIED_TYPE };
+
+    /// A slash and the component that stands for the modified value in a vector.
+    fn modified_slashed(metric: Modified<Self>) -> &'static str
+        ensures { result.now ≡ slash ∷ metric_component MODIFIED_TYPE (modified metric) };
+
+    ghost base_law: { IsBaseMetric Self.TYPE MODIFIED_TYPE Self.value modified };
+}
+
+impl<T: BaseMetric> Metric for Modified<T> {
+    ghost use Rattle.cvss_v3_metric.specs.ModifiedLaws.{modified_order};
+
+    const TYPE: MetricType = T::MODIFIED_TYPE;
+
+    ghost TYPE = { T.MODIFIED_TYPE };
+
+    const FAULT_TYPE: MetricType = T::TYPE;
+
+    ghost FAULT_TYPE = { T.TYPE };
+
+    ghost value = { T.modified };
+
+    ghost law = { record {
+      covers = T.base_law.covers;
+      ordered = modified_order _ T.law T.base_law refl (λ y. refl) (λ x. refl) (λ x y. refl);
+      fault = T.base_law.blamed;
+    } };
+
+    fn row(self) -> (&'static str, Option<u64>) {
+        (T::modified_slashed(self), Some(0))
+    }
+
+    fn read_bytes(text: &[u8]) -> Option<Self> {
+        match text {
+            b"X" | b"x" => Some(Modified::NotDefined),
+            _ => Some(Modified::Modified(T::read_bytes(text)?)),
+        }
+    }
+}
+
+impl<T: BaseMetric> fmt::Display for Modified<T> {
+    ghost output = { λ metric. Some (metric_component T.MODIFIED_TYPE (T.modified metric)) };
+
+    fn fmt<W: fmt::Write>(&self, f: &mut fmt::Formatter<W>) -> fmt::Result {
+        write_component(T::modified_slashed(*self), f)
+    }
+}
+
+impl<T: BaseMetric> Modified<T> {
+    /// The value that is set, and else that of the base metric.
+    pub fn or(self, base: Option<T>) -> Option<T>
+        ensures { result ≡ replaced self base }
+    {
+        match self {
+            Modified::NotDefined => base,
+            Modified::Modified(value) => Some(value),
+        }
+    }
+
+    /// The weight of the value that is set, and else of the base metric's, in counts of 10^-24.
+    pub fn modified_score(self, base: Option<T>) -> i128
+        ensures { result ≡ pos (weight_if_set (λ value. weight_of T.TYPE (T.value value))
+            (replaced self base) * 10 ^ 22) }
+    {
+        match self.or(base) {
+            Some(value) => value.score(),
+            None => 0,
+        }
+    }
+}
+
+impl Modified<PrivilegesRequired> {
+    /// The weight of the value that is set, and else of the base metric's, in counts of 10^-24. It is
+    /// higher where the scope changes.
+    pub fn scoped_score(self, scope_changed: bool, base: Option<PrivilegesRequired>) -> i128
+        ensures { result ≡ pos (weight_if_set (λ value. Some (scoped_weight scope_changed value))
+            (replaced self base) * 10 ^ 22) }
+    {
+        match self.or(base) {
+            Some(value) => value.scoped_score(scope_changed),
+            None => 0,
+        }
+    }
+}

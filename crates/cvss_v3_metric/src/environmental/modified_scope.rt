@@ -1,0 +1,55 @@
+//! The modified scope (v3.1 specification, section 4.2).
+
+ghost use Rattle.std.specs.Prelude.{Some, refl};
+ghost use Rattle.std.proofs.Common.{rules};
+ghost use Rattle.cvss_base.specs.declared.v3.MetricType.TheVariants.{S, MS};
+ghost use Rattle.cvss_v3_metric.specs.Table.{metric_component};
+
+use crate::base::Scope;
+use crate::metric::{Metric, MetricType};
+use cvss_base::print::write_component;
+use std::fmt;
+
+/// A scope that replaces that of the base metrics, if one is set.
+#[derive(Clone, Copy, Debug, PartialEq, Eq, PartialOrd, Ord)]
+pub enum ModifiedScope {
+    NotDefined,
+    Modified(Scope),
+}
+
+impl Metric for ModifiedScope {
+    const TYPE: MetricType = MetricType::MS;
+
+    ghost TYPE = { MS };
+
+    const FAULT_TYPE: MetricType = MetricType::S;
+
+    ghost FAULT_TYPE = { S };
+
+    ghost value = { λ metric. metric };
+
+    ghost law = { record { covers = λ x. (x, refl); ordered = Prim.search rules; fault = refl } };
+
+    fn row(self) -> (&'static str, Option<u64>) {
+        match self {
+            ModifiedScope::NotDefined => ("/MS:X", Some(0)),
+            ModifiedScope::Modified(Scope::Unchanged) => ("/MS:U", None),
+            ModifiedScope::Modified(Scope::Changed) => ("/MS:C", None),
+        }
+    }
+
+    fn read_bytes(text: &[u8]) -> Option<Self> {
+        match text {
+            b"X" | b"x" => Some(ModifiedScope::NotDefined),
+            _ => Some(ModifiedScope::Modified(Scope::read_bytes(text)?)),
+        }
+    }
+}
+
+impl fmt::Display for ModifiedScope {
+    ghost output = { λ metric. Some (metric_component MS metric) };
+
+    fn fmt<W: fmt::Write>(&self, f: &mut fmt::Formatter<W>) -> fmt::Result {
+        write_component(self.row().0, f)
+    }
+}

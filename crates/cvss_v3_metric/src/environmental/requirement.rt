@@ -1,0 +1,160 @@
+//! The security requirements (v3.1 specification, section 4.1).
+
+ghost use Rattle.std.specs.Prelude.{Some, refl};
+ghost use Rattle.std.proofs.Common.{rules};
+ghost use Rattle.cvss_base.specs.declared.v3.MetricType.TheVariants.{CR, IR, AR};
+ghost use Rattle.cvss_v3_metric.specs.Table.{metric_component};
+
+use crate::metric::{Metric, MetricType};
+use cvss_base::print::write_component;
+use std::fmt;
+
+/// How much confidentiality matters to the user of the component (v3.1 specification, section 4.1).
+#[derive(Clone, Copy, Debug, PartialEq, Eq, PartialOrd, Ord)]
+pub enum ConfidentialityRequirement {
+    NotDefined,
+    High,
+    Medium,
+    Low,
+}
+
+impl Metric for ConfidentialityRequirement {
+    const TYPE: MetricType = MetricType::CR;
+
+    const FAULT_TYPE: MetricType = MetricType::CR;
+
+    ghost TYPE = { CR };
+
+    ghost FAULT_TYPE = { CR };
+
+    ghost value = { λ metric. metric };
+
+    ghost law = { record { covers = λ x. (x, refl); ordered = Prim.search rules; fault = refl } };
+
+    fn row(self) -> (&'static str, Option<u64>) {
+        match self {
+            ConfidentialityRequirement::NotDefined => ("/CR:X", Some(100)),
+            ConfidentialityRequirement::High => ("/CR:H", Some(150)),
+            ConfidentialityRequirement::Medium => ("/CR:M", Some(100)),
+            ConfidentialityRequirement::Low => ("/CR:L", Some(50)),
+        }
+    }
+
+    fn read_bytes(text: &[u8]) -> Option<Self> {
+        match text {
+            b"X" | b"x" => Some(ConfidentialityRequirement::NotDefined),
+            b"H" | b"h" => Some(ConfidentialityRequirement::High),
+            b"M" | b"m" => Some(ConfidentialityRequirement::Medium),
+            b"L" | b"l" => Some(ConfidentialityRequirement::Low),
+            _ => None,
+        }
+    }
+}
+
+impl fmt::Display for ConfidentialityRequirement {
+    ghost output = { λ metric. Some (metric_component CR metric) };
+
+    fn fmt<W: fmt::Write>(&self, f: &mut fmt::Formatter<W>) -> fmt::Result {
+        write_component(self.row().0, f)
+    }
+}
+
+/// How much integrity matters to the user of the component (v3.1 specification, section 4.1).
+#[derive(Clone, Copy, Debug, PartialEq, Eq, PartialOrd, Ord)]
+pub enum IntegrityRequirement {
+    NotDefined,
+    High,
+    Medium,
+    Low,
+}
+
+impl Metric for IntegrityRequirement {
+    const TYPE: MetricType = MetricType::IR;
+
+    const FAULT_TYPE: MetricType = MetricType::IR;
+
+    ghost TYPE = { IR };
+
+    ghost FAULT_TYPE = { IR };
+
+    ghost value = { λ metric. metric };
+
+    ghost law = { record { covers = λ x. (x, refl); ordered = Prim.search rules; fault = refl } };
+
+    fn row(self) -> (&'static str, Option<u64>) {
+        match self {
+            IntegrityRequirement::NotDefined => ("/IR:X", Some(100)),
+            IntegrityRequirement::High => ("/IR:H", Some(150)),
+            IntegrityRequirement::Medium => ("/IR:M", Some(100)),
+            IntegrityRequirement::Low => ("/IR:L", Some(50)),
+        }
+    }
+
+    fn read_bytes(text: &[u8]) -> Option<Self> {
+        match text {
+            b"X" | b"x" => Some(IntegrityRequirement::NotDefined),
+            b"H" | b"h" => Some(IntegrityRequirement::High),
+            b"M" | b"m" => Some(IntegrityRequirement::Medium),
+            b"L" | b"l" => Some(IntegrityRequirement::Low),
+            _ => None,
+        }
+    }
+}
+
+impl fmt::Display for IntegrityRequirement {
+    ghost output = { λ metric. Some (metric_component IR metric) };
+
+    fn fmt<W: fmt::Write>(&self, f: &mut fmt::Formatter<W>) -> fmt::Result {
+        write_component(self.row().0, f)
+    }
+}
+
+/// How much availability matters to the user of the component (v3.1 specification, section 4.1).
+#[derive(Clone, Copy, Debug, PartialEq, Eq, PartialOrd, Ord)]
+pub enum AvailabilityRequirement {
+    NotDefined,
+    High,
+    Medium,
+    Low,
+}
+
+impl Metric for AvailabilityRequirement {
+    const TYPE: MetricType = MetricType::AR;
+
+    const FAULT_TYPE: MetricType = MetricType::AR;
+
+    ghost TYPE = { AR };
+
+    ghost FAULT_TYPE = { AR };
+
+    ghost value = { λ metric. metric };
+
+    ghost law = { record { covers = λ x. (x, refl); ordered = Prim.search rules; fault = refl } };
+
+    fn row(self) -> (&'static str, Option<u64>) {
+        match self {
+            AvailabilityRequirement::NotDefined => ("/AR:X", Some(100)),
+            AvailabilityRequirement::High => ("/AR:H", Some(150)),
+            AvailabilityRequirement::Medium => ("/AR:M", Some(100)),
+            AvailabilityRequirement::Low => ("/AR:L", Some(50)),
+        }
+    }
+
+    fn read_bytes(text: &[u8]) -> Option<Self> {
+        match text {
+            b"X" | b"x" => Some(AvailabilityRequirement::NotDefined),
+            b"H" | b"h" => Some(AvailabilityRequirement::High),
+            b"M" | b"m" => Some(AvailabilityRequirement::Medium),
+            b"L" | b"l" => Some(AvailabilityRequirement::Low),
+            _ => None,
+        }
+    }
+}
+
+impl fmt::Display for AvailabilityRequirement {
+    ghost output = { λ metric. Some (metric_component AR metric) };
+
+    fn fmt<W: fmt::Write>(&self, f: &mut fmt::Formatter<W>) -> fmt::Result {
+        write_component(self.row().0, f)
+    }
+}

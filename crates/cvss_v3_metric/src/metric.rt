@@ -1,0 +1,139 @@
+//! What all metrics of CVSS v3 have in common.
+
+ghost use Rattle.std.specs.Prelude.{◌≡◌, ◌∷◌, ◌*◌, ◌^◌, ◌↔◌, pos, IsTrue, IsSome, IfSome, IfOk, IfErr, Some, unwrap_or};
+ghost use Rattle.cvss_base.specs.Refusal.{BadValue};
+ghost use Rattle.cvss_base.specs.Told.{Tells, v3_reason};
+ghost use Rattle.cvss_base.specs.V3Types.{name_of};
+ghost use Rattle.cvss_base.specs.declared.v3.MetricType.{MetricType};
+ghost use Rattle.cvss_base.specs.Text.{slash, raised};
+ghost use Rattle.cvss_v3_metric.specs.Table.{Value, spelling_of, weight_of, metric_component};
+ghost use Rattle.cvss_v3_metric.specs.Metrics.{IsMetric};
+
+use cvss_base::Error;
+pub use cvss_base::v3::MetricType;
+use std::alloc::Global;
+use std::fmt;
+
+/// A hundredth, in counts of 10^-24.
+pub(crate) const HUNDREDTH: i128 = 10_000_000_000_000_000_000_000;
+
+/// A metric: an enum of the values that the specification gives for its type.
+pub trait Metric: Copy + Clone + fmt::Debug + fmt::Display + Eq + Ord + 'static {
+    /// Which metric this is.
+    const TYPE: MetricType;
+
+    ghost TYPE: { MetricType };
+
+    /// The metric that a refused value is reported under.
+    const FAULT_TYPE: MetricType;
+
+    ghost FAULT_TYPE: { MetricType };
+
+    ghost value: { Self → Value TYPE };
+
+    /// A slash and the component that stands for the value in a vector, and the value's weight in
+    /// hundredths, if it has one (v3.1 specification, section 7.4).
+    fn row(self) -> (&'static str, Option<u64>)
+        ensures text { result.0.now ≡ slash ∷ metric_component TYPE (value self) }
+        ensures weight { result.1 ≡ weight_of TYPE (value self) };
+
+    /// The value with this spelling, in any ASCII case.
+    fn read_bytes(text: &[u8]) -> Option<Self>
+        ensures spelled { IfSome result
+            (λ metric. spelling_of TYPE (value metric) ≡ raised text.now) }
+        ensures read { (metric : Self) → spelling_of TYPE (value metric) ≡ raised text.now
+            → result ≡ Some metric };
+
+    /// A slash and the component that stands for the value in a vector.
+    fn slashed(self) -> &'static str
+        ensures { result.now ≡ slash ∷ metric_component TYPE (value self) }
+    {
+        self.row().0
+    }
+
+    /// The value's weight in hundredths, if it has one (v3.1 specification, section 7.4).
+    fn hundredths(self) -> Option<u64>
+        ensures { result ≡ weight_of TYPE (value self) }
+    {
+        self.row().1
+    }
+
+    /// How the value is spelled in a vector.
+    fn as_str(self) -> &'static str
+        ensures { result.now ≡ spelling_of TYPE (value self) }
+    {
+        &self.slashed()[Self::TYPE.name().len() + 2..]
+    }
+
+    /// The value with this spelling, in any ASCII case.
+    fn read_raised(text: &str) -> Option<Self>
+        ensures spelled { IfSome result
+            (λ metric. spelling_of TYPE (value metric) ≡ raised text.now) }
+        ensures read { (metric : Self) → spelling_of TYPE (value metric) ≡ raised text.now
+            → result ≡ Some metric }
+    {
+        Self::read_bytes(text.as_bytes())
+    }
+
+    /// The value with this spelling, exactly as it is written.
+    #[tactic(auto, using(crate::specs::TableLaws::raised_spelling))]
+    fn read(text: &str) -> Option<Self>
+        ensures spelled { IfSome result (λ metric. spelling_of TYPE (value metric) ≡ text.now) }
+        ensures read { (metric : Self) → spelling_of TYPE (value metric) ≡ text.now
+            → result ≡ Some metric }
+    {
+        let metric = Self::read_raised(text)?;
+        if metric.as_str() == text {
+            Some(metric)
+        } else {
+            None
+        }
+    }
+
+    /// The value with this spelling, exactly as it is written.
+    ///
+    /// # Errors
+    ///
+    /// `InvalidMetricV3` with the text where the metric has no such value.
+    fn from_str(alloc: Global, text: &str) -> Result<Self, Error>
+        ensures spelled { IfOk result (λ metric. spelling_of TYPE (value metric) ≡ text.now) }
+        ensures read { (metric : Self) → spelling_of TYPE (value metric) ≡ text.now
+            → result ≡ Ok metric }
+        ensures refused { IfErr result (Tells v3_reason (BadValue FAULT_TYPE text.now)) }
+    {
+        match Self::read(text) {
+            Some(metric) => Ok(metric),
+            None => {
+                let value = String::from_str(alloc, text)?;
+                Err(Error::InvalidMetricV3 {
+                    metric_type: Self::FAULT_TYPE,
+                    value,
+                })
+            }
+        }
+    }
+
+    /// Whether the value has a weight.
+    fn has_score(self) -> bool
+        ensures { IsTrue result ↔ IsSome (weight_of TYPE (value self)) }
+    {
+        self.hundredths().is_some()
+    }
+
+    /// The value's weight in counts of 10^-24 (v3.1 specification, section 7.4).
+    fn score(self) -> i128
+        requires { IsSome (weight_of TYPE (value self)) }
+        ensures { result ≡ pos (unwrap_or (weight_of TYPE (value self)) 0 * 10 ^ 22) }
+    {
+        i128::from(self.hundredths().unwrap()) * HUNDREDTH
+    }
+
+    /// The metric's abbreviation.
+    fn name() -> &'static str
+        ensures { result.now ≡ name_of TYPE }
+    {
+        Self::TYPE.name()
+    }
+
+    ghost law: { IsMetric TYPE FAULT_TYPE value ⟦<Self as Ord>⟧.cmp };
+}

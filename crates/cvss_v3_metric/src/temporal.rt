@@ -1,0 +1,166 @@
+//! The temporal metrics (v3.1 specification, section 3).
+
+ghost use Rattle.std.specs.Prelude.{Some, refl};
+ghost use Rattle.std.proofs.Common.{rules};
+ghost use Rattle.cvss_base.specs.declared.v3.MetricType.TheVariants.{E, RL, RC};
+ghost use Rattle.cvss_v3_metric.specs.Table.{metric_component};
+
+use crate::metric::{Metric, MetricType};
+use cvss_base::print::write_component;
+use std::fmt;
+
+/// How far techniques or code to exploit are developed (v3.1 specification, section 3.1).
+#[derive(Clone, Copy, Debug, PartialEq, Eq, PartialOrd, Ord)]
+pub enum ExploitCodeMaturity {
+    NotDefined,
+    High,
+    Functional,
+    ProofOfConcept,
+    Unproven,
+}
+
+impl Metric for ExploitCodeMaturity {
+    const TYPE: MetricType = MetricType::E;
+
+    const FAULT_TYPE: MetricType = MetricType::E;
+
+    ghost TYPE = { E };
+
+    ghost FAULT_TYPE = { E };
+
+    ghost value = { λ metric. metric };
+
+    ghost law = { record { covers = λ x. (x, refl); ordered = Prim.search rules; fault = refl } };
+
+    fn row(self) -> (&'static str, Option<u64>) {
+        match self {
+            ExploitCodeMaturity::NotDefined => ("/E:X", Some(100)),
+            ExploitCodeMaturity::High => ("/E:H", Some(100)),
+            ExploitCodeMaturity::Functional => ("/E:F", Some(97)),
+            ExploitCodeMaturity::ProofOfConcept => ("/E:P", Some(94)),
+            ExploitCodeMaturity::Unproven => ("/E:U", Some(91)),
+        }
+    }
+
+    fn read_bytes(text: &[u8]) -> Option<Self> {
+        match text {
+            b"X" | b"x" => Some(ExploitCodeMaturity::NotDefined),
+            b"H" | b"h" => Some(ExploitCodeMaturity::High),
+            b"F" | b"f" => Some(ExploitCodeMaturity::Functional),
+            b"P" | b"p" => Some(ExploitCodeMaturity::ProofOfConcept),
+            b"U" | b"u" => Some(ExploitCodeMaturity::Unproven),
+            _ => None,
+        }
+    }
+}
+
+impl fmt::Display for ExploitCodeMaturity {
+    ghost output = { λ metric. Some (metric_component E metric) };
+
+    fn fmt<W: fmt::Write>(&self, f: &mut fmt::Formatter<W>) -> fmt::Result {
+        write_component(self.row().0, f)
+    }
+}
+
+/// What is there to fix the vulnerability (v3.1 specification, section 3.2).
+#[derive(Clone, Copy, Debug, PartialEq, Eq, PartialOrd, Ord)]
+pub enum RemediationLevel {
+    NotDefined,
+    Unavailable,
+    Workaround,
+    TemporaryFix,
+    OfficialFix,
+}
+
+impl Metric for RemediationLevel {
+    const TYPE: MetricType = MetricType::RL;
+
+    const FAULT_TYPE: MetricType = MetricType::RL;
+
+    ghost TYPE = { RL };
+
+    ghost FAULT_TYPE = { RL };
+
+    ghost value = { λ metric. metric };
+
+    ghost law = { record { covers = λ x. (x, refl); ordered = Prim.search rules; fault = refl } };
+
+    fn row(self) -> (&'static str, Option<u64>) {
+        match self {
+            RemediationLevel::NotDefined => ("/RL:X", Some(100)),
+            RemediationLevel::Unavailable => ("/RL:U", Some(100)),
+            RemediationLevel::Workaround => ("/RL:W", Some(97)),
+            RemediationLevel::TemporaryFix => ("/RL:T", Some(96)),
+            RemediationLevel::OfficialFix => ("/RL:O", Some(95)),
+        }
+    }
+
+    fn read_bytes(text: &[u8]) -> Option<Self> {
+        match text {
+            b"X" | b"x" => Some(RemediationLevel::NotDefined),
+            b"U" | b"u" => Some(RemediationLevel::Unavailable),
+            b"W" | b"w" => Some(RemediationLevel::Workaround),
+            b"T" | b"t" => Some(RemediationLevel::TemporaryFix),
+            b"O" | b"o" => Some(RemediationLevel::OfficialFix),
+            _ => None,
+        }
+    }
+}
+
+impl fmt::Display for RemediationLevel {
+    ghost output = { λ metric. Some (metric_component RL metric) };
+
+    fn fmt<W: fmt::Write>(&self, f: &mut fmt::Formatter<W>) -> fmt::Result {
+        write_component(self.row().0, f)
+    }
+}
+
+/// How sure it is that the vulnerability exists, and its details (v3.1 specification, section 3.3).
+#[derive(Clone, Copy, Debug, PartialEq, Eq, PartialOrd, Ord)]
+pub enum ReportConfidence {
+    NotDefined,
+    Confirmed,
+    Reasonable,
+    Unknown,
+}
+
+impl Metric for ReportConfidence {
+    const TYPE: MetricType = MetricType::RC;
+
+    const FAULT_TYPE: MetricType = MetricType::RC;
+
+    ghost TYPE = { RC };
+
+    ghost FAULT_TYPE = { RC };
+
+    ghost value = { λ metric. metric };
+
+    ghost law = { record { covers = λ x. (x, refl); ordered = Prim.search rules; fault = refl } };
+
+    fn row(self) -> (&'static str, Option<u64>) {
+        match self {
+            ReportConfidence::NotDefined => ("/RC:X", Some(100)),
+            ReportConfidence::Confirmed => ("/RC:C", Some(100)),
+            ReportConfidence::Reasonable => ("/RC:R", Some(96)),
+            ReportConfidence::Unknown => ("/RC:U", Some(92)),
+        }
+    }
+
+    fn read_bytes(text: &[u8]) -> Option<Self> {
+        match text {
+            b"X" | b"x" => Some(ReportConfidence::NotDefined),
+            b"C" | b"c" => Some(ReportConfidence::Confirmed),
+            b"R" | b"r" => Some(ReportConfidence::Reasonable),
+            b"U" | b"u" => Some(ReportConfidence::Unknown),
+            _ => None,
+        }
+    }
+}
+
+impl fmt::Display for ReportConfidence {
+    ghost output = { λ metric. Some (metric_component RC metric) };
+
+    fn fmt<W: fmt::Write>(&self, f: &mut fmt::Formatter<W>) -> fmt::Result {
+        write_component(self.row().0, f)
+    }
+}
