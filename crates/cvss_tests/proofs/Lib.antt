@@ -1,1 +1,2 @@
 mod EqualLemmas
+mod TwiceLemmas

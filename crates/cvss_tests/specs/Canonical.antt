@@ -1,12 +1,11 @@
--- The canonical text of what another text denotes: CVSS v2 guide, section 2.4.
+-- The canonical text of what another text denotes: CVSS v2 guide, section 2.4; v3.1 specification,
+-- section 6.
 use Rattle.std.specs.Prelude.{◌≡◌, ℕ, List}
-use Rattle.cvss.specs.VectorTypeV2.{Vector}
-use Rattle.cvss.specs.VectorV2.{v2}
-use Rattle.cvss.specs.Version.{canonical_text, Denotes, IsComplete}
+use Rattle.cvss.specs.Version.{Version, canonical_text, Denotes}
 
--- the text denotes a complete vector, whose canonical text is what was printed
-pub record IsCanonicalTextOf (text printed : List ℕ) : Type 0 where
-  pub vector : Vector
-  pub denoted : Denotes v2 text vector
-  pub complete : IsComplete v2 vector
-  pub is : printed ≡ canonical_text v2 vector
+-- the text denotes such a vector, whose canonical text is what was printed
+pub record IsCanonicalTextOf {V K : Type 0} (version : Version V K) (IsVector : V → Type 0) (text printed : List ℕ) : Type 0 where
+  pub vector : V
+  pub denoted : Denotes version text vector
+  pub is_vector : IsVector vector
+  pub is : printed ≡ canonical_text version vector

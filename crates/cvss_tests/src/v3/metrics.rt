@@ -102,7 +102,7 @@ fn spells_and_weighs_values(rt: HostRuntime) -> Result<(), Fail> {
         ),
     ];
     for (facts, name, spelling, hundredths) in rows {
-        let weight = hundredths.map(|count: i128| count * HUNDREDTH);
+        let weight = hundredths.map(|count: u8| i128::from(count) * HUNDREDTH);
         assert!(rt;
             facts == (name, spelling, weight, true, true),
             "{name} {spelling}"

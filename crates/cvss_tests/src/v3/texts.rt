@@ -72,6 +72,14 @@ fn refuses_for_the_first_reason(rt: HostRuntime) -> Result<(), Fail> {
             "duplicate CVSSv3 AV (Attack Vector) metric",
         ),
         (
+            "AV:N/AC:L/PR:N/UI:R/S:C/C:L/I:L/A:N",
+            "invalid CVSS string prefix: `AV`",
+        ),
+        (
+            "CVSS:3.1/AV:N/AC:L/PR:N/UI:R/S:C/C:L/I:L/A:N/AV:L",
+            "duplicate CVSSv3 AV (Attack Vector) metric",
+        ),
+        (
             "CVSS:3.0/mui:x/MUI:N/q:q",
             "duplicate CVSSv3 MUI (Modified User Interaction) metric",
         ),

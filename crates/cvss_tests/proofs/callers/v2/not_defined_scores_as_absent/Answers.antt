@@ -1,6 +1,6 @@
 use Rattle.cvss.specs.ScoresV2.{IsBaseScore, IsTemporalScore, IsEnvironmentalScore}
 use Rattle.cvss_tests.proofs.EqualLemmas.{equal_scores}
-use Rattle.cvss_tests.proofs.callers.not_defined_scores_as_absent.Goals as goal
+use Rattle.cvss_tests.proofs.callers.v2.not_defined_scores_as_absent.Goals as goal
 
 pub returns-clause-base : goal.returns-clause-base
 returns-clause-base c =
