@@ -6,9 +6,11 @@ pub mod Numeral
 pub mod Order
 pub mod Pieces
 pub mod Printing
+pub mod Rating
 pub mod Refusal
 pub mod Rounding
 pub mod SeverityText
+pub mod Tenths
 pub mod Text
 pub mod Told
 pub mod V2Types

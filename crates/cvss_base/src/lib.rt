@@ -9,6 +9,7 @@ pub mod metrics;
 mod number;
 pub mod pieces;
 pub mod print;
+mod rating;
 pub mod refusing;
 mod severity;
 mod text;
@@ -18,6 +19,7 @@ pub mod walk;
 
 pub use error::Error;
 pub use number::{LIMIT, ONE, TENTH};
+pub use rating::severity_of_score;
 pub use severity::Severity;
 
 /// The word that begins the text of a vector, from version 3.0 on (v3.1 specification, section 6).

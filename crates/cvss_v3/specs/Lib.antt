@@ -1,2 +1,9 @@
+pub mod Certainty
+pub mod Near
+pub mod ScoreLaws
+pub mod Scores
+pub mod SubScores
 pub mod Vector
 pub mod VectorLaws
+pub mod VectorWeights
+pub mod Weights

@@ -6,6 +6,7 @@ mod listing;
 mod printing;
 mod reading;
 mod refusing;
+mod scores;
 
 use crate::metric::base::{
     AttackComplexity, AttackVector, Availability, Confidentiality, Integrity, PrivilegesRequired,

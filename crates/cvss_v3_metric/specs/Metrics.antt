@@ -1,11 +1,10 @@
 -- What holds of each enum of metric values.
-use Rattle.std.specs.Prelude.{◌≡◌, ◌≢◌, ◌+◌, codes, IsSome}
+use Rattle.std.specs.Prelude.{◌≡◌, ◌≢◌, codes, IsSome}
 use Rattle.std.specs.Ordering.{nat_cmp}
 use Rattle.std.specs.declared.cmp.Ordering.{Ordering}
 use Rattle.cvss_base.specs.declared.v3.MetricType.{MetricType}
 use Rattle.cvss_v3_metric.specs.declared.environmental.modified.Modified.{Modified}
-use Rattle.cvss_v3_metric.specs.declared.environmental.modified.Modified.TheVariants.{NotDefined, Modified as Set}
-use Rattle.cvss_v3_metric.specs.Rows.{modified_row, modified_place}
+use Rattle.cvss_v3_metric.specs.Modified.{modified_row, modified_place}
 use Rattle.cvss_v3_metric.specs.Table.{Value, row_of, spelling_of, weight_of, place_of, blamed}
 
 -- the enum has the values of the metric in the table

@@ -1,5 +1,5 @@
 -- What holds of each value in the table of CVSS v3, checked value by value.
-use Rattle.std.specs.Prelude.{◌≡◌, ℕ, Bool, true, List, Option, Some, find, bytes_eq, unwrap_or, refl}
+use Rattle.std.specs.Prelude.{◌≡◌, ℕ, List, Option, Some, find, bytes_eq, unwrap_or, refl}
 use Rattle.std.proofs.Common.{ap, sym, ◌∙◌}
 use Rattle.cvss_base.specs.Text.{raised}
 use Rattle.cvss_base.specs.Walk.{foreign_bytes}

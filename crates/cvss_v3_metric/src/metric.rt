@@ -45,28 +45,28 @@ pub trait Metric: Copy + Clone + fmt::Debug + fmt::Display + Eq + Ord + 'static 
             → result ≡ Some metric };
 
     /// A slash and the component that stands for the value in a vector.
-    fn slashed(self) -> &'static str
+    final fn slashed(self) -> &'static str
         ensures { result.now ≡ slash ∷ metric_component TYPE (value self) }
     {
         self.row().0
     }
 
     /// The value's weight in hundredths, if it has one (v3.1 specification, section 7.4).
-    fn hundredths(self) -> Option<u64>
+    final fn hundredths(self) -> Option<u64>
         ensures { result ≡ weight_of TYPE (value self) }
     {
         self.row().1
     }
 
     /// How the value is spelled in a vector.
-    fn as_str(self) -> &'static str
+    final fn as_str(self) -> &'static str
         ensures { result.now ≡ spelling_of TYPE (value self) }
     {
         &self.slashed()[Self::TYPE.name().len() + 2..]
     }
 
     /// The value with this spelling, in any ASCII case.
-    fn read_raised(text: &str) -> Option<Self>
+    final fn read_raised(text: &str) -> Option<Self>
         ensures spelled { IfSome result
             (λ metric. spelling_of TYPE (value metric) ≡ raised text.now) }
         ensures read { (metric : Self) → spelling_of TYPE (value metric) ≡ raised text.now
@@ -77,7 +77,7 @@ pub trait Metric: Copy + Clone + fmt::Debug + fmt::Display + Eq + Ord + 'static 
 
     /// The value with this spelling, exactly as it is written.
     #[tactic(auto, using(crate::specs::TableLaws::raised_spelling))]
-    fn read(text: &str) -> Option<Self>
+    final fn read(text: &str) -> Option<Self>
         ensures spelled { IfSome result (λ metric. spelling_of TYPE (value metric) ≡ text.now) }
         ensures read { (metric : Self) → spelling_of TYPE (value metric) ≡ text.now
             → result ≡ Some metric }
@@ -95,7 +95,7 @@ pub trait Metric: Copy + Clone + fmt::Debug + fmt::Display + Eq + Ord + 'static 
     /// # Errors
     ///
     /// `InvalidMetricV3` with the text where the metric has no such value.
-    fn from_str(alloc: Global, text: &str) -> Result<Self, Error>
+    final fn from_str(alloc: Global, text: &str) -> Result<Self, Error>
         ensures spelled { IfOk result (λ metric. spelling_of TYPE (value metric) ≡ text.now) }
         ensures read { (metric : Self) → spelling_of TYPE (value metric) ≡ text.now
             → result ≡ Ok metric }
@@ -114,14 +114,14 @@ pub trait Metric: Copy + Clone + fmt::Debug + fmt::Display + Eq + Ord + 'static 
     }
 
     /// Whether the value has a weight.
-    fn has_score(self) -> bool
+    final fn has_score(self) -> bool
         ensures { IsTrue result ↔ IsSome (weight_of TYPE (value self)) }
     {
         self.hundredths().is_some()
     }
 
     /// The value's weight in counts of 10^-24 (v3.1 specification, section 7.4).
-    fn score(self) -> i128
+    final fn score(self) -> i128
         requires { IsSome (weight_of TYPE (value self)) }
         ensures { result ≡ pos (unwrap_or (weight_of TYPE (value self)) 0 * 10 ^ 22) }
     {
@@ -129,7 +129,7 @@ pub trait Metric: Copy + Clone + fmt::Debug + fmt::Display + Eq + Ord + 'static 
     }
 
     /// The metric's abbreviation.
-    fn name() -> &'static str
+    final fn name() -> &'static str
         ensures { result.now ≡ name_of TYPE }
     {
         Self::TYPE.name()

@@ -4,7 +4,8 @@ ghost use Rattle.std.specs.Prelude.{◌∷◌, ◌≡◌, ◌*◌, ◌^◌, pos,
 ghost use Rattle.std.proofs.Common.{rules};
 ghost use Rattle.cvss_base.specs.declared.v3.MetricType.TheVariants.{PR, MPR};
 ghost use Rattle.cvss_base.specs.Text.{slash};
-ghost use Rattle.cvss_v3_metric.specs.Table.{metric_component, scoped_weight};
+ghost use Rattle.cvss_v3_metric.specs.Rows.{scoped_weight};
+ghost use Rattle.cvss_v3_metric.specs.Table.{metric_component};
 
 use crate::environmental::{BaseMetric, Modified};
 use crate::metric::{HUNDREDTH, Metric, MetricType};

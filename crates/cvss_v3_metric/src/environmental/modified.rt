@@ -3,7 +3,8 @@
 ghost use Rattle.std.specs.Prelude.{◌≡◌, ◌∷◌, ◌*◌, ◌^◌, pos, Some, refl};
 ghost use Rattle.cvss_base.specs.Text.{slash};
 ghost use Rattle.cvss_base.specs.declared.v3.MetricType.{MetricType};
-ghost use Rattle.cvss_v3_metric.specs.Table.{Value, weight_of, scoped_weight, metric_component};
+ghost use Rattle.cvss_v3_metric.specs.Rows.{scoped_weight};
+ghost use Rattle.cvss_v3_metric.specs.Table.{Value, weight_of, metric_component};
 ghost use Rattle.cvss_v3_metric.specs.Metrics.{IsBaseMetric};
 ghost use Rattle.cvss_v3_metric.specs.Modified.{replaced, weight_if_set};
 

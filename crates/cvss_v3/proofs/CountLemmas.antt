@@ -1,0 +1,127 @@
+-- What the whole numbers of the code say of the exact numbers of the equations.
+use Rattle.std.specs.List.{Contains}
+use Rattle.std.proofs.Common.{◌≡◌, ℕ, ◌-◌, ◌*◌, ◌^◌, ◌+◌, ◌<◌, ◌≤◌, min, ℤ, pos, ◌*ℤ◌, ◌/◌, ◌⊎◌, arith, refl, subst, sym, lit<}
+use Rattle.std.proofs.lemmas.Int.{ints}
+use borrow.Author.Differences.{up, down}
+use Rattle.std.proofs.Math.Nat.{mul-le-mul, lt_of_mul-lt-mul_right, le_of_mul-le-mul_right}
+use Rattle.cvss_base.specs.Exact.{Exact, ratio, ◌over◌, whole, tenths, ◌⊗◌, ◌≈◌, smaller}
+use Rattle.cvss_base.proofs.ExactLemmas.{equal_refl, equal_trans, difference_equal, product_equal, times_times}
+use Rattle.cvss_v3.proofs.CapLemmas.{by_smaller}
+use Rattle.cvss_v3.specs.declared.weights.Weights.{Weights}
+use Rattle.cvss_v3.specs.Scores.{hundredths, rest, sub_score_of, exploitability_of, iss, miss}
+use Rattle.cvss_v3.specs.SubScores.{weighted_impacts, IsSubScore}
+use Rattle.cvss_v3.specs.Weights.{impacts, requirements, IsFromTable}
+use Rattle.cvss_v3.proofs.SubScoreLemmas.{millionths_of, weight_bound, weighted_listed, weighted_whole, miss_listed}
+
+-- three factors that are known
+product_of : (x y z : ℤ) (k m n : ℕ) → x ≡ pos k → y ≡ pos m → z ≡ pos n → x *ℤ y *ℤ z ≡ pos (k * m * n)
+product_of x y z k m n is_k is_m is_n = rw (is_k, is_m, is_n) refl
+
+-- a weight of at most 1, taken from 1
+rest_is : (n : ℕ) → n ≤ 100 → (rest (hundredths n)).top ≡ pos (100 - n)
+rest_is n small = omega (arith, ints)
+
+-- the product of three such rests is at most 1
+rests_bound : (c i a : ℕ) → (100 - c) * (100 - i) * (100 - a) ≤ 10 ^ 6
+rests_bound c i a =
+    let bound : (n : ℕ) → 100 - n ≤ 100 = λ n. omega arith in
+    mul-le-mul (mul-le-mul (bound c) (bound i)) (bound a)
+
+-- a sub-score of weights in hundredths, in millionths
+pub millionths_are : (c i a : ℕ) → c ≤ 100 → i ≤ 100 → a ≤ 100
+    → millionths_of c i a over 1_000_000 ≈ sub_score_of (hundredths c) (hundredths i) (hundredths a)
+millionths_are c i a small_c small_i small_a =
+    let rests = product_of _ _ _ (100 - c) (100 - i) (100 - a) (rest_is c small_c) (rest_is i small_i) (rest_is a small_a) in
+    record { equal = omega (arith, ints, rests, rests_bound c i a) }
+
+-- and nothing else is
+pub millionths_alone : (n c i a : ℕ) → c ≤ 100 → i ≤ 100 → a ≤ 100
+    → n over 1_000_000 ≈ sub_score_of (hundredths c) (hundredths i) (hundredths a) → n ≡ millionths_of c i a
+millionths_alone n c i a small_c small_i small_a same =
+    let are = millionths_are c i a small_c small_i small_a in
+    omega (arith, ints, same.equal, are.equal)
+
+-- the product of four weights
+pub four_bound : (av ac pr ui : ℕ) → av ≤ 100 → ac ≤ 100 → pr ≤ 100 → ui ≤ 100 → 822 * av * ac * pr * ui ≤ 822 * 10 ^ 8
+four_bound av ac pr ui small_av small_ac small_pr small_ui =
+    let one : 822 * av ≤ 82_200 = omega arith in
+    mul-le-mul (mul-le-mul (mul-le-mul one small_ac) small_pr) small_ui
+
+-- so many 10^-10 are the exploitability of these weights
+pub exploitability_alone : (e av ac pr ui : ℕ) → e over (10 ^ 10) ≈ exploitability_of av ac pr ui → e ≡ 822 * av * ac * pr * ui
+exploitability_alone e av ac pr ui same = omega (arith, ints, same.equal)
+
+-- the cap of MISS, in millionths
+pub capped_millionths : (n : ℕ) (x : Exact) → 0 < x.bottom → n over 1_000_000 ≈ x
+    → min n 915_000 over 1_000_000 ≈ smaller x (915 over 1000)
+capped_millionths n x some is_x =
+    let scaled : n * x.bottom + 1_000_000 * down x.top ≡ 1_000_000 * up x.top = omega (arith, ints, is_x.equal) in
+    by_smaller (λ z. min n 915_000 over 1_000_000 ≈ z) x.top x.bottom 915 1000
+    (λ above. let product : 915_000 * x.bottom < n * x.bottom = omega arith in
+    let high : 915_000 < n = lt_of_mul-lt-mul_right x.bottom product in
+    let is_min : min n 915_000 ≡ 915_000 = omega arith in
+    subst (λ m. m over 1_000_000 ≈ ratio (pos 915 *ℤ pos x.bottom) (x.bottom * 1000)) (sym is_min)
+    (record { equal = omega (arith, ints) }))
+    (λ below. let product : n * x.bottom ≤ 915_000 * x.bottom = omega arith in
+    let low : n ≤ 915_000 = le_of_mul-le-mul_right product some in
+    let is_min : min n 915_000 ≡ n = omega arith in
+    subst (λ m. m over 1_000_000 ≈ ratio (x.top *ℤ pos 1000) (x.bottom * 1000)) (sym is_min)
+    (record { equal = omega (arith, ints, is_x.equal, times_times x.top (pos 1000) 1_000_000) }))
+
+rest_equal : {x y : Exact} → x ≈ y → rest x ≈ rest y
+rest_equal same = difference_equal (equal_refl (whole 1)) same
+
+-- MISS is that of the impacts times their requirements
+pub miss_parts : (c i a : ℕ) (w : Weights) → hundredths c ≈ hundredths w.cr ⊗ hundredths w.mc → hundredths i ≈ hundredths w.ir ⊗ hundredths w.mi
+    → hundredths a ≈ hundredths w.ar ⊗ hundredths w.ma
+    → sub_score_of (hundredths c) (hundredths i) (hundredths a)
+    ≈ sub_score_of (hundredths w.cr ⊗ hundredths w.mc) (hundredths w.ir ⊗ hundredths w.mi) (hundredths w.ar ⊗ hundredths w.ma)
+miss_parts c i a w is_c is_i is_a =
+    rest_equal (product_equal (product_equal (rest_equal is_c) (rest_equal is_i)) (rest_equal is_a))
+
+-- the product of E, RL and RC
+pub three_bound : (e rl rc : ℕ) → e ≤ 100 → rl ≤ 100 → rc ≤ 100 → e * rl * rc ≤ 10 ^ 6
+three_bound e rl rc small_e small_rl small_rc = mul-le-mul (mul-le-mul small_e small_rl) small_rc
+
+-- so many tenths times it, in 10^-13
+pub temporal_is : (r e rl rc : ℕ)
+    → (r * (e * rl * rc) * 1_000_000) over (10 ^ 13) ≈ tenths (pos r) ⊗ hundredths e ⊗ hundredths rl ⊗ hundredths rc
+temporal_is r e rl rc = record { equal = omega (arith, ints) }
+
+-- MISS in millionths
+abbrev pub miss_millionths : Weights → ℕ
+miss_millionths w = min (millionths_of (w.cr * w.mc / 100) (w.ir * w.mi / 100) (w.ar * w.ma / 100)) 915_000
+
+pub iss_is : (w : Weights) → IsFromTable w → millionths_of w.c w.i w.a over 1_000_000 ≈ iss w
+iss_is w table =
+    millionths_are w.c w.i w.a (weight_bound impacts w.c 100 refl table.c) (weight_bound impacts w.i 100 refl table.i)
+    (weight_bound impacts w.a 100 refl table.a)
+
+-- an impact times its requirement
+weighted_is : (requirement impact : ℕ) → Contains requirements requirement → Contains impacts impact
+    → hundredths (requirement * impact / 100) ≈ hundredths requirement ⊗ hundredths impact
+weighted_is requirement impact is_requirement is_impact =
+    let exact = weighted_whole requirement impact is_requirement is_impact in
+    record { equal = omega (arith, ints, exact) }
+
+weighted_bound : (requirement impact : ℕ) → Contains requirements requirement → Contains impacts impact
+    → requirement * impact / 100 ≤ 100
+weighted_bound requirement impact is_requirement is_impact =
+    weight_bound weighted_impacts (requirement * impact / 100) 100 refl (weighted_listed requirement impact is_requirement is_impact)
+
+pub miss_is : (w : Weights) → IsFromTable w → miss_millionths w over 1_000_000 ≈ miss w
+miss_is w table =
+    let c = w.cr * w.mc / 100 in
+    let i = w.ir * w.mi / 100 in
+    let a = w.ar * w.ma / 100 in
+    let are = millionths_are c i a (weighted_bound w.cr w.mc table.cr table.mc) (weighted_bound w.ir w.mi table.ir table.mi)
+    (weighted_bound w.ar w.ma table.ar table.ma) in
+    let parts = miss_parts c i a w (weighted_is w.cr w.mc table.cr table.mc) (weighted_is w.ir w.mi table.ir table.mi)
+    (weighted_is w.ar w.ma table.ar table.ma) in
+    capped_millionths (millionths_of c i a) _ (lit< tt) (equal_trans (lit< tt) are parts)
+
+-- each is 0 or listed
+pub miss_is_listed : (w : Weights) → IsFromTable w → (miss_millionths w ≡ 0) ⊎ IsSubScore (miss_millionths w)
+miss_is_listed w table =
+    miss_listed (w.cr * w.mc / 100) (w.ir * w.mi / 100) (w.ar * w.ma / 100) (weighted_listed w.cr w.mc table.cr table.mc)
+    (weighted_listed w.ir w.mi table.ir table.mi) (weighted_listed w.ar w.ma table.ar table.ma)

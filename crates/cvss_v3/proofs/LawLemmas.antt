@@ -1,0 +1,119 @@
+-- Weights have one score of each kind, and the temporal score is at most the base score.
+use Rattle.std.specs.Prelude.{int_lt, if◌then◌else◌}
+use Rattle.std.proofs.Common.{◌≡◌, ℕ, zero, suc, ◌*◌, ◌^◌, ◌<◌, ◌≤◌, ℤ, pos, negsuc, ◌*ℤ◌, ◌≤ℤ◌, Bool, true, false, arith, refl, sym, subst, ap, ◌∙◌, lit<}
+use Rattle.std.proofs.lemmas.Int.{ints}
+use Rattle.std.proofs.Math.Nat.{mul-le-mul, le_refl}
+use Rattle.cvss_base.specs.Exact.{Exact, ratio, ◌over◌, whole, ◌⊑◌}
+use Rattle.cvss_base.specs.Tenths.{IsInTenths, IsOneCount}
+use Rattle.cvss_base.proofs.RoundingLemmas.{least_tenth-ordered, v31-ordered}
+use Rattle.cvss_v3.specs.Scores.{impact, impact_of, modified_impact_of, iss, miss, exploitability, modified_exploitability, total_of, first_number, base_number, environmental_number, temporal_number, IsRounded, IsBase, IsTemporal, IsEnvironmental, IsBaseScore, IsTemporalScore, IsEnvironmentalScore}
+use Rattle.cvss_v3.specs.Weights.{IsFromTable, exploit_code_maturities, remediation_levels, report_confidences}
+use Rattle.cvss_v3.specs.declared.weights.Weights.{Weights}
+use Rattle.cvss_v3.proofs.CapLemmas.{capped, not_below_cap}
+use Rattle.cvss_v3.proofs.CountLemmas.{three_bound}
+use Rattle.cvss_v3.proofs.EqualLemmas.{changed_bottom, changed_modified_bottom, first_bottom, rounded_once}
+use Rattle.cvss_v3.proofs.RoundLemmas.{between_jumps}
+use Rattle.cvss_v3.proofs.SubScoreLemmas.{weight_bound}
+
+impact_bottom : (changed : Bool) (S : Exact) → 0 < S.bottom → 0 < (impact_of changed S).bottom
+impact_bottom false S some = omega arith
+impact_bottom true S some = changed_bottom S some
+
+modified_impact_bottom : (minor : ℕ) (changed : Bool) (S : Exact) → 0 < S.bottom → 0 < (modified_impact_of minor changed S).bottom
+modified_impact_bottom minor false S some = omega arith
+modified_impact_bottom zero true S some = changed_bottom S some
+modified_impact_bottom (suc minor) true S some = changed_modified_bottom S some
+
+base_bottom : (w : Weights) → 0 < (base_number w).bottom
+base_bottom w = first_bottom w.changed (impact w) (exploitability w) (impact_bottom w.changed (iss w) (lit< tt)) (lit< tt)
+
+base_once : (minor : ℕ) (w : Weights) → IsOneCount (IsBase minor w)
+base_once minor w r s is_r is_s = rounded_once minor (base_number w) r s (base_bottom w) is_r is_s
+
+-- of equal tenths the products with E, RL and RC have one rounding
+product_once : (minor : ℕ) (w : Weights) (m n r s : ℤ) → m ≡ n → IsRounded minor (temporal_number m w) r
+    → IsRounded minor (temporal_number n w) s → r ≡ s
+product_once minor w m n r s same is_r is_s =
+    rounded_once minor (temporal_number n w) r s (lit< tt) (subst (λ z. IsRounded minor (temporal_number z w) r) same is_r) is_s
+
+temporal_once : (minor : ℕ) (w : Weights) → IsOneCount (IsTemporal minor w)
+temporal_once minor w r s is_r is_s =
+    product_once minor w is_r.base is_s.base r s (base_once minor w is_r.base is_s.base is_r.is_base is_s.is_base)
+    is_r.is_rounded is_s.is_rounded
+
+environmental_once : (minor : ℕ) (w : Weights) → IsOneCount (IsEnvironmental minor w)
+environmental_once minor w r s is_r is_s =
+    let some = first_bottom w.modified_changed (modified_impact_of minor w.modified_changed (miss w)) (modified_exploitability w)
+    (modified_impact_bottom minor w.modified_changed (miss w) (lit< tt)) (lit< tt) in
+    let first = rounded_once minor (environmental_number minor w) is_r.first is_s.first some is_r.is_first is_s.is_first in
+    product_once minor w is_r.first is_s.first r s first is_r.is_rounded is_s.is_rounded
+
+in_tenths_once : (IsNumber : ℤ → Type 0) → IsOneCount IsNumber → IsOneCount (IsInTenths IsNumber)
+in_tenths_once IsNumber once r s is_r is_s =
+    let number = once is_r.number is_s.number is_r.is_number is_s.is_number in
+    is_r.is_count ∙ (ap (λ n. n *ℤ pos (10 ^ 23)) number ∙ sym is_s.is_count)
+
+pub base_score_once : (minor : ℕ) (w : Weights) → IsOneCount (IsBaseScore minor w)
+base_score_once minor w = in_tenths_once (IsBase minor w) (base_once minor w)
+
+pub temporal_score_once : (minor : ℕ) (w : Weights) → IsOneCount (IsTemporalScore minor w)
+temporal_score_once minor w = in_tenths_once (IsTemporal minor w) (temporal_once minor w)
+
+pub environmental_score_once : (minor : ℕ) (w : Weights) → IsOneCount (IsEnvironmentalScore minor w)
+environmental_score_once minor w = in_tenths_once (IsEnvironmental minor w) (environmental_once minor w)
+
+-- no first number is negative
+first_not_negative : (changed : Bool) (top : ℤ) (q e k : ℕ) → whole 0 ⊑ first_number changed (ratio top q) (e over k)
+first_not_negative changed (pos t) q e k =
+    let total : (b : Bool) → whole 0 ⊑ total_of b (t over q) (e over k) =
+    λ b. elim b as (λ v. whole 0 ⊑ total_of v (t over q) (e over k)) [
+      | true ↦ record { at_most = omega (arith, ints) }
+      | false ↦ record { at_most = omega (arith, ints) }
+    ] in
+    let zero_first : (b : Bool) → whole 0 ⊑ (if b then capped (total_of changed (t over q) (e over k)) else whole 0) =
+    λ b. elim b as (λ v. whole 0 ⊑ (if v then capped (total_of changed (t over q) (e over k)) else whole 0)) [
+      | true ↦ not_below_cap (whole 0) (total_of changed (t over q) (e over k)) (total changed) (record { at_most = omega (arith, ints) })
+      | false ↦ record { at_most = omega (arith, ints) }
+    ] in
+    zero_first (int_lt (pos 0) (pos t))
+first_not_negative changed (negsuc t) q e k = record { at_most = omega (arith, ints) }
+
+-- a greater number has no smaller rounding
+ordered : (minor : ℕ) (x y : Exact) (r s : ℤ) → 0 < x.bottom → 0 < y.bottom → x ⊑ y → IsRounded minor x r → IsRounded minor y s → r ≤ℤ s
+ordered zero x y r s some_x some_y order is_r is_s = least_tenth-ordered x y r s some_x some_y order is_r is_s
+ordered (suc minor) x y r s some_x some_y order is_r is_s = v31-ordered x y r s some_x some_y order is_r is_s
+
+-- tenths are their own rounding
+tenths_rounded : (minor n : ℕ) → IsRounded minor (n over 10) (pos n)
+tenths_rounded zero n = record { not_below = record { at_most = omega (arith, ints) }; least = record { below = omega (arith, ints) } }
+tenths_rounded (suc minor) n =
+    between_jumps n 10 n (lit< tt) (record { at_most = omega (arith, ints) }) (record { below = omega (arith, ints) })
+
+zero_rounded : (minor : ℕ) → IsRounded minor (whole 0) (pos 0)
+zero_rounded zero = record { not_below = record { at_most = omega (arith, ints) }; least = record { below = omega (arith, ints) } }
+zero_rounded (suc minor) =
+    between_jumps 0 1 0 (lit< tt) (record { at_most = omega (arith, ints) }) (record { below = omega (arith, ints) })
+
+-- tenths that are not negative, times E, RL and RC, are rounded to no more
+product_at_most : (minor : ℕ) (w : Weights) (m r : ℤ) → IsFromTable w → pos 0 ≤ℤ m → IsRounded minor (temporal_number m w) r → r ≤ℤ m
+product_at_most minor w (pos n) r table from_zero rounded =
+    let weights : w.e * w.rl * w.rc ≤ 10 ^ 6 = three_bound w.e w.rl w.rc (weight_bound exploit_code_maturities w.e 100 refl table.e)
+    (weight_bound remediation_levels w.rl 100 refl table.rl) (weight_bound report_confidences w.rc 100 refl table.rc) in
+    let product : n * (w.e * w.rl * w.rc) ≤ n * 10 ^ 6 = mul-le-mul (le_refl n) weights in
+    let order : temporal_number (pos n) w ⊑ n over 10 = record { at_most = omega (arith, ints) } in
+    ordered minor (temporal_number (pos n) w) (n over 10) r (pos n) (lit< tt) (lit< tt) order rounded (tenths_rounded minor n)
+product_at_most minor w (negsuc n) r table from_zero rounded = absurd (omega (arith, ints))
+
+pub temporal_at_most_base : (minor : ℕ) (w : Weights) → IsFromTable w → (base temporal : ℤ)
+    → IsBaseScore minor w base → IsTemporalScore minor w temporal → temporal ≤ℤ base
+temporal_at_most_base minor w table base temporal is_base is_temporal =
+    let b = is_base.number in
+    let parts = is_temporal.is_number in
+    let same : parts.base ≡ b = base_once minor w parts.base b parts.is_base is_base.is_number in
+    let impact_number = impact w in
+    let from_zero : pos 0 ≤ℤ b = ordered minor (whole 0) (base_number w) (pos 0) b (lit< tt) (base_bottom w)
+    (first_not_negative w.changed impact_number.top impact_number.bottom (822 * w.av * w.ac * w.pr * w.ui) (10 ^ 10))
+    (zero_rounded minor) is_base.is_number in
+    let rounded = subst (λ z. IsRounded minor (temporal_number z w) is_temporal.number) same parts.is_rounded in
+    let at_most = product_at_most minor w b is_temporal.number table from_zero rounded in
+    omega (arith, ints, is_base.is_count, is_temporal.is_count)

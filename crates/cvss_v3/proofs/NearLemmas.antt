@@ -1,0 +1,86 @@
+-- A first number whose impact is at most 10^-7 wrong is at most 10^-6 wrong.
+use Rattle.std.specs.Prelude.{int_lt, if◌then◌else◌}
+use Rattle.std.proofs.Common.{◌≡◌, ℕ, ◌*◌, ◌<◌, ◌^◌, ℤ, pos, negsuc, ◌*ℤ◌, true, arith, subst, sym, ap, lit<}
+use Rattle.std.proofs.lemmas.Int.{ints}
+use Rattle.std.proofs.lemmas.Bool.{lt-ltb, ltb-true}
+use Rattle.cvss_base.specs.Exact.{Exact, ratio, ◌over◌, whole, ◌⊕◌, ◌⊖◌, ◌⊑◌}
+use Rattle.cvss_base.proofs.ExactLemmas.{at_most_trans, sum_at_most, times_difference, times_times, times_sum}
+use Rattle.cvss_v3.proofs.CapLemmas.{capped, by_smaller, capped_down, capped_to_ten}
+use Rattle.cvss_v3.specs.Near.{IsNear}
+use Rattle.cvss_v3.specs.Scores.{total_of, first_number}
+
+-- a millionth
+abbrev pub error : Exact
+error = 1 over 1_000_000
+
+-- a number without an error is at most another, so without it the other with it
+pub error_moved : (x y : Exact) → x ⊖ error ⊑ y → x ⊑ y ⊕ error
+error_moved x y order =
+    record {
+      at_most = omega (
+        arith,
+        ints,
+        order.at_most,
+        times_difference (x.top *ℤ pos 1_000_000) (pos 1 *ℤ pos x.bottom) y.bottom,
+        times_times x.top (pos 1_000_000) y.bottom,
+        times_sum (y.top *ℤ pos 1_000_000) (pos 1 *ℤ pos y.bottom) x.bottom,
+        times_times y.top (pos 1_000_000) x.bottom,
+      );
+    }
+
+-- x is at most an error above x
+pub above_itself : (x : Exact) → x ⊑ x ⊕ error
+above_itself x =
+    record {
+      at_most = omega (
+        arith,
+        ints,
+        times_sum (x.top *ℤ pos 1_000_000) (pos 1 *ℤ pos x.bottom) x.bottom,
+        times_times x.top (pos 1_000_000) x.bottom,
+      );
+    }
+
+-- totals of impacts t/q and u/v, of which the first is at most 10^-7 greater
+total_near : (t q u v e : ℕ) → t over q ⊑ u over v ⊕ 1 over 10_000_000
+    → total_of true (t over q) (e over (10 ^ 10)) ⊑ total_of true (u over v) (e over (10 ^ 10)) ⊕ error
+total_near t q u v e near = record { at_most = omega (arith, ints, near.at_most) }
+
+-- under the cap
+capped_near : (x y : Exact) → 0 < x.bottom → 0 < y.bottom → x ⊑ y ⊕ error → capped x ⊑ capped y ⊕ error
+capped_near x y some_x some_y order =
+    by_smaller (λ z. capped x ⊑ z ⊕ error) y.top y.bottom 10 1
+    (λ above.
+    at_most_trans (capped x) (whole 10) (ratio (pos 10 *ℤ pos y.bottom) (y.bottom * 1) ⊕ error) (lit< tt)
+    (capped_to_ten x) (record { at_most = omega (arith, ints) }))
+    (λ below. let same : y ⊑ ratio (y.top *ℤ pos 1) (y.bottom * 1) = record { at_most = omega (arith, ints, times_times y.top (pos 1) y.bottom) } in
+    let same_error : error ⊑ error = record { at_most = omega (arith, ints) } in
+    let to_cap = sum_at_most y (ratio (y.top *ℤ pos 1) (y.bottom * 1)) error error same same_error in
+    at_most_trans (capped x) (y ⊕ error) (ratio (y.top *ℤ pos 1) (y.bottom * 1) ⊕ error) (omega arith)
+    (at_most_trans (capped x) x (y ⊕ error) some_x (capped_down x) order) to_cap)
+
+-- with impact the first number is the total, at most 10
+pub first_is : (x y : Exact) → int_lt (pos 0) x.top ≡ true → first_number true x y ≡ capped (total_of true x y)
+first_is x y above = ap (λ b. if b then capped (total_of true x y) else whole 0) above
+
+-- first numbers of impacts t/q and u/v, of which the first is at most 10^-7 greater
+first_over : (t q u v e : ℕ) → 0 < t → 0 < q → 0 < u → 0 < v → t over q ⊑ u over v ⊕ 1 over 10_000_000
+    → first_number true (t over q) (e over (10 ^ 10)) ⊑ first_number true (u over v) (e over (10 ^ 10)) ⊕ error
+first_over t q u v e some_t some_q some_u some_v near =
+    let exploitability = e over (10 ^ 10) in
+    let forth = capped_near (total_of true (t over q) exploitability) (total_of true (u over v) exploitability)
+    (omega arith) (omega arith) (total_near t q u v e near) in
+    let left = first_is (t over q) exploitability (lt-ltb 0 t some_t) in
+    let right = first_is (u over v) exploitability (lt-ltb 0 u some_u) in
+    subst (λ z. z ⊑ first_number true (u over v) exploitability ⊕ error) (sym left)
+    (subst (λ z. capped (total_of true (t over q) exploitability) ⊑ z ⊕ error) (sym right) forth)
+
+-- of near impacts the first numbers are at most 10^-6 apart
+pub first_near : (i e : ℕ) (top : ℤ) (q : ℕ) → 0 < i → 0 < q → int_lt (pos 0) top ≡ true → IsNear (i over (10 ^ 11)) (ratio top q)
+    → (first_number true (i over (10 ^ 11)) (e over (10 ^ 10)) ⊑ first_number true (ratio top q) (e over (10 ^ 10)) ⊕ error)
+    × (first_number true (ratio top q) (e over (10 ^ 10)) ⊑ first_number true (i over (10 ^ 11)) (e over (10 ^ 10)) ⊕ error)
+first_near i e (pos t) q some_i some_q above near =
+    let some_t = ltb-true 0 t above in (
+      first_over i (10 ^ 11) t q e some_i (lit< tt) some_t some_q near.not_above,
+      first_over t q i (10 ^ 11) e some_t some_q some_i (lit< tt) near.not_below,
+    )
+first_near i e (negsuc t) q some_i some_q above near = cc

@@ -1,0 +1,200 @@
+-- Scores of vectors by both specifications, roundings and ratings, so that a wrong equation does not check.
+use Rattle.std.proofs.Common.{◌≡◌, ℕ, zero, suc, ◌^◌, pos, ◌-ℤ◌, Bool, true, false, ◌&&◌, leb, refl, negsuc, ◌*◌, arith, rules}
+use Rattle.std.proofs.lemmas.Int.{ints}
+use Rattle.std.proofs.lemmas.Bool.{and_parts, leb-true}
+use Rattle.cvss_base.specs.Exact.{ratio, ◌over◌, tenths, ◌≈◌}
+use Rattle.cvss_base.specs.Rating.{rating_of_score}
+use Rattle.cvss_base.specs.declared.severity.Severity.TheVariants.{None, Low, Medium, High, Critical}
+use Rattle.cvss_v3.specs.Scores.{power, changed_impact, changed_modified_impact, base_number, environmental_number, miss, IsRounded, IsBase, IsTemporal, IsEnvironmental}
+use Rattle.cvss_v3.specs.declared.weights.Weights.{Weights}
+use Rattle.cvss_v3.proofs.RoundLemmas.{jump, between_jumps}
+use Rattle.cvss_v3.proofs.TestLemmas.{is_below, is_at_most, below_if, at_most_if}
+
+-- whether t/q is rounded to r tenths
+abbrev is_rounded : ℕ → ℕ → ℕ → ℕ → Bool
+is_rounded zero t q r = is_below (tenths (pos r -ℤ pos 1)) (t over q) && is_at_most (t over q) (tenths (pos r))
+is_rounded (suc minor) t q r =
+    leb 1 q && (is_at_most (jump (pos r -ℤ pos 1)) (t over q) && is_below (t over q) (jump (pos r)))
+
+rounded_if : (minor t q r : ℕ) → is_rounded minor t q r ≡ true → IsRounded minor (t over q) (pos r)
+rounded_if zero t q r holds =
+    let parts = and_parts (is_below (tenths (pos r -ℤ pos 1)) (t over q)) _ holds in
+    record {
+      not_below = at_most_if (t over q) (tenths (pos r)) parts.1;
+      least = below_if (tenths (pos r -ℤ pos 1)) (t over q) parts.0;
+    }
+rounded_if (suc minor) t q r holds =
+    let parts = and_parts (leb 1 q) _ holds in
+    let jumps = and_parts (is_at_most (jump (pos r -ℤ pos 1)) (t over q)) _ parts.1 in
+    between_jumps t q r (leb-true 1 q parts.0) (at_most_if (jump (pos r -ℤ pos 1)) (t over q) jumps.0)
+    (below_if (t over q) (jump (pos r)) jumps.1)
+
+-- a vector that has base metrics alone
+abbrev of_base : ℕ → ℕ → ℕ → ℕ → Bool → ℕ → ℕ → ℕ → Weights
+of_base av ac pr ui changed c i a = record {
+  av = av;
+  ac = ac;
+  pr = pr;
+  ui = ui;
+  changed = changed;
+  c = c;
+  i = i;
+  a = a;
+  e = 100;
+  rl = 100;
+  rc = 100;
+  cr = 100;
+  ir = 100;
+  ar = 100;
+  mav = av;
+  mac = ac;
+  mpr = pr;
+  mui = ui;
+  modified_changed = changed;
+  mc = c;
+  mi = i;
+  ma = a;
+}
+
+-- AV:N/AC:L/PR:N/UI:N/S:U/C:H/I:H/A:H
+abbrev worst_unchanged : Weights
+worst_unchanged = of_base 85 77 85 85 false 56 56 56
+
+pub worst_unchanged_base : (base_number worst_unchanged ≈ 9_760_161_495 over (10 ^ 9)) × IsBase 1 worst_unchanged (pos 98)
+worst_unchanged_base = (record { equal = refl }, rounded_if 1 _ _ 98 refl)
+
+-- the same with CR:L/IR:L/AR:L
+abbrev low_requirements : Weights
+low_requirements = record worst_unchanged { cr = 50; ir = 50; ar = 50 }
+
+pub low_requirements_environmental : (environmental_number 1 low_requirements ≈ 7_910_790_615 over (10 ^ 9))
+    × IsEnvironmental 1 low_requirements (pos 80)
+low_requirements_environmental = (
+  record { equal = refl },
+  record { first = pos 80; is_first = rounded_if 1 _ _ 80 refl; is_rounded = rounded_if 1 _ _ 80 refl },
+)
+
+-- the same with CR:H/IR:H/AR:H, where MISS is 0.915
+abbrev high_requirements : Weights
+high_requirements = record worst_unchanged { cr = 150; ir = 150; ar = 150 }
+
+pub high_requirements_environmental : (miss high_requirements ≈ 915 over 1000)
+    × (environmental_number 1 high_requirements ≈ 9_761_342_775 over (10 ^ 9)) × IsEnvironmental 1 high_requirements (pos 98)
+high_requirements_environmental = (
+  record { equal = refl },
+  record { equal = refl },
+  record { first = pos 98; is_first = rounded_if 1 _ _ 98 refl; is_rounded = rounded_if 1 _ _ 98 refl },
+)
+
+-- the same with MC:N/MI:N/MA:N
+abbrev no_modified_impact : Weights
+no_modified_impact = record worst_unchanged { mc = 0; mi = 0; ma = 0 }
+
+pub no_modified_impact_environmental : IsEnvironmental 1 no_modified_impact (pos 0)
+no_modified_impact_environmental =
+    record { first = pos 0; is_first = rounded_if 1 _ _ 0 refl; is_rounded = rounded_if 1 _ _ 0 refl }
+
+-- AV:N/AC:L/PR:N/UI:R/S:C/C:H/I:H/A:H, whose environmental score is greater in v3.1
+abbrev worst_changed : Weights
+worst_changed = of_base 85 77 85 62 true 56 56 56
+
+pub worst_changed_base : IsBase 0 worst_changed (pos 96) × IsBase 1 worst_changed (pos 96)
+unfolding changed_impact power
+worst_changed_base = (rounded_if 0 _ _ 96 refl, rounded_if 1 _ _ 96 refl)
+
+pub worst_changed_environmental : IsEnvironmental 0 worst_changed (pos 96) × IsEnvironmental 1 worst_changed (pos 97)
+unfolding changed_impact changed_modified_impact power
+worst_changed_environmental = (
+  record { first = pos 96; is_first = rounded_if 0 _ _ 96 refl; is_rounded = rounded_if 0 _ _ 96 refl },
+  record { first = pos 97; is_first = rounded_if 1 _ _ 97 refl; is_rounded = rounded_if 1 _ _ 97 refl },
+)
+
+-- AV:P/AC:H/PR:H/UI:R/S:C/C:N/I:N/A:L
+abbrev least_changed : Weights
+least_changed = of_base 20 44 50 62 true 0 0 22
+
+pub least_changed_base : (base_number least_changed ≈ 179_340_652_788_498_432 over (10 ^ 17)) × IsBase 1 least_changed (pos 18)
+unfolding changed_impact power
+least_changed_base = (record { equal = refl }, rounded_if 1 _ _ 18 refl)
+
+-- AV:N/AC:L/PR:N/UI:R/S:C/C:L/I:L/A:N and AV:A/AC:L/PR:N/UI:N/S:C/C:H/I:N/A:H
+pub changed_bases : IsBase 1 (of_base 85 77 85 62 true 22 22 0) (pos 61) × IsBase 1 (of_base 62 77 85 85 true 56 0 56) (pos 93)
+unfolding changed_impact power
+changed_bases = (rounded_if 1 _ _ 61 refl, rounded_if 1 _ _ 93 refl)
+
+-- AV:N/AC:L/PR:N/UI:N/S:C/C:N/I:N/A:N
+pub harmless_base : IsBase 1 (of_base 85 77 85 85 true 0 0 0) (pos 0)
+unfolding changed_impact power
+harmless_base = rounded_if 1 _ _ 0 refl
+
+-- AV:N/AC:H/PR:N/UI:R/S:U/C:L/I:N/A:N and AV:P/AC:L/PR:N/UI:N/S:U/C:N/I:H/A:N
+pub unchanged_bases : IsBase 1 (of_base 85 44 85 62 false 22 0 0) (pos 31) × IsBase 1 (of_base 20 77 85 85 false 0 56 0) (pos 46)
+unchanged_bases = (rounded_if 1 _ _ 31 refl, rounded_if 1 _ _ 46 refl)
+
+-- AV:N/AC:L/PR:L/UI:N/S:C/C:H/I:H/A:H/MS:U, whose privileges weigh by each scope
+abbrev scope_modified : Weights
+scope_modified = record (of_base 85 77 68 85 true 56 56 56) { mpr = 62; modified_changed = false }
+
+pub scope_modified_scores : IsBase 1 scope_modified (pos 99)
+    × (environmental_number 1 scope_modified ≈ 870_837_345 over (10 ^ 8)) × IsEnvironmental 1 scope_modified (pos 88)
+unfolding changed_impact power
+scope_modified_scores = (
+  rounded_if 1 _ _ 99 refl,
+  record { equal = refl },
+  record { first = pos 88; is_first = rounded_if 1 _ _ 88 refl; is_rounded = rounded_if 1 _ _ 88 refl },
+)
+
+-- AV:A/AC:H/PR:L/UI:N/S:U/C:L/I:L/A:N/E:P/RL:T/RC:R/AR:H/MAC:H/MUI:R/MS:C/MC:L/MA:N
+abbrev all_groups : Weights
+all_groups = record (of_base 62 44 62 85 false 22 22 0) {
+  e = 94;
+  rl = 96;
+  rc = 96;
+  ar = 150;
+  mpr = 68;
+  mui = 62;
+  modified_changed = true;
+}
+
+pub all_groups_scores : IsBase 1 all_groups (pos 37) × IsTemporal 1 all_groups (pos 33) × IsEnvironmental 1 all_groups (pos 35)
+unfolding changed_modified_impact power
+all_groups_scores = (
+  rounded_if 1 _ _ 37 refl,
+  record { base = pos 37; is_base = rounded_if 1 _ _ 37 refl; is_rounded = rounded_if 1 _ _ 33 refl },
+  record { first = pos 40; is_first = rounded_if 1 _ _ 40 refl; is_rounded = rounded_if 1 _ _ 35 refl },
+)
+
+-- AV:P/AC:H/PR:L/UI:R/S:U/C:L/I:L/A:H/E:H/RL:U/RC:U by v3.0, whose temporal score is an exact tenth before it is rounded
+abbrev exact_tenth : Weights
+exact_tenth = record (of_base 20 44 62 62 false 22 22 56) { rc = 92 }
+
+pub exact_tenth_temporal : IsTemporal 0 exact_tenth (pos 46)
+exact_tenth_temporal = record { base = pos 50; is_base = rounded_if 0 _ _ 50 refl; is_rounded = rounded_if 0 _ _ 46 refl }
+
+-- Roundup of v3.1 takes the nearest fifth decimal first; that of v3.0 leaves an exact tenth
+pub roundings : IsRounded 1 (4_000_004 over 1_000_000) (pos 40) × IsRounded 1 (4_000_005 over 1_000_000) (pos 41)
+    × IsRounded 1 (401 over 100) (pos 41) × IsRounded 1 (4 over 1_000_000) (pos 0) × IsRounded 0 (4 over 1) (pos 40)
+roundings = (
+  rounded_if 1 _ _ 40 refl,
+  rounded_if 1 _ _ 41 refl,
+  rounded_if 1 _ _ 41 refl,
+  rounded_if 1 _ _ 0 refl,
+  rounded_if 0 _ _ 40 refl,
+)
+
+-- below 0, v3.0 goes up to the next tenth, and v3.1 gives 0
+pub negative_roundings : IsRounded 0 (ratio (negsuc 14) 100) (negsuc 0) × IsRounded 0 (ratio (negsuc 4) 100) (pos 0)
+    × IsRounded 1 (ratio (negsuc 0) 1) (pos 0) × IsRounded 1 (ratio (negsuc 0) 1_000_000) (pos 0)
+negative_roundings = (
+  record { not_below = record { at_most = search rules }; least = record { below = search rules } },
+  record { not_below = record { at_most = search rules }; least = record { below = search rules } },
+  record { negative = λ negative. refl; not_negative = λ above. absurd (omega (arith, ints, above.at_most)) },
+  record { negative = λ negative. refl; not_negative = λ above. absurd (omega (arith, ints, above.at_most)) },
+)
+
+-- v3.1 specification, section 5: 0.0 is none, 3.9 low, 4.0 and 6.9 medium, 7.0 and 8.9 high, 9.0 critical
+pub ratings : (rating_of_score (pos 0) ≡ None) × (rating_of_score (pos (10 ^ 23)) ≡ Low)
+    × (rating_of_score (pos (39 * 10 ^ 23)) ≡ Low) × (rating_of_score (pos (40 * 10 ^ 23)) ≡ Medium)
+    × (rating_of_score (pos (69 * 10 ^ 23)) ≡ Medium) × (rating_of_score (pos (70 * 10 ^ 23)) ≡ High)
+    × (rating_of_score (pos (89 * 10 ^ 23)) ≡ High) × (rating_of_score (pos (90 * 10 ^ 23)) ≡ Critical)
+ratings = (refl, refl, refl, refl, refl, refl, refl, refl)

@@ -1,0 +1,104 @@
+-- The values of the equations' parts over the weights of the tables, by trying all.
+use Rattle.std.specs.List.{list_all, Contains}
+use Rattle.std.proofs.Common.{◌≡◌, ℕ, ◌-◌, ◌*◌, ◌/◌, ◌≤◌, min, List, [], ◌∷◌, Bool, true, false, leb, eqb, ◌||◌, ◌⊎◌, inl, inr, refl, subst, sym}
+use Rattle.std.proofs.lemmas.Bool.{leb-true, eqb-true, or_cases}
+use Rattle.cvss_v3.specs.SubScores.{sub_scores, weighted_impacts, IsSubScore}
+use Rattle.cvss_v3.specs.Weights.{attack_vectors, attack_complexities, privileges_required, user_interactions, impacts, requirements}
+use Rattle.cvss_v3.proofs.TestLemmas.{passes, is_listed, listed_if}
+
+-- Exploitability with the scope changed, in 10^-10, absent metrics included
+abbrev pub exploitabilities : List ℕ
+exploitabilities =
+    0 ∷ 2242416000 ∷ 3049685760 ∷ 3074280000 ∷ 3812107200 ∷ 3924228000 ∷ 4181020800 ∷ 5226276000 ∷
+    5336950080 ∷ 5379990000 ∷ 6166644000 ∷ 6671187600 ∷ 6951489600 ∷ 7316786400 ∷ 8386635840 ∷ 8454270000 ∷
+    9145983000 ∷ 9454025856 ∷ 9530268000 ∷ 10483294800 ∷ 10791627000 ∷ 11497807200 ∷ 11817532320 ∷
+    12165106800 ∷ 12961164480 ∷ 13065690000 ∷ 14372259000 ∷ 14676612720 ∷ 14794972500 ∷ 16201455600 ∷
+    16544545248 ∷ 16677969000 ∷ 17769338400 ∷ 18345765900 ∷ 20121162600 ∷ 20680681560 ∷ 22211673000 ∷
+    22682037840 ∷ 22864957500 ∷ 25151453250 ∷ 28352547300 ∷ 31096342200 ∷ 38870427750 ∷ []
+
+-- no listed weight is above m
+pub weight_bound : (xs : List ℕ) (x m : ℕ) → list_all (λ y. leb y m) xs ≡ true → Contains xs x → x ≤ m
+weight_bound xs x m all listed = leb-true x m (passes (λ y. leb y m) xs x all listed)
+
+pub sub_score_low : (s : ℕ) → IsSubScore s → 110_000 ≤ s
+sub_score_low s sub_score = leb-true 110_000 s (passes (λ y. leb 110_000 y) sub_scores s refl sub_score.listed)
+
+pub sub_score_high : (s : ℕ) → IsSubScore s → s ≤ 915_000
+sub_score_high s sub_score = weight_bound sub_scores s 915_000 refl sub_score.listed
+
+pub weighted_listed : (requirement impact : ℕ) → Contains requirements requirement → Contains impacts impact
+    → Contains weighted_impacts (requirement * impact / 100)
+weighted_listed requirement impact is_requirement is_impact =
+    listed_if weighted_impacts (requirement * impact / 100)
+    (passes (λ i. is_listed weighted_impacts (requirement * i / 100)) impacts impact
+    (passes (λ r. list_all (λ i. is_listed weighted_impacts (r * i / 100)) impacts) requirements requirement refl is_requirement)
+    is_impact)
+
+-- an impact times its requirement has no more decimals
+pub weighted_whole : (requirement impact : ℕ) → Contains requirements requirement → Contains impacts impact
+    → requirement * impact / 100 * 100 ≡ requirement * impact
+weighted_whole requirement impact is_requirement is_impact =
+    eqb-true (requirement * impact / 100 * 100) (requirement * impact)
+    (passes (λ i. eqb (requirement * i / 100 * 100) (requirement * i)) impacts impact
+    (passes (λ r. list_all (λ i. eqb (r * i / 100 * 100) (r * i)) impacts) requirements requirement refl is_requirement)
+    is_impact)
+
+-- a sub-score in millionths, of weights in hundredths
+abbrev pub millionths_of : ℕ → ℕ → ℕ → ℕ
+millionths_of c i a = 1_000_000 - (100 - c) * (100 - i) * (100 - a)
+
+abbrev is_sub_score : ℕ → Bool
+is_sub_score s = eqb s 0 || is_listed sub_scores s
+
+sub_score_if : (s : ℕ) → is_sub_score s ≡ true → (s ≡ 0) ⊎ IsSubScore s
+sub_score_if s holds = elim (or_cases (eqb s 0) (is_listed sub_scores s) holds) [
+  | inl is_zero ↦ inl (eqb-true s 0 is_zero)
+  | inr listed ↦ inr (record { listed = listed_if sub_scores s listed })
+]
+
+-- a sub-score that is not 0 is listed
+pub some_sub_score : (s : ℕ) → (s ≡ 0) ⊎ IsSubScore s → ¬ (s ≡ 0) → IsSubScore s
+some_sub_score s (inl is_zero) some = absurd (some is_zero)
+some_sub_score s (inr sub_score) some = sub_score
+
+-- a test of three weights in turn
+passes_three : (test : ℕ → ℕ → ℕ → Bool) (xs : List ℕ) (c i a : ℕ)
+    → list_all (λ c. list_all (λ i. list_all (λ a. test c i a) xs) xs) xs ≡ true
+    → Contains xs c → Contains xs i → Contains xs a → test c i a ≡ true
+passes_three test xs c i a all is_c is_i is_a =
+    passes (λ a. test c i a) xs a
+    (passes (λ i. list_all (λ a. test c i a) xs) xs i
+    (passes (λ c. list_all (λ i. list_all (λ a. test c i a) xs) xs) xs c all is_c) is_i) is_a
+
+pub iss_listed : (c i a : ℕ) → Contains impacts c → Contains impacts i → Contains impacts a
+    → (millionths_of c i a ≡ 0) ⊎ IsSubScore (millionths_of c i a)
+iss_listed c i a is_c is_i is_a =
+    sub_score_if (millionths_of c i a)
+    (passes_three (λ c i a. is_sub_score (millionths_of c i a)) impacts c i a refl is_c is_i is_a)
+
+pub miss_listed : (c i a : ℕ) → Contains weighted_impacts c → Contains weighted_impacts i → Contains weighted_impacts a
+    → (min (millionths_of c i a) 915_000 ≡ 0) ⊎ IsSubScore (min (millionths_of c i a) 915_000)
+miss_listed c i a is_c is_i is_a =
+    sub_score_if (min (millionths_of c i a) 915_000)
+    (passes_three (λ c i a. is_sub_score (min (millionths_of c i a) 915_000)) weighted_impacts c i a refl is_c is_i is_a)
+
+-- with the scope changed
+pub exploitability_listed : (changed : Bool) (av ac pr ui e : ℕ) → changed ≡ true → e ≡ 822 * av * ac * pr * ui
+    → Contains attack_vectors av → Contains attack_complexities ac → Contains (privileges_required changed) pr
+    → Contains user_interactions ui → Contains exploitabilities e
+exploitability_listed false av ac pr ui e is_changed is_e is_av is_ac is_pr is_ui = cc
+exploitability_listed true av ac pr ui e is_changed is_e is_av is_ac is_pr is_ui =
+    let of_four : ℕ → ℕ → ℕ → ℕ → Bool = λ av ac pr ui. is_listed exploitabilities (822 * av * ac * pr * ui) in
+    let of_three : ℕ → ℕ → ℕ → Bool = λ av ac pr. list_all (of_four av ac pr) user_interactions in
+    let of_two : ℕ → ℕ → Bool = λ av ac. list_all (of_three av ac) (privileges_required true) in
+    let of_one : ℕ → Bool = λ av. list_all (of_two av) attack_complexities in
+    let listed = listed_if exploitabilities (822 * av * ac * pr * ui)
+    (passes (of_four av ac pr) user_interactions ui
+    (passes (of_three av ac) (privileges_required true) pr
+    (passes (of_two av) attack_complexities ac (passes of_one attack_vectors av refl is_av) is_ac) is_pr) is_ui) in
+    subst (Contains exploitabilities) (sym is_e) listed
+
+-- whatever the scope
+pub privileges_bound : (changed : Bool) (pr : ℕ) → Contains (privileges_required changed) pr → pr ≤ 100
+privileges_bound false pr listed = weight_bound (privileges_required false) pr 100 refl listed
+privileges_bound true pr listed = weight_bound (privileges_required true) pr 100 refl listed

@@ -1,0 +1,15 @@
+use Rattle.std.proofs.Common.{refl, lit<}
+use Rattle.cvss_base.proofs.ExactLemmas.{equal_refl}
+use Rattle.cvss_v3.proofs.CertainLemmas.{base_certain}
+use Rattle.cvss_v3.proofs.CountLemmas.{iss_is}
+use Rattle.cvss_v3.proofs.SubScoreLemmas.{iss_listed, exploitability_listed}
+use Rattle.cvss_v3.specs.Scores.{exploitability}
+use Rattle.cvss_v3.proofs.weights.Weights.base_is_certain.Goals as goal
+
+pub returns-clause-certain : goal.returns-clause-certain
+returns-clause-certain c = λ is_certain is_changed above.
+    let w = c.args.self.now in
+    let listed = exploitability_listed w.changed w.av w.ac w.pr w.ui _ is_changed refl
+    c.requires.av c.requires.ac c.requires.pr c.requires.ui in
+    base_certain c.args.minor_version _ _ w.changed _ _ is_changed (lit< tt) (lit< tt) (iss_is w c.requires)
+    (equal_refl (exploitability w)) listed (iss_listed w.c w.i w.a c.requires.c c.requires.i c.requires.a) above
