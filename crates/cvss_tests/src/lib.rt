@@ -3,6 +3,8 @@
 
 pub mod callers;
 #[cfg(test)]
+mod checksum;
+#[cfg(test)]
 mod errors;
 #[cfg(test)]
 mod v2;

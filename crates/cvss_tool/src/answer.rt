@@ -2,7 +2,7 @@
 
 ghost use Rattle.std.specs.Prelude.{◌≡◌, ◌++◌, ℕ, ◌*◌, ◌^◌, pos, ◌≤◌, IfOk, OnOk, string_bytes};
 ghost use Rattle.std.specs.Fmt.{decimal};
-ghost use Rattle.cvss.specs.ScoresV2.{IsInTenths, IsFromZeroToTen};
+ghost use Rattle.cvss.specs.Tenths.{IsInTenths, IsFromZeroToTen};
 ghost use Rattle.cvss.specs.Version.{Denotes, IsComplete};
 ghost use Rattle.cvss.specs.VectorTypeV2.{Vector};
 ghost use Rattle.cvss.specs.VectorV2.{v2};

@@ -6,8 +6,9 @@ use Rattle.cvss_base.specs.Rounding.{IsRoundedV2}
 use Rattle.cvss_base.proofs.ExactLemmas.{equal_refl}
 use Rattle.cvss_base.proofs.RoundingLemmas.{v2-unique}
 use Rattle.cvss_v2.specs.declared.weights.Weights.{Weights}
-use Rattle.cvss_v2.specs.Scores.{impact, adjusted_impact, temporal_number, environmental_number, IsBase, IsTemporal, IsEnvironmental, IsInTenths, IsPublished, IsBaseScore, IsTemporalScore, IsEnvironmentalScore}
-use Rattle.cvss_v2.specs.ScoreLaws.{IsOneCount}
+use Rattle.cvss_v2.specs.Scores.{impact, adjusted_impact, temporal_number, environmental_number, IsBase, IsTemporal, IsEnvironmental, IsPublished, IsBaseScore, IsTemporalScore, IsEnvironmentalScore}
+use Rattle.cvss_base.specs.Tenths.{IsInTenths}
+use Rattle.cvss_base.specs.Tenths.{IsOneCount}
 
 rounded_once : (x : Exact) → 0 < x.bottom → IsOneCount (IsRoundedV2 x)
 rounded_once x some_x r s is_r is_s = v2-unique x x r s some_x some_x (equal_refl x) is_r is_s

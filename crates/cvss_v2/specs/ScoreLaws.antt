@@ -1,6 +1,6 @@
 -- What the laws of the scores speak of: guide, sections 2.2 and 2.3 (a metric that is Not Defined is
 -- skipped by the equations).
-use Rattle.std.specs.Prelude.{◌≡◌, ◌⊎◌, IfSome, codes, ℤ}
+use Rattle.std.specs.Prelude.{◌≡◌, ◌⊎◌, IfSome, codes}
 use Rattle.cvss_base.specs.declared.v2.MetricType.{MetricType}
 use Rattle.cvss_v2.specs.declared.vector.Vector.{Vector}
 use Rattle.cvss_v2.specs.Table.{spelling_of}
@@ -14,7 +14,3 @@ IsNotDefined v kind = IfSome (value_at v kind) (λ value. spelling_of kind value
 abbrev pub DefineTheSame : Vector → Vector → Type 0
 DefineTheSame v w =
     (kind : MetricType) → (value_at v kind ≡ value_at w kind) ⊎ (IsNotDefined v kind × IsNotDefined w kind)
-
--- no two counts are this score
-abbrev pub IsOneCount : (ℤ → Type 0) → Type 0
-IsOneCount IsScore = (r s : ℤ) → IsScore r → IsScore s → r ≡ s

@@ -68,12 +68,6 @@ pub record IsEnvironmental (w : Weights) (r : ℤ) : Type 0 where
   pub is_rounded : IsRoundedV2
       (environmental_number (tenths adjusted_temporal) (thousandths w.cdp) (thousandths w.td)) r
 
--- the count of 10^-24 is that of such a number of tenths
-pub record IsInTenths (IsNumber : ℤ → Type 0) (count : ℤ) : Type 0 where
-  pub number : ℤ
-  pub is_number : IsNumber number
-  pub is_count : count ≡ number *ℤ pos (10 ^ 23)
-
 -- the count of 10^-24 is that of such a number of tenths, raised to 0 where it is negative
 pub record IsPublished (IsNumber : ℤ → Type 0) (count : ℤ) : Type 0 where
   pub number : ℤ
@@ -91,11 +85,6 @@ IsTemporalScore w count = IsPublished (IsTemporal w (impact w)) count
 -- the count is the published environmental score
 abbrev pub IsEnvironmentalScore : Weights → ℤ → Type 0
 IsEnvironmentalScore w count = IsPublished (IsEnvironmental w) count
-
--- so many tenths, from 0 to 10
-pub record IsFromZeroToTen (r : ℤ) : Type 0 where
-  pub from_zero : pos 0 ≤ℤ r
-  pub to_ten : r ≤ℤ pos 100
 
 -- so many tenths, from -1.8 to 10, where the numbers lie before they are raised to 0
 pub record IsOnScale (r : ℤ) : Type 0 where

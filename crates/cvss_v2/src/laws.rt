@@ -4,8 +4,10 @@
 ghost use Rattle.std.specs.Prelude.{◌≡◌, ℕ, ℤ, List};
 ghost use Rattle.cvss_base.specs.Exact.{of_count};
 ghost use Rattle.cvss_base.specs.Version.{canonical_text, Denotes};
-ghost use Rattle.cvss_v2.specs.ScoreLaws.{DefineTheSame, IsOneCount};
-ghost use Rattle.cvss_v2.specs.Scores.{IsInTenths, IsTemporal, IsBaseScore, IsTemporalScore, IsEnvironmentalScore};
+ghost use Rattle.cvss_v2.specs.ScoreLaws.{DefineTheSame};
+ghost use Rattle.cvss_base.specs.Tenths.{IsOneCount};
+ghost use Rattle.cvss_v2.specs.Scores.{IsTemporal, IsBaseScore, IsTemporalScore, IsEnvironmentalScore};
+ghost use Rattle.cvss_base.specs.Tenths.{IsInTenths};
 ghost use Rattle.cvss_v2.specs.Vector.{v2};
 ghost use Rattle.cvss_v2.specs.Weights.{weights_of};
 ghost use Rattle.cvss_v2.specs.declared.vector.Vector.{Vector};

@@ -45,14 +45,14 @@ pub trait Metric: Copy + Clone + fmt::Debug + fmt::Display + Eq + Ord {
             → result ≡ Some metric };
 
     /// How the value is spelled in a vector.
-    fn as_str(self) -> &'static str
+    final fn as_str(self) -> &'static str
         ensures { result.now ≡ spelling_of TYPE (value self) }
     {
         &self.slashed()[Self::TYPE.name().len() + 2..]
     }
 
     /// The value with this spelling.
-    fn read(text: &str) -> Option<Self>
+    final fn read(text: &str) -> Option<Self>
         ensures spelled { IfSome result (λ metric. spelling_of TYPE (value metric) ≡ text.now) }
         ensures read { (metric : Self) → spelling_of TYPE (value metric) ≡ text.now
             → result ≡ Some metric }
@@ -65,7 +65,7 @@ pub trait Metric: Copy + Clone + fmt::Debug + fmt::Display + Eq + Ord {
     /// # Errors
     ///
     /// `InvalidMetricV2` with the text where the metric has no such value.
-    fn from_str(alloc: Global, text: &str) -> Result<Self, Error>
+    final fn from_str(alloc: Global, text: &str) -> Result<Self, Error>
         ensures spelled { IfOk result (λ metric. spelling_of TYPE (value metric) ≡ text.now) }
         ensures read { (metric : Self) → spelling_of TYPE (value metric) ≡ text.now
             → result ≡ Ok metric }
@@ -84,14 +84,14 @@ pub trait Metric: Copy + Clone + fmt::Debug + fmt::Display + Eq + Ord {
     }
 
     /// The value's weight, in counts of 10^-24 (guide, section 3.2).
-    fn score(self) -> i128
+    final fn score(self) -> i128
         ensures { result ≡ pos (weight_of TYPE (value self) * 10 ^ 21) }
     {
         i128::from(self.thousandths()) * THOUSANDTH
     }
 
     /// The metric's abbreviation.
-    fn name() -> &'static str
+    final fn name() -> &'static str
         ensures { result.now ≡ name_of TYPE }
     {
         Self::TYPE.name()

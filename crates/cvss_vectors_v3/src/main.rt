@@ -1,17 +1,25 @@
-//! Answers lines of CVSS v3 vectors by their canonical texts or by why they are refused, to be
-//! compared with the answers that the Rust crate gives.
+//! Answers lines of CVSS v3 vectors, to be compared with the answers that the Rust crate gives.
 #![tactic(auto)]
 
+use cvss::ONE;
 use cvss::v3::Vector;
 use std::io;
 use std::io::{BufRead, BufReader};
 
 fn main(rt: HostRuntime) -> io::Result<()> {
     for line in BufReader::new(rt.alloc(), rt.reader())?.lines(rt.alloc()) {
-        match Vector::from_str(rt.alloc(), line?.as_str()) {
-            Ok(vector) => println!(rt; "{vector}")?,
-            Err(error) => println!(rt; "error: {error}")?,
-        }
+        answer(&rt, line?.as_str())?;
     }
     Ok(())
+}
+
+fn answer(rt: &(impl Print + AllocGlobal), line: &str) -> io::Result<()> {
+    match Vector::from_str(rt.alloc(), line) {
+        Ok(vector) => {
+            let tenths = vector.score().value() / (ONE / 10);
+            let severity = vector.severity();
+            println!(rt; "{vector} {}.{} {severity}", tenths / 10, tenths % 10)
+        }
+        Err(error) => println!(rt; "error: {error}"),
+    }
 }

@@ -1,6 +1,6 @@
 //! The scores of all vectors with base metrics alone, by sum and checksum from outside.
 
-use crate::v2::scores::tenths_of;
+use crate::checksum::{Checksum, tenths_of};
 use cvss::v2::Vector;
 use cvss::v2::metric::base::{
     AccessComplexity, AccessVector, Authentication, AvailabilityImpact, ConfidentialityImpact,
@@ -82,26 +82,16 @@ fn push_impacts(access: Vector, vectors: &mut Vec<Vector>) -> Result<(), AllocEr
 
 #[test]
 fn scores_of_all_base_vectors(rt: HostRuntime) -> Result<(), Fail> {
-    let mut sum = 0u64;
-    let mut checksum = 0u64;
-    let mut counts = [0u64; 5];
-    let vectors = base_vectors(rt.alloc())?;
-    for vector in &vectors {
-        let tenths = u64::try_from(tenths_of(vector.score()).ok_or("no tenth")?)?;
-        sum = sum.wrapping_add(tenths);
-        checksum = checksum.wrapping_mul(101).wrapping_add(tenths) % 2_147_483_647;
-        let class = match tenths {
-            0 => 0,
-            1..40 => 1,
-            40..70 => 2,
-            70..90 => 3,
-            _ => 4,
-        };
-        counts[class] = counts[class].wrapping_add(1);
+    let mut scores = Checksum::new();
+    for vector in &base_vectors(rt.alloc())? {
+        scores.add(tenths_of(vector.score().value()).ok_or("no tenth")?);
     }
-    assert_eq!(rt; vectors.len(), 729);
-    assert_eq!(rt; sum, 38_007);
-    assert_eq!(rt; checksum, 688_688_529);
-    assert_eq!(rt; counts, [27, 134, 441, 112, 15]);
+    let expected = Checksum {
+        count: 729,
+        sum: 38_007,
+        hash: 688_688_529,
+        classes: [27, 134, 441, 112, 15],
+    };
+    assert_eq!(rt; scores, expected);
     Ok(())
 }
