@@ -4,12 +4,12 @@ use Rattle.std.proofs.lemmas.List.{take_all}
 use Rattle.std.proofs.lemmas.Option.{slice_get_within, get_or_from_slice_get}
 use Rattle.cvss_base.specs.Text.{pieces, joined, name_part, value_part, component}
 use Rattle.cvss_base.specs.Version.{Version, read, AreComponentsOf, Denotes, IsComplete}
-use Rattle.cvss_base.specs.Refusal.{Refusal, BadComponent, WrongPrefix, WrongVersion, UnknownName, BadValue, Repeated, Missing, IsSpelling, piece_at, FaultAt, AreComponentsBefore, IsFirstBadPiece, IsFirstReason}
+use Rattle.cvss_base.specs.Refusal.{Refusal, BadComponent, WrongPrefix, WrongVersion, UnknownName, BadValue, Repeated, Missing, IsSpelling, piece_at, FaultAt, IsFirstReason}
 use Rattle.cvss_base.specs.Walk.{IsLawful}
 use Rattle.cvss_base.proofs.TextLemmas.{name_part-component, value_part-component}
 use Rattle.cvss_base.proofs.LawLemmas.{name_plain, names_differ}
 use Rattle.cvss_base.proofs.ComponentLemmas.{IsHeldAs, held_stands, piece_held}
-use Rattle.cvss_base.proofs.JoinLemmas.{piece_is_component, pieces_are}
+use Rattle.cvss_base.proofs.JoinLemmas.{pieces_are}
 use Rattle.cvss_base.proofs.OnceLemmas.{names_apart}
 use Rattle.cvss_base.proofs.WalkLemmas.{value_from, name_from, value_from_piece, held_is_named}
 

@@ -1,5 +1,5 @@
 -- The first item of a list that passes a test, by its place.
-use Rattle.std.proofs.Common.{◌≡◌, ℕ, zero, suc, ◌<◌, Bool, true, false, List, [], ◌∷◌, length, get_or, Option, Some, None, find, slice_get, cond, refl, subst, arith}
+use Rattle.std.proofs.Common.{◌≡◌, ℕ, zero, suc, ◌<◌, Bool, true, false, List, [], ◌∷◌, length, get_or, Some, None, find, slice_get, cond, refl, subst, arith}
 
 -- an item that passes a test, and none before it does
 pub record IsFirstPassing {K : Type 0} (test : K → Bool) (items : List K) (item : K) : Type 0 where

@@ -1,5 +1,5 @@
 -- Texts as they are read, and components cut at their colon.
-use Rattle.std.proofs.Common.{◌≡◌, ℕ, ◌+◌, ◌<◌, ◌≤◌, Bool, true, false, cond, not, ◌||◌, IsTrue, ◌↔◌, eqb, ltb, suc, one-add, List, [], ◌∷◌, ◌++◌, length, drop, map, refl, sym, ap, ◌∙◌, arith}
+use Rattle.std.proofs.Common.{◌≡◌, ℕ, ◌+◌, ◌<◌, ◌≤◌, Bool, true, false, cond, not, IsTrue, ◌↔◌, eqb, ltb, suc, one-add, List, [], ◌∷◌, ◌++◌, length, drop, map, refl, sym, ap, ◌∙◌, arith}
 use Rattle.std.specs.Char.{to_ascii_uppercase}
 use Rattle.std.specs.List.{count_by, position_or_len, before_first, after_first}
 use Rattle.std.proofs.lemmas.Bool.{eqb-true, false_from_ne_true}

@@ -1,5 +1,5 @@
 -- What holds of each value in the table of CVSS v2, checked value by value.
-use Rattle.std.specs.Prelude.{◌≡◌, ℕ, Bool, true, false, List, [], ◌∷◌, Option, Some, find, bytes_eq, codes, unwrap_or, refl}
+use Rattle.std.specs.Prelude.{◌≡◌, ℕ, Bool, true, false, List, Option, Some, find, bytes_eq, codes, unwrap_or, refl}
 use Rattle.std.proofs.Common.{ap, sym, ◌∙◌, subst}
 use Rattle.cvss_base.specs.Walk.{foreign_bytes}
 use Rattle.cvss_base.specs.declared.v2.MetricType.{MetricType}

@@ -1,5 +1,5 @@
 -- A vector of CVSS v2 as a map from metrics to values: guide, section 2.4.
-use Rattle.std.specs.Prelude.{ℕ, false, List, [], Option}
+use Rattle.std.specs.Prelude.{false, [], Option}
 use Rattle.cvss_base.specs.V2Types.{name_of}
 use Rattle.cvss_base.specs.Version.{Version}
 use Rattle.cvss_base.specs.declared.v2.MetricType.{MetricType}

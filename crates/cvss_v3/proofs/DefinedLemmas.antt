@@ -1,5 +1,5 @@
 -- A metric that is X and one that is absent give the same weights.
-use Rattle.std.proofs.Common.{◌≡◌, ℕ, Bool, true, false, cond, inl, inr, List, codes, bytes_eq, Option, Some, None, IfSome, refl, sym, ap, ◌∙◌}
+use Rattle.std.proofs.Common.{◌≡◌, cond, inl, inr, codes, bytes_eq, Option, Some, None, IfSome, refl, sym, ap, ◌∙◌}
 use Rattle.cvss_base.specs.declared.v3.MetricType.{MetricType}
 use Rattle.cvss_base.specs.declared.v3.MetricType.TheVariants.{A, AC, AV, C, I, PR, S, UI, E, RL, RC, CR, IR, AR, MAV, MAC, MPR, MUI, MS, MC, MI, MA}
 use Rattle.cvss_v3_metric.specs.Modified.{weight_if_set}
@@ -22,7 +22,7 @@ use Rattle.cvss_v3_metric.specs.declared.environmental.requirement.AvailabilityR
 use Rattle.cvss_v3_metric.specs.declared.environmental.modified.Modified.TheVariants.{NotDefined, Modified as Set}
 use Rattle.cvss_v3_metric.specs.declared.environmental.modified_scope.ModifiedScope.TheVariants as modified_scope
 use Rattle.cvss_v3.specs.declared.vector.Vector.{Vector}
-use Rattle.cvss_v3.specs.ScoreLaws.{DefineTheSame, IsNotDefined}
+use Rattle.cvss_v3.specs.ScoreLaws.{DefineTheSame}
 use Rattle.cvss_v3.specs.Vector.{value_at}
 use Rattle.cvss_v3.specs.VectorWeights.{weights_of, or_not_defined, effective, effective_scope, is_changed}
 

@@ -1,5 +1,5 @@
 -- The weights of a vector are those of the tables.
-use Rattle.std.proofs.Common.{◌≡◌, ℕ, Bool, true, false, Option, Some, None, refl, lit<}
+use Rattle.std.proofs.Common.{Bool, true, false, Option, Some, None, refl, lit<}
 use Rattle.std.specs.List.{Contains}
 use Rattle.cvss_base.specs.declared.v3.MetricType.TheVariants.{A, AC, AV, C, I, UI, E, RL, RC, CR, IR, AR}
 use Rattle.cvss_v3_metric.specs.Modified.{weight_if_set}

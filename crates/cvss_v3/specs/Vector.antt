@@ -1,5 +1,5 @@
 -- A vector of CVSS v3.0 or v3.1 as a map from metrics to values: v3.1 specification, section 6.
-use Rattle.std.specs.Prelude.{ℕ, true, List, [], ◌∷◌, ◌++◌, codes, Option}
+use Rattle.std.specs.Prelude.{true, [], ◌∷◌, ◌++◌, codes, Option}
 use Rattle.cvss_base.specs.Numeral.{numeral}
 use Rattle.cvss_base.specs.V3Types.{name_of}
 use Rattle.cvss_base.specs.Version.{Version, version_piece}

@@ -1,6 +1,5 @@
 use Rattle.std.proofs.Common.{Ok, Err}
 use Rattle.cvss_base.specs.declared.walk.Fault.TheVariants.{InvalidComponent}
-use Rattle.cvss_base.specs.Walk.{reason_of}
 use Rattle.cvss_base.proofs.FrontLemmas.{IsAnswer, denoted, utf8, accepts, refuses}
 use Rattle.cvss_base.proofs.Utf8Lemmas.{IsUtf8-bad_piece}
 use Rattle.cvss_base.proofs.front.read_behind.Given.{Over}

@@ -1,4 +1,4 @@
-use Rattle.std.proofs.Common.{◌≡◌, Bool, Some, ap, sym, subst, ◌∙◌}
+use Rattle.std.proofs.Common.{◌≡◌, Some, ap, sym, subst, ◌∙◌}
 use Rattle.cvss_base.specs.declared.v3.MetricType.TheVariants.{A, AC, AV, C, I, UI}
 use Rattle.cvss_v3_metric.specs.Modified.{weight_if_set}
 use Rattle.cvss_v3_metric.specs.Rows.{scoped_weight}
