@@ -167,16 +167,15 @@ fn rounds_up_by_the_minor_version(rt: HostRuntime) {
         (7, LIMIT, LIMIT),
     ];
     for (minor_version, count, rounded) in rows {
-        let score = Score::new(count);
-        assert_eq!(rt;
-            score.roundup_for_version(minor_version).value(),
-            rounded,
-            "{count}"
-        );
-        if minor_version == 1 {
-            assert_eq!(rt; score.roundup().value(), rounded, "{count}");
-        }
+        assert!(rt; -LIMIT <= count && count <= LIMIT, "{count}");
+        let by_version = Score::new(count).roundup_for_version(minor_version);
+        assert_eq!(rt; by_version.value(), rounded, "{count}");
     }
+    assert_eq!(rt;
+        Score::new(4 * ONE + 10 * millionth).roundup().value(),
+        41 * tenth
+    );
+    assert_eq!(rt; Score::new(4 * ONE + 1).roundup().value(), 4 * ONE);
 }
 
 #[test]
