@@ -6,6 +6,7 @@ pub mod Numeral
 pub mod Order
 pub mod Pieces
 pub mod Printing
+pub mod Rating
 pub mod Refusal
 pub mod Rounding
 pub mod SeverityText
@@ -13,5 +14,6 @@ pub mod Text
 pub mod Told
 pub mod V2Types
 pub mod V3Types
+pub mod V4Types
 pub mod Version
 pub mod Walk

@@ -1,8 +1,8 @@
 -- What the private walk over the components does at each step. What callers rely on stands in
 -- Version and Refusal.
 use Rattle.std.specs.Prelude.{◌≡◌, ◌≢◌, ℕ, Bool, nat_lt, ◌||◌, ◌⊎◌, List, [], ◌∷◌, length, map, take, Option, Some, None, IsSome, Result, OnOk, IfErr, Contains, slice_get, find, is_none, ◌<◌, count_by, ◌==◌, ⊤}
-use Rattle.std.specs.List.{range_with_len, position_or_len}
-use Rattle.std.specs.Str.{bytes_eq, IsUtf8}
+use Rattle.std.specs.List.{range_with_len}
+use Rattle.std.specs.Str.{IsUtf8}
 use Rattle.cvss_base.specs.declared.walk.Slip.{Slip}
 use Rattle.cvss_base.specs.declared.walk.Slip.TheVariants.{Invalid, Repeated as Twice}
 use Rattle.cvss_base.specs.declared.walk.Fault.{Fault}

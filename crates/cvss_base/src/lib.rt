@@ -9,15 +9,18 @@ pub mod metrics;
 mod number;
 pub mod pieces;
 pub mod print;
+mod rating;
 pub mod refusing;
 mod severity;
 mod text;
 pub mod v2;
 pub mod v3;
+pub mod v4;
 pub mod walk;
 
 pub use error::Error;
 pub use number::{LIMIT, ONE, TENTH};
+pub use rating::severity_of_score;
 pub use severity::Severity;
 
 /// The word that begins the text of a vector, from version 3.0 on (v3.1 specification, section 6).
