@@ -1,0 +1,2 @@
+mod CompleteLemmas
+mod TextLemmas

@@ -1,0 +1,5 @@
+pub mod Nomenclature
+pub mod Table
+pub mod TableLaws
+pub mod Vector
+pub mod VectorLaws
