@@ -1,4 +1,5 @@
 pub mod Nomenclature
+pub mod ScoreText
 pub mod Table
 pub mod TableLaws
 pub mod Vector
