@@ -1,2 +1,3 @@
 mod CompleteLemmas
+mod PrintedLemmas
 mod TextLemmas
