@@ -8,10 +8,26 @@ mod printing;
 mod reading;
 mod refusing;
 
-use crate::metric::base::{AttackComplexity, AttackRequirements, AttackVector, AvailabilityImpactToTheSubsequentSystem, AvailabilityImpactToTheVulnerableSystem, ConfidentialityImpactToTheSubsequentSystem, ConfidentialityImpactToTheVulnerableSystem, IntegrityImpactToTheSubsequentSystem, IntegrityImpactToTheVulnerableSystem, PrivilegesRequired, UserInteraction};
-use crate::metric::environmental::{AvailabilityRequirements, ConfidentialityRequirements, IntegrityRequirements, ModifiedAttackComplexity, ModifiedAttackRequirements, ModifiedAttackVector, ModifiedAvailabilityImpactToTheSubsequentSystem, ModifiedAvailabilityImpactToTheVulnerableSystem, ModifiedConfidentialityImpactToTheSubsequentSystem, ModifiedConfidentialityImpactToTheVulnerableSystem, ModifiedIntegrityImpactToTheSubsequentSystem, ModifiedIntegrityImpactToTheVulnerableSystem, ModifiedPrivilegesRequired, ModifiedUserInteraction};
-use crate::metric::supplemental::{Automatable, ProviderUrgency, Recovery, Safety, ValueDensity, VulnerabilityResponseEffort};
-use crate::metric::threat::{ExploitMaturity};
+use crate::metric::base::{
+    AttackComplexity, AttackRequirements, AttackVector, AvailabilityImpactToTheSubsequentSystem,
+    AvailabilityImpactToTheVulnerableSystem, ConfidentialityImpactToTheSubsequentSystem,
+    ConfidentialityImpactToTheVulnerableSystem, IntegrityImpactToTheSubsequentSystem,
+    IntegrityImpactToTheVulnerableSystem, PrivilegesRequired, UserInteraction,
+};
+use crate::metric::environmental::{
+    AvailabilityRequirements, ConfidentialityRequirements, IntegrityRequirements,
+    ModifiedAttackComplexity, ModifiedAttackRequirements, ModifiedAttackVector,
+    ModifiedAvailabilityImpactToTheSubsequentSystem,
+    ModifiedAvailabilityImpactToTheVulnerableSystem,
+    ModifiedConfidentialityImpactToTheSubsequentSystem,
+    ModifiedConfidentialityImpactToTheVulnerableSystem,
+    ModifiedIntegrityImpactToTheSubsequentSystem, ModifiedIntegrityImpactToTheVulnerableSystem,
+    ModifiedPrivilegesRequired, ModifiedUserInteraction,
+};
+use crate::metric::supplemental::{
+    Automatable, ProviderUrgency, Recovery, Safety, ValueDensity, VulnerabilityResponseEffort,
+};
+use crate::metric::threat::ExploitMaturity;
 use cvss_base::Error;
 use cvss_base::front::read_behind;
 use cvss_base::print::same_components;

@@ -1,7 +1,7 @@
 //! What the attack needs of others, in the user's own environment (v4.0 specification, section
 //! 4.2).
 
-ghost use Rattle.std.specs.Prelude.{Some, refl};
+ghost use Rattle.std.specs.Prelude.{Some};
 ghost use Rattle.std.proofs.Common.{rules};
 ghost use Rattle.cvss_base.specs.Text.{component};
 ghost use Rattle.cvss_base.specs.V4Types.{name_of};
@@ -24,10 +24,14 @@ pub enum ModifiedPrivilegesRequired {
 
 impl Metric for ModifiedPrivilegesRequired {
     const TYPE: MetricType = MetricType::MPR;
+
     ghost TYPE = { MPR };
+
     ghost spelling = { modified_privileges_required_spelling };
+
     ghost values = { modified_privileges_required_values };
-    ghost law = { record { rows = refl; covers = Prim.search rules; ordered = Prim.search rules; usual = Prim.search rules } };
+
+    ghost law = { Prim.search rules };
 
     fn slashed(self) -> &'static str {
         match self {
@@ -69,10 +73,14 @@ pub enum ModifiedUserInteraction {
 
 impl Metric for ModifiedUserInteraction {
     const TYPE: MetricType = MetricType::MUI;
+
     ghost TYPE = { MUI };
+
     ghost spelling = { modified_user_interaction_spelling };
+
     ghost values = { modified_user_interaction_values };
-    ghost law = { record { rows = refl; covers = Prim.search rules; ordered = Prim.search rules; usual = Prim.search rules } };
+
+    ghost law = { Prim.search rules };
 
     fn slashed(self) -> &'static str {
         match self {

@@ -1,7 +1,7 @@
 //! Where the attack comes from and what it depends on, in the user's own environment (v4.0
 //! specification, section 4.2).
 
-ghost use Rattle.std.specs.Prelude.{Some, refl};
+ghost use Rattle.std.specs.Prelude.{Some};
 ghost use Rattle.std.proofs.Common.{rules};
 ghost use Rattle.cvss_base.specs.Text.{component};
 ghost use Rattle.cvss_base.specs.V4Types.{name_of};
@@ -25,10 +25,14 @@ pub enum ModifiedAttackVector {
 
 impl Metric for ModifiedAttackVector {
     const TYPE: MetricType = MetricType::MAV;
+
     ghost TYPE = { MAV };
+
     ghost spelling = { modified_attack_vector_spelling };
+
     ghost values = { modified_attack_vector_values };
-    ghost law = { record { rows = refl; covers = Prim.search rules; ordered = Prim.search rules; usual = Prim.search rules } };
+
+    ghost law = { Prim.search rules };
 
     fn slashed(self) -> &'static str {
         match self {
@@ -71,10 +75,14 @@ pub enum ModifiedAttackComplexity {
 
 impl Metric for ModifiedAttackComplexity {
     const TYPE: MetricType = MetricType::MAC;
+
     ghost TYPE = { MAC };
+
     ghost spelling = { modified_attack_complexity_spelling };
+
     ghost values = { modified_attack_complexity_values };
-    ghost law = { record { rows = refl; covers = Prim.search rules; ordered = Prim.search rules; usual = Prim.search rules } };
+
+    ghost law = { Prim.search rules };
 
     fn slashed(self) -> &'static str {
         match self {
@@ -113,10 +121,14 @@ pub enum ModifiedAttackRequirements {
 
 impl Metric for ModifiedAttackRequirements {
     const TYPE: MetricType = MetricType::MAT;
+
     ghost TYPE = { MAT };
+
     ghost spelling = { modified_attack_requirements_spelling };
+
     ghost values = { modified_attack_requirements_values };
-    ghost law = { record { rows = refl; covers = Prim.search rules; ordered = Prim.search rules; usual = Prim.search rules } };
+
+    ghost law = { Prim.search rules };
 
     fn slashed(self) -> &'static str {
         match self {

@@ -1,7 +1,7 @@
 //! How much the user's organisation depends on each kind of security (v4.0 specification, section
 //! 4.1).
 
-ghost use Rattle.std.specs.Prelude.{Some, refl};
+ghost use Rattle.std.specs.Prelude.{Some};
 ghost use Rattle.std.proofs.Common.{rules};
 ghost use Rattle.cvss_base.specs.Text.{component};
 ghost use Rattle.cvss_base.specs.V4Types.{name_of};
@@ -24,10 +24,14 @@ pub enum ConfidentialityRequirements {
 
 impl Metric for ConfidentialityRequirements {
     const TYPE: MetricType = MetricType::CR;
+
     ghost TYPE = { CR };
+
     ghost spelling = { confidentiality_requirements_spelling };
+
     ghost values = { confidentiality_requirements_values };
-    ghost law = { record { rows = refl; covers = Prim.search rules; ordered = Prim.search rules; usual = Prim.search rules } };
+
+    ghost law = { Prim.search rules };
 
     fn slashed(self) -> &'static str {
         match self {
@@ -69,10 +73,14 @@ pub enum IntegrityRequirements {
 
 impl Metric for IntegrityRequirements {
     const TYPE: MetricType = MetricType::IR;
+
     ghost TYPE = { IR };
+
     ghost spelling = { integrity_requirements_spelling };
+
     ghost values = { integrity_requirements_values };
-    ghost law = { record { rows = refl; covers = Prim.search rules; ordered = Prim.search rules; usual = Prim.search rules } };
+
+    ghost law = { Prim.search rules };
 
     fn slashed(self) -> &'static str {
         match self {
@@ -114,10 +122,14 @@ pub enum AvailabilityRequirements {
 
 impl Metric for AvailabilityRequirements {
     const TYPE: MetricType = MetricType::AR;
+
     ghost TYPE = { AR };
+
     ghost spelling = { availability_requirements_spelling };
+
     ghost values = { availability_requirements_values };
-    ghost law = { record { rows = refl; covers = Prim.search rules; ordered = Prim.search rules; usual = Prim.search rules } };
+
+    ghost law = { Prim.search rules };
 
     fn slashed(self) -> &'static str {
         match self {

@@ -1,7 +1,7 @@
 //! What systems behind the vulnerable one lose, in the user's own environment (v4.0 specification,
 //! section 4.2).
 
-ghost use Rattle.std.specs.Prelude.{Some, refl};
+ghost use Rattle.std.specs.Prelude.{Some};
 ghost use Rattle.std.proofs.Common.{rules};
 ghost use Rattle.cvss_base.specs.Text.{component};
 ghost use Rattle.cvss_base.specs.V4Types.{name_of};
@@ -25,10 +25,14 @@ pub enum ModifiedConfidentialityImpactToTheSubsequentSystem {
 
 impl Metric for ModifiedConfidentialityImpactToTheSubsequentSystem {
     const TYPE: MetricType = MetricType::MSC;
+
     ghost TYPE = { MSC };
+
     ghost spelling = { modified_confidentiality_impact_to_the_subsequent_system_spelling };
+
     ghost values = { modified_confidentiality_impact_to_the_subsequent_system_values };
-    ghost law = { record { rows = refl; covers = Prim.search rules; ordered = Prim.search rules; usual = Prim.search rules } };
+
+    ghost law = { Prim.search rules };
 
     fn slashed(self) -> &'static str {
         match self {
@@ -72,10 +76,14 @@ pub enum ModifiedIntegrityImpactToTheSubsequentSystem {
 
 impl Metric for ModifiedIntegrityImpactToTheSubsequentSystem {
     const TYPE: MetricType = MetricType::MSI;
+
     ghost TYPE = { MSI };
+
     ghost spelling = { modified_integrity_impact_to_the_subsequent_system_spelling };
+
     ghost values = { modified_integrity_impact_to_the_subsequent_system_values };
-    ghost law = { record { rows = refl; covers = Prim.search rules; ordered = Prim.search rules; usual = Prim.search rules } };
+
+    ghost law = { Prim.search rules };
 
     fn slashed(self) -> &'static str {
         match self {
@@ -121,10 +129,14 @@ pub enum ModifiedAvailabilityImpactToTheSubsequentSystem {
 
 impl Metric for ModifiedAvailabilityImpactToTheSubsequentSystem {
     const TYPE: MetricType = MetricType::MSA;
+
     ghost TYPE = { MSA };
+
     ghost spelling = { modified_availability_impact_to_the_subsequent_system_spelling };
+
     ghost values = { modified_availability_impact_to_the_subsequent_system_values };
-    ghost law = { record { rows = refl; covers = Prim.search rules; ordered = Prim.search rules; usual = Prim.search rules } };
+
+    ghost law = { Prim.search rules };
 
     fn slashed(self) -> &'static str {
         match self {

@@ -1,7 +1,7 @@
 //! What the vulnerable system loses, in the user's own environment (v4.0 specification, section
 //! 4.2).
 
-ghost use Rattle.std.specs.Prelude.{Some, refl};
+ghost use Rattle.std.specs.Prelude.{Some};
 ghost use Rattle.std.proofs.Common.{rules};
 ghost use Rattle.cvss_base.specs.Text.{component};
 ghost use Rattle.cvss_base.specs.V4Types.{name_of};
@@ -25,10 +25,14 @@ pub enum ModifiedConfidentialityImpactToTheVulnerableSystem {
 
 impl Metric for ModifiedConfidentialityImpactToTheVulnerableSystem {
     const TYPE: MetricType = MetricType::MVC;
+
     ghost TYPE = { MVC };
+
     ghost spelling = { modified_confidentiality_impact_to_the_vulnerable_system_spelling };
+
     ghost values = { modified_confidentiality_impact_to_the_vulnerable_system_values };
-    ghost law = { record { rows = refl; covers = Prim.search rules; ordered = Prim.search rules; usual = Prim.search rules } };
+
+    ghost law = { Prim.search rules };
 
     fn slashed(self) -> &'static str {
         match self {
@@ -71,10 +75,14 @@ pub enum ModifiedIntegrityImpactToTheVulnerableSystem {
 
 impl Metric for ModifiedIntegrityImpactToTheVulnerableSystem {
     const TYPE: MetricType = MetricType::MVI;
+
     ghost TYPE = { MVI };
+
     ghost spelling = { modified_integrity_impact_to_the_vulnerable_system_spelling };
+
     ghost values = { modified_integrity_impact_to_the_vulnerable_system_values };
-    ghost law = { record { rows = refl; covers = Prim.search rules; ordered = Prim.search rules; usual = Prim.search rules } };
+
+    ghost law = { Prim.search rules };
 
     fn slashed(self) -> &'static str {
         match self {
@@ -117,10 +125,14 @@ pub enum ModifiedAvailabilityImpactToTheVulnerableSystem {
 
 impl Metric for ModifiedAvailabilityImpactToTheVulnerableSystem {
     const TYPE: MetricType = MetricType::MVA;
+
     ghost TYPE = { MVA };
+
     ghost spelling = { modified_availability_impact_to_the_vulnerable_system_spelling };
+
     ghost values = { modified_availability_impact_to_the_vulnerable_system_values };
-    ghost law = { record { rows = refl; covers = Prim.search rules; ordered = Prim.search rules; usual = Prim.search rules } };
+
+    ghost law = { Prim.search rules };
 
     fn slashed(self) -> &'static str {
         match self {

@@ -1,6 +1,6 @@
 //! The threat metric (v4.0 specification, section 3).
 
-ghost use Rattle.std.specs.Prelude.{Some, refl};
+ghost use Rattle.std.specs.Prelude.{Some};
 ghost use Rattle.std.proofs.Common.{rules};
 ghost use Rattle.cvss_base.specs.Text.{component};
 ghost use Rattle.cvss_base.specs.V4Types.{name_of};
@@ -23,10 +23,14 @@ pub enum ExploitMaturity {
 
 impl Metric for ExploitMaturity {
     const TYPE: MetricType = MetricType::E;
+
     ghost TYPE = { E };
+
     ghost spelling = { exploit_maturity_spelling };
+
     ghost values = { exploit_maturity_values };
-    ghost law = { record { rows = refl; covers = Prim.search rules; ordered = Prim.search rules; usual = Prim.search rules } };
+
+    ghost law = { Prim.search rules };
 
     fn slashed(self) -> &'static str {
         match self {

@@ -1,7 +1,7 @@
 //! What the attack needs of others: privileges, and somebody who takes part (v4.0 specification,
 //! sections 2.1.4 and 2.1.5).
 
-ghost use Rattle.std.specs.Prelude.{Some, refl};
+ghost use Rattle.std.specs.Prelude.{Some};
 ghost use Rattle.std.proofs.Common.{rules};
 ghost use Rattle.cvss_base.specs.Text.{component};
 ghost use Rattle.cvss_base.specs.V4Types.{name_of};
@@ -23,10 +23,14 @@ pub enum PrivilegesRequired {
 
 impl Metric for PrivilegesRequired {
     const TYPE: MetricType = MetricType::PR;
+
     ghost TYPE = { PR };
+
     ghost spelling = { privileges_required_spelling };
+
     ghost values = { privileges_required_values };
-    ghost law = { record { rows = refl; covers = Prim.search rules; ordered = Prim.search rules; usual = Prim.search rules } };
+
+    ghost law = { Prim.search rules };
 
     fn slashed(self) -> &'static str {
         match self {
@@ -65,10 +69,14 @@ pub enum UserInteraction {
 
 impl Metric for UserInteraction {
     const TYPE: MetricType = MetricType::UI;
+
     ghost TYPE = { UI };
+
     ghost spelling = { user_interaction_spelling };
+
     ghost values = { user_interaction_values };
-    ghost law = { record { rows = refl; covers = Prim.search rules; ordered = Prim.search rules; usual = Prim.search rules } };
+
+    ghost law = { Prim.search rules };
 
     fn slashed(self) -> &'static str {
         match self {

@@ -1,7 +1,7 @@
 //! Where the attack comes from and what it depends on (v4.0 specification, sections 2.1.1 to
 //! 2.1.3).
 
-ghost use Rattle.std.specs.Prelude.{Some, refl};
+ghost use Rattle.std.specs.Prelude.{Some};
 ghost use Rattle.std.proofs.Common.{rules};
 ghost use Rattle.cvss_base.specs.Text.{component};
 ghost use Rattle.cvss_base.specs.V4Types.{name_of};
@@ -24,10 +24,14 @@ pub enum AttackVector {
 
 impl Metric for AttackVector {
     const TYPE: MetricType = MetricType::AV;
+
     ghost TYPE = { AV };
+
     ghost spelling = { attack_vector_spelling };
+
     ghost values = { attack_vector_values };
-    ghost law = { record { rows = refl; covers = Prim.search rules; ordered = Prim.search rules; usual = Prim.search rules } };
+
+    ghost law = { Prim.search rules };
 
     fn slashed(self) -> &'static str {
         match self {
@@ -68,10 +72,14 @@ pub enum AttackComplexity {
 
 impl Metric for AttackComplexity {
     const TYPE: MetricType = MetricType::AC;
+
     ghost TYPE = { AC };
+
     ghost spelling = { attack_complexity_spelling };
+
     ghost values = { attack_complexity_values };
-    ghost law = { record { rows = refl; covers = Prim.search rules; ordered = Prim.search rules; usual = Prim.search rules } };
+
+    ghost law = { Prim.search rules };
 
     fn slashed(self) -> &'static str {
         match self {
@@ -108,10 +116,14 @@ pub enum AttackRequirements {
 
 impl Metric for AttackRequirements {
     const TYPE: MetricType = MetricType::AT;
+
     ghost TYPE = { AT };
+
     ghost spelling = { attack_requirements_spelling };
+
     ghost values = { attack_requirements_values };
-    ghost law = { record { rows = refl; covers = Prim.search rules; ordered = Prim.search rules; usual = Prim.search rules } };
+
+    ghost law = { Prim.search rules };
 
     fn slashed(self) -> &'static str {
         match self {

@@ -1,6 +1,6 @@
 //! What systems behind the vulnerable one lose (v4.0 specification, section 2.2).
 
-ghost use Rattle.std.specs.Prelude.{Some, refl};
+ghost use Rattle.std.specs.Prelude.{Some};
 ghost use Rattle.std.proofs.Common.{rules};
 ghost use Rattle.cvss_base.specs.Text.{component};
 ghost use Rattle.cvss_base.specs.V4Types.{name_of};
@@ -23,10 +23,14 @@ pub enum ConfidentialityImpactToTheSubsequentSystem {
 
 impl Metric for ConfidentialityImpactToTheSubsequentSystem {
     const TYPE: MetricType = MetricType::SC;
+
     ghost TYPE = { SC };
+
     ghost spelling = { confidentiality_impact_to_the_subsequent_system_spelling };
+
     ghost values = { confidentiality_impact_to_the_subsequent_system_values };
-    ghost law = { record { rows = refl; covers = Prim.search rules; ordered = Prim.search rules; usual = Prim.search rules } };
+
+    ghost law = { Prim.search rules };
 
     fn slashed(self) -> &'static str {
         match self {
@@ -65,10 +69,14 @@ pub enum IntegrityImpactToTheSubsequentSystem {
 
 impl Metric for IntegrityImpactToTheSubsequentSystem {
     const TYPE: MetricType = MetricType::SI;
+
     ghost TYPE = { SI };
+
     ghost spelling = { integrity_impact_to_the_subsequent_system_spelling };
+
     ghost values = { integrity_impact_to_the_subsequent_system_values };
-    ghost law = { record { rows = refl; covers = Prim.search rules; ordered = Prim.search rules; usual = Prim.search rules } };
+
+    ghost law = { Prim.search rules };
 
     fn slashed(self) -> &'static str {
         match self {
@@ -108,10 +116,14 @@ pub enum AvailabilityImpactToTheSubsequentSystem {
 
 impl Metric for AvailabilityImpactToTheSubsequentSystem {
     const TYPE: MetricType = MetricType::SA;
+
     ghost TYPE = { SA };
+
     ghost spelling = { availability_impact_to_the_subsequent_system_spelling };
+
     ghost values = { availability_impact_to_the_subsequent_system_values };
-    ghost law = { record { rows = refl; covers = Prim.search rules; ordered = Prim.search rules; usual = Prim.search rules } };
+
+    ghost law = { Prim.search rules };
 
     fn slashed(self) -> &'static str {
         match self {

@@ -1,6 +1,6 @@
 //! What the vulnerable system loses (v4.0 specification, section 2.2).
 
-ghost use Rattle.std.specs.Prelude.{Some, refl};
+ghost use Rattle.std.specs.Prelude.{Some};
 ghost use Rattle.std.proofs.Common.{rules};
 ghost use Rattle.cvss_base.specs.Text.{component};
 ghost use Rattle.cvss_base.specs.V4Types.{name_of};
@@ -22,10 +22,14 @@ pub enum ConfidentialityImpactToTheVulnerableSystem {
 
 impl Metric for ConfidentialityImpactToTheVulnerableSystem {
     const TYPE: MetricType = MetricType::VC;
+
     ghost TYPE = { VC };
+
     ghost spelling = { confidentiality_impact_to_the_vulnerable_system_spelling };
+
     ghost values = { confidentiality_impact_to_the_vulnerable_system_values };
-    ghost law = { record { rows = refl; covers = Prim.search rules; ordered = Prim.search rules; usual = Prim.search rules } };
+
+    ghost law = { Prim.search rules };
 
     fn slashed(self) -> &'static str {
         match self {
@@ -64,10 +68,14 @@ pub enum IntegrityImpactToTheVulnerableSystem {
 
 impl Metric for IntegrityImpactToTheVulnerableSystem {
     const TYPE: MetricType = MetricType::VI;
+
     ghost TYPE = { VI };
+
     ghost spelling = { integrity_impact_to_the_vulnerable_system_spelling };
+
     ghost values = { integrity_impact_to_the_vulnerable_system_values };
-    ghost law = { record { rows = refl; covers = Prim.search rules; ordered = Prim.search rules; usual = Prim.search rules } };
+
+    ghost law = { Prim.search rules };
 
     fn slashed(self) -> &'static str {
         match self {
@@ -106,10 +114,14 @@ pub enum AvailabilityImpactToTheVulnerableSystem {
 
 impl Metric for AvailabilityImpactToTheVulnerableSystem {
     const TYPE: MetricType = MetricType::VA;
+
     ghost TYPE = { VA };
+
     ghost spelling = { availability_impact_to_the_vulnerable_system_spelling };
+
     ghost values = { availability_impact_to_the_vulnerable_system_values };
-    ghost law = { record { rows = refl; covers = Prim.search rules; ordered = Prim.search rules; usual = Prim.search rules } };
+
+    ghost law = { Prim.search rules };
 
     fn slashed(self) -> &'static str {
         match self {

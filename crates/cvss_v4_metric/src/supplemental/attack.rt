@@ -1,6 +1,6 @@
 //! What an attacker can reach (v4.0 specification, sections 5.2 and 5.5).
 
-ghost use Rattle.std.specs.Prelude.{Some, refl};
+ghost use Rattle.std.specs.Prelude.{Some};
 ghost use Rattle.std.proofs.Common.{rules};
 ghost use Rattle.cvss_base.specs.Text.{component};
 ghost use Rattle.cvss_base.specs.V4Types.{name_of};
@@ -22,10 +22,14 @@ pub enum Automatable {
 
 impl Metric for Automatable {
     const TYPE: MetricType = MetricType::AU;
+
     ghost TYPE = { AU };
+
     ghost spelling = { automatable_spelling };
+
     ghost values = { automatable_values };
-    ghost law = { record { rows = refl; covers = Prim.search rules; ordered = Prim.search rules; usual = Prim.search rules } };
+
+    ghost law = { Prim.search rules };
 
     fn slashed(self) -> &'static str {
         match self {
@@ -64,10 +68,14 @@ pub enum ValueDensity {
 
 impl Metric for ValueDensity {
     const TYPE: MetricType = MetricType::V;
+
     ghost TYPE = { V };
+
     ghost spelling = { value_density_spelling };
+
     ghost values = { value_density_values };
-    ghost law = { record { rows = refl; covers = Prim.search rules; ordered = Prim.search rules; usual = Prim.search rules } };
+
+    ghost law = { Prim.search rules };
 
     fn slashed(self) -> &'static str {
         match self {

@@ -1,6 +1,6 @@
 //! What comes of an attack (v4.0 specification, sections 5.1 and 5.4).
 
-ghost use Rattle.std.specs.Prelude.{Some, refl};
+ghost use Rattle.std.specs.Prelude.{Some};
 ghost use Rattle.std.proofs.Common.{rules};
 ghost use Rattle.cvss_base.specs.Text.{component};
 ghost use Rattle.cvss_base.specs.V4Types.{name_of};
@@ -22,10 +22,14 @@ pub enum Safety {
 
 impl Metric for Safety {
     const TYPE: MetricType = MetricType::S;
+
     ghost TYPE = { S };
+
     ghost spelling = { safety_spelling };
+
     ghost values = { safety_values };
-    ghost law = { record { rows = refl; covers = Prim.search rules; ordered = Prim.search rules; usual = Prim.search rules } };
+
+    ghost law = { Prim.search rules };
 
     fn slashed(self) -> &'static str {
         match self {
@@ -65,10 +69,14 @@ pub enum Recovery {
 
 impl Metric for Recovery {
     const TYPE: MetricType = MetricType::R;
+
     ghost TYPE = { R };
+
     ghost spelling = { recovery_spelling };
+
     ghost values = { recovery_values };
-    ghost law = { record { rows = refl; covers = Prim.search rules; ordered = Prim.search rules; usual = Prim.search rules } };
+
+    ghost law = { Prim.search rules };
 
     fn slashed(self) -> &'static str {
         match self {

@@ -1,6 +1,6 @@
 //! How to respond to the vulnerability (v4.0 specification, sections 5.3 and 5.6).
 
-ghost use Rattle.std.specs.Prelude.{Some, refl};
+ghost use Rattle.std.specs.Prelude.{Some};
 ghost use Rattle.std.proofs.Common.{rules};
 ghost use Rattle.cvss_base.specs.Text.{component};
 ghost use Rattle.cvss_base.specs.V4Types.{name_of};
@@ -24,10 +24,14 @@ pub enum VulnerabilityResponseEffort {
 
 impl Metric for VulnerabilityResponseEffort {
     const TYPE: MetricType = MetricType::RE;
+
     ghost TYPE = { RE };
+
     ghost spelling = { vulnerability_response_effort_spelling };
+
     ghost values = { vulnerability_response_effort_values };
-    ghost law = { record { rows = refl; covers = Prim.search rules; ordered = Prim.search rules; usual = Prim.search rules } };
+
+    ghost law = { Prim.search rules };
 
     fn slashed(self) -> &'static str {
         match self {
@@ -71,10 +75,14 @@ pub enum ProviderUrgency {
 
 impl Metric for ProviderUrgency {
     const TYPE: MetricType = MetricType::U;
+
     ghost TYPE = { U };
+
     ghost spelling = { provider_urgency_spelling };
+
     ghost values = { provider_urgency_values };
-    ghost law = { record { rows = refl; covers = Prim.search rules; ordered = Prim.search rules; usual = Prim.search rules } };
+
+    ghost law = { Prim.search rules };
 
     fn slashed(self) -> &'static str {
         match self {

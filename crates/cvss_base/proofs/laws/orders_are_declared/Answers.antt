@@ -4,7 +4,7 @@ use Rattle.cvss_base.proofs.laws.orders_are_declared.Goals as goal
 
 pub returns-clause-v4 : goal.returns-clause-v4
 returns-clause-v4 c = elim [
-  AC ↦ elim [ AC ↦ refl | _ ↦ refl ]
+  | AC ↦ elim [ AC ↦ refl | _ ↦ refl ]
   | AT ↦ elim [ AC ↦ refl | _ ↦ refl ]
   | AV ↦ elim [ AC ↦ refl | _ ↦ refl ]
   | PR ↦ elim [ AC ↦ refl | _ ↦ refl ]
