@@ -1,4 +1,5 @@
 pub use Rattle.cvss_base.specs.ErrorText
+pub use Rattle.cvss_base.specs.Rating
 pub use Rattle.cvss_base.specs.Refusal
 pub use Rattle.cvss_base.specs.SeverityText
 pub use Rattle.cvss_base.specs.Told
@@ -12,3 +13,8 @@ pub use Rattle.cvss_v2.specs.Weights as WeightsV2
 pub use Rattle.cvss_v2.specs.declared.vector.Vector as VectorTypeV2
 pub use Rattle.cvss_v3.specs.Vector as VectorV3
 pub use Rattle.cvss_v3.specs.declared.vector.Vector as VectorTypeV3
+pub use Rattle.cvss_v4.specs.Nomenclature as NomenclatureV4
+pub use Rattle.cvss_v4.specs.ScoreText as ScoreTextV4
+pub use Rattle.cvss_v4.specs.Vector as VectorV4
+pub use Rattle.cvss_v4.specs.declared.nomenclature.Nomenclature as NomenclatureTypeV4
+pub use Rattle.cvss_v4.specs.declared.vector.Vector as VectorTypeV4
