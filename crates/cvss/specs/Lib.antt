@@ -1,4 +1,5 @@
 pub use Rattle.cvss_base.specs.ErrorText
+pub use Rattle.cvss_base.specs.Rating
 pub use Rattle.cvss_base.specs.Refusal
 pub use Rattle.cvss_base.specs.SeverityText
 pub use Rattle.cvss_base.specs.Tenths
@@ -11,10 +12,14 @@ pub use Rattle.cvss_v2.specs.Scores as ScoresV2
 pub use Rattle.cvss_v2.specs.Vector as VectorV2
 pub use Rattle.cvss_v2.specs.Weights as WeightsV2
 pub use Rattle.cvss_v2.specs.declared.vector.Vector as VectorTypeV2
-pub use Rattle.cvss_base.specs.Rating
 pub use Rattle.cvss_v3.specs.Certainty as CertaintyV3
 pub use Rattle.cvss_v3.specs.ScoreLaws as ScoreLawsV3
 pub use Rattle.cvss_v3.specs.Scores as ScoresV3
 pub use Rattle.cvss_v3.specs.Vector as VectorV3
 pub use Rattle.cvss_v3.specs.VectorWeights as WeightsV3
 pub use Rattle.cvss_v3.specs.declared.vector.Vector as VectorTypeV3
+pub use Rattle.cvss_v4.specs.Nomenclature as NomenclatureV4
+pub use Rattle.cvss_v4.specs.ScoreText as ScoreTextV4
+pub use Rattle.cvss_v4.specs.Vector as VectorV4
+pub use Rattle.cvss_v4.specs.declared.nomenclature.Nomenclature as NomenclatureTypeV4
+pub use Rattle.cvss_v4.specs.declared.vector.Vector as VectorTypeV4

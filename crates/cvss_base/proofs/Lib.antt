@@ -8,7 +8,7 @@ pub mod FrontLemmas
 mod JoinLemmas
 pub mod LawLemmas
 mod ListingLemmas
-mod MissingLemmas
+pub mod MissingLemmas
 pub mod NumeralLemmas
 mod OnceLemmas
 mod PieceLemmas

@@ -15,5 +15,6 @@ pub mod Text
 pub mod Told
 pub mod V2Types
 pub mod V3Types
+pub mod V4Types
 pub mod Version
 pub mod Walk

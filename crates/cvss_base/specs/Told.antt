@@ -2,9 +2,10 @@
 use Rattle.std.specs.Prelude.{◌≡◌, true, ◌⊎◌, List, ℕ, Option, Some, None}
 use Rattle.std.specs.String.{string_bytes}
 use Rattle.cvss_base.specs.declared.error.Error.{Error}
-use Rattle.cvss_base.specs.declared.error.Error.TheVariants.{InvalidComponent, InvalidPrefix, UnsupportedVersion, InvalidMetricV2, DuplicateMetricV2, MissingMandatoryMetricV2, InvalidMetricV3, DuplicateMetricV3, InvalidSeverity, UnknownMetric, OutOfMemory}
+use Rattle.cvss_base.specs.declared.error.Error.TheVariants.{InvalidComponent, InvalidPrefix, UnsupportedVersion, InvalidMetricV2, DuplicateMetricV2, MissingMandatoryMetricV2, InvalidMetricV3, DuplicateMetricV3, InvalidMetricV4, DuplicateMetricV4, MissingMandatoryMetricV4, InvalidNomenclatureV4, InvalidSeverity, UnknownMetric, OutOfMemory}
 use Rattle.cvss_base.specs.declared.v2.MetricType as v2
 use Rattle.cvss_base.specs.declared.v3.MetricType as v3
+use Rattle.cvss_base.specs.declared.v4.MetricType as v4
 use Rattle.cvss_base.specs.Refusal.{Refusal, BadComponent, WrongPrefix, WrongVersion, UnknownName, BadValue, Repeated, Missing, carries_text}
 
 -- the reason that an error tells, where `own` says it of the errors that name a version's metrics
@@ -39,6 +40,13 @@ v3_reason (InvalidMetricV3 kind value) = Some (BadValue kind (string_bytes value
 v3_reason (DuplicateMetricV3 kind) = Some (Repeated kind)
 v3_reason _ = None
 
+-- what the errors of CVSS v4 tell
+abbrev pub v4_reason : Error → Option (Refusal v4.MetricType)
+v4_reason (InvalidMetricV4 kind value) = Some (BadValue kind (string_bytes value))
+v4_reason (DuplicateMetricV4 kind) = Some (Repeated kind)
+v4_reason (MissingMandatoryMetricV4 kind) = Some (Missing kind)
+v4_reason _ = None
+
 -- the error says that no metric has this name, or that there was no memory for the name
 abbrev pub TellsUnknown : List ℕ → Error → Type 0
 TellsUnknown text (UnknownMetric name) = string_bytes name ≡ text
@@ -50,3 +58,9 @@ abbrev pub TellsNoSeverity : List ℕ → Error → Type 0
 TellsNoSeverity text (InvalidSeverity name) = string_bytes name ≡ text
 TellsNoSeverity text OutOfMemory = Unit {0}
 TellsNoSeverity text _ = ⊥
+
+-- the error says that no nomenclature has this name, or that there was no memory for the name
+abbrev pub TellsNoNomenclature : List ℕ → Error → Type 0
+TellsNoNomenclature text (InvalidNomenclatureV4 nomenclature) = string_bytes nomenclature ≡ text
+TellsNoNomenclature text OutOfMemory = Unit {0}
+TellsNoNomenclature text _ = ⊥

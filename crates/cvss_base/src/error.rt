@@ -5,7 +5,7 @@ ghost use Rattle.cvss_base.specs.declared.error.Error.TheVariants.{OutOfMemory};
 ghost use Rattle.cvss_base.specs.ErrorText.{error_text};
 ghost use Rattle.cvss_base.specs.Told.{TellsUnknown};
 
-use crate::{v2, v3};
+use crate::{v2, v3, v4};
 use std::alloc::{AllocError, Global};
 use std::fmt;
 
@@ -45,6 +45,23 @@ pub enum Error {
     /// The metric stands twice in the text.
     DuplicateMetricV3 {
         metric_type: v3::MetricType,
+    },
+    /// The metric has no such value.
+    InvalidMetricV4 {
+        metric_type: v4::MetricType,
+        value: String,
+    },
+    /// The metric stands twice in the text.
+    DuplicateMetricV4 {
+        metric_type: v4::MetricType,
+    },
+    /// A metric that every vector has is missing.
+    MissingMandatoryMetricV4 {
+        metric_type: v4::MetricType,
+    },
+    /// No nomenclature has this name.
+    InvalidNomenclatureV4 {
+        nomenclature: String,
     },
     /// No severity has this name.
     InvalidSeverity {
@@ -112,6 +129,27 @@ impl fmt::Display for Error {
                 metric_type.name(),
                 metric_type.description()
             ),
+            Error::InvalidMetricV4 { metric_type, value } => write!(
+                f,
+                "invalid CVSSv4 {} ({}) metric: `{value}`",
+                metric_type.name(),
+                metric_type.description()
+            ),
+            Error::DuplicateMetricV4 { metric_type } => write!(
+                f,
+                "duplicate CVSSv4 {} ({}) metric",
+                metric_type.name(),
+                metric_type.description()
+            ),
+            Error::MissingMandatoryMetricV4 { metric_type } => write!(
+                f,
+                "missing mandatory CVSSv4 {} ({}) metric",
+                metric_type.name(),
+                metric_type.description()
+            ),
+            Error::InvalidNomenclatureV4 { nomenclature } => {
+                write!(f, "invalid CVSSv4 nomenclature: `{nomenclature}`")
+            }
             Error::InvalidSeverity { name } => {
                 write!(f, "invalid CVSS Qualitative Severity Rating: `{name}`")
             }

@@ -15,6 +15,7 @@ mod severity;
 mod text;
 pub mod v2;
 pub mod v3;
+pub mod v4;
 pub mod walk;
 
 pub use error::Error;

@@ -216,7 +216,7 @@ fn is_read_as(any_case: bool, text: &[u8], name: &[u8]) -> bool
 }
 
 /// Whether a text is this name once its ASCII letters are raised.
-fn is_raised_as(text: &[u8], name: &[u8]) -> bool
+pub fn is_raised_as(text: &[u8], name: &[u8]) -> bool
     ensures { IsTrue result ↔ (raised text.now ≡ name.now) }
 {
     text.len() == name.len()

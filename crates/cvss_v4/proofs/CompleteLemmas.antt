@@ -1,0 +1,22 @@
+-- A vector is complete where it lacks no mandatory metric.
+use Rattle.std.proofs.Common.{◌≡◌, ◌↔◌, Bool, true, false, not, Option, Some, None, is_some, IsSome, IsTrue, refl, sym}
+use Rattle.cvss_base.specs.Version.{Version, IsComplete}
+use Rattle.cvss_base.specs.Walk.{first_missing}
+use Rattle.cvss_base.proofs.MissingLemmas.{LacksFirst-from, IsComplete-from, Contains-missing}
+
+none_is_none : {X : Type 0} (o : Option X) → o ≡ None → IsSome o → ⊥
+none_is_none None is some = absurd cc
+none_is_none (Some x) is some = absurd cc
+
+module _ {V K : Type 0} (version : Version V K) (v : V) where
+  complete_lacks_none : (kind : K) → IsComplete version v → first_missing version v ≡ Some kind → ⊥
+  complete_lacks_none kind complete missing =
+      let present = complete.present kind (Contains-missing version v kind missing) in
+      none_is_none (version.value_of v kind) (LacksFirst-from version v kind missing).absent present
+
+  -- whether nothing is missing is whether the vector is complete
+  pub complete_test : (missing : Option K) (none : Bool) → is_some missing ≡ not none → missing ≡ first_missing version v → IsTrue none ↔ IsComplete version v
+  complete_test None true told is = (λ _. IsComplete-from version v (sym is), λ _. refl)
+  complete_test None false told is = absurd cc
+  complete_test (Some kind) true told is = absurd cc
+  complete_test (Some kind) false told is = (λ none. absurd cc, λ complete. absurd (complete_lacks_none kind complete (sym is)))

@@ -1,0 +1,3 @@
+mod CompleteLemmas
+mod PrintedLemmas
+mod TextLemmas

@@ -1,0 +1,15 @@
+use Rattle.std.proofs.Common.{refl, sym}
+use Rattle.std.proofs.Output.{has_written_append, has_written_of_eq}
+use Rattle.cvss_base.proofs.PrintLemmas.{joined-slashed}
+use Rattle.cvss_v4_metric.specs.Table.{printed}
+use Rattle.cvss_v4.specs.Vector.{v4}
+use Rattle.cvss_v4.proofs.vector.printing.VectorDisplay.fmt.Goals as goal
+
+pub returns-clause-writes : goal.returns-clause-writes
+returns-clause-writes g c = λ plain ok.
+    let took = g.W.Write.write_str_gives in
+    let version = c.in_ok-write_version.ensures plain refl in
+    let metrics = c.write_metrics.ensures version.plain ok in
+    has_written_of_eq took c.args.f.now _ _ c.write_metrics.new.f
+    (sym (joined-slashed v4 c.args.self.now _ printed))
+    (has_written_append took c.args.f.now _ _ _ _ version metrics)

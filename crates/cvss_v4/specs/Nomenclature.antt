@@ -1,0 +1,31 @@
+-- Which groups of metrics a score rests on: CVSS v4.0 specification, section 1.3.
+use Rattle.std.specs.Prelude.{ℕ, Bool, true, false, List, codes, is_some}
+use Rattle.std.specs.List.{list_any}
+use Rattle.cvss_base.specs.declared.v4.MetricType.{MetricType}
+use Rattle.cvss_v4_metric.specs.Table.{threat, environmental}
+use Rattle.cvss_v4.specs.declared.nomenclature.Nomenclature.{Nomenclature}
+use Rattle.cvss_v4.specs.declared.nomenclature.Nomenclature.TheVariants.{CvssB, CvssBE, CvssBT, CvssBTE}
+use Rattle.cvss_v4.specs.declared.vector.Vector.{Vector}
+use Rattle.cvss_v4.specs.Vector.{value_at}
+
+-- the nomenclature's name
+abbrev pub text_of : Nomenclature → List ℕ
+text_of CvssB = codes "CVSS-B"
+text_of CvssBE = codes "CVSS-BE"
+text_of CvssBT = codes "CVSS-BT"
+text_of CvssBTE = codes "CVSS-BTE"
+
+-- the vector has a value for one of these metrics, be it that the metric is not defined
+abbrev pub has_any : Vector → List MetricType → Bool
+has_any v kinds = list_any (λ kind. is_some (value_at v kind)) kinds
+
+-- the nomenclature by whether there are threat metrics, and environmental ones
+abbrev pub nomenclature_with : Bool → Bool → Nomenclature
+nomenclature_with false false = CvssB
+nomenclature_with false true = CvssBE
+nomenclature_with true false = CvssBT
+nomenclature_with true true = CvssBTE
+
+-- the nomenclature of a vector
+abbrev pub nomenclature_of : Vector → Nomenclature
+nomenclature_of v = nomenclature_with (has_any v threat) (has_any v environmental)

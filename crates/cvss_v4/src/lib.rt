@@ -1,0 +1,13 @@
+//! CVSS v4.0: its vectors, their nomenclature, and how scores are printed.
+#![tactic(auto)]
+
+pub mod laws;
+pub mod metric;
+mod nomenclature;
+mod score;
+mod vector;
+
+pub use metric::MetricType;
+pub use nomenclature::Nomenclature;
+pub use score::Score;
+pub use vector::{Metrics, Vector};

@@ -1,0 +1,111 @@
+//! A score of CVSS v4.0 with its nomenclature.
+
+ghost use Rattle.std.specs.Prelude.{◌≡◌, Some, unsigned_abs};
+ghost use Rattle.cvss_base.specs.Rating.{rating_of_score};
+ghost use Rattle.cvss_v4.specs.ScoreText.{even_tenths, sign, score_text};
+
+use crate::nomenclature::Nomenclature;
+use cvss_base::{Severity, TENTH, severity_of_score};
+use std::fmt;
+use std::marker::Model;
+
+/// A score, a count of 10^-24 of a score point, and the groups of metrics that it rests on.
+#[derive(Clone, Copy, Debug, PartialEq, Eq)]
+pub struct Score {
+    value: i128,
+    nomenclature: Nomenclature,
+}
+
+impl Model for Score {
+    ghost use Rattle.std.specs.Prelude.{ℤ};
+    ghost use Rattle.cvss_v4.specs.declared.nomenclature.Nomenclature.{Nomenclature};
+
+    ghost Value = { ℤ × Nomenclature };
+
+    ghost view = { λ s. (s.value, s.nomenclature) };
+
+    ghost inverse = { λ score. record { value = score.0; nomenclature = score.1 } };
+}
+
+impl Score {
+    /// The score of this count.
+    pub fn new(value: i128, nomenclature: Nomenclature) -> Self
+        ensures { result ≡ (value, nomenclature) }
+    {
+        Score {
+            value,
+            nomenclature,
+        }
+    }
+
+    /// The count.
+    pub fn value(self) -> i128
+        ensures { result ≡ self.0 }
+    {
+        self.value
+    }
+
+    /// The rating (v4.0 specification, section 6).
+    pub fn severity(self) -> Severity
+        ensures { result ≡ rating_of_score self.0 }
+    {
+        severity_of_score(self.value)
+    }
+}
+
+/// Half of a tenth in 10^-24.
+const HALF_TENTH: u128 = TENTH as u128 / 2;
+
+/// The tenths nearest to so many of 10^-24, of two equally near the even one.
+fn nearest_tenths(count: u128) -> u128
+    ensures { result ≡ even_tenths count }
+{
+    let tenths = count / (2 * HALF_TENTH);
+    let rest = count % (2 * HALF_TENTH);
+    if rest < HALF_TENTH {
+        tenths
+    } else if rest > HALF_TENTH {
+        tenths + 1
+    } else {
+        tenths + tenths % 2
+    }
+}
+
+/// The sign that stands before a value.
+fn sign_of(value: i128) -> &'static str
+    ensures { result.now ≡ sign value }
+{
+    if value < 0 { "-" } else { "" }
+}
+
+impl fmt::Display for Score {
+    ghost output = { λ score. Some (score_text score.0 score.1) };
+
+    fn fmt<W: fmt::Write>(&self, f: &mut fmt::Formatter<W>) -> fmt::Result {
+        let tenths = nearest_tenths(self.value.unsigned_abs());
+        write!(
+            f,
+            "{}{}.{} ({})",
+            sign_of(self.value),
+            tenths / 10,
+            tenths % 10,
+            self.nomenclature
+        )
+    }
+}
+
+impl From<Score> for i128 {
+    ghost from_gives = { λ score value. value ≡ score.0 };
+
+    fn from(score: Score) -> Self {
+        score.value
+    }
+}
+
+impl From<Score> for Severity {
+    ghost from_gives = { λ score severity. severity ≡ rating_of_score score.0 };
+
+    fn from(score: Score) -> Self {
+        score.severity()
+    }
+}

@@ -1,0 +1,138 @@
+//! A vector of CVSS v4.0.
+
+ghost use Rattle.std.specs.Prelude.{◌≡◌, ◌↔◌, IsTrue, IfSome, IsSome, IfOk, IfErr, IsErrAnd, Some, Ok};
+
+mod groups;
+mod listing;
+mod printing;
+mod reading;
+mod refusing;
+
+use crate::metric::base::{
+    AttackComplexity, AttackRequirements, AttackVector, AvailabilityImpactToTheSubsequentSystem,
+    AvailabilityImpactToTheVulnerableSystem, ConfidentialityImpactToTheSubsequentSystem,
+    ConfidentialityImpactToTheVulnerableSystem, IntegrityImpactToTheSubsequentSystem,
+    IntegrityImpactToTheVulnerableSystem, PrivilegesRequired, UserInteraction,
+};
+use crate::metric::environmental::{
+    AvailabilityRequirements, ConfidentialityRequirements, IntegrityRequirements,
+    ModifiedAttackComplexity, ModifiedAttackRequirements, ModifiedAttackVector,
+    ModifiedAvailabilityImpactToTheSubsequentSystem,
+    ModifiedAvailabilityImpactToTheVulnerableSystem,
+    ModifiedConfidentialityImpactToTheSubsequentSystem,
+    ModifiedConfidentialityImpactToTheVulnerableSystem,
+    ModifiedIntegrityImpactToTheSubsequentSystem, ModifiedIntegrityImpactToTheVulnerableSystem,
+    ModifiedPrivilegesRequired, ModifiedUserInteraction,
+};
+use crate::metric::supplemental::{
+    Automatable, ProviderUrgency, Recovery, Safety, ValueDensity, VulnerabilityResponseEffort,
+};
+use crate::metric::threat::ExploitMaturity;
+use cvss_base::Error;
+use cvss_base::front::read_behind;
+use cvss_base::print::same_components;
+use cvss_base::refusing::vector_behind;
+use cvss_base::walk::Components;
+pub use listing::Metrics;
+use std::alloc::Global;
+
+/// A vector of CVSS v4.0 (v4.0 specification, section 7): at most one value for each metric.
+///
+/// A vector that was read from a text has minor version 0 and all eleven base metrics.
+#[derive(Clone, Copy, Debug, Default, PartialEq, Eq)]
+pub struct Vector {
+    pub minor_version: usize,
+    av: Option<AttackVector>,
+    ac: Option<AttackComplexity>,
+    at: Option<AttackRequirements>,
+    pr: Option<PrivilegesRequired>,
+    ui: Option<UserInteraction>,
+    vc: Option<ConfidentialityImpactToTheVulnerableSystem>,
+    vi: Option<IntegrityImpactToTheVulnerableSystem>,
+    va: Option<AvailabilityImpactToTheVulnerableSystem>,
+    sc: Option<ConfidentialityImpactToTheSubsequentSystem>,
+    si: Option<IntegrityImpactToTheSubsequentSystem>,
+    sa: Option<AvailabilityImpactToTheSubsequentSystem>,
+    e: Option<ExploitMaturity>,
+    cr: Option<ConfidentialityRequirements>,
+    ir: Option<IntegrityRequirements>,
+    ar: Option<AvailabilityRequirements>,
+    mav: Option<ModifiedAttackVector>,
+    mac: Option<ModifiedAttackComplexity>,
+    mat: Option<ModifiedAttackRequirements>,
+    mpr: Option<ModifiedPrivilegesRequired>,
+    mui: Option<ModifiedUserInteraction>,
+    mvc: Option<ModifiedConfidentialityImpactToTheVulnerableSystem>,
+    mvi: Option<ModifiedIntegrityImpactToTheVulnerableSystem>,
+    mva: Option<ModifiedAvailabilityImpactToTheVulnerableSystem>,
+    msc: Option<ModifiedConfidentialityImpactToTheSubsequentSystem>,
+    msi: Option<ModifiedIntegrityImpactToTheSubsequentSystem>,
+    msa: Option<ModifiedAvailabilityImpactToTheSubsequentSystem>,
+    s: Option<Safety>,
+    au: Option<Automatable>,
+    r: Option<Recovery>,
+    v: Option<ValueDensity>,
+    re: Option<VulnerabilityResponseEffort>,
+    u: Option<ProviderUrgency>,
+}
+
+impl Vector {
+    ghost use Rattle.std.specs.Str.{IsUtf8};
+    ghost use Rattle.cvss_base.specs.Refusal.{Refusal, IsFirstRefusalBehind};
+    ghost use Rattle.cvss_base.specs.Told.{Tells, TellsFirst, v4_reason};
+    ghost use Rattle.cvss_base.specs.Version.{canonical_text, Denotes, IsComplete, IsWellFormed};
+    ghost use Rattle.cvss_base.specs.declared.v4.MetricType.{MetricType};
+    ghost use Rattle.cvss_v4.specs.Vector.{v4};
+
+    /// The vector that a text denotes: `CVSS:4.0` and then, each behind a slash, its components in
+    /// any order and any ASCII case, each once, with all base metrics among them (v4.0
+    /// specification, section 7). Accepting takes no memory.
+    ///
+    /// # Errors
+    ///
+    /// The first reason why the text is no such vector: `InvalidComponent`, `InvalidPrefix`,
+    /// `UnsupportedVersion`, `UnknownMetric`, `InvalidMetricV4`, `DuplicateMetricV4` or
+    /// `MissingMandatoryMetricV4`; `OutOfMemory` in place of one that carries text. Names and values
+    /// are shown in upper case.
+    pub fn from_str(alloc: Global, text: &str) -> Result<Vector, Error>
+        // Accepted: what is given is what the text denotes, and each such vector is given.
+        ensures denoted { IfOk result (λ vector. Denotes v4 text.now vector) }
+        ensures well_formed { IfOk result (λ vector. IsWellFormed v4 vector) }
+        ensures accepts { (vector : Vector) → Denotes v4 text.now vector
+            → IsWellFormed v4 vector → result ≡ Ok vector }
+        // Refused: for the first reason, and wherever there is one. Memory is the answer only where
+        // the reason carries text.
+        ensures refused { IfErr result (TellsFirst v4_reason (IsFirstRefusalBehind v4 text.now)) }
+        ensures refuses { (reason : Refusal MetricType) → IsFirstRefusalBehind v4 text.now reason
+            → IsErrAnd result (Tells v4_reason reason) }
+    {
+        vector_behind(alloc, text)
+    }
+
+    /// The vector that a text denotes, if there is one. It takes no memory.
+    pub fn read_bytes(text: &[u8]) -> Option<Vector>
+        ensures denoted { IfSome result (λ vector. Denotes v4 text.now vector) }
+        ensures well_formed { IfSome result (λ vector. IsWellFormed v4 vector) }
+        ensures accepts { (vector : Vector) → Denotes v4 text.now vector
+            → IsWellFormed v4 vector → result ≡ Some vector }
+        ensures utf8 { IsSome result → IsUtf8 text.now }
+    {
+        read_behind(text).ok()
+    }
+
+    /// Whether the vector has all base metrics, as each vector has that was read from a text.
+    pub fn is_complete(&self) -> bool
+        ensures { IsTrue result ↔ IsComplete v4 self.now }
+    {
+        self.first_missing().is_none()
+    }
+
+    /// Whether two vectors have one canonical text, which is whether they are equal.
+    pub fn same_text(&self, other: &Vector) -> bool
+        ensures vectors { IsTrue result ↔ (self.now ≡ other.now) }
+        ensures texts { IsTrue result
+            ↔ (canonical_text v4 self.now ≡ canonical_text v4 other.now) }
+    {
+        self.minor_version == other.minor_version && same_components(self, other)
+    }
+}

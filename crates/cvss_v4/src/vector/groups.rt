@@ -1,0 +1,46 @@
+//! Which groups of metrics a vector has (v4.0 specification, section 1.3).
+
+ghost use Rattle.std.specs.Prelude.{◌≡◌};
+ghost use Rattle.cvss_v4_metric.specs.Table.{environmental};
+ghost use Rattle.cvss_v4.specs.Nomenclature.{has_any, nomenclature_of};
+
+use crate::nomenclature::Nomenclature;
+use crate::vector::Vector;
+
+impl Vector {
+    /// The groups of metrics that the vector has, besides the supplemental ones. A metric that is
+    /// present as not defined counts.
+    pub fn nomenclature(&self) -> Nomenclature
+        ensures { result ≡ nomenclature_of self.now }
+    {
+        match (self.e.is_some(), self.has_environmental()) {
+            (false, false) => Nomenclature::CvssB,
+            (false, true) => Nomenclature::CvssBE,
+            (true, false) => Nomenclature::CvssBT,
+            (true, true) => Nomenclature::CvssBTE,
+        }
+    }
+
+    /// Whether the vector has an environmental metric.
+    fn has_environmental(&self) -> bool
+        ensures { result ≡ has_any self.now environmental }
+    {
+        match self {
+            Vector { cr: Some(_), .. } => true,
+            Vector { ir: Some(_), .. } => true,
+            Vector { ar: Some(_), .. } => true,
+            Vector { mav: Some(_), .. } => true,
+            Vector { mac: Some(_), .. } => true,
+            Vector { mat: Some(_), .. } => true,
+            Vector { mpr: Some(_), .. } => true,
+            Vector { mui: Some(_), .. } => true,
+            Vector { mvc: Some(_), .. } => true,
+            Vector { mvi: Some(_), .. } => true,
+            Vector { mva: Some(_), .. } => true,
+            Vector { msc: Some(_), .. } => true,
+            Vector { msi: Some(_), .. } => true,
+            Vector { msa: Some(_), .. } => true,
+            _ => false,
+        }
+    }
+}

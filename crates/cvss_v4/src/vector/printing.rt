@@ -1,0 +1,185 @@
+//! How a vector is printed.
+
+ghost use Rattle.std.specs.Prelude.{◌≡◌, Some, [], ◌∷◌, ◌++◌, codes, option_map, unwrap_or};
+ghost use Rattle.std.specs.Fmt.{WritesOnOk};
+ghost use Rattle.std.specs.Option.{option_copied};
+ghost use Rattle.cvss_base.specs.Numeral.{numeral};
+ghost use Rattle.cvss_base.specs.Printing.{slashed, slashed_texts};
+ghost use Rattle.cvss_base.specs.Text.{component};
+ghost use Rattle.cvss_base.specs.V4Types.{name_of};
+ghost use Rattle.cvss_base.specs.Version.{canonical_text, version_piece};
+ghost use Rattle.cvss_base.specs.declared.v4.MetricType.TheVariants.{AC, AT, AV, PR, SA, SC, SI, UI, VA, VC, VI, E, AR, CR, IR, MAC, MAT, MAV, MPR, MSA, MSC, MSI, MUI, MVA, MVC, MVI, AU, R, RE, S, U, V};
+ghost use Rattle.cvss_v4_metric.specs.Table.{printed};
+ghost use Rattle.cvss_v4.specs.Vector.{v4};
+
+use crate::metric::{Metric, MetricType};
+use crate::vector::Vector;
+use cvss_base::print::{Printed, write_slashed};
+use std::fmt;
+
+impl Printed for Vector {
+    fn slashed(&self, kind: MetricType) -> Option<&'static str> {
+        match kind {
+            MetricType::AV => slashed_value(self.av),
+            MetricType::AC => slashed_value(self.ac),
+            MetricType::AT => slashed_value(self.at),
+            MetricType::PR => slashed_value(self.pr),
+            MetricType::UI => slashed_value(self.ui),
+            MetricType::VC => slashed_value(self.vc),
+            MetricType::VI => slashed_value(self.vi),
+            MetricType::VA => slashed_value(self.va),
+            MetricType::SC => slashed_value(self.sc),
+            MetricType::SI => slashed_value(self.si),
+            MetricType::SA => slashed_value(self.sa),
+            MetricType::E => slashed_value(self.e),
+            MetricType::CR => slashed_value(self.cr),
+            MetricType::IR => slashed_value(self.ir),
+            MetricType::AR => slashed_value(self.ar),
+            MetricType::MAV => slashed_value(self.mav),
+            MetricType::MAC => slashed_value(self.mac),
+            MetricType::MAT => slashed_value(self.mat),
+            MetricType::MPR => slashed_value(self.mpr),
+            MetricType::MUI => slashed_value(self.mui),
+            MetricType::MVC => slashed_value(self.mvc),
+            MetricType::MVI => slashed_value(self.mvi),
+            MetricType::MVA => slashed_value(self.mva),
+            MetricType::MSC => slashed_value(self.msc),
+            MetricType::MSI => slashed_value(self.msi),
+            MetricType::MSA => slashed_value(self.msa),
+            MetricType::S => slashed_value(self.s),
+            MetricType::AU => slashed_value(self.au),
+            MetricType::R => slashed_value(self.r),
+            MetricType::V => slashed_value(self.v),
+            MetricType::RE => slashed_value(self.re),
+            MetricType::U => slashed_value(self.u),
+        }
+    }
+}
+
+/// A slash and the component of a value.
+fn slashed_value<M: Metric>(value: Option<M>) -> Option<&'static str>
+    ensures { option_copied result
+        ≡ slashed (option_map (component (name_of M.TYPE)) (option_map M.spelling value)) }
+{
+    match value {
+        Some(metric) => Some(metric.slashed()),
+        None => None,
+    }
+}
+
+/// Writes a slash and the component of a value, if there is one.
+fn write_value<M: Metric, W: fmt::Write>(value: Option<M>, f: &mut fmt::Formatter<W>) -> fmt::Result
+    ensures { WritesOnOk W.write_str_gives f.old result (unwrap_or (slashed
+        (option_map (component (name_of M.TYPE)) (option_map M.spelling value))) []) f.new }
+{
+    write_slashed(slashed_value(value), f)
+}
+
+/// Writes the piece that tells the version.
+#[tactic(auto, using(cvss_base::proofs::NumeralLemmas::decimal_numeral))]
+fn write_version<W: fmt::Write>(minor_version: usize, f: &mut fmt::Formatter<W>) -> fmt::Result
+    ensures { WritesOnOk W.write_str_gives f.old result
+        (version_piece (codes "4." ++ numeral minor_version)) f.new }
+{
+    match minor_version {
+        0 => f.write_str("CVSS:4.0"),
+        _ => write!(f, "CVSS:4.{minor_version}"),
+    }
+}
+
+impl Vector {
+    /// Writes how the attack is made, each with a slash before it.
+    fn write_attack<W: fmt::Write>(&self, f: &mut fmt::Formatter<W>) -> fmt::Result
+        ensures { WritesOnOk W.write_str_gives f.old result
+            (slashed_texts v4 self.now (AV ∷ AC ∷ AT ∷ PR ∷ UI ∷ [])) f.new }
+    {
+        write_value(self.av, f)?;
+        write_value(self.ac, f)?;
+        write_value(self.at, f)?;
+        write_value(self.pr, f)?;
+        write_value(self.ui, f)
+    }
+
+    /// Writes the impacts, each with a slash before it.
+    fn write_impact<W: fmt::Write>(&self, f: &mut fmt::Formatter<W>) -> fmt::Result
+        ensures { WritesOnOk W.write_str_gives f.old result
+            (slashed_texts v4 self.now (VC ∷ VI ∷ VA ∷ SC ∷ SI ∷ SA ∷ [])) f.new }
+    {
+        write_value(self.vc, f)?;
+        write_value(self.vi, f)?;
+        write_value(self.va, f)?;
+        write_value(self.sc, f)?;
+        write_value(self.si, f)?;
+        write_value(self.sa, f)
+    }
+
+    /// Writes the threat metric and the security requirements, each with a slash before it.
+    fn write_threat<W: fmt::Write>(&self, f: &mut fmt::Formatter<W>) -> fmt::Result
+        ensures { WritesOnOk W.write_str_gives f.old result
+            (slashed_texts v4 self.now (E ∷ CR ∷ IR ∷ AR ∷ [])) f.new }
+    {
+        write_value(self.e, f)?;
+        write_value(self.cr, f)?;
+        write_value(self.ir, f)?;
+        write_value(self.ar, f)
+    }
+
+    /// Writes the modified metrics of how the attack is made, each with a slash before it.
+    fn write_modified_attack<W: fmt::Write>(&self, f: &mut fmt::Formatter<W>) -> fmt::Result
+        ensures { WritesOnOk W.write_str_gives f.old result
+            (slashed_texts v4 self.now (MAV ∷ MAC ∷ MAT ∷ MPR ∷ MUI ∷ [])) f.new }
+    {
+        write_value(self.mav, f)?;
+        write_value(self.mac, f)?;
+        write_value(self.mat, f)?;
+        write_value(self.mpr, f)?;
+        write_value(self.mui, f)
+    }
+
+    /// Writes the modified impacts, each with a slash before it.
+    fn write_modified_impact<W: fmt::Write>(&self, f: &mut fmt::Formatter<W>) -> fmt::Result
+        ensures { WritesOnOk W.write_str_gives f.old result
+            (slashed_texts v4 self.now (MVC ∷ MVI ∷ MVA ∷ MSC ∷ MSI ∷ MSA ∷ [])) f.new }
+    {
+        write_value(self.mvc, f)?;
+        write_value(self.mvi, f)?;
+        write_value(self.mva, f)?;
+        write_value(self.msc, f)?;
+        write_value(self.msi, f)?;
+        write_value(self.msa, f)
+    }
+
+    /// Writes the supplemental metrics, each with a slash before it.
+    fn write_supplemental<W: fmt::Write>(&self, f: &mut fmt::Formatter<W>) -> fmt::Result
+        ensures { WritesOnOk W.write_str_gives f.old result
+            (slashed_texts v4 self.now (S ∷ AU ∷ R ∷ V ∷ RE ∷ U ∷ [])) f.new }
+    {
+        write_value(self.s, f)?;
+        write_value(self.au, f)?;
+        write_value(self.r, f)?;
+        write_value(self.v, f)?;
+        write_value(self.re, f)?;
+        write_value(self.u, f)
+    }
+
+    /// Writes all metrics, each with a slash before it.
+    fn write_metrics<W: fmt::Write>(&self, f: &mut fmt::Formatter<W>) -> fmt::Result
+        ensures { WritesOnOk W.write_str_gives f.old result (slashed_texts v4 self.now printed) f.new }
+    {
+        self.write_attack(f)?;
+        self.write_impact(f)?;
+        self.write_threat(f)?;
+        self.write_modified_attack(f)?;
+        self.write_modified_impact(f)?;
+        self.write_supplemental(f)
+    }
+}
+
+impl fmt::Display for Vector {
+    ghost output = { λ vector. Some (canonical_text v4 vector) };
+
+    fn fmt<W: fmt::Write>(&self, f: &mut fmt::Formatter<W>) -> fmt::Result {
+        write_version(self.minor_version, f)?;
+        self.write_metrics(f)
+    }
+}

@@ -1,0 +1,209 @@
+//! How a vector is filled from its components.
+
+ghost use Rattle.std.specs.Prelude.{◌≡◌, IfSome};
+ghost use Rattle.cvss_base.specs.Text.{raised};
+ghost use Rattle.cvss_base.specs.V4Types.{name_of};
+ghost use Rattle.cvss_base.specs.Walk.{HasNoValue, IsFilled};
+ghost use Rattle.cvss_v4.specs.Vector.{v4};
+ghost use Rattle.cvss_v4.specs.VectorLaws.{v4_is_lawful, v4_fronts_are_lawful};
+
+use crate::metric::{Metric, MetricType};
+use crate::vector::Vector;
+use cvss_base::front::Fronted;
+use cvss_base::pieces::cut_early;
+use cvss_base::walk::{Components, Slip};
+
+/// The metrics in printing order (v4.0 specification, section 7).
+const PRINTED: [MetricType; 32] = [
+    MetricType::AV,
+    MetricType::AC,
+    MetricType::AT,
+    MetricType::PR,
+    MetricType::UI,
+    MetricType::VC,
+    MetricType::VI,
+    MetricType::VA,
+    MetricType::SC,
+    MetricType::SI,
+    MetricType::SA,
+    MetricType::E,
+    MetricType::CR,
+    MetricType::IR,
+    MetricType::AR,
+    MetricType::MAV,
+    MetricType::MAC,
+    MetricType::MAT,
+    MetricType::MPR,
+    MetricType::MUI,
+    MetricType::MVC,
+    MetricType::MVI,
+    MetricType::MVA,
+    MetricType::MSC,
+    MetricType::MSI,
+    MetricType::MSA,
+    MetricType::S,
+    MetricType::AU,
+    MetricType::R,
+    MetricType::V,
+    MetricType::RE,
+    MetricType::U,
+];
+
+impl Components for Vector {
+    type Kind = MetricType;
+
+    ghost version = { v4 };
+
+    ghost lawful = { v4_is_lawful };
+
+    fn any_case() -> bool {
+        true
+    }
+
+    fn printed() -> &'static [MetricType] {
+        &PRINTED
+    }
+
+    fn name(kind: MetricType) -> &'static str {
+        kind.name()
+    }
+
+    fn cut(piece: &[u8]) -> Option<(MetricType, &[u8])> {
+        let (name, value) = cut_early(piece)?;
+        Some((named(name)?, value))
+    }
+
+    fn blamed(kind: MetricType) -> MetricType {
+        kind
+    }
+
+    fn put(&mut self, kind: MetricType, value: &[u8]) -> Result<(), Slip> {
+        match kind {
+            MetricType::AV => fill(&mut self.av, value),
+            MetricType::AC => fill(&mut self.ac, value),
+            MetricType::AT => fill(&mut self.at, value),
+            MetricType::PR => fill(&mut self.pr, value),
+            MetricType::UI => fill(&mut self.ui, value),
+            MetricType::VC => fill(&mut self.vc, value),
+            MetricType::VI => fill(&mut self.vi, value),
+            MetricType::VA => fill(&mut self.va, value),
+            MetricType::SC => fill(&mut self.sc, value),
+            MetricType::SI => fill(&mut self.si, value),
+            MetricType::SA => fill(&mut self.sa, value),
+            MetricType::E => fill(&mut self.e, value),
+            MetricType::CR => fill(&mut self.cr, value),
+            MetricType::IR => fill(&mut self.ir, value),
+            MetricType::AR => fill(&mut self.ar, value),
+            MetricType::MAV => fill(&mut self.mav, value),
+            MetricType::MAC => fill(&mut self.mac, value),
+            MetricType::MAT => fill(&mut self.mat, value),
+            MetricType::MPR => fill(&mut self.mpr, value),
+            MetricType::MUI => fill(&mut self.mui, value),
+            MetricType::MVC => fill(&mut self.mvc, value),
+            MetricType::MVI => fill(&mut self.mvi, value),
+            MetricType::MVA => fill(&mut self.mva, value),
+            MetricType::MSC => fill(&mut self.msc, value),
+            MetricType::MSI => fill(&mut self.msi, value),
+            MetricType::MSA => fill(&mut self.msa, value),
+            MetricType::S => fill(&mut self.s, value),
+            MetricType::AU => fill(&mut self.au, value),
+            MetricType::R => fill(&mut self.r, value),
+            MetricType::V => fill(&mut self.v, value),
+            MetricType::RE => fill(&mut self.re, value),
+            MetricType::U => fill(&mut self.u, value),
+        }
+    }
+
+    fn first_missing(&self) -> Option<MetricType> {
+        match self {
+            Vector { ac: None, .. } => Some(MetricType::AC),
+            Vector { at: None, .. } => Some(MetricType::AT),
+            Vector { av: None, .. } => Some(MetricType::AV),
+            Vector { pr: None, .. } => Some(MetricType::PR),
+            Vector { sa: None, .. } => Some(MetricType::SA),
+            Vector { sc: None, .. } => Some(MetricType::SC),
+            Vector { si: None, .. } => Some(MetricType::SI),
+            Vector { ui: None, .. } => Some(MetricType::UI),
+            Vector { va: None, .. } => Some(MetricType::VA),
+            Vector { vc: None, .. } => Some(MetricType::VC),
+            Vector { vi: None, .. } => Some(MetricType::VI),
+            _ => None,
+        }
+    }
+}
+
+impl Fronted for Vector {
+    ghost plain = { v4_fronts_are_lawful };
+
+    fn start(told: &[u8]) -> Option<Vector> {
+        match told {
+            b"4.0" => Some(Vector::empty()),
+            _ => None,
+        }
+    }
+}
+
+impl Vector {
+    /// The vector without metrics.
+    fn empty() -> Vector
+        ensures version { result.minor_version ≡ 0 }
+        ensures valueless { HasNoValue v4 result }
+    {
+        Vector::default()
+    }
+}
+
+/// The metric with this name, in any ASCII case.
+fn named(name: &[u8]) -> Option<MetricType>
+    ensures { IfSome result (λ kind. name_of kind ≡ raised name.now) }
+{
+    match name {
+        [b'A' | b'a', b'V' | b'v'] => Some(MetricType::AV),
+        [b'A' | b'a', b'C' | b'c'] => Some(MetricType::AC),
+        [b'A' | b'a', b'T' | b't'] => Some(MetricType::AT),
+        [b'P' | b'p', b'R' | b'r'] => Some(MetricType::PR),
+        [b'U' | b'u', b'I' | b'i'] => Some(MetricType::UI),
+        [b'V' | b'v', b'C' | b'c'] => Some(MetricType::VC),
+        [b'V' | b'v', b'I' | b'i'] => Some(MetricType::VI),
+        [b'V' | b'v', b'A' | b'a'] => Some(MetricType::VA),
+        [b'S' | b's', b'C' | b'c'] => Some(MetricType::SC),
+        [b'S' | b's', b'I' | b'i'] => Some(MetricType::SI),
+        [b'S' | b's', b'A' | b'a'] => Some(MetricType::SA),
+        [b'E' | b'e'] => Some(MetricType::E),
+        [b'C' | b'c', b'R' | b'r'] => Some(MetricType::CR),
+        [b'I' | b'i', b'R' | b'r'] => Some(MetricType::IR),
+        [b'A' | b'a', b'R' | b'r'] => Some(MetricType::AR),
+        [b'M' | b'm', b'A' | b'a', b'V' | b'v'] => Some(MetricType::MAV),
+        [b'M' | b'm', b'A' | b'a', b'C' | b'c'] => Some(MetricType::MAC),
+        [b'M' | b'm', b'A' | b'a', b'T' | b't'] => Some(MetricType::MAT),
+        [b'M' | b'm', b'P' | b'p', b'R' | b'r'] => Some(MetricType::MPR),
+        [b'M' | b'm', b'U' | b'u', b'I' | b'i'] => Some(MetricType::MUI),
+        [b'M' | b'm', b'V' | b'v', b'C' | b'c'] => Some(MetricType::MVC),
+        [b'M' | b'm', b'V' | b'v', b'I' | b'i'] => Some(MetricType::MVI),
+        [b'M' | b'm', b'V' | b'v', b'A' | b'a'] => Some(MetricType::MVA),
+        [b'M' | b'm', b'S' | b's', b'C' | b'c'] => Some(MetricType::MSC),
+        [b'M' | b'm', b'S' | b's', b'I' | b'i'] => Some(MetricType::MSI),
+        [b'M' | b'm', b'S' | b's', b'A' | b'a'] => Some(MetricType::MSA),
+        [b'S' | b's'] => Some(MetricType::S),
+        [b'A' | b'a', b'U' | b'u'] => Some(MetricType::AU),
+        [b'R' | b'r'] => Some(MetricType::R),
+        [b'V' | b'v'] => Some(MetricType::V),
+        [b'R' | b'r', b'E' | b'e'] => Some(MetricType::RE),
+        [b'U' | b'u'] => Some(MetricType::U),
+        _ => None,
+    }
+}
+
+/// Reads a value into its place, which has to be empty.
+fn fill<M: Metric>(place: &mut Option<M>, text: &[u8]) -> Result<(), Slip>
+    ensures { IsFilled (λ x. raised (M.spelling x)) place.old (raised text.now) result place.new }
+{
+    let Some(metric) = M::read_bytes(text) else {
+        return Err(Slip::Invalid);
+    };
+    if place.is_some() {
+        return Err(Slip::Repeated);
+    }
+    *place = Some(metric);
+    Ok(())
+}

@@ -1,0 +1,24 @@
+//! The errors that tell why a text is no vector.
+
+ghost use Rattle.cvss_base.specs.Told.{v4_reason};
+
+use crate::metric::MetricType;
+use crate::vector::Vector;
+use cvss_base::Error;
+use cvss_base::refusing::Refused;
+
+impl Refused for Vector {
+    ghost reason = { v4_reason };
+
+    fn invalid_metric(metric_type: MetricType, value: String) -> Error {
+        Error::InvalidMetricV4 { metric_type, value }
+    }
+
+    fn duplicate_metric(metric_type: MetricType) -> Error {
+        Error::DuplicateMetricV4 { metric_type }
+    }
+
+    fn missing_metric(metric_type: MetricType) -> Option<Error> {
+        Some(Error::MissingMandatoryMetricV4 { metric_type })
+    }
+}

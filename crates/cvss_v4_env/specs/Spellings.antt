@@ -1,0 +1,172 @@
+-- How the values of each environmental metric are spelled, and all values of each in the order in which
+-- they are compared: CVSS v4.0 specification, section 4.
+use Rattle.std.specs.Prelude.{ℕ, List, [], ◌∷◌, codes}
+use Rattle.cvss_v4_env.specs.declared.requirement.ConfidentialityRequirements.{ConfidentialityRequirements}
+use Rattle.cvss_v4_env.specs.declared.requirement.ConfidentialityRequirements.TheVariants as confidentiality_requirements
+use Rattle.cvss_v4_env.specs.declared.requirement.IntegrityRequirements.{IntegrityRequirements}
+use Rattle.cvss_v4_env.specs.declared.requirement.IntegrityRequirements.TheVariants as integrity_requirements
+use Rattle.cvss_v4_env.specs.declared.requirement.AvailabilityRequirements.{AvailabilityRequirements}
+use Rattle.cvss_v4_env.specs.declared.requirement.AvailabilityRequirements.TheVariants as availability_requirements
+use Rattle.cvss_v4_env.specs.declared.attack.ModifiedAttackVector.{ModifiedAttackVector}
+use Rattle.cvss_v4_env.specs.declared.attack.ModifiedAttackVector.TheVariants as modified_attack_vector
+use Rattle.cvss_v4_env.specs.declared.attack.ModifiedAttackComplexity.{ModifiedAttackComplexity}
+use Rattle.cvss_v4_env.specs.declared.attack.ModifiedAttackComplexity.TheVariants as modified_attack_complexity
+use Rattle.cvss_v4_env.specs.declared.attack.ModifiedAttackRequirements.{ModifiedAttackRequirements}
+use Rattle.cvss_v4_env.specs.declared.attack.ModifiedAttackRequirements.TheVariants as modified_attack_requirements
+use Rattle.cvss_v4_env.specs.declared.access.ModifiedPrivilegesRequired.{ModifiedPrivilegesRequired}
+use Rattle.cvss_v4_env.specs.declared.access.ModifiedPrivilegesRequired.TheVariants as modified_privileges_required
+use Rattle.cvss_v4_env.specs.declared.access.ModifiedUserInteraction.{ModifiedUserInteraction}
+use Rattle.cvss_v4_env.specs.declared.access.ModifiedUserInteraction.TheVariants as modified_user_interaction
+use Rattle.cvss_v4_env.specs.declared.vulnerable.ModifiedConfidentialityImpactToTheVulnerableSystem.{ModifiedConfidentialityImpactToTheVulnerableSystem}
+use Rattle.cvss_v4_env.specs.declared.vulnerable.ModifiedConfidentialityImpactToTheVulnerableSystem.TheVariants as modified_confidentiality_impact_to_the_vulnerable_system
+use Rattle.cvss_v4_env.specs.declared.vulnerable.ModifiedIntegrityImpactToTheVulnerableSystem.{ModifiedIntegrityImpactToTheVulnerableSystem}
+use Rattle.cvss_v4_env.specs.declared.vulnerable.ModifiedIntegrityImpactToTheVulnerableSystem.TheVariants as modified_integrity_impact_to_the_vulnerable_system
+use Rattle.cvss_v4_env.specs.declared.vulnerable.ModifiedAvailabilityImpactToTheVulnerableSystem.{ModifiedAvailabilityImpactToTheVulnerableSystem}
+use Rattle.cvss_v4_env.specs.declared.vulnerable.ModifiedAvailabilityImpactToTheVulnerableSystem.TheVariants as modified_availability_impact_to_the_vulnerable_system
+use Rattle.cvss_v4_env.specs.declared.subsequent.ModifiedConfidentialityImpactToTheSubsequentSystem.{ModifiedConfidentialityImpactToTheSubsequentSystem}
+use Rattle.cvss_v4_env.specs.declared.subsequent.ModifiedConfidentialityImpactToTheSubsequentSystem.TheVariants as modified_confidentiality_impact_to_the_subsequent_system
+use Rattle.cvss_v4_env.specs.declared.subsequent.ModifiedIntegrityImpactToTheSubsequentSystem.{ModifiedIntegrityImpactToTheSubsequentSystem}
+use Rattle.cvss_v4_env.specs.declared.subsequent.ModifiedIntegrityImpactToTheSubsequentSystem.TheVariants as modified_integrity_impact_to_the_subsequent_system
+use Rattle.cvss_v4_env.specs.declared.subsequent.ModifiedAvailabilityImpactToTheSubsequentSystem.{ModifiedAvailabilityImpactToTheSubsequentSystem}
+use Rattle.cvss_v4_env.specs.declared.subsequent.ModifiedAvailabilityImpactToTheSubsequentSystem.TheVariants as modified_availability_impact_to_the_subsequent_system
+
+-- Confidentiality Requirements, section 4.1
+abbrev pub confidentiality_requirements_spelling : ConfidentialityRequirements → List ℕ
+confidentiality_requirements_spelling confidentiality_requirements.NotDefined = codes "X"
+confidentiality_requirements_spelling confidentiality_requirements.Low = codes "L"
+confidentiality_requirements_spelling confidentiality_requirements.Medium = codes "M"
+confidentiality_requirements_spelling confidentiality_requirements.High = codes "H"
+
+abbrev pub confidentiality_requirements_values : List ConfidentialityRequirements
+confidentiality_requirements_values = confidentiality_requirements.NotDefined ∷ confidentiality_requirements.Low ∷ confidentiality_requirements.Medium ∷ confidentiality_requirements.High ∷ []
+
+-- Integrity Requirements, section 4.1
+abbrev pub integrity_requirements_spelling : IntegrityRequirements → List ℕ
+integrity_requirements_spelling integrity_requirements.NotDefined = codes "X"
+integrity_requirements_spelling integrity_requirements.Low = codes "L"
+integrity_requirements_spelling integrity_requirements.Medium = codes "M"
+integrity_requirements_spelling integrity_requirements.High = codes "H"
+
+abbrev pub integrity_requirements_values : List IntegrityRequirements
+integrity_requirements_values = integrity_requirements.NotDefined ∷ integrity_requirements.Low ∷ integrity_requirements.Medium ∷ integrity_requirements.High ∷ []
+
+-- Availability Requirements, section 4.1
+abbrev pub availability_requirements_spelling : AvailabilityRequirements → List ℕ
+availability_requirements_spelling availability_requirements.NotDefined = codes "X"
+availability_requirements_spelling availability_requirements.Low = codes "L"
+availability_requirements_spelling availability_requirements.Medium = codes "M"
+availability_requirements_spelling availability_requirements.High = codes "H"
+
+abbrev pub availability_requirements_values : List AvailabilityRequirements
+availability_requirements_values = availability_requirements.NotDefined ∷ availability_requirements.Low ∷ availability_requirements.Medium ∷ availability_requirements.High ∷ []
+
+-- Modified Attack Vector, section 4.2
+abbrev pub modified_attack_vector_spelling : ModifiedAttackVector → List ℕ
+modified_attack_vector_spelling modified_attack_vector.Physical = codes "P"
+modified_attack_vector_spelling modified_attack_vector.Local = codes "L"
+modified_attack_vector_spelling modified_attack_vector.Adjacent = codes "A"
+modified_attack_vector_spelling modified_attack_vector.Network = codes "N"
+modified_attack_vector_spelling modified_attack_vector.NotDefined = codes "X"
+
+abbrev pub modified_attack_vector_values : List ModifiedAttackVector
+modified_attack_vector_values = modified_attack_vector.Physical ∷ modified_attack_vector.Local ∷ modified_attack_vector.Adjacent ∷ modified_attack_vector.Network ∷ modified_attack_vector.NotDefined ∷ []
+
+-- Modified Attack Complexity, section 4.2
+abbrev pub modified_attack_complexity_spelling : ModifiedAttackComplexity → List ℕ
+modified_attack_complexity_spelling modified_attack_complexity.NotDefined = codes "X"
+modified_attack_complexity_spelling modified_attack_complexity.High = codes "H"
+modified_attack_complexity_spelling modified_attack_complexity.Low = codes "L"
+
+abbrev pub modified_attack_complexity_values : List ModifiedAttackComplexity
+modified_attack_complexity_values = modified_attack_complexity.NotDefined ∷ modified_attack_complexity.High ∷ modified_attack_complexity.Low ∷ []
+
+-- Modified Attack Requirements, section 4.2
+abbrev pub modified_attack_requirements_spelling : ModifiedAttackRequirements → List ℕ
+modified_attack_requirements_spelling modified_attack_requirements.NotDefined = codes "X"
+modified_attack_requirements_spelling modified_attack_requirements.Present = codes "P"
+modified_attack_requirements_spelling modified_attack_requirements.None = codes "N"
+
+abbrev pub modified_attack_requirements_values : List ModifiedAttackRequirements
+modified_attack_requirements_values = modified_attack_requirements.NotDefined ∷ modified_attack_requirements.Present ∷ modified_attack_requirements.None ∷ []
+
+-- Modified Privileges Required, section 4.2
+abbrev pub modified_privileges_required_spelling : ModifiedPrivilegesRequired → List ℕ
+modified_privileges_required_spelling modified_privileges_required.NotDefined = codes "X"
+modified_privileges_required_spelling modified_privileges_required.High = codes "H"
+modified_privileges_required_spelling modified_privileges_required.Low = codes "L"
+modified_privileges_required_spelling modified_privileges_required.None = codes "N"
+
+abbrev pub modified_privileges_required_values : List ModifiedPrivilegesRequired
+modified_privileges_required_values = modified_privileges_required.NotDefined ∷ modified_privileges_required.High ∷ modified_privileges_required.Low ∷ modified_privileges_required.None ∷ []
+
+-- Modified User Interaction, section 4.2
+abbrev pub modified_user_interaction_spelling : ModifiedUserInteraction → List ℕ
+modified_user_interaction_spelling modified_user_interaction.NotDefined = codes "X"
+modified_user_interaction_spelling modified_user_interaction.Active = codes "A"
+modified_user_interaction_spelling modified_user_interaction.Passive = codes "P"
+modified_user_interaction_spelling modified_user_interaction.None = codes "N"
+
+abbrev pub modified_user_interaction_values : List ModifiedUserInteraction
+modified_user_interaction_values = modified_user_interaction.NotDefined ∷ modified_user_interaction.Active ∷ modified_user_interaction.Passive ∷ modified_user_interaction.None ∷ []
+
+-- Modified Confidentiality Impact to the Vulnerable System, section 4.2
+abbrev pub modified_confidentiality_impact_to_the_vulnerable_system_spelling : ModifiedConfidentialityImpactToTheVulnerableSystem → List ℕ
+modified_confidentiality_impact_to_the_vulnerable_system_spelling modified_confidentiality_impact_to_the_vulnerable_system.NotDefined = codes "X"
+modified_confidentiality_impact_to_the_vulnerable_system_spelling modified_confidentiality_impact_to_the_vulnerable_system.None = codes "N"
+modified_confidentiality_impact_to_the_vulnerable_system_spelling modified_confidentiality_impact_to_the_vulnerable_system.Low = codes "L"
+modified_confidentiality_impact_to_the_vulnerable_system_spelling modified_confidentiality_impact_to_the_vulnerable_system.High = codes "H"
+
+abbrev pub modified_confidentiality_impact_to_the_vulnerable_system_values : List ModifiedConfidentialityImpactToTheVulnerableSystem
+modified_confidentiality_impact_to_the_vulnerable_system_values = modified_confidentiality_impact_to_the_vulnerable_system.NotDefined ∷ modified_confidentiality_impact_to_the_vulnerable_system.None ∷ modified_confidentiality_impact_to_the_vulnerable_system.Low ∷ modified_confidentiality_impact_to_the_vulnerable_system.High ∷ []
+
+-- Modified Integrity Impact to the Vulnerable System, section 4.2
+abbrev pub modified_integrity_impact_to_the_vulnerable_system_spelling : ModifiedIntegrityImpactToTheVulnerableSystem → List ℕ
+modified_integrity_impact_to_the_vulnerable_system_spelling modified_integrity_impact_to_the_vulnerable_system.NotDefined = codes "X"
+modified_integrity_impact_to_the_vulnerable_system_spelling modified_integrity_impact_to_the_vulnerable_system.None = codes "N"
+modified_integrity_impact_to_the_vulnerable_system_spelling modified_integrity_impact_to_the_vulnerable_system.Low = codes "L"
+modified_integrity_impact_to_the_vulnerable_system_spelling modified_integrity_impact_to_the_vulnerable_system.High = codes "H"
+
+abbrev pub modified_integrity_impact_to_the_vulnerable_system_values : List ModifiedIntegrityImpactToTheVulnerableSystem
+modified_integrity_impact_to_the_vulnerable_system_values = modified_integrity_impact_to_the_vulnerable_system.NotDefined ∷ modified_integrity_impact_to_the_vulnerable_system.None ∷ modified_integrity_impact_to_the_vulnerable_system.Low ∷ modified_integrity_impact_to_the_vulnerable_system.High ∷ []
+
+-- Modified Availability Impact to the Vulnerable System, section 4.2
+abbrev pub modified_availability_impact_to_the_vulnerable_system_spelling : ModifiedAvailabilityImpactToTheVulnerableSystem → List ℕ
+modified_availability_impact_to_the_vulnerable_system_spelling modified_availability_impact_to_the_vulnerable_system.NotDefined = codes "X"
+modified_availability_impact_to_the_vulnerable_system_spelling modified_availability_impact_to_the_vulnerable_system.None = codes "N"
+modified_availability_impact_to_the_vulnerable_system_spelling modified_availability_impact_to_the_vulnerable_system.Low = codes "L"
+modified_availability_impact_to_the_vulnerable_system_spelling modified_availability_impact_to_the_vulnerable_system.High = codes "H"
+
+abbrev pub modified_availability_impact_to_the_vulnerable_system_values : List ModifiedAvailabilityImpactToTheVulnerableSystem
+modified_availability_impact_to_the_vulnerable_system_values = modified_availability_impact_to_the_vulnerable_system.NotDefined ∷ modified_availability_impact_to_the_vulnerable_system.None ∷ modified_availability_impact_to_the_vulnerable_system.Low ∷ modified_availability_impact_to_the_vulnerable_system.High ∷ []
+
+-- Modified Confidentiality Impact to the Subsequent System, section 4.2
+abbrev pub modified_confidentiality_impact_to_the_subsequent_system_spelling : ModifiedConfidentialityImpactToTheSubsequentSystem → List ℕ
+modified_confidentiality_impact_to_the_subsequent_system_spelling modified_confidentiality_impact_to_the_subsequent_system.NotDefined = codes "X"
+modified_confidentiality_impact_to_the_subsequent_system_spelling modified_confidentiality_impact_to_the_subsequent_system.Negligible = codes "N"
+modified_confidentiality_impact_to_the_subsequent_system_spelling modified_confidentiality_impact_to_the_subsequent_system.Low = codes "L"
+modified_confidentiality_impact_to_the_subsequent_system_spelling modified_confidentiality_impact_to_the_subsequent_system.High = codes "H"
+
+abbrev pub modified_confidentiality_impact_to_the_subsequent_system_values : List ModifiedConfidentialityImpactToTheSubsequentSystem
+modified_confidentiality_impact_to_the_subsequent_system_values = modified_confidentiality_impact_to_the_subsequent_system.NotDefined ∷ modified_confidentiality_impact_to_the_subsequent_system.Negligible ∷ modified_confidentiality_impact_to_the_subsequent_system.Low ∷ modified_confidentiality_impact_to_the_subsequent_system.High ∷ []
+
+-- Modified Integrity Impact to the Subsequent System, section 4.2
+abbrev pub modified_integrity_impact_to_the_subsequent_system_spelling : ModifiedIntegrityImpactToTheSubsequentSystem → List ℕ
+modified_integrity_impact_to_the_subsequent_system_spelling modified_integrity_impact_to_the_subsequent_system.NotDefined = codes "X"
+modified_integrity_impact_to_the_subsequent_system_spelling modified_integrity_impact_to_the_subsequent_system.Negligible = codes "N"
+modified_integrity_impact_to_the_subsequent_system_spelling modified_integrity_impact_to_the_subsequent_system.Low = codes "L"
+modified_integrity_impact_to_the_subsequent_system_spelling modified_integrity_impact_to_the_subsequent_system.High = codes "H"
+modified_integrity_impact_to_the_subsequent_system_spelling modified_integrity_impact_to_the_subsequent_system.Safety = codes "S"
+
+abbrev pub modified_integrity_impact_to_the_subsequent_system_values : List ModifiedIntegrityImpactToTheSubsequentSystem
+modified_integrity_impact_to_the_subsequent_system_values = modified_integrity_impact_to_the_subsequent_system.NotDefined ∷ modified_integrity_impact_to_the_subsequent_system.Negligible ∷ modified_integrity_impact_to_the_subsequent_system.Low ∷ modified_integrity_impact_to_the_subsequent_system.High ∷ modified_integrity_impact_to_the_subsequent_system.Safety ∷ []
+
+-- Modified Availability Impact to the Subsequent System, section 4.2
+abbrev pub modified_availability_impact_to_the_subsequent_system_spelling : ModifiedAvailabilityImpactToTheSubsequentSystem → List ℕ
+modified_availability_impact_to_the_subsequent_system_spelling modified_availability_impact_to_the_subsequent_system.NotDefined = codes "X"
+modified_availability_impact_to_the_subsequent_system_spelling modified_availability_impact_to_the_subsequent_system.Negligible = codes "N"
+modified_availability_impact_to_the_subsequent_system_spelling modified_availability_impact_to_the_subsequent_system.Low = codes "L"
+modified_availability_impact_to_the_subsequent_system_spelling modified_availability_impact_to_the_subsequent_system.High = codes "H"
+modified_availability_impact_to_the_subsequent_system_spelling modified_availability_impact_to_the_subsequent_system.Safety = codes "S"
+
+abbrev pub modified_availability_impact_to_the_subsequent_system_values : List ModifiedAvailabilityImpactToTheSubsequentSystem
+modified_availability_impact_to_the_subsequent_system_values = modified_availability_impact_to_the_subsequent_system.NotDefined ∷ modified_availability_impact_to_the_subsequent_system.Negligible ∷ modified_availability_impact_to_the_subsequent_system.Low ∷ modified_availability_impact_to_the_subsequent_system.High ∷ modified_availability_impact_to_the_subsequent_system.Safety ∷ []

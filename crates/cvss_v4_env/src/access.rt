@@ -1,0 +1,111 @@
+//! What the attack needs of others, in the user's own environment (v4.0 specification, section
+//! 4.2).
+
+ghost use Rattle.std.specs.Prelude.{Some};
+ghost use Rattle.std.proofs.Common.{rules};
+ghost use Rattle.cvss_base.specs.Text.{component};
+ghost use Rattle.cvss_base.specs.V4Types.{name_of};
+ghost use Rattle.cvss_base.specs.declared.v4.MetricType.TheVariants.{MPR, MUI};
+ghost use Rattle.cvss_v4_env.specs.Spellings.{modified_privileges_required_spelling, modified_privileges_required_values, modified_user_interaction_spelling, modified_user_interaction_values};
+
+use cvss_base::print::write_component;
+use cvss_v4_metric::{Metric, MetricType};
+use std::fmt;
+
+/// What Privileges Required is in the user's own environment (v4.0 specification, section 4.2).
+#[derive(Clone, Copy, Debug, Default, PartialEq, Eq, PartialOrd, Ord)]
+pub enum ModifiedPrivilegesRequired {
+    #[default]
+    NotDefined,
+    High,
+    Low,
+    None,
+}
+
+impl Metric for ModifiedPrivilegesRequired {
+    const TYPE: MetricType = MetricType::MPR;
+
+    ghost TYPE = { MPR };
+
+    ghost spelling = { modified_privileges_required_spelling };
+
+    ghost values = { modified_privileges_required_values };
+
+    ghost law = { Prim.search rules };
+
+    fn slashed(self) -> &'static str {
+        match self {
+            ModifiedPrivilegesRequired::NotDefined => "/MPR:X",
+            ModifiedPrivilegesRequired::High => "/MPR:H",
+            ModifiedPrivilegesRequired::Low => "/MPR:L",
+            ModifiedPrivilegesRequired::None => "/MPR:N",
+        }
+    }
+
+    fn read_bytes(text: &[u8]) -> Option<Self> {
+        match text {
+            b"X" | b"x" => Some(ModifiedPrivilegesRequired::NotDefined),
+            b"H" | b"h" => Some(ModifiedPrivilegesRequired::High),
+            b"L" | b"l" => Some(ModifiedPrivilegesRequired::Low),
+            b"N" | b"n" => Some(ModifiedPrivilegesRequired::None),
+            _ => None,
+        }
+    }
+}
+
+impl fmt::Display for ModifiedPrivilegesRequired {
+    ghost output = { λ metric. Some (component (name_of MPR) (modified_privileges_required_spelling metric)) };
+
+    fn fmt<W: fmt::Write>(&self, f: &mut fmt::Formatter<W>) -> fmt::Result {
+        write_component(self.slashed(), f)
+    }
+}
+
+/// What User Interaction is in the user's own environment (v4.0 specification, section 4.2).
+#[derive(Clone, Copy, Debug, Default, PartialEq, Eq, PartialOrd, Ord)]
+pub enum ModifiedUserInteraction {
+    #[default]
+    NotDefined,
+    Active,
+    Passive,
+    None,
+}
+
+impl Metric for ModifiedUserInteraction {
+    const TYPE: MetricType = MetricType::MUI;
+
+    ghost TYPE = { MUI };
+
+    ghost spelling = { modified_user_interaction_spelling };
+
+    ghost values = { modified_user_interaction_values };
+
+    ghost law = { Prim.search rules };
+
+    fn slashed(self) -> &'static str {
+        match self {
+            ModifiedUserInteraction::NotDefined => "/MUI:X",
+            ModifiedUserInteraction::Active => "/MUI:A",
+            ModifiedUserInteraction::Passive => "/MUI:P",
+            ModifiedUserInteraction::None => "/MUI:N",
+        }
+    }
+
+    fn read_bytes(text: &[u8]) -> Option<Self> {
+        match text {
+            b"X" | b"x" => Some(ModifiedUserInteraction::NotDefined),
+            b"A" | b"a" => Some(ModifiedUserInteraction::Active),
+            b"P" | b"p" => Some(ModifiedUserInteraction::Passive),
+            b"N" | b"n" => Some(ModifiedUserInteraction::None),
+            _ => None,
+        }
+    }
+}
+
+impl fmt::Display for ModifiedUserInteraction {
+    ghost output = { λ metric. Some (component (name_of MUI) (modified_user_interaction_spelling metric)) };
+
+    fn fmt<W: fmt::Write>(&self, f: &mut fmt::Formatter<W>) -> fmt::Result {
+        write_component(self.slashed(), f)
+    }
+}

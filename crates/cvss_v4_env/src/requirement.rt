@@ -1,0 +1,160 @@
+//! How much the user's organisation depends on each kind of security (v4.0 specification, section
+//! 4.1).
+
+ghost use Rattle.std.specs.Prelude.{Some};
+ghost use Rattle.std.proofs.Common.{rules};
+ghost use Rattle.cvss_base.specs.Text.{component};
+ghost use Rattle.cvss_base.specs.V4Types.{name_of};
+ghost use Rattle.cvss_base.specs.declared.v4.MetricType.TheVariants.{CR, IR, AR};
+ghost use Rattle.cvss_v4_env.specs.Spellings.{confidentiality_requirements_spelling, confidentiality_requirements_values, integrity_requirements_spelling, integrity_requirements_values, availability_requirements_spelling, availability_requirements_values};
+
+use cvss_base::print::write_component;
+use cvss_v4_metric::{Metric, MetricType};
+use std::fmt;
+
+/// How much confidentiality matters to the user's organisation (v4.0 specification, section 4.1).
+#[derive(Clone, Copy, Debug, Default, PartialEq, Eq, PartialOrd, Ord)]
+pub enum ConfidentialityRequirements {
+    #[default]
+    NotDefined,
+    Low,
+    Medium,
+    High,
+}
+
+impl Metric for ConfidentialityRequirements {
+    const TYPE: MetricType = MetricType::CR;
+
+    ghost TYPE = { CR };
+
+    ghost spelling = { confidentiality_requirements_spelling };
+
+    ghost values = { confidentiality_requirements_values };
+
+    ghost law = { Prim.search rules };
+
+    fn slashed(self) -> &'static str {
+        match self {
+            ConfidentialityRequirements::NotDefined => "/CR:X",
+            ConfidentialityRequirements::Low => "/CR:L",
+            ConfidentialityRequirements::Medium => "/CR:M",
+            ConfidentialityRequirements::High => "/CR:H",
+        }
+    }
+
+    fn read_bytes(text: &[u8]) -> Option<Self> {
+        match text {
+            b"X" | b"x" => Some(ConfidentialityRequirements::NotDefined),
+            b"L" | b"l" => Some(ConfidentialityRequirements::Low),
+            b"M" | b"m" => Some(ConfidentialityRequirements::Medium),
+            b"H" | b"h" => Some(ConfidentialityRequirements::High),
+            _ => None,
+        }
+    }
+}
+
+impl fmt::Display for ConfidentialityRequirements {
+    ghost output = { λ metric. Some (component (name_of CR) (confidentiality_requirements_spelling metric)) };
+
+    fn fmt<W: fmt::Write>(&self, f: &mut fmt::Formatter<W>) -> fmt::Result {
+        write_component(self.slashed(), f)
+    }
+}
+
+/// How much integrity matters to the user's organisation (v4.0 specification, section 4.1).
+#[derive(Clone, Copy, Debug, Default, PartialEq, Eq, PartialOrd, Ord)]
+pub enum IntegrityRequirements {
+    #[default]
+    NotDefined,
+    Low,
+    Medium,
+    High,
+}
+
+impl Metric for IntegrityRequirements {
+    const TYPE: MetricType = MetricType::IR;
+
+    ghost TYPE = { IR };
+
+    ghost spelling = { integrity_requirements_spelling };
+
+    ghost values = { integrity_requirements_values };
+
+    ghost law = { Prim.search rules };
+
+    fn slashed(self) -> &'static str {
+        match self {
+            IntegrityRequirements::NotDefined => "/IR:X",
+            IntegrityRequirements::Low => "/IR:L",
+            IntegrityRequirements::Medium => "/IR:M",
+            IntegrityRequirements::High => "/IR:H",
+        }
+    }
+
+    fn read_bytes(text: &[u8]) -> Option<Self> {
+        match text {
+            b"X" | b"x" => Some(IntegrityRequirements::NotDefined),
+            b"L" | b"l" => Some(IntegrityRequirements::Low),
+            b"M" | b"m" => Some(IntegrityRequirements::Medium),
+            b"H" | b"h" => Some(IntegrityRequirements::High),
+            _ => None,
+        }
+    }
+}
+
+impl fmt::Display for IntegrityRequirements {
+    ghost output = { λ metric. Some (component (name_of IR) (integrity_requirements_spelling metric)) };
+
+    fn fmt<W: fmt::Write>(&self, f: &mut fmt::Formatter<W>) -> fmt::Result {
+        write_component(self.slashed(), f)
+    }
+}
+
+/// How much availability matters to the user's organisation (v4.0 specification, section 4.1).
+#[derive(Clone, Copy, Debug, Default, PartialEq, Eq, PartialOrd, Ord)]
+pub enum AvailabilityRequirements {
+    #[default]
+    NotDefined,
+    Low,
+    Medium,
+    High,
+}
+
+impl Metric for AvailabilityRequirements {
+    const TYPE: MetricType = MetricType::AR;
+
+    ghost TYPE = { AR };
+
+    ghost spelling = { availability_requirements_spelling };
+
+    ghost values = { availability_requirements_values };
+
+    ghost law = { Prim.search rules };
+
+    fn slashed(self) -> &'static str {
+        match self {
+            AvailabilityRequirements::NotDefined => "/AR:X",
+            AvailabilityRequirements::Low => "/AR:L",
+            AvailabilityRequirements::Medium => "/AR:M",
+            AvailabilityRequirements::High => "/AR:H",
+        }
+    }
+
+    fn read_bytes(text: &[u8]) -> Option<Self> {
+        match text {
+            b"X" | b"x" => Some(AvailabilityRequirements::NotDefined),
+            b"L" | b"l" => Some(AvailabilityRequirements::Low),
+            b"M" | b"m" => Some(AvailabilityRequirements::Medium),
+            b"H" | b"h" => Some(AvailabilityRequirements::High),
+            _ => None,
+        }
+    }
+}
+
+impl fmt::Display for AvailabilityRequirements {
+    ghost output = { λ metric. Some (component (name_of AR) (availability_requirements_spelling metric)) };
+
+    fn fmt<W: fmt::Write>(&self, f: &mut fmt::Formatter<W>) -> fmt::Result {
+        write_component(self.slashed(), f)
+    }
+}

@@ -1,0 +1,4 @@
+pub mod Metrics
+pub mod Reading
+pub mod Spellings
+pub mod Table

@@ -1,0 +1,105 @@
+//! What the attack needs of others: privileges, and somebody who takes part (v4.0 specification,
+//! sections 2.1.4 and 2.1.5).
+
+ghost use Rattle.std.specs.Prelude.{Some};
+ghost use Rattle.std.proofs.Common.{rules};
+ghost use Rattle.cvss_base.specs.Text.{component};
+ghost use Rattle.cvss_base.specs.V4Types.{name_of};
+ghost use Rattle.cvss_base.specs.declared.v4.MetricType.TheVariants.{PR, UI};
+ghost use Rattle.cvss_v4_metric.specs.Spellings.{privileges_required_spelling, privileges_required_values, user_interaction_spelling, user_interaction_values};
+
+use crate::metric::{Metric, MetricType};
+use cvss_base::print::write_component;
+use std::fmt;
+
+/// Which privileges the attacker needs before the attack (v4.0 specification, section 2.1.4).
+#[derive(Clone, Copy, Debug, Default, PartialEq, Eq, PartialOrd, Ord)]
+pub enum PrivilegesRequired {
+    High,
+    Low,
+    #[default]
+    None,
+}
+
+impl Metric for PrivilegesRequired {
+    const TYPE: MetricType = MetricType::PR;
+
+    ghost TYPE = { PR };
+
+    ghost spelling = { privileges_required_spelling };
+
+    ghost values = { privileges_required_values };
+
+    ghost law = { Prim.search rules };
+
+    fn slashed(self) -> &'static str {
+        match self {
+            PrivilegesRequired::High => "/PR:H",
+            PrivilegesRequired::Low => "/PR:L",
+            PrivilegesRequired::None => "/PR:N",
+        }
+    }
+
+    fn read_bytes(text: &[u8]) -> Option<Self> {
+        match text {
+            b"H" | b"h" => Some(PrivilegesRequired::High),
+            b"L" | b"l" => Some(PrivilegesRequired::Low),
+            b"N" | b"n" => Some(PrivilegesRequired::None),
+            _ => None,
+        }
+    }
+}
+
+impl fmt::Display for PrivilegesRequired {
+    ghost output = { λ metric. Some (component (name_of PR) (privileges_required_spelling metric)) };
+
+    fn fmt<W: fmt::Write>(&self, f: &mut fmt::Formatter<W>) -> fmt::Result {
+        write_component(self.slashed(), f)
+    }
+}
+
+/// Whether somebody other than the attacker has to take part (v4.0 specification, section 2.1.5).
+#[derive(Clone, Copy, Debug, Default, PartialEq, Eq, PartialOrd, Ord)]
+pub enum UserInteraction {
+    Active,
+    Passive,
+    #[default]
+    None,
+}
+
+impl Metric for UserInteraction {
+    const TYPE: MetricType = MetricType::UI;
+
+    ghost TYPE = { UI };
+
+    ghost spelling = { user_interaction_spelling };
+
+    ghost values = { user_interaction_values };
+
+    ghost law = { Prim.search rules };
+
+    fn slashed(self) -> &'static str {
+        match self {
+            UserInteraction::Active => "/UI:A",
+            UserInteraction::Passive => "/UI:P",
+            UserInteraction::None => "/UI:N",
+        }
+    }
+
+    fn read_bytes(text: &[u8]) -> Option<Self> {
+        match text {
+            b"A" | b"a" => Some(UserInteraction::Active),
+            b"P" | b"p" => Some(UserInteraction::Passive),
+            b"N" | b"n" => Some(UserInteraction::None),
+            _ => None,
+        }
+    }
+}
+
+impl fmt::Display for UserInteraction {
+    ghost output = { λ metric. Some (component (name_of UI) (user_interaction_spelling metric)) };
+
+    fn fmt<W: fmt::Write>(&self, f: &mut fmt::Formatter<W>) -> fmt::Result {
+        write_component(self.slashed(), f)
+    }
+}

@@ -1,0 +1,150 @@
+//! Where the attack comes from and what it depends on (v4.0 specification, sections 2.1.1 to
+//! 2.1.3).
+
+ghost use Rattle.std.specs.Prelude.{Some};
+ghost use Rattle.std.proofs.Common.{rules};
+ghost use Rattle.cvss_base.specs.Text.{component};
+ghost use Rattle.cvss_base.specs.V4Types.{name_of};
+ghost use Rattle.cvss_base.specs.declared.v4.MetricType.TheVariants.{AV, AC, AT};
+ghost use Rattle.cvss_v4_metric.specs.Spellings.{attack_vector_spelling, attack_vector_values, attack_complexity_spelling, attack_complexity_values, attack_requirements_spelling, attack_requirements_values};
+
+use crate::metric::{Metric, MetricType};
+use cvss_base::print::write_component;
+use std::fmt;
+
+/// How near to the vulnerable system the attacker has to be (v4.0 specification, section 2.1.1).
+#[derive(Clone, Copy, Debug, Default, PartialEq, Eq, PartialOrd, Ord)]
+pub enum AttackVector {
+    Physical,
+    Local,
+    Adjacent,
+    #[default]
+    Network,
+}
+
+impl Metric for AttackVector {
+    const TYPE: MetricType = MetricType::AV;
+
+    ghost TYPE = { AV };
+
+    ghost spelling = { attack_vector_spelling };
+
+    ghost values = { attack_vector_values };
+
+    ghost law = { Prim.search rules };
+
+    fn slashed(self) -> &'static str {
+        match self {
+            AttackVector::Physical => "/AV:P",
+            AttackVector::Local => "/AV:L",
+            AttackVector::Adjacent => "/AV:A",
+            AttackVector::Network => "/AV:N",
+        }
+    }
+
+    fn read_bytes(text: &[u8]) -> Option<Self> {
+        match text {
+            b"P" | b"p" => Some(AttackVector::Physical),
+            b"L" | b"l" => Some(AttackVector::Local),
+            b"A" | b"a" => Some(AttackVector::Adjacent),
+            b"N" | b"n" => Some(AttackVector::Network),
+            _ => None,
+        }
+    }
+}
+
+impl fmt::Display for AttackVector {
+    ghost output = { λ metric. Some (component (name_of AV) (attack_vector_spelling metric)) };
+
+    fn fmt<W: fmt::Write>(&self, f: &mut fmt::Formatter<W>) -> fmt::Result {
+        write_component(self.slashed(), f)
+    }
+}
+
+/// Whether the attacker has to overcome defences that are built in (v4.0 specification, section
+/// 2.1.2).
+#[derive(Clone, Copy, Debug, Default, PartialEq, Eq, PartialOrd, Ord)]
+pub enum AttackComplexity {
+    High,
+    #[default]
+    Low,
+}
+
+impl Metric for AttackComplexity {
+    const TYPE: MetricType = MetricType::AC;
+
+    ghost TYPE = { AC };
+
+    ghost spelling = { attack_complexity_spelling };
+
+    ghost values = { attack_complexity_values };
+
+    ghost law = { Prim.search rules };
+
+    fn slashed(self) -> &'static str {
+        match self {
+            AttackComplexity::High => "/AC:H",
+            AttackComplexity::Low => "/AC:L",
+        }
+    }
+
+    fn read_bytes(text: &[u8]) -> Option<Self> {
+        match text {
+            b"H" | b"h" => Some(AttackComplexity::High),
+            b"L" | b"l" => Some(AttackComplexity::Low),
+            _ => None,
+        }
+    }
+}
+
+impl fmt::Display for AttackComplexity {
+    ghost output = { λ metric. Some (component (name_of AC) (attack_complexity_spelling metric)) };
+
+    fn fmt<W: fmt::Write>(&self, f: &mut fmt::Formatter<W>) -> fmt::Result {
+        write_component(self.slashed(), f)
+    }
+}
+
+/// Whether the attack needs conditions of the vulnerable system that not each deployment meets
+/// (v4.0 specification, section 2.1.3).
+#[derive(Clone, Copy, Debug, Default, PartialEq, Eq, PartialOrd, Ord)]
+pub enum AttackRequirements {
+    Present,
+    #[default]
+    None,
+}
+
+impl Metric for AttackRequirements {
+    const TYPE: MetricType = MetricType::AT;
+
+    ghost TYPE = { AT };
+
+    ghost spelling = { attack_requirements_spelling };
+
+    ghost values = { attack_requirements_values };
+
+    ghost law = { Prim.search rules };
+
+    fn slashed(self) -> &'static str {
+        match self {
+            AttackRequirements::Present => "/AT:P",
+            AttackRequirements::None => "/AT:N",
+        }
+    }
+
+    fn read_bytes(text: &[u8]) -> Option<Self> {
+        match text {
+            b"P" | b"p" => Some(AttackRequirements::Present),
+            b"N" | b"n" => Some(AttackRequirements::None),
+            _ => None,
+        }
+    }
+}
+
+impl fmt::Display for AttackRequirements {
+    ghost output = { λ metric. Some (component (name_of AT) (attack_requirements_spelling metric)) };
+
+    fn fmt<W: fmt::Write>(&self, f: &mut fmt::Formatter<W>) -> fmt::Result {
+        write_component(self.slashed(), f)
+    }
+}

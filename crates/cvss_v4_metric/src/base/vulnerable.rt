@@ -1,0 +1,150 @@
+//! What the vulnerable system loses (v4.0 specification, section 2.2).
+
+ghost use Rattle.std.specs.Prelude.{Some};
+ghost use Rattle.std.proofs.Common.{rules};
+ghost use Rattle.cvss_base.specs.Text.{component};
+ghost use Rattle.cvss_base.specs.V4Types.{name_of};
+ghost use Rattle.cvss_base.specs.declared.v4.MetricType.TheVariants.{VC, VI, VA};
+ghost use Rattle.cvss_v4_metric.specs.Spellings.{confidentiality_impact_to_the_vulnerable_system_spelling, confidentiality_impact_to_the_vulnerable_system_values, integrity_impact_to_the_vulnerable_system_spelling, integrity_impact_to_the_vulnerable_system_values, availability_impact_to_the_vulnerable_system_spelling, availability_impact_to_the_vulnerable_system_values};
+
+use crate::metric::{Metric, MetricType};
+use cvss_base::print::write_component;
+use std::fmt;
+
+/// How much confidentiality the vulnerable system loses (v4.0 specification, section 2.2.1).
+#[derive(Clone, Copy, Debug, Default, PartialEq, Eq, PartialOrd, Ord)]
+pub enum ConfidentialityImpactToTheVulnerableSystem {
+    None,
+    Low,
+    #[default]
+    High,
+}
+
+impl Metric for ConfidentialityImpactToTheVulnerableSystem {
+    const TYPE: MetricType = MetricType::VC;
+
+    ghost TYPE = { VC };
+
+    ghost spelling = { confidentiality_impact_to_the_vulnerable_system_spelling };
+
+    ghost values = { confidentiality_impact_to_the_vulnerable_system_values };
+
+    ghost law = { Prim.search rules };
+
+    fn slashed(self) -> &'static str {
+        match self {
+            ConfidentialityImpactToTheVulnerableSystem::None => "/VC:N",
+            ConfidentialityImpactToTheVulnerableSystem::Low => "/VC:L",
+            ConfidentialityImpactToTheVulnerableSystem::High => "/VC:H",
+        }
+    }
+
+    fn read_bytes(text: &[u8]) -> Option<Self> {
+        match text {
+            b"N" | b"n" => Some(ConfidentialityImpactToTheVulnerableSystem::None),
+            b"L" | b"l" => Some(ConfidentialityImpactToTheVulnerableSystem::Low),
+            b"H" | b"h" => Some(ConfidentialityImpactToTheVulnerableSystem::High),
+            _ => None,
+        }
+    }
+}
+
+impl fmt::Display for ConfidentialityImpactToTheVulnerableSystem {
+    ghost output = { λ metric. Some (component (name_of VC) (confidentiality_impact_to_the_vulnerable_system_spelling metric)) };
+
+    fn fmt<W: fmt::Write>(&self, f: &mut fmt::Formatter<W>) -> fmt::Result {
+        write_component(self.slashed(), f)
+    }
+}
+
+/// How much integrity the vulnerable system loses (v4.0 specification, section 2.2.2).
+#[derive(Clone, Copy, Debug, Default, PartialEq, Eq, PartialOrd, Ord)]
+pub enum IntegrityImpactToTheVulnerableSystem {
+    None,
+    Low,
+    #[default]
+    High,
+}
+
+impl Metric for IntegrityImpactToTheVulnerableSystem {
+    const TYPE: MetricType = MetricType::VI;
+
+    ghost TYPE = { VI };
+
+    ghost spelling = { integrity_impact_to_the_vulnerable_system_spelling };
+
+    ghost values = { integrity_impact_to_the_vulnerable_system_values };
+
+    ghost law = { Prim.search rules };
+
+    fn slashed(self) -> &'static str {
+        match self {
+            IntegrityImpactToTheVulnerableSystem::None => "/VI:N",
+            IntegrityImpactToTheVulnerableSystem::Low => "/VI:L",
+            IntegrityImpactToTheVulnerableSystem::High => "/VI:H",
+        }
+    }
+
+    fn read_bytes(text: &[u8]) -> Option<Self> {
+        match text {
+            b"N" | b"n" => Some(IntegrityImpactToTheVulnerableSystem::None),
+            b"L" | b"l" => Some(IntegrityImpactToTheVulnerableSystem::Low),
+            b"H" | b"h" => Some(IntegrityImpactToTheVulnerableSystem::High),
+            _ => None,
+        }
+    }
+}
+
+impl fmt::Display for IntegrityImpactToTheVulnerableSystem {
+    ghost output = { λ metric. Some (component (name_of VI) (integrity_impact_to_the_vulnerable_system_spelling metric)) };
+
+    fn fmt<W: fmt::Write>(&self, f: &mut fmt::Formatter<W>) -> fmt::Result {
+        write_component(self.slashed(), f)
+    }
+}
+
+/// How much availability the vulnerable system loses (v4.0 specification, section 2.2.3).
+#[derive(Clone, Copy, Debug, Default, PartialEq, Eq, PartialOrd, Ord)]
+pub enum AvailabilityImpactToTheVulnerableSystem {
+    None,
+    Low,
+    #[default]
+    High,
+}
+
+impl Metric for AvailabilityImpactToTheVulnerableSystem {
+    const TYPE: MetricType = MetricType::VA;
+
+    ghost TYPE = { VA };
+
+    ghost spelling = { availability_impact_to_the_vulnerable_system_spelling };
+
+    ghost values = { availability_impact_to_the_vulnerable_system_values };
+
+    ghost law = { Prim.search rules };
+
+    fn slashed(self) -> &'static str {
+        match self {
+            AvailabilityImpactToTheVulnerableSystem::None => "/VA:N",
+            AvailabilityImpactToTheVulnerableSystem::Low => "/VA:L",
+            AvailabilityImpactToTheVulnerableSystem::High => "/VA:H",
+        }
+    }
+
+    fn read_bytes(text: &[u8]) -> Option<Self> {
+        match text {
+            b"N" | b"n" => Some(AvailabilityImpactToTheVulnerableSystem::None),
+            b"L" | b"l" => Some(AvailabilityImpactToTheVulnerableSystem::Low),
+            b"H" | b"h" => Some(AvailabilityImpactToTheVulnerableSystem::High),
+            _ => None,
+        }
+    }
+}
+
+impl fmt::Display for AvailabilityImpactToTheVulnerableSystem {
+    ghost output = { λ metric. Some (component (name_of VA) (availability_impact_to_the_vulnerable_system_spelling metric)) };
+
+    fn fmt<W: fmt::Write>(&self, f: &mut fmt::Formatter<W>) -> fmt::Result {
+        write_component(self.slashed(), f)
+    }
+}

@@ -1,0 +1,111 @@
+//! What all metrics of CVSS v4.0 have in common.
+
+ghost use Rattle.std.specs.Prelude.{◌≡◌, ◌↔◌, ◌∷◌, ℕ, List, IsTrue, IfSome, IfOk, IfErr, Some};
+ghost use Rattle.cvss_base.specs.Refusal.{BadValue};
+ghost use Rattle.cvss_base.specs.Text.{slash, raised, component};
+ghost use Rattle.cvss_base.specs.Told.{Tells, v4_reason};
+ghost use Rattle.cvss_base.specs.V4Types.{name_of};
+ghost use Rattle.cvss_base.specs.declared.v4.MetricType.{MetricType};
+ghost use Rattle.cvss_v4_metric.specs.Metrics.{IsMetric};
+ghost use Rattle.cvss_v4_metric.specs.Reading.{IsReading};
+
+use cvss_base::Error;
+pub use cvss_base::v4::MetricType;
+use cvss_base::walk::is_raised_as;
+use std::alloc::Global;
+use std::fmt;
+
+/// A metric: an enum of the values that the specification gives for its type.
+pub trait Metric: Copy + Clone + fmt::Debug + fmt::Display + Eq + Ord + Default + 'static {
+    /// Which metric this is.
+    const TYPE: MetricType;
+
+    ghost TYPE: { MetricType };
+
+    ghost spelling: { Self → List ℕ };
+
+    ghost values: { List Self };
+
+    /// A slash and the component that stands for the value in a vector.
+    fn slashed(self) -> &'static str
+        ensures { result.now ≡ slash ∷ component (name_of TYPE) (spelling self) };
+
+    /// The value with this spelling, in any ASCII case.
+    fn read_bytes(text: &[u8]) -> Option<Self>
+        ensures spelled { IfSome result (λ metric. raised (spelling metric) ≡ raised text.now) }
+        ensures read { (metric : Self) → raised (spelling metric) ≡ raised text.now
+            → result ≡ Some metric };
+
+    /// How the value is spelled in a vector.
+    fn as_str(self) -> &'static str
+        ensures { result.now ≡ spelling self }
+    {
+        &self.slashed()[Self::TYPE.name().len() + 2..]
+    }
+
+    /// The value that `read` gives for the text in upper case.
+    #[tactic(auto, using(crate::proofs::ReadingLemmas::read_alike))]
+    fn read_raised(text: &str) -> Option<Self>
+        ensures spelled { IfSome result (λ metric. IsReading (spelling metric) (raised text.now)) }
+        ensures read { (metric : Self) → IsReading (spelling metric) (raised text.now)
+            → result ≡ Some metric }
+    {
+        Self::read_bytes(text.as_bytes())
+    }
+
+    /// The value with this spelling, as it is printed or in upper case.
+    #[tactic(auto, using(crate::proofs::ReadingLemmas::read_alike))]
+    fn read(text: &str) -> Option<Self>
+        ensures spelled { IfSome result (λ metric. IsReading (spelling metric) text.now) }
+        ensures read { (metric : Self) → IsReading (spelling metric) text.now
+            → result ≡ Some metric }
+    {
+        let metric = Self::read_bytes(text.as_bytes())?;
+        if is_reading(metric.as_str(), text) {
+            Some(metric)
+        } else {
+            None
+        }
+    }
+
+    /// The value with this spelling, as it is printed or in upper case.
+    ///
+    /// # Errors
+    ///
+    /// `InvalidMetricV4` with the text where the metric has no such value.
+    fn from_str(alloc: Global, text: &str) -> Result<Self, Error>
+        ensures spelled { IfOk result (λ metric. IsReading (spelling metric) text.now) }
+        ensures read { (metric : Self) → IsReading (spelling metric) text.now
+            → result ≡ Ok metric }
+        ensures refused { IfErr result (Tells v4_reason (BadValue TYPE text.now)) }
+    {
+        match Self::read(text) {
+            Some(metric) => Ok(metric),
+            None => {
+                let value = String::from_str(alloc, text)?;
+                Err(Error::InvalidMetricV4 {
+                    metric_type: Self::TYPE,
+                    value,
+                })
+            }
+        }
+    }
+
+    /// The metric's abbreviation.
+    fn name() -> &'static str
+        ensures { result.now ≡ name_of TYPE }
+    {
+        Self::TYPE.name()
+    }
+
+    ghost law: { IsMetric TYPE spelling values ⟦<Self as Default>⟧.is_default
+        ⟦<Self as Ord>⟧.cmp };
+}
+
+/// Whether a text is a spelling as it is printed or in upper case, given that it is so in some case.
+fn is_reading(spelling: &str, text: &str) -> bool
+    requires { raised spelling.now ≡ raised text.now }
+    ensures { IsTrue result ↔ IsReading spelling.now text.now }
+{
+    spelling == text || is_raised_as(text.as_bytes(), text.as_bytes())
+}

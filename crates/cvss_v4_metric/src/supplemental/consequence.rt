@@ -1,0 +1,107 @@
+//! What comes of an attack (v4.0 specification, sections 5.1 and 5.4).
+
+ghost use Rattle.std.specs.Prelude.{Some};
+ghost use Rattle.std.proofs.Common.{rules};
+ghost use Rattle.cvss_base.specs.Text.{component};
+ghost use Rattle.cvss_base.specs.V4Types.{name_of};
+ghost use Rattle.cvss_base.specs.declared.v4.MetricType.TheVariants.{S, R};
+ghost use Rattle.cvss_v4_metric.specs.Spellings.{safety_spelling, safety_values, recovery_spelling, recovery_values};
+
+use crate::metric::{Metric, MetricType};
+use cvss_base::print::write_component;
+use std::fmt;
+
+/// Whether persons may come to harm (v4.0 specification, section 5.1).
+#[derive(Clone, Copy, Debug, Default, PartialEq, Eq, PartialOrd, Ord)]
+pub enum Safety {
+    #[default]
+    NotDefined,
+    Present,
+    Negligible,
+}
+
+impl Metric for Safety {
+    const TYPE: MetricType = MetricType::S;
+
+    ghost TYPE = { S };
+
+    ghost spelling = { safety_spelling };
+
+    ghost values = { safety_values };
+
+    ghost law = { Prim.search rules };
+
+    fn slashed(self) -> &'static str {
+        match self {
+            Safety::NotDefined => "/S:X",
+            Safety::Present => "/S:P",
+            Safety::Negligible => "/S:N",
+        }
+    }
+
+    fn read_bytes(text: &[u8]) -> Option<Self> {
+        match text {
+            b"X" | b"x" => Some(Safety::NotDefined),
+            b"P" | b"p" => Some(Safety::Present),
+            b"N" | b"n" => Some(Safety::Negligible),
+            _ => None,
+        }
+    }
+}
+
+impl fmt::Display for Safety {
+    ghost output = { λ metric. Some (component (name_of S) (safety_spelling metric)) };
+
+    fn fmt<W: fmt::Write>(&self, f: &mut fmt::Formatter<W>) -> fmt::Result {
+        write_component(self.slashed(), f)
+    }
+}
+
+/// Whether the system recovers after an attack (v4.0 specification, section 5.4).
+#[derive(Clone, Copy, Debug, Default, PartialEq, Eq, PartialOrd, Ord)]
+pub enum Recovery {
+    #[default]
+    NotDefined,
+    Automatic,
+    User,
+    Irrecoverable,
+}
+
+impl Metric for Recovery {
+    const TYPE: MetricType = MetricType::R;
+
+    ghost TYPE = { R };
+
+    ghost spelling = { recovery_spelling };
+
+    ghost values = { recovery_values };
+
+    ghost law = { Prim.search rules };
+
+    fn slashed(self) -> &'static str {
+        match self {
+            Recovery::NotDefined => "/R:X",
+            Recovery::Automatic => "/R:A",
+            Recovery::User => "/R:U",
+            Recovery::Irrecoverable => "/R:I",
+        }
+    }
+
+    fn read_bytes(text: &[u8]) -> Option<Self> {
+        match text {
+            b"X" | b"x" => Some(Recovery::NotDefined),
+            b"A" | b"a" => Some(Recovery::Automatic),
+            b"U" | b"u" => Some(Recovery::User),
+            b"I" | b"i" => Some(Recovery::Irrecoverable),
+            _ => None,
+        }
+    }
+}
+
+impl fmt::Display for Recovery {
+    ghost output = { λ metric. Some (component (name_of R) (recovery_spelling metric)) };
+
+    fn fmt<W: fmt::Write>(&self, f: &mut fmt::Formatter<W>) -> fmt::Result {
+        write_component(self.slashed(), f)
+    }
+}

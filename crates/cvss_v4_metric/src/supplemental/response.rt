@@ -1,0 +1,115 @@
+//! How to respond to the vulnerability (v4.0 specification, sections 5.3 and 5.6).
+
+ghost use Rattle.std.specs.Prelude.{Some};
+ghost use Rattle.std.proofs.Common.{rules};
+ghost use Rattle.cvss_base.specs.Text.{component};
+ghost use Rattle.cvss_base.specs.V4Types.{name_of};
+ghost use Rattle.cvss_base.specs.declared.v4.MetricType.TheVariants.{RE, U};
+ghost use Rattle.cvss_v4_metric.specs.Spellings.{vulnerability_response_effort_spelling, vulnerability_response_effort_values, provider_urgency_spelling, provider_urgency_values};
+
+use crate::metric::{Metric, MetricType};
+use cvss_base::print::write_component;
+use cvss_base::walk::is_raised_as;
+use std::fmt;
+
+/// How hard it is to respond to the vulnerability (v4.0 specification, section 5.6).
+#[derive(Clone, Copy, Debug, Default, PartialEq, Eq, PartialOrd, Ord)]
+pub enum VulnerabilityResponseEffort {
+    #[default]
+    NotDefined,
+    Low,
+    Moderate,
+    High,
+}
+
+impl Metric for VulnerabilityResponseEffort {
+    const TYPE: MetricType = MetricType::RE;
+
+    ghost TYPE = { RE };
+
+    ghost spelling = { vulnerability_response_effort_spelling };
+
+    ghost values = { vulnerability_response_effort_values };
+
+    ghost law = { Prim.search rules };
+
+    fn slashed(self) -> &'static str {
+        match self {
+            VulnerabilityResponseEffort::NotDefined => "/RE:X",
+            VulnerabilityResponseEffort::Low => "/RE:L",
+            VulnerabilityResponseEffort::Moderate => "/RE:M",
+            VulnerabilityResponseEffort::High => "/RE:H",
+        }
+    }
+
+    fn read_bytes(text: &[u8]) -> Option<Self> {
+        match text {
+            b"X" | b"x" => Some(VulnerabilityResponseEffort::NotDefined),
+            b"L" | b"l" => Some(VulnerabilityResponseEffort::Low),
+            b"M" | b"m" => Some(VulnerabilityResponseEffort::Moderate),
+            b"H" | b"h" => Some(VulnerabilityResponseEffort::High),
+            _ => None,
+        }
+    }
+}
+
+impl fmt::Display for VulnerabilityResponseEffort {
+    ghost output = { λ metric. Some (component (name_of RE) (vulnerability_response_effort_spelling metric)) };
+
+    fn fmt<W: fmt::Write>(&self, f: &mut fmt::Formatter<W>) -> fmt::Result {
+        write_component(self.slashed(), f)
+    }
+}
+
+/// How urgent the provider of the product takes the vulnerability to be (v4.0 specification,
+/// section 5.3).
+#[derive(Clone, Copy, Debug, Default, PartialEq, Eq, PartialOrd, Ord)]
+pub enum ProviderUrgency {
+    #[default]
+    NotDefined,
+    Red,
+    Amber,
+    Green,
+    Clear,
+}
+
+impl Metric for ProviderUrgency {
+    const TYPE: MetricType = MetricType::U;
+
+    ghost TYPE = { U };
+
+    ghost spelling = { provider_urgency_spelling };
+
+    ghost values = { provider_urgency_values };
+
+    ghost law = { Prim.search rules };
+
+    fn slashed(self) -> &'static str {
+        match self {
+            ProviderUrgency::NotDefined => "/U:X",
+            ProviderUrgency::Red => "/U:Red",
+            ProviderUrgency::Amber => "/U:Amber",
+            ProviderUrgency::Green => "/U:Green",
+            ProviderUrgency::Clear => "/U:Clear",
+        }
+    }
+
+    fn read_bytes(text: &[u8]) -> Option<Self> {
+        match text {
+            b"X" | b"x" => Some(ProviderUrgency::NotDefined),
+            _ if is_raised_as(text, b"RED") => Some(ProviderUrgency::Red),
+            _ if is_raised_as(text, b"AMBER") => Some(ProviderUrgency::Amber),
+            _ if is_raised_as(text, b"GREEN") => Some(ProviderUrgency::Green),
+            _ if is_raised_as(text, b"CLEAR") => Some(ProviderUrgency::Clear),
+            _ => None,
+        }
+    }
+}
+
+impl fmt::Display for ProviderUrgency {
+    ghost output = { λ metric. Some (component (name_of U) (provider_urgency_spelling metric)) };
+
+    fn fmt<W: fmt::Write>(&self, f: &mut fmt::Formatter<W>) -> fmt::Result {
+        write_component(self.slashed(), f)
+    }
+}
