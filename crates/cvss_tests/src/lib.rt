@@ -10,3 +10,5 @@ mod errors;
 mod v2;
 #[cfg(test)]
 mod v3;
+#[cfg(test)]
+mod v4;

@@ -1,5 +1,5 @@
 -- A vector of CVSS v4.0 as a map from metrics to values: v4.0 specification, section 7.
-use Rattle.std.specs.Prelude.{ℕ, true, List, [], ◌∷◌, ◌++◌, codes, Option}
+use Rattle.std.specs.Prelude.{true, [], ◌∷◌, ◌++◌, codes, Option}
 use Rattle.cvss_base.specs.Numeral.{numeral}
 use Rattle.cvss_base.specs.V4Types.{name_of}
 use Rattle.cvss_base.specs.Version.{Version, version_piece}

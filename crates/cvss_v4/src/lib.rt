@@ -1,10 +1,11 @@
-//! CVSS v4.0: its vectors, their nomenclature, and how scores are printed.
+//! CVSS v4.0: its vectors, their nomenclature and their scores.
 #![tactic(auto)]
 
 pub mod laws;
 pub mod metric;
 mod nomenclature;
 mod score;
+mod scoring;
 mod vector;
 
 pub use metric::MetricType;

@@ -1,7 +1,8 @@
 //! A score of CVSS v4.0 with its nomenclature.
 
-ghost use Rattle.std.specs.Prelude.{◌≡◌, Some, unsigned_abs};
+ghost use Rattle.std.specs.Prelude.{◌≡◌, ◌≤◌, ◌*ℤ◌, ◌≤ℤ◌, ◌^◌, pos, Some, unsigned_abs};
 ghost use Rattle.cvss_base.specs.Rating.{rating_of_score};
+ghost use Rattle.cvss_base.specs.Tenths.{IsInTenths, IsFromZeroToTen};
 ghost use Rattle.cvss_v4.specs.ScoreText.{even_tenths, sign, score_text};
 
 use crate::nomenclature::Nomenclature;
@@ -36,6 +37,17 @@ impl Score {
             value,
             nomenclature,
         }
+    }
+
+    /// The score of so many tenths.
+    pub(crate) fn of_tenths(tenths: u8, nomenclature: Nomenclature) -> Self
+        requires { tenths ≤ 100 }
+        ensures value { result.0 ≡ pos tenths *ℤ pos (10 ^ 23) }
+        ensures nomenclature { result.1 ≡ nomenclature }
+        ensures range { IsInTenths IsFromZeroToTen result.0 }
+        ensures some { 1 ≤ tenths → IsInTenths (λ r. pos 1 ≤ℤ r) result.0 }
+    {
+        Score::new(tenths as i128 * TENTH, nomenclature)
     }
 
     /// The count.

@@ -4,9 +4,11 @@ ghost use Rattle.std.specs.Prelude.{◌≡◌, ◌↔◌, IsTrue, IfSome, IsSome
 
 mod groups;
 mod listing;
+mod merging;
 mod printing;
 mod reading;
 mod refusing;
+mod scores;
 
 use crate::metric::base::{
     AttackComplexity, AttackRequirements, AttackVector, AvailabilityImpactToTheSubsequentSystem,

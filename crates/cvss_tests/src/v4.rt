@@ -1,0 +1,6 @@
+//! Tests of CVSS v4.
+
+mod base_vectors;
+mod metrics;
+mod scores;
+mod texts;

@@ -1,0 +1,116 @@
+-- One score, and the same with a millionth more.
+use Rattle.std.proofs.Common.{◌≡◌, ◌↔◌, ℕ, zero, suc, ◌-◌, ◌*◌, ◌/◌, ◌<◌, ◌≤◌, max, Bool, true, false, List, [], ◌∷◌, Option, Some, None, option_map, unwrap_or, IfSome, refl, arith, ℤ, lit<}
+use Rattle.std.specs.List.{All}
+use Rattle.std.proofs.Math.Nat.{mul-pos, mul-le-mul}
+use Rattle.std.proofs.lemmas.Int.{ints}
+use Rattle.cvss_base.specs.Exact.{◌over◌, ◌⊕◌, ◌≈◌}
+use Rattle.cvss_base.specs.Rounding.{IsRoundedV4}
+use Rattle.cvss_base.proofs.ExactLemmas.{equal_refl, equal_sym, sum_equal}
+use Rattle.cvss_base.proofs.RoundingLemmas.{v4-unique}
+use Rattle.cvss_v4.specs.Gap.{Group, groups}
+use Rattle.cvss_v4.specs.Scores.{has_impact, number, IsScore}
+use Rattle.cvss_v4.specs.Shares.{taken, counted}
+use Rattle.cvss_v4.specs.Values.{table_value}
+use Rattle.cvss_v4.specs.declared.scoring.effective.Effective.{Effective}
+use Rattle.cvss_v4.proofs.GroupLemmas.{groups_sound}
+use Rattle.cvss_v4.proofs.MeanLemmas.{IsSound, AreSound, all_taken, all_counted}
+use Rattle.cvss_v4.proofs.RoundedLemmas.{mean_bound, v4-equal}
+use Rattle.cvss_v4.proofs.ScoreLemmas.{number_is, number_without_impact}
+
+-- what holds of each value that is there
+if_there : (P : ℕ → Type 0) (next : Option ℕ) → ((lower : ℕ) → next ≡ Some lower → P lower) → IfSome next P
+if_there P None each = tt
+if_there P (Some lower) each = each lower refl
+
+-- no next lower value of sound groups is above the value
+pub sound_fall : (value : ℕ) (groups : List Group) → AreSound value groups
+    → All (λ group. IfSome group.next_lower (λ lower. lower ≤ value)) groups
+sound_fall value [] are_sound k d in_list = absurd (omega arith)
+sound_fall value (group ∷ rest) are_sound zero d in_list =
+    if_there (λ lower. lower ≤ value) group.next_lower are_sound.0.falls
+sound_fall value (group ∷ rest) are_sound (suc k) d in_list = sound_fall value rest are_sound.1 k d (omega arith)
+
+-- what is taken of a gap is no more than the gap
+part_at_most : (value distance depth : ℕ) (next : Option ℕ) → distance < depth → depth * (840 / depth) ≡ 840
+    → unwrap_or (option_map (λ lower. (value - lower) * distance * (840 / depth)) next) 0
+    ≤ 840 * value * unwrap_or (option_map (λ _. 1) next) 0
+part_at_most value distance depth None below divides = omega arith
+part_at_most value distance depth (Some lower) below divides =
+    let share = 840 / depth in
+    let at_most : distance * share ≤ depth * share = mul-le-mul (omega arith) (omega arith) in
+    let gap : value - lower ≤ value = omega arith in
+    let product : (value - lower) * (distance * share) ≤ value * 840 = mul-le-mul gap (omega (arith, divides)) in
+    omega (arith, product)
+
+taken_at_most : (value : ℕ) (group : Group) → IsSound value group → taken value group ≤ 840 * value * counted group
+taken_at_most value group sound =
+    rw sound.is_distance (part_at_most value sound.distance group.depth group.next_lower sound.below sound.divides)
+
+all_at_most : (value : ℕ) (groups : List Group) → AreSound value groups
+    → all_taken value groups ≤ 840 * value * all_counted groups
+all_at_most value [] are_sound = omega arith
+all_at_most value (group ∷ rest) are_sound =
+    omega (arith, taken_at_most value group are_sound.0, all_at_most value rest are_sound.1)
+
+counted_once : (next : Option ℕ) → unwrap_or (option_map (λ _. 1) next) 0 ≤ 1
+counted_once None = omega arith
+counted_once (Some lower) = omega arith
+
+few_counted : (v : Effective) → all_counted (groups v) ≤ 5
+few_counted v = omega (arith, counted_once)
+
+-- the 504000ths of a point that effective values with impact have
+abbrev pub count_of : Effective → ℕ
+count_of v = table_value v * 50400 - all_taken (table_value v) (groups v) * (60 / max (all_counted (groups v)) 1)
+
+pub count_with_impact : (v : Effective) → has_impact v ≡ true
+    → (number v ≈ count_of v over 504000) × (0 < (number v).bottom)
+count_with_impact v with_impact =
+    let value = table_value v in
+    let all = all_taken value (groups v) in
+    let count = all_counted (groups v) in
+    let bound = mean_bound value all count (few_counted v) (all_at_most value (groups v) (groups_sound v)) in
+    number_is v all count with_impact refl refl (few_counted v) (omega (arith, bound))
+
+by_impact : (v : Effective) (b : Bool) → has_impact v ≡ b → (n : ℕ) × (number v ≈ n over 504000) × (0 < (number v).bottom)
+by_impact v true with_impact =
+    let counted = count_with_impact v with_impact in
+    (count_of v, counted.0, counted.1)
+by_impact v false none =
+    let zero_number = number_without_impact v none in
+    (0, rw zero_number (record { equal = refl }), rw zero_number (lit< tt))
+
+-- the number is a whole number of 504000ths
+pub in_504000ths : (v : Effective) → (n : ℕ) × (number v ≈ n over 504000) × (0 < (number v).bottom)
+in_504000ths v = by_impact v (has_impact v) refl
+
+pub one_score : (v : Effective) (r s : ℤ) → IsScore v r → IsScore v s → r ≡ s
+one_score v r s is_r is_s =
+    let some = (in_504000ths v).2 in
+    v4-unique (number v) (number v) r s some some (equal_refl (number v)) is_r is_s
+
+-- a millionth does not reach the next 504000th
+lifted_up : (n : ℕ) (r : ℤ) → IsRoundedV4 (n over 504000) r → IsRoundedV4 (n over 504000 ⊕ 1 over 1_000_000) r
+lifted_up n r is_r = record {
+  from_half_below = record { at_most = omega (arith, ints, is_r.from_half_below) };
+  below_half_above = record { below = omega (arith, ints, is_r.below_half_above) };
+}
+
+lifted_down : (n : ℕ) (r : ℤ) → IsRoundedV4 (n over 504000 ⊕ 1 over 1_000_000) r → IsRoundedV4 (n over 504000) r
+lifted_down n r is_r = record {
+  from_half_below = record { at_most = omega (arith, ints, is_r.from_half_below) };
+  below_half_above = record { below = omega (arith, ints, is_r.below_half_above) };
+}
+
+pub lifted_score : (v : Effective) (r : ℤ) → (IsScore v r ↔ IsRoundedV4 (number v ⊕ 1 over 1_000_000) r)
+lifted_score v r =
+    let lift = 1 over 1_000_000 in
+    let found = in_504000ths v in
+    let n = found.0 over 504000 in
+    let lifted = sum_equal found.1 (equal_refl lift) in
+    let some_lifted = mul-pos found.2 (lit< tt) in (
+      λ is_r. v4-equal (n ⊕ lift) (number v ⊕ lift) r (lit< tt) some_lifted (equal_sym lifted)
+          (lifted_up found.0 r (v4-equal (number v) n r found.2 (lit< tt) found.1 is_r)),
+      λ is_r. v4-equal n (number v) r (lit< tt) found.2 (equal_sym found.1)
+          (lifted_down found.0 r (v4-equal (number v ⊕ lift) (n ⊕ lift) r some_lifted (lit< tt) lifted is_r)),
+    )

@@ -1,0 +1,162 @@
+-- Classes and scores that the public calculators of CVSS v4.0 give, so that a wrong rule does not check.
+use Rattle.std.proofs.Common.{◌≡◌, Some, None, pos, refl, rules}
+use Rattle.cvss_v4.specs.Classes.{macro_vector}
+use Rattle.cvss_v4.specs.Distance.{eq1_least, eq2_least, eq3_eq6_least, eq4_least}
+use Rattle.cvss_v4.specs.Gap.{eq3_eq6_next}
+use Rattle.cvss_v4.specs.Scores.{number, IsScore}
+use Rattle.cvss_v4.specs.Values.{rows, listed_value}
+use Rattle.cvss_v4.specs.declared.scoring.effective.Effective.{Effective}
+use Rattle.cvss_v4.specs.declared.scoring.effective.AttackVector.TheVariants as attack_vector
+use Rattle.cvss_v4.specs.declared.scoring.effective.PrivilegesRequired.TheVariants as privileges
+use Rattle.cvss_v4.specs.declared.scoring.effective.UserInteraction.TheVariants as interaction
+use Rattle.cvss_v4.specs.declared.scoring.effective.AttackComplexity.TheVariants as complexity
+use Rattle.cvss_v4.specs.declared.scoring.effective.AttackRequirements.TheVariants as conditions
+use Rattle.cvss_v4.specs.declared.scoring.effective.VulnerableImpact.TheVariants as impact
+use Rattle.cvss_v4.specs.declared.scoring.effective.SubsequentImpact.TheVariants as subsequent
+use Rattle.cvss_v4.specs.declared.scoring.effective.SafetyImpact.TheVariants as safety
+use Rattle.cvss_v4.specs.declared.scoring.effective.Requirement.TheVariants as requirement
+use Rattle.cvss_v4.specs.declared.scoring.effective.ExploitMaturity.TheVariants as exploit
+
+-- AV:N/AC:L/AT:N/PR:N/UI:N with no impact
+abbrev harmless : Effective
+harmless = record {
+  av = attack_vector.Network;
+  pr = privileges.None;
+  ui = interaction.None;
+  ac = complexity.Low;
+  at = conditions.None;
+  vc = impact.None;
+  vi = impact.None;
+  va = impact.None;
+  sc = subsequent.None;
+  si = safety.None;
+  sa = safety.None;
+  cr = requirement.High;
+  ir = requirement.High;
+  ar = requirement.High;
+  e = exploit.Attacked;
+}
+
+-- the same with VI:H/E:P
+abbrev integrity : Effective
+integrity = record harmless { vi = impact.High; e = exploit.ProofOfConcept }
+
+-- AV:A/AC:H/AT:N/PR:N/UI:P/VC:L/VI:N/VA:H/SC:N/SI:L/SA:S/E:U/CR:L/AR:L
+abbrev unsafe_availability : Effective
+unsafe_availability = record harmless {
+  av = attack_vector.Adjacent;
+  ui = interaction.Passive;
+  ac = complexity.High;
+  vc = impact.Low;
+  va = impact.High;
+  si = safety.Low;
+  sa = safety.Safety;
+  cr = requirement.Low;
+  ar = requirement.Low;
+  e = exploit.Unreported;
+}
+
+-- AV:N/AC:L/AT:N/PR:L/UI:N/VC:H/VI:H/VA:H
+abbrev privileged : Effective
+privileged = record harmless { pr = privileges.Low; vc = impact.High; vi = impact.High; va = impact.High }
+
+-- AV:A/AC:H/AT:N/PR:N/UI:N/VC:H/VI:H/VA:N/E:U/CR:H/IR:L/AR:L
+abbrev adjacent : Effective
+adjacent = record harmless {
+  av = attack_vector.Adjacent;
+  ac = complexity.High;
+  vc = impact.High;
+  vi = impact.High;
+  ir = requirement.Low;
+  ar = requirement.Low;
+  e = exploit.Unreported;
+}
+
+-- AV:P/AC:H/AT:P/PR:H/UI:A/VA:L/E:U/CR:L/IR:L/AR:L
+abbrev least_severe : Effective
+least_severe = record {
+  av = attack_vector.Physical;
+  pr = privileges.High;
+  ui = interaction.Active;
+  ac = complexity.High;
+  at = conditions.Present;
+  vc = impact.None;
+  vi = impact.None;
+  va = impact.Low;
+  sc = subsequent.None;
+  si = safety.None;
+  sa = safety.None;
+  cr = requirement.Low;
+  ir = requirement.Low;
+  ar = requirement.Low;
+  e = exploit.Unreported;
+}
+
+-- all six impacts H
+abbrev most_severe : Effective
+most_severe = record harmless {
+  vc = impact.High;
+  vi = impact.High;
+  va = impact.High;
+  sc = subsequent.High;
+  si = safety.High;
+  sa = safety.High;
+}
+
+pub integrity_class : macro_vector integrity ≡ record { eq1 = 0; eq2 = 0; eq3 = 1; eq4 = 2; eq5 = 1; eq6 = 0 }
+integrity_class = refl
+
+pub unsafe_availability_class : macro_vector unsafe_availability ≡ record { eq1 = 1; eq2 = 1; eq3 = 1; eq4 = 0; eq5 = 2; eq6 = 1 }
+unsafe_availability_class = refl
+
+pub privileged_class : macro_vector privileged ≡ record { eq1 = 1; eq2 = 0; eq3 = 0; eq4 = 2; eq5 = 0; eq6 = 0 }
+privileged_class = refl
+
+pub adjacent_class : macro_vector adjacent ≡ record { eq1 = 1; eq2 = 1; eq3 = 0; eq4 = 2; eq5 = 2; eq6 = 0 }
+adjacent_class = refl
+
+-- the first and the last value of the table, one between them, and none for EQ3 = 2 with EQ6 = 0
+pub table_values : (listed_value (record { eq1 = 0; eq2 = 0; eq3 = 0; eq4 = 0; eq5 = 0; eq6 = 0 }) ≡ Some 100)
+    × (listed_value (record { eq1 = 1; eq2 = 0; eq3 = 1; eq4 = 2; eq5 = 1; eq6 = 1 }) ≡ Some 52)
+    × (listed_value (record { eq1 = 2; eq2 = 1; eq3 = 2; eq4 = 2; eq5 = 2; eq6 = 1 }) ≡ Some 1)
+    × (listed_value (record { eq1 = 0; eq2 = 0; eq3 = 2; eq4 = 0; eq5 = 0; eq6 = 0 }) ≡ None)
+unfolding rows listed_value
+table_values = (refl, refl, refl, refl)
+
+-- of 3.0 and 2.4 the larger is the next lower value, and the least severe class has none
+pub next_lower_values : (eq3_eq6_next (macro_vector adjacent) ≡ Some 30)
+    × (eq3_eq6_next (macro_vector least_severe) ≡ None)
+unfolding rows listed_value
+next_lower_values = (refl, refl)
+
+pub integrity_score : IsScore integrity (pos 77)
+unfolding number rows listed_value eq1_least eq2_least eq3_eq6_least eq4_least
+integrity_score = search rules
+
+pub low_confidentiality_score : IsScore (record integrity { vc = impact.Low }) (pos 78)
+unfolding number rows listed_value eq1_least eq2_least eq3_eq6_least eq4_least
+low_confidentiality_score = search rules
+
+pub unsafe_availability_score : IsScore unsafe_availability (pos 42)
+unfolding number rows listed_value eq1_least eq2_least eq3_eq6_least eq4_least
+unsafe_availability_score = search rules
+
+pub least_severe_score : IsScore least_severe (pos 1)
+unfolding number rows listed_value eq1_least eq2_least eq3_eq6_least eq4_least
+least_severe_score = search rules
+
+pub harmless_score : IsScore harmless (pos 0)
+unfolding number rows listed_value eq1_least eq2_least eq3_eq6_least eq4_least
+harmless_score = search rules
+
+pub most_severe_score : IsScore most_severe (pos 100)
+unfolding number rows listed_value eq1_least eq2_least eq3_eq6_least eq4_least
+most_severe_score = search rules
+
+pub privileged_score : IsScore privileged (pos 87)
+unfolding number rows listed_value eq1_least eq2_least eq3_eq6_least eq4_least
+privileged_score = search rules
+
+pub adjacent_score : IsScore adjacent (pos 43)
+unfolding number rows listed_value eq1_least eq2_least eq3_eq6_least eq4_least
+adjacent_score = search rules

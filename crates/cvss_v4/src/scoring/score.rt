@@ -1,0 +1,61 @@
+//! The score of effective values (v4.0 specification, section 8.2).
+
+ghost use Rattle.std.specs.Prelude.{◌≡◌, ◌+◌, ◌-◌, ◌*◌, ◌/◌, ◌≤◌, pos, max, Some, IsTrue};
+ghost use Rattle.cvss_base.specs.Exact.{◌over◌};
+ghost use Rattle.cvss_base.specs.Rounding.{IsRoundedV4};
+ghost use Rattle.cvss_v4.specs.Classes.{macro_vector};
+ghost use Rattle.cvss_v4.specs.Scores.{has_impact, number, IsScore};
+ghost use Rattle.cvss_v4.specs.Values.{listed_value};
+
+use crate::scoring::classes::MacroVector;
+use crate::scoring::effective::{Effective, SafetyImpact, SubsequentImpact, VulnerableImpact};
+use crate::scoring::shares::{eq1_share, eq2_share, eq3_eq6_share, eq4_share, eq5_share};
+use crate::scoring::values::value_of;
+
+/// The score of effective values in tenths: the value of their class less the mean of what the
+/// groups with a next lower class take, rounded half up, and 0 without impact.
+pub fn score_tenths(effective: &Effective) -> u8
+    ensures value { IsScore effective.now (pos result) }
+    ensures range { result ≤ 100 }
+    ensures with_impact { IsTrue (has_impact effective.now) → 1 ≤ result }
+{
+    if !has_impact(effective) {
+        return 0;
+    }
+    let class = MacroVector::of(effective);
+    let value = value_of(&class);
+    let eq1 = eq1_share(effective, &class, value);
+    let eq2 = eq2_share(effective, &class, value);
+    let eq3_eq6 = eq3_eq6_share(effective, &class, value);
+    let eq4 = eq4_share(effective, &class, value);
+    let eq5 = eq5_share(effective, &class, value);
+    let taken = eq1.taken + eq2.taken + eq3_eq6.taken + eq4.taken + eq5.taken;
+    let counted = eq1.counted + eq2.counted + eq3_eq6.counted + eq4.counted + eq5.counted;
+    rounded(value, taken, counted)
+}
+
+/// A value less the mean of what is taken in 8400ths of a point, rounded to tenths.
+fn rounded(value: u8, taken: u32, counted: u32) -> u8
+    requires some { 1 ≤ value }
+    requires value { value ≤ 100 }
+    requires counted { counted ≤ 5 }
+    requires taken { taken ≤ 840 * (value - 1) * counted }
+    ensures value { IsRoundedV4 ((value * 50400 - taken * (60 / max counted 1)) over 504000) (pos result) }
+    ensures range { result ≤ 100 }
+    ensures some { 1 ≤ result }
+{
+    let mean = taken * (60 / counted.max(1));
+    ((value as u32 * 50_400 - mean + 25_200) / 50_400) as u8
+}
+
+/// Whether one of the six impacts is not None.
+fn has_impact(effective: &Effective) -> bool
+    ensures { result ≡ has_impact effective.now }
+{
+    !matches!(effective.vc, VulnerableImpact::None)
+        || !matches!(effective.vi, VulnerableImpact::None)
+        || !matches!(effective.va, VulnerableImpact::None)
+        || !matches!(effective.sc, SubsequentImpact::None)
+        || !matches!(effective.si, SafetyImpact::None)
+        || !matches!(effective.sa, SafetyImpact::None)
+}

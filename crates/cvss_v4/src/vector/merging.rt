@@ -1,0 +1,124 @@
+//! The effective values of a vector (v4.0 specification, sections 4.2 and 8.2).
+
+ghost use Rattle.std.specs.Prelude.{◌≡◌};
+ghost use Rattle.cvss_v4_metric.specs.Spellings.{exploit_maturity_spelling};
+ghost use Rattle.cvss_v4_env.specs.Spellings.{confidentiality_requirements_spelling, integrity_requirements_spelling, availability_requirements_spelling};
+ghost use Rattle.cvss_v4.specs.Merging.{letter, requirement_of, exploit_maturity_of, effective_of};
+
+mod attack;
+mod subsequent;
+mod vulnerable;
+
+use crate::metric::environmental::{
+    AvailabilityRequirements, ConfidentialityRequirements, IntegrityRequirements,
+};
+use crate::metric::threat::ExploitMaturity;
+use crate::scoring::effective::{self, Effective};
+use crate::vector::Vector;
+use attack::{
+    attack_complexity, attack_requirements, attack_vector, modified_attack_complexity,
+    modified_attack_requirements, modified_attack_vector, modified_privileges_required,
+    modified_user_interaction, privileges_required, user_interaction,
+};
+use subsequent::{
+    availability_impact_to_the_subsequent_system, confidentiality_impact_to_the_subsequent_system,
+    integrity_impact_to_the_subsequent_system,
+    modified_availability_impact_to_the_subsequent_system,
+    modified_confidentiality_impact_to_the_subsequent_system,
+    modified_integrity_impact_to_the_subsequent_system,
+};
+use vulnerable::{
+    availability_impact_to_the_vulnerable_system, confidentiality_impact_to_the_vulnerable_system,
+    integrity_impact_to_the_vulnerable_system,
+    modified_availability_impact_to_the_vulnerable_system,
+    modified_confidentiality_impact_to_the_vulnerable_system,
+    modified_integrity_impact_to_the_vulnerable_system,
+};
+
+impl Vector {
+    /// The effective values: a modified metric that is defined replaces its base metric, and what is
+    /// not defined counts as its default.
+    pub(super) fn effective(&self) -> Effective
+        ensures { result ≡ effective_of self.now }
+    {
+        Effective {
+            av: modified_attack_vector(self.mav).unwrap_or(attack_vector(self.av)),
+            pr: modified_privileges_required(self.mpr).unwrap_or(privileges_required(self.pr)),
+            ui: modified_user_interaction(self.mui).unwrap_or(user_interaction(self.ui)),
+            ac: modified_attack_complexity(self.mac).unwrap_or(attack_complexity(self.ac)),
+            at: modified_attack_requirements(self.mat).unwrap_or(attack_requirements(self.at)),
+            vc: modified_confidentiality_impact_to_the_vulnerable_system(self.mvc).unwrap_or(
+                confidentiality_impact_to_the_vulnerable_system(self.vc),
+            ),
+            vi: modified_integrity_impact_to_the_vulnerable_system(self.mvi).unwrap_or(
+                integrity_impact_to_the_vulnerable_system(self.vi),
+            ),
+            va: modified_availability_impact_to_the_vulnerable_system(self.mva).unwrap_or(
+                availability_impact_to_the_vulnerable_system(self.va),
+            ),
+            sc: modified_confidentiality_impact_to_the_subsequent_system(self.msc).unwrap_or(
+                confidentiality_impact_to_the_subsequent_system(self.sc),
+            ),
+            si: modified_integrity_impact_to_the_subsequent_system(self.msi).unwrap_or(
+                integrity_impact_to_the_subsequent_system(self.si),
+            ),
+            sa: modified_availability_impact_to_the_subsequent_system(self.msa).unwrap_or(
+                availability_impact_to_the_subsequent_system(self.sa),
+            ),
+            cr: confidentiality_requirements(self.cr),
+            ir: integrity_requirements(self.ir),
+            ar: availability_requirements(self.ar),
+            e: exploit_maturity(self.e),
+        }
+    }
+}
+
+/// The effective value that CR gives.
+fn confidentiality_requirements(
+    value: Option<ConfidentialityRequirements>,
+) -> effective::Requirement
+    ensures { result ≡ requirement_of (letter confidentiality_requirements_spelling value) }
+{
+    match value {
+        None | Some(ConfidentialityRequirements::NotDefined) => effective::Requirement::High,
+        Some(ConfidentialityRequirements::High) => effective::Requirement::High,
+        Some(ConfidentialityRequirements::Medium) => effective::Requirement::Medium,
+        Some(ConfidentialityRequirements::Low) => effective::Requirement::Low,
+    }
+}
+
+/// The effective value that IR gives.
+fn integrity_requirements(value: Option<IntegrityRequirements>) -> effective::Requirement
+    ensures { result ≡ requirement_of (letter integrity_requirements_spelling value) }
+{
+    match value {
+        None | Some(IntegrityRequirements::NotDefined) => effective::Requirement::High,
+        Some(IntegrityRequirements::High) => effective::Requirement::High,
+        Some(IntegrityRequirements::Medium) => effective::Requirement::Medium,
+        Some(IntegrityRequirements::Low) => effective::Requirement::Low,
+    }
+}
+
+/// The effective value that AR gives.
+fn availability_requirements(value: Option<AvailabilityRequirements>) -> effective::Requirement
+    ensures { result ≡ requirement_of (letter availability_requirements_spelling value) }
+{
+    match value {
+        None | Some(AvailabilityRequirements::NotDefined) => effective::Requirement::High,
+        Some(AvailabilityRequirements::High) => effective::Requirement::High,
+        Some(AvailabilityRequirements::Medium) => effective::Requirement::Medium,
+        Some(AvailabilityRequirements::Low) => effective::Requirement::Low,
+    }
+}
+
+/// The effective value that E gives.
+fn exploit_maturity(value: Option<ExploitMaturity>) -> effective::ExploitMaturity
+    ensures { result ≡ exploit_maturity_of (letter exploit_maturity_spelling value) }
+{
+    match value {
+        None | Some(ExploitMaturity::NotDefined) => effective::ExploitMaturity::Attacked,
+        Some(ExploitMaturity::Attacked) => effective::ExploitMaturity::Attacked,
+        Some(ExploitMaturity::ProofOfConcept) => effective::ExploitMaturity::ProofOfConcept,
+        Some(ExploitMaturity::Unreported) => effective::ExploitMaturity::Unreported,
+    }
+}

@@ -1,0 +1,125 @@
+//! The effective values of the impacts on subsequent systems (v4.0 specification, sections 2.3 and 4.2).
+//!
+//! A modified impact may be Negligible, which is None, and those on integrity and availability Safety.
+
+ghost use Rattle.std.specs.Prelude.{◌≡◌};
+ghost use Rattle.cvss_v4_metric.specs.Spellings.{confidentiality_impact_to_the_subsequent_system_spelling, integrity_impact_to_the_subsequent_system_spelling, availability_impact_to_the_subsequent_system_spelling};
+ghost use Rattle.cvss_v4_env.specs.Spellings.{modified_confidentiality_impact_to_the_subsequent_system_spelling, modified_integrity_impact_to_the_subsequent_system_spelling, modified_availability_impact_to_the_subsequent_system_spelling};
+ghost use Rattle.cvss_v4.specs.Merging.{letter, if_defined, subsequent_impact_of, safety_impact_of};
+
+use crate::metric::base::{
+    AvailabilityImpactToTheSubsequentSystem, ConfidentialityImpactToTheSubsequentSystem,
+    IntegrityImpactToTheSubsequentSystem,
+};
+use crate::metric::environmental::{
+    ModifiedAvailabilityImpactToTheSubsequentSystem,
+    ModifiedConfidentialityImpactToTheSubsequentSystem,
+    ModifiedIntegrityImpactToTheSubsequentSystem,
+};
+use crate::scoring::effective;
+
+/// The effective value that SC gives.
+pub(super) fn confidentiality_impact_to_the_subsequent_system(
+    value: Option<ConfidentialityImpactToTheSubsequentSystem>,
+) -> effective::SubsequentImpact
+    ensures { result ≡ subsequent_impact_of (letter confidentiality_impact_to_the_subsequent_system_spelling value) }
+{
+    match value {
+        None | Some(ConfidentialityImpactToTheSubsequentSystem::High) =>
+            effective::SubsequentImpact::High,
+        Some(ConfidentialityImpactToTheSubsequentSystem::Low) => effective::SubsequentImpact::Low,
+        Some(ConfidentialityImpactToTheSubsequentSystem::None) => effective::SubsequentImpact::None,
+    }
+}
+
+/// The effective value that MSC gives, if it is defined.
+pub(super) fn modified_confidentiality_impact_to_the_subsequent_system(
+    value: Option<ModifiedConfidentialityImpactToTheSubsequentSystem>,
+) -> Option<effective::SubsequentImpact>
+    ensures { result ≡ if_defined subsequent_impact_of (letter modified_confidentiality_impact_to_the_subsequent_system_spelling value) }
+{
+    match value {
+        None | Some(ModifiedConfidentialityImpactToTheSubsequentSystem::NotDefined) => None,
+        Some(ModifiedConfidentialityImpactToTheSubsequentSystem::High) => Some(
+            effective::SubsequentImpact::High,
+        ),
+        Some(ModifiedConfidentialityImpactToTheSubsequentSystem::Low) => Some(
+            effective::SubsequentImpact::Low,
+        ),
+        Some(ModifiedConfidentialityImpactToTheSubsequentSystem::Negligible) => Some(
+            effective::SubsequentImpact::None,
+        ),
+    }
+}
+
+/// The effective value that SI gives.
+pub(super) fn integrity_impact_to_the_subsequent_system(
+    value: Option<IntegrityImpactToTheSubsequentSystem>,
+) -> effective::SafetyImpact
+    ensures { result ≡ safety_impact_of (letter integrity_impact_to_the_subsequent_system_spelling value) }
+{
+    match value {
+        None | Some(IntegrityImpactToTheSubsequentSystem::High) => effective::SafetyImpact::High,
+        Some(IntegrityImpactToTheSubsequentSystem::Low) => effective::SafetyImpact::Low,
+        Some(IntegrityImpactToTheSubsequentSystem::None) => effective::SafetyImpact::None,
+    }
+}
+
+/// The effective value that MSI gives, if it is defined.
+pub(super) fn modified_integrity_impact_to_the_subsequent_system(
+    value: Option<ModifiedIntegrityImpactToTheSubsequentSystem>,
+) -> Option<effective::SafetyImpact>
+    ensures { result ≡ if_defined safety_impact_of (letter modified_integrity_impact_to_the_subsequent_system_spelling value) }
+{
+    match value {
+        None | Some(ModifiedIntegrityImpactToTheSubsequentSystem::NotDefined) => None,
+        Some(ModifiedIntegrityImpactToTheSubsequentSystem::Safety) => Some(
+            effective::SafetyImpact::Safety,
+        ),
+        Some(ModifiedIntegrityImpactToTheSubsequentSystem::High) => Some(
+            effective::SafetyImpact::High,
+        ),
+        Some(ModifiedIntegrityImpactToTheSubsequentSystem::Low) => Some(
+            effective::SafetyImpact::Low,
+        ),
+        Some(ModifiedIntegrityImpactToTheSubsequentSystem::Negligible) => Some(
+            effective::SafetyImpact::None,
+        ),
+    }
+}
+
+/// The effective value that SA gives.
+pub(super) fn availability_impact_to_the_subsequent_system(
+    value: Option<AvailabilityImpactToTheSubsequentSystem>,
+) -> effective::SafetyImpact
+    ensures { result ≡ safety_impact_of (letter availability_impact_to_the_subsequent_system_spelling value) }
+{
+    match value {
+        None | Some(AvailabilityImpactToTheSubsequentSystem::High) => effective::SafetyImpact::High,
+        Some(AvailabilityImpactToTheSubsequentSystem::Low) => effective::SafetyImpact::Low,
+        Some(AvailabilityImpactToTheSubsequentSystem::None) => effective::SafetyImpact::None,
+    }
+}
+
+/// The effective value that MSA gives, if it is defined.
+pub(super) fn modified_availability_impact_to_the_subsequent_system(
+    value: Option<ModifiedAvailabilityImpactToTheSubsequentSystem>,
+) -> Option<effective::SafetyImpact>
+    ensures { result ≡ if_defined safety_impact_of (letter modified_availability_impact_to_the_subsequent_system_spelling value) }
+{
+    match value {
+        None | Some(ModifiedAvailabilityImpactToTheSubsequentSystem::NotDefined) => None,
+        Some(ModifiedAvailabilityImpactToTheSubsequentSystem::Safety) => Some(
+            effective::SafetyImpact::Safety,
+        ),
+        Some(ModifiedAvailabilityImpactToTheSubsequentSystem::High) => Some(
+            effective::SafetyImpact::High,
+        ),
+        Some(ModifiedAvailabilityImpactToTheSubsequentSystem::Low) => Some(
+            effective::SafetyImpact::Low,
+        ),
+        Some(ModifiedAvailabilityImpactToTheSubsequentSystem::Negligible) => Some(
+            effective::SafetyImpact::None,
+        ),
+    }
+}

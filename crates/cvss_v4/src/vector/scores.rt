@@ -1,0 +1,29 @@
+//! The score of a vector.
+
+ghost use Rattle.std.specs.Prelude.{◌≡◌, ◌≤ℤ◌, pos, IsTrue};
+ghost use Rattle.cvss_base.specs.Tenths.{IsInTenths, IsFromZeroToTen};
+ghost use Rattle.cvss_base.specs.Version.{IsComplete};
+ghost use Rattle.cvss_v4.specs.Merging.{effective_of};
+ghost use Rattle.cvss_v4.specs.Nomenclature.{nomenclature_of};
+ghost use Rattle.cvss_v4.specs.Scores.{has_impact, IsScore};
+ghost use Rattle.cvss_v4.specs.Vector.{v4};
+
+use crate::score::Score;
+use crate::scoring::score_tenths;
+use crate::vector::Vector;
+
+impl Vector {
+    /// The score (v4.0 specification, section 8.2) of a complete vector, with its nomenclature: the
+    /// value of its class less the mean of gap times distance over depth, to the nearest tenth,
+    /// half up; 0 without impact, and at least a tenth with it.
+    pub fn score(&self) -> Score
+        requires complete { IsComplete v4 self.now }
+        ensures value { IsInTenths (IsScore (effective_of self.now)) result.0 }
+        ensures nomenclature { result.1 ≡ nomenclature_of self.now }
+        ensures range { IsInTenths IsFromZeroToTen result.0 }
+        ensures with_impact { IsTrue (has_impact (effective_of self.now))
+            → IsInTenths (λ r. pos 1 ≤ℤ r) result.0 }
+    {
+        Score::of_tenths(score_tenths(&self.effective()), self.nomenclature())
+    }
+}
