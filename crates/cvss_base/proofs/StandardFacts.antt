@@ -30,9 +30,11 @@ pub v2_ties : IsRoundedV2 (855 over 100) (pos 86) × IsRoundedV2 (8_549_995 over
     × IsRoundedV2 (ratio (negsuc 4) 100) (pos 0) × IsRoundedV2 (ratio (negsuc 50_000) 1_000_000) (negsuc 0)
 v2_ties = (search rules, search rules, search rules, search rules, search rules, search rules)
 
--- v4: halves go up
+-- v4: halves go up, and nothing is added before
 pub v4_ties : IsRoundedV4 (15 over 100) (pos 2) × IsRoundedV4 (ratio (negsuc 14) 100) (negsuc 0)
-v4_ties = (search rules, search rules)
+    × IsRoundedV4 (145 over 100) (pos 15) × IsRoundedV4 (512_345 over 100_000) (pos 51)
+    × IsRoundedV4 (8_549_995 over 1_000_000) (pos 85)
+v4_ties = (search rules, search rules, search rules, search rules, search rules)
 
 -- printing: halves go to the even tenth
 pub even_ties : IsNearestEven (15 over 100) (pos 2) × IsNearestEven (25 over 100) (pos 2)

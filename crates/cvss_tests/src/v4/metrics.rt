@@ -4,15 +4,24 @@ use cvss::Error;
 use cvss::v4::MetricType;
 use cvss::v4::metric::Metric;
 use cvss::v4::metric::base::{
-    AttackVector, AvailabilityImpactToTheSubsequentSystem, IntegrityImpactToTheVulnerableSystem,
-    PrivilegesRequired,
+    AttackComplexity, AttackRequirements, AttackVector, AvailabilityImpactToTheSubsequentSystem,
+    AvailabilityImpactToTheVulnerableSystem, ConfidentialityImpactToTheSubsequentSystem,
+    ConfidentialityImpactToTheVulnerableSystem, IntegrityImpactToTheSubsequentSystem,
+    IntegrityImpactToTheVulnerableSystem, PrivilegesRequired, UserInteraction,
 };
 use cvss::v4::metric::environmental::{
-    AvailabilityRequirements, ModifiedAttackVector,
+    AvailabilityRequirements, ConfidentialityRequirements, IntegrityRequirements,
+    ModifiedAttackComplexity, ModifiedAttackRequirements, ModifiedAttackVector,
+    ModifiedAvailabilityImpactToTheSubsequentSystem,
+    ModifiedAvailabilityImpactToTheVulnerableSystem,
     ModifiedConfidentialityImpactToTheSubsequentSystem,
-    ModifiedIntegrityImpactToTheSubsequentSystem,
+    ModifiedConfidentialityImpactToTheVulnerableSystem,
+    ModifiedIntegrityImpactToTheSubsequentSystem, ModifiedIntegrityImpactToTheVulnerableSystem,
+    ModifiedPrivilegesRequired, ModifiedUserInteraction,
 };
-use cvss::v4::metric::supplemental::{ProviderUrgency, Recovery, Safety};
+use cvss::v4::metric::supplemental::{
+    Automatable, ProviderUrgency, Recovery, Safety, ValueDensity, VulnerabilityResponseEffort,
+};
 use cvss::v4::metric::threat::ExploitMaturity;
 use std::test::Fail;
 
@@ -28,14 +37,37 @@ fn facts_of<M: Metric + Drop>(
 }
 
 #[test]
-fn spells_values(rt: HostRuntime) -> Result<(), Fail> {
+fn spells_values_of_base_and_threat_metrics(rt: HostRuntime) -> Result<(), Fail> {
     let rows = [
         (facts_of(AttackVector::Adjacent, "a"), "AV", "A"),
+        (facts_of(AttackComplexity::High, "h"), "AC", "H"),
+        (facts_of(AttackRequirements::Present, "p"), "AT", "P"),
         (facts_of(PrivilegesRequired::None, "n"), "PR", "N"),
+        (facts_of(UserInteraction::Passive, "p"), "UI", "P"),
+        (
+            facts_of(ConfidentialityImpactToTheVulnerableSystem::Low, "l"),
+            "VC",
+            "L",
+        ),
         (
             facts_of(IntegrityImpactToTheVulnerableSystem::High, "h"),
             "VI",
             "H",
+        ),
+        (
+            facts_of(AvailabilityImpactToTheVulnerableSystem::None, "n"),
+            "VA",
+            "N",
+        ),
+        (
+            facts_of(ConfidentialityImpactToTheSubsequentSystem::High, "h"),
+            "SC",
+            "H",
+        ),
+        (
+            facts_of(IntegrityImpactToTheSubsequentSystem::None, "n"),
+            "SI",
+            "N",
         ),
         (
             facts_of(AvailabilityImpactToTheSubsequentSystem::Low, "l"),
@@ -43,8 +75,42 @@ fn spells_values(rt: HostRuntime) -> Result<(), Fail> {
             "L",
         ),
         (facts_of(ExploitMaturity::ProofOfConcept, "p"), "E", "P"),
+    ];
+    for (facts, name, spelling) in rows {
+        assert!(rt; facts == (name, spelling, true), "{name} {spelling}");
+    }
+    Ok(())
+}
+
+#[test]
+fn spells_values_of_environmental_metrics(rt: HostRuntime) -> Result<(), Fail> {
+    let rows = [
+        (facts_of(ConfidentialityRequirements::High, "h"), "CR", "H"),
+        (facts_of(IntegrityRequirements::Low, "l"), "IR", "L"),
         (facts_of(AvailabilityRequirements::Medium, "m"), "AR", "M"),
         (facts_of(ModifiedAttackVector::NotDefined, "x"), "MAV", "X"),
+        (facts_of(ModifiedAttackComplexity::Low, "l"), "MAC", "L"),
+        (facts_of(ModifiedAttackRequirements::None, "n"), "MAT", "N"),
+        (facts_of(ModifiedPrivilegesRequired::High, "h"), "MPR", "H"),
+        (facts_of(ModifiedUserInteraction::Active, "a"), "MUI", "A"),
+        (
+            facts_of(
+                ModifiedConfidentialityImpactToTheVulnerableSystem::None,
+                "n",
+            ),
+            "MVC",
+            "N",
+        ),
+        (
+            facts_of(ModifiedIntegrityImpactToTheVulnerableSystem::Low, "l"),
+            "MVI",
+            "L",
+        ),
+        (
+            facts_of(ModifiedAvailabilityImpactToTheVulnerableSystem::High, "h"),
+            "MVA",
+            "H",
+        ),
         (
             facts_of(
                 ModifiedConfidentialityImpactToTheSubsequentSystem::Negligible,
@@ -58,8 +124,33 @@ fn spells_values(rt: HostRuntime) -> Result<(), Fail> {
             "MSI",
             "S",
         ),
+        (
+            facts_of(
+                ModifiedAvailabilityImpactToTheSubsequentSystem::NotDefined,
+                "x",
+            ),
+            "MSA",
+            "X",
+        ),
+    ];
+    for (facts, name, spelling) in rows {
+        assert!(rt; facts == (name, spelling, true), "{name} {spelling}");
+    }
+    Ok(())
+}
+
+#[test]
+fn spells_values_of_supplemental_metrics(rt: HostRuntime) -> Result<(), Fail> {
+    let rows = [
         (facts_of(Safety::Present, "p"), "S", "P"),
+        (facts_of(Automatable::Yes, "y"), "AU", "Y"),
         (facts_of(Recovery::Irrecoverable, "i"), "R", "I"),
+        (facts_of(ValueDensity::Concentrated, "c"), "V", "C"),
+        (
+            facts_of(VulnerabilityResponseEffort::Moderate, "m"),
+            "RE",
+            "M",
+        ),
         (facts_of(ProviderUrgency::Amber, "amber"), "U", "Amber"),
     ];
     for (facts, name, spelling) in rows {
