@@ -37,7 +37,7 @@ pub trait Metric: Copy + Clone + fmt::Debug + fmt::Display + Eq + Ord + Default 
             → result ≡ Some metric };
 
     /// How the value is spelled in a vector.
-    fn as_str(self) -> &'static str
+    final fn as_str(self) -> &'static str
         ensures { result.now ≡ spelling self }
     {
         &self.slashed()[Self::TYPE.name().len() + 2..]
@@ -45,7 +45,7 @@ pub trait Metric: Copy + Clone + fmt::Debug + fmt::Display + Eq + Ord + Default 
 
     /// The value that `read` gives for the text in upper case.
     #[tactic(auto, using(crate::proofs::ReadingLemmas::read_alike))]
-    fn read_raised(text: &str) -> Option<Self>
+    final fn read_raised(text: &str) -> Option<Self>
         ensures spelled { IfSome result (λ metric. IsReading (spelling metric) (raised text.now)) }
         ensures read { (metric : Self) → IsReading (spelling metric) (raised text.now)
             → result ≡ Some metric }
@@ -55,7 +55,7 @@ pub trait Metric: Copy + Clone + fmt::Debug + fmt::Display + Eq + Ord + Default 
 
     /// The value with this spelling, as it is printed or in upper case.
     #[tactic(auto, using(crate::proofs::ReadingLemmas::read_alike))]
-    fn read(text: &str) -> Option<Self>
+    final fn read(text: &str) -> Option<Self>
         ensures spelled { IfSome result (λ metric. IsReading (spelling metric) text.now) }
         ensures read { (metric : Self) → IsReading (spelling metric) text.now
             → result ≡ Some metric }
@@ -73,7 +73,7 @@ pub trait Metric: Copy + Clone + fmt::Debug + fmt::Display + Eq + Ord + Default 
     /// # Errors
     ///
     /// `InvalidMetricV4` with the text where the metric has no such value.
-    fn from_str(alloc: Global, text: &str) -> Result<Self, Error>
+    final fn from_str(alloc: Global, text: &str) -> Result<Self, Error>
         ensures spelled { IfOk result (λ metric. IsReading (spelling metric) text.now) }
         ensures read { (metric : Self) → IsReading (spelling metric) text.now
             → result ≡ Ok metric }
@@ -92,7 +92,7 @@ pub trait Metric: Copy + Clone + fmt::Debug + fmt::Display + Eq + Ord + Default 
     }
 
     /// The metric's abbreviation.
-    fn name() -> &'static str
+    final fn name() -> &'static str
         ensures { result.now ≡ name_of TYPE }
     {
         Self::TYPE.name()
