@@ -2,7 +2,7 @@
 
 ghost use Rattle.std.specs.Prelude.{◌≡◌, ◌⊎◌, IfOk, IsTrue, Ok, Err, string_bytes};
 ghost use Rattle.cvss.specs.ErrorType.TheVariants.{OutOfMemory};
-ghost use Rattle.cvss.specs.MergingLawsV4.{HasModifiedAsBase};
+ghost use Rattle.cvss.specs.MergingLawsV4.{HasModifiedAsBase, without_supplemental};
 ghost use Rattle.cvss.specs.MergingV4.{letter_at};
 ghost use Rattle.cvss.specs.MetricTypeV4.{MetricType};
 ghost use Rattle.cvss.specs.VectorV4.{v4};
@@ -10,7 +10,7 @@ ghost use Rattle.cvss.specs.Version.{IsComplete, IsWellFormed};
 ghost use Rattle.cvss_tests.specs.Canonical.{IsCanonicalTextOf};
 
 use cvss::Error;
-use cvss::v4::{Vector, laws};
+use cvss::v4::{Nomenclature, Vector, laws};
 use std::alloc::Global;
 
 /// Prints a well-formed vector and reads what was printed, which gives the vector back.
@@ -64,4 +64,26 @@ pub fn modified_scores_as_base(vector: &Vector, base: &Vector) -> (i128, i128)
     laws::modified_metrics_score_as_base_metrics();
     laws::scores_are_unique();
     (base.score().value(), vector.score().value())
+}
+
+/// The scores and nomenclatures of a complete vector without and with its supplemental metrics, which
+/// are the same.
+pub fn supplemental_metrics_change_nothing(
+    without: &Vector,
+    vector: &Vector,
+) -> (i128, i128, Nomenclature, Nomenclature)
+    requires without { IsComplete v4 without.now }
+    requires vector { IsComplete v4 vector.now }
+    requires same { without.now ≡ without_supplemental vector.now }
+    ensures score { result.0 ≡ result.1 }
+    ensures nomenclature { result.2 ≡ result.3 }
+{
+    laws::supplemental_metrics_change_nothing();
+    laws::scores_are_unique();
+    (
+        without.score().value(),
+        vector.score().value(),
+        without.nomenclature(),
+        vector.nomenclature(),
+    )
 }
