@@ -27,3 +27,4 @@ pub use Rattle.cvss_v4.specs.Scores as ScoresV4
 pub use Rattle.cvss_v4.specs.Vector as VectorV4
 pub use Rattle.cvss_v4.specs.declared.nomenclature.Nomenclature as NomenclatureTypeV4
 pub use Rattle.cvss_v4.specs.declared.vector.Vector as VectorTypeV4
+pub mod Json

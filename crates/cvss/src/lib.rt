@@ -4,6 +4,8 @@
 //! by the `from_str` of the version's `Vector`.
 #![tactic(auto)]
 
+pub mod json;
+
 pub use cvss_base::{Error, LIMIT, ONE, PREFIX, Severity};
 pub use cvss_v2 as v2;
 pub use cvss_v3 as v3;
