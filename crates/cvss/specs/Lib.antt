@@ -1,5 +1,7 @@
 pub mod Answers
 pub mod Dispatch
+pub mod Json
+pub mod Laws
 pub mod MetricTypes
 pub mod MetricsLeft
 pub mod Steps
