@@ -7,14 +7,23 @@ use Rattle.cvss_base.specs.Text.{slash, joined}
 use Rattle.cvss_base.specs.Version.{components_of, version_piece, IsWellFormed}
 use Rattle.cvss_base.proofs.CanonicalLemmas.{canonical_text-denotes, denoted_once}
 use Rattle.cvss_base.proofs.FrontLemmas.{denoted_once_behind}
+use Rattle.cvss_base.proofs.TenthsLemmas.{in_tenths_once}
+use Rattle.cvss_base.specs.Tenths.{IsOneCount}
+use Rattle.cvss_v2.proofs.UniqueLemmas.{base_score_once}
 use Rattle.cvss_v2.specs.Vector.{v2}
 use Rattle.cvss_v2.specs.VectorLaws.{v2_is_lawful}
+use Rattle.cvss_v2.specs.Weights.{weights_of}
+use Rattle.cvss_v3.proofs.LawLemmas as law_v3
 use Rattle.cvss_v3.specs.Vector.{v3}
 use Rattle.cvss_v3.specs.VectorLaws.{v3_is_lawful, v3_fronts_are_lawful}
+use Rattle.cvss_v3.specs.VectorWeights as weights_v3
 use Rattle.cvss_v3.specs.declared.vector.Vector.{Vector}
+use Rattle.cvss_v4.proofs.ScoreLawLemmas.{one_score}
+use Rattle.cvss_v4.specs.Merging.{effective_of}
+use Rattle.cvss_v4.specs.Scores.{IsScore}
 use Rattle.cvss_v4.specs.Vector.{v4}
 use Rattle.cvss_v4.specs.VectorLaws.{v4_is_lawful, v4_fronts_are_lawful}
-use Rattle.cvss.specs.Answers.{text_of}
+use Rattle.cvss.specs.Answers.{text_of, IsScoreOf}
 use Rattle.cvss.specs.Dispatch.{DenotesCvss, DenotesV3}
 use Rattle.cvss.specs.Laws.{IsGivenBack, HasVersionAndMetric}
 use Rattle.cvss.specs.declared.vector.Cvss.{Cvss}
@@ -35,6 +44,12 @@ one_vector text (CvssV31 v) right left_is right_is =
 one_vector text (CvssV40 v) right left_is right_is =
     let of = of_v40 text (v40_routed text v left_is) right right_is in
     ap CvssV40 (denoted_once_behind v4 v4_is_lawful v4_fronts_are_lawful text v of.vector left_is.denoted of.denoted.denoted) ∙ sym of.is
+
+pub score_once : (cvss : Cvss) → IsOneCount (IsScoreOf cvss)
+score_once (CvssV20 v) = base_score_once (weights_of v)
+score_once (CvssV30 v) = law_v3.base_score_once v.minor_version (weights_v3.weights_of v)
+score_once (CvssV31 v) = law_v3.base_score_once v.minor_version (weights_v3.weights_of v)
+score_once (CvssV40 v) = in_tenths_once (IsScore (effective_of v)) (one_score (effective_of v))
 
 -- a version piece with more behind it is longer than it is alone
 longer : (piece : List ℕ) (parts : List (List ℕ)) → parts ≢ [] → joined (piece ∷ parts) ≡ piece → ⊥

@@ -1,4 +1,5 @@
 mod AnswerLemmas
+mod DigitLemmas
 mod JsonLemmas
 mod LawLemmas
 mod RouteLemmas

@@ -13,6 +13,7 @@ pub use Rattle.cvss_base.specs.Tenths
 pub use Rattle.cvss_base.specs.Told
 pub use Rattle.cvss_base.specs.Version
 pub use Rattle.cvss_base.specs.declared.error.Error as ErrorType
+pub use Rattle.cvss_base.specs.declared.severity.Severity as SeverityType
 pub use Rattle.cvss_base.specs.declared.v4.MetricType as MetricTypeV4
 pub use Rattle.cvss_v2.specs.Rating as RatingV2
 pub use Rattle.cvss_v2.specs.ScoreLaws as ScoreLawsV2

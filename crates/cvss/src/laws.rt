@@ -2,7 +2,8 @@
 //! needs a law calls it.
 
 ghost use Rattle.std.specs.Prelude.{◌≡◌, ◌↔◌, ℕ, List};
-ghost use Rattle.cvss.specs.Answers.{text_of};
+ghost use Rattle.cvss_base.specs.Tenths.{IsOneCount};
+ghost use Rattle.cvss.specs.Answers.{text_of, IsScoreOf};
 ghost use Rattle.cvss.specs.Dispatch.{DenotesCvss};
 ghost use Rattle.cvss.specs.Laws.{IsGivenBack};
 ghost use Rattle.cvss.specs.declared.vector.Cvss.{Cvss};
@@ -14,4 +15,9 @@ pub fn texts_denote_one_vector()
     ensures own { (cvss : Cvss) → (DenotesCvss (text_of cvss) cvss ↔ IsGivenBack cvss) }
     ensures one { (text : List ℕ) → (left right : Cvss)
         → DenotesCvss text left → DenotesCvss text right → left ≡ right }
+{}
+
+/// A vector has one score.
+pub fn scores_are_unique()
+    ensures { (cvss : Cvss) → IsOneCount (IsScoreOf cvss) }
 {}

@@ -10,6 +10,7 @@ pub mod laws;
 mod metric_type;
 mod metrics;
 mod route;
+pub mod tenths;
 mod vector;
 
 pub use cvss_base::{Error, LIMIT, ONE, PREFIX, Severity};
