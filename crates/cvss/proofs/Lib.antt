@@ -1,1 +1,4 @@
+mod AnswerLemmas
 mod JsonLemmas
+mod RouteLemmas
+mod ToldLemmas

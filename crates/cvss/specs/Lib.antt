@@ -1,3 +1,8 @@
+pub mod Answers
+pub mod Dispatch
+pub mod MetricTypes
+pub mod MetricsLeft
+pub mod Steps
 pub use Rattle.cvss_base.specs.ErrorText
 pub use Rattle.cvss_base.specs.Rating
 pub use Rattle.cvss_base.specs.Refusal

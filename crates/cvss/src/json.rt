@@ -11,12 +11,14 @@ ghost use Rattle.cvss_v2.specs.Vector.{v2};
 ghost use Rattle.cvss_v3.specs.Vector.{v3};
 ghost use Rattle.cvss_v4.specs.Nomenclature as nomenclature;
 ghost use Rattle.cvss_v4.specs.Vector.{v4};
+ghost use Rattle.cvss.specs.Answers as answers;
+ghost use Rattle.cvss.specs.Dispatch.{DenotesCvss, IsFirstRefusalCvss, cvss_reason};
 ghost use Rattle.cvss.specs.Json.{IsNoString, StandsFor, TellsWhy, json_error_text, told_as};
 ghost use Rattle.cvss.specs.declared.json.JsonError.TheVariants.{NotAString, Invalid, OutOfMemory};
 ghost use Rattle.serde_json.specs.Data.{string};
 ghost use Rattle.serde_json.specs.View.{view};
 
-use crate::{Error, Severity, v2, v3, v4};
+use crate::{Cvss, Error, Severity, v2, v3, v4};
 use serde_json::Value;
 use std::alloc::{AllocError, Global};
 use std::fmt;
@@ -185,5 +187,19 @@ impl JsonText for v4::Vector {
 
     fn from_value(alloc: Global, value: &Value) -> Result<v4::Vector, JsonError> {
         Ok(v4::Vector::from_str(alloc, string_of(value)?)?)
+    }
+}
+
+impl JsonText for Cvss {
+    ghost text = { answers.text_of };
+
+    ghost denotes = { DenotesCvss };
+
+    ghost refuses = { λ text. TellsFirst cvss_reason (IsFirstRefusalCvss text) };
+
+    ghost printed = { λ x. refl };
+
+    fn from_value(alloc: Global, value: &Value) -> Result<Cvss, JsonError> {
+        Ok(Cvss::from_str(alloc, string_of(value)?)?)
     }
 }

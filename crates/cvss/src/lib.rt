@@ -1,12 +1,19 @@
 //! CVSS vectors: read, printed and scored, with each answer proved.
 //!
-//! Version 2 stands in [`v2`], versions 3.0 and 3.1 in [`v3`], version 4.0 in [`v4`]; a text is read
-//! by the `from_str` of the version's `Vector`.
+//! [`Cvss`] is a vector of any version, read from its text by [`Cvss::from_str`]. Version 2 stands in
+//! [`v2`], versions 3.0 and 3.1 in [`v3`], version 4.0 in [`v4`], each with a `Vector` of its own.
 #![tactic(auto)]
 
 pub mod json;
+mod metric_type;
+mod metrics;
+mod route;
+mod vector;
 
 pub use cvss_base::{Error, LIMIT, ONE, PREFIX, Severity};
 pub use cvss_v2 as v2;
 pub use cvss_v3 as v3;
 pub use cvss_v4 as v4;
+pub use metric_type::MetricType;
+pub use metrics::Metrics;
+pub use vector::Cvss;

@@ -72,7 +72,7 @@ module _ {V K : Type 0} (version : Version V K) (lawful : IsLawful version) (fro
   }
 
   -- the pieces of a text that denotes a vector
-  pieces_denoted_behind : (v : V) (denotes : Denotes version text v) (told : List ℕ) → version.front v ≡ version_piece told ∷ [] → foreign_bytes told ≡ 0 → pieces text ≡ version_piece told ∷ denotes.parts
+  pub pieces_denoted_behind : (v : V) (denotes : Denotes version text v) (told : List ℕ) → version.front v ≡ version_piece told ∷ [] → foreign_bytes told ≡ 0 → pieces text ≡ version_piece told ∷ denotes.parts
   pieces_denoted_behind v denotes told front_is plain =
       let uncut = All-cons IsUncut (version_piece told) denotes.parts (piece_uncut told plain)
       (All-from_get_or IsUncut denotes.parts [] (piece_is_uncut version lawful v denotes.parts denotes.components)) in

@@ -1,7 +1,7 @@
 mod AnswerLemmas
 pub mod CanonicalLemmas
-mod ComponentLemmas
-mod DenotesLemmas
+pub mod ComponentLemmas
+pub mod DenotesLemmas
 pub mod ExactLemmas
 mod FindLemmas
 pub mod FrontLemmas
@@ -11,7 +11,7 @@ mod ListingLemmas
 pub mod MissingLemmas
 pub mod NumeralLemmas
 mod OnceLemmas
-mod PieceLemmas
+pub mod PieceLemmas
 mod PlainLemmas
 pub mod PrintLemmas
 pub mod PutLemmas
@@ -19,7 +19,8 @@ mod RefusalLemmas
 pub mod RoundingLemmas
 mod StandardFacts
 mod SameLemmas
-mod TextLemmas
+pub mod TenthsLemmas
+pub mod TextLemmas
 mod TypeLemmas
-mod Utf8Lemmas
-mod WalkLemmas
+pub mod Utf8Lemmas
+pub mod WalkLemmas

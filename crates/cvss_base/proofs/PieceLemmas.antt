@@ -1,19 +1,20 @@
 -- How pieces come off a text.
-use Rattle.std.proofs.Common.{◌≡◌, ℕ, ◌+◌, ◌<◌, ◌≤◌, Bool, true, false, cond, eqb, ltb, List, [], ◌∷◌, inl, inr, length, take, drop, Option, Some, None, refl, sym, ap, ◌∙◌, Bor, arith}
+use Rattle.std.proofs.Common.{◌≡◌, ◌↔◌, IsTrue, not, ℕ, ◌+◌, ◌<◌, ◌≤◌, Bool, true, false, cond, eqb, ltb, List, [], ◌∷◌, inl, inr, length, take, drop, Option, Some, None, refl, sym, ap, ◌∙◌, Bor, arith}
 use Rattle.std.specs.Iterator.{MakesProgress, Yields, YieldsFirstRef, item_count}
 use Rattle.std.specs.List.{position, position_or_len}
-use Rattle.std.specs.Option.{option_map_or, unwrap_or}
+use Rattle.std.specs.Option.{option_map_or, unwrap_or, is_some}
 use Rattle.std.specs.Slice.{IsGetRangeResult}
 use Rattle.std.proofs.lemmas.Bool.{ltb-true, ltb-false}
 use Rattle.std.proofs.lemmas.Iterator.Consumers.{YieldsList-from_first, YieldsList-turn}
+use Rattle.std.proofs.lemmas.List.Folds.{list_any_none}
 use Rattle.std.proofs.lemmas.List.{get_or_read, take_all, take_rest}
-use Rattle.std.proofs.lemmas.List.Splits.{slice_split_none, slice_split_first}
+use Rattle.std.proofs.lemmas.List.Splits.{slice_split_none, slice_split_first, length-slice_split}
 use Rattle.std.proofs.lemmas.List.Sums.{fails_before_first}
 use Rattle.std.proofs.lemmas.Option.{cond_some}
 use Rattle.cvss_base.specs.declared.pieces.Pieces.{Pieces}
-use Rattle.cvss_base.specs.Pieces.{pieces_left, AreParts}
+use Rattle.cvss_base.specs.Pieces.{pieces_left, AreParts, IsWithoutColon}
 use Rattle.cvss_base.specs.Refusal.{piece_at}
-use Rattle.cvss_base.specs.Text.{slash, colon, pieces, IsComponent}
+use Rattle.cvss_base.specs.Text.{slash, colon, pieces}
 use Rattle.cvss_base.proofs.TextLemmas.{position-within, colon-parts}
 
 abbrev pub is_slash : ℕ → Bool
@@ -59,8 +60,21 @@ AreParts-first piece at found =
     let first = first_at is_colon piece at found in
     rw (sym first.1) (record { cut = colon-parts piece first.0; name_is = refl; value_is = refl })
 
-pub no_component : (piece : List ℕ) → position is_colon piece ≡ None → IsComponent piece → ⊥
-no_component piece none is = omega (arith, first_nowhere is_colon piece none, position-within is_colon piece is.one_colon)
+pub without_colon : (piece : List ℕ) → position is_colon piece ≡ None → IsWithoutColon piece
+without_colon piece none = record {
+  colonless = list_any_none is_colon piece (λ place d inside. fails_before_first is_colon piece place d (omega (arith, first_nowhere is_colon piece none)));
+  no_component = λ is. omega (arith, first_nowhere is_colon piece none, position-within is_colon piece is.one_colon);
+}
+
+differ : (none : Bool) → true ≡ not none → none ≡ true → ⊥
+differ true is holds = cc
+differ false is holds = cc
+
+-- a text has a first piece, so that none is left where no text is
+pub none_left : (rest : Option (Bor (List ℕ))) (none : Bool) → is_some rest ≡ not none → IsTrue none ↔ (option_map_or (λ text. pieces text.now) rest [] ≡ [])
+none_left None true is = (λ _. refl, λ _. refl)
+none_left None false is = (λ _. refl, λ _. is)
+none_left (Some text) none is = (λ holds. absurd (differ none is holds), λ empty. absurd (omega (arith, ap length empty, length-slice_split is_slash text.now)))
 
 -- a call that takes the first of what is left comes nearer to the end
 pub MakesProgress-first : {S A B : Type 0} (rest : S → List B) (s t : S) (x : A) (y : B) → rest s ≡ y ∷ rest t → MakesProgress (λ _. Unit {0}) (item_count rest) s (Some x) t

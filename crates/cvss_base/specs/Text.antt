@@ -1,7 +1,7 @@
 -- How the text of a vector is cut into components: CVSS v2 guide, section 2.4; v3.1 specification,
 -- section 6; v4.0 specification, section 7.
 use Rattle.std.specs.Prelude.{◌≡◌, ℕ, ◌==◌, Bool, true, false, List, ◌∷◌, ◌++◌, map, count_by}
-use Rattle.std.specs.List.{slice_split, join_with_byte, before_first, after_first}
+use Rattle.std.specs.List.{slice_split, join_with_byte, before_first, after_first, list_any}
 use Rattle.std.specs.Char.{to_ascii_uppercase}
 
 -- the byte between two pieces
@@ -12,6 +12,10 @@ slash = 47
 abbrev pub colon : ℕ
 colon = 58
 
+-- whether the byte stands in the text
+abbrev pub has : ℕ → List ℕ → Bool
+has byte text = list_any (λ each. each == byte) text
+
 -- the pieces of a text, cut at each slash; each may be empty
 abbrev pub pieces : List ℕ → List (List ℕ)
 pieces text = slice_split (λ byte. byte == slash) text
@@ -19,6 +23,10 @@ pieces text = slice_split (λ byte. byte == slash) text
 -- the text of the pieces
 abbrev pub joined : List (List ℕ) → List ℕ
 joined parts = join_with_byte slash parts
+
+-- the byte between the numbers of a version
+abbrev pub dot : ℕ
+dot = 46
 
 -- a component is a piece with exactly one colon
 pub record IsComponent (piece : List ℕ) : Type 0 where

@@ -12,7 +12,7 @@ pub mod print;
 mod rating;
 pub mod refusing;
 mod severity;
-mod text;
+pub mod text;
 pub mod v2;
 pub mod v3;
 pub mod v4;

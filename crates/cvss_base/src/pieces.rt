@@ -1,16 +1,25 @@
 //! How the text of a vector is cut into pieces, and a component into its name and its value.
 
-ghost use Rattle.std.specs.Prelude.{◌≡◌, ◌↔◌, ◌∷◌, IsTrue, IfSome, MatchOption, Some, length, ◌==◌};
+ghost use Rattle.std.specs.Prelude.{◌≡◌, ◌↔◌, ◌∷◌, [], IsTrue, IfSome, MatchOption, Some, length, ◌==◌};
 ghost use Rattle.std.specs.Iterator.{YieldsFirstRef, item_count};
 ghost use Rattle.std.specs.List.{position};
 ghost use Rattle.cvss_base.specs.Text.{IsComponent, component, pieces};
-ghost use Rattle.cvss_base.specs.Pieces.{pieces_left, AreParts};
+ghost use Rattle.cvss_base.specs.Pieces.{pieces_left, AreParts, IsWithoutColon};
 ghost use Rattle.cvss_base.specs.Refusal.{AreComponentsBefore, IsFirstBadPiece};
 
 /// The pieces of a text, cut at each slash.
 #[derive(Clone, Copy, Debug)]
 pub struct Pieces<'a> {
     rest: Option<&'a [u8]>,
+}
+
+impl Pieces<'_> {
+    /// Whether no piece is left.
+    pub fn is_empty(&self) -> bool
+        ensures { IsTrue result ↔ (pieces_left self.now ≡ []) }
+    {
+        self.rest.is_none()
+    }
 }
 
 impl<'a> Iterator for Pieces<'a> {
@@ -28,7 +37,7 @@ impl<'a> Iterator for Pieces<'a> {
 }
 
 /// The first piece of a text, and those behind it.
-pub(crate) fn front_of(text: &[u8]) -> (&[u8], Pieces<'_>)
+pub fn front_of(text: &[u8]) -> (&[u8], Pieces<'_>)
     ensures { pieces text.now ≡ result.0.now ∷ pieces_left result.1 }
 {
     let end = first_place(text, b'/').unwrap_or(text.len());
@@ -68,7 +77,7 @@ pub fn first_bad_piece(text: &[u8]) -> Option<&[u8]>
 
 /// The texts before and after the first colon of a piece.
 pub fn parts_of(piece: &[u8]) -> Option<(&[u8], &[u8])>
-    ensures { MatchOption result (¬ (IsComponent piece.now))
+    ensures { MatchOption result (IsWithoutColon piece.now)
         (λ parts. AreParts piece.now parts.0.now parts.1.now) }
 {
     let at = first_place(piece, b':')?;

@@ -2,5 +2,5 @@ mod CountLemmas
 mod ScoreLemmas
 mod StandardFacts
 mod TextLemmas
-mod UniqueLemmas
+pub mod UniqueLemmas
 mod WeightLemmas

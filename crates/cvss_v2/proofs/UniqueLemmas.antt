@@ -5,10 +5,10 @@ use Rattle.cvss_base.specs.Exact.{Exact, of_count, thousandths, tenths}
 use Rattle.cvss_base.specs.Rounding.{IsRoundedV2}
 use Rattle.cvss_base.proofs.ExactLemmas.{equal_refl}
 use Rattle.cvss_base.proofs.RoundingLemmas.{v2-unique}
+use Rattle.cvss_base.proofs.TenthsLemmas.{in_tenths_once}
 use Rattle.cvss_v2.specs.declared.weights.Weights.{Weights}
 use Rattle.cvss_v2.specs.Scores.{impact, adjusted_impact, temporal_number, environmental_number, IsBase, IsTemporal, IsEnvironmental, IsPublished, IsBaseScore, IsTemporalScore, IsEnvironmentalScore}
-use Rattle.cvss_base.specs.Tenths.{IsInTenths}
-use Rattle.cvss_base.specs.Tenths.{IsOneCount}
+use Rattle.cvss_base.specs.Tenths.{IsInTenths, IsOneCount}
 
 rounded_once : (x : Exact) → 0 < x.bottom → IsOneCount (IsRoundedV2 x)
 rounded_once x some_x r s is_r is_s = v2-unique x x r s some_x some_x (equal_refl x) is_r is_s
@@ -34,11 +34,6 @@ published_once : (IsNumber : ℤ → Type 0) → IsOneCount IsNumber → IsOneCo
 published_once IsNumber once r s is_r is_s =
     let number = once is_r.number is_s.number is_r.is_number is_s.is_number in
     is_r.is_count ∙ (ap (λ n. int_max (pos 0) n *ℤ pos (10 ^ 23)) number ∙ sym is_s.is_count)
-
-in_tenths_once : (IsNumber : ℤ → Type 0) → IsOneCount IsNumber → IsOneCount (IsInTenths IsNumber)
-in_tenths_once IsNumber once r s is_r is_s =
-    let number = once is_r.number is_s.number is_r.is_number is_s.is_number in
-    is_r.is_count ∙ (ap (λ n. n *ℤ pos (10 ^ 23)) number ∙ sym is_s.is_count)
 
 pub base_score_once : (w : Weights) → IsOneCount (IsBaseScore w)
 base_score_once w = published_once (IsBase w (impact w)) (base_once w (impact w) (lit< tt))

@@ -1,6 +1,7 @@
 -- What holds of each value in the table of CVSS v2, checked value by value.
 use Rattle.std.specs.Prelude.{◌≡◌, ℕ, Bool, true, false, List, Option, Some, find, bytes_eq, codes, unwrap_or, refl}
 use Rattle.std.proofs.Common.{ap, sym, ◌∙◌, subst}
+use Rattle.cvss_base.specs.Text.{has, dot}
 use Rattle.cvss_base.specs.Walk.{foreign_bytes}
 use Rattle.cvss_base.specs.declared.v2.MetricType.{MetricType}
 use Rattle.cvss_base.specs.declared.v2.MetricType.TheVariants.{A, AC, AV, Au, C, I, E, RL, RC, CDP, TD, CR, IR, AR}
@@ -29,16 +30,18 @@ abbrev weight_if_not_defined : (kind : MetricType) → Value kind → Bool → �
 weight_if_not_defined kind value true = weight_of kind value
 weight_if_not_defined kind value false = absent_weight kind
 
--- the value with a value's spelling, its slashes and colons, and its weight if it is ND
-abbrev facts_of : (kind : MetricType) → Value kind → Option (Value kind) × ℕ × ℕ
+-- the value with a value's spelling, its slashes and colons, its weight if it is ND, and whether it
+-- has a dot
+abbrev facts_of : (kind : MetricType) → Value kind → Option (Value kind) × ℕ × ℕ × Bool
 facts_of kind value = (
   value_spelled kind (spelling_of kind value),
   foreign_bytes (spelling_of kind value),
   weight_if_not_defined kind value (bytes_eq (spelling_of kind value) (codes "ND")),
+  has dot (spelling_of kind value),
 )
 
--- each value is the one with its spelling, which has no slash and no colon; ND weighs as absent
-table_law : (kind : MetricType) (value : Value kind) → facts_of kind value ≡ (Some value, 0, absent_weight kind)
+-- each value is the one with its spelling, which has no slash, no colon and no dot; ND weighs as absent
+table_law : (kind : MetricType) (value : Value kind) → facts_of kind value ≡ (Some value, 0, absent_weight kind, false)
 table_law AV access_vector.Local = refl
 table_law AV _ = refl
 table_law AC access_complexity.High = refl
@@ -71,6 +74,10 @@ table_law AR _ = refl
 -- no spelling has a slash or a colon
 pub plain_spelling : (kind : MetricType) (value : Value kind) → foreign_bytes (spelling_of kind value) ≡ 0
 plain_spelling kind value = ap (λ facts. facts.1) (table_law kind value)
+
+-- no spelling has a dot
+pub undotted_spelling : (kind : MetricType) (value : Value kind) → has dot (spelling_of kind value) ≡ false
+undotted_spelling kind value = ap (λ facts. facts.3) (table_law kind value)
 
 -- each value is the one with its spelling
 own_value : (kind : MetricType) (value : Value kind) → value_spelled kind (spelling_of kind value) ≡ Some value

@@ -6,6 +6,7 @@ use Rattle.std.proofs.Math.Nat.{mul-le-mul, le_refl}
 use Rattle.cvss_base.specs.Exact.{Exact, ratio, ◌over◌, whole, ◌⊑◌}
 use Rattle.cvss_base.specs.Tenths.{IsInTenths, IsOneCount}
 use Rattle.cvss_base.proofs.RoundingLemmas.{least_tenth-ordered, v31-ordered}
+use Rattle.cvss_base.proofs.TenthsLemmas.{in_tenths_once}
 use Rattle.cvss_v3.specs.Scores.{impact, impact_of, modified_impact_of, iss, miss, exploitability, modified_exploitability, total_of, first_number, base_number, environmental_number, temporal_number, IsRounded, IsBase, IsTemporal, IsEnvironmental, IsBaseScore, IsTemporalScore, IsEnvironmentalScore}
 use Rattle.cvss_v3.specs.Weights.{IsFromTable, exploit_code_maturities, remediation_levels, report_confidences}
 use Rattle.cvss_v3.specs.declared.weights.Weights.{Weights}
@@ -47,11 +48,6 @@ environmental_once minor w r s is_r is_s =
     (modified_impact_bottom minor w.modified_changed (miss w) (lit< tt)) (lit< tt) in
     let first = rounded_once minor (environmental_number minor w) is_r.first is_s.first some is_r.is_first is_s.is_first in
     product_once minor w is_r.first is_s.first r s first is_r.is_rounded is_s.is_rounded
-
-in_tenths_once : (IsNumber : ℤ → Type 0) → IsOneCount IsNumber → IsOneCount (IsInTenths IsNumber)
-in_tenths_once IsNumber once r s is_r is_s =
-    let number = once is_r.number is_s.number is_r.is_number is_s.is_number in
-    is_r.is_count ∙ (ap (λ n. n *ℤ pos (10 ^ 23)) number ∙ sym is_s.is_count)
 
 pub base_score_once : (minor : ℕ) (w : Weights) → IsOneCount (IsBaseScore minor w)
 base_score_once minor w = in_tenths_once (IsBase minor w) (base_once minor w)

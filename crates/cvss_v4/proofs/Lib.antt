@@ -9,7 +9,7 @@ mod MeanLemmas
 mod MergingLemmas
 mod PrintedLemmas
 mod RoundedLemmas
-mod ScoreLawLemmas
+pub mod ScoreLawLemmas
 mod ScoreLemmas
 mod SevereLemmas
 mod ShareLemmas

@@ -1,10 +1,10 @@
 use Rattle.std.proofs.Common.{◌+◌, sym, ◌∙◌}
 use Rattle.std.proofs.lemmas.List.{take_rest}
-use Rattle.cvss_base.proofs.PieceLemmas.{AreParts-first, no_component}
+use Rattle.cvss_base.proofs.PieceLemmas.{AreParts-first, without_colon}
 use Rattle.cvss_base.proofs.pieces.parts_of.Goals as goal
 
 pub returns-in_err-at : goal.returns-in_err-at
-returns-in_err-at c = rw c.from_residual.ensures (no_component c.args.piece.now (sym c.first_place.ensures ∙ c.in_err-at.was))
+returns-in_err-at c = rw c.from_residual.ensures (without_colon c.args.piece.now (sym c.first_place.ensures ∙ c.in_err-at.was))
 
 pub returns : goal.returns
 returns c =

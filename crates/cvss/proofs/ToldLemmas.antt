@@ -1,0 +1,63 @@
+-- A version's error tells of all metrics what it tells of that version's.
+use Rattle.std.proofs.Common.{◌≡◌, ◌⊎◌, inl, inr, Some, None, Option, IfSome, refl, subst, ◌∙◌}
+use Rattle.cvss_base.specs.Refusal.{Refusal, BadComponent, WrongPrefix, WrongVersion, UnknownName, BadValue, Repeated, Missing, carries_text}
+use Rattle.cvss_base.specs.Told.{Tells, TellsFirst, reason_told, v2_reason, v3_reason, v4_reason}
+use Rattle.cvss_base.specs.declared.error.Error.{Error}
+use Rattle.cvss_base.specs.declared.error.Error.TheVariants.{InvalidComponent, InvalidPrefix, UnsupportedVersion, InvalidMetricV2, DuplicateMetricV2, MissingMandatoryMetricV2, InvalidMetricV3, DuplicateMetricV3, InvalidMetricV4, DuplicateMetricV4, MissingMandatoryMetricV4, UnknownMetric}
+use Rattle.cvss.specs.Dispatch.{IsReasonOf, wrapped, cvss_reason}
+use Rattle.cvss.specs.declared.metric_type.MetricType.{MetricType}
+use Rattle.cvss.specs.declared.metric_type.MetricType.TheVariants.{V2, V3, V4}
+
+-- what an error tells of a version's metrics, it tells of those of all
+abbrev pub Wraps : {K : Type 0} → (K → MetricType) → (Error → Option (Refusal K)) → Type 0
+Wraps wrap own = (error : Error) → IfSome (reason_told own error) (λ reason. reason_told cvss_reason error ≡ Some (wrapped wrap reason))
+
+pub v2_wraps : Wraps V2 v2_reason
+v2_wraps (InvalidComponent component) = refl
+v2_wraps (InvalidPrefix prefix) = refl
+v2_wraps (UnsupportedVersion version) = refl
+v2_wraps (UnknownMetric name) = refl
+v2_wraps (InvalidMetricV2 kind value) = refl
+v2_wraps (DuplicateMetricV2 kind) = refl
+v2_wraps (MissingMandatoryMetricV2 kind) = refl
+v2_wraps _ = tt
+
+pub v3_wraps : Wraps V3 v3_reason
+v3_wraps (InvalidComponent component) = refl
+v3_wraps (InvalidPrefix prefix) = refl
+v3_wraps (UnsupportedVersion version) = refl
+v3_wraps (UnknownMetric name) = refl
+v3_wraps (InvalidMetricV3 kind value) = refl
+v3_wraps (DuplicateMetricV3 kind) = refl
+v3_wraps _ = tt
+
+pub v4_wraps : Wraps V4 v4_reason
+v4_wraps (InvalidComponent component) = refl
+v4_wraps (InvalidPrefix prefix) = refl
+v4_wraps (UnsupportedVersion version) = refl
+v4_wraps (UnknownMetric name) = refl
+v4_wraps (InvalidMetricV4 kind value) = refl
+v4_wraps (DuplicateMetricV4 kind) = refl
+v4_wraps (MissingMandatoryMetricV4 kind) = refl
+v4_wraps _ = tt
+
+carries-wrapped : {K : Type 0} (wrap : K → MetricType) (reason : Refusal K) → carries_text (wrapped wrap reason) ≡ carries_text reason
+carries-wrapped wrap (BadComponent piece) = refl
+carries-wrapped wrap (WrongPrefix prefix) = refl
+carries-wrapped wrap (WrongVersion told) = refl
+carries-wrapped wrap (UnknownName name) = refl
+carries-wrapped wrap (BadValue kind value) = refl
+carries-wrapped wrap (Repeated kind) = refl
+carries-wrapped wrap (Missing kind) = refl
+
+module _ {K : Type 0} (wrap : K → MetricType) (own : Error → Option (Refusal K)) (wraps : Wraps wrap own) where
+  pub tells_wrapped : (reason : Refusal K) (error : Error) → Tells own reason error → Tells cvss_reason (wrapped wrap reason) error
+  tells_wrapped reason error (inl told) = inl (subst (λ each. IfSome each (λ known. reason_told cvss_reason error ≡ Some (wrapped wrap known))) told (wraps error))
+  tells_wrapped reason error (inr lacking) = inr (lacking.0, carries-wrapped wrap reason ∙ lacking.1)
+
+  pub tells_first_wrapped : (IsFirst : Refusal K → Type 0) (error : Error) → TellsFirst own IsFirst error → TellsFirst cvss_reason (IsReasonOf wrap IsFirst) error
+  tells_first_wrapped IsFirst error tells = record {
+    reason = wrapped wrap tells.reason;
+    first = record { own = tells.reason; first = tells.first; is = refl };
+    told = tells_wrapped tells.reason error tells.told;
+  }

@@ -1,0 +1,95 @@
+//! By the rules of which version a text is read.
+
+ghost use Rattle.std.specs.Prelude.{◌≡◌, IfOk, Some};
+ghost use Rattle.std.specs.Str.{IsUtf8};
+ghost use Rattle.cvss_base.specs.Told.{Tells, reason_told};
+ghost use Rattle.cvss.specs.Dispatch.{route_of, route_of_parts, cvss_reason};
+ghost use Rattle.cvss.specs.Steps.{as_route, IsTellable, IsTellableRoute, reason_of};
+
+use cvss_base::pieces::{front_of, parts_of};
+use cvss_base::text::copied_text;
+use cvss_base::{Error, PREFIX};
+use std::alloc::{AllocError, Global};
+
+/// By the rules of which version a text is read.
+#[derive(Clone, Copy, Debug)]
+pub(crate) enum Route<'a> {
+    V20,
+    V30,
+    V31,
+    V40,
+    None(Fault<'a>),
+}
+
+/// Why a text is read by no rules, with the part of the text that is at fault.
+#[derive(Clone, Copy, Debug)]
+pub(crate) enum Fault<'a> {
+    /// The text has one piece, or its first piece has no colon.
+    InvalidComponent(&'a [u8]),
+    /// A version is told, but not behind `CVSS`.
+    InvalidPrefix(&'a [u8]),
+    /// The version that is told is not supported.
+    UnsupportedVersion(&'a [u8]),
+}
+
+/// By the rules of which version a text is read.
+pub(crate) fn route_of_text(text: &[u8]) -> Route<'_>
+    ensures route { as_route result ≡ route_of text.now }
+    ensures tellable { IsUtf8 text.now → IsTellableRoute result }
+{
+    let (front, behind) = front_of(text);
+    if behind.is_empty() {
+        return Route::None(Fault::InvalidComponent(front));
+    }
+    match parts_of(front) {
+        Some((prefix, told)) => route_by(prefix, told),
+        None => Route::None(Fault::InvalidComponent(front)),
+    }
+}
+
+/// By which rules a text is read whose first piece has this prefix and tells this version.
+fn route_by<'a>(prefix: &'a [u8], told: &'a [u8]) -> Route<'a>
+    ensures route { as_route result ≡ route_of_parts prefix.now told.now }
+    ensures tellable { IsUtf8 prefix.now → IsUtf8 told.now → IsTellableRoute result }
+{
+    if !told.contains(&b'.') {
+        return Route::V20;
+    }
+    if prefix != PREFIX.as_bytes() {
+        return Route::None(Fault::InvalidPrefix(prefix));
+    }
+    match told {
+        b"3.0" => Route::V30,
+        b"3.1" => Route::V31,
+        b"4.0" => Route::V40,
+        _ => Route::None(Fault::UnsupportedVersion(told)),
+    }
+}
+
+/// The error that tells a fault, or that there is no memory for the text that the fault names.
+pub(crate) fn error_of(alloc: Global, fault: Fault<'_>) -> Error
+    requires { IsTellable fault }
+    ensures { Tells cvss_reason (reason_of fault.entry) result }
+{
+    match copied_error(alloc, fault) {
+        Ok(error) => error,
+        Err(_) => Error::OutOfMemory,
+    }
+}
+
+fn copied_error(alloc: Global, fault: Fault<'_>) -> Result<Error, AllocError>
+    requires { IsTellable fault }
+    ensures { IfOk result (λ error. reason_told cvss_reason error ≡ Some (reason_of fault.entry)) }
+{
+    Ok(match fault {
+        Fault::InvalidComponent(piece) => Error::InvalidComponent {
+            component: copied_text(alloc, piece)?,
+        },
+        Fault::InvalidPrefix(prefix) => Error::InvalidPrefix {
+            prefix: copied_text(alloc, prefix)?,
+        },
+        Fault::UnsupportedVersion(version) => Error::UnsupportedVersion {
+            version: copied_text(alloc, version)?,
+        },
+    })
+}

@@ -1,0 +1,141 @@
+//! A vector of any version.
+
+ghost use Rattle.std.specs.Prelude.{◌≡◌, ◌↔◌, IsTrue, IfSome, IsSome, IfOk, IfErr, IsErrAnd, Some, Ok, ℤ};
+ghost use Rattle.cvss.specs.Answers.{text_of};
+
+use crate::metrics::Metrics;
+use crate::route::{Route, error_of, route_of_text};
+use crate::{v2, v3, v4};
+use cvss_base::{Error, Severity};
+use std::alloc::Global;
+use std::fmt;
+
+/// A vector of one of the versions.
+#[derive(Clone, Copy, Debug, PartialEq, Eq)]
+pub enum Cvss {
+    /// CVSS v2.
+    CvssV20(v2::Vector),
+    /// CVSS v3.0, with minor version 0 where it was read from a text.
+    CvssV30(v3::Vector),
+    /// CVSS v3.1, with minor version 1 where it was read from a text.
+    CvssV31(v3::Vector),
+    /// CVSS v4.0.
+    CvssV40(v4::Vector),
+}
+
+impl Cvss {
+    ghost use Rattle.std.specs.Str.{IsUtf8};
+    ghost use Rattle.cvss_base.specs.Refusal.{Refusal};
+    ghost use Rattle.cvss_base.specs.Tenths.{IsInTenths, IsFromZeroToTen};
+    ghost use Rattle.cvss_base.specs.Told.{Tells, TellsFirst};
+    ghost use Rattle.cvss.specs.Answers.{HasScore, IsScoreOf, rating_by, metrics_of};
+    ghost use Rattle.cvss.specs.Dispatch.{DenotesCvss, IsFirstRefusalCvss, cvss_reason};
+    ghost use Rattle.cvss.specs.MetricsLeft.{metrics_left};
+    ghost use Rattle.cvss.specs.declared.metric_type.MetricType.{MetricType};
+
+    /// The vector that a text denotes, by the rules of the version that it tells: CVSS v3.0, v3.1
+    /// and v4.0 by a first piece `CVSS:` and version, and CVSS v2 without one. The two texts
+    /// `CVSS:3.0` and `CVSS:3.1` denote none. Accepting takes no memory.
+    ///
+    /// # Errors
+    ///
+    /// The first reason why the text is no such vector. Where no rules apply it is
+    /// `InvalidComponent` with the first piece, if the text has no slash or that piece no colon,
+    /// `InvalidPrefix`, or `UnsupportedVersion`; else that of the version's own `from_str`.
+    /// `OutOfMemory` stands in place of one that carries text.
+    pub fn from_str(alloc: Global, text: &str) -> Result<Cvss, Error>
+        // Accepted: what is given is what the text denotes, and each such vector is given.
+        ensures denoted { IfOk result (λ cvss. DenotesCvss text.now cvss) }
+        ensures accepts { (cvss : Cvss) → DenotesCvss text.now cvss → result ≡ Ok cvss }
+        // Refused: for the first reason, and wherever there is one. Memory is the answer only where
+        // the reason carries text.
+        ensures refused { IfErr result (TellsFirst cvss_reason (IsFirstRefusalCvss text.now)) }
+        ensures refuses { (reason : Refusal MetricType) → IsFirstRefusalCvss text.now reason
+            → IsErrAnd result (Tells cvss_reason reason) }
+    {
+        match route_of_text(text.as_bytes()) {
+            Route::V20 => v2::Vector::from_str(alloc, text).map(Cvss::CvssV20),
+            Route::V30 => v3::Vector::from_str(alloc, text).map(Cvss::CvssV30),
+            Route::V31 => v3::Vector::from_str(alloc, text).map(Cvss::CvssV31),
+            Route::V40 => v4::Vector::from_str(alloc, text).map(Cvss::CvssV40),
+            Route::None(fault) => Err(error_of(alloc, fault)),
+        }
+    }
+
+    /// The vector that a text denotes, if there is one. It takes no memory.
+    pub fn read_bytes(text: &[u8]) -> Option<Cvss>
+        ensures denoted { IfSome result (λ cvss. DenotesCvss text.now cvss) }
+        ensures accepts { (cvss : Cvss) → DenotesCvss text.now cvss → result ≡ Some cvss }
+        ensures utf8 { IsSome result → IsUtf8 text.now }
+    {
+        match route_of_text(text) {
+            Route::V20 => v2::Vector::read_bytes(text).map(Cvss::CvssV20),
+            Route::V30 => v3::Vector::read_bytes(text).map(Cvss::CvssV30),
+            Route::V31 => v3::Vector::read_bytes(text).map(Cvss::CvssV31),
+            Route::V40 => v4::Vector::read_bytes(text).map(Cvss::CvssV40),
+            Route::None(_) => None,
+        }
+    }
+
+    /// Whether the vector has a score, as each has that was read from a text: a vector of CVSS v4.0
+    /// has none if a base metric is missing.
+    pub fn has_score(&self) -> bool
+        ensures { IsTrue result ↔ HasScore self.now }
+    {
+        match self {
+            Cvss::CvssV40(vector) => vector.is_complete(),
+            _ => true,
+        }
+    }
+
+    /// The score of a vector that has one, in counts of 10^-24: the base score in CVSS v2 (guide,
+    /// section 3.2.1) and v3 (v3.1 specification, section 7.1), and the score of CVSS v4.0
+    /// (specification, section 8.2).
+    pub fn score(&self) -> i128
+        requires scored { HasScore self.now }
+        ensures value { IsScoreOf self.now result }
+        ensures range { IsInTenths IsFromZeroToTen result }
+    {
+        match self {
+            Cvss::CvssV20(vector) => vector.score().value(),
+            Cvss::CvssV30(vector) | Cvss::CvssV31(vector) => vector.score().value(),
+            Cvss::CvssV40(vector) => vector.score().value(),
+        }
+    }
+
+    /// The rating of the score of a vector that has one (v3.1 specification, section 5; v4.0
+    /// specification, section 6; for CVSS v2 that of the National Vulnerability Database).
+    pub fn severity(&self) -> Severity
+        requires scored { HasScore self.now }
+        ensures { (score : ℤ) → IsScoreOf self.now score → result ≡ rating_by self.now score }
+    {
+        match self {
+            Cvss::CvssV20(vector) => vector.score().severity(),
+            Cvss::CvssV30(vector) | Cvss::CvssV31(vector) => vector.severity(),
+            Cvss::CvssV40(vector) => vector.score().severity(),
+        }
+    }
+
+    /// The type and the spelling of each metric that the vector has. It takes no memory.
+    pub fn metrics(&self) -> Metrics
+        ensures { metrics_left result ≡ metrics_of self.now }
+    {
+        match self {
+            Cvss::CvssV20(vector) => Metrics::V2(vector.metrics()),
+            Cvss::CvssV30(vector) | Cvss::CvssV31(vector) => Metrics::V3(vector.metrics()),
+            Cvss::CvssV40(vector) => Metrics::V4(vector.metrics()),
+        }
+    }
+}
+
+impl fmt::Display for Cvss {
+    ghost output = { λ cvss. Some (text_of cvss) };
+
+    fn fmt<W: fmt::Write>(&self, f: &mut fmt::Formatter<W>) -> fmt::Result {
+        match self {
+            Cvss::CvssV20(vector) => vector.fmt(f),
+            Cvss::CvssV30(vector) | Cvss::CvssV31(vector) => vector.fmt(f),
+            Cvss::CvssV40(vector) => vector.fmt(f),
+        }
+    }
+}
