@@ -1,4 +1,5 @@
 mod AnswerLemmas
 mod JsonLemmas
+mod LawLemmas
 mod RouteLemmas
 mod ToldLemmas

@@ -1,5 +1,7 @@
 pub mod Answers
 pub mod Dispatch
+pub mod Json
+pub mod Laws
 pub mod MetricTypes
 pub mod MetricsLeft
 pub mod Steps
@@ -32,4 +34,3 @@ pub use Rattle.cvss_v4.specs.Scores as ScoresV4
 pub use Rattle.cvss_v4.specs.Vector as VectorV4
 pub use Rattle.cvss_v4.specs.declared.nomenclature.Nomenclature as NomenclatureTypeV4
 pub use Rattle.cvss_v4.specs.declared.vector.Vector as VectorTypeV4
-pub mod Json

@@ -11,7 +11,7 @@ ghost use Rattle.cvss_v2.specs.Vector.{v2};
 ghost use Rattle.cvss_v3.specs.Vector.{v3};
 ghost use Rattle.cvss_v4.specs.Nomenclature as nomenclature;
 ghost use Rattle.cvss_v4.specs.Vector.{v4};
-ghost use Rattle.cvss.specs.Answers as answers;
+ghost use Rattle.cvss.specs.Answers.{text_of};
 ghost use Rattle.cvss.specs.Dispatch.{DenotesCvss, IsFirstRefusalCvss, cvss_reason};
 ghost use Rattle.cvss.specs.Json.{IsNoString, StandsFor, TellsWhy, json_error_text, told_as};
 ghost use Rattle.cvss.specs.declared.json.JsonError.TheVariants.{NotAString, Invalid, OutOfMemory};
@@ -191,7 +191,7 @@ impl JsonText for v4::Vector {
 }
 
 impl JsonText for Cvss {
-    ghost text = { answers.text_of };
+    ghost text = { text_of };
 
     ghost denotes = { DenotesCvss };
 
