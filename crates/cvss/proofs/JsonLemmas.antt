@@ -1,5 +1,5 @@
 -- How a reason for refusing a text is told of the JSON string of the text.
-use Rattle.std.specs.Prelude.{◌≡◌, ℕ, List, Result, Err, IfErr, IsErrAnd}
+use Rattle.std.specs.Prelude.{◌≡◌, ℕ, List, Result, IfErr, IsErrAnd}
 use Rattle.std.proofs.lemmas.Result.{err_from_is_err_and}
 use Rattle.cvss_base.specs.declared.error.Error.{Error}
 use Rattle.cvss_base.specs.declared.error.Error.TheVariants.{OutOfMemory}

@@ -6,7 +6,7 @@
 #![tactic(auto)]
 
 use cvss::json::JsonText;
-use cvss::{Severity, v2, v3, v4};
+use cvss::{Cvss, Severity, v2, v3, v4};
 use serde_json::Value;
 use std::io;
 use std::io::{BufRead, BufReader};
@@ -20,6 +20,7 @@ fn main(rt: HostRuntime) -> io::Result<()> {
 
 fn answer(rt: &(impl Print + AllocGlobal), line: &str) -> io::Result<()> {
     match line.split_once(' ') {
+        Some(("cvss", text)) => convert::<Cvss>(rt, text),
         Some(("severity", text)) => convert::<Severity>(rt, text),
         Some(("nomenclature", text)) => convert::<v4::Nomenclature>(rt, text),
         Some(("v2", text)) => convert::<v2::Vector>(rt, text),

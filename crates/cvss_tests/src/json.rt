@@ -1,7 +1,7 @@
 //! Tests of JSON values: what they stand for, and what is written.
 
 use cvss::json::{JsonError, JsonText};
-use cvss::{Error, Severity, v2, v3, v4};
+use cvss::{Cvss, Error, Severity, v2, v3, v4};
 use serde_json::{Map, Value};
 use std::alloc::Global;
 use std::process::Abort;
@@ -24,6 +24,12 @@ fn strings_stand_for_what_their_texts_denote(rt: HostRuntime) -> Result<(), Fail
     let alloc = rt.alloc();
     is_written::<Severity>(&rt, alloc, "LOW", "low")?;
     is_written::<v4::Nomenclature>(&rt, alloc, "CVSS-BTE", "CVSS-BTE")?;
+    is_written::<Cvss>(
+        &rt,
+        alloc,
+        "CVSS:3.1/MA:N/CR:H/AV:N",
+        "CVSS:3.1/AV:N/CR:H/MA:N",
+    )?;
     is_written::<v2::Vector>(
         &rt,
         alloc,
@@ -67,6 +73,7 @@ fn values_that_are_no_strings_stand_for_nothing(rt: HostRuntime) -> Result<(), F
         Value::from(Map::new(alloc)),
     ];
     for value in &values {
+        assert!(rt; Cvss::from_value(alloc, value) == Err(JsonError::NotAString));
         assert!(rt; Severity::from_value(alloc, value) == Err(JsonError::NotAString));
         assert!(rt; v4::Nomenclature::from_value(alloc, value) == Err(JsonError::NotAString));
         assert!(rt; v2::Vector::from_value(alloc, value) == Err(JsonError::NotAString));
@@ -104,6 +111,12 @@ fn strings_whose_texts_are_refused_stand_for_nothing(rt: HostRuntime) -> Result<
         alloc,
         "cvss-b",
         "invalid CVSSv4 nomenclature: `cvss-b`",
+    )?;
+    is_refused::<Cvss>(
+        &rt,
+        alloc,
+        "CVSS:3.1",
+        "invalid CVSS metric group component: `CVSS:3.1`",
     )?;
     is_refused::<v2::Vector>(
         &rt,

@@ -1,8 +1,9 @@
-//! Answers lines of CVSS v4 vectors, to be compared with the answers that the Rust crate gives.
+//! Answers lines by the rules of CVSS v2 alone, to be compared with the answers that the Rust crate
+//! gives.
 #![tactic(auto)]
 
 use cvss::ONE;
-use cvss::v4::Vector;
+use cvss::v2::Vector;
 use std::io;
 use std::io::{BufRead, BufReader};
 
