@@ -13,7 +13,6 @@ fn main(rt: HostRuntime) -> io::Result<()> {
     Ok(())
 }
 
-#[tactic(auto, using(crate::proofs::ScoreLemmas::has_score))]
 fn answer(rt: &(impl Print + AllocGlobal), line: &str) -> io::Result<()> {
     match Cvss::from_str(rt.alloc(), line) {
         Ok(vector) => {
