@@ -1,11 +1,11 @@
 mod AnswerLemmas
 pub mod CanonicalLemmas
-mod ComponentLemmas
-mod DenotesLemmas
+pub mod ComponentLemmas
+pub mod DenotesLemmas
 pub mod ExactLemmas
 mod FindLemmas
 pub mod FrontLemmas
-mod JoinLemmas
+pub mod JoinLemmas
 pub mod LawLemmas
 mod ListingLemmas
 pub mod MissingLemmas
@@ -15,11 +15,11 @@ mod PieceLemmas
 mod PlainLemmas
 pub mod PrintLemmas
 pub mod PutLemmas
-mod RefusalLemmas
+pub mod RefusalLemmas
 pub mod RoundingLemmas
 mod StandardFacts
 mod SameLemmas
 mod TextLemmas
 mod TypeLemmas
 mod Utf8Lemmas
-mod WalkLemmas
+pub mod WalkLemmas
