@@ -1,12 +1,12 @@
 //! An organisation's own environmental metrics in place of a vector's (v4.0 specification,
 //! section 4).
 
-ghost use Rattle.std.specs.Prelude.{◌≡◌, ◌↔◌, IsTrue, Some, Contains, IfOk, IfErr, OnOk, IsOk, IsErrAnd, ℕ, map};
+ghost use Rattle.std.specs.Prelude.{◌≡◌, ◌↔◌, IsTrue, Some, Contains, IfOk, IfErr, OnOk, IsOk, IsErrAnd, ℕ, length, map};
 ghost use Rattle.std.specs.Str.{IsUtf8};
 ghost use Rattle.cvss_base.specs.Text.{IsComponent};
 ghost use Rattle.cvss_base.specs.Version.{IsComplete};
 ghost use Rattle.cvss_v4_metric.specs.Table.{environmental};
-ghost use Rattle.cvss_v4.specs.Overriding.{AreOverrides, IsOverridden, Objection, IsFirstObjection, TellsObjection, TellsFirstObjection, override_error_text};
+ghost use Rattle.cvss_v4.specs.Overriding.{AreOverrides, IsOverridden, Objection, HasNoObjectionBefore, IsFirstObjection, TellsObjection, TellsFirstObjection, override_error_text};
 ghost use Rattle.cvss_v4.specs.OverridingSteps.{AddsOverride, IsObjectionTo, IsTellableFault, objection_of};
 ghost use Rattle.cvss_v4.specs.Vector.{v4};
 ghost use Rattle.cvss_v4.specs.declared.vector.overriding.OverrideFault.TheVariants.{Component};
@@ -73,6 +73,9 @@ impl Vector {
         ensures accepted { IfOk result (AreOverrides (map (λ text. text.now) overrides.now)) }
         ensures accepts { (vector : Vector)
             → AreOverrides (map (λ text. text.now) overrides.now) vector → IsOk result }
+        ensures faultless { OnOk result
+            (HasNoObjectionBefore (map (λ text. text.now) overrides.now)
+            (length (map (λ text. text.now) overrides.now))) }
         // Refused: the first text with which something is wrong, and wherever there is one.
         ensures refused { IfErr result
             (TellsFirstObjection (map (λ text. text.now) overrides.now)) }

@@ -50,5 +50,8 @@ all_read c =
 pub returns-clause-accepted : goal.returns-clause-accepted
 returns-clause-accepted c = AreOverrides-all (texts_of c.args.overrides.now) c.loop-index.vector (all_read c)
 
+pub returns-clause-faultless : goal.returns-clause-faultless
+returns-clause-faultless c = (all_read c).faultless
+
 pub returns-clause-refuses : goal.returns-clause-refuses
 returns-clause-refuses c = λ place objection is. absurd ((all_read c).faultless.none place objection is.within is.is)
