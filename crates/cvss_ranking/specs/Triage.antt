@@ -7,17 +7,19 @@ use Rattle.std.specs.declared.cmp.Ordering.{Ordering}
 use Rattle.cvss.specs.MergingV4.{effective_of}
 use Rattle.cvss.specs.OverridingV4.{AreOverrides, IsOverridden}
 use Rattle.cvss.specs.ScoresV4.{IsScore}
-use Rattle.cvss.specs.Tenths.{IsInTenths}
+use Rattle.cvss.specs.Tenths.{IsInTenths, IsFromZeroToTen}
 use Rattle.cvss.specs.VectorTypeV4.{Vector}
 use Rattle.cvss.specs.VectorV4.{v4}
 use Rattle.cvss.specs.Version.{canonical_text, Denotes, IsWellFormed}
 use Rattle.cvss_ranking.specs.declared.row.Row.{Row}
 
--- the row has the text as it was given, and the canonical text and the score of the vector
+-- the row has the text as it was given, and the canonical text and the score of the vector, which is a
+-- whole number of tenths from 0 to 10
 pub record IsRowOf (text : List ℕ) (vector : Vector) (row : Row) : Type 0 where
   pub text_is : string_bytes row.text ≡ text
   pub scored_is : string_bytes row.scored ≡ canonical_text v4 vector
   pub score_is : IsInTenths (IsScore (effective_of vector)) row.score
+  pub range : IsInTenths IsFromZeroToTen row.score
 
 -- the row of a text, whose vector is scored with the overrides in place
 pub record IsRow (overrides : Vector) (text : List ℕ) (row : Row) : Type 0 where
