@@ -2,7 +2,8 @@
 
 use cvss::v4::MetricType;
 use cvss::{Error, ONE, Severity};
-use cvss_ranking::{Row, TriageError, apply};
+use cvss_ranking::{TriageError, apply};
+use std::alloc::Global;
 use std::process::Abort;
 use std::test::Fail;
 
@@ -10,65 +11,68 @@ const LOW: &str = "CVSS:4.0/AV:N/AC:L/AT:N/PR:H/UI:N/VC:L/VI:L/VA:N/SC:N/SI:N/SA
 
 const LOW_WITH_SAFETY: &str = "CVSS:4.0/AV:N/AC:L/AT:N/PR:H/UI:N/VC:L/VI:L/VA:N/SC:N/SI:N/SA:N/S:P";
 
+const LOW_AT_SAFETY: &str = "CVSS:4.0/AV:N/AC:L/AT:N/PR:H/UI:N/VC:L/VI:L/VA:N/SC:N/SI:N/SA:N/MSI:S";
+
+const NONE_AT_SAFETY: &str =
+    "CVSS:4.0/AV:N/AC:L/AT:N/PR:N/UI:N/VC:N/VI:N/VA:N/SC:N/SI:N/SA:N/MSI:S";
+
+const LOWER_CASE: &str = "CVSS:4.0/sa:n/si:n/sc:n/va:n/vi:n/vc:n/ui:n/pr:n/at:n/ac:l/av:n";
+
 const NONE: &str = "CVSS:4.0/AV:N/AC:L/AT:N/PR:N/UI:N/VC:N/VI:N/VA:N/SC:N/SI:N/SA:N";
 
 /// The text, the canonical text that is scored, and the tenths of the score.
 type Expected = (&'static str, &'static str, i128);
 
-fn are_rows(rt: &impl Abort, rows: &[Row], expected: &[Expected]) {
+/// Ranks texts, and compares the rows.
+fn are_ranked(
+    rt: &impl Abort,
+    alloc: Global,
+    texts: &[&str],
+    overrides: &[&str],
+    expected: &[Expected],
+) -> Result<(), Fail> {
+    let rows = apply(alloc, texts, overrides)?;
     assert_eq!(rt; rows.len(), expected.len());
     for (row, (text, scored, tenths)) in rows.iter().zip(expected) {
         assert_eq!(rt; row.text.as_str(), *text);
         assert_eq!(rt; row.scored.as_str(), *scored);
         assert_eq!(rt; row.score, *tenths * (ONE / 10));
     }
+    Ok(())
+}
+
+/// Ranks texts, and compares what the refusal says.
+fn is_told(
+    rt: &impl Abort,
+    alloc: Global,
+    texts: &[&str],
+    overrides: &[&str],
+    told: &str,
+) -> Result<(), Fail> {
+    match apply(alloc, texts, overrides) {
+        Ok(_) => assert!(rt; false, "{told}"),
+        Err(error) => assert_eq!(rt; error.to_string(alloc)?.as_str(), told),
+    }
+    Ok(())
 }
 
 #[test]
 fn ranks_by_score_and_then_by_text(rt: HostRuntime) -> Result<(), Fail> {
-    let cases: [(&[&str], &[&str], &[Expected]); 5] = [
-        (&[], &[], &[]),
-        (&[LOW, NONE], &[], &[(LOW, LOW, 51), (NONE, NONE, 0)]),
-        (
-            &[LOW, NONE],
-            &["msi:s"],
-            &[
-                (
-                    NONE,
-                    "CVSS:4.0/AV:N/AC:L/AT:N/PR:N/UI:N/VC:N/VI:N/VA:N/SC:N/SI:N/SA:N/MSI:S",
-                    89,
-                ),
-                (
-                    LOW,
-                    "CVSS:4.0/AV:N/AC:L/AT:N/PR:H/UI:N/VC:L/VI:L/VA:N/SC:N/SI:N/SA:N/MSI:S",
-                    78,
-                ),
-            ],
-        ),
-        (
-            &[LOW_WITH_SAFETY, LOW, LOW],
-            &[],
-            &[
-                (LOW, LOW, 51),
-                (LOW, LOW, 51),
-                (LOW_WITH_SAFETY, LOW_WITH_SAFETY, 51),
-            ],
-        ),
-        (
-            &["CVSS:4.0/sa:n/si:n/sc:n/va:n/vi:n/vc:n/ui:n/pr:n/at:n/ac:l/av:n"],
-            &[],
-            &[(
-                "CVSS:4.0/sa:n/si:n/sc:n/va:n/vi:n/vc:n/ui:n/pr:n/at:n/ac:l/av:n",
-                NONE,
-                0,
-            )],
-        ),
+    let alloc = rt.alloc();
+    are_ranked(&rt, alloc, &[], &[], &[])?;
+    let expected = [(LOW, LOW, 51), (NONE, NONE, 0)];
+    are_ranked(&rt, alloc, &[LOW, NONE], &[], &expected)?;
+    are_ranked(&rt, alloc, &[NONE, LOW], &[], &expected)?;
+    let expected = [(NONE, NONE_AT_SAFETY, 89), (LOW, LOW_AT_SAFETY, 78)];
+    are_ranked(&rt, alloc, &[LOW, NONE], &["msi:s"], &expected)?;
+    let expected = [
+        (LOW, LOW, 51),
+        (LOW, LOW, 51),
+        (LOW_WITH_SAFETY, LOW_WITH_SAFETY, 51),
     ];
-    for (texts, overrides, expected) in cases {
-        let rows = apply(rt.alloc(), texts, overrides)?;
-        are_rows(&rt, &rows, expected);
-    }
-    Ok(())
+    are_ranked(&rt, alloc, &[LOW_WITH_SAFETY, LOW, LOW], &[], &expected)?;
+    let expected = [(LOWER_CASE, NONE, 0)];
+    are_ranked(&rt, alloc, &[LOWER_CASE], &[], &expected)
 }
 
 #[test]
@@ -87,79 +91,43 @@ fn puts_each_environmental_metric_in_place(rt: HostRuntime) -> Result<(), Fail> 
          MAC:L/MAT:P/MPR:H/MUI:A/MVC:H/MVI:H/MVA:N/MSC:H/MSI:S/MSA:H/S:N/AU:N/R:I/V:C/RE:H/U:Green",
     ];
     for text in texts {
-        let rows = apply(rt.alloc(), &[text], &overrides)?;
-        are_rows(&rt, &rows, &[(text, scored, 42)]);
-        assert!(rt; rows[0].severity() == Severity::Medium, "{text}");
+        are_ranked(&rt, rt.alloc(), &[text], &overrides, &[(text, scored, 42)])?;
+        for row in &apply(rt.alloc(), &[text], &overrides)? {
+            assert!(rt; row.severity() == Severity::Medium, "{text}");
+        }
     }
     Ok(())
 }
 
 #[test]
-fn tells_the_first_fault(rt: HostRuntime) -> Result<(), Fail> {
-    let cases: [(&[&str], &[&str], &str); 11] = [
-        (
-            &[LOW],
-            &["E:Q"],
-            "override 0: no environmental CVSSv4 metric",
-        ),
-        (
-            &[LOW],
-            &["av:n"],
-            "override 0: no environmental CVSSv4 metric",
-        ),
-        (
-            &[],
-            &["mav:n", "MAV:q"],
-            "override 1: invalid CVSSv4 MAV (Modified Attack Vector) metric: `Q`",
-        ),
-        (
-            &[],
-            &["mav:n", "MAV:P"],
-            "override 1: duplicate CVSSv4 MAV (Modified Attack Vector) metric",
-        ),
-        (
-            &["x"],
-            &["MAV:N/MAC:L"],
-            "override 0: invalid CVSS metric group component: `MAV:N/MAC:L`",
-        ),
-        (
-            &["x"],
-            &["cr:h", "ee:q:"],
-            "override 1: invalid CVSS metric group component: `ee:q:`",
-        ),
-        (
-            &[LOW],
-            &["cr:h", "ee:q", "e:q", ""],
-            "override 1: unknown CVSS metric name: `EE`",
-        ),
-        (
-            &[LOW],
-            &["cr:h", "s:n", "ee:q"],
-            "override 1: no environmental CVSSv4 metric",
-        ),
-        (
-            &[LOW, "CVSS:4.0"],
-            &["CR:H"],
-            "text 1: missing mandatory CVSSv4 AC (Attack Complexity) metric",
-        ),
-        (
-            &[LOW, "", "CVSS:3.1/AV:N"],
-            &["CR:H"],
-            "text 1: invalid CVSS metric group component: ``",
-        ),
-        (
-            &["CVSS:3.1/AV:N", ""],
-            &[],
-            "text 0: unsupported CVSS version: 3.1",
-        ),
-    ];
-    for (texts, overrides, told) in cases {
-        match apply(rt.alloc(), texts, overrides) {
-            Ok(_) => assert!(rt; false, "{told}"),
-            Err(error) => assert_eq!(rt; error.to_string(rt.alloc())?.as_str(), told),
-        }
-    }
-    Ok(())
+fn tells_the_first_refused_override(rt: HostRuntime) -> Result<(), Fail> {
+    let alloc = rt.alloc();
+    let other_group = "override 0: no environmental CVSSv4 metric";
+    is_told(&rt, alloc, &[LOW], &["E:Q"], other_group)?;
+    is_told(&rt, alloc, &[LOW], &["av:n"], other_group)?;
+    let told = "override 1: invalid CVSSv4 MAV (Modified Attack Vector) metric: `Q`";
+    is_told(&rt, alloc, &[], &["mav:n", "MAV:q"], told)?;
+    let told = "override 1: duplicate CVSSv4 MAV (Modified Attack Vector) metric";
+    is_told(&rt, alloc, &[], &["mav:n", "MAV:P"], told)?;
+    let told = "override 0: invalid CVSS metric group component: `MAV:N/MAC:L`";
+    is_told(&rt, alloc, &["x"], &["MAV:N/MAC:L"], told)?;
+    let told = "override 1: invalid CVSS metric group component: `ee:q:`";
+    is_told(&rt, alloc, &["x"], &["cr:h", "ee:q:"], told)?;
+    let told = "override 1: unknown CVSS metric name: `EE`";
+    is_told(&rt, alloc, &[LOW], &["cr:h", "ee:q", "e:q", ""], told)?;
+    let told = "override 1: no environmental CVSSv4 metric";
+    is_told(&rt, alloc, &[LOW], &["cr:h", "s:n", "ee:q"], told)
+}
+
+#[test]
+fn tells_the_first_refused_text(rt: HostRuntime) -> Result<(), Fail> {
+    let alloc = rt.alloc();
+    let told = "text 1: missing mandatory CVSSv4 AC (Attack Complexity) metric";
+    is_told(&rt, alloc, &[LOW, "CVSS:4.0"], &["CR:H"], told)?;
+    let told = "text 1: invalid CVSS metric group component: ``";
+    is_told(&rt, alloc, &[LOW, "", "CVSS:3.1/AV:N"], &["CR:H"], told)?;
+    let told = "text 0: unsupported CVSS version: 3.1";
+    is_told(&rt, alloc, &["CVSS:3.1/AV:N", ""], &[], told)
 }
 
 #[test]
