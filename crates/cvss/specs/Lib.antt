@@ -30,8 +30,10 @@ pub use Rattle.cvss_v3.specs.declared.vector.Vector as VectorTypeV3
 pub use Rattle.cvss_v4.specs.Merging as MergingV4
 pub use Rattle.cvss_v4.specs.MergingLaws as MergingLawsV4
 pub use Rattle.cvss_v4.specs.Nomenclature as NomenclatureV4
+pub use Rattle.cvss_v4.specs.Overriding as OverridingV4
 pub use Rattle.cvss_v4.specs.ScoreText as ScoreTextV4
 pub use Rattle.cvss_v4.specs.Scores as ScoresV4
 pub use Rattle.cvss_v4.specs.Vector as VectorV4
 pub use Rattle.cvss_v4.specs.declared.nomenclature.Nomenclature as NomenclatureTypeV4
 pub use Rattle.cvss_v4.specs.declared.vector.Vector as VectorTypeV4
+pub use Rattle.cvss_v4.specs.declared.vector.overriding.OverrideError as OverrideErrorTypeV4

@@ -9,6 +9,8 @@ mod errors;
 #[cfg(test)]
 mod json;
 #[cfg(test)]
+mod triage;
+#[cfg(test)]
 mod v2;
 #[cfg(test)]
 mod v3;
