@@ -21,7 +21,7 @@ const LOWER_CASE: &str = "CVSS:4.0/sa:n/si:n/sc:n/va:n/vi:n/vc:n/ui:n/pr:n/at:n/
 const NONE: &str = "CVSS:4.0/AV:N/AC:L/AT:N/PR:N/UI:N/VC:N/VI:N/VA:N/SC:N/SI:N/SA:N";
 
 /// The text, the canonical text that is scored, and the tenths of the score.
-type Expected = (&'static str, &'static str, i128);
+type Expected = (&'static str, &'static str, u8);
 
 /// Ranks texts, and compares the rows.
 fn are_ranked(
@@ -36,7 +36,7 @@ fn are_ranked(
     for (row, (text, scored, tenths)) in rows.iter().zip(expected) {
         assert_eq!(rt; row.text.as_str(), *text);
         assert_eq!(rt; row.scored.as_str(), *scored);
-        assert_eq!(rt; row.score, *tenths * (ONE / 10));
+        assert_eq!(rt; row.score, *tenths as i128 * (ONE / 10));
     }
     Ok(())
 }
