@@ -1,4 +1,4 @@
-"""Answers the stored lines of the folders that are given, and compares each answer with the stored one."""
+"""Answers the lines of the files NAME.lines in a folder, and compares each answer with that in NAME.answers."""
 
 import sys
 from pathlib import Path
@@ -17,18 +17,18 @@ def parsed(line: bytes) -> str:
 
 def main() -> int:
     count, wrong = 0, 0
-    for folder in map(Path, sys.argv[1:]):
-        lines = (folder / "stdin").read_bytes().splitlines()
-        answers = (folder / "stdout").read_text().splitlines()
+    for stored in sorted(Path(sys.argv[1]).glob("*.lines")):
+        lines = stored.read_bytes().splitlines()
+        answers = stored.with_suffix(".answers").read_text().splitlines()
         if len(lines) != len(answers):
-            sys.exit(f"{folder}: {len(lines)} lines and {len(answers)} answers")
+            sys.exit(f"{stored}: {len(lines)} lines and {len(answers)} answers")
         for line, expected in zip(lines, answers):
             count += 1
             for told in (answer(line), parsed(line)):
                 if told != expected:
                     wrong += 1
                     print(f"{line!r}: {told!r}, and not {expected!r}")
-    print(f"python: {count} lines, {wrong} wrong answers")
+    print(f"Python: {count} lines, {wrong} wrong answers")
     return 1 if wrong or not count else 0
 
 

@@ -6,16 +6,20 @@ from typing import Callable, List
 
 from cvss_proved import Vector, answer
 
-ROUNDS = 20
+ROUNDS = 50
 
 
 def print_time(name: str, lines: List[str], call: Callable[[str], object]) -> None:
-    start = time.perf_counter_ns()
-    for _ in range(ROUNDS):
+    """Of the rounds the fastest, which other programs on the machine have disturbed least."""
+
+    def taken() -> int:
+        start = time.perf_counter_ns()
         for line in lines:
             call(line)
-    taken = time.perf_counter_ns() - start
-    print(f"Python: {name} {taken / ROUNDS / len(lines):.0f} ns ({len(lines)} lines)")
+        return time.perf_counter_ns() - start
+
+    least = min(taken() for _ in range(ROUNDS))
+    print(f"Python: {name} {least / len(lines):.0f} ns ({len(lines)} lines)")
 
 
 if __name__ == "__main__":

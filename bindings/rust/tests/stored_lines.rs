@@ -4,29 +4,23 @@ use cvss_proved::{answer, Cvss, Nomenclature, Severity, Version};
 use std::fs;
 use std::path::{Path, PathBuf};
 
-/// The folders of programs whose lines and answers are stored.
-fn stored_folders() -> Vec<PathBuf> {
-    let crates = Path::new(env!("CARGO_MANIFEST_DIR")).join("../../crates");
-    fs::read_dir(crates)
-        .unwrap()
-        .map(|entry| entry.unwrap())
-        .filter(|entry| {
-            entry
-                .file_name()
-                .to_string_lossy()
-                .starts_with("cvss_vectors")
-        })
-        .map(|entry| entry.path())
+/// The files of stored lines, which `bindings/test` gathers from the repository.
+fn stored_files() -> Vec<PathBuf> {
+    let folder = Path::new(env!("CARGO_MANIFEST_DIR")).join("../out/stored");
+    fs::read_dir(folder)
+        .expect("bindings/test gathers the stored lines")
+        .map(|entry| entry.unwrap().path())
+        .filter(|path| path.extension().is_some_and(|name| name == "lines"))
         .collect()
 }
 
 #[test]
 fn stored_lines_have_their_answers() {
-    let folders = stored_folders();
-    assert!(!folders.is_empty());
-    for folder in folders {
-        let lines = fs::read_to_string(folder.join("stdin")).unwrap();
-        let answers = fs::read_to_string(folder.join("stdout")).unwrap();
+    let files = stored_files();
+    assert!(!files.is_empty());
+    for file in files {
+        let lines = fs::read_to_string(&file).unwrap();
+        let answers = fs::read_to_string(file.with_extension("answers")).unwrap();
         assert_eq!(lines.lines().count(), answers.lines().count());
         for (line, expected) in lines.lines().zip(answers.lines()) {
             assert_eq!(answer(line.as_bytes()), expected, "{line}");

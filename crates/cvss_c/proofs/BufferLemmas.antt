@@ -1,26 +1,16 @@
 -- A buffer, as one text after another is written into it.
-use Rattle.std.proofs.Common.{◌≡◌, ℕ, ◌+◌, ◌<◌, ◌≤◌, List, [], ◌∷◌, ◌++◌, length, get_or, take, refl, sym, ap, ◌∙◌, subst, append_assoc, append-nil}
-use Rattle.std.specs.List.{flat_map}
-use Rattle.std.proofs.lemmas.List.{take_more, flat_map_more}
+use Rattle.std.proofs.Common.{◌≡◌, ℕ, ◌+◌, ◌<◌, ◌≤◌, List, [], length, get_or, take, Some, unwrap_or, refl, sym, ap, subst}
 use Rattle.std.proofs.lemmas.List.Folds.{length-flat_map-take}
-use Rattle.cvss_base.specs.Printing.{slashed_text, slashed_texts}
-use Rattle.cvss_base.specs.Version.{Version}
+use Rattle.cvss_base.specs.Printing.{slashed, slashed_text, slashed_texts}
+use Rattle.cvss_base.specs.Version.{Version, component_of}
 use Rattle.std.proofs.lemmas.Bool.{le-leb, lt-leb}
-use Rattle.cvss_c.specs.Buffer.{HasPut, IsWritten, Puts}
+use Rattle.cvss_c.specs.Buffer.{HasPut, IsWritten}
 
--- one text, and then another
-pub Puts-then : (first second before between after : List ℕ) (from at to : ℕ) → Puts first before from between at → Puts second between at after to → Puts (first ++ second) before from after to
-Puts-then first second before between after from at to one other old done has =
-    subst (λ text. HasPut old text after to) (append_assoc done first second) (other old (done ++ first) (one old done has))
+-- the text of a component behind a slash
+pub slashed_text-some : {V K : Type 0} (version : Version V K) (v : V) (kind : K) (text : List ℕ) → Some text ≡ slashed (component_of version v kind) → text ≡ slashed_text version v kind
+slashed_text-some version v kind text is = ap (λ o. unwrap_or o []) is
 
 module _ {V K : Type 0} (version : Version V K) (v : V) (kinds : List K) (i : ℕ) (kind : K) (within : i < length kinds) (is : kind ≡ get_or kinds i kind) where
-  -- one component more
-  pub slashed_texts-more : slashed_texts version v (take (i + 1) kinds) ≡ slashed_texts version v (take i kinds) ++ slashed_text version v kind
-  slashed_texts-more =
-      ap (slashed_texts version v) (take_more kinds i kind within)
-      ∙ ap (λ each. slashed_texts version v (take i kinds ++ each ∷ [])) (sym is)
-      ∙ sym (flat_map_more (slashed_text version v) [] (take i kinds) kind)
-
   -- the components so far and one more are no longer than all of them
   pub slashed_texts-fit : length (slashed_texts version v (take i kinds)) + length (slashed_text version v kind) ≤ length (slashed_texts version v kinds)
   slashed_texts-fit =

@@ -1,5 +1,5 @@
 -- The scores of a vector as C sees them: whole tenths, and numbers for versions, ratings and nomenclatures.
-use Rattle.std.specs.Prelude.{◌≡◌, ◌*ℤ◌, ◌^◌, ℕ, ℤ, pos, negsuc}
+use Rattle.std.specs.Prelude.{◌≡◌, ◌*ℤ◌, ◌^◌, ℤ, pos, negsuc}
 use Rattle.cvss.specs.declared.vector.Cvss.{Cvss}
 use Rattle.cvss.specs.declared.vector.Cvss.TheVariants.{CvssV20, CvssV30, CvssV31, CvssV40}
 use Rattle.cvss.specs.MergingV4.{effective_of}

@@ -1,4 +1,4 @@
-use Rattle.std.proofs.Common.{◌≡◌, ◌+◌, ◌++◌, length, ap, arith, length-append}
+use Rattle.std.proofs.Common.{◌≡◌, ◌+◌, ◌++◌, length, arith, length-append}
 use Rattle.cvss.specs.Answers.{text_of}
 use Rattle.cvss_c.specs.Answers.{rating_text}
 use Rattle.cvss_c.proofs.AnswerLemmas.{IsAnswerOf-rated}

@@ -1,7 +1,6 @@
-use Rattle.std.proofs.Common.{◌≡◌, ◌+◌, ◌/◌, ◌%◌, ◌≤◌, length, ap, arith, length-append}
+use Rattle.std.proofs.Common.{◌≡◌, ◌/◌, ◌%◌, ◌≤◌, length, ap, arith, length-append}
 use Rattle.std.specs.Fmt.{decimal}
 use Rattle.std.proofs.lemmas.Fmt.{length-decimal-le}
-use Rattle.cvss.specs.SeverityText.{text_of as severity_text}
 use Rattle.cvss_c.proofs.RatingLemmas.{length-digit, severity_text-short}
 use Rattle.cvss_c.proofs.answer.rating_length.Goals as goal
 

@@ -1,6 +1,4 @@
-use Rattle.std.proofs.Common.{◌≡◌, length, ap, arith}
-use Rattle.cvss.specs.Answers.{text_of}
-use Rattle.cvss.specs.Dispatch.{DenotesCvss}
+use Rattle.std.proofs.Common.{length, ap, arith}
 use Rattle.cvss.specs.VectorV3.{v3}
 use Rattle.cvss.specs.VectorV4.{v4}
 use Rattle.cvss_c.proofs.CanonicalLemmas.{text_from_front, front_v30, front_v31, front_v40}
