@@ -1,17 +1,16 @@
 #!/usr/bin/env bash
 # Counts the instructions that the built program takes for a line, by valgrind's callgrind: those of
-# a run over the lines, less those of a run over no line, divided by the number of lines.
-# usage: bench/instructions.sh base|full [COUNT]
+# a run over the lines, less those of a run over no line, divided by the number of lines. Prints a
+# row of a table for each version and kind of line: the kind, the bytes of a line, the instructions.
+# With PROFILE=1 it also prints where the instructions go.
+# usage: bench/instructions.sh [COUNT [VERSION KIND]]
 set -eu
 cd "$(dirname "$0")"
-kind=$1
-count=${2:-2000}
+count=${1:-2000}
 program=../crates/cvss_tool/out/cvss_tool
-[ -x "$program" ] || { echo "build it first: cd crates/cvss_tool && rt run" >&2; exit 2; }
+[ -x "$program" ] || { echo "build it first: cd crates/cvss_tool && rt run < stdin" >&2; exit 2; }
 room=$(mktemp -d)
 trap 'rm -rf "$room"' EXIT
-python3 lines.py "$kind" "$count" > "$room/lines"
-python3 reference.py < "$room/lines" > "$room/expected"
 : > "$room/none"
 
 instructions() {
@@ -20,8 +19,21 @@ instructions() {
     sed -n 's/.*Collected : //p' "$room/log"
 }
 
+row() {
+    python3 -B lines.py "$1" "$2" "$count" > "$room/lines"
+    python3 -B reference.py < "$room/lines" > "$room/expected"
+    all=$(instructions "$room/lines")
+    cmp "$room/answers" "$room/expected" || { echo "$1 $2: the answers are wrong" >&2; exit 1; }
+    echo "| $1 $2 | $(( $(wc -c < "$room/lines") / count )) | $(( (all - start) / count )) |"
+    [ -z "${PROFILE:-}" ] || callgrind_annotate "$room/profile" | head -60
+}
+
 start=$(instructions "$room/none")
-all=$(instructions "$room/lines")
-cmp "$room/answers" "$room/expected" || { echo "the answers are wrong" >&2; exit 1; }
-echo "$kind: $(( (all - start) / count )) instructions a line over $count lines"
-[ -z "${PROFILE:-}" ] || callgrind_annotate "$room/profile" | head -60
+if [ $# -ge 3 ]; then
+    row "$2" "$3"
+else
+    for version in v2 v3.1 v4; do
+        row "$version" base
+        row "$version" full
+    done
+fi

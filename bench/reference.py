@@ -1,133 +1,123 @@
 #!/usr/bin/env python3
-"""A second implementation of CVSS v2 lines, on fractions, written from the guide alone.
+"""A second implementation of the lines of all versions, on fractions, written from the public
+standards alone.
 
 Reads lines on standard input and writes the answer to each on standard output. It shares no code
 with the crates: its answers are expected values for them.
 """
 import sys
-from fractions import Fraction
 
-IMPACT = {"N": "0", "P": "0.275", "C": "0.660"}
-REQUIREMENT = {"L": "0.5", "M": "1", "H": "1.51", "ND": "1"}
-# In printing order: the name in words, and the weight of each spelling.
-METRICS = {
-    "AV": ("Access Vector", {"L": "0.395", "A": "0.646", "N": "1"}),
-    "AC": ("Access Complexity", {"H": "0.35", "M": "0.61", "L": "0.71"}),
-    "Au": ("Authentication", {"M": "0.45", "S": "0.56", "N": "0.704"}),
-    "C": ("Confidentiality Impact", IMPACT),
-    "I": ("Integrity Impact", IMPACT),
-    "A": ("Availability Impact", IMPACT),
-    "E": ("Exploitability", {"U": "0.85", "POC": "0.9", "F": "0.95", "H": "1", "ND": "1"}),
-    "RL": ("Remediation Level", {"OF": "0.87", "TF": "0.9", "W": "0.95", "U": "1", "ND": "1"}),
-    "RC": ("Report Confidence", {"UC": "0.9", "UR": "0.95", "C": "1", "ND": "1"}),
-    "CDP": ("Collateral Damage Potential",
-            {"N": "0", "L": "0.1", "LM": "0.3", "MH": "0.4", "H": "0.5", "ND": "0"}),
-    "TD": ("Target Distribution", {"N": "0", "L": "0.25", "M": "0.75", "H": "1", "ND": "1"}),
-    "CR": ("Confidentiality Requirement", REQUIREMENT),
-    "IR": ("Integrity Requirement", REQUIREMENT),
-    "AR": ("Availability Requirement", REQUIREMENT),
-}
-MANDATORY = ["AV", "AC", "Au", "C", "I", "A"]
+import v2
+import v3
+import v4
 
 
 class Refused(Exception):
     pass
 
 
-def described(name):
-    return f"CVSSv2 {name} ({METRICS[name][0]}) metric"
+def raised(text):
+    """The text with its ASCII letters in upper case."""
+    return "".join(c.upper() if c.isascii() else c for c in text)
 
 
-def read(text):
-    """The vector as a dictionary, or the first reason why the text is refused."""
+def spelled(metrics, name, value, any_case):
+    """The spelling of the value that is read, if there is one."""
+    return next((spelling for spelling in metrics[name][1]
+                 if (raised(spelling) if any_case else spelling) == value), None)
+
+
+def read_components(version, metrics, mandatory, pieces, any_case=True):
+    """The vector of the components, or the first reason why they are refused."""
+    vector = {}
+    for piece in pieces:
+        name, value = (raised(piece) if any_case else piece).split(":")
+        if name not in metrics:
+            raise Refused(f"unknown CVSS metric name: `{name}`")
+        spelling = spelled(metrics, name, value, any_case)
+        if spelling is None:
+            # A modified metric of v3 is told by the name of its base metric.
+            blamed = name.removeprefix("M") if version == "v3" else name
+            raise Refused(f"invalid CVSS{version} {blamed} ({metrics[blamed][0]}) metric: `{value}`")
+        if name in vector:
+            raise Refused(f"duplicate CVSS{version} {name} ({metrics[name][0]}) metric")
+        vector[name] = spelling
+    for name in mandatory:
+        if name not in vector:
+            raise Refused(f"missing mandatory CVSS{version} {name} ({metrics[name][0]}) metric")
+    return vector
+
+
+def cut(text):
     pieces = text.split("/")
     for piece in pieces:
         if piece.count(":") != 1:
             raise Refused(f"invalid CVSS metric group component: `{piece}`")
-    vector = {}
-    for piece in pieces:
-        name, value = piece.split(":")
-        if name not in METRICS:
-            raise Refused(f"unknown CVSS metric name: `{name}`")
-        if value not in METRICS[name][1]:
-            raise Refused(f"invalid {described(name)}: `{value}`")
-        if name in vector:
-            raise Refused(f"duplicate {described(name)}")
-        vector[name] = value
-    for name in MANDATORY:
-        if name not in vector:
-            raise Refused(f"missing mandatory {described(name)}")
-    return vector
+    return pieces
 
 
-def canonical(vector):
-    return "/".join(f"{name}:{vector[name]}" for name in METRICS if name in vector)
+def canonical(front, metrics, vector):
+    return "/".join(front + [f"{name}:{vector[name]}" for name in metrics if name in vector])
 
 
-def weight(vector, name):
-    """The weight of a metric, where an absent one counts as the guide says."""
-    if name in vector:
-        return Fraction(METRICS[name][1][vector[name]])
-    return Fraction(0 if name in MANDATORY or name == "CDP" else 1)
+def version_told(pieces, versions):
+    """The version that the first piece tells, which has to be one of these."""
+    prefix, version = pieces[0].split(":", 1)
+    if prefix != "CVSS":
+        raise Refused(f"invalid CVSS string prefix: `{prefix}`")
+    if version not in versions:
+        raise Refused(f"unsupported CVSS version: {version}")
+    return version
 
 
-def tenths(x):
-    """The nearest tenth to x + 10^-6, half away from zero, in tenths."""
-    x = (x + Fraction(1, 1_000_000)) * 10
-    sign = -1 if x < 0 else 1
-    return sign * ((2 * abs(x) + 1) // 2)
+def read_v2(text):
+    """The canonical text, the score in tenths and the severity, or the reason of a refusal."""
+    vector = read_components("v2", v2.METRICS, v2.MANDATORY, cut(text), any_case=False)
+    score = v2.scores(vector)[0]
+    return canonical([], v2.METRICS, vector), score, v2.severity(score)
 
 
-def impact(vector, requirements):
-    rests = Fraction(1)
-    for name, requirement in zip("CIA", requirements):
-        wanted = weight(vector, requirement) if requirement else 1
-        rests *= 1 - weight(vector, name) * wanted
-    return Fraction("10.41") * (1 - rests)
+def read_v3(text):
+    """The same of v3, with the base score."""
+    pieces = cut(text)
+    version = version_told(pieces, ("3.0", "3.1"))
+    vector = read_components("v3", v3.METRICS, [], pieces[1:])
+    score = v3.base(int(version[2:]), vector)
+    return canonical(pieces[:1], v3.METRICS, vector), score, v3.severity(score)
 
 
-def base(vector, impact):
-    exploitability = 20 * weight(vector, "AV") * weight(vector, "AC") * weight(vector, "Au")
-    f = Fraction("1.176") if impact else 0
-    return tenths((Fraction("0.6") * impact + Fraction("0.4") * exploitability
-                   - Fraction("1.5")) * f)
+def read_v4(text):
+    """The same of v4."""
+    pieces = cut(text)
+    version_told(pieces, ("4.0",))
+    vector = read_components("v4", v4.METRICS, v4.MANDATORY, pieces[1:])
+    score = v4.score(vector)
+    return canonical(pieces[:1], v4.METRICS, vector), score, v3.severity(score)
 
 
-def temporal(vector, impact):
-    return tenths(Fraction(base(vector, impact), 10) * weight(vector, "E")
-                  * weight(vector, "RL") * weight(vector, "RC"))
-
-
-def environmental(vector):
-    adjusted = min(Fraction(10), impact(vector, ["CR", "IR", "AR"]))
-    score = Fraction(temporal(vector, adjusted), 10)
-    return tenths((score + (10 - score) * weight(vector, "CDP")) * weight(vector, "TD"))
-
-
-def scores(vector):
-    """The published base, temporal and environmental score, in tenths."""
-    own = impact(vector, [None, None, None])
-    return [max(0, score) for score in
-            (base(vector, own), temporal(vector, own), environmental(vector))]
+def read(text):
+    """The same of the version that the text tells, which is v2 where it tells none."""
+    pieces = text.split("/")
+    if len(pieces) == 1 or ":" not in pieces[0]:
+        raise Refused(f"invalid CVSS metric group component: `{pieces[0]}`")
+    if "." not in pieces[0].split(":", 1)[1]:
+        return read_v2(text)
+    version = version_told(pieces, ("3.0", "3.1", "4.0"))
+    return read_v4(text) if version == "4.0" else read_v3(text)
 
 
 def answer(line):
     try:
-        text = line.decode("utf-8")
+        canonical_text, score, severity = read(line.decode("utf-8"))
     except UnicodeDecodeError:
         return "error: not UTF-8"
-    try:
-        vector = read(text)
     except Refused as reason:
         return f"error: {reason}"
-    score = scores(vector)[0]
-    severity = "low" if score < 40 else "medium" if score < 70 else "high"
-    return f"{canonical(vector)} {score // 10}.{score % 10} {severity}"
+    return f"{canonical_text} {score // 10}.{score % 10} {severity}"
 
 
 def main():
-    data = sys.stdin.buffer.read()
-    lines = data.split(b"\n")
+    lines = sys.stdin.buffer.read().split(b"\n")
     if lines[-1] == b"":
         lines.pop()
     for line in lines:

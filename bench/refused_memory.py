@@ -1,9 +1,15 @@
 #!/usr/bin/env python3
-"""Runs the built program once for each request for memory that it makes, and refuses that request.
+"""Runs the built programs once for each request for memory that they make, and refuses that request.
 
-An accepted line has to be answered as ever, and so has a refusal that carries no part of the text;
-a refusal that carries text is itself or `error: out of memory`. Where a buffer can't grow, the
-program ends with status 2, and what it has written are the whole answers of the first lines.
+`cvss_tool` answers lines: an accepted line has to be answered as ever, and so has a refusal that
+carries no part of the text; a refusal that carries text is itself or `error: out of memory`. Where
+a buffer can't grow, the program ends with status 2, and what it has written are the whole answers
+of the first lines.
+
+`cvss_json` reads and writes JSON strings and copies errors, and tells each step apart: building the
+string, and writing one, may lack memory; reading one that is accepted may not, and reading one that
+is refused, and copying the error, may only where the refusal carries text.
+
 It needs cc beside the toolchain and python3.
 
 usage: bench/refused_memory.py
@@ -13,10 +19,9 @@ import subprocess
 import sys
 import tempfile
 
-from reference import answer
+import reference
 
 HERE = os.path.dirname(os.path.abspath(__file__))
-PROGRAM = os.path.join(HERE, "../crates/cvss_tool/out/cvss_tool")
 
 SHIM = r"""
 #define _GNU_SOURCE
@@ -53,32 +58,99 @@ void *realloc(void *old, size_t size)
 }
 """
 
-# Accepted and refused lines, those that carry text and those that don't, and one that is cut.
-LINES = [
-    b"AV:N/AC:L/Au:N/C:N/I:N/A:C",
-    b"garbage",
-    b"AV:L/AC:H/Au:M/C:P/I:C/A:N/E:POC/RL:OF/TD:ND",
-    b"AV:N/AV:N",
-    b"TD:ND",
-    b"AV:N/AC:" + b"q" * 300,
-    b"AV:N/" + b"Q" * 70_000 + b":N",
-    b"\xff",
-    b"A:C/I:N/C:N/Au:N/AC:L/AV:N",
+# Texts by the version that reads them: accepted, and refused with each kind of error.
+V2 = [
+    "AV:N/AC:L/Au:N/C:N/I:N/A:C",
+    "AV:L/AC:H/Au:M/C:P/I:C/A:N/E:POC/RL:OF/TD:ND",
+    "A:C/I:N/C:N/Au:N/AC:L/AV:N",
+    "AV:N/AC:L:M",
+    "AV:N/" + "Q" * 70_000 + ":N",
+    "AV:N/AC:" + "q" * 300,
+    "AV:N/AV:N",
+    "TD:ND/AV:N",
 ]
+V3 = [
+    "CVSS:3.0/AV:N/AC:L/PR:N/UI:R/S:C/C:H/I:H/A:H",
+    "CVSS:3.1/ma:n/mc:x/av:n/rc:r/s:c/ir:h",
+    "CVSS:3.1/AV:N/garbage",
+    "CVSS:3.1/" + "q" * 300 + ":N",
+    "CVSS:3.1/MAV:" + "q" * 300,
+    "CVSS:3.1/AV:N/av:l",
+]
+V4 = [
+    "CVSS:4.0/AV:N/AC:L/AT:N/PR:N/UI:N/VC:L/VI:H/VA:N/SC:N/SI:N/SA:N/E:P",
+    "CVSS:4.0/u:red/sa:n/si:n/sc:n/va:n/vi:l/vc:l/ui:n/pr:h/at:n/ac:l/av:n",
+    "CVSS:4.0/AV:N/:",
+    "CVSS:4.0/AV:N/AC",
+    "CVSS:4.0/U:" + "r" * 300,
+    "CVSS:4.0/AV:N/av:l",
+    "CVSS:4.0/AV:N",
+]
+ANY = ["garbage", "CVSS:3.1", "CSS:4.0/AV:N", "CVSS:5.0/AV:N", "CVSS:4/AV:N"]
+# The texts of one line each, one that is no text, and at last one without an end.
+LINES = [text.encode() for text in V2[3:] + ANY] + [b"\xff", b"\r"] + [
+    text.encode() for text in V3 + V4 + V2[:3]]
+
+RATINGS = ["none", "low", "medium", "high", "critical"]
+NOMENCLATURES = ["CVSS-B", "CVSS-BE", "CVSS-BT", "CVSS-BTE"]
 
 
-def may_lack_memory(expected):
-    return expected.startswith("error: ") and "`" in expected
+def rating(text):
+    if text.lower() not in RATINGS:
+        raise reference.Refused(f"invalid CVSS Qualitative Severity Rating: `{text}`")
+    return [text.lower()]
 
 
-def run(shim, turn):
-    """The status, the lines written, and whether a request was refused."""
+def nomenclature(text):
+    if text not in NOMENCLATURES:
+        raise reference.Refused(f"invalid CVSSv4 nomenclature: `{text}`")
+    return [text]
+
+
+# What reads the texts of a type, and texts of it.
+TYPES = {
+    "cvss": (reference.read, ANY + V4 + V3 + V2),
+    "v2": (reference.read_v2, V2),
+    "v3": (reference.read_v3, V3 + ANY[1:3]),
+    "v4": (reference.read_v4, V4 + ANY[2:4]),
+    "severity": (rating, ["LOW", "none", "lowest" * 50]),
+    "nomenclature": (nomenclature, NOMENCLATURES + ["cvss-b" * 50]),
+}
+
+
+def lacking(answer, refused, accepted):
+    """The steps that may lack memory for this answer, when the text is refused and when not."""
+    if "error: " not in answer and "from_value: " not in answer:
+        return accepted
+    told = answer.split(": ", 1)[1]
+    return [] if told.startswith(("duplicate", "missing", "not UTF-8")) else refused
+
+
+def answered(line):
+    """What `cvss_tool` answers to a line, and what instead of it where it lacks memory."""
+    answer = reference.answer(line.removesuffix(b"\r"))
+    return [answer] + [f"{step}: out of memory" for step in lacking(answer, ["error"], [])]
+
+
+def converted(read, text):
+    """What `cvss_json` answers to a text, and what instead of it where it lacks memory."""
+    try:
+        answer = read(text)[0]
+    except reference.Refused as reason:
+        answer = f"from_value: {reason}"
+    steps = ["string"] + lacking(answer, ["from_value", "clone"], ["to_value"])
+    return [answer] + [f"{step}: out of memory" for step in steps]
+
+
+def run(shim, program, given, turn):
+    """The status, what was written, and whether a request was refused."""
     read_end, write_end = os.pipe()
     with tempfile.TemporaryFile() as out:
         # The shim tells on the descriptor TOLD that it refused.
         env = dict(os.environ, LD_PRELOAD=shim, REFUSED=str(turn), TOLD=str(write_end))
-        done = subprocess.run([PROGRAM], input=b"\n".join(LINES), stdout=out,
-                              stderr=subprocess.PIPE, pass_fds=[write_end], env=env, check=False)
+        done = subprocess.run([os.path.join(HERE, f"../crates/{program}/out/{program}")],
+                              input=given, stdout=out, stderr=subprocess.PIPE,
+                              pass_fds=[write_end], env=env, check=False)
         os.close(write_end)
         was_refused = os.read(read_end, 1) == b"x"
         os.close(read_end)
@@ -86,37 +158,48 @@ def run(shim, turn):
         return done.returncode, out.read(), was_refused
 
 
-def check(turn, status, written, expected):
+def check(turn, outcome, expected, whole_status, fault_status):
+    """Whether the run ended early, and how many answers lack memory."""
+    status, written, _ = outcome
     answers = written.decode("utf-8").split("\n")
     whole = answers.pop() == ""
-    fits = all(got == want or (got == "error: out of memory" and may_lack_memory(want))
-               for got, want in zip(answers, expected))
-    ends = len(answers) == len(expected) if status == 1 else status == 2
+    fits = all(got in wanted for got, wanted in zip(answers, expected))
+    ends = (status == whole_status if len(answers) == len(expected) else status == fault_status)
     if not (whole and fits and ends and len(answers) <= len(expected)):
         sys.exit(f"turn {turn}: status {status}, wrote {written[:2000]!r}")
-    return status, sum(got != want for got, want in zip(answers, expected))
+    return len(answers) < len(expected), sum(
+        got != wanted[0] for got, wanted in zip(answers, expected))
+
+
+def refuse_in_turn(shim, program, given, expected, whole_status, fault_status):
+    ended = lacked = 0
+    for turn in range(1, 1_000_000):
+        outcome = run(shim, program, given, turn)
+        if not outcome[2]:
+            break
+        early, lacking_answers = check(turn, outcome, expected, whole_status, fault_status)
+        ended += early
+        lacked += lacking_answers
+    ample = run(shim, program, given, 0)
+    if check(0, ample, expected, whole_status, fault_status) != (False, 0):
+        sys.exit(f"{program}: the run with ample memory lacks memory")
+    print(f"{program}: {turn - 1} requests refused in turn over {len(expected)} lines: "
+          f"{ended} runs ended early, {lacked} answers became `out of memory`, all else stayed")
 
 
 def main():
-    expected = [answer(line) for line in LINES]
-    faults = replaced = 0
+    typed = [(kind, text) for kind, (_, texts) in TYPES.items() for text in texts]
     with tempfile.TemporaryDirectory() as room:
         source, shim = os.path.join(room, "refuse.c"), os.path.join(room, "refuse.so")
         with open(source, "w") as file:
             file.write(SHIM)
         subprocess.run(["cc", "-shared", "-fPIC", "-O1", "-o", shim, source, "-ldl"], check=True)
-        for turn in range(1, 100_000):
-            status, written, was_refused = run(shim, turn)
-            if not was_refused:
-                break
-            status, other = check(turn, status, written, expected)
-            faults += status == 2
-            replaced += other
-        status, written, _ = run(shim, 0)
-        if check(0, status, written, expected) != (1, 0):
-            sys.exit("the run with ample memory lacks memory")
-    print(f"{turn - 1} requests refused in turn: {faults} runs ended, "
-          f"{replaced} refusals became `out of memory`, all else stayed")
+        refuse_in_turn(shim, "cvss_tool", b"\n".join(LINES), [answered(line) for line in LINES],
+                       whole_status=1, fault_status=2)
+        refuse_in_turn(shim, "cvss_json",
+                       "\n".join(f"{kind} {text}" for kind, text in typed).encode(),
+                       [converted(TYPES[kind][0], text) for kind, text in typed],
+                       whole_status=0, fault_status=1)
 
 
 if __name__ == "__main__":

@@ -1,3 +1,6 @@
 mod AnswerLemmas
+mod DigitLemmas
+mod JsonLemmas
+mod LawLemmas
 mod RouteLemmas
 mod ToldLemmas

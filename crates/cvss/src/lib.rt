@@ -2,11 +2,15 @@
 //!
 //! [`Cvss`] is a vector of any version, read from its text by [`Cvss::from_str`]. Version 2 stands in
 //! [`v2`], versions 3.0 and 3.1 in [`v3`], version 4.0 in [`v4`], each with a `Vector` of its own.
+//! [`json`] writes them as JSON strings and reads them back.
 #![tactic(auto)]
 
+pub mod json;
+pub mod laws;
 mod metric_type;
 mod metrics;
 mod route;
+pub mod tenths;
 mod vector;
 
 pub use cvss_base::{Error, LIMIT, ONE, PREFIX, Severity};

@@ -6,7 +6,7 @@ ghost use Rattle.cvss.specs.Answers.{text_of};
 use crate::metrics::Metrics;
 use crate::route::{Route, error_of, route_of_text};
 use crate::{v2, v3, v4};
-use cvss_base::{Error, Severity};
+use cvss_base::{Error, Severity, severity_of_score};
 use std::alloc::Global;
 use std::fmt;
 
@@ -44,9 +44,11 @@ impl Cvss {
     /// `InvalidPrefix`, or `UnsupportedVersion`; else that of the version's own `from_str`.
     /// `OutOfMemory` stands in place of one that carries text.
     pub fn from_str(alloc: Global, text: &str) -> Result<Cvss, Error>
-        // Accepted: what is given is what the text denotes, and each such vector is given.
+        // Accepted: what is given is what the text denotes, and each such vector is given; it has a
+        // score.
         ensures denoted { IfOk result (λ cvss. DenotesCvss text.now cvss) }
         ensures accepts { (cvss : Cvss) → DenotesCvss text.now cvss → result ≡ Ok cvss }
+        ensures scored { IfOk result (λ cvss. HasScore cvss) }
         // Refused: for the first reason, and wherever there is one. Memory is the answer only where
         // the reason carries text.
         ensures refused { IfErr result (TellsFirst cvss_reason (IsFirstRefusalCvss text.now)) }
@@ -66,6 +68,7 @@ impl Cvss {
     pub fn read_bytes(text: &[u8]) -> Option<Cvss>
         ensures denoted { IfSome result (λ cvss. DenotesCvss text.now cvss) }
         ensures accepts { (cvss : Cvss) → DenotesCvss text.now cvss → result ≡ Some cvss }
+        ensures scored { IfSome result (λ cvss. HasScore cvss) }
         ensures utf8 { IsSome result → IsUtf8 text.now }
     {
         match route_of_text(text) {
@@ -109,10 +112,16 @@ impl Cvss {
         requires scored { HasScore self.now }
         ensures { (score : ℤ) → IsScoreOf self.now score → result ≡ rating_by self.now score }
     {
+        self.severity_of(self.score())
+    }
+
+    /// The rating that the vector's version gives a score, in counts of 10^-24.
+    pub fn severity_of(&self, score: i128) -> Severity
+        ensures { result ≡ rating_by self.now score }
+    {
         match self {
-            Cvss::CvssV20(vector) => vector.score().severity(),
-            Cvss::CvssV30(vector) | Cvss::CvssV31(vector) => vector.severity(),
-            Cvss::CvssV40(vector) => vector.score().severity(),
+            Cvss::CvssV20(_) => v2::Score::new(score).severity(),
+            _ => severity_of_score(score),
         }
     }
 

@@ -44,7 +44,7 @@ module _ {V K : Type 0} (version : Version V K) (lawful : IsLawful version) wher
       lawful.one_vector v w front (λ kind. same_options _ _ (value_shared v w parts of_v of_w kind) (value_shared w v parts of_w of_v kind))
 
   -- the pieces of a vector's components have no fault
-  no_fault_held : (v : V) (parts : List (List ℕ)) (place : ℕ) → AreComponentsOf version parts v → place < length parts → (reason : Refusal K) → FaultAt version parts place reason → ⊥
+  pub no_fault_held : (v : V) (parts : List (List ℕ)) (place : ℕ) → AreComponentsOf version parts v → place < length parts → (reason : Refusal K) → FaultAt version parts place reason → ⊥
   no_fault_held v parts place components within (BadComponent piece) none = none
   no_fault_held v parts place components within (WrongPrefix prefix) none = none
   no_fault_held v parts place components within (WrongVersion told) none = none

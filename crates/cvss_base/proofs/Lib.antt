@@ -5,7 +5,7 @@ pub mod DenotesLemmas
 pub mod ExactLemmas
 mod FindLemmas
 pub mod FrontLemmas
-mod JoinLemmas
+pub mod JoinLemmas
 pub mod LawLemmas
 mod ListingLemmas
 pub mod MissingLemmas
@@ -15,7 +15,7 @@ pub mod PieceLemmas
 mod PlainLemmas
 pub mod PrintLemmas
 pub mod PutLemmas
-mod RefusalLemmas
+pub mod RefusalLemmas
 pub mod RoundingLemmas
 mod StandardFacts
 mod SameLemmas

@@ -10,7 +10,7 @@ use Rattle.cvss_base.specs.Walk.{IsLawful}
 use Rattle.cvss_base.proofs.LawLemmas.{names_differ}
 
 -- of two least places with a fact, neither is before the other
-same_place : (p q : ℕ) → (p < q → ⊥) → (q < p → ⊥) → p ≡ q
+pub same_place : (p q : ℕ) → (p < q → ⊥) → (q < p → ⊥) → p ≡ q
 same_place p q not_before not_after =
     elim (cases_order p q) [ inl same ↦ same | inr apart ↦ elim apart [ inl before ↦ absurd (not_before before) | inr after ↦ absurd (not_after after) ] ]
 
@@ -43,7 +43,7 @@ module _ {V K : Type 0} (version : Version V K) (lawful : IsLawful version) (par
       no_spelling (subst (λ each. IsSpelling version each value) one (subst (IsSpelling version other) (sym is) spelling))
 
   -- a place has one fault
-  faults_same : (place : ℕ) (reason other : Refusal K) → FaultAt version parts place reason → FaultAt version parts place other → reason ≡ other
+  pub faults_same : (place : ℕ) (reason other : Refusal K) → FaultAt version parts place reason → FaultAt version parts place other → reason ≡ other
   faults_same place (BadComponent piece) other none _ = absurd none
   faults_same place (WrongPrefix prefix) other none _ = absurd none
   faults_same place (WrongVersion told) other none _ = absurd none

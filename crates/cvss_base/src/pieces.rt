@@ -60,7 +60,7 @@ fn first_place(text: &[u8], value: u8) -> Option<usize>
 }
 
 /// Whether the piece has exactly one colon.
-fn is_component(piece: &[u8]) -> bool
+pub fn is_component(piece: &[u8]) -> bool
     ensures { IsTrue result ↔ IsComponent piece.now }
 {
     piece.iter().filter(|byte| **byte == b':').count() == 1

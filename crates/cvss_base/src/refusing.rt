@@ -72,7 +72,7 @@ pub fn vector_behind<V: Refused + Fronted>(alloc: Global, text: &str) -> Result<
 }
 
 /// The error that tells a fault, or that there is no memory for the text that the fault names.
-fn error_of<V: Refused>(alloc: Global, fault: Fault<'_, V::Kind>) -> Error
+pub fn error_of<V: Refused>(alloc: Global, fault: Fault<'_, V::Kind>) -> Error
     requires { IsTellable V.version fault }
     ensures { Tells V.reason (reason_of V.version fault.entry) result }
 {

@@ -1,11 +1,11 @@
 //! The walk over a vector's components, once for all versions. It takes no memory: a fault borrows
 //! the part of the text that it names.
 
-ghost use Rattle.std.specs.Prelude.{◌≡◌, ◌↔◌, IsTrue, bytes_eq, find, IfSome, IfOk, IfErr, OnOk, IsErrAnd, Ok, [], length};
+ghost use Rattle.std.specs.Prelude.{◌≡◌, ◌≢◌, ◌↔◌, IsTrue, bytes_eq, find, IfSome, IfOk, IfErr, OnOk, OnErr, IsErrAnd, Ok, [], length};
 ghost use Rattle.std.specs.List.{All};
 ghost use Rattle.std.specs.Str.{IsUtf8};
 ghost use Rattle.cvss_base.specs.Pieces.{pieces_left};
-ghost use Rattle.cvss_base.specs.Text.{IsComponent, raised, read_as};
+ghost use Rattle.cvss_base.specs.Text.{IsComponent, name_part, raised, read_as};
 ghost use Rattle.cvss_base.specs.Version.{Version, read, Denotes, IsComplete};
 ghost use Rattle.cvss_base.specs.Refusal.{AreComponentsBefore, Refusal, IsFirstFault, IsFirstReason, IsFirstRefusal};
 ghost use Rattle.cvss_base.specs.Walk.{HasNoValue, IsEmpty, IsPut, IsCut, IsLawful, Adds, HasRead, IsFaultOf, first_missing, IsTellable, reason_of};
@@ -92,12 +92,14 @@ fn kind_named<V: Components>(name: &[u8]) -> Option<V::Kind>
 
 /// The metric that a piece names, and the value behind its colon.
 #[inline(always)]
-fn cut_component<'a, V: Components>(
+pub fn cut_component<'a, V: Components>(
     piece: &'a [u8],
 ) -> Result<(V::Kind, &'a [u8]), Fault<'a, V::Kind>>
     ensures cut { IfOk result (λ cut. IsCut V.version piece.now cut.0 cut.1.now) }
     ensures refused { IfErr result (λ fault. (v : V) → IsComponent piece.now
         → IsFaultOf V.version v piece.now (reason_of V.version fault)) }
+    ensures unnamed { OnErr result (IsComponent piece.now
+        → (kind : V.Kind) → V.version.name kind ≢ read V.version (name_part piece.now)) }
     ensures tellable { IsUtf8 piece.now → IfErr result (IsTellable V.version) }
 {
     if let Some(cut) = V::cut(piece) {
@@ -113,7 +115,7 @@ fn cut_component<'a, V: Components>(
 }
 
 /// Reads one component into the vector.
-fn read_component<'a, V: Components>(
+pub fn read_component<'a, V: Components>(
     piece: &'a [u8],
     vector: &mut V,
 ) -> Result<(), Fault<'a, V::Kind>>

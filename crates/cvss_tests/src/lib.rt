@@ -7,6 +7,10 @@ mod checksum;
 #[cfg(test)]
 mod errors;
 #[cfg(test)]
+mod json;
+#[cfg(test)]
+mod triage;
+#[cfg(test)]
 mod v2;
 #[cfg(test)]
 mod v3;

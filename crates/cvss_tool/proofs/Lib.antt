@@ -1,6 +1,5 @@
 pub mod AnswersLemmas
 pub mod ChunkLemmas
-mod DigitLemmas
 mod LineFacts
 pub mod LinesLemmas
 pub mod RunLemmas

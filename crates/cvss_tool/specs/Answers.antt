@@ -5,16 +5,13 @@ use Rattle.std.specs.Str.{IsUtf8}
 use Rattle.std.specs.String.{string_bytes}
 use Rattle.std.specs.declared.alloc.Global.{Global}
 use Rattle.cvss.specs.ErrorType.{Error}
-use Rattle.cvss.specs.VectorTypeV2.{Vector}
+use Rattle.cvss.specs.SeverityType.{Severity}
+use Rattle.cvss.specs.declared.vector.Cvss.{Cvss}
 use Rattle.cvss.specs.ErrorText.{error_text}
 use Rattle.cvss.specs.SeverityText.{text_of as severity_text}
-use Rattle.cvss.specs.Version.{canonical_text, Denotes, IsComplete}
-use Rattle.cvss.specs.RatingV2.{rating_of}
-use Rattle.cvss.specs.ScoresV2.{IsBaseScore}
-use Rattle.cvss.specs.VectorV2.{v2}
-use Rattle.cvss.specs.Refusal.{IsFirstRefusal}
-use Rattle.cvss.specs.Told.{TellsFirst, v2_reason}
-use Rattle.cvss.specs.WeightsV2.{weights_of}
+use Rattle.cvss.specs.Answers.{text_of as canonical_text, IsScoreOf, rating_by}
+use Rattle.cvss.specs.Dispatch.{DenotesCvss, IsFirstRefusalCvss, cvss_reason}
+use Rattle.cvss.specs.Told.{TellsFirst}
 
 -- an answer to one line, as its text without the byte 10 that ends it
 pub data Answer : Type 0 where
@@ -39,31 +36,33 @@ is_refused (Refused text) = true
 abbrev pub score_text : ℕ → List ℕ
 score_text tenths = decimal (tenths / 10) ++ codes "." ++ decimal (tenths % 10)
 
+-- a score of so many tenths, and a rating
+abbrev pub rating_text : ℕ → Severity → List ℕ
+rating_text tenths severity = score_text tenths ++ codes " " ++ severity_text severity
+
 -- a score of so many tenths, as a count of 10^-24
 abbrev pub score_of : ℕ → ℤ
 score_of tenths = pos (tenths * 10 ^ 23)
 
 -- a vector's canonical text, its score and the score's rating
-abbrev pub vector_answer : Vector → ℕ → List ℕ
+abbrev pub vector_answer : Cvss → ℕ → List ℕ
 vector_answer vector tenths =
-    canonical_text v2 vector ++ codes " " ++ score_text tenths ++ codes " "
-    ++ severity_text (rating_of (score_of tenths))
+    canonical_text vector ++ codes " " ++ rating_text tenths (rating_by vector (score_of tenths))
 
--- the line is a text that denotes a complete vector, and the answer is this vector's
+-- the line is a text that denotes a vector of some version, and the answer is this vector's
 pub record IsAcceptance (line answer : List ℕ) : Type 0 where
   pub utf8 : IsUtf8 line
-  pub vector : Vector
-  pub denoted : Denotes v2 line vector
-  pub complete : IsComplete v2 vector
+  pub vector : Cvss
+  pub denoted : DenotesCvss line vector
   pub tenths : ℕ
-  pub scored : IsBaseScore (weights_of vector) (score_of tenths)
+  pub scored : IsScoreOf vector (score_of tenths)
   pub is : answer ≡ vector_answer vector tenths
 
 -- the line is a text that is no vector, and the answer is an error that tells the first reason
 pub record IsRefusal (line answer : List ℕ) : Type 0 where
   pub utf8 : IsUtf8 line
   pub error : Error
-  pub told : TellsFirst v2_reason (IsFirstRefusal v2 line) error
+  pub told : TellsFirst cvss_reason (IsFirstRefusalCvss line) error
   pub is : answer ≡ codes "error: " ++ error_text error
 
 -- the line is no text
@@ -92,9 +91,9 @@ abbrev pub written_answers : List Answer → List ℕ
 written_answers answers = flat_map written_answer answers
 
 -- the vector's answer and a byte 10 are written behind the earlier answers
-pub record WritesVector (vector : Vector) (old new : String Global) : Type 0 where
+pub record WritesVector (vector : Cvss) (old new : String Global) : Type 0 where
   pub tenths : ℕ
-  pub scored : IsBaseScore (weights_of vector) (score_of tenths)
+  pub scored : IsScoreOf vector (score_of tenths)
   pub written : string_bytes new ≡ string_bytes old ++ written_answer (Accepted (vector_answer vector tenths))
 
 -- a refusal's answer and a byte 10 are written behind the earlier answers

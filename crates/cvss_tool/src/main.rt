@@ -13,6 +13,7 @@ mod summary;
 mod tests;
 mod write;
 
+pub use cvss_ranking as triage;
 pub use exit::{exit_status, fault_text};
 pub use fault::RunFault;
 pub use run::run;

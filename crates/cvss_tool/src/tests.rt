@@ -67,15 +67,29 @@ type Row = (&'static [u8], &'static str, u64, u64);
 
 #[test]
 fn answers_lines_that_reads_cut(rt: HostRuntime) -> Result<(), Fail> {
-    let rows: [Row; 6] = [
+    let rows: [Row; 8] = [
         (b"", "", 0, 0),
         (
             b"AV:N/AC:L/Au:N/C:N/I:N/A:N\r\n\nCVSS:3.1/AV:N",
             "AV:N/AC:L/Au:N/C:N/I:N/A:N 0.0 low\n\
              error: invalid CVSS metric group component: ``\n\
-             error: unknown CVSS metric name: `CVSS`\n",
-            1,
+             CVSS:3.1/AV:N 0.0 none\n",
             2,
+            1,
+        ),
+        (
+            b"CVSS:3.1/AV:N/AC:L/PR:N/UI:N/S:U/C:H/I:H/A:H\nAV:N/AC:L/Au:N/C:N/I:N/A:C\ngarbage",
+            "CVSS:3.1/AV:N/AC:L/PR:N/UI:N/S:U/C:H/I:H/A:H 9.8 critical\n\
+             AV:N/AC:L/Au:N/C:N/I:N/A:C 7.8 high\n\
+             error: invalid CVSS metric group component: `garbage`\n",
+            2,
+            1,
+        ),
+        (
+            b"CVSS:4.0/AV:N/AC:L/AT:N/PR:N/UI:N/VC:L/VI:H/VA:N/SC:N/SI:N/SA:N/E:P\n",
+            "CVSS:4.0/AV:N/AC:L/AT:N/PR:N/UI:N/VC:L/VI:H/VA:N/SC:N/SI:N/SA:N/E:P 7.8 high\n",
+            1,
+            0,
         ),
         (b"\xff", "error: not UTF-8\n", 0, 1),
         (b"\r", EMPTY_LINE, 0, 1),

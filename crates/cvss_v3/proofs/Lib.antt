@@ -5,7 +5,7 @@ mod DefinedLemmas
 mod EqualLemmas
 mod FormulaLemmas
 mod ImpactLemmas
-mod LawLemmas
+pub mod LawLemmas
 mod NearLemmas
 mod NumberLemmas
 mod PowerLemmas

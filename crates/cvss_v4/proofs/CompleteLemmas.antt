@@ -4,7 +4,7 @@ use Rattle.cvss_base.specs.Version.{Version, IsComplete}
 use Rattle.cvss_base.specs.Walk.{first_missing}
 use Rattle.cvss_base.proofs.MissingLemmas.{LacksFirst-from, IsComplete-from, Contains-missing}
 
-none_is_none : {X : Type 0} (o : Option X) → o ≡ None → IsSome o → ⊥
+pub none_is_none : {X : Type 0} (o : Option X) → o ≡ None → IsSome o → ⊥
 none_is_none None is some = absurd cc
 none_is_none (Some x) is some = absurd cc
 

@@ -7,6 +7,7 @@ mod GroupLemmas
 mod LeastLemmas
 mod MeanLemmas
 mod MergingLemmas
+mod OverridingLemmas
 mod PrintedLemmas
 mod RoundedLemmas
 pub mod ScoreLawLemmas

@@ -8,6 +8,8 @@ pub mod Maximal
 pub mod Merging
 pub mod MergingLaws
 pub mod Nomenclature
+pub mod Overriding
+pub mod OverridingSteps
 pub mod Places
 pub mod ScoreLaws
 pub mod ScoreText

@@ -11,4 +11,4 @@ mod vector;
 pub use metric::MetricType;
 pub use nomenclature::Nomenclature;
 pub use score::Score;
-pub use vector::{Metrics, Vector};
+pub use vector::{Metrics, OverrideError, Vector};

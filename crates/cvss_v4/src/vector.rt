@@ -5,6 +5,7 @@ ghost use Rattle.std.specs.Prelude.{◌≡◌, ◌↔◌, IsTrue, IfSome, IsSome
 mod groups;
 mod listing;
 mod merging;
+mod overriding;
 mod printing;
 mod reading;
 mod refusing;
@@ -36,6 +37,7 @@ use cvss_base::print::same_components;
 use cvss_base::refusing::vector_behind;
 use cvss_base::walk::Components;
 pub use listing::Metrics;
+pub use overriding::OverrideError;
 use std::alloc::Global;
 
 /// A vector of CVSS v4.0 (v4.0 specification, section 7): at most one value for each metric.

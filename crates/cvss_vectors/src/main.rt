@@ -1,8 +1,8 @@
-//! Answers lines of CVSS v2 vectors, to be compared with the answers that the Rust crate gives.
+//! Answers lines of vectors of all versions, to be compared with the answers that the Rust crate
+//! gives.
 #![tactic(auto)]
 
-use cvss::ONE;
-use cvss::v2::Vector;
+use cvss::{Cvss, ONE};
 use std::io;
 use std::io::{BufRead, BufReader};
 
@@ -14,11 +14,10 @@ fn main(rt: HostRuntime) -> io::Result<()> {
 }
 
 fn answer(rt: &(impl Print + AllocGlobal), line: &str) -> io::Result<()> {
-    match Vector::from_str(rt.alloc(), line) {
+    match Cvss::from_str(rt.alloc(), line) {
         Ok(vector) => {
-            let score = vector.score();
-            let tenths = score.value() / (ONE / 10);
-            let severity = score.severity();
+            let tenths = vector.score() / (ONE / 10);
+            let severity = vector.severity();
             println!(rt; "{vector} {}.{} {severity}", tenths / 10, tenths % 10)
         }
         Err(error) => println!(rt; "error: {error}"),

@@ -145,7 +145,7 @@ impl Fronted for Vector {
 
 impl Vector {
     /// The vector without metrics.
-    fn empty() -> Vector
+    pub(super) fn empty() -> Vector
         ensures version { result.minor_version ≡ 0 }
         ensures valueless { HasNoValue v4 result }
     {

@@ -1,4 +1,4 @@
-use Rattle.std.proofs.Common.{ap, ◌∙◌}
+use Rattle.std.proofs.Common.{ap, sym, ◌∙◌}
 use Rattle.cvss_base.specs.Text.{component}
 use Rattle.cvss_base.specs.Version.{read}
 use Rattle.cvss_base.proofs.LawLemmas.{named_known, named_unknown}
@@ -22,3 +22,8 @@ returns-in-None-clause-refused g c = λ _ _.
 
 pub returns-in-None-clause-tellable : goal.returns-in-None-clause-tellable
 returns-in-None-clause-tellable g c = IsUtf8-name c.args.piece.now _ _ c.in-Some-parts_of.ensures
+
+pub returns-in-None-clause-unnamed : goal.returns-in-None-clause-unnamed
+returns-in-None-clause-unnamed g c = λ _ kind named.
+    let version = g.V.Components.version in
+    named_unknown version g.met.V.Components.lawful _ c.in-None.ensures kind (named ∙ ap (read version) (sym c.in-Some-parts_of.ensures.name_is))

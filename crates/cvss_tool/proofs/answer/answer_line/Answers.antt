@@ -12,7 +12,6 @@ returns-in-Some c =
         utf8 = c.in-Some.ensures.utf8 refl;
         vector = vector;
         denoted = c.in-Some.ensures.denoted;
-        complete = c.in-Some.ensures.complete;
         tenths = written.tenths;
         scored = written.scored;
         is = refl;

@@ -1,8 +1,7 @@
 use Rattle.std.proofs.Common.{◌++◌, codes, inl, inr, refl, rules, subst}
 use Rattle.cvss.specs.ErrorText.{error_text}
-use Rattle.cvss.specs.Refusal.{IsFirstRefusal}
-use Rattle.cvss.specs.Told.{TellsFirst, v2_reason}
-use Rattle.cvss.specs.VectorV2.{v2}
+use Rattle.cvss.specs.Dispatch.{IsFirstRefusalCvss, cvss_reason}
+use Rattle.cvss.specs.Told.{TellsFirst}
 use Rattle.cvss_tool.proofs.answer.write_refusal.Goals as goal
 
 pub returns-in_default : goal.returns-in_default
@@ -22,7 +21,7 @@ returns c =
             utf8 = c.in-Ok.ensures.cases.1;
             error = error;
             told =
-                subst (λ text. TellsFirst v2_reason (IsFirstRefusal v2 text) error) c.in-Ok.ensures.cases.0
+                subst (λ text. TellsFirst cvss_reason (IsFirstRefusalCvss text) error) c.in-Ok.ensures.cases.0
                 c.in-Err.ensures.refused;
             is = refl;
           });

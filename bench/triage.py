@@ -1,0 +1,86 @@
+#!/usr/bin/env python3
+"""Counts the instructions that the built `cvss_triage` takes for a line, and refuses its memory.
+
+Draws v4 base vectors, runs the program over some of them and over all, and checks that the rows are
+those of the lines, the scores falling and ties by the given texts' bytes. Then each request for
+memory of a short run is refused in turn: nothing may be written then, and the status is 2, or 1 where
+a refusal is told.
+It needs cc, valgrind and python3.
+
+usage: bench/triage.py [COUNT]
+"""
+import os
+import random
+import re
+import subprocess
+import sys
+import tempfile
+
+import refused_memory
+
+HERE = os.path.dirname(os.path.abspath(__file__))
+PROGRAM = os.path.join(HERE, "../crates/cvss_triage/out/cvss_triage")
+OVERRIDES = ["MSI:S", "cr:h"]
+BASE = {"AV": "NALP", "AC": "LH", "AT": "NP", "PR": "NLH", "UI": "NPA", "VC": "HLN", "VI": "HLN",
+        "VA": "HLN", "SC": "HLN", "SI": "HLN", "SA": "HLN"}
+
+
+def drawn(count):
+    draw = random.Random(7)
+    return ["/".join(["CVSS:4.0"] + [f"{name}:{draw.choice(values)}"
+                                     for name, values in BASE.items()]) for _ in range(count)]
+
+
+def are_ranked(lines, written):
+    rows = [row.split(" ") for row in written.splitlines()]
+    order = [(-float(row[0]), row[3].encode()) for row in rows]
+    scored = all(row[2] == row[3] + "/CR:H/MSI:S" for row in rows)
+    return scored and order == sorted(order) and sorted(row[3] for row in rows) == sorted(lines)
+
+
+def instructions(room, lines):
+    done = subprocess.run(
+        ["valgrind", "--tool=callgrind", f"--callgrind-out-file={room}/profile", PROGRAM, *OVERRIDES],
+        input="".join(line + "\n" for line in lines), capture_output=True, text=True, check=True)
+    if not are_ranked(lines, done.stdout):
+        sys.exit("the rows are wrong")
+    return int(re.search(r"Collected : (\d+)", done.stderr).group(1))
+
+
+def refuse(room):
+    """Refuses each request of a short run, and of one whose last line is refused."""
+    source, shim = os.path.join(room, "refuse.c"), os.path.join(room, "refuse.so")
+    with open(source, "w", encoding="utf-8") as file:
+        file.write(refused_memory.SHIM)
+    subprocess.run(["cc", "-shared", "-fPIC", "-O1", "-o", shim, source, "-ldl"], check=True)
+    total = 0
+    for lines, statuses in ((drawn(30), {2}), (drawn(30) + ["CVSS:4.0/AV:N/AV:q"], {1, 2})):
+        for turn in range(1, 100_000):
+            read_end, write_end = os.pipe()
+            env = dict(os.environ, LD_PRELOAD=shim, REFUSED=str(turn), TOLD=str(write_end))
+            done = subprocess.run([PROGRAM, *OVERRIDES], input="\n".join(lines).encode(), env=env,
+                                  capture_output=True, pass_fds=[write_end], check=False)
+            os.close(write_end)
+            was_refused = os.read(read_end, 1) == b"x"
+            os.close(read_end)
+            if not was_refused:
+                break
+            if done.stdout or done.returncode not in statuses:
+                sys.exit(f"turn {turn}: status {done.returncode}, wrote {done.stdout[:500]!r}")
+            total += 1
+    return total
+
+
+def main():
+    count = int(sys.argv[1]) if len(sys.argv) > 1 else 100_000
+    lines = drawn(count)
+    with tempfile.TemporaryDirectory() as room:
+        start = instructions(room, [])
+        for size in (count // 10, count):
+            taken = instructions(room, lines[:size]) - start
+            print(f"{size} lines: {taken // size} instructions a line")
+        print(f"{refuse(room)} requests refused in turn: nothing was written")
+
+
+if __name__ == "__main__":
+    main()

@@ -1,0 +1,103 @@
+"""CVSS v3.0 and v3.1: metrics and scores, from the tables and equations of the specifications, on
+exact numbers.
+
+A vector is a dictionary from metrics to the spellings of their values; scores are whole tenths.
+"""
+from fractions import Fraction
+from math import ceil, floor
+
+from v2 import weighed
+
+IMPACT = weighed("N 0, L 0.22, H 0.56")
+REQUIREMENT = weighed("X 1, H 1.5, M 1, L 0.5")
+# In printing order: the name in words, and the weight of each spelling.
+BASE = {
+    "AV": ("Attack Vector", weighed("P 0.2, L 0.55, A 0.62, N 0.85")),
+    "AC": ("Attack Complexity", weighed("H 0.44, L 0.77")),
+    "PR": ("Privileges Required", weighed("H 0.27, L 0.62, N 0.85")),
+    "UI": ("User Interaction", weighed("R 0.62, N 0.85")),
+    "S": ("Scope", {"U": None, "C": None}),
+    "C": ("Confidentiality Impact", IMPACT),
+    "I": ("Integrity Impact", IMPACT),
+    "A": ("Availability Impact", IMPACT),
+}
+METRICS = {
+    **BASE,
+    "E": ("Exploit Code Maturity", weighed("X 1, H 1, F 0.97, P 0.94, U 0.91")),
+    "RL": ("Remediation Level", weighed("X 1, U 1, W 0.97, T 0.96, O 0.95")),
+    "RC": ("Report Confidence", weighed("X 1, C 1, R 0.96, U 0.92")),
+    "CR": ("Confidentiality Requirements", REQUIREMENT),
+    "IR": ("Integrity Requirements", REQUIREMENT),
+    "AR": ("Availability Requirements", REQUIREMENT),
+    **{"M" + name: ("Modified " + words.removesuffix(" Impact"), {"X": None, **weights})
+       for name, (words, weights) in BASE.items()},
+}
+CHANGED_PRIVILEGES = weighed("H 0.5, L 0.68, N 0.85")
+
+
+def weight(vector, name):
+    """The weight of a metric, where an absent base metric weighs nothing."""
+    if name not in vector:
+        return Fraction(0 if name in BASE else 1)
+    changed = name == "PR" and vector.get("S") == "C"
+    return Fraction((CHANGED_PRIVILEGES if changed else METRICS[name][1])[vector[name]])
+
+
+def tenths(minor, x):
+    """The least tenth that is not below x, for v3.1 of the nearest fifth decimal to x."""
+    if minor == 1:
+        x = max(Fraction(0), Fraction(floor(x * 100_000 + Fraction(1, 2)), 100_000))
+    return ceil(x * 10)
+
+
+def sub_score(vector, requirements):
+    """The sub-score of the impacts (ISS), each multiplied by its requirement (MISS)."""
+    rests = Fraction(1)
+    for name, requirement in zip("CIA", requirements):
+        rests *= 1 - weight(vector, name) * requirement
+    return 1 - rests
+
+
+def unrounded(vector, sub_score, power):
+    """The number of which a score is the rounding."""
+    exploitability = Fraction("8.22")
+    for name in ("AV", "AC", "PR", "UI"):
+        exploitability *= weight(vector, name)
+    changed = vector.get("S") == "C"
+    impact = Fraction("6.42") * sub_score
+    if changed:
+        impact = Fraction("7.52") * (sub_score - Fraction("0.029")) - Fraction("3.25") * power
+    if impact <= 0:
+        return Fraction(0)
+    return min(Fraction(10), (impact + exploitability) * (Fraction("1.08") if changed else 1))
+
+
+def base(minor, vector):
+    own = sub_score(vector, [1, 1, 1])
+    return tenths(minor, unrounded(vector, own, (own - Fraction("0.02")) ** 15))
+
+
+def modified(vector):
+    """The base metrics, each in place of which a modified one is set being that one."""
+    own = {name: vector["M" + name] if vector.get("M" + name, "X") != "X" else vector.get(name)
+           for name in BASE}
+    return {name: value for name, value in own.items() if value}
+
+
+def scores(minor, vector):
+    """The base, temporal and environmental score, in tenths."""
+    own = modified(vector)
+    reached = min(Fraction("0.915"),
+                  sub_score(own, [weight(vector, name) for name in ("CR", "IR", "AR")]))
+    power = ((reached * Fraction("0.9731") - Fraction("0.02")) ** 13 if minor == 1
+             else (reached - Fraction("0.02")) ** 15)
+    first = tenths(minor, unrounded(own, reached, power))
+    rest = weight(vector, "E") * weight(vector, "RL") * weight(vector, "RC")
+    return [base(minor, vector), tenths(minor, Fraction(base(minor, vector), 10) * rest),
+            tenths(minor, Fraction(first, 10) * rest)]
+
+
+def severity(score):
+    """The rating of a score of v3 or v4."""
+    return ("none" if score < 1 else "low" if score < 40 else "medium" if score < 70
+            else "high" if score < 90 else "critical")

@@ -1,0 +1,5 @@
+use Rattle.cvss.proofs.LawLemmas.{score_once}
+use Rattle.cvss.proofs.laws.scores_are_unique.Goals as goal
+
+pub returns : goal.returns
+returns c = score_once

@@ -1,0 +1,29 @@
+-- Texts whose rows are made one after another.
+use Rattle.std.proofs.Common.{◌≡◌, inl, inr, ℕ, ◌+◌, List, [], ◌∷◌, ◌++◌, below_more}
+use Rattle.std.proofs.lemmas.Bool.{cases_order}
+use Rattle.cvss.specs.MetricTypeV4.{MetricType}
+use Rattle.cvss.specs.Refusal.{Refusal, piece_at, IsFirstRefusalBehind}
+use Rattle.cvss.specs.VectorTypeV4.{Vector}
+use Rattle.cvss.specs.VectorV4.{v4}
+use Rattle.cvss_ranking.specs.Faults.{HasNoRefusalBefore, IsFirstRefused}
+use Rattle.cvss_ranking.specs.Triage.{IsRow, AreRows}
+use Rattle.cvss_ranking.specs.declared.row.Row.{Row}
+
+-- one row more
+pub AreRows-push : (overrides : Vector) (texts : List (List ℕ)) (rows : List Row) (text : List ℕ) (row : Row) → AreRows overrides texts rows → IsRow overrides text row → AreRows overrides (texts ++ text ∷ []) (rows ++ row ∷ [])
+AreRows-push overrides [] [] text row are is = (is, tt)
+AreRows-push overrides [] (first ∷ rows) text row are is = absurd are
+AreRows-push overrides (first ∷ texts) [] text row are is = absurd are
+AreRows-push overrides (first ∷ texts) (other ∷ rows) text row are is =
+    (are.0, AreRows-push overrides texts rows text row are.1 is)
+
+-- one text more that is not refused
+pub HasNoRefusalBefore-more : (texts : List (List ℕ)) (place : ℕ) → HasNoRefusalBefore texts place → ((reason : Refusal MetricType) → IsFirstRefusalBehind v4 (piece_at texts place) reason → ⊥) → HasNoRefusalBefore texts (place + 1)
+HasNoRefusalBefore-more texts place before none = record {
+  none = λ earlier reason below. below_more (λ each. (other : Refusal MetricType) → IsFirstRefusalBehind v4 (piece_at texts each) other → ⊥) place (λ each inside other. before.none each other inside) none earlier below reason;
+}
+
+-- the first text that is refused stands at one place
+pub first_place_same : (texts : List (List ℕ)) (p q : ℕ) (one other : Refusal MetricType) → IsFirstRefused texts p one → IsFirstRefused texts q other → p ≡ q
+first_place_same texts p q one other first second =
+    elim (cases_order p q) [ inl same ↦ same | inr apart ↦ elim apart [ inl before ↦ absurd (second.earlier.none p one before first.is) | inr after ↦ absurd (first.earlier.none q other after second.is) ] ]

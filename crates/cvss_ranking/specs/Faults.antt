@@ -1,0 +1,67 @@
+-- The first fault of overrides and texts, and the error that tells it.
+use Rattle.std.specs.Prelude.{◌≡◌, ◌⊎◌, ℕ, ◌<◌, true, Some, List, length, ◌++◌, codes}
+use Rattle.std.specs.Fmt.{decimal}
+use Rattle.cvss.specs.ErrorText.{error_text}
+use Rattle.cvss.specs.ErrorType.{Error}
+use Rattle.cvss.specs.MetricTypeV4.{MetricType}
+use Rattle.cvss.specs.OverridingV4.{Objection, OfOtherGroup, OfText, HasNoObjectionBefore, IsFirstObjection}
+use Rattle.cvss.specs.Refusal.{Refusal, carries_text, piece_at, IsFirstRefusalBehind}
+use Rattle.cvss.specs.Told.{reason_told, v4_reason}
+use Rattle.cvss.specs.VectorV4.{v4}
+use Rattle.cvss_ranking.specs.declared.error.TriageError.{TriageError}
+use Rattle.cvss_ranking.specs.declared.error.TriageError.TheVariants.{Override, NotEnvironmental, Text, OutOfMemory}
+
+-- what is wrong: something with the override at a place, or that the text at a place is no vector
+pub data Fault : Type 0 where
+  InOverride : ℕ → Objection → Fault
+  InText : ℕ → Refusal MetricType → Fault
+
+-- no text before this place is refused
+pub record HasNoRefusalBefore (texts : List (List ℕ)) (place : ℕ) : Type 0 where
+  pub none : (earlier : ℕ) (reason : Refusal MetricType) → earlier < place → ¬ (IsFirstRefusalBehind v4 (piece_at texts earlier) reason)
+
+-- the first text that is refused, and why
+pub record IsFirstRefused (texts : List (List ℕ)) (place : ℕ) (reason : Refusal MetricType) : Type 0 where
+  pub within : place < length texts
+  pub is : IsFirstRefusalBehind v4 (piece_at texts place) reason
+  pub earlier : HasNoRefusalBefore texts place
+
+-- the first fault: overrides go before texts
+abbrev pub IsFirstFault : List (List ℕ) → List (List ℕ) → Fault → Type 0
+IsFirstFault texts overrides (InOverride place objection) = IsFirstObjection overrides place objection
+IsFirstFault texts overrides (InText place reason) =
+    HasNoObjectionBefore overrides (length overrides) × IsFirstRefused texts place reason
+
+-- the refusal that an error of the library tells is this one
+pub record TellsReason (reason : Refusal MetricType) (error : Error) : Type 0 where
+  pub is : reason_told v4_reason error ≡ Some reason
+
+-- the error tells the fault; or there was no memory, of which an override needs none unless its refusal
+-- carries text
+abbrev pub TellsFault : Fault → TriageError → Type 0
+TellsFault (InOverride place OfOtherGroup) told = told ≡ NotEnvironmental place
+TellsFault (InOverride place (OfText reason)) told =
+    ((error : Error) × (told ≡ Override place error) × TellsReason reason error)
+    ⊎ ((told ≡ OutOfMemory) × (carries_text reason ≡ true))
+TellsFault (InText place reason) told =
+    ((error : Error) × (told ≡ Text place error) × TellsReason reason error) ⊎ (told ≡ OutOfMemory)
+
+-- the error tells the first fault
+pub record TellsFirstFault (texts overrides : List (List ℕ)) (told : TriageError) : Type 0 where
+  pub fault : Fault
+  pub first : IsFirstFault texts overrides fault
+  pub tells : TellsFault fault told
+
+-- the error tells the first text that is refused, and why
+pub record TellsFirstRefused (texts : List (List ℕ)) (told : TriageError) : Type 0 where
+  pub place : ℕ
+  pub reason : Refusal MetricType
+  pub first : IsFirstRefused texts place reason
+  pub tells : TellsFault (InText place reason) told
+
+-- the error's text
+abbrev pub triage_error_text : TriageError → List ℕ
+triage_error_text (Override index error) = codes "override " ++ decimal index ++ codes ": " ++ error_text error
+triage_error_text (NotEnvironmental index) = codes "override " ++ decimal index ++ codes ": no environmental CVSSv4 metric"
+triage_error_text (Text index error) = codes "text " ++ decimal index ++ codes ": " ++ error_text error
+triage_error_text OutOfMemory = codes "out of memory"

@@ -1,0 +1,64 @@
+//! The rows of texts under overrides, in order.
+
+ghost use Rattle.std.specs.Prelude.{◌≡◌, ◌⊎◌, ℕ, IfOk, IfErr, OnOk, IsErrAnd, length, map};
+ghost use Rattle.cvss.specs.MetricTypeV4.{MetricType};
+ghost use Rattle.cvss.specs.Refusal.{Refusal};
+ghost use Rattle.cvss_ranking.specs.Faults.{Fault, InText, IsFirstFault, IsFirstRefused, HasNoRefusalBefore, TellsFault, TellsFirstFault, TellsFirstRefused};
+ghost use Rattle.cvss_ranking.specs.Triage.{AreRanked, AreRows};
+ghost use Rattle.cvss_ranking.specs.declared.error.TriageError.TheVariants.{OutOfMemory};
+
+use crate::error::TriageError;
+use crate::row::{Row, sort};
+use cvss::v4::Vector;
+use std::alloc::Global;
+
+/// The rows of vectors' texts, with an organisation's environmental metrics put in, in falling
+/// order of score; rows of one score stand in the order of their texts' bytes.
+///
+/// The overrides are components of environmental metrics, in any ASCII case, each metric once.
+///
+/// # Errors
+///
+/// The first override that is refused, by place, or else the first text that is; `OutOfMemory`
+/// where a growth was refused.
+pub fn apply(alloc: Global, texts: &[&str], overrides: &[&str]) -> Result<Vec<Row>, TriageError>
+    // Accepted: one row for each text, in order.
+    ensures ranked { IfOk result (λ rows. AreRanked (map (λ text. text.now) texts.now)
+        (map (λ text. text.now) overrides.now) rows.items) }
+    // Refused: for the first fault, and wherever there is one. Memory is the answer to a fault of
+    // an override only where the reason carries text.
+    ensures refused { IfErr result (λ told. (told ≡ OutOfMemory)
+        ⊎ TellsFirstFault (map (λ text. text.now) texts.now)
+        (map (λ text. text.now) overrides.now) told) }
+    ensures refuses { (fault : Fault)
+        → IsFirstFault (map (λ text. text.now) texts.now)
+        (map (λ text. text.now) overrides.now) fault
+        → IsErrAnd result (TellsFault fault) }
+{
+    let overrides = Vector::from_overrides(alloc, overrides)?;
+    let mut rows = rows_of(alloc, texts, &overrides)?;
+    sort(&mut rows);
+    Ok(rows)
+}
+
+/// The rows of texts, in their order.
+fn rows_of(alloc: Global, texts: &[&str], overrides: &Vector) -> Result<Vec<Row>, TriageError>
+    ensures rows { IfOk result (λ rows.
+        AreRows overrides.now (map (λ text. text.now) texts.now) rows.items) }
+    ensures unrefused { OnOk result (HasNoRefusalBefore (map (λ text. text.now) texts.now)
+        (length (map (λ text. text.now) texts.now))) }
+    ensures refused { IfErr result (λ told. (told ≡ OutOfMemory)
+        ⊎ TellsFirstRefused (map (λ text. text.now) texts.now) told) }
+    ensures refuses { (place : ℕ) (reason : Refusal MetricType)
+        → IsFirstRefused (map (λ text. text.now) texts.now) place reason
+        → IsErrAnd result (TellsFault (InText place reason)) }
+{
+    let mut rows = Vec::with_capacity(alloc, texts.len())?;
+    for (index, text) in texts.iter().enumerate() {
+        match Vector::from_str(alloc, text) {
+            Ok(vector) => rows.push(Row::of(alloc, text, &vector.overridden_by(overrides))?)?,
+            Err(error) => return Err(TriageError::of_text(index, error)),
+        }
+    }
+    Ok(rows)
+}

@@ -1,0 +1,2 @@
+mod LinesLemmas
+mod RunLemmas

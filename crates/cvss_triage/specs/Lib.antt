@@ -1,0 +1,4 @@
+pub mod Exit
+pub mod Lines
+pub mod Rows
+pub mod Runs

@@ -1,0 +1,78 @@
+//! Why a run writes no rows.
+
+ghost use Rattle.std.specs.Prelude.{◌≡◌, Some};
+ghost use Rattle.cvss_triage.specs.Exit.{fault_of, fault_text};
+ghost use Rattle.cvss_triage.specs.declared.fault.Fault.TheVariants.{Memory};
+
+use cvss_ranking::TriageError;
+use std::alloc::{AllocError, AllocFailed};
+use std::fmt;
+
+/// Why a run writes no rows.
+#[derive(Debug, Drop, PartialEq, Eq)]
+pub enum Fault {
+    /// The reader failed, or the arguments could not be read as texts.
+    Read,
+    /// The writer failed, or took no byte. A beginning of the rows may be written.
+    Write,
+    /// A growth was refused.
+    Memory,
+    /// The line at this place, counted from 0, is not UTF-8.
+    NotText { index: usize },
+    /// An override or a line is refused.
+    Refused(TriageError),
+}
+
+impl From<AllocError> for Fault {
+    ghost from_gives = { λ _ fault. fault ≡ Memory };
+
+    fn from(_: AllocError) -> Self {
+        Fault::Memory
+    }
+}
+
+impl<T: Drop> From<AllocFailed<T>> for Fault {
+    ghost from_gives = { λ _ fault. fault ≡ Memory };
+
+    fn from(_: AllocFailed<T>) -> Self {
+        Fault::Memory
+    }
+}
+
+impl From<TriageError> for Fault {
+    ghost from_gives = { λ error fault. fault ≡ fault_of error };
+
+    fn from(error: TriageError) -> Self {
+        match error {
+            TriageError::OutOfMemory => Fault::Memory,
+            error => Fault::Refused(error),
+        }
+    }
+}
+
+/// What the program says of the fault, with arguments and lines counted from 1.
+impl fmt::Display for Fault {
+    ghost output = { λ fault. Some (fault_text fault) };
+
+    fn fmt<W: fmt::Write>(&self, f: &mut fmt::Formatter<W>) -> fmt::Result {
+        match self {
+            Fault::Read => f.write_str("read failed"),
+            Fault::Write => f.write_str("write failed"),
+            Fault::Memory | Fault::Refused(TriageError::OutOfMemory) => {
+                f.write_str("out of memory")
+            }
+            Fault::NotText { index } => write!(f, "line {}: not UTF-8", *index as u128 + 1),
+            Fault::Refused(TriageError::NotEnvironmental { index }) => write!(
+                f,
+                "argument {}: no environmental CVSSv4 metric",
+                *index as u128 + 1
+            ),
+            Fault::Refused(TriageError::Override { index, error }) => {
+                write!(f, "argument {}: {error}", *index as u128 + 1)
+            }
+            Fault::Refused(TriageError::Text { index, error }) => {
+                write!(f, "line {}: {error}", *index as u128 + 1)
+            }
+        }
+    }
+}

@@ -1,0 +1,172 @@
+-- Overrides: the environmental metrics, and texts that are read one after another.
+use Rattle.std.proofs.Common.{◌≡◌, ◌⊎◌, inl, inr, ℕ, ◌+◌, ◌<◌, Bool, true, false, List, [], ◌∷◌, length, get_or, map, IsSome, Contains, below_more, refl, sym, ap, ◌∙◌, subst, arith}
+use Rattle.std.proofs.lemmas.List.{get_or-map}
+use Rattle.std.proofs.lemmas.List.Elements.{Contains-append_right}
+use Rattle.cvss_base.specs.Refusal.{Refusal, BadComponent, WrongPrefix, WrongVersion, UnknownName, BadValue, Repeated, Missing, piece_at, name_at, FaultAt}
+use Rattle.cvss_base.specs.Text.{IsComponent, name_part}
+use Rattle.cvss_base.specs.V4Types.{name_of}
+use Rattle.cvss_base.specs.Version.{read, IsComplete}
+use Rattle.cvss_base.specs.Walk.{HasNoValue, IsFaultOf}
+use Rattle.cvss_base.specs.declared.v4.MetricType.{MetricType}
+use Rattle.cvss_base.specs.declared.v4.MetricType.TheVariants.{CR, IR, AR, MAV, MAC, MAT, MPR, MUI, MVC, MVI, MVA, MSC, MSI, MSA}
+use Rattle.cvss_base.proofs.ComponentLemmas.{piece_held}
+use Rattle.cvss_base.proofs.DenotesLemmas.{no_fault_held}
+use Rattle.cvss_base.proofs.JoinLemmas.{piece_is_component}
+use Rattle.cvss_base.proofs.LawLemmas.{names_differ}
+use Rattle.cvss_base.proofs.RefusalLemmas.{same_place, faults_same}
+use Rattle.cvss_base.proofs.WalkLemmas.{fault_at, name_from, AreComponentsOf-all, HasRead-none, HasRead-more}
+use Rattle.cvss_v4.proofs.CompleteLemmas.{none_is_none}
+use Rattle.cvss_v4_metric.specs.Table.{environmental, mandatory}
+use Rattle.cvss_v4.specs.Overriding.{AreOverrides, IsOverridden, NamesOther, Objection, OfOtherGroup, OfText, ObjectionAt, IsFirstObjection}
+use Rattle.cvss_v4.specs.OverridingSteps.{AddsOverride, IsObjectionTo, HasReadOverrides}
+use Rattle.cvss_v4.specs.Vector.{v4, value_at}
+use Rattle.cvss_v4.specs.VectorLaws.{v4_is_lawful}
+use Rattle.cvss_v4.specs.declared.vector.Vector.{Vector}
+
+-- the metric is the first of these, or the second, and so on
+abbrev pub IsOneOf : List MetricType → MetricType → Type 0
+IsOneOf [] kind = ⊥
+IsOneOf (one ∷ []) kind = kind ≡ one
+IsOneOf (one ∷ two ∷ more) kind = (kind ≡ one) ⊎ IsOneOf (two ∷ more) kind
+
+pub Contains-one_of : (kinds : List MetricType) (kind : MetricType) → IsOneOf kinds kind → Contains kinds kind
+Contains-one_of [] kind none = absurd none
+Contains-one_of (one ∷ []) kind is = (0, omega arith, sym is)
+Contains-one_of (one ∷ two ∷ more) kind (inl is) = (0, omega arith, sym is)
+Contains-one_of (one ∷ two ∷ more) kind (inr later) =
+    Contains-append_right (one ∷ []) (two ∷ more) kind (Contains-one_of (two ∷ more) kind later)
+
+-- a text that names an environmental metric names no other
+pub names_no_other : (kind : MetricType) (name : List ℕ) → name_of kind ≡ name → Contains environmental kind → NamesOther name → ⊥
+names_no_other kind name named is other =
+    other.other (subst (Contains environmental) (names_differ v4 v4_is_lawful kind other.kind (named ∙ sym other.named)) is)
+
+-- a component with a fault is no override
+pub component_objection : (v : Vector) (text : List ℕ) (reason : Refusal MetricType) → IsComponent text → (NamesOther (read v4 (name_part text)) → ⊥) → IsFaultOf v4 v text reason → IsObjectionTo v text (OfText reason)
+component_objection v text (BadComponent piece) is none fault = absurd fault
+component_objection v text (WrongPrefix prefix) is none fault = (is, none, fault)
+component_objection v text (WrongVersion told) is none fault = (is, none, fault)
+component_objection v text (UnknownName name) is none fault = (is, none, fault)
+component_objection v text (BadValue kind value) is none fault = (is, none, fault)
+component_objection v text (Repeated kind) is none fault = (is, none, fault)
+component_objection v text (Missing kind) is none fault = (is, none, fault)
+
+-- nothing is wrong with a text whose name is that of an environmental metric, and which has no fault
+no_objection_at : (texts : List (List ℕ)) (place : ℕ) (kind : MetricType) → IsComponent (piece_at texts place) → name_of kind ≡ name_at v4 texts place → Contains environmental kind → ((reason : Refusal MetricType) → FaultAt v4 texts place reason → ⊥) → (objection : Objection) → ObjectionAt texts place objection → ⊥
+no_objection_at texts place kind is named environment none OfOtherGroup (_, other) = names_no_other kind _ named environment other
+no_objection_at texts place kind is named environment none (OfText (BadComponent piece)) (_, bad) = bad is
+no_objection_at texts place kind is named environment none (OfText (WrongPrefix prefix)) (_, _, fault) = fault
+no_objection_at texts place kind is named environment none (OfText (WrongVersion told)) (_, _, fault) = fault
+no_objection_at texts place kind is named environment none (OfText (UnknownName name)) (_, _, fault) = none (UnknownName name) fault
+no_objection_at texts place kind is named environment none (OfText (BadValue blamed value)) (_, _, fault) = none (BadValue blamed value) fault
+no_objection_at texts place kind is named environment none (OfText (Repeated other)) (_, _, fault) = none (Repeated other) fault
+no_objection_at texts place kind is named environment none (OfText (Missing other)) (_, _, fault) = fault
+
+-- the start, a step and the end of the walk over overrides
+pub HasReadOverrides-none : (texts : List (List ℕ)) (v : Vector) → HasNoValue v4 v → HasReadOverrides texts 0 v
+HasReadOverrides-none texts v empty = record {
+  read = HasRead-none v4 v4_is_lawful texts v empty;
+  environmental = record { each = λ kind some. absurd (none_is_none (value_at v kind) (empty.none kind) some) };
+  faultless = record { none = λ earlier objection below. absurd (omega arith) };
+}
+
+module _ (texts : List (List ℕ)) (place : ℕ) (within : place < length texts) (text : List ℕ) (here : text ≡ piece_at texts place) where
+  pub HasReadOverrides-more : (old new : Vector) → IsComponent text → AddsOverride old text new → HasReadOverrides texts place old → HasReadOverrides texts (place + 1) new
+  HasReadOverrides-more old new is added before =
+      let adds = added.adds in
+      let all = HasRead-more v4 v4_is_lawful texts place within text here old new is adds before.read in
+      let named : name_of adds.kind ≡ name_at v4 texts place = adds.named ∙ ap (λ each. read v4 (name_part each)) here in
+      let none = no_objection_at texts place adds.kind (subst IsComponent here is) named added.environmental (λ reason fault. all.faultless.none place reason (omega arith) fault) in
+      record {
+        read = all;
+        environmental = record { each = λ kind some. elim (adds.puts.others kind) [ inl same ↦ subst (Contains environmental) (sym same) added.environmental | inr same ↦ before.environmental.each kind (subst IsSome same some) ] };
+        faultless = record { none = λ earlier objection below. below_more (λ each. (other : Objection) → ObjectionAt texts each other → ⊥) place (λ each inside other. before.faultless.none each other inside) none earlier below objection };
+      }
+
+  objection_at : (v : Vector) → HasReadOverrides texts place v → (objection : Objection) → IsObjectionTo v (piece_at texts place) objection → ObjectionAt texts place objection
+  objection_at v before OfOtherGroup is = is
+  objection_at v before (OfText (BadComponent piece)) is = is
+  objection_at v before (OfText (WrongPrefix prefix)) (_, _, fault) = absurd fault
+  objection_at v before (OfText (WrongVersion told)) (_, _, fault) = absurd fault
+  objection_at v before (OfText (UnknownName name)) is = is
+  objection_at v before (OfText (BadValue blamed value)) is = is
+  objection_at v before (OfText (Repeated kind)) (is, none, fault) = (is, none, fault_at v4 v4_is_lawful v texts place (omega arith) before.read.components (Repeated kind) fault)
+  objection_at v before (OfText (Missing kind)) (_, _, fault) = absurd fault
+
+  pub IsFirstObjection-at : (v : Vector) (objection : Objection) → IsObjectionTo v text objection → HasReadOverrides texts place v → IsFirstObjection texts place objection
+  IsFirstObjection-at v objection is before = record {
+    within = within;
+    is = objection_at v before objection (subst (λ each. IsObjectionTo v each objection) here is);
+    earlier = before.faultless;
+  }
+
+pub AreOverrides-all : (texts : List (List ℕ)) (v : Vector) → HasReadOverrides texts (length texts) v → AreOverrides texts v
+AreOverrides-all texts v all = record {
+  components = AreComponentsOf-all v4 v4_is_lawful texts v all.read;
+  environmental = all.environmental;
+}
+
+-- nothing is wrong with overrides
+pub no_objection_held : (texts : List (List ℕ)) (v : Vector) (place : ℕ) → AreOverrides texts v → place < length texts → (objection : Objection) → ObjectionAt texts place objection → ⊥
+no_objection_held texts v place are within =
+    let held = piece_held v4 v4_is_lawful v texts place are.components within in
+    let named : name_of held.kind ≡ name_at v4 texts place = sym (name_from v4 v4_is_lawful (piece_at texts place) held.kind _ held.is) in
+    no_objection_at texts place held.kind (piece_is_component v4 v4_is_lawful v texts are.components place within) named (are.environmental.each held.kind (rw held.held)) (no_fault_held v4 v4_is_lawful v texts place are.components within)
+
+module _ (texts : List (List ℕ)) where
+  -- which of the three kinds of objection one is
+  data IsSort (place : ℕ) : Objection → Type 0 where
+    other_group : IsComponent (piece_at texts place) → NamesOther (name_at v4 texts place) → IsSort place OfOtherGroup
+    bad_piece : {piece : List ℕ} → piece ≡ piece_at texts place → (IsComponent (piece_at texts place) → ⊥) → IsSort place (OfText (BadComponent piece))
+    fault : {reason : Refusal MetricType} → IsComponent (piece_at texts place) → (NamesOther (name_at v4 texts place) → ⊥) → FaultAt v4 texts place reason → IsSort place (OfText reason)
+
+  sort_of : (place : ℕ) (objection : Objection) → ObjectionAt texts place objection → IsSort place objection
+  sort_of place OfOtherGroup (is, other) = other_group is other
+  sort_of place (OfText (BadComponent piece)) (is, bad) = bad_piece is bad
+  sort_of place (OfText (WrongPrefix prefix)) (is, none, at) = fault is none at
+  sort_of place (OfText (WrongVersion told)) (is, none, at) = fault is none at
+  sort_of place (OfText (UnknownName name)) (is, none, at) = fault is none at
+  sort_of place (OfText (BadValue blamed value)) (is, none, at) = fault is none at
+  sort_of place (OfText (Repeated kind)) (is, none, at) = fault is none at
+  sort_of place (OfText (Missing kind)) (is, none, at) = fault is none at
+
+  sorts_same : (place : ℕ) (one other : Objection) → IsSort place one → IsSort place other → one ≡ other
+  sorts_same place _ _ (other_group _ _) (other_group _ _) = refl
+  sorts_same place _ _ (other_group is _) (bad_piece _ bad) = absurd (bad is)
+  sorts_same place _ _ (other_group _ other) (fault _ none _) = absurd (none other)
+  sorts_same place _ _ (bad_piece _ bad) (other_group is _) = absurd (bad is)
+  sorts_same place _ _ (bad_piece first _) (bad_piece second _) = ap (λ piece. OfText (BadComponent piece)) (first ∙ sym second)
+  sorts_same place _ _ (bad_piece _ bad) (fault is _ _) = absurd (bad is)
+  sorts_same place _ _ (fault _ none _) (other_group _ other) = absurd (none other)
+  sorts_same place _ _ (fault is _ _) (bad_piece _ bad) = absurd (bad is)
+  sorts_same place _ _ (fault _ _ first) (fault _ _ second) = ap OfText (faults_same v4 v4_is_lawful texts place _ _ first second)
+
+  -- two first objections are one
+  pub first_objections_same : (p q : ℕ) (one other : Objection) → IsFirstObjection texts p one → IsFirstObjection texts q other → (p ≡ q) × (one ≡ other)
+  first_objections_same p q one other first second =
+      let same = same_place p q (λ before. second.earlier.none p one before first.is) (λ before. first.earlier.none q other before second.is) in
+      (same, sorts_same q one other (sort_of q one (subst (λ place. ObjectionAt texts place one) same first.is)) (sort_of q other second.is))
+
+-- whether a metric is an environmental one, by cases
+abbrev is_environmental : MetricType → Bool
+is_environmental = elim [ CR ↦ true | IR ↦ true | AR ↦ true | MAV ↦ true | MAC ↦ true | MAT ↦ true | MPR ↦ true | MUI ↦ true | MVC ↦ true | MVI ↦ true | MVA ↦ true | MSC ↦ true | MSI ↦ true | MSA ↦ true | _ ↦ false ]
+
+-- what holds of each metric of a list
+alike : (f : MetricType → Bool) (answer : Bool) (kinds : List MetricType) → map f kinds ≡ map (λ _. answer) kinds → (kind : MetricType) → Contains kinds kind → f kind ≡ answer
+alike f answer kinds same kind (place, within, is) =
+    ap f (sym is) ∙ (sym (get_or-map f kinds place kind answer within) ∙ (ap (λ list. get_or list place answer) same ∙ get_or-map (λ _. answer) kinds place kind answer within))
+
+pub known_environmental : (kind : MetricType) → Contains environmental kind → is_environmental kind ≡ true
+known_environmental = alike is_environmental true environmental refl
+
+-- a metric that each vector has is not environmental
+pub mandatory_kept : (kind : MetricType) → Contains mandatory kind → Contains environmental kind → ⊥
+mandatory_kept kind is other =
+    let yes = known_environmental kind other in
+    let no = alike is_environmental false mandatory refl kind is in cc
+
+-- so a vector stays complete where environmental metrics replace its own
+pub IsComplete-overridden : (v overrides new : Vector) → IsOverridden v overrides new → IsComplete v4 v → IsComplete v4 new
+IsComplete-overridden v overrides new is complete = record {
+  present = λ kind mandatory. subst IsSome (sym (is.kept kind (mandatory_kept kind mandatory))) (complete.present kind mandatory);
+}

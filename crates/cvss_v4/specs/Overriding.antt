@@ -1,0 +1,82 @@
+-- An organisation's own environmental metrics in place of a vector's: CVSS v4.0 specification, section 4.
+use Rattle.std.specs.Prelude.{◌++◌, codes, ◌≡◌, ℕ, ◌<◌, List, length, IsSome, Contains}
+use Rattle.std.specs.Fmt.{decimal}
+use Rattle.std.specs.Option.{option_or}
+use Rattle.cvss_base.specs.ErrorText.{error_text}
+use Rattle.cvss_base.specs.Refusal.{Refusal, BadComponent, piece_at, name_at, FaultAt}
+use Rattle.cvss_base.specs.Text.{IsComponent}
+use Rattle.cvss_base.specs.Told.{Tells, v4_reason}
+use Rattle.cvss_base.specs.V4Types.{name_of}
+use Rattle.cvss_base.specs.Version.{AreComponentsOf}
+use Rattle.cvss_base.specs.declared.error.Error.{Error}
+use Rattle.cvss_base.specs.declared.v4.MetricType.{MetricType}
+use Rattle.cvss_v4_metric.specs.Table.{environmental}
+use Rattle.cvss_v4.specs.Vector.{v4, value_at}
+use Rattle.cvss_v4.specs.declared.vector.Vector.{Vector}
+use Rattle.cvss_v4.specs.declared.vector.overriding.OverrideError.{OverrideError}
+use Rattle.cvss_v4.specs.declared.vector.overriding.OverrideError.TheVariants.{NotEnvironmental, Refused}
+
+-- the vector has environmental metrics alone
+pub record IsEnvironmental (v : Vector) : Type 0 where
+  pub each : (kind : MetricType) → IsSome (value_at v kind) → Contains environmental kind
+
+-- the texts, as they are read, are the components of a vector of environmental metrics, each once
+pub record AreOverrides (texts : List (List ℕ)) (v : Vector) : Type 0 where
+  pub components : AreComponentsOf v4 texts v
+  pub environmental : IsEnvironmental v
+
+-- the vector has another's environmental metrics where that has them, and all else as it was
+pub record IsOverridden (v overrides new : Vector) : Type 0 where
+  pub replaced : (kind : MetricType) → Contains environmental kind → value_at new kind ≡ option_or (value_at overrides kind) (value_at v kind)
+  pub kept : (kind : MetricType) → ¬ (Contains environmental kind) → value_at new kind ≡ value_at v kind
+  pub minor_version : new.minor_version ≡ v.minor_version
+
+-- a metric of another group has the name
+pub record NamesOther (name : List ℕ) : Type 0 where
+  pub kind : MetricType
+  pub named : name_of kind ≡ name
+  pub other : ¬ (Contains environmental kind)
+
+-- why a text is no override: its metric is of another group, or it is refused as a component is
+pub data Objection : Type 0 where
+  OfOtherGroup : Objection
+  OfText : Refusal MetricType → Objection
+
+-- what is wrong with the text at a place: it is no component; or else no metric has its name; or else
+-- its metric is of another group; or else the metric has no such value; or else an earlier text has
+-- the same name
+abbrev pub ObjectionAt : List (List ℕ) → ℕ → Objection → Type 0
+ObjectionAt texts place OfOtherGroup =
+    IsComponent (piece_at texts place) × NamesOther (name_at v4 texts place)
+ObjectionAt texts place (OfText (BadComponent piece)) =
+    (piece ≡ piece_at texts place) × ¬ (IsComponent (piece_at texts place))
+ObjectionAt texts place (OfText reason) =
+    IsComponent (piece_at texts place) × ¬ (NamesOther (name_at v4 texts place)) × FaultAt v4 texts place reason
+
+-- nothing is wrong with the texts before this place
+pub record HasNoObjectionBefore (texts : List (List ℕ)) (place : ℕ) : Type 0 where
+  pub none : (earlier : ℕ) (objection : Objection) → earlier < place → ¬ (ObjectionAt texts earlier objection)
+
+-- the first text with which something is wrong, and what
+pub record IsFirstObjection (texts : List (List ℕ)) (place : ℕ) (objection : Objection) : Type 0 where
+  pub within : place < length texts
+  pub is : ObjectionAt texts place objection
+  pub earlier : HasNoObjectionBefore texts place
+
+-- the error tells what is wrong with the text at a place
+abbrev pub TellsObjection : ℕ → Objection → OverrideError → Type 0
+TellsObjection place OfOtherGroup told = told ≡ NotEnvironmental place
+TellsObjection place (OfText reason) told =
+    (error : Error) × (told ≡ Refused place error) × Tells v4_reason reason error
+
+-- the error tells the first text with which something is wrong, and what
+pub record TellsFirstObjection (texts : List (List ℕ)) (told : OverrideError) : Type 0 where
+  pub place : ℕ
+  pub objection : Objection
+  pub first : IsFirstObjection texts place objection
+  pub tells : TellsObjection place objection told
+
+-- the error's text
+abbrev pub override_error_text : OverrideError → List ℕ
+override_error_text (NotEnvironmental index) = codes "override " ++ decimal index ++ codes ": no environmental CVSSv4 metric"
+override_error_text (Refused index error) = codes "override " ++ decimal index ++ codes ": " ++ error_text error
