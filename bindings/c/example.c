@@ -1,0 +1,57 @@
+/* Prints what is known of each vector that is given as an argument. */
+#include "cvss.h"
+
+#include <stdio.h>
+#include <stdlib.h>
+#include <string.h>
+
+static const char *const ratings[] = {"none", "low", "medium", "high", "critical"};
+
+/* Prints a score, if the version has it. */
+static void print_score(const char *name, int32_t tenths)
+{
+    if (tenths != CVSS_NOTHING)
+        printf("  %s: %d.%d\n", name, (int)(tenths / 10), (int)(tenths % 10));
+}
+
+/* Prints why a text is refused; asks for the length first, and then for the reason. */
+static int print_reason(const char *text)
+{
+    const uint8_t *bytes = (const uint8_t *)text;
+    uint8_t none[1];
+    size_t size = cvss_reason(bytes, strlen(text), none, 0);
+    uint8_t *reason = malloc(size);
+    if (reason == NULL)
+        return 2;
+    size_t length = cvss_reason(bytes, strlen(text), reason, size);
+    if (length <= size)
+        printf("%s\n  refused: %.*s\n", text, (int)length, (const char *)reason);
+    free(reason);
+    return 1;
+}
+
+int main(int count, char **texts)
+{
+    int status = 0;
+    for (int i = 1; i < count; i++) {
+        const uint8_t *text = (const uint8_t *)texts[i];
+        size_t length = strlen(texts[i]);
+        CvssScores scores = {0};
+        if (!cvss_scores(text, length, &scores)) {
+            status = print_reason(texts[i]);
+            continue;
+        }
+        /* the canonical text is as long as the text */
+        uint8_t *canonical = malloc(length);
+        if (canonical == NULL)
+            return 2;
+        cvss_canonical(text, length, canonical, length);
+        printf("%.*s\n", (int)length, (const char *)canonical);
+        free(canonical);
+        print_score(scores.version == 40 ? "score" : "base", scores.base);
+        print_score("temporal", scores.temporal);
+        print_score("environmental", scores.environmental);
+        printf("  severity: %s\n", ratings[scores.severity]);
+    }
+    return status;
+}

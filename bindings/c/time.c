@@ -1,0 +1,71 @@
+/* Prints the nanoseconds that a call takes, over the lines of standard input that are accepted. */
+#define _POSIX_C_SOURCE 200809L
+#include "cvss.h"
+
+#include <stdio.h>
+#include <stdlib.h>
+#include <string.h>
+#include <time.h>
+
+enum { MOST_LINES = 10000, ROUNDS = 200 };
+
+static char *lines[MOST_LINES];
+static size_t lengths[MOST_LINES];
+static size_t count;
+static uint8_t buffer[4096];
+
+static size_t scores(const uint8_t *text, size_t length)
+{
+    CvssScores scores = {0};
+    return cvss_scores(text, length, &scores) + (size_t)scores.base;
+}
+
+static size_t canonical(const uint8_t *text, size_t length)
+{
+    return cvss_canonical(text, length, buffer, sizeof buffer);
+}
+
+static size_t answer(const uint8_t *text, size_t length)
+{
+    return cvss_answer(text, length, buffer, sizeof buffer);
+}
+
+/* Of the rounds the fastest, which other programs on the machine have disturbed least. */
+static void print_time(const char *name, size_t (*call)(const uint8_t *, size_t))
+{
+    size_t sum = 0;
+    double least = 1e18;
+    for (int round = 0; round < ROUNDS; round++) {
+        struct timespec from, to;
+        clock_gettime(CLOCK_MONOTONIC, &from);
+        for (size_t i = 0; i < count; i++)
+            sum += call((const uint8_t *)lines[i], lengths[i]);
+        clock_gettime(CLOCK_MONOTONIC, &to);
+        double taken = (double)(to.tv_sec - from.tv_sec) * 1e9 + (double)(to.tv_nsec - from.tv_nsec);
+        if (taken < least)
+            least = taken;
+    }
+    printf("C: %s %.0f ns (%zu lines, sum %zu)\n", name, least / (double)count, count, sum);
+}
+
+int main(void)
+{
+    char *line = NULL;
+    size_t room = 0;
+    while (count < MOST_LINES && getline(&line, &room, stdin) >= 0) {
+        size_t length = strcspn(line, "\r\n");
+        if (cvss_version((const uint8_t *)line, length) == CVSS_NOTHING)
+            continue;
+        lines[count] = malloc(length + 1);
+        if (lines[count] == NULL)
+            return 2;
+        memcpy(lines[count], line, length);
+        lengths[count++] = length;
+    }
+    if (count == 0)
+        return 1;
+    print_time("cvss_scores", scores);
+    print_time("cvss_canonical", canonical);
+    print_time("cvss_answer", answer);
+    return 0;
+}

@@ -1,0 +1,67 @@
+//! The calls of the library: the one place with unsafe code.
+//!
+//! The declarations are those of `bindings/c/cvss.h`. No call keeps a pointer, and none asks for more
+//! than pointers to as many bytes as are told, which slices are.
+
+/// The struct of the same name in `cvss.h`.
+#[derive(Clone, Copy, Default)]
+#[repr(C)]
+pub(crate) struct CvssScores {
+    pub(crate) version: i32,
+    pub(crate) base: i32,
+    pub(crate) temporal: i32,
+    pub(crate) environmental: i32,
+    pub(crate) severity: i32,
+    pub(crate) nomenclature: i32,
+}
+
+extern "C" {
+    fn cvss_scores(text: *const u8, length: usize, scores: *mut CvssScores) -> bool;
+    fn cvss_canonical(text: *const u8, length: usize, buffer: *mut u8, size: usize) -> usize;
+    fn cvss_reason(text: *const u8, length: usize, buffer: *mut u8, size: usize) -> usize;
+    fn cvss_answer(text: *const u8, length: usize, buffer: *mut u8, size: usize) -> usize;
+}
+
+/// The scores of the vector that a text denotes.
+pub(crate) fn scores(text: &[u8]) -> Option<CvssScores> {
+    let mut scores = CvssScores::default();
+    // SAFETY: the pointers are those of a slice and of a struct that live through the call.
+    let accepted = unsafe { cvss_scores(text.as_ptr(), text.len(), &mut scores) };
+    accepted.then_some(scores)
+}
+
+/// The canonical text of the vector that a text denotes, or nothing.
+pub(crate) fn canonical(text: &[u8]) -> Vec<u8> {
+    written(text.len(), |buffer| {
+        // SAFETY: the pointers are those of slices that live through the call and do not overlap.
+        unsafe { cvss_canonical(text.as_ptr(), text.len(), buffer.as_mut_ptr(), buffer.len()) }
+    })
+}
+
+/// The reason why a text is refused, or nothing.
+pub(crate) fn reason(text: &[u8]) -> Vec<u8> {
+    written(text.len() + 80, |buffer| {
+        // SAFETY: as above.
+        unsafe { cvss_reason(text.as_ptr(), text.len(), buffer.as_mut_ptr(), buffer.len()) }
+    })
+}
+
+/// The line that the program answers.
+pub(crate) fn answer(text: &[u8]) -> Vec<u8> {
+    written(text.len() + 80, |buffer| {
+        // SAFETY: as above.
+        unsafe { cvss_answer(text.as_ptr(), text.len(), buffer.as_mut_ptr(), buffer.len()) }
+    })
+}
+
+/// What a call writes into a buffer that is large enough; tried first with one of this size.
+fn written(size: usize, call: impl Fn(&mut [u8]) -> usize) -> Vec<u8> {
+    let mut buffer = vec![0; size];
+    let mut length = call(&mut buffer);
+    while length > buffer.len() {
+        buffer.resize(length, 0);
+        length = call(&mut buffer);
+    }
+    buffer.truncate(length);
+    buffer
+}

@@ -1,0 +1,76 @@
+-- What is answered to a text: something of the vector that it denotes, or why it denotes none.
+use Rattle.std.specs.Prelude.{◌≡◌, ℕ, ◌*◌, ◌/◌, ◌%◌, ◌^◌, ◌⊎◌, ◌++◌, List, codes, pos}
+use Rattle.std.specs.Fmt.{decimal}
+use Rattle.std.specs.Str.{IsUtf8}
+use Rattle.cvss.specs.Answers.{text_of, IsScoreOf, rating_by}
+use Rattle.cvss.specs.declared.vector.Cvss.{Cvss}
+use Rattle.cvss.specs.Dispatch.{DenotesCvss, IsFirstRefusalCvss, cvss_reason}
+use Rattle.cvss.specs.ErrorText.{error_text}
+use Rattle.cvss.specs.ErrorType.{Error}
+use Rattle.cvss.specs.ErrorType.TheVariants.{OutOfMemory}
+use Rattle.cvss.specs.SeverityText.{text_of as severity_text}
+use Rattle.cvss_base.specs.declared.severity.Severity.{Severity}
+use Rattle.cvss.specs.Told.{TellsFirst}
+
+-- the vector was read from a text
+pub record IsRead (cvss : Cvss) : Type 0 where
+  pub text : List ℕ
+  pub denoted : DenotesCvss text cvss
+
+-- the text denotes a vector, of which this holds
+pub record IsAccepted (text : List ℕ) (IsOf : Cvss → Type 0) : Type 0 where
+  pub cvss : Cvss
+  pub denoted : DenotesCvss text cvss
+  pub holds : IsOf cvss
+
+-- the text denotes no vector
+pub record IsRefused (text : List ℕ) : Type 0 where
+  pub none : (cvss : Cvss) → ¬ (DenotesCvss text cvss)
+
+-- the one holds of the vector that the text denotes, or it denotes none and the other holds
+abbrev pub Answers : List ℕ → (Cvss → Type 0) → Type 0 → Type 0
+Answers text IsOf Otherwise = IsAccepted text IsOf ⊎ (IsRefused text × Otherwise)
+
+-- the text is not UTF-8
+pub record IsNoText (text reason : List ℕ) : Type 0 where
+  pub not_utf8 : ¬ (IsUtf8 text)
+  pub is : reason ≡ codes "not UTF-8"
+
+-- the reason is the text of an error that tells the first refusal
+pub record IsToldFirst (text reason : List ℕ) : Type 0 where
+  pub error : Error
+  pub told : TellsFirst cvss_reason (IsFirstRefusalCvss text) error
+  pub is : reason ≡ error_text error
+
+-- the same of a text in UTF-8, or the reason says that there was no memory to tell it
+pub record IsTold (text reason : List ℕ) : Type 0 where
+  pub utf8 : IsUtf8 text
+  pub told : IsToldFirst text reason ⊎ (reason ≡ error_text OutOfMemory)
+
+-- why the text is refused
+abbrev pub IsReason : List ℕ → List ℕ → Type 0
+IsReason text reason = IsNoText text reason ⊎ IsTold text reason
+
+-- a score of so many tenths: units, point, one decimal
+abbrev pub score_text : ℕ → List ℕ
+score_text tenths = decimal (tenths / 10) ++ codes "." ++ decimal (tenths % 10)
+
+-- what stands behind the vector's text: the score and its rating, each behind a blank
+abbrev pub rating_text : ℕ → Severity → List ℕ
+rating_text tenths severity = codes " " ++ score_text tenths ++ codes " " ++ severity_text severity
+
+-- the vector's canonical text, its score, and the score's rating
+pub record IsAnswerOf (answer : List ℕ) (cvss : Cvss) : Type 0 where
+  pub tenths : ℕ
+  pub scored : IsScoreOf cvss (pos (tenths * 10 ^ 23))
+  pub is : answer ≡ text_of cvss ++ rating_text tenths (rating_by cvss (pos (tenths * 10 ^ 23)))
+
+-- the word error, and the reason
+pub record IsErrorAnswer (text answer : List ℕ) : Type 0 where
+  pub reason : List ℕ
+  pub is_reason : IsReason text reason
+  pub is : answer ≡ codes "error: " ++ reason
+
+-- the line that the program answers
+abbrev pub IsAnswer : List ℕ → List ℕ → Type 0
+IsAnswer text answer = Answers text (IsAnswerOf answer) (IsErrorAnswer text answer)

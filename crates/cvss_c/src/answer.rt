@@ -1,0 +1,83 @@
+//! The line that the program answers to a text.
+
+ghost use Rattle.std.specs.Prelude.{◌≡◌, ◌≤◌, ◌+◌, ◌*◌, ◌^◌, ℕ, List, pos, length};
+ghost use Rattle.std.specs.Fmt.{decimal};
+ghost use Rattle.cvss.specs.Answers.{HasScore, IsScoreOf};
+ghost use Rattle.cvss.specs.Dispatch.{DenotesCvss};
+ghost use Rattle.cvss_c.specs.Answers.{IsAnswerOf, IsRead, rating_text};
+ghost use Rattle.cvss_c.specs.Buffer.{IsWritten, Puts};
+
+use crate::buffer::put;
+use crate::canonical::put_canonical;
+use crate::numbers::tenths_of;
+use cvss::{Cvss, Severity};
+
+/// Writes the answer to a text that denotes a vector at the beginning of a buffer where it fits, and
+/// tells its length.
+pub(crate) fn put_answer(cvss: &Cvss, text: &[u8], buffer: &mut [u8]) -> usize
+    requires { DenotesCvss text.now cvss.now }
+    ensures { (answer : List ℕ) × IsAnswerOf answer cvss.now
+        × IsWritten answer buffer.old buffer.new result }
+{
+    let tenths = score_tenths(cvss);
+    let severity = cvss.severity();
+    let length = text.len() + rating_length(tenths, severity);
+    if length <= buffer.len() {
+        let place = put_canonical(cvss, buffer);
+        put_rating(tenths, severity, buffer, place);
+    }
+    length
+}
+
+/// The tenths of the score of a vector that has one.
+fn score_tenths(cvss: &Cvss) -> u8
+    requires { HasScore cvss.now }
+    ensures scored { IsScoreOf cvss.now (pos (result * 10 ^ 23)) }
+    ensures bound { result ≤ 100 }
+{
+    tenths_of(cvss.score())
+}
+
+/// How long a score and its rating are, each behind a blank.
+fn rating_length(tenths: u8, severity: Severity) -> usize
+    requires { tenths ≤ 100 }
+    ensures length { result ≡ length (rating_text tenths severity) }
+    ensures bound { result ≤ 16 }
+{
+    digits(tenths / 10).len() + severity.as_str().len() + 4
+}
+
+/// Writes a score and its rating, each behind a blank.
+fn put_rating(tenths: u8, severity: Severity, buffer: &mut [u8], place: usize) -> usize
+    requires tenths { tenths ≤ 100 }
+    requires room { place + length (rating_text tenths severity) ≤ length buffer.old }
+    ensures { Puts (rating_text tenths severity) buffer.old place buffer.new result }
+{
+    let place = put(" ".as_bytes(), buffer, place);
+    let place = put(digits(tenths / 10).as_bytes(), buffer, place);
+    let place = put(".".as_bytes(), buffer, place);
+    let place = put(digits(tenths % 10).as_bytes(), buffer, place);
+    let place = put(" ".as_bytes(), buffer, place);
+    put(severity.as_str().as_bytes(), buffer, place)
+}
+
+/// A number from 0 to 10 in decimal.
+#[tactic(auto, using(crate::proofs::DigitLemmas::below_ten, crate::proofs::DigitLemmas::ten))]
+fn digits(number: u8) -> &'static str
+    requires { number ≤ 10 }
+    ensures { result.now ≡ decimal number }
+{
+    match number {
+        0 => "0",
+        1 => "1",
+        2 => "2",
+        3 => "3",
+        4 => "4",
+        5 => "5",
+        6 => "6",
+        7 => "7",
+        8 => "8",
+        9 => "9",
+        _ => "10",
+    }
+}

@@ -1,0 +1,91 @@
+//! The functions that C calls.
+
+ghost use Rattle.std.specs.Prelude.{◌≡◌, ◌++◌, ℕ, List, codes, length, true, false};
+ghost use Rattle.cvss.specs.Answers.{text_of};
+ghost use Rattle.cvss.specs.Dispatch.{DenotesCvss};
+ghost use Rattle.cvss.specs.declared.vector.Cvss.{Cvss};
+ghost use Rattle.cvss_c.specs.Answers.{Answers, IsAnswer, IsReason};
+ghost use Rattle.cvss_c.specs.Buffer.{IsLeft, IsWritten};
+ghost use Rattle.cvss_c.specs.Scores.{AreScoresOf, nothing, version_number as number_of_version};
+
+use crate::CvssScores;
+use crate::answer::put_answer;
+use crate::canonical::put_canonical;
+use crate::numbers::{NOTHING, version_number};
+use crate::reason::put_reason;
+use cvss::Cvss;
+use std::alloc::Global;
+
+/// The version of the vector that a text denotes, as 20, 30, 31 or 40; -1 where it denotes none.
+/// It takes no memory.
+#[unsafe(no_mangle)]
+pub extern "C" fn cvss_version(text: &[u8]) -> i32
+    ensures { Answers text.now (λ cvss. result ≡ number_of_version cvss) (result ≡ nothing) }
+{
+    match Cvss::read_bytes(text) {
+        Some(cvss) => version_number(&cvss),
+        None => NOTHING,
+    }
+}
+
+/// Whether a text denotes a vector, and the vector's scores. Where it denotes none, the scores are
+/// left as they were. It takes no memory.
+#[unsafe(no_mangle)]
+pub extern "C" fn cvss_scores(text: &[u8], scores: &mut CvssScores) -> bool
+    ensures { Answers text.now (λ cvss. (result ≡ true) × AreScoresOf cvss scores.new)
+        ((result ≡ false) × (scores.new ≡ scores.old)) }
+{
+    match Cvss::read_bytes(text) {
+        Some(cvss) => {
+            *scores = CvssScores::of(&cvss);
+            true
+        }
+        None => false,
+    }
+}
+
+/// The length of the canonical text of the vector that a text denotes, which is written into the
+/// buffer where it fits; 0 where the text denotes none. The canonical text is as long as the text.
+/// It takes no memory.
+#[unsafe(no_mangle)]
+pub extern "C" fn cvss_canonical(text: &[u8], buffer: &mut [u8]) -> usize
+    ensures canonical { Answers text.now
+        (λ cvss. IsWritten (text_of cvss) buffer.old buffer.new result)
+        (IsLeft buffer.old buffer.new result) }
+    ensures length { (cvss : Cvss) → DenotesCvss text.now cvss → result ≡ length text.now }
+{
+    let Some(cvss) = Cvss::read_bytes(text) else {
+        return 0;
+    };
+    if text.len() <= buffer.len() {
+        put_canonical(&cvss, buffer);
+    }
+    text.len()
+}
+
+/// The length of the reason why a text is refused, which is written into the buffer where it fits;
+/// 0 where the text denotes a vector.
+#[unsafe(no_mangle)]
+pub extern "C" fn cvss_reason(alloc: Global, text: &[u8], buffer: &mut [u8]) -> usize
+    ensures { Answers text.now (λ _. IsLeft buffer.old buffer.new result)
+        ((reason : List ℕ) × IsReason text.now reason
+        × IsWritten reason buffer.old buffer.new result) }
+{
+    match Cvss::read_bytes(text) {
+        Some(_) => 0,
+        None => put_reason(alloc, &[], text, buffer),
+    }
+}
+
+/// The length of the line that the program answers to a text, without the byte 10 that ends it; it
+/// is written into the buffer where it fits. An answer to an accepted text takes no memory.
+#[unsafe(no_mangle)]
+pub extern "C" fn cvss_answer(alloc: Global, text: &[u8], buffer: &mut [u8]) -> usize
+    ensures { (answer : List ℕ) × IsAnswer text.now answer
+        × IsWritten answer buffer.old buffer.new result }
+{
+    match Cvss::read_bytes(text) {
+        Some(cvss) => put_answer(&cvss, text, buffer),
+        None => put_reason(alloc, "error: ".as_bytes(), text, buffer),
+    }
+}

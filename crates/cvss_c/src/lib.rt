@@ -1,0 +1,17 @@
+//! CVSS vectors for C: read, printed and scored by functions over bytes, each proved up to the call.
+//!
+//! A text is a pointer and a length. A text that is answered goes into a buffer of the caller, which
+//! is left as it was where it is too small. Accepting, scoring and printing take no memory; telling
+//! why a text is refused does.
+#![tactic(auto)]
+
+mod answer;
+mod buffer;
+mod calls;
+mod canonical;
+mod numbers;
+mod reason;
+mod scores;
+
+pub use calls::{cvss_answer, cvss_canonical, cvss_reason, cvss_scores, cvss_version};
+pub use scores::CvssScores;
