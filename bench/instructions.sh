@@ -24,7 +24,8 @@ row() {
     python3 -B reference.py < "$room/lines" > "$room/expected"
     all=$(instructions "$room/lines")
     cmp "$room/answers" "$room/expected" || { echo "$1 $2: the answers are wrong" >&2; exit 1; }
-    echo "| $1 $2 | $(( $(wc -c < "$room/lines") / count )) | $(( (all - start) / count )) |"
+    bytes=$(wc -c < "$room/lines")
+    echo "| $1 $2 | $(( (bytes + count / 2) / count )) | $(( (all - start) / count )) |"
     [ -z "${PROFILE:-}" ] || callgrind_annotate "$room/profile" | head -60
 }
 
