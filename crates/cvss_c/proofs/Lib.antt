@@ -1,6 +1,5 @@
 pub mod AnswerLemmas
 pub mod BufferLemmas
 pub mod CanonicalLemmas
-pub mod DigitLemmas
 pub mod LengthLemmas
 pub mod RatingLemmas

@@ -1,7 +1,6 @@
 //! The line that the program answers to a text.
 
 ghost use Rattle.std.specs.Prelude.{◌≡◌, ◌≤◌, ◌+◌, ◌*◌, ◌^◌, ℕ, List, pos, length};
-ghost use Rattle.std.specs.Fmt.{decimal};
 ghost use Rattle.cvss.specs.Answers.{HasScore, IsScoreOf};
 ghost use Rattle.cvss.specs.Dispatch.{DenotesCvss};
 ghost use Rattle.cvss_c.specs.Answers.{IsAnswerOf, IsRead, rating_text};
@@ -9,7 +8,7 @@ ghost use Rattle.cvss_c.specs.Buffer.{IsWritten, Puts};
 
 use crate::buffer::put;
 use crate::canonical::put_canonical;
-use crate::numbers::tenths_of;
+use cvss::tenths::{digits, tenths_of};
 use cvss::{Cvss, Severity};
 
 /// Writes the answer to a text that denotes a vector at the beginning of a buffer where it fits, and
@@ -59,25 +58,4 @@ fn put_rating(tenths: u8, severity: Severity, buffer: &mut [u8], place: usize) -
     let place = put(digits(tenths % 10).as_bytes(), buffer, place);
     let place = put(" ".as_bytes(), buffer, place);
     put(severity.as_str().as_bytes(), buffer, place)
-}
-
-/// A number from 0 to 10 in decimal.
-#[tactic(auto, using(crate::proofs::DigitLemmas::below_ten, crate::proofs::DigitLemmas::ten))]
-fn digits(number: u8) -> &'static str
-    requires { number ≤ 10 }
-    ensures { result.now ≡ decimal number }
-{
-    match number {
-        0 => "0",
-        1 => "1",
-        2 => "2",
-        3 => "3",
-        4 => "4",
-        5 => "5",
-        6 => "6",
-        7 => "7",
-        8 => "8",
-        9 => "9",
-        _ => "10",
-    }
 }

@@ -1,7 +1,6 @@
-//! Numbers for versions, ratings, nomenclatures and scores.
+//! Numbers for versions, ratings and nomenclatures.
 
-ghost use Rattle.std.specs.Prelude.{◌≡◌, ◌≤◌, ◌*◌, ◌^◌, pos};
-ghost use Rattle.cvss.specs.Tenths.{IsInTenths, IsFromZeroToTen};
+ghost use Rattle.std.specs.Prelude.{◌≡◌};
 ghost use Rattle.cvss_c.specs.Scores.{nomenclature_number as number_of_nomenclature, severity_number as number_of_severity, version_number as number_of_version};
 
 use cvss::v4::Nomenclature;
@@ -9,8 +8,6 @@ use cvss::{Cvss, Severity};
 
 /// What stands for nothing: a text that is refused has no version, and CVSS v4.0 no temporal score.
 pub(crate) const NOTHING: i32 = -1;
-
-const FIVE_TO_23: u64 = 11_920_928_955_078_125;
 
 /// 20, 30, 31 or 40.
 pub(crate) fn version_number(cvss: &Cvss) -> i32
@@ -47,14 +44,4 @@ pub(crate) fn nomenclature_number(nomenclature: Nomenclature) -> i32
         Nomenclature::CvssBT => 2,
         Nomenclature::CvssBTE => 3,
     }
-}
-
-/// The tenths of a published score, of which it is the count of 10^-24.
-pub(crate) fn tenths_of(count: i128) -> u8
-    requires { IsInTenths IsFromZeroToTen count }
-    ensures count { count ≡ pos (result * 10 ^ 23) }
-    ensures bound { result ≤ 100 }
-{
-    // A tenth is 2^23 * 5^23 counts, so the division is one of 64 bits.
-    ((count.unsigned_abs() >> 23) as u64 / FIVE_TO_23) as u8
 }

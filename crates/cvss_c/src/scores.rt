@@ -7,7 +7,8 @@ ghost use Rattle.cvss.specs.VectorV4.{v4};
 ghost use Rattle.cvss_c.specs.Answers.{IsRead};
 ghost use Rattle.cvss_c.specs.Scores.{AreScoresOf, AreScoresV2, AreScoresV3, AreScoresV4, count_of};
 
-use crate::numbers::{NOTHING, nomenclature_number, severity_number, tenths_of};
+use crate::numbers::{NOTHING, nomenclature_number, severity_number};
+use cvss::tenths::tenths_of;
 use cvss::{Cvss, v2, v3, v4};
 
 /// The version and the scores of a vector. Scores are in tenths, from 0 to 100.
