@@ -1,4 +1,4 @@
-"""Answers the lines of the files NAME.lines in a folder, and compares each answer with that in NAME.answers."""
+"""Answers the lines of the file stdin in a folder, and compares each answer with that in the file stdout."""
 
 import sys
 from pathlib import Path
@@ -16,20 +16,19 @@ def parsed(line: bytes) -> str:
 
 
 def main() -> int:
-    count, wrong = 0, 0
-    for stored in sorted(Path(sys.argv[1]).glob("*.lines")):
-        lines = stored.read_bytes().splitlines()
-        answers = stored.with_suffix(".answers").read_text().splitlines()
-        if len(lines) != len(answers):
-            sys.exit(f"{stored}: {len(lines)} lines and {len(answers)} answers")
-        for line, expected in zip(lines, answers):
-            count += 1
-            for told in (answer(line), parsed(line)):
-                if told != expected:
-                    wrong += 1
-                    print(f"{line!r}: {told!r}, and not {expected!r}")
-    print(f"Python: {count} lines, {wrong} wrong answers")
-    return 1 if wrong or not count else 0
+    folder = Path(sys.argv[1])
+    lines = (folder / "stdin").read_bytes().splitlines()
+    answers = (folder / "stdout").read_text().splitlines()
+    if not lines or len(lines) != len(answers):
+        sys.exit(f"{folder}: {len(lines)} lines and {len(answers)} answers")
+    wrong = 0
+    for line, expected in zip(lines, answers):
+        for told in (answer(line), parsed(line)):
+            if told != expected:
+                wrong += 1
+                print(f"{line!r}: {told!r}, and not {expected!r}")
+    print(f"Python: {len(lines)} lines, {wrong} wrong answers")
+    return 1 if wrong else 0
 
 
 if __name__ == "__main__":

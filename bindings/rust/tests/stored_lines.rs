@@ -2,34 +2,22 @@
 
 use cvss_proved::{answer, Cvss, Nomenclature, Severity, Version};
 use std::fs;
-use std::path::{Path, PathBuf};
-
-/// The files of stored lines, which `bindings/test` gathers from the repository.
-fn stored_files() -> Vec<PathBuf> {
-    let folder = Path::new(env!("CARGO_MANIFEST_DIR")).join("../out/stored");
-    fs::read_dir(folder)
-        .expect("bindings/test gathers the stored lines")
-        .map(|entry| entry.unwrap().path())
-        .filter(|path| path.extension().is_some_and(|name| name == "lines"))
-        .collect()
-}
+use std::path::Path;
 
 #[test]
 fn stored_lines_have_their_answers() {
-    let files = stored_files();
-    assert!(!files.is_empty());
-    for file in files {
-        let lines = fs::read_to_string(&file).unwrap();
-        let answers = fs::read_to_string(file.with_extension("answers")).unwrap();
-        assert_eq!(lines.lines().count(), answers.lines().count());
-        for (line, expected) in lines.lines().zip(answers.lines()) {
-            assert_eq!(answer(line.as_bytes()), expected, "{line}");
-            let parsed = match Cvss::parse(line) {
-                Ok(cvss) => format!("{cvss} {} {}", cvss.score(), cvss.severity()),
-                Err(refused) => format!("error: {refused}"),
-            };
-            assert_eq!(parsed, expected, "{line}");
-        }
+    let stored = Path::new(env!("CARGO_MANIFEST_DIR")).join("../../crates/cvss_vectors");
+    let lines = fs::read_to_string(stored.join("stdin")).unwrap();
+    let answers = fs::read_to_string(stored.join("stdout")).unwrap();
+    assert!(!lines.is_empty());
+    assert_eq!(lines.lines().count(), answers.lines().count());
+    for (line, expected) in lines.lines().zip(answers.lines()) {
+        assert_eq!(answer(line.as_bytes()), expected, "{line}");
+        let parsed = match Cvss::parse(line) {
+            Ok(cvss) => format!("{cvss} {} {}", cvss.score(), cvss.severity()),
+            Err(refused) => format!("error: {refused}"),
+        };
+        assert_eq!(parsed, expected, "{line}");
     }
 }
 

@@ -1,4 +1,4 @@
-//! Numbers for versions, ratings, nomenclatures and scores.
+//! Numbers for versions, ratings and nomenclatures.
 
 ghost use Rattle.std.specs.Prelude.{◌≡◌};
 ghost use Rattle.cvss_c.specs.Scores.{nomenclature_number as number_of_nomenclature, severity_number as number_of_severity, version_number as number_of_version};
