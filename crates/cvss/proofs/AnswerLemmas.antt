@@ -1,18 +1,15 @@
 -- What the front door answers where it hands a text on to a version.
-use Rattle.std.proofs.Common.{◌≡◌, codes, List, ℕ, Option, Result, Some, None, Ok, Err, IfOk, IfErr, IfSome, IsErrAnd, refl, sym, ap, ◌∙◌, subst}
+use Rattle.std.proofs.Common.{◌≡◌, codes, List, ℕ, Option, Result, Some, None, Ok, Err, IfOk, IfErr, IfSome, IsErrAnd, refl, sym, ap, ◌∙◌}
 use Rattle.std.specs.Option.{MatchOption, IsSomeAnd}
 use Rattle.std.specs.Result.{IsOkAnd, MatchResult}
 use Rattle.cvss_base.specs.Refusal.{Refusal}
 use Rattle.cvss_base.specs.Told.{Tells, TellsFirst}
 use Rattle.cvss_base.specs.declared.error.Error.{Error}
-use Rattle.cvss.specs.Dispatch.{DenotesCvss, DenotesV2, DenotesV3, DenotesV4, Route, ToV20, ToV30, ToV31, ToV40, ToNone, route_of, IsFirstReasonAt, IsFirstRefusalCvss, IsReasonOf, wrapped, cvss_reason}
+use Rattle.cvss.specs.Dispatch.{DenotesCvss, DenotesV2, DenotesV3, DenotesV4, Route, ToV20, ToV30, ToV31, ToV40, ToNone, route_of, IsReasonOf, wrapped, cvss_reason}
 use Rattle.cvss.specs.declared.metric_type.MetricType.{MetricType}
 use Rattle.cvss.specs.declared.vector.Cvss.{Cvss}
 use Rattle.cvss.specs.declared.vector.Cvss.TheVariants.{CvssV20, CvssV30, CvssV31, CvssV40}
-use Rattle.cvss_v2.specs.declared.vector.Vector as vector_v2
-use Rattle.cvss_v3.specs.declared.vector.Vector as vector_v3
-use Rattle.cvss_v4.specs.declared.vector.Vector as vector_v4
-use Rattle.cvss.proofs.RouteLemmas.{route_for, denoted_routed}
+use Rattle.cvss.proofs.RouteLemmas.{denoted_routed}
 use Rattle.cvss.proofs.ToldLemmas.{Wraps, tells_wrapped, tells_first_wrapped}
 
 -- the vector that a text denotes is of the version by which it is read

@@ -1,5 +1,5 @@
 -- A version's error tells of all metrics what it tells of that version's.
-use Rattle.std.proofs.Common.{◌≡◌, ◌⊎◌, inl, inr, Some, None, Option, IfSome, refl, subst, ◌∙◌}
+use Rattle.std.proofs.Common.{◌≡◌, inl, inr, Some, Option, IfSome, refl, subst, ◌∙◌}
 use Rattle.cvss_base.specs.Refusal.{Refusal, BadComponent, WrongPrefix, WrongVersion, UnknownName, BadValue, Repeated, Missing, carries_text}
 use Rattle.cvss_base.specs.Told.{Tells, TellsFirst, reason_told, v2_reason, v3_reason, v4_reason}
 use Rattle.cvss_base.specs.declared.error.Error.{Error}

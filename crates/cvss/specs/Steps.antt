@@ -1,17 +1,13 @@
 -- What the private code of the front door does. No public clause cites it.
-use Rattle.std.specs.Prelude.{◌≡◌, List, ℕ, Option, Result, Ok, Some, IfOk, IfErr, IfSome, ⊤}
-use Rattle.std.specs.Result.{IsErrAnd}
+use Rattle.std.specs.Prelude.{⊤}
 use Rattle.std.specs.Str.{IsUtf8}
 use Rattle.cvss_base.specs.Refusal.{Refusal, BadComponent, WrongPrefix, WrongVersion}
-use Rattle.cvss_base.specs.Told.{Tells, TellsFirst}
-use Rattle.cvss_base.specs.declared.error.Error.{Error}
 use Rattle.cvss.specs.Dispatch as spec
 use Rattle.cvss.specs.declared.metric_type.MetricType.{MetricType}
 use Rattle.cvss.specs.declared.route.Fault.{Fault}
 use Rattle.cvss.specs.declared.route.Fault.TheVariants.{InvalidComponent, InvalidPrefix, UnsupportedVersion}
 use Rattle.cvss.specs.declared.route.Route.{Route}
 use Rattle.cvss.specs.declared.route.Route.TheVariants.{V20, V30, V31, V40, None}
-use Rattle.cvss.specs.declared.vector.Cvss.{Cvss}
 
 -- the reason that a fault stands for
 abbrev pub reason_of : Fault → Refusal MetricType

@@ -1,4 +1,4 @@
-use Rattle.std.proofs.Common.{sym, ap, ◌∙◌}
+use Rattle.std.proofs.Common.{ap, ◌∙◌}
 use Rattle.cvss_base.proofs.PieceLemmas.{MakesProgress-first}
 use Rattle.cvss.specs.Answers.{listed_as}
 use Rattle.cvss.specs.MetricsLeft.{metrics_left}

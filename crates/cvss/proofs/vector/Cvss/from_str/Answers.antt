@@ -1,4 +1,4 @@
-use Rattle.std.proofs.Common.{◌≡◌, codes, IfErr, refl, sym, ap, ◌∙◌, subst}
+use Rattle.std.proofs.Common.{codes, IfErr, sym, subst}
 use Rattle.cvss_base.specs.Told.{TellsFirst, v2_reason, v3_reason, v4_reason}
 use Rattle.cvss_base.specs.Refusal.{IsFirstRefusal, IsFirstRefusalBehind}
 use Rattle.cvss_v2.specs.Vector.{v2}

@@ -1,5 +1,5 @@
-use Rattle.std.proofs.Common.{◌≡◌, codes, refl, sym, ap, ◌∙◌}
-use Rattle.cvss.specs.Dispatch.{DenotesV2, DenotesV3, DenotesV4, ToV20, ToV30, ToV31, ToV40, ToNone}
+use Rattle.std.proofs.Common.{codes, sym}
+use Rattle.cvss.specs.Dispatch.{DenotesV2, DenotesV3, DenotesV4}
 use Rattle.cvss.specs.Steps.{reason_of}
 use Rattle.cvss.specs.declared.vector.Cvss.TheVariants.{CvssV20, CvssV30, CvssV31, CvssV40}
 use Rattle.cvss.proofs.RouteLemmas.{v30_denoted, v31_denoted}
