@@ -1,2 +1,5 @@
+mod AuditLemmas
+mod ConversionLemmas
+mod CountLemmas
 mod EqualLemmas
 mod TwiceLemmas

@@ -1,1 +1,5 @@
+pub mod Advisories
 pub mod Canonical
+pub mod Conversions
+pub mod Counts
+pub mod Findings

@@ -1,0 +1,134 @@
+//! Tests of what is answered of a vector of any version.
+
+use cvss::{Cvss, MetricType, ONE, Severity, v2, v3, v4};
+use std::alloc::Global;
+use std::process::Abort;
+use std::test::Fail;
+
+/// A tenth of a score point.
+const TENTH: i128 = ONE / 10;
+
+const V2: &str = "AV:N/AC:L/Au:N/C:N/I:N/A:C";
+
+const V30: &str = "CVSS:3.0/AV:N/AC:L/PR:N/UI:R/S:C/C:H/I:H/A:H";
+
+const V31: &str = "CVSS:3.1/AV:N/AC:L/PR:N/UI:N/S:U/C:H/I:H/A:H";
+
+const V40: &str = "CVSS:4.0/AV:N/AC:L/AT:N/PR:N/UI:N/VC:L/VI:H/VA:N/SC:N/SI:N/SA:N/E:P";
+
+#[test]
+fn answers_by_the_version_that_a_text_tells(rt: HostRuntime) -> Result<(), Fail> {
+    let rows = [
+        (V2, V2, 78 * TENTH, Severity::High),
+        (
+            "A:N/I:N/C:N/Au:N/AC:L/AV:N",
+            "AV:N/AC:L/Au:N/C:N/I:N/A:N",
+            0,
+            Severity::Low,
+        ),
+        (V30, V30, 96 * TENTH, Severity::Critical),
+        (V31, V31, 98 * TENTH, Severity::Critical),
+        ("CVSS:3.1/av:n/s:c", "CVSS:3.1/AV:N/S:C", 0, Severity::None),
+        (V40, V40, 78 * TENTH, Severity::High),
+    ];
+    for (text, canonical, score, severity) in rows {
+        let cvss = Cvss::from_str(rt.alloc(), text)?;
+        assert!(rt; cvss.has_score(), "{text}");
+        assert_eq!(rt; cvss.score(), score, "{text}");
+        assert!(rt; cvss.severity() == severity, "{text}");
+        assert_eq!(rt; cvss.to_string(rt.alloc())?.as_str(), canonical);
+        assert!(rt;
+            Cvss::read_bytes(canonical.as_bytes()) == Some(cvss),
+            "{text}"
+        );
+    }
+    Ok(())
+}
+
+#[test]
+fn holds_the_vector_of_its_version(rt: HostRuntime) -> Result<(), Fail> {
+    let alloc = rt.alloc();
+    let vector = v2::Vector::from_str(alloc, V2)?;
+    assert!(rt; Cvss::from_str(alloc, V2) == Ok(Cvss::CvssV20(vector)));
+    let vector = v3::Vector::from_str(alloc, V30)?;
+    assert!(rt; Cvss::from_str(alloc, V30) == Ok(Cvss::CvssV30(vector)));
+    let vector = v3::Vector::from_str(alloc, V31)?;
+    assert!(rt; Cvss::from_str(alloc, V31) == Ok(Cvss::CvssV31(vector)));
+    let vector = v4::Vector::from_str(alloc, V40)?;
+    assert!(rt; Cvss::from_str(alloc, V40) == Ok(Cvss::CvssV40(vector)));
+    Ok(())
+}
+
+#[test]
+fn an_incomplete_vector_of_v4_has_no_score(rt: HostRuntime) {
+    assert!(rt; !Cvss::CvssV40(v4::Vector::default()).has_score());
+    assert!(rt; Cvss::CvssV20(v2::Vector::default()).has_score());
+    assert!(rt; Cvss::CvssV31(v3::Vector::default()).has_score());
+}
+
+/// Lists the metrics of a text's vector.
+fn are_listed(
+    rt: &impl Abort,
+    alloc: Global,
+    text: &str,
+    expected: &[(MetricType, &'static str)],
+) -> Result<(), Fail> {
+    let mut metrics = Cvss::from_str(alloc, text)?.metrics();
+    for item in expected {
+        assert!(rt; metrics.next() == Some(*item), "{text}");
+    }
+    assert!(rt; metrics.next() == None, "{text}");
+    Ok(())
+}
+
+#[test]
+fn lists_metrics(rt: HostRuntime) -> Result<(), Fail> {
+    let of_v2 = [
+        (MetricType::V2(v2::MetricType::AC), "L"),
+        (MetricType::V2(v2::MetricType::Au), "N"),
+        (MetricType::V2(v2::MetricType::AV), "N"),
+        (MetricType::V2(v2::MetricType::C), "N"),
+        (MetricType::V2(v2::MetricType::I), "N"),
+        (MetricType::V2(v2::MetricType::A), "C"),
+    ];
+    are_listed(&rt, rt.alloc(), V2, &of_v2)?;
+    let of_v3 = [
+        (MetricType::V3(v3::MetricType::AV), "N"),
+        (MetricType::V3(v3::MetricType::CR), "H"),
+        (MetricType::V3(v3::MetricType::MA), "N"),
+    ];
+    are_listed(&rt, rt.alloc(), "CVSS:3.1/MA:N/CR:H/AV:N", &of_v3)?;
+    let of_v4 = [
+        (MetricType::V4(v4::MetricType::AC), "L"),
+        (MetricType::V4(v4::MetricType::AT), "N"),
+        (MetricType::V4(v4::MetricType::AV), "N"),
+        (MetricType::V4(v4::MetricType::PR), "H"),
+        (MetricType::V4(v4::MetricType::SA), "N"),
+        (MetricType::V4(v4::MetricType::SC), "N"),
+        (MetricType::V4(v4::MetricType::SI), "N"),
+        (MetricType::V4(v4::MetricType::UI), "N"),
+        (MetricType::V4(v4::MetricType::VA), "N"),
+        (MetricType::V4(v4::MetricType::VC), "L"),
+        (MetricType::V4(v4::MetricType::VI), "L"),
+        (MetricType::V4(v4::MetricType::U), "Red"),
+    ];
+    let text = "CVSS:4.0/u:red/sa:n/si:n/sc:n/va:n/vi:l/vc:l/ui:n/pr:h/at:n/ac:l/av:n";
+    are_listed(&rt, rt.alloc(), text, &of_v4)
+}
+
+#[test]
+fn names_metrics_of_each_version(rt: HostRuntime) {
+    let rows = [
+        (MetricType::V2(v2::MetricType::Au), "Au", "Authentication"),
+        (MetricType::V3(v3::MetricType::AV), "AV", "Attack Vector"),
+        (
+            MetricType::V4(v4::MetricType::MAV),
+            "MAV",
+            "Modified Attack Vector",
+        ),
+    ];
+    for (metric, name, description) in rows {
+        assert_eq!(rt; metric.name(), name);
+        assert_eq!(rt; metric.description(), description);
+    }
+}

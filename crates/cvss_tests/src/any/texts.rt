@@ -1,0 +1,89 @@
+//! Tests of texts: by the rules of which version they are read, and why they are refused.
+
+use cvss::{Cvss, Error, v3};
+use std::test::Fail;
+
+#[test]
+fn refuses_for_the_first_reason(rt: HostRuntime) -> Result<(), Fail> {
+    let rows = [
+        ("", "invalid CVSS metric group component: ``"),
+        ("/", "invalid CVSS metric group component: ``"),
+        ("garbage", "invalid CVSS metric group component: `garbage`"),
+        (
+            "CVSS:3.1",
+            "invalid CVSS metric group component: `CVSS:3.1`",
+        ),
+        ("CVSS:3.1/", "invalid CVSS metric group component: ``"),
+        ("AV:N.x/AC:L", "invalid CVSS string prefix: `AV`"),
+        ("CSS:4.0/AV", "invalid CVSS string prefix: `CSS`"),
+        (" CVSS:3.1/AV:N", "invalid CVSS string prefix: ` CVSS`"),
+        ("CVSS:3.1:x/AV:N", "unsupported CVSS version: 3.1:x"),
+        ("CVSS:5.0/AV:N", "unsupported CVSS version: 5.0"),
+        ("CVSS:4/AV:N", "unknown CVSS metric name: `CVSS`"),
+        (":/AV:N", "unknown CVSS metric name: ``"),
+        (
+            "AV:N/AC:L/AU:N/C:N/I:N/A:N",
+            "unknown CVSS metric name: `AU`",
+        ),
+        (
+            "AV:N/AC:L/Au:N/C:N/I:N",
+            "missing mandatory CVSSv2 A (Availability Impact) metric",
+        ),
+        (
+            "CVSS:3.1/AV:N/AV:q",
+            "invalid CVSSv3 AV (Attack Vector) metric: `Q`",
+        ),
+        (
+            "CVSS:3.1/MAV:q",
+            "invalid CVSSv3 AV (Attack Vector) metric: `Q`",
+        ),
+        (
+            "CVSS:3.1/AV:N/av:l",
+            "duplicate CVSSv3 AV (Attack Vector) metric",
+        ),
+        (
+            "CVSS:4.0/AV:N/AT:N/PR:H/UI:N/VC:L/VI:L/VA:N/SC:N/SI:N/SA:N",
+            "missing mandatory CVSSv4 AC (Attack Complexity) metric",
+        ),
+    ];
+    for (text, expected) in rows {
+        assert!(rt; Cvss::read_bytes(text.as_bytes()) == None, "{text}");
+        match Cvss::from_str(rt.alloc(), text) {
+            Ok(_) => assert!(rt; false, "{text} is accepted"),
+            Err(error) => assert_eq!(rt; error.to_string(rt.alloc())?.as_str(), expected, "{text}"),
+        }
+    }
+    Ok(())
+}
+
+#[test]
+fn refusals_carry_the_part_at_fault(rt: HostRuntime) -> Result<(), Fail> {
+    let component = String::from_str(rt.alloc(), "CVSS:3.1")?;
+    let refused = Cvss::from_str(rt.alloc(), "CVSS:3.1");
+    assert!(rt; refused == Err(Error::InvalidComponent { component }));
+    let prefix = String::from_str(rt.alloc(), "CSS")?;
+    let refused = Cvss::from_str(rt.alloc(), "CSS:4.0/AV");
+    assert!(rt; refused == Err(Error::InvalidPrefix { prefix }));
+    let version = String::from_str(rt.alloc(), "3.1:x")?;
+    let refused = Cvss::from_str(rt.alloc(), "CVSS:3.1:x/AV:N");
+    assert!(rt; refused == Err(Error::UnsupportedVersion { version }));
+    Ok(())
+}
+
+#[test]
+fn a_vector_of_another_minor_version_is_read_back_as_of_that(rt: HostRuntime) -> Result<(), Fail> {
+    let vector = v3::Vector {
+        minor_version: 1,
+        ..v3::Vector::default()
+    };
+    let empty = Cvss::CvssV30(vector);
+    assert_eq!(rt; empty.to_string(rt.alloc())?.as_str(), "CVSS:3.1");
+    let vector = v3::Vector {
+        av: Some(v3::metric::base::AttackVector::Network),
+        ..vector
+    };
+    let text = Cvss::CvssV30(vector).to_string(rt.alloc())?;
+    assert_eq!(rt; text.as_str(), "CVSS:3.1/AV:N");
+    assert!(rt; Cvss::from_str(rt.alloc(), text.as_str()) == Ok(Cvss::CvssV31(vector)));
+    Ok(())
+}
