@@ -1,5 +1,5 @@
 -- Counting one item more.
-use Rattle.std.proofs.Common.{◌≡◌, ◌≤◌, inl, inr, refl, ap, ℕ, ◌+◌, List, [], ◌∷◌, ◌++◌, length, arith}
+use Rattle.std.proofs.Common.{◌≤◌, inl, inr, refl, ap, ℕ, ◌+◌, List, [], ◌∷◌, ◌++◌, length, arith}
 use Rattle.cvss_tests.specs.Counts.{IsCountOf}
 
 pub IsCountOf-push : {X : Type 0} (Holds : X → Type 0) (items : List X) (item : X) (count : ℕ) → IsCountOf Holds items count → Holds item → IsCountOf Holds (items ++ item ∷ []) (count + 1)

@@ -17,11 +17,17 @@ one_decimal tenths = decimal (tenths / 10) ++ codes "." ++ decimal (tenths % 10)
 abbrev pub count_of : ℕ → ℤ
 count_of tenths = pos (tenths * 10 ^ 23)
 
--- the vector's canonical text, its score of so many tenths, and the score's rating
+-- what is told of a vector with a score of so many tenths: its canonical text, the score, its rating
+abbrev pub advisory_text : Cvss → ℕ → List ℕ
+advisory_text vector tenths =
+    text_of vector ++ codes ": " ++ one_decimal tenths
+    ++ codes " (" ++ severity.text_of (rating_by vector (count_of tenths)) ++ codes ")"
+
+-- what is told of the vector, with its score
 pub record IsVectorAdvisory (vector : Cvss) (told : List ℕ) : Type 0 where
   pub tenths : ℕ
   pub scored : IsScoreOf vector (count_of tenths)
-  pub is : told ≡ text_of vector ++ codes ": " ++ one_decimal tenths ++ codes " (" ++ severity.text_of (rating_by vector (count_of tenths)) ++ codes ")"
+  pub is : told ≡ advisory_text vector tenths
 
 -- what is told of the vector that the text denotes
 pub record TellsVector (text told : List ℕ) : Type 0 where

@@ -8,8 +8,8 @@ use cvss::Cvss;
 use cvss::tenths::tenths_of;
 use std::alloc::{AllocError, Global};
 
-/// The canonical text of a text's vector, its score with one decimal and its severity; or the reason
-/// why the text is no vector.
+/// The canonical text of a text's vector, its score with one decimal and its severity; or the
+/// reason why the text is no vector.
 pub fn advisory(alloc: Global, text: &str) -> Result<String, AllocError>
     ensures { IfOk result (λ advisory. IsAdvisory text.now (string_bytes advisory)) }
 {

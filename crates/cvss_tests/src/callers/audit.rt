@@ -16,10 +16,11 @@ pub struct Audit {
     pub refused: usize,
 }
 
-/// Counts the texts of vectors that are rated at or above a level, and the texts that are no vectors.
-/// It takes no memory.
+/// Counts the texts of vectors that are rated at or above a level, and the texts that are no
+/// vectors. It takes no memory.
 pub fn count_findings(texts: &[&str], level: Severity) -> Audit
-    ensures findings { IsCountOf (IsFinding level) (map (λ text. text.now) texts.now) result.findings }
+    ensures findings { IsCountOf (IsFinding level) (map (λ text. text.now) texts.now)
+        result.findings }
     ensures refused { IsCountOf IsNoVector (map (λ text. text.now) texts.now) result.refused }
 {
     let mut findings = 0;

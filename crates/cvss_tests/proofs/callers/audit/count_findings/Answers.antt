@@ -1,8 +1,8 @@
-use Rattle.std.proofs.Common.{◌≡◌, ◌≤◌, ◌<◌, ◌+◌, Fits, w64, slice_index_or, ℕ, List, [], ◌∷◌, ◌++◌, Bor, length, map, take, ap, sym, ◌∙◌, arith, rules}
+use Rattle.std.proofs.Common.{◌≤◌, ◌<◌, ◌+◌, ℕ, List, [], ◌∷◌, ◌++◌, Bor, length, map, take, ap, sym, ◌∙◌, arith, rules}
 use Rattle.std.proofs.lemmas.List.{get_or-map, length-map, length-take-le, take_more}
 use Rattle.cvss_tests.specs.Counts.{IsCountOf}
 use Rattle.cvss_tests.specs.Findings.{IsFinding, IsNoVector}
-use Rattle.cvss_tests.proofs.AuditLemmas.{AreCounted, counts_finding, counts_other, counts_refused}
+use Rattle.cvss_tests.proofs.AuditLemmas.{counts_finding, counts_other, counts_refused}
 use Rattle.cvss_tests.proofs.CountLemmas.{IsCountOf-le-length}
 use Rattle.cvss_tests.proofs.callers.audit.count_findings.Goals.{in-Some, in-Some+else-is_rated, in-None}
 use Rattle.cvss_tests.proofs.callers.audit.count_findings.Goals as goal

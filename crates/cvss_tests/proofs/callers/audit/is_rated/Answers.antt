@@ -17,7 +17,7 @@ returns c =
         rated = subst (λ severity. rank c.args.level ≤ rank severity) rated (c.is_at_least.ensures.0 is_true);
       },
       λ is. c.is_at_least.ensures.1 (
-        subst (λ severity. rank c.args.level ≤ rank severity)
-        (sym (rated ∙ ap (rating_by cvss) (once score is.score c.score.ensures.value is.scored)))
-        is.rated),
+          subst (λ severity. rank c.args.level ≤ rank severity)
+          (sym (rated ∙ ap (rating_by cvss) (once score is.score c.score.ensures.value is.scored)))
+          is.rated),
     )
