@@ -1,7 +1,9 @@
 -- What is answered of a vector of any version: its text, its score, the score's rating and its metrics.
-use Rattle.std.specs.Prelude.{ℕ, List, map, ℤ, ⊤}
+use Rattle.std.specs.Prelude.{ℕ, ◌*◌, ◌/◌, ◌%◌, ◌^◌, List, ◌++◌, codes, map, ℤ, pos, ⊤}
+use Rattle.std.specs.Fmt.{decimal}
 use Rattle.cvss_base.specs.Listing.{listed_metrics}
 use Rattle.cvss_base.specs.Rating.{rating_of_score}
+use Rattle.cvss_base.specs.SeverityText.{text_of as severity_text}
 use Rattle.cvss_base.specs.Tenths.{IsInTenths}
 use Rattle.cvss_base.specs.V4Types.{declared}
 use Rattle.cvss_base.specs.Version.{canonical_text, IsComplete}
@@ -50,6 +52,23 @@ rating_by (CvssV20 vector) = rating_of
 rating_by (CvssV30 vector) = rating_of_score
 rating_by (CvssV31 vector) = rating_of_score
 rating_by (CvssV40 vector) = rating_of_score
+
+-- a score of so many tenths, as a count of 10^-24
+abbrev pub score_of_tenths : ℕ → ℤ
+score_of_tenths tenths = pos (tenths * 10 ^ 23)
+
+-- a score of so many tenths as it is written: units, point, one decimal
+abbrev pub score_text : ℕ → List ℕ
+score_text tenths = decimal (tenths / 10) ++ codes "." ++ decimal (tenths % 10)
+
+-- a score of so many tenths, and a rating
+abbrev pub rating_text : ℕ → Severity → List ℕ
+rating_text tenths severity = score_text tenths ++ codes " " ++ severity_text severity
+
+-- the vector's text, a score of so many tenths, and its rating
+abbrev pub vector_answer : Cvss → ℕ → List ℕ
+vector_answer vector tenths =
+    text_of vector ++ codes " " ++ rating_text tenths (rating_by vector (score_of_tenths tenths))
 
 -- metrics of one version, listed as metrics of any
 abbrev pub listed_as : {K : Type 0} → (K → MetricType) → List (K × List ℕ) → List (MetricType × List ℕ)

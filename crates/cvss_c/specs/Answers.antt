@@ -1,14 +1,12 @@
 -- What is answered to a text: something of the vector that it denotes, or why it denotes none.
-use Rattle.std.specs.Prelude.{◌≡◌, ℕ, ◌*◌, ◌/◌, ◌%◌, ◌^◌, ◌⊎◌, ◌++◌, List, codes, pos}
-use Rattle.std.specs.Fmt.{decimal}
+use Rattle.std.specs.Prelude.{◌≡◌, ℕ, ◌⊎◌, ◌++◌, List, codes}
 use Rattle.std.specs.Str.{IsUtf8}
-use Rattle.cvss.specs.Answers.{text_of, IsScoreOf, rating_by}
+use Rattle.cvss.specs.Answers.{text_of, IsScoreOf, rating_by, rating_text, score_of_tenths}
 use Rattle.cvss.specs.declared.vector.Cvss.{Cvss}
 use Rattle.cvss.specs.Dispatch.{DenotesCvss, IsFirstRefusalCvss, cvss_reason}
 use Rattle.cvss.specs.ErrorText.{error_text}
 use Rattle.cvss.specs.ErrorType.{Error}
 use Rattle.cvss.specs.ErrorType.TheVariants.{OutOfMemory}
-use Rattle.cvss.specs.SeverityText.{text_of as severity_text}
 use Rattle.cvss_base.specs.declared.severity.Severity.{Severity}
 use Rattle.cvss.specs.Told.{TellsFirst}
 
@@ -51,19 +49,15 @@ pub record IsTold (text reason : List ℕ) : Type 0 where
 abbrev pub IsReason : List ℕ → List ℕ → Type 0
 IsReason text reason = IsNoText text reason ⊎ IsTold text reason
 
--- a score of so many tenths: units, point, one decimal
-abbrev pub score_text : ℕ → List ℕ
-score_text tenths = decimal (tenths / 10) ++ codes "." ++ decimal (tenths % 10)
-
 -- what stands behind the vector's text: the score and its rating, each behind a blank
-abbrev pub rating_text : ℕ → Severity → List ℕ
-rating_text tenths severity = codes " " ++ score_text tenths ++ codes " " ++ severity_text severity
+abbrev pub rating_behind : ℕ → Severity → List ℕ
+rating_behind tenths severity = codes " " ++ rating_text tenths severity
 
 -- the vector's canonical text, its score, and the score's rating
 pub record IsAnswerOf (answer : List ℕ) (cvss : Cvss) : Type 0 where
   pub tenths : ℕ
-  pub scored : IsScoreOf cvss (pos (tenths * 10 ^ 23))
-  pub is : answer ≡ text_of cvss ++ rating_text tenths (rating_by cvss (pos (tenths * 10 ^ 23)))
+  pub scored : IsScoreOf cvss (score_of_tenths tenths)
+  pub is : answer ≡ text_of cvss ++ rating_behind tenths (rating_by cvss (score_of_tenths tenths))
 
 -- the word error, and the reason
 pub record IsErrorAnswer (text answer : List ℕ) : Type 0 where

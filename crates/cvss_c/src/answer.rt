@@ -1,9 +1,9 @@
 //! The line that the program answers to a text.
 
-ghost use Rattle.std.specs.Prelude.{◌≡◌, ◌≤◌, ◌+◌, ◌*◌, ◌^◌, ℕ, List, pos, length};
-ghost use Rattle.cvss.specs.Answers.{HasScore, IsScoreOf};
+ghost use Rattle.std.specs.Prelude.{◌≡◌, ◌≤◌, ◌+◌, ℕ, List, length};
+ghost use Rattle.cvss.specs.Answers.{HasScore, IsScoreOf, score_of_tenths};
 ghost use Rattle.cvss.specs.Dispatch.{DenotesCvss};
-ghost use Rattle.cvss_c.specs.Answers.{IsAnswerOf, IsRead, rating_text};
+ghost use Rattle.cvss_c.specs.Answers.{IsAnswerOf, rating_behind};
 ghost use Rattle.cvss_c.specs.Buffer.{IsWritten, Puts};
 
 use crate::buffer::put;
@@ -31,7 +31,7 @@ pub(crate) fn put_answer(cvss: &Cvss, text: &[u8], buffer: &mut [u8]) -> usize
 /// The tenths of the score of a vector that has one.
 fn score_tenths(cvss: &Cvss) -> u8
     requires { HasScore cvss.now }
-    ensures scored { IsScoreOf cvss.now (pos (result * 10 ^ 23)) }
+    ensures scored { IsScoreOf cvss.now (score_of_tenths result) }
     ensures bound { result ≤ 100 }
 {
     tenths_of(cvss.score())
@@ -40,7 +40,7 @@ fn score_tenths(cvss: &Cvss) -> u8
 /// How long a score and its rating are, each behind a blank.
 fn rating_length(tenths: u8, severity: Severity) -> usize
     requires { tenths ≤ 100 }
-    ensures length { result ≡ length (rating_text tenths severity) }
+    ensures length { result ≡ length (rating_behind tenths severity) }
     ensures bound { result ≤ 16 }
 {
     digits(tenths / 10).len() + severity.as_str().len() + 4
@@ -49,8 +49,8 @@ fn rating_length(tenths: u8, severity: Severity) -> usize
 /// Writes a score and its rating, each behind a blank.
 fn put_rating(tenths: u8, severity: Severity, buffer: &mut [u8], place: usize) -> usize
     requires tenths { tenths ≤ 100 }
-    requires room { place + length (rating_text tenths severity) ≤ length buffer.old }
-    ensures { Puts (rating_text tenths severity) buffer.old place buffer.new result }
+    requires room { place + length (rating_behind tenths severity) ≤ length buffer.old }
+    ensures { Puts (rating_behind tenths severity) buffer.old place buffer.new result }
 {
     let place = put(" ".as_bytes(), buffer, place);
     let place = put(digits(tenths / 10).as_bytes(), buffer, place);

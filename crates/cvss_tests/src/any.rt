@@ -1,6 +1,6 @@
 //! Tests of what all versions have in common.
 
 mod answers;
-mod callers;
+mod examples;
 mod paths;
 mod texts;

@@ -61,6 +61,14 @@ fn a_version_alone_stands_for_a_vector_without_metrics(rt: HostRuntime) -> Resul
     Ok(())
 }
 
+/// Reads a value that is no string.
+fn is_no_string<T>(rt: &impl Abort, alloc: Global, value: &Value)
+where
+    T: JsonText + PartialEq + Drop,
+{
+    assert!(rt; T::from_value(alloc, value) == Err(JsonError::NotAString));
+}
+
 #[test]
 fn values_that_are_no_strings_stand_for_nothing(rt: HostRuntime) -> Result<(), Fail> {
     let alloc = rt.alloc();
@@ -73,12 +81,12 @@ fn values_that_are_no_strings_stand_for_nothing(rt: HostRuntime) -> Result<(), F
         Value::from(Map::new(alloc)),
     ];
     for value in &values {
-        assert!(rt; Cvss::from_value(alloc, value) == Err(JsonError::NotAString));
-        assert!(rt; Severity::from_value(alloc, value) == Err(JsonError::NotAString));
-        assert!(rt; v4::Nomenclature::from_value(alloc, value) == Err(JsonError::NotAString));
-        assert!(rt; v2::Vector::from_value(alloc, value) == Err(JsonError::NotAString));
-        assert!(rt; v3::Vector::from_value(alloc, value) == Err(JsonError::NotAString));
-        assert!(rt; v4::Vector::from_value(alloc, value) == Err(JsonError::NotAString));
+        is_no_string::<Cvss>(&rt, alloc, value);
+        is_no_string::<Severity>(&rt, alloc, value);
+        is_no_string::<v4::Nomenclature>(&rt, alloc, value);
+        is_no_string::<v2::Vector>(&rt, alloc, value);
+        is_no_string::<v3::Vector>(&rt, alloc, value);
+        is_no_string::<v4::Vector>(&rt, alloc, value);
     }
     Ok(())
 }
@@ -92,7 +100,7 @@ where
     let refused = T::from_value(alloc, &value).err();
     assert!(rt; matches!(&refused, Some(JsonError::Invalid(_))), "{text}");
     if let Some(error) = &refused {
-        assert!(rt; error.to_string(alloc)?.as_str() == reason, "{text}");
+        assert_eq!(rt; error.to_string(alloc)?.as_str(), reason);
     }
     Ok(())
 }
@@ -138,6 +146,13 @@ fn strings_whose_texts_are_refused_stand_for_nothing(rt: HostRuntime) -> Result<
     )
 }
 
+/// Prints one error, and copies it.
+fn is_printed(rt: &impl Abort, alloc: Global, error: &JsonError, text: &str) -> Result<(), Fail> {
+    assert_eq!(rt; error.to_string(alloc)?.as_str(), text);
+    assert!(rt; error.clone()? == *error, "{text}");
+    Ok(())
+}
+
 #[test]
 fn errors_are_printed_and_copied(rt: HostRuntime) -> Result<(), Fail> {
     let alloc = rt.alloc();
@@ -151,8 +166,7 @@ fn errors_are_printed_and_copied(rt: HostRuntime) -> Result<(), Fail> {
         (JsonError::from(Error::OutOfMemory), "out of memory"),
     ];
     for (error, text) in &rows {
-        assert_eq!(rt; error.to_string(alloc)?.as_str(), *text);
-        assert!(rt; error.clone()? == *error, "{text}");
+        is_printed(&rt, alloc, error, text)?;
     }
     assert!(rt; rows[2].0 == JsonError::OutOfMemory);
     Ok(())

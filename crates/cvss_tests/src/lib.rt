@@ -1,9 +1,8 @@
-//! Callers of the public calls that are proved, and tests with values from outside.
+//! Tests of the public calls, with values from outside.
 #![tactic(auto)]
 
 #[cfg(test)]
 mod any;
-pub mod callers;
 #[cfg(test)]
 mod checksum;
 #[cfg(test)]

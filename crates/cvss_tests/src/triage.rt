@@ -2,8 +2,8 @@
 
 use cvss::v4::MetricType;
 use cvss::{Error, ONE, Severity};
-use cvss_ranking::{TriageError, apply};
-use std::alloc::Global;
+use cvss_ranking::{Row, TriageError, apply};
+use std::alloc::{AllocError, Global};
 use std::process::Abort;
 use std::test::Fail;
 
@@ -23,6 +23,13 @@ const NONE: &str = "CVSS:4.0/AV:N/AC:L/AT:N/PR:N/UI:N/VC:N/VI:N/VA:N/SC:N/SI:N/S
 /// The text, the canonical text that is scored, and the tenths of the score.
 type Expected = (&'static str, &'static str, u8);
 
+/// Compares a row.
+fn is_row(rt: &impl Abort, row: &Row, (text, scored, tenths): Expected) {
+    assert_eq!(rt; row.text.as_str(), text);
+    assert_eq!(rt; row.scored.as_str(), scored);
+    assert_eq!(rt; row.score, tenths as i128 * (ONE / 10));
+}
+
 /// Ranks texts, and compares the rows.
 fn are_ranked(
     rt: &impl Abort,
@@ -33,12 +40,22 @@ fn are_ranked(
 ) -> Result<(), Fail> {
     let rows = apply(alloc, texts, overrides)?;
     assert_eq!(rt; rows.len(), expected.len());
-    for (row, (text, scored, tenths)) in rows.iter().zip(expected) {
-        assert_eq!(rt; row.text.as_str(), *text);
-        assert_eq!(rt; row.scored.as_str(), *scored);
-        assert_eq!(rt; row.score, *tenths as i128 * (ONE / 10));
+    for (row, expected) in rows.iter().zip(expected) {
+        is_row(rt, row, *expected);
     }
     Ok(())
+}
+
+/// What the refusal says, if there is one.
+fn refusal_of(
+    alloc: Global,
+    texts: &[&str],
+    overrides: &[&str],
+) -> Result<Option<String>, AllocError> {
+    match apply(alloc, texts, overrides) {
+        Ok(_) => Ok(None),
+        Err(error) => Ok(Some(error.to_string(alloc)?)),
+    }
 }
 
 /// Ranks texts, and compares what the refusal says.
@@ -49,9 +66,9 @@ fn is_told(
     overrides: &[&str],
     told: &str,
 ) -> Result<(), Fail> {
-    match apply(alloc, texts, overrides) {
-        Ok(_) => assert!(rt; false, "{told}"),
-        Err(error) => assert_eq!(rt; error.to_string(alloc)?.as_str(), told),
+    match &refusal_of(alloc, texts, overrides)? {
+        Some(refusal) => assert_eq!(rt; refusal.as_str(), told),
+        None => assert!(rt; false, "{told}"),
     }
     Ok(())
 }

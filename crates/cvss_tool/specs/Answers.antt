@@ -1,15 +1,12 @@
 -- The answers that the program writes to the lines of its input.
-use Rattle.std.specs.Prelude.{◌≡◌, ℕ, ◌*◌, ◌/◌, ◌%◌, ◌^◌, ◌⊎◌, Bool, true, false, List, [], ◌∷◌, ◌++◌, codes, flat_map, ℤ, pos, String, ⊤}
-use Rattle.std.specs.Fmt.{decimal}
+use Rattle.std.specs.Prelude.{◌≡◌, ℕ, ◌⊎◌, Bool, true, false, List, [], ◌∷◌, ◌++◌, codes, flat_map, String, ⊤}
 use Rattle.std.specs.Str.{IsUtf8}
 use Rattle.std.specs.String.{string_bytes}
 use Rattle.std.specs.declared.alloc.Global.{Global}
 use Rattle.cvss.specs.ErrorType.{Error}
-use Rattle.cvss.specs.SeverityType.{Severity}
 use Rattle.cvss.specs.declared.vector.Cvss.{Cvss}
 use Rattle.cvss.specs.ErrorText.{error_text}
-use Rattle.cvss.specs.SeverityText.{text_of as severity_text}
-use Rattle.cvss.specs.Answers.{text_of as canonical_text, IsScoreOf, rating_by}
+use Rattle.cvss.specs.Answers.{IsScoreOf, score_of_tenths, vector_answer}
 use Rattle.cvss.specs.Dispatch.{DenotesCvss, IsFirstRefusalCvss, cvss_reason}
 use Rattle.cvss.specs.Told.{TellsFirst}
 
@@ -32,30 +29,13 @@ abbrev pub is_refused : Answer → Bool
 is_refused (Accepted text) = false
 is_refused (Refused text) = true
 
--- a score of so many tenths: units, point, one decimal
-abbrev pub score_text : ℕ → List ℕ
-score_text tenths = decimal (tenths / 10) ++ codes "." ++ decimal (tenths % 10)
-
--- a score of so many tenths, and a rating
-abbrev pub rating_text : ℕ → Severity → List ℕ
-rating_text tenths severity = score_text tenths ++ codes " " ++ severity_text severity
-
--- a score of so many tenths, as a count of 10^-24
-abbrev pub score_of : ℕ → ℤ
-score_of tenths = pos (tenths * 10 ^ 23)
-
--- a vector's canonical text, its score and the score's rating
-abbrev pub vector_answer : Cvss → ℕ → List ℕ
-vector_answer vector tenths =
-    canonical_text vector ++ codes " " ++ rating_text tenths (rating_by vector (score_of tenths))
-
 -- the line is a text that denotes a vector of some version, and the answer is this vector's
 pub record IsAcceptance (line answer : List ℕ) : Type 0 where
   pub utf8 : IsUtf8 line
   pub vector : Cvss
   pub denoted : DenotesCvss line vector
   pub tenths : ℕ
-  pub scored : IsScoreOf vector (score_of tenths)
+  pub scored : IsScoreOf vector (score_of_tenths tenths)
   pub is : answer ≡ vector_answer vector tenths
 
 -- the line is a text that is no vector, and the answer is an error that tells the first reason
@@ -93,7 +73,7 @@ written_answers answers = flat_map written_answer answers
 -- the vector's answer and a byte 10 are written behind the earlier answers
 pub record WritesVector (vector : Cvss) (old new : String Global) : Type 0 where
   pub tenths : ℕ
-  pub scored : IsScoreOf vector (score_of tenths)
+  pub scored : IsScoreOf vector (score_of_tenths tenths)
   pub written : string_bytes new ≡ string_bytes old ++ written_answer (Accepted (vector_answer vector tenths))
 
 -- a refusal's answer and a byte 10 are written behind the earlier answers

@@ -1,10 +1,10 @@
 //! The answer to one line.
 
 ghost use Rattle.std.specs.Prelude.{◌≡◌, ◌++◌, [], ◌∷◌, ◌≤◌, IfOk, OnOk, string_bytes};
-ghost use Rattle.cvss.specs.Answers.{HasScore};
+ghost use Rattle.cvss.specs.Answers.{HasScore, rating_text};
 ghost use Rattle.cvss.specs.declared.vector.Cvss.{Cvss};
 ghost use Rattle.cvss.specs.Dispatch.{DenotesCvss};
-ghost use Rattle.cvss_tool.specs.Answers.{Answer, IsAnswer, WritesRefusal, WritesVector, is_accepted, rating_text, written_answer};
+ghost use Rattle.cvss_tool.specs.Answers.{Answer, IsAnswer, WritesRefusal, WritesVector, is_accepted, written_answer};
 
 use cvss::tenths::{digits, tenths_of};
 use cvss::{Cvss, Severity};

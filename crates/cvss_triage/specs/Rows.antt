@@ -1,6 +1,6 @@
 -- How rows are written.
-use Rattle.std.specs.Prelude.{ℕ, ◌/◌, ◌%◌, ◌^◌, List, ◌++◌, codes, unsigned_abs, string_bytes}
-use Rattle.std.specs.Fmt.{decimal}
+use Rattle.std.specs.Prelude.{ℕ, ◌/◌, ◌^◌, List, ◌++◌, codes, unsigned_abs, string_bytes}
+use Rattle.cvss.specs.Answers.{score_text}
 use Rattle.cvss.specs.Rating.{rating_of_score}
 use Rattle.cvss.specs.SeverityText.{text_of as severity_text}
 use Rattle.cvss_ranking.specs.declared.row.Row.{Row}
@@ -9,12 +9,8 @@ use Rattle.cvss_ranking.specs.declared.row.Row.{Row}
 abbrev pub tenths_of : Row → ℕ
 tenths_of row = unsigned_abs row.score / 10 ^ 23
 
--- the score with one decimal
-abbrev pub score_text : Row → List ℕ
-score_text row = decimal (tenths_of row / 10) ++ codes "." ++ decimal (tenths_of row % 10)
-
 -- the score, its rating, the text that was scored, the text as it was given
 abbrev pub row_text : Row → List ℕ
 row_text row =
-    score_text row ++ codes " " ++ severity_text (rating_of_score row.score) ++ codes " "
+    score_text (tenths_of row) ++ codes " " ++ severity_text (rating_of_score row.score) ++ codes " "
     ++ string_bytes row.scored ++ codes " " ++ string_bytes row.text ++ codes "\n"

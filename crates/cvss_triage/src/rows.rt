@@ -1,7 +1,8 @@
 //! How rows are written.
 
 ghost use Rattle.std.specs.Prelude.{◌≡◌, ◌++◌, IfOk, OnOk, flat_map, string_bytes};
-ghost use Rattle.cvss_triage.specs.Rows.{row_text, score_text};
+ghost use Rattle.cvss.specs.Answers.{score_text};
+ghost use Rattle.cvss_triage.specs.Rows.{row_text, tenths_of};
 
 use cvss::ONE;
 use cvss_ranking::Row;
@@ -33,7 +34,7 @@ fn write_row(row: &Row, text: &mut String) -> Result<(), AllocError>
 
 /// Writes a row's score with one decimal.
 fn write_score(row: &Row, text: &mut String) -> Result<(), AllocError>
-    ensures { OnOk result (string_bytes text.new ≡ string_bytes text.old ++ score_text row.now) }
+    ensures { OnOk result (string_bytes text.new ≡ string_bytes text.old ++ score_text (tenths_of row.now)) }
 {
     let tenths = row.score.unsigned_abs() / TENTH;
     write!(text, "{}.{}", tenths / 10, tenths % 10)?;

@@ -45,17 +45,22 @@ fn answers_by_the_version_that_a_text_tells(rt: HostRuntime) -> Result<(), Fail>
     Ok(())
 }
 
+/// Reads a text as a vector of any version.
+fn is_read_as(rt: &impl Abort, alloc: Global, text: &str, expected: Cvss) {
+    assert!(rt; Cvss::from_str(alloc, text) == Ok(expected), "{text}");
+}
+
 #[test]
 fn holds_the_vector_of_its_version(rt: HostRuntime) -> Result<(), Fail> {
     let alloc = rt.alloc();
     let vector = v2::Vector::from_str(alloc, V2)?;
-    assert!(rt; Cvss::from_str(alloc, V2) == Ok(Cvss::CvssV20(vector)));
+    is_read_as(&rt, alloc, V2, Cvss::CvssV20(vector));
     let vector = v3::Vector::from_str(alloc, V30)?;
-    assert!(rt; Cvss::from_str(alloc, V30) == Ok(Cvss::CvssV30(vector)));
+    is_read_as(&rt, alloc, V30, Cvss::CvssV30(vector));
     let vector = v3::Vector::from_str(alloc, V31)?;
-    assert!(rt; Cvss::from_str(alloc, V31) == Ok(Cvss::CvssV31(vector)));
+    is_read_as(&rt, alloc, V31, Cvss::CvssV31(vector));
     let vector = v4::Vector::from_str(alloc, V40)?;
-    assert!(rt; Cvss::from_str(alloc, V40) == Ok(Cvss::CvssV40(vector)));
+    is_read_as(&rt, alloc, V40, Cvss::CvssV40(vector));
     Ok(())
 }
 

@@ -1,7 +1,18 @@
 //! Tests of texts: by the rules of which version they are read, and why they are refused.
 
 use cvss::{Cvss, Error, v3};
+use std::alloc::Global;
+use std::process::Abort;
 use std::test::Fail;
+
+/// Reads a text that is refused, and compares what the refusal says.
+fn is_told(rt: &impl Abort, alloc: Global, text: &str, told: &str) -> Result<(), Fail> {
+    match Cvss::from_str(alloc, text) {
+        Ok(_) => assert!(rt; false, "{text} is accepted"),
+        Err(error) => assert_eq!(rt; error.to_string(alloc)?.as_str(), told, "{text}"),
+    }
+    Ok(())
+}
 
 #[test]
 fn refuses_for_the_first_reason(rt: HostRuntime) -> Result<(), Fail> {
@@ -46,27 +57,33 @@ fn refuses_for_the_first_reason(rt: HostRuntime) -> Result<(), Fail> {
             "missing mandatory CVSSv4 AC (Attack Complexity) metric",
         ),
     ];
-    for (text, expected) in rows {
+    for (text, told) in rows {
         assert!(rt; Cvss::read_bytes(text.as_bytes()) == None, "{text}");
-        match Cvss::from_str(rt.alloc(), text) {
-            Ok(_) => assert!(rt; false, "{text} is accepted"),
-            Err(error) => assert_eq!(rt; error.to_string(rt.alloc())?.as_str(), expected, "{text}"),
-        }
+        is_told(&rt, rt.alloc(), text, told)?;
     }
     Ok(())
 }
 
+/// Reads a text that is refused, and compares the error.
+fn is_refused(rt: &impl Abort, alloc: Global, text: &str, expected: Error) {
+    assert!(rt; Cvss::from_str(alloc, text) == Err(expected), "{text}");
+}
+
 #[test]
 fn refusals_carry_the_part_at_fault(rt: HostRuntime) -> Result<(), Fail> {
-    let component = String::from_str(rt.alloc(), "CVSS:3.1")?;
-    let refused = Cvss::from_str(rt.alloc(), "CVSS:3.1");
-    assert!(rt; refused == Err(Error::InvalidComponent { component }));
-    let prefix = String::from_str(rt.alloc(), "CSS")?;
-    let refused = Cvss::from_str(rt.alloc(), "CSS:4.0/AV");
-    assert!(rt; refused == Err(Error::InvalidPrefix { prefix }));
-    let version = String::from_str(rt.alloc(), "3.1:x")?;
-    let refused = Cvss::from_str(rt.alloc(), "CVSS:3.1:x/AV:N");
-    assert!(rt; refused == Err(Error::UnsupportedVersion { version }));
+    let alloc = rt.alloc();
+    let component = String::from_str(alloc, "CVSS:3.1")?;
+    is_refused(
+        &rt,
+        alloc,
+        "CVSS:3.1",
+        Error::InvalidComponent { component },
+    );
+    let prefix = String::from_str(alloc, "CSS")?;
+    is_refused(&rt, alloc, "CSS:4.0/AV", Error::InvalidPrefix { prefix });
+    let version = String::from_str(alloc, "3.1:x")?;
+    let error = Error::UnsupportedVersion { version };
+    is_refused(&rt, alloc, "CVSS:3.1:x/AV:N", error);
     Ok(())
 }
 

@@ -11,7 +11,7 @@ use cvss::v3::metric::environmental::{
 };
 use cvss::v3::metric::temporal::{ExploitCodeMaturity, RemediationLevel, ReportConfidence};
 use cvss::v3::{Metric, MetricType};
-use std::alloc::Global;
+use std::alloc::{AllocError, Global};
 use std::process::Abort;
 use std::test::Fail;
 
@@ -112,59 +112,71 @@ fn spells_and_weighs_values(rt: HostRuntime) -> Result<(), Fail> {
 }
 
 #[test]
-fn modified_values_replace_base_values(rt: HostRuntime) -> Result<(), Fail> {
+fn modified_values_replace_base_values(rt: HostRuntime) {
+    let network = Some(AttackVector::Network);
     let physical = Modified::Modified(AttackVector::Physical);
-    assert_eq!(rt;
-        Modified::NotDefined.modified_score(Some(AttackVector::Network)),
-        85 * HUNDREDTH
-    );
-    assert_eq!(rt;
-        Modified::<AttackVector>::NotDefined.modified_score(None),
-        0
-    );
-    assert_eq!(rt;
-        physical.modified_score(Some(AttackVector::Network)),
-        20 * HUNDREDTH
-    );
-    assert_eq!(rt; physical.modified_score(None), 20 * HUNDREDTH);
-    assert_eq!(rt; physical.score(), 0);
     let high = PrivilegesRequired::High;
-    assert_eq!(rt; high.scoped_score(true), 50 * HUNDREDTH);
-    assert_eq!(rt; high.scoped_score(false), 27 * HUNDREDTH);
-    assert_eq!(rt;
-        Modified::NotDefined.scoped_score(true, Some(high)),
-        50 * HUNDREDTH
-    );
-    assert_eq!(rt; Modified::NotDefined.scoped_score(true, None), 0);
     let low = Modified::Modified(PrivilegesRequired::Low);
-    assert_eq!(rt; low.scoped_score(true, Some(high)), 68 * HUNDREDTH);
-    assert_eq!(rt; low.scoped_score(false, None), 62 * HUNDREDTH);
+    let rows = [
+        (Modified::NotDefined.modified_score(network), 85),
+        (Modified::<AttackVector>::NotDefined.modified_score(None), 0),
+        (physical.modified_score(network), 20),
+        (physical.modified_score(None), 20),
+        (physical.score(), 0),
+        (high.scoped_score(true), 50),
+        (high.scoped_score(false), 27),
+        (Modified::NotDefined.scoped_score(true, Some(high)), 50),
+        (Modified::NotDefined.scoped_score(true, None), 0),
+        (low.scoped_score(true, Some(high)), 68),
+        (low.scoped_score(false, None), 62),
+    ];
+    for (score, hundredths) in rows {
+        assert_eq!(rt; score, i128::from(hundredths) * HUNDREDTH);
+    }
+}
+
+#[test]
+fn a_changed_scope_and_the_default(rt: HostRuntime) {
     assert!(rt; Scope::Changed.is_changed() && !Scope::Unchanged.is_changed());
     assert!(rt; AttackComplexity::default() == AttackComplexity::High);
+    assert!(rt; AttackVector::MODIFIED_TYPE == MetricType::MAV);
+}
+
+/// Compares what was printed.
+fn is_text(rt: &impl Abort, printed: Result<String, AllocError>, text: &str) -> Result<(), Fail> {
+    assert_eq!(rt; printed?.as_str(), text);
     Ok(())
 }
 
 #[test]
-fn modified_metrics_are_printed_and_refused(rt: HostRuntime) -> Result<(), Fail> {
-    let printed = Modified::Modified(UserInteraction::None).to_string(rt.alloc())?;
-    assert_eq!(rt; printed.as_str(), "MUI:N");
-    let printed = Modified::<Availability>::NotDefined.to_string(rt.alloc())?;
-    assert_eq!(rt; printed.as_str(), "MA:X");
-    assert_eq!(rt;
-        ModifiedScope::NotDefined.to_string(rt.alloc())?.as_str(),
-        "MS:X"
-    );
-    assert_eq!(rt; Scope::Changed.to_string(rt.alloc())?.as_str(), "S:C");
-    assert!(rt; AttackVector::MODIFIED_TYPE == MetricType::MAV);
-    let value = String::from_str(rt.alloc(), "n")?;
-    let metric_type = MetricType::AV;
-    let refused = Modified::<AttackVector>::from_str(rt.alloc(), "n");
+fn modified_metrics_are_printed(rt: HostRuntime) -> Result<(), Fail> {
+    let alloc = rt.alloc();
+    let none = Modified::Modified(UserInteraction::None);
+    is_text(&rt, none.to_string(alloc), "MUI:N")?;
+    let absent = Modified::<Availability>::NotDefined;
+    is_text(&rt, absent.to_string(alloc), "MA:X")?;
+    is_text(&rt, ModifiedScope::NotDefined.to_string(alloc), "MS:X")?;
+    is_text(&rt, Scope::Changed.to_string(alloc), "S:C")
+}
+
+/// Compares why a value was refused.
+fn is_refused<M>(rt: &impl Abort, refused: Result<M, Error>, metric_type: MetricType, value: String)
+where
+    M: PartialEq + Drop,
+{
     assert!(rt; refused == Err(Error::InvalidMetricV3 { metric_type, value }));
-    let value = String::from_str(rt.alloc(), "q")?;
-    let metric_type = MetricType::S;
-    let refused = ModifiedScope::from_str(rt.alloc(), "q");
-    assert!(rt; refused == Err(Error::InvalidMetricV3 { metric_type, value }));
-    assert!(rt; AttackVector::from_str(rt.alloc(), "N") == Ok(AttackVector::Network));
+}
+
+#[test]
+fn modified_metrics_are_refused_as_their_base_metrics(rt: HostRuntime) -> Result<(), Fail> {
+    let alloc = rt.alloc();
+    let value = String::from_str(alloc, "n")?;
+    let refused = Modified::<AttackVector>::from_str(alloc, "n");
+    is_refused(&rt, refused, MetricType::AV, value);
+    let value = String::from_str(alloc, "q")?;
+    let refused = ModifiedScope::from_str(alloc, "q");
+    is_refused(&rt, refused, MetricType::S, value);
+    assert!(rt; AttackVector::from_str(alloc, "N") == Ok(AttackVector::Network));
     Ok(())
 }
 
@@ -206,6 +218,11 @@ fn names_metrics(rt: HostRuntime) -> Result<(), Fail> {
         is_named(&rt, rt.alloc(), kind, name)?;
         assert!(rt; kind.description() == description);
     }
+    Ok(())
+}
+
+#[test]
+fn refuses_other_names(rt: HostRuntime) -> Result<(), Fail> {
     for text in ["", "av", "Au", "CVSS", "X"] {
         let name = String::from_str(rt.alloc(), text)?;
         let refused = MetricType::from_str(rt.alloc(), text);

@@ -1,5 +1,6 @@
 use Rattle.std.proofs.Common.{refl}
-use Rattle.cvss_tool.specs.Answers.{Accepted, Refused, IsAnswer, vector_answer}
+use Rattle.cvss.specs.Answers.{vector_answer}
+use Rattle.cvss_tool.specs.Answers.{Accepted, Refused, IsAnswer}
 use Rattle.cvss_tool.proofs.answer.answer_line.Goals as goal
 
 pub returns-in-Some : goal.returns-in-Some

@@ -2,15 +2,14 @@ use Rattle.std.proofs.Common.{◌≡◌, ◌++◌, [], ◌∷◌, codes, rules, 
 use Rattle.std.specs.Int.{w128}
 use Rattle.std.proofs.lemmas.Int.{to_z-of_z}
 use Rattle.std.proofs.lemmas.List.{append_assoc}
-use Rattle.cvss.specs.Answers.{IsScoreOf, rating_by, text_of}
-use Rattle.cvss_tool.specs.Answers.{score_of, rating_text}
+use Rattle.cvss.specs.Answers.{IsScoreOf, rating_by, rating_text, score_of_tenths, text_of}
 use Rattle.cvss_tool.proofs.answer.write_vector.Goals as goal
 
 pub returns : goal.returns
 returns c =
     let vector = c.args.vector.now in
     let score = sym (to_z-of_z w128 c.score-score.result (search rules)) ∙ c.tenths_of.ensures.count in
-    let rated : c.severity_of.result ≡ rating_by vector (score_of c.tenths_of.result) = c.severity_of.ensures ∙ ap (rating_by vector) c.tenths_of.ensures.count in
+    let rated : c.severity_of.result ≡ rating_by vector (score_of_tenths c.tenths_of.result) = c.severity_of.ensures ∙ ap (rating_by vector) c.tenths_of.ensures.count in
     let old = string_bytes c.args.answers.now in
     let front = text_of vector ++ codes " " in
     let rating = rating_text c.tenths_of.result in

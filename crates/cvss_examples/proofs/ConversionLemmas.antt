@@ -1,0 +1,71 @@
+-- A vector that a text denotes is given back by its own text, and so by its JSON value.
+use Rattle.std.proofs.Common.{◌≡◌, ◌≢◌, ◌↔◌, ℕ, List, [], ◌∷◌, ◌++◌, codes, length, map, refl, sym, ap, ◌∙◌, subst, arith}
+use Rattle.std.specs.List.{join_with_byte}
+use Rattle.std.specs.Prelude.{Result, IfOk, Ok, Err}
+use Rattle.std.proofs.lemmas.List.{length-map}
+use Rattle.std.proofs.lemmas.List.Sorted.{length_permutation}
+use Rattle.cvss.specs.Answers.{text_of}
+use Rattle.cvss.specs.Dispatch.{DenotesCvss, DenotesV3}
+use Rattle.cvss.specs.Laws.{IsGivenBack}
+use Rattle.cvss.specs.VectorTypeV3.{Vector}
+use Rattle.cvss.specs.VectorV3.{v3}
+use Rattle.cvss.specs.Version.{AreComponentsOf, components_of, read}
+use Rattle.cvss.specs.declared.vector.Cvss.{Cvss}
+use Rattle.cvss.specs.declared.vector.Cvss.TheVariants.{CvssV20, CvssV30, CvssV31, CvssV40}
+use Rattle.cvss_examples.specs.Conversions.{IsCanonicalText, IsTextOf, IsValueOf}
+use Rattle.serde_json.specs.Data.{Data, string}
+
+is_empty : {X : Type 0} (xs : List X) → length xs ≡ 0 → xs ≡ []
+is_empty [] none = refl
+is_empty (x ∷ xs) none = absurd (omega (arith, none))
+
+-- a vector without metrics has no pieces
+no_parts : (vector : Vector) (parts : List (List ℕ)) → AreComponentsOf v3 parts vector → components_of v3 vector ≡ [] → parts ≡ []
+no_parts vector parts are none =
+    is_empty parts
+    (sym (length-map parts (read v3)) ∙ length_permutation _ _ are.each_once ∙ ap (λ components. length (map (read v3) components)) none)
+
+-- a text that is more than its version piece denotes a vector with a metric
+has_metric : (text piece : List ℕ) (minor : ℕ) (vector : Vector) → DenotesV3 text piece minor vector → v3.front vector ≡ piece ∷ [] → components_of v3 vector ≢ []
+has_metric text piece minor vector is front = λ none. is.more (
+    is.denoted.text_is
+    ∙ ap (λ parts. join_with_byte 47 (v3.front vector ++ parts)) (no_parts vector is.denoted.parts is.denoted.components none)
+    ∙ ap (λ pieces. join_with_byte 47 (pieces ++ [])) front)
+
+-- the version piece is that of the minor version
+front_of : (vector : Vector) (minor : ℕ) → vector.minor_version ≡ minor → v3.front vector ≡ v3.front (record vector { minor_version = minor })
+front_of vector minor version = ap (λ each. v3.front (record vector { minor_version = each })) version
+
+given_back : (text : List ℕ) (cvss : Cvss) → DenotesCvss text cvss → IsGivenBack cvss
+given_back text (CvssV20 v) is = is.complete
+given_back text (CvssV30 v) is = record {
+  version = is.version;
+  metric = has_metric text (codes "CVSS:3.0") 0 v is (front_of v 0 is.version);
+}
+given_back text (CvssV31 v) is = record {
+  version = is.version;
+  metric = has_metric text (codes "CVSS:3.1") 1 v is (front_of v 1 is.version);
+}
+given_back text (CvssV40 v) is = is.well_formed
+
+string_text : Data → List ℕ
+string_text (string text) = text
+string_text _ = []
+
+converted : ((cvss : Cvss) → (DenotesCvss (text_of cvss) cvss ↔ IsGivenBack cvss))
+    → ((text : List ℕ) (left right : Cvss) → DenotesCvss text left → DenotesCvss text right → left ≡ right)
+    → (text : List ℕ) (value : Data) (back : List ℕ) → IsValueOf text value → IsTextOf value back → IsCanonicalText text back
+unfolding string_text
+converted own one text value back first second =
+    let again = ap string_text (sym first.is ∙ second.stands.is_string) in
+    let denoted = subst (λ each. DenotesCvss each second.vector) (sym again) second.stands.holds in
+    let of_first = (own first.vector).1 (given_back text first.vector first.denoted) in
+    let same = one (text_of first.vector) first.vector second.vector of_first denoted in
+    record { vector = first.vector; denoted = first.denoted; is = second.is ∙ ap text_of (sym same) }
+
+pub converted_ok : {T E : Type 0} (bytes : T → List ℕ) (result : Result T E)
+    → ((cvss : Cvss) → (DenotesCvss (text_of cvss) cvss ↔ IsGivenBack cvss))
+    → ((text : List ℕ) (left right : Cvss) → DenotesCvss text left → DenotesCvss text right → left ≡ right)
+    → (text : List ℕ) (value : Data) → IsValueOf text value → IfOk result (λ back. IsTextOf value (bytes back)) → IfOk result (λ back. IsCanonicalText text (bytes back))
+converted_ok bytes (Ok back) own one text value first second = converted own one text value (bytes back) first second
+converted_ok bytes (Err error) own one text value first second = tt

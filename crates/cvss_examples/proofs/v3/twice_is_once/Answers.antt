@@ -1,0 +1,11 @@
+use Rattle.std.proofs.Common.{rules}
+use Rattle.cvss.specs.VectorV3.{v3}
+use Rattle.cvss.specs.Version.{IsWellFormed}
+use Rattle.cvss_examples.proofs.TwiceLemmas.{one_text}
+use Rattle.cvss_examples.proofs.v3.twice_is_once.Goals as goal
+
+pub returns : goal.returns
+returns c =
+    let laws = c.texts_denote_one_vector.ensures in
+    let texts = one_text v3 (IsWellFormed v3) laws.own laws.one (search rules) c.in_ok-once.ensures c.in_ok-twice.ensures in
+    search rules

@@ -1,0 +1,15 @@
+use Rattle.std.proofs.Common.{ap, subst, sym, ◌∙◌}
+use Rattle.cvss.specs.MergingV4.{effective_of}
+use Rattle.cvss.specs.ScoresV4.{IsScore}
+use Rattle.cvss.specs.Tenths.{IsInTenths}
+use Rattle.cvss_examples.proofs.EqualLemmas.{one_in_tenths}
+use Rattle.cvss_examples.proofs.v4.modified_scores_as_base.Goals as goal
+
+pub returns : goal.returns
+returns c =
+    let same = c.modified_metrics_score_as_base_metrics.ensures c.args.vector.now c.args.base.now c.requires.letters in
+    let scores = one_in_tenths (c.scores_are_unique.ensures (effective_of c.args.vector.now)) _ _
+    (subst (λ effective. IsInTenths (IsScore effective) c.score.result.0) same c.score.ensures.value)
+    c.score-2.ensures.value in
+    let values = c.value.ensures ∙ scores ∙ sym c.value-2.ensures in
+    cc

@@ -1,0 +1,46 @@
+//! Converters between JSON values and texts, which lose nothing.
+
+ghost use Rattle.std.specs.Prelude.{◌≡◌, ◌⊎◌, IfOk, Ok, Err, string_bytes};
+ghost use Rattle.cvss.specs.Laws.{IsGivenBack};
+ghost use Rattle.cvss.specs.declared.json.JsonError.TheVariants.{OutOfMemory};
+ghost use Rattle.cvss_examples.specs.Conversions.{IsCanonicalText, IsTextOf, IsValueOf};
+ghost use Rattle.serde_json.specs.View.{view};
+
+use cvss::json::{JsonError, JsonText};
+use cvss::{Cvss, laws};
+use serde_json::Value;
+use std::alloc::Global;
+
+/// The JSON value of a text's vector.
+pub fn value_of(alloc: Global, text: &str) -> Result<Value, JsonError>
+    ensures { IfOk result (λ value. IsValueOf text.now (view value)) }
+{
+    Cvss::from_str(alloc, text)?.to_value(alloc)
+}
+
+/// The canonical text of a JSON value's vector.
+pub fn text_of(alloc: Global, value: &Value) -> Result<String, JsonError>
+    ensures { IfOk result (λ text. IsTextOf (view value.now) (string_bytes text)) }
+{
+    Ok(Cvss::from_value(alloc, value)?.to_string(alloc)?)
+}
+
+/// Converts a text into a JSON value and the value into a text, which is the canonical text of the
+/// vector that the text denotes.
+pub fn converted_and_back(alloc: Global, text: &str) -> Result<String, JsonError>
+    ensures { IfOk result (λ back. IsCanonicalText text.now (string_bytes back)) }
+{
+    laws::texts_denote_one_vector();
+    let value = value_of(alloc, text)?;
+    text_of(alloc, &value)
+}
+
+/// Writes a vector as a JSON value and reads the value, which gives the vector back wherever its own
+/// text does.
+pub fn written_and_read(alloc: Global, cvss: &Cvss) -> Result<Cvss, JsonError>
+    ensures { IsGivenBack cvss.now → (result ≡ Ok cvss.now) ⊎ (result ≡ Err OutOfMemory) }
+{
+    laws::texts_denote_one_vector();
+    let value = cvss.to_value(alloc)?;
+    Cvss::from_value(alloc, &value)
+}

@@ -1,0 +1,57 @@
+//! Callers of CVSS v2.
+
+ghost use Rattle.std.specs.Prelude.{◌≡◌, ◌⊎◌, IfOk, IsTrue, Ok, Err, string_bytes};
+ghost use Rattle.cvss.specs.ErrorType.TheVariants.{OutOfMemory};
+ghost use Rattle.cvss.specs.ScoreLawsV2.{DefineTheSame};
+ghost use Rattle.cvss.specs.VectorV2.{v2};
+ghost use Rattle.cvss.specs.Version.{IsComplete};
+ghost use Rattle.cvss_examples.specs.Canonical.{IsCanonicalTextOf};
+
+use cvss::Error;
+use cvss::v2::{Vector, laws};
+use std::alloc::Global;
+
+/// Prints a complete vector and reads what was printed, which gives the vector back.
+pub fn printed_and_read(alloc: Global, vector: &Vector) -> Result<Vector, Error>
+    requires { IsComplete v2 vector.now }
+    ensures { (result ≡ Ok vector.now) ⊎ (result ≡ Err OutOfMemory) }
+{
+    laws::texts_denote_one_vector();
+    let text = vector.to_string(alloc)?;
+    Vector::from_str(alloc, text.as_str())
+}
+
+/// Reads a text and prints the vector that it denotes.
+pub fn read_and_printed(alloc: Global, text: &str) -> Result<String, Error>
+    ensures { IfOk result (λ printed. IsCanonicalTextOf v2 (IsComplete v2) text.now (string_bytes printed)) }
+{
+    let vector = Vector::from_str(alloc, text)?;
+    Ok(vector.to_string(alloc)?)
+}
+
+/// Whether to read and print a text twice is to read and print it once, which it is.
+pub fn twice_is_once(alloc: Global, text: &str) -> Result<bool, Error>
+    ensures { IfOk result (λ same. IsTrue same) }
+{
+    laws::texts_denote_one_vector();
+    let once = read_and_printed(alloc, text)?;
+    let twice = read_and_printed(alloc, once.as_str())?;
+    Ok(once == twice)
+}
+
+/// Whether two vectors that differ only in `ND` and absent metrics have the same base, temporal and
+/// environmental scores, which they have.
+pub fn not_defined_scores_as_absent(left: &Vector, right: &Vector) -> (bool, bool, bool)
+    requires { DefineTheSame left.now right.now }
+    ensures base { IsTrue result.0 }
+    ensures temporal { IsTrue result.1 }
+    ensures environmental { IsTrue result.2 }
+{
+    laws::not_defined_weighs_as_absent();
+    laws::scores_are_unique();
+    (
+        left.score() == right.score(),
+        left.temporal_score() == right.temporal_score(),
+        left.environmental_score() == right.environmental_score(),
+    )
+}

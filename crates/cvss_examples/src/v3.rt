@@ -1,0 +1,69 @@
+//! Callers of CVSS v3.
+
+ghost use Rattle.std.specs.Prelude.{◌≡◌, ◌⊎◌, IfOk, IsTrue, Ok, Err, string_bytes};
+ghost use Rattle.cvss.specs.ErrorType.TheVariants.{OutOfMemory};
+ghost use Rattle.cvss.specs.ScoreLawsV3.{DefineTheSame, with_modified_as_base};
+ghost use Rattle.cvss.specs.VectorV3.{v3};
+ghost use Rattle.cvss.specs.Version.{IsWellFormed};
+ghost use Rattle.cvss_examples.specs.Canonical.{IsCanonicalTextOf};
+
+use cvss::Error;
+use cvss::v3::{Vector, laws};
+use std::alloc::Global;
+
+/// Prints a well-formed vector and reads what was printed, which gives the vector back.
+pub fn printed_and_read(alloc: Global, vector: &Vector) -> Result<Vector, Error>
+    requires { IsWellFormed v3 vector.now }
+    ensures { (result ≡ Ok vector.now) ⊎ (result ≡ Err OutOfMemory) }
+{
+    laws::texts_denote_one_vector();
+    let text = vector.to_string(alloc)?;
+    Vector::from_str(alloc, text.as_str())
+}
+
+/// Reads a text and prints the vector that it denotes.
+pub fn read_and_printed(alloc: Global, text: &str) -> Result<String, Error>
+    ensures { IfOk result (λ printed. IsCanonicalTextOf v3 (IsWellFormed v3) text.now (string_bytes printed)) }
+{
+    let vector = Vector::from_str(alloc, text)?;
+    Ok(vector.to_string(alloc)?)
+}
+
+/// Whether to read and print a text twice is to read and print it once, which it is.
+pub fn twice_is_once(alloc: Global, text: &str) -> Result<bool, Error>
+    ensures { IfOk result (λ same. IsTrue same) }
+{
+    laws::texts_denote_one_vector();
+    let once = read_and_printed(alloc, text)?;
+    let twice = read_and_printed(alloc, once.as_str())?;
+    Ok(once == twice)
+}
+
+/// Whether two vectors of one version that differ only in `X` and absent metrics have the same base,
+/// temporal and environmental scores, which they have.
+pub fn not_defined_scores_as_absent(left: &Vector, right: &Vector) -> (bool, bool, bool)
+    requires version { left.now.minor_version ≡ right.now.minor_version }
+    requires defined { DefineTheSame left.now right.now }
+    ensures base { IsTrue result.0 }
+    ensures temporal { IsTrue result.1 }
+    ensures environmental { IsTrue result.2 }
+{
+    laws::not_defined_weighs_as_absent();
+    laws::scores_are_unique();
+    (
+        left.score() == right.score(),
+        left.temporal_score() == right.temporal_score(),
+        left.environmental_score() == right.environmental_score(),
+    )
+}
+
+/// Whether a vector has the environmental score of the vector whose base metrics have the letters of
+/// its modified metrics, which it has.
+pub fn modified_scores_as_base(vector: &Vector, base: &Vector) -> bool
+    requires { base.now ≡ with_modified_as_base vector.now }
+    ensures { IsTrue result }
+{
+    laws::modified_scores_as_base();
+    laws::scores_are_unique();
+    vector.environmental_score() == base.environmental_score()
+}

@@ -1,0 +1,92 @@
+//! Tests that run the examples.
+
+use cvss::{Cvss, Severity};
+use cvss_examples::advisory::advisory;
+use cvss_examples::audit::{Audit, count_findings};
+use cvss_examples::json::{converted_and_back, text_of, value_of, written_and_read};
+use std::test::Fail;
+
+#[test]
+fn audits_texts_of_all_versions(rt: HostRuntime) {
+    let texts = [
+        "CVSS:3.1/AV:N/AC:L/PR:N/UI:N/S:U/C:H/I:H/A:H",
+        "CVSS:4.0/AV:N/AC:L/AT:N/PR:L/UI:N/VC:H/VI:H/VA:H/SC:N/SI:N/SA:N",
+        "garbage",
+        "AV:N/AC:L/Au:N/C:N/I:N/A:C",
+        "CVSS:4.0/AV:A/AC:H/AT:N/PR:N/UI:N/VC:H/VI:H/VA:N/SC:N/SI:N/SA:N/E:U/CR:H/IR:L/AR:L",
+        "AV:N/AC:L/Au:N/C:N/I:N/A:N",
+        "CVSS:3.1",
+        "CVSS:3.1/av:n/s:c",
+    ];
+    let rows = [
+        (Severity::None, 6),
+        (Severity::Low, 5),
+        (Severity::Medium, 4),
+        (Severity::High, 3),
+        (Severity::Critical, 1),
+    ];
+    for (level, findings) in rows {
+        let expected = Audit {
+            findings,
+            refused: 2,
+        };
+        assert!(rt; count_findings(&texts, level) == expected, "{level}");
+    }
+}
+
+#[test]
+fn tells_the_vector_or_the_reason(rt: HostRuntime) -> Result<(), Fail> {
+    let rows = [
+        (
+            "A:C/I:N/C:N/Au:N/AC:L/AV:N",
+            "AV:N/AC:L/Au:N/C:N/I:N/A:C: 7.8 (high)",
+        ),
+        ("CVSS:3.1/av:n/s:c", "CVSS:3.1/AV:N/S:C: 0.0 (none)"),
+        (
+            "CVSS:4.0/AV:N/AC:L/AT:N/PR:N/UI:N/VC:H/VI:H/VA:H/SC:H/SI:H/SA:H",
+            "CVSS:4.0/AV:N/AC:L/AT:N/PR:N/UI:N/VC:H/VI:H/VA:H/SC:H/SI:H/SA:H: 10.0 (critical)",
+        ),
+        (
+            "garbage",
+            "no vector: invalid CVSS metric group component: `garbage`",
+        ),
+    ];
+    for (text, told) in rows {
+        assert_eq!(rt; advisory(rt.alloc(), text)?.as_str(), told);
+    }
+    Ok(())
+}
+
+#[test]
+fn a_json_value_gives_the_vector_back(rt: HostRuntime) -> Result<(), Fail> {
+    let texts = [
+        "A:C/I:N/C:N/Au:N/AC:L/AV:N",
+        "CVSS:3.1/MA:N/CR:H/AV:N",
+        "CVSS:4.0/u:red/sa:n/si:n/sc:n/va:n/vi:l/vc:l/ui:n/pr:h/at:n/ac:l/av:n",
+    ];
+    for text in texts {
+        let cvss = Cvss::from_str(rt.alloc(), text)?;
+        assert!(rt; written_and_read(rt.alloc(), &cvss) == Ok(cvss), "{text}");
+    }
+    Ok(())
+}
+
+#[test]
+fn texts_pass_through_json_values(rt: HostRuntime) -> Result<(), Fail> {
+    let rows = [
+        ("A:C/I:N/C:N/Au:N/AC:L/AV:N", "AV:N/AC:L/Au:N/C:N/I:N/A:C"),
+        ("CVSS:3.1/MA:N/CR:H/AV:N", "CVSS:3.1/AV:N/CR:H/MA:N"),
+        (
+            "CVSS:4.0/u:red/sa:n/si:n/sc:n/va:n/vi:l/vc:l/ui:n/pr:h/at:n/ac:l/av:n",
+            "CVSS:4.0/AV:N/AC:L/AT:N/PR:H/UI:N/VC:L/VI:L/VA:N/SC:N/SI:N/SA:N/U:Red",
+        ),
+    ];
+    for (text, canonical) in rows {
+        let value = value_of(rt.alloc(), text)?;
+        assert!(rt; value.as_str() == Some(canonical), "{text}");
+        assert_eq!(rt; text_of(rt.alloc(), &value)?.as_str(), canonical);
+        let back = converted_and_back(rt.alloc(), text)?;
+        assert_eq!(rt; back.as_str(), canonical);
+    }
+    Ok(())
+}
