@@ -1,4 +1,4 @@
-use Rattle.std.proofs.Common.{◌≤◌, ◌<◌, ◌+◌, ℕ, List, [], ◌∷◌, ◌++◌, Bor, length, map, take, ap, sym, ◌∙◌, arith, rules}
+use Rattle.std.proofs.Common.{◌≤◌, ◌<◌, ℕ, List, [], ◌∷◌, ◌++◌, Bor, length, map, take, ap, sym, ◌∙◌, arith, rules}
 use Rattle.std.proofs.lemmas.List.{get_or-map, length-map, length-take-le, take_more}
 use Rattle.cvss_examples.specs.Counts.{IsCountOf}
 use Rattle.cvss_examples.specs.Findings.{IsFinding, IsNoVector}

@@ -1,4 +1,4 @@
-use Rattle.std.proofs.Common.{ℤ, subst}
+use Rattle.std.proofs.Common.{subst}
 use Rattle.cvss.specs.ScoresV2.{IsBaseScore, IsTemporalScore, IsEnvironmentalScore}
 use Rattle.cvss.specs.WeightsV2.{weights_of}
 use Rattle.cvss_examples.proofs.EqualLemmas.{equal_counts}

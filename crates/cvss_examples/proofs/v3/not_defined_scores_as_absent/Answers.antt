@@ -1,4 +1,4 @@
-use Rattle.std.proofs.Common.{ℕ, ℤ, subst}
+use Rattle.std.proofs.Common.{subst}
 use Rattle.cvss.specs.ScoresV3.{IsBaseScore, IsTemporalScore, IsEnvironmentalScore}
 use Rattle.cvss.specs.WeightsV3.{weights_of}
 use Rattle.cvss_examples.proofs.EqualLemmas.{equal_counts}

@@ -1,4 +1,4 @@
-use Rattle.std.proofs.Common.{ap, subst, sym, ◌∙◌}
+use Rattle.std.proofs.Common.{subst, sym, ◌∙◌}
 use Rattle.cvss.specs.MergingV4.{effective_of}
 use Rattle.cvss.specs.ScoresV4.{IsScore}
 use Rattle.cvss.specs.Tenths.{IsInTenths}
