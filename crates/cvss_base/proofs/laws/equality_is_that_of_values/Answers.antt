@@ -1,14 +1,11 @@
-use Rattle.std.specs.Prelude.{◌≡◌, ◌↔◌, Bool, true, false, ◌&&◌, IsTrue, refl}
+use Rattle.std.specs.Prelude.{◌≡◌, ◌↔◌, true, false}
 use Rattle.std.proofs.Common.{rules}
 use Rattle.cvss_base.specs.declared.error.Error.TheVariants.{InvalidComponent, InvalidPrefix, UnsupportedVersion, InvalidMetricV2, DuplicateMetricV2, MissingMandatoryMetricV2, InvalidMetricV3, DuplicateMetricV3, InvalidMetricV4, DuplicateMetricV4, MissingMandatoryMetricV4, InvalidNomenclatureV4, InvalidSeverity, UnknownMetric, OutOfMemory}
+use Rattle.cvss_base.proofs.EqualityLemmas.{both}
 use Rattle.cvss_base.proofs.laws.equality_is_that_of_values.Goals as goal
 
 different : (false ≡ true) ↔ ⊥
 different = search rules
-
-both : {P Q : Type 0} (a b : Bool) → IsTrue a ↔ P → IsTrue b ↔ Q → IsTrue (a && b) ↔ (P × Q)
-both true b left right = (λ e. (left.0 refl, right.0 e), λ h. right.1 h.1)
-both false b left right = (λ e. absurd cc, λ h. left.1 h.0)
 
 pub returns-clause-error : goal.returns-clause-error
 returns-clause-error c = elim [
