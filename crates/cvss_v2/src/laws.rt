@@ -1,17 +1,41 @@
 //! Laws of CVSS v2, each the contract of a function that does nothing. A proof that needs a law
 //! calls it.
 
-ghost use Rattle.std.specs.Prelude.{◌≡◌, ℕ, ℤ, List};
+ghost use Rattle.std.specs.Prelude.{◌≡◌, ℕ, ℤ, pos, List, Some, None};
+ghost use Rattle.std.specs.Ordering.{int_cmp};
+ghost use Rattle.cvss_base.specs.Equality.{EqualsByValue, ClonesByValue};
 ghost use Rattle.cvss_base.specs.Exact.{of_count};
 ghost use Rattle.cvss_base.specs.Version.{canonical_text, Denotes};
 ghost use Rattle.cvss_v2.specs.ScoreLaws.{DefineTheSame};
 ghost use Rattle.cvss_base.specs.Tenths.{IsOneCount};
 ghost use Rattle.cvss_v2.specs.Scores.{IsTemporal, IsBaseScore, IsTemporalScore, IsEnvironmentalScore};
 ghost use Rattle.cvss_base.specs.Tenths.{IsInTenths};
-ghost use Rattle.cvss_v2.specs.Vector.{v2};
+ghost use Rattle.cvss_base.specs.declared.v2.MetricType.{MetricType};
+ghost use Rattle.cvss_v2.specs.Vector.{v2, value_at};
 ghost use Rattle.cvss_v2.specs.Weights.{weights_of};
-ghost use Rattle.cvss_v2.specs.declared.vector.Vector.{Vector};
 ghost use Rattle.cvss_v2.specs.declared.weights.Weights.{Weights};
+
+use crate::{Score, Vector};
+
+/// Scores compare as their counts, are equal exactly if these are, and are 0 by default; a clone is
+/// the score.
+pub fn scores_compare_as_counts()
+    ensures order { (x y : ℤ) → ⟦<Score as Ord>⟧.cmp x y ≡ int_cmp x y }
+    ensures partial_order { (x y : ℤ) → ⟦<Score as PartialOrd>⟧.partial_cmp x y
+        ≡ Some (int_cmp x y) }
+    ensures equality { EqualsByValue ⟦<Score as PartialEq>⟧.eq }
+    ensures clone { ClonesByValue ⟦<Score as Clone>⟧.is_clone }
+    ensures default { (score : ℤ) → ⟦<Score as Default>⟧.is_default score → score ≡ pos 0 }
+{}
+
+/// Two vectors are equal exactly if they are one; a clone is the vector, and the default vector has
+/// no metric.
+pub fn vectors_are_their_values()
+    ensures equality { EqualsByValue ⟦<Vector as PartialEq>⟧.eq }
+    ensures clone { ClonesByValue ⟦<Vector as Clone>⟧.is_clone }
+    ensures default { (vector : Vector) → ⟦<Vector as Default>⟧.is_default vector
+        → (kind : MetricType) → value_at vector kind ≡ None }
+{}
 
 /// A canonical text denotes its vector, and a text denotes at most one vector. So what is printed
 /// of a complete vector is read as that vector.

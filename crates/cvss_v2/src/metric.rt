@@ -8,6 +8,8 @@ ghost use Rattle.cvss_base.specs.declared.v2.MetricType.{MetricType};
 ghost use Rattle.cvss_v2.specs.Table.{Value, spelling_of, weight_of, metric_component, rank_of};
 ghost use Rattle.cvss_base.specs.Text.{slash};
 ghost use Rattle.std.specs.Ordering.{nat_cmp};
+ghost use Rattle.cvss_base.specs.Exact.{IsWithinLimit};
+ghost use Rattle.cvss_base.specs.Equality.{EqualsByValue, ClonesByValue};
 
 pub mod base;
 pub mod environmental;
@@ -85,7 +87,8 @@ pub trait Metric: Copy + Clone + fmt::Debug + fmt::Display + Eq + Ord {
 
     /// The value's weight, in counts of 10^-24 (guide, section 3.2).
     final fn score(self) -> i128
-        ensures { result ≡ pos (weight_of TYPE (value self) * 10 ^ 21) }
+        ensures value { result ≡ pos (weight_of TYPE (value self) * 10 ^ 21) }
+        ensures limit { IsWithinLimit result }
     {
         i128::from(self.thousandths()) * THOUSANDTH
     }
@@ -103,4 +106,8 @@ pub trait Metric: Copy + Clone + fmt::Debug + fmt::Display + Eq + Ord {
     // Values compare as they are declared in the table.
     ghost ordered: { (x y : Self) → ⟦<Self as Ord>⟧.cmp x y
         ≡ nat_cmp (rank_of TYPE (value x)) (rank_of TYPE (value y)) };
+
+    // Two are equal exactly if they are one value, and a clone is that value.
+    ghost by_value: { EqualsByValue ⟦<Self as PartialEq>⟧.eq
+        × ClonesByValue ⟦<Self as Clone>⟧.is_clone };
 }

@@ -30,6 +30,8 @@ impl Metric for Exploitability {
 
     ghost ordered = { Prim.search rules };
 
+    ghost by_value = { Prim.search rules };
+
     fn slashed(self) -> &'static str {
         match self {
             Exploitability::Unproven => "/E:U",
@@ -65,6 +67,8 @@ impl Metric for Exploitability {
 impl fmt::Display for Exploitability {
     ghost output = { λ metric. Some (metric_component E metric) };
 
+    ghost styled_output = { λ metric _. Some (metric_component E metric) };
+
     fn fmt<W: fmt::Write>(&self, f: &mut fmt::Formatter<W>) -> fmt::Result {
         write_component(self.slashed(), f)
     }
@@ -90,6 +94,8 @@ impl Metric for RemediationLevel {
     ghost covers = { λ x. (x, refl) };
 
     ghost ordered = { Prim.search rules };
+
+    ghost by_value = { Prim.search rules };
 
     fn slashed(self) -> &'static str {
         match self {
@@ -126,6 +132,8 @@ impl Metric for RemediationLevel {
 impl fmt::Display for RemediationLevel {
     ghost output = { λ metric. Some (metric_component RL metric) };
 
+    ghost styled_output = { λ metric _. Some (metric_component RL metric) };
+
     fn fmt<W: fmt::Write>(&self, f: &mut fmt::Formatter<W>) -> fmt::Result {
         write_component(self.slashed(), f)
     }
@@ -150,6 +158,8 @@ impl Metric for ReportConfidence {
     ghost covers = { λ x. (x, refl) };
 
     ghost ordered = { Prim.search rules };
+
+    ghost by_value = { Prim.search rules };
 
     fn slashed(self) -> &'static str {
         match self {
@@ -182,6 +192,8 @@ impl Metric for ReportConfidence {
 
 impl fmt::Display for ReportConfidence {
     ghost output = { λ metric. Some (metric_component RC metric) };
+
+    ghost styled_output = { λ metric _. Some (metric_component RC metric) };
 
     fn fmt<W: fmt::Write>(&self, f: &mut fmt::Formatter<W>) -> fmt::Result {
         write_component(self.slashed(), f)

@@ -37,21 +37,24 @@ impl Vector {
 
     /// The impact sub-score (guide, section 3.2.1), which is exact.
     pub fn impact(&self) -> Score
-        ensures { of_count result ≈ impact (weights_of self.now) }
+        ensures value { of_count result ≈ impact (weights_of self.now) }
+        ensures limit { IsWithinLimit result }
     {
         self.weights().impact()
     }
 
     /// The exploitability sub-score (guide, section 3.2.1), which is exact.
     pub fn exploitability(&self) -> Score
-        ensures { of_count result ≈ exploitability (weights_of self.now) }
+        ensures value { of_count result ≈ exploitability (weights_of self.now) }
+        ensures limit { IsWithinLimit result }
     {
         self.weights().exploitability()
     }
 
     /// The impact sub-score with the requirements (guide, section 3.2.3), which is exact.
     pub fn adjusted_impact(&self) -> Score
-        ensures { of_count result ≈ adjusted_impact (weights_of self.now) }
+        ensures value { of_count result ≈ adjusted_impact (weights_of self.now) }
+        ensures limit { IsWithinLimit result }
     {
         self.weights().adjusted_impact()
     }

@@ -28,6 +28,8 @@ impl Metric for AccessVector {
 
     ghost ordered = { Prim.search rules };
 
+    ghost by_value = { Prim.search rules };
+
     fn slashed(self) -> &'static str {
         match self {
             AccessVector::Local => "/AV:L",
@@ -57,6 +59,8 @@ impl Metric for AccessVector {
 impl fmt::Display for AccessVector {
     ghost output = { λ metric. Some (metric_component AV metric) };
 
+    ghost styled_output = { λ metric _. Some (metric_component AV metric) };
+
     fn fmt<W: fmt::Write>(&self, f: &mut fmt::Formatter<W>) -> fmt::Result {
         write_component(self.slashed(), f)
     }
@@ -80,6 +84,8 @@ impl Metric for AccessComplexity {
     ghost covers = { λ x. (x, refl) };
 
     ghost ordered = { Prim.search rules };
+
+    ghost by_value = { Prim.search rules };
 
     fn slashed(self) -> &'static str {
         match self {
@@ -110,6 +116,8 @@ impl Metric for AccessComplexity {
 impl fmt::Display for AccessComplexity {
     ghost output = { λ metric. Some (metric_component AC metric) };
 
+    ghost styled_output = { λ metric _. Some (metric_component AC metric) };
+
     fn fmt<W: fmt::Write>(&self, f: &mut fmt::Formatter<W>) -> fmt::Result {
         write_component(self.slashed(), f)
     }
@@ -133,6 +141,8 @@ impl Metric for Authentication {
     ghost covers = { λ x. (x, refl) };
 
     ghost ordered = { Prim.search rules };
+
+    ghost by_value = { Prim.search rules };
 
     fn slashed(self) -> &'static str {
         match self {
@@ -162,6 +172,8 @@ impl Metric for Authentication {
 
 impl fmt::Display for Authentication {
     ghost output = { λ metric. Some (metric_component Au metric) };
+
+    ghost styled_output = { λ metric _. Some (metric_component Au metric) };
 
     fn fmt<W: fmt::Write>(&self, f: &mut fmt::Formatter<W>) -> fmt::Result {
         write_component(self.slashed(), f)

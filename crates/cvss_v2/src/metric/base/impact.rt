@@ -28,6 +28,8 @@ impl Metric for ConfidentialityImpact {
 
     ghost ordered = { Prim.search rules };
 
+    ghost by_value = { Prim.search rules };
+
     fn slashed(self) -> &'static str {
         match self {
             ConfidentialityImpact::None => "/C:N",
@@ -57,6 +59,8 @@ impl Metric for ConfidentialityImpact {
 impl fmt::Display for ConfidentialityImpact {
     ghost output = { λ metric. Some (metric_component C metric) };
 
+    ghost styled_output = { λ metric _. Some (metric_component C metric) };
+
     fn fmt<W: fmt::Write>(&self, f: &mut fmt::Formatter<W>) -> fmt::Result {
         write_component(self.slashed(), f)
     }
@@ -80,6 +84,8 @@ impl Metric for IntegrityImpact {
     ghost covers = { λ x. (x, refl) };
 
     ghost ordered = { Prim.search rules };
+
+    ghost by_value = { Prim.search rules };
 
     fn slashed(self) -> &'static str {
         match self {
@@ -110,6 +116,8 @@ impl Metric for IntegrityImpact {
 impl fmt::Display for IntegrityImpact {
     ghost output = { λ metric. Some (metric_component I metric) };
 
+    ghost styled_output = { λ metric _. Some (metric_component I metric) };
+
     fn fmt<W: fmt::Write>(&self, f: &mut fmt::Formatter<W>) -> fmt::Result {
         write_component(self.slashed(), f)
     }
@@ -133,6 +141,8 @@ impl Metric for AvailabilityImpact {
     ghost covers = { λ x. (x, refl) };
 
     ghost ordered = { Prim.search rules };
+
+    ghost by_value = { Prim.search rules };
 
     fn slashed(self) -> &'static str {
         match self {
@@ -162,6 +172,8 @@ impl Metric for AvailabilityImpact {
 
 impl fmt::Display for AvailabilityImpact {
     ghost output = { λ metric. Some (metric_component A metric) };
+
+    ghost styled_output = { λ metric _. Some (metric_component A metric) };
 
     fn fmt<W: fmt::Write>(&self, f: &mut fmt::Formatter<W>) -> fmt::Result {
         write_component(self.slashed(), f)

@@ -31,6 +31,8 @@ impl Metric for CollateralDamagePotential {
 
     ghost ordered = { Prim.search rules };
 
+    ghost by_value = { Prim.search rules };
+
     fn slashed(self) -> &'static str {
         match self {
             CollateralDamagePotential::None => "/CDP:N",
@@ -69,6 +71,8 @@ impl Metric for CollateralDamagePotential {
 impl fmt::Display for CollateralDamagePotential {
     ghost output = { λ metric. Some (metric_component CDP metric) };
 
+    ghost styled_output = { λ metric _. Some (metric_component CDP metric) };
+
     fn fmt<W: fmt::Write>(&self, f: &mut fmt::Formatter<W>) -> fmt::Result {
         write_component(self.slashed(), f)
     }
@@ -94,6 +98,8 @@ impl Metric for TargetDistribution {
     ghost covers = { λ x. (x, refl) };
 
     ghost ordered = { Prim.search rules };
+
+    ghost by_value = { Prim.search rules };
 
     fn slashed(self) -> &'static str {
         match self {
@@ -129,6 +135,8 @@ impl Metric for TargetDistribution {
 
 impl fmt::Display for TargetDistribution {
     ghost output = { λ metric. Some (metric_component TD metric) };
+
+    ghost styled_output = { λ metric _. Some (metric_component TD metric) };
 
     fn fmt<W: fmt::Write>(&self, f: &mut fmt::Formatter<W>) -> fmt::Result {
         write_component(self.slashed(), f)

@@ -29,6 +29,8 @@ impl Metric for ConfidentialityRequirement {
 
     ghost ordered = { Prim.search rules };
 
+    ghost by_value = { Prim.search rules };
+
     fn slashed(self) -> &'static str {
         match self {
             ConfidentialityRequirement::Low => "/CR:L",
@@ -61,6 +63,8 @@ impl Metric for ConfidentialityRequirement {
 impl fmt::Display for ConfidentialityRequirement {
     ghost output = { λ metric. Some (metric_component CR metric) };
 
+    ghost styled_output = { λ metric _. Some (metric_component CR metric) };
+
     fn fmt<W: fmt::Write>(&self, f: &mut fmt::Formatter<W>) -> fmt::Result {
         write_component(self.slashed(), f)
     }
@@ -85,6 +89,8 @@ impl Metric for IntegrityRequirement {
     ghost covers = { λ x. (x, refl) };
 
     ghost ordered = { Prim.search rules };
+
+    ghost by_value = { Prim.search rules };
 
     fn slashed(self) -> &'static str {
         match self {
@@ -118,6 +124,8 @@ impl Metric for IntegrityRequirement {
 impl fmt::Display for IntegrityRequirement {
     ghost output = { λ metric. Some (metric_component IR metric) };
 
+    ghost styled_output = { λ metric _. Some (metric_component IR metric) };
+
     fn fmt<W: fmt::Write>(&self, f: &mut fmt::Formatter<W>) -> fmt::Result {
         write_component(self.slashed(), f)
     }
@@ -142,6 +150,8 @@ impl Metric for AvailabilityRequirement {
     ghost covers = { λ x. (x, refl) };
 
     ghost ordered = { Prim.search rules };
+
+    ghost by_value = { Prim.search rules };
 
     fn slashed(self) -> &'static str {
         match self {
@@ -174,6 +184,8 @@ impl Metric for AvailabilityRequirement {
 
 impl fmt::Display for AvailabilityRequirement {
     ghost output = { λ metric. Some (metric_component AR metric) };
+
+    ghost styled_output = { λ metric _. Some (metric_component AR metric) };
 
     fn fmt<W: fmt::Write>(&self, f: &mut fmt::Formatter<W>) -> fmt::Result {
         write_component(self.slashed(), f)
