@@ -1,12 +1,12 @@
 -- What holds of each enum of metric values.
-use Rattle.std.specs.Prelude.{◌≡◌, ℕ, List, map, Some, slice_get}
+use Rattle.std.specs.Prelude.{◌≡◌, ◌↔◌, ℕ, Bool, IsTrue, List, map, Some, slice_get}
 use Rattle.std.specs.declared.cmp.Ordering.{Ordering}
 use Rattle.cvss_base.specs.Order.{place_in, ComparesAs}
 use Rattle.cvss_base.specs.declared.v4.MetricType.{MetricType}
 use Rattle.cvss_v4_metric.specs.Table.{spellings_of, default_of}
 
 -- the enum has the values of the metric in the table
-pub record IsMetric {A : Type 0} (kind : MetricType) (spelling : A → List ℕ) (values : List A) (is_default : A → Type 0) (compared : A → A → Ordering) : Type 0 where
+pub record IsMetric {A : Type 0} (kind : MetricType) (spelling : A → List ℕ) (values : List A) (is_default : A → Type 0) (compared : A → A → Ordering) (same : A → A → Bool) (is_clone : A → A → Type 0) (is_infallible : A → Type 0) : Type 0 where
   -- the values are spelled as the table says, in its order
   pub rows : map spelling values ≡ spellings_of kind
   -- each value of the enum is one of them
@@ -15,3 +15,8 @@ pub record IsMetric {A : Type 0} (kind : MetricType) (spelling : A → List ℕ)
   pub ordered : ComparesAs spelling values compared
   -- the default is the table's
   pub usual : (x : A) → is_default x → spelling x ≡ default_of kind
+  -- two values are found equal where they are one value
+  pub equal : (x y : A) → IsTrue (same x y) ↔ (x ≡ y)
+  -- a clone is the value itself, and is never refused
+  pub cloned : (x clone : A) → is_clone x clone → clone ≡ x
+  pub clonable : (x : A) → is_infallible x

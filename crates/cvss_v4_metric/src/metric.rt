@@ -99,7 +99,8 @@ pub trait Metric: Copy + Clone + fmt::Debug + fmt::Display + Eq + Ord + Default 
     }
 
     ghost law: { IsMetric TYPE spelling values ⟦<Self as Default>⟧.is_default
-        ⟦<Self as Ord>⟧.cmp };
+        ⟦<Self as Ord>⟧.cmp ⟦<Self as PartialEq>⟧.eq ⟦<Self as Clone>⟧.is_clone
+        ⟦<Self as Clone>⟧.is_infallible };
 }
 
 /// Whether a text is a spelling as it is printed or in upper case, given that it is so in some case.
