@@ -6,34 +6,66 @@ pub mod MetricTypes
 pub mod MetricsLeft
 pub mod Steps
 pub use Rattle.cvss_base.specs.ErrorText
+pub use Rattle.cvss_base.specs.Exact
+pub use Rattle.cvss_base.specs.Listing
+pub use Rattle.cvss_base.specs.MetricsLeft as MetricsLeftToList
+pub use Rattle.cvss_base.specs.Order
 pub use Rattle.cvss_base.specs.Rating
 pub use Rattle.cvss_base.specs.Refusal
+pub use Rattle.cvss_base.specs.Rounding
 pub use Rattle.cvss_base.specs.SeverityText
 pub use Rattle.cvss_base.specs.Tenths
+pub use Rattle.cvss_base.specs.Text
 pub use Rattle.cvss_base.specs.Told
+pub use Rattle.cvss_base.specs.V2Types as TypesV2
+pub use Rattle.cvss_base.specs.V3Types as TypesV3
+pub use Rattle.cvss_base.specs.V4Types as TypesV4
 pub use Rattle.cvss_base.specs.Version
 pub use Rattle.cvss_base.specs.declared.error.Error as ErrorType
 pub use Rattle.cvss_base.specs.declared.severity.Severity as SeverityType
+pub use Rattle.cvss_base.specs.declared.v2.MetricType as MetricTypeV2
+pub use Rattle.cvss_base.specs.declared.v3.MetricType as MetricTypeV3
 pub use Rattle.cvss_base.specs.declared.v4.MetricType as MetricTypeV4
 pub use Rattle.cvss_v2.specs.Rating as RatingV2
 pub use Rattle.cvss_v2.specs.ScoreLaws as ScoreLawsV2
 pub use Rattle.cvss_v2.specs.Scores as ScoresV2
+pub use Rattle.cvss_v2.specs.Table as TableV2
 pub use Rattle.cvss_v2.specs.Vector as VectorV2
 pub use Rattle.cvss_v2.specs.Weights as WeightsV2
 pub use Rattle.cvss_v2.specs.declared.vector.Vector as VectorTypeV2
+pub use Rattle.cvss_v2.specs.declared.weights.Weights as WeightsTypeV2
+pub use Rattle.cvss_v3_metric.specs.Metrics as MetricsV3
+pub use Rattle.cvss_v3_metric.specs.Modified as ModifiedV3
+pub use Rattle.cvss_v3_metric.specs.Rows as RowsV3
+pub use Rattle.cvss_v3_metric.specs.Table as TableV3
+pub use Rattle.cvss_v3_metric.specs.declared.environmental.modified.Modified as ModifiedTypeV3
 pub use Rattle.cvss_v3.specs.Certainty as CertaintyV3
 pub use Rattle.cvss_v3.specs.ScoreLaws as ScoreLawsV3
 pub use Rattle.cvss_v3.specs.Scores as ScoresV3
 pub use Rattle.cvss_v3.specs.Vector as VectorV3
 pub use Rattle.cvss_v3.specs.VectorWeights as WeightsV3
 pub use Rattle.cvss_v3.specs.declared.vector.Vector as VectorTypeV3
+pub use Rattle.cvss_v3.specs.declared.weights.Weights as WeightsTypeV3
+pub use Rattle.cvss_v4_metric.specs.Metrics as MetricsV4
+pub use Rattle.cvss_v4_metric.specs.Reading as ReadingV4
+pub use Rattle.cvss_v4_metric.specs.Spellings as SpellingsV4
+pub use Rattle.cvss_v4_metric.specs.Table as TableV4
+pub use Rattle.cvss_v4_env.specs.Spellings as EnvironmentalSpellingsV4
+pub use Rattle.cvss_v4.specs.ClassLaws as ClassLawsV4
+pub use Rattle.cvss_v4.specs.Classes as ClassesV4
+pub use Rattle.cvss_v4.specs.Distance as DistanceV4
+pub use Rattle.cvss_v4.specs.Gap as GapV4
+pub use Rattle.cvss_v4.specs.Maximal as MaximalV4
 pub use Rattle.cvss_v4.specs.Merging as MergingV4
 pub use Rattle.cvss_v4.specs.MergingLaws as MergingLawsV4
 pub use Rattle.cvss_v4.specs.Nomenclature as NomenclatureV4
 pub use Rattle.cvss_v4.specs.Overriding as OverridingV4
+pub use Rattle.cvss_v4.specs.ScoreLaws as ScoreLawsV4
 pub use Rattle.cvss_v4.specs.ScoreText as ScoreTextV4
 pub use Rattle.cvss_v4.specs.Scores as ScoresV4
+pub use Rattle.cvss_v4.specs.Values as ValuesV4
 pub use Rattle.cvss_v4.specs.Vector as VectorV4
 pub use Rattle.cvss_v4.specs.declared.nomenclature.Nomenclature as NomenclatureTypeV4
+pub use Rattle.cvss_v4.specs.declared.scoring.effective.Effective as EffectiveTypeV4
 pub use Rattle.cvss_v4.specs.declared.vector.Vector as VectorTypeV4
 pub use Rattle.cvss_v4.specs.declared.vector.overriding.OverrideError as OverrideErrorTypeV4

@@ -1,5 +1,5 @@
 -- The first fault of overrides and texts, and the error that tells it.
-use Rattle.std.specs.Prelude.{◌≡◌, ◌⊎◌, ℕ, ◌<◌, true, Some, List, length, ◌++◌, codes}
+use Rattle.std.specs.Prelude.{◌≡◌, ◌⊎◌, ℕ, ◌<◌, true, Some, List, length, ◌++◌, codes, ⊤}
 use Rattle.std.specs.Fmt.{decimal}
 use Rattle.cvss.specs.ErrorText.{error_text}
 use Rattle.cvss.specs.ErrorType.{Error}
@@ -65,3 +65,11 @@ triage_error_text (Override index error) = codes "override " ++ decimal index ++
 triage_error_text (NotEnvironmental index) = codes "override " ++ decimal index ++ codes ": no environmental CVSSv4 metric"
 triage_error_text (Text index error) = codes "text " ++ decimal index ++ codes ": " ++ error_text error
 triage_error_text OutOfMemory = codes "out of memory"
+
+-- two errors are of one kind, at one place, and their reasons tell the same
+abbrev pub TellTheSame : (Error → Error → Type 0) → TriageError → TriageError → Type 0
+TellTheSame SameReason (Override x e) (Override y f) = (x ≡ y) × SameReason e f
+TellTheSame SameReason (NotEnvironmental x) (NotEnvironmental y) = x ≡ y
+TellTheSame SameReason (Text x e) (Text y f) = (x ≡ y) × SameReason e f
+TellTheSame SameReason OutOfMemory OutOfMemory = ⊤
+TellTheSame SameReason _ _ = ⊥

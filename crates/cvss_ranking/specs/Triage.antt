@@ -50,3 +50,9 @@ pub record AreRanked (texts overrides : List (List ℕ)) (rows : List Row) : Typ
   pub are_rows : AreRows vector texts in_turn
   pub same_rows : IsPermutation in_turn rows
   pub in_order : IsSorted row_order rows
+
+-- two rows have the same texts and the same score
+pub record AreTheSame (x y : Row) : Type 0 where
+  pub text : string_bytes x.text ≡ string_bytes y.text
+  pub scored : string_bytes x.scored ≡ string_bytes y.scored
+  pub score : x.score ≡ y.score
