@@ -1,5 +1,6 @@
--- The first reason why a text is no vector: v3.1 specification, section 6; v4.0 specification, section 7.
--- Pieces are counted from 0, and the reason at the least place counts.
+-- The first reason why a text is no vector. The reasons and their order are those of the Rust crate; what a vector's
+-- text is, say the v3.1 specification, section 6, and the v4.0 specification, section 7. Pieces are counted from 0, and
+-- the reason at the least place counts.
 use Rattle.std.specs.Prelude.{◌≡◌, ◌≢◌, ℕ, ◌<◌, Bool, true, false, List, [], length, drop, codes, slice_get, slice_index_or, Some, Contains}
 use Rattle.cvss_base.specs.Text.{pieces, IsComponent, name_part, value_part}
 use Rattle.cvss_base.specs.Version.{Version, read, reading}

@@ -1,5 +1,5 @@
 -- CVSS v3.1 specification, sections 2 to 4 (in v3.0 the same): the metrics, by their abbreviations and
--- their names.
+-- their names. The names of the requirements are in the plural, as the Rust crate prints them.
 use Rattle.std.specs.Prelude.{ℕ, List, [], ◌∷◌, codes}
 use Rattle.cvss_base.specs.declared.v3.MetricType.{MetricType}
 use Rattle.cvss_base.specs.declared.v3.MetricType.TheVariants.{A, AC, AV, C, I, PR, S, UI, E, RL, RC, CR, IR, AR, MAV, MAC, MPR, MUI, MS, MC, MI, MA}

@@ -1,4 +1,5 @@
--- CVSS v4.0 specification, sections 2 to 5: the metrics, by their abbreviations and their names.
+-- CVSS v4.0 specification, sections 2 to 5: the metrics, by their abbreviations and their names. The names of the
+-- requirements are in the plural, as the Rust crate prints them.
 use Rattle.std.specs.Prelude.{ℕ, List, [], ◌∷◌, codes}
 use Rattle.cvss_base.specs.declared.v4.MetricType.{MetricType}
 use Rattle.cvss_base.specs.declared.v4.MetricType.TheVariants.{AC, AT, AV, PR, SA, SC, SI, UI, VA, VC, VI, E, AR, CR, IR, MAC, MAT, MAV, MPR, MSA, MSC, MSI, MUI, MVA, MVC, MVI, AU, R, RE, S, U, V}

@@ -6,7 +6,7 @@ use Rattle.cvss_base.specs.Text.{joined, component, read_as}
 
 -- a version, with its vectors V and its metric types K
 pub record Version (V K : Type 0) : Type 1 where
-  -- names and values are read in any ASCII case
+  -- names and values are read in any ASCII case, as the Rust crate reads those of v3 and v4
   pub any_case : Bool
   pub name : K → List ℕ
   -- the values of a metric, and how each is spelled

@@ -63,8 +63,9 @@ impl Vector {
     ghost use Rattle.cvss_v3.specs.Vector.{v3};
 
     /// The vector that a text denotes: `CVSS:3.0` or `CVSS:3.1` and then, each behind a slash, its
-    /// components in any order and any ASCII case, each once (v3.1 specification, section 6).
-    /// Accepting takes no memory.
+    /// components in any order, each once (v3.1 specification, section 6), and in any ASCII case.
+    /// No metric has to be there, though the specification demands the base metrics. Accepting
+    /// takes no memory.
     ///
     /// # Errors
     ///
