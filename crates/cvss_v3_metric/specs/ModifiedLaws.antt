@@ -1,10 +1,11 @@
 -- What holds of a modified metric, by the laws of its base metric alone.
-use Rattle.std.specs.Prelude.{◌≡◌, ℕ, ◌+◌}
+use Rattle.std.specs.Prelude.{◌≡◌, ℕ, ◌+◌, Bool, true, false}
 use Rattle.std.specs.Ordering.{nat_cmp}
 use Rattle.std.specs.declared.cmp.Ordering.{Ordering}
 use Rattle.std.specs.declared.cmp.Ordering.TheVariants.{Less, Equal, Greater}
-use Rattle.std.proofs.Common.{◌∙◌, arith}
+use Rattle.std.proofs.Common.{◌∙◌, ap, sym, arith}
 use Rattle.std.proofs.lemmas.Grind.{common_steps}
+use Rattle.cvss_base.specs.Equality.{EqualsByValue}
 use Rattle.cvss_base.specs.declared.v3.MetricType.{MetricType}
 use Rattle.cvss_v3_metric.specs.declared.environmental.modified.Modified.{Modified}
 use Rattle.cvss_v3_metric.specs.declared.environmental.modified.Modified.TheVariants.{NotDefined, Modified as Set}
@@ -35,3 +36,15 @@ modified_order in_turn metric base equal less greater set NotDefined NotDefined 
 modified_order in_turn metric base equal less greater set NotDefined (Set y) = less y ∙ before_next _ _ _ (base.place NotDefined) (base.place (Set y))
 modified_order in_turn metric base equal less greater set (Set x) NotDefined = greater x ∙ after_first _ _ _ (base.place (Set x)) (base.place NotDefined)
 modified_order in_turn metric base equal less greater set (Set x) (Set y) = set x y ∙ metric.ordered x y ∙ both_next _ _ _ _ (base.place (Set x)) (base.place (Set y))
+
+-- modified values, where those of the base metric are equal by value, are so too
+pub modified_equality : {A : Type 0} {equals : A → A → Bool} (in_turn : Modified A → Modified A → Bool) → EqualsByValue equals
+    → in_turn NotDefined NotDefined ≡ true
+    → ((y : A) → in_turn NotDefined (Set y) ≡ false)
+    → ((x : A) → in_turn (Set x) NotDefined ≡ false)
+    → ((x y : A) → in_turn (Set x) (Set y) ≡ equals x y)
+    → EqualsByValue in_turn
+modified_equality in_turn base same before after set NotDefined NotDefined = (λ e. cc, λ e. same)
+modified_equality in_turn base same before after set NotDefined (Set y) = (λ e. absurd (cc (before y)), λ e. absurd cc)
+modified_equality in_turn base same before after set (Set x) NotDefined = (λ e. absurd (cc (after x)), λ e. absurd cc)
+modified_equality in_turn base same before after set (Set x) (Set y) = (λ e. ap Set ((base x y).0 (sym (set x y) ∙ e)), λ e. set x y ∙ (base x y).1 cc)

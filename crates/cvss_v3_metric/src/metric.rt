@@ -4,6 +4,8 @@ ghost use Rattle.std.specs.Prelude.{◌≡◌, ◌∷◌, ◌*◌, ◌^◌, ◌�
 ghost use Rattle.cvss_base.specs.Refusal.{BadValue};
 ghost use Rattle.cvss_base.specs.Told.{Tells, v3_reason};
 ghost use Rattle.cvss_base.specs.V3Types.{name_of};
+ghost use Rattle.cvss_base.specs.Equality.{EqualsByValue, ClonesByValue};
+ghost use Rattle.cvss_base.specs.Exact.{IsWithinLimit};
 ghost use Rattle.cvss_base.specs.declared.v3.MetricType.{MetricType};
 ghost use Rattle.cvss_base.specs.Text.{slash, raised};
 ghost use Rattle.cvss_v3_metric.specs.Table.{Value, spelling_of, weight_of, metric_component};
@@ -123,7 +125,8 @@ pub trait Metric: Copy + Clone + fmt::Debug + fmt::Display + Eq + Ord + 'static 
     /// The value's weight in counts of 10^-24 (v3.1 specification, section 7.4).
     final fn score(self) -> i128
         requires { IsSome (weight_of TYPE (value self)) }
-        ensures { result ≡ pos (unwrap_or (weight_of TYPE (value self)) 0 * 10 ^ 22) }
+        ensures value { result ≡ pos (unwrap_or (weight_of TYPE (value self)) 0 * 10 ^ 22) }
+        ensures limit { IsWithinLimit result }
     {
         i128::from(self.hundredths().unwrap()) * HUNDREDTH
     }
@@ -136,4 +139,8 @@ pub trait Metric: Copy + Clone + fmt::Debug + fmt::Display + Eq + Ord + 'static 
     }
 
     ghost law: { IsMetric TYPE FAULT_TYPE value ⟦<Self as Ord>⟧.cmp };
+
+    // Two are equal exactly if they are one value, and a clone is that value.
+    ghost by_value: { EqualsByValue ⟦<Self as PartialEq>⟧.eq
+        × ClonesByValue ⟦<Self as Clone>⟧.is_clone };
 }

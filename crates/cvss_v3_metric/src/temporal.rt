@@ -32,6 +32,8 @@ impl Metric for ExploitCodeMaturity {
 
     ghost law = { record { covers = λ x. (x, refl); ordered = Prim.search rules; fault = refl } };
 
+    ghost by_value = { Prim.search rules };
+
     fn row(self) -> (&'static str, Option<u64>) {
         match self {
             ExploitCodeMaturity::NotDefined => ("/E:X", Some(100)),
@@ -56,6 +58,8 @@ impl Metric for ExploitCodeMaturity {
 
 impl fmt::Display for ExploitCodeMaturity {
     ghost output = { λ metric. Some (metric_component E metric) };
+
+    ghost styled_output = { λ metric _. Some (metric_component E metric) };
 
     fn fmt<W: fmt::Write>(&self, f: &mut fmt::Formatter<W>) -> fmt::Result {
         write_component(self.row().0, f)
@@ -85,6 +89,8 @@ impl Metric for RemediationLevel {
 
     ghost law = { record { covers = λ x. (x, refl); ordered = Prim.search rules; fault = refl } };
 
+    ghost by_value = { Prim.search rules };
+
     fn row(self) -> (&'static str, Option<u64>) {
         match self {
             RemediationLevel::NotDefined => ("/RL:X", Some(100)),
@@ -109,6 +115,8 @@ impl Metric for RemediationLevel {
 
 impl fmt::Display for RemediationLevel {
     ghost output = { λ metric. Some (metric_component RL metric) };
+
+    ghost styled_output = { λ metric _. Some (metric_component RL metric) };
 
     fn fmt<W: fmt::Write>(&self, f: &mut fmt::Formatter<W>) -> fmt::Result {
         write_component(self.row().0, f)
@@ -137,6 +145,8 @@ impl Metric for ReportConfidence {
 
     ghost law = { record { covers = λ x. (x, refl); ordered = Prim.search rules; fault = refl } };
 
+    ghost by_value = { Prim.search rules };
+
     fn row(self) -> (&'static str, Option<u64>) {
         match self {
             ReportConfidence::NotDefined => ("/RC:X", Some(100)),
@@ -159,6 +169,8 @@ impl Metric for ReportConfidence {
 
 impl fmt::Display for ReportConfidence {
     ghost output = { λ metric. Some (metric_component RC metric) };
+
+    ghost styled_output = { λ metric _. Some (metric_component RC metric) };
 
     fn fmt<W: fmt::Write>(&self, f: &mut fmt::Formatter<W>) -> fmt::Result {
         write_component(self.row().0, f)

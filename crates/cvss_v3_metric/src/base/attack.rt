@@ -34,6 +34,8 @@ impl Metric for AttackVector {
 
     ghost law = { record { covers = λ x. (x, refl); ordered = Prim.search rules; fault = refl } };
 
+    ghost by_value = { Prim.search rules };
+
     fn row(self) -> (&'static str, Option<u64>) {
         match self {
             AttackVector::Physical => ("/AV:P", Some(20)),
@@ -56,6 +58,8 @@ impl Metric for AttackVector {
 
 impl fmt::Display for AttackVector {
     ghost output = { λ metric. Some (metric_component AV metric) };
+
+    ghost styled_output = { λ metric _. Some (metric_component AV metric) };
 
     fn fmt<W: fmt::Write>(&self, f: &mut fmt::Formatter<W>) -> fmt::Result {
         write_component(self.row().0, f)
@@ -120,6 +124,8 @@ impl Metric for AttackComplexity {
 
     ghost law = { record { covers = λ x. (x, refl); ordered = Prim.search rules; fault = refl } };
 
+    ghost by_value = { Prim.search rules };
+
     fn row(self) -> (&'static str, Option<u64>) {
         match self {
             AttackComplexity::High => ("/AC:H", Some(44)),
@@ -138,6 +144,8 @@ impl Metric for AttackComplexity {
 
 impl fmt::Display for AttackComplexity {
     ghost output = { λ metric. Some (metric_component AC metric) };
+
+    ghost styled_output = { λ metric _. Some (metric_component AC metric) };
 
     fn fmt<W: fmt::Write>(&self, f: &mut fmt::Formatter<W>) -> fmt::Result {
         write_component(self.row().0, f)

@@ -32,6 +32,8 @@ impl Metric for Confidentiality {
 
     ghost law = { record { covers = λ x. (x, refl); ordered = Prim.search rules; fault = refl } };
 
+    ghost by_value = { Prim.search rules };
+
     fn row(self) -> (&'static str, Option<u64>) {
         match self {
             Confidentiality::None => ("/C:N", Some(0)),
@@ -52,6 +54,8 @@ impl Metric for Confidentiality {
 
 impl fmt::Display for Confidentiality {
     ghost output = { λ metric. Some (metric_component C metric) };
+
+    ghost styled_output = { λ metric _. Some (metric_component C metric) };
 
     fn fmt<W: fmt::Write>(&self, f: &mut fmt::Formatter<W>) -> fmt::Result {
         write_component(self.row().0, f)
@@ -107,6 +111,8 @@ impl Metric for Integrity {
 
     ghost law = { record { covers = λ x. (x, refl); ordered = Prim.search rules; fault = refl } };
 
+    ghost by_value = { Prim.search rules };
+
     fn row(self) -> (&'static str, Option<u64>) {
         match self {
             Integrity::None => ("/I:N", Some(0)),
@@ -127,6 +133,8 @@ impl Metric for Integrity {
 
 impl fmt::Display for Integrity {
     ghost output = { λ metric. Some (metric_component I metric) };
+
+    ghost styled_output = { λ metric _. Some (metric_component I metric) };
 
     fn fmt<W: fmt::Write>(&self, f: &mut fmt::Formatter<W>) -> fmt::Result {
         write_component(self.row().0, f)
@@ -182,6 +190,8 @@ impl Metric for Availability {
 
     ghost law = { record { covers = λ x. (x, refl); ordered = Prim.search rules; fault = refl } };
 
+    ghost by_value = { Prim.search rules };
+
     fn row(self) -> (&'static str, Option<u64>) {
         match self {
             Availability::None => ("/A:N", Some(0)),
@@ -202,6 +212,8 @@ impl Metric for Availability {
 
 impl fmt::Display for Availability {
     ghost output = { λ metric. Some (metric_component A metric) };
+
+    ghost styled_output = { λ metric _. Some (metric_component A metric) };
 
     fn fmt<W: fmt::Write>(&self, f: &mut fmt::Formatter<W>) -> fmt::Result {
         write_component(self.row().0, f)

@@ -31,6 +31,8 @@ impl Metric for UserInteraction {
 
     ghost law = { record { covers = λ x. (x, refl); ordered = Prim.search rules; fault = refl } };
 
+    ghost by_value = { Prim.search rules };
+
     fn row(self) -> (&'static str, Option<u64>) {
         match self {
             UserInteraction::Required => ("/UI:R", Some(62)),
@@ -49,6 +51,8 @@ impl Metric for UserInteraction {
 
 impl fmt::Display for UserInteraction {
     ghost output = { λ metric. Some (metric_component UI metric) };
+
+    ghost styled_output = { λ metric _. Some (metric_component UI metric) };
 
     fn fmt<W: fmt::Write>(&self, f: &mut fmt::Formatter<W>) -> fmt::Result {
         write_component(self.row().0, f)

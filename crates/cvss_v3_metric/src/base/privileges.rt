@@ -2,6 +2,7 @@
 
 ghost use Rattle.std.specs.Prelude.{◌∷◌, ◌≡◌, ◌*◌, ◌^◌, pos, Some, refl};
 ghost use Rattle.std.proofs.Common.{rules};
+ghost use Rattle.cvss_base.specs.Exact.{IsWithinLimit};
 ghost use Rattle.cvss_base.specs.declared.v3.MetricType.TheVariants.{PR, MPR};
 ghost use Rattle.cvss_base.specs.Text.{slash};
 ghost use Rattle.cvss_v3_metric.specs.Rows.{scoped_weight};
@@ -34,6 +35,8 @@ impl Metric for PrivilegesRequired {
 
     ghost law = { record { covers = λ x. (x, refl); ordered = Prim.search rules; fault = refl } };
 
+    ghost by_value = { Prim.search rules };
+
     fn row(self) -> (&'static str, Option<u64>) {
         match self {
             PrivilegesRequired::High => ("/PR:H", Some(27)),
@@ -54,6 +57,8 @@ impl Metric for PrivilegesRequired {
 
 impl fmt::Display for PrivilegesRequired {
     ghost output = { λ metric. Some (metric_component PR metric) };
+
+    ghost styled_output = { λ metric _. Some (metric_component PR metric) };
 
     fn fmt<W: fmt::Write>(&self, f: &mut fmt::Formatter<W>) -> fmt::Result {
         write_component(self.row().0, f)
@@ -103,7 +108,8 @@ impl PrivilegesRequired {
 
     /// The value's weight in counts of 10^-24, which is higher where the scope changes.
     pub fn scoped_score(self, scope_change: bool) -> i128
-        ensures { result ≡ pos (scoped_weight scope_change self * 10 ^ 22) }
+        ensures value { result ≡ pos (scoped_weight scope_change self * 10 ^ 22) }
+        ensures limit { IsWithinLimit result }
     {
         i128::from(self.scoped_hundredths(scope_change)) * HUNDREDTH
     }

@@ -30,6 +30,8 @@ impl Metric for Scope {
 
     ghost law = { record { covers = λ x. (x, refl); ordered = Prim.search rules; fault = refl } };
 
+    ghost by_value = { Prim.search rules };
+
     fn row(self) -> (&'static str, Option<u64>) {
         match self {
             Scope::Unchanged => ("/S:U", None),
@@ -48,6 +50,8 @@ impl Metric for Scope {
 
 impl fmt::Display for Scope {
     ghost output = { λ metric. Some (metric_component S metric) };
+
+    ghost styled_output = { λ metric _. Some (metric_component S metric) };
 
     fn fmt<W: fmt::Write>(&self, f: &mut fmt::Formatter<W>) -> fmt::Result {
         write_component(self.row().0, f)

@@ -1,6 +1,7 @@
 //! The modified base metrics (v3.1 specification, section 4.2).
 
 ghost use Rattle.std.specs.Prelude.{◌≡◌, ◌∷◌, ◌*◌, ◌^◌, pos, Some, refl};
+ghost use Rattle.cvss_base.specs.Exact.{IsWithinLimit};
 ghost use Rattle.cvss_base.specs.Text.{slash};
 ghost use Rattle.cvss_base.specs.declared.v3.MetricType.{MetricType};
 ghost use Rattle.cvss_v3_metric.specs.Rows.{scoped_weight};
@@ -39,7 +40,8 @@ pub trait BaseMetric: Metric {
 }
 
 impl<T: BaseMetric> Metric for Modified<T> {
-    ghost use Rattle.cvss_v3_metric.specs.ModifiedLaws.{modified_order};
+    ghost use Rattle.cvss_v3_metric.specs.ModifiedLaws.{modified_order, modified_equality};
+    ghost use Rattle.std.proofs.Common.{rules};
 
     const TYPE: MetricType = T::MODIFIED_TYPE;
 
@@ -57,6 +59,11 @@ impl<T: BaseMetric> Metric for Modified<T> {
       fault = T.base_law.blamed;
     } };
 
+    ghost by_value = { (
+      modified_equality _ T.by_value.0 refl (λ y. refl) (λ x. refl) (λ x y. refl),
+      Prim.search rules,
+    ) };
+
     fn row(self) -> (&'static str, Option<u64>) {
         (T::modified_slashed(self), Some(0))
     }
@@ -71,6 +78,8 @@ impl<T: BaseMetric> Metric for Modified<T> {
 
 impl<T: BaseMetric> fmt::Display for Modified<T> {
     ghost output = { λ metric. Some (metric_component T.MODIFIED_TYPE (T.modified metric)) };
+
+    ghost styled_output = { λ metric _. Some (metric_component T.MODIFIED_TYPE (T.modified metric)) };
 
     fn fmt<W: fmt::Write>(&self, f: &mut fmt::Formatter<W>) -> fmt::Result {
         write_component(T::modified_slashed(*self), f)
@@ -90,8 +99,9 @@ impl<T: BaseMetric> Modified<T> {
 
     /// The weight of the value that is set, and else of the base metric's, in counts of 10^-24.
     pub fn modified_score(self, base: Option<T>) -> i128
-        ensures { result ≡ pos (weight_if_set (λ value. weight_of T.TYPE (T.value value))
+        ensures value { result ≡ pos (weight_if_set (λ value. weight_of T.TYPE (T.value value))
             (replaced self base) * 10 ^ 22) }
+        ensures limit { IsWithinLimit result }
     {
         match self.or(base) {
             Some(value) => value.score(),
@@ -104,8 +114,9 @@ impl Modified<PrivilegesRequired> {
     /// The weight of the value that is set, and else of the base metric's, in counts of 10^-24. It is
     /// higher where the scope changes.
     pub fn scoped_score(self, scope_changed: bool, base: Option<PrivilegesRequired>) -> i128
-        ensures { result ≡ pos (weight_if_set (λ value. Some (scoped_weight scope_changed value))
-            (replaced self base) * 10 ^ 22) }
+        ensures value { result ≡ pos (weight_if_set
+            (λ value. Some (scoped_weight scope_changed value)) (replaced self base) * 10 ^ 22) }
+        ensures limit { IsWithinLimit result }
     {
         match self.or(base) {
             Some(value) => value.scoped_score(scope_changed),

@@ -30,6 +30,8 @@ impl Metric for ModifiedScope {
 
     ghost law = { record { covers = λ x. (x, refl); ordered = Prim.search rules; fault = refl } };
 
+    ghost by_value = { Prim.search rules };
+
     fn row(self) -> (&'static str, Option<u64>) {
         match self {
             ModifiedScope::NotDefined => ("/MS:X", Some(0)),
@@ -48,6 +50,8 @@ impl Metric for ModifiedScope {
 
 impl fmt::Display for ModifiedScope {
     ghost output = { λ metric. Some (metric_component MS metric) };
+
+    ghost styled_output = { λ metric _. Some (metric_component MS metric) };
 
     fn fmt<W: fmt::Write>(&self, f: &mut fmt::Formatter<W>) -> fmt::Result {
         write_component(self.row().0, f)

@@ -31,6 +31,8 @@ impl Metric for ConfidentialityRequirement {
 
     ghost law = { record { covers = λ x. (x, refl); ordered = Prim.search rules; fault = refl } };
 
+    ghost by_value = { Prim.search rules };
+
     fn row(self) -> (&'static str, Option<u64>) {
         match self {
             ConfidentialityRequirement::NotDefined => ("/CR:X", Some(100)),
@@ -53,6 +55,8 @@ impl Metric for ConfidentialityRequirement {
 
 impl fmt::Display for ConfidentialityRequirement {
     ghost output = { λ metric. Some (metric_component CR metric) };
+
+    ghost styled_output = { λ metric _. Some (metric_component CR metric) };
 
     fn fmt<W: fmt::Write>(&self, f: &mut fmt::Formatter<W>) -> fmt::Result {
         write_component(self.row().0, f)
@@ -81,6 +85,8 @@ impl Metric for IntegrityRequirement {
 
     ghost law = { record { covers = λ x. (x, refl); ordered = Prim.search rules; fault = refl } };
 
+    ghost by_value = { Prim.search rules };
+
     fn row(self) -> (&'static str, Option<u64>) {
         match self {
             IntegrityRequirement::NotDefined => ("/IR:X", Some(100)),
@@ -103,6 +109,8 @@ impl Metric for IntegrityRequirement {
 
 impl fmt::Display for IntegrityRequirement {
     ghost output = { λ metric. Some (metric_component IR metric) };
+
+    ghost styled_output = { λ metric _. Some (metric_component IR metric) };
 
     fn fmt<W: fmt::Write>(&self, f: &mut fmt::Formatter<W>) -> fmt::Result {
         write_component(self.row().0, f)
@@ -131,6 +139,8 @@ impl Metric for AvailabilityRequirement {
 
     ghost law = { record { covers = λ x. (x, refl); ordered = Prim.search rules; fault = refl } };
 
+    ghost by_value = { Prim.search rules };
+
     fn row(self) -> (&'static str, Option<u64>) {
         match self {
             AvailabilityRequirement::NotDefined => ("/AR:X", Some(100)),
@@ -153,6 +163,8 @@ impl Metric for AvailabilityRequirement {
 
 impl fmt::Display for AvailabilityRequirement {
     ghost output = { λ metric. Some (metric_component AR metric) };
+
+    ghost styled_output = { λ metric _. Some (metric_component AR metric) };
 
     fn fmt<W: fmt::Write>(&self, f: &mut fmt::Formatter<W>) -> fmt::Result {
         write_component(self.row().0, f)
