@@ -1,8 +1,10 @@
 mod ClassLawLemmas
 mod ClassLemmas
 mod CompleteLemmas
+mod CountLemmas
 mod DepthLemmas
 mod DistanceLemmas
+mod EqualLemmas
 mod GroupLemmas
 mod LeastLemmas
 mod MeanLemmas
