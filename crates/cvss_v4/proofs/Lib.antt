@@ -8,6 +8,7 @@ mod EqualLemmas
 mod GroupLemmas
 mod LeastLemmas
 mod MeanLemmas
+mod MergingFacts
 mod MergingLemmas
 mod OverridingLemmas
 mod PrintedLemmas
