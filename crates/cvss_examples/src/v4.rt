@@ -53,8 +53,8 @@ pub fn not_defined_scores_as_absent(left: &Vector, right: &Vector) -> (i128, i12
     (left.score().value(), right.score().value())
 }
 
-/// The scores of a complete vector and of the vector whose base metrics have the letters of its modified
-/// metrics, which are the same.
+/// The scores of a complete vector and of one with some or all of its modified metrics written as base
+/// metrics, as `AV:L` in place of `MAV:L` beside `MSI:S`, which are the same.
 pub fn modified_scores_as_base(vector: &Vector, base: &Vector) -> (i128, i128)
     requires vector { IsComplete v4 vector.now }
     requires base { IsComplete v4 base.now }

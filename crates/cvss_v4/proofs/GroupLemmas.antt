@@ -29,7 +29,7 @@ eq1_sound v =
       divides = eq1_divides (eq1 v.av v.pr v.ui);
       falls = λ lower next.
           let is_value = (table_value_listed v).is_value in
-          (eq1_falls (macro_vector v) (macro_vector_is v) (table_value v) lower is_value next).to_value;
+          eq1_falls (macro_vector v) (macro_vector_is v) (table_value v) lower is_value next;
     }
 
 eq2_sound : (v : Effective) → IsSound (table_value v) (eq2_group v)
@@ -42,7 +42,7 @@ eq2_sound v =
       divides = eq2_divides (eq2 v.ac v.at);
       falls = λ lower next.
           let is_value = (table_value_listed v).is_value in
-          (eq2_falls (macro_vector v) (macro_vector_is v) (table_value v) lower is_value next).to_value;
+          eq2_falls (macro_vector v) (macro_vector_is v) (table_value v) lower is_value next;
     }
 
 eq4_sound : (v : Effective) → IsSound (table_value v) (eq4_group v)
@@ -55,7 +55,7 @@ eq4_sound v =
       divides = eq4_divides (eq4 v.sc v.si v.sa);
       falls = λ lower next.
           let is_value = (table_value_listed v).is_value in
-          (eq4_falls (macro_vector v) (macro_vector_is v) (table_value v) lower is_value next).to_value;
+          eq4_falls (macro_vector v) (macro_vector_is v) (table_value v) lower is_value next;
     }
 
 eq3_eq6_sound : (v : Effective) → IsSound (table_value v) (eq3_eq6_group v)
@@ -70,7 +70,7 @@ eq3_eq6_sound v =
       divides = eq3_eq6_divides class3 class6;
       falls = λ lower next.
           let is_value = (table_value_listed v).is_value in
-          (eq3_eq6_falls (macro_vector v) (macro_vector_is v) (table_value v) lower is_value next).to_value;
+          eq3_eq6_falls (macro_vector v) (macro_vector_is v) (table_value v) lower is_value next;
     }
 
 eq5_sound : (v : Effective) → IsSound (table_value v) (eq5_group v)
@@ -81,7 +81,7 @@ eq5_sound v = record {
   divides = refl;
   falls = λ lower next.
       let is_value = (table_value_listed v).is_value in
-      (eq5_falls (macro_vector v) (macro_vector_is v) (table_value v) lower is_value next).to_value;
+      eq5_falls (macro_vector v) (macro_vector_is v) (table_value v) lower is_value next;
 }
 
 pub groups_sound : (v : Effective) → AreSound (table_value v) (groups v)

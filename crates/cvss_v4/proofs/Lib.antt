@@ -1,11 +1,14 @@
 mod ClassLawLemmas
 mod ClassLemmas
 mod CompleteLemmas
+mod CountLemmas
 mod DepthLemmas
 mod DistanceLemmas
+mod EqualLemmas
 mod GroupLemmas
 mod LeastLemmas
 mod MeanLemmas
+mod MergingFacts
 mod MergingLemmas
 mod OverridingLemmas
 mod PrintedLemmas

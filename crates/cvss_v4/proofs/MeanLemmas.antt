@@ -8,6 +8,7 @@ use Rattle.cvss_base.proofs.ExactLemmas.{equal_refl, equal_trans, sum_equal, dif
 use Rattle.cvss_v4.specs.Gap.{Group}
 use Rattle.cvss_v4.specs.Scores.{proportion, total, mean}
 use Rattle.cvss_v4.specs.Shares.{taken, counted}
+use Rattle.cvss_v4.proofs.TableLemmas.{Falls}
 
 -- gap * distance / depth in 8400ths of a point
 part_is : (gap distance depth share : ℕ) → depth * share ≡ 840
@@ -16,13 +17,14 @@ part_is gap distance depth share divides =
     let product = ap (λ n. gap * distance * 10 * n) divides in
     record { equal = omega (arith, ints, product) }
 
--- a group below a value: its distance is below its depth, which divides 840, and its next lower value is no greater
+-- a group below a value: its distance is below its depth, which divides 840, and its next lower value is from 1
+-- to the value
 pub record IsSound (value : ℕ) (group : Group) : Type 0 where
   pub distance : ℕ
   pub is_distance : group.distance ≡ pos distance
   pub below : distance < group.depth
   pub divides : group.depth * (840 / group.depth) ≡ 840
-  pub falls : (lower : ℕ) → group.next_lower ≡ Some lower → lower ≤ value
+  pub falls : (lower : ℕ) → group.next_lower ≡ Some lower → Falls value lower
 
 -- so many numbers have this sum in 8400ths of a point
 pub record IsTotal (xs : List Exact) (sum count : ℕ) : Type 0 where
@@ -75,7 +77,7 @@ total_is value (group ∷ rest) are_sound =
     (λ lower. (value - lower) * unsigned_abs group.distance * (840 / depth)) (filter_map (proportion value) rest)
     (all_taken value rest) (all_counted rest)
     (λ lower is_next.
-    let gap : pos value -ℤ pos lower ≡ pos (value - lower) = omega (arith, ints, are_sound.0.falls lower is_next) in (
+    let gap : pos value -ℤ pos lower ≡ pos (value - lower) = omega (arith, ints, (are_sound.0.falls lower is_next).to_value) in (
       rw (gap, are_sound.0.is_distance) (part_is (value - lower) distance depth (840 / depth) are_sound.0.divides),
       mul-pos (lit< tt) (omega (arith, are_sound.0.below)),
     ))

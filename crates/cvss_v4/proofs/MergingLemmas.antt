@@ -1,9 +1,9 @@
-use Rattle.std.proofs.Common.{◌≡◌, refl, ap, ◌∙◌}
+use Rattle.std.proofs.Common.{◌≡◌, ◌⊎◌, inl, inr, refl, ap, ◌∙◌}
 use Rattle.std.specs.Prelude.{ℕ, Bool, true, false, List, codes, bytes_eq, if◌then◌else◌, Some, None, unwrap_or}
 use Rattle.cvss_base.specs.declared.v4.MetricType.{MetricType}
 use Rattle.cvss_base.specs.declared.v4.MetricType.TheVariants.{AC, AT, AV, PR, SA, SC, SI, UI, VA, VC, VI, E, AR, CR, IR, MAC, MAT, MAV, MPR, MSA, MSC, MSI, MUI, MVA, MVC, MVI}
 use Rattle.cvss_v4.specs.Merging.{letter_at, replaced, merged, if_defined, effective_of, attack_vector_of, attack_complexity_of, attack_requirements_of, privileges_required_of, user_interaction_of, vulnerable_impact_of, subsequent_impact_of, safety_impact_of, requirement_of, exploit_maturity_of}
-use Rattle.cvss_v4.specs.MergingLaws.{HasModifiedAsBase, base_of}
+use Rattle.cvss_v4.specs.MergingLaws.{IsWrittenAsBase, IsKept, HasModifiedAsBase, base_of}
 use Rattle.cvss_v4.specs.declared.vector.Vector.{Vector}
 
 by_case : {E : Type 0} (meaning : List ℕ → E) (modified base : List ℕ) (undefined : Bool) → unwrap_or (if undefined then None else Some (meaning modified)) (meaning base) ≡ meaning (if undefined then base else modified)
@@ -32,9 +32,13 @@ letters_alike v w same = λ i. record {
   e = exploit_maturity_of (same E i);
 }
 
--- a base metric with its modified metric's letter
+-- a base metric with its modified metric's letter, or both as they are
+one_letter : (v w : Vector) (modified base : MetricType) → IsWrittenAsBase v w modified base ⊎ IsKept v w modified base → merged w modified base ≡ merged v modified base
+one_letter v w modified base (inl written) = ap (λ letter. replaced letter (letter_at w base)) written.undefined ∙ written.replaced
+one_letter v w modified base (inr kept) = λ i. replaced (kept.same_modified i) (kept.same_base i)
+
 written_out : (v w : Vector) → HasModifiedAsBase v w → (modified base : MetricType) → base_of modified ≡ Some base → merged w modified base ≡ merged v modified base
-written_out v w same modified base pair = ap (λ letter. replaced letter (letter_at w base)) (same.undefined modified base pair) ∙ same.replaced modified base pair
+written_out v w same modified base pair = one_letter v w modified base (same.each modified base pair)
 
 pub modified_as_base : (v w : Vector) → HasModifiedAsBase v w → effective_of w ≡ effective_of v
 modified_as_base v w same = λ i. record {

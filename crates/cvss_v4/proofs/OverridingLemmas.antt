@@ -1,16 +1,17 @@
 -- Overrides: the environmental metrics, and texts that are read one after another.
-use Rattle.std.proofs.Common.{◌≡◌, ◌⊎◌, inl, inr, ℕ, ◌+◌, ◌<◌, Bool, true, false, List, [], ◌∷◌, length, get_or, map, IsSome, Contains, below_more, refl, sym, ap, ◌∙◌, subst, arith}
+use Rattle.std.proofs.Common.{◌≡◌, ◌⊎◌, inl, inr, ℕ, ◌+◌, ◌<◌, Bool, true, false, List, [], ◌∷◌, ◌++◌, codes, length, get_or, map, IsSome, Contains, below_more, refl, sym, ap, ◌∙◌, subst, arith}
 use Rattle.std.proofs.lemmas.List.{get_or-map}
 use Rattle.std.proofs.lemmas.List.Elements.{Contains-append_right}
 use Rattle.cvss_base.specs.Refusal.{Refusal, BadComponent, WrongPrefix, WrongVersion, UnknownName, BadValue, Repeated, Missing, piece_at, name_at, FaultAt}
 use Rattle.cvss_base.specs.Text.{IsComponent, name_part}
 use Rattle.cvss_base.specs.V4Types.{name_of}
-use Rattle.cvss_base.specs.Version.{read, IsComplete}
+use Rattle.cvss_base.specs.Numeral.{numeral}
+use Rattle.cvss_base.specs.Version.{read, version_piece, IsComplete}
 use Rattle.cvss_base.specs.Walk.{HasNoValue, IsFaultOf}
 use Rattle.cvss_base.specs.declared.v4.MetricType.{MetricType}
 use Rattle.cvss_base.specs.declared.v4.MetricType.TheVariants.{CR, IR, AR, MAV, MAC, MAT, MPR, MUI, MVC, MVI, MVA, MSC, MSI, MSA}
 use Rattle.cvss_base.proofs.ComponentLemmas.{piece_held}
-use Rattle.cvss_base.proofs.DenotesLemmas.{no_fault_held}
+use Rattle.cvss_base.proofs.DenotesLemmas.{no_fault_held, vectors_same}
 use Rattle.cvss_base.proofs.JoinLemmas.{piece_is_component}
 use Rattle.cvss_base.proofs.LawLemmas.{names_differ}
 use Rattle.cvss_base.proofs.RefusalLemmas.{same_place, faults_same}
@@ -20,7 +21,7 @@ use Rattle.cvss_v4_metric.specs.Table.{environmental, mandatory}
 use Rattle.cvss_v4.specs.Overriding.{AreOverrides, IsOverridden, NamesOther, Objection, OfOtherGroup, OfText, ObjectionAt, IsFirstObjection}
 use Rattle.cvss_v4.specs.OverridingSteps.{AddsOverride, IsObjectionTo, HasReadOverrides}
 use Rattle.cvss_v4.specs.Vector.{v4, value_at}
-use Rattle.cvss_v4.specs.VectorLaws.{v4_is_lawful}
+use Rattle.cvss_v4.specs.VectorLaws.{v4_is_lawful, one_minor_version}
 use Rattle.cvss_v4.specs.declared.vector.Vector.{Vector}
 
 -- the metric is the first of these, or the second, and so on
@@ -63,8 +64,9 @@ no_objection_at texts place kind is named environment none (OfText (Repeated oth
 no_objection_at texts place kind is named environment none (OfText (Missing other)) (_, _, fault) = fault
 
 -- the start, a step and the end of the walk over overrides
-pub HasReadOverrides-none : (texts : List (List ℕ)) (v : Vector) → HasNoValue v4 v → HasReadOverrides texts 0 v
-HasReadOverrides-none texts v empty = record {
+pub HasReadOverrides-none : (texts : List (List ℕ)) (v : Vector) → v.minor_version ≡ 0 → HasNoValue v4 v → HasReadOverrides texts 0 v
+HasReadOverrides-none texts v version empty = record {
+  version = version;
   read = HasRead-none v4 v4_is_lawful texts v empty;
   environmental = record { each = λ kind some. absurd (none_is_none (value_at v kind) (empty.none kind) some) };
   faultless = record { none = λ earlier objection below. absurd (omega arith) };
@@ -78,6 +80,7 @@ module _ (texts : List (List ℕ)) (place : ℕ) (within : place < length texts)
       let named : name_of adds.kind ≡ name_at v4 texts place = adds.named ∙ ap (λ each. read v4 (name_part each)) here in
       let none = no_objection_at texts place adds.kind (subst IsComponent here is) named added.environmental (λ reason fault. all.faultless.none place reason (omega arith) fault) in
       record {
+        version = one_minor_version new old adds.puts.front ∙ before.version;
         read = all;
         environmental = record { each = λ kind some. elim (adds.puts.others kind) [ inl same ↦ subst (Contains environmental) (sym same) added.environmental | inr same ↦ before.environmental.each kind (subst IsSome same some) ] };
         faultless = record { none = λ earlier objection below. below_more (λ each. (other : Objection) → ObjectionAt texts each other → ⊥) place (λ each inside other. before.faultless.none each other inside) none earlier below objection };
@@ -105,6 +108,12 @@ AreOverrides-all texts v all = record {
   components = AreComponentsOf-all v4 v4_is_lawful texts v all.read;
   environmental = all.environmental;
 }
+
+-- texts are the overrides of one vector with minor version 0
+pub one_overrides : (texts : List (List ℕ)) (v w : Vector) → v.minor_version ≡ 0 → w.minor_version ≡ 0 → AreOverrides texts v → AreOverrides texts w → v ≡ w
+one_overrides texts v w of_v of_w are_v are_w =
+    let front : v4.front v ≡ v4.front w = ap (λ n. version_piece (codes "4." ++ numeral n) ∷ []) (of_v ∙ sym of_w) in
+    vectors_same v4 v4_is_lawful v w texts front are_v.components are_w.components
 
 -- nothing is wrong with overrides
 pub no_objection_held : (texts : List (List ℕ)) (v : Vector) (place : ℕ) → AreOverrides texts v → place < length texts → (objection : Objection) → ObjectionAt texts place objection → ⊥

@@ -1,21 +1,24 @@
--- One score, and the same with a millionth more.
+-- One score, and the same with a millionth more; with impact the number lies from 0.1 to 10.
 use Rattle.std.proofs.Common.{◌≡◌, ◌↔◌, ℕ, zero, suc, ◌-◌, ◌*◌, ◌/◌, ◌<◌, ◌≤◌, max, Bool, true, false, List, [], ◌∷◌, Option, Some, None, option_map, unwrap_or, IfSome, refl, arith, ℤ, lit<}
 use Rattle.std.specs.List.{All}
-use Rattle.std.proofs.Math.Nat.{mul-pos, mul-le-mul}
+use Rattle.std.proofs.Math.Nat.{mul-pos}
 use Rattle.std.proofs.lemmas.Int.{ints}
-use Rattle.cvss_base.specs.Exact.{◌over◌, ◌⊕◌, ◌≈◌}
+use Rattle.cvss_base.specs.Exact.{◌over◌, whole, ◌⊕◌, ◌≈◌, ◌⊑◌}
 use Rattle.cvss_base.specs.Rounding.{IsRoundedV4}
-use Rattle.cvss_base.proofs.ExactLemmas.{equal_refl, equal_sym, sum_equal}
+use Rattle.cvss_base.proofs.ExactLemmas.{equal_refl, equal_sym, equal_at_most, at_most_trans, sum_equal}
 use Rattle.cvss_base.proofs.RoundingLemmas.{v4-unique}
 use Rattle.cvss_v4.specs.Gap.{Group, groups}
+use Rattle.cvss_v4.specs.ScoreLaws.{IsFromTenthToTen}
 use Rattle.cvss_v4.specs.Scores.{has_impact, number, IsScore}
 use Rattle.cvss_v4.specs.Shares.{taken, counted}
 use Rattle.cvss_v4.specs.Values.{table_value}
 use Rattle.cvss_v4.specs.declared.scoring.effective.Effective.{Effective}
-use Rattle.cvss_v4.proofs.GroupLemmas.{groups_sound}
+use Rattle.cvss_v4.proofs.GroupLemmas.{table_value_listed, groups_sound}
 use Rattle.cvss_v4.proofs.MeanLemmas.{IsSound, AreSound, all_taken, all_counted}
 use Rattle.cvss_v4.proofs.RoundedLemmas.{mean_bound, v4-equal}
 use Rattle.cvss_v4.proofs.ScoreLemmas.{number_is, number_without_impact}
+use Rattle.cvss_v4.proofs.ShareLemmas.{part_bound}
+use Rattle.cvss_v4.proofs.TableLemmas.{Falls}
 
 -- what holds of each value that is there
 if_there : (P : ℕ → Type 0) (next : Option ℕ) → ((lower : ℕ) → next ≡ Some lower → P lower) → IfSome next P
@@ -27,27 +30,24 @@ pub sound_fall : (value : ℕ) (groups : List Group) → AreSound value groups
     → All (λ group. IfSome group.next_lower (λ lower. lower ≤ value)) groups
 sound_fall value [] are_sound k d in_list = absurd (omega arith)
 sound_fall value (group ∷ rest) are_sound zero d in_list =
-    if_there (λ lower. lower ≤ value) group.next_lower are_sound.0.falls
+    if_there (λ lower. lower ≤ value) group.next_lower (λ lower next. (are_sound.0.falls lower next).to_value)
 sound_fall value (group ∷ rest) are_sound (suc k) d in_list = sound_fall value rest are_sound.1 k d (omega arith)
 
--- what is taken of a gap is no more than the gap
+-- what is taken of a gap is no more than the gap to 1
 part_at_most : (value distance depth : ℕ) (next : Option ℕ) → distance < depth → depth * (840 / depth) ≡ 840
+    → ((lower : ℕ) → next ≡ Some lower → Falls value lower)
     → unwrap_or (option_map (λ lower. (value - lower) * distance * (840 / depth)) next) 0
-    ≤ 840 * value * unwrap_or (option_map (λ _. 1) next) 0
-part_at_most value distance depth None below divides = omega arith
-part_at_most value distance depth (Some lower) below divides =
-    let share = 840 / depth in
-    let at_most : distance * share ≤ depth * share = mul-le-mul (omega arith) (omega arith) in
-    let gap : value - lower ≤ value = omega arith in
-    let product : (value - lower) * (distance * share) ≤ value * 840 = mul-le-mul gap (omega (arith, divides)) in
-    omega (arith, product)
+    ≤ 840 * (value - 1) * unwrap_or (option_map (λ _. 1) next) 0
+part_at_most value distance depth None below divides falls = omega arith
+part_at_most value distance depth (Some lower) below divides falls =
+    omega (arith, part_bound value lower distance depth (falls lower refl).from_one below divides)
 
-taken_at_most : (value : ℕ) (group : Group) → IsSound value group → taken value group ≤ 840 * value * counted group
+taken_at_most : (value : ℕ) (group : Group) → IsSound value group → taken value group ≤ 840 * (value - 1) * counted group
 taken_at_most value group sound =
-    rw sound.is_distance (part_at_most value sound.distance group.depth group.next_lower sound.below sound.divides)
+    rw sound.is_distance (part_at_most value sound.distance group.depth group.next_lower sound.below sound.divides sound.falls)
 
 all_at_most : (value : ℕ) (groups : List Group) → AreSound value groups
-    → all_taken value groups ≤ 840 * value * all_counted groups
+    → all_taken value groups ≤ 840 * (value - 1) * all_counted groups
 all_at_most value [] are_sound = omega arith
 all_at_most value (group ∷ rest) are_sound =
     omega (arith, taken_at_most value group are_sound.0, all_at_most value rest are_sound.1)
@@ -63,14 +63,34 @@ few_counted v = omega (arith, counted_once)
 abbrev pub count_of : Effective → ℕ
 count_of v = table_value v * 50400 - all_taken (table_value v) (groups v) * (60 / max (all_counted (groups v)) 1)
 
+-- the mean that is taken from a value leaves at least 0.1
+mean_taken : (v : Effective)
+    → all_taken (table_value v) (groups v) * (60 / max (all_counted (groups v)) 1) ≤ 50400 * (table_value v - 1)
+mean_taken v =
+    let value = table_value v in
+    mean_bound (value - 1) (all_taken value (groups v)) (all_counted (groups v)) (few_counted v)
+    (all_at_most value (groups v) (groups_sound v))
+
 pub count_with_impact : (v : Effective) → has_impact v ≡ true
     → (number v ≈ count_of v over 504000) × (0 < (number v).bottom)
 count_with_impact v with_impact =
     let value = table_value v in
     let all = all_taken value (groups v) in
     let count = all_counted (groups v) in
-    let bound = mean_bound value all count (few_counted v) (all_at_most value (groups v) (groups_sound v)) in
-    number_is v all count with_impact refl refl (few_counted v) (omega (arith, bound))
+    number_is v all count with_impact refl refl (few_counted v) (omega (arith, mean_taken v))
+
+-- so the number lies from 0.1 to 10
+pub from_tenth_to_ten : (v : Effective) → has_impact v ≡ true → IsFromTenthToTen (number v)
+from_tenth_to_ten v with_impact =
+    let counted = count_with_impact v with_impact in
+    let n = count_of v over 504000 in
+    let value = table_value_listed v in
+    let from_tenth : 1 over 10 ⊑ n = record { at_most = omega (arith, ints, mean_taken v, value.from_one) } in
+    let to_ten : n ⊑ whole 10 = record { at_most = omega (arith, ints, value.to_hundred) } in
+    record {
+      from_tenth = at_most_trans (1 over 10) n (number v) (lit< tt) from_tenth (equal_at_most n (number v) (equal_sym counted.0));
+      to_ten = at_most_trans (number v) n (whole 10) (lit< tt) (equal_at_most (number v) n counted.0) to_ten;
+    }
 
 by_impact : (v : Effective) (b : Bool) → has_impact v ≡ b → (n : ℕ) × (number v ≈ n over 504000) × (0 < (number v).bottom)
 by_impact v true with_impact =

@@ -1,5 +1,5 @@
 -- Vectors with the same effective values: CVSS v4.0 specification, section 4.2.
-use Rattle.std.specs.Prelude.{◌≡◌, codes, Option, Some, None}
+use Rattle.std.specs.Prelude.{◌≡◌, ◌⊎◌, codes, Option, Some, None}
 use Rattle.cvss_base.specs.declared.v4.MetricType.{MetricType}
 use Rattle.cvss_base.specs.declared.v4.MetricType.TheVariants.{AC, AT, AV, PR, SA, SC, SI, UI, VA, VC, VI, E, AR, CR, IR, MAC, MAT, MAV, MPR, MSA, MSC, MSI, MUI, MVA, MVC, MVI}
 use Rattle.cvss_v4.specs.Merging.{letter_at, merged}
@@ -20,10 +20,20 @@ base_of MSI = Some SI
 base_of MSA = Some SA
 base_of _ = None
 
--- the second vector has in its base metrics the letters of the first's modified metrics, and no modified metric
+-- the second vector has no such modified metric, and in the base metric the letter of the first's two together
+pub record IsWrittenAsBase (v w : Vector) (modified base : MetricType) : Type 0 where
+  pub undefined : letter_at w modified ≡ codes "X"
+  pub replaced : letter_at w base ≡ merged v modified base
+
+-- the second vector has both as the first has them
+pub record IsKept (v w : Vector) (modified base : MetricType) : Type 0 where
+  pub same_modified : letter_at w modified ≡ letter_at v modified
+  pub same_base : letter_at w base ≡ letter_at v base
+
+-- the second vector has each modified metric of the first as it is or written as its base metric, be it one of
+-- them, some or all, and all else that is scored as it is
 pub record HasModifiedAsBase (v w : Vector) : Type 0 where
-  pub undefined : (modified base : MetricType) → base_of modified ≡ Some base → letter_at w modified ≡ codes "X"
-  pub replaced : (modified base : MetricType) → base_of modified ≡ Some base → letter_at w base ≡ merged v modified base
+  pub each : (modified base : MetricType) → base_of modified ≡ Some base → IsWrittenAsBase v w modified base ⊎ IsKept v w modified base
   pub e : letter_at w E ≡ letter_at v E
   pub cr : letter_at w CR ≡ letter_at v CR
   pub ir : letter_at w IR ≡ letter_at v IR

@@ -80,3 +80,9 @@ pub record TellsFirstObjection (texts : List (List ℕ)) (told : OverrideError) 
 abbrev pub override_error_text : OverrideError → List ℕ
 override_error_text (NotEnvironmental index) = codes "override " ++ decimal index ++ codes ": no environmental CVSSv4 metric"
 override_error_text (Refused index error) = codes "override " ++ decimal index ++ codes ": " ++ error_text error
+
+-- two errors are of one kind and at one place, and their texts are refused for alike reasons
+abbrev pub AreAlike : (Error → Error → Type 0) → OverrideError → OverrideError → Type 0
+AreAlike Alike (NotEnvironmental index) (NotEnvironmental other) = index ≡ other
+AreAlike Alike (Refused index error) (Refused other told) = (index ≡ other) × Alike error told
+AreAlike Alike _ _ = ⊥

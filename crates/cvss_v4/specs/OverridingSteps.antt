@@ -33,8 +33,9 @@ abbrev pub IsTellableFault : OverrideFault → Type 0
 IsTellableFault OtherGroup = ⊤
 IsTellableFault (Component fault) = IsTellable v4 fault
 
--- the vector holds the overrides before a place, with which nothing is wrong
+-- the vector has minor version 0 and holds the overrides before a place, with which nothing is wrong
 pub record HasReadOverrides (texts : List (List ℕ)) (place : ℕ) (v : Vector) : Type 0 where
+  pub version : v.minor_version ≡ 0
   pub read : HasRead v4 texts place v
   pub environmental : IsEnvironmental v
   pub faultless : HasNoObjectionBefore texts place

@@ -1,5 +1,6 @@
 -- What the laws of v4 scores speak of.
 use Rattle.std.specs.Prelude.{◌≡◌, ℕ, ◌≤◌, List, [], ◌∷◌, Option, Some}
+use Rattle.cvss_base.specs.Exact.{Exact, ◌over◌, whole, ◌⊑◌}
 use Rattle.cvss_v4.specs.Classes.{macro_vector}
 use Rattle.cvss_v4.specs.Levels.{attack_vector_level, privileges_level, interaction_level, complexity_level, requirements_level, vulnerable_level, subsequent_level, safety_level, requirement_level}
 use Rattle.cvss_v4.specs.Maximal.{IsAtMost}
@@ -41,3 +42,8 @@ levels v =
 pub record IsAsSevere (v w : Effective) : Type 0 where
   pub one_class : macro_vector v ≡ macro_vector w
   pub levels : IsAtMost (levels v) (levels w)
+
+-- from 0.1 to 10
+pub record IsFromTenthToTen (x : Exact) : Type 0 where
+  pub from_tenth : 1 over 10 ⊑ x
+  pub to_ten : x ⊑ whole 10

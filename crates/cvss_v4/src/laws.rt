@@ -2,7 +2,7 @@
 //! calls it.
 
 ghost use Rattle.std.specs.List.{All};
-ghost use Rattle.std.specs.Prelude.{◌≡◌, ℕ, ℤ, List, ◌≤◌, ◌↔◌, ◌≤ℤ◌, IfSome};
+ghost use Rattle.std.specs.Prelude.{◌≡◌, ℕ, ℤ, List, ◌≤◌, ◌↔◌, ◌≤ℤ◌, IfSome, IsTrue, None};
 ghost use Rattle.cvss_base.specs.Exact.{of_count, ◌over◌, ◌⊕◌};
 ghost use Rattle.cvss_base.specs.Rounding.{IsNearestEven, IsRoundedV4};
 ghost use Rattle.cvss_base.specs.Version.{canonical_text, Denotes};
@@ -15,13 +15,58 @@ ghost use Rattle.cvss_v4.specs.Maximal.{Eq1Values, eq1_levels, eq1_maximal, Eq2V
 ghost use Rattle.cvss_v4.specs.Merging.{letter_at, effective_of};
 ghost use Rattle.cvss_v4.specs.MergingLaws.{HasModifiedAsBase, without_supplemental};
 ghost use Rattle.cvss_v4.specs.Nomenclature.{nomenclature_of};
-ghost use Rattle.cvss_v4.specs.ScoreLaws.{IsListed, IsPair, IsAsSevere};
+ghost use Rattle.cvss_v4.specs.Overriding.{AreAlike};
+ghost use Rattle.cvss_v4.specs.ScoreLaws.{IsListed, IsPair, IsAsSevere, IsFromTenthToTen};
 ghost use Rattle.cvss_v4.specs.ScoreText.{printed_tenths};
-ghost use Rattle.cvss_v4.specs.Scores.{number, IsScore};
+ghost use Rattle.cvss_v4.specs.Scores.{has_impact, number, IsScore};
 ghost use Rattle.cvss_v4.specs.Values.{listed_value, table_value};
-ghost use Rattle.cvss_v4.specs.Vector.{v4};
+ghost use Rattle.cvss_v4.specs.Vector.{v4, value_at};
+ghost use Rattle.cvss_v4.specs.declared.nomenclature.Nomenclature.{Nomenclature};
 ghost use Rattle.cvss_v4.specs.declared.scoring.effective.Effective.{Effective};
 ghost use Rattle.cvss_v4.specs.declared.vector.Vector.{Vector};
+ghost use Rattle.cvss_v4.specs.declared.vector.overriding.OverrideError.{OverrideError};
+
+use crate::nomenclature::Nomenclature;
+use crate::score::Score;
+use crate::vector::{OverrideError, Vector};
+use cvss_base::Error;
+
+/// Two vectors, scores or nomenclatures are equal exactly if they are one value, and two errors of
+/// overrides exactly if they are of one kind, at one place, and tell equal errors.
+pub fn equality_is_that_of_values()
+    ensures vector { (v w : Vector) → IsTrue (⟦<Vector as PartialEq>⟧.eq v w) ↔ (v ≡ w) }
+    ensures score { (x y : ℤ × Nomenclature) → IsTrue (⟦<Score as PartialEq>⟧.eq x y) ↔ (x ≡ y) }
+    ensures nomenclature { (x y : Nomenclature)
+        → IsTrue (⟦<Nomenclature as PartialEq>⟧.eq x y) ↔ (x ≡ y) }
+    ensures override_error { (x y : OverrideError) → IsTrue (⟦<OverrideError as PartialEq>⟧.eq x y)
+        ↔ AreAlike (λ e f. IsTrue (⟦<Error as PartialEq>⟧.eq e f)) x y }
+{}
+
+/// A clone of a vector, a score or a nomenclature is that value, and a clone of an error of overrides
+/// is of its kind, at its place, and tells a clone of its error.
+pub fn clones_are_equal()
+    ensures vector { (v clone : Vector) → ⟦<Vector as Clone>⟧.is_clone v clone → clone ≡ v }
+    ensures score { (x clone : ℤ × Nomenclature) → ⟦<Score as Clone>⟧.is_clone x clone → clone ≡ x }
+    ensures nomenclature { (x clone : Nomenclature)
+        → ⟦<Nomenclature as Clone>⟧.is_clone x clone → clone ≡ x }
+    ensures override_error { (x clone : OverrideError)
+        → ⟦<OverrideError as Clone>⟧.is_clone x clone
+        → AreAlike ⟦<Error as Clone>⟧.is_clone x clone }
+{}
+
+/// To clone a vector, a score or a nomenclature takes no memory, so it is never refused.
+pub fn values_are_cloned_without_memory()
+    ensures vector { (v : Vector) → ⟦<Vector as Clone>⟧.is_infallible v }
+    ensures score { (x : ℤ × Nomenclature) → ⟦<Score as Clone>⟧.is_infallible x }
+    ensures nomenclature { (x : Nomenclature) → ⟦<Nomenclature as Clone>⟧.is_infallible x }
+{}
+
+/// The default vector has minor version 0 and no metric.
+pub fn default_vectors_have_no_metric()
+    ensures version { (v : Vector) → ⟦<Vector as Default>⟧.is_default v → v.minor_version ≡ 0 }
+    ensures valueless { (v : Vector) → ⟦<Vector as Default>⟧.is_default v
+        → (kind : MetricType) → value_at v kind ≡ None }
+{}
 
 /// A canonical text denotes its vector, and a text denotes at most one vector. So what is printed
 /// of a complete vector with minor version 0 is read as that vector.
@@ -93,6 +138,11 @@ pub fn gaps_are_not_negative()
         (λ lower. lower ≤ table_value v)) (groups v) }
 {}
 
+/// With impact, the number before the rounding lies from 0.1 to 10.
+pub fn numbers_lie_from_a_tenth_to_ten()
+    ensures { (v : Effective) → IsTrue (has_impact v) → IsFromTenthToTen (number v) }
+{}
+
 /// Effective values have one score.
 pub fn scores_are_unique()
     ensures { (v : Effective) → (r s : ℤ) → IsScore v r → IsScore v s → r ≡ s }
@@ -124,7 +174,8 @@ pub fn supplemental_metrics_change_nothing()
         ≡ nomenclature_of v }
 {}
 
-/// A modified metric gives the effective value that its base metric gives with the same letter.
+/// A modified metric gives the effective value that its base metric gives with the same letter, each
+/// by itself: those that stay modified, as `MSI:S` and `MSA:S` have to, do not matter to the others.
 pub fn modified_metrics_score_as_base_metrics()
     ensures { (v w : Vector) → HasModifiedAsBase v w → effective_of w ≡ effective_of v }
 {}

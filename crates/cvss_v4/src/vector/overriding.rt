@@ -1,7 +1,7 @@
 //! An organisation's own environmental metrics in place of a vector's (v4.0 specification,
 //! section 4).
 
-ghost use Rattle.std.specs.Prelude.{◌≡◌, ◌↔◌, IsTrue, Some, Contains, IfOk, IfErr, OnOk, IsOk, IsErrAnd, ℕ, length, map};
+ghost use Rattle.std.specs.Prelude.{◌≡◌, ◌↔◌, IsTrue, Some, Contains, IfOk, IfErr, OnOk, IsOk, IsErrAnd, Ok, ℕ, length, map};
 ghost use Rattle.std.specs.Str.{IsUtf8};
 ghost use Rattle.cvss_base.specs.Text.{IsComponent};
 ghost use Rattle.cvss_base.specs.Version.{IsComplete};
@@ -69,10 +69,15 @@ impl Vector {
     /// `UnknownMetric`, a metric of another group, `InvalidMetricV4` or `DuplicateMetricV4`;
     /// `OutOfMemory` in place of one that carries text.
     pub fn from_overrides(alloc: Global, overrides: &[&str]) -> Result<Vector, OverrideError>
-        // Accepted: the texts are the components of what is given, and all such texts are accepted.
+        // Accepted: the texts are the components of what is given, which has minor version 0, and
+        // all such texts are accepted.
         ensures accepted { IfOk result (AreOverrides (map (λ text. text.now) overrides.now)) }
+        ensures version { IfOk result (λ vector. vector.minor_version ≡ 0) }
         ensures accepts { (vector : Vector)
             → AreOverrides (map (λ text. text.now) overrides.now) vector → IsOk result }
+        ensures given { (vector : Vector)
+            → AreOverrides (map (λ text. text.now) overrides.now) vector
+            → vector.minor_version ≡ 0 → result ≡ Ok vector }
         ensures faultless { OnOk result
             (HasNoObjectionBefore (map (λ text. text.now) overrides.now)
             (length (map (λ text. text.now) overrides.now))) }

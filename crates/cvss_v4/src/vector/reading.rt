@@ -7,6 +7,7 @@ ghost use Rattle.cvss_base.specs.Walk.{HasNoValue, IsFilled};
 ghost use Rattle.cvss_v4.specs.Vector.{v4};
 ghost use Rattle.cvss_v4.specs.VectorLaws.{v4_is_lawful, v4_fronts_are_lawful};
 
+use crate::laws::default_vectors_have_no_metric;
 use crate::metric::{Metric, MetricType};
 use crate::vector::Vector;
 use cvss_base::front::Fronted;
@@ -149,6 +150,7 @@ impl Vector {
         ensures version { result.minor_version ≡ 0 }
         ensures valueless { HasNoValue v4 result }
     {
+        default_vectors_have_no_metric();
         Vector::default()
     }
 }

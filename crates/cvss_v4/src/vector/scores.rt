@@ -1,12 +1,16 @@
 //! The score of a vector.
 
-ghost use Rattle.std.specs.Prelude.{◌≡◌, ◌≤ℤ◌, pos, IsTrue};
+ghost use Rattle.std.specs.Prelude.{◌≡◌, ◌≤ℤ◌, ℤ, pos, IsTrue};
+ghost use Rattle.cvss_base.specs.Exact.{◌over◌, ◌⊕◌};
+ghost use Rattle.cvss_base.specs.Rounding.{IsRoundedV4};
 ghost use Rattle.cvss_base.specs.Tenths.{IsInTenths, IsFromZeroToTen};
 ghost use Rattle.cvss_base.specs.Version.{IsComplete};
 ghost use Rattle.cvss_v4.specs.Merging.{effective_of};
 ghost use Rattle.cvss_v4.specs.Nomenclature.{nomenclature_of};
-ghost use Rattle.cvss_v4.specs.Scores.{has_impact, IsScore};
+ghost use Rattle.cvss_v4.specs.ScoreLaws.{IsAsSevere};
+ghost use Rattle.cvss_v4.specs.Scores.{has_impact, number, IsScore};
 ghost use Rattle.cvss_v4.specs.Vector.{v4};
+ghost use Rattle.cvss_v4.specs.declared.scoring.effective.Effective.{Effective};
 
 use crate::score::Score;
 use crate::scoring::score_tenths;
@@ -16,6 +20,7 @@ impl Vector {
     /// The score (v4.0 specification, section 8.2) of a complete vector, with its nomenclature: the
     /// value of its class less the mean of gap times distance over depth, to the nearest tenth,
     /// half up; 0 without impact, and at least a tenth with it.
+    #[tactic(auto, using(crate::proofs::CountLemmas::lifted_count))]
     pub fn score(&self) -> Score
         requires complete { IsComplete v4 self.now }
         ensures value { IsInTenths (IsScore (effective_of self.now)) result.0 }
@@ -23,6 +28,12 @@ impl Vector {
         ensures range { IsInTenths IsFromZeroToTen result.0 }
         ensures with_impact { IsTrue (has_impact (effective_of self.now))
             → IsInTenths (λ r. pos 1 ≤ℤ r) result.0 }
+        // Values of the class with no level below these score no more, and a millionth that is added
+        // before the rounding changes nothing.
+        ensures order { (less : Effective) → (count : ℤ) → IsAsSevere (effective_of self.now) less
+            → IsInTenths (IsScore less) count → count ≤ℤ result.0 }
+        ensures millionth { IsInTenths
+            (IsRoundedV4 (number (effective_of self.now) ⊕ 1 over 1_000_000)) result.0 }
     {
         Score::of_tenths(score_tenths(&self.effective()), self.nomenclature())
     }

@@ -1,8 +1,9 @@
-use Rattle.std.proofs.Common.{◌≡◌, ◌<◌, ℕ, List, [], length, map, Bor, sym, ◌∙◌, subst, arith}
+use Rattle.std.proofs.Common.{◌≡◌, ◌<◌, ℕ, List, [], length, map, Bor, ap, sym, ◌∙◌, subst, arith}
+use Rattle.std.specs.Prelude.{Ok}
 use Rattle.std.proofs.lemmas.List.{length-map, get_or-map}
 use Rattle.cvss_v4.specs.Overriding.{TellsObjection, IsFirstObjection}
 use Rattle.cvss_v4.specs.OverridingSteps.{HasReadOverrides, objection_of}
-use Rattle.cvss_v4.proofs.OverridingLemmas.{HasReadOverrides-none, HasReadOverrides-more, IsFirstObjection-at, AreOverrides-all, no_objection_held, first_objections_same}
+use Rattle.cvss_v4.proofs.OverridingLemmas.{HasReadOverrides-none, HasReadOverrides-more, IsFirstObjection-at, AreOverrides-all, one_overrides, no_objection_held, first_objections_same}
 use Rattle.cvss_v4.proofs.vector.Vector.from_overrides.Goals as goal
 
 abbrev texts_of : List (Bor (List ℕ)) → List (List ℕ)
@@ -20,7 +21,7 @@ first c =
     IsFirstObjection-at (texts_of overrides) c.loop-index.index (within overrides c.loop-index.index below) c.as_bytes.result.now here c.loop-index.vector (objection_of c.in-Err.fault) c.in-Err.ensures.refused c.loop-index.invariant
 
 pub loop-index-init : goal.loop-index-init
-loop-index-init c = HasReadOverrides-none (texts_of c.args.overrides.now) c.empty-vector.result c.empty-vector.ensures.valueless
+loop-index-init c = HasReadOverrides-none (texts_of c.args.overrides.now) c.empty-vector.result c.empty-vector.ensures.version c.empty-vector.ensures.valueless
 
 pub loop-index-preserved : goal.loop-index-preserved
 loop-index-preserved c =
@@ -31,6 +32,11 @@ loop-index-preserved c =
 
 pub returns-in-Err-clause-accepts : goal.returns-in-Err-clause-accepts
 returns-in-Err-clause-accepts c = λ vector are.
+    let is = first c in
+    absurd (no_objection_held (texts_of c.args.overrides.now) vector c.loop-index.index are is.within _ is.is)
+
+pub returns-in-Err-clause-given : goal.returns-in-Err-clause-given
+returns-in-Err-clause-given c = λ vector are version.
     let is = first c in
     absurd (no_objection_held (texts_of c.args.overrides.now) vector c.loop-index.index are is.within _ is.is)
 
@@ -49,6 +55,13 @@ all_read c =
 
 pub returns-clause-accepted : goal.returns-clause-accepted
 returns-clause-accepted c = AreOverrides-all (texts_of c.args.overrides.now) c.loop-index.vector (all_read c)
+
+pub returns-clause-version : goal.returns-clause-version
+returns-clause-version c = (all_read c).version
+
+pub returns-clause-given : goal.returns-clause-given
+returns-clause-given c = λ vector are version.
+    ap Ok (one_overrides (texts_of c.args.overrides.now) c.loop-index.vector vector (all_read c).version version (returns-clause-accepted c) are)
 
 pub returns-clause-faultless : goal.returns-clause-faultless
 returns-clause-faultless c = (all_read c).faultless
