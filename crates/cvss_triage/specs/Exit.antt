@@ -1,21 +1,29 @@
 -- How the program ends: its exit status, and what it says of a fault on standard error.
-use Rattle.std.specs.Prelude.{ℕ, ◌+◌, List, ◌++◌, codes, Result, Ok, Err}
+use Rattle.std.specs.Prelude.{◌≡◌, ℕ, ◌+◌, List, ◌++◌, codes, Result, Ok, Err, ⊤}
 use Rattle.std.specs.Fmt.{decimal}
+use Rattle.std.specs.declared.io.ErrorKind.{ErrorKind}
+use Rattle.std.specs.declared.io.ErrorKind.TheVariants.{OutOfMemory as NoMemory}
 use Rattle.cvss.specs.ErrorText.{error_text}
 use Rattle.cvss_ranking.specs.declared.error.TriageError.{TriageError}
 use Rattle.cvss_ranking.specs.declared.error.TriageError.TheVariants.{Override, NotEnvironmental, Text, OutOfMemory}
 use Rattle.cvss_triage.specs.declared.fault.Fault.{Fault}
-use Rattle.cvss_triage.specs.declared.fault.Fault.TheVariants.{Read, Write, Memory, NotText, Refused}
+use Rattle.cvss_triage.specs.declared.fault.Fault.TheVariants.{Read, Write, Memory, NotText, ArgumentNotText, Refused}
 
 -- the fault that an error of triage is
 abbrev pub fault_of : TriageError → Fault
 fault_of OutOfMemory = Memory
 fault_of error = Refused error
 
+-- the fault that a failure of the reader is
+abbrev pub read_fault_of : ErrorKind → Fault
+read_fault_of NoMemory = Memory
+read_fault_of kind = Read
+
 -- 0 where the rows are written, 1 where an argument or a line is refused, 2 after any other fault
 abbrev pub exit_status : Result (Unit {0}) Fault → ℕ
 exit_status (Ok _) = 0
 exit_status (Err (NotText index)) = 1
+exit_status (Err (ArgumentNotText index)) = 1
 exit_status (Err (Refused error)) = 1
 exit_status (Err Read) = 2
 exit_status (Err Write) = 2
@@ -27,7 +35,18 @@ fault_text Read = codes "read failed"
 fault_text Write = codes "write failed"
 fault_text Memory = codes "out of memory"
 fault_text (NotText index) = codes "line " ++ decimal (index + 1) ++ codes ": not UTF-8"
+fault_text (ArgumentNotText index) = codes "argument " ++ decimal (index + 1) ++ codes ": not UTF-8"
 fault_text (Refused (Override index error)) = codes "argument " ++ decimal (index + 1) ++ codes ": " ++ error_text error
 fault_text (Refused (NotEnvironmental index)) = codes "argument " ++ decimal (index + 1) ++ codes ": no environmental CVSSv4 metric"
 fault_text (Refused (Text index error)) = codes "line " ++ decimal (index + 1) ++ codes ": " ++ error_text error
 fault_text (Refused OutOfMemory) = codes "out of memory"
+
+-- two faults are of one kind, at one place, and their reasons tell the same
+abbrev pub TellTheSame : (TriageError → TriageError → Type 0) → Fault → Fault → Type 0
+TellTheSame SameReason Read Read = ⊤
+TellTheSame SameReason Write Write = ⊤
+TellTheSame SameReason Memory Memory = ⊤
+TellTheSame SameReason (NotText x) (NotText y) = x ≡ y
+TellTheSame SameReason (ArgumentNotText x) (ArgumentNotText y) = x ≡ y
+TellTheSame SameReason (Refused x) (Refused y) = SameReason x y
+TellTheSame SameReason _ _ = ⊥

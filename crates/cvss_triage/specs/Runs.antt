@@ -1,39 +1,83 @@
 -- What a run has read and written when it ends, well or with a fault.
-use Rattle.std.specs.Prelude.{ℕ, List, take, Option, All, flat_map, ⊤}
-use Rattle.std.specs.Io.KnownBytes.{Consumes, Appends, IsAtEnd}
+use Rattle.std.specs.Prelude.{◌≡◌, ◌≢◌, ℕ, List, [], take, Option, All, flat_map, ⊤}
+use Rattle.std.specs.Io.KnownBytes.{Consumes, Appends, IsAtEnd, Keeps}
 use Rattle.std.specs.Str.{IsUtf8}
+use Rattle.cvss.specs.OverridingV4.{AreOverrides}
+use Rattle.cvss.specs.VectorTypeV4.{Vector}
 use Rattle.cvss_ranking.specs.Faults.{TellsFirstFault}
+use Rattle.cvss_ranking.specs.declared.error.TriageError.TheVariants.{OutOfMemory}
 use Rattle.cvss_ranking.specs.declared.row.Row.{Row}
 use Rattle.cvss_ranking.specs.Triage.{AreRanked}
 use Rattle.cvss_triage.specs.Lines.{lines, IsNoText}
 use Rattle.cvss_triage.specs.Rows.{row_text}
 use Rattle.cvss_triage.specs.declared.fault.Fault.{Fault}
-use Rattle.cvss_triage.specs.declared.fault.Fault.TheVariants.{Read, Write, Memory, NotText, Refused}
-
--- all of the input is read, and exactly the rows of its lines are written
-pub record Ranks (overrides : List (List ℕ)) (unread unread' written written' : Option (List ℕ)) : Type 0 where
-  pub input : List ℕ
-  pub rows : List Row
-  pub consumed : Consumes unread unread' input
-  pub at_end : IsAtEnd unread'
-  pub utf8 : All IsUtf8 (lines input)
-  pub ranked : AreRanked (lines input) overrides rows
-  pub appended : Appends written written' (flat_map row_text rows)
+use Rattle.cvss_triage.specs.declared.fault.Fault.TheVariants.{Read, Write, Memory, NotText, ArgumentNotText, Refused}
 
 -- all of the input is read
 pub record ReadsAll (unread unread' : Option (List ℕ)) (input : List ℕ) : Type 0 where
   pub consumed : Consumes unread unread' input
   pub at_end : IsAtEnd unread'
 
--- the fault tells what is wrong: the first fault of the overrides and of the lines before any that is
--- not UTF-8; or that such a line, before which nothing is wrong, is not UTF-8
+-- the text is that of the rows of an input's lines
+pub record AreRowsOf (overrides : List (List ℕ)) (input : List ℕ) (text : List ℕ) : Type 0 where
+  pub rows : List Row
+  pub utf8 : All IsUtf8 (lines input)
+  pub ranked : AreRanked (lines input) overrides rows
+  pub written : text ≡ flat_map row_text rows
+
+-- all of the input is read, and exactly the rows of its lines are written
+pub record Ranks (overrides : List (List ℕ)) (unread unread' written written' : Option (List ℕ)) : Type 0 where
+  pub input : List ℕ
+  pub text : List ℕ
+  pub read : ReadsAll unread unread' input
+  pub ranked : AreRowsOf overrides input text
+  pub appended : Appends written written' text
+
+-- all of the input is read, and a beginning of the rows of its lines is written
+pub record RanksCut (overrides : List (List ℕ)) (unread unread' written written' : Option (List ℕ)) : Type 0 where
+  pub input : List ℕ
+  pub text : List ℕ
+  pub read : ReadsAll unread unread' input
+  pub ranked : AreRowsOf overrides input text
+  pub count : ℕ
+  pub appended : Appends written written' (take count text)
+
+-- the fault tells what is wrong with the overrides and an input's lines: the first fault of the overrides
+-- and of the lines before any that is not UTF-8; or that such a line, before which nothing is wrong, is not
+-- UTF-8; or that there was no memory
+abbrev pub TellsOf : List (List ℕ) → List ℕ → Fault → Type 0
+TellsOf overrides input (Refused error) =
+    (count : ℕ) × All IsUtf8 (take count (lines input))
+    × TellsFirstFault (take count (lines input)) overrides error × (error ≢ OutOfMemory)
+TellsOf overrides input (NotText index) =
+    (rows : List Row) × IsNoText (lines input) index × AreRanked (take index (lines input)) overrides rows
+TellsOf overrides input Memory = ⊤
+TellsOf overrides input (ArgumentNotText index) = ⊥
+TellsOf overrides input Read = ⊥
+TellsOf overrides input Write = ⊥
+
+-- the fault tells what is wrong, once all of the input is read; or that the reader, the writer or memory failed
 abbrev pub IsTold : List (List ℕ) → Option (List ℕ) → Option (List ℕ) → Fault → Type 0
-IsTold overrides unread unread' (Refused error) =
-    (input : List ℕ) × ReadsAll unread unread' input × (count : ℕ)
-    × All IsUtf8 (take count (lines input)) × TellsFirstFault (take count (lines input)) overrides error
-IsTold overrides unread unread' (NotText index) =
-    (input : List ℕ) × ReadsAll unread unread' input × (rows : List Row)
-    × IsNoText (lines input) index × AreRanked (take index (lines input)) overrides rows
 IsTold overrides unread unread' Read = ⊤
 IsTold overrides unread unread' Write = ⊤
 IsTold overrides unread unread' Memory = ⊤
+IsTold overrides unread unread' fault =
+    (input : List ℕ) × ReadsAll unread unread' input × TellsOf overrides input fault
+
+-- the fault tells what is wrong with arguments of which this one is no text: the first fault of those before
+-- it, or else that it is none
+abbrev pub TellsArgument : List (List ℕ) → ℕ → Fault → Type 0
+TellsArgument arguments place (Refused error) = TellsFirstFault [] (take place arguments) error × (error ≢ OutOfMemory)
+TellsArgument arguments place (ArgumentNotText index) =
+    (index ≡ place) × (vector : Vector) × AreOverrides (take place arguments) vector
+TellsArgument arguments place (NotText index) = ⊥
+TellsArgument arguments place Memory = ⊤
+TellsArgument arguments place Read = ⊥
+TellsArgument arguments place Write = ⊥
+
+-- an argument is no text; nothing is read then
+pub record IsToldUnread (arguments : List (List ℕ)) (unread unread' : Option (List ℕ)) (fault : Fault) : Type 0 where
+  pub place : ℕ
+  pub no_text : IsNoText arguments place
+  pub told : TellsArgument arguments place fault
+  pub kept : Keeps unread unread'

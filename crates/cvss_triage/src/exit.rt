@@ -12,7 +12,7 @@ pub fn exit_status(outcome: &Result<(), Fault>) -> u8
 {
     match outcome {
         Ok(()) => 0,
-        Err(Fault::NotText { .. } | Fault::Refused(_)) => 1,
+        Err(Fault::NotText { .. } | Fault::ArgumentNotText { .. } | Fault::Refused(_)) => 1,
         Err(_) => 2,
     }
 }

@@ -1,17 +1,19 @@
 //! Why a run writes no rows.
 
 ghost use Rattle.std.specs.Prelude.{◌≡◌, Some};
-ghost use Rattle.cvss_triage.specs.Exit.{fault_of, fault_text};
+ghost use Rattle.std.specs.IoError.{error_kind};
+ghost use Rattle.cvss_triage.specs.Exit.{fault_of, fault_text, read_fault_of};
 ghost use Rattle.cvss_triage.specs.declared.fault.Fault.TheVariants.{Memory};
 
 use cvss_ranking::TriageError;
 use std::alloc::{AllocError, AllocFailed};
-use std::fmt;
+use std::io::ErrorKind;
+use std::{fmt, io};
 
 /// Why a run writes no rows.
 #[derive(Debug, Drop, PartialEq, Eq)]
 pub enum Fault {
-    /// The reader failed, or the arguments could not be read as texts.
+    /// The reader failed.
     Read,
     /// The writer failed, or took no byte. A beginning of the rows may be written.
     Write,
@@ -19,6 +21,8 @@ pub enum Fault {
     Memory,
     /// The line at this place, counted from 0, is not UTF-8.
     NotText { index: usize },
+    /// The argument at this place, counted from 0, is not UTF-8.
+    ArgumentNotText { index: usize },
     /// An override or a line is refused.
     Refused(TriageError),
 }
@@ -36,6 +40,18 @@ impl<T: Drop> From<AllocFailed<T>> for Fault {
 
     fn from(_: AllocFailed<T>) -> Self {
         Fault::Memory
+    }
+}
+
+/// What a failure of the reader is told as.
+impl From<io::Error> for Fault {
+    ghost from_gives = { λ error fault. fault ≡ read_fault_of (error_kind error) };
+
+    fn from(error: io::Error) -> Self {
+        match error.kind() {
+            ErrorKind::OutOfMemory => Fault::Memory,
+            _ => Fault::Read,
+        }
     }
 }
 
@@ -62,6 +78,9 @@ impl fmt::Display for Fault {
                 f.write_str("out of memory")
             }
             Fault::NotText { index } => write!(f, "line {}: not UTF-8", *index as u128 + 1),
+            Fault::ArgumentNotText { index } => {
+                write!(f, "argument {}: not UTF-8", *index as u128 + 1)
+            }
             Fault::Refused(TriageError::NotEnvironmental { index }) => write!(
                 f,
                 "argument {}: no environmental CVSSv4 metric",

@@ -2,18 +2,21 @@
 //! are its arguments in place of theirs, and writes them in falling order of score.
 #![tactic(auto)]
 
+mod arguments;
 mod exit;
 mod fault;
+pub mod laws;
 mod lines;
 mod rows;
 mod run;
 #[cfg(test)]
 mod tests;
+mod write;
 
+use arguments::arguments;
 pub use exit::exit_status;
 pub use fault::Fault;
-pub use run::run;
-use std::env;
+pub use run::{run, run_arguments};
 use std::process::ExitCode;
 
 fn main(rt: HostRuntime) -> ExitCode {
@@ -26,16 +29,6 @@ fn main(rt: HostRuntime) -> ExitCode {
 
 /// Runs over standard input and output, with the arguments as overrides.
 fn triage(rt: &HostRuntime) -> Result<(), Fault> {
-    let Ok(arguments) = env::args(rt) else {
-        return Err(Fault::Read);
-    };
-    let mut words = Vec::new(rt.alloc());
-    for word in arguments.skip(1) {
-        words.push(word)?;
-    }
-    let mut overrides = Vec::new(rt.alloc());
-    for word in &words {
-        overrides.push(word.as_str())?;
-    }
-    run(rt.alloc(), &overrides, &mut rt.stdin(), &mut rt.stdout())
+    let arguments = arguments(rt.alloc(), rt)?;
+    run_arguments(rt.alloc(), &arguments, &mut rt.stdin(), &mut rt.stdout())
 }

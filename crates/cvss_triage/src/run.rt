@@ -1,15 +1,54 @@
 //! A run over an input.
 
-ghost use Rattle.std.specs.Prelude.{◌≡◌, ◌≢◌, IfErr, OnOk, map};
+ghost use Rattle.std.specs.Prelude.{◌≡◌, ◌≢◌, ◌⊎◌, IfOk, IfErr, IsErrOf, OnOk, map, string_bytes};
 ghost use Rattle.std.specs.Io.KnownBytes.{Keeps};
-ghost use Rattle.cvss_triage.specs.Runs.{Ranks, IsTold};
+ghost use Rattle.cvss_triage.specs.Runs.{AreRowsOf, Ranks, RanksCut, IsTold, IsToldUnread, TellsOf};
 
+use crate::arguments::texts_of_arguments;
 use crate::fault::Fault;
 use crate::lines::texts_of;
 use crate::rows::written_rows;
+use crate::write::write_whole;
 use cvss_ranking::apply;
 use std::alloc::Global;
-use std::io::{ErrorKind, Read, Write};
+use std::io::{Read, Write};
+
+/// Runs as [`run`] does, with arguments as overrides, which need not be UTF-8.
+///
+/// # Errors
+///
+/// Those of `run`. Where an argument is not UTF-8, the first refusal of those before it, or else that
+/// it is not UTF-8; nothing is read then.
+pub fn run_arguments<R: Read, W: Write>(
+    alloc: Global,
+    arguments: &[Vec<u8>],
+    reader: &mut R,
+    writer: &mut W,
+) -> Result<(), Fault>
+    ensures ranked { OnOk result (Ranks (map (λ argument. argument.items) arguments.now)
+        (R.remaining reader.old) (R.remaining reader.new)
+        (W.contents writer.old) (W.contents writer.new)) }
+    ensures cut { IsErrOf result Fault.Write
+        → RanksCut (map (λ argument. argument.items) arguments.now)
+        (R.remaining reader.old) (R.remaining reader.new)
+        (W.contents writer.old) (W.contents writer.new) }
+    ensures refused { IfErr result (λ fault.
+        IsTold (map (λ argument. argument.items) arguments.now)
+        (R.remaining reader.old) (R.remaining reader.new) fault
+        ⊎ IsToldUnread (map (λ argument. argument.items) arguments.now)
+        (R.remaining reader.old) (R.remaining reader.new) fault) }
+    ensures silent { IfErr result (λ fault. fault ≢ Fault.Write
+        → Keeps (W.contents writer.old) (W.contents writer.new)) }
+{
+    let (overrides, all) = texts_of_arguments(alloc, arguments)?;
+    if all {
+        return run(alloc, &overrides, reader, writer);
+    }
+    apply(alloc, &[], &overrides)?;
+    Err(Fault::ArgumentNotText {
+        index: overrides.len(),
+    })
+}
 
 /// Reads vectors' texts to the end of the input, one a line, and writes their rows with the
 /// overrides in place, one a line, in falling order of score.
@@ -28,26 +67,31 @@ pub fn run<R: Read, W: Write>(
     ensures ranked { OnOk result (Ranks (map (λ text. text.now) overrides.now)
         (R.remaining reader.old) (R.remaining reader.new)
         (W.contents writer.old) (W.contents writer.new)) }
+    // After a failed write a beginning of the rows is written, and after another fault nothing.
+    ensures cut { IsErrOf result Fault.Write → RanksCut (map (λ text. text.now) overrides.now)
+        (R.remaining reader.old) (R.remaining reader.new)
+        (W.contents writer.old) (W.contents writer.new) }
     ensures refused { IfErr result (IsTold (map (λ text. text.now) overrides.now)
         (R.remaining reader.old) (R.remaining reader.new)) }
     ensures silent { IfErr result (λ fault. fault ≢ Fault.Write
         → Keeps (W.contents writer.old) (W.contents writer.new)) }
 {
     let mut input = Vec::new(alloc);
-    if let Err(error) = reader.read_to_end(&mut input) {
-        return Err(match error.kind() {
-            ErrorKind::OutOfMemory => Fault::Memory,
-            _ => Fault::Read,
-        });
-    }
-    let (texts, all) = texts_of(alloc, &input)?;
+    reader.read_to_end(&mut input)?;
+    let text = ranked_text(alloc, overrides, &input)?;
+    write_whole(writer, text.as_bytes())
+}
+
+/// The rows of an input's lines with the overrides in place, as they are written.
+fn ranked_text(alloc: Global, overrides: &[&str], input: &[u8]) -> Result<String, Fault>
+    ensures ranked { IfOk result (λ text.
+        AreRowsOf (map (λ text. text.now) overrides.now) input.now (string_bytes text)) }
+    ensures refused { IfErr result (TellsOf (map (λ text. text.now) overrides.now) input.now) }
+{
+    let (texts, all) = texts_of(alloc, input)?;
     let rows = apply(alloc, &texts, overrides)?;
     if !all {
         return Err(Fault::NotText { index: texts.len() });
     }
-    let written = written_rows(alloc, &rows)?;
-    match writer.write_all(written.as_bytes()) {
-        Ok(()) => Ok(()),
-        Err(_) => Err(Fault::Write),
-    }
+    Ok(written_rows(alloc, &rows)?)
 }
