@@ -1,7 +1,7 @@
 //! The scores of a vector.
 
 ghost use Rattle.std.specs.Prelude.{◌≡◌, ℤ, Some, IsTrue};
-ghost use Rattle.cvss_base.specs.Exact.{of_count, whole, ◌≈◌, ◌⊏◌};
+ghost use Rattle.cvss_base.specs.Exact.{of_count, whole, ◌≈◌, ◌⊏◌, IsWithinLimit};
 ghost use Rattle.cvss_base.specs.Tenths.{IsInTenths, IsFromZeroToTen};
 ghost use Rattle.cvss_v3_metric.specs.Modified.{weight_if_set};
 ghost use Rattle.cvss_v3_metric.specs.Table.{weight_of};
@@ -91,7 +91,8 @@ impl Vector {
 
     /// The exploitability sub-score, which is exact (v3.1 specification, section 7.1).
     pub fn exploitability(&self) -> Score
-        ensures { of_count result ≈ exploitability (weights_of self.now) }
+        ensures value { of_count result ≈ exploitability (weights_of self.now) }
+        ensures limit { IsWithinLimit result }
     {
         self.weights().exploitability()
     }
@@ -99,7 +100,8 @@ impl Vector {
     /// ISS, the impact sub-score of the base metrics, which is exact (v3.1 specification, section
     /// 7.1). It is not yet multiplied by the scope's factor.
     pub fn impact(&self) -> Score
-        ensures { of_count result ≈ iss (weights_of self.now) }
+        ensures value { of_count result ≈ iss (weights_of self.now) }
+        ensures limit { IsWithinLimit result }
     {
         self.weights().impact()
     }
