@@ -1,13 +1,13 @@
--- With the scope changed no rounding jumps near to the first number, for each value of the sub-scores.
+-- No rounding jumps near to the first number, for each value of the sub-scores.
 use Rattle.std.specs.Prelude.{unsigned_abs, int_lt}
 use Rattle.std.specs.List.{list_all, Contains}
-use Rattle.std.proofs.Common.{◌≡◌, ℕ, zero, suc, ◌+◌, ◌-◌, ◌*◌, ◌/◌, ◌^◌, ◌<◌, ℤ, pos, negsuc, ◌-ℤ◌, ◌*ℤ◌, Bool, true, ◌&&◌, ◌||◌, ◌⊎◌, inl, inr, arith, refl, lit<}
+use Rattle.std.proofs.Common.{◌≡◌, ℕ, zero, suc, ◌+◌, ◌-◌, ◌*◌, ◌/◌, ◌^◌, ◌<◌, ℤ, pos, negsuc, ◌-ℤ◌, ◌*ℤ◌, Bool, true, false, ◌&&◌, ◌||◌, ◌⊎◌, inl, inr, arith, refl, lit<}
 use Rattle.std.proofs.lemmas.Int.{ints}
 use Rattle.std.proofs.lemmas.Bool.{and_parts, or_cases}
 use Rattle.cvss_base.specs.Exact.{Exact, ratio, ◌over◌, whole, tenths, ◌⊕◌, ◌⊑◌, ◌⊏◌}
 use Rattle.cvss_base.proofs.ExactLemmas.{at_most_trans, at_most_below, below_at_most, times_sum, times_times}
 use Rattle.cvss_v3.proofs.SubScoreLemmas.{exploitabilities}
-use Rattle.cvss_v3.specs.Scores.{power, changed_impact, changed_modified_impact, first_number, IsRounded}
+use Rattle.cvss_v3.specs.Scores.{power, unchanged_impact, changed_impact, changed_modified_impact, first_number, IsRounded}
 use Rattle.cvss_v3.specs.SubScores.{sub_scores, IsSubScore}
 use Rattle.cvss_v3.proofs.EqualLemmas.{changed_bottom, changed_modified_bottom, first_bottom}
 use Rattle.cvss_v3.proofs.NearLemmas.{error}
@@ -32,9 +32,10 @@ unfoldable is_settled : Exact → Bool
 is_settled n = is_settled_at n (pos (tenth_above n)) (pos (jump_above n))
 
 -- whether that holds with each exploitability, and there is impact
-unfoldable settles : Exact → Bool
-settles impact =
-    int_lt (pos 0) impact.top && list_all (λ e. is_settled (first_number true impact (e over (10 ^ 10)))) exploitabilities
+unfoldable settles : Bool → Exact → Bool
+settles changed impact =
+    int_lt (pos 0) impact.top
+    && list_all (λ e. is_settled (first_number changed impact (e over (10 ^ 10)))) (exploitabilities changed)
 
 -- what the test says of n
 record IsSettledAt (n : Exact) (r s : ℤ) : Type 0 where
@@ -144,40 +145,51 @@ pub record IsSettled (n : Exact) : Type 0 where
   pub rounding : (minor : ℕ) (x : Exact) → 0 < x.bottom → IsWithinError n x → IsRounded minor x (tenths_by minor)
 
 -- there is impact, and with this exploitability the first number is settled
-pub record SettlesWith (impact : Exact) (e : ℕ) : Type 0 where
+pub record SettlesWith (changed : Bool) (impact : Exact) (e : ℕ) : Type 0 where
   pub above_zero : int_lt (pos 0) impact.top ≡ true
-  pub settled : IsSettled (first_number true impact (e over (10 ^ 10)))
+  pub settled : IsSettled (first_number changed impact (e over (10 ^ 10)))
 
-settles_with : (impact : Exact) (e : ℕ) → 0 < impact.bottom → settles impact ≡ true → Contains exploitabilities e → SettlesWith impact e
+settles_with : (changed : Bool) (impact : Exact) (e : ℕ) → 0 < impact.bottom → settles changed impact ≡ true
+    → Contains (exploitabilities changed) e → SettlesWith changed impact e
 unfolding settles
-settles_with impact e some settling listed =
-    let n = first_number true impact (e over (10 ^ 10)) in
+settles_with changed impact e some settling listed =
+    let n = first_number changed impact (e over (10 ^ 10)) in
     let parts = and_parts (int_lt (pos 0) impact.top) _ settling in
-    let settled = passes (λ e. is_settled (first_number true impact (e over (10 ^ 10)))) exploitabilities e parts.1 listed in
+    let settled = passes (λ e. is_settled (first_number changed impact (e over (10 ^ 10)))) (exploitabilities changed) e parts.1 listed in
     record {
       above_zero = parts.0;
       settled = record {
         tenths_by = λ minor. settled_tenths minor n;
         rounding = λ minor x some_x within.
-            settled_rounding minor n x.top x.bottom settled (first_bottom true impact (e over (10 ^ 10)) some (lit< tt)) some_x within;
+            settled_rounding minor n x.top x.bottom settled (first_bottom changed impact (e over (10 ^ 10)) some (lit< tt)) some_x within;
       };
     }
 
-changed_settle : list_all (λ s. settles (changed_impact (s over 1_000_000))) sub_scores ≡ true
+unchanged_settle : list_all (λ s. settles false (unchanged_impact (s over 1_000_000))) sub_scores ≡ true
+unfolding is_settled_at tenth_above jump_above is_settled settles
+unchanged_settle = refl
+
+changed_settle : list_all (λ s. settles true (changed_impact (s over 1_000_000))) sub_scores ≡ true
 unfolding is_settled_at tenth_above jump_above is_settled settles power changed_impact
 changed_settle = refl
 
-changed_modified_settle : list_all (λ s. settles (changed_modified_impact (s over 1_000_000))) sub_scores ≡ true
+changed_modified_settle : list_all (λ s. settles true (changed_modified_impact (s over 1_000_000))) sub_scores ≡ true
 unfolding is_settled_at tenth_above jump_above is_settled settles power changed_modified_impact
 changed_modified_settle = refl
 
-pub changed_settles : (s e : ℕ) → IsSubScore s → Contains exploitabilities e → SettlesWith (changed_impact (s over 1_000_000)) e
-changed_settles s e sub_score listed =
-    settles_with (changed_impact (s over 1_000_000)) e (changed_bottom (s over 1_000_000) (lit< tt))
-    (passes (λ s. settles (changed_impact (s over 1_000_000))) sub_scores s changed_settle sub_score.listed) listed
+pub unchanged_settles : (s e : ℕ) → IsSubScore s → Contains (exploitabilities false) e
+    → SettlesWith false (unchanged_impact (s over 1_000_000)) e
+unchanged_settles s e sub_score listed =
+    settles_with false (unchanged_impact (s over 1_000_000)) e (lit< tt)
+    (passes (λ s. settles false (unchanged_impact (s over 1_000_000))) sub_scores s unchanged_settle sub_score.listed) listed
 
-pub changed_modified_settles : (s e : ℕ) → IsSubScore s → Contains exploitabilities e
-    → SettlesWith (changed_modified_impact (s over 1_000_000)) e
+pub changed_settles : (s e : ℕ) → IsSubScore s → Contains (exploitabilities true) e → SettlesWith true (changed_impact (s over 1_000_000)) e
+changed_settles s e sub_score listed =
+    settles_with true (changed_impact (s over 1_000_000)) e (changed_bottom (s over 1_000_000) (lit< tt))
+    (passes (λ s. settles true (changed_impact (s over 1_000_000))) sub_scores s changed_settle sub_score.listed) listed
+
+pub changed_modified_settles : (s e : ℕ) → IsSubScore s → Contains (exploitabilities true) e
+    → SettlesWith true (changed_modified_impact (s over 1_000_000)) e
 changed_modified_settles s e sub_score listed =
-    settles_with (changed_modified_impact (s over 1_000_000)) e (changed_modified_bottom (s over 1_000_000) (lit< tt))
-    (passes (λ s. settles (changed_modified_impact (s over 1_000_000))) sub_scores s changed_modified_settle sub_score.listed) listed
+    settles_with true (changed_modified_impact (s over 1_000_000)) e (changed_modified_bottom (s over 1_000_000) (lit< tt))
+    (passes (λ s. settles true (changed_modified_impact (s over 1_000_000))) sub_scores s changed_modified_settle sub_score.listed) listed
