@@ -14,11 +14,12 @@ use Rattle.cvss_v3.proofs.NearLemmas.{error}
 use Rattle.cvss_v3.proofs.RoundLemmas.{jump, between_jumps}
 use Rattle.cvss_v3.proofs.TestLemmas.{is_below, is_at_most, below_if, at_most_if, passes}
 
--- whether what lies within an error of n and is at most 10 is rounded to r tenths by v3.0, and by v3.1 to s
+-- whether what lies within an error of n and is at most 10 is rounded to r tenths by v3.0, and by v3.1 to s, and n lies a
+-- fifth decimal or more above the tenth before s
 unfoldable is_settled_at : Exact → ℤ → ℤ → Bool
 is_settled_at n r s =
     is_at_most error n && (is_below (tenths (r -ℤ pos 1) ⊕ error) n && ((is_at_most (n ⊕ error) (tenths r) || is_at_most (whole 10) (tenths r))
-    && (is_at_most (jump (s -ℤ pos 1) ⊕ error) n && (is_below (n ⊕ error) (jump s) || is_below (whole 10) (jump s)))))
+    && (is_at_most (tenths (s -ℤ pos 1) ⊕ 1 over 100_000) n && (is_below (n ⊕ error) (jump s) || is_below (whole 10) (jump s)))))
 
 -- the least tenth that is not below n
 unfoldable tenth_above : Exact → ℕ
@@ -42,6 +43,7 @@ record IsSettledAt (n : Exact) (r s : ℤ) : Type 0 where
   from_error : error ⊑ n
   above_tenth : tenths (r -ℤ pos 1) ⊕ error ⊏ n
   to_tenth : (n ⊕ error ⊑ tenths r) ⊎ (whole 10 ⊑ tenths r)
+  from_cut : tenths (s -ℤ pos 1) ⊕ 1 over 100_000 ⊑ n
   from_jump : jump (s -ℤ pos 1) ⊕ error ⊑ n
   below_jump : (n ⊕ error ⊏ jump s) ⊎ (whole 10 ⊏ jump s)
 
@@ -51,7 +53,8 @@ settled_at n r s settled =
     let after = and_parts (is_at_most error n) _ settled in
     let after_tenth = and_parts (is_below (tenths (r -ℤ pos 1) ⊕ error) n) _ after.1 in
     let upper = and_parts (is_at_most (n ⊕ error) (tenths r) || is_at_most (whole 10) (tenths r)) _ after_tenth.1 in
-    let jumps = and_parts (is_at_most (jump (s -ℤ pos 1) ⊕ error) n) (is_below (n ⊕ error) (jump s) || is_below (whole 10) (jump s)) upper.1 in
+    let before = tenths (s -ℤ pos 1) ⊕ 1 over 100_000 in
+    let jumps = and_parts (is_at_most before n) (is_below (n ⊕ error) (jump s) || is_below (whole 10) (jump s)) upper.1 in
     record {
       from_error = at_most_if error n after.0;
       above_tenth = below_if (tenths (r -ℤ pos 1) ⊕ error) n after_tenth.0;
@@ -59,7 +62,9 @@ settled_at n r s settled =
         | inl holds ↦ inl (at_most_if (n ⊕ error) (tenths r) holds)
         | inr holds ↦ inr (at_most_if (whole 10) (tenths r) holds)
       ];
-      from_jump = at_most_if (jump (s -ℤ pos 1) ⊕ error) n jumps.0;
+      from_cut = at_most_if before n jumps.0;
+      from_jump = at_most_trans (jump (s -ℤ pos 1) ⊕ error) before n (lit< tt) (record { at_most = omega (arith, ints) })
+          (at_most_if before n jumps.0);
       below_jump = elim (or_cases (is_below (n ⊕ error) (jump s)) (is_below (whole 10) (jump s)) jumps.1) [
         | inl holds ↦ inl (below_if (n ⊕ error) (jump s) holds)
         | inr holds ↦ inr (below_if (whole 10) (jump s) holds)
@@ -142,7 +147,13 @@ settled_rounding (suc minor) n (negsuc t) q settled some some_q within =
 -- all that lies within an error of n and is at most 10 has one rounding
 pub record IsSettled (n : Exact) : Type 0 where
   pub tenths_by : ℕ → ℤ
+  pub from_error : error ⊑ n
+  pub from_cut : tenths (tenths_by 1 -ℤ pos 1) ⊕ 1 over 100_000 ⊑ n
   pub rounding : (minor : ℕ) (x : Exact) → 0 < x.bottom → IsWithinError n x → IsRounded minor x (tenths_by minor)
+
+settled_apart : (n : Exact) → is_settled n ≡ true → IsSettledAt n (pos (tenth_above n)) (pos (jump_above n))
+unfolding is_settled
+settled_apart n settled = settled_at n (pos (tenth_above n)) (pos (jump_above n)) settled
 
 -- there is impact, and with this exploitability the first number is settled
 pub record SettlesWith (changed : Bool) (impact : Exact) (e : ℕ) : Type 0 where
@@ -160,6 +171,8 @@ settles_with changed impact e some settling listed =
       above_zero = parts.0;
       settled = record {
         tenths_by = λ minor. settled_tenths minor n;
+        from_error = (settled_apart n settled).from_error;
+        from_cut = (settled_apart n settled).from_cut;
         rounding = λ minor x some_x within.
             settled_rounding minor n x.top x.bottom settled (first_bottom changed impact (e over (10 ^ 10)) some (lit< tt)) some_x within;
       };

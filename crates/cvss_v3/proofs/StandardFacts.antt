@@ -5,6 +5,7 @@ use Rattle.std.proofs.lemmas.Bool.{and_parts, leb-true}
 use Rattle.cvss_base.specs.Exact.{ratio, ◌over◌, tenths, ◌⊕◌, ◌≈◌}
 use Rattle.cvss_base.specs.Rating.{rating_of_score}
 use Rattle.cvss_base.specs.declared.severity.Severity.TheVariants.{None, Low, Medium, High, Critical}
+use Rattle.cvss_v3.specs.FifthDecimals.{IsRoundedCut}
 use Rattle.cvss_v3.specs.Scores.{power, changed_impact, changed_modified_impact, base_number, environmental_number, temporal_number, miss, IsRounded, IsBase, IsTemporal, IsEnvironmental}
 use Rattle.cvss_v3.specs.declared.weights.Weights.{Weights}
 use Rattle.cvss_v3.proofs.RoundLemmas.{jump, between_jumps}
@@ -194,6 +195,14 @@ roundings = (
   rounded_if 1 _ _ 0 refl,
   rounded_if 0 _ _ 40 refl,
 )
+
+-- cut to five decimals, 4.000005 is rounded to 4.0
+pub cut_rounding : IsRoundedCut (4_000_005 over 1_000_000) (pos 40)
+cut_rounding = record {
+  fifth_decimals = pos 400_000;
+  cut = record { not_above = record { at_most = search rules }; greatest = record { below = search rules } };
+  rounded = record { not_below = record { at_most = search rules }; least = record { below = search rules } };
+}
 
 -- below 0, v3.0 goes up to the next tenth, and v3.1 gives 0
 pub negative_roundings : IsRounded 0 (ratio (negsuc 14) 100) (negsuc 0) × IsRounded 0 (ratio (negsuc 4) 100) (pos 0)

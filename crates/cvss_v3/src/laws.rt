@@ -1,13 +1,14 @@
 //! Laws of CVSS v3, each the contract of a function that does nothing. A proof that needs a law
 //! calls it.
 
-ghost use Rattle.std.specs.Prelude.{◌≡◌, ℕ, List, ℤ, pos, ◌≤ℤ◌, Some, None};
+ghost use Rattle.std.specs.Prelude.{◌≡◌, ℕ, List, ℤ, pos, ◌≤◌, ◌≤ℤ◌, Some, None};
 ghost use Rattle.std.specs.Ordering.{int_cmp};
 ghost use Rattle.cvss_base.specs.Equality.{EqualsByValue, ClonesByValue};
 ghost use Rattle.cvss_base.specs.Tenths.{IsOneCount};
 ghost use Rattle.cvss_base.specs.Version.{canonical_text, Denotes};
+ghost use Rattle.cvss_v3.specs.FifthDecimals.{IsSameWhenCut};
 ghost use Rattle.cvss_v3.specs.ScoreLaws.{DefineTheSame, with_modified_as_base};
-ghost use Rattle.cvss_v3.specs.Scores.{IsBaseScore, IsTemporalScore, IsEnvironmentalScore};
+ghost use Rattle.cvss_v3.specs.Scores.{base_number, environmental_number, temporal_number, IsBaseScore, IsTemporalScore, IsEnvironmentalScore};
 ghost use Rattle.cvss_base.specs.declared.v3.MetricType.{MetricType};
 ghost use Rattle.cvss_v3.specs.Vector.{v3, value_at};
 ghost use Rattle.cvss_v3.specs.VectorWeights.{weights_of};
@@ -58,6 +59,17 @@ pub fn temporal_is_at_most_base()
     ensures { (minor : ℕ) → (vector : Vector) → (base temporal : ℤ)
         → IsBaseScore minor (weights_of vector) base
         → IsTemporalScore minor (weights_of vector) temporal → temporal ≤ℤ base }
+{}
+
+/// In v3.1, cutting a number to five decimals in place of taking the nearest fifth decimal (Appendix
+/// A) changes no score of a vector: neither the rounding of the base score, nor the first one of the
+/// environmental score, nor that of tenths from 0 to 10 times E, RL and RC.
+pub fn cutting_changes_no_score()
+    ensures base { (vector : Vector) → IsSameWhenCut (base_number (weights_of vector)) }
+    ensures environmental { (vector : Vector)
+        → IsSameWhenCut (environmental_number 1 (weights_of vector)) }
+    ensures product { (vector : Vector) → (tenths : ℕ) → tenths ≤ 100
+        → IsSameWhenCut (temporal_number (pos tenths) (weights_of vector)) }
 {}
 
 /// A metric that is `X` and one that is absent weigh the same, so that all scores are the same.
