@@ -68,7 +68,7 @@ sign_equal (negsuc m) (pos zero) p q some_p some_q same = refl
 sign_equal (negsuc m) (pos (suc n)) p q some_p some_q same = absurd (omega (arith, ints))
 sign_equal (negsuc m) (negsuc n) p q some_p some_q same = refl
 
-total_bottom : (changed : Bool) (x y : Exact) → 0 < x.bottom → 0 < y.bottom → 0 < (total_of changed x y).bottom
+pub total_bottom : (changed : Bool) (x y : Exact) → 0 < x.bottom → 0 < y.bottom → 0 < (total_of changed x y).bottom
 total_bottom false x y some_x some_y = above_zero x.bottom y.bottom some_x some_y
 total_bottom true x y some_x some_y = above_zero 100 (x.bottom * y.bottom) (lit< tt) (above_zero x.bottom y.bottom some_x some_y)
 

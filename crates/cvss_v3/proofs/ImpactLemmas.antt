@@ -5,7 +5,7 @@ use Rattle.cvss_base.specs.Exact.{Exact, ◌over◌, ◌≈◌}
 use Rattle.cvss_base.proofs.ExactLemmas.{equal_refl, product_equal}
 use Rattle.cvss_v3.proofs.SubScoreLemmas.{exploitabilities}
 use Rattle.cvss_v3.proofs.FormulaLemmas.{IsSettledFormula, changed_formula, changed_modified_formula}
-use Rattle.cvss_v3.proofs.NumberLemmas.{no_impact, unchanged_rounds, changed_rounds}
+use Rattle.cvss_v3.proofs.NumberLemmas.{no_impact, unchanged_rounds, settled_rounds}
 use Rattle.cvss_v3.specs.Near.{IsNear, RoundsAs}
 use Rattle.cvss_v3.specs.Scores.{unchanged_impact, changed_impact, changed_modified_impact, impact_of, modified_impact_of, first_number}
 use Rattle.cvss_v3.specs.SubScores.{IsSubScore}
@@ -17,18 +17,18 @@ module _ (minor : ℕ) (S E : Exact) (some_S : 0 < S.bottom) (some_E : 0 < E.bot
       no_impact minor false (unchanged_impact (0 over 1_000_000)) (unchanged_impact S) E (lit< tt) (omega arith) some_E
       (product_equal (equal_refl (642 over 100)) is_S) refl
 
-  module _ (Formula : Exact → Exact) (formula : IsSettledFormula Formula) where
+  module _ (Formula : Exact → Exact) (formula : IsSettledFormula true Formula) where
     none_changed : 0 over 1_000_000 ≈ S → RoundsAs minor (0 over (10 ^ 13)) (first_number true (Formula S) E)
     none_changed is_S =
         no_impact minor true (Formula (0 over 1_000_000)) (Formula S) E (formula.bottom (0 over 1_000_000) (lit< tt))
         (formula.bottom S some_S) some_E (formula.equal (0 over 1_000_000) S is_S) formula.none
 
-    changed_number : (n i s e : ℕ) → s over 1_000_000 ≈ S → e over (10 ^ 10) ≈ E → IsSubScore s → Contains exploitabilities e
+    changed_number : (n i s e : ℕ) → s over 1_000_000 ≈ S → e over (10 ^ 10) ≈ E → IsSubScore s → Contains (exploitabilities true) e
         → 0 < i → n ≤ 10 ^ 14 → IsNear (i over (10 ^ 11)) (Formula (s over 1_000_000))
         → n over (10 ^ 13) ≈ first_number true (i over (10 ^ 11)) (e over (10 ^ 10))
         → RoundsAs minor (n over (10 ^ 13)) (first_number true (Formula S) E)
     changed_number n i s e is_S is_E sub_score listed =
-        changed_rounds minor e (Formula (s over 1_000_000)) (Formula S) E (formula.bottom (s over 1_000_000) (lit< tt))
+        settled_rounds minor e true (Formula (s over 1_000_000)) (Formula S) E (formula.bottom (s over 1_000_000) (lit< tt))
         (formula.bottom S some_S) some_E (formula.equal (s over 1_000_000) S is_S) is_E
         (formula.settles s e sub_score listed) n i
 
@@ -59,7 +59,7 @@ unchanged_number minor n i s e true S E is_unchanged some_S some_E is_S is_E is_
 
 -- with the scope changed, Impact
 pub changed_base_number : (minor n i s e : ℕ) (changed : Bool) (S E : Exact) → changed ≡ true → 0 < S.bottom → 0 < E.bottom
-    → s over 1_000_000 ≈ S → e over (10 ^ 10) ≈ E → IsSubScore s → Contains exploitabilities e → 0 < i → n ≤ 10 ^ 14
+    → s over 1_000_000 ≈ S → e over (10 ^ 10) ≈ E → IsSubScore s → Contains (exploitabilities true) e → 0 < i → n ≤ 10 ^ 14
     → IsNear (i over (10 ^ 11)) (changed_impact (s over 1_000_000))
     → n over (10 ^ 13) ≈ first_number true (i over (10 ^ 11)) (e over (10 ^ 10))
     → RoundsAs minor (n over (10 ^ 13)) (first_number changed (impact_of changed S) E)
@@ -69,7 +69,7 @@ changed_base_number minor n i s e false S E is_changed some_S some_E = absurd (c
 
 -- with the modified scope changed, Modified Impact of v3.0
 pub changed_number_v30 : (minor n i s e : ℕ) (changed : Bool) (S E : Exact) → minor ≡ 0 → changed ≡ true
-    → 0 < S.bottom → 0 < E.bottom → s over 1_000_000 ≈ S → e over (10 ^ 10) ≈ E → IsSubScore s → Contains exploitabilities e
+    → 0 < S.bottom → 0 < E.bottom → s over 1_000_000 ≈ S → e over (10 ^ 10) ≈ E → IsSubScore s → Contains (exploitabilities true) e
     → 0 < i → n ≤ 10 ^ 14 → IsNear (i over (10 ^ 11)) (changed_impact (s over 1_000_000))
     → n over (10 ^ 13) ≈ first_number true (i over (10 ^ 11)) (e over (10 ^ 10))
     → RoundsAs minor (n over (10 ^ 13)) (first_number changed (modified_impact_of minor changed S) E)
@@ -80,7 +80,7 @@ changed_number_v30 zero n i s e false S E is_zero is_changed some_S some_E = abs
 
 -- and of v3.1
 pub changed_number_v31 : (minor n i s e : ℕ) (changed : Bool) (S E : Exact) → minor ≢ 0 → changed ≡ true
-    → 0 < S.bottom → 0 < E.bottom → s over 1_000_000 ≈ S → e over (10 ^ 10) ≈ E → IsSubScore s → Contains exploitabilities e
+    → 0 < S.bottom → 0 < E.bottom → s over 1_000_000 ≈ S → e over (10 ^ 10) ≈ E → IsSubScore s → Contains (exploitabilities true) e
     → 0 < i → n ≤ 10 ^ 14 → IsNear (i over (10 ^ 11)) (changed_modified_impact (s over 1_000_000))
     → n over (10 ^ 13) ≈ first_number true (i over (10 ^ 11)) (e over (10 ^ 10))
     → RoundsAs minor (n over (10 ^ 13)) (first_number changed (modified_impact_of minor changed S) E)

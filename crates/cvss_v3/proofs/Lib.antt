@@ -1,6 +1,7 @@
 mod CapLemmas
 mod CertainLemmas
 mod CountLemmas
+mod CutLemmas
 mod DefinedLemmas
 mod EqualLemmas
 mod FormulaLemmas

@@ -1,11 +1,12 @@
 -- A first number whose impact is at most 10^-7 wrong is at most 10^-6 wrong.
 use Rattle.std.specs.Prelude.{int_lt, if◌then◌else◌}
-use Rattle.std.proofs.Common.{◌≡◌, ℕ, ◌*◌, ◌<◌, ◌^◌, ℤ, pos, negsuc, ◌*ℤ◌, true, arith, subst, sym, ap, lit<}
+use Rattle.std.proofs.Common.{◌≡◌, ℕ, ◌*◌, ◌<◌, ◌^◌, ℤ, pos, negsuc, ◌*ℤ◌, Bool, true, false, arith, subst, sym, ap, lit<}
 use Rattle.std.proofs.lemmas.Int.{ints}
 use Rattle.std.proofs.lemmas.Bool.{lt-ltb, ltb-true}
 use Rattle.cvss_base.specs.Exact.{Exact, ratio, ◌over◌, whole, ◌⊕◌, ◌⊖◌, ◌⊑◌}
 use Rattle.cvss_base.proofs.ExactLemmas.{at_most_trans, sum_at_most, times_difference, times_times, times_sum}
 use Rattle.cvss_v3.proofs.CapLemmas.{capped, by_smaller, capped_down, capped_to_ten}
+use Rattle.cvss_v3.proofs.EqualLemmas.{total_bottom}
 use Rattle.cvss_v3.specs.Near.{IsNear}
 use Rattle.cvss_v3.specs.Scores.{total_of, first_number}
 
@@ -41,9 +42,10 @@ above_itself x =
     }
 
 -- totals of impacts t/q and u/v, of which the first is at most 10^-7 greater
-total_near : (t q u v e : ℕ) → t over q ⊑ u over v ⊕ 1 over 10_000_000
-    → total_of true (t over q) (e over (10 ^ 10)) ⊑ total_of true (u over v) (e over (10 ^ 10)) ⊕ error
-total_near t q u v e near = record { at_most = omega (arith, ints, near.at_most) }
+total_near : (changed : Bool) (t q u v e : ℕ) → t over q ⊑ u over v ⊕ 1 over 10_000_000
+    → total_of changed (t over q) (e over (10 ^ 10)) ⊑ total_of changed (u over v) (e over (10 ^ 10)) ⊕ error
+total_near false t q u v e near = record { at_most = omega (arith, ints, near.at_most) }
+total_near true t q u v e near = record { at_most = omega (arith, ints, near.at_most) }
 
 -- under the cap
 capped_near : (x y : Exact) → 0 < x.bottom → 0 < y.bottom → x ⊑ y ⊕ error → capped x ⊑ capped y ⊕ error
@@ -59,28 +61,31 @@ capped_near x y some_x some_y order =
     (at_most_trans (capped x) x (y ⊕ error) some_x (capped_down x) order) to_cap)
 
 -- with impact the first number is the total, at most 10
-pub first_is : (x y : Exact) → int_lt (pos 0) x.top ≡ true → first_number true x y ≡ capped (total_of true x y)
-first_is x y above = ap (λ b. if b then capped (total_of true x y) else whole 0) above
+pub first_is : (changed : Bool) (x y : Exact) → int_lt (pos 0) x.top ≡ true
+    → first_number changed x y ≡ capped (total_of changed x y)
+first_is changed x y above = ap (λ b. if b then capped (total_of changed x y) else whole 0) above
 
 -- first numbers of impacts t/q and u/v, of which the first is at most 10^-7 greater
-first_over : (t q u v e : ℕ) → 0 < t → 0 < q → 0 < u → 0 < v → t over q ⊑ u over v ⊕ 1 over 10_000_000
-    → first_number true (t over q) (e over (10 ^ 10)) ⊑ first_number true (u over v) (e over (10 ^ 10)) ⊕ error
-first_over t q u v e some_t some_q some_u some_v near =
+first_over : (changed : Bool) (t q u v e : ℕ) → 0 < t → 0 < q → 0 < u → 0 < v → t over q ⊑ u over v ⊕ 1 over 10_000_000
+    → first_number changed (t over q) (e over (10 ^ 10)) ⊑ first_number changed (u over v) (e over (10 ^ 10)) ⊕ error
+first_over changed t q u v e some_t some_q some_u some_v near =
     let exploitability = e over (10 ^ 10) in
-    let forth = capped_near (total_of true (t over q) exploitability) (total_of true (u over v) exploitability)
-    (omega arith) (omega arith) (total_near t q u v e near) in
-    let left = first_is (t over q) exploitability (lt-ltb 0 t some_t) in
-    let right = first_is (u over v) exploitability (lt-ltb 0 u some_u) in
-    subst (λ z. z ⊑ first_number true (u over v) exploitability ⊕ error) (sym left)
-    (subst (λ z. capped (total_of true (t over q) exploitability) ⊑ z ⊕ error) (sym right) forth)
+    let forth = capped_near (total_of changed (t over q) exploitability) (total_of changed (u over v) exploitability)
+    (total_bottom changed (t over q) exploitability some_q (lit< tt)) (total_bottom changed (u over v) exploitability some_v (lit< tt))
+    (total_near changed t q u v e near) in
+    let left = first_is changed (t over q) exploitability (lt-ltb 0 t some_t) in
+    let right = first_is changed (u over v) exploitability (lt-ltb 0 u some_u) in
+    subst (λ z. z ⊑ first_number changed (u over v) exploitability ⊕ error) (sym left)
+    (subst (λ z. capped (total_of changed (t over q) exploitability) ⊑ z ⊕ error) (sym right) forth)
 
 -- of near impacts the first numbers are at most 10^-6 apart
-pub first_near : (i e : ℕ) (top : ℤ) (q : ℕ) → 0 < i → 0 < q → int_lt (pos 0) top ≡ true → IsNear (i over (10 ^ 11)) (ratio top q)
-    → (first_number true (i over (10 ^ 11)) (e over (10 ^ 10)) ⊑ first_number true (ratio top q) (e over (10 ^ 10)) ⊕ error)
-    × (first_number true (ratio top q) (e over (10 ^ 10)) ⊑ first_number true (i over (10 ^ 11)) (e over (10 ^ 10)) ⊕ error)
-first_near i e (pos t) q some_i some_q above near =
+pub first_near : (changed : Bool) (i e : ℕ) (top : ℤ) (q : ℕ) → 0 < i → 0 < q → int_lt (pos 0) top ≡ true
+    → IsNear (i over (10 ^ 11)) (ratio top q)
+    → (first_number changed (i over (10 ^ 11)) (e over (10 ^ 10)) ⊑ first_number changed (ratio top q) (e over (10 ^ 10)) ⊕ error)
+    × (first_number changed (ratio top q) (e over (10 ^ 10)) ⊑ first_number changed (i over (10 ^ 11)) (e over (10 ^ 10)) ⊕ error)
+first_near changed i e (pos t) q some_i some_q above near =
     let some_t = ltb-true 0 t above in (
-      first_over i (10 ^ 11) t q e some_i (lit< tt) some_t some_q near.not_above,
-      first_over t q i (10 ^ 11) e some_t some_q some_i (lit< tt) near.not_below,
+      first_over changed i (10 ^ 11) t q e some_i (lit< tt) some_t some_q near.not_above,
+      first_over changed t q i (10 ^ 11) e some_t some_q some_i (lit< tt) near.not_below,
     )
-first_near i e (negsuc t) q some_i some_q above near = cc
+first_near changed i e (negsuc t) q some_i some_q above near = cc

@@ -1,24 +1,25 @@
--- With the scope changed no rounding jumps near to the first number, for each value of the sub-scores.
+-- No rounding jumps near to the first number, for each value of the sub-scores.
 use Rattle.std.specs.Prelude.{unsigned_abs, int_lt}
 use Rattle.std.specs.List.{list_all, Contains}
-use Rattle.std.proofs.Common.{◌≡◌, ℕ, zero, suc, ◌+◌, ◌-◌, ◌*◌, ◌/◌, ◌^◌, ◌<◌, ℤ, pos, negsuc, ◌-ℤ◌, ◌*ℤ◌, Bool, true, ◌&&◌, ◌||◌, ◌⊎◌, inl, inr, arith, refl, lit<}
+use Rattle.std.proofs.Common.{◌≡◌, ℕ, zero, suc, ◌+◌, ◌-◌, ◌*◌, ◌/◌, ◌^◌, ◌<◌, ℤ, pos, negsuc, ◌-ℤ◌, ◌*ℤ◌, Bool, true, false, ◌&&◌, ◌||◌, ◌⊎◌, inl, inr, arith, refl, lit<}
 use Rattle.std.proofs.lemmas.Int.{ints}
 use Rattle.std.proofs.lemmas.Bool.{and_parts, or_cases}
 use Rattle.cvss_base.specs.Exact.{Exact, ratio, ◌over◌, whole, tenths, ◌⊕◌, ◌⊑◌, ◌⊏◌}
 use Rattle.cvss_base.proofs.ExactLemmas.{at_most_trans, at_most_below, below_at_most, times_sum, times_times}
 use Rattle.cvss_v3.proofs.SubScoreLemmas.{exploitabilities}
-use Rattle.cvss_v3.specs.Scores.{power, changed_impact, changed_modified_impact, first_number, IsRounded}
+use Rattle.cvss_v3.specs.Scores.{power, unchanged_impact, changed_impact, changed_modified_impact, first_number, IsRounded}
 use Rattle.cvss_v3.specs.SubScores.{sub_scores, IsSubScore}
 use Rattle.cvss_v3.proofs.EqualLemmas.{changed_bottom, changed_modified_bottom, first_bottom}
 use Rattle.cvss_v3.proofs.NearLemmas.{error}
 use Rattle.cvss_v3.proofs.RoundLemmas.{jump, between_jumps}
 use Rattle.cvss_v3.proofs.TestLemmas.{is_below, is_at_most, below_if, at_most_if, passes}
 
--- whether what lies within an error of n and is at most 10 is rounded to r tenths by v3.0, and by v3.1 to s
+-- whether what lies within an error of n and is at most 10 is rounded to r tenths by v3.0, and by v3.1 to s, and n lies a
+-- fifth decimal or more above the tenth before s
 unfoldable is_settled_at : Exact → ℤ → ℤ → Bool
 is_settled_at n r s =
     is_at_most error n && (is_below (tenths (r -ℤ pos 1) ⊕ error) n && ((is_at_most (n ⊕ error) (tenths r) || is_at_most (whole 10) (tenths r))
-    && (is_at_most (jump (s -ℤ pos 1) ⊕ error) n && (is_below (n ⊕ error) (jump s) || is_below (whole 10) (jump s)))))
+    && (is_at_most (tenths (s -ℤ pos 1) ⊕ 1 over 100_000) n && (is_below (n ⊕ error) (jump s) || is_below (whole 10) (jump s)))))
 
 -- the least tenth that is not below n
 unfoldable tenth_above : Exact → ℕ
@@ -32,15 +33,17 @@ unfoldable is_settled : Exact → Bool
 is_settled n = is_settled_at n (pos (tenth_above n)) (pos (jump_above n))
 
 -- whether that holds with each exploitability, and there is impact
-unfoldable settles : Exact → Bool
-settles impact =
-    int_lt (pos 0) impact.top && list_all (λ e. is_settled (first_number true impact (e over (10 ^ 10)))) exploitabilities
+unfoldable settles : Bool → Exact → Bool
+settles changed impact =
+    int_lt (pos 0) impact.top
+    && list_all (λ e. is_settled (first_number changed impact (e over (10 ^ 10)))) (exploitabilities changed)
 
 -- what the test says of n
 record IsSettledAt (n : Exact) (r s : ℤ) : Type 0 where
   from_error : error ⊑ n
   above_tenth : tenths (r -ℤ pos 1) ⊕ error ⊏ n
   to_tenth : (n ⊕ error ⊑ tenths r) ⊎ (whole 10 ⊑ tenths r)
+  from_cut : tenths (s -ℤ pos 1) ⊕ 1 over 100_000 ⊑ n
   from_jump : jump (s -ℤ pos 1) ⊕ error ⊑ n
   below_jump : (n ⊕ error ⊏ jump s) ⊎ (whole 10 ⊏ jump s)
 
@@ -50,7 +53,8 @@ settled_at n r s settled =
     let after = and_parts (is_at_most error n) _ settled in
     let after_tenth = and_parts (is_below (tenths (r -ℤ pos 1) ⊕ error) n) _ after.1 in
     let upper = and_parts (is_at_most (n ⊕ error) (tenths r) || is_at_most (whole 10) (tenths r)) _ after_tenth.1 in
-    let jumps = and_parts (is_at_most (jump (s -ℤ pos 1) ⊕ error) n) (is_below (n ⊕ error) (jump s) || is_below (whole 10) (jump s)) upper.1 in
+    let before = tenths (s -ℤ pos 1) ⊕ 1 over 100_000 in
+    let jumps = and_parts (is_at_most before n) (is_below (n ⊕ error) (jump s) || is_below (whole 10) (jump s)) upper.1 in
     record {
       from_error = at_most_if error n after.0;
       above_tenth = below_if (tenths (r -ℤ pos 1) ⊕ error) n after_tenth.0;
@@ -58,7 +62,9 @@ settled_at n r s settled =
         | inl holds ↦ inl (at_most_if (n ⊕ error) (tenths r) holds)
         | inr holds ↦ inr (at_most_if (whole 10) (tenths r) holds)
       ];
-      from_jump = at_most_if (jump (s -ℤ pos 1) ⊕ error) n jumps.0;
+      from_cut = at_most_if before n jumps.0;
+      from_jump = at_most_trans (jump (s -ℤ pos 1) ⊕ error) before n (lit< tt) (record { at_most = omega (arith, ints) })
+          (at_most_if before n jumps.0);
       below_jump = elim (or_cases (is_below (n ⊕ error) (jump s)) (is_below (whole 10) (jump s)) jumps.1) [
         | inl holds ↦ inl (below_if (n ⊕ error) (jump s) holds)
         | inr holds ↦ inr (below_if (whole 10) (jump s) holds)
@@ -141,43 +147,62 @@ settled_rounding (suc minor) n (negsuc t) q settled some some_q within =
 -- all that lies within an error of n and is at most 10 has one rounding
 pub record IsSettled (n : Exact) : Type 0 where
   pub tenths_by : ℕ → ℤ
+  pub from_error : error ⊑ n
+  pub from_cut : tenths (tenths_by 1 -ℤ pos 1) ⊕ 1 over 100_000 ⊑ n
   pub rounding : (minor : ℕ) (x : Exact) → 0 < x.bottom → IsWithinError n x → IsRounded minor x (tenths_by minor)
 
--- there is impact, and with this exploitability the first number is settled
-pub record SettlesWith (impact : Exact) (e : ℕ) : Type 0 where
-  pub above_zero : int_lt (pos 0) impact.top ≡ true
-  pub settled : IsSettled (first_number true impact (e over (10 ^ 10)))
+settled_apart : (n : Exact) → is_settled n ≡ true → IsSettledAt n (pos (tenth_above n)) (pos (jump_above n))
+unfolding is_settled
+settled_apart n settled = settled_at n (pos (tenth_above n)) (pos (jump_above n)) settled
 
-settles_with : (impact : Exact) (e : ℕ) → 0 < impact.bottom → settles impact ≡ true → Contains exploitabilities e → SettlesWith impact e
+-- there is impact, and with this exploitability the first number is settled
+pub record SettlesWith (changed : Bool) (impact : Exact) (e : ℕ) : Type 0 where
+  pub above_zero : int_lt (pos 0) impact.top ≡ true
+  pub settled : IsSettled (first_number changed impact (e over (10 ^ 10)))
+
+settles_with : (changed : Bool) (impact : Exact) (e : ℕ) → 0 < impact.bottom → settles changed impact ≡ true
+    → Contains (exploitabilities changed) e → SettlesWith changed impact e
 unfolding settles
-settles_with impact e some settling listed =
-    let n = first_number true impact (e over (10 ^ 10)) in
+settles_with changed impact e some settling listed =
+    let n = first_number changed impact (e over (10 ^ 10)) in
     let parts = and_parts (int_lt (pos 0) impact.top) _ settling in
-    let settled = passes (λ e. is_settled (first_number true impact (e over (10 ^ 10)))) exploitabilities e parts.1 listed in
+    let settled = passes (λ e. is_settled (first_number changed impact (e over (10 ^ 10)))) (exploitabilities changed) e parts.1 listed in
     record {
       above_zero = parts.0;
       settled = record {
         tenths_by = λ minor. settled_tenths minor n;
+        from_error = (settled_apart n settled).from_error;
+        from_cut = (settled_apart n settled).from_cut;
         rounding = λ minor x some_x within.
-            settled_rounding minor n x.top x.bottom settled (first_bottom true impact (e over (10 ^ 10)) some (lit< tt)) some_x within;
+            settled_rounding minor n x.top x.bottom settled (first_bottom changed impact (e over (10 ^ 10)) some (lit< tt)) some_x within;
       };
     }
 
-changed_settle : list_all (λ s. settles (changed_impact (s over 1_000_000))) sub_scores ≡ true
+unchanged_settle : list_all (λ s. settles false (unchanged_impact (s over 1_000_000))) sub_scores ≡ true
+unfolding is_settled_at tenth_above jump_above is_settled settles
+unchanged_settle = refl
+
+changed_settle : list_all (λ s. settles true (changed_impact (s over 1_000_000))) sub_scores ≡ true
 unfolding is_settled_at tenth_above jump_above is_settled settles power changed_impact
 changed_settle = refl
 
-changed_modified_settle : list_all (λ s. settles (changed_modified_impact (s over 1_000_000))) sub_scores ≡ true
+changed_modified_settle : list_all (λ s. settles true (changed_modified_impact (s over 1_000_000))) sub_scores ≡ true
 unfolding is_settled_at tenth_above jump_above is_settled settles power changed_modified_impact
 changed_modified_settle = refl
 
-pub changed_settles : (s e : ℕ) → IsSubScore s → Contains exploitabilities e → SettlesWith (changed_impact (s over 1_000_000)) e
-changed_settles s e sub_score listed =
-    settles_with (changed_impact (s over 1_000_000)) e (changed_bottom (s over 1_000_000) (lit< tt))
-    (passes (λ s. settles (changed_impact (s over 1_000_000))) sub_scores s changed_settle sub_score.listed) listed
+pub unchanged_settles : (s e : ℕ) → IsSubScore s → Contains (exploitabilities false) e
+    → SettlesWith false (unchanged_impact (s over 1_000_000)) e
+unchanged_settles s e sub_score listed =
+    settles_with false (unchanged_impact (s over 1_000_000)) e (lit< tt)
+    (passes (λ s. settles false (unchanged_impact (s over 1_000_000))) sub_scores s unchanged_settle sub_score.listed) listed
 
-pub changed_modified_settles : (s e : ℕ) → IsSubScore s → Contains exploitabilities e
-    → SettlesWith (changed_modified_impact (s over 1_000_000)) e
+pub changed_settles : (s e : ℕ) → IsSubScore s → Contains (exploitabilities true) e → SettlesWith true (changed_impact (s over 1_000_000)) e
+changed_settles s e sub_score listed =
+    settles_with true (changed_impact (s over 1_000_000)) e (changed_bottom (s over 1_000_000) (lit< tt))
+    (passes (λ s. settles true (changed_impact (s over 1_000_000))) sub_scores s changed_settle sub_score.listed) listed
+
+pub changed_modified_settles : (s e : ℕ) → IsSubScore s → Contains (exploitabilities true) e
+    → SettlesWith true (changed_modified_impact (s over 1_000_000)) e
 changed_modified_settles s e sub_score listed =
-    settles_with (changed_modified_impact (s over 1_000_000)) e (changed_modified_bottom (s over 1_000_000) (lit< tt))
-    (passes (λ s. settles (changed_modified_impact (s over 1_000_000))) sub_scores s changed_modified_settle sub_score.listed) listed
+    settles_with true (changed_modified_impact (s over 1_000_000)) e (changed_modified_bottom (s over 1_000_000) (lit< tt))
+    (passes (λ s. settles true (changed_modified_impact (s over 1_000_000))) sub_scores s changed_modified_settle sub_score.listed) listed

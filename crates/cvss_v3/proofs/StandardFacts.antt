@@ -2,10 +2,11 @@
 use Rattle.std.proofs.Common.{◌≡◌, ℕ, zero, suc, ◌^◌, pos, ◌-ℤ◌, Bool, true, false, ◌&&◌, leb, refl, negsuc, ◌*◌, arith, rules}
 use Rattle.std.proofs.lemmas.Int.{ints}
 use Rattle.std.proofs.lemmas.Bool.{and_parts, leb-true}
-use Rattle.cvss_base.specs.Exact.{ratio, ◌over◌, tenths, ◌≈◌}
+use Rattle.cvss_base.specs.Exact.{ratio, ◌over◌, tenths, ◌⊕◌, ◌≈◌}
 use Rattle.cvss_base.specs.Rating.{rating_of_score}
 use Rattle.cvss_base.specs.declared.severity.Severity.TheVariants.{None, Low, Medium, High, Critical}
-use Rattle.cvss_v3.specs.Scores.{power, changed_impact, changed_modified_impact, base_number, environmental_number, miss, IsRounded, IsBase, IsTemporal, IsEnvironmental}
+use Rattle.cvss_v3.specs.FifthDecimals.{IsRoundedCut}
+use Rattle.cvss_v3.specs.Scores.{power, changed_impact, changed_modified_impact, base_number, environmental_number, temporal_number, miss, IsRounded, IsBase, IsTemporal, IsEnvironmental}
 use Rattle.cvss_v3.specs.declared.weights.Weights.{Weights}
 use Rattle.cvss_v3.proofs.RoundLemmas.{jump, between_jumps}
 use Rattle.cvss_v3.proofs.TestLemmas.{is_below, is_at_most, below_if, at_most_if}
@@ -171,6 +172,19 @@ exact_tenth = record (of_base 20 44 62 62 false 22 22 56) { rc = 92 }
 pub exact_tenth_temporal : IsTemporal 0 exact_tenth (pos 46)
 exact_tenth_temporal = record { base = pos 50; is_base = rounded_if 0 _ _ 50 refl; is_rounded = rounded_if 0 _ _ 46 refl }
 
+-- AV:N/AC:L/PR:N/UI:N/S:C/C:H/I:H/A:H/E:H/RL:U/RC:U by v3.0, whose temporal number is exactly 9.2: of a millionth more the
+-- rounding is 9.3
+abbrev on_a_jump : Weights
+on_a_jump = record (of_base 85 77 85 85 true 56 56 56) { rc = 92 }
+
+pub on_a_jump_temporal : IsTemporal 0 on_a_jump (pos 92)
+    × IsRounded 0 (temporal_number (pos 100) on_a_jump ⊕ 1 over 1_000_000) (pos 93)
+unfolding changed_impact power
+on_a_jump_temporal = (
+  record { base = pos 100; is_base = rounded_if 0 _ _ 100 refl; is_rounded = rounded_if 0 _ _ 92 refl },
+  rounded_if 0 _ _ 93 refl,
+)
+
 -- Roundup of v3.1 takes the nearest fifth decimal first; that of v3.0 leaves an exact tenth
 pub roundings : IsRounded 1 (4_000_004 over 1_000_000) (pos 40) × IsRounded 1 (4_000_005 over 1_000_000) (pos 41)
     × IsRounded 1 (401 over 100) (pos 41) × IsRounded 1 (4 over 1_000_000) (pos 0) × IsRounded 0 (4 over 1) (pos 40)
@@ -181,6 +195,14 @@ roundings = (
   rounded_if 1 _ _ 0 refl,
   rounded_if 0 _ _ 40 refl,
 )
+
+-- cut to five decimals, 4.000005 is rounded to 4.0
+pub cut_rounding : IsRoundedCut (4_000_005 over 1_000_000) (pos 40)
+cut_rounding = record {
+  fifth_decimals = pos 400_000;
+  cut = record { not_above = record { at_most = search rules }; greatest = record { below = search rules } };
+  rounded = record { not_below = record { at_most = search rules }; least = record { below = search rules } };
+}
 
 -- below 0, v3.0 goes up to the next tenth, and v3.1 gives 0
 pub negative_roundings : IsRounded 0 (ratio (negsuc 14) 100) (negsuc 0) × IsRounded 0 (ratio (negsuc 4) 100) (pos 0)

@@ -6,9 +6,15 @@ use Rattle.cvss_v3.specs.SubScores.{sub_scores, weighted_impacts, IsSubScore}
 use Rattle.cvss_v3.specs.Weights.{attack_vectors, attack_complexities, privileges_required, user_interactions, impacts, requirements}
 use Rattle.cvss_v3.proofs.TestLemmas.{passes, is_listed, listed_if}
 
--- Exploitability with the scope changed, in 10^-10, absent metrics included
-abbrev pub exploitabilities : List ℕ
-exploitabilities =
+-- Exploitability by whether the scope is changed, in 10^-10, absent metrics included
+abbrev pub exploitabilities : Bool → List ℕ
+exploitabilities false =
+    0 ∷ 1210904640 ∷ 1660111200 ∷ 2119083120 ∷ 2780595840 ∷ 2905194600 ∷ 3329987760 ∷ 3753804384 ∷ 3812107200 ∷
+    4565305800 ∷ 4866042720 ∷ 5146344720 ∷ 5226276000 ∷ 5827478580 ∷ 6569157672 ∷ 6671187600 ∷ 7055472600 ∷
+    7646638560 ∷ 7989285150 ∷ 8619847104 ∷ 9006103260 ∷ 9145983000 ∷ 10483294800 ∷ 11817532320 ∷ 12347077050 ∷
+    13381617480 ∷ 14372259000 ∷ 15084732432 ∷ 16201455600 ∷ 18345765900 ∷ 20680681560 ∷ 22211673000 ∷
+    25151453250 ∷ 28352547300 ∷ 38870427750 ∷ []
+exploitabilities true =
     0 ∷ 2242416000 ∷ 3049685760 ∷ 3074280000 ∷ 3812107200 ∷ 3924228000 ∷ 4181020800 ∷ 5226276000 ∷
     5336950080 ∷ 5379990000 ∷ 6166644000 ∷ 6671187600 ∷ 6951489600 ∷ 7316786400 ∷ 8386635840 ∷ 8454270000 ∷
     9145983000 ∷ 9454025856 ∷ 9530268000 ∷ 10483294800 ∷ 10791627000 ∷ 11497807200 ∷ 11817532320 ∷
@@ -82,21 +88,38 @@ miss_listed c i a is_c is_i is_a =
     sub_score_if (min (millionths_of c i a) 915_000)
     (passes_three (λ c i a. is_sub_score (min (millionths_of c i a) 915_000)) weighted_impacts c i a refl is_c is_i is_a)
 
--- with the scope changed
-pub exploitability_listed : (changed : Bool) (av ac pr ui e : ℕ) → changed ≡ true → e ≡ 822 * av * ac * pr * ui
+-- whether all exploitabilities are listed
+abbrev are_listed : Bool → Bool
+are_listed changed =
+    list_all (λ av. list_all (λ ac. list_all (λ pr. list_all (λ ui.
+    is_listed (exploitabilities changed) (822 * av * ac * pr * ui)) user_interactions) (privileges_required changed))
+    attack_complexities) attack_vectors
+
+all_listed : (changed : Bool) → are_listed changed ≡ true
+all_listed false = refl
+all_listed true = refl
+
+pub exploitability_listed : (changed : Bool) (av ac pr ui e : ℕ) → e ≡ 822 * av * ac * pr * ui
     → Contains attack_vectors av → Contains attack_complexities ac → Contains (privileges_required changed) pr
-    → Contains user_interactions ui → Contains exploitabilities e
-exploitability_listed false av ac pr ui e is_changed is_e is_av is_ac is_pr is_ui = cc
-exploitability_listed true av ac pr ui e is_changed is_e is_av is_ac is_pr is_ui =
-    let of_four : ℕ → ℕ → ℕ → ℕ → Bool = λ av ac pr ui. is_listed exploitabilities (822 * av * ac * pr * ui) in
+    → Contains user_interactions ui → Contains (exploitabilities changed) e
+exploitability_listed changed av ac pr ui e is_e is_av is_ac is_pr is_ui =
+    let of_four : ℕ → ℕ → ℕ → ℕ → Bool = λ av ac pr ui. is_listed (exploitabilities changed) (822 * av * ac * pr * ui) in
     let of_three : ℕ → ℕ → ℕ → Bool = λ av ac pr. list_all (of_four av ac pr) user_interactions in
-    let of_two : ℕ → ℕ → Bool = λ av ac. list_all (of_three av ac) (privileges_required true) in
+    let of_two : ℕ → ℕ → Bool = λ av ac. list_all (of_three av ac) (privileges_required changed) in
     let of_one : ℕ → Bool = λ av. list_all (of_two av) attack_complexities in
-    let listed = listed_if exploitabilities (822 * av * ac * pr * ui)
+    let listed = listed_if (exploitabilities changed) (822 * av * ac * pr * ui)
     (passes (of_four av ac pr) user_interactions ui
-    (passes (of_three av ac) (privileges_required true) pr
-    (passes (of_two av) attack_complexities ac (passes of_one attack_vectors av refl is_av) is_ac) is_pr) is_ui) in
-    subst (Contains exploitabilities) (sym is_e) listed
+    (passes (of_three av ac) (privileges_required changed) pr
+    (passes (of_two av) attack_complexities ac (passes of_one attack_vectors av (all_listed changed) is_av) is_ac) is_pr) is_ui) in
+    subst (Contains (exploitabilities changed)) (sym is_e) listed
+
+-- with the scope changed
+pub changed_exploitability_listed : (changed : Bool) (av ac pr ui e : ℕ) → changed ≡ true → e ≡ 822 * av * ac * pr * ui
+    → Contains attack_vectors av → Contains attack_complexities ac → Contains (privileges_required changed) pr
+    → Contains user_interactions ui → Contains (exploitabilities true) e
+changed_exploitability_listed changed av ac pr ui e is_changed is_e is_av is_ac is_pr is_ui =
+    subst (λ b. Contains (exploitabilities b) e) is_changed
+    (exploitability_listed changed av ac pr ui e is_e is_av is_ac is_pr is_ui)
 
 -- whatever the scope
 pub privileges_bound : (changed : Bool) (pr : ℕ) → Contains (privileges_required changed) pr → pr ≤ 100

@@ -1,5 +1,7 @@
--- That an error of a millionth changes no score: v3.1 specification, Appendix A, on numbers that are computed in
--- floating point.
+-- That an error of a millionth changes no rounding: v3.1 specification, Appendix A, on numbers that are computed in
+-- floating point. It is promised of the numbers of the base score and of the first rounding of the environmental score.
+-- The number of the temporal score can lie on a jump: that of CVSS:3.0/AV:N/AC:L/PR:N/UI:N/S:C/C:H/I:H/A:H/E:H/RL:U/RC:U
+-- is exactly 9.2, and with a millionth added its rounding is 9.3.
 use Rattle.std.specs.Prelude.{ℕ, ◌<◌, ℤ}
 use Rattle.cvss_base.specs.Exact.{Exact, ◌over◌, whole, ◌⊕◌, ◌⊖◌, ◌⊑◌}
 use Rattle.cvss_v3.specs.Scores.{IsRounded}

@@ -1,4 +1,5 @@
 pub mod Certainty
+pub mod FifthDecimals
 pub mod Near
 pub mod ScoreLaws
 pub mod Scores

@@ -1,15 +1,42 @@
 //! Laws of CVSS v3, each the contract of a function that does nothing. A proof that needs a law
 //! calls it.
 
-ghost use Rattle.std.specs.Prelude.{◌≡◌, ℕ, List, ℤ, ◌≤ℤ◌};
+ghost use Rattle.std.specs.Prelude.{◌≡◌, ℕ, List, ℤ, pos, ◌≤◌, ◌≤ℤ◌, Some, None};
+ghost use Rattle.std.specs.Ordering.{int_cmp};
+ghost use Rattle.cvss_base.specs.Equality.{EqualsByValue, ClonesByValue};
 ghost use Rattle.cvss_base.specs.Tenths.{IsOneCount};
 ghost use Rattle.cvss_base.specs.Version.{canonical_text, Denotes};
+ghost use Rattle.cvss_v3.specs.FifthDecimals.{IsSameWhenCut};
 ghost use Rattle.cvss_v3.specs.ScoreLaws.{DefineTheSame, with_modified_as_base};
-ghost use Rattle.cvss_v3.specs.Scores.{IsBaseScore, IsTemporalScore, IsEnvironmentalScore};
-ghost use Rattle.cvss_v3.specs.Vector.{v3};
+ghost use Rattle.cvss_v3.specs.Scores.{base_number, environmental_number, temporal_number, IsBaseScore, IsTemporalScore, IsEnvironmentalScore};
+ghost use Rattle.cvss_base.specs.declared.v3.MetricType.{MetricType};
+ghost use Rattle.cvss_v3.specs.Vector.{v3, value_at};
 ghost use Rattle.cvss_v3.specs.VectorWeights.{weights_of};
-ghost use Rattle.cvss_v3.specs.declared.vector.Vector.{Vector};
 ghost use Rattle.cvss_v3.specs.declared.weights.Weights.{Weights};
+
+use crate::{Score, Vector};
+
+/// Scores compare as their counts, are equal exactly if these are, and are 0 by default; a clone is
+/// the score.
+pub fn scores_compare_as_counts()
+    ensures order { (x y : ℤ) → ⟦<Score as Ord>⟧.cmp x y ≡ int_cmp x y }
+    ensures partial_order { (x y : ℤ) → ⟦<Score as PartialOrd>⟧.partial_cmp x y
+        ≡ Some (int_cmp x y) }
+    ensures equality { EqualsByValue ⟦<Score as PartialEq>⟧.eq }
+    ensures clone { ClonesByValue ⟦<Score as Clone>⟧.is_clone }
+    ensures default { (score : ℤ) → ⟦<Score as Default>⟧.is_default score → score ≡ pos 0 }
+{}
+
+/// Two vectors are equal exactly if they are one; a clone is the vector, and the default vector has
+/// minor version 0 and no metric.
+pub fn vectors_are_their_values()
+    ensures equality { EqualsByValue ⟦<Vector as PartialEq>⟧.eq }
+    ensures clone { ClonesByValue ⟦<Vector as Clone>⟧.is_clone }
+    ensures default_minor { (vector : Vector) → ⟦<Vector as Default>⟧.is_default vector
+        → vector.minor_version ≡ 0 }
+    ensures default { (vector : Vector) → ⟦<Vector as Default>⟧.is_default vector
+        → (kind : MetricType) → value_at vector kind ≡ None }
+{}
 
 /// A canonical text denotes its vector, and a text denotes at most one vector. So what is printed
 /// of a vector with minor version 0 or 1 is read as that vector.
@@ -32,6 +59,17 @@ pub fn temporal_is_at_most_base()
     ensures { (minor : ℕ) → (vector : Vector) → (base temporal : ℤ)
         → IsBaseScore minor (weights_of vector) base
         → IsTemporalScore minor (weights_of vector) temporal → temporal ≤ℤ base }
+{}
+
+/// In v3.1, cutting a number to five decimals in place of taking the nearest fifth decimal (Appendix
+/// A) changes no score of a vector: neither the rounding of the base score, nor the first one of the
+/// environmental score, nor that of tenths from 0 to 10 times E, RL and RC.
+pub fn cutting_changes_no_score()
+    ensures base { (vector : Vector) → IsSameWhenCut (base_number (weights_of vector)) }
+    ensures environmental { (vector : Vector)
+        → IsSameWhenCut (environmental_number 1 (weights_of vector)) }
+    ensures product { (vector : Vector) → (tenths : ℕ) → tenths ≤ 100
+        → IsSameWhenCut (temporal_number (pos tenths) (weights_of vector)) }
 {}
 
 /// A metric that is `X` and one that is absent weigh the same, so that all scores are the same.

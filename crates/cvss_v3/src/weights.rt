@@ -1,7 +1,7 @@
 //! The scores of the specifications over the weights of a vector's metrics.
 
 ghost use Rattle.std.specs.Prelude.{◌≡◌, ◌⊎◌, ◌≤◌, ◌^◌, ℕ, pos};
-ghost use Rattle.cvss_base.specs.Exact.{of_count, ◌over◌, ◌≈◌};
+ghost use Rattle.cvss_base.specs.Exact.{of_count, ◌over◌, ◌≈◌, IsWithinLimit};
 ghost use Rattle.cvss_base.specs.Tenths.{IsInTenths, IsFromZeroToTen};
 ghost use Rattle.cvss_v3.specs.Near.{RoundsAs};
 ghost use Rattle.cvss_v3.specs.Scores.{iss, miss, exploitability, base_number, environmental_number, temporal_number, IsRounded, IsBase, IsBaseScore, IsTemporalScore, IsEnvironmentalScore};
@@ -135,7 +135,8 @@ impl Weights {
     /// 7.1; in v3.0, section 8.1, ISCBase).
     pub fn impact(&self) -> Score
         requires { IsFromTable self.now }
-        ensures { of_count result ≈ iss self.now }
+        ensures value { of_count result ≈ iss self.now }
+        ensures limit { IsWithinLimit result }
     {
         Score::new(self.iss() as i128 * 1_000_000_000_000_000_000)
     }
@@ -144,7 +145,8 @@ impl Weights {
     /// specification, section 8.1).
     pub fn exploitability(&self) -> Score
         requires { IsFromTable self.now }
-        ensures { of_count result ≈ exploitability self.now }
+        ensures value { of_count result ≈ exploitability self.now }
+        ensures limit { IsWithinLimit result }
     {
         let exploitability = equations::exploitability(self.av, self.ac, self.pr, self.ui);
         Score::new(exploitability as i128 * 100_000_000_000_000)

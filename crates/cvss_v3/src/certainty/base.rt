@@ -9,12 +9,12 @@ ghost use Rattle.cvss_v3.specs.Weights.{IsFromTable};
 use crate::weights::Weights;
 
 impl Weights {
-    /// Whether an error of 10^-6 in the number that the base score is the rounding of, with the
-    /// scope changed and impact, leaves the score as it is: it always does.
+    /// Whether an error of 10^-6 in the number that the base score is the rounding of, with impact,
+    /// leaves the score as it is: it always does.
     pub fn base_is_certain(&self, minor_version: usize) -> bool
         requires { IsFromTable self.now }
         ensures always { IsTrue result }
-        ensures certain { IsTrue result → IsTrue self.now.changed → whole 0 ⊏ impact self.now
+        ensures certain { IsTrue result → whole 0 ⊏ impact self.now
             → IsCertain minor_version (base_number self.now) }
     {
         true

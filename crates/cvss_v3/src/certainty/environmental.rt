@@ -10,12 +10,11 @@ use crate::weights::Weights;
 
 impl Weights {
     /// Whether an error of 10^-6 in the number that the environmental score is first the rounding
-    /// of, with the modified scope changed and impact, leaves that rounding as it is: it always
-    /// does.
+    /// of, with impact, leaves that rounding as it is: it always does.
     pub fn environmental_is_certain(&self, minor_version: usize) -> bool
         requires { IsFromTable self.now }
         ensures always { IsTrue result }
-        ensures certain { IsTrue result → IsTrue self.now.modified_changed
+        ensures certain { IsTrue result
             → whole 0 ⊏ modified_impact minor_version self.now
             → IsCertain minor_version (environmental_number minor_version self.now) }
     {

@@ -1,7 +1,7 @@
 //! The scores of a vector.
 
 ghost use Rattle.std.specs.Prelude.{◌≡◌, ℤ, Some, IsTrue};
-ghost use Rattle.cvss_base.specs.Exact.{of_count, whole, ◌≈◌, ◌⊏◌};
+ghost use Rattle.cvss_base.specs.Exact.{of_count, whole, ◌≈◌, ◌⊏◌, IsWithinLimit};
 ghost use Rattle.cvss_base.specs.Tenths.{IsInTenths, IsFromZeroToTen};
 ghost use Rattle.cvss_v3_metric.specs.Modified.{weight_if_set};
 ghost use Rattle.cvss_v3_metric.specs.Table.{weight_of};
@@ -91,7 +91,8 @@ impl Vector {
 
     /// The exploitability sub-score, which is exact (v3.1 specification, section 7.1).
     pub fn exploitability(&self) -> Score
-        ensures { of_count result ≈ exploitability (weights_of self.now) }
+        ensures value { of_count result ≈ exploitability (weights_of self.now) }
+        ensures limit { IsWithinLimit result }
     {
         self.weights().exploitability()
     }
@@ -99,7 +100,8 @@ impl Vector {
     /// ISS, the impact sub-score of the base metrics, which is exact (v3.1 specification, section
     /// 7.1). It is not yet multiplied by the scope's factor.
     pub fn impact(&self) -> Score
-        ensures { of_count result ≈ iss (weights_of self.now) }
+        ensures value { of_count result ≈ iss (weights_of self.now) }
+        ensures limit { IsWithinLimit result }
     {
         self.weights().impact()
     }
@@ -112,21 +114,22 @@ impl Vector {
         self.base_score().severity()
     }
 
-    /// Whether an error of 10^-6 in the number that the base score is the rounding of, with the
-    /// scope changed and impact, leaves the score as it is: it always does.
+    /// Whether an error of 10^-6 in the number that the base score is the rounding of, with impact,
+    /// leaves the score as it is: it always does.
     pub fn base_is_certain(&self) -> bool
         ensures always { IsTrue result }
-        ensures certain { IsTrue result → IsTrue (weights_of self.now).changed
+        ensures certain { IsTrue result
             → whole 0 ⊏ impact (weights_of self.now)
             → IsCertain self.now.minor_version (base_number (weights_of self.now)) }
     {
         self.weights().base_is_certain(self.minor_version)
     }
 
-    /// The same of the number that the environmental score is first the rounding of.
+    /// The same of the number that the environmental score is first the rounding of. Of the product
+    /// with E, RL and RC, which is rounded then, nothing is said, as of the temporal score.
     pub fn environmental_is_certain(&self) -> bool
         ensures always { IsTrue result }
-        ensures certain { IsTrue result → IsTrue (weights_of self.now).modified_changed
+        ensures certain { IsTrue result
             → whole 0 ⊏ modified_impact self.now.minor_version (weights_of self.now)
             → IsCertain self.now.minor_version
             (environmental_number self.now.minor_version (weights_of self.now)) }

@@ -7,9 +7,9 @@ use Rattle.cvss_v3.specs.Scores.{exploitability}
 use Rattle.cvss_v3.proofs.weights.Weights.base_is_certain.Goals as goal
 
 pub returns-clause-certain : goal.returns-clause-certain
-returns-clause-certain c = λ is_certain is_changed above.
+returns-clause-certain c = λ is_certain above.
     let w = c.args.self.now in
-    let listed = exploitability_listed w.changed w.av w.ac w.pr w.ui _ is_changed refl
+    let listed = exploitability_listed w.changed w.av w.ac w.pr w.ui _ refl
     c.requires.av c.requires.ac c.requires.pr c.requires.ui in
-    base_certain c.args.minor_version _ _ w.changed _ _ is_changed (lit< tt) (lit< tt) (iss_is w c.requires)
+    base_certain c.args.minor_version _ _ w.changed _ _ (lit< tt) (lit< tt) (iss_is w c.requires)
     (equal_refl (exploitability w)) listed (iss_listed w.c w.i w.a c.requires.c c.requires.i c.requires.a) above

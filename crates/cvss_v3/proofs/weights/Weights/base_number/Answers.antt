@@ -3,7 +3,7 @@ use Rattle.cvss_base.specs.Exact.{◌over◌, ◌≈◌}
 use Rattle.cvss_v3.specs.Scores.{iss}
 use Rattle.cvss_v3.proofs.CountLemmas.{exploitability_alone}
 use Rattle.cvss_v3.proofs.ImpactLemmas.{none_rounds, unchanged_number, changed_base_number}
-use Rattle.cvss_v3.proofs.SubScoreLemmas.{sub_score_high, some_sub_score, exploitability_listed}
+use Rattle.cvss_v3.proofs.SubScoreLemmas.{sub_score_high, some_sub_score, changed_exploitability_listed}
 use Rattle.cvss_v3.proofs.weights.Weights.base_number.Goals as goal
 
 pub returns-then-iss-eq0-clause-value : goal.returns-then-iss-eq0-clause-value
@@ -29,7 +29,7 @@ returns-clause-value c = λ minor.
     let w = c.args.self.now in
     let e = c.exploitability-exploitability in
     let is_e = exploitability_alone e.result w.av w.ac w.pr w.ui e.ensures.value in
-    let listed = exploitability_listed w.changed w.av w.ac w.pr w.ui e.result c.if-not-self.false is_e
+    let listed = changed_exploitability_listed w.changed w.av w.ac w.pr w.ui e.result c.if-not-self.false is_e
     c.requires.av c.requires.ac c.requires.pr c.requires.ui in
     changed_base_number minor _ c.changed_impact.result c.iss-iss.result e.result w.changed _ _ c.if-not-self.false
     (lit< tt) (lit< tt) c.iss-iss.ensures.value e.ensures.value

@@ -7,9 +7,9 @@ use Rattle.cvss_v3.specs.Scores.{modified_exploitability}
 use Rattle.cvss_v3.proofs.weights.Weights.environmental_is_certain.Goals as goal
 
 pub returns-clause-certain : goal.returns-clause-certain
-returns-clause-certain c = λ is_certain is_changed above.
+returns-clause-certain c = λ is_certain above.
     let w = c.args.self.now in
-    let listed = exploitability_listed w.modified_changed w.mav w.mac w.mpr w.mui _ is_changed refl
+    let listed = exploitability_listed w.modified_changed w.mav w.mac w.mpr w.mui _ refl
     c.requires.mav c.requires.mac c.requires.mpr c.requires.mui in
-    environmental_certain c.args.minor_version _ _ w.modified_changed _ _ is_changed (lit< tt) (lit< tt) (miss_is w c.requires)
+    environmental_certain c.args.minor_version _ _ w.modified_changed _ _ (lit< tt) (lit< tt) (miss_is w c.requires)
     (equal_refl (modified_exploitability w)) listed (miss_is_listed w c.requires) above

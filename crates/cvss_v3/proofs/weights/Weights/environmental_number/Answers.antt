@@ -4,7 +4,7 @@ use Rattle.cvss_v3.specs.Scores.{miss}
 use Rattle.cvss_v3.specs.Weights.{attack_vectors, attack_complexities, user_interactions}
 use Rattle.cvss_v3.proofs.CountLemmas.{exploitability_alone}
 use Rattle.cvss_v3.proofs.ImpactLemmas.{none_modified_rounds, unchanged_number, changed_number_v30, changed_number_v31}
-use Rattle.cvss_v3.proofs.SubScoreLemmas.{weight_bound, privileges_bound, sub_score_high, some_sub_score, exploitability_listed}
+use Rattle.cvss_v3.proofs.SubScoreLemmas.{weight_bound, privileges_bound, sub_score_high, some_sub_score, changed_exploitability_listed}
 use Rattle.cvss_v3.proofs.weights.Weights.environmental_number.Goals as goal
 
 pub returns-then-miss-eq0-clause-value : goal.returns-then-miss-eq0-clause-value
@@ -42,7 +42,7 @@ returns-then-minor_version-eq0-clause-value c =
     let w = c.args.self.now in
     let e = c.exploitability-exploitability in
     let is_e = exploitability_alone e.result w.mav w.mac w.mpr w.mui e.ensures.value in
-    let listed = exploitability_listed w.modified_changed w.mav w.mac w.mpr w.mui e.result c.if-not-self.false is_e
+    let listed = changed_exploitability_listed w.modified_changed w.mav w.mac w.mpr w.mui e.result c.if-not-self.false is_e
     c.requires.mav c.requires.mac c.requires.mpr c.requires.mui in
     let first = c.first_number-then-minor_version-eq0 in
     changed_number_v30 c.args.minor_version _ c.changed_impact.result c.miss-miss.result e.result w.modified_changed _ _
@@ -58,7 +58,7 @@ returns-clause-value c =
     let w = c.args.self.now in
     let e = c.exploitability-exploitability in
     let is_e = exploitability_alone e.result w.mav w.mac w.mpr w.mui e.ensures.value in
-    let listed = exploitability_listed w.modified_changed w.mav w.mac w.mpr w.mui e.result c.if-not-self.false is_e
+    let listed = changed_exploitability_listed w.modified_changed w.mav w.mac w.mpr w.mui e.result c.if-not-self.false is_e
     c.requires.mav c.requires.mac c.requires.mpr c.requires.mui in
     let impact = c.changed_modified_impact in
     changed_number_v31 c.args.minor_version _ impact.result c.miss-miss.result e.result w.modified_changed _ _
