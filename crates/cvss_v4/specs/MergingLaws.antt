@@ -33,7 +33,8 @@ pub record IsKept (v w : Vector) (modified base : MetricType) : Type 0 where
 -- the second vector has each modified metric of the first as it is or written as its base metric, be it one of
 -- them, some or all, and all else that is scored as it is
 pub record HasModifiedAsBase (v w : Vector) : Type 0 where
-  pub each : (modified base : MetricType) → base_of modified ≡ Some base → IsWrittenAsBase v w modified base ⊎ IsKept v w modified base
+  pub each : (modified base : MetricType) → base_of modified ≡ Some base
+      → IsWrittenAsBase v w modified base ⊎ IsKept v w modified base
   pub e : letter_at w E ≡ letter_at v E
   pub cr : letter_at w CR ≡ letter_at v CR
   pub ir : letter_at w IR ≡ letter_at v IR

@@ -68,6 +68,8 @@ impl Nomenclature {
 impl fmt::Display for Nomenclature {
     ghost output = { λ nomenclature. Some (text_of nomenclature) };
 
+    ghost styled_output = { λ nomenclature _. Some (text_of nomenclature) };
+
     fn fmt<W: fmt::Write>(&self, f: &mut fmt::Formatter<W>) -> fmt::Result {
         f.write_str(self.as_str())
     }
