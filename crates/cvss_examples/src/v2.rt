@@ -4,11 +4,11 @@ ghost use Rattle.std.specs.Prelude.{◌≡◌, ◌⊎◌, IfOk, IfErr, IsTrue, O
 ghost use Rattle.cvss.specs.ErrorType.TheVariants.{OutOfMemory};
 ghost use Rattle.cvss.specs.Refusal.{IsFirstRefusal};
 ghost use Rattle.cvss.specs.ScoreLawsV2.{DefineTheSame};
-ghost use Rattle.cvss.specs.Told.{TellsFirst, v2_reason};
+ghost use Rattle.cvss.specs.Told.{v2_reason};
 ghost use Rattle.cvss.specs.VectorTypeV2.{Vector};
 ghost use Rattle.cvss.specs.VectorV2.{v2};
 ghost use Rattle.cvss.specs.Version.{Denotes, IsComplete};
-ghost use Rattle.cvss_examples.specs.Canonical.{IsCanonicalTextOf};
+ghost use Rattle.cvss_examples.specs.Canonical.{IsCanonicalTextOf, TellsRefusal};
 
 use cvss::Error;
 use cvss::v2::{Vector, laws};
@@ -29,8 +29,7 @@ pub fn read_and_printed(alloc: Global, text: &str) -> Result<String, Error>
     ensures canonical { IfOk result (λ printed.
         IsCanonicalTextOf v2 (IsComplete v2) text.now (string_bytes printed)) }
     // Refused: for the first reason, and no vector's text for another than want of memory.
-    ensures refused { IfErr result (λ error. TellsFirst v2_reason (IsFirstRefusal v2 text.now) error
-        ⊎ (error ≡ OutOfMemory)) }
+    ensures refused { IfErr result (TellsRefusal v2_reason (IsFirstRefusal v2 text.now)) }
     ensures accepts { (vector : Vector) → Denotes v2 text.now vector → IsComplete v2 vector
         → IfErr result (λ error. error ≡ OutOfMemory) }
 {
@@ -42,8 +41,7 @@ pub fn read_and_printed(alloc: Global, text: &str) -> Result<String, Error>
 pub fn twice_is_once(alloc: Global, text: &str) -> Result<bool, Error>
     ensures same { IfOk result (λ same. IsTrue same) }
     // Refused: for the first reason, and no vector's text for another than want of memory.
-    ensures refused { IfErr result (λ error. TellsFirst v2_reason (IsFirstRefusal v2 text.now) error
-        ⊎ (error ≡ OutOfMemory)) }
+    ensures refused { IfErr result (TellsRefusal v2_reason (IsFirstRefusal v2 text.now)) }
     ensures accepts { (vector : Vector) → Denotes v2 text.now vector → IsComplete v2 vector
         → IfErr result (λ error. error ≡ OutOfMemory) }
 {

@@ -9,11 +9,11 @@ ghost use Rattle.cvss.specs.MetricTypeV4.{MetricType};
 ghost use Rattle.cvss.specs.NomenclatureV4.{nomenclature_of};
 ghost use Rattle.cvss.specs.ScoresV4.{IsScore};
 ghost use Rattle.cvss.specs.Tenths.{IsInTenths};
-ghost use Rattle.cvss.specs.Told.{TellsFirst, v4_reason};
+ghost use Rattle.cvss.specs.Told.{v4_reason};
 ghost use Rattle.cvss.specs.VectorTypeV4.{Vector};
 ghost use Rattle.cvss.specs.VectorV4.{v4};
 ghost use Rattle.cvss.specs.Version.{Denotes, IsComplete, IsWellFormed};
-ghost use Rattle.cvss_examples.specs.Canonical.{IsCanonicalTextOf};
+ghost use Rattle.cvss_examples.specs.Canonical.{IsCanonicalTextOf, TellsRefusal};
 
 use cvss::Error;
 use cvss::v4::{Nomenclature, Vector, laws};
@@ -34,8 +34,7 @@ pub fn read_and_printed(alloc: Global, text: &str) -> Result<String, Error>
     ensures canonical { IfOk result (λ printed.
         IsCanonicalTextOf v4 (IsWellFormed v4) text.now (string_bytes printed)) }
     // Refused: for the first reason, and no vector's text for another than want of memory.
-    ensures refused { IfErr result (λ error. TellsFirst v4_reason (IsFirstRefusalBehind v4 text.now) error
-        ⊎ (error ≡ OutOfMemory)) }
+    ensures refused { IfErr result (TellsRefusal v4_reason (IsFirstRefusalBehind v4 text.now)) }
     ensures accepts { (vector : Vector) → Denotes v4 text.now vector → IsWellFormed v4 vector
         → IfErr result (λ error. error ≡ OutOfMemory) }
 {
@@ -47,8 +46,7 @@ pub fn read_and_printed(alloc: Global, text: &str) -> Result<String, Error>
 pub fn twice_is_once(alloc: Global, text: &str) -> Result<bool, Error>
     ensures same { IfOk result (λ same. IsTrue same) }
     // Refused: for the first reason, and no vector's text for another than want of memory.
-    ensures refused { IfErr result (λ error. TellsFirst v4_reason (IsFirstRefusalBehind v4 text.now) error
-        ⊎ (error ≡ OutOfMemory)) }
+    ensures refused { IfErr result (TellsRefusal v4_reason (IsFirstRefusalBehind v4 text.now)) }
     ensures accepts { (vector : Vector) → Denotes v4 text.now vector → IsWellFormed v4 vector
         → IfErr result (λ error. error ≡ OutOfMemory) }
 {
