@@ -1,18 +1,25 @@
 -- A vector that a text denotes is given back by its own text, and so by its JSON value.
 use Rattle.std.proofs.Common.{◌≡◌, ◌≢◌, ◌↔◌, ℕ, List, [], ◌∷◌, ◌++◌, codes, length, map, refl, sym, ap, ◌∙◌, subst, arith}
 use Rattle.std.specs.List.{join_with_byte}
-use Rattle.std.specs.Prelude.{Result, IfOk, Ok, Err}
+use Rattle.std.specs.Prelude.{Result, IfOk, IfErr, IsErrAnd, Ok, Err}
 use Rattle.std.proofs.lemmas.List.{length-map}
+use Rattle.std.proofs.lemmas.Result.{err_from_is_err_and}
 use Rattle.std.proofs.lemmas.List.Sorted.{length_permutation}
 use Rattle.cvss.specs.Answers.{text_of}
-use Rattle.cvss.specs.Dispatch.{DenotesCvss, DenotesV3}
+use Rattle.cvss.specs.Dispatch.{DenotesCvss, DenotesV3, IsFirstRefusalCvss, cvss_reason}
+use Rattle.cvss.specs.ErrorType.{Error}
+use Rattle.cvss.specs.ErrorType.TheVariants.{OutOfMemory}
+use Rattle.cvss.specs.Json.{StandsFor, TellsWhy, told_as}
 use Rattle.cvss.specs.Laws.{IsGivenBack}
+use Rattle.cvss.specs.Told.{TellsFirst}
 use Rattle.cvss.specs.VectorTypeV3.{Vector}
 use Rattle.cvss.specs.VectorV3.{v3}
 use Rattle.cvss.specs.Version.{AreComponentsOf, components_of, read}
 use Rattle.cvss.specs.declared.vector.Cvss.{Cvss}
 use Rattle.cvss.specs.declared.vector.Cvss.TheVariants.{CvssV20, CvssV30, CvssV31, CvssV40}
-use Rattle.cvss_examples.specs.Conversions.{IsCanonicalText, IsTextOf, IsValueOf}
+use Rattle.cvss.specs.declared.json.JsonError.{JsonError}
+use Rattle.cvss.specs.declared.json.JsonError.TheVariants.{NotAString, Invalid, OutOfMemory as NoMemory}
+use Rattle.cvss_examples.specs.Conversions.{IsCanonicalText, IsTextOf, IsValueOf, TellsNoText}
 use Rattle.serde_json.specs.Data.{Data, string}
 
 is_empty : {X : Type 0} (xs : List X) → length xs ≡ 0 → xs ≡ []
@@ -48,6 +55,15 @@ given_back text (CvssV31 v) is = record {
 }
 given_back text (CvssV40 v) is = is.well_formed
 
+-- the value of the vector that a text denotes stands for that vector
+pub stands_for : ((cvss : Cvss) → (DenotesCvss (text_of cvss) cvss ↔ IsGivenBack cvss))
+    → (text : List ℕ) (value : Data) → (is : IsValueOf text value) → StandsFor DenotesCvss value is.vector
+stands_for own text value is = record {
+  text = text_of is.vector;
+  is_string = is.is;
+  holds = (own is.vector).1 (given_back text is.vector is.denoted);
+}
+
 string_text : Data → List ℕ
 string_text (string text) = text
 string_text _ = []
@@ -69,3 +85,47 @@ pub converted_ok : {T E : Type 0} (bytes : T → List ℕ) (result : Result T E)
     → (text : List ℕ) (value : Data) → IsValueOf text value → IfOk result (λ back. IsTextOf value (bytes back)) → IfOk result (λ back. IsCanonicalText text (bytes back))
 converted_ok bytes (Ok back) own one text value first second = converted own one text value (bytes back) first second
 converted_ok bytes (Err error) own one text value first second = tt
+
+-- the string of a text is that of no other
+one_string : {text other : List ℕ} → string text ≡ string other → text ≡ other
+unfolding string_text
+one_string same = ap string_text same
+
+-- what the string of a text stands for, the text denotes
+pub read_as : (result : Result Cvss JsonError) (text : List ℕ) (value : Data) → value ≡ string text
+    → IfOk result (StandsFor DenotesCvss value) → IfOk result (λ read. DenotesCvss text read)
+read_as (Ok read) text value is stands =
+    subst (λ each. DenotesCvss each read) (one_string (sym stands.is_string ∙ is)) stands.holds
+read_as (Err error) text value is stands = tt
+
+tells_no_text : (text : List ℕ) (value : Data) → value ≡ string text → (error : JsonError)
+    → TellsWhy (λ each. TellsFirst cvss_reason (IsFirstRefusalCvss each)) value error → error ≢ Invalid OutOfMemory → TellsNoText text error
+tells_no_text text value is NotAString why told = why text is
+tells_no_text text value is (Invalid error) why told = (
+  subst (λ each. TellsFirst cvss_reason (IsFirstRefusalCvss each) error) (one_string (sym why.is_string ∙ is)) why.holds,
+  λ lacks. told (ap Invalid lacks),
+)
+tells_no_text text value is NoMemory why told = tt
+
+-- why the string of a text stands for nothing is why the text denotes nothing
+pub refused_as : (result : Result Cvss JsonError) (text : List ℕ) (value : Data) → value ≡ string text
+    → IfErr result (TellsWhy (λ each. TellsFirst cvss_reason (IsFirstRefusalCvss each)) value)
+    → IfErr result (λ error. error ≢ Invalid OutOfMemory) → IfErr result (TellsNoText text)
+refused_as (Ok read) text value is why told = tt
+refused_as (Err error) text value is why told = tells_no_text text value is error why told
+
+-- want of memory alone says nothing of a text
+pub memory_alone : {T : Type 0} (result : Result T JsonError) (text : List ℕ) → IfErr result (λ error. error ≡ NoMemory) → IfErr result (TellsNoText text)
+memory_alone (Ok value) text lacks = tt
+memory_alone (Err error) text lacks = subst (TellsNoText text) (sym lacks) tt
+
+told_as_tells : (text : List ℕ) (error : Error) → TellsFirst cvss_reason (IsFirstRefusalCvss text) error → TellsNoText text (told_as error)
+told_as_tells text OutOfMemory first = tt
+told_as_tells text error first = (first, λ lacks. absurd cc)
+
+-- the first reason why a text is refused is told
+pub refusal_told : {T : Type 0} (result : Result T JsonError) (text : List ℕ) (error : Error) → IsErrAnd result (λ told. told ≡ told_as error)
+    → TellsFirst cvss_reason (IsFirstRefusalCvss text) error → IfErr result (TellsNoText text)
+refusal_told result text error exit first =
+    let told = err_from_is_err_and result exit in
+    rw (told.1, told.2) (told_as_tells text error first)

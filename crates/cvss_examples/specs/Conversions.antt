@@ -1,8 +1,12 @@
 -- Texts of vectors, and the JSON values that stand for them.
-use Rattle.std.specs.Prelude.{◌≡◌, ℕ, List}
+use Rattle.std.specs.Prelude.{◌≡◌, ◌≢◌, ℕ, List, ⊤}
 use Rattle.cvss.specs.Answers.{text_of}
-use Rattle.cvss.specs.Dispatch.{DenotesCvss}
-use Rattle.cvss.specs.Json.{StandsFor}
+use Rattle.cvss.specs.Dispatch.{DenotesCvss, IsFirstRefusalCvss, cvss_reason}
+use Rattle.cvss.specs.ErrorType.TheVariants.{OutOfMemory as LacksMemory}
+use Rattle.cvss.specs.Json.{IsNoString, IsStringOf, StandsFor}
+use Rattle.cvss.specs.Told.{TellsFirst}
+use Rattle.cvss.specs.declared.json.JsonError.{JsonError}
+use Rattle.cvss.specs.declared.json.JsonError.TheVariants.{NotAString, Invalid, OutOfMemory}
 use Rattle.cvss.specs.declared.vector.Cvss.{Cvss}
 use Rattle.serde_json.specs.Data.{Data, string}
 
@@ -23,3 +27,17 @@ pub record IsCanonicalText (text other : List ℕ) : Type 0 where
   pub vector : Cvss
   pub denoted : DenotesCvss text vector
   pub is : other ≡ text_of vector
+
+-- the error tells the first reason why the text denotes no vector; or there was no memory
+abbrev pub TellsNoText : List ℕ → JsonError → Type 0
+TellsNoText text NotAString = ⊥
+TellsNoText text (Invalid error) = TellsFirst cvss_reason (IsFirstRefusalCvss text) error × (error ≢ LacksMemory)
+TellsNoText text OutOfMemory = ⊤
+
+-- the error tells that the value is no string, or the first reason why its text denotes no vector; or there
+-- was no memory
+abbrev pub TellsNoValue : Data → JsonError → Type 0
+TellsNoValue value NotAString = IsNoString value
+TellsNoValue value (Invalid error) =
+    IsStringOf (λ text. TellsFirst cvss_reason (IsFirstRefusalCvss text) error) value × (error ≢ LacksMemory)
+TellsNoValue value OutOfMemory = ⊤

@@ -1,11 +1,14 @@
 //! Callers of CVSS v2.
 
-ghost use Rattle.std.specs.Prelude.{◌≡◌, ◌⊎◌, IfOk, IsTrue, Ok, Err, string_bytes};
+ghost use Rattle.std.specs.Prelude.{◌≡◌, ◌⊎◌, IfOk, IfErr, IsTrue, Ok, Err, string_bytes};
 ghost use Rattle.cvss.specs.ErrorType.TheVariants.{OutOfMemory};
+ghost use Rattle.cvss.specs.Refusal.{IsFirstRefusal};
 ghost use Rattle.cvss.specs.ScoreLawsV2.{DefineTheSame};
+ghost use Rattle.cvss.specs.Told.{v2_reason};
+ghost use Rattle.cvss.specs.VectorTypeV2.{Vector};
 ghost use Rattle.cvss.specs.VectorV2.{v2};
-ghost use Rattle.cvss.specs.Version.{IsComplete};
-ghost use Rattle.cvss_examples.specs.Canonical.{IsCanonicalTextOf};
+ghost use Rattle.cvss.specs.Version.{Denotes, IsComplete};
+ghost use Rattle.cvss_examples.specs.Canonical.{IsCanonicalTextOf, TellsRefusal};
 
 use cvss::Error;
 use cvss::v2::{Vector, laws};
@@ -23,7 +26,12 @@ pub fn printed_and_read(alloc: Global, vector: &Vector) -> Result<Vector, Error>
 
 /// Reads a text and prints the vector that it denotes.
 pub fn read_and_printed(alloc: Global, text: &str) -> Result<String, Error>
-    ensures { IfOk result (λ printed. IsCanonicalTextOf v2 (IsComplete v2) text.now (string_bytes printed)) }
+    ensures canonical { IfOk result (λ printed.
+        IsCanonicalTextOf v2 (IsComplete v2) text.now (string_bytes printed)) }
+    // Refused: for the first reason, and no vector's text for another than want of memory.
+    ensures refused { IfErr result (TellsRefusal v2_reason (IsFirstRefusal v2 text.now)) }
+    ensures accepts { (vector : Vector) → Denotes v2 text.now vector → IsComplete v2 vector
+        → IfErr result (λ error. error ≡ OutOfMemory) }
 {
     let vector = Vector::from_str(alloc, text)?;
     Ok(vector.to_string(alloc)?)
@@ -31,7 +39,11 @@ pub fn read_and_printed(alloc: Global, text: &str) -> Result<String, Error>
 
 /// Whether to read and print a text twice is to read and print it once, which it is.
 pub fn twice_is_once(alloc: Global, text: &str) -> Result<bool, Error>
-    ensures { IfOk result (λ same. IsTrue same) }
+    ensures same { IfOk result (λ same. IsTrue same) }
+    // Refused: for the first reason, and no vector's text for another than want of memory.
+    ensures refused { IfErr result (TellsRefusal v2_reason (IsFirstRefusal v2 text.now)) }
+    ensures accepts { (vector : Vector) → Denotes v2 text.now vector → IsComplete v2 vector
+        → IfErr result (λ error. error ≡ OutOfMemory) }
 {
     laws::texts_denote_one_vector();
     let once = read_and_printed(alloc, text)?;

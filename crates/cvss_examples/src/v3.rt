@@ -1,11 +1,14 @@
 //! Callers of CVSS v3.
 
-ghost use Rattle.std.specs.Prelude.{◌≡◌, ◌⊎◌, IfOk, IsTrue, Ok, Err, string_bytes};
+ghost use Rattle.std.specs.Prelude.{◌≡◌, ◌⊎◌, IfOk, IfErr, IsTrue, Ok, Err, string_bytes};
 ghost use Rattle.cvss.specs.ErrorType.TheVariants.{OutOfMemory};
+ghost use Rattle.cvss.specs.Refusal.{IsFirstRefusalBehind};
 ghost use Rattle.cvss.specs.ScoreLawsV3.{DefineTheSame, with_modified_as_base};
+ghost use Rattle.cvss.specs.Told.{v3_reason};
+ghost use Rattle.cvss.specs.VectorTypeV3.{Vector};
 ghost use Rattle.cvss.specs.VectorV3.{v3};
-ghost use Rattle.cvss.specs.Version.{IsWellFormed};
-ghost use Rattle.cvss_examples.specs.Canonical.{IsCanonicalTextOf};
+ghost use Rattle.cvss.specs.Version.{Denotes, IsWellFormed};
+ghost use Rattle.cvss_examples.specs.Canonical.{IsCanonicalTextOf, TellsRefusal};
 
 use cvss::Error;
 use cvss::v3::{Vector, laws};
@@ -23,7 +26,12 @@ pub fn printed_and_read(alloc: Global, vector: &Vector) -> Result<Vector, Error>
 
 /// Reads a text and prints the vector that it denotes.
 pub fn read_and_printed(alloc: Global, text: &str) -> Result<String, Error>
-    ensures { IfOk result (λ printed. IsCanonicalTextOf v3 (IsWellFormed v3) text.now (string_bytes printed)) }
+    ensures canonical { IfOk result (λ printed.
+        IsCanonicalTextOf v3 (IsWellFormed v3) text.now (string_bytes printed)) }
+    // Refused: for the first reason, and no vector's text for another than want of memory.
+    ensures refused { IfErr result (TellsRefusal v3_reason (IsFirstRefusalBehind v3 text.now)) }
+    ensures accepts { (vector : Vector) → Denotes v3 text.now vector → IsWellFormed v3 vector
+        → IfErr result (λ error. error ≡ OutOfMemory) }
 {
     let vector = Vector::from_str(alloc, text)?;
     Ok(vector.to_string(alloc)?)
@@ -31,7 +39,11 @@ pub fn read_and_printed(alloc: Global, text: &str) -> Result<String, Error>
 
 /// Whether to read and print a text twice is to read and print it once, which it is.
 pub fn twice_is_once(alloc: Global, text: &str) -> Result<bool, Error>
-    ensures { IfOk result (λ same. IsTrue same) }
+    ensures same { IfOk result (λ same. IsTrue same) }
+    // Refused: for the first reason, and no vector's text for another than want of memory.
+    ensures refused { IfErr result (TellsRefusal v3_reason (IsFirstRefusalBehind v3 text.now)) }
+    ensures accepts { (vector : Vector) → Denotes v3 text.now vector → IsWellFormed v3 vector
+        → IfErr result (λ error. error ≡ OutOfMemory) }
 {
     laws::texts_denote_one_vector();
     let once = read_and_printed(alloc, text)?;

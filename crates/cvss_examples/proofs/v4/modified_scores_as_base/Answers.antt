@@ -5,8 +5,8 @@ use Rattle.cvss.specs.Tenths.{IsInTenths}
 use Rattle.cvss_examples.proofs.EqualLemmas.{one_in_tenths}
 use Rattle.cvss_examples.proofs.v4.modified_scores_as_base.Goals as goal
 
-pub returns : goal.returns
-returns c =
+pub returns-clause-same : goal.returns-clause-same
+returns-clause-same c =
     let same = c.modified_metrics_score_as_base_metrics.ensures c.args.vector.now c.args.base.now c.requires.letters in
     let scores = one_in_tenths (c.scores_are_unique.ensures (effective_of c.args.vector.now)) _ _
     (subst (λ effective. IsInTenths (IsScore effective) c.score.result.0) same c.score.ensures.value)
