@@ -54,22 +54,37 @@ def impact(vector, requirements):
     return Fraction("10.41") * (1 - rests)
 
 
-def base(vector, impact):
+def adjusted_impact(vector):
+    return min(Fraction(10), impact(vector, ["CR", "IR", "AR"]))
+
+
+def base_number(vector, impact):
+    """The number of which the base score is the rounding."""
     exploitability = 20 * weight(vector, "AV") * weight(vector, "AC") * weight(vector, "Au")
     f = Fraction("1.176") if impact else 0
-    return tenths((Fraction("0.6") * impact + Fraction("0.4") * exploitability
-                   - Fraction("1.5")) * f)
+    return (Fraction("0.6") * impact + Fraction("0.4") * exploitability - Fraction("1.5")) * f
+
+
+def base(vector, impact):
+    return tenths(base_number(vector, impact))
+
+
+def temporal_weight(vector):
+    return weight(vector, "E") * weight(vector, "RL") * weight(vector, "RC")
 
 
 def temporal(vector, impact):
-    return tenths(Fraction(base(vector, impact), 10) * weight(vector, "E")
-                  * weight(vector, "RL") * weight(vector, "RC"))
+    return tenths(Fraction(base(vector, impact), 10) * temporal_weight(vector))
+
+
+def environmental_number(vector, adjusted_temporal):
+    """The number of which the environmental score is the rounding."""
+    score = Fraction(adjusted_temporal, 10)
+    return (score + (10 - score) * weight(vector, "CDP")) * weight(vector, "TD")
 
 
 def environmental(vector):
-    adjusted = min(Fraction(10), impact(vector, ["CR", "IR", "AR"]))
-    score = Fraction(temporal(vector, adjusted), 10)
-    return tenths((score + (10 - score) * weight(vector, "CDP")) * weight(vector, "TD"))
+    return tenths(environmental_number(vector, temporal(vector, adjusted_impact(vector))))
 
 
 def scores(vector):

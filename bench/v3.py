@@ -72,9 +72,14 @@ def unrounded(vector, sub_score, power):
     return min(Fraction(10), (impact + exploitability) * (Fraction("1.08") if changed else 1))
 
 
-def base(minor, vector):
+def base_number(vector):
+    """The number of which the base score is the rounding."""
     own = sub_score(vector, [1, 1, 1])
-    return tenths(minor, unrounded(vector, own, (own - Fraction("0.02")) ** 15))
+    return unrounded(vector, own, (own - Fraction("0.02")) ** 15)
+
+
+def base(minor, vector):
+    return tenths(minor, base_number(vector))
 
 
 def modified(vector):
@@ -84,15 +89,24 @@ def modified(vector):
     return {name: value for name, value in own.items() if value}
 
 
-def scores(minor, vector):
-    """The base, temporal and environmental score, in tenths."""
+def modified_number(minor, vector):
+    """The number that the environmental score rounds first, before its temporal metrics weigh."""
     own = modified(vector)
     reached = min(Fraction("0.915"),
                   sub_score(own, [weight(vector, name) for name in ("CR", "IR", "AR")]))
     power = ((reached * Fraction("0.9731") - Fraction("0.02")) ** 13 if minor == 1
              else (reached - Fraction("0.02")) ** 15)
-    first = tenths(minor, unrounded(own, reached, power))
-    rest = weight(vector, "E") * weight(vector, "RL") * weight(vector, "RC")
+    return unrounded(own, reached, power)
+
+
+def temporal_weight(vector):
+    return weight(vector, "E") * weight(vector, "RL") * weight(vector, "RC")
+
+
+def scores(minor, vector):
+    """The base, temporal and environmental score, in tenths."""
+    first = tenths(minor, modified_number(minor, vector))
+    rest = temporal_weight(vector)
     return [base(minor, vector), tenths(minor, Fraction(base(minor, vector), 10) * rest),
             tenths(minor, Fraction(first, 10) * rest)]
 

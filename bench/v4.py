@@ -142,15 +142,12 @@ def proportion(group, own):
     return Fraction(level - min(sums), max(sums) - min(sums) + 1)
 
 
-def score(vector):
-    """The score in tenths."""
-    own = effective(vector)
-    if all(own[name] == "N" for name in ("VC", "VI", "VA", "SC", "SI", "SA")):
-        return 0
+def class_values(own):
+    """What the class of the effective values scores, and by group the next lower class, where there
+    is one."""
     eq1, eq2, (eq3, eq6), eq4 = (group(*(own[name.removeprefix("M")] for name in names))
                                  for group, names in GROUPS.items())
     eq5 = "APU".index(own["E"])
-    value = value_of(eq1, eq2, eq3, eq4, eq5, eq6)
     below = {
         access: [value_of(eq1 + 1, eq2, eq3, eq4, eq5, eq6)],
         complexity: [value_of(eq1, eq2 + 1, eq3, eq4, eq5, eq6)],
@@ -159,7 +156,29 @@ def score(vector):
         subsequent: [value_of(eq1, eq2, eq3, eq4 + 1, eq5, eq6)],
         None: [value_of(eq1, eq2, eq3, eq4, eq5 + 1, eq6)],
     }
-    gaps = {group: value - max(v for v in found if v is not None)
-            for group, found in below.items() if found != [None] * len(found)}
-    mean = sum(gap * proportion(group, own) for group, gap in gaps.items() if group)
-    return floor(value - mean / max(1, len(gaps)) + Fraction(1, 2))
+    return value_of(eq1, eq2, eq3, eq4, eq5, eq6), {
+        group: max(v for v in found if v is not None)
+        for group, found in below.items() if found != [None] * len(found)}
+
+
+def number(vector):
+    """The number of tenths of which the score is the rounding."""
+    own = effective(vector)
+    if all(own[name] == "N" for name in ("VC", "VI", "VA", "SC", "SI", "SA")):
+        return Fraction(0)
+    value, lower = class_values(own)
+    mean = sum((value - below) * proportion(group, own) for group, below in lower.items() if group)
+    return value - Fraction(mean) / max(1, len(lower))
+
+
+def score(vector):
+    """The score in tenths, halves rounded up."""
+    return floor(number(vector) + Fraction(1, 2))
+
+
+def nomenclature(vector):
+    """Which groups the vector has beside the base metrics, also as X: threat, environmental."""
+    threat = "T" if "E" in vector else ""
+    environmental = "E" if any(name in vector for name in METRICS
+                               if name in ("CR", "IR", "AR") or name[1:] in BASE) else ""
+    return "CVSS-B" + threat + environmental
