@@ -88,9 +88,9 @@ impl Vector {
     ghost use Rattle.cvss_base.specs.declared.v4.MetricType.{MetricType};
     ghost use Rattle.cvss_v4.specs.Vector.{v4};
 
-    /// The vector that a text denotes: `CVSS:4.0` and then, each behind a slash, its components in
-    /// any order and any ASCII case, each once, with all base metrics among them (v4.0
-    /// specification, section 7). Accepting takes no memory.
+    /// The vector that a text denotes: `CVSS:4.0` and then, each behind a slash, its components,
+    /// each once, with all base metrics among them (v4.0 specification, section 7), in any order,
+    /// where the specification demands one, and in any ASCII case. Accepting takes no memory.
     ///
     /// # Errors
     ///
