@@ -1,6 +1,8 @@
 //! Tests of what all versions have in common.
 
 mod answers;
+mod equality;
 mod examples;
+mod names;
 mod paths;
 mod texts;

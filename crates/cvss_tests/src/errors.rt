@@ -1,81 +1,147 @@
 //! Tests of errors and severities.
 
-use cvss::v2::MetricType;
-use cvss::{Error, LIMIT, ONE, PREFIX, Severity};
+use crate::values::{are_printed, push};
+use cvss::v4::Nomenclature;
+use cvss::{Cvss, Error, LIMIT, ONE, PREFIX, Severity};
 use std::alloc::Global;
 use std::process::Abort;
 use std::test::Fail;
 
-/// Prints one error, and copies it.
-fn is_printed(rt: &impl Abort, alloc: Global, error: &Error, expected: &str) -> Result<(), Fail> {
-    assert_eq!(rt; error.to_string(alloc)?.as_str(), expected);
-    assert!(rt; error.clone()? == *error, "{expected}");
-    Ok(())
-}
+/// Texts that are refused, and what is told of them: of each reason some that differ in one part.
+const TEXTS: [(&str, &str); 29] = [
+    ("AV", "invalid CVSS metric group component: `AV`"),
+    ("AV:N/", "invalid CVSS metric group component: ``"),
+    ("CSS:4.0/AV:N", "invalid CVSS string prefix: `CSS`"),
+    ("cvss:4.0/AV:N", "invalid CVSS string prefix: `cvss`"),
+    ("CVSS:3.10/AV:N", "unsupported CVSS version: 3.10"),
+    ("CVSS:5.0/AV:N", "unsupported CVSS version: 5.0"),
+    ("CVSS:4/AV:N", "unknown CVSS metric name: `CVSS`"),
+    (":/AV:N", "unknown CVSS metric name: ``"),
+    (
+        "AV:N/CDP:q",
+        "invalid CVSSv2 CDP (Collateral Damage Potential) metric: `q`",
+    ),
+    (
+        "AV:N/CDP:",
+        "invalid CVSSv2 CDP (Collateral Damage Potential) metric: ``",
+    ),
+    (
+        "AV:q/CDP:N",
+        "invalid CVSSv2 AV (Access Vector) metric: `q`",
+    ),
+    (
+        "CDP:N/CDP:N",
+        "duplicate CVSSv2 CDP (Collateral Damage Potential) metric",
+    ),
+    ("AV:N/AV:N", "duplicate CVSSv2 AV (Access Vector) metric"),
+    (
+        "AV:N/AC:L",
+        "missing mandatory CVSSv2 Au (Authentication) metric",
+    ),
+    (
+        "AC:L/Au:N",
+        "missing mandatory CVSSv2 AV (Access Vector) metric",
+    ),
+    (
+        "CVSS:3.1/AV:q",
+        "invalid CVSSv3 AV (Attack Vector) metric: `Q`",
+    ),
+    (
+        "CVSS:3.0/AV:r",
+        "invalid CVSSv3 AV (Attack Vector) metric: `R`",
+    ),
+    (
+        "CVSS:3.0/E:q",
+        "invalid CVSSv3 E (Exploit Code Maturity) metric: `Q`",
+    ),
+    (
+        "CVSS:3.1/AV:N/av:l",
+        "duplicate CVSSv3 AV (Attack Vector) metric",
+    ),
+    (
+        "CVSS:3.0/E:X/E:X",
+        "duplicate CVSSv3 E (Exploit Code Maturity) metric",
+    ),
+    (
+        "CVSS:4.0/AV:q",
+        "invalid CVSSv4 AV (Attack Vector) metric: `Q`",
+    ),
+    (
+        "CVSS:4.0/AV:r",
+        "invalid CVSSv4 AV (Attack Vector) metric: `R`",
+    ),
+    (
+        "CVSS:4.0/MAV:q",
+        "invalid CVSSv4 MAV (Modified Attack Vector) metric: `Q`",
+    ),
+    (
+        "CVSS:4.0/AV:N/av:l",
+        "duplicate CVSSv4 AV (Attack Vector) metric",
+    ),
+    (
+        "CVSS:4.0/MAV:N/MAV:N",
+        "duplicate CVSSv4 MAV (Modified Attack Vector) metric",
+    ),
+    (
+        "CVSS:4.0/AV:N",
+        "missing mandatory CVSSv4 AC (Attack Complexity) metric",
+    ),
+    (
+        "CVSS:4.0/AC:L",
+        "missing mandatory CVSSv4 AT (Attack Requirements) metric",
+    ),
+    ("CVSS:3.1/q:N", "unknown CVSS metric name: `Q`"),
+    ("CVSS:4.0/q:N", "unknown CVSS metric name: `Q`"),
+];
 
 #[test]
-fn prints_errors_that_carry_text(rt: HostRuntime) -> Result<(), Fail> {
+fn tells_every_reason(rt: HostRuntime) -> Result<(), Fail> {
     let alloc = rt.alloc();
-    let component = String::from_str(alloc, "AV")?;
-    let error = Error::InvalidComponent { component };
-    is_printed(
-        &rt,
-        alloc,
-        &error,
-        "invalid CVSS metric group component: `AV`",
+    let mut rows = Vec::new(alloc);
+    for (text, told) in TEXTS {
+        push(&mut rows, told, Cvss::from_str(alloc, text).err())?;
+    }
+    let told = "invalid CVSS Qualitative Severity Rating: `lowest`";
+    push(&mut rows, told, Severity::from_str(alloc, "lowest").err())?;
+    let told = "invalid CVSS Qualitative Severity Rating: ``";
+    push(&mut rows, told, Severity::from_str(alloc, "").err())?;
+    let told = "invalid CVSSv4 nomenclature: `cvss-b`";
+    push(
+        &mut rows,
+        told,
+        Nomenclature::from_str(alloc, "cvss-b").err(),
     )?;
-    let value = String::from_str(alloc, "q")?;
-    let metric_type = MetricType::CDP;
-    let error = Error::InvalidMetricV2 { metric_type, value };
-    let expected = "invalid CVSSv2 CDP (Collateral Damage Potential) metric: `q`";
-    is_printed(&rt, alloc, &error, expected)?;
-    let name = String::from_str(alloc, "lowest")?;
-    let error = Error::InvalidSeverity { name };
-    let expected = "invalid CVSS Qualitative Severity Rating: `lowest`";
-    is_printed(&rt, alloc, &error, expected)?;
-    let name = String::from_str(alloc, "")?;
-    let error = Error::UnknownMetric { name };
-    is_printed(&rt, alloc, &error, "unknown CVSS metric name: ``")
+    let told = "invalid CVSSv4 nomenclature: ``";
+    push(&mut rows, told, Nomenclature::from_str(alloc, "").err())?;
+    push(&mut rows, "out of memory", Some(Error::OutOfMemory))?;
+    assert_eq!(rt; rows.len(), 34);
+    are_printed(&rt, alloc, "", &rows)
 }
 
-#[test]
-fn prints_errors_without_text(rt: HostRuntime) -> Result<(), Fail> {
-    let metric_type = MetricType::CDP;
-    let error = Error::DuplicateMetricV2 { metric_type };
-    let expected = "duplicate CVSSv2 CDP (Collateral Damage Potential) metric";
-    is_printed(&rt, rt.alloc(), &error, expected)?;
-    let metric_type = MetricType::Au;
-    let error = Error::MissingMandatoryMetricV2 { metric_type };
-    let expected = "missing mandatory CVSSv2 Au (Authentication) metric";
-    is_printed(&rt, rt.alloc(), &error, expected)?;
-    is_printed(&rt, rt.alloc(), &Error::OutOfMemory, "out of memory")
+/// Reads a rating.
+fn is_read(rt: &impl Abort, alloc: Global, text: &str, severity: Severity) {
+    assert!(rt; Severity::from_str(alloc, text) == Ok(severity), "{text}");
 }
 
 #[test]
 fn reads_severities_in_any_case(rt: HostRuntime) -> Result<(), Fail> {
     let rows = [
         ("none", Severity::None),
-        ("LOW", Severity::Low),
-        ("Medium", Severity::Medium),
-        ("hIGH", Severity::High),
+        ("low", Severity::Low),
+        ("medium", Severity::Medium),
+        ("high", Severity::High),
         ("critical", Severity::Critical),
     ];
     for (text, severity) in rows {
-        assert!(rt;
-            Severity::from_str(rt.alloc(), text) == Ok(severity),
-            "{text}"
-        );
-        let printed = severity.to_string(rt.alloc())?;
-        assert!(rt; printed.as_str().eq_ignore_ascii_case(text), "{text}");
-        assert_eq!(rt; printed.as_str(), severity.as_str());
+        let mut raised = String::from_str(rt.alloc(), text)?;
+        raised.make_ascii_uppercase();
+        is_read(&rt, rt.alloc(), raised.as_str(), severity);
+        is_read(&rt, rt.alloc(), text, severity);
+        assert_eq!(rt; severity.as_str(), text);
     }
-    for text in ["", "lo", "lowest", " low", "LOW\u{131}"] {
-        let name = String::from_str(rt.alloc(), text)?;
-        let refused = Severity::from_str(rt.alloc(), text);
-        assert!(rt; refused == Err(Error::InvalidSeverity { name }), "{text}");
-    }
+    is_read(&rt, rt.alloc(), "hIGH", Severity::High);
     assert!(rt; Severity::None < Severity::Low && Severity::High < Severity::Critical);
-    Ok(())
+    are_printed(&rt, rt.alloc(), "", &rows)
 }
 
 #[test]

@@ -1,5 +1,6 @@
 //! Tests of JSON values: what they stand for, and what is written.
 
+use crate::values::are_printed;
 use cvss::json::{JsonError, JsonText};
 use cvss::{Cvss, Error, Severity, v2, v3, v4};
 use serde_json::{Map, Value};
@@ -146,28 +147,23 @@ fn strings_whose_texts_are_refused_stand_for_nothing(rt: HostRuntime) -> Result<
     )
 }
 
-/// Prints one error, and copies it.
-fn is_printed(rt: &impl Abort, alloc: Global, error: &JsonError, text: &str) -> Result<(), Fail> {
-    assert_eq!(rt; error.to_string(alloc)?.as_str(), text);
-    assert!(rt; error.clone()? == *error, "{text}");
-    Ok(())
-}
-
 #[test]
 fn errors_are_printed_and_copied(rt: HostRuntime) -> Result<(), Fail> {
     let alloc = rt.alloc();
     let name = String::from_str(alloc, "lowest")?;
+    let other = String::from_str(alloc, "")?;
     let rows = [
-        (JsonError::NotAString, "not a JSON string"),
+        ("not a JSON string", JsonError::NotAString),
         (
-            JsonError::from(Error::InvalidSeverity { name }),
             "invalid CVSS Qualitative Severity Rating: `lowest`",
+            JsonError::from(Error::InvalidSeverity { name }),
         ),
-        (JsonError::from(Error::OutOfMemory), "out of memory"),
+        (
+            "invalid CVSS Qualitative Severity Rating: ``",
+            JsonError::from(Error::InvalidSeverity { name: other }),
+        ),
+        ("out of memory", JsonError::from(Error::OutOfMemory)),
     ];
-    for (error, text) in &rows {
-        is_printed(&rt, alloc, error, text)?;
-    }
-    assert!(rt; rows[2].0 == JsonError::OutOfMemory);
-    Ok(())
+    assert!(rt; rows[3].1 == JsonError::OutOfMemory);
+    are_printed(&rt, alloc, "", &rows)
 }

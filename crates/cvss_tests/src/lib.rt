@@ -17,3 +17,5 @@ mod v2;
 mod v3;
 #[cfg(test)]
 mod v4;
+#[cfg(test)]
+mod values;

@@ -1,9 +1,10 @@
 //! Tests of triage: rows, their order, and what is told of refused texts.
 
-use cvss::v4::MetricType;
+use crate::values::{are_printed, push};
+use cvss::v4::{MetricType, Vector};
 use cvss::{Error, ONE, Severity};
 use cvss_ranking::{Row, TriageError, apply};
-use std::alloc::{AllocError, Global};
+use std::alloc::Global;
 use std::process::Abort;
 use std::test::Fail;
 
@@ -42,33 +43,6 @@ fn are_ranked(
     assert_eq!(rt; rows.len(), expected.len());
     for (row, expected) in rows.iter().zip(expected) {
         is_row(rt, row, *expected);
-    }
-    Ok(())
-}
-
-/// What the refusal says, if there is one.
-fn refusal_of(
-    alloc: Global,
-    texts: &[&str],
-    overrides: &[&str],
-) -> Result<Option<String>, AllocError> {
-    match apply(alloc, texts, overrides) {
-        Ok(_) => Ok(None),
-        Err(error) => Ok(Some(error.to_string(alloc)?)),
-    }
-}
-
-/// Ranks texts, and compares what the refusal says.
-fn is_told(
-    rt: &impl Abort,
-    alloc: Global,
-    texts: &[&str],
-    overrides: &[&str],
-    told: &str,
-) -> Result<(), Fail> {
-    match &refusal_of(alloc, texts, overrides)? {
-        Some(refusal) => assert_eq!(rt; refusal.as_str(), told),
-        None => assert!(rt; false, "{told}"),
     }
     Ok(())
 }
@@ -116,51 +90,132 @@ fn puts_each_environmental_metric_in_place(rt: HostRuntime) -> Result<(), Fail> 
     Ok(())
 }
 
-#[test]
-fn tells_the_first_refused_override(rt: HostRuntime) -> Result<(), Fail> {
-    let alloc = rt.alloc();
-    let other_group = "override 0: no environmental CVSSv4 metric";
-    is_told(&rt, alloc, &[LOW], &["E:Q"], other_group)?;
-    is_told(&rt, alloc, &[LOW], &["av:n"], other_group)?;
-    let told = "override 1: invalid CVSSv4 MAV (Modified Attack Vector) metric: `Q`";
-    is_told(&rt, alloc, &[], &["mav:n", "MAV:q"], told)?;
-    let told = "override 1: duplicate CVSSv4 MAV (Modified Attack Vector) metric";
-    is_told(&rt, alloc, &[], &["mav:n", "MAV:P"], told)?;
-    let told = "override 0: invalid CVSS metric group component: `MAV:N/MAC:L`";
-    is_told(&rt, alloc, &["x"], &["MAV:N/MAC:L"], told)?;
-    let told = "override 1: invalid CVSS metric group component: `ee:q:`";
-    is_told(&rt, alloc, &["x"], &["cr:h", "ee:q:"], told)?;
-    let told = "override 1: unknown CVSS metric name: `EE`";
-    is_told(&rt, alloc, &[LOW], &["cr:h", "ee:q", "e:q", ""], told)?;
-    let told = "override 1: no environmental CVSSv4 metric";
-    is_told(&rt, alloc, &[LOW], &["cr:h", "s:n", "ee:q"], told)
-}
+/// Texts and overrides, and what is told of the first override that is refused, or else of the first
+/// text.
+const REFUSED: [(&[&str], &[&str], &str); 14] = [
+    (
+        &[LOW],
+        &["E:Q"],
+        "override 0: no environmental CVSSv4 metric",
+    ),
+    (
+        &[LOW],
+        &["av:n"],
+        "override 0: no environmental CVSSv4 metric",
+    ),
+    (
+        &[],
+        &["mav:n", "MAV:q"],
+        "override 1: invalid CVSSv4 MAV (Modified Attack Vector) metric: `Q`",
+    ),
+    (
+        &[],
+        &["MAV:q"],
+        "override 0: invalid CVSSv4 MAV (Modified Attack Vector) metric: `Q`",
+    ),
+    (
+        &[],
+        &["mav:n", "MAV:P"],
+        "override 1: duplicate CVSSv4 MAV (Modified Attack Vector) metric",
+    ),
+    (
+        &["x"],
+        &["MAV:N/MAC:L"],
+        "override 0: invalid CVSS metric group component: `MAV:N/MAC:L`",
+    ),
+    (
+        &["x"],
+        &["cr:h", "ee:q:"],
+        "override 1: invalid CVSS metric group component: `ee:q:`",
+    ),
+    (
+        &[LOW],
+        &["cr:h", "ee:q", "e:q", ""],
+        "override 1: unknown CVSS metric name: `EE`",
+    ),
+    (
+        &[LOW],
+        &["cr:h", "s:n", "ee:q"],
+        "override 1: no environmental CVSSv4 metric",
+    ),
+    (
+        &[LOW, "CVSS:4.0"],
+        &["CR:H"],
+        "text 1: missing mandatory CVSSv4 AC (Attack Complexity) metric",
+    ),
+    (
+        &["CVSS:4.0", "x"],
+        &["CR:H"],
+        "text 0: missing mandatory CVSSv4 AC (Attack Complexity) metric",
+    ),
+    (
+        &[LOW, "", "CVSS:3.1/AV:N"],
+        &["CR:H"],
+        "text 1: invalid CVSS metric group component: ``",
+    ),
+    (
+        &["CVSS:3.1/AV:N", ""],
+        &[],
+        "text 0: unsupported CVSS version: 3.1",
+    ),
+    (
+        &["CVSS:3.0/AV:N"],
+        &[],
+        "text 0: unsupported CVSS version: 3.0",
+    ),
+];
 
 #[test]
-fn tells_the_first_refused_text(rt: HostRuntime) -> Result<(), Fail> {
-    let alloc = rt.alloc();
-    let told = "text 1: missing mandatory CVSSv4 AC (Attack Complexity) metric";
-    is_told(&rt, alloc, &[LOW, "CVSS:4.0"], &["CR:H"], told)?;
-    let told = "text 1: invalid CVSS metric group component: ``";
-    is_told(&rt, alloc, &[LOW, "", "CVSS:3.1/AV:N"], &["CR:H"], told)?;
-    let told = "text 0: unsupported CVSS version: 3.1";
-    is_told(&rt, alloc, &["CVSS:3.1/AV:N", ""], &[], told)
+fn tells_the_first_refusal(rt: HostRuntime) -> Result<(), Fail> {
+    let mut refusals = Vec::new(rt.alloc());
+    let mut objections = Vec::new(rt.alloc());
+    for (texts, overrides, told) in REFUSED {
+        push(
+            &mut refusals,
+            told,
+            apply(rt.alloc(), texts, overrides).err(),
+        )?;
+        push(
+            &mut objections,
+            told,
+            Vector::from_overrides(rt.alloc(), overrides).err(),
+        )?;
+    }
+    push(
+        &mut refusals,
+        "out of memory",
+        Some(TriageError::OutOfMemory),
+    )?;
+    assert_eq!(rt; refusals.len(), 15);
+    assert_eq!(rt; objections.len(), 9);
+    are_printed(&rt, rt.alloc(), "", &objections)?;
+    are_printed(&rt, rt.alloc(), "", &refusals)
+}
+
+/// Ranks texts, and compares why they are refused.
+fn is_refused(
+    rt: &impl Abort,
+    alloc: Global,
+    texts: &[&str],
+    overrides: &[&str],
+    expected: TriageError,
+) {
+    assert!(rt; apply(alloc, texts, overrides).err() == Some(expected));
 }
 
 #[test]
 fn tells_the_place_and_the_refusal(rt: HostRuntime) -> Result<(), Fail> {
-    let refused = apply(rt.alloc(), &[LOW], &["E:Q"]);
-    assert!(rt; refused == Err(TriageError::NotEnvironmental { index: 0 }));
-    let refused = apply(rt.alloc(), &[], &["mav:n", "MAV:q"]);
-    let error = Error::InvalidMetricV4 {
-        metric_type: MetricType::MAV,
-        value: String::from_str(rt.alloc(), "Q")?,
-    };
-    assert!(rt; refused == Err(TriageError::Override { index: 1, error }));
-    let refused = apply(rt.alloc(), &[LOW, "CVSS:4.0"], &["CR:H"]);
-    let error = Error::MissingMandatoryMetricV4 {
-        metric_type: MetricType::AC,
-    };
-    assert!(rt; refused == Err(TriageError::Text { index: 1, error }));
+    let alloc = rt.alloc();
+    let error = TriageError::NotEnvironmental { index: 0 };
+    is_refused(&rt, alloc, &[LOW], &["E:Q"], error);
+    let value = String::from_str(alloc, "Q")?;
+    let metric_type = MetricType::MAV;
+    let error = Error::InvalidMetricV4 { metric_type, value };
+    let error = TriageError::Override { index: 1, error };
+    is_refused(&rt, alloc, &[], &["mav:n", "MAV:q"], error);
+    let metric_type = MetricType::AC;
+    let error = Error::MissingMandatoryMetricV4 { metric_type };
+    let error = TriageError::Text { index: 1, error };
+    is_refused(&rt, alloc, &[LOW, "CVSS:4.0"], &["CR:H"], error);
     Ok(())
 }

@@ -2,6 +2,7 @@
 
 mod base_vectors;
 mod metrics;
+mod names;
 mod scores;
 mod texts;
 mod vectors;

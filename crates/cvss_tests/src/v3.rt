@@ -2,5 +2,6 @@
 
 mod base_vectors;
 mod metrics;
+mod names;
 mod scores;
 mod texts;

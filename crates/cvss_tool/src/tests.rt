@@ -1,8 +1,11 @@
 //! Tests of whole runs, of faults and of what is told of them.
 
 mod changes;
+mod kinds;
+mod long;
 
 use crate::tests::changes::{ANSWERS, LINES};
+use crate::tests::kinds::KINDS;
 use crate::{RunFault, Summary, exit_status, fault_text, run};
 use std::alloc::Global;
 use std::io;
@@ -12,13 +15,13 @@ use std::test::Fail;
 
 /// Gives at most `step` bytes a read, and then the end or a fault.
 #[derive(Drop)]
-struct Steps {
-    bytes: &'static [u8],
+struct Steps<'a> {
+    bytes: &'a [u8],
     step: usize,
     fault: Option<ErrorKind>,
 }
 
-impl Read for Steps {
+impl Read for Steps<'_> {
     fn read(&mut self, buf: &mut [u8]) -> io::Result<usize> {
         let count = self.step.min(self.bytes.len()).min(buf.len());
         if count == 0 {
@@ -58,16 +61,36 @@ impl Write for Full {
     }
 }
 
+/// Takes one to three bytes a call, in turn.
+#[derive(Drop)]
+struct Slow {
+    taken: Vec<u8>,
+    turn: usize,
+}
+
+impl Write for Slow {
+    fn write(&mut self, buf: &[u8]) -> io::Result<usize> {
+        self.turn = self.turn % 3 + 1;
+        let count = self.turn.min(buf.len());
+        self.taken.extend_from_slice(&buf[..count])?;
+        Ok(count)
+    }
+
+    fn flush(&mut self) -> io::Result<()> {
+        Ok(())
+    }
+}
+
 const FIRST: &str = "AV:N/AC:L/Au:N/C:N/I:N/A:C 7.8 high\n";
 
 const EMPTY_LINE: &str = "error: invalid CVSS metric group component: ``\n";
 
 /// The input of some lines, what is written for them, and how many are accepted and refused.
-type Row = (&'static [u8], &'static str, u64, u64);
+type Row<'a> = (&'a [u8], &'a str, u64, u64);
 
 #[test]
 fn answers_lines_that_reads_cut(rt: HostRuntime) -> Result<(), Fail> {
-    let rows: [Row; 8] = [
+    let rows: [Row<'_>; 8] = [
         (b"", "", 0, 0),
         (
             b"AV:N/AC:L/Au:N/C:N/I:N/A:N\r\n\nCVSS:3.1/AV:N",
@@ -118,21 +141,20 @@ fn answers_vectors_with_one_byte_changed(rt: HostRuntime) -> Result<(), Fail> {
     Ok(())
 }
 
-fn is_answered(rt: &impl Abort, alloc: Global, row: Row, step: usize) -> Result<(), Fail> {
-    let (bytes, written, accepted, refused) = row;
+/// Answers lines, and compares what a slow writer has taken.
+fn is_answered(
+    rt: &impl Abort,
+    alloc: Global,
+    (bytes, written, accepted, refused): Row<'_>,
+    step: usize,
+) -> Result<(), Fail> {
     let fault = None;
     let mut reader = Steps { bytes, step, fault };
-    let mut writer = Vec::new(alloc);
+    let taken = Vec::new(alloc);
+    let mut writer = Slow { taken, turn: 0 };
     let result = run(alloc, &mut reader, &mut writer);
-    assert_eq!(rt;
-        result,
-        Ok(Summary { accepted, refused }),
-        "{written:?} {step}"
-    );
-    assert!(rt;
-        writer.as_slice() == written.as_bytes(),
-        "{written:?} {step}"
-    );
+    assert_eq!(rt; result, Ok(Summary { accepted, refused }), "{step}");
+    assert!(rt; writer.taken.as_slice() == written.as_bytes(), "{step}");
     Ok(())
 }
 
@@ -144,7 +166,7 @@ fn answers_ended_lines_before_a_failed_read(rt: HostRuntime) -> Result<(), Fail>
         (b"\n", EMPTY_LINE),
     ];
     for (bytes, written) in rows {
-        for kind in [ErrorKind::Other, ErrorKind::Interrupted] {
+        for kind in KINDS {
             for step in [1, 100] {
                 let fault = Some(kind);
                 let mut reader = Steps { bytes, step, fault };
@@ -183,18 +205,32 @@ fn tells_how_it_ended(rt: HostRuntime) -> Result<(), Fail> {
         refused: 0,
     };
     let refused = Summary {
-        accepted: 2,
         refused: 1,
+        ..accepted
+    };
+    let fewer = Summary {
+        accepted: 1,
+        ..accepted
     };
     assert_eq!(rt; exit_status(&Ok(accepted)), 0);
     assert_eq!(rt; exit_status(&Ok(refused)), 1);
-    for (fault, text) in [
+    assert!(rt; accepted != refused && accepted != fewer && !(accepted == refused));
+    assert!(rt; accepted == accepted.clone()? && fewer == fewer.clone()?);
+    let rows = [
         (RunFault::Read, "cvss_tool: read failed"),
         (RunFault::Write, "cvss_tool: write failed"),
         (RunFault::Memory, "cvss_tool: out of memory"),
-    ] {
+    ];
+    for (fault, text) in rows {
         assert_eq!(rt; exit_status(&Err(fault)), 2);
-        assert_eq!(rt; fault_text(&fault), text);
+        assert_eq!(rt; fault_text(&fault.clone()?), text);
+        for (other, other_text) in rows {
+            let same = text == other_text;
+            assert!(rt;
+                (fault == other) == same && (fault != other) != same,
+                "{text}"
+            );
+        }
     }
     Ok(())
 }

@@ -1,6 +1,7 @@
 //! Tests of whole runs, of faults and of what is told of them.
 
 use crate::{Fault, exit_status, run};
+use cvss_ranking::TriageError;
 use std::alloc::Global;
 use std::io;
 use std::io::{ErrorKind, Read, Write};
@@ -11,13 +12,14 @@ use std::test::Fail;
 #[derive(Drop)]
 struct Failing {
     bytes: &'static [u8],
+    kind: ErrorKind,
 }
 
 impl Read for Failing {
     fn read(&mut self, buf: &mut [u8]) -> io::Result<usize> {
         let count = self.bytes.len().min(buf.len());
         if count == 0 {
-            return Err(ErrorKind::BrokenPipe.into());
+            return Err(self.kind.into());
         }
         let (now, later) = self.bytes.split_at(count);
         buf[..count].copy_from_slice(now);
@@ -26,13 +28,21 @@ impl Read for Failing {
     }
 }
 
-/// Takes no byte.
+/// Takes at most one byte a call, and `room` bytes in all.
 #[derive(Drop)]
-struct Full;
+struct Narrow {
+    taken: Vec<u8>,
+    room: usize,
+}
 
-impl Write for Full {
-    fn write(&mut self, _buf: &[u8]) -> io::Result<usize> {
-        Ok(0)
+impl Write for Narrow {
+    fn write(&mut self, buf: &[u8]) -> io::Result<usize> {
+        if self.room == 0 || buf.is_empty() {
+            return Ok(0);
+        }
+        self.taken.push(buf[0])?;
+        self.room -= 1;
+        Ok(1)
     }
 
     fn flush(&mut self) -> io::Result<()> {
@@ -43,7 +53,7 @@ impl Write for Full {
 const INPUT: &str = "CVSS:4.0/AV:N/AC:L/AT:N/PR:H/UI:N/VC:L/VI:L/VA:N/SC:N/SI:N/SA:N\r\n\
                      CVSS:4.0/AV:N/AC:L/AT:N/PR:N/UI:N/VC:N/VI:N/VA:N/SC:N/SI:N/SA:N";
 
-/// Runs over an input, and compares the rows.
+/// Runs over an input, and compares the rows, and what a writer with half the room has of them.
 fn are_written(
     rt: &impl Abort,
     alloc: Global,
@@ -51,12 +61,26 @@ fn are_written(
     overrides: &[&str],
     rows: &str,
 ) -> Result<(), Fail> {
-    let mut reader = input.as_bytes();
-    let mut writer = Vec::new(alloc);
-    let result = run(alloc, overrides, &mut reader, &mut writer);
-    assert!(rt; result == Ok(()), "{input}");
-    assert!(rt; writer.as_slice() == rows.as_bytes(), "{input}");
-    assert_eq!(rt; exit_status(&result), 0);
+    for room in [usize::MAX, rows.len() / 2] {
+        let mut reader = input.as_bytes();
+        let taken = Vec::new(alloc);
+        let mut writer = Narrow { taken, room };
+        let result = run(alloc, overrides, &mut reader, &mut writer);
+        let held = room.min(rows.len());
+        assert!(rt;
+            writer.taken.as_slice() == &rows.as_bytes()[..held],
+            "{input}"
+        );
+        let (expected, status) = if held == rows.len() {
+            (Ok(()), 0)
+        } else {
+            (Err(Fault::Write), 2)
+        };
+        assert!(rt;
+            result == expected && exit_status(&result) == status,
+            "{input}"
+        );
+    }
     Ok(())
 }
 
@@ -97,46 +121,92 @@ fn writes_rows_in_falling_order(rt: HostRuntime) -> Result<(), Fail> {
 
 #[test]
 fn tells_the_first_refusal_and_writes_nothing(rt: HostRuntime) -> Result<(), Fail> {
-    let alloc = rt.alloc();
-    let told = "argument 2: no environmental CVSSv4 metric";
-    is_told(&rt, alloc, INPUT.as_bytes(), &["cr:h", "av:n"], told)?;
-    let told = "argument 1: invalid CVSS metric group component: `MAV:N/MAC:L`";
-    is_told(&rt, alloc, b"\xff\n", &["MAV:N/MAC:L"], told)?;
-    let told = "line 1: missing mandatory CVSSv4 AC (Attack Complexity) metric";
-    is_told(&rt, alloc, b"CVSS:4.0\n\xff\n", &["CR:H"], told)?;
-    is_told(
-        &rt,
-        alloc,
-        b"\xff\nCVSS:4.0\n",
-        &["CR:H"],
-        "line 1: not UTF-8",
-    )?;
-    let told = "line 1: invalid CVSS metric group component: ``";
-    is_told(&rt, alloc, b"\n", &[], told)?;
-    is_told(&rt, alloc, b"\r", &[], told)
+    let rows: [(&[u8], &[&str], &str); 6] = [
+        (
+            INPUT.as_bytes(),
+            &["cr:h", "av:n"],
+            "argument 2: no environmental CVSSv4 metric",
+        ),
+        (
+            b"\xff\n",
+            &["MAV:N/MAC:L"],
+            "argument 1: invalid CVSS metric group component: `MAV:N/MAC:L`",
+        ),
+        (
+            b"CVSS:4.0\n\xff\n",
+            &["CR:H"],
+            "line 1: missing mandatory CVSSv4 AC (Attack Complexity) metric",
+        ),
+        (b"\xff\nCVSS:4.0\n", &["CR:H"], "line 1: not UTF-8"),
+        (
+            b"\n",
+            &[],
+            "line 1: invalid CVSS metric group component: ``",
+        ),
+        (
+            b"\r",
+            &[],
+            "line 1: invalid CVSS metric group component: ``",
+        ),
+    ];
+    for (input, overrides, told) in rows {
+        is_told(&rt, rt.alloc(), input, overrides, told)?;
+    }
+    Ok(())
 }
 
 #[test]
-fn tells_failures_of_reader_and_writer(rt: HostRuntime) -> Result<(), Fail> {
-    let mut reader = Failing {
-        bytes: INPUT.as_bytes(),
-    };
-    let mut writer = Vec::new(rt.alloc());
-    let result = run(rt.alloc(), &[], &mut reader, &mut writer);
-    assert!(rt; result == Err(Fault::Read) && writer.is_empty());
-    assert_eq!(rt; exit_status(&result), 2);
-    let mut reader = INPUT.as_bytes();
-    let result = run(rt.alloc(), &[], &mut reader, &mut Full);
-    assert!(rt; result == Err(Fault::Write));
-    assert_eq!(rt; exit_status(&result), 2);
-    assert_eq!(rt; Fault::Read.to_string(rt.alloc())?.as_str(), "read failed");
-    assert_eq!(rt;
-        Fault::Write.to_string(rt.alloc())?.as_str(),
-        "write failed"
-    );
-    assert_eq!(rt;
-        Fault::Memory.to_string(rt.alloc())?.as_str(),
-        "out of memory"
-    );
+fn tells_failures_of_the_reader(rt: HostRuntime) -> Result<(), Fail> {
+    let rows = [
+        (ErrorKind::BrokenPipe, Fault::Read),
+        (ErrorKind::WouldBlock, Fault::Read),
+        (ErrorKind::UnexpectedEof, Fault::Read),
+        (ErrorKind::WriteZero, Fault::Read),
+        (ErrorKind::InvalidData, Fault::Read),
+        (ErrorKind::Other, Fault::Read),
+        (ErrorKind::OutOfMemory, Fault::Memory),
+    ];
+    for (kind, fault) in rows {
+        for bytes in [INPUT.as_bytes(), b""] {
+            let mut reader = Failing { bytes, kind };
+            let mut writer = Vec::new(rt.alloc());
+            let result = run(rt.alloc(), &["msi:s"], &mut reader, &mut writer);
+            assert_eq!(rt; exit_status(&result), 2);
+            assert!(rt; result.err().as_ref() == Some(&fault) && writer.is_empty());
+        }
+    }
+    Ok(())
+}
+
+#[test]
+fn tells_every_fault(rt: HostRuntime) -> Result<(), Fail> {
+    let rows = [
+        ("read failed", Fault::Read),
+        ("write failed", Fault::Write),
+        ("out of memory", Fault::Memory),
+        ("line 1: not UTF-8", Fault::NotText { index: 0 }),
+        (
+            "line 18446744073709551616: not UTF-8",
+            Fault::NotText { index: usize::MAX },
+        ),
+        (
+            "argument 1: no environmental CVSSv4 metric",
+            Fault::Refused(TriageError::NotEnvironmental { index: 0 }),
+        ),
+        (
+            "argument 2: no environmental CVSSv4 metric",
+            Fault::Refused(TriageError::NotEnvironmental { index: 1 }),
+        ),
+    ];
+    for (text, fault) in &rows {
+        assert_eq!(rt; fault.to_string(rt.alloc())?.as_str(), *text);
+        for (other_text, other) in &rows {
+            let same = text == other_text;
+            assert!(rt;
+                (fault == other) == same && (fault != other) != same,
+                "{text}"
+            );
+        }
+    }
     Ok(())
 }

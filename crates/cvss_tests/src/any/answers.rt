@@ -66,9 +66,22 @@ fn holds_the_vector_of_its_version(rt: HostRuntime) -> Result<(), Fail> {
 
 #[test]
 fn an_incomplete_vector_of_v4_has_no_score(rt: HostRuntime) {
-    assert!(rt; !Cvss::CvssV40(v4::Vector::default()).has_score());
-    assert!(rt; Cvss::CvssV20(v2::Vector::default()).has_score());
-    assert!(rt; Cvss::CvssV31(v3::Vector::default()).has_score());
+    let rows = [
+        (Cvss::CvssV40(v4::Vector::default()), false),
+        (Cvss::CvssV20(v2::Vector::default()), true),
+        (Cvss::CvssV31(v3::Vector::default()), true),
+    ];
+    for (vector, has_score) in rows {
+        assert!(rt; vector.has_score() == has_score);
+    }
+}
+
+/// What an iterator over metrics gives.
+type Item = Option<(MetricType, &'static str)>;
+
+/// Compares one item of a list.
+fn is_item(rt: &impl Abort, item: Item, expected: Item) {
+    assert!(rt; item == expected);
 }
 
 /// Lists the metrics of a text's vector.
@@ -80,45 +93,48 @@ fn are_listed(
 ) -> Result<(), Fail> {
     let mut metrics = Cvss::from_str(alloc, text)?.metrics();
     for item in expected {
-        assert!(rt; metrics.next() == Some(*item), "{text}");
+        is_item(rt, metrics.next(), Some(*item));
     }
-    assert!(rt; metrics.next() == None, "{text}");
+    is_item(rt, metrics.next(), None);
     Ok(())
 }
 
+const OF_V2: [(MetricType, &str); 6] = [
+    (MetricType::V2(v2::MetricType::AC), "L"),
+    (MetricType::V2(v2::MetricType::Au), "N"),
+    (MetricType::V2(v2::MetricType::AV), "N"),
+    (MetricType::V2(v2::MetricType::C), "N"),
+    (MetricType::V2(v2::MetricType::I), "N"),
+    (MetricType::V2(v2::MetricType::A), "C"),
+];
+
+const OF_V3: [(MetricType, &str); 3] = [
+    (MetricType::V3(v3::MetricType::AV), "N"),
+    (MetricType::V3(v3::MetricType::CR), "H"),
+    (MetricType::V3(v3::MetricType::MA), "N"),
+];
+
+const OF_V4: [(MetricType, &str); 12] = [
+    (MetricType::V4(v4::MetricType::AC), "L"),
+    (MetricType::V4(v4::MetricType::AT), "N"),
+    (MetricType::V4(v4::MetricType::AV), "N"),
+    (MetricType::V4(v4::MetricType::PR), "H"),
+    (MetricType::V4(v4::MetricType::SA), "N"),
+    (MetricType::V4(v4::MetricType::SC), "N"),
+    (MetricType::V4(v4::MetricType::SI), "N"),
+    (MetricType::V4(v4::MetricType::UI), "N"),
+    (MetricType::V4(v4::MetricType::VA), "N"),
+    (MetricType::V4(v4::MetricType::VC), "L"),
+    (MetricType::V4(v4::MetricType::VI), "L"),
+    (MetricType::V4(v4::MetricType::U), "Red"),
+];
+
 #[test]
 fn lists_metrics(rt: HostRuntime) -> Result<(), Fail> {
-    let of_v2 = [
-        (MetricType::V2(v2::MetricType::AC), "L"),
-        (MetricType::V2(v2::MetricType::Au), "N"),
-        (MetricType::V2(v2::MetricType::AV), "N"),
-        (MetricType::V2(v2::MetricType::C), "N"),
-        (MetricType::V2(v2::MetricType::I), "N"),
-        (MetricType::V2(v2::MetricType::A), "C"),
-    ];
-    are_listed(&rt, rt.alloc(), V2, &of_v2)?;
-    let of_v3 = [
-        (MetricType::V3(v3::MetricType::AV), "N"),
-        (MetricType::V3(v3::MetricType::CR), "H"),
-        (MetricType::V3(v3::MetricType::MA), "N"),
-    ];
-    are_listed(&rt, rt.alloc(), "CVSS:3.1/MA:N/CR:H/AV:N", &of_v3)?;
-    let of_v4 = [
-        (MetricType::V4(v4::MetricType::AC), "L"),
-        (MetricType::V4(v4::MetricType::AT), "N"),
-        (MetricType::V4(v4::MetricType::AV), "N"),
-        (MetricType::V4(v4::MetricType::PR), "H"),
-        (MetricType::V4(v4::MetricType::SA), "N"),
-        (MetricType::V4(v4::MetricType::SC), "N"),
-        (MetricType::V4(v4::MetricType::SI), "N"),
-        (MetricType::V4(v4::MetricType::UI), "N"),
-        (MetricType::V4(v4::MetricType::VA), "N"),
-        (MetricType::V4(v4::MetricType::VC), "L"),
-        (MetricType::V4(v4::MetricType::VI), "L"),
-        (MetricType::V4(v4::MetricType::U), "Red"),
-    ];
+    are_listed(&rt, rt.alloc(), V2, &OF_V2)?;
+    are_listed(&rt, rt.alloc(), "CVSS:3.1/MA:N/CR:H/AV:N", &OF_V3)?;
     let text = "CVSS:4.0/u:red/sa:n/si:n/sc:n/va:n/vi:l/vc:l/ui:n/pr:h/at:n/ac:l/av:n";
-    are_listed(&rt, rt.alloc(), text, &of_v4)
+    are_listed(&rt, rt.alloc(), text, &OF_V4)
 }
 
 #[test]

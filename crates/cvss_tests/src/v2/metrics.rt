@@ -1,9 +1,15 @@
 //! Tests of the metrics.
 
-use cvss::Error;
-use cvss::v2::metric::base::{AccessVector, Authentication, IntegrityImpact};
-use cvss::v2::metric::environmental::{CollateralDamagePotential, IntegrityRequirement};
-use cvss::v2::metric::temporal::{Exploitability, RemediationLevel};
+use crate::values::are_printed;
+use cvss::v2::metric::base::{
+    AccessComplexity, AccessVector, Authentication, AvailabilityImpact, ConfidentialityImpact,
+    IntegrityImpact,
+};
+use cvss::v2::metric::environmental::{
+    AvailabilityRequirement, CollateralDamagePotential, ConfidentialityRequirement,
+    IntegrityRequirement, TargetDistribution,
+};
+use cvss::v2::metric::temporal::{Exploitability, RemediationLevel, ReportConfidence};
 use cvss::v2::{Metric, MetricType};
 use std::alloc::Global;
 use std::process::Abort;
@@ -12,116 +18,70 @@ use std::test::Fail;
 /// One thousandth of a score point.
 const THOUSANDTH: i128 = 1_000_000_000_000_000_000_000;
 
-/// Names, spells, weighs and reads one value.
-fn is_spelled<M: Metric + Drop>(
+/// The spellings of the values of all metrics (guide, section 2).
+const SPELLINGS: [&str; 19] = [
+    "N", "L", "A", "H", "M", "S", "P", "C", "U", "POC", "F", "ND", "OF", "TF", "W", "UC", "UR",
+    "LM", "MH",
+];
+
+/// Reads, spells, prints, copies and compares all values of a metric.
+fn has_values<M: Metric + Drop>(
     rt: &impl Abort,
     alloc: Global,
-    metric: M,
-    component: (&str, &str),
-    thousandths: u16,
+    name: &str,
+    count: usize,
 ) -> Result<(), Fail> {
-    let (name, spelling) = component;
-    let score = i128::from(thousandths) * THOUSANDTH;
-    let facts = (M::name(), M::TYPE.name(), metric.as_str(), metric.score());
-    assert!(rt; facts == (name, name, spelling, score), "{name}:{spelling}");
-    assert!(rt; M::read(spelling) == Some(metric), "{spelling}");
-    is_printed(rt, alloc, metric, component)
-}
-
-/// Reads and prints one value by the calls that may take memory.
-fn is_printed<M: Metric + Drop>(
-    rt: &impl Abort,
-    alloc: Global,
-    metric: M,
-    component: (&str, &str),
-) -> Result<(), Fail> {
-    let (name, spelling) = component;
-    assert!(rt; M::from_str(alloc, spelling) == Ok(metric), "{spelling}");
-    let expected = format!(in alloc; "{name}:{spelling}")?;
-    assert_eq!(rt; metric.to_string(alloc)?.as_str(), expected.as_str());
-    Ok(())
-}
-
-#[test]
-fn spells_and_weighs_values(rt: HostRuntime) -> Result<(), Fail> {
-    let alloc = rt.alloc();
-    is_spelled(&rt, alloc, AccessVector::AdjacentNetwork, ("AV", "A"), 646)?;
-    is_spelled(&rt, alloc, Authentication::None, ("Au", "N"), 704)?;
-    is_spelled(&rt, alloc, IntegrityImpact::Partial, ("I", "P"), 275)?;
-    is_spelled(
-        &rt,
-        alloc,
-        Exploitability::ProofOfConcept,
-        ("E", "POC"),
-        900,
-    )?;
-    is_spelled(&rt, alloc, RemediationLevel::OfficialFix, ("RL", "OF"), 870)?;
-    is_spelled(
-        &rt,
-        alloc,
-        CollateralDamagePotential::NotDefined,
-        ("CDP", "ND"),
-        0,
-    )?;
-    is_spelled(&rt, alloc, IntegrityRequirement::High, ("IR", "H"), 1510)?;
-    Ok(())
-}
-
-#[test]
-fn refuses_values_of_other_metrics(rt: HostRuntime) -> Result<(), Fail> {
-    for text in ["", "n", "N ", "P", "AV:N", "ND"] {
-        assert!(rt; AccessVector::read(text) == None, "{text}");
-        let value = String::from_str(rt.alloc(), text)?;
-        let metric_type = MetricType::AV;
-        let refused = AccessVector::from_str(rt.alloc(), text);
-        assert!(rt;
-            refused == Err(Error::InvalidMetricV2 { metric_type, value }),
-            "{text}"
-        );
+    let mut rows = Vec::new(alloc);
+    for spelling in SPELLINGS {
+        if let Some(metric) = M::read(spelling) {
+            assert_eq!(rt; metric.as_str(), spelling, "{name}");
+            rows.push((spelling, metric))?;
+        }
     }
-    Ok(())
-}
-
-/// Names one metric type by all calls that it has.
-fn is_named(rt: &impl Abort, alloc: Global, kind: MetricType, name: &str) -> Result<(), Fail> {
-    assert_eq!(rt; kind.name(), name);
-    assert_eq!(rt; kind.to_string(alloc)?.as_str(), name);
-    assert!(rt; MetricType::from_str(alloc, name) == Ok(kind), "{name}");
-    Ok(())
+    assert!(rt; M::name() == name && rows.len() == count, "{name}");
+    are_printed(rt, alloc, format!(in alloc; "{name}:")?.as_str(), &rows)
 }
 
 #[test]
-fn names_metrics(rt: HostRuntime) -> Result<(), Fail> {
+fn values_of_base_metrics(rt: HostRuntime) -> Result<(), Fail> {
+    has_values::<AccessVector>(&rt, rt.alloc(), "AV", 3)?;
+    has_values::<AccessComplexity>(&rt, rt.alloc(), "AC", 3)?;
+    has_values::<Authentication>(&rt, rt.alloc(), "Au", 3)?;
+    has_values::<ConfidentialityImpact>(&rt, rt.alloc(), "C", 3)?;
+    has_values::<IntegrityImpact>(&rt, rt.alloc(), "I", 3)?;
+    has_values::<AvailabilityImpact>(&rt, rt.alloc(), "A", 3)
+}
+
+#[test]
+fn values_of_optional_metrics(rt: HostRuntime) -> Result<(), Fail> {
+    has_values::<Exploitability>(&rt, rt.alloc(), "E", 5)?;
+    has_values::<RemediationLevel>(&rt, rt.alloc(), "RL", 5)?;
+    has_values::<ReportConfidence>(&rt, rt.alloc(), "RC", 4)?;
+    has_values::<CollateralDamagePotential>(&rt, rt.alloc(), "CDP", 6)?;
+    has_values::<TargetDistribution>(&rt, rt.alloc(), "TD", 5)?;
+    has_values::<ConfidentialityRequirement>(&rt, rt.alloc(), "CR", 4)?;
+    has_values::<IntegrityRequirement>(&rt, rt.alloc(), "IR", 4)?;
+    has_values::<AvailabilityRequirement>(&rt, rt.alloc(), "AR", 4)
+}
+
+/// A value's weight in counts of 10^-24, as the metric's bound tells it.
+fn weight_of<M: Metric + Drop>(metric: M) -> i128 {
+    metric.score()
+}
+
+#[test]
+fn weighs_values(rt: HostRuntime) {
     let rows = [
-        (MetricType::AV, "AV", "Access Vector"),
-        (MetricType::AC, "AC", "Access Complexity"),
-        (MetricType::Au, "Au", "Authentication"),
-        (MetricType::C, "C", "Confidentiality Impact"),
-        (MetricType::I, "I", "Integrity Impact"),
-        (MetricType::A, "A", "Availability Impact"),
-        (MetricType::E, "E", "Exploitability"),
-        (MetricType::RL, "RL", "Remediation Level"),
-        (MetricType::RC, "RC", "Report Confidence"),
-        (MetricType::CDP, "CDP", "Collateral Damage Potential"),
-        (MetricType::TD, "TD", "Target Distribution"),
-        (MetricType::CR, "CR", "Confidentiality Requirement"),
-        (MetricType::IR, "IR", "Integrity Requirement"),
-        (MetricType::AR, "AR", "Availability Requirement"),
+        (weight_of(AccessVector::AdjacentNetwork), 646),
+        (weight_of(Authentication::None), 704),
+        (weight_of(IntegrityImpact::Partial), 275),
+        (weight_of(Exploitability::ProofOfConcept), 900),
+        (weight_of(RemediationLevel::OfficialFix), 870),
+        (weight_of(CollateralDamagePotential::NotDefined), 0),
+        (weight_of(IntegrityRequirement::High), 1510),
     ];
-    for (kind, name, description) in rows {
-        is_named(&rt, rt.alloc(), kind, name)?;
-        assert!(rt; kind.description() == description);
+    for (weight, thousandths) in rows {
+        assert_eq!(rt; weight, i128::from(thousandths) * THOUSANDTH);
     }
-    assert!(rt; MetricType::A < MetricType::AC && MetricType::IR < MetricType::AR);
-    Ok(())
-}
-
-#[test]
-fn refuses_other_names(rt: HostRuntime) -> Result<(), Fail> {
-    for text in ["", "AU", "av", "CVSS", "ND"] {
-        let name = String::from_str(rt.alloc(), text)?;
-        let refused = MetricType::from_str(rt.alloc(), text);
-        assert!(rt; refused == Err(Error::UnknownMetric { name }), "{text}");
-    }
-    Ok(())
+    assert!(rt; AccessVector::from_str(rt.alloc(), "L") == Ok(AccessVector::Local));
 }

@@ -1,6 +1,6 @@
 //! Tests of the metrics.
 
-use cvss::Error;
+use crate::values::are_printed;
 use cvss::v3::metric::base::{
     AttackComplexity, AttackVector, Availability, Confidentiality, Integrity, PrivilegesRequired,
     Scope, UserInteraction,
@@ -11,104 +11,104 @@ use cvss::v3::metric::environmental::{
 };
 use cvss::v3::metric::temporal::{ExploitCodeMaturity, RemediationLevel, ReportConfidence};
 use cvss::v3::{Metric, MetricType};
-use std::alloc::{AllocError, Global};
+use std::alloc::Global;
 use std::process::Abort;
 use std::test::Fail;
 
 /// One hundredth of a score point.
 const HUNDREDTH: i128 = 10_000_000_000_000_000_000_000;
 
-/// A metric's name, the value's spelling and its weight in hundredths, as the metric's bound tells
-/// them, and whether the spelling and its lower case are read as the value.
-fn facts_of<M: Metric + Drop>(
-    metric: M,
-    in_lower_case: &str,
-) -> (&'static str, &'static str, Option<i128>, bool, bool) {
-    let spelling = metric.as_str();
-    let weight = if metric.has_score() {
-        Some(metric.score())
-    } else {
-        None
-    };
-    let is_read = M::read(spelling) == Some(metric) && M::read(in_lower_case) == None;
-    let is_raised = M::read_raised(in_lower_case) == Some(metric);
-    (M::name(), spelling, weight, is_read, is_raised)
+/// The spellings of the values of all metrics (v3.1 specification, section 6).
+const SPELLINGS: [&str; 14] = [
+    "N", "L", "A", "P", "H", "R", "U", "C", "X", "F", "W", "T", "O", "M",
+];
+
+/// Reads, spells, prints, copies and compares all values of a metric.
+fn has_values<M: Metric + Drop>(
+    rt: &impl Abort,
+    alloc: Global,
+    name: &str,
+    count: usize,
+) -> Result<(), Fail> {
+    let mut rows = Vec::new(alloc);
+    for spelling in SPELLINGS {
+        if let Some(metric) = M::read(spelling) {
+            assert_eq!(rt; metric.as_str(), spelling, "{name}");
+            rows.push((spelling, metric))?;
+        }
+    }
+    assert!(rt; M::name() == name && rows.len() == count, "{name}");
+    are_printed(rt, alloc, format!(in alloc; "{name}:")?.as_str(), &rows)
 }
 
 #[test]
-fn spells_and_weighs_values(rt: HostRuntime) -> Result<(), Fail> {
-    let rows = [
-        (facts_of(AttackVector::Adjacent, "a"), "AV", "A", Some(62)),
-        (facts_of(AttackComplexity::Low, "l"), "AC", "L", Some(77)),
-        (facts_of(PrivilegesRequired::High, "h"), "PR", "H", Some(27)),
-        (
-            facts_of(UserInteraction::Required, "r"),
-            "UI",
-            "R",
-            Some(62),
-        ),
-        (facts_of(Scope::Changed, "c"), "S", "C", None),
-        (facts_of(Confidentiality::Low, "l"), "C", "L", Some(22)),
-        (facts_of(Integrity::High, "h"), "I", "H", Some(56)),
-        (facts_of(Availability::None, "n"), "A", "N", Some(0)),
-        (
-            facts_of(ExploitCodeMaturity::Unproven, "u"),
-            "E",
-            "U",
-            Some(91),
-        ),
-        (
-            facts_of(RemediationLevel::TemporaryFix, "t"),
-            "RL",
-            "T",
-            Some(96),
-        ),
-        (
-            facts_of(ReportConfidence::Reasonable, "r"),
-            "RC",
-            "R",
-            Some(96),
-        ),
-        (
-            facts_of(ConfidentialityRequirement::High, "h"),
-            "CR",
-            "H",
-            Some(150),
-        ),
-        (
-            facts_of(IntegrityRequirement::NotDefined, "x"),
-            "IR",
-            "X",
-            Some(100),
-        ),
-        (
-            facts_of(AvailabilityRequirement::Low, "l"),
-            "AR",
-            "L",
-            Some(50),
-        ),
-        (
-            facts_of(Modified::Modified(Integrity::Low), "l"),
-            "MI",
-            "L",
-            Some(0),
-        ),
-        (facts_of(ModifiedScope::NotDefined, "x"), "MS", "X", Some(0)),
-        (
-            facts_of(ModifiedScope::Modified(Scope::Unchanged), "u"),
-            "MS",
-            "U",
-            None,
-        ),
-    ];
-    for (facts, name, spelling, hundredths) in rows {
-        let weight = hundredths.map(|count: u8| i128::from(count) * HUNDREDTH);
-        assert!(rt;
-            facts == (name, spelling, weight, true, true),
-            "{name} {spelling}"
-        );
+fn values_of_base_metrics(rt: HostRuntime) -> Result<(), Fail> {
+    has_values::<AttackVector>(&rt, rt.alloc(), "AV", 4)?;
+    has_values::<AttackComplexity>(&rt, rt.alloc(), "AC", 2)?;
+    has_values::<PrivilegesRequired>(&rt, rt.alloc(), "PR", 3)?;
+    has_values::<UserInteraction>(&rt, rt.alloc(), "UI", 2)?;
+    has_values::<Scope>(&rt, rt.alloc(), "S", 2)?;
+    has_values::<Confidentiality>(&rt, rt.alloc(), "C", 3)?;
+    has_values::<Integrity>(&rt, rt.alloc(), "I", 3)?;
+    has_values::<Availability>(&rt, rt.alloc(), "A", 3)
+}
+
+#[test]
+fn values_of_optional_metrics(rt: HostRuntime) -> Result<(), Fail> {
+    has_values::<ExploitCodeMaturity>(&rt, rt.alloc(), "E", 5)?;
+    has_values::<RemediationLevel>(&rt, rt.alloc(), "RL", 5)?;
+    has_values::<ReportConfidence>(&rt, rt.alloc(), "RC", 4)?;
+    has_values::<ConfidentialityRequirement>(&rt, rt.alloc(), "CR", 4)?;
+    has_values::<IntegrityRequirement>(&rt, rt.alloc(), "IR", 4)?;
+    has_values::<AvailabilityRequirement>(&rt, rt.alloc(), "AR", 4)
+}
+
+#[test]
+fn values_of_modified_metrics(rt: HostRuntime) -> Result<(), Fail> {
+    has_values::<Modified<AttackVector>>(&rt, rt.alloc(), "MAV", 5)?;
+    has_values::<Modified<AttackComplexity>>(&rt, rt.alloc(), "MAC", 3)?;
+    has_values::<Modified<PrivilegesRequired>>(&rt, rt.alloc(), "MPR", 4)?;
+    has_values::<Modified<UserInteraction>>(&rt, rt.alloc(), "MUI", 3)?;
+    has_values::<ModifiedScope>(&rt, rt.alloc(), "MS", 3)?;
+    has_values::<Modified<Confidentiality>>(&rt, rt.alloc(), "MC", 4)?;
+    has_values::<Modified<Integrity>>(&rt, rt.alloc(), "MI", 4)?;
+    has_values::<Modified<Availability>>(&rt, rt.alloc(), "MA", 4)
+}
+
+/// A value's weight in counts of 10^-24, as the metric's bound tells it.
+fn weight_of<M: Metric + Drop>(metric: M) -> Option<i128> {
+    if metric.has_score() {
+        Some(metric.score())
+    } else {
+        None
     }
-    Ok(())
+}
+
+#[test]
+fn weighs_values(rt: HostRuntime) {
+    let rows = [
+        (weight_of(AttackVector::Adjacent), Some(62)),
+        (weight_of(AttackComplexity::Low), Some(77)),
+        (weight_of(PrivilegesRequired::High), Some(27)),
+        (weight_of(UserInteraction::Required), Some(62)),
+        (weight_of(Scope::Changed), None),
+        (weight_of(Confidentiality::Low), Some(22)),
+        (weight_of(Integrity::High), Some(56)),
+        (weight_of(Availability::None), Some(0)),
+        (weight_of(ExploitCodeMaturity::Unproven), Some(91)),
+        (weight_of(RemediationLevel::TemporaryFix), Some(96)),
+        (weight_of(ReportConfidence::Reasonable), Some(96)),
+        (weight_of(ConfidentialityRequirement::High), Some(150)),
+        (weight_of(IntegrityRequirement::NotDefined), Some(100)),
+        (weight_of(AvailabilityRequirement::Low), Some(50)),
+        (weight_of(Modified::Modified(Integrity::Low)), Some(0)),
+        (weight_of(ModifiedScope::NotDefined), Some(0)),
+        (weight_of(ModifiedScope::Modified(Scope::Unchanged)), None),
+    ];
+    for (weight, hundredths) in rows {
+        let expected = hundredths.map(|count: u8| i128::from(count) * HUNDREDTH);
+        assert!(rt; weight == expected);
+    }
 }
 
 #[test]
@@ -136,97 +136,10 @@ fn modified_values_replace_base_values(rt: HostRuntime) {
 }
 
 #[test]
-fn a_changed_scope_and_the_default(rt: HostRuntime) {
+fn changed_scopes_defaults_and_reading(rt: HostRuntime) {
     assert!(rt; Scope::Changed.is_changed() && !Scope::Unchanged.is_changed());
     assert!(rt; AttackComplexity::default() == AttackComplexity::High);
     assert!(rt; AttackVector::MODIFIED_TYPE == MetricType::MAV);
-}
-
-/// Compares what was printed.
-fn is_text(rt: &impl Abort, printed: Result<String, AllocError>, text: &str) -> Result<(), Fail> {
-    assert_eq!(rt; printed?.as_str(), text);
-    Ok(())
-}
-
-#[test]
-fn modified_metrics_are_printed(rt: HostRuntime) -> Result<(), Fail> {
-    let alloc = rt.alloc();
-    let none = Modified::Modified(UserInteraction::None);
-    is_text(&rt, none.to_string(alloc), "MUI:N")?;
-    let absent = Modified::<Availability>::NotDefined;
-    is_text(&rt, absent.to_string(alloc), "MA:X")?;
-    is_text(&rt, ModifiedScope::NotDefined.to_string(alloc), "MS:X")?;
-    is_text(&rt, Scope::Changed.to_string(alloc), "S:C")
-}
-
-/// Compares why a value was refused.
-fn is_refused<M>(rt: &impl Abort, refused: Result<M, Error>, metric_type: MetricType, value: String)
-where
-    M: PartialEq + Drop,
-{
-    assert!(rt; refused == Err(Error::InvalidMetricV3 { metric_type, value }));
-}
-
-#[test]
-fn modified_metrics_are_refused_as_their_base_metrics(rt: HostRuntime) -> Result<(), Fail> {
-    let alloc = rt.alloc();
-    let value = String::from_str(alloc, "n")?;
-    let refused = Modified::<AttackVector>::from_str(alloc, "n");
-    is_refused(&rt, refused, MetricType::AV, value);
-    let value = String::from_str(alloc, "q")?;
-    let refused = ModifiedScope::from_str(alloc, "q");
-    is_refused(&rt, refused, MetricType::S, value);
-    assert!(rt; AttackVector::from_str(alloc, "N") == Ok(AttackVector::Network));
-    Ok(())
-}
-
-/// Names one metric type by all calls that it has.
-fn is_named(rt: &impl Abort, alloc: Global, kind: MetricType, name: &str) -> Result<(), Fail> {
-    assert_eq!(rt; kind.name(), name);
-    assert_eq!(rt; kind.to_string(alloc)?.as_str(), name);
-    assert!(rt; MetricType::from_str(alloc, name) == Ok(kind), "{name}");
-    Ok(())
-}
-
-#[test]
-fn names_metrics(rt: HostRuntime) -> Result<(), Fail> {
-    let rows = [
-        (MetricType::AV, "AV", "Attack Vector"),
-        (MetricType::AC, "AC", "Attack Complexity"),
-        (MetricType::PR, "PR", "Privileges Required"),
-        (MetricType::UI, "UI", "User Interaction"),
-        (MetricType::S, "S", "Scope"),
-        (MetricType::C, "C", "Confidentiality Impact"),
-        (MetricType::I, "I", "Integrity Impact"),
-        (MetricType::A, "A", "Availability Impact"),
-        (MetricType::E, "E", "Exploit Code Maturity"),
-        (MetricType::RL, "RL", "Remediation Level"),
-        (MetricType::RC, "RC", "Report Confidence"),
-        (MetricType::CR, "CR", "Confidentiality Requirements"),
-        (MetricType::IR, "IR", "Integrity Requirements"),
-        (MetricType::AR, "AR", "Availability Requirements"),
-        (MetricType::MAV, "MAV", "Modified Attack Vector"),
-        (MetricType::MAC, "MAC", "Modified Attack Complexity"),
-        (MetricType::MPR, "MPR", "Modified Privileges Required"),
-        (MetricType::MUI, "MUI", "Modified User Interaction"),
-        (MetricType::MS, "MS", "Modified Scope"),
-        (MetricType::MC, "MC", "Modified Confidentiality"),
-        (MetricType::MI, "MI", "Modified Integrity"),
-        (MetricType::MA, "MA", "Modified Availability"),
-    ];
-    for (kind, name, description) in rows {
-        is_named(&rt, rt.alloc(), kind, name)?;
-        assert!(rt; kind.description() == description);
-    }
-    Ok(())
-}
-
-#[test]
-fn refuses_other_names(rt: HostRuntime) -> Result<(), Fail> {
-    for text in ["", "av", "Au", "CVSS", "X"] {
-        let name = String::from_str(rt.alloc(), text)?;
-        let refused = MetricType::from_str(rt.alloc(), text);
-        assert!(rt; refused == Err(Error::UnknownMetric { name }), "{text}");
-    }
-    Ok(())
+    assert!(rt; AttackVector::from_str(rt.alloc(), "N") == Ok(AttackVector::Network));
+    assert!(rt; AttackVector::read_raised("n") == Some(AttackVector::Network));
 }

@@ -1,7 +1,7 @@
 //! Tests of texts: reading, refusing, printing and listing.
 
 use cvss::Error;
-use cvss::v3::metric::base::{AttackVector, Scope};
+use cvss::v3::metric::base::AttackVector;
 use cvss::v3::metric::environmental::{Modified, ModifiedScope};
 use cvss::v3::{MetricType, Vector};
 use std::test::Fail;
@@ -135,20 +135,6 @@ fn prints_vectors_that_no_text_denotes(rt: HostRuntime) -> Result<(), Fail> {
     let refused = Vector::from_str(rt.alloc(), printed.as_str());
     let version = String::from_str(rt.alloc(), "3.1234567890")?;
     assert!(rt; refused == Err(Error::UnsupportedVersion { version }));
-    Ok(())
-}
-
-#[test]
-fn vectors_of_two_versions_differ(rt: HostRuntime) -> Result<(), Fail> {
-    let old = Vector {
-        s: Some(Scope::Changed),
-        ..Vector::default()
-    };
-    let new = Vector {
-        minor_version: 1,
-        ..old
-    };
-    assert!(rt; !old.same_text(&new) && old != new && new.same_text(&new));
     Ok(())
 }
 

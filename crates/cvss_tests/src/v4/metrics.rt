@@ -1,5 +1,6 @@
 //! Tests of the metrics.
 
+use crate::values::are_printed;
 use cvss::Error;
 use cvss::v4::MetricType;
 use cvss::v4::metric::Metric;
@@ -23,140 +24,89 @@ use cvss::v4::metric::supplemental::{
     Automatable, ProviderUrgency, Recovery, Safety, ValueDensity, VulnerabilityResponseEffort,
 };
 use cvss::v4::metric::threat::ExploitMaturity;
+use std::alloc::Global;
+use std::process::Abort;
 use std::test::Fail;
 
-/// A metric's name and the value's spelling, and whether the spelling, raised, is read as the value.
-fn facts_of<M: Metric + Drop>(
-    metric: M,
-    in_lower_case: &str,
-) -> (&'static str, &'static str, bool) {
-    let spelling = metric.as_str();
-    let is_read = M::read(spelling) == Some(metric) && M::read(in_lower_case) == None;
-    let is_raised = M::read_raised(in_lower_case) == Some(metric);
-    (M::name(), spelling, is_read && is_raised)
+/// The spellings of the values of all metrics (v4.0 specification, section 7).
+const SPELLINGS: [&str; 17] = [
+    "N", "L", "A", "P", "H", "X", "U", "M", "S", "Y", "I", "D", "C", "Red", "Amber", "Green",
+    "Clear",
+];
+
+/// Reads, spells, prints, copies and compares all values of a metric.
+fn has_values<M: Metric + Drop>(
+    rt: &impl Abort,
+    alloc: Global,
+    name: &str,
+    count: usize,
+) -> Result<(), Fail> {
+    let mut rows = Vec::new(alloc);
+    for spelling in SPELLINGS {
+        if let Some(metric) = M::read(spelling) {
+            assert_eq!(rt; metric.as_str(), spelling, "{name}");
+            rows.push((spelling, metric))?;
+        }
+    }
+    assert!(rt; M::name() == name && rows.len() == count, "{name}");
+    are_printed(rt, alloc, format!(in alloc; "{name}:")?.as_str(), &rows)
 }
 
 #[test]
-fn spells_values_of_base_and_threat_metrics(rt: HostRuntime) -> Result<(), Fail> {
-    let rows = [
-        (facts_of(AttackVector::Adjacent, "a"), "AV", "A"),
-        (facts_of(AttackComplexity::High, "h"), "AC", "H"),
-        (facts_of(AttackRequirements::Present, "p"), "AT", "P"),
-        (facts_of(PrivilegesRequired::None, "n"), "PR", "N"),
-        (facts_of(UserInteraction::Passive, "p"), "UI", "P"),
-        (
-            facts_of(ConfidentialityImpactToTheVulnerableSystem::Low, "l"),
-            "VC",
-            "L",
-        ),
-        (
-            facts_of(IntegrityImpactToTheVulnerableSystem::High, "h"),
-            "VI",
-            "H",
-        ),
-        (
-            facts_of(AvailabilityImpactToTheVulnerableSystem::None, "n"),
-            "VA",
-            "N",
-        ),
-        (
-            facts_of(ConfidentialityImpactToTheSubsequentSystem::High, "h"),
-            "SC",
-            "H",
-        ),
-        (
-            facts_of(IntegrityImpactToTheSubsequentSystem::None, "n"),
-            "SI",
-            "N",
-        ),
-        (
-            facts_of(AvailabilityImpactToTheSubsequentSystem::Low, "l"),
-            "SA",
-            "L",
-        ),
-        (facts_of(ExploitMaturity::ProofOfConcept, "p"), "E", "P"),
-    ];
-    for (facts, name, spelling) in rows {
-        assert!(rt; facts == (name, spelling, true), "{name} {spelling}");
-    }
-    Ok(())
+fn values_of_base_metrics(rt: HostRuntime) -> Result<(), Fail> {
+    let alloc = rt.alloc();
+    has_values::<AttackVector>(&rt, alloc, "AV", 4)?;
+    has_values::<AttackComplexity>(&rt, alloc, "AC", 2)?;
+    has_values::<AttackRequirements>(&rt, alloc, "AT", 2)?;
+    has_values::<PrivilegesRequired>(&rt, alloc, "PR", 3)?;
+    has_values::<UserInteraction>(&rt, alloc, "UI", 3)
 }
 
 #[test]
-fn spells_values_of_environmental_metrics(rt: HostRuntime) -> Result<(), Fail> {
-    let rows = [
-        (facts_of(ConfidentialityRequirements::High, "h"), "CR", "H"),
-        (facts_of(IntegrityRequirements::Low, "l"), "IR", "L"),
-        (facts_of(AvailabilityRequirements::Medium, "m"), "AR", "M"),
-        (facts_of(ModifiedAttackVector::NotDefined, "x"), "MAV", "X"),
-        (facts_of(ModifiedAttackComplexity::Low, "l"), "MAC", "L"),
-        (facts_of(ModifiedAttackRequirements::None, "n"), "MAT", "N"),
-        (facts_of(ModifiedPrivilegesRequired::High, "h"), "MPR", "H"),
-        (facts_of(ModifiedUserInteraction::Active, "a"), "MUI", "A"),
-        (
-            facts_of(
-                ModifiedConfidentialityImpactToTheVulnerableSystem::None,
-                "n",
-            ),
-            "MVC",
-            "N",
-        ),
-        (
-            facts_of(ModifiedIntegrityImpactToTheVulnerableSystem::Low, "l"),
-            "MVI",
-            "L",
-        ),
-        (
-            facts_of(ModifiedAvailabilityImpactToTheVulnerableSystem::High, "h"),
-            "MVA",
-            "H",
-        ),
-        (
-            facts_of(
-                ModifiedConfidentialityImpactToTheSubsequentSystem::Negligible,
-                "n",
-            ),
-            "MSC",
-            "N",
-        ),
-        (
-            facts_of(ModifiedIntegrityImpactToTheSubsequentSystem::Safety, "s"),
-            "MSI",
-            "S",
-        ),
-        (
-            facts_of(
-                ModifiedAvailabilityImpactToTheSubsequentSystem::NotDefined,
-                "x",
-            ),
-            "MSA",
-            "X",
-        ),
-    ];
-    for (facts, name, spelling) in rows {
-        assert!(rt; facts == (name, spelling, true), "{name} {spelling}");
-    }
-    Ok(())
+fn values_of_impact_metrics(rt: HostRuntime) -> Result<(), Fail> {
+    let alloc = rt.alloc();
+    has_values::<ConfidentialityImpactToTheVulnerableSystem>(&rt, alloc, "VC", 3)?;
+    has_values::<IntegrityImpactToTheVulnerableSystem>(&rt, alloc, "VI", 3)?;
+    has_values::<AvailabilityImpactToTheVulnerableSystem>(&rt, alloc, "VA", 3)?;
+    has_values::<ConfidentialityImpactToTheSubsequentSystem>(&rt, alloc, "SC", 3)?;
+    has_values::<IntegrityImpactToTheSubsequentSystem>(&rt, alloc, "SI", 3)?;
+    has_values::<AvailabilityImpactToTheSubsequentSystem>(&rt, alloc, "SA", 3)
 }
 
 #[test]
-fn spells_values_of_supplemental_metrics(rt: HostRuntime) -> Result<(), Fail> {
-    let rows = [
-        (facts_of(Safety::Present, "p"), "S", "P"),
-        (facts_of(Automatable::Yes, "y"), "AU", "Y"),
-        (facts_of(Recovery::Irrecoverable, "i"), "R", "I"),
-        (facts_of(ValueDensity::Concentrated, "c"), "V", "C"),
-        (
-            facts_of(VulnerabilityResponseEffort::Moderate, "m"),
-            "RE",
-            "M",
-        ),
-        (facts_of(ProviderUrgency::Amber, "amber"), "U", "Amber"),
-    ];
-    for (facts, name, spelling) in rows {
-        assert!(rt; facts == (name, spelling, true), "{name} {spelling}");
-    }
-    Ok(())
+fn values_of_threat_and_supplemental_metrics(rt: HostRuntime) -> Result<(), Fail> {
+    let alloc = rt.alloc();
+    has_values::<ExploitMaturity>(&rt, alloc, "E", 4)?;
+    has_values::<Safety>(&rt, alloc, "S", 3)?;
+    has_values::<Automatable>(&rt, alloc, "AU", 3)?;
+    has_values::<Recovery>(&rt, alloc, "R", 4)?;
+    has_values::<ValueDensity>(&rt, alloc, "V", 3)?;
+    has_values::<VulnerabilityResponseEffort>(&rt, alloc, "RE", 4)?;
+    has_values::<ProviderUrgency>(&rt, alloc, "U", 5)
+}
+
+#[test]
+fn values_of_environmental_metrics(rt: HostRuntime) -> Result<(), Fail> {
+    let alloc = rt.alloc();
+    has_values::<ConfidentialityRequirements>(&rt, alloc, "CR", 4)?;
+    has_values::<IntegrityRequirements>(&rt, alloc, "IR", 4)?;
+    has_values::<AvailabilityRequirements>(&rt, alloc, "AR", 4)?;
+    has_values::<ModifiedAttackVector>(&rt, alloc, "MAV", 5)?;
+    has_values::<ModifiedAttackComplexity>(&rt, alloc, "MAC", 3)?;
+    has_values::<ModifiedAttackRequirements>(&rt, alloc, "MAT", 3)?;
+    has_values::<ModifiedPrivilegesRequired>(&rt, alloc, "MPR", 4)?;
+    has_values::<ModifiedUserInteraction>(&rt, alloc, "MUI", 4)
+}
+
+#[test]
+fn values_of_modified_impact_metrics(rt: HostRuntime) -> Result<(), Fail> {
+    let alloc = rt.alloc();
+    has_values::<ModifiedConfidentialityImpactToTheVulnerableSystem>(&rt, alloc, "MVC", 4)?;
+    has_values::<ModifiedIntegrityImpactToTheVulnerableSystem>(&rt, alloc, "MVI", 4)?;
+    has_values::<ModifiedAvailabilityImpactToTheVulnerableSystem>(&rt, alloc, "MVA", 4)?;
+    has_values::<ModifiedConfidentialityImpactToTheSubsequentSystem>(&rt, alloc, "MSC", 4)?;
+    has_values::<ModifiedIntegrityImpactToTheSubsequentSystem>(&rt, alloc, "MSI", 5)?;
+    has_values::<ModifiedAvailabilityImpactToTheSubsequentSystem>(&rt, alloc, "MSA", 5)
 }
 
 #[test]
@@ -171,8 +121,8 @@ fn provider_urgency_is_read_as_printed_and_in_capitals(rt: HostRuntime) -> Resul
     let metric_type = MetricType::U;
     let refused = ProviderUrgency::from_str(rt.alloc(), "red");
     assert!(rt; refused == Err(Error::InvalidMetricV4 { metric_type, value }));
-    let printed = ProviderUrgency::Red.to_string(rt.alloc())?;
-    assert_eq!(rt; printed.as_str(), "U:Red");
+    assert!(rt; ProviderUrgency::read("red") == None);
+    assert!(rt; ProviderUrgency::read_raised("red") == Some(ProviderUrgency::Red));
     Ok(())
 }
 

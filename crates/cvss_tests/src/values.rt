@@ -1,0 +1,59 @@
+//! What is asked of the values of every public type: that they are told apart, copied and printed.
+
+use std::alloc::{AllocError, Global};
+use std::fmt;
+use std::process::Abort;
+use std::test::Fail;
+
+/// Keeps a refusal, if there is one, beside the text that tells it.
+pub(crate) fn push<T: Drop>(
+    rows: &mut Vec<(&'static str, T)>,
+    told: &'static str,
+    refusal: Option<T>,
+) -> Result<(), AllocError> {
+    if let Some(refusal) = refusal {
+        rows.push((told, refusal))?;
+    }
+    Ok(())
+}
+
+/// Compares each value with each. Two are equal exactly where their texts are.
+pub(crate) fn are_told_apart<T: PartialEq>(rt: &impl Abort, rows: &[(&str, T)]) {
+    for (text, one) in rows {
+        for (other_text, other) in rows {
+            let same = text == other_text;
+            assert!(rt; (one == other) == same, "{text} {other_text}");
+            assert!(rt; (one != other) != same, "{text} {other_text}");
+        }
+    }
+}
+
+/// Copies each value, after it was compared with each.
+pub(crate) fn are_copied<T>(rt: &impl Abort, rows: &[(&str, T)]) -> Result<(), Fail>
+where
+    T: Clone + PartialEq,
+{
+    are_told_apart(rt, rows);
+    for (text, value) in rows {
+        assert!(rt; value.clone()? == *value, "{text}");
+    }
+    Ok(())
+}
+
+/// Prints each value, which gives its text behind a beginning that all have, and copies it.
+pub(crate) fn are_printed<T>(
+    rt: &impl Abort,
+    alloc: Global,
+    beginning: &str,
+    rows: &[(&str, T)],
+) -> Result<(), Fail>
+where
+    T: fmt::Display + Clone + PartialEq,
+{
+    are_copied(rt, rows)?;
+    for (text, value) in rows {
+        let expected = format!(in alloc; "{beginning}{text}")?;
+        assert_eq!(rt; value.to_string(alloc)?.as_str(), expected.as_str());
+    }
+    Ok(())
+}
