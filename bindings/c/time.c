@@ -12,26 +12,26 @@ enum { MOST_LINES = 10000, ROUNDS = 200 };
 static char *lines[MOST_LINES];
 static size_t lengths[MOST_LINES];
 static size_t count;
-static uint8_t buffer[4096];
+static char buffer[4096];
 
-static size_t scores(const uint8_t *text, size_t length)
+static size_t scores(const char *text, size_t length)
 {
     CvssScores scores = {0};
     return cvss_scores(text, length, &scores) + (size_t)scores.base;
 }
 
-static size_t canonical(const uint8_t *text, size_t length)
+static size_t canonical(const char *text, size_t length)
 {
     return cvss_canonical(text, length, buffer, sizeof buffer);
 }
 
-static size_t answer(const uint8_t *text, size_t length)
+static size_t answer(const char *text, size_t length)
 {
     return cvss_answer(text, length, buffer, sizeof buffer);
 }
 
 /* Of the rounds the fastest, which other programs on the machine have disturbed least. */
-static void print_time(const char *name, size_t (*call)(const uint8_t *, size_t))
+static void print_time(const char *name, size_t (*call)(const char *, size_t))
 {
     size_t sum = 0;
     double least = 1e18;
@@ -39,7 +39,7 @@ static void print_time(const char *name, size_t (*call)(const uint8_t *, size_t)
         struct timespec from, to;
         clock_gettime(CLOCK_MONOTONIC, &from);
         for (size_t i = 0; i < count; i++)
-            sum += call((const uint8_t *)lines[i], lengths[i]);
+            sum += call(lines[i], lengths[i]);
         clock_gettime(CLOCK_MONOTONIC, &to);
         double taken = (double)(to.tv_sec - from.tv_sec) * 1e9 + (double)(to.tv_nsec - from.tv_nsec);
         if (taken < least)
@@ -54,7 +54,7 @@ int main(void)
     size_t room = 0;
     while (count < MOST_LINES && getline(&line, &room, stdin) >= 0) {
         size_t length = strcspn(line, "\r\n");
-        if (cvss_version((const uint8_t *)line, length) == CVSS_NOTHING)
+        if (cvss_version(line, length) == CVSS_NOTHING)
             continue;
         lines[count] = malloc(length + 1);
         if (lines[count] == NULL)

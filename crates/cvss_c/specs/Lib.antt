@@ -1,3 +1,4 @@
 pub mod Answers
 pub mod Buffer
+pub mod Refusals
 pub mod Scores

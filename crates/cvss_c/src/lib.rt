@@ -11,7 +11,11 @@ mod calls;
 mod canonical;
 mod numbers;
 mod reason;
+mod refusal;
 mod scores;
 
-pub use calls::{cvss_answer, cvss_canonical, cvss_reason, cvss_scores, cvss_version};
+pub use calls::{
+    cvss_answer, cvss_canonical, cvss_reason, cvss_refusal_kind, cvss_refusal_metric, cvss_scores,
+    cvss_version,
+};
 pub use scores::CvssScores;
