@@ -11,8 +11,8 @@
  * returns the length of the whole result, whatever the buffer's size: where it is more than the size, the
  * buffer is left as it was, and the caller may call again with a larger one. No byte 0 is written.
  *
- * Pointers. A text or a buffer may be NULL where its length or size is 0: it is empty. The struct may not be
- * NULL. Buffers and structs that are written must not overlap the text.
+ * Pointers. A text or a buffer may be NULL where its length or size is 0: it is empty. A struct, and
+ * `read`, may not be NULL. What is written must not overlap what is read.
  *
  * Threads. The functions keep no state: any number of threads may call them at once, each with its own
  * buffer or struct.
@@ -114,6 +114,15 @@ size_t cvss_refusal_metric(const void *text, size_t length, void *buffer, size_t
  * Returns its length.
  */
 size_t cvss_answer(const void *text, size_t length, void *buffer, size_t size);
+
+/*
+ * The answers to many texts in one call. Each text is ended by a newline, which one carriage return may precede; each
+ * answer is ended by a newline. As many answers as have room are written into the buffer, one behind the other, and
+ * behind them the buffer keeps its bytes. Returns their length, and writes into `*read` how many bytes of the texts
+ * they answer. So a caller goes on with the texts behind these; where `*read` is 0 and a newline is there, the next
+ * answer needs a larger buffer. What stands behind the last newline is not read.
+ */
+size_t cvss_answers(const void *texts, size_t length, void *buffer, size_t size, size_t *read);
 
 #ifdef __cplusplus
 }

@@ -1,4 +1,4 @@
-/* An empty text, and an empty buffer, may be NULL in each function. Ends with status 0 where each answers as it must. */
+/* An empty text, and an empty buffer, may be NULL. Ends with status 0 where each function answers as it must. */
 #include "cvss.h"
 
 #include <string.h>
@@ -19,5 +19,8 @@ int main(void)
     right &= cvss_refusal_metric(NULL, 0, NULL, 0) == 0 && cvss_refusal_metric("AV:N/AC:q", 9, NULL, 0) == 2;
     right &= cvss_answer(NULL, 0, NULL, 0) == told + strlen("error: ");
     right &= cvss_answer(text, length, NULL, 0) == length + strlen(" 7.8 high");
+    size_t read = 1;
+    right &= cvss_answers(NULL, 0, NULL, 0, &read) == 0 && read == 0;
+    right &= cvss_answers("x\n", 2, NULL, 0, &read) == 0 && read == 0;
     return right ? 0 : 1;
 }

@@ -11,6 +11,7 @@ package cvss
 import "C"
 
 import (
+	"bytes"
 	"strings"
 	"unsafe"
 )
@@ -66,13 +67,13 @@ func bytesOf(text string) ([]byte, C.size_t) {
 // Parse reads the vector that a text denotes, by the rules of the version that its first piece tells; without such a
 // piece by those of v2. The error is a *RefusedError.
 func Parse(text string) (Vector, error) {
-	bytes, length := bytesOf(text)
+	code, length := bytesOf(text)
 	var scores C.CvssScores
-	if !bool(C.cvss_scores(pointer(bytes), length, &scores)) {
-		return Vector{}, refusal(bytes, length)
+	if !bool(C.cvss_scores(pointer(code), length, &scores)) {
+		return Vector{}, refusal(code, length)
 	}
-	canonical := make([]byte, len(bytes))
-	C.cvss_canonical(pointer(bytes), length, pointer(canonical), length)
+	canonical := make([]byte, len(code))
+	C.cvss_canonical(pointer(code), length, pointer(canonical), length)
 	vector := Vector{
 		text:       string(canonical[:length]),
 		version:    versions[scores.version],
@@ -135,10 +136,28 @@ func (v Vector) Metrics() []Metric {
 // Answer is the line that the program cvss_tool answers to a text, without the newline: the canonical text, the score
 // and its rating, or "error: " and the reason.
 func Answer(text string) string {
-	bytes, length := bytesOf(text)
+	code, length := bytesOf(text)
 	return written(len(text)+120, func(buffer unsafe.Pointer, size C.size_t) C.size_t {
-		return C.cvss_answer(pointer(bytes), length, buffer, size)
+		return C.cvss_answer(pointer(code), length, buffer, size)
 	})
+}
+
+// AnswerLines gives the lines that the program cvss_tool answers to the lines of a text: much faster than a call of
+// Answer for each. Each line is ended by a newline, which one carriage return may precede; a last line without one is
+// not answered.
+func AnswerLines(lines []byte) []byte {
+	var answers []byte
+	buffer := make([]byte, 1<<16)
+	for bytes.IndexByte(lines, '\n') >= 0 {
+		var read C.size_t
+		length := C.cvss_answers(pointer(lines), C.size_t(len(lines)), pointer(buffer), C.size_t(len(buffer)), &read)
+		answers = append(answers, buffer[:length]...)
+		lines = lines[read:]
+		if read == 0 {
+			buffer = make([]byte, 2*len(buffer))
+		}
+	}
+	return answers
 }
 
 // written is what a call writes into a buffer that is large enough; tried first with one of this size.

@@ -62,6 +62,10 @@ func TestStoredLines(t *testing.T) {
 	if len(expected) != len(given) || len(answers) != len(given) {
 		t.Fatalf("%d lines, %d facts and %d answers", len(given), len(expected), len(answers))
 	}
+	told := string(cvss.AnswerLines([]byte(strings.Join(given, "\n") + "\n")))
+	if told != strings.Join(answers, "\n")+"\n" {
+		t.Error("the answers to all lines in one call are others")
+	}
 	var threads sync.WaitGroup
 	for thread := 0; thread < 4; thread++ {
 		threads.Add(1)

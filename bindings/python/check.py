@@ -9,7 +9,7 @@ from pathlib import Path
 from typing import Any, Callable, List, Optional, Tuple, Type
 
 import cvss_proved
-from cvss_proved import CvssError, Text, Vector, answer
+from cvss_proved import CvssError, Text, Vector, answer, answers
 
 KINDS = (
     "",
@@ -58,6 +58,7 @@ def check_stored_lines(root: Path) -> None:
         assert len(lines) == len(expected)
         for line, told in zip(lines, expected):
             assert call(line) == told.decode(), line
+    assert answers(lines) == [told.decode() for told in lines_of(stored / "stdout")]
     print(f"Python: {len(lines)} lines, 0 wrong answers")
 
 
@@ -85,6 +86,19 @@ def check_texts() -> None:
         assert answer(text) == "error: not UTF-8"
 
 
+def check_many_texts() -> None:
+    """Each text has the answer that it has alone, whatever bytes it has."""
+    rows: Tuple[List[Text], ...] = (
+        [],
+        ["", TEXT, ""],
+        [TEXT + "\n", "\n\n", TEXT + "\r"],
+        ["\u2028", "x" * 200_000],
+        [b"\xff", TEXT],
+    )
+    for texts in rows:
+        assert answers(texts) == [answer(text) for text in texts], texts
+
+
 def check_values() -> None:
     """The two vectors have the base scores 7.8 and 10.0 (CVSS v2 guide, sections 3.3.1 and 3.3.2)."""
     lower, higher = Vector(TEXT), Vector("AV:N/AC:L/Au:N/C:C/I:C/A:C")
@@ -103,4 +117,5 @@ def check_values() -> None:
 if __name__ == "__main__":
     check_stored_lines(Path(sys.argv[1]))
     check_texts()
+    check_many_texts()
     check_values()

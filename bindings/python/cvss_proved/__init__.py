@@ -21,8 +21,8 @@ cvss_proved.CvssError: invalid CVSSv2 AC (Access Complexity) metric: `q`
 
 from ._error import CvssError
 from ._library import Text
-from ._vector import Scores, Severities, Vector, answer
+from ._vector import Scores, Severities, Vector, answer, answers
 
 __version__ = "1.0.0"
 
-__all__ = ["CvssError", "Scores", "Severities", "Text", "Vector", "answer", "__version__"]
+__all__ = ["CvssError", "Scores", "Severities", "Text", "Vector", "answer", "answers", "__version__"]

@@ -68,6 +68,9 @@ def _declared(library: ctypes.CDLL) -> ctypes.CDLL:
     ):
         call.argtypes = text + [ctypes.c_char_p, ctypes.c_size_t]
         call.restype = ctypes.c_size_t
+    many = text + [ctypes.c_char_p, ctypes.c_size_t]
+    library.cvss_answers.argtypes = many + [ctypes.POINTER(ctypes.c_size_t)]
+    library.cvss_answers.restype = ctypes.c_size_t
     return library
 
 
@@ -123,3 +126,15 @@ def refusal_metric(text: bytes) -> str:
 def answer(text: bytes) -> str:
     """The line that the program cvss_tool answers."""
     return _written(_library.cvss_answer, text, len(text) + 120)
+
+
+def answers(lines: bytes) -> bytes:
+    """The answers to the lines of a text that ends in a newline, each with its newline."""
+    size = len(lines) + 120 * (lines.count(b"\n") + 1)
+    while True:
+        buffer = ctypes.create_string_buffer(size)
+        read = ctypes.c_size_t()
+        written = _library.cvss_answers(lines, len(lines), buffer, size, ctypes.byref(read))
+        if read.value == len(lines):
+            return buffer.raw[:written]
+        size *= 2

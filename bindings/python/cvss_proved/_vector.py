@@ -3,7 +3,7 @@
 from __future__ import annotations
 
 from functools import total_ordering
-from typing import Dict, NamedTuple, Optional, Tuple, Type
+from typing import Dict, Iterable, List, NamedTuple, Optional, Tuple, Type
 
 from . import _library
 from ._error import CvssError
@@ -175,3 +175,17 @@ def answer(text: Text) -> str:
     'error: not UTF-8'
     """
     return _library.answer(_library.bytes_of(text))
+
+
+def answers(texts: Iterable[Text]) -> List[str]:
+    """The answer to each text, in one call: much faster than a call of `answer` for each.
+
+    >>> answers(["AV:N/AC:L/Au:N/C:N/I:N/A:C", "AV:N"])
+    ['AV:N/AC:L/Au:N/C:N/I:N/A:C 7.8 high', 'error: invalid CVSS metric group component: `AV:N`']
+    """
+    codes = [_library.bytes_of(text) for text in texts]
+    lines = b"".join(code + b"\n" for code in codes)
+    # a text with a newline, or with a carriage return at its end, would be read as another
+    if lines.count(b"\n") != len(codes) or b"\r\n" in lines:
+        return [_library.answer(code) for code in codes]
+    return _library.answers(lines).decode("utf-8", "replace").split("\n")[:-1]

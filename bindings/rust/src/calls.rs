@@ -26,6 +26,13 @@ extern "C" {
     fn cvss_refusal_kind(text: *const u8, length: usize) -> i32;
     fn cvss_refusal_metric(text: *const u8, length: usize, buffer: *mut u8, size: usize) -> usize;
     fn cvss_answer(text: *const u8, length: usize, buffer: *mut u8, size: usize) -> usize;
+    fn cvss_answers(
+        texts: *const u8,
+        length: usize,
+        buffer: *mut u8,
+        size: usize,
+        read: *mut usize,
+    ) -> usize;
 }
 
 /// The scores of the vector that a text denotes.
@@ -72,6 +79,32 @@ pub(crate) fn answer(text: &[u8]) -> Vec<u8> {
         // SAFETY: as above.
         unsafe { cvss_answer(text.as_ptr(), text.len(), buffer.as_mut_ptr(), buffer.len()) }
     })
+}
+
+/// The answers to texts that newlines end, each with its newline.
+pub(crate) fn answers(texts: &[u8]) -> Vec<u8> {
+    let mut all = Vec::with_capacity(2 * texts.len());
+    let mut buffer = vec![0; 1 << 16];
+    let mut rest = texts;
+    while rest.contains(&b'\n') {
+        let mut read = 0;
+        // SAFETY: the pointers are those of slices and of a number that live through the call and do not overlap.
+        let written = unsafe {
+            cvss_answers(
+                rest.as_ptr(),
+                rest.len(),
+                buffer.as_mut_ptr(),
+                buffer.len(),
+                &mut read,
+            )
+        };
+        all.extend_from_slice(&buffer[..written]);
+        rest = &rest[read..];
+        if read == 0 {
+            buffer.resize(2 * buffer.len(), 0);
+        }
+    }
+    all
 }
 
 /// What a call writes into a buffer that is large enough; tried first with one of this size.

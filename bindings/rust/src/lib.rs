@@ -33,3 +33,11 @@ pub use vector::Cvss;
 pub fn answer(text: &[u8]) -> String {
     calls::text_of(calls::answer(text))
 }
+
+/// The lines that the program `cvss_tool` answers to the lines of a text, as a text: much faster than a call of
+/// [`answer`] for each. Each line is ended by a newline, which one carriage return may precede; a last line without
+/// one is not answered.
+#[must_use]
+pub fn answer_lines(lines: &[u8]) -> String {
+    calls::text_of(calls::answers(lines))
+}

@@ -1,6 +1,8 @@
 //! The vectors that are kept in the repository, with their answers.
 
-use cvss_proved::{answer, Cvss, Nomenclature, Refused, RefusedKind, Score, Severity, Version};
+use cvss_proved::{
+    answer, answer_lines, Cvss, Nomenclature, Refused, RefusedKind, Score, Severity, Version,
+};
 use std::fs;
 use std::path::Path;
 
@@ -10,6 +12,7 @@ fn stored_lines_have_their_answers() {
     let lines = fs::read_to_string(stored.join("stdin")).unwrap();
     let answers = fs::read_to_string(stored.join("stdout")).unwrap();
     assert!(!lines.is_empty());
+    assert_eq!(answer_lines(lines.as_bytes()), answers);
     assert_eq!(lines.lines().count(), answers.lines().count());
     for (line, expected) in lines.lines().zip(answers.lines()) {
         assert_eq!(answer(line.as_bytes()), expected, "{line}");
@@ -120,4 +123,14 @@ fn a_text_that_is_not_utf8_is_refused() {
     assert_eq!(answer(b"AV:\xff"), "error: not UTF-8");
     let refused = Cvss::parse_bytes(b"AV:\xff").unwrap_err();
     assert_eq!(refused.kind(), RefusedKind::NotUtf8);
+}
+
+#[test]
+fn a_long_line_is_answered_among_others() {
+    let long = "x".repeat(200_000);
+    let expected = [answer(b""), answer(long.as_bytes()), answer(b"")].join("\n");
+    assert_eq!(
+        answer_lines(format!("\r\n{long}\n\nx").as_bytes()),
+        expected + "\n"
+    );
 }

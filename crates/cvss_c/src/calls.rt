@@ -6,6 +6,7 @@ ghost use Rattle.cvss.specs.Dispatch.{DenotesCvss};
 ghost use Rattle.cvss.specs.declared.vector.Cvss.{Cvss};
 ghost use Rattle.cvss_c.specs.Answers.{Answers, IsAnswer, IsReason};
 ghost use Rattle.cvss_c.specs.Buffer.{IsLeft, IsWritten};
+ghost use Rattle.cvss_c.specs.Lines.{AnswersLines};
 ghost use Rattle.cvss_c.specs.Refusals.{IsBlamed, IsKind};
 ghost use Rattle.cvss_c.specs.Scores.{AreScoresOf, nothing, version_number as number_of_version};
 
@@ -13,6 +14,7 @@ use crate::CvssScores;
 use crate::answer::put_answer;
 use crate::buffer::put_both;
 use crate::canonical::put_canonical;
+use crate::lines::put_answers;
 use crate::numbers::{NOTHING, version_number};
 use crate::reason::put_reason;
 use crate::refusal::{ACCEPTED, blamed_by, kind_of};
@@ -120,4 +122,22 @@ pub extern "C" fn cvss_answer(alloc: Global, text: &[u8], buffer: &mut [u8]) -> 
         Some(cvss) => put_answer(&cvss, text, buffer),
         None => put_reason(alloc, "error: ".as_bytes(), text, buffer),
     }
+}
+
+/// The answers to many texts, each ended by a byte 10, which one byte 13 may precede. Each answer is
+/// ended by a byte 10, as the program writes them. As many are written into the buffer, one behind
+/// the other, as have room in it; their length is told, and in `read` how many bytes of the texts
+/// they answer. What stands behind the last byte 10 is not read.
+#[unsafe(no_mangle)]
+pub extern "C" fn cvss_answers(
+    alloc: Global,
+    texts: &[u8],
+    buffer: &mut [u8],
+    read: &mut usize,
+) -> usize
+    ensures { AnswersLines texts.now buffer.old buffer.new read.new result }
+{
+    let (written, bytes) = put_answers(alloc, texts, buffer);
+    *read = bytes;
+    written
 }
