@@ -133,6 +133,45 @@ func (v Vector) Metrics() []Metric {
 	return metrics
 }
 
+// environmental are the environmental metrics of all versions.
+const environmental = " CDP TD CR IR AR MAV MAC MAT MPR MUI MS MC MI MA MVC MVI MVA MSC MSI MSA "
+
+// WithoutUndefined is the vector without the metrics that are not defined (X, in v2 ND): it has the same scores. A
+// vector of v3 that has no others is given as it is.
+func (v Vector) WithoutUndefined() Vector {
+	var pieces []string
+	for _, piece := range strings.Split(v.text, "/") {
+		if !strings.HasSuffix(piece, ":X") && !strings.HasSuffix(piece, ":ND") {
+			pieces = append(pieces, piece)
+		}
+	}
+	if shorter, err := Parse(strings.Join(pieces, "/")); err == nil {
+		return shorter
+	}
+	return v
+}
+
+// WithOverrides is the vector with an organisation's environmental metrics in place of its own, or beside them. The
+// error is ErrNotEnvironmental, or else a *RefusedError of the vector with these metrics.
+func (v Vector) WithOverrides(overrides []Metric) (Vector, error) {
+	own := make(map[string]bool)
+	var added []string
+	for _, metric := range overrides {
+		if strings.ContainsAny(metric.Name+metric.Value, " /:") || !strings.Contains(environmental, " "+metric.Name+" ") {
+			return Vector{}, ErrNotEnvironmental
+		}
+		own[metric.Name] = true
+		added = append(added, metric.Name+":"+metric.Value)
+	}
+	var pieces []string
+	for _, piece := range strings.Split(v.text, "/") {
+		if name, _, _ := strings.Cut(piece, ":"); !own[name] {
+			pieces = append(pieces, piece)
+		}
+	}
+	return Parse(strings.Join(append(pieces, added...), "/"))
+}
+
 // Answer is the line that the program cvss_tool answers to a text, without the newline: the canonical text, the score
 // and its rating, or "error: " and the reason.
 func Answer(text string) string {
@@ -142,9 +181,9 @@ func Answer(text string) string {
 	})
 }
 
-// AnswerLines gives the lines that the program cvss_tool answers to the lines of a text: much faster than a call of
-// Answer for each. Each line is ended by a newline, which one carriage return may precede; a last line without one is
-// not answered.
+// AnswerLines gives the lines that the program cvss_tool answers to the lines of a text: faster than a call of Answer
+// for each. Each line is ended by a newline, which one carriage return may precede; a last line without one is not
+// answered.
 func AnswerLines(lines []byte) []byte {
 	var answers []byte
 	buffer := make([]byte, 1<<16)

@@ -100,3 +100,45 @@ func TestEmptyTextIsRefused(t *testing.T) {
 		t.Error("an empty text is accepted")
 	}
 }
+
+// What is not defined scores as what is absent (CVSS v2 guide, section 2.2; v3.1, section 3; v4.0, section 3).
+func TestWhatIsNotDefinedScoresAsAbsent(t *testing.T) {
+	for _, text := range lines(t, "crates/cvss_vectors/stdin") {
+		vector, err := cvss.Parse(text)
+		if err != nil {
+			continue
+		}
+		shorter := vector.WithoutUndefined()
+		temporal, _, _ := vector.Temporal()
+		environmental, _, _ := vector.Environmental()
+		shortTemporal, _, _ := shorter.Temporal()
+		shortEnvironmental, _, _ := shorter.Environmental()
+		if shorter.Score() != vector.Score() || shortTemporal != temporal || shortEnvironmental != environmental {
+			t.Errorf("%v: %v has other scores", vector, shorter)
+		}
+		if own, err := vector.WithOverrides(nil); err != nil || own != vector {
+			t.Errorf("%v: %v, %v", vector, own, err)
+		}
+		own, err := vector.WithOverrides([]cvss.Metric{{Name: "IR", Value: "H"}})
+		if err != nil || !strings.Contains(own.String(), "/IR:H") {
+			t.Errorf("%v: %v, %v", vector, own, err)
+		}
+	}
+}
+
+func TestOtherMetricsAreNoOverrides(t *testing.T) {
+	vector, err := cvss.Parse("CVSS:3.1/AV:N")
+	if err != nil {
+		t.Fatal(err)
+	}
+	for _, metric := range []cvss.Metric{{Name: "AC", Value: "L"}, {Name: "CR", Value: "H/E:U"}, {Name: "", Value: ""}} {
+		if _, err := vector.WithOverrides([]cvss.Metric{metric}); !errors.Is(err, cvss.ErrNotEnvironmental) {
+			t.Errorf("%v: %v", metric, err)
+		}
+	}
+	var refused *cvss.RefusedError
+	_, err = vector.WithOverrides([]cvss.Metric{{Name: "CR", Value: "Q"}})
+	if !errors.As(err, &refused) || refused.Metric != "CR" {
+		t.Errorf("%v", err)
+	}
+}

@@ -3,7 +3,13 @@ package cvss
 // #include "cvss.h"
 import "C"
 
-import "unsafe"
+import (
+	"errors"
+	"unsafe"
+)
+
+// ErrNotEnvironmental is the error of an override that is no environmental metric.
+var ErrNotEnvironmental = errors.New("no environmental metric")
 
 // A Kind is the kind of a refusal.
 type Kind int

@@ -99,6 +99,26 @@ def check_many_texts() -> None:
         assert answers(texts) == [answer(text) for text in texts], texts
 
 
+def check_changes(root: Path) -> None:
+    """What is not defined scores as what is absent (CVSS v2 guide, section 2.2; v3.1, section 3; v4.0, section 3)."""
+    for line in lines_of(root / "crates" / "cvss_vectors" / "stdin"):
+        try:
+            vector = Vector(line)
+        except CvssError:
+            continue
+        shorter = vector.without_undefined()
+        assert (shorter.scores, shorter.severities) == (vector.scores, vector.severities), line
+        defined = {name: value for name, value in vector.metrics.items() if value not in ("X", "ND")}
+        assert shorter.metrics == defined or (not defined and shorter == vector), line
+        assert vector.with_overrides({}) == vector
+        assert vector.with_overrides({"IR": "H"}).metrics == {**vector.metrics, "IR": "H"}, line
+    vector = Vector(TEXT)
+    assert raises(ValueError, lambda: vector.with_overrides({"AV": "L"}))
+    assert raises(ValueError, lambda: vector.with_overrides({"CR": "H/E:U"}))
+    for unknown in ({"MAV": "L"}, {"CR": "Q"}):
+        assert raises(CvssError, lambda: vector.with_overrides(unknown)), unknown
+
+
 def check_values() -> None:
     """The two vectors have the base scores 7.8 and 10.0 (CVSS v2 guide, sections 3.3.1 and 3.3.2)."""
     lower, higher = Vector(TEXT), Vector("AV:N/AC:L/Au:N/C:C/I:C/A:C")
@@ -118,4 +138,5 @@ if __name__ == "__main__":
     check_stored_lines(Path(sys.argv[1]))
     check_texts()
     check_many_texts()
+    check_changes(Path(sys.argv[1]))
     check_values()

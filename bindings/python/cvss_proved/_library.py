@@ -92,7 +92,7 @@ def _written(call: Callable[..., int], text: bytes, size: int) -> str:
         buffer = ctypes.create_string_buffer(size)
         length = call(text, len(text), buffer, size)
         if length <= size:
-            return buffer.raw[:length].decode("utf-8", "replace")
+            return ctypes.string_at(buffer, length).decode("utf-8", "replace")
         size = length
 
 
@@ -136,5 +136,5 @@ def answers(lines: bytes) -> bytes:
         read = ctypes.c_size_t()
         written = _library.cvss_answers(lines, len(lines), buffer, size, ctypes.byref(read))
         if read.value == len(lines):
-            return buffer.raw[:written]
+            return ctypes.string_at(buffer, written)
         size *= 2

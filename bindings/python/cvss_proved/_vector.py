@@ -3,7 +3,7 @@
 from __future__ import annotations
 
 from functools import total_ordering
-from typing import Dict, Iterable, List, NamedTuple, Optional, Tuple, Type
+from typing import Dict, Iterable, List, Mapping, NamedTuple, Optional, Tuple, Type
 
 from . import _library
 from ._error import CvssError
@@ -12,6 +12,9 @@ from ._library import NOTHING, Text
 _VERSIONS = {20: "2.0", 30: "3.0", 31: "3.1", 40: "4.0"}
 _SEVERITIES = ("none", "low", "medium", "high", "critical")
 _NOMENCLATURES = ("CVSS-B", "CVSS-BE", "CVSS-BT", "CVSS-BTE")
+_ENVIRONMENTAL = frozenset(
+    "CDP TD CR IR AR MAV MAC MAT MPR MUI MS MC MI MA MVC MVI MVA MSC MSI MSA".split()
+)
 
 
 class Scores(NamedTuple):
@@ -140,6 +143,34 @@ class Vector:
         components = (piece.split(":") for piece in self._text.split("/"))
         return {name: value for name, value in components if name != "CVSS"}
 
+    def without_undefined(self) -> Vector:
+        """The vector without the metrics that are not defined (`X`, in v2 `ND`): it has the same scores.
+
+        A vector of v3 that has no others is given as it is.
+
+        >>> str(Vector("AV:N/AC:L/Au:N/C:N/I:N/A:C/E:ND/TD:H").without_undefined())
+        'AV:N/AC:L/Au:N/C:N/I:N/A:C/TD:H'
+        """
+        pieces = [piece for piece in self._text.split("/") if not piece.endswith((":X", ":ND"))]
+        return self if pieces in (["CVSS:3.0"], ["CVSS:3.1"]) else Vector("/".join(pieces))
+
+    def with_overrides(self, overrides: Mapping[str, str]) -> Vector:
+        """The vector with an organisation's environmental metrics in place of its own, or beside them.
+
+        A name that is no environmental metric is a `ValueError`; one that the version does not have, or a value
+        that the metric does not have, is refused by `CvssError`.
+
+        >>> vector = Vector("CVSS:3.1/AV:N/AC:L/PR:N/UI:N/S:U/C:H/I:H/A:H/CR:H")
+        >>> str(vector.with_overrides({"CR": "L", "MAV": "P"}))
+        'CVSS:3.1/AV:N/AC:L/PR:N/UI:N/S:U/C:H/I:H/A:H/CR:L/MAV:P'
+        """
+        for name, value in overrides.items():
+            if name not in _ENVIRONMENTAL or not value.isalnum():
+                raise ValueError(f"{name}:{value} is no environmental metric")
+        front = [piece for piece in self._text.split("/") if piece.startswith("CVSS:")]
+        metrics = {**self.metrics, **overrides}
+        return Vector("/".join(front + [f"{name}:{value}" for name, value in metrics.items()]))
+
     def __str__(self) -> str:
         return self._text
 
@@ -177,15 +208,23 @@ def answer(text: Text) -> str:
     return _library.answer(_library.bytes_of(text))
 
 
+def _lines_of(texts: List[Text]) -> bytes:
+    """The texts, each ended by a newline."""
+    strings = [text for text in texts if isinstance(text, str)]
+    if len(strings) == len(texts):
+        return _library.bytes_of("\n".join(strings) + "\n")
+    return b"".join(_library.bytes_of(text) + b"\n" for text in texts)
+
+
 def answers(texts: Iterable[Text]) -> List[str]:
-    """The answer to each text, in one call: much faster than a call of `answer` for each.
+    """The answer to each text, by one call of the library: faster than `answer` for each.
 
     >>> answers(["AV:N/AC:L/Au:N/C:N/I:N/A:C", "AV:N"])
     ['AV:N/AC:L/Au:N/C:N/I:N/A:C 7.8 high', 'error: invalid CVSS metric group component: `AV:N`']
     """
-    codes = [_library.bytes_of(text) for text in texts]
-    lines = b"".join(code + b"\n" for code in codes)
+    given = list(texts)
+    lines = _lines_of(given)
     # a text with a newline, or with a carriage return at its end, would be read as another
-    if lines.count(b"\n") != len(codes) or b"\r\n" in lines:
-        return [_library.answer(code) for code in codes]
+    if lines.count(b"\n") != len(given) or b"\r\n" in lines:
+        return [answer(text) for text in given]
     return _library.answers(lines).decode("utf-8", "replace").split("\n")[:-1]

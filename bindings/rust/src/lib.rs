@@ -24,7 +24,7 @@ mod refused;
 mod vector;
 
 pub use numbers::{Nomenclature, Score, Severity, UnknownName, Version};
-pub use refused::{Refused, RefusedKind};
+pub use refused::{OverrideError, Refused, RefusedKind};
 pub use vector::Cvss;
 
 /// The line that the program `cvss_tool` answers to a text, which need not be UTF-8, without the
@@ -34,9 +34,8 @@ pub fn answer(text: &[u8]) -> String {
     calls::text_of(calls::answer(text))
 }
 
-/// The lines that the program `cvss_tool` answers to the lines of a text, as a text: much faster than a call of
-/// [`answer`] for each. Each line is ended by a newline, which one carriage return may precede; a last line without
-/// one is not answered.
+/// The lines that the program `cvss_tool` answers to the lines of a text, as one text. Each line is
+/// ended by a newline, which one carriage return may precede; a last line without one is not answered.
 #[must_use]
 pub fn answer_lines(lines: &[u8]) -> String {
     calls::text_of(calls::answers(lines))

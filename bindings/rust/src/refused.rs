@@ -95,3 +95,26 @@ impl fmt::Display for Refused {
 }
 
 impl Error for Refused {}
+
+/// Why metrics cannot be put into a vector.
+#[derive(Clone, Debug, PartialEq, Eq, Hash)]
+#[non_exhaustive]
+pub enum OverrideError {
+    /// This component is no environmental metric.
+    NotEnvironmental(String),
+    /// The vector with these metrics is refused.
+    Refused(Refused),
+}
+
+impl fmt::Display for OverrideError {
+    fn fmt(&self, f: &mut fmt::Formatter<'_>) -> fmt::Result {
+        match self {
+            OverrideError::NotEnvironmental(component) => {
+                write!(f, "no environmental metric: `{component}`")
+            }
+            OverrideError::Refused(refused) => refused.fmt(f),
+        }
+    }
+}
+
+impl Error for OverrideError {}

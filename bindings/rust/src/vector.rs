@@ -1,7 +1,7 @@
 //! A vector, and what is known of it.
 
 use crate::calls::{self, CvssScores};
-use crate::{Nomenclature, Refused, Score, Severity, Version};
+use crate::{Nomenclature, OverrideError, Refused, Score, Severity, Version};
 use std::cmp::Ordering;
 use std::fmt;
 use std::hash::{Hash, Hasher};
@@ -134,7 +134,62 @@ impl Cvss {
             .filter_map(|piece| piece.split_once(':'))
             .filter(|(name, _)| *name != "CVSS")
     }
+
+    /// The vector without the metrics that are not defined (`X`, in v2 `ND`): it has the same scores. A
+    /// vector of v3 that has no others is given as it is.
+    ///
+    /// ```
+    /// let cvss = cvss_proved::Cvss::parse("AV:N/AC:L/Au:N/C:N/I:N/A:C/E:ND/TD:H")?;
+    /// assert_eq!(cvss.without_undefined().as_str(), "AV:N/AC:L/Au:N/C:N/I:N/A:C/TD:H");
+    /// # Ok::<(), cvss_proved::Refused>(())
+    /// ```
+    #[must_use]
+    pub fn without_undefined(&self) -> Cvss {
+        let is_defined = |piece: &&str| !(piece.ends_with(":X") || piece.ends_with(":ND"));
+        let pieces: Vec<&str> = self.text.split('/').filter(is_defined).collect();
+        Cvss::parse(&pieces.join("/")).unwrap_or_else(|_| self.clone())
+    }
+
+    /// The vector with an organisation's environmental metrics, as pairs of name and value, in place of its
+    /// own or beside them.
+    ///
+    /// # Errors
+    ///
+    /// [`OverrideError::NotEnvironmental`] for a name that no version has as an environmental metric, and a
+    /// value that is no word; else the reason why the vector with these metrics is refused.
+    ///
+    /// ```
+    /// let cvss = cvss_proved::Cvss::parse("CVSS:3.1/AV:N/S:U/CR:H")?;
+    /// let own = cvss.with_overrides(&[("CR", "L"), ("MAV", "P")])?;
+    /// assert_eq!(own.as_str(), "CVSS:3.1/AV:N/S:U/CR:L/MAV:P");
+    /// assert!(cvss.with_overrides(&[("AV", "P")]).is_err());
+    /// # Ok::<(), Box<dyn std::error::Error>>(())
+    /// ```
+    pub fn with_overrides(&self, overrides: &[(&str, &str)]) -> Result<Cvss, OverrideError> {
+        let is_word = |value: &str| value.bytes().all(|byte| byte.is_ascii_alphanumeric());
+        let mut added = Vec::new();
+        for (name, value) in overrides {
+            let component = format!("{name}:{value}");
+            if !ENVIRONMENTAL.contains(name) || !is_word(value) {
+                return Err(OverrideError::NotEnvironmental(component));
+            }
+            added.push(component);
+        }
+        let is_kept = |piece: &&str| {
+            let name = piece.split(':').next().unwrap_or_default();
+            overrides.iter().all(|(own, _)| *own != name)
+        };
+        let kept = self.text.split('/').filter(is_kept).map(String::from);
+        let pieces: Vec<String> = kept.chain(added).collect();
+        Cvss::parse(&pieces.join("/")).map_err(OverrideError::Refused)
+    }
 }
+
+/// The environmental metrics of all versions.
+const ENVIRONMENTAL: [&str; 20] = [
+    "CDP", "TD", "CR", "IR", "AR", "MAV", "MAC", "MAT", "MPR", "MUI", "MS", "MC", "MI", "MA",
+    "MVC", "MVI", "MVA", "MSC", "MSI", "MSA",
+];
 
 impl AsRef<str> for Cvss {
     fn as_ref(&self) -> &str {

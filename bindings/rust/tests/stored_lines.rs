@@ -1,7 +1,8 @@
 //! The vectors that are kept in the repository, with their answers.
 
 use cvss_proved::{
-    answer, answer_lines, Cvss, Nomenclature, Refused, RefusedKind, Score, Severity, Version,
+    answer, answer_lines, Cvss, Nomenclature, OverrideError, Refused, RefusedKind, Score, Severity,
+    Version,
 };
 use std::fs;
 use std::path::Path;
@@ -85,6 +86,45 @@ fn stored_lines_have_their_facts() {
         };
         assert_eq!(told, expected, "{line}");
     }
+}
+
+/// What is not defined scores as what is absent (CVSS v2 guide, section 2.2; v3.1, section 3; v4.0, section 3).
+#[test]
+fn what_is_not_defined_scores_as_absent() {
+    let stored = Path::new(env!("CARGO_MANIFEST_DIR")).join("../../crates/cvss_vectors/stdin");
+    let lines = fs::read_to_string(stored).unwrap();
+    for cvss in lines.lines().filter_map(|line| Cvss::parse(line).ok()) {
+        let shorter = cvss.without_undefined();
+        assert_eq!(shorter.score(), cvss.score(), "{cvss}");
+        assert_eq!(shorter.temporal_score(), cvss.temporal_score(), "{cvss}");
+        assert_eq!(
+            shorter.environmental_score(),
+            cvss.environmental_score(),
+            "{cvss}"
+        );
+        assert_eq!(cvss.with_overrides(&[]).as_ref(), Ok(&cvss));
+        let own = cvss.with_overrides(&[("IR", "H")]).unwrap();
+        assert!(own.metrics().any(|metric| metric == ("IR", "H")), "{cvss}");
+        let others = |cvss: &Cvss| cvss.metrics().filter(|(name, _)| *name != "IR").count();
+        assert_eq!(others(&own), others(&cvss), "{cvss}");
+    }
+}
+
+#[test]
+fn metrics_that_are_not_environmental_are_no_overrides() {
+    let cvss = Cvss::parse("CVSS:3.1/AV:N").unwrap();
+    for own in [("AC", "L"), ("E", "U"), ("CR", "H/E:U")] {
+        let refused = cvss.with_overrides(&[own]).unwrap_err();
+        assert!(
+            matches!(refused, OverrideError::NotEnvironmental(_)),
+            "{own:?}"
+        );
+    }
+    let refused = cvss.with_overrides(&[("CR", "Q")]).unwrap_err();
+    assert_eq!(
+        refused.to_string(),
+        "invalid CVSSv3 CR (Confidentiality Requirements) metric: `Q`"
+    );
 }
 
 #[test]
