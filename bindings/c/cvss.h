@@ -2,25 +2,25 @@
  * CVSS vectors of v2, v3.0, v3.1 and v4.0: read, printed and scored.
  *
  * What each function is said to answer here is proved for every text, up to the call;
- * docs/BINDINGS.md says what is trusted. Link libcvss_c.a or libcvss.so, which bindings/build makes.
+ * docs/BINDINGS.md says what is trusted. Link libcvss.a or libcvss.so, which bindings/build makes.
  *
- * Texts. A text is a pointer and a length in bytes. It need not end in a byte 0, and the length counts
- * none. A text stays the caller's: nothing of it is kept, changed or freed.
+ * Texts. A text is a pointer to its bytes and a length in bytes. It need not end in a byte 0, and the length
+ * counts none. A text stays the caller's: nothing of it is kept, changed or freed.
  *
  * Buffers. A result is written into a buffer of the caller, a pointer and a size in bytes. The function
  * returns the length of the whole result, whatever the buffer's size: where it is more than the size, the
  * buffer is left as it was, and the caller may call again with a larger one. No byte 0 is written.
  *
- * Pointers. No pointer may be NULL, not even where its length or size is 0. Buffers and structs that are
- * written must not overlap the text.
+ * Pointers. A text or a buffer may be NULL where its length or size is 0: it is empty. A struct, and
+ * `read`, may not be NULL. What is written must not overlap what is read.
  *
  * Threads. The functions keep no state: any number of threads may call them at once, each with its own
  * buffer or struct.
  *
- * Memory. cvss_version, cvss_scores and cvss_canonical take none, and cvss_answer none for a text that is
- * accepted. To tell why a text is refused, cvss_reason and cvss_answer call malloc, realloc and free, and
- * free what they took before they return; where malloc refuses, the reason is "out of memory". So these two
- * must not be called from a signal handler.
+ * Memory. cvss_version, cvss_scores and cvss_canonical take none, and no function takes any for a text that
+ * is accepted. To tell why a text is refused, the others call malloc, realloc and free, and free what they
+ * took before they return; where malloc refuses, the reason is "out of memory". So these must not be called
+ * from a signal handler, or in a child that was forked from a process with threads.
  */
 #ifndef CVSS_H
 #define CVSS_H
@@ -36,50 +36,93 @@ extern "C" {
 /* No version, no such score, or no nomenclature. */
 #define CVSS_NOTHING (-1)
 
-/* The ratings, in `severity`. CVSS v2 has CVSS_LOW to CVSS_HIGH alone. */
+/* The ratings. CVSS v2 has CVSS_LOW to CVSS_HIGH alone. */
 enum { CVSS_NONE = 0, CVSS_LOW = 1, CVSS_MEDIUM = 2, CVSS_HIGH = 3, CVSS_CRITICAL = 4 };
 
 /* Which groups of metrics a score of v4.0 rests on, in `nomenclature`: base, environmental, threat. */
 enum { CVSS_B = 0, CVSS_BE = 1, CVSS_BT = 2, CVSS_BTE = 3 };
 
-/* The scores of a vector, in tenths: 98 is a score of 9.8. Each is from 0 to 100, or CVSS_NOTHING. */
+/* Why a text is refused. */
+enum {
+    CVSS_ACCEPTED = 0,            /* it is not */
+    CVSS_INVALID_COMPONENT = 1,   /* a piece has no colon, or more than one */
+    CVSS_INVALID_PREFIX = 2,      /* a version is told, but not behind CVSS */
+    CVSS_UNSUPPORTED_VERSION = 3, /* the version is none of 3.0, 3.1 and 4.0 */
+    CVSS_UNKNOWN_METRIC = 4,      /* the version has no metric of this name */
+    CVSS_INVALID_VALUE = 5,       /* the metric has no such value */
+    CVSS_DUPLICATE_METRIC = 6,    /* the metric stands twice */
+    CVSS_MISSING_METRIC = 7,      /* the metric is mandatory, and missing */
+    CVSS_NOT_UTF8 = 8,            /* the text is not UTF-8 */
+    CVSS_NO_MEMORY = 9            /* there was no memory to tell one of CVSS_INVALID_COMPONENT to _VALUE */
+};
+
+/*
+ * The scores of a vector, in tenths: 98 is a score of 9.8. Each is from 0 to 100, or CVSS_NOTHING; each rating
+ * is from CVSS_NONE to CVSS_CRITICAL, or CVSS_NOTHING. The struct has 64 bytes in every release: what is told
+ * later takes the place of what is reserved, which is 0 until then.
+ */
 typedef struct CvssScores {
-    int32_t version;       /* 20, 30, 31 or 40 */
-    int32_t base;          /* the base score; of v4.0 the score */
-    int32_t temporal;      /* of v4.0 CVSS_NOTHING */
-    int32_t environmental; /* of v4.0 CVSS_NOTHING */
-    int32_t severity;      /* the rating of `base`: CVSS_NONE to CVSS_CRITICAL */
-    int32_t nomenclature;  /* of v4.0 CVSS_B to CVSS_BTE; else CVSS_NOTHING */
+    int32_t version;                /* 20, 30, 31 or 40 */
+    int32_t base;                   /* the base score; of v4.0 the score */
+    int32_t temporal;               /* of v4.0 CVSS_NOTHING */
+    int32_t environmental;          /* of v4.0 CVSS_NOTHING */
+    int32_t severity;               /* the rating of `base` */
+    int32_t temporal_severity;      /* the rating of `temporal` */
+    int32_t environmental_severity; /* the rating of `environmental` */
+    int32_t nomenclature;           /* of v4.0 CVSS_B to CVSS_BTE; else CVSS_NOTHING */
+    int32_t is_complete;            /* 1 where all base metrics are there, else 0; in v2 and v4.0 always 1 */
+    int32_t reserved[7];
 } CvssScores;
 
 /* The version of the vector that the text denotes: 20, 30, 31 or 40. CVSS_NOTHING where it denotes none. */
-int32_t cvss_version(const uint8_t *text, size_t length);
+int32_t cvss_version(const void *text, size_t length);
 
 /*
  * Whether the text denotes a vector; then the vector's scores are written. Where it denotes none, `*scores`
- * is left as it was.
+ * is left as it was. A text of v3 may lack base metrics: the missing ones weigh nothing, and `is_complete` is 0.
  */
-bool cvss_scores(const uint8_t *text, size_t length, CvssScores *scores);
+bool cvss_scores(const void *text, size_t length, CvssScores *scores);
 
 /*
  * The vector's one canonical text. Returns its length, which is `length`; so a buffer as long as the text is
  * large enough. Returns 0, and leaves the buffer as it was, where the text denotes no vector.
+ *
+ * Cut at each '/', the canonical text is the list of the vector's metrics, behind the piece CVSS:3.0, CVSS:3.1
+ * or CVSS:4.0 of those versions: each piece is a name, a colon and a value.
  */
-size_t cvss_canonical(const uint8_t *text, size_t length, uint8_t *buffer, size_t size);
+size_t cvss_canonical(const void *text, size_t length, void *buffer, size_t size);
 
 /*
  * The first reason why the text denotes no vector, as "unknown CVSS metric name: `XX`", in the encoding of the
  * text (UTF-8; of any other text the reason is "not UTF-8"). Returns its length. Returns 0, and leaves the
  * buffer as it was, where the text denotes a vector.
  */
-size_t cvss_reason(const uint8_t *text, size_t length, uint8_t *buffer, size_t size);
+size_t cvss_reason(const void *text, size_t length, void *buffer, size_t size);
+
+/* The kind of this reason: CVSS_INVALID_COMPONENT to CVSS_NO_MEMORY; CVSS_ACCEPTED where there is none. */
+int32_t cvss_refusal_kind(const void *text, size_t length);
+
+/*
+ * The abbreviation of the metric that the reason blames, at most 4 bytes, where its kind is CVSS_INVALID_VALUE,
+ * CVSS_DUPLICATE_METRIC or CVSS_MISSING_METRIC. Returns its length, and of any other kind 0.
+ */
+size_t cvss_refusal_metric(const void *text, size_t length, void *buffer, size_t size);
 
 /*
  * The line that the program cvss_tool answers to the text, without the newline that ends it: the canonical
  * text, the score and its rating, as "AV:N/AC:L/Au:N/C:N/I:N/A:C 7.8 high"; or "error: " and the reason.
  * Returns its length.
  */
-size_t cvss_answer(const uint8_t *text, size_t length, uint8_t *buffer, size_t size);
+size_t cvss_answer(const void *text, size_t length, void *buffer, size_t size);
+
+/*
+ * The answers to many texts in one call. Each text is ended by a newline, which one carriage return may precede; each
+ * answer is ended by a newline. As many answers as have room are written into the buffer, one behind the other, and
+ * behind them the buffer keeps its bytes. Returns their length, and writes into `*read` how many bytes of the texts
+ * they answer. So a caller goes on with the texts behind these; where `*read` is 0 and a newline is there, the next
+ * answer needs a larger buffer. What stands behind the last newline is not read.
+ */
+size_t cvss_answers(const void *texts, size_t length, void *buffer, size_t size, size_t *read);
 
 #ifdef __cplusplus
 }

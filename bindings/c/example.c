@@ -1,4 +1,7 @@
-/* Prints what is known of each vector that is given as an argument. */
+/*
+ * Prints what is known of each vector that is given as an argument. The status is 1 where a text is refused, and
+ * 2 where there is no memory or the output fails.
+ */
 #include "cvss.h"
 
 #include <stdio.h>
@@ -17,15 +20,13 @@ static void print_score(const char *name, int32_t tenths)
 /* Prints why a text is refused; asks for the length first, and then for the reason. */
 static int print_reason(const char *text)
 {
-    const uint8_t *bytes = (const uint8_t *)text;
-    uint8_t none[1];
-    size_t size = cvss_reason(bytes, strlen(text), none, 0);
-    uint8_t *reason = malloc(size);
+    size_t size = cvss_reason(text, strlen(text), NULL, 0);
+    char *reason = malloc(size);
     if (reason == NULL)
         return 2;
-    size_t length = cvss_reason(bytes, strlen(text), reason, size);
+    size_t length = cvss_reason(text, strlen(text), reason, size);
     if (length <= size)
-        printf("%s\n  refused: %.*s\n", text, (int)length, (const char *)reason);
+        printf("%s\n  refused: %.*s\n", text, (int)length, reason);
     free(reason);
     return 1;
 }
@@ -34,24 +35,26 @@ int main(int count, char **texts)
 {
     int status = 0;
     for (int i = 1; i < count; i++) {
-        const uint8_t *text = (const uint8_t *)texts[i];
-        size_t length = strlen(texts[i]);
+        const char *text = texts[i];
+        size_t length = strlen(text);
         CvssScores scores = {0};
         if (!cvss_scores(text, length, &scores)) {
-            status = print_reason(texts[i]);
+            status = print_reason(text);
+            if (status == 2)
+                return status;
             continue;
         }
         /* the canonical text is as long as the text */
-        uint8_t *canonical = malloc(length);
+        char *canonical = malloc(length);
         if (canonical == NULL)
             return 2;
         cvss_canonical(text, length, canonical, length);
-        printf("%.*s\n", (int)length, (const char *)canonical);
+        printf("%.*s\n", (int)length, canonical);
         free(canonical);
         print_score(scores.version == 40 ? "score" : "base", scores.base);
         print_score("temporal", scores.temporal);
         print_score("environmental", scores.environmental);
         printf("  severity: %s\n", ratings[scores.severity]);
     }
-    return status;
+    return fflush(stdout) == 0 ? status : 2;
 }

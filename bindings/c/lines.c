@@ -10,11 +10,11 @@ int main(void)
 {
     char *line = NULL;
     size_t room = 0;
-    uint8_t *answer = NULL;
+    char *answer = NULL;
     size_t size = 0;
     ssize_t count;
     while ((count = getline(&line, &room, stdin)) >= 0) {
-        const uint8_t *text = (const uint8_t *)line;
+        const char *text = line;
         size_t length = (size_t)count;
         if (length > 0 && text[length - 1] == '\n')
             length--;

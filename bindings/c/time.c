@@ -12,26 +12,37 @@ enum { MOST_LINES = 10000, ROUNDS = 200 };
 static char *lines[MOST_LINES];
 static size_t lengths[MOST_LINES];
 static size_t count;
-static uint8_t buffer[4096];
+static char buffer[4096];
+static char all[1 << 20], answers[1 << 21];
+static size_t all_length;
 
-static size_t scores(const uint8_t *text, size_t length)
+static size_t scores(const char *text, size_t length)
 {
     CvssScores scores = {0};
     return cvss_scores(text, length, &scores) + (size_t)scores.base;
 }
 
-static size_t canonical(const uint8_t *text, size_t length)
+static size_t canonical(const char *text, size_t length)
 {
     return cvss_canonical(text, length, buffer, sizeof buffer);
 }
 
-static size_t answer(const uint8_t *text, size_t length)
+static size_t answer(const char *text, size_t length)
 {
     return cvss_answer(text, length, buffer, sizeof buffer);
 }
 
+/* All lines in one call, which is made for the first line alone. */
+static size_t many(const char *text, size_t length)
+{
+    size_t read = length;
+    if (text != lines[0])
+        return 0;
+    return cvss_answers(all, all_length, answers, sizeof answers, &read) + read;
+}
+
 /* Of the rounds the fastest, which other programs on the machine have disturbed least. */
-static void print_time(const char *name, size_t (*call)(const uint8_t *, size_t))
+static void print_time(const char *name, size_t (*call)(const char *, size_t))
 {
     size_t sum = 0;
     double least = 1e18;
@@ -39,7 +50,7 @@ static void print_time(const char *name, size_t (*call)(const uint8_t *, size_t)
         struct timespec from, to;
         clock_gettime(CLOCK_MONOTONIC, &from);
         for (size_t i = 0; i < count; i++)
-            sum += call((const uint8_t *)lines[i], lengths[i]);
+            sum += call(lines[i], lengths[i]);
         clock_gettime(CLOCK_MONOTONIC, &to);
         double taken = (double)(to.tv_sec - from.tv_sec) * 1e9 + (double)(to.tv_nsec - from.tv_nsec);
         if (taken < least)
@@ -54,18 +65,24 @@ int main(void)
     size_t room = 0;
     while (count < MOST_LINES && getline(&line, &room, stdin) >= 0) {
         size_t length = strcspn(line, "\r\n");
-        if (cvss_version((const uint8_t *)line, length) == CVSS_NOTHING)
+        if (cvss_version(line, length) == CVSS_NOTHING)
             continue;
         lines[count] = malloc(length + 1);
         if (lines[count] == NULL)
             return 2;
         memcpy(lines[count], line, length);
         lengths[count++] = length;
+        if (all_length + length + 1 > sizeof all)
+            return 2;
+        memcpy(all + all_length, line, length);
+        all_length += length;
+        all[all_length++] = '\n';
     }
     if (count == 0)
         return 1;
     print_time("cvss_scores", scores);
     print_time("cvss_canonical", canonical);
     print_time("cvss_answer", answer);
+    print_time("cvss_answers", many);
     return 0;
 }

@@ -4,18 +4,17 @@ import sys
 import time
 from typing import Callable, List
 
-from cvss_proved import Vector, answer
+from cvss_proved import Vector, answer, answers
 
 ROUNDS = 50
 
 
-def print_time(name: str, lines: List[str], call: Callable[[str], object]) -> None:
+def print_time(name: str, lines: List[str], call: Callable[[List[str]], object]) -> None:
     """Of the rounds the fastest, which other programs on the machine have disturbed least."""
 
     def taken() -> int:
         start = time.perf_counter_ns()
-        for line in lines:
-            call(line)
+        call(lines)
         return time.perf_counter_ns() - start
 
     least = min(taken() for _ in range(ROUNDS))
@@ -24,5 +23,6 @@ def print_time(name: str, lines: List[str], call: Callable[[str], object]) -> No
 
 if __name__ == "__main__":
     accepted = [line for line in sys.stdin.read().splitlines() if not answer(line).startswith("error: ")]
-    print_time("Vector", accepted, Vector)
-    print_time("answer", accepted, answer)
+    print_time("Vector", accepted, lambda lines: [Vector(line) for line in lines])
+    print_time("answer", accepted, lambda lines: [answer(line) for line in lines])
+    print_time("answers", accepted, answers)

@@ -1,23 +1,50 @@
 //! Links the static library that `bindings/build` makes.
 
 use std::env;
-use std::path::PathBuf;
+use std::path::{Path, PathBuf};
+use std::process::exit;
+
+/// Ends the build with a reason that its reader can act on.
+fn fail(reason: &str) -> ! {
+    println!("cargo:warning={reason}");
+    eprintln!("{reason}");
+    exit(1)
+}
+
+/// The folder that `CVSS_LIBRARY_FOLDER` names, which has to be absolute: a build script runs in another
+/// folder than cargo does.
+fn folder() -> PathBuf {
+    let Some(named) = env::var_os("CVSS_LIBRARY_FOLDER") else {
+        return Path::new(env!("CARGO_MANIFEST_DIR")).join("../out");
+    };
+    let named = PathBuf::from(named);
+    if !named.is_absolute() {
+        let told = named.display();
+        fail(&format!(
+            "CVSS_LIBRARY_FOLDER has to be an absolute path, and is `{told}`"
+        ));
+    }
+    named
+}
 
 fn main() {
     println!("cargo:rerun-if-env-changed=CVSS_LIBRARY_FOLDER");
-    let folder = match env::var_os("CVSS_LIBRARY_FOLDER") {
-        Some(folder) => PathBuf::from(folder),
-        None => {
-            PathBuf::from(env::var_os("CARGO_MANIFEST_DIR").expect("cargo sets it")).join("../out")
-        }
-    };
-    let library = folder.join("libcvss_c.a");
-    assert!(
-        library.is_file(),
-        "{} is missing: run bindings/build, or name its folder by CVSS_LIBRARY_FOLDER",
-        library.display()
-    );
+    let target = env::var("TARGET").unwrap_or_default();
+    if !(target.starts_with("x86_64-") && target.contains("-linux-")) {
+        fail(&format!(
+            "cvss_proved is for Linux on x86-64, and the target is {target}"
+        ));
+    }
+    let folder = folder();
+    let library = folder.join("libcvss.a");
     println!("cargo:rerun-if-changed={}", library.display());
+    if !library.is_file() {
+        fail(&format!(
+            "{} is missing. bindings/build in a checkout of the repository makes it; a crate that depends on this \
+             one by git sets CVSS_LIBRARY_FOLDER to the absolute path of that checkout's bindings/out",
+            library.display()
+        ));
+    }
     println!("cargo:rustc-link-search=native={}", folder.display());
-    println!("cargo:rustc-link-lib=static=cvss_c");
+    println!("cargo:rustc-link-lib=static=cvss");
 }

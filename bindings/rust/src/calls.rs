@@ -3,7 +3,7 @@
 //! The declarations are those of `bindings/c/cvss.h`. No call keeps a pointer, and none asks for more
 //! than pointers to as many bytes as are told, which slices are.
 
-/// The struct of the same name in `cvss.h`.
+/// The struct of the same name in `cvss.h`. What is reserved is not read.
 #[derive(Clone, Copy, Default)]
 #[repr(C)]
 pub(crate) struct CvssScores {
@@ -12,14 +12,27 @@ pub(crate) struct CvssScores {
     pub(crate) temporal: i32,
     pub(crate) environmental: i32,
     pub(crate) severity: i32,
+    pub(crate) temporal_severity: i32,
+    pub(crate) environmental_severity: i32,
     pub(crate) nomenclature: i32,
+    pub(crate) is_complete: i32,
+    reserved: [i32; 7],
 }
 
 extern "C" {
     fn cvss_scores(text: *const u8, length: usize, scores: *mut CvssScores) -> bool;
     fn cvss_canonical(text: *const u8, length: usize, buffer: *mut u8, size: usize) -> usize;
     fn cvss_reason(text: *const u8, length: usize, buffer: *mut u8, size: usize) -> usize;
+    fn cvss_refusal_kind(text: *const u8, length: usize) -> i32;
+    fn cvss_refusal_metric(text: *const u8, length: usize, buffer: *mut u8, size: usize) -> usize;
     fn cvss_answer(text: *const u8, length: usize, buffer: *mut u8, size: usize) -> usize;
+    fn cvss_answers(
+        texts: *const u8,
+        length: usize,
+        buffer: *mut u8,
+        size: usize,
+        read: *mut usize,
+    ) -> usize;
 }
 
 /// The scores of the vector that a text denotes.
@@ -40,18 +53,58 @@ pub(crate) fn canonical(text: &[u8]) -> Vec<u8> {
 
 /// The reason why a text is refused, or nothing.
 pub(crate) fn reason(text: &[u8]) -> Vec<u8> {
-    written(text.len() + 80, |buffer| {
+    written(text.len() + 120, |buffer| {
         // SAFETY: as above.
         unsafe { cvss_reason(text.as_ptr(), text.len(), buffer.as_mut_ptr(), buffer.len()) }
     })
 }
 
+/// The number of the kind of refusal that a text gets, or 0.
+pub(crate) fn refusal_kind(text: &[u8]) -> i32 {
+    // SAFETY: the pointer is that of a slice that lives through the call.
+    unsafe { cvss_refusal_kind(text.as_ptr(), text.len()) }
+}
+
+/// The abbreviation of the metric that a refusal blames, or nothing.
+pub(crate) fn refusal_metric(text: &[u8]) -> Vec<u8> {
+    written(4, |buffer| {
+        // SAFETY: as above.
+        unsafe { cvss_refusal_metric(text.as_ptr(), text.len(), buffer.as_mut_ptr(), buffer.len()) }
+    })
+}
+
 /// The line that the program answers.
 pub(crate) fn answer(text: &[u8]) -> Vec<u8> {
-    written(text.len() + 80, |buffer| {
+    written(text.len() + 120, |buffer| {
         // SAFETY: as above.
         unsafe { cvss_answer(text.as_ptr(), text.len(), buffer.as_mut_ptr(), buffer.len()) }
     })
+}
+
+/// The answers to texts that newlines end, each with its newline.
+pub(crate) fn answers(texts: &[u8]) -> Vec<u8> {
+    let mut all = Vec::with_capacity(2 * texts.len());
+    let mut buffer = vec![0; 1 << 16];
+    let mut rest = texts;
+    while rest.contains(&b'\n') {
+        let mut read = 0;
+        // SAFETY: the pointers are those of slices and of a number that live through the call and do not overlap.
+        let written = unsafe {
+            cvss_answers(
+                rest.as_ptr(),
+                rest.len(),
+                buffer.as_mut_ptr(),
+                buffer.len(),
+                &mut read,
+            )
+        };
+        all.extend_from_slice(&buffer[..written]);
+        rest = &rest[read..];
+        if read == 0 {
+            buffer.resize(2 * buffer.len(), 0);
+        }
+    }
+    all
 }
 
 /// What a call writes into a buffer that is large enough; tried first with one of this size.
@@ -64,4 +117,12 @@ fn written(size: usize, call: impl Fn(&mut [u8]) -> usize) -> Vec<u8> {
     }
     buffer.truncate(length);
     buffer
+}
+
+/// The library answers in the encoding of the text that it was given.
+pub(crate) fn text_of(bytes: Vec<u8>) -> String {
+    match String::from_utf8(bytes) {
+        Ok(text) => text,
+        Err(error) => String::from_utf8_lossy(error.as_bytes()).into_owned(),
+    }
 }

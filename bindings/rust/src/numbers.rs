@@ -1,13 +1,77 @@
 //! What the library's numbers stand for.
 
 use std::fmt;
+use std::str::FromStr;
+
+/// A text that names no value of a type.
+#[derive(Clone, Copy, Debug, PartialEq, Eq, Hash)]
+pub struct UnknownName;
+
+impl fmt::Display for UnknownName {
+    fn fmt(&self, f: &mut fmt::Formatter<'_>) -> fmt::Result {
+        f.pad("unknown name")
+    }
+}
+
+impl std::error::Error for UnknownName {}
+
+/// The texts of an enum's values: they are printed, and read back exactly as they are printed.
+macro_rules! named {
+    ($(#[$doc:meta])* $type:ident: $($value:ident => $text:literal),+) => {
+        impl $type {
+            /// The value's text.
+            #[must_use]
+            pub fn as_str(self) -> &'static str {
+                match self {
+                    $($type::$value => $text,)+
+                }
+            }
+        }
+
+        impl AsRef<str> for $type {
+            fn as_ref(&self) -> &str {
+                self.as_str()
+            }
+        }
+
+        impl fmt::Display for $type {
+            fn fmt(&self, f: &mut fmt::Formatter<'_>) -> fmt::Result {
+                f.pad(self.as_str())
+            }
+        }
+
+        $(#[$doc])*
+        impl FromStr for $type {
+            type Err = UnknownName;
+
+            fn from_str(text: &str) -> Result<$type, UnknownName> {
+                match text {
+                    $($text => Ok($type::$value),)+
+                    _ => Err(UnknownName),
+                }
+            }
+        }
+
+        impl TryFrom<&str> for $type {
+            type Error = UnknownName;
+
+            fn try_from(text: &str) -> Result<$type, UnknownName> {
+                text.parse()
+            }
+        }
+    };
+}
 
 /// A version of the standard.
 #[derive(Clone, Copy, Debug, PartialEq, Eq, PartialOrd, Ord, Hash)]
 pub enum Version {
+    /// CVSS v2.
     V20,
+    /// CVSS v3.0.
     V30,
+    /// CVSS v3.1.
     V31,
+    /// CVSS v4.0.
     V40,
 }
 
@@ -22,15 +86,9 @@ impl Version {
     }
 }
 
-impl fmt::Display for Version {
-    fn fmt(&self, f: &mut fmt::Formatter<'_>) -> fmt::Result {
-        f.pad(match self {
-            Version::V20 => "2.0",
-            Version::V30 => "3.0",
-            Version::V31 => "3.1",
-            Version::V40 => "4.0",
-        })
-    }
+named! {
+    /// Reads `2.0`, `3.0`, `3.1` or `4.0`.
+    Version: V20 => "2.0", V30 => "3.0", V31 => "3.1", V40 => "4.0"
 }
 
 /// A score, a whole number of tenths from 0 to 100.
@@ -40,9 +98,18 @@ pub struct Score {
 }
 
 impl Score {
+    /// The score of so many tenths, which are at most 100.
+    #[must_use]
+    pub const fn from_tenths(tenths: u8) -> Option<Score> {
+        if tenths <= 100 {
+            Some(Score { tenths })
+        } else {
+            None
+        }
+    }
+
     pub(crate) fn of(tenths: i32) -> Option<Score> {
-        let tenths = u8::try_from(tenths).ok()?;
-        Some(Score { tenths })
+        Score::from_tenths(u8::try_from(tenths).ok()?)
     }
 
     /// The score in tenths, which is exact.
@@ -66,56 +133,74 @@ impl From<Score> for f64 {
 
 impl fmt::Display for Score {
     fn fmt(&self, f: &mut fmt::Formatter<'_>) -> fmt::Result {
-        write!(f, "{}.{}", self.tenths / 10, self.tenths % 10)
+        let text = format!("{}.{}", self.tenths / 10, self.tenths % 10);
+        f.pad(&text)
+    }
+}
+
+/// Reads a score as it is printed: one or two digits, a point and one digit.
+impl FromStr for Score {
+    type Err = UnknownName;
+
+    fn from_str(text: &str) -> Result<Score, UnknownName> {
+        (0..=100)
+            .map(|tenths| Score { tenths })
+            .find(|score| score.to_string() == text)
+            .ok_or(UnknownName)
+    }
+}
+
+impl TryFrom<&str> for Score {
+    type Error = UnknownName;
+
+    fn try_from(text: &str) -> Result<Score, UnknownName> {
+        text.parse()
     }
 }
 
 /// A qualitative severity rating. A score of v2 is rated by the middle three alone.
 #[derive(Clone, Copy, Debug, PartialEq, Eq, PartialOrd, Ord, Hash)]
 pub enum Severity {
+    /// A score of 0.0.
     None,
+    /// From 0.1 to 3.9; of v2 from 0.0.
     Low,
+    /// From 4.0 to 6.9.
     Medium,
+    /// From 7.0 to 8.9; of v2 to 10.0.
     High,
+    /// From 9.0 to 10.0.
     Critical,
 }
 
 impl Severity {
-    pub(crate) fn of(number: i32) -> Severity {
+    pub(crate) fn of(number: i32) -> Option<Severity> {
         match number {
-            0 => Severity::None,
-            1 => Severity::Low,
-            2 => Severity::Medium,
-            3 => Severity::High,
-            _ => Severity::Critical,
-        }
-    }
-
-    /// The rating in lower case.
-    #[must_use]
-    pub fn as_str(self) -> &'static str {
-        match self {
-            Severity::None => "none",
-            Severity::Low => "low",
-            Severity::Medium => "medium",
-            Severity::High => "high",
-            Severity::Critical => "critical",
+            0 => Some(Severity::None),
+            1 => Some(Severity::Low),
+            2 => Some(Severity::Medium),
+            3 => Some(Severity::High),
+            4 => Some(Severity::Critical),
+            _ => None,
         }
     }
 }
 
-impl fmt::Display for Severity {
-    fn fmt(&self, f: &mut fmt::Formatter<'_>) -> fmt::Result {
-        f.pad(self.as_str())
-    }
+named! {
+    /// Reads a rating in lower case.
+    Severity: None => "none", Low => "low", Medium => "medium", High => "high", Critical => "critical"
 }
 
 /// Which groups of metrics a score of v4.0 rests on: base, threat, environmental.
 #[derive(Clone, Copy, Debug, PartialEq, Eq, Hash)]
 pub enum Nomenclature {
+    /// Base metrics alone.
     B,
+    /// Base and environmental metrics.
     BE,
+    /// Base and threat metrics.
     BT,
+    /// Base, threat and environmental metrics.
     BTE,
 }
 
@@ -131,13 +216,7 @@ impl Nomenclature {
     }
 }
 
-impl fmt::Display for Nomenclature {
-    fn fmt(&self, f: &mut fmt::Formatter<'_>) -> fmt::Result {
-        f.pad(match self {
-            Nomenclature::B => "CVSS-B",
-            Nomenclature::BE => "CVSS-BE",
-            Nomenclature::BT => "CVSS-BT",
-            Nomenclature::BTE => "CVSS-BTE",
-        })
-    }
+named! {
+    /// Reads `CVSS-B`, `CVSS-BE`, `CVSS-BT` or `CVSS-BTE`.
+    Nomenclature: B => "CVSS-B", BE => "CVSS-BE", BT => "CVSS-BT", BTE => "CVSS-BTE"
 }

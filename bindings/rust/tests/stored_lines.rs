@@ -1,6 +1,9 @@
 //! The vectors that are kept in the repository, with their answers.
 
-use cvss_proved::{answer, Cvss, Nomenclature, Severity, Version};
+use cvss_proved::{
+    answer, answer_lines, Cvss, Nomenclature, OverrideError, Refused, RefusedKind, Score, Severity,
+    Version,
+};
 use std::fs;
 use std::path::Path;
 
@@ -10,6 +13,7 @@ fn stored_lines_have_their_answers() {
     let lines = fs::read_to_string(stored.join("stdin")).unwrap();
     let answers = fs::read_to_string(stored.join("stdout")).unwrap();
     assert!(!lines.is_empty());
+    assert_eq!(answer_lines(lines.as_bytes()), answers);
     assert_eq!(lines.lines().count(), answers.lines().count());
     for (line, expected) in lines.lines().zip(answers.lines()) {
         assert_eq!(answer(line.as_bytes()), expected, "{line}");
@@ -21,29 +25,152 @@ fn stored_lines_have_their_answers() {
     }
 }
 
+fn scored(score: Option<Score>, severity: Option<Severity>) -> String {
+    match score.zip(severity) {
+        Some((score, severity)) => format!("{score} {severity}"),
+        None => "- -".to_string(),
+    }
+}
+
+fn vector_facts(cvss: &Cvss) -> String {
+    let nomenclature = cvss.nomenclature();
+    let metrics: Vec<String> = cvss
+        .metrics()
+        .map(|(name, value)| format!("{name}={value}"))
+        .collect();
+    [
+        cvss.to_string(),
+        cvss.version().to_string(),
+        nomenclature.map_or("-".to_string(), |told| told.to_string()),
+        if cvss.is_complete() {
+            "complete"
+        } else {
+            "incomplete"
+        }
+        .to_string(),
+        scored(Some(cvss.score()), Some(cvss.severity())),
+        scored(cvss.temporal_score(), cvss.temporal_severity()),
+        scored(cvss.environmental_score(), cvss.environmental_severity()),
+        metrics.join(" "),
+    ]
+    .join(" ")
+}
+
+fn refusal_facts(refused: &Refused) -> String {
+    let kinds = [
+        RefusedKind::InvalidComponent,
+        RefusedKind::InvalidPrefix,
+        RefusedKind::UnsupportedVersion,
+        RefusedKind::UnknownMetric,
+        RefusedKind::InvalidValue,
+        RefusedKind::DuplicateMetric,
+        RefusedKind::MissingMetric,
+    ];
+    let place = kinds.iter().position(|kind| *kind == refused.kind());
+    let number = place.map_or(0, |place| place + 1);
+    format!("{number} {} {refused}", refused.metric().unwrap_or("-"))
+}
+
+/// The facts are those that the second implementation in `bench/` tells.
 #[test]
-fn each_version_is_told_with_its_scores() {
-    // CVSS v2 guide, section 3.3.1: base 7.8, temporal 6.4, environmental 9.2
-    let v2: Cvss = "AV:N/AC:L/Au:N/C:N/I:N/A:C/E:F/RL:OF/RC:C/CDP:H/TD:H/CR:M/IR:M/AR:H"
-        .parse()
-        .unwrap();
-    assert_eq!(v2.version(), Version::V20);
-    assert_eq!(v2.score().tenths(), 78);
-    assert_eq!(v2.temporal_score().unwrap().tenths(), 64);
-    assert_eq!(v2.environmental_score().unwrap().tenths(), 92);
-    assert_eq!(v2.severity(), Severity::High);
-    assert_eq!(v2.nomenclature(), None);
-    let v4: Cvss = "CVSS:4.0/AV:N/AC:L/AT:N/PR:N/UI:N/VC:H/VI:H/VA:H/SC:H/SI:H/SA:H/E:X"
-        .parse()
-        .unwrap();
-    assert_eq!(v4.version(), Version::V40);
-    assert_eq!(v4.score().value(), 10.0);
-    assert_eq!(v4.temporal_score(), None);
-    assert_eq!(v4.environmental_score(), None);
-    assert_eq!(v4.nomenclature(), Some(Nomenclature::BT));
+fn stored_lines_have_their_facts() {
+    let root = Path::new(env!("CARGO_MANIFEST_DIR")).join("../..");
+    let lines = fs::read_to_string(root.join("crates/cvss_vectors/stdin")).unwrap();
+    let facts = fs::read_to_string(root.join("bindings/stored/facts")).unwrap();
+    assert!(!lines.is_empty());
+    assert_eq!(lines.lines().count(), facts.lines().count());
+    for (line, expected) in lines.lines().zip(facts.lines()) {
+        let told = match Cvss::parse(line) {
+            Ok(cvss) => vector_facts(&cvss),
+            Err(refused) => refusal_facts(&refused),
+        };
+        assert_eq!(told, expected, "{line}");
+    }
+}
+
+/// What is not defined scores as what is absent (CVSS v2 guide, section 2.2; v3.1, section 3; v4.0, section 3).
+#[test]
+fn what_is_not_defined_scores_as_absent() {
+    let stored = Path::new(env!("CARGO_MANIFEST_DIR")).join("../../crates/cvss_vectors/stdin");
+    let lines = fs::read_to_string(stored).unwrap();
+    for cvss in lines.lines().filter_map(|line| Cvss::parse(line).ok()) {
+        let shorter = cvss.without_undefined();
+        assert_eq!(shorter.score(), cvss.score(), "{cvss}");
+        assert_eq!(shorter.temporal_score(), cvss.temporal_score(), "{cvss}");
+        assert_eq!(
+            shorter.environmental_score(),
+            cvss.environmental_score(),
+            "{cvss}"
+        );
+        assert_eq!(cvss.with_overrides(&[]).as_ref(), Ok(&cvss));
+        let own = cvss.with_overrides(&[("IR", "H")]).unwrap();
+        assert!(own.metrics().any(|metric| metric == ("IR", "H")), "{cvss}");
+        let others = |cvss: &Cvss| cvss.metrics().filter(|(name, _)| *name != "IR").count();
+        assert_eq!(others(&own), others(&cvss), "{cvss}");
+    }
+}
+
+#[test]
+fn metrics_that_are_not_environmental_are_no_overrides() {
+    let cvss = Cvss::parse("CVSS:3.1/AV:N").unwrap();
+    for own in [("AC", "L"), ("E", "U"), ("CR", "H/E:U")] {
+        let refused = cvss.with_overrides(&[own]).unwrap_err();
+        assert!(
+            matches!(refused, OverrideError::NotEnvironmental(_)),
+            "{own:?}"
+        );
+    }
+    let refused = cvss.with_overrides(&[("CR", "Q")]).unwrap_err();
+    assert_eq!(
+        refused.to_string(),
+        "invalid CVSSv3 CR (Confidentiality Requirements) metric: `Q`"
+    );
+}
+
+#[test]
+fn each_text_that_is_printed_is_read_back() {
+    for tenths in 0..=100 {
+        let score = Score::from_tenths(tenths).unwrap();
+        assert_eq!(score.to_string().parse(), Ok(score));
+    }
+    assert_eq!(Score::from_tenths(101), None);
+    assert_eq!(Score::try_from("9.80").ok(), None);
+    assert_eq!("critical".parse(), Ok(Severity::Critical));
+    assert_eq!("3.1".parse(), Ok(Version::V31));
+    assert_eq!(Nomenclature::try_from("CVSS-BT"), Ok(Nomenclature::BT));
+    assert!("Critical".parse::<Severity>().is_err());
+}
+
+#[test]
+fn widths_are_kept() {
+    let score = Score::from_tenths(98).unwrap();
+    assert_eq!(format!("[{score:>5}]"), "[  9.8]");
+    let cvss = Cvss::parse("CVSS:3.1/AV:N").unwrap();
+    assert_eq!(format!("[{cvss:<15}]"), "[CVSS:3.1/AV:N  ]");
+}
+
+/// CVSS v2 guide, section 3.3.1: a base score of 7.8; section 3.3.2: one of 10.0.
+#[test]
+fn vectors_are_ordered_by_score() {
+    let lower = Cvss::try_from("AV:N/AC:L/Au:N/C:N/I:N/A:C").unwrap();
+    let higher = Cvss::try_from("AV:N/AC:L/Au:N/C:C/I:C/A:C").unwrap();
+    assert!(lower < higher);
+    assert_ne!(lower, higher);
 }
 
 #[test]
 fn a_text_that_is_not_utf8_is_refused() {
     assert_eq!(answer(b"AV:\xff"), "error: not UTF-8");
+    let refused = Cvss::parse_bytes(b"AV:\xff").unwrap_err();
+    assert_eq!(refused.kind(), RefusedKind::NotUtf8);
+}
+
+#[test]
+fn a_long_line_is_answered_among_others() {
+    let long = "x".repeat(200_000);
+    let expected = [answer(b""), answer(long.as_bytes()), answer(b"")].join("\n");
+    assert_eq!(
+        answer_lines(format!("\r\n{long}\n\nx").as_bytes()),
+        expected + "\n"
+    );
 }

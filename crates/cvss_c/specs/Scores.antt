@@ -1,5 +1,5 @@
 -- The scores of a vector as C sees them: whole tenths, and numbers for versions, ratings and nomenclatures.
-use Rattle.std.specs.Prelude.{◌≡◌, ◌*ℤ◌, ◌^◌, ℤ, pos, negsuc}
+use Rattle.std.specs.Prelude.{◌≡◌, ◌⊎◌, ◌*ℤ◌, ◌^◌, ℤ, pos, negsuc, [], ◌∷◌, IsSome}
 use Rattle.cvss.specs.declared.vector.Cvss.{Cvss}
 use Rattle.cvss.specs.declared.vector.Cvss.TheVariants.{CvssV20, CvssV30, CvssV31, CvssV40}
 use Rattle.cvss.specs.MergingV4.{effective_of}
@@ -17,6 +17,9 @@ use Rattle.cvss.specs.Tenths.{IsInTenths, IsFromZeroToTen}
 use Rattle.cvss.specs.VectorTypeV2 as vector_v2
 use Rattle.cvss.specs.VectorTypeV3 as vector_v3
 use Rattle.cvss.specs.VectorTypeV4 as vector_v4
+use Rattle.cvss.specs.VectorV2.{v2}
+use Rattle.cvss.specs.VectorV4.{v4}
+use Rattle.cvss.specs.Version.{IsComplete}
 use Rattle.cvss.specs.WeightsV2 as weights_v2
 use Rattle.cvss.specs.WeightsV3 as weights_v3
 use Rattle.cvss_c.specs.declared.scores.CvssScores.{CvssScores}
@@ -56,44 +59,66 @@ pub record IsScoreInTenths (IsCount : ℤ → Type 0) (tenths : ℤ) : Type 0 wh
   pub is_score : IsCount (count_of tenths)
   pub range : IsFromZeroToTen tenths
 
--- the version has no such score
-pub record IsNoScore (tenths : ℤ) : Type 0 where
-  pub is_nothing : tenths ≡ nothing
+-- the same, with the number of the score's rating
+pub record IsRatedScore (IsCount : ℤ → Type 0) (rating : ℤ → Severity) (tenths severity : ℤ) : Type 0 where
+  pub score : IsScoreInTenths IsCount tenths
+  pub severity_is : severity ≡ severity_number (rating (count_of tenths))
 
--- the version, three scores, the rating of the first, and the nomenclature
-pub record AreScores (version : ℤ) (IsBase IsTemporal IsEnvironmental : ℤ → Type 0) (rating : ℤ → Severity) (nomenclature : ℤ) (scores : CvssScores) : Type 0 where
+-- the version has no such score, and no rating of it
+pub record IsNoScore (tenths severity : ℤ) : Type 0 where
+  pub is_nothing : tenths ≡ nothing
+  pub is_unrated : severity ≡ nothing
+
+-- 1 where this holds, and else 0
+abbrev pub IsFlag : ℤ → Type 0 → Type 0
+IsFlag flag Holds = ((flag ≡ pos 1) × Holds) ⊎ ((flag ≡ pos 0) × ¬ Holds)
+
+-- a vector of CVSS v3 has the eight base metrics that the specifications ask for (v3.1, section 6)
+pub record HasBaseMetrics (vector : vector_v3.Vector) : Type 0 where
+  pub attack_vector : IsSome vector.av
+  pub attack_complexity : IsSome vector.ac
+  pub privileges_required : IsSome vector.pr
+  pub user_interaction : IsSome vector.ui
+  pub scope : IsSome vector.s
+  pub confidentiality : IsSome vector.c
+  pub integrity : IsSome vector.i
+  pub availability : IsSome vector.a
+
+-- the version, three scores with their ratings, the nomenclature, and whether all base metrics are there
+pub record AreScores (version : ℤ) (IsBase IsTemporal IsEnvironmental : ℤ → ℤ → Type 0) (nomenclature : ℤ) (HasBase : Type 0) (scores : CvssScores) : Type 0 where
   pub version_is : scores.version ≡ version
-  pub base : IsBase scores.base
-  pub temporal : IsTemporal scores.temporal
-  pub environmental : IsEnvironmental scores.environmental
-  pub severity : scores.severity ≡ severity_number (rating (count_of scores.base))
+  pub base : IsBase scores.base scores.severity
+  pub temporal : IsTemporal scores.temporal scores.temporal_severity
+  pub environmental : IsEnvironmental scores.environmental scores.environmental_severity
   pub nomenclature_is : scores.nomenclature ≡ nomenclature
+  pub is_complete : IsFlag scores.is_complete HasBase
+  pub reserved_is : scores.reserved ≡ pos 0 ∷ pos 0 ∷ pos 0 ∷ pos 0 ∷ pos 0 ∷ pos 0 ∷ pos 0 ∷ []
 
 -- those of CVSS v3, by the number of the version
 abbrev pub AreScoresV3 : ℤ → vector_v3.Vector → CvssScores → Type 0
 AreScoresV3 version vector =
     AreScores version
-    (IsScoreInTenths (scores_v3.IsBaseScore vector.minor_version (weights_v3.weights_of vector)))
-    (IsScoreInTenths (scores_v3.IsTemporalScore vector.minor_version (weights_v3.weights_of vector)))
-    (IsScoreInTenths (scores_v3.IsEnvironmentalScore vector.minor_version (weights_v3.weights_of vector)))
-    rating_of_score nothing
+    (IsRatedScore (scores_v3.IsBaseScore vector.minor_version (weights_v3.weights_of vector)) rating_of_score)
+    (IsRatedScore (scores_v3.IsTemporalScore vector.minor_version (weights_v3.weights_of vector)) rating_of_score)
+    (IsRatedScore (scores_v3.IsEnvironmentalScore vector.minor_version (weights_v3.weights_of vector)) rating_of_score)
+    nothing (HasBaseMetrics vector)
 
 -- those of CVSS v2
 abbrev pub AreScoresV2 : vector_v2.Vector → CvssScores → Type 0
 AreScoresV2 vector =
     AreScores (pos 20)
-    (IsScoreInTenths (scores_v2.IsBaseScore (weights_v2.weights_of vector)))
-    (IsScoreInTenths (scores_v2.IsTemporalScore (weights_v2.weights_of vector)))
-    (IsScoreInTenths (scores_v2.IsEnvironmentalScore (weights_v2.weights_of vector)))
-    rating_of nothing
+    (IsRatedScore (scores_v2.IsBaseScore (weights_v2.weights_of vector)) rating_of)
+    (IsRatedScore (scores_v2.IsTemporalScore (weights_v2.weights_of vector)) rating_of)
+    (IsRatedScore (scores_v2.IsEnvironmentalScore (weights_v2.weights_of vector)) rating_of)
+    nothing (IsComplete v2 vector)
 
 -- those of CVSS v4.0, which has one score
 abbrev pub AreScoresV4 : vector_v4.Vector → CvssScores → Type 0
 AreScoresV4 vector =
     AreScores (pos 40)
-    (IsScoreInTenths (IsInTenths (IsScore (effective_of vector))))
+    (IsRatedScore (IsInTenths (IsScore (effective_of vector))) rating_of_score)
     IsNoScore IsNoScore
-    rating_of_score (nomenclature_number (nomenclature_of vector))
+    (nomenclature_number (nomenclature_of vector)) (IsComplete v4 vector)
 
 -- the scores of a vector
 abbrev pub AreScoresOf : Cvss → CvssScores → Type 0

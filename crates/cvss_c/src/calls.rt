@@ -1,18 +1,23 @@
 //! The functions that C calls.
 
-ghost use Rattle.std.specs.Prelude.{◌≡◌, ◌++◌, ℕ, List, codes, length, true, false};
+ghost use Rattle.std.specs.Prelude.{◌≡◌, ◌++◌, ℕ, List, codes, length, pos, true, false};
 ghost use Rattle.cvss.specs.Answers.{text_of};
 ghost use Rattle.cvss.specs.Dispatch.{DenotesCvss};
 ghost use Rattle.cvss.specs.declared.vector.Cvss.{Cvss};
 ghost use Rattle.cvss_c.specs.Answers.{Answers, IsAnswer, IsReason};
 ghost use Rattle.cvss_c.specs.Buffer.{IsLeft, IsWritten};
+ghost use Rattle.cvss_c.specs.Lines.{AnswersLines};
+ghost use Rattle.cvss_c.specs.Refusals.{IsBlamed, IsKind};
 ghost use Rattle.cvss_c.specs.Scores.{AreScoresOf, nothing, version_number as number_of_version};
 
 use crate::CvssScores;
 use crate::answer::put_answer;
+use crate::buffer::put_both;
 use crate::canonical::put_canonical;
+use crate::lines::put_answers;
 use crate::numbers::{NOTHING, version_number};
 use crate::reason::put_reason;
+use crate::refusal::{ACCEPTED, blamed_by, kind_of};
 use cvss::Cvss;
 use std::alloc::Global;
 
@@ -77,6 +82,35 @@ pub extern "C" fn cvss_reason(alloc: Global, text: &[u8], buffer: &mut [u8]) -> 
     }
 }
 
+/// The kind of refusal that a text gets: 1 for a piece that is no component, 2 for a wrong prefix, 3
+/// for a version that is not supported, 4 for an unknown metric, 5 for a value that the metric does
+/// not have, 6 for a metric that stands twice, 7 for a metric that is missing, 8 for a text that is
+/// not UTF-8, 9 where there was no memory to tell one of 1 to 5. 0 where the text denotes a vector.
+#[unsafe(no_mangle)]
+pub extern "C" fn cvss_refusal_kind(alloc: Global, text: &[u8]) -> i32
+    ensures { Answers text.now (λ _. result ≡ pos 0) (IsKind text.now result) }
+{
+    match Cvss::read_bytes(text) {
+        Some(_) => ACCEPTED,
+        None => kind_of(alloc, text),
+    }
+}
+
+/// The length of the abbreviation of the metric that a refusal of the kinds 5 to 7 blames, which is
+/// written into the buffer where it fits; 0 for the other kinds, and where the text denotes a
+/// vector.
+#[unsafe(no_mangle)]
+pub extern "C" fn cvss_refusal_metric(alloc: Global, text: &[u8], buffer: &mut [u8]) -> usize
+    ensures { Answers text.now (λ _. IsLeft buffer.old buffer.new result)
+        ((name : List ℕ) × IsBlamed text.now name
+        × IsWritten name buffer.old buffer.new result) }
+{
+    match Cvss::read_bytes(text) {
+        Some(_) => 0,
+        None => put_both(&[], blamed_by(alloc, text).as_bytes(), buffer),
+    }
+}
+
 /// The length of the line that the program answers to a text, without the byte 10 that ends it; it
 /// is written into the buffer where it fits. An answer to an accepted text takes no memory.
 #[unsafe(no_mangle)]
@@ -88,4 +122,22 @@ pub extern "C" fn cvss_answer(alloc: Global, text: &[u8], buffer: &mut [u8]) -> 
         Some(cvss) => put_answer(&cvss, text, buffer),
         None => put_reason(alloc, "error: ".as_bytes(), text, buffer),
     }
+}
+
+/// The answers to many texts, each ended by a byte 10, which one byte 13 may precede. Each answer is
+/// ended by a byte 10, as the program writes them. As many are written into the buffer, one behind
+/// the other, as have room in it; their length is told, and in `read` how many bytes of the texts
+/// they answer. What stands behind the last byte 10 is not read.
+#[unsafe(no_mangle)]
+pub extern "C" fn cvss_answers(
+    alloc: Global,
+    texts: &[u8],
+    buffer: &mut [u8],
+    read: &mut usize,
+) -> usize
+    ensures { AnswersLines texts.now buffer.old buffer.new read.new result }
+{
+    let (written, bytes) = put_answers(alloc, texts, buffer);
+    *read = bytes;
+    written
 }

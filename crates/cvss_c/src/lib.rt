@@ -9,9 +9,14 @@ mod answer;
 mod buffer;
 mod calls;
 mod canonical;
+mod lines;
 mod numbers;
 mod reason;
+mod refusal;
 mod scores;
 
-pub use calls::{cvss_answer, cvss_canonical, cvss_reason, cvss_scores, cvss_version};
+pub use calls::{
+    cvss_answer, cvss_answers, cvss_canonical, cvss_reason, cvss_refusal_kind, cvss_refusal_metric,
+    cvss_scores, cvss_version,
+};
 pub use scores::CvssScores;

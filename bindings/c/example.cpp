@@ -1,0 +1,27 @@
+// Prints the canonical text, the score and its rating of a vector, and why another is refused.
+#include "cvss.h"
+
+#include <iostream>
+#include <string>
+
+static std::string reason_of(const std::string &text)
+{
+    std::string reason(cvss_reason(text.data(), text.size(), nullptr, 0), ' ');
+    size_t length = cvss_reason(text.data(), text.size(), &reason[0], reason.size());
+    return length <= reason.size() ? reason.substr(0, length) : "out of memory";
+}
+
+int main()
+{
+    static const char *const ratings[] = {"none", "low", "medium", "high", "critical"};
+    const std::string text = "CVSS:3.1/A:H/I:H/C:H/S:U/UI:N/PR:N/AC:L/AV:N";
+    CvssScores scores = {};
+    if (!cvss_scores(text.data(), text.size(), &scores))
+        return 1;
+    std::string canonical(text.size(), ' ');
+    cvss_canonical(text.data(), text.size(), &canonical[0], canonical.size());
+    std::cout << canonical << ' ' << scores.base / 10 << '.' << scores.base % 10 << ' ' << ratings[scores.severity]
+              << '\n';
+    std::cout << reason_of("CVSS:3.1/AV:Q") << '\n';
+    return std::cout.flush() ? 0 : 2;
+}

@@ -1,0 +1,102 @@
+/*
+ * Tells what is known of each line of standard input, as bindings/stored/facts.py does, and does the same with
+ * buffers that are too small, which must be left as they were.
+ */
+#define _POSIX_C_SOURCE 200809L
+#include "cvss.h"
+
+#include <stdio.h>
+#include <stdlib.h>
+#include <string.h>
+#include <sys/types.h>
+
+enum { MOST = 1 << 20 };
+
+static const char *const ratings[] = {"none", "low", "medium", "high", "critical"};
+static const char *const nomenclatures[] = {"CVSS-B", "CVSS-BE", "CVSS-BT", "CVSS-BTE"};
+
+typedef size_t (*Call)(const void *, size_t, void *, size_t);
+
+/* What a call writes, in memory that just fits. Ends the program where a smaller buffer is touched. */
+static char *written(Call call, const char *text, size_t length, size_t *told)
+{
+    char small[1] = {'#'};
+    *told = call(text, length, NULL, 0);
+    if (*told > MOST || (*told > 1 && (call(text, length, small, 1) != *told || small[0] != '#')))
+        exit(3);
+    char *buffer = malloc(*told + 1);
+    if (buffer == NULL || call(text, length, buffer, *told) != *told)
+        exit(3);
+    buffer[*told] = '\0';
+    return buffer;
+}
+
+static void print_score(int32_t tenths, int32_t severity)
+{
+    if (tenths == CVSS_NOTHING && severity == CVSS_NOTHING)
+        printf(" - -");
+    else
+        printf(" %d.%d %s", (int)(tenths / 10), (int)(tenths % 10), ratings[severity]);
+}
+
+/* The metrics are the pieces of the canonical text, but for the piece that tells the version. */
+static void print_metrics(char *canonical)
+{
+    for (char *piece = strtok(canonical, "/"); piece != NULL; piece = strtok(NULL, "/")) {
+        char *colon = strchr(piece, ':');
+        if (colon == NULL)
+            exit(3);
+        *colon = '=';
+        if (strncmp(piece, "CVSS=", 5) != 0)
+            printf(" %s", piece);
+    }
+}
+
+static void print_vector(const char *text, size_t length, const CvssScores *scores)
+{
+    size_t told;
+    char *canonical = written(cvss_canonical, text, length, &told);
+    if (told != length || scores->version != cvss_version(text, length))
+        exit(3);
+    printf("%s %d.%d", canonical, (int)(scores->version / 10), (int)(scores->version % 10));
+    printf(" %s", scores->nomenclature == CVSS_NOTHING ? "-" : nomenclatures[scores->nomenclature]);
+    printf(" %s", scores->is_complete ? "complete" : "incomplete");
+    print_score(scores->base, scores->severity);
+    print_score(scores->temporal, scores->temporal_severity);
+    print_score(scores->environmental, scores->environmental_severity);
+    print_metrics(canonical);
+    free(canonical);
+}
+
+static void print_refusal(const char *text, size_t length)
+{
+    size_t named, told;
+    char *metric = written(cvss_refusal_metric, text, length, &named);
+    char *reason = written(cvss_reason, text, length, &told);
+    printf("%d %s ", (int)cvss_refusal_kind(text, length), named == 0 ? "-" : metric);
+    fwrite(reason, 1, told, stdout);
+    free(metric);
+    free(reason);
+}
+
+int main(void)
+{
+    char *line = NULL;
+    size_t room = 0;
+    ssize_t count;
+    while ((count = getline(&line, &room, stdin)) >= 0) {
+        size_t length = (size_t)count;
+        if (length > 0 && line[length - 1] == '\n')
+            length--;
+        CvssScores scores;
+        memset(&scores, 0x5a, sizeof scores);
+        CvssScores before = scores;
+        if (cvss_scores(line, length, &scores))
+            print_vector(line, length, &scores);
+        else if (memcmp(&scores, &before, sizeof scores) == 0)
+            print_refusal(line, length);
+        putchar('\n');
+    }
+    free(line);
+    return ferror(stdin) || fflush(stdout) != 0 ? 2 : 0;
+}

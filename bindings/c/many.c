@@ -1,0 +1,63 @@
+/*
+ * Answers the lines of standard input by cvss_answers, with a buffer of so many bytes as the argument says, which
+ * grows where an answer does not fit. Ends with status 3 where the buffer is touched behind the answers.
+ */
+#include "cvss.h"
+
+#include <stdio.h>
+#include <stdlib.h>
+#include <string.h>
+
+/* All of standard input, or NULL. */
+static char *input(size_t *length)
+{
+    size_t room = 1 << 16;
+    char *text = malloc(room);
+    *length = 0;
+    while (text != NULL) {
+        size_t count = fread(text + *length, 1, room - *length, stdin);
+        if (count == 0)
+            return text;
+        *length += count;
+        if (*length == room) {
+            char *larger = realloc(text, room *= 2);
+            if (larger == NULL)
+                free(text);
+            text = larger;
+        }
+    }
+    return NULL;
+}
+
+/* Answers texts, and tells how many bytes of them; the status of the program where it cannot go on. */
+static int answer(const char *texts, size_t length, char *buffer, size_t size, size_t *read)
+{
+    memset(buffer, '#', size);
+    size_t told = cvss_answers(texts, length, buffer, size, read);
+    for (size_t i = told; i < size; i++)
+        if (buffer[i] != '#')
+            return 3;
+    return fwrite(buffer, 1, told, stdout) == told ? 0 : 2;
+}
+
+int main(int count, char **words)
+{
+    size_t size = count > 1 ? strtoul(words[1], NULL, 10) : 1 << 20;
+    size_t length, done = 0;
+    char *texts = input(&length);
+    char *buffer = malloc(size + 1);
+    int status = texts == NULL || buffer == NULL ? 2 : 0;
+    while (status == 0 && memchr(texts + done, '\n', length - done) != NULL) {
+        size_t read;
+        status = answer(texts + done, length - done, buffer, size, &read);
+        done += read;
+        if (read == 0) {
+            free(buffer);
+            buffer = malloc(size = 2 * size + 1);
+            status = buffer == NULL ? 2 : status;
+        }
+    }
+    free(texts);
+    free(buffer);
+    return fflush(stdout) == 0 ? status : 2;
+}

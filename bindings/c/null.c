@@ -1,0 +1,26 @@
+/* An empty text, and an empty buffer, may be NULL. Ends with status 0 where each function answers as it must. */
+#include "cvss.h"
+
+#include <string.h>
+
+int main(void)
+{
+    static const char text[] = "AV:N/AC:L/Au:N/C:N/I:N/A:C";
+    static const char empty[] = "invalid CVSS metric group component: ``";
+    size_t length = sizeof text - 1;
+    char buffer[80];
+    CvssScores scores = {0};
+    size_t told = cvss_reason(NULL, 0, buffer, sizeof buffer);
+    int right = told == sizeof empty - 1 && memcmp(buffer, empty, told) == 0;
+    right &= cvss_version(NULL, 0) == CVSS_NOTHING && !cvss_scores(NULL, 0, &scores);
+    right &= cvss_canonical(NULL, 0, NULL, 0) == 0 && cvss_canonical(text, length, NULL, 0) == length;
+    right &= cvss_reason(NULL, 0, NULL, 0) == told && cvss_reason(text, length, NULL, 0) == 0;
+    right &= cvss_refusal_kind(NULL, 0) == CVSS_INVALID_COMPONENT;
+    right &= cvss_refusal_metric(NULL, 0, NULL, 0) == 0 && cvss_refusal_metric("AV:N/AC:q", 9, NULL, 0) == 2;
+    right &= cvss_answer(NULL, 0, NULL, 0) == told + strlen("error: ");
+    right &= cvss_answer(text, length, NULL, 0) == length + strlen(" 7.8 high");
+    size_t read = 1;
+    right &= cvss_answers(NULL, 0, NULL, 0, &read) == 0 && read == 0;
+    right &= cvss_answers("x\n", 2, NULL, 0, &read) == 0 && read == 0;
+    return right ? 0 : 1;
+}

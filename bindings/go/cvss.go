@@ -1,0 +1,212 @@
+// Package cvss reads, prints and scores CVSS vectors of v2, v3.0, v3.1 and v4.0.
+//
+// The answers are those of a library whose functions are proved up to the call. This package calls it through cgo
+// and computes no score itself. It is linked to bindings/out/libcvss.a of the checkout that it stands in, which
+// bindings/build makes, on Linux and x86-64.
+package cvss
+
+// #cgo CFLAGS: -I${SRCDIR}/../c
+// #cgo LDFLAGS: ${SRCDIR}/../out/libcvss.a
+// #include "cvss.h"
+import "C"
+
+import (
+	"bytes"
+	"strings"
+	"unsafe"
+)
+
+// A Version is a version of the standard.
+type Version string
+
+// The versions that are read.
+const (
+	V20 Version = "2.0"
+	V30 Version = "3.0"
+	V31 Version = "3.1"
+	V40 Version = "4.0"
+)
+
+var versions = map[C.int32_t]Version{20: V20, 30: V30, 31: V31, 40: V40}
+
+// A Nomenclature tells which groups of metrics a score of v4.0 rests on, as CVSS-BTE; it is empty in v2 and v3.
+type Nomenclature string
+
+var nomenclatures = []Nomenclature{"CVSS-B", "CVSS-BE", "CVSS-BT", "CVSS-BTE"}
+
+// A Metric is a metric's abbreviation, and the value that a vector has for it.
+type Metric struct {
+	Name  string
+	Value string
+}
+
+// A Vector is the vector that a text denotes. Two vectors are equal if their canonical texts are. The zero Vector is
+// none.
+type Vector struct {
+	text          string
+	version       Version
+	score         Score
+	temporal      Score
+	environmental Score
+	severities    [3]Severity
+	hasThree      bool
+	nomenclature  Nomenclature
+	isComplete    bool
+}
+
+// A pointer to the bytes of a text. The text may not be empty.
+func pointer(text []byte) unsafe.Pointer {
+	return unsafe.Pointer(&text[0])
+}
+
+// bytesOf gives the bytes of a text with one byte behind them, so that there is a first one; it is not counted.
+func bytesOf(text string) ([]byte, C.size_t) {
+	return append([]byte(text), 0), C.size_t(len(text))
+}
+
+// Parse reads the vector that a text denotes, by the rules of the version that its first piece tells; without such a
+// piece by those of v2. The error is a *RefusedError.
+func Parse(text string) (Vector, error) {
+	code, length := bytesOf(text)
+	var scores C.CvssScores
+	if !bool(C.cvss_scores(pointer(code), length, &scores)) {
+		return Vector{}, refusal(code, length)
+	}
+	canonical := make([]byte, len(code))
+	C.cvss_canonical(pointer(code), length, pointer(canonical), length)
+	vector := Vector{
+		text:       string(canonical[:length]),
+		version:    versions[scores.version],
+		score:      Score(scores.base),
+		severities: [3]Severity{Severity(scores.severity)},
+		isComplete: scores.is_complete != 0,
+	}
+	if scores.temporal == C.CVSS_NOTHING {
+		vector.nomenclature = nomenclatures[scores.nomenclature]
+		return vector, nil
+	}
+	vector.hasThree = true
+	vector.temporal = Score(scores.temporal)
+	vector.environmental = Score(scores.environmental)
+	vector.severities[1] = Severity(scores.temporal_severity)
+	vector.severities[2] = Severity(scores.environmental_severity)
+	return vector, nil
+}
+
+// String is the vector's one canonical text.
+func (v Vector) String() string { return v.text }
+
+// Version is the version of the standard.
+func (v Vector) Version() Version { return v.version }
+
+// Score is the score that is published of the vector: in v2 and v3 the base score.
+func (v Vector) Score() Score { return v.score }
+
+// Severity is the rating of Score.
+func (v Vector) Severity() Severity { return v.severities[0] }
+
+// Temporal is the temporal score and its rating, which v2 and v3 have.
+func (v Vector) Temporal() (score Score, severity Severity, ok bool) {
+	return v.temporal, v.severities[1], v.hasThree
+}
+
+// Environmental is the environmental score and its rating, which v2 and v3 have.
+func (v Vector) Environmental() (score Score, severity Severity, ok bool) {
+	return v.environmental, v.severities[2], v.hasThree
+}
+
+// Nomenclature tells which groups of metrics the score rests on, in v4.0.
+func (v Vector) Nomenclature() Nomenclature { return v.nomenclature }
+
+// IsComplete tells whether all base metrics are there. A text of v3 may lack some: it is scored without them.
+func (v Vector) IsComplete() bool { return v.isComplete }
+
+// Metrics are the metrics that the vector has, in the order of its canonical text.
+func (v Vector) Metrics() []Metric {
+	var metrics []Metric
+	for _, piece := range strings.Split(v.text, "/") {
+		name, value, found := strings.Cut(piece, ":")
+		if found && name != "CVSS" {
+			metrics = append(metrics, Metric{name, value})
+		}
+	}
+	return metrics
+}
+
+// environmental are the environmental metrics of all versions.
+const environmental = " CDP TD CR IR AR MAV MAC MAT MPR MUI MS MC MI MA MVC MVI MVA MSC MSI MSA "
+
+// WithoutUndefined is the vector without the metrics that are not defined (X, in v2 ND): it has the same scores. A
+// vector of v3 that has no others is given as it is.
+func (v Vector) WithoutUndefined() Vector {
+	var pieces []string
+	for _, piece := range strings.Split(v.text, "/") {
+		if !strings.HasSuffix(piece, ":X") && !strings.HasSuffix(piece, ":ND") {
+			pieces = append(pieces, piece)
+		}
+	}
+	if shorter, err := Parse(strings.Join(pieces, "/")); err == nil {
+		return shorter
+	}
+	return v
+}
+
+// WithOverrides is the vector with an organisation's environmental metrics in place of its own, or beside them. The
+// error is ErrNotEnvironmental, or else a *RefusedError of the vector with these metrics.
+func (v Vector) WithOverrides(overrides []Metric) (Vector, error) {
+	own := make(map[string]bool)
+	var added []string
+	for _, metric := range overrides {
+		if strings.ContainsAny(metric.Name+metric.Value, " /:") || !strings.Contains(environmental, " "+metric.Name+" ") {
+			return Vector{}, ErrNotEnvironmental
+		}
+		own[metric.Name] = true
+		added = append(added, metric.Name+":"+metric.Value)
+	}
+	var pieces []string
+	for _, piece := range strings.Split(v.text, "/") {
+		if name, _, _ := strings.Cut(piece, ":"); !own[name] {
+			pieces = append(pieces, piece)
+		}
+	}
+	return Parse(strings.Join(append(pieces, added...), "/"))
+}
+
+// Answer is the line that the program cvss_tool answers to a text, without the newline: the canonical text, the score
+// and its rating, or "error: " and the reason.
+func Answer(text string) string {
+	code, length := bytesOf(text)
+	return written(len(text)+120, func(buffer unsafe.Pointer, size C.size_t) C.size_t {
+		return C.cvss_answer(pointer(code), length, buffer, size)
+	})
+}
+
+// AnswerLines gives the lines that the program cvss_tool answers to the lines of a text: faster than a call of Answer
+// for each. Each line is ended by a newline, which one carriage return may precede; a last line without one is not
+// answered.
+func AnswerLines(lines []byte) []byte {
+	var answers []byte
+	buffer := make([]byte, 1<<16)
+	for bytes.IndexByte(lines, '\n') >= 0 {
+		var read C.size_t
+		length := C.cvss_answers(pointer(lines), C.size_t(len(lines)), pointer(buffer), C.size_t(len(buffer)), &read)
+		answers = append(answers, buffer[:length]...)
+		lines = lines[read:]
+		if read == 0 {
+			buffer = make([]byte, 2*len(buffer))
+		}
+	}
+	return answers
+}
+
+// written is what a call writes into a buffer that is large enough; tried first with one of this size.
+func written(size int, call func(unsafe.Pointer, C.size_t) C.size_t) string {
+	for {
+		buffer := make([]byte, size)
+		length := int(call(pointer(buffer), C.size_t(size)))
+		if length <= size {
+			return string(buffer[:length])
+		}
+		size = length
+	}
+}

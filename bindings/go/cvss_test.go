@@ -1,0 +1,144 @@
+package cvss_test
+
+import (
+	"errors"
+	"fmt"
+	"os"
+	"strings"
+	"sync"
+	"testing"
+
+	"cvss"
+)
+
+// The lines of a file of the repository.
+func lines(t *testing.T, path string) []string {
+	t.Helper()
+	text, err := os.ReadFile("../../" + path)
+	if err != nil || len(text) == 0 {
+		t.Fatalf("%s: %v", path, err)
+	}
+	return strings.Split(strings.TrimSuffix(string(text), "\n"), "\n")
+}
+
+func scored(score cvss.Score, severity cvss.Severity, ok bool) string {
+	if !ok {
+		return "- -"
+	}
+	return fmt.Sprintf("%v %v", score, severity)
+}
+
+// What is known of a text, as bindings/stored/facts.py tells it.
+func facts(text string) string {
+	vector, err := cvss.Parse(text)
+	var refused *cvss.RefusedError
+	if errors.As(err, &refused) {
+		metric := refused.Metric
+		if metric == "" {
+			metric = "-"
+		}
+		return fmt.Sprintf("%d %s %v", refused.Kind, metric, refused)
+	}
+	nomenclature := string(vector.Nomenclature())
+	if nomenclature == "" {
+		nomenclature = "-"
+	}
+	complete := "incomplete"
+	if vector.IsComplete() {
+		complete = "complete"
+	}
+	told := []string{vector.String(), string(vector.Version()), nomenclature, complete,
+		scored(vector.Score(), vector.Severity(), true), scored(vector.Temporal()), scored(vector.Environmental())}
+	for _, metric := range vector.Metrics() {
+		told = append(told, metric.Name+"="+metric.Value)
+	}
+	return strings.Join(told, " ")
+}
+
+func TestStoredLines(t *testing.T) {
+	expected := lines(t, "bindings/stored/facts")
+	answers := lines(t, "crates/cvss_vectors/stdout")
+	given := lines(t, "crates/cvss_vectors/stdin")
+	if len(expected) != len(given) || len(answers) != len(given) {
+		t.Fatalf("%d lines, %d facts and %d answers", len(given), len(expected), len(answers))
+	}
+	told := string(cvss.AnswerLines([]byte(strings.Join(given, "\n") + "\n")))
+	if told != strings.Join(answers, "\n")+"\n" {
+		t.Error("the answers to all lines in one call are others")
+	}
+	var threads sync.WaitGroup
+	for thread := 0; thread < 4; thread++ {
+		threads.Add(1)
+		go func() {
+			defer threads.Done()
+			for i, text := range given {
+				if told := facts(text); told != expected[i] {
+					t.Errorf("%q: %q, and not %q", text, told, expected[i])
+				}
+				if told := cvss.Answer(text); told != answers[i] {
+					t.Errorf("%q: %q, and not %q", text, told, answers[i])
+				}
+			}
+		}()
+	}
+	threads.Wait()
+}
+
+func TestTextsThatAreNoUTF8AreRefused(t *testing.T) {
+	_, err := cvss.Parse("AV:\xff")
+	var refused *cvss.RefusedError
+	if !errors.As(err, &refused) || refused.Kind != cvss.NotUTF8 {
+		t.Errorf("%v", err)
+	}
+	if told := cvss.Answer("AV:\xff"); told != "error: not UTF-8" {
+		t.Errorf("%q", told)
+	}
+}
+
+func TestEmptyTextIsRefused(t *testing.T) {
+	if _, err := cvss.Parse(""); err == nil {
+		t.Error("an empty text is accepted")
+	}
+}
+
+// What is not defined scores as what is absent (CVSS v2 guide, section 2.2; v3.1, section 3; v4.0, section 3).
+func TestWhatIsNotDefinedScoresAsAbsent(t *testing.T) {
+	for _, text := range lines(t, "crates/cvss_vectors/stdin") {
+		vector, err := cvss.Parse(text)
+		if err != nil {
+			continue
+		}
+		shorter := vector.WithoutUndefined()
+		temporal, _, _ := vector.Temporal()
+		environmental, _, _ := vector.Environmental()
+		shortTemporal, _, _ := shorter.Temporal()
+		shortEnvironmental, _, _ := shorter.Environmental()
+		if shorter.Score() != vector.Score() || shortTemporal != temporal || shortEnvironmental != environmental {
+			t.Errorf("%v: %v has other scores", vector, shorter)
+		}
+		if own, err := vector.WithOverrides(nil); err != nil || own != vector {
+			t.Errorf("%v: %v, %v", vector, own, err)
+		}
+		own, err := vector.WithOverrides([]cvss.Metric{{Name: "IR", Value: "H"}})
+		if err != nil || !strings.Contains(own.String(), "/IR:H") {
+			t.Errorf("%v: %v, %v", vector, own, err)
+		}
+	}
+}
+
+func TestOtherMetricsAreNoOverrides(t *testing.T) {
+	vector, err := cvss.Parse("CVSS:3.1/AV:N")
+	if err != nil {
+		t.Fatal(err)
+	}
+	for _, metric := range []cvss.Metric{{Name: "AC", Value: "L"}, {Name: "CR", Value: "H/E:U"}, {Name: "", Value: ""}} {
+		if _, err := vector.WithOverrides([]cvss.Metric{metric}); !errors.Is(err, cvss.ErrNotEnvironmental) {
+			t.Errorf("%v: %v", metric, err)
+		}
+	}
+	var refused *cvss.RefusedError
+	_, err = vector.WithOverrides([]cvss.Metric{{Name: "CR", Value: "Q"}})
+	if !errors.As(err, &refused) || refused.Metric != "CR" {
+		t.Errorf("%v", err)
+	}
+}

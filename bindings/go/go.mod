@@ -1,0 +1,3 @@
+module cvss
+
+go 1.19

@@ -1,0 +1,51 @@
+package cvss
+
+// #include "cvss.h"
+import "C"
+
+import (
+	"errors"
+	"unsafe"
+)
+
+// ErrNotEnvironmental is the error of an override that is no environmental metric.
+var ErrNotEnvironmental = errors.New("no environmental metric")
+
+// A Kind is the kind of a refusal.
+type Kind int
+
+// The kinds of refusals.
+const (
+	InvalidComponent   Kind = C.CVSS_INVALID_COMPONENT   // a piece of the text has no colon, or more than one
+	InvalidPrefix      Kind = C.CVSS_INVALID_PREFIX      // a version is told, but not behind CVSS
+	UnsupportedVersion Kind = C.CVSS_UNSUPPORTED_VERSION // the version is none of 3.0, 3.1 and 4.0
+	UnknownMetric      Kind = C.CVSS_UNKNOWN_METRIC      // the version has no metric of this name
+	InvalidValue       Kind = C.CVSS_INVALID_VALUE       // the metric has no such value
+	DuplicateMetric    Kind = C.CVSS_DUPLICATE_METRIC    // the metric stands twice
+	MissingMetric      Kind = C.CVSS_MISSING_METRIC      // the metric is mandatory, and missing
+	NotUTF8            Kind = C.CVSS_NOT_UTF8            // the text is not UTF-8
+	NoMemory           Kind = C.CVSS_NO_MEMORY           // there was no memory to tell the reason
+)
+
+// A RefusedError tells the first reason why a text denotes no vector.
+type RefusedError struct {
+	// Kind is the kind of the reason.
+	Kind Kind
+	// Metric is the abbreviation of the metric that has an invalid value, stands twice or is missing.
+	Metric string
+	// Reason is the reason in words.
+	Reason string
+}
+
+// Error is the reason in words.
+func (e *RefusedError) Error() string { return e.Reason }
+
+func refusal(text []byte, length C.size_t) *RefusedError {
+	metric := written(4, func(buffer unsafe.Pointer, size C.size_t) C.size_t {
+		return C.cvss_refusal_metric(pointer(text), length, buffer, size)
+	})
+	reason := written(len(text)+120, func(buffer unsafe.Pointer, size C.size_t) C.size_t {
+		return C.cvss_reason(pointer(text), length, buffer, size)
+	})
+	return &RefusedError{Kind(C.cvss_refusal_kind(pointer(text), length)), metric, reason}
+}

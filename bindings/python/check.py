@@ -1,0 +1,142 @@
+"""Tries the package: the stored lines of the repository, and what texts, vectors and errors have to do.
+
+Usage: check.py ROOT, the folder of the checkout. The package is the one that Python finds.
+"""
+
+import pickle
+import sys
+from pathlib import Path
+from typing import Any, Callable, List, Optional, Tuple, Type
+
+import cvss_proved
+from cvss_proved import CvssError, Text, Vector, answer, answers
+
+KINDS = (
+    "",
+    "invalid component",
+    "invalid prefix",
+    "unsupported version",
+    "unknown metric",
+    "invalid value",
+    "duplicate metric",
+    "missing metric",
+)
+TEXT = "AV:N/AC:L/Au:N/C:N/I:N/A:C"
+
+
+def scored(score: Optional[float], severity: Optional[str]) -> str:
+    return "- -" if score is None else f"{score:.1f} {severity}"
+
+
+def facts(text: bytes) -> str:
+    """What is known of a text, as bindings/stored/facts.py tells it."""
+    try:
+        vector = Vector(text)
+    except CvssError as error:
+        return f"{KINDS.index(error.kind)} {error.metric or '-'} {error.reason}"
+    told = [str(vector), vector.version, vector.nomenclature or "-"]
+    told.append("complete" if vector.is_complete else "incomplete")
+    told += map(scored, vector.scores, vector.severities)
+    told += [f"{name}={value}" for name, value in vector.metrics.items()]
+    return " ".join(told)
+
+
+def lines_of(path: Path) -> List[bytes]:
+    lines = path.read_bytes().splitlines()
+    if not lines:
+        sys.exit(f"{path} has no lines")
+    return lines
+
+
+def check_stored_lines(root: Path) -> None:
+    stored = root / "crates" / "cvss_vectors"
+    lines = lines_of(stored / "stdin")
+    for call, expected in (
+        (facts, lines_of(root / "bindings" / "stored" / "facts")),
+        (answer, lines_of(stored / "stdout")),
+    ):
+        assert len(lines) == len(expected)
+        for line, told in zip(lines, expected):
+            assert call(line) == told.decode(), line
+    assert answers(lines) == [told.decode() for told in lines_of(stored / "stdout")]
+    print(f"Python: {len(lines)} lines, 0 wrong answers")
+
+
+def raises(error: Type[Exception], call: Callable[[], object]) -> bool:
+    try:
+        call()
+    except error:
+        return True
+    return False
+
+
+def check_texts() -> None:
+    """Texts are str or bytes of any kind, and nothing else is taken for one."""
+    code = TEXT.encode()
+    accepted: Tuple[Text, ...] = (TEXT, code, bytearray(code), memoryview(code))
+    for text in accepted:
+        assert Vector(text).text == TEXT
+    no_texts: Tuple[Any, ...] = (5, 3 * 10**9, None, [65], 1.5)
+    for other in no_texts:
+        assert raises(TypeError, lambda: Vector(other)), other
+        assert raises(TypeError, lambda: answer(other)), other
+    no_utf8: Tuple[Text, ...] = ("AV:\ud800", b"AV:\xff")
+    for text in no_utf8:
+        assert raises(CvssError, lambda: Vector(text)), text
+        assert answer(text) == "error: not UTF-8"
+
+
+def check_many_texts() -> None:
+    """Each text has the answer that it has alone, whatever bytes it has."""
+    rows: Tuple[List[Text], ...] = (
+        [],
+        ["", TEXT, ""],
+        [TEXT + "\n", "\n\n", TEXT + "\r"],
+        ["\u2028", "x" * 200_000],
+        [b"\xff", TEXT],
+    )
+    for texts in rows:
+        assert answers(texts) == [answer(text) for text in texts], texts
+
+
+def check_changes(root: Path) -> None:
+    """What is not defined scores as what is absent (CVSS v2 guide, section 2.2; v3.1, section 3; v4.0, section 3)."""
+    for line in lines_of(root / "crates" / "cvss_vectors" / "stdin"):
+        try:
+            vector = Vector(line)
+        except CvssError:
+            continue
+        shorter = vector.without_undefined()
+        assert (shorter.scores, shorter.severities) == (vector.scores, vector.severities), line
+        defined = {name: value for name, value in vector.metrics.items() if value not in ("X", "ND")}
+        assert shorter.metrics == defined or (not defined and shorter == vector), line
+        assert vector.with_overrides({}) == vector
+        assert vector.with_overrides({"IR": "H"}).metrics == {**vector.metrics, "IR": "H"}, line
+    vector = Vector(TEXT)
+    assert raises(ValueError, lambda: vector.with_overrides({"AV": "L"}))
+    assert raises(ValueError, lambda: vector.with_overrides({"CR": "H/E:U"}))
+    for unknown in ({"MAV": "L"}, {"CR": "Q"}):
+        assert raises(CvssError, lambda: vector.with_overrides(unknown)), unknown
+
+
+def check_values() -> None:
+    """The two vectors have the base scores 7.8 and 10.0 (CVSS v2 guide, sections 3.3.1 and 3.3.2)."""
+    lower, higher = Vector(TEXT), Vector("AV:N/AC:L/Au:N/C:C/I:C/A:C")
+    assert sorted([higher, lower]) == [lower, higher] and lower <= higher and lower != higher
+    assert lower != TEXT and raises(TypeError, lambda: lower < TEXT)  # type: ignore[operator]
+    assert f"{lower:>30}" == "    " + TEXT
+    assert len({lower, Vector("A:C/I:N/C:N/Au:N/AC:L/AV:N")}) == 1
+    for protocol in range(pickle.HIGHEST_PROTOCOL + 1):
+        copy = pickle.loads(pickle.dumps(lower, protocol))
+        assert copy == lower and copy.scores == lower.scores
+        refused = pickle.loads(pickle.dumps(CvssError("words", "invalid value", "AV"), protocol))
+        assert (refused.reason, refused.kind, refused.metric) == ("words", "invalid value", "AV")
+    assert cvss_proved.__version__
+
+
+if __name__ == "__main__":
+    check_stored_lines(Path(sys.argv[1]))
+    check_texts()
+    check_many_texts()
+    check_changes(Path(sys.argv[1]))
+    check_values()

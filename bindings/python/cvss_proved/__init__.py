@@ -1,0 +1,28 @@
+"""CVSS vectors of v2, v3.0, v3.1 and v4.0: read, printed and scored.
+
+The answers are those of a library whose functions are proved up to the call; this package calls it through
+ctypes and computes no score itself. Python 3.8 and later, on Linux and x86-64.
+
+>>> vector = Vector("CVSS:3.1/AV:N/AC:L/PR:N/UI:N/S:U/C:H/I:H/A:H")
+>>> vector.score, vector.severity
+(9.8, 'critical')
+>>> vector = Vector("A:C/I:N/C:N/Au:N/AC:L/AV:N")
+>>> vector.text
+'AV:N/AC:L/Au:N/C:N/I:N/A:C'
+>>> vector.scores
+Scores(base=7.8, temporal=7.8, environmental=7.8)
+>>> vector.metrics["AC"]
+'L'
+>>> Vector("AV:N/AC:q")
+Traceback (most recent call last):
+    ...
+cvss_proved.CvssError: invalid CVSSv2 AC (Access Complexity) metric: `q`
+"""
+
+from ._error import CvssError
+from ._library import Text
+from ._vector import Scores, Severities, Vector, answer, answers
+
+__version__ = "1.0.0"
+
+__all__ = ["CvssError", "Scores", "Severities", "Text", "Vector", "answer", "answers", "__version__"]

@@ -1,0 +1,140 @@
+"""The calls of the library, by ctypes. This is the one module that knows of pointers and lengths.
+
+The library is the file that the variable CVSS_LIBRARY names; or else the one beside this module, where an
+installed package has it; or else the one that bindings/build makes in a checkout.
+"""
+
+from __future__ import annotations
+
+import ctypes
+import os
+from pathlib import Path
+from typing import Callable, List, Optional, Union
+
+Text = Union[str, bytes, bytearray, memoryview]
+
+NOTHING = -1
+_FILE = "libcvss.so.1"
+
+
+class Scores(ctypes.Structure):
+    """The struct CvssScores of cvss.h."""
+
+    _fields_ = [
+        ("version", ctypes.c_int32),
+        ("base", ctypes.c_int32),
+        ("temporal", ctypes.c_int32),
+        ("environmental", ctypes.c_int32),
+        ("severity", ctypes.c_int32),
+        ("temporal_severity", ctypes.c_int32),
+        ("environmental_severity", ctypes.c_int32),
+        ("nomenclature", ctypes.c_int32),
+        ("is_complete", ctypes.c_int32),
+        ("reserved", ctypes.c_int32 * 7),
+    ]
+
+
+def _places() -> List[Path]:
+    named = os.environ.get("CVSS_LIBRARY")
+    if named is not None:
+        return [Path(named)]
+    here = Path(__file__).resolve().parent
+    return [here / _FILE, here.parent.parent / "out" / _FILE]
+
+
+def _loaded() -> ctypes.CDLL:
+    places = _places()
+    for place in places:
+        if place.is_file():
+            return ctypes.CDLL(str(place.resolve()))
+    looked = " or ".join(str(place) for place in places)
+    raise ImportError(
+        f"the library was looked for at {looked}, and is not there: build it by bindings/build in a checkout, "
+        "or name the file by the variable CVSS_LIBRARY"
+    )
+
+
+def _declared(library: ctypes.CDLL) -> ctypes.CDLL:
+    text = [ctypes.c_char_p, ctypes.c_size_t]
+    library.cvss_scores.argtypes = text + [ctypes.POINTER(Scores)]
+    library.cvss_scores.restype = ctypes.c_bool
+    library.cvss_refusal_kind.argtypes = text
+    library.cvss_refusal_kind.restype = ctypes.c_int32
+    for call in (
+        library.cvss_canonical,
+        library.cvss_reason,
+        library.cvss_refusal_metric,
+        library.cvss_answer,
+    ):
+        call.argtypes = text + [ctypes.c_char_p, ctypes.c_size_t]
+        call.restype = ctypes.c_size_t
+    many = text + [ctypes.c_char_p, ctypes.c_size_t]
+    library.cvss_answers.argtypes = many + [ctypes.POINTER(ctypes.c_size_t)]
+    library.cvss_answers.restype = ctypes.c_size_t
+    return library
+
+
+_library = _declared(_loaded())
+
+
+def bytes_of(text: Text) -> bytes:
+    """The bytes of a text. What is no Unicode, as a lone surrogate, becomes bytes that are no UTF-8."""
+    if isinstance(text, str):
+        return text.encode("utf-8", "surrogatepass")
+    if isinstance(text, (bytes, bytearray, memoryview)):
+        return bytes(text)
+    raise TypeError(f"a text is str, bytes, bytearray or memoryview, and not {type(text).__name__}")
+
+
+def _written(call: Callable[..., int], text: bytes, size: int) -> str:
+    """What a call writes into a buffer that is large enough; tried first with one of this size."""
+    while True:
+        buffer = ctypes.create_string_buffer(size)
+        length = call(text, len(text), buffer, size)
+        if length <= size:
+            return ctypes.string_at(buffer, length).decode("utf-8", "replace")
+        size = length
+
+
+def scores(text: bytes) -> Optional[Scores]:
+    """The scores of the vector that a text denotes."""
+    numbers = Scores()
+    accepted = _library.cvss_scores(text, len(text), ctypes.byref(numbers))
+    return numbers if accepted else None
+
+
+def canonical(text: bytes) -> str:
+    """The canonical text of the vector that a text denotes, or nothing."""
+    return _written(_library.cvss_canonical, text, len(text) + 1)
+
+
+def reason(text: bytes) -> str:
+    """Why a text is refused, or nothing."""
+    return _written(_library.cvss_reason, text, len(text) + 120)
+
+
+def refusal_kind(text: bytes) -> int:
+    """The number of the kind of refusal, or 0."""
+    return int(_library.cvss_refusal_kind(text, len(text)))
+
+
+def refusal_metric(text: bytes) -> str:
+    """The metric that a refusal blames, or nothing."""
+    return _written(_library.cvss_refusal_metric, text, 8)
+
+
+def answer(text: bytes) -> str:
+    """The line that the program cvss_tool answers."""
+    return _written(_library.cvss_answer, text, len(text) + 120)
+
+
+def answers(lines: bytes) -> bytes:
+    """The answers to the lines of a text that ends in a newline, each with its newline."""
+    size = len(lines) + 120 * (lines.count(b"\n") + 1)
+    while True:
+        buffer = ctypes.create_string_buffer(size)
+        read = ctypes.c_size_t()
+        written = _library.cvss_answers(lines, len(lines), buffer, size, ctypes.byref(read))
+        if read.value == len(lines):
+            return ctypes.string_at(buffer, written)
+        size *= 2

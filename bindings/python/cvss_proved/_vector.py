@@ -1,0 +1,230 @@
+"""Vectors, and what is known of them."""
+
+from __future__ import annotations
+
+from functools import total_ordering
+from typing import Dict, Iterable, List, Mapping, NamedTuple, Optional, Tuple, Type
+
+from . import _library
+from ._error import CvssError
+from ._library import NOTHING, Text
+
+_VERSIONS = {20: "2.0", 30: "3.0", 31: "3.1", 40: "4.0"}
+_SEVERITIES = ("none", "low", "medium", "high", "critical")
+_NOMENCLATURES = ("CVSS-B", "CVSS-BE", "CVSS-BT", "CVSS-BTE")
+_ENVIRONMENTAL = frozenset(
+    "CDP TD CR IR AR MAV MAC MAT MPR MUI MS MC MI MA MVC MVI MVA MSC MSI MSA".split()
+)
+
+
+class Scores(NamedTuple):
+    """The three scores of a vector. v4.0 has one score, here `base`, and no others.
+
+    >>> Vector("CVSS:4.0/AV:N/AC:L/AT:N/PR:N/UI:N/VC:H/VI:H/VA:H/SC:H/SI:H/SA:H").scores
+    Scores(base=10.0, temporal=None, environmental=None)
+    """
+
+    base: float
+    temporal: Optional[float]
+    environmental: Optional[float]
+
+
+class Severities(NamedTuple):
+    """The ratings of the three scores: none, low, medium, high or critical.
+
+    >>> Vector("CVSS:3.1/AV:N/AC:L/PR:N/UI:N/S:U/C:H/I:H/A:H/E:U/RL:O").severities
+    Severities(base='critical', temporal='high', environmental='high')
+    """
+
+    base: str
+    temporal: Optional[str]
+    environmental: Optional[str]
+
+
+def _score(tenths: int) -> Optional[float]:
+    return None if tenths == NOTHING else tenths / 10
+
+
+def _severity(number: int) -> Optional[str]:
+    return None if number == NOTHING else _SEVERITIES[number]
+
+
+@total_ordering
+class Vector:
+    """The vector that a text denotes.
+
+    Two vectors are equal if their canonical texts are. They are ordered by their scores, and those of one
+    score by their texts.
+
+    >>> vector = Vector("CVSS:4.0/AV:N/AC:L/AT:N/PR:N/UI:N/VC:H/VI:H/VA:H/SC:H/SI:H/SA:H")
+    >>> vector.version, vector.tenths, vector.nomenclature
+    ('4.0', 100, 'CVSS-B')
+    >>> vector == Vector(vector.text)
+    True
+    """
+
+    __slots__ = ("_text", "_numbers")
+
+    _text: str
+    _numbers: _library.Scores
+
+    def __init__(self, text: Text) -> None:
+        """Reads a text. One that denotes no vector is refused by `CvssError`."""
+        given = _library.bytes_of(text)
+        numbers = _library.scores(given)
+        if numbers is None:
+            raise CvssError.of(given)
+        self._numbers = numbers
+        self._text = _library.canonical(given)
+
+    @property
+    def text(self) -> str:
+        """The vector's one canonical text."""
+        return self._text
+
+    @property
+    def version(self) -> str:
+        """The version of the standard: 2.0, 3.0, 3.1 or 4.0."""
+        return _VERSIONS[self._numbers.version]
+
+    @property
+    def tenths(self) -> int:
+        """The score in tenths, which is exact."""
+        return int(self._numbers.base)
+
+    @property
+    def score(self) -> float:
+        """The score that is published of the vector: in v2 and v3 the base score."""
+        return self.tenths / 10
+
+    @property
+    def severity(self) -> str:
+        """The rating of the score: none, low, medium, high or critical."""
+        return _SEVERITIES[self._numbers.severity]
+
+    @property
+    def scores(self) -> Scores:
+        """The base, the temporal and the environmental score."""
+        numbers = self._numbers
+        return Scores(self.score, _score(numbers.temporal), _score(numbers.environmental))
+
+    @property
+    def severities(self) -> Severities:
+        """The ratings of the three scores."""
+        numbers = self._numbers
+        return Severities(
+            self.severity,
+            _severity(numbers.temporal_severity),
+            _severity(numbers.environmental_severity),
+        )
+
+    @property
+    def nomenclature(self) -> Optional[str]:
+        """Which groups of metrics a score of v4.0 rests on; None in v2 and v3."""
+        number = self._numbers.nomenclature
+        return None if number == NOTHING else _NOMENCLATURES[number]
+
+    @property
+    def is_complete(self) -> bool:
+        """Whether all base metrics are there. A v3 text may lack some: it is scored without them.
+
+        >>> Vector("CVSS:3.1/AV:N/S:C").is_complete
+        False
+        """
+        return bool(self._numbers.is_complete)
+
+    @property
+    def metrics(self) -> Dict[str, str]:
+        """The value of each metric that the vector has, by the abbreviations, in the order of the text.
+
+        >>> Vector("AV:N/AC:L/Au:N/C:N/I:N/A:C").metrics
+        {'AV': 'N', 'AC': 'L', 'Au': 'N', 'C': 'N', 'I': 'N', 'A': 'C'}
+        """
+        components = (piece.split(":") for piece in self._text.split("/"))
+        return {name: value for name, value in components if name != "CVSS"}
+
+    def without_undefined(self) -> Vector:
+        """The vector without the metrics that are not defined (`X`, in v2 `ND`): it has the same scores.
+
+        A vector of v3 that has no others is given as it is.
+
+        >>> str(Vector("AV:N/AC:L/Au:N/C:N/I:N/A:C/E:ND/TD:H").without_undefined())
+        'AV:N/AC:L/Au:N/C:N/I:N/A:C/TD:H'
+        """
+        pieces = [piece for piece in self._text.split("/") if not piece.endswith((":X", ":ND"))]
+        return self if pieces in (["CVSS:3.0"], ["CVSS:3.1"]) else Vector("/".join(pieces))
+
+    def with_overrides(self, overrides: Mapping[str, str]) -> Vector:
+        """The vector with an organisation's environmental metrics in place of its own, or beside them.
+
+        A name that is no environmental metric is a `ValueError`; one that the version does not have, or a value
+        that the metric does not have, is refused by `CvssError`.
+
+        >>> vector = Vector("CVSS:3.1/AV:N/AC:L/PR:N/UI:N/S:U/C:H/I:H/A:H/CR:H")
+        >>> str(vector.with_overrides({"CR": "L", "MAV": "P"}))
+        'CVSS:3.1/AV:N/AC:L/PR:N/UI:N/S:U/C:H/I:H/A:H/CR:L/MAV:P'
+        """
+        for name, value in overrides.items():
+            if name not in _ENVIRONMENTAL or not value.isalnum():
+                raise ValueError(f"{name}:{value} is no environmental metric")
+        front = [piece for piece in self._text.split("/") if piece.startswith("CVSS:")]
+        metrics = {**self.metrics, **overrides}
+        return Vector("/".join(front + [f"{name}:{value}" for name, value in metrics.items()]))
+
+    def __str__(self) -> str:
+        return self._text
+
+    def __format__(self, spec: str) -> str:
+        return format(self._text, spec)
+
+    def __repr__(self) -> str:
+        return f"Vector({self._text!r})"
+
+    def __reduce__(self) -> Tuple[Type[Vector], Tuple[str]]:
+        return (type(self), (self._text,))
+
+    def __eq__(self, other: object) -> bool:
+        if not isinstance(other, Vector):
+            return NotImplemented
+        return self._text == other._text
+
+    def __hash__(self) -> int:
+        return hash(self._text)
+
+    def __lt__(self, other: Vector) -> bool:
+        if not isinstance(other, Vector):
+            return NotImplemented
+        return (self.tenths, self._text) < (other.tenths, other._text)
+
+
+def answer(text: Text) -> str:
+    """The line that the program cvss_tool answers to a text, without the newline.
+
+    >>> answer("AV:N/AC:L/Au:N/C:N/I:N/A:C")
+    'AV:N/AC:L/Au:N/C:N/I:N/A:C 7.8 high'
+    >>> answer(b"AV:\\xff")
+    'error: not UTF-8'
+    """
+    return _library.answer(_library.bytes_of(text))
+
+
+def _lines_of(texts: List[Text]) -> bytes:
+    """The texts, each ended by a newline."""
+    strings = [text for text in texts if isinstance(text, str)]
+    if len(strings) == len(texts):
+        return _library.bytes_of("\n".join(strings) + "\n")
+    return b"".join(_library.bytes_of(text) + b"\n" for text in texts)
+
+
+def answers(texts: Iterable[Text]) -> List[str]:
+    """The answer to each text, by one call of the library: faster than `answer` for each.
+
+    >>> answers(["AV:N/AC:L/Au:N/C:N/I:N/A:C", "AV:N"])
+    ['AV:N/AC:L/Au:N/C:N/I:N/A:C 7.8 high', 'error: invalid CVSS metric group component: `AV:N`']
+    """
+    given = list(texts)
+    lines = _lines_of(given)
+    # a text with a newline, or with a carriage return at its end, would be read as another
+    if lines.count(b"\n") != len(given) or b"\r\n" in lines:
+        return [answer(text) for text in given]
+    return _library.answers(lines).decode("utf-8", "replace").split("\n")[:-1]

@@ -1,0 +1,120 @@
+//! Why a text denotes no vector.
+
+use crate::calls;
+use std::error::Error;
+use std::fmt;
+
+/// The kind of a refusal.
+#[derive(Clone, Copy, Debug, PartialEq, Eq, Hash)]
+#[non_exhaustive]
+pub enum RefusedKind {
+    /// A piece of the text has no colon, or more than one.
+    InvalidComponent,
+    /// A version is told, but not behind `CVSS`.
+    InvalidPrefix,
+    /// The version that is told is none of 3.0, 3.1 and 4.0.
+    UnsupportedVersion,
+    /// The version has no metric of this name.
+    UnknownMetric,
+    /// The metric has no such value.
+    InvalidValue,
+    /// The metric stands twice.
+    DuplicateMetric,
+    /// The metric is mandatory, and missing.
+    MissingMetric,
+    /// The text is not UTF-8.
+    NotUtf8,
+    /// There was no memory to tell a reason that carries a part of the text.
+    NoMemory,
+}
+
+impl RefusedKind {
+    fn of(number: i32) -> RefusedKind {
+        match number {
+            1 => RefusedKind::InvalidComponent,
+            2 => RefusedKind::InvalidPrefix,
+            3 => RefusedKind::UnsupportedVersion,
+            4 => RefusedKind::UnknownMetric,
+            5 => RefusedKind::InvalidValue,
+            6 => RefusedKind::DuplicateMetric,
+            7 => RefusedKind::MissingMetric,
+            8 => RefusedKind::NotUtf8,
+            _ => RefusedKind::NoMemory,
+        }
+    }
+}
+
+/// Why a text denotes no vector: the first reason.
+#[derive(Clone, Debug, PartialEq, Eq, Hash)]
+pub struct Refused {
+    reason: String,
+    kind: RefusedKind,
+    metric: Option<String>,
+}
+
+impl Refused {
+    /// The refusal of a text that denotes no vector.
+    pub(crate) fn of(text: &[u8]) -> Refused {
+        let metric = calls::text_of(calls::refusal_metric(text));
+        Refused {
+            reason: calls::text_of(calls::reason(text)),
+            kind: RefusedKind::of(calls::refusal_kind(text)),
+            metric: Some(metric).filter(|metric| !metric.is_empty()),
+        }
+    }
+
+    /// The reason in words.
+    #[must_use]
+    pub fn reason(&self) -> &str {
+        &self.reason
+    }
+
+    /// The kind of the reason.
+    #[must_use]
+    pub fn kind(&self) -> RefusedKind {
+        self.kind
+    }
+
+    /// The abbreviation of the metric that has an invalid value, stands twice or is missing.
+    #[must_use]
+    pub fn metric(&self) -> Option<&str> {
+        self.metric.as_deref()
+    }
+}
+
+impl AsRef<str> for Refused {
+    fn as_ref(&self) -> &str {
+        &self.reason
+    }
+}
+
+impl fmt::Display for Refused {
+    fn fmt(&self, f: &mut fmt::Formatter<'_>) -> fmt::Result {
+        f.pad(&self.reason)
+    }
+}
+
+impl Error for Refused {}
+
+/// Why metrics cannot be put into a vector.
+#[derive(Clone, Debug, PartialEq, Eq, Hash)]
+#[non_exhaustive]
+pub enum OverrideError {
+    /// This component is no environmental metric.
+    NotEnvironmental(String),
+    /// The vector with these metrics is refused.
+    Refused(Refused),
+}
+
+impl fmt::Display for OverrideError {
+    fn fmt(&self, f: &mut fmt::Formatter<'_>) -> fmt::Result {
+        match self {
+            OverrideError::NotEnvironmental(component) => {
+                write!(f, "no environmental metric: `{component}`")
+            }
+            OverrideError::Refused(refused) => refused.fmt(f),
+        }
+    }
+}
+
+impl Error for OverrideError {}

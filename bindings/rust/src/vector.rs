@@ -1,0 +1,246 @@
+//! A vector, and what is known of it.
+
+use crate::calls::{self, CvssScores};
+use crate::{Nomenclature, OverrideError, Refused, Score, Severity, Version};
+use std::cmp::Ordering;
+use std::fmt;
+use std::hash::{Hash, Hasher};
+use std::str::FromStr;
+
+/// A vector with its canonical text and its scores.
+///
+/// Two vectors are equal if their canonical texts are. They are ordered by [`Cvss::score`], and those of
+/// one score by their texts.
+#[derive(Clone, Debug)]
+pub struct Cvss {
+    text: String,
+    version: Version,
+    score: Score,
+    severity: Severity,
+    temporal: Option<(Score, Severity)>,
+    environmental: Option<(Score, Severity)>,
+    nomenclature: Option<Nomenclature>,
+    is_complete: bool,
+}
+
+fn rated(tenths: i32, severity: i32) -> Option<(Score, Severity)> {
+    Score::of(tenths).zip(Severity::of(severity))
+}
+
+impl Cvss {
+    /// Reads the vector that a text denotes, by the rules of the version that its first piece tells;
+    /// without such a piece by those of v2.
+    ///
+    /// # Errors
+    ///
+    /// The first reason why the text denotes no vector.
+    pub fn parse(text: &str) -> Result<Cvss, Refused> {
+        Cvss::parse_bytes(text.as_bytes())
+    }
+
+    /// The same of a text that need not be UTF-8; what is not is refused.
+    ///
+    /// # Errors
+    ///
+    /// The first reason why the text denotes no vector.
+    pub fn parse_bytes(text: &[u8]) -> Result<Cvss, Refused> {
+        let scores = calls::scores(text).ok_or_else(|| Refused::of(text))?;
+        Ok(Cvss::of(calls::text_of(calls::canonical(text)), &scores))
+    }
+
+    fn of(text: String, scores: &CvssScores) -> Cvss {
+        Cvss {
+            text,
+            version: Version::of(scores.version),
+            score: Score::of(scores.base).unwrap_or_default(),
+            severity: Severity::of(scores.severity).unwrap_or(Severity::None),
+            temporal: rated(scores.temporal, scores.temporal_severity),
+            environmental: rated(scores.environmental, scores.environmental_severity),
+            nomenclature: Nomenclature::of(scores.nomenclature),
+            is_complete: scores.is_complete != 0,
+        }
+    }
+
+    /// The vector's one canonical text.
+    #[must_use]
+    pub fn as_str(&self) -> &str {
+        &self.text
+    }
+
+    /// The version of the standard.
+    #[must_use]
+    pub fn version(&self) -> Version {
+        self.version
+    }
+
+    /// The score that is published of the vector: in v2 and v3 the base score.
+    #[must_use]
+    pub fn score(&self) -> Score {
+        self.score
+    }
+
+    /// The temporal score, which v2 and v3 have.
+    #[must_use]
+    pub fn temporal_score(&self) -> Option<Score> {
+        self.temporal.map(|(score, _)| score)
+    }
+
+    /// The environmental score, which v2 and v3 have.
+    #[must_use]
+    pub fn environmental_score(&self) -> Option<Score> {
+        self.environmental.map(|(score, _)| score)
+    }
+
+    /// The rating of [`Cvss::score`].
+    #[must_use]
+    pub fn severity(&self) -> Severity {
+        self.severity
+    }
+
+    /// The rating of [`Cvss::temporal_score`].
+    #[must_use]
+    pub fn temporal_severity(&self) -> Option<Severity> {
+        self.temporal.map(|(_, severity)| severity)
+    }
+
+    /// The rating of [`Cvss::environmental_score`].
+    #[must_use]
+    pub fn environmental_severity(&self) -> Option<Severity> {
+        self.environmental.map(|(_, severity)| severity)
+    }
+
+    /// Which groups of metrics the score rests on, which v4.0 has.
+    #[must_use]
+    pub fn nomenclature(&self) -> Option<Nomenclature> {
+        self.nomenclature
+    }
+
+    /// Whether all base metrics are there. A text of v3 may lack some: it is scored without them.
+    #[must_use]
+    pub fn is_complete(&self) -> bool {
+        self.is_complete
+    }
+
+    /// The name and the value of each metric that the vector has, in the order of the canonical text.
+    ///
+    /// ```
+    /// let cvss = cvss_proved::Cvss::parse("CVSS:3.1/S:C/AV:N")?;
+    /// assert_eq!(cvss.metrics().collect::<Vec<_>>(), [("AV", "N"), ("S", "C")]);
+    /// # Ok::<(), cvss_proved::Refused>(())
+    /// ```
+    pub fn metrics(&self) -> impl Iterator<Item = (&str, &str)> {
+        let pieces = self.text.split('/');
+        pieces
+            .filter_map(|piece| piece.split_once(':'))
+            .filter(|(name, _)| *name != "CVSS")
+    }
+
+    /// The vector without the metrics that are not defined (`X`, in v2 `ND`): it has the same scores. A
+    /// vector of v3 that has no others is given as it is.
+    ///
+    /// ```
+    /// let cvss = cvss_proved::Cvss::parse("AV:N/AC:L/Au:N/C:N/I:N/A:C/E:ND/TD:H")?;
+    /// assert_eq!(cvss.without_undefined().as_str(), "AV:N/AC:L/Au:N/C:N/I:N/A:C/TD:H");
+    /// # Ok::<(), cvss_proved::Refused>(())
+    /// ```
+    #[must_use]
+    pub fn without_undefined(&self) -> Cvss {
+        let is_defined = |piece: &&str| !(piece.ends_with(":X") || piece.ends_with(":ND"));
+        let pieces: Vec<&str> = self.text.split('/').filter(is_defined).collect();
+        Cvss::parse(&pieces.join("/")).unwrap_or_else(|_| self.clone())
+    }
+
+    /// The vector with an organisation's environmental metrics, as pairs of name and value, in place of its
+    /// own or beside them.
+    ///
+    /// # Errors
+    ///
+    /// [`OverrideError::NotEnvironmental`] for a name that no version has as an environmental metric, and a
+    /// value that is no word; else the reason why the vector with these metrics is refused.
+    ///
+    /// ```
+    /// let cvss = cvss_proved::Cvss::parse("CVSS:3.1/AV:N/S:U/CR:H")?;
+    /// let own = cvss.with_overrides(&[("CR", "L"), ("MAV", "P")])?;
+    /// assert_eq!(own.as_str(), "CVSS:3.1/AV:N/S:U/CR:L/MAV:P");
+    /// assert!(cvss.with_overrides(&[("AV", "P")]).is_err());
+    /// # Ok::<(), Box<dyn std::error::Error>>(())
+    /// ```
+    pub fn with_overrides(&self, overrides: &[(&str, &str)]) -> Result<Cvss, OverrideError> {
+        let is_word = |value: &str| value.bytes().all(|byte| byte.is_ascii_alphanumeric());
+        let mut added = Vec::new();
+        for (name, value) in overrides {
+            let component = format!("{name}:{value}");
+            if !ENVIRONMENTAL.contains(name) || !is_word(value) {
+                return Err(OverrideError::NotEnvironmental(component));
+            }
+            added.push(component);
+        }
+        let is_kept = |piece: &&str| {
+            let name = piece.split(':').next().unwrap_or_default();
+            overrides.iter().all(|(own, _)| *own != name)
+        };
+        let kept = self.text.split('/').filter(is_kept).map(String::from);
+        let pieces: Vec<String> = kept.chain(added).collect();
+        Cvss::parse(&pieces.join("/")).map_err(OverrideError::Refused)
+    }
+}
+
+/// The environmental metrics of all versions.
+const ENVIRONMENTAL: [&str; 20] = [
+    "CDP", "TD", "CR", "IR", "AR", "MAV", "MAC", "MAT", "MPR", "MUI", "MS", "MC", "MI", "MA",
+    "MVC", "MVI", "MVA", "MSC", "MSI", "MSA",
+];
+
+impl AsRef<str> for Cvss {
+    fn as_ref(&self) -> &str {
+        &self.text
+    }
+}
+
+impl fmt::Display for Cvss {
+    fn fmt(&self, f: &mut fmt::Formatter<'_>) -> fmt::Result {
+        f.pad(&self.text)
+    }
+}
+
+impl PartialEq for Cvss {
+    fn eq(&self, other: &Cvss) -> bool {
+        self.text == other.text
+    }
+}
+
+impl Eq for Cvss {}
+
+impl Hash for Cvss {
+    fn hash<H: Hasher>(&self, state: &mut H) {
+        self.text.hash(state);
+    }
+}
+
+impl PartialOrd for Cvss {
+    fn partial_cmp(&self, other: &Cvss) -> Option<Ordering> {
+        Some(self.cmp(other))
+    }
+}
+
+impl Ord for Cvss {
+    fn cmp(&self, other: &Cvss) -> Ordering {
+        (self.score, &self.text).cmp(&(other.score, &other.text))
+    }
+}
+
+impl FromStr for Cvss {
+    type Err = Refused;
+
+    fn from_str(text: &str) -> Result<Cvss, Refused> {
+        Cvss::parse(text)
+    }
+}
+
+impl TryFrom<&str> for Cvss {
+    type Error = Refused;
+
+    fn try_from(text: &str) -> Result<Cvss, Refused> {
+        Cvss::parse(text)
+    }
+}

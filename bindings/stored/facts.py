@@ -1,0 +1,85 @@
+#!/usr/bin/env python3
+"""Tells what is known of each line of standard input, by the second implementation in bench/ alone.
+
+Its answers, for the lines of crates/cvss_vectors/stdin, are kept in the file facts beside it. The programs of all
+languages have to answer the same. Of an accepted line the answer is: its canonical text, the version, the
+nomenclature, whether all base metrics are there, three scores with their ratings, and the metrics. Of a refused
+one: the number of the kind, the metric that is blamed, and the reason. What there is not is told as `-`.
+"""
+import sys
+from pathlib import Path
+
+sys.path.insert(0, str(Path(__file__).resolve().parents[2] / "bench"))
+
+import reference
+import v2
+import v3
+import v4
+
+KINDS = [
+    ("invalid CVSS metric group component", 1),
+    ("invalid CVSS string prefix", 2),
+    ("unsupported CVSS version", 3),
+    ("unknown CVSS metric name", 4),
+    ("invalid CVSSv", 5),
+    ("duplicate CVSSv", 6),
+    ("missing mandatory CVSSv", 7),
+    ("not UTF-8", 8),
+]
+
+
+def refused(reason):
+    """The kind is told by the first words of the reason, and the metric by the first word behind the version."""
+    kind = next(number for words, number in KINDS if reason.startswith(words))
+    metric = "-"
+    if kind in (5, 6, 7):
+        metric = reason.split("CVSSv", 1)[1].split()[1]
+    return f"{kind} {metric} {reason}"
+
+
+def nomenclature(vector):
+    """Specification of v4.0, section 1.3: which groups have a metric in the vector."""
+    environmental = any(name in ("CR", "IR", "AR") or name.startswith("M") for name in vector)
+    return "CVSS-B" + ("T" if "E" in vector else "") + ("E" if environmental else "")
+
+
+def scored(tenths, severity):
+    return f"{tenths // 10}.{tenths % 10} {severity(tenths)}"
+
+
+def facts(text):
+    """What is known of a text that is accepted."""
+    canonical = reference.read(text)[0]
+    pieces = [piece.split(":") for piece in canonical.split("/")]
+    version = pieces.pop(0)[1] if pieces[0][0] == "CVSS" else "2.0"
+    vector = dict(pieces)
+    nomenclature_told, complete = "-", True
+    if version == "2.0":
+        scores = [scored(tenths, v2.severity) for tenths in v2.scores(vector)]
+    elif version == "4.0":
+        scores = [scored(v4.score(vector), v3.severity), "- -", "- -"]
+        nomenclature_told = nomenclature(vector)
+    else:
+        scores = [scored(tenths, v3.severity) for tenths in v3.scores(int(version[2:]), vector)]
+        complete = all(name in vector for name in v3.BASE)
+    metrics = " ".join(f"{name}={value}" for name, value in pieces)
+    told = "complete" if complete else "incomplete"
+    return f"{canonical} {version} {nomenclature_told} {told} {' '.join(scores)} {metrics}"
+
+
+def answer(line):
+    try:
+        return facts(line.decode("utf-8"))
+    except UnicodeDecodeError:
+        return refused("not UTF-8")
+    except reference.Refused as reason:
+        return refused(str(reason))
+
+
+def main():
+    for line in sys.stdin.buffer.read().splitlines():
+        sys.stdout.buffer.write(answer(line).encode("utf-8") + b"\n")
+
+
+if __name__ == "__main__":
+    main()
