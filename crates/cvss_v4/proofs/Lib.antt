@@ -5,6 +5,7 @@ mod DepthLemmas
 mod DistanceLemmas
 mod GroupLemmas
 mod LeastLemmas
+mod LetterLemmas
 mod MeanLemmas
 mod MergingLemmas
 mod OverridingLemmas
