@@ -4,6 +4,7 @@
 mod answer;
 mod exit;
 mod fault;
+mod gathered;
 mod lines;
 mod pending;
 mod run;
