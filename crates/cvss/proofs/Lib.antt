@@ -3,4 +3,5 @@ mod DigitLemmas
 mod JsonLemmas
 mod LawLemmas
 mod RouteLemmas
+mod SightLemmas
 mod ToldLemmas

@@ -70,7 +70,7 @@ v31_routed text vector denotes =
     ∙ two_pieces (codes "3.1") denotes.denoted.parts ToV31 (v3_parts text _ 1 vector denotes refl) (λ next more. refl))
 
 -- the version that CVSS v4.0 supports
-only_one : (told other : List ℕ) → Contains (other ∷ []) told → told ≡ other
+pub only_one : (told other : List ℕ) → Contains (other ∷ []) told → told ≡ other
 only_one told other (zero, within, is) = sym is
 only_one told other (suc place, within, is) = absurd (omega (arith, within))
 

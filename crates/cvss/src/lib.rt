@@ -10,6 +10,7 @@ pub mod laws;
 mod metric_type;
 mod metrics;
 mod route;
+mod sight;
 pub mod tenths;
 mod vector;
 

@@ -71,6 +71,20 @@ impl Cvss {
         ensures scored { IfSome result (λ cvss. HasScore cvss) }
         ensures utf8 { IsSome result → IsUtf8 text.now }
     {
+        match Cvss::read_canonical(text) {
+            Some(cvss) => Some(cvss),
+            None => Cvss::read_in_any_order(text),
+        }
+    }
+
+    /// The same, without looking first whether the text is a canonical one, for a text of which
+    /// `read_canonical` told nothing.
+    pub fn read_in_any_order(text: &[u8]) -> Option<Cvss>
+        ensures denoted { IfSome result (λ cvss. DenotesCvss text.now cvss) }
+        ensures accepts { (cvss : Cvss) → DenotesCvss text.now cvss → result ≡ Some cvss }
+        ensures scored { IfSome result (λ cvss. HasScore cvss) }
+        ensures utf8 { IsSome result → IsUtf8 text.now }
+    {
         match route_of_text(text) {
             Route::V20 => v2::Vector::read_bytes(text).map(Cvss::CvssV20),
             Route::V30 => v3::Vector::read_bytes(text).map(Cvss::CvssV30),

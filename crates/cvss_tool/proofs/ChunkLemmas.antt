@@ -1,5 +1,5 @@
 -- How the lines of a chunk are answered one after another.
-use Rattle.std.proofs.Common.{◌≡◌, ◌≢◌, ℕ, List, [], ◌∷◌, ◌++◌, string_bytes, refl, sym, ap, ◌∙◌, append_assoc, append-nil, subst}
+use Rattle.std.proofs.Common.{◌≡◌, ◌≢◌, ℕ, List, [], ◌∷◌, ◌++◌, refl, sym, ap, ◌∙◌, append_assoc, append-nil, subst}
 use Rattle.std.proofs.lemmas.List.Elements.{All-append, All-nil}
 use Rattle.cvss_tool.specs.Lines.{ended_lines, unended_piece, line_text}
 use Rattle.cvss_tool.specs.Steps.{Gathers, NoLineEnd}
@@ -49,7 +49,7 @@ Remains-line start now next chunk rest piece behind p none is line cleared =
 
 -- where no line ends in the rest, all lines that end are answered
 pub Remains-gathered : (start now last : Pending) (chunk rest : List ℕ) → Remains start now chunk rest → NoLineEnd rest
-    → string_bytes last.answers ≡ string_bytes now.answers → last.summary ≡ now.summary
+    → last.answers.bytes.items ≡ now.answers.bytes.items → last.summary ≡ now.summary
     → Gathers start last (ended_lines (start.cut.items ++ chunk))
 Remains-gathered start now last chunk rest p none same_answers same_summary =
     let whole : NoLineEnd (now.cut.items ++ rest) = All-append (λ byte. byte ≢ 10) now.cut.items rest p.none_ends none in

@@ -1,5 +1,5 @@
 -- What a run has read and written at each of its ends.
-use Rattle.std.proofs.Common.{◌≡◌, ℕ, ◌+◌, List, [], ◌++◌, length, take, drop, Option, Result, Ok, Err, ◌<◌, string_bytes, sym, ap, ◌∙◌, subst, append-nil, inl, inr}
+use Rattle.std.proofs.Common.{◌≡◌, ℕ, ◌+◌, List, [], ◌++◌, length, take, drop, Option, Result, Ok, Err, ◌<◌, sym, ap, ◌∙◌, subst, append-nil, inl, inr}
 use Rattle.std.specs.Io.KnownBytes.{Appends, Consumes, Keeps, IsAtEnd}
 use Rattle.std.proofs.KnownBytes.{Appends-nil, Appends-trans, Appends-kept, Consumes-nil, Consumes-trans, Consumes-kept}
 use Rattle.std.proofs.Math.Seq.{take-append_seam, take-add, drop-append_seam}
@@ -23,7 +23,7 @@ pub record AwaitsMore (unread unread' written written' : Option (List ℕ)) (pen
   pub appended : Appends written written' (written_answers answers)
   pub counted : Counts no_lines answers pending.summary
   pub kept : pending.cut.items ≡ unended_piece input
-  pub none_waits : string_bytes pending.answers ≡ []
+  pub none_waits : pending.answers.bytes.items ≡ []
 
 -- a beginning of two lists that has all of the first
 take-past : (xs ys : List ℕ) (n : ℕ) → take (length xs + n) (xs ++ ys) ≡ xs ++ take n ys
@@ -80,7 +80,7 @@ fault_is (Err e) given fault p is = cc
 
 -- before the first read
 pub AwaitsMore-start : (unread written : Option (List ℕ)) (pending : Pending) → pending.cut.items ≡ []
-    → string_bytes pending.answers ≡ []
+    → pending.answers.bytes.items ≡ []
     → pending.summary ≡ no_lines → AwaitsMore unread unread written written pending
 AwaitsMore-start unread written pending none none_waits fresh = record {
   input = [];
@@ -97,7 +97,7 @@ AwaitsMore-start unread written pending none none_waits fresh = record {
 pub AwaitsMore-chunk : (u0 u u' w0 w w' : Option (List ℕ)) (now next : Pending) (chunk : List ℕ)
     → AwaitsMore u0 u w0 w now
     → Consumes u u' chunk → Writes now.summary next.summary (ended_lines (now.cut.items ++ chunk)) w w'
-    → next.cut.items ≡ unended_piece (now.cut.items ++ chunk) → string_bytes next.answers ≡ []
+    → next.cut.items ≡ unended_piece (now.cut.items ++ chunk) → next.answers.bytes.items ≡ []
     → AwaitsMore u0 u' w0 w' next
 AwaitsMore-chunk u0 u u' w0 w w' now next chunk a read x kept none_waits = record {
   input = a.input ++ chunk;

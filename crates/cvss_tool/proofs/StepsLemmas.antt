@@ -1,5 +1,5 @@
 -- What the steps of a run do together.
-use Rattle.std.proofs.Common.{◌≡◌, ◌<◌, ℕ, List, length, [], ◌∷◌, ◌++◌, take, Option, string_bytes, sym, ap, ◌∙◌, subst, append-nil, append_assoc}
+use Rattle.std.proofs.Common.{◌≡◌, ◌<◌, ℕ, List, length, [], ◌∷◌, ◌++◌, take, Option, sym, ap, ◌∙◌, subst, append-nil, append_assoc}
 use Rattle.std.specs.Io.KnownBytes.{Appends}
 use Rattle.std.proofs.KnownBytes.{Appends-nil}
 use Rattle.cvss_tool.specs.Answers.{Answer, IsAnswer, written_answer, written_answers}
@@ -17,18 +17,18 @@ pub Gathers-nil : (p : Pending) → Gathers p p []
 Gathers-nil p = record {
   answers = [];
   answered = tt;
-  added = sym (append-nil (string_bytes p.answers));
+  added = sym (append-nil (p.answers.bytes.items));
   counted = Counts-nil p.summary;
 }
 
 -- one line was answered
 pub Gathers-one : (old new : Pending) (line : List ℕ) (answer : Answer) → IsAnswer line answer
-    → string_bytes new.answers ≡ string_bytes old.answers ++ written_answer answer
+    → new.answers.bytes.items ≡ old.answers.bytes.items ++ written_answer answer
     → Counts old.summary (answer ∷ []) new.summary → Gathers old new (line ∷ [])
 Gathers-one old new line answer is added counted = record {
   answers = answer ∷ [];
   answered = (is, tt);
-  added = added ∙ ap (λ bytes. string_bytes old.answers ++ bytes) (sym (append-nil (written_answer answer)));
+  added = added ∙ ap (λ bytes. old.answers.bytes.items ++ bytes) (sym (append-nil (written_answer answer)));
   counted = counted;
 }
 
@@ -39,14 +39,14 @@ Gathers-append a b c ls ms p q = record {
   answers = p.answers ++ q.answers;
   answered = IsAnswers-append ls p.answers ms q.answers p.answered q.answered;
   added = q.added ∙ ap (λ bytes. bytes ++ written_answers q.answers) p.added
-      ∙ append_assoc (string_bytes a.answers) (written_answers p.answers) (written_answers q.answers)
-      ∙ ap (λ bytes. string_bytes a.answers ++ bytes) (sym (written_answers-append p.answers q.answers));
+      ∙ append_assoc (a.answers.bytes.items) (written_answers p.answers) (written_answers q.answers)
+      ∙ ap (λ bytes. a.answers.bytes.items ++ bytes) (sym (written_answers-append p.answers q.answers));
   counted = Counts-append a.summary b.summary c.summary p.answers q.answers p.counted q.counted;
 }
 
 -- what is kept of a cut line says nothing of the answers
 pub Gathers-kept : (a b c : Pending) (ls : List (List ℕ)) → Gathers a b ls
-    → string_bytes c.answers ≡ string_bytes b.answers
+    → c.answers.bytes.items ≡ b.answers.bytes.items
     → c.summary ≡ b.summary → Gathers a c ls
 Gathers-kept a b c ls p same_answers same_summary = record {
   answers = p.answers;
@@ -62,14 +62,14 @@ Gathers-end start next none some = subst (Gathers start next)
     (ap (λ line. line_text line ∷ []) (append-nil start.cut.items) ∙ sym (lines-one start.cut.items none some))
 
 -- the answers that were added to none are what waits
-waiting : (old new : Pending) (answers : List Answer) → string_bytes old.answers ≡ []
-    → string_bytes new.answers ≡ string_bytes old.answers ++ written_answers answers
-    → string_bytes new.answers ≡ written_answers answers
+waiting : (old new : Pending) (answers : List Answer) → old.answers.bytes.items ≡ []
+    → new.answers.bytes.items ≡ old.answers.bytes.items ++ written_answers answers
+    → new.answers.bytes.items ≡ written_answers answers
 waiting old new answers none added = added ∙ ap (λ bytes. bytes ++ written_answers answers) none
 
 -- the answers that were gathered are written
-pub Writes-gathered : (old new : Pending) (ls : List (List ℕ)) (written written' : Option (List ℕ)) (bytes : List ℕ) → string_bytes old.answers ≡ []
-    → Gathers old new ls → bytes ≡ string_bytes new.answers → Appends written written' bytes
+pub Writes-gathered : (old new : Pending) (ls : List (List ℕ)) (written written' : Option (List ℕ)) (bytes : List ℕ) → old.answers.bytes.items ≡ []
+    → Gathers old new ls → bytes ≡ new.answers.bytes.items → Appends written written' bytes
     → Writes old.summary new.summary ls written written'
 Writes-gathered old new ls written written' bytes none p is appended = record {
   answers = p.answers;
@@ -80,7 +80,7 @@ Writes-gathered old new ls written written' bytes none p is appended = record {
 
 -- a beginning of the answers that were gathered is written
 pub StopsAt-gathered : (old new : Pending) (ls : List (List ℕ)) (written written' : Option (List ℕ)) (bytes : List ℕ) (fault : RunFault)
-    → string_bytes old.answers ≡ [] → Gathers old new ls → bytes ≡ string_bytes new.answers
+    → old.answers.bytes.items ≡ [] → Gathers old new ls → bytes ≡ new.answers.bytes.items
     → (fault ≡ Write) × ((count : ℕ) × Appends written written' (take count bytes)) → StopsAt fault ls written written'
 StopsAt-gathered old new ls written written' bytes fault none p is stopped = record {
   no_read = λ read. cc stopped.0;

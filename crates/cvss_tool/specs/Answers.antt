@@ -1,12 +1,10 @@
 -- The answers that the program writes to the lines of its input.
-use Rattle.std.specs.Prelude.{◌≡◌, ℕ, ◌⊎◌, Bool, true, false, List, [], ◌∷◌, ◌++◌, codes, flat_map, String, ⊤}
+use Rattle.std.specs.Prelude.{◌≡◌, ℕ, ◌⊎◌, Bool, true, false, List, [], ◌∷◌, ◌++◌, codes, flat_map, ⊤}
 use Rattle.std.specs.Str.{IsUtf8}
-use Rattle.std.specs.String.{string_bytes}
-use Rattle.std.specs.declared.alloc.Global.{Global}
 use Rattle.cvss.specs.ErrorType.{Error}
 use Rattle.cvss.specs.declared.vector.Cvss.{Cvss}
 use Rattle.cvss.specs.ErrorText.{error_text}
-use Rattle.cvss.specs.Answers.{IsScoreOf, score_of_tenths, vector_answer}
+use Rattle.cvss.specs.Answers.{IsScoreOf, rating_by, rating_text, score_of_tenths, vector_answer}
 use Rattle.cvss.specs.Dispatch.{DenotesCvss, IsFirstRefusalCvss, cvss_reason}
 use Rattle.cvss.specs.Told.{TellsFirst}
 
@@ -70,14 +68,27 @@ written_answer answer = text_of answer ++ 10 ∷ []
 abbrev pub written_answers : List Answer → List ℕ
 written_answers answers = flat_map written_answer answers
 
+-- the answer to the line and a byte 10 are written behind the earlier answers, and whether it accepts
+pub record WritesAnswer (line old new : List ℕ) (accepted : Bool) : Type 0 where
+  pub answer : Answer
+  pub answers : IsAnswer line answer
+  pub told : accepted ≡ is_accepted answer
+  pub written : new ≡ old ++ written_answer answer
+
 -- the vector's answer and a byte 10 are written behind the earlier answers
-pub record WritesVector (vector : Cvss) (old new : String Global) : Type 0 where
+pub record WritesVector (vector : Cvss) (old new : List ℕ) : Type 0 where
   pub tenths : ℕ
   pub scored : IsScoreOf vector (score_of_tenths tenths)
-  pub written : string_bytes new ≡ string_bytes old ++ written_answer (Accepted (vector_answer vector tenths))
+  pub written : new ≡ old ++ written_answer (Accepted (vector_answer vector tenths))
+
+-- what follows the vector's text in its answer and a byte 10 are written behind the earlier answers
+pub record WritesScore (vector : Cvss) (old new : List ℕ) : Type 0 where
+  pub tenths : ℕ
+  pub scored : IsScoreOf vector (score_of_tenths tenths)
+  pub written : new ≡ old ++ (codes " " ++ rating_text tenths (rating_by vector (score_of_tenths tenths)) ++ 10 ∷ [])
 
 -- a refusal's answer and a byte 10 are written behind the earlier answers
-pub record WritesRefusal (line : List ℕ) (old new : String Global) : Type 0 where
+pub record WritesRefusal (line old new : List ℕ) : Type 0 where
   pub text : List ℕ
   pub refused : IsRefusal line text ⊎ IsNoText line text
-  pub written : string_bytes new ≡ string_bytes old ++ written_answer (Refused text)
+  pub written : new ≡ old ++ written_answer (Refused text)

@@ -1,5 +1,5 @@
 -- What the private code of a run does between two reads. No public clause cites it.
-use Rattle.std.specs.Prelude.{◌≡◌, ℕ, ◌+◌, ◌-◌, ◌^◌, ◌<◌, ◌≤◌, ◌≢◌, min, All, Bool, List, length, slice_index, [], ◌∷◌, ◌++◌, take, Option, if◌then◌else◌, string_bytes}
+use Rattle.std.specs.Prelude.{◌≡◌, ℕ, ◌+◌, ◌-◌, ◌^◌, ◌<◌, ◌≤◌, ◌≢◌, min, All, Bool, List, length, slice_index, [], ◌∷◌, ◌++◌, take, Option, if◌then◌else◌}
 use Rattle.std.specs.Io.KnownBytes.{Appends, Keeps}
 use Rattle.cvss_tool.specs.Answers.{Answer, IsAnswers, is_accepted, is_refused, written_answers}
 use Rattle.cvss_tool.specs.declared.fault.RunFault.{RunFault}
@@ -36,7 +36,7 @@ no_lines = record { accepted = 0; refused = 0 }
 pub record Gathers (old new : Pending) (lines : List (List ℕ)) : Type 0 where
   pub answers : List Answer
   pub answered : IsAnswers lines answers
-  pub added : string_bytes new.answers ≡ string_bytes old.answers ++ written_answers answers
+  pub added : new.answers.bytes.items ≡ old.answers.bytes.items ++ written_answers answers
   pub counted : Counts old.summary answers new.summary
 
 -- answers of the lines were written and counted

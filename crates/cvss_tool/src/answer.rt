@@ -1,14 +1,18 @@
 //! The answer to one line.
 
-ghost use Rattle.std.specs.Prelude.{◌≡◌, ◌++◌, [], ◌∷◌, ◌≤◌, IfOk, OnOk, string_bytes};
-ghost use Rattle.cvss.specs.Answers.{HasScore, rating_text};
+ghost use Rattle.std.specs.Prelude.{◌≡◌, ◌++◌, [], ◌∷◌, ◌≤◌, codes, IfOk, OnOk};
+ghost use Rattle.cvss.specs.Answers.{HasScore, score_text, text_of};
+ghost use Rattle.cvss.specs.ErrorText.{error_text};
+ghost use Rattle.cvss.specs.SeverityText.{text_of as severity_text};
 ghost use Rattle.cvss.specs.declared.vector.Cvss.{Cvss};
 ghost use Rattle.cvss.specs.Dispatch.{DenotesCvss};
-ghost use Rattle.cvss_tool.specs.Answers.{Answer, IsAnswer, WritesRefusal, WritesVector, is_accepted, written_answer};
+ghost use Rattle.cvss_tool.specs.Answers.{Answer, IsAnswer, WritesAnswer, WritesRefusal, WritesScore, WritesVector};
 
-use cvss::tenths::{digits, tenths_of};
-use cvss::{Cvss, Severity};
+use crate::gathered::Gathered;
+use cvss::tenths::tenths_of;
+use cvss::{Cvss, Error, Severity};
 use std::alloc::{AllocError, Global};
+use std::fmt::{self, Write};
 
 /// Appends the answer to a line, and a byte 10. Tells whether the line was accepted.
 ///
@@ -16,13 +20,31 @@ use std::alloc::{AllocError, Global};
 pub(crate) fn answer_line(
     alloc: Global,
     line: &[u8],
-    answers: &mut String,
+    answers: &mut Gathered,
 ) -> Result<bool, AllocError>
-    ensures { IfOk result (λ accepted. (answer : Answer) × IsAnswer line.now answer
-        × (accepted ≡ is_accepted answer)
-        × (string_bytes answers.new ≡ string_bytes answers.old ++ written_answer answer)) }
+    ensures { IfOk result
+        (WritesAnswer line.now answers.old.bytes.items answers.new.bytes.items) }
 {
-    if let Some(vector) = Cvss::read_bytes(line) {
+    if let Some(vector) = Cvss::read_canonical(line) {
+        write_canonical(line, &vector, answers)?;
+        return Ok(true);
+    }
+    match answer_other_line(alloc, line, answers) {
+        Ok(accepted) => Ok(accepted),
+        Err(_) => Err(AllocError),
+    }
+}
+
+/// The same for a line that is not seen at once to be canonical.
+fn answer_other_line(
+    alloc: Global,
+    line: &[u8],
+    answers: &mut Gathered,
+) -> Result<bool, fmt::Error>
+    ensures { IfOk result
+        (WritesAnswer line.now answers.old.bytes.items answers.new.bytes.items) }
+{
+    if let Some(vector) = Cvss::read_in_any_order(line) {
         write_vector(&vector, answers)?;
         return Ok(true);
     }
@@ -31,42 +53,92 @@ pub(crate) fn answer_line(
 }
 
 /// Writes why a line is no vector, and a byte 10.
-fn write_refusal(alloc: Global, line: &[u8], answers: &mut String) -> Result<(), AllocError>
+fn write_refusal(alloc: Global, line: &[u8], answers: &mut Gathered) -> fmt::Result
     requires { (vector : Cvss) → ¬ (DenotesCvss line.now vector) }
-    ensures { OnOk result (WritesRefusal line.now answers.old answers.new) }
+    ensures { OnOk result
+        (WritesRefusal line.now answers.old.bytes.items answers.new.bytes.items) }
 {
     let Ok(text) = str::from_utf8(line) else {
-        answers.push_str("error: not UTF-8\n")?;
+        answers.push(b"error: not UTF-8\n")?;
         return Ok(());
     };
     match Cvss::from_str(alloc, text) {
         Ok(_) => unreachable!(),
-        Err(error) => writeln!(answers, "error: {error}")?,
+        Err(error) => write_error(&error, answers),
     }
+}
+
+/// Writes an error, and a byte 10.
+fn write_error(error: &Error, answers: &mut Gathered) -> fmt::Result
+    ensures { OnOk result (answers.new.bytes.items
+        ≡ answers.old.bytes.items ++ (codes "error: " ++ (error_text error.now ++ 10 ∷ []))) }
+{
+    writeln!(answers, "error: {error}")
+}
+
+/// Writes the answer of a vector to its canonical text, which is the line, and a byte 10.
+fn write_canonical(line: &[u8], vector: &Cvss, answers: &mut Gathered) -> Result<(), AllocError>
+    requires own { line.now ≡ text_of vector.now }
+    requires scored { HasScore vector.now }
+    ensures { OnOk result
+        (WritesVector vector.now answers.old.bytes.items answers.new.bytes.items) }
+{
+    answers.push(line)?;
+    write_score(vector, answers)
+}
+
+/// Writes the answer of a vector, and a byte 10.
+fn write_vector(vector: &Cvss, answers: &mut Gathered) -> fmt::Result
+    requires { HasScore vector.now }
+    ensures { OnOk result
+        (WritesVector vector.now answers.old.bytes.items answers.new.bytes.items) }
+{
+    write_text(vector, answers)?;
+    write_score(vector, answers)?;
     Ok(())
 }
 
-/// Writes a vector's text, its score and the score's rating, and a byte 10.
-fn write_vector(vector: &Cvss, answers: &mut String) -> Result<(), AllocError>
+/// Writes a vector's text.
+fn write_text(vector: &Cvss, answers: &mut Gathered) -> fmt::Result
+    ensures { OnOk result
+        (answers.new.bytes.items ≡ answers.old.bytes.items ++ text_of vector.now) }
+{
+    write!(answers, "{vector}")
+}
+
+/// Writes the score of a vector and the score's rating, each behind a blank, and a byte 10.
+fn write_score(vector: &Cvss, answers: &mut Gathered) -> Result<(), AllocError>
     requires { HasScore vector.now }
-    ensures { OnOk result (WritesVector vector.now answers.old answers.new) }
+    ensures { OnOk result
+        (WritesScore vector.now answers.old.bytes.items answers.new.bytes.items) }
 {
     let score = vector.score();
-    write!(answers, "{vector} ")?;
-    write_rating(tenths_of(score), vector.severity_of(score), answers)?;
-    Ok(())
+    write_tenths(tenths_of(score), answers)?;
+    answers.push(rating_line(vector.severity_of(score)).as_bytes())
 }
 
-/// Writes a score and its rating, and a byte 10.
-fn write_rating(tenths: u8, severity: Severity, answers: &mut String) -> Result<(), AllocError>
+/// Writes a score behind a blank.
+fn write_tenths(tenths: u8, answers: &mut Gathered) -> Result<(), AllocError>
     requires { tenths ≤ 100 }
-    ensures { OnOk result (string_bytes answers.new
-        ≡ string_bytes answers.old ++ rating_text tenths severity ++ 10 ∷ []) }
+    ensures { OnOk result
+        (answers.new.bytes.items ≡ answers.old.bytes.items ++ (codes " " ++ score_text tenths)) }
 {
-    answers.push_str(digits(tenths / 10))?;
-    answers.push_str(".")?;
-    answers.push_str(digits(tenths % 10))?;
-    answers.push_str(" ")?;
-    answers.push_str(severity.as_str())?;
-    answers.push_str("\n")
+    if tenths == 100 {
+        answers.push(b" 10.0")
+    } else {
+        answers.push(&[b' ', b'0' + tenths / 10, b'.', b'0' + tenths % 10])
+    }
+}
+
+/// A rating behind a blank, and a byte 10.
+fn rating_line(severity: Severity) -> &'static str
+    ensures { result.now ≡ codes " " ++ (severity_text severity ++ 10 ∷ []) }
+{
+    match severity {
+        Severity::None => " none\n",
+        Severity::Low => " low\n",
+        Severity::Medium => " medium\n",
+        Severity::High => " high\n",
+        Severity::Critical => " critical\n",
+    }
 }

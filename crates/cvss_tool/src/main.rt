@@ -4,6 +4,7 @@
 mod answer;
 mod exit;
 mod fault;
+mod gathered;
 pub mod laws;
 mod lines;
 mod pending;

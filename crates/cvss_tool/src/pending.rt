@@ -1,8 +1,9 @@
-ghost use Rattle.std.specs.Prelude.{◌≡◌, ◌++◌, ◌∷◌, [], OnOk, IfErr, string_bytes};
+ghost use Rattle.std.specs.Prelude.{◌≡◌, ◌++◌, ◌∷◌, [], OnOk, IfErr};
 ghost use Rattle.cvss_tool.specs.Lines.{line_text, ended_lines, lines, unended_piece};
 ghost use Rattle.cvss_tool.specs.Steps.{Gathers, NoLineEnd, StopsAt, Writes, no_lines};
 
 use crate::answer::answer_line;
+use crate::gathered::Gathered;
 use crate::lines::{cut_at_line_end, line_text};
 use crate::write::write_whole;
 use crate::{RunFault, Summary};
@@ -15,19 +16,19 @@ pub(crate) struct Pending {
     /// The beginning of a line that the end of a chunk has cut.
     pub(crate) cut: Vec<u8>,
     /// The answers that aren't written yet.
-    pub(crate) answers: String,
+    pub(crate) answers: Gathered,
     pub(crate) summary: Summary,
 }
 
 impl Pending {
     pub(crate) fn new(alloc: Global) -> Pending
         ensures cut { result.cut.items ≡ [] }
-        ensures answers { string_bytes result.answers ≡ [] }
+        ensures answers { result.answers.bytes.items ≡ [] }
         ensures summary { result.summary ≡ no_lines }
     {
         Pending {
             cut: Vec::new(alloc),
-            answers: String::new(alloc),
+            answers: Gathered::new(alloc),
             summary: Summary::new(),
         }
     }
@@ -41,19 +42,19 @@ impl Pending {
         writer: &mut W,
     ) -> Result<(), RunFault>
         requires cut { NoLineEnd self.old.cut.items }
-        requires answers { string_bytes self.old.answers ≡ [] }
+        requires answers { self.old.answers.bytes.items ≡ [] }
         ensures written { OnOk result (Writes self.old.summary self.new.summary
             (ended_lines (self.old.cut.items ++ chunk.now))
             (W.contents writer.old) (W.contents writer.new)) }
         ensures cut { OnOk result
             (self.new.cut.items ≡ unended_piece (self.old.cut.items ++ chunk.now)) }
-        ensures answers { OnOk result (string_bytes self.new.answers ≡ []) }
+        ensures answers { OnOk result (self.new.answers.bytes.items ≡ []) }
         ensures stopped { IfErr result (λ fault. StopsAt fault
             (ended_lines (self.old.cut.items ++ chunk.now))
             (W.contents writer.old) (W.contents writer.new)) }
     {
         self.gather_chunk(alloc, chunk)?;
-        write_whole(writer, self.answers.as_bytes())?;
+        write_whole(writer, &self.answers.bytes)?;
         self.answers.clear();
         Ok(())
     }
@@ -65,7 +66,7 @@ impl Pending {
         writer: &mut W,
     ) -> Result<(), RunFault>
         requires cut { NoLineEnd self.old.cut.items }
-        requires answers { string_bytes self.old.answers ≡ [] }
+        requires answers { self.old.answers.bytes.items ≡ [] }
         ensures written { OnOk result (Writes self.old.summary self.new.summary
             (lines self.old.cut.items) (W.contents writer.old) (W.contents writer.new)) }
         ensures stopped { IfErr result (λ fault. StopsAt fault (lines self.old.cut.items)
@@ -75,7 +76,7 @@ impl Pending {
             return Ok(());
         }
         self.end_line(alloc, &[])?;
-        write_whole(writer, self.answers.as_bytes())
+        write_whole(writer, &self.answers.bytes)
     }
 
     /// Answers the lines that end in a chunk.

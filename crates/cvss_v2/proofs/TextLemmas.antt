@@ -1,12 +1,13 @@
 -- A text denotes at most one vector, and a canonical text denotes its own.
-use Rattle.std.proofs.Common.{◌≡◌, ℕ, List, ◌∷◌, ◌++◌, drop, Some, refl, sym}
-use Rattle.cvss_base.specs.Printing.{slashed_texts}
-use Rattle.cvss_base.specs.Text.{slash}
+use Rattle.std.proofs.Common.{◌≡◌, ℕ, List, [], ◌∷◌, ◌++◌, drop, Option, Some, None, IsSome, option_map, unwrap_or, refl, sym, ap, ◌∙◌, lit<}
+use Rattle.cvss_base.specs.Printing.{slashed, slashed_texts}
+use Rattle.cvss_base.specs.Text.{slash, component}
+use Rattle.cvss_base.specs.V2Types.{name_of}
 use Rattle.cvss_base.specs.declared.v2.MetricType.TheVariants.{AV}
 use Rattle.cvss_base.proofs.PrintLemmas.{joined-slashed}
 use Rattle.cvss_v2.specs.declared.metric.base.access.AccessVector.{AccessVector}
-use Rattle.cvss_v2.specs.Table.{metric_component, printed}
-use Rattle.cvss_base.specs.Version.{canonical_text, Denotes}
+use Rattle.cvss_v2.specs.Table.{metric_component, spelling_of, printed}
+use Rattle.cvss_base.specs.Version.{canonical_text, Denotes, IsComplete}
 use Rattle.cvss_base.proofs.CanonicalLemmas.{canonical_text-denotes, denoted_once}
 use Rattle.cvss_v2.specs.declared.vector.Vector.{Vector}
 use Rattle.cvss_v2.specs.Vector.{v2}
@@ -22,3 +23,14 @@ one_vector text left right = denoted_once v2 v2_is_lawful left right text refl
 pub text_from_first : (vector : Vector) (av : AccessVector) (text : List ℕ) → vector.av ≡ Some av → text ≡ slash ∷ metric_component AV av → drop 1 text ++ slashed_texts v2 vector (drop 1 printed) ≡ canonical_text v2 vector
 text_from_first vector av text held is =
     rw (is, held) (sym (joined-slashed v2 vector (metric_component AV av) (drop 1 printed)))
+
+first_held : (vector : Vector) (av : Option AccessVector) → vector.av ≡ av → IsSome av → drop 1 (slashed_texts v2 vector printed) ≡ canonical_text v2 vector
+first_held vector None held some = absurd cc
+first_held vector (Some av) held some =
+    ap (λ value. drop 1 (unwrap_or (slashed (option_map (component (name_of AV)) (option_map (spelling_of AV) value))) [] ++ slashed_texts v2 vector (drop 1 printed))) held
+    ∙ text_from_first vector av (slash ∷ metric_component AV av) held refl
+
+-- a text that is the components of a complete vector, each behind a slash, but for the first slash
+pub text_without_slash : (text : List ℕ) (vector : Vector) → IsComplete v2 vector → slash ∷ text ≡ slashed_texts v2 vector printed → text ≡ canonical_text v2 vector
+text_without_slash text vector complete same =
+    ap (drop 1) same ∙ first_held vector vector.av refl (complete.present AV (0, lit< tt, refl))

@@ -1,9 +1,13 @@
 -- A text denotes at most one vector, and a canonical text denotes its own.
-use Rattle.std.proofs.Common.{◌≡◌, ◌≢◌, ◌↔◌, ℕ, IsTrue, nat_eq, List, subst}
+use Rattle.std.proofs.Common.{◌≡◌, ◌≢◌, ◌↔◌, ℕ, IsTrue, nat_eq, List, ◌++◌, codes, Option, Some, None, IfSome, subst, sym, ap, ◌∙◌}
 use Rattle.std.proofs.lemmas.Bool.Decides.{Decides-eqb}
-use Rattle.cvss_base.specs.Version.{canonical_text, Denotes}
+use Rattle.cvss_base.specs.Numeral.{numeral}
+use Rattle.cvss_base.specs.Printing.{slashed_texts}
+use Rattle.cvss_base.specs.Version.{canonical_text, version_piece, Denotes}
 use Rattle.cvss_base.proofs.CanonicalLemmas.{canonical_text-denotes}
 use Rattle.cvss_base.proofs.FrontLemmas.{denoted_once_behind, fronts_same}
+use Rattle.cvss_base.proofs.PrintLemmas.{joined-slashed}
+use Rattle.cvss_v3_metric.specs.Table.{printed}
 use Rattle.cvss_v3.specs.declared.vector.Vector.{Vector}
 use Rattle.cvss_v3.specs.Vector.{v3}
 use Rattle.cvss_v3.specs.VectorLaws.{v3_is_lawful, v3_fronts_are_lawful, one_minor_version}
@@ -24,3 +28,15 @@ versions_apart v w apart = (
       let fronts = fronts_same v3 v3_is_lawful v3_fronts_are_lawful (canonical_text v3 w) v w of_v (own_text w) in
       absurd (apart (one_minor_version v w fronts)),
 )
+
+-- the piece that tells a minor version
+abbrev front_of : ℕ → List ℕ
+front_of minor = version_piece (codes "3." ++ numeral minor)
+
+-- a text that is a version piece and the vector's components, each behind a slash
+pub text_behind : (text rest : List ℕ) (minor : ℕ) (read : Option Vector) → text ≡ version_piece (codes "3." ++ numeral minor) ++ rest → IfSome read (λ vector. rest ≡ slashed_texts v3 vector printed) → IfSome read (λ vector. vector.minor_version ≡ minor) → IfSome read (λ vector. text ≡ canonical_text v3 vector)
+text_behind text rest minor None is components version = tt
+text_behind text rest minor (Some vector) is components version =
+    is ∙ ap (λ told. front_of told ++ rest) (sym version)
+    ∙ ap (λ behind. front_of vector.minor_version ++ behind) components
+    ∙ sym (joined-slashed v3 vector (front_of vector.minor_version) printed)

@@ -7,6 +7,7 @@ mod printing;
 mod reading;
 mod refusing;
 mod scores;
+mod sight;
 
 use crate::metric::base::{
     AttackComplexity, AttackVector, Availability, Confidentiality, Integrity, PrivilegesRequired,

@@ -7,6 +7,7 @@ mod DistanceLemmas
 mod EqualLemmas
 mod GroupLemmas
 mod LeastLemmas
+mod LetterLemmas
 mod MeanLemmas
 mod MergingFacts
 mod MergingLemmas

@@ -29,7 +29,7 @@ both true false h = (refl, h)
 both false b h = cc
 
 -- a test that is true for all of a list is true for each
-at_place : {A : Type 0} (p : A → Bool) (xs : List A) (x : A) (k : ℕ) → list_all p xs ≡ true → slice_get xs k ≡ Some x
+pub at_place : {A : Type 0} (p : A → Bool) (xs : List A) (x : A) (k : ℕ) → list_all p xs ≡ true → slice_get xs k ≡ Some x
     → p x ≡ true
 at_place p [] x zero all here = cc
 at_place p [] x (suc k) all here = cc

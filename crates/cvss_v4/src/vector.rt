@@ -10,6 +10,7 @@ mod printing;
 mod reading;
 mod refusing;
 mod scores;
+mod sight;
 
 use crate::metric::base::{
     AttackComplexity, AttackRequirements, AttackVector, AvailabilityImpactToTheSubsequentSystem,

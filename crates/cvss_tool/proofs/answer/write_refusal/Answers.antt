@@ -1,4 +1,5 @@
-use Rattle.std.proofs.Common.{◌++◌, codes, inl, inr, refl, rules, subst}
+use Rattle.std.proofs.Common.{◌++◌, codes, inl, inr, refl, subst}
+use Rattle.std.proofs.lemmas.Result.{on_ok_weaker}
 use Rattle.cvss.specs.ErrorText.{error_text}
 use Rattle.cvss.specs.Dispatch.{IsFirstRefusalCvss, cvss_reason}
 use Rattle.cvss.specs.Told.{TellsFirst}
@@ -8,13 +9,14 @@ pub returns-in_default : goal.returns-in_default
 returns-in_default c = record {
   text = codes "error: not UTF-8";
   refused = inr (record { not_utf8 = c.in_default.ensures.cases.0; is = refl });
-  written = c.in_ok-push_str.ensures.bytes;
+  written = c.in_ok-push.ensures;
 }
 
 pub returns : goal.returns
 returns c =
     let error = c.in-Err.error in
-    record {
+    on_ok_weaker c.write_error.result
+    (λ written. record {
       text = codes "error: " ++ error_text error;
       refused =
           inl (record {
@@ -25,5 +27,5 @@ returns c =
                 c.in-Err.ensures.refused;
             is = refl;
           });
-      written = search rules;
-    }
+      written = written;
+    }) c.write_error.ensures

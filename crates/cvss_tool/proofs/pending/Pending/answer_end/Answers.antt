@@ -19,7 +19,7 @@ returns-clause-written g c =
     let some : 0 < length c.args.self.now.cut.items = grind (arith, nat_tests) in
     let gathered = Gathers-end c.args.self.now c.end_line.new.self c.requires.cut some c.in_ok-end_line.ensures.gathered in
     on_ok_weaker c.write_whole.result
-    (Writes-gathered c.args.self.now c.end_line.new.self _ _ _ _ c.requires.answers gathered c.as_bytes.ensures.value)
+    (Writes-gathered c.args.self.now c.end_line.new.self _ _ _ _ c.requires.answers gathered c.deref.ensures.value)
     c.write_whole.ensures.ok
 
 pub returns-clause-stopped : goal.returns-clause-stopped
@@ -27,4 +27,4 @@ returns-clause-stopped g c =
     let some : 0 < length c.args.self.now.cut.items = grind (arith, nat_tests) in
     let gathered = Gathers-end c.args.self.now c.end_line.new.self c.requires.cut some c.in_ok-end_line.ensures.gathered in
     MatchResult-weaker c.write_whole.result c.write_whole.ensures.err (λ _ u. u)
-    (λ fault. StopsAt-gathered c.args.self.now c.end_line.new.self _ _ _ _ fault c.requires.answers gathered c.as_bytes.ensures.value)
+    (λ fault. StopsAt-gathered c.args.self.now c.end_line.new.self _ _ _ _ fault c.requires.answers gathered c.deref.ensures.value)

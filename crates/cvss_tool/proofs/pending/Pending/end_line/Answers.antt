@@ -1,4 +1,4 @@
-use Rattle.std.proofs.Common.{◌≡◌, ◌∷◌, [], ◌++◌, ap, sym, subst, ◌∙◌, arith, string_bytes}
+use Rattle.std.proofs.Common.{◌≡◌, ◌∷◌, [], ◌++◌, ap, sym, subst, ◌∙◌, arith}
 use Rattle.std.proofs.lemmas.Bool.Decides.{nat_tests}
 use Rattle.std.proofs.lemmas.List.{nil_from_length}
 use Rattle.cvss_tool.specs.Answers.{IsAnswer}
@@ -15,17 +15,17 @@ returns-clause-gathered c = elim c.if-is_empty.branch [
       let none : c.args.self.now.cut.items ≡ [] = nil_from_length _ (grind (arith, nat_tests)) in
       let whole : w.line_text.result.now ≡ line_text (c.args.self.now.cut.items ++ c.args.piece.now) =
       w.line_text.ensures ∙ ap (λ cut. line_text (cut ++ c.args.piece.now)) (sym none) in
-      Gathers-one c.args.self.now _ _ told.0 (subst (λ line. IsAnswer line told.0) whole told.1)
-      (ap (λ p. string_bytes p.answers) w.self-is ∙ told.3)
-      (subst (λ s. Counts s (told.0 ∷ []) c.with-self.result) (ap (λ p. p.summary) w.self-is)
-      (c.with-self.ensures told.0 (w.accepted-is ∙ told.2)))
+      Gathers-one c.args.self.now _ _ told.answer (subst (λ line. IsAnswer line told.answer) whole told.answers)
+      (ap (λ p. p.answers.bytes.items) w.self-is ∙ told.written)
+      (subst (λ s. Counts s (told.answer ∷ []) c.with-self.result) (ap (λ p. p.summary) w.self-is)
+      (c.with-self.ensures told.answer (w.accepted-is ∙ told.told)))
   | else-is_empty+in_ok-extend_from_slice+in_ok-accepted-2 w ↦
       let told = w.in_ok-accepted-2.ensures in
       let whole : w.line_text-else-is_empty.result.now ≡ line_text (c.args.self.now.cut.items ++ c.args.piece.now) =
       w.line_text-else-is_empty.ensures
       ∙ ap line_text (w.deref.ensures.value ∙ w.in_ok-extend_from_slice.ensures.items) in
-      Gathers-one c.args.self.now _ _ told.0 (subst (λ line. IsAnswer line told.0) whole told.1)
-      (ap (λ p. string_bytes p.answers) w.self-is ∙ told.3)
-      (subst (λ s. Counts s (told.0 ∷ []) c.with-self.result) (ap (λ p. p.summary) w.self-is)
-      (c.with-self.ensures told.0 (w.accepted-is ∙ told.2)))
+      Gathers-one c.args.self.now _ _ told.answer (subst (λ line. IsAnswer line told.answer) whole told.answers)
+      (ap (λ p. p.answers.bytes.items) w.self-is ∙ told.written)
+      (subst (λ s. Counts s (told.answer ∷ []) c.with-self.result) (ap (λ p. p.summary) w.self-is)
+      (c.with-self.ensures told.answer (w.accepted-is ∙ told.told)))
 ]

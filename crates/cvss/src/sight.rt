@@ -1,0 +1,69 @@
+//! Canonical texts of any version, recognised at sight.
+
+ghost use Rattle.std.specs.Prelude.{◌≡◌, IfSome, IsSome};
+ghost use Rattle.std.specs.Str.{IsUtf8};
+ghost use Rattle.cvss.specs.Answers.{HasScore, text_of};
+ghost use Rattle.cvss.specs.Dispatch.{DenotesCvss};
+
+use crate::vector::Cvss;
+use crate::{v2, v3, v4};
+
+/// The bytes of `CVSS:3.0` or `CVSS:3.1`, which alone are no vector.
+const VERSION_PIECE: usize = 8;
+
+impl Cvss {
+    /// The vector whose canonical text this is, where that is seen at once: `None` tells nothing of
+    /// the text, of which `read_in_any_order` tells. It takes no memory.
+    pub fn read_canonical(text: &[u8]) -> Option<Cvss>
+        ensures canonical { IfSome result (λ cvss. text.now ≡ text_of cvss) }
+        ensures denoted { IfSome result (λ cvss. DenotesCvss text.now cvss) }
+        ensures scored { IfSome result (λ cvss. HasScore cvss) }
+        ensures utf8 { IsSome result → IsUtf8 text.now }
+    {
+        match text {
+            [b'A', ..] => v2_at_sight(text),
+            [_, _, _, _, _, b'3', ..] => v3_at_sight(text),
+            _ => v4_at_sight(text),
+        }
+    }
+}
+
+#[inline(always)]
+fn v2_at_sight(text: &[u8]) -> Option<Cvss>
+    ensures canonical { IfSome result (λ cvss. text.now ≡ text_of cvss) }
+    ensures denoted { IfSome result (λ cvss. DenotesCvss text.now cvss) }
+    ensures scored { IfSome result (λ cvss. HasScore cvss) }
+    ensures utf8 { IsSome result → IsUtf8 text.now }
+{
+    let vector = v2::Vector::read_canonical(text)?;
+    Some(Cvss::CvssV20(vector))
+}
+
+#[inline(always)]
+fn v3_at_sight(text: &[u8]) -> Option<Cvss>
+    ensures canonical { IfSome result (λ cvss. text.now ≡ text_of cvss) }
+    ensures denoted { IfSome result (λ cvss. DenotesCvss text.now cvss) }
+    ensures scored { IfSome result (λ cvss. HasScore cvss) }
+    ensures utf8 { IsSome result → IsUtf8 text.now }
+{
+    let vector = v3::Vector::read_canonical(text)?;
+    if text.len() == VERSION_PIECE {
+        return None;
+    }
+    match vector.minor_version {
+        0 => Some(Cvss::CvssV30(vector)),
+        1 => Some(Cvss::CvssV31(vector)),
+        _ => None,
+    }
+}
+
+#[inline(always)]
+fn v4_at_sight(text: &[u8]) -> Option<Cvss>
+    ensures canonical { IfSome result (λ cvss. text.now ≡ text_of cvss) }
+    ensures denoted { IfSome result (λ cvss. DenotesCvss text.now cvss) }
+    ensures scored { IfSome result (λ cvss. HasScore cvss) }
+    ensures utf8 { IsSome result → IsUtf8 text.now }
+{
+    let vector = v4::Vector::read_canonical(text)?;
+    Some(Cvss::CvssV40(vector))
+}

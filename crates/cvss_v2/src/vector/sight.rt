@@ -1,0 +1,192 @@
+//! How a canonical text is recognised: its components stand in printing order, each as it is printed,
+//! so that the text is gone through once, with no cutting and no searching. The other way, by
+//! components in any order, is `reading`.
+
+ghost use Rattle.std.specs.Prelude.{◌≡◌, IfSome, [], ◌∷◌, ◌++◌, option_map, unwrap_or};
+ghost use Rattle.cvss_base.specs.Printing.{slashed, slashed_texts};
+ghost use Rattle.cvss_base.specs.Text.{slash, colon, component};
+ghost use Rattle.cvss_base.specs.V2Types.{name_of};
+ghost use Rattle.cvss_base.specs.Version.{canonical_text, IsComplete};
+ghost use Rattle.cvss_base.specs.declared.v2.MetricType.TheVariants.{A, AC, AV, Au, C, I, E, RL, RC, CDP, TD, CR, IR, AR};
+ghost use Rattle.cvss_v2.specs.Table.{spelling_of, metric_component, printed};
+ghost use Rattle.cvss_v2.specs.Vector.{v2};
+
+use crate::metric::{Metric, MetricType};
+use crate::vector::Vector;
+use cvss_base::walk::Components;
+
+impl Vector {
+    /// The vector whose canonical text this is, where that is seen at once: `None` tells nothing of
+    /// the text. It takes no memory.
+    pub fn read_canonical(text: &[u8]) -> Option<Vector>
+        ensures canonical { IfSome result (λ vector. text.now ≡ canonical_text v2 vector) }
+        ensures complete { IfSome result (λ vector. IsComplete v2 vector) }
+    {
+        let vector = vector_at_sight(text)?;
+        match vector.first_missing() {
+            Some(_) => None,
+            None => Some(vector),
+        }
+    }
+}
+
+/// The vector whose components, in printing order, are the whole text.
+#[inline(always)]
+fn vector_at_sight(text: &[u8]) -> Option<Vector>
+    ensures { IfSome result (λ vector. slash ∷ text.now ≡ slashed_texts v2 vector printed) }
+{
+    let (base, text) = base_at_sight(text)?;
+    let (temporal, text) = temporal_at_sight(base, text);
+    let (vector, text) = environmental_at_sight(temporal, text);
+    if text.is_empty() { Some(vector) } else { None }
+}
+
+/// The vector of the base metrics with which a text begins.
+#[inline(always)]
+fn base_at_sight(text: &[u8]) -> Option<(Vector, &[u8])>
+    ensures { IfSome result (λ read. slash ∷ text.now
+        ≡ slashed_texts v2 read.0 (AV ∷ AC ∷ Au ∷ C ∷ I ∷ A ∷ []) ++ read.1.now) }
+{
+    let (av, text) = component_at_sight(text)?;
+    let (ac, text) = next_at_sight(text)?;
+    let (au, text) = next_at_sight(text)?;
+    let (c, text) = next_at_sight(text)?;
+    let (i, text) = next_at_sight(text)?;
+    let (a, text) = next_at_sight(text)?;
+    let base = Vector {
+        av: Some(av),
+        ac: Some(ac),
+        au: Some(au),
+        c: Some(c),
+        i: Some(i),
+        a: Some(a),
+        ..Vector::default()
+    };
+    Some((base, text))
+}
+
+/// The vector with the temporal metrics with which a text begins.
+#[inline(always)]
+fn temporal_at_sight(vector: Vector, text: &[u8]) -> (Vector, &[u8])
+    ensures text { text.now ≡ slashed_texts v2 result.0 (E ∷ RL ∷ RC ∷ []) ++ result.1.now }
+    ensures kept { result.0
+        ≡ record vector { e = result.0.e; rl = result.0.rl; rc = result.0.rc } }
+{
+    let (e, text) = optional_at_sight(text);
+    let (rl, text) = optional_at_sight(text);
+    let (rc, text) = optional_at_sight(text);
+    (
+        Vector {
+            e,
+            rl,
+            rc,
+            ..vector
+        },
+        text,
+    )
+}
+
+/// The vector with the environmental metrics with which a text begins.
+#[inline(always)]
+fn environmental_at_sight(vector: Vector, text: &[u8]) -> (Vector, &[u8])
+    ensures text { text.now
+        ≡ slashed_texts v2 result.0 (CDP ∷ TD ∷ CR ∷ IR ∷ AR ∷ []) ++ result.1.now }
+    ensures kept { result.0 ≡ record vector {
+      cdp = result.0.cdp;
+      td = result.0.td;
+      cr = result.0.cr;
+      ir = result.0.ir;
+      ar = result.0.ar;
+    } }
+{
+    let (cdp, text) = optional_at_sight(text);
+    let (td, text) = optional_at_sight(text);
+    let (cr, text) = optional_at_sight(text);
+    let (ir, text) = optional_at_sight(text);
+    let (ar, text) = optional_at_sight(text);
+    let vector = Vector {
+        cdp,
+        td,
+        cr,
+        ir,
+        ar,
+        ..vector
+    };
+    (vector, text)
+}
+
+/// The value of a metric, if a text begins with a slash and its component, and what stands behind
+/// that; else the text.
+#[inline(always)]
+fn optional_at_sight<M: Metric>(text: &[u8]) -> (Option<M>, &[u8])
+    ensures { text.now ≡ unwrap_or (slashed (option_map (component (name_of M.TYPE))
+        (option_map (λ metric. spelling_of M.TYPE (M.value metric)) result.0))) []
+        ++ result.1.now }
+{
+    match next_at_sight(text) {
+        Some((metric, rest)) => (Some(metric), rest),
+        None => (None, text),
+    }
+}
+
+/// The value of a metric, where a text begins with a slash and its component, and what stands
+/// behind that.
+#[inline(always)]
+fn next_at_sight<M: Metric>(text: &[u8]) -> Option<(M, &[u8])>
+    ensures { IfSome result
+        (λ read. text.now ≡ slash ∷ (metric_component M.TYPE (M.value read.0) ++ read.1.now)) }
+{
+    match text {
+        [b'/', component @ ..] => component_at_sight(component),
+        _ => None,
+    }
+}
+
+/// The value of a metric, where a text begins with its component, and what stands behind that.
+#[inline(always)]
+fn component_at_sight<M: Metric>(text: &[u8]) -> Option<(M, &[u8])>
+    ensures { IfSome result
+        (λ read. text.now ≡ metric_component M.TYPE (M.value read.0) ++ read.1.now) }
+{
+    value_at_sight(behind_name(M::TYPE, text)?)
+}
+
+/// The value of a metric, where a text begins with its spelling up to a slash, and what stands
+/// behind that. No spelling has more than three letters.
+#[inline(always)]
+fn value_at_sight<M: Metric>(text: &[u8]) -> Option<(M, &[u8])>
+    ensures { IfSome result
+        (λ read. text.now ≡ spelling_of M.TYPE (M.value read.0) ++ read.1.now) }
+{
+    let (value, rest) = match text {
+        [_] | [_, b'/', ..] => text.split_at(1),
+        [_, _] | [_, _, b'/', ..] => text.split_at(2),
+        [_, _, _, ..] => text.split_at(3),
+        [] => return None,
+    };
+    Some((M::read_bytes(value)?, rest))
+}
+
+/// What stands behind a metric's name and the colon after it.
+#[inline(always)]
+fn behind_name(kind: MetricType, text: &[u8]) -> Option<&[u8]>
+    ensures { IfSome result (λ value. text.now ≡ name_of kind ++ (colon ∷ value.now)) }
+{
+    match (kind, text) {
+        (MetricType::AV, [b'A', b'V', b':', value @ ..]) => Some(value),
+        (MetricType::AC, [b'A', b'C', b':', value @ ..]) => Some(value),
+        (MetricType::Au, [b'A', b'u', b':', value @ ..]) => Some(value),
+        (MetricType::C, [b'C', b':', value @ ..]) => Some(value),
+        (MetricType::I, [b'I', b':', value @ ..]) => Some(value),
+        (MetricType::A, [b'A', b':', value @ ..]) => Some(value),
+        (MetricType::E, [b'E', b':', value @ ..]) => Some(value),
+        (MetricType::RL, [b'R', b'L', b':', value @ ..]) => Some(value),
+        (MetricType::RC, [b'R', b'C', b':', value @ ..]) => Some(value),
+        (MetricType::CDP, [b'C', b'D', b'P', b':', value @ ..]) => Some(value),
+        (MetricType::TD, [b'T', b'D', b':', value @ ..]) => Some(value),
+        (MetricType::CR, [b'C', b'R', b':', value @ ..]) => Some(value),
+        (MetricType::IR, [b'I', b'R', b':', value @ ..]) => Some(value),
+        (MetricType::AR, [b'A', b'R', b':', value @ ..]) => Some(value),
+        _ => None,
+    }
+}
