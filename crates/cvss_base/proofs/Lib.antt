@@ -2,6 +2,7 @@ mod AnswerLemmas
 pub mod CanonicalLemmas
 pub mod ComponentLemmas
 pub mod DenotesLemmas
+pub mod EqualityLemmas
 pub mod ExactLemmas
 mod FindLemmas
 pub mod FrontLemmas

@@ -1,3 +1,4 @@
+pub mod Equality
 pub mod ErrorText
 pub mod Exact
 pub mod Listing

@@ -2,7 +2,7 @@
 
 ghost use Rattle.std.specs.Prelude.{◌≡◌, ◌↔◌, IsTrue, Some, [], drop, unwrap_or, if◌then◌else◌};
 ghost use Rattle.std.specs.Option.{option_copied};
-ghost use Rattle.std.specs.Fmt.{DisplaysOnOk, WritesOnOk};
+ghost use Rattle.std.specs.Fmt.{DisplaysOnOk, WritesOnOk, WritesStyledOnOk};
 ghost use Rattle.cvss_base.specs.Text.{joined};
 ghost use Rattle.cvss_base.specs.Version.{component_of, components_of, canonical_text};
 ghost use Rattle.cvss_base.specs.Printing.{slashed, StartsWithSlash};
@@ -17,13 +17,14 @@ pub trait Printed: Components {
         ensures { option_copied result ≡ slashed (component_of Self.version self.now kind) };
 }
 
-/// Writes a component that has a slash before it, without the slash.
+/// Writes a component that has a slash before it, without the slash, and the same under any options.
 pub fn write_component<W: fmt::Write>(
     slashed: &'static str,
     f: &mut fmt::Formatter<W>,
 ) -> fmt::Result
     requires { StartsWithSlash slashed.now }
-    ensures { WritesOnOk W.write_str_gives f.old result (drop 1 slashed.now) f.new }
+    ensures plain { WritesOnOk W.write_str_gives f.old result (drop 1 slashed.now) f.new }
+    ensures styled { WritesStyledOnOk W.write_str_gives f.old result (drop 1 slashed.now) f.new }
 {
     f.write_str(&slashed[1..])
 }

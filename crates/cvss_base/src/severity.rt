@@ -73,6 +73,8 @@ impl Severity {
 impl fmt::Display for Severity {
     ghost output = { λ severity. Some (text_of severity) };
 
+    ghost styled_output = { λ severity _. Some (text_of severity) };
+
     fn fmt<W: fmt::Write>(&self, f: &mut fmt::Formatter<W>) -> fmt::Result {
         f.write_str(self.as_str())
     }

@@ -148,6 +148,8 @@ impl MetricType {
 impl fmt::Display for MetricType {
     ghost output = { λ kind. Some (name_of kind) };
 
+    ghost styled_output = { λ kind _. Some (name_of kind) };
+
     fn fmt<W: fmt::Write>(&self, f: &mut fmt::Formatter<W>) -> fmt::Result {
         f.write_str(self.name())
     }
