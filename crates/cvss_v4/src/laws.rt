@@ -30,28 +30,31 @@ ghost use Rattle.cvss_v4.specs.declared.vector.overriding.OverrideError.{Overrid
 use crate::nomenclature::Nomenclature;
 use crate::score::Score;
 use crate::vector::{OverrideError, Vector};
-use cvss_base::Error;
 
 /// Two vectors, scores or nomenclatures are equal exactly if they are one value, and two errors of
-/// overrides exactly if they are of one kind, at one place, and tell equal errors.
+/// overrides exactly if they are of one kind, at one place, and tell the same.
 pub fn equality_is_that_of_values()
     ensures vector { EqualsByValue ⟦<Vector as PartialEq>⟧.eq }
     ensures score { EqualsByValue ⟦<Score as PartialEq>⟧.eq }
     ensures nomenclature { EqualsByValue ⟦<Nomenclature as PartialEq>⟧.eq }
     ensures override_error { (x y : OverrideError) → IsTrue (⟦<OverrideError as PartialEq>⟧.eq x y)
-        ↔ AreAlike (λ e f. IsTrue (⟦<Error as PartialEq>⟧.eq e f)) x y }
-{}
+        ↔ AreAlike x y }
+{
+    cvss_base::laws::equality_is_that_of_values();
+}
 
 /// A clone of a vector, a score or a nomenclature is that value, and a clone of an error of overrides
-/// is of its kind, at its place, and tells a clone of its error.
+/// is of its kind, at its place, and tells the same.
 pub fn clones_are_equal()
     ensures vector { ClonesByValue ⟦<Vector as Clone>⟧.is_clone }
     ensures score { ClonesByValue ⟦<Score as Clone>⟧.is_clone }
     ensures nomenclature { ClonesByValue ⟦<Nomenclature as Clone>⟧.is_clone }
     ensures override_error { (x clone : OverrideError)
         → ⟦<OverrideError as Clone>⟧.is_clone x clone
-        → AreAlike ⟦<Error as Clone>⟧.is_clone x clone }
-{}
+        → AreAlike x clone }
+{
+    cvss_base::laws::clones_are_equal();
+}
 
 /// To clone a vector, a score or a nomenclature takes no memory, so it is never refused.
 pub fn values_are_cloned_without_memory()
