@@ -3,6 +3,7 @@
 
 ghost use Rattle.std.specs.List.{All};
 ghost use Rattle.std.specs.Prelude.{◌≡◌, ℕ, ℤ, List, ◌≤◌, ◌↔◌, ◌≤ℤ◌, IfSome, IsTrue, None};
+ghost use Rattle.cvss_base.specs.Equality.{EqualsByValue, ClonesByValue};
 ghost use Rattle.cvss_base.specs.Exact.{of_count, ◌over◌, ◌⊕◌};
 ghost use Rattle.cvss_base.specs.Rounding.{IsNearestEven, IsRoundedV4};
 ghost use Rattle.cvss_base.specs.Version.{canonical_text, Denotes};
@@ -29,30 +30,31 @@ ghost use Rattle.cvss_v4.specs.declared.vector.overriding.OverrideError.{Overrid
 use crate::nomenclature::Nomenclature;
 use crate::score::Score;
 use crate::vector::{OverrideError, Vector};
-use cvss_base::Error;
 
 /// Two vectors, scores or nomenclatures are equal exactly if they are one value, and two errors of
-/// overrides exactly if they are of one kind, at one place, and tell equal errors.
+/// overrides exactly if they are of one kind, at one place, and tell the same.
 pub fn equality_is_that_of_values()
-    ensures vector { (v w : Vector) → IsTrue (⟦<Vector as PartialEq>⟧.eq v w) ↔ (v ≡ w) }
-    ensures score { (x y : ℤ × Nomenclature) → IsTrue (⟦<Score as PartialEq>⟧.eq x y) ↔ (x ≡ y) }
-    ensures nomenclature { (x y : Nomenclature)
-        → IsTrue (⟦<Nomenclature as PartialEq>⟧.eq x y) ↔ (x ≡ y) }
+    ensures vector { EqualsByValue ⟦<Vector as PartialEq>⟧.eq }
+    ensures score { EqualsByValue ⟦<Score as PartialEq>⟧.eq }
+    ensures nomenclature { EqualsByValue ⟦<Nomenclature as PartialEq>⟧.eq }
     ensures override_error { (x y : OverrideError) → IsTrue (⟦<OverrideError as PartialEq>⟧.eq x y)
-        ↔ AreAlike (λ e f. IsTrue (⟦<Error as PartialEq>⟧.eq e f)) x y }
-{}
+        ↔ AreAlike x y }
+{
+    cvss_base::laws::equality_is_that_of_values();
+}
 
 /// A clone of a vector, a score or a nomenclature is that value, and a clone of an error of overrides
-/// is of its kind, at its place, and tells a clone of its error.
+/// is of its kind, at its place, and tells the same.
 pub fn clones_are_equal()
-    ensures vector { (v clone : Vector) → ⟦<Vector as Clone>⟧.is_clone v clone → clone ≡ v }
-    ensures score { (x clone : ℤ × Nomenclature) → ⟦<Score as Clone>⟧.is_clone x clone → clone ≡ x }
-    ensures nomenclature { (x clone : Nomenclature)
-        → ⟦<Nomenclature as Clone>⟧.is_clone x clone → clone ≡ x }
+    ensures vector { ClonesByValue ⟦<Vector as Clone>⟧.is_clone }
+    ensures score { ClonesByValue ⟦<Score as Clone>⟧.is_clone }
+    ensures nomenclature { ClonesByValue ⟦<Nomenclature as Clone>⟧.is_clone }
     ensures override_error { (x clone : OverrideError)
         → ⟦<OverrideError as Clone>⟧.is_clone x clone
-        → AreAlike ⟦<Error as Clone>⟧.is_clone x clone }
-{}
+        → AreAlike x clone }
+{
+    cvss_base::laws::clones_are_equal();
+}
 
 /// To clone a vector, a score or a nomenclature takes no memory, so it is never refused.
 pub fn values_are_cloned_without_memory()

@@ -56,6 +56,8 @@ impl Metric for ModifiedPrivilegesRequired {
 impl fmt::Display for ModifiedPrivilegesRequired {
     ghost output = { λ metric. Some (component (name_of MPR) (modified_privileges_required_spelling metric)) };
 
+    ghost styled_output = { λ metric _. Some (component (name_of MPR) (modified_privileges_required_spelling metric)) };
+
     fn fmt<W: fmt::Write>(&self, f: &mut fmt::Formatter<W>) -> fmt::Result {
         write_component(self.slashed(), f)
     }
@@ -104,6 +106,8 @@ impl Metric for ModifiedUserInteraction {
 
 impl fmt::Display for ModifiedUserInteraction {
     ghost output = { λ metric. Some (component (name_of MUI) (modified_user_interaction_spelling metric)) };
+
+    ghost styled_output = { λ metric _. Some (component (name_of MUI) (modified_user_interaction_spelling metric)) };
 
     fn fmt<W: fmt::Write>(&self, f: &mut fmt::Formatter<W>) -> fmt::Result {
         write_component(self.slashed(), f)

@@ -59,6 +59,8 @@ impl Metric for ModifiedAttackVector {
 impl fmt::Display for ModifiedAttackVector {
     ghost output = { λ metric. Some (component (name_of MAV) (modified_attack_vector_spelling metric)) };
 
+    ghost styled_output = { λ metric _. Some (component (name_of MAV) (modified_attack_vector_spelling metric)) };
+
     fn fmt<W: fmt::Write>(&self, f: &mut fmt::Formatter<W>) -> fmt::Result {
         write_component(self.slashed(), f)
     }
@@ -105,6 +107,8 @@ impl Metric for ModifiedAttackComplexity {
 impl fmt::Display for ModifiedAttackComplexity {
     ghost output = { λ metric. Some (component (name_of MAC) (modified_attack_complexity_spelling metric)) };
 
+    ghost styled_output = { λ metric _. Some (component (name_of MAC) (modified_attack_complexity_spelling metric)) };
+
     fn fmt<W: fmt::Write>(&self, f: &mut fmt::Formatter<W>) -> fmt::Result {
         write_component(self.slashed(), f)
     }
@@ -150,6 +154,8 @@ impl Metric for ModifiedAttackRequirements {
 
 impl fmt::Display for ModifiedAttackRequirements {
     ghost output = { λ metric. Some (component (name_of MAT) (modified_attack_requirements_spelling metric)) };
+
+    ghost styled_output = { λ metric _. Some (component (name_of MAT) (modified_attack_requirements_spelling metric)) };
 
     fn fmt<W: fmt::Write>(&self, f: &mut fmt::Formatter<W>) -> fmt::Result {
         write_component(self.slashed(), f)

@@ -56,6 +56,8 @@ impl Metric for ConfidentialityRequirements {
 impl fmt::Display for ConfidentialityRequirements {
     ghost output = { λ metric. Some (component (name_of CR) (confidentiality_requirements_spelling metric)) };
 
+    ghost styled_output = { λ metric _. Some (component (name_of CR) (confidentiality_requirements_spelling metric)) };
+
     fn fmt<W: fmt::Write>(&self, f: &mut fmt::Formatter<W>) -> fmt::Result {
         write_component(self.slashed(), f)
     }
@@ -105,6 +107,8 @@ impl Metric for IntegrityRequirements {
 impl fmt::Display for IntegrityRequirements {
     ghost output = { λ metric. Some (component (name_of IR) (integrity_requirements_spelling metric)) };
 
+    ghost styled_output = { λ metric _. Some (component (name_of IR) (integrity_requirements_spelling metric)) };
+
     fn fmt<W: fmt::Write>(&self, f: &mut fmt::Formatter<W>) -> fmt::Result {
         write_component(self.slashed(), f)
     }
@@ -153,6 +157,8 @@ impl Metric for AvailabilityRequirements {
 
 impl fmt::Display for AvailabilityRequirements {
     ghost output = { λ metric. Some (component (name_of AR) (availability_requirements_spelling metric)) };
+
+    ghost styled_output = { λ metric _. Some (component (name_of AR) (availability_requirements_spelling metric)) };
 
     fn fmt<W: fmt::Write>(&self, f: &mut fmt::Formatter<W>) -> fmt::Result {
         write_component(self.slashed(), f)

@@ -57,6 +57,8 @@ impl Metric for ModifiedConfidentialityImpactToTheSubsequentSystem {
 impl fmt::Display for ModifiedConfidentialityImpactToTheSubsequentSystem {
     ghost output = { λ metric. Some (component (name_of MSC) (modified_confidentiality_impact_to_the_subsequent_system_spelling metric)) };
 
+    ghost styled_output = { λ metric _. Some (component (name_of MSC) (modified_confidentiality_impact_to_the_subsequent_system_spelling metric)) };
+
     fn fmt<W: fmt::Write>(&self, f: &mut fmt::Formatter<W>) -> fmt::Result {
         write_component(self.slashed(), f)
     }
@@ -110,6 +112,8 @@ impl Metric for ModifiedIntegrityImpactToTheSubsequentSystem {
 impl fmt::Display for ModifiedIntegrityImpactToTheSubsequentSystem {
     ghost output = { λ metric. Some (component (name_of MSI) (modified_integrity_impact_to_the_subsequent_system_spelling metric)) };
 
+    ghost styled_output = { λ metric _. Some (component (name_of MSI) (modified_integrity_impact_to_the_subsequent_system_spelling metric)) };
+
     fn fmt<W: fmt::Write>(&self, f: &mut fmt::Formatter<W>) -> fmt::Result {
         write_component(self.slashed(), f)
     }
@@ -162,6 +166,8 @@ impl Metric for ModifiedAvailabilityImpactToTheSubsequentSystem {
 
 impl fmt::Display for ModifiedAvailabilityImpactToTheSubsequentSystem {
     ghost output = { λ metric. Some (component (name_of MSA) (modified_availability_impact_to_the_subsequent_system_spelling metric)) };
+
+    ghost styled_output = { λ metric _. Some (component (name_of MSA) (modified_availability_impact_to_the_subsequent_system_spelling metric)) };
 
     fn fmt<W: fmt::Write>(&self, f: &mut fmt::Formatter<W>) -> fmt::Result {
         write_component(self.slashed(), f)

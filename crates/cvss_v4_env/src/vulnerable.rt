@@ -57,6 +57,8 @@ impl Metric for ModifiedConfidentialityImpactToTheVulnerableSystem {
 impl fmt::Display for ModifiedConfidentialityImpactToTheVulnerableSystem {
     ghost output = { λ metric. Some (component (name_of MVC) (modified_confidentiality_impact_to_the_vulnerable_system_spelling metric)) };
 
+    ghost styled_output = { λ metric _. Some (component (name_of MVC) (modified_confidentiality_impact_to_the_vulnerable_system_spelling metric)) };
+
     fn fmt<W: fmt::Write>(&self, f: &mut fmt::Formatter<W>) -> fmt::Result {
         write_component(self.slashed(), f)
     }
@@ -107,6 +109,8 @@ impl Metric for ModifiedIntegrityImpactToTheVulnerableSystem {
 impl fmt::Display for ModifiedIntegrityImpactToTheVulnerableSystem {
     ghost output = { λ metric. Some (component (name_of MVI) (modified_integrity_impact_to_the_vulnerable_system_spelling metric)) };
 
+    ghost styled_output = { λ metric _. Some (component (name_of MVI) (modified_integrity_impact_to_the_vulnerable_system_spelling metric)) };
+
     fn fmt<W: fmt::Write>(&self, f: &mut fmt::Formatter<W>) -> fmt::Result {
         write_component(self.slashed(), f)
     }
@@ -156,6 +160,8 @@ impl Metric for ModifiedAvailabilityImpactToTheVulnerableSystem {
 
 impl fmt::Display for ModifiedAvailabilityImpactToTheVulnerableSystem {
     ghost output = { λ metric. Some (component (name_of MVA) (modified_availability_impact_to_the_vulnerable_system_spelling metric)) };
+
+    ghost styled_output = { λ metric _. Some (component (name_of MVA) (modified_availability_impact_to_the_vulnerable_system_spelling metric)) };
 
     fn fmt<W: fmt::Write>(&self, f: &mut fmt::Formatter<W>) -> fmt::Result {
         write_component(self.slashed(), f)

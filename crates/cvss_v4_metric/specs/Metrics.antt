@@ -1,6 +1,7 @@
 -- What holds of each enum of metric values.
-use Rattle.std.specs.Prelude.{◌≡◌, ◌↔◌, ℕ, Bool, IsTrue, List, map, Some, slice_get}
+use Rattle.std.specs.Prelude.{◌≡◌, ℕ, Bool, List, map, Some, slice_get}
 use Rattle.std.specs.declared.cmp.Ordering.{Ordering}
+use Rattle.cvss_base.specs.Equality.{EqualsByValue, ClonesByValue}
 use Rattle.cvss_base.specs.Order.{place_in, ComparesAs}
 use Rattle.cvss_base.specs.declared.v4.MetricType.{MetricType}
 use Rattle.cvss_v4_metric.specs.Table.{spellings_of, default_of}
@@ -16,7 +17,7 @@ pub record IsMetric {A : Type 0} (kind : MetricType) (spelling : A → List ℕ)
   -- the default is the table's
   pub usual : (x : A) → is_default x → spelling x ≡ default_of kind
   -- two values are found equal where they are one value
-  pub equal : (x y : A) → IsTrue (same x y) ↔ (x ≡ y)
+  pub equal : EqualsByValue same
   -- a clone is the value itself, and is never refused
-  pub cloned : (x clone : A) → is_clone x clone → clone ≡ x
+  pub cloned : ClonesByValue is_clone
   pub clonable : (x : A) → is_infallible x

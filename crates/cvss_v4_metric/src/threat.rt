@@ -55,6 +55,8 @@ impl Metric for ExploitMaturity {
 impl fmt::Display for ExploitMaturity {
     ghost output = { λ metric. Some (component (name_of E) (exploit_maturity_spelling metric)) };
 
+    ghost styled_output = { λ metric _. Some (component (name_of E) (exploit_maturity_spelling metric)) };
+
     fn fmt<W: fmt::Write>(&self, f: &mut fmt::Formatter<W>) -> fmt::Result {
         write_component(self.slashed(), f)
     }

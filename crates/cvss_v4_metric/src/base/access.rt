@@ -53,6 +53,8 @@ impl Metric for PrivilegesRequired {
 impl fmt::Display for PrivilegesRequired {
     ghost output = { λ metric. Some (component (name_of PR) (privileges_required_spelling metric)) };
 
+    ghost styled_output = { λ metric _. Some (component (name_of PR) (privileges_required_spelling metric)) };
+
     fn fmt<W: fmt::Write>(&self, f: &mut fmt::Formatter<W>) -> fmt::Result {
         write_component(self.slashed(), f)
     }
@@ -98,6 +100,8 @@ impl Metric for UserInteraction {
 
 impl fmt::Display for UserInteraction {
     ghost output = { λ metric. Some (component (name_of UI) (user_interaction_spelling metric)) };
+
+    ghost styled_output = { λ metric _. Some (component (name_of UI) (user_interaction_spelling metric)) };
 
     fn fmt<W: fmt::Write>(&self, f: &mut fmt::Formatter<W>) -> fmt::Result {
         write_component(self.slashed(), f)

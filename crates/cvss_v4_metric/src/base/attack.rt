@@ -56,6 +56,8 @@ impl Metric for AttackVector {
 impl fmt::Display for AttackVector {
     ghost output = { λ metric. Some (component (name_of AV) (attack_vector_spelling metric)) };
 
+    ghost styled_output = { λ metric _. Some (component (name_of AV) (attack_vector_spelling metric)) };
+
     fn fmt<W: fmt::Write>(&self, f: &mut fmt::Formatter<W>) -> fmt::Result {
         write_component(self.slashed(), f)
     }
@@ -100,6 +102,8 @@ impl Metric for AttackComplexity {
 impl fmt::Display for AttackComplexity {
     ghost output = { λ metric. Some (component (name_of AC) (attack_complexity_spelling metric)) };
 
+    ghost styled_output = { λ metric _. Some (component (name_of AC) (attack_complexity_spelling metric)) };
+
     fn fmt<W: fmt::Write>(&self, f: &mut fmt::Formatter<W>) -> fmt::Result {
         write_component(self.slashed(), f)
     }
@@ -143,6 +147,8 @@ impl Metric for AttackRequirements {
 
 impl fmt::Display for AttackRequirements {
     ghost output = { λ metric. Some (component (name_of AT) (attack_requirements_spelling metric)) };
+
+    ghost styled_output = { λ metric _. Some (component (name_of AT) (attack_requirements_spelling metric)) };
 
     fn fmt<W: fmt::Write>(&self, f: &mut fmt::Formatter<W>) -> fmt::Result {
         write_component(self.slashed(), f)

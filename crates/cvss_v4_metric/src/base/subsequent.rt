@@ -53,6 +53,8 @@ impl Metric for ConfidentialityImpactToTheSubsequentSystem {
 impl fmt::Display for ConfidentialityImpactToTheSubsequentSystem {
     ghost output = { λ metric. Some (component (name_of SC) (confidentiality_impact_to_the_subsequent_system_spelling metric)) };
 
+    ghost styled_output = { λ metric _. Some (component (name_of SC) (confidentiality_impact_to_the_subsequent_system_spelling metric)) };
+
     fn fmt<W: fmt::Write>(&self, f: &mut fmt::Formatter<W>) -> fmt::Result {
         write_component(self.slashed(), f)
     }
@@ -98,6 +100,8 @@ impl Metric for IntegrityImpactToTheSubsequentSystem {
 
 impl fmt::Display for IntegrityImpactToTheSubsequentSystem {
     ghost output = { λ metric. Some (component (name_of SI) (integrity_impact_to_the_subsequent_system_spelling metric)) };
+
+    ghost styled_output = { λ metric _. Some (component (name_of SI) (integrity_impact_to_the_subsequent_system_spelling metric)) };
 
     fn fmt<W: fmt::Write>(&self, f: &mut fmt::Formatter<W>) -> fmt::Result {
         write_component(self.slashed(), f)
@@ -145,6 +149,8 @@ impl Metric for AvailabilityImpactToTheSubsequentSystem {
 
 impl fmt::Display for AvailabilityImpactToTheSubsequentSystem {
     ghost output = { λ metric. Some (component (name_of SA) (availability_impact_to_the_subsequent_system_spelling metric)) };
+
+    ghost styled_output = { λ metric _. Some (component (name_of SA) (availability_impact_to_the_subsequent_system_spelling metric)) };
 
     fn fmt<W: fmt::Write>(&self, f: &mut fmt::Formatter<W>) -> fmt::Result {
         write_component(self.slashed(), f)

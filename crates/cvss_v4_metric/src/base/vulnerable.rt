@@ -52,6 +52,8 @@ impl Metric for ConfidentialityImpactToTheVulnerableSystem {
 impl fmt::Display for ConfidentialityImpactToTheVulnerableSystem {
     ghost output = { λ metric. Some (component (name_of VC) (confidentiality_impact_to_the_vulnerable_system_spelling metric)) };
 
+    ghost styled_output = { λ metric _. Some (component (name_of VC) (confidentiality_impact_to_the_vulnerable_system_spelling metric)) };
+
     fn fmt<W: fmt::Write>(&self, f: &mut fmt::Formatter<W>) -> fmt::Result {
         write_component(self.slashed(), f)
     }
@@ -98,6 +100,8 @@ impl Metric for IntegrityImpactToTheVulnerableSystem {
 impl fmt::Display for IntegrityImpactToTheVulnerableSystem {
     ghost output = { λ metric. Some (component (name_of VI) (integrity_impact_to_the_vulnerable_system_spelling metric)) };
 
+    ghost styled_output = { λ metric _. Some (component (name_of VI) (integrity_impact_to_the_vulnerable_system_spelling metric)) };
+
     fn fmt<W: fmt::Write>(&self, f: &mut fmt::Formatter<W>) -> fmt::Result {
         write_component(self.slashed(), f)
     }
@@ -143,6 +147,8 @@ impl Metric for AvailabilityImpactToTheVulnerableSystem {
 
 impl fmt::Display for AvailabilityImpactToTheVulnerableSystem {
     ghost output = { λ metric. Some (component (name_of VA) (availability_impact_to_the_vulnerable_system_spelling metric)) };
+
+    ghost styled_output = { λ metric _. Some (component (name_of VA) (availability_impact_to_the_vulnerable_system_spelling metric)) };
 
     fn fmt<W: fmt::Write>(&self, f: &mut fmt::Formatter<W>) -> fmt::Result {
         write_component(self.slashed(), f)

@@ -52,6 +52,8 @@ impl Metric for Automatable {
 impl fmt::Display for Automatable {
     ghost output = { λ metric. Some (component (name_of AU) (automatable_spelling metric)) };
 
+    ghost styled_output = { λ metric _. Some (component (name_of AU) (automatable_spelling metric)) };
+
     fn fmt<W: fmt::Write>(&self, f: &mut fmt::Formatter<W>) -> fmt::Result {
         write_component(self.slashed(), f)
     }
@@ -97,6 +99,8 @@ impl Metric for ValueDensity {
 
 impl fmt::Display for ValueDensity {
     ghost output = { λ metric. Some (component (name_of V) (value_density_spelling metric)) };
+
+    ghost styled_output = { λ metric _. Some (component (name_of V) (value_density_spelling metric)) };
 
     fn fmt<W: fmt::Write>(&self, f: &mut fmt::Formatter<W>) -> fmt::Result {
         write_component(self.slashed(), f)

@@ -52,6 +52,8 @@ impl Metric for Safety {
 impl fmt::Display for Safety {
     ghost output = { λ metric. Some (component (name_of S) (safety_spelling metric)) };
 
+    ghost styled_output = { λ metric _. Some (component (name_of S) (safety_spelling metric)) };
+
     fn fmt<W: fmt::Write>(&self, f: &mut fmt::Formatter<W>) -> fmt::Result {
         write_component(self.slashed(), f)
     }
@@ -100,6 +102,8 @@ impl Metric for Recovery {
 
 impl fmt::Display for Recovery {
     ghost output = { λ metric. Some (component (name_of R) (recovery_spelling metric)) };
+
+    ghost styled_output = { λ metric _. Some (component (name_of R) (recovery_spelling metric)) };
 
     fn fmt<W: fmt::Write>(&self, f: &mut fmt::Formatter<W>) -> fmt::Result {
         write_component(self.slashed(), f)

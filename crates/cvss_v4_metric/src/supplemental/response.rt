@@ -56,6 +56,8 @@ impl Metric for VulnerabilityResponseEffort {
 impl fmt::Display for VulnerabilityResponseEffort {
     ghost output = { λ metric. Some (component (name_of RE) (vulnerability_response_effort_spelling metric)) };
 
+    ghost styled_output = { λ metric _. Some (component (name_of RE) (vulnerability_response_effort_spelling metric)) };
+
     fn fmt<W: fmt::Write>(&self, f: &mut fmt::Formatter<W>) -> fmt::Result {
         write_component(self.slashed(), f)
     }
@@ -108,6 +110,8 @@ impl Metric for ProviderUrgency {
 
 impl fmt::Display for ProviderUrgency {
     ghost output = { λ metric. Some (component (name_of U) (provider_urgency_spelling metric)) };
+
+    ghost styled_output = { λ metric _. Some (component (name_of U) (provider_urgency_spelling metric)) };
 
     fn fmt<W: fmt::Write>(&self, f: &mut fmt::Formatter<W>) -> fmt::Result {
         write_component(self.slashed(), f)
