@@ -143,7 +143,7 @@ def answers(words, rows):
 
 def print_table(rows, wrong, seconds):
     totals = Counter(row["class"] for row in rows)
-    width = max(map(len, totals), default=0)
+    width = max(len("all"), *map(len, totals), 0)
     for name, total in totals.items():
         print(f"{name:{width}} {total:6} rows {len(wrong.get(name, ())):6} wrong")
     count = sum(map(len, wrong.values()))
