@@ -1,7 +1,7 @@
 /*
  * Refuses each request for memory of the library: no answer to a text that is accepted changes, nor the reason of a
- * metric that stands twice or is missing; any other reason becomes "out of memory". Ends with status 0 where that is so.
- * Linked with -Wl,--wrap=malloc,--wrap=realloc.
+ * metric that stands twice or is missing; any other reason becomes "out of memory". Ends with status 0 where that is
+ * so. Linked with -Wl,--wrap=malloc,--wrap=realloc.
  */
 #include "cvss.h"
 
