@@ -1,0 +1,4 @@
+pub mod Groups
+pub mod Members
+pub mod Objects
+pub mod Record
