@@ -1,3 +1,5 @@
+pub mod Differences
+pub mod Due
 pub mod Groups
 pub mod Members
 pub mod Objects

@@ -1,14 +1,18 @@
 //! CVSS records: the JSON objects in which advisories tell a vector, its metrics and its scores, by
 //! FIRST's JSON schemas of CVSS v2.0, v3.0, v3.1 and v4.0.
 //!
-//! [`record_of`] writes the record of a vector.
+//! [`record_of`] writes the record of a vector, and [`differences`] tells where an object says otherwise
+//! than the record.
 #![tactic(auto)]
 
+mod difference;
+mod due;
 mod group;
 mod member;
 mod record;
 mod score;
 
+pub use difference::{Difference, differences};
 pub use group::Group;
 pub use record::record_of;
 pub use score::{Scores, score_number};

@@ -129,7 +129,7 @@ fn put_optional(
 }
 
 /// The value of a score of so many tenths.
-fn score_value(tenths: u8) -> Value
+pub(crate) fn score_value(tenths: u8) -> Value
     ensures { view result ≡ score_value tenths }
 {
     Value::from(score_number(tenths))
