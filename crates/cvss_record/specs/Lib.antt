@@ -3,4 +3,6 @@ pub mod Due
 pub mod Groups
 pub mod Members
 pub mod Objects
+pub mod Places
 pub mod Record
+pub mod Steps

@@ -2,17 +2,19 @@
 //! FIRST's JSON schemas of CVSS v2.0, v3.0, v3.1 and v4.0.
 //!
 //! [`record_of`] writes the record of a vector, and [`differences`] tells where an object says otherwise
-//! than the record.
+//! than the record. [`vectors_in`] finds the objects of a document that hold vectors.
 #![tactic(auto)]
 
 mod difference;
 mod due;
 mod group;
 mod member;
+mod place;
 mod record;
 mod score;
 
 pub use difference::{Difference, differences};
 pub use group::Group;
+pub use place::{Form, Place, vectors_in};
 pub use record::record_of;
 pub use score::{Scores, score_number};
