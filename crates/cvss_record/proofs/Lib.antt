@@ -1,2 +1,3 @@
 mod FloatLemmas
 mod ObjectLemmas
+mod TellingLemmas

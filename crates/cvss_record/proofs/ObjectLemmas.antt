@@ -3,7 +3,7 @@ use Rattle.std.proofs.Common.{◌≡◌, List, [], ◌∷◌, ◌++◌, refl}
 use Rattle.serde_json.specs.Data.{Members, put}
 use Rattle.cvss_record.specs.Objects.{Member, with_members}
 
-with_members-append : (first second : List Member) (old : Members) → with_members (first ++ second) old ≡ with_members second (with_members first old)
+pub with_members-append : (first second : List Member) (old : Members) → with_members (first ++ second) old ≡ with_members second (with_members first old)
 with_members-append [] second old = refl
 with_members-append (each ∷ rest) second old = with_members-append rest second (put each.0 each.1 old)
 

@@ -1,6 +1,6 @@
 -- Where vectors stand in a JSON document, and how: beside the members of FIRST's schemas, as GitHub's
 -- advisories have them, and as OSV's. Places are told as JSON Pointers: RFC 6901.
-use Rattle.std.specs.Prelude.{ℕ, ◌+◌, ◌==◌, Bool, false, List, [], ◌∷◌, ◌++◌, codes, map, flat_map, bytes_eq, if◌then◌else◌, Option, Some, None, option_map, option_and_then, unwrap_or}
+use Rattle.std.specs.Prelude.{ℕ, ◌+◌, ◌==◌, Bool, false, List, [], ◌∷◌, ◌++◌, codes, map, flat_map, bytes_eq, if◌then◌else◌, Option, None, option_map, option_and_then, unwrap_or}
 use Rattle.std.specs.Char.{encode_utf8}
 use Rattle.std.specs.Fmt.{decimal}
 use Rattle.std.specs.List.{list_any}

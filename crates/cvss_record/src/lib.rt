@@ -8,12 +8,13 @@
 mod difference;
 mod due;
 mod group;
+pub mod laws;
 mod member;
 mod place;
 mod record;
 mod score;
 
-pub use difference::{Difference, differences};
+pub use difference::{Difference, differences, differences_at};
 pub use group::Group;
 pub use place::{Form, Place, vectors_in};
 pub use record::record_of;

@@ -154,7 +154,8 @@ fn text_at<'a>(members: &'a Map<String, Value>, name: &str) -> Option<&'a str>
     }
 }
 
-fn member<'a>(members: &'a Map<String, Value>, name: &str) -> Option<&'a Value>
+/// The value of the member with this name.
+pub(crate) fn member<'a>(members: &'a Map<String, Value>, name: &str) -> Option<&'a Value>
     ensures { option_map (λ value. view value.now) result
         ≡ get_member name.now (members_view members.now.entries) }
 {
