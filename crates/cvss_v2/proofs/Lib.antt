@@ -1,6 +1,11 @@
+mod ComputedLemmas
 mod CountLemmas
+mod MillionthLemmas
+mod PlainLemmas
 mod ScoreLemmas
 mod StandardFacts
+mod TableLemmas
+mod TestLemmas
 mod TextLemmas
 pub mod UniqueLemmas
 mod WeightLemmas

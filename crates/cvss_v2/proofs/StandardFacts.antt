@@ -1,8 +1,9 @@
--- The three examples of the CVSS v2 guide, 3.3, so that a wrong equation does not check.
-use Rattle.std.proofs.Common.{pos, refl, rules}
+-- The three examples of the CVSS v2 guide, 3.3, so that a wrong equation does not check, and one that is not in the guide.
+use Rattle.std.proofs.Common.{pos, negsuc, refl, rules}
 use Rattle.cvss_base.specs.Exact.{◌over◌, ◌≈◌}
+use Rattle.cvss_base.specs.Rounding.{IsNearestAway}
 use Rattle.cvss_v2.specs.declared.weights.Weights.{Weights}
-use Rattle.cvss_v2.specs.Scores.{impact, exploitability, adjusted_impact, IsBase, IsTemporal, IsEnvironmental}
+use Rattle.cvss_v2.specs.Scores.{impact, exploitability, adjusted_impact, IsBase, IsTemporal, IsEnvironmental, IsEnvironmentalBy}
 
 -- CVE-2002-0392: AV:N/AC:L/Au:N/C:N/I:N/A:C/E:F/RL:OF/RC:C/CDP:H/TD:H/CR:M/IR:M/AR:H
 abbrev apache : Weights
@@ -93,4 +94,37 @@ environmental_scores = (
   record { adjusted_temporal = pos 83; is_temporal = adjusted_scores.0; is_rounded = search rules },
   record { adjusted_temporal = pos 80; is_temporal = adjusted_scores.1; is_rounded = search rules },
   record { adjusted_temporal = pos 49; is_temporal = adjusted_scores.2; is_rounded = search rules },
+)
+
+-- AV:L/AC:H/Au:M/C:P/I:N/A:N/TD:L/CR:L, whose environmental number is -0.05: 0 with 10^-6 added, and else -0.1
+abbrev below_zero : Weights
+below_zero = record {
+  av = 395;
+  ac = 350;
+  au = 450;
+  c = 275;
+  i = 0;
+  a = 0;
+  e = 1000;
+  rl = 1000;
+  rc = 1000;
+  cdp = 0;
+  td = 250;
+  cr = 500;
+  ir = 1000;
+  ar = 1000;
+}
+
+pub below_zero_scores : IsEnvironmental below_zero (pos 0) × IsEnvironmentalBy IsNearestAway below_zero (negsuc 0)
+below_zero_scores = (
+  record {
+    adjusted_temporal = negsuc 1;
+    is_temporal = record { base = negsuc 1; is_base = search rules; is_rounded = search rules };
+    is_rounded = search rules;
+  },
+  record {
+    adjusted_temporal = negsuc 1;
+    is_temporal = record { base = negsuc 1; is_base = search rules; is_rounded = search rules };
+    is_rounded = search rules;
+  },
 )

@@ -50,23 +50,35 @@ temporal_number base e rl rc = base ⊗ e ⊗ rl ⊗ rc
 abbrev pub environmental_number : Exact → Exact → Exact → Exact
 environmental_number temporal cdp td = (temporal ⊕ (whole 10 ⊖ temporal) ⊗ cdp) ⊗ td
 
--- r tenths are the BaseScore with this impact in the place of Impact
-abbrev pub IsBase : Weights → Exact → ℤ → Type 0
-IsBase w impact r = IsRoundedV2 (base_number impact (exploitability w)) r
+-- by a rounding, r tenths are the BaseScore with this impact in the place of Impact
+abbrev pub IsBaseBy : (Exact → ℤ → Type 0) → Weights → Exact → ℤ → Type 0
+IsBaseBy IsRounded w impact r = IsRounded (base_number impact (exploitability w)) r
 
--- r tenths are the TemporalScore with this impact in the place of Impact
-pub record IsTemporal (w : Weights) (impact : Exact) (r : ℤ) : Type 0 where
+-- by a rounding, r tenths are the TemporalScore with this impact in the place of Impact
+pub record IsTemporalBy (IsRounded : Exact → ℤ → Type 0) (w : Weights) (impact : Exact) (r : ℤ) : Type 0 where
   pub base : ℤ
-  pub is_base : IsBase w impact base
-  pub is_rounded : IsRoundedV2
+  pub is_base : IsBaseBy IsRounded w impact base
+  pub is_rounded : IsRounded
       (temporal_number (tenths base) (thousandths w.e) (thousandths w.rl) (thousandths w.rc)) r
 
--- r tenths are the EnvironmentalScore, whose AdjustedTemporal is not raised to 0
-pub record IsEnvironmental (w : Weights) (r : ℤ) : Type 0 where
+-- by a rounding, r tenths are the EnvironmentalScore, whose AdjustedTemporal is not raised to 0
+pub record IsEnvironmentalBy (IsRounded : Exact → ℤ → Type 0) (w : Weights) (r : ℤ) : Type 0 where
   pub adjusted_temporal : ℤ
-  pub is_temporal : IsTemporal w (adjusted_impact w) adjusted_temporal
-  pub is_rounded : IsRoundedV2
+  pub is_temporal : IsTemporalBy IsRounded w (adjusted_impact w) adjusted_temporal
+  pub is_rounded : IsRounded
       (environmental_number (tenths adjusted_temporal) (thousandths w.cdp) (thousandths w.td)) r
+
+-- r tenths are the BaseScore with this impact in the place of Impact
+abbrev pub IsBase : Weights → Exact → ℤ → Type 0
+IsBase = IsBaseBy IsRoundedV2
+
+-- r tenths are the TemporalScore with this impact in the place of Impact
+abbrev pub IsTemporal : Weights → Exact → ℤ → Type 0
+IsTemporal = IsTemporalBy IsRoundedV2
+
+-- r tenths are the EnvironmentalScore, whose AdjustedTemporal is not raised to 0
+abbrev pub IsEnvironmental : Weights → ℤ → Type 0
+IsEnvironmental = IsEnvironmentalBy IsRoundedV2
 
 -- the count of 10^-24 is that of such a number of tenths, raised to 0 where it is negative
 pub record IsPublished (IsNumber : ℤ → Type 0) (count : ℤ) : Type 0 where
@@ -74,17 +86,29 @@ pub record IsPublished (IsNumber : ℤ → Type 0) (count : ℤ) : Type 0 where
   pub is_number : IsNumber number
   pub is_count : count ≡ int_max (pos 0) number *ℤ pos (10 ^ 23)
 
+-- by a rounding, the count is the published base score
+abbrev pub IsBaseScoreBy : (Exact → ℤ → Type 0) → Weights → ℤ → Type 0
+IsBaseScoreBy IsRounded w count = IsPublished (IsBaseBy IsRounded w (impact w)) count
+
+-- by a rounding, the count is the published temporal score
+abbrev pub IsTemporalScoreBy : (Exact → ℤ → Type 0) → Weights → ℤ → Type 0
+IsTemporalScoreBy IsRounded w count = IsPublished (IsTemporalBy IsRounded w (impact w)) count
+
+-- by a rounding, the count is the published environmental score
+abbrev pub IsEnvironmentalScoreBy : (Exact → ℤ → Type 0) → Weights → ℤ → Type 0
+IsEnvironmentalScoreBy IsRounded w count = IsPublished (IsEnvironmentalBy IsRounded w) count
+
 -- the count is the published base score
 abbrev pub IsBaseScore : Weights → ℤ → Type 0
-IsBaseScore w count = IsPublished (IsBase w (impact w)) count
+IsBaseScore = IsBaseScoreBy IsRoundedV2
 
 -- the count is the published temporal score
 abbrev pub IsTemporalScore : Weights → ℤ → Type 0
-IsTemporalScore w count = IsPublished (IsTemporal w (impact w)) count
+IsTemporalScore = IsTemporalScoreBy IsRoundedV2
 
 -- the count is the published environmental score
 abbrev pub IsEnvironmentalScore : Weights → ℤ → Type 0
-IsEnvironmentalScore w count = IsPublished (IsEnvironmental w) count
+IsEnvironmentalScore = IsEnvironmentalScoreBy IsRoundedV2
 
 -- so many tenths, from -1.8 to 10, where the numbers lie before they are raised to 0
 pub record IsOnScale (r : ℤ) : Type 0 where

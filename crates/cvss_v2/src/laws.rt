@@ -1,14 +1,15 @@
 //! Laws of CVSS v2, each the contract of a function that does nothing. A proof that needs a law
 //! calls it.
 
-ghost use Rattle.std.specs.Prelude.{◌≡◌, ℕ, ℤ, pos, List, Some, None};
+ghost use Rattle.std.specs.Prelude.{◌≡◌, ◌↔◌, ℕ, ℤ, pos, List, Some, None};
 ghost use Rattle.std.specs.Ordering.{int_cmp};
 ghost use Rattle.cvss_base.specs.Equality.{EqualsByValue, ClonesByValue};
 ghost use Rattle.cvss_base.specs.Exact.{of_count};
 ghost use Rattle.cvss_base.specs.Version.{canonical_text, Denotes};
 ghost use Rattle.cvss_v2.specs.ScoreLaws.{DefineTheSame};
 ghost use Rattle.cvss_base.specs.Tenths.{IsOneCount};
-ghost use Rattle.cvss_v2.specs.Scores.{IsTemporal, IsBaseScore, IsTemporalScore, IsEnvironmentalScore};
+ghost use Rattle.cvss_v2.specs.Scores.{IsTemporal, IsBaseScore, IsTemporalScore, IsEnvironmentalScore, IsBaseScoreBy, IsTemporalScoreBy, IsEnvironmentalScoreBy};
+ghost use Rattle.cvss_base.specs.Rounding.{IsNearestAway};
 ghost use Rattle.cvss_base.specs.Tenths.{IsInTenths};
 ghost use Rattle.cvss_base.specs.declared.v2.MetricType.{MetricType};
 ghost use Rattle.cvss_v2.specs.Vector.{v2, value_at};
@@ -52,6 +53,21 @@ pub fn scores_are_unique()
     ensures environmental { (w : Weights) → IsOneCount (IsEnvironmentalScore w) }
     ensures internal { (w : Weights) → (impact : ℤ)
         → IsOneCount (IsInTenths (IsTemporal w (of_count impact))) }
+{}
+
+/// The 10^-6 that the rounding adds changes no published score of a vector: each is the same if
+/// every rounding on the way to it takes the nearest tenth of the exact number, half away from
+/// zero. Before it is raised to 0 a number may differ: the environmental one of
+/// `AV:L/AC:H/Au:M/C:P/I:N/A:N/TD:L/CR:L` is -0.05, whose rounding is 0 and whose nearest tenth is
+/// -0.1.
+pub fn a_millionth_changes_no_score()
+    ensures base { (vector : Vector) → (count : ℤ) → IsBaseScore (weights_of vector) count
+        ↔ IsBaseScoreBy IsNearestAway (weights_of vector) count }
+    ensures temporal { (vector : Vector) → (count : ℤ) → IsTemporalScore (weights_of vector) count
+        ↔ IsTemporalScoreBy IsNearestAway (weights_of vector) count }
+    ensures environmental { (vector : Vector) → (count : ℤ)
+        → IsEnvironmentalScore (weights_of vector) count
+        ↔ IsEnvironmentalScoreBy IsNearestAway (weights_of vector) count }
 {}
 
 /// A metric that is `ND` and one that is absent weigh the same, so that all scores are the same
