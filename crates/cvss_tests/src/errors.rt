@@ -1,7 +1,6 @@
 //! Tests of errors and severities.
 
-use crate::values::{are_printed, push};
-use cvss::v4::Nomenclature;
+use crate::values::are_printed;
 use cvss::{Cvss, Error, LIMIT, ONE, PREFIX, Severity};
 use std::alloc::Global;
 use std::process::Abort;
@@ -95,26 +94,45 @@ const TEXTS: [(&str, &str); 29] = [
 ];
 
 #[test]
-fn tells_every_reason(rt: HostRuntime) -> Result<(), Fail> {
-    let alloc = rt.alloc();
-    let mut rows = Vec::new(alloc);
+fn tells_every_reason_why_a_text_is_no_vector(rt: HostRuntime) -> Result<(), Fail> {
+    let mut rows = Vec::new(rt.alloc());
     for (text, told) in TEXTS {
-        push(&mut rows, told, Cvss::from_str(alloc, text).err())?;
+        if let Err(error) = Cvss::from_str(rt.alloc(), text) {
+            rows.push((told, error))?;
+        }
     }
-    let told = "invalid CVSS Qualitative Severity Rating: `lowest`";
-    push(&mut rows, told, Severity::from_str(alloc, "lowest").err())?;
-    let told = "invalid CVSS Qualitative Severity Rating: ``";
-    push(&mut rows, told, Severity::from_str(alloc, "").err())?;
-    let told = "invalid CVSSv4 nomenclature: `cvss-b`";
-    push(
-        &mut rows,
-        told,
-        Nomenclature::from_str(alloc, "cvss-b").err(),
-    )?;
-    let told = "invalid CVSSv4 nomenclature: ``";
-    push(&mut rows, told, Nomenclature::from_str(alloc, "").err())?;
-    push(&mut rows, "out of memory", Some(Error::OutOfMemory))?;
-    assert_eq!(rt; rows.len(), 34);
+    assert_eq!(rt; rows.len(), TEXTS.len());
+    are_printed(&rt, rt.alloc(), "", &rows)
+}
+
+#[test]
+fn tells_errors_of_other_names(rt: HostRuntime) -> Result<(), Fail> {
+    let alloc = rt.alloc();
+    let name = String::from_str(alloc, "lowest")?;
+    let nomenclature = String::from_str(alloc, "cvss-b")?;
+    let rows = [
+        (
+            "invalid CVSS Qualitative Severity Rating: `lowest`",
+            Error::InvalidSeverity { name },
+        ),
+        (
+            "invalid CVSS Qualitative Severity Rating: ``",
+            Error::InvalidSeverity {
+                name: String::new(alloc),
+            },
+        ),
+        (
+            "invalid CVSSv4 nomenclature: `cvss-b`",
+            Error::InvalidNomenclatureV4 { nomenclature },
+        ),
+        (
+            "invalid CVSSv4 nomenclature: ``",
+            Error::InvalidNomenclatureV4 {
+                nomenclature: String::new(alloc),
+            },
+        ),
+        ("out of memory", Error::OutOfMemory),
+    ];
     are_printed(&rt, alloc, "", &rows)
 }
 

@@ -1,6 +1,6 @@
 //! Tests of triage: rows, their order, and what is told of refused texts.
 
-use crate::values::{are_printed, push};
+use crate::values::are_printed;
 use cvss::v4::{MetricType, Vector};
 use cvss::{Error, ONE, Severity};
 use cvss_ranking::{Row, TriageError, apply};
@@ -170,22 +170,14 @@ fn tells_the_first_refusal(rt: HostRuntime) -> Result<(), Fail> {
     let mut refusals = Vec::new(rt.alloc());
     let mut objections = Vec::new(rt.alloc());
     for (texts, overrides, told) in REFUSED {
-        push(
-            &mut refusals,
-            told,
-            apply(rt.alloc(), texts, overrides).err(),
-        )?;
-        push(
-            &mut objections,
-            told,
-            Vector::from_overrides(rt.alloc(), overrides).err(),
-        )?;
+        if let Err(error) = apply(rt.alloc(), texts, overrides) {
+            refusals.push((told, error))?;
+        }
+        if let Err(error) = Vector::from_overrides(rt.alloc(), overrides) {
+            objections.push((told, error))?;
+        }
     }
-    push(
-        &mut refusals,
-        "out of memory",
-        Some(TriageError::OutOfMemory),
-    )?;
+    refusals.push(("out of memory", TriageError::OutOfMemory))?;
     assert_eq!(rt; refusals.len(), 15);
     assert_eq!(rt; objections.len(), 9);
     are_printed(&rt, rt.alloc(), "", &objections)?;

@@ -1,21 +1,9 @@
 //! What is asked of the values of every public type: that they are told apart, copied and printed.
 
-use std::alloc::{AllocError, Global};
+use std::alloc::Global;
 use std::fmt;
 use std::process::Abort;
 use std::test::Fail;
-
-/// Keeps a refusal, if there is one, beside the text that tells it.
-pub(crate) fn push<T: Drop>(
-    rows: &mut Vec<(&'static str, T)>,
-    told: &'static str,
-    refusal: Option<T>,
-) -> Result<(), AllocError> {
-    if let Some(refusal) = refusal {
-        rows.push((told, refusal))?;
-    }
-    Ok(())
-}
 
 /// Compares each value with each. Two are equal exactly where their texts are.
 pub(crate) fn are_told_apart<T: PartialEq>(rt: &impl Abort, rows: &[(&str, T)]) {
