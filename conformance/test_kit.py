@@ -145,10 +145,10 @@ class Runs(unittest.TestCase):
         answer = "print('9.8\\n7.8\\nerror')"
         words = [sys.executable, HERE / "run.py", "--folder", self.folder.name,
                  "--", sys.executable, "-c", answer]
-        subprocess.run(words, stdout=subprocess.DEVNULL, stderr=shown, check=True)
+        subprocess.run(words, stdout=subprocess.DEVNULL, stderr=shown, check=True, timeout=60)
+        os.close(shown)
         self.assertIn(b"3 of 3", os.read(terminal, 100))
         os.close(terminal)
-        os.close(shown)
 
     def test_has_a_help(self):
         words = [sys.executable, HERE / "run.py", "--help"]
@@ -158,6 +158,12 @@ class Runs(unittest.TestCase):
 
     def test_tries_the_chosen_rows_alone(self):
         self.assert_told(self.answered(["9.8"], "--only", "first"), 0)
+        row = ["CVSS:3.1/AV:N"] * 2 + ["3.1", *["0.0"] * 3, "-", *["none"] * 3, "no", "fourth"]
+        self.write("scores.tsv", make.SCORE_COLUMNS, [row])
+        self.assert_told(self.answered(["error"], "--complete"), 0, "1 rows")
+        self.assert_told(self.answered(["0.0", "error"]), 0, "2 rows")
+
+    def test_tries_all_rows_but_those_left_out(self):
         self.assert_told(self.answered(RIGHT[:1] + RIGHT[2:], "--without", "second"), 0)
         self.assert_told(self.answered(["9.8"], "--versions", "3.0,3.1"), 0)
 
