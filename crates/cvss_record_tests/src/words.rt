@@ -1,0 +1,76 @@
+//! One value of one metric at a time, in an otherwise fixed vector.
+
+use cvss::Cvss;
+use cvss_record::{differences, record_of};
+use serde_json::{Map, Value, put};
+use std::alloc::{AllocError, Global};
+use std::process::Abort;
+use std::test::Fail;
+
+/// A component, the member of its metric, and the word of its value.
+pub type Row = (&'static str, &'static str, &'static str);
+
+/// The text of the vector with base metrics and this component, in whose place no other stands.
+fn text_with(alloc: Global, front: &str, base: &str, row: &Row) -> Result<String, AllocError> {
+    let mut text = String::from_str(alloc, front)?;
+    text.push_str(row.0)?;
+    let name = row.0.split_once(':').map(|(name, _)| name);
+    for component in base.split('/') {
+        if component.split_once(':').map(|(name, _)| name) != name {
+            text.push('/')?;
+            text.push_str(component)?;
+        }
+    }
+    Ok(text)
+}
+
+fn members_of(alloc: Global, text: &str) -> Result<Map<String, Value>, Fail> {
+    let cvss = Cvss::from_str(alloc, text)?;
+    match record_of(alloc, &cvss)? {
+        Value::Object(members) => Ok(members),
+        _ => Ok(Map::new(alloc)),
+    }
+}
+
+/// The word stands at its member, nothing differs, and another word there is the one difference.
+pub fn words_are_told(
+    rt: &impl Abort,
+    alloc: Global,
+    front: &str,
+    base: &str,
+    rows: &[Row],
+) -> Result<(), Fail> {
+    for row in rows {
+        let text = text_with(alloc, front, base, row)?;
+        let mut members = members_of(alloc, text.as_str())?;
+        is_told(rt, &members, row);
+        assert!(rt;
+            differing(alloc, text.as_str(), &members)?.is_empty(),
+            "{text}"
+        );
+        put(
+            &mut members,
+            alloc,
+            row.1,
+            Value::try_from_str(alloc, "OTHER")?,
+        )?;
+        let found = differing(alloc, text.as_str(), &members)?;
+        assert!(rt; found.as_str() == row.1, "{text}");
+    }
+    Ok(())
+}
+
+fn is_told(rt: &impl Abort, members: &Map<String, Value>, row: &Row) {
+    let told = members.get(row.1).and_then(Value::as_str);
+    assert!(rt; told == Some(row.2), "{}", row.0);
+}
+
+/// The names of the members that differ, one after the other.
+fn differing(alloc: Global, text: &str, members: &Map<String, Value>) -> Result<String, Fail> {
+    let cvss = Cvss::from_str(alloc, text)?;
+    let mut names = String::new(alloc);
+    for difference in &differences(alloc, &cvss, members)? {
+        names.push_str(difference.member.as_str())?;
+    }
+    Ok(names)
+}
