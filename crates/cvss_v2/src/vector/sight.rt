@@ -36,9 +36,31 @@ fn vector_at_sight(text: &[u8]) -> Option<Vector>
     ensures { IfSome result (λ vector. slash ∷ text.now ≡ slashed_texts v2 vector printed) }
 {
     let (base, text) = base_at_sight(text)?;
-    let (temporal, text) = temporal_at_sight(base, text);
-    let (vector, text) = environmental_at_sight(temporal, text);
-    if text.is_empty() { Some(vector) } else { None }
+    let mut vector = base;
+    let rest = others_at_sight(&mut vector, text);
+    if rest.is_empty() { Some(vector) } else { None }
+}
+
+/// Puts the optional metrics with which a text begins into the vector, and gives what stands behind
+/// them.
+// A call of its own keeps the vector in memory, where each metric is stored once.
+#[inline(never)]
+fn others_at_sight<'a>(vector: &mut Vector, text: &'a [u8]) -> &'a [u8]
+    ensures text { text.now ≡ slashed_texts v2 vector.new
+        (E ∷ RL ∷ RC ∷ CDP ∷ TD ∷ CR ∷ IR ∷ AR ∷ []) ++ result.now }
+    ensures kept { vector.new ≡ record vector.old {
+      e = vector.new.e;
+      rl = vector.new.rl;
+      rc = vector.new.rc;
+      cdp = vector.new.cdp;
+      td = vector.new.td;
+      cr = vector.new.cr;
+      ir = vector.new.ir;
+      ar = vector.new.ar;
+    } }
+{
+    let text = temporal_at_sight(vector, text);
+    environmental_at_sight(vector, text)
 }
 
 /// The vector of the base metrics with which a text begins.
@@ -65,54 +87,30 @@ fn base_at_sight(text: &[u8]) -> Option<(Vector, &[u8])>
     Some((base, text))
 }
 
-/// The vector with the temporal metrics with which a text begins.
+/// Puts the temporal metrics with which a text begins into the vector, and gives what stands behind them.
 #[inline(always)]
-fn temporal_at_sight(vector: Vector, text: &[u8]) -> (Vector, &[u8])
-    ensures text { text.now ≡ slashed_texts v2 result.0 (E ∷ RL ∷ RC ∷ []) ++ result.1.now }
-    ensures kept { result.0
-        ≡ record vector { e = result.0.e; rl = result.0.rl; rc = result.0.rc } }
+fn temporal_at_sight<'a>(vector: &mut Vector, text: &'a [u8]) -> &'a [u8]
+    ensures text { text.now
+        ≡ slashed_texts v2 vector.new (E ∷ RL ∷ RC ∷ []) ++ result.now }
+    ensures kept { vector.new ≡ record vector.old { e = vector.new.e; rl = vector.new.rl; rc = vector.new.rc } }
 {
-    let (e, text) = optional_at_sight(text);
-    let (rl, text) = optional_at_sight(text);
-    let (rc, text) = optional_at_sight(text);
-    (
-        Vector {
-            e,
-            rl,
-            rc,
-            ..vector
-        },
-        text,
-    )
+    let text = optional_at_sight(&mut vector.e, text);
+    let text = optional_at_sight(&mut vector.rl, text);
+    optional_at_sight(&mut vector.rc, text)
 }
 
-/// The vector with the environmental metrics with which a text begins.
+/// Puts the environmental metrics with which a text begins into the vector, and gives what stands behind them.
 #[inline(always)]
-fn environmental_at_sight(vector: Vector, text: &[u8]) -> (Vector, &[u8])
+fn environmental_at_sight<'a>(vector: &mut Vector, text: &'a [u8]) -> &'a [u8]
     ensures text { text.now
-        ≡ slashed_texts v2 result.0 (CDP ∷ TD ∷ CR ∷ IR ∷ AR ∷ []) ++ result.1.now }
-    ensures kept { result.0 ≡ record vector {
-      cdp = result.0.cdp;
-      td = result.0.td;
-      cr = result.0.cr;
-      ir = result.0.ir;
-      ar = result.0.ar;
-    } }
+        ≡ slashed_texts v2 vector.new (CDP ∷ TD ∷ CR ∷ IR ∷ AR ∷ []) ++ result.now }
+    ensures kept { vector.new ≡ record vector.old { cdp = vector.new.cdp; td = vector.new.td; cr = vector.new.cr; ir = vector.new.ir; ar = vector.new.ar } }
 {
-    let (cdp, text) = optional_at_sight(text);
-    let (td, text) = optional_at_sight(text);
-    let (cr, text) = optional_at_sight(text);
-    let (ir, text) = optional_at_sight(text);
-    let (ar, text) = optional_at_sight(text);
-    let vector = Vector {
-        cdp,
-        td,
-        cr,
-        ir,
-        ar,
-        ..vector
-    };
-    (vector, text)
+    let text = optional_at_sight(&mut vector.cdp, text);
+    let text = optional_at_sight(&mut vector.td, text);
+    let text = optional_at_sight(&mut vector.cr, text);
+    let text = optional_at_sight(&mut vector.ir, text);
+    optional_at_sight(&mut vector.ar, text)
 }
 
 /// The value of a base metric, where a text begins with a slash and its component, and what stands
@@ -150,17 +148,23 @@ fn letter_at_sight<M: Metric>(text: &[u8]) -> Option<(M, &[u8])>
     }
 }
 
-/// The value of a metric, if a text begins with a slash and its component, and what stands behind
-/// that; else the text.
+/// Puts the value of a metric into its place, if a text begins with a slash and its component, and
+/// gives what stands behind that; else no value, and the text.
 #[inline(always)]
-fn optional_at_sight<M: Metric>(text: &[u8]) -> (Option<M>, &[u8])
+fn optional_at_sight<'a, M: Metric>(place: &mut Option<M>, text: &'a [u8]) -> &'a [u8]
     ensures { text.now ≡ unwrap_or (slashed (option_map (component (name_of M.TYPE))
-        (option_map (λ metric. spelling_of M.TYPE (M.value metric)) result.0))) []
-        ++ result.1.now }
+        (option_map (λ metric. spelling_of M.TYPE (M.value metric)) place.new))) []
+        ++ result.now }
 {
     match component_at_sight(text) {
-        Some((metric, rest)) => (Some(metric), rest),
-        None => (None, text),
+        Some((metric, rest)) => {
+            *place = Some(metric);
+            rest
+        }
+        None => {
+            *place = None;
+            text
+        }
     }
 }
 

@@ -53,231 +53,239 @@ fn metrics_at_sight(minor_version: usize, text: &[u8]) -> Option<Vector>
         minor_version,
         ..Vector::default()
     };
-    let (base, text) = base_at_sight(empty, text);
-    let (vector, text) = optional_at_sight(base, text);
-    let (vector, text) = modified_at_sight(vector, text);
-    if text.is_empty() { Some(vector) } else { None }
+    let (base, text) = base_at_sight(empty, text)?;
+    let mut vector = base;
+    let rest = others_at_sight(&mut vector, text);
+    if rest.is_empty() { Some(vector) } else { None }
 }
 
-/// The vector with the base metrics with which a text begins.
+/// The vector with the base metrics with which a text begins, if all of them do.
 #[inline(always)]
-fn base_at_sight(vector: Vector, text: &[u8]) -> (Vector, &[u8])
-    ensures text { text.now ≡ slashed_texts v3 result.0
-        (AV ∷ AC ∷ PR ∷ UI ∷ S ∷ C ∷ I ∷ A ∷ []) ++ result.1.now }
-    ensures kept { result.0 ≡ record vector {
-      av = result.0.av;
-      ac = result.0.ac;
-      pr = result.0.pr;
-      ui = result.0.ui;
-      s = result.0.s;
-      c = result.0.c;
-      i = result.0.i;
-      a = result.0.a;
-    } }
+fn base_at_sight(vector: Vector, text: &[u8]) -> Option<(Vector, &[u8])>
+    ensures text { IfSome result (λ read. text.now
+        ≡ slashed_texts v3 read.0 (AV ∷ AC ∷ PR ∷ UI ∷ S ∷ C ∷ I ∷ A ∷ []) ++ read.1.now) }
+    ensures kept { IfSome result (λ read. read.0 ≡ record vector {
+      av = read.0.av;
+      ac = read.0.ac;
+      pr = read.0.pr;
+      ui = read.0.ui;
+      s = read.0.s;
+      c = read.0.c;
+      i = read.0.i;
+      a = read.0.a;
+    }) }
 {
-    let (vector, text) = attack_at_sight(vector, text);
+    let (vector, text) = attack_at_sight(vector, text)?;
     impact_at_sight(vector, text)
 }
 
-/// The vector with the temporal metrics and the security requirements with which a text begins.
-#[inline(always)]
-fn optional_at_sight(vector: Vector, text: &[u8]) -> (Vector, &[u8])
-    ensures text { text.now ≡ slashed_texts v3 result.0
-        (E ∷ RL ∷ RC ∷ CR ∷ IR ∷ AR ∷ []) ++ result.1.now }
-    ensures kept { result.0 ≡ record vector {
-      e = result.0.e;
-      rl = result.0.rl;
-      rc = result.0.rc;
-      cr = result.0.cr;
-      ir = result.0.ir;
-      ar = result.0.ar;
+/// Puts the optional metrics with which a text begins into the vector, and gives what stands behind
+/// them.
+// A call of its own keeps the vector in memory, where each metric is stored once.
+#[inline(never)]
+fn others_at_sight<'a>(vector: &mut Vector, text: &'a [u8]) -> &'a [u8]
+    ensures text { text.now ≡ slashed_texts v3 vector.new
+        (E ∷ RL ∷ RC ∷ CR ∷ IR ∷ AR ∷ MAV ∷ MAC ∷ MPR ∷ MUI ∷ MS ∷ MC ∷ MI ∷ MA ∷
+        []) ++ result.now }
+    ensures kept { vector.new ≡ record vector.old {
+      e = vector.new.e;
+      rl = vector.new.rl;
+      rc = vector.new.rc;
+      cr = vector.new.cr;
+      ir = vector.new.ir;
+      ar = vector.new.ar;
+      mav = vector.new.mav;
+      mac = vector.new.mac;
+      mpr = vector.new.mpr;
+      mui = vector.new.mui;
+      ms = vector.new.ms;
+      mc = vector.new.mc;
+      mi = vector.new.mi;
+      ma = vector.new.ma;
     } }
 {
-    let (vector, text) = temporal_at_sight(vector, text);
+    let text = optional_at_sight(vector, text);
+    modified_at_sight(vector, text)
+}
+
+/// Puts the temporal metrics and the security requirements with which a text begins into the vector, and gives what stands behind
+/// them.
+#[inline(always)]
+fn optional_at_sight<'a>(vector: &mut Vector, text: &'a [u8]) -> &'a [u8]
+    ensures text { text.now ≡ slashed_texts v3 vector.new
+        (E ∷ RL ∷ RC ∷ CR ∷ IR ∷ AR ∷ []) ++ result.now }
+    ensures kept { vector.new ≡ record vector.old {
+      e = vector.new.e;
+      rl = vector.new.rl;
+      rc = vector.new.rc;
+      cr = vector.new.cr;
+      ir = vector.new.ir;
+      ar = vector.new.ar;
+    } }
+{
+    let text = temporal_at_sight(vector, text);
     requirements_at_sight(vector, text)
 }
 
-/// The vector with the modified metrics with which a text begins.
+/// Puts the modified metrics with which a text begins into the vector, and gives what stands behind
+/// them.
 #[inline(always)]
-fn modified_at_sight(vector: Vector, text: &[u8]) -> (Vector, &[u8])
-    ensures text { text.now ≡ slashed_texts v3 result.0
-        (MAV ∷ MAC ∷ MPR ∷ MUI ∷ MS ∷ MC ∷ MI ∷ MA ∷ []) ++ result.1.now }
-    ensures kept { result.0 ≡ record vector {
-      mav = result.0.mav;
-      mac = result.0.mac;
-      mpr = result.0.mpr;
-      mui = result.0.mui;
-      ms = result.0.ms;
-      mc = result.0.mc;
-      mi = result.0.mi;
-      ma = result.0.ma;
+fn modified_at_sight<'a>(vector: &mut Vector, text: &'a [u8]) -> &'a [u8]
+    ensures text { text.now ≡ slashed_texts v3 vector.new
+        (MAV ∷ MAC ∷ MPR ∷ MUI ∷ MS ∷ MC ∷ MI ∷ MA ∷ []) ++ result.now }
+    ensures kept { vector.new ≡ record vector.old {
+      mav = vector.new.mav;
+      mac = vector.new.mac;
+      mpr = vector.new.mpr;
+      mui = vector.new.mui;
+      ms = vector.new.ms;
+      mc = vector.new.mc;
+      mi = vector.new.mi;
+      ma = vector.new.ma;
     } }
 {
-    let (vector, text) = modified_attack_at_sight(vector, text);
+    let text = modified_attack_at_sight(vector, text);
     modified_impact_at_sight(vector, text)
 }
 
-/// The vector with the metrics of how the attack is made with which a text begins.
+/// The vector with the metrics of how the attack is made with which a text begins, if all of them do.
 #[inline(always)]
-fn attack_at_sight(vector: Vector, text: &[u8]) -> (Vector, &[u8])
-    ensures text { text.now
-        ≡ slashed_texts v3 result.0 (AV ∷ AC ∷ PR ∷ UI ∷ []) ++ result.1.now }
-    ensures kept { result.0 ≡ record vector {
-      av = result.0.av;
-      ac = result.0.ac;
-      pr = result.0.pr;
-      ui = result.0.ui;
-    } }
+fn attack_at_sight(vector: Vector, text: &[u8]) -> Option<(Vector, &[u8])>
+    ensures text { IfSome result (λ read. text.now
+        ≡ slashed_texts v3 read.0 (AV ∷ AC ∷ PR ∷ UI ∷ []) ++ read.1.now) }
+    ensures kept { IfSome result (λ read. read.0 ≡ record vector {
+      av = read.0.av;
+      ac = read.0.ac;
+      pr = read.0.pr;
+      ui = read.0.ui;
+    }) }
 {
-    let (av, text) = metric_at_sight(text);
-    let (ac, text) = metric_at_sight(text);
-    let (pr, text) = metric_at_sight(text);
-    let (ui, text) = metric_at_sight(text);
+    let (av, text) = component_at_sight(text)?;
+    let (ac, text) = component_at_sight(text)?;
+    let (pr, text) = component_at_sight(text)?;
+    let (ui, text) = component_at_sight(text)?;
     let vector = Vector {
-        av,
-        ac,
-        pr,
-        ui,
+        av: Some(av),
+        ac: Some(ac),
+        pr: Some(pr),
+        ui: Some(ui),
         ..vector
     };
-    (vector, text)
+    Some((vector, text))
 }
 
-/// The vector with the scope and the impacts with which a text begins.
+/// The vector with the scope and the impacts with which a text begins, if all of them do.
 #[inline(always)]
-fn impact_at_sight(vector: Vector, text: &[u8]) -> (Vector, &[u8])
-    ensures text { text.now
-        ≡ slashed_texts v3 result.0 (S ∷ C ∷ I ∷ A ∷ []) ++ result.1.now }
-    ensures kept { result.0 ≡ record vector {
-      s = result.0.s;
-      c = result.0.c;
-      i = result.0.i;
-      a = result.0.a;
-    } }
+fn impact_at_sight(vector: Vector, text: &[u8]) -> Option<(Vector, &[u8])>
+    ensures text { IfSome result (λ read. text.now
+        ≡ slashed_texts v3 read.0 (S ∷ C ∷ I ∷ A ∷ []) ++ read.1.now) }
+    ensures kept { IfSome result (λ read. read.0 ≡ record vector {
+      s = read.0.s;
+      c = read.0.c;
+      i = read.0.i;
+      a = read.0.a;
+    }) }
 {
-    let (s, text) = metric_at_sight(text);
-    let (c, text) = metric_at_sight(text);
-    let (i, text) = metric_at_sight(text);
-    let (a, text) = metric_at_sight(text);
+    let (s, text) = component_at_sight(text)?;
+    let (c, text) = component_at_sight(text)?;
+    let (i, text) = component_at_sight(text)?;
+    let (a, text) = component_at_sight(text)?;
     let vector = Vector {
-        s,
-        c,
-        i,
-        a,
+        s: Some(s),
+        c: Some(c),
+        i: Some(i),
+        a: Some(a),
         ..vector
     };
-    (vector, text)
+    Some((vector, text))
 }
 
-/// The vector with the temporal metrics with which a text begins.
+/// Puts the temporal metrics with which a text begins into the vector, and gives what stands behind
+/// them.
 #[inline(always)]
-fn temporal_at_sight(vector: Vector, text: &[u8]) -> (Vector, &[u8])
-    ensures text { text.now
-        ≡ slashed_texts v3 result.0 (E ∷ RL ∷ RC ∷ []) ++ result.1.now }
-    ensures kept { result.0 ≡ record vector {
-      e = result.0.e;
-      rl = result.0.rl;
-      rc = result.0.rc;
+fn temporal_at_sight<'a>(vector: &mut Vector, text: &'a [u8]) -> &'a [u8]
+    ensures text { text.now ≡ slashed_texts v3 vector.new (E ∷ RL ∷ RC ∷ []) ++ result.now }
+    ensures kept { vector.new ≡ record vector.old {
+      e = vector.new.e;
+      rl = vector.new.rl;
+      rc = vector.new.rc;
     } }
 {
-    let (e, text) = metric_at_sight(text);
-    let (rl, text) = metric_at_sight(text);
-    let (rc, text) = metric_at_sight(text);
-    let vector = Vector {
-        e,
-        rl,
-        rc,
-        ..vector
-    };
-    (vector, text)
+    let text = put_at_sight(&mut vector.e, text);
+    let text = put_at_sight(&mut vector.rl, text);
+    put_at_sight(&mut vector.rc, text)
 }
 
-/// The vector with the security requirements with which a text begins.
+/// Puts the security requirements with which a text begins into the vector, and gives what stands behind
+/// them.
 #[inline(always)]
-fn requirements_at_sight(vector: Vector, text: &[u8]) -> (Vector, &[u8])
-    ensures text { text.now
-        ≡ slashed_texts v3 result.0 (CR ∷ IR ∷ AR ∷ []) ++ result.1.now }
-    ensures kept { result.0 ≡ record vector {
-      cr = result.0.cr;
-      ir = result.0.ir;
-      ar = result.0.ar;
+fn requirements_at_sight<'a>(vector: &mut Vector, text: &'a [u8]) -> &'a [u8]
+    ensures text { text.now ≡ slashed_texts v3 vector.new (CR ∷ IR ∷ AR ∷ []) ++ result.now }
+    ensures kept { vector.new ≡ record vector.old {
+      cr = vector.new.cr;
+      ir = vector.new.ir;
+      ar = vector.new.ar;
     } }
 {
-    let (cr, text) = metric_at_sight(text);
-    let (ir, text) = metric_at_sight(text);
-    let (ar, text) = metric_at_sight(text);
-    let vector = Vector {
-        cr,
-        ir,
-        ar,
-        ..vector
-    };
-    (vector, text)
+    let text = put_at_sight(&mut vector.cr, text);
+    let text = put_at_sight(&mut vector.ir, text);
+    put_at_sight(&mut vector.ar, text)
 }
 
-/// The vector with the modified metrics of how the attack is made with which a text begins.
+/// Puts the modified metrics of how the attack is made with which a text begins into the vector, and gives what stands behind
+/// them.
 #[inline(always)]
-fn modified_attack_at_sight(vector: Vector, text: &[u8]) -> (Vector, &[u8])
-    ensures text { text.now
-        ≡ slashed_texts v3 result.0 (MAV ∷ MAC ∷ MPR ∷ MUI ∷ []) ++ result.1.now }
-    ensures kept { result.0 ≡ record vector {
-      mav = result.0.mav;
-      mac = result.0.mac;
-      mpr = result.0.mpr;
-      mui = result.0.mui;
+fn modified_attack_at_sight<'a>(vector: &mut Vector, text: &'a [u8]) -> &'a [u8]
+    ensures text { text.now ≡ slashed_texts v3 vector.new
+        (MAV ∷ MAC ∷ MPR ∷ MUI ∷ []) ++ result.now }
+    ensures kept { vector.new ≡ record vector.old {
+      mav = vector.new.mav;
+      mac = vector.new.mac;
+      mpr = vector.new.mpr;
+      mui = vector.new.mui;
     } }
 {
-    let (mav, text) = metric_at_sight(text);
-    let (mac, text) = metric_at_sight(text);
-    let (mpr, text) = metric_at_sight(text);
-    let (mui, text) = metric_at_sight(text);
-    let vector = Vector {
-        mav,
-        mac,
-        mpr,
-        mui,
-        ..vector
-    };
-    (vector, text)
+    let text = put_at_sight(&mut vector.mav, text);
+    let text = put_at_sight(&mut vector.mac, text);
+    let text = put_at_sight(&mut vector.mpr, text);
+    put_at_sight(&mut vector.mui, text)
 }
 
-/// The vector with the modified scope and impacts with which a text begins.
+/// Puts the modified scope and impacts with which a text begins into the vector, and gives what stands behind
+/// them.
 #[inline(always)]
-fn modified_impact_at_sight(vector: Vector, text: &[u8]) -> (Vector, &[u8])
-    ensures text { text.now
-        ≡ slashed_texts v3 result.0 (MS ∷ MC ∷ MI ∷ MA ∷ []) ++ result.1.now }
-    ensures kept { result.0 ≡ record vector {
-      ms = result.0.ms;
-      mc = result.0.mc;
-      mi = result.0.mi;
-      ma = result.0.ma;
+fn modified_impact_at_sight<'a>(vector: &mut Vector, text: &'a [u8]) -> &'a [u8]
+    ensures text { text.now ≡ slashed_texts v3 vector.new (MS ∷ MC ∷ MI ∷ MA ∷ []) ++ result.now }
+    ensures kept { vector.new ≡ record vector.old {
+      ms = vector.new.ms;
+      mc = vector.new.mc;
+      mi = vector.new.mi;
+      ma = vector.new.ma;
     } }
 {
-    let (ms, text) = metric_at_sight(text);
-    let (mc, text) = metric_at_sight(text);
-    let (mi, text) = metric_at_sight(text);
-    let (ma, text) = metric_at_sight(text);
-    let vector = Vector {
-        ms,
-        mc,
-        mi,
-        ma,
-        ..vector
-    };
-    (vector, text)
+    let text = put_at_sight(&mut vector.ms, text);
+    let text = put_at_sight(&mut vector.mc, text);
+    let text = put_at_sight(&mut vector.mi, text);
+    put_at_sight(&mut vector.ma, text)
 }
 
-/// The value of a metric, if a text begins with a slash and its component, and what stands behind
-/// that; else the text.
+/// Puts the value of a metric into its place, if a text begins with a slash and its component, and
+/// gives what stands behind that; else no value, and the text.
 #[inline(always)]
-fn metric_at_sight<M: Metric>(text: &[u8]) -> (Option<M>, &[u8])
+fn put_at_sight<'a, M: Metric>(place: &mut Option<M>, text: &'a [u8]) -> &'a [u8]
     ensures { text.now ≡ unwrap_or (slashed (option_map (component (name_of M.TYPE))
-        (option_map (λ metric. spelling_of M.TYPE (M.value metric)) result.0))) []
-        ++ result.1.now }
+        (option_map (λ metric. spelling_of M.TYPE (M.value metric)) place.new))) []
+        ++ result.now }
 {
     match component_at_sight(text) {
-        Some((metric, rest)) => (Some(metric), rest),
-        None => (None, text),
+        Some((metric, rest)) => {
+            *place = Some(metric);
+            rest
+        }
+        None => {
+            *place = None;
+            text
+        }
     }
 }
 

@@ -49,235 +49,239 @@ fn metrics_at_sight(text: &[u8]) -> Option<Vector>
     ensures text { IfSome result (λ vector. text.now ≡ slashed_texts v4 vector printed) }
     ensures version { IfSome result (λ vector. vector.minor_version ≡ 0) }
 {
-    let (vector, text) = base_at_sight(Vector::empty(), text);
-    let (vector, text) = threat_at_sight(vector, text);
-    let (vector, text) = modified_at_sight(vector, text);
+    let (base, text) = base_at_sight(Vector::empty(), text)?;
+    let mut vector = base;
+    let rest = others_at_sight(&mut vector, text);
+    let u = urgency_at_sight(rest)?;
+    Some(Vector { u, ..vector })
+}
+
+/// Puts the optional metrics but for the last with which a text begins into the vector, and gives what stands behind
+/// them.
+// A call of its own keeps the vector in memory, where each metric is stored once.
+#[inline(never)]
+fn others_at_sight<'a>(vector: &mut Vector, text: &'a [u8]) -> &'a [u8]
+    ensures text { text.now ≡ slashed_texts v4 vector.new
+        (E ∷ CR ∷ IR ∷ AR ∷ MAV ∷ MAC ∷ MAT ∷ MPR ∷ MUI ∷ MVC ∷ MVI ∷ MVA ∷ MSC ∷ MSI ∷ MSA ∷
+        S ∷ AU ∷ R ∷ V ∷ RE ∷ []) ++ result.now }
+    ensures kept { vector.new ≡ record vector.old {
+      e = vector.new.e;
+      cr = vector.new.cr;
+      ir = vector.new.ir;
+      ar = vector.new.ar;
+      mav = vector.new.mav;
+      mac = vector.new.mac;
+      mat = vector.new.mat;
+      mpr = vector.new.mpr;
+      mui = vector.new.mui;
+      mvc = vector.new.mvc;
+      mvi = vector.new.mvi;
+      mva = vector.new.mva;
+      msc = vector.new.msc;
+      msi = vector.new.msi;
+      msa = vector.new.msa;
+      s = vector.new.s;
+      au = vector.new.au;
+      r = vector.new.r;
+      v = vector.new.v;
+      re = vector.new.re;
+    } }
+{
+    let text = threat_at_sight(vector, text);
+    let text = modified_at_sight(vector, text);
     supplemental_at_sight(vector, text)
 }
 
-/// The vector with the base metrics with which a text begins.
+/// The vector with the base metrics with which a text begins, if all of them do.
 #[inline(always)]
-fn base_at_sight(vector: Vector, text: &[u8]) -> (Vector, &[u8])
-    ensures text { text.now ≡ slashed_texts v4 result.0
-        (AV ∷ AC ∷ AT ∷ PR ∷ UI ∷ VC ∷ VI ∷ VA ∷ SC ∷ SI ∷ SA ∷ []) ++ result.1.now }
-    ensures kept { result.0 ≡ record vector {
-      av = result.0.av;
-      ac = result.0.ac;
-      at = result.0.at;
-      pr = result.0.pr;
-      ui = result.0.ui;
-      vc = result.0.vc;
-      vi = result.0.vi;
-      va = result.0.va;
-      sc = result.0.sc;
-      si = result.0.si;
-      sa = result.0.sa;
-    } }
+fn base_at_sight(vector: Vector, text: &[u8]) -> Option<(Vector, &[u8])>
+    ensures text { IfSome result (λ read. text.now
+        ≡ slashed_texts v4 read.0
+        (AV ∷ AC ∷ AT ∷ PR ∷ UI ∷ VC ∷ VI ∷ VA ∷ SC ∷ SI ∷ SA ∷ []) ++ read.1.now) }
+    ensures kept { IfSome result (λ read. read.0 ≡ record vector {
+      av = read.0.av;
+      ac = read.0.ac;
+      at = read.0.at;
+      pr = read.0.pr;
+      ui = read.0.ui;
+      vc = read.0.vc;
+      vi = read.0.vi;
+      va = read.0.va;
+      sc = read.0.sc;
+      si = read.0.si;
+      sa = read.0.sa;
+    }) }
 {
-    let (vector, text) = attack_at_sight(vector, text);
+    let (vector, text) = attack_at_sight(vector, text)?;
     impact_at_sight(vector, text)
 }
 
-/// The vector with the modified metrics with which a text begins.
+/// Puts the modified metrics with which a text begins into the vector, and gives what stands behind
+/// them.
 #[inline(always)]
-fn modified_at_sight(vector: Vector, text: &[u8]) -> (Vector, &[u8])
-    ensures text { text.now ≡ slashed_texts v4 result.0
-        (MAV ∷ MAC ∷ MAT ∷ MPR ∷ MUI ∷ MVC ∷ MVI ∷ MVA ∷ MSC ∷ MSI ∷ MSA ∷ []) ++ result.1.now }
-    ensures kept { result.0 ≡ record vector {
-      mav = result.0.mav;
-      mac = result.0.mac;
-      mat = result.0.mat;
-      mpr = result.0.mpr;
-      mui = result.0.mui;
-      mvc = result.0.mvc;
-      mvi = result.0.mvi;
-      mva = result.0.mva;
-      msc = result.0.msc;
-      msi = result.0.msi;
-      msa = result.0.msa;
+fn modified_at_sight<'a>(vector: &mut Vector, text: &'a [u8]) -> &'a [u8]
+    ensures text { text.now ≡ slashed_texts v4 vector.new
+        (MAV ∷ MAC ∷ MAT ∷ MPR ∷ MUI ∷ MVC ∷ MVI ∷ MVA ∷ MSC ∷ MSI ∷ MSA ∷ []) ++ result.now }
+    ensures kept { vector.new ≡ record vector.old {
+      mav = vector.new.mav;
+      mac = vector.new.mac;
+      mat = vector.new.mat;
+      mpr = vector.new.mpr;
+      mui = vector.new.mui;
+      mvc = vector.new.mvc;
+      mvi = vector.new.mvi;
+      mva = vector.new.mva;
+      msc = vector.new.msc;
+      msi = vector.new.msi;
+      msa = vector.new.msa;
     } }
 {
-    let (vector, text) = modified_attack_at_sight(vector, text);
+    let text = modified_attack_at_sight(vector, text);
     modified_impact_at_sight(vector, text)
 }
 
-/// The vector with the metrics of how the attack is made with which a text begins.
+/// The vector with the metrics of how the attack is made with which a text begins, if all of them do.
 #[inline(always)]
-fn attack_at_sight(vector: Vector, text: &[u8]) -> (Vector, &[u8])
-    ensures text { text.now ≡ slashed_texts v4 result.0
-        (AV ∷ AC ∷ AT ∷ PR ∷ UI ∷ []) ++ result.1.now }
-    ensures kept { result.0 ≡ record vector {
-      av = result.0.av;
-      ac = result.0.ac;
-      at = result.0.at;
-      pr = result.0.pr;
-      ui = result.0.ui;
-    } }
-{
-    let (av, text) = metric_at_sight(text);
-    let (ac, text) = metric_at_sight(text);
-    let (at, text) = metric_at_sight(text);
-    let (pr, text) = metric_at_sight(text);
-    let (ui, text) = metric_at_sight(text);
-    let vector = Vector {
-        av,
-        ac,
-        at,
-        pr,
-        ui,
-        ..vector
-    };
-    (vector, text)
-}
-
-/// The vector with the impacts with which a text begins.
-#[inline(always)]
-fn impact_at_sight(vector: Vector, text: &[u8]) -> (Vector, &[u8])
-    ensures text { text.now ≡ slashed_texts v4 result.0
-        (VC ∷ VI ∷ VA ∷ SC ∷ SI ∷ SA ∷ []) ++ result.1.now }
-    ensures kept { result.0 ≡ record vector {
-      vc = result.0.vc;
-      vi = result.0.vi;
-      va = result.0.va;
-      sc = result.0.sc;
-      si = result.0.si;
-      sa = result.0.sa;
-    } }
-{
-    let (vc, text) = metric_at_sight(text);
-    let (vi, text) = metric_at_sight(text);
-    let (va, text) = metric_at_sight(text);
-    let (sc, text) = metric_at_sight(text);
-    let (si, text) = metric_at_sight(text);
-    let (sa, text) = metric_at_sight(text);
-    let vector = Vector {
-        vc,
-        vi,
-        va,
-        sc,
-        si,
-        sa,
-        ..vector
-    };
-    (vector, text)
-}
-
-/// The vector with the threat metric and the security requirements with which a text begins.
-#[inline(always)]
-fn threat_at_sight(vector: Vector, text: &[u8]) -> (Vector, &[u8])
-    ensures text { text.now ≡ slashed_texts v4 result.0
-        (E ∷ CR ∷ IR ∷ AR ∷ []) ++ result.1.now }
-    ensures kept { result.0 ≡ record vector {
-      e = result.0.e;
-      cr = result.0.cr;
-      ir = result.0.ir;
-      ar = result.0.ar;
-    } }
-{
-    let (e, text) = metric_at_sight(text);
-    let (cr, text) = metric_at_sight(text);
-    let (ir, text) = metric_at_sight(text);
-    let (ar, text) = metric_at_sight(text);
-    let vector = Vector {
-        e,
-        cr,
-        ir,
-        ar,
-        ..vector
-    };
-    (vector, text)
-}
-
-/// The vector with the modified metrics of how the attack is made with which a text begins.
-#[inline(always)]
-fn modified_attack_at_sight(vector: Vector, text: &[u8]) -> (Vector, &[u8])
-    ensures text { text.now ≡ slashed_texts v4 result.0
-        (MAV ∷ MAC ∷ MAT ∷ MPR ∷ MUI ∷ []) ++ result.1.now }
-    ensures kept { result.0 ≡ record vector {
-      mav = result.0.mav;
-      mac = result.0.mac;
-      mat = result.0.mat;
-      mpr = result.0.mpr;
-      mui = result.0.mui;
-    } }
-{
-    let (mav, text) = metric_at_sight(text);
-    let (mac, text) = metric_at_sight(text);
-    let (mat, text) = metric_at_sight(text);
-    let (mpr, text) = metric_at_sight(text);
-    let (mui, text) = metric_at_sight(text);
-    let vector = Vector {
-        mav,
-        mac,
-        mat,
-        mpr,
-        mui,
-        ..vector
-    };
-    (vector, text)
-}
-
-/// The vector with the modified impacts with which a text begins.
-#[inline(always)]
-fn modified_impact_at_sight(vector: Vector, text: &[u8]) -> (Vector, &[u8])
-    ensures text { text.now ≡ slashed_texts v4 result.0
-        (MVC ∷ MVI ∷ MVA ∷ MSC ∷ MSI ∷ MSA ∷ []) ++ result.1.now }
-    ensures kept { result.0 ≡ record vector {
-      mvc = result.0.mvc;
-      mvi = result.0.mvi;
-      mva = result.0.mva;
-      msc = result.0.msc;
-      msi = result.0.msi;
-      msa = result.0.msa;
-    } }
-{
-    let (mvc, text) = metric_at_sight(text);
-    let (mvi, text) = metric_at_sight(text);
-    let (mva, text) = metric_at_sight(text);
-    let (msc, text) = metric_at_sight(text);
-    let (msi, text) = metric_at_sight(text);
-    let (msa, text) = metric_at_sight(text);
-    let vector = Vector {
-        mvc,
-        mvi,
-        mva,
-        msc,
-        msi,
-        msa,
-        ..vector
-    };
-    (vector, text)
-}
-
-/// The vector with the supplemental metrics, if those are the whole text.
-#[inline(always)]
-fn supplemental_at_sight(vector: Vector, text: &[u8]) -> Option<Vector>
-    ensures text { IfSome result
-        (λ read. text.now ≡ slashed_texts v4 read (S ∷ AU ∷ R ∷ V ∷ RE ∷ U ∷ [])) }
-    ensures kept { IfSome result (λ read. read ≡ record vector {
-      s = read.s;
-      au = read.au;
-      r = read.r;
-      v = read.v;
-      re = read.re;
-      u = read.u;
+fn attack_at_sight(vector: Vector, text: &[u8]) -> Option<(Vector, &[u8])>
+    ensures text { IfSome result (λ read. text.now
+        ≡ slashed_texts v4 read.0 (AV ∷ AC ∷ AT ∷ PR ∷ UI ∷ []) ++ read.1.now) }
+    ensures kept { IfSome result (λ read. read.0 ≡ record vector {
+      av = read.0.av;
+      ac = read.0.ac;
+      at = read.0.at;
+      pr = read.0.pr;
+      ui = read.0.ui;
     }) }
 {
-    let (s, text) = metric_at_sight(text);
-    let (au, text) = metric_at_sight(text);
-    let (r, text) = metric_at_sight(text);
-    let (v, text) = metric_at_sight(text);
-    let (re, text) = metric_at_sight(text);
-    let u = urgency_at_sight(text)?;
-    Some(Vector {
-        s,
-        au,
-        r,
-        v,
-        re,
-        u,
+    let (av, text) = component_at_sight(text)?;
+    let (ac, text) = component_at_sight(text)?;
+    let (at, text) = component_at_sight(text)?;
+    let (pr, text) = component_at_sight(text)?;
+    let (ui, text) = component_at_sight(text)?;
+    let vector = Vector {
+        av: Some(av),
+        ac: Some(ac),
+        at: Some(at),
+        pr: Some(pr),
+        ui: Some(ui),
         ..vector
-    })
+    };
+    Some((vector, text))
+}
+
+/// The vector with the impacts with which a text begins, if all of them do.
+#[inline(always)]
+fn impact_at_sight(vector: Vector, text: &[u8]) -> Option<(Vector, &[u8])>
+    ensures text { IfSome result (λ read. text.now
+        ≡ slashed_texts v4 read.0 (VC ∷ VI ∷ VA ∷ SC ∷ SI ∷ SA ∷ []) ++ read.1.now) }
+    ensures kept { IfSome result (λ read. read.0 ≡ record vector {
+      vc = read.0.vc;
+      vi = read.0.vi;
+      va = read.0.va;
+      sc = read.0.sc;
+      si = read.0.si;
+      sa = read.0.sa;
+    }) }
+{
+    let (vc, text) = component_at_sight(text)?;
+    let (vi, text) = component_at_sight(text)?;
+    let (va, text) = component_at_sight(text)?;
+    let (sc, text) = component_at_sight(text)?;
+    let (si, text) = component_at_sight(text)?;
+    let (sa, text) = component_at_sight(text)?;
+    let vector = Vector {
+        vc: Some(vc),
+        vi: Some(vi),
+        va: Some(va),
+        sc: Some(sc),
+        si: Some(si),
+        sa: Some(sa),
+        ..vector
+    };
+    Some((vector, text))
+}
+
+/// Puts the threat metric and the security requirements with which a text begins into the vector, and gives what stands behind
+/// them.
+#[inline(always)]
+fn threat_at_sight<'a>(vector: &mut Vector, text: &'a [u8]) -> &'a [u8]
+    ensures text { text.now ≡ slashed_texts v4 vector.new (E ∷ CR ∷ IR ∷ AR ∷ []) ++ result.now }
+    ensures kept { vector.new ≡ record vector.old {
+      e = vector.new.e;
+      cr = vector.new.cr;
+      ir = vector.new.ir;
+      ar = vector.new.ar;
+    } }
+{
+    let text = put_at_sight(&mut vector.e, text);
+    let text = put_at_sight(&mut vector.cr, text);
+    let text = put_at_sight(&mut vector.ir, text);
+    put_at_sight(&mut vector.ar, text)
+}
+
+/// Puts the modified metrics of how the attack is made with which a text begins into the vector, and gives what stands behind
+/// them.
+#[inline(always)]
+fn modified_attack_at_sight<'a>(vector: &mut Vector, text: &'a [u8]) -> &'a [u8]
+    ensures text { text.now ≡ slashed_texts v4 vector.new
+        (MAV ∷ MAC ∷ MAT ∷ MPR ∷ MUI ∷ []) ++ result.now }
+    ensures kept { vector.new ≡ record vector.old {
+      mav = vector.new.mav;
+      mac = vector.new.mac;
+      mat = vector.new.mat;
+      mpr = vector.new.mpr;
+      mui = vector.new.mui;
+    } }
+{
+    let text = put_at_sight(&mut vector.mav, text);
+    let text = put_at_sight(&mut vector.mac, text);
+    let text = put_at_sight(&mut vector.mat, text);
+    let text = put_at_sight(&mut vector.mpr, text);
+    put_at_sight(&mut vector.mui, text)
+}
+
+/// Puts the modified impacts with which a text begins into the vector, and gives what stands behind
+/// them.
+#[inline(always)]
+fn modified_impact_at_sight<'a>(vector: &mut Vector, text: &'a [u8]) -> &'a [u8]
+    ensures text { text.now ≡ slashed_texts v4 vector.new
+        (MVC ∷ MVI ∷ MVA ∷ MSC ∷ MSI ∷ MSA ∷ []) ++ result.now }
+    ensures kept { vector.new ≡ record vector.old {
+      mvc = vector.new.mvc;
+      mvi = vector.new.mvi;
+      mva = vector.new.mva;
+      msc = vector.new.msc;
+      msi = vector.new.msi;
+      msa = vector.new.msa;
+    } }
+{
+    let text = put_at_sight(&mut vector.mvc, text);
+    let text = put_at_sight(&mut vector.mvi, text);
+    let text = put_at_sight(&mut vector.mva, text);
+    let text = put_at_sight(&mut vector.msc, text);
+    let text = put_at_sight(&mut vector.msi, text);
+    put_at_sight(&mut vector.msa, text)
+}
+
+/// Puts the supplemental metrics but for the last with which a text begins into the vector, and gives what stands behind
+/// them.
+#[inline(always)]
+fn supplemental_at_sight<'a>(vector: &mut Vector, text: &'a [u8]) -> &'a [u8]
+    ensures text { text.now ≡ slashed_texts v4 vector.new
+        (S ∷ AU ∷ R ∷ V ∷ RE ∷ []) ++ result.now }
+    ensures kept { vector.new ≡ record vector.old {
+      s = vector.new.s;
+      au = vector.new.au;
+      r = vector.new.r;
+      v = vector.new.v;
+      re = vector.new.re;
+    } }
+{
+    let text = put_at_sight(&mut vector.s, text);
+    let text = put_at_sight(&mut vector.au, text);
+    let text = put_at_sight(&mut vector.r, text);
+    let text = put_at_sight(&mut vector.v, text);
+    put_at_sight(&mut vector.re, text)
 }
 
 /// The provider's urgency, if a slash and its component are the whole text, or none if nothing is.
@@ -299,16 +303,22 @@ fn urgency_at_sight(text: &[u8]) -> Option<Option<ProviderUrgency>>
     }
 }
 
-/// The value of a metric, if a text begins with a slash and its component, and what stands behind
-/// that; else the text.
+/// Puts the value of a metric into its place, if a text begins with a slash and its component, and
+/// gives what stands behind that; else no value, and the text.
 #[inline(always)]
-fn metric_at_sight<M: Metric>(text: &[u8]) -> (Option<M>, &[u8])
+fn put_at_sight<'a, M: Metric>(place: &mut Option<M>, text: &'a [u8]) -> &'a [u8]
     ensures { text.now ≡ unwrap_or (slashed (option_map (component (name_of M.TYPE))
-        (option_map M.spelling result.0))) [] ++ result.1.now }
+        (option_map M.spelling place.new))) [] ++ result.now }
 {
     match component_at_sight(text) {
-        Some((metric, rest)) => (Some(metric), rest),
-        None => (None, text),
+        Some((metric, rest)) => {
+            *place = Some(metric);
+            rest
+        }
+        None => {
+            *place = None;
+            text
+        }
     }
 }
 
