@@ -1,7 +1,7 @@
 #!/usr/bin/env python3
 """Answers the texts of the kit by the Python package of this repository, and so by its C library.
 
-columns: canonical,version,score,temporal,environmental,nomenclature,rating,kind
+columns: canonical,version,score,temporal,environmental,nomenclature,rating,temporal_rating,environmental_rating,complete,kind
 """
 import sys
 from pathlib import Path
@@ -24,8 +24,9 @@ def answer(text):
     except CvssError as refusal:
         return f"error: {kind_of(str(refusal))}"
     scores = map(column, vector.scores)
-    nomenclature = vector.nomenclature or "-"
-    return " ".join([str(vector), vector.version, *scores, nomenclature, vector.severity])
+    ratings = (rating or "-" for rating in vector.severities)
+    complete = "yes" if vector.is_complete else "no"
+    return " ".join([str(vector), vector.version, *scores, vector.nomenclature or "-", *ratings, complete])
 
 
 def main():
