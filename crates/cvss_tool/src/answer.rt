@@ -36,11 +36,7 @@ pub(crate) fn answer_line(
 }
 
 /// The same for a line that is not seen at once to be canonical.
-fn answer_other_line(
-    alloc: Global,
-    line: &[u8],
-    answers: &mut Gathered,
-) -> Result<bool, fmt::Error>
+fn answer_other_line(alloc: Global, line: &[u8], answers: &mut Gathered) -> Result<bool, fmt::Error>
     ensures { IfOk result
         (WritesAnswer line.now answers.old.bytes.items answers.new.bytes.items) }
 {
