@@ -28,8 +28,8 @@ impl Cvss {
     }
 }
 
-// A call of its own for each version keeps the vectors apart: joined in one place, each would be laid
-// out byte by byte as any of the four.
+// A call of its own for each version keeps the vectors apart: joined in one place, each would be
+// laid out byte by byte as any of the four.
 #[inline(never)]
 fn v2_at_sight(text: &[u8]) -> Option<Cvss>
     ensures canonical { IfSome result (λ cvss. text.now ≡ text_of cvss) }

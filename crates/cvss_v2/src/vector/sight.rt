@@ -1,6 +1,6 @@
-//! How a canonical text is recognised: its components stand in printing order, each as it is printed,
-//! so that the text is gone through once, with no cutting and no searching. The other way, by
-//! components in any order, is `reading`.
+//! How a canonical text is recognised: its components stand in printing order, each as it is
+//! printed, so that the text is gone through once, with no cutting and no searching. The other
+//! way, by components in any order, is `reading`.
 
 ghost use Rattle.std.specs.Prelude.{◌≡◌, IfSome, [], ◌∷◌, ◌++◌, option_map, unwrap_or};
 ghost use Rattle.cvss_base.specs.Printing.{slashed, slashed_texts};
@@ -87,24 +87,36 @@ fn base_at_sight(text: &[u8]) -> Option<(Vector, &[u8])>
     Some((base, text))
 }
 
-/// Puts the temporal metrics with which a text begins into the vector, and gives what stands behind them.
+/// Puts the temporal metrics with which a text begins into the vector, and gives what stands behind
+/// them.
 #[inline(always)]
 fn temporal_at_sight<'a>(vector: &mut Vector, text: &'a [u8]) -> &'a [u8]
     ensures text { text.now
         ≡ slashed_texts v2 vector.new (E ∷ RL ∷ RC ∷ []) ++ result.now }
-    ensures kept { vector.new ≡ record vector.old { e = vector.new.e; rl = vector.new.rl; rc = vector.new.rc } }
+    ensures kept { vector.new ≡ record vector.old {
+      e = vector.new.e;
+      rl = vector.new.rl;
+      rc = vector.new.rc;
+    } }
 {
     let text = optional_at_sight(&mut vector.e, text);
     let text = optional_at_sight(&mut vector.rl, text);
     optional_at_sight(&mut vector.rc, text)
 }
 
-/// Puts the environmental metrics with which a text begins into the vector, and gives what stands behind them.
+/// Puts the environmental metrics with which a text begins into the vector, and gives what stands
+/// behind them.
 #[inline(always)]
 fn environmental_at_sight<'a>(vector: &mut Vector, text: &'a [u8]) -> &'a [u8]
     ensures text { text.now
         ≡ slashed_texts v2 vector.new (CDP ∷ TD ∷ CR ∷ IR ∷ AR ∷ []) ++ result.now }
-    ensures kept { vector.new ≡ record vector.old { cdp = vector.new.cdp; td = vector.new.td; cr = vector.new.cr; ir = vector.new.ir; ar = vector.new.ar } }
+    ensures kept { vector.new ≡ record vector.old {
+      cdp = vector.new.cdp;
+      td = vector.new.td;
+      cr = vector.new.cr;
+      ir = vector.new.ir;
+      ar = vector.new.ar;
+    } }
 {
     let text = optional_at_sight(&mut vector.cdp, text);
     let text = optional_at_sight(&mut vector.td, text);

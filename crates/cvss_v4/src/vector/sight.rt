@@ -1,21 +1,26 @@
-//! How a canonical text is recognised: its components stand in printing order, each as it is printed,
-//! so that the text is gone through once, with no cutting and no searching. The other way, by
-//! components in any order and any case, is `reading`.
+//! How a canonical text is recognised: its components stand in printing order, each as it is
+//! printed, so that the text is gone through once, with no cutting and no searching. The other
+//! way, by components in any order and any case, is `reading`.
 
 ghost use Rattle.std.specs.Prelude.{◌≡◌, IfSome, [], ◌∷◌, ◌++◌, codes, option_map, unwrap_or};
 ghost use Rattle.cvss_base.specs.Printing.{slashed, slashed_texts};
 ghost use Rattle.cvss_base.specs.Text.{slash, colon, component};
 ghost use Rattle.cvss_base.specs.V4Types.{name_of};
 ghost use Rattle.cvss_base.specs.Version.{canonical_text, version_piece, IsWellFormed};
-ghost use Rattle.cvss_base.specs.declared.v4.MetricType.TheVariants.{AC, AT, AV, PR, SA, SC, SI, UI, VA, VC, VI, E, AR, CR, IR, MAC, MAT, MAV, MPR, MSA, MSC, MSI, MUI, MVA, MVC, MVI, AU, R, RE, S, U, V};
+ghost use Rattle.cvss_base.specs.declared.v4.MetricType.TheVariants.{U};
 ghost use Rattle.cvss_v4_metric.specs.Spellings.{provider_urgency_spelling};
 ghost use Rattle.cvss_v4_metric.specs.Table.{printed};
 ghost use Rattle.cvss_v4.specs.Vector.{v4};
 
+mod base;
+mod optional;
+
 use crate::metric::supplemental::ProviderUrgency;
 use crate::metric::{Metric, MetricType};
 use crate::vector::Vector;
+use base::base_at_sight;
 use cvss_base::walk::Components;
+use optional::others_at_sight;
 
 impl Vector {
     /// The vector whose canonical text this is, where that is seen at once: `None` tells nothing of
@@ -54,234 +59,6 @@ fn metrics_at_sight(text: &[u8]) -> Option<Vector>
     let rest = others_at_sight(&mut vector, text);
     let u = urgency_at_sight(rest)?;
     Some(Vector { u, ..vector })
-}
-
-/// Puts the optional metrics but for the last with which a text begins into the vector, and gives what stands behind
-/// them.
-// A call of its own keeps the vector in memory, where each metric is stored once.
-#[inline(never)]
-fn others_at_sight<'a>(vector: &mut Vector, text: &'a [u8]) -> &'a [u8]
-    ensures text { text.now ≡ slashed_texts v4 vector.new
-        (E ∷ CR ∷ IR ∷ AR ∷ MAV ∷ MAC ∷ MAT ∷ MPR ∷ MUI ∷ MVC ∷ MVI ∷ MVA ∷ MSC ∷ MSI ∷ MSA ∷
-        S ∷ AU ∷ R ∷ V ∷ RE ∷ []) ++ result.now }
-    ensures kept { vector.new ≡ record vector.old {
-      e = vector.new.e;
-      cr = vector.new.cr;
-      ir = vector.new.ir;
-      ar = vector.new.ar;
-      mav = vector.new.mav;
-      mac = vector.new.mac;
-      mat = vector.new.mat;
-      mpr = vector.new.mpr;
-      mui = vector.new.mui;
-      mvc = vector.new.mvc;
-      mvi = vector.new.mvi;
-      mva = vector.new.mva;
-      msc = vector.new.msc;
-      msi = vector.new.msi;
-      msa = vector.new.msa;
-      s = vector.new.s;
-      au = vector.new.au;
-      r = vector.new.r;
-      v = vector.new.v;
-      re = vector.new.re;
-    } }
-{
-    let text = threat_at_sight(vector, text);
-    let text = modified_at_sight(vector, text);
-    supplemental_at_sight(vector, text)
-}
-
-/// The vector with the base metrics with which a text begins, if all of them do.
-#[inline(always)]
-fn base_at_sight(vector: Vector, text: &[u8]) -> Option<(Vector, &[u8])>
-    ensures text { IfSome result (λ read. text.now
-        ≡ slashed_texts v4 read.0
-        (AV ∷ AC ∷ AT ∷ PR ∷ UI ∷ VC ∷ VI ∷ VA ∷ SC ∷ SI ∷ SA ∷ []) ++ read.1.now) }
-    ensures kept { IfSome result (λ read. read.0 ≡ record vector {
-      av = read.0.av;
-      ac = read.0.ac;
-      at = read.0.at;
-      pr = read.0.pr;
-      ui = read.0.ui;
-      vc = read.0.vc;
-      vi = read.0.vi;
-      va = read.0.va;
-      sc = read.0.sc;
-      si = read.0.si;
-      sa = read.0.sa;
-    }) }
-{
-    let (vector, text) = attack_at_sight(vector, text)?;
-    impact_at_sight(vector, text)
-}
-
-/// Puts the modified metrics with which a text begins into the vector, and gives what stands behind
-/// them.
-#[inline(always)]
-fn modified_at_sight<'a>(vector: &mut Vector, text: &'a [u8]) -> &'a [u8]
-    ensures text { text.now ≡ slashed_texts v4 vector.new
-        (MAV ∷ MAC ∷ MAT ∷ MPR ∷ MUI ∷ MVC ∷ MVI ∷ MVA ∷ MSC ∷ MSI ∷ MSA ∷ []) ++ result.now }
-    ensures kept { vector.new ≡ record vector.old {
-      mav = vector.new.mav;
-      mac = vector.new.mac;
-      mat = vector.new.mat;
-      mpr = vector.new.mpr;
-      mui = vector.new.mui;
-      mvc = vector.new.mvc;
-      mvi = vector.new.mvi;
-      mva = vector.new.mva;
-      msc = vector.new.msc;
-      msi = vector.new.msi;
-      msa = vector.new.msa;
-    } }
-{
-    let text = modified_attack_at_sight(vector, text);
-    modified_impact_at_sight(vector, text)
-}
-
-/// The vector with the metrics of how the attack is made with which a text begins, if all of them do.
-#[inline(always)]
-fn attack_at_sight(vector: Vector, text: &[u8]) -> Option<(Vector, &[u8])>
-    ensures text { IfSome result (λ read. text.now
-        ≡ slashed_texts v4 read.0 (AV ∷ AC ∷ AT ∷ PR ∷ UI ∷ []) ++ read.1.now) }
-    ensures kept { IfSome result (λ read. read.0 ≡ record vector {
-      av = read.0.av;
-      ac = read.0.ac;
-      at = read.0.at;
-      pr = read.0.pr;
-      ui = read.0.ui;
-    }) }
-{
-    let (av, text) = component_at_sight(text)?;
-    let (ac, text) = component_at_sight(text)?;
-    let (at, text) = component_at_sight(text)?;
-    let (pr, text) = component_at_sight(text)?;
-    let (ui, text) = component_at_sight(text)?;
-    let vector = Vector {
-        av: Some(av),
-        ac: Some(ac),
-        at: Some(at),
-        pr: Some(pr),
-        ui: Some(ui),
-        ..vector
-    };
-    Some((vector, text))
-}
-
-/// The vector with the impacts with which a text begins, if all of them do.
-#[inline(always)]
-fn impact_at_sight(vector: Vector, text: &[u8]) -> Option<(Vector, &[u8])>
-    ensures text { IfSome result (λ read. text.now
-        ≡ slashed_texts v4 read.0 (VC ∷ VI ∷ VA ∷ SC ∷ SI ∷ SA ∷ []) ++ read.1.now) }
-    ensures kept { IfSome result (λ read. read.0 ≡ record vector {
-      vc = read.0.vc;
-      vi = read.0.vi;
-      va = read.0.va;
-      sc = read.0.sc;
-      si = read.0.si;
-      sa = read.0.sa;
-    }) }
-{
-    let (vc, text) = component_at_sight(text)?;
-    let (vi, text) = component_at_sight(text)?;
-    let (va, text) = component_at_sight(text)?;
-    let (sc, text) = component_at_sight(text)?;
-    let (si, text) = component_at_sight(text)?;
-    let (sa, text) = component_at_sight(text)?;
-    let vector = Vector {
-        vc: Some(vc),
-        vi: Some(vi),
-        va: Some(va),
-        sc: Some(sc),
-        si: Some(si),
-        sa: Some(sa),
-        ..vector
-    };
-    Some((vector, text))
-}
-
-/// Puts the threat metric and the security requirements with which a text begins into the vector, and gives what stands behind
-/// them.
-#[inline(always)]
-fn threat_at_sight<'a>(vector: &mut Vector, text: &'a [u8]) -> &'a [u8]
-    ensures text { text.now ≡ slashed_texts v4 vector.new (E ∷ CR ∷ IR ∷ AR ∷ []) ++ result.now }
-    ensures kept { vector.new ≡ record vector.old {
-      e = vector.new.e;
-      cr = vector.new.cr;
-      ir = vector.new.ir;
-      ar = vector.new.ar;
-    } }
-{
-    let text = put_at_sight(&mut vector.e, text);
-    let text = put_at_sight(&mut vector.cr, text);
-    let text = put_at_sight(&mut vector.ir, text);
-    put_at_sight(&mut vector.ar, text)
-}
-
-/// Puts the modified metrics of how the attack is made with which a text begins into the vector, and gives what stands behind
-/// them.
-#[inline(always)]
-fn modified_attack_at_sight<'a>(vector: &mut Vector, text: &'a [u8]) -> &'a [u8]
-    ensures text { text.now ≡ slashed_texts v4 vector.new
-        (MAV ∷ MAC ∷ MAT ∷ MPR ∷ MUI ∷ []) ++ result.now }
-    ensures kept { vector.new ≡ record vector.old {
-      mav = vector.new.mav;
-      mac = vector.new.mac;
-      mat = vector.new.mat;
-      mpr = vector.new.mpr;
-      mui = vector.new.mui;
-    } }
-{
-    let text = put_at_sight(&mut vector.mav, text);
-    let text = put_at_sight(&mut vector.mac, text);
-    let text = put_at_sight(&mut vector.mat, text);
-    let text = put_at_sight(&mut vector.mpr, text);
-    put_at_sight(&mut vector.mui, text)
-}
-
-/// Puts the modified impacts with which a text begins into the vector, and gives what stands behind
-/// them.
-#[inline(always)]
-fn modified_impact_at_sight<'a>(vector: &mut Vector, text: &'a [u8]) -> &'a [u8]
-    ensures text { text.now ≡ slashed_texts v4 vector.new
-        (MVC ∷ MVI ∷ MVA ∷ MSC ∷ MSI ∷ MSA ∷ []) ++ result.now }
-    ensures kept { vector.new ≡ record vector.old {
-      mvc = vector.new.mvc;
-      mvi = vector.new.mvi;
-      mva = vector.new.mva;
-      msc = vector.new.msc;
-      msi = vector.new.msi;
-      msa = vector.new.msa;
-    } }
-{
-    let text = put_at_sight(&mut vector.mvc, text);
-    let text = put_at_sight(&mut vector.mvi, text);
-    let text = put_at_sight(&mut vector.mva, text);
-    let text = put_at_sight(&mut vector.msc, text);
-    let text = put_at_sight(&mut vector.msi, text);
-    put_at_sight(&mut vector.msa, text)
-}
-
-/// Puts the supplemental metrics but for the last with which a text begins into the vector, and gives what stands behind
-/// them.
-#[inline(always)]
-fn supplemental_at_sight<'a>(vector: &mut Vector, text: &'a [u8]) -> &'a [u8]
-    ensures text { text.now ≡ slashed_texts v4 vector.new
-        (S ∷ AU ∷ R ∷ V ∷ RE ∷ []) ++ result.now }
-    ensures kept { vector.new ≡ record vector.old {
-      s = vector.new.s;
-      au = vector.new.au;
-      r = vector.new.r;
-      v = vector.new.v;
-      re = vector.new.re;
-    } }
-{
-    let text = put_at_sight(&mut vector.s, text);
-    let text = put_at_sight(&mut vector.au, text);
-    let text = put_at_sight(&mut vector.r, text);
-    let text = put_at_sight(&mut vector.v, text);
-    put_at_sight(&mut vector.re, text)
 }
 
 /// The provider's urgency, if a slash and its component are the whole text, or none if nothing is.

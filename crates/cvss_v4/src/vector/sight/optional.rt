@@ -1,0 +1,152 @@
+//! The optional metrics of a text that is recognised.
+
+ghost use Rattle.std.specs.Prelude.{◌≡◌, [], ◌∷◌, ◌++◌};
+ghost use Rattle.cvss_base.specs.Printing.{slashed_texts};
+ghost use Rattle.cvss_base.specs.declared.v4.MetricType.TheVariants.{E, AR, CR, IR, MAC, MAT, MAV, MPR, MSA, MSC, MSI, MUI, MVA, MVC, MVI, AU, R, RE, S, V};
+ghost use Rattle.cvss_v4.specs.Vector.{v4};
+
+use super::put_at_sight;
+use crate::vector::Vector;
+
+/// Puts the optional metrics but for the last with which a text begins into the vector, and gives
+/// what stands behind them.
+// A call of its own keeps the vector in memory, where each metric is stored once.
+#[inline(never)]
+pub(super) fn others_at_sight<'a>(vector: &mut Vector, text: &'a [u8]) -> &'a [u8]
+    ensures text { text.now ≡ slashed_texts v4 vector.new
+        (E ∷ CR ∷ IR ∷ AR ∷ MAV ∷ MAC ∷ MAT ∷ MPR ∷ MUI ∷ MVC ∷ MVI ∷ MVA ∷ MSC ∷ MSI ∷ MSA ∷
+        S ∷ AU ∷ R ∷ V ∷ RE ∷ []) ++ result.now }
+    ensures kept { vector.new ≡ record vector.old {
+      e = vector.new.e;
+      cr = vector.new.cr;
+      ir = vector.new.ir;
+      ar = vector.new.ar;
+      mav = vector.new.mav;
+      mac = vector.new.mac;
+      mat = vector.new.mat;
+      mpr = vector.new.mpr;
+      mui = vector.new.mui;
+      mvc = vector.new.mvc;
+      mvi = vector.new.mvi;
+      mva = vector.new.mva;
+      msc = vector.new.msc;
+      msi = vector.new.msi;
+      msa = vector.new.msa;
+      s = vector.new.s;
+      au = vector.new.au;
+      r = vector.new.r;
+      v = vector.new.v;
+      re = vector.new.re;
+    } }
+{
+    let text = threat_at_sight(vector, text);
+    let text = modified_at_sight(vector, text);
+    supplemental_at_sight(vector, text)
+}
+
+/// Puts the threat metric and the security requirements with which a text begins into the vector,
+/// and gives what stands behind them.
+#[inline(always)]
+fn threat_at_sight<'a>(vector: &mut Vector, text: &'a [u8]) -> &'a [u8]
+    ensures text { text.now ≡ slashed_texts v4 vector.new (E ∷ CR ∷ IR ∷ AR ∷ []) ++ result.now }
+    ensures kept { vector.new ≡ record vector.old {
+      e = vector.new.e;
+      cr = vector.new.cr;
+      ir = vector.new.ir;
+      ar = vector.new.ar;
+    } }
+{
+    let text = put_at_sight(&mut vector.e, text);
+    let text = put_at_sight(&mut vector.cr, text);
+    let text = put_at_sight(&mut vector.ir, text);
+    put_at_sight(&mut vector.ar, text)
+}
+
+/// Puts the modified metrics with which a text begins into the vector, and gives what stands behind
+/// them.
+#[inline(always)]
+fn modified_at_sight<'a>(vector: &mut Vector, text: &'a [u8]) -> &'a [u8]
+    ensures text { text.now ≡ slashed_texts v4 vector.new
+        (MAV ∷ MAC ∷ MAT ∷ MPR ∷ MUI ∷ MVC ∷ MVI ∷ MVA ∷ MSC ∷ MSI ∷ MSA ∷ []) ++ result.now }
+    ensures kept { vector.new ≡ record vector.old {
+      mav = vector.new.mav;
+      mac = vector.new.mac;
+      mat = vector.new.mat;
+      mpr = vector.new.mpr;
+      mui = vector.new.mui;
+      mvc = vector.new.mvc;
+      mvi = vector.new.mvi;
+      mva = vector.new.mva;
+      msc = vector.new.msc;
+      msi = vector.new.msi;
+      msa = vector.new.msa;
+    } }
+{
+    let text = modified_attack_at_sight(vector, text);
+    modified_impact_at_sight(vector, text)
+}
+
+/// Puts the modified metrics of how the attack is made with which a text begins into the vector,
+/// and gives what stands behind them.
+#[inline(always)]
+fn modified_attack_at_sight<'a>(vector: &mut Vector, text: &'a [u8]) -> &'a [u8]
+    ensures text { text.now ≡ slashed_texts v4 vector.new
+        (MAV ∷ MAC ∷ MAT ∷ MPR ∷ MUI ∷ []) ++ result.now }
+    ensures kept { vector.new ≡ record vector.old {
+      mav = vector.new.mav;
+      mac = vector.new.mac;
+      mat = vector.new.mat;
+      mpr = vector.new.mpr;
+      mui = vector.new.mui;
+    } }
+{
+    let text = put_at_sight(&mut vector.mav, text);
+    let text = put_at_sight(&mut vector.mac, text);
+    let text = put_at_sight(&mut vector.mat, text);
+    let text = put_at_sight(&mut vector.mpr, text);
+    put_at_sight(&mut vector.mui, text)
+}
+
+/// Puts the modified impacts with which a text begins into the vector, and gives what stands behind
+/// them.
+#[inline(always)]
+fn modified_impact_at_sight<'a>(vector: &mut Vector, text: &'a [u8]) -> &'a [u8]
+    ensures text { text.now ≡ slashed_texts v4 vector.new
+        (MVC ∷ MVI ∷ MVA ∷ MSC ∷ MSI ∷ MSA ∷ []) ++ result.now }
+    ensures kept { vector.new ≡ record vector.old {
+      mvc = vector.new.mvc;
+      mvi = vector.new.mvi;
+      mva = vector.new.mva;
+      msc = vector.new.msc;
+      msi = vector.new.msi;
+      msa = vector.new.msa;
+    } }
+{
+    let text = put_at_sight(&mut vector.mvc, text);
+    let text = put_at_sight(&mut vector.mvi, text);
+    let text = put_at_sight(&mut vector.mva, text);
+    let text = put_at_sight(&mut vector.msc, text);
+    let text = put_at_sight(&mut vector.msi, text);
+    put_at_sight(&mut vector.msa, text)
+}
+
+/// Puts the supplemental metrics but for the last with which a text begins into the vector, and
+/// gives what stands behind them.
+#[inline(always)]
+fn supplemental_at_sight<'a>(vector: &mut Vector, text: &'a [u8]) -> &'a [u8]
+    ensures text { text.now ≡ slashed_texts v4 vector.new
+        (S ∷ AU ∷ R ∷ V ∷ RE ∷ []) ++ result.now }
+    ensures kept { vector.new ≡ record vector.old {
+      s = vector.new.s;
+      au = vector.new.au;
+      r = vector.new.r;
+      v = vector.new.v;
+      re = vector.new.re;
+    } }
+{
+    let text = put_at_sight(&mut vector.s, text);
+    let text = put_at_sight(&mut vector.au, text);
+    let text = put_at_sight(&mut vector.r, text);
+    let text = put_at_sight(&mut vector.v, text);
+    put_at_sight(&mut vector.re, text)
+}
