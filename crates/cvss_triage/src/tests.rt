@@ -189,6 +189,8 @@ fn tells_every_fault(rt: HostRuntime) -> Result<(), Fail> {
             "line 18446744073709551616: not UTF-8",
             Fault::NotText { index: usize::MAX },
         ),
+        ("argument 1: not UTF-8", Fault::ArgumentNotText { index: 0 }),
+        ("argument 2: not UTF-8", Fault::ArgumentNotText { index: 1 }),
         (
             "argument 1: no environmental CVSSv4 metric",
             Fault::Refused(TriageError::NotEnvironmental { index: 0 }),
