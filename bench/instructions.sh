@@ -36,5 +36,8 @@ else
     for version in v2 v3.1 v4; do
         row "$version" base
         row "$version" full
+        row "$version" any
     done
+    row all refused
+    row all mixed
 fi

@@ -1,10 +1,14 @@
 #!/usr/bin/env python3
 """Writes lines of CVSS vectors, drawn at random from the tables of a version.
 
-usage: lines.py v2|v3.0|v3.1|v4 base|full COUNT [SEED]
+usage: lines.py v2|v3.0|v3.1|v4|all base|full|any|refused|mixed COUNT [SEED]
 
-`base` lines have all base metrics, `full` lines also each other metric with an even chance. The
-components stand in printing order. The same seed gives the same lines.
+`base` lines have all base metrics, `full` lines also each other metric with an even chance, both in
+printing order. `any` lines are full lines with the components in any order and, but for v2, in any
+case. `refused` lines are full lines with one fault: a component without its colon, a name or a value
+that there is not, a component twice, or the first component dropped, which only v3 accepts. Of 100
+`mixed` lines 90 are full, 8 any and 2 refused. `all` draws the version of each line. The same seed
+gives the same lines.
 """
 import random
 import sys
@@ -21,17 +25,46 @@ VERSIONS = {
 }
 
 
-def line(draw, version, full):
+def components(draw, version, full):
     front, base, metrics = VERSIONS[version]
     names = [name for name in metrics if name in base or (full and draw.random() < 0.5)]
-    return "/".join(front + [f"{name}:{draw.choice(list(metrics[name][1]))}" for name in names])
+    return front, [f"{name}:{draw.choice(list(metrics[name][1]))}" for name in names]
+
+
+def in_some_case(draw, text):
+    return "".join(draw.choice((letter.lower(), letter.upper())) for letter in text)
+
+
+def with_fault(draw, parts):
+    at = draw.randrange(len(parts))
+    name, value = parts[at].split(":")
+    fault = draw.randrange(5)
+    if fault == 4:
+        return parts[1:]
+    bad = (name + value, f"{name}Q:{value}", f"{name}:{value}Q", f"{parts[at]}/{parts[at]}")[fault]
+    return parts[:at] + [bad] + parts[at + 1:]
+
+
+def line(draw, version, kind):
+    if version == "all":
+        version = draw.choice(list(VERSIONS))
+    if kind == "mixed":
+        kind = draw.choices(("full", "any", "refused"), (90, 8, 2))[0]
+    front, parts = components(draw, version, kind != "base")
+    if kind == "any":
+        draw.shuffle(parts)
+        if version != "v2":
+            parts = [in_some_case(draw, part) for part in parts]
+    if kind == "refused":
+        parts = with_fault(draw, parts)
+    return "/".join(front + parts)
 
 
 def main():
     version, kind, count = sys.argv[1], sys.argv[2], int(sys.argv[3])
     draw = random.Random(int(sys.argv[4]) if len(sys.argv) > 4 else 2)
     for _ in range(count):
-        print(line(draw, version, kind == "full"))
+        print(line(draw, version, kind))
 
 
 if __name__ == "__main__":

@@ -3,15 +3,16 @@
 
 Draws v4 base vectors, runs the program over some of them and over all, and checks that the rows are
 those of the lines, the scores falling and ties by the given texts' bytes. Then each request for
-memory of a short run is refused in turn: nothing may be written then, and the status is 2, or 1 where
-a refusal is told.
-It needs cc, valgrind and python3.
+memory of a short run is refused in turn: nothing may be written then, and the status is 2 and
+standard error says `out of memory`, or 1 and it tells the refusal.
+It needs cc and python3, and for the counts valgrind.
 
 usage: bench/triage.py [COUNT]
 """
 import os
 import random
 import re
+import shutil
 import subprocess
 import sys
 import tempfile
@@ -53,8 +54,11 @@ def refuse(room):
     with open(source, "w", encoding="utf-8") as file:
         file.write(refused_memory.SHIM)
     subprocess.run(["cc", "-shared", "-fPIC", "-O1", "-o", shim, source, "-ldl"], check=True)
+    lacking = (2, "cvss_triage: out of memory\n")
+    refused = (1, "cvss_triage: line 31: invalid CVSSv4 AV (Attack Vector) metric: `Q`\n")
     total = 0
-    for lines, statuses in ((drawn(30), {2}), (drawn(30) + ["CVSS:4.0/AV:N/AV:q"], {1, 2})):
+    for lines, ends in ((drawn(30), [lacking]),
+                        (drawn(30) + ["CVSS:4.0/AV:N/AV:q"], [lacking, refused])):
         for turn in range(1, 100_000):
             read_end, write_end = os.pipe()
             env = dict(os.environ, LD_PRELOAD=shim, REFUSED=str(turn), TOLD=str(write_end))
@@ -65,8 +69,9 @@ def refuse(room):
             os.close(read_end)
             if not was_refused:
                 break
-            if done.stdout or done.returncode not in statuses:
-                sys.exit(f"turn {turn}: status {done.returncode}, wrote {done.stdout[:500]!r}")
+            if done.stdout or (done.returncode, done.stderr.decode()) not in ends:
+                sys.exit(f"turn {turn}: status {done.returncode}, wrote {done.stdout[:500]!r}, "
+                         f"told {done.stderr[:500]!r}")
             total += 1
     return total
 
@@ -75,11 +80,14 @@ def main():
     count = int(sys.argv[1]) if len(sys.argv) > 1 else 100_000
     lines = drawn(count)
     with tempfile.TemporaryDirectory() as room:
-        start = instructions(room, [])
-        for size in (count // 10, count):
-            taken = instructions(room, lines[:size]) - start
-            print(f"{size} lines: {taken // size} instructions a line")
-        print(f"{refuse(room)} requests refused in turn: nothing was written")
+        if shutil.which("valgrind"):
+            start = instructions(room, [])
+            for size in (count // 10, count):
+                taken = instructions(room, lines[:size]) - start
+                print(f"{size} lines: {taken // size} instructions a line")
+        else:
+            print("valgrind is not on this machine: no instructions are counted")
+        print(f"cvss_triage: {refuse(room)} requests refused in turn: nothing was written")
 
 
 if __name__ == "__main__":

@@ -89,14 +89,19 @@ def modified(vector):
     return {name: value for name, value in own.items() if value}
 
 
+def modified_unrounded(minor, own, reached):
+    """The number that these values give with the sub-score of the impacts that is reached."""
+    power = ((reached * Fraction("0.9731") - Fraction("0.02")) ** 13 if minor == 1
+             else (reached - Fraction("0.02")) ** 15)
+    return unrounded(own, reached, power)
+
+
 def modified_number(minor, vector):
     """The number that the environmental score rounds first, before its temporal metrics weigh."""
     own = modified(vector)
     reached = min(Fraction("0.915"),
                   sub_score(own, [weight(vector, name) for name in ("CR", "IR", "AR")]))
-    power = ((reached * Fraction("0.9731") - Fraction("0.02")) ** 13 if minor == 1
-             else (reached - Fraction("0.02")) ** 15)
-    return unrounded(own, reached, power)
+    return modified_unrounded(minor, own, reached)
 
 
 def temporal_weight(vector):

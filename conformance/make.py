@@ -17,7 +17,7 @@ from pathlib import Path
 
 sys.dont_write_bytecode = True  # leaves nothing in the tree
 
-from drawing import edges, fourth, jumps, refusals, texts
+from drawing import edges, fourth, jumps, refusals, texts, weights
 from drawing.jumps import IMPACTS, REQUIREMENTS, TEMPORAL, assignments
 from drawing.rows import REFUSED_COLUMNS, SCORE_COLUMNS, accepted, table, v2, v3, whole
 
@@ -172,7 +172,8 @@ def doubles_rows():
 
 def drawn():
     """The names and the bytes of the files."""
-    scores = (texts.rows(), jumps.rows(), edges.rows(), doubles_rows(), fourth.rows())
+    scores = (texts.rows(), weights.rows(), jumps.rows(), edges.rows(), doubles_rows(),
+              fourth.rows())
     return {"scores.tsv": table(SCORE_COLUMNS, chain.from_iterable(scores)),
             "refused.tsv": table(REFUSED_COLUMNS, refusals.rows())}
 

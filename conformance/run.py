@@ -4,8 +4,8 @@
 The command answers each text by one line of the columns that it has, with blanks or tabs between
 them, or by a line that begins with `error` where it refuses the text. The columns are named by
 --columns, in the order in which the command writes them: canonical, version, score, temporal,
-environmental, nomenclature, rating, temporal_rating, environmental_rating; and kind, the word that
-follows `error: `.
+environmental, nomenclature, rating, temporal_rating, environmental_rating, complete; and kind, the
+word that follows `error: `.
 
 Status: 0 if each row is right, 1 if some are wrong, 2 if the command could not be tried to its end.
 """
@@ -21,7 +21,7 @@ from pathlib import Path
 HERE = Path(__file__).resolve().parent
 NUMBERS = ("version", "score", "temporal", "environmental")
 COLUMNS = ("canonical", *NUMBERS, "nomenclature", "rating", "temporal_rating",
-           "environmental_rating", "kind")
+           "environmental_rating", "complete", "kind")
 
 
 class Unfit(Exception):
@@ -143,7 +143,7 @@ def answers(words, rows):
 
 def print_table(rows, wrong, seconds):
     totals = Counter(row["class"] for row in rows)
-    width = max(map(len, totals), default=0)
+    width = max(len("all"), *map(len, totals), 0)
     for name, total in totals.items():
         print(f"{name:{width}} {total:6} rows {len(wrong.get(name, ())):6} wrong")
     count = sum(map(len, wrong.values()))

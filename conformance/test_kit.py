@@ -1,5 +1,6 @@
 #!/usr/bin/env python3
 """Tests of the kit: the files are those that make.py draws, and run.py tells right from wrong."""
+import os
 import subprocess
 import sys
 import tempfile
@@ -137,6 +138,23 @@ class Runs(unittest.TestCase):
         words = [sys.executable, HERE / "run.py", "--", "/nowhere/calculator"]
         done = subprocess.run(words, capture_output=True, text=True, check=False)
         self.assert_told((done.returncode, done.stderr), 2, "cannot be started")
+
+    def test_shows_its_progress_on_a_terminal_alone(self):
+        self.assertNotIn("3 of 3", self.answered(RIGHT)[1])
+        terminal, shown = os.openpty()
+        answer = "print('9.8\\n7.8\\nerror')"
+        words = [sys.executable, HERE / "run.py", "--folder", self.folder.name,
+                 "--", sys.executable, "-c", answer]
+        subprocess.run(words, stdout=subprocess.DEVNULL, stderr=shown, check=True)
+        self.assertIn(b"3 of 3", os.read(terminal, 100))
+        os.close(terminal)
+        os.close(shown)
+
+    def test_has_a_help(self):
+        words = [sys.executable, HERE / "run.py", "--help"]
+        done = subprocess.run(words, capture_output=True, text=True, check=True)
+        for option in ("--columns", "--only", "--without", "--versions", "--complete", "Status: 0"):
+            self.assertIn(option, done.stdout)
 
     def test_tries_the_chosen_rows_alone(self):
         self.assert_told(self.answered(["9.8"], "--only", "first"), 0)

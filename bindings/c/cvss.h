@@ -19,8 +19,9 @@
  *
  * Memory. cvss_version, cvss_scores and cvss_canonical take none, and no function takes any for a text that
  * is accepted. To tell why a text is refused, the others call malloc, realloc and free, and free what they
- * took before they return; where malloc refuses, the reason is "out of memory". So these must not be called
- * from a signal handler, or in a child that was forked from a process with threads.
+ * took before they return; where malloc refuses, a reason that carries a part of the text is told as
+ * "out of memory". So these must not be called from a signal handler, or in a child that was forked from a process
+ * with threads.
  */
 #ifndef CVSS_H
 #define CVSS_H

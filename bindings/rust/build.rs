@@ -11,8 +11,8 @@ fn fail(reason: &str) -> ! {
     exit(1)
 }
 
-/// The folder that `CVSS_LIBRARY_FOLDER` names, which has to be absolute: a build script runs in another
-/// folder than cargo does.
+/// The folder that `CVSS_LIBRARY_FOLDER` names, which has to be absolute: a build script runs in
+/// another folder than cargo does.
 fn folder() -> PathBuf {
     let Some(named) = env::var_os("CVSS_LIBRARY_FOLDER") else {
         return Path::new(env!("CARGO_MANIFEST_DIR")).join("../out");
@@ -40,8 +40,9 @@ fn main() {
     println!("cargo:rerun-if-changed={}", library.display());
     if !library.is_file() {
         fail(&format!(
-            "{} is missing. bindings/build in a checkout of the repository makes it; a crate that depends on this \
-             one by git sets CVSS_LIBRARY_FOLDER to the absolute path of that checkout's bindings/out",
+            "{} is missing. bindings/build in a checkout of the repository makes it; a crate that \
+             depends on this one by git sets CVSS_LIBRARY_FOLDER to the absolute path of that \
+             checkout's bindings/out",
             library.display()
         ));
     }

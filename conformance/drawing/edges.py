@@ -4,7 +4,7 @@ from itertools import product
 
 from .jumps import (IMPACTS, REQUIREMENTS, adjusted_number, adjusted_numbers, adjusted_vectors,
                     assignments, base_numbers, exploitable, products, rounded, weighed_impact)
-from .rows import BASE, accepted, v3, whole
+from .rows import BASE, accepted, v2, v3, whole
 
 CAPS = {"2.0": Fraction(10), "3.0": Fraction("0.915"), "3.1": Fraction("0.915")}
 # What an environmental score does with a number below 0 that is not raised to 0 before.
@@ -37,10 +37,28 @@ def below_zero():
             yield version, {**exploited, **dict.fromkeys(IMPACTS, "H"), **WITHOUT_IMPACT}
 
 
+def at_cap(version, exploited, cap):
+    """The score with an impact that is cut off here."""
+    if version == "2.0":
+        return rounded(version, v2.base_number(exploited, cap))
+    return rounded(version, v3.modified_unrounded(int(version[2:]), exploited, cap))
+
+
+def telling_cap(version, cap):
+    """Two choices of the rest, in v3 with each scope, by which a cap that is a thousandth part more
+    or less gives another score, where there are such."""
+    for scope in (None,) if version == "2.0" else ("U", "C"):
+        scoped = [vector for vector in exploitable(version) if vector.get("S") == scope]
+        for other in (cap - cap / 1000, cap + cap / 1000):
+            telling = [vector for vector in scoped
+                       if at_cap(version, vector, other) != at_cap(version, vector, cap)]
+            yield (telling or scoped)[0]
+
+
 def capped():
     """Each choice of impacts and requirements whose sub-score is cut off, or reaches the cap."""
     for version, cap in CAPS.items():
-        exploited = [vector for vector in exploitable(version) if vector["AV"] == "L"][::7]
+        exploited = list(telling_cap(version, cap))
         for hurt in assignments(version, IMPACTS + REQUIREMENTS):
             if weighed_impact(version, hurt) >= cap:
                 for vector in exploited:

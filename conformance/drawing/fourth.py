@@ -28,7 +28,8 @@ def level(name, spelling):
 
 @lru_cache(maxsize=None)
 def members(group):
-    """The values of a group by their class and level sum, those with an impact ahead."""
+    """The values of a group by their class and level sum, those without impact only where no other
+    have the sum."""
     names = v4.GROUPS[group]
     found = {}
     for values in product(*(METRICS["4.0"][name][1] for name in names)):
@@ -36,8 +37,8 @@ def members(group):
             total = sum(map(level, names, values))
             found.setdefault(group(*values), {}).setdefault(total, []).append(values)
     for sums in found.values():
-        for same in sums.values():
-            same.sort(key=lambda values: set(values[:3]) == {"N"})
+        for total, same in sums.items():
+            sums[total] = [values for values in same if set(values[:3]) != {"N"}] or same
     return found
 
 
@@ -60,10 +61,10 @@ def classes():
 def class_ends():
     for groups, maturity in classes():
         for end in (min, max):
-            chosen = {group: sums[end(sums)][0] for group, (_, sums) in zip(v4.GROUPS, groups)}
-            vector = vector_of(chosen, maturity)
-            yield vector
-            yield by_modified("4.0", vector)
+            ends = [sums[end(sums)] for _, sums in groups]
+            yield vector_of({group: same[0] for group, same in zip(v4.GROUPS, ends)}, maturity)
+            last = vector_of({group: same[-1] for group, same in zip(v4.GROUPS, ends)}, maturity)
+            yield by_modified("4.0", last)
 
 
 def distance_in_doubles(group, values):
@@ -93,7 +94,7 @@ def same_distances(sums):
     """All choices of values with these class and level sums whose distances in doubles differ."""
     found = []
     for group, same in zip(v4.GROUPS, sums):
-        differing = {distance_in_doubles(group, values): values for values in reversed(same)}
+        differing = {distance_in_doubles(group, values): values for values in same}
         found.append(list(differing.values()))
     return [dict(zip(v4.GROUPS, chosen)) for chosen in product(*found)]
 
@@ -114,7 +115,9 @@ def halves():
     """A vector for each class with distances whose number is an exact half, where there is one by a
     vector at which doubles fail."""
     for groups, maturity in classes():
-        for sums in product(*(sums.values() for _, sums in groups)):
+        for turn, sums in enumerate(product(*(sums.values() for _, sums in groups))):
+            # another choice of values each time, so that none stands for all
+            sums = [same[turn % len(same):] + same[:turn % len(same)] for same in sums]
             vector = vector_of({group: same[0] for group, same in zip(v4.GROUPS, sums)}, maturity)
             number = v4.number(vector)
             if floor(number + HALF) != floor(number + MARGIN + HALF):

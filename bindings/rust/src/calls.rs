@@ -1,7 +1,7 @@
 //! The calls of the library: the one place with unsafe code.
 //!
-//! The declarations are those of `bindings/c/cvss.h`. No call keeps a pointer, and none asks for more
-//! than pointers to as many bytes as are told, which slices are.
+//! The declarations are those of `bindings/c/cvss.h`. No call keeps a pointer, and none asks for
+//! more than pointers to as many bytes as are told, which slices are.
 
 /// The struct of the same name in `cvss.h`. What is reserved is not read.
 #[derive(Clone, Copy, Default)]
@@ -88,7 +88,8 @@ pub(crate) fn answers(texts: &[u8]) -> Vec<u8> {
     let mut rest = texts;
     while rest.contains(&b'\n') {
         let mut read = 0;
-        // SAFETY: the pointers are those of slices and of a number that live through the call and do not overlap.
+        // SAFETY: the pointers are those of slices and of a number that live through the call and
+        // do not overlap.
         let written = unsafe {
             cvss_answers(
                 rest.as_ptr(),

@@ -35,7 +35,8 @@ pub fn answer(text: &[u8]) -> String {
 }
 
 /// The lines that the program `cvss_tool` answers to the lines of a text, as one text. Each line is
-/// ended by a newline, which one carriage return may precede; a last line without one is not answered.
+/// ended by a newline, which one carriage return may precede; a last line without one is not
+/// answered.
 #[must_use]
 pub fn answer_lines(lines: &[u8]) -> String {
     calls::text_of(calls::answers(lines))

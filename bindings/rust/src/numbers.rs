@@ -188,7 +188,8 @@ impl Severity {
 
 named! {
     /// Reads a rating in lower case.
-    Severity: None => "none", Low => "low", Medium => "medium", High => "high", Critical => "critical"
+    Severity: None => "none", Low => "low", Medium => "medium", High => "high",
+        Critical => "critical"
 }
 
 /// Which groups of metrics a score of v4.0 rests on: base, threat, environmental.

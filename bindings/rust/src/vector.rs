@@ -9,8 +9,8 @@ use std::str::FromStr;
 
 /// A vector with its canonical text and its scores.
 ///
-/// Two vectors are equal if their canonical texts are. They are ordered by [`Cvss::score`], and those of
-/// one score by their texts.
+/// Two vectors are equal if their canonical texts are. They are ordered by [`Cvss::score`], and
+/// those of one score by their texts.
 #[derive(Clone, Debug)]
 pub struct Cvss {
     text: String,
@@ -28,8 +28,8 @@ fn rated(tenths: i32, severity: i32) -> Option<(Score, Severity)> {
 }
 
 impl Cvss {
-    /// Reads the vector that a text denotes, by the rules of the version that its first piece tells;
-    /// without such a piece by those of v2.
+    /// Reads the vector that a text denotes, by the rules of the version that its first piece
+    /// tells; without such a piece by those of v2.
     ///
     /// # Errors
     ///
@@ -121,7 +121,8 @@ impl Cvss {
         self.is_complete
     }
 
-    /// The name and the value of each metric that the vector has, in the order of the canonical text.
+    /// The name and the value of each metric that the vector has, in the order of the canonical
+    /// text.
     ///
     /// ```
     /// let cvss = cvss_proved::Cvss::parse("CVSS:3.1/S:C/AV:N")?;
@@ -135,8 +136,8 @@ impl Cvss {
             .filter(|(name, _)| *name != "CVSS")
     }
 
-    /// The vector without the metrics that are not defined (`X`, in v2 `ND`): it has the same scores. A
-    /// vector of v3 that has no others is given as it is.
+    /// The vector without the metrics that are not defined (`X`, in v2 `ND`): it has the same
+    /// scores. A vector of v3 that has no others is given as it is.
     ///
     /// ```
     /// let cvss = cvss_proved::Cvss::parse("AV:N/AC:L/Au:N/C:N/I:N/A:C/E:ND/TD:H")?;
@@ -150,13 +151,14 @@ impl Cvss {
         Cvss::parse(&pieces.join("/")).unwrap_or_else(|_| self.clone())
     }
 
-    /// The vector with an organisation's environmental metrics, as pairs of name and value, in place of its
-    /// own or beside them.
+    /// The vector with an organisation's environmental metrics, as pairs of name and value, in
+    /// place of its own or beside them.
     ///
     /// # Errors
     ///
-    /// [`OverrideError::NotEnvironmental`] for a name that no version has as an environmental metric, and a
-    /// value that is no word; else the reason why the vector with these metrics is refused.
+    /// [`OverrideError::NotEnvironmental`] for a name that no version has as an environmental
+    /// metric, and a value that is no word; else the reason why the vector with these metrics is
+    /// refused.
     ///
     /// ```
     /// let cvss = cvss_proved::Cvss::parse("CVSS:3.1/AV:N/S:U/CR:H")?;

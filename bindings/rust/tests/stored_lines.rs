@@ -88,7 +88,8 @@ fn stored_lines_have_their_facts() {
     }
 }
 
-/// What is not defined scores as what is absent (CVSS v2 guide, section 2.2; v3.1, section 3; v4.0, section 3).
+/// What is not defined scores as what is absent (CVSS v2 guide, section 2.2; v3.1, section 3; v4.0,
+/// section 3).
 #[test]
 fn what_is_not_defined_scores_as_absent() {
     let stored = Path::new(env!("CARGO_MANIFEST_DIR")).join("../../crates/cvss_vectors/stdin");

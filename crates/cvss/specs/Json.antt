@@ -1,5 +1,6 @@
 -- JSON values that stand for vectors, severities and nomenclatures: RFC 8259, sections 3 and 7.
 use Rattle.std.specs.Prelude.{◌≡◌, ◌≢◌, ℕ, List, codes, ⊤}
+use Rattle.cvss_base.specs.Equality as base
 use Rattle.cvss_base.specs.ErrorText.{error_text}
 use Rattle.cvss_base.specs.declared.error.Error.{Error}
 use Rattle.cvss.specs.declared.json.JsonError.{JsonError}
@@ -39,8 +40,8 @@ json_error_text (Invalid error) = error_text error
 json_error_text OutOfMemory = codes "out of memory"
 
 -- two errors are of one kind, and their reasons tell the same
-abbrev pub TellTheSame : (Error → Error → Type 0) → JsonError → JsonError → Type 0
-TellTheSame SameReason NotAString NotAString = ⊤
-TellTheSame SameReason (Invalid x) (Invalid y) = SameReason x y
-TellTheSame SameReason OutOfMemory OutOfMemory = ⊤
-TellTheSame SameReason _ _ = ⊥
+abbrev pub TellTheSame : JsonError → JsonError → Type 0
+TellTheSame NotAString NotAString = ⊤
+TellTheSame (Invalid x) (Invalid y) = base.TellTheSame x y
+TellTheSame OutOfMemory OutOfMemory = ⊤
+TellTheSame _ _ = ⊥

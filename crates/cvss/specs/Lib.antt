@@ -5,6 +5,7 @@ pub mod Laws
 pub mod MetricTypes
 pub mod MetricsLeft
 pub mod Steps
+pub use Rattle.cvss_base.specs.Equality
 pub use Rattle.cvss_base.specs.ErrorText
 pub use Rattle.cvss_base.specs.Exact
 pub use Rattle.cvss_base.specs.Listing

@@ -2,14 +2,13 @@
 //! needs a law calls it.
 
 ghost use Rattle.std.specs.Prelude.{◌≡◌, ◌↔◌, ℕ, List, IsTrue};
+ghost use Rattle.cvss_base.specs.Equality as same;
+ghost use Rattle.cvss_base.specs.Equality.{EqualsByValue, ClonesByValue};
 ghost use Rattle.cvss_base.specs.Tenths.{IsOneCount};
 ghost use Rattle.cvss.specs.Answers.{text_of, IsScoreOf};
 ghost use Rattle.cvss.specs.Dispatch.{DenotesCvss};
-ghost use Rattle.cvss.specs.Laws.{IsGivenBack, AreEqual};
+ghost use Rattle.cvss.specs.Laws.{IsGivenBack};
 ghost use Rattle.cvss.specs.Json.{TellTheSame};
-ghost use Rattle.cvss.specs.declared.json.JsonError.{JsonError};
-ghost use Rattle.cvss.specs.declared.metric_type.MetricType.{MetricType};
-ghost use Rattle.cvss.specs.declared.vector.Cvss.{Cvss};
 
 use crate::json::JsonError;
 use crate::{Cvss, Error, MetricType, v2, v3, v4};
@@ -28,22 +27,29 @@ pub fn scores_are_unique()
     ensures { (cvss : Cvss) → IsOneCount (IsScoreOf cvss) }
 {}
 
-/// Two vectors are equal exactly if they are equal vectors of one version, two metrics if they are
-/// one, and two errors if they are of one kind and their reasons are equal.
+/// Two vectors of any version, or two metrics, are equal exactly if they are one value, and two
+/// errors exactly if they tell the same.
 pub fn equality_is_that_of_values()
-    ensures vector { (x y : Cvss) → IsTrue (⟦<Cvss as PartialEq>⟧.eq x y)
-        ↔ AreEqual ⟦<v2::Vector as PartialEq>⟧.eq ⟦<v3::Vector as PartialEq>⟧.eq
-        ⟦<v4::Vector as PartialEq>⟧.eq x y }
-    ensures metric { (x y : MetricType) → IsTrue (⟦<MetricType as PartialEq>⟧.eq x y) ↔ (x ≡ y) }
+    ensures vector { EqualsByValue ⟦<Cvss as PartialEq>⟧.eq }
+    ensures metric { EqualsByValue ⟦<MetricType as PartialEq>⟧.eq }
     ensures json { (x y : JsonError) → IsTrue (⟦<JsonError as PartialEq>⟧.eq x y)
-        ↔ TellTheSame (λ e f. IsTrue (⟦<Error as PartialEq>⟧.eq e f)) x y }
-{}
+        ↔ TellTheSame x y }
+    ensures error { (x y : Error) → IsTrue (⟦<Error as PartialEq>⟧.eq x y) ↔ same.TellTheSame x y }
+{
+    cvss_base::laws::equality_is_that_of_values();
+    v2::laws::vectors_are_their_values();
+    v3::laws::vectors_are_their_values();
+    v4::laws::equality_is_that_of_values();
+}
 
-/// A clone of a vector or a metric is that value, and a clone of an error is of its kind, with a
-/// clone of its reason.
+/// A clone of a vector or a metric is that value, and a clone of an error tells the same.
 pub fn clones_are_equal()
-    ensures vector { (x clone : Cvss) → ⟦<Cvss as Clone>⟧.is_clone x clone → clone ≡ x }
-    ensures metric { (x clone : MetricType) → ⟦<MetricType as Clone>⟧.is_clone x clone → clone ≡ x }
+    ensures vector { ClonesByValue ⟦<Cvss as Clone>⟧.is_clone }
+    ensures metric { ClonesByValue ⟦<MetricType as Clone>⟧.is_clone }
     ensures json { (x clone : JsonError) → ⟦<JsonError as Clone>⟧.is_clone x clone
-        → TellTheSame ⟦<Error as Clone>⟧.is_clone x clone }
-{}
+        → TellTheSame x clone }
+    ensures error { (x clone : Error) → ⟦<Error as Clone>⟧.is_clone x clone
+        → same.TellTheSame x clone }
+{
+    cvss_base::laws::clones_are_equal();
+}

@@ -6,7 +6,6 @@ use Rattle.cvss.specs.declared.vector.Cvss.{Cvss}
 use Rattle.cvss.specs.Dispatch.{DenotesCvss, IsFirstRefusalCvss, cvss_reason}
 use Rattle.cvss.specs.ErrorText.{error_text}
 use Rattle.cvss.specs.ErrorType.{Error}
-use Rattle.cvss.specs.ErrorType.TheVariants.{OutOfMemory}
 use Rattle.cvss_base.specs.declared.severity.Severity.{Severity}
 use Rattle.cvss.specs.Told.{TellsFirst}
 
@@ -40,10 +39,10 @@ pub record IsToldFirst (text reason : List ℕ) : Type 0 where
   pub told : TellsFirst cvss_reason (IsFirstRefusalCvss text) error
   pub is : reason ≡ error_text error
 
--- the same of a text in UTF-8, or the reason says that there was no memory to tell it
+-- the same of a text in UTF-8
 pub record IsTold (text reason : List ℕ) : Type 0 where
   pub utf8 : IsUtf8 text
-  pub told : IsToldFirst text reason ⊎ (reason ≡ error_text OutOfMemory)
+  pub told : IsToldFirst text reason
 
 -- why the text is refused
 abbrev pub IsReason : List ℕ → List ℕ → Type 0

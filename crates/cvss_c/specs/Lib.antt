@@ -1,5 +1,6 @@
 pub mod Answers
 pub mod Buffer
 pub mod Lines
+pub mod Reasons
 pub mod Refusals
 pub mod Scores

@@ -1,3 +1,4 @@
+pub mod Adjusted
 pub mod Advisories
 pub mod Canonical
 pub mod Conversions

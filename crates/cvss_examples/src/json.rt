@@ -50,8 +50,8 @@ pub fn converted_and_back(alloc: Global, text: &str) -> Result<String, JsonError
     text_of(alloc, &value)
 }
 
-/// Writes a vector as a JSON value and reads the value, which gives the vector back wherever its own
-/// text does; else what that text denotes, or the reason why it denotes nothing.
+/// Writes a vector as a JSON value and reads the value, which gives the vector back wherever its
+/// own text does; else what that text denotes, or the reason why it denotes nothing.
 pub fn written_and_read(alloc: Global, cvss: &Cvss) -> Result<Cvss, JsonError>
     ensures given_back { IsGivenBack cvss.now
         → (result ≡ Ok cvss.now) ⊎ (result ≡ Err OutOfMemory) }

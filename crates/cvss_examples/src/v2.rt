@@ -2,16 +2,19 @@
 
 ghost use Rattle.std.specs.Prelude.{◌≡◌, ◌⊎◌, IfOk, IfErr, IsTrue, Ok, Err, string_bytes};
 ghost use Rattle.cvss.specs.ErrorType.TheVariants.{OutOfMemory};
+ghost use Rattle.cvss.specs.Exact.{IsWithinLimit};
 ghost use Rattle.cvss.specs.Refusal.{IsFirstRefusal};
 ghost use Rattle.cvss.specs.ScoreLawsV2.{DefineTheSame};
 ghost use Rattle.cvss.specs.Told.{v2_reason};
 ghost use Rattle.cvss.specs.VectorTypeV2.{Vector};
 ghost use Rattle.cvss.specs.VectorV2.{v2};
 ghost use Rattle.cvss.specs.Version.{Denotes, IsComplete};
+ghost use Rattle.cvss.specs.WeightsV2.{weights_of};
+ghost use Rattle.cvss_examples.specs.Adjusted.{IsAdjustedTemporal};
 ghost use Rattle.cvss_examples.specs.Canonical.{IsCanonicalTextOf, TellsRefusal};
 
 use cvss::Error;
-use cvss::v2::{Vector, laws};
+use cvss::v2::{Score, Vector, laws};
 use std::alloc::Global;
 
 /// Prints a complete vector and reads what was printed, which gives the vector back.
@@ -66,4 +69,13 @@ pub fn not_defined_scores_as_absent(left: &Vector, right: &Vector) -> (bool, boo
         left.temporal_score() == right.temporal_score(),
         left.environmental_score() == right.environmental_score(),
     )
+}
+
+/// The temporal score of a vector with its impact adjusted by the requirements, as it stands in the
+/// environmental equation (guide, section 3.2.3).
+pub fn adjusted_temporal_score(vector: &Vector) -> Score
+    ensures value { IsAdjustedTemporal (weights_of vector.now) result }
+    ensures limit { IsWithinLimit result }
+{
+    vector.temporal_score_internal(vector.adjusted_impact())
 }

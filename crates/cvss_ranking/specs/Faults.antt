@@ -1,6 +1,7 @@
 -- The first fault of overrides and texts, and the error that tells it.
 use Rattle.std.specs.Prelude.{◌≡◌, ◌⊎◌, ℕ, ◌<◌, true, Some, List, length, ◌++◌, codes, ⊤}
 use Rattle.std.specs.Fmt.{decimal}
+use Rattle.cvss.specs.Equality as same
 use Rattle.cvss.specs.ErrorText.{error_text}
 use Rattle.cvss.specs.ErrorType.{Error}
 use Rattle.cvss.specs.MetricTypeV4.{MetricType}
@@ -67,9 +68,9 @@ triage_error_text (Text index error) = codes "text " ++ decimal index ++ codes "
 triage_error_text OutOfMemory = codes "out of memory"
 
 -- two errors are of one kind, at one place, and their reasons tell the same
-abbrev pub TellTheSame : (Error → Error → Type 0) → TriageError → TriageError → Type 0
-TellTheSame SameReason (Override x e) (Override y f) = (x ≡ y) × SameReason e f
-TellTheSame SameReason (NotEnvironmental x) (NotEnvironmental y) = x ≡ y
-TellTheSame SameReason (Text x e) (Text y f) = (x ≡ y) × SameReason e f
-TellTheSame SameReason OutOfMemory OutOfMemory = ⊤
-TellTheSame SameReason _ _ = ⊥
+abbrev pub TellTheSame : TriageError → TriageError → Type 0
+TellTheSame (Override x e) (Override y f) = (x ≡ y) × same.TellTheSame e f
+TellTheSame (NotEnvironmental x) (NotEnvironmental y) = x ≡ y
+TellTheSame (Text x e) (Text y f) = (x ≡ y) × same.TellTheSame e f
+TellTheSame OutOfMemory OutOfMemory = ⊤
+TellTheSame _ _ = ⊥

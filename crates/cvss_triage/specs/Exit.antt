@@ -4,6 +4,7 @@ use Rattle.std.specs.Fmt.{decimal}
 use Rattle.std.specs.declared.io.ErrorKind.{ErrorKind}
 use Rattle.std.specs.declared.io.ErrorKind.TheVariants.{OutOfMemory as NoMemory}
 use Rattle.cvss.specs.ErrorText.{error_text}
+use Rattle.cvss_ranking.specs.Faults as triage
 use Rattle.cvss_ranking.specs.declared.error.TriageError.{TriageError}
 use Rattle.cvss_ranking.specs.declared.error.TriageError.TheVariants.{Override, NotEnvironmental, Text, OutOfMemory}
 use Rattle.cvss_triage.specs.declared.fault.Fault.{Fault}
@@ -42,11 +43,11 @@ fault_text (Refused (Text index error)) = codes "line " ++ decimal (index + 1) +
 fault_text (Refused OutOfMemory) = codes "out of memory"
 
 -- two faults are of one kind, at one place, and their reasons tell the same
-abbrev pub TellTheSame : (TriageError → TriageError → Type 0) → Fault → Fault → Type 0
-TellTheSame SameReason Read Read = ⊤
-TellTheSame SameReason Write Write = ⊤
-TellTheSame SameReason Memory Memory = ⊤
-TellTheSame SameReason (NotText x) (NotText y) = x ≡ y
-TellTheSame SameReason (ArgumentNotText x) (ArgumentNotText y) = x ≡ y
-TellTheSame SameReason (Refused x) (Refused y) = SameReason x y
-TellTheSame SameReason _ _ = ⊥
+abbrev pub TellTheSame : Fault → Fault → Type 0
+TellTheSame Read Read = ⊤
+TellTheSame Write Write = ⊤
+TellTheSame Memory Memory = ⊤
+TellTheSame (NotText x) (NotText y) = x ≡ y
+TellTheSame (ArgumentNotText x) (ArgumentNotText y) = x ≡ y
+TellTheSame (Refused x) (Refused y) = triage.TellTheSame x y
+TellTheSame _ _ = ⊥

@@ -17,8 +17,8 @@ use std::io::{Read, Write};
 ///
 /// # Errors
 ///
-/// Those of `run`. Where an argument is not UTF-8, the first refusal of those before it, or else that
-/// it is not UTF-8; nothing is read then.
+/// Those of `run`. Where an argument is not UTF-8, the first refusal of those before it, or else
+/// that it is not UTF-8; nothing is read then.
 pub fn run_arguments<R: Read, W: Write>(
     alloc: Global,
     arguments: &[Vec<u8>],

@@ -6,8 +6,8 @@ ghost use Rattle.std.specs.Io.KnownBytes.{Appends};
 use crate::fault::Fault;
 use std::io::{ErrorKind, Write};
 
-/// Writes all of the bytes, and again where a signal interrupts it. Where the writer fails, it has a
-/// beginning of them.
+/// Writes all of the bytes, and again where a signal interrupts it. Where the writer fails, it has
+/// a beginning of them.
 pub(crate) fn write_whole<W: Write>(writer: &mut W, bytes: &[u8]) -> Result<(), Fault>
     ensures ok { OnOk result (Appends (W.contents writer.old) (W.contents writer.new) bytes.now) }
     ensures err { IfErr result (λ fault. (fault ≡ Fault.Write) × ((count : ℕ)

@@ -28,7 +28,7 @@ plain_letter (first ∷ []) letter plain same =
     let upper : to_ascii_uppercase first ≡ first = eqb-true _ _ plain in cc
 plain_letter (first ∷ next ∷ more) letter plain same = absurd cc
 
-module _ {A : Type 0} (kind : MetricType) (spelling : A → List ℕ) (values : List A) (is_default : A → Type 0) (compared : A → A → Ordering) (law : IsMetric kind spelling values is_default compared) where
+module _ {A : Type 0} (kind : MetricType) (spelling : A → List ℕ) (values : List A) (is_default : A → Type 0) (compared : A → A → Ordering) (same : A → A → Bool) (is_clone : A → A → Type 0) (is_infallible : A → Type 0) (law : IsMetric kind spelling values is_default compared same is_clone is_infallible) where
   stands : (x : A) → slice_get (spellings_of kind) (place_in spelling values x) ≡ Some (spelling x)
   stands x =
       let place = place_in spelling values x in

@@ -47,7 +47,7 @@ fn base_at_sight(text: &[u8]) -> Option<(Vector, &[u8])>
     ensures { IfSome result (λ read. slash ∷ text.now
         ≡ slashed_texts v2 read.0 (AV ∷ AC ∷ Au ∷ C ∷ I ∷ A ∷ []) ++ read.1.now) }
 {
-    let (av, text) = component_at_sight(text)?;
+    let (av, text) = first_at_sight(text)?;
     let (ac, text) = next_at_sight(text)?;
     let (au, text) = next_at_sight(text)?;
     let (c, text) = next_at_sight(text)?;
@@ -115,6 +115,41 @@ fn environmental_at_sight(vector: Vector, text: &[u8]) -> (Vector, &[u8])
     (vector, text)
 }
 
+/// The value of a base metric, where a text begins with a slash and its component, and what stands
+/// behind that.
+#[inline(always)]
+fn next_at_sight<M: Metric>(text: &[u8]) -> Option<(M, &[u8])>
+    ensures { IfSome result
+        (λ read. text.now ≡ slash ∷ (metric_component M.TYPE (M.value read.0) ++ read.1.now)) }
+{
+    match text {
+        [b'/', component @ ..] => first_at_sight(component),
+        _ => None,
+    }
+}
+
+/// The value of a base metric, where a text begins with its component, and what stands behind that.
+#[inline(always)]
+fn first_at_sight<M: Metric>(text: &[u8]) -> Option<(M, &[u8])>
+    ensures { IfSome result
+        (λ read. text.now ≡ metric_component M.TYPE (M.value read.0) ++ read.1.now) }
+{
+    letter_at_sight(behind_name(M::TYPE, text)?)
+}
+
+/// The value that the first letter of a text spells, and what stands behind that letter. Each
+/// spelling of a base metric's value is one letter.
+#[inline(always)]
+fn letter_at_sight<M: Metric>(text: &[u8]) -> Option<(M, &[u8])>
+    ensures { IfSome result
+        (λ read. text.now ≡ spelling_of M.TYPE (M.value read.0) ++ read.1.now) }
+{
+    match text {
+        [letter, rest @ ..] => Some((M::read_bytes(&[*letter])?, rest)),
+        [] => None,
+    }
+}
+
 /// The value of a metric, if a text begins with a slash and its component, and what stands behind
 /// that; else the text.
 #[inline(always)]
@@ -123,7 +158,7 @@ fn optional_at_sight<M: Metric>(text: &[u8]) -> (Option<M>, &[u8])
         (option_map (λ metric. spelling_of M.TYPE (M.value metric)) result.0))) []
         ++ result.1.now }
 {
-    match next_at_sight(text) {
+    match component_at_sight(text) {
         Some((metric, rest)) => (Some(metric), rest),
         None => (None, text),
     }
@@ -132,23 +167,14 @@ fn optional_at_sight<M: Metric>(text: &[u8]) -> (Option<M>, &[u8])
 /// The value of a metric, where a text begins with a slash and its component, and what stands
 /// behind that.
 #[inline(always)]
-fn next_at_sight<M: Metric>(text: &[u8]) -> Option<(M, &[u8])>
+fn component_at_sight<M: Metric>(text: &[u8]) -> Option<(M, &[u8])>
     ensures { IfSome result
         (λ read. text.now ≡ slash ∷ (metric_component M.TYPE (M.value read.0) ++ read.1.now)) }
 {
     match text {
-        [b'/', component @ ..] => component_at_sight(component),
+        [b'/', component @ ..] => value_at_sight(behind_name(M::TYPE, component)?),
         _ => None,
     }
-}
-
-/// The value of a metric, where a text begins with its component, and what stands behind that.
-#[inline(always)]
-fn component_at_sight<M: Metric>(text: &[u8]) -> Option<(M, &[u8])>
-    ensures { IfSome result
-        (λ read. text.now ≡ metric_component M.TYPE (M.value read.0) ++ read.1.now) }
-{
-    value_at_sight(behind_name(M::TYPE, text)?)
 }
 
 /// The value of a metric, where a text begins with its spelling up to a slash, and what stands

@@ -1,0 +1,73 @@
+/*
+ * Refuses each request for memory of the library: no answer to a text that is accepted changes, nor the reason of a
+ * metric that stands twice or is missing; any other reason becomes "out of memory". Ends with status 0 where that is
+ * so. Linked with -Wl,--wrap=malloc,--wrap=realloc.
+ */
+#include "cvss.h"
+
+#include <stdio.h>
+#include <stdlib.h>
+#include <string.h>
+
+static bool refuses;
+
+void *__real_malloc(size_t size);
+void *__real_realloc(void *block, size_t size);
+void *__wrap_malloc(size_t size);
+void *__wrap_realloc(void *block, size_t size);
+
+void *__wrap_malloc(size_t size)
+{
+    return refuses ? NULL : __real_malloc(size);
+}
+
+void *__wrap_realloc(void *block, size_t size)
+{
+    return refuses ? NULL : __real_realloc(block, size);
+}
+
+static const char *const texts[] = {
+    "AV:N/AC:L/Au:N/C:N/I:N/A:C",
+    "CVSS:4.0/AV:N/AC:L/AT:N/PR:N/UI:N/VC:H/VI:H/VA:H/SC:H/SI:H/SA:H",
+    "CVSS:3.1/AV:N/AC:L",
+    "AV:N/AV:N/AC:L",
+    "CVSS:3.0/S:C/S:U",
+    "AV:N/AC:L",
+    "CVSS:4.0/AV:N",
+    "CVSS:4.0/AV:N/av:n",
+    "x",
+    "CVSS:9.9/AV:N",
+    "Cvss:3.1/AV:N",
+    "CVSS:3.1/XX:N",
+    "CVSS:3.1/AV:Q",
+    "AV:\xff",
+};
+
+/* What is told of a text, with memory or without. */
+static void tell(const char *text, bool without, char told[256])
+{
+    size_t length = strlen(text);
+    char metric[8] = "", answer[200] = "";
+    refuses = without;
+    int kind = (int)cvss_refusal_kind(text, length);
+    cvss_refusal_metric(text, length, metric, sizeof metric);
+    size_t size = cvss_answer(text, length, answer, sizeof answer);
+    refuses = false;
+    snprintf(told, 256, "%d %s %zu %s", kind, metric, size, answer);
+}
+
+int main(void)
+{
+    int wrong = 0;
+    for (size_t i = 0; i < sizeof texts / sizeof *texts; i++) {
+        char with[256], without[256];
+        tell(texts[i], false, with);
+        tell(texts[i], true, without);
+        bool carries_text = with[0] >= '1' && with[0] <= '5';
+        if (strcmp(without, carries_text ? "9  20 error: out of memory" : with) != 0) {
+            printf("%s: %s, and not %s\n", texts[i], without, with);
+            wrong = 1;
+        }
+    }
+    return wrong;
+}

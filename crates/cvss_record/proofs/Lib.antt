@@ -1,0 +1,3 @@
+mod FloatLemmas
+mod ObjectLemmas
+mod TellingLemmas

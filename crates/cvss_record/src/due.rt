@@ -1,0 +1,186 @@
+//! What each member of a record should say of a vector.
+
+ghost use Rattle.std.specs.Prelude.{◌≡◌, List, ℕ, bytes_eq, option_map, IfOk};
+ghost use Rattle.std.specs.List.{list_any};
+ghost use Rattle.cvss_base.specs.V4Types as types_v4;
+ghost use Rattle.cvss_record.specs.Differences.{due_view};
+ghost use Rattle.cvss_record.specs.Due.{agrees, due_at, due_value, group_due, is_metric_member, is_number, is_text, metric_due, version_due, word_at};
+ghost use Rattle.cvss_words.specs.WordsV2 as words_v2;
+ghost use Rattle.cvss_words.specs.WordsV3 as words_v3;
+ghost use Rattle.cvss_words.specs.WordsV4 as words_v4;
+ghost use Rattle.serde_json.specs.View.{view};
+
+use crate::group::Group;
+use crate::member::{member, word};
+use crate::record::{is_rated, score_value, version};
+use crate::score::{Scores, rating, score_number};
+use cvss::{Cvss, v2, v3, v4};
+use cvss_base::metrics::Listed;
+use cvss_words::NOT_DEFINED;
+use serde_json::Value;
+use std::alloc::{AllocError, Global};
+
+/// What a member should say.
+#[derive(Clone, Copy, Debug)]
+pub(crate) enum Due {
+    /// This text.
+    Text(&'static str),
+    /// A score of so many tenths.
+    Score(u8),
+    /// Nothing, as the vector lacks the member's metric.
+    Nothing,
+}
+
+impl Due {
+    /// Whether a value says what it should.
+    pub(crate) fn agrees(self, said: &Value) -> bool
+        ensures { result ≡ agrees (due_view self) (view said.now) }
+    {
+        match self {
+            Due::Text(text) => is_text(text, said),
+            Due::Score(tenths) => is_number(score_number(tenths), said),
+            Due::Nothing => is_text(NOT_DEFINED, said),
+        }
+    }
+
+    /// The value that would agree, or null where none is due.
+    pub(crate) fn value(self, alloc: Global) -> Result<Value, AllocError>
+        ensures { IfOk result (λ value. view value ≡ due_value (due_view self)) }
+    {
+        match self {
+            Due::Text(text) => Value::try_from_str(alloc, text),
+            Due::Score(tenths) => Ok(score_value(tenths)),
+            Due::Nothing => Ok(Value::Null),
+        }
+    }
+}
+
+fn is_text(due: &str, said: &Value) -> bool
+    ensures { result ≡ is_text due.now (view said.now) }
+{
+    match said.as_str() {
+        Some(text) => text == due,
+        None => false,
+    }
+}
+
+fn is_number(due: f64, said: &Value) -> bool
+    ensures { result ≡ is_number due (view said.now) }
+{
+    match said.as_f64() {
+        Some(number) => number == due,
+        None => false,
+    }
+}
+
+/// What the member of this name should say of a vector, if it is one that the version's records have.
+pub(crate) fn due_at(cvss: &Cvss, scores: &Scores, name: &str) -> Option<Due>
+    ensures { option_map due_view result ≡ due_at cvss.now scores.now name.now }
+{
+    version_due(cvss, name)
+        .or(group_due(cvss, scores, name, Group::Base))
+        .or(group_due(cvss, scores, name, Group::Temporal))
+        .or(group_due(cvss, scores, name, Group::Environmental))
+        .or(metric_due(cvss, name))
+}
+
+fn version_due(cvss: &Cvss, name: &str) -> Option<Due>
+    ensures { option_map due_view result ≡ version_due cvss.now name.now }
+{
+    if name == "version" {
+        Some(Due::Text(version(cvss)))
+    } else {
+        None
+    }
+}
+
+fn group_due(cvss: &Cvss, scores: &Scores, name: &str, group: Group) -> Option<Due>
+    ensures { option_map due_view result ≡ group_due cvss.now scores.now name.now group }
+{
+    if group.score_member() == name {
+        let tenths = scores.at(group)?;
+        return Some(Due::Score(tenths));
+    }
+    if is_rated(cvss) && group.severity_member() == name {
+        let tenths = scores.at(group)?;
+        return Some(Due::Text(rating(cvss, tenths)));
+    }
+    None
+}
+
+fn metric_due(cvss: &Cvss, name: &str) -> Option<Due>
+    ensures { option_map due_view result ≡ metric_due cvss.now name.now }
+{
+    match word_at(cvss, name) {
+        Some(word) => Some(Due::Text(word)),
+        None if is_metric_member(cvss, name) => Some(Due::Nothing),
+        None => None,
+    }
+}
+
+/// The word that the member of this name should say, if the vector has its metric.
+fn word_at(cvss: &Cvss, name: &str) -> Option<&'static str>
+    ensures { option_map (λ word. word.now) result ≡ word_at cvss.now name.now }
+{
+    for (metric, spelling) in cvss.metrics() {
+        if member(metric) == name {
+            return Some(word(metric, spelling));
+        }
+    }
+    None
+}
+
+/// Whether the name is that of a member for a metric of the vector's version.
+fn is_metric_member(cvss: &Cvss, name: &str) -> bool
+    ensures { result ≡ is_metric_member cvss.now name.now }
+{
+    match cvss {
+        Cvss::CvssV20(_) => is_member::<v2::Vector>(name),
+        Cvss::CvssV30(_) | Cvss::CvssV31(_) => is_member::<v3::Vector>(name),
+        Cvss::CvssV40(_) => is_member::<v4::Vector>(name),
+    }
+}
+
+/// Vectors of a version that records tell of.
+trait Recorded: Listed {
+    ghost member: { Self.Kind → List ℕ };
+
+    /// The name of the member that holds the metric's value.
+    fn member(kind: Self::Kind) -> &'static str
+        ensures { result.now ≡ member kind };
+}
+
+impl Recorded for v2::Vector {
+    ghost member = { words_v2.member_of };
+
+    fn member(kind: v2::MetricType) -> &'static str {
+        cvss_words::v2::member(kind)
+    }
+}
+
+impl Recorded for v3::Vector {
+    ghost member = { words_v3.member_of };
+
+    fn member(kind: v3::MetricType) -> &'static str {
+        cvss_words::v3::member(kind)
+    }
+}
+
+impl Recorded for v4::Vector {
+    ghost member = { words_v4.member_of };
+
+    fn member(kind: v4::MetricType) -> &'static str {
+        cvss_words::v4::member(kind)
+    }
+}
+
+fn is_member<V: Recorded>(name: &str) -> bool
+    ensures { result ≡ list_any (λ kind. bytes_eq (V.Recorded.member kind) name.now) V.order }
+{
+    for kind in V::listed() {
+        if V::member(*kind) == name {
+            return true;
+        }
+    }
+    false
+}

@@ -1,0 +1,21 @@
+//! CVSS records: the JSON objects in which advisories tell a vector, its metrics and its scores, by
+//! FIRST's JSON schemas of CVSS v2.0, v3.0, v3.1 and v4.0.
+//!
+//! [`record_of`] writes the record of a vector, and [`differences`] tells where an object says otherwise
+//! than the record. [`vectors_in`] finds the objects of a document that hold vectors.
+#![tactic(auto)]
+
+mod difference;
+mod due;
+mod group;
+pub mod laws;
+mod member;
+mod place;
+mod record;
+mod score;
+
+pub use difference::{Difference, differences, differences_at};
+pub use group::Group;
+pub use place::{Form, Place, vectors_in};
+pub use record::record_of;
+pub use score::{Scores, score_number};

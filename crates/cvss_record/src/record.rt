@@ -1,0 +1,136 @@
+//! The record of a vector.
+
+ghost use Rattle.std.specs.Prelude.{◌≡◌, IfOk, OnOk, map};
+ghost use Rattle.cvss.specs.Answers.{HasScore, metrics_of};
+ghost use Rattle.cvss_record.specs.Objects.{with_members};
+ghost use Rattle.cvss_record.specs.Record.{IsRecordOf, group_members, is_rated, metric_member, optional_members, score_value, vector_members, version_of};
+ghost use Rattle.serde_json.specs.View.{members_view, view};
+
+use crate::group::Group;
+use crate::member::{member, word};
+use crate::score::{Scores, rating, score_number};
+use cvss::Cvss;
+use serde_json::{Map, Value, put};
+use std::alloc::{AllocError, Global};
+
+/// The record of a vector that has a score: its version, its text, the word of each metric that it
+/// has, its scores and, but for CVSS v2, their ratings.
+///
+/// # Errors
+///
+/// Want of memory alone.
+pub fn record_of(alloc: Global, cvss: &Cvss) -> Result<Value, AllocError>
+    requires { HasScore cvss.now }
+    ensures { IfOk result (λ value. IsRecordOf cvss.now (view value)) }
+{
+    let scores = Scores::of(cvss);
+    let mut members = Map::new(alloc);
+    put_vector(&mut members, alloc, cvss)?;
+    put_metrics(&mut members, alloc, cvss)?;
+    put_group(&mut members, alloc, cvss, Group::Base, scores.base)?;
+    put_optional(&mut members, alloc, cvss, Group::Temporal, scores.temporal)?;
+    put_optional(
+        &mut members,
+        alloc,
+        cvss,
+        Group::Environmental,
+        scores.environmental,
+    )?;
+    Ok(Value::Object(members))
+}
+
+/// The version that a vector's record tells.
+pub(crate) fn version(cvss: &Cvss) -> &'static str
+    ensures { result.now ≡ version_of cvss.now }
+{
+    match cvss {
+        Cvss::CvssV20(_) => "2.0",
+        Cvss::CvssV30(_) => "3.0",
+        Cvss::CvssV31(_) => "3.1",
+        Cvss::CvssV40(_) => "4.0",
+    }
+}
+
+/// Whether records of the vector's version tell ratings.
+pub(crate) fn is_rated(cvss: &Cvss) -> bool
+    ensures { result ≡ is_rated cvss.now }
+{
+    match cvss {
+        Cvss::CvssV20(_) => false,
+        Cvss::CvssV30(_) | Cvss::CvssV31(_) | Cvss::CvssV40(_) => true,
+    }
+}
+
+fn put_vector(
+    members: &mut Map<String, Value>,
+    alloc: Global,
+    cvss: &Cvss,
+) -> Result<(), AllocError>
+    ensures { OnOk result (members_view members.new.entries
+        ≡ with_members (vector_members cvss.now) (members_view members.old.entries)) }
+{
+    let text = cvss.to_string(alloc)?;
+    put(
+        members,
+        alloc,
+        "version",
+        Value::try_from_str(alloc, version(cvss))?,
+    )?;
+    put(members, alloc, "vectorString", Value::String(text))
+}
+
+fn put_metrics(
+    members: &mut Map<String, Value>,
+    alloc: Global,
+    cvss: &Cvss,
+) -> Result<(), AllocError>
+    ensures { OnOk result (members_view members.new.entries
+        ≡ with_members (map metric_member (metrics_of cvss.now)) (members_view members.old.entries)) }
+{
+    for (metric, spelling) in cvss.metrics() {
+        let value = Value::try_from_str(alloc, word(metric, spelling))?;
+        put(members, alloc, member(metric), value)?;
+    }
+    Ok(())
+}
+
+fn put_group(
+    members: &mut Map<String, Value>,
+    alloc: Global,
+    cvss: &Cvss,
+    group: Group,
+    tenths: u8,
+) -> Result<(), AllocError>
+    ensures { OnOk result (members_view members.new.entries
+        ≡ with_members (group_members cvss.now group tenths) (members_view members.old.entries)) }
+{
+    put(members, alloc, group.score_member(), score_value(tenths))?;
+    if is_rated(cvss) {
+        let value = Value::try_from_str(alloc, rating(cvss, tenths))?;
+        put(members, alloc, group.severity_member(), value)?;
+    }
+    Ok(())
+}
+
+fn put_optional(
+    members: &mut Map<String, Value>,
+    alloc: Global,
+    cvss: &Cvss,
+    group: Group,
+    tenths: Option<u8>,
+) -> Result<(), AllocError>
+    ensures { OnOk result (members_view members.new.entries
+        ≡ with_members (optional_members cvss.now group tenths) (members_view members.old.entries)) }
+{
+    match tenths {
+        Some(tenths) if group.is_in(cvss) => put_group(members, alloc, cvss, group, tenths),
+        _ => Ok(()),
+    }
+}
+
+/// The value of a score of so many tenths.
+pub(crate) fn score_value(tenths: u8) -> Value
+    ensures { view result ≡ score_value tenths }
+{
+    Value::from(score_number(tenths))
+}

@@ -1,0 +1,101 @@
+//! The scores of a vector, as a record tells them.
+
+ghost use Rattle.std.specs.Prelude.{◌≡◌};
+ghost use Rattle.cvss.specs.Answers.{HasScore, rating_by, score_of_tenths};
+ghost use Rattle.cvss.specs.declared.vector.Cvss.TheVariants.{CvssV20, CvssV30, CvssV40};
+ghost use Rattle.cvss.specs.VectorV4.{v4};
+ghost use Rattle.cvss.specs.Version.{IsComplete};
+ghost use Rattle.cvss_record.specs.Groups.{AreScoresOf, tenths_at};
+ghost use Rattle.cvss_record.specs.Record.{rating_word, score_number};
+
+use crate::group::Group;
+use cvss::tenths::tenths_of;
+use cvss::{Cvss, Severity, v2, v3, v4};
+use cvss_base::TENTH;
+
+/// The scores of a vector in tenths, from 0 to 100 each.
+#[derive(Clone, Copy, Debug, PartialEq, Eq)]
+pub struct Scores {
+    /// The base score; of CVSS v4.0 the score of the vector as it stands.
+    pub base: u8,
+    /// The temporal score of CVSS v2 and v3.
+    pub temporal: Option<u8>,
+    /// The environmental score of CVSS v2 and v3.
+    pub environmental: Option<u8>,
+}
+
+impl Scores {
+    /// The scores of a vector that has one.
+    pub fn of(cvss: &Cvss) -> Scores
+        requires { HasScore cvss.now }
+        ensures { AreScoresOf cvss.now result }
+    {
+        match cvss {
+            Cvss::CvssV20(vector) => Scores::of_v2(vector),
+            Cvss::CvssV30(vector) | Cvss::CvssV31(vector) => Scores::of_v3(vector),
+            Cvss::CvssV40(vector) => Scores::of_v4(vector),
+        }
+    }
+
+    fn of_v2(vector: &v2::Vector) -> Scores
+        ensures { AreScoresOf (CvssV20 vector.now) result }
+    {
+        Scores {
+            base: tenths_of(vector.score().value()),
+            temporal: Some(tenths_of(vector.temporal_score().value())),
+            environmental: Some(tenths_of(vector.environmental_score().value())),
+        }
+    }
+
+    fn of_v3(vector: &v3::Vector) -> Scores
+        ensures { AreScoresOf (CvssV30 vector.now) result }
+    {
+        Scores {
+            base: tenths_of(vector.base_score().value()),
+            temporal: Some(tenths_of(vector.temporal_score().value())),
+            environmental: Some(tenths_of(vector.environmental_score().value())),
+        }
+    }
+
+    fn of_v4(vector: &v4::Vector) -> Scores
+        requires { IsComplete v4 vector.now }
+        ensures { AreScoresOf (CvssV40 vector.now) result }
+    {
+        Scores {
+            base: tenths_of(vector.score().value()),
+            temporal: None,
+            environmental: None,
+        }
+    }
+
+    /// The tenths of a group's score, if the version has it.
+    pub fn at(&self, group: Group) -> Option<u8>
+        ensures { result ≡ tenths_at self.now group }
+    {
+        match group {
+            Group::Base => Some(self.base),
+            Group::Temporal => self.temporal,
+            Group::Environmental => self.environmental,
+        }
+    }
+}
+
+/// The number of a score of so many tenths: the double that is nearest to it.
+pub fn score_number(tenths: u8) -> f64
+    ensures { result ≡ score_number tenths }
+{
+    tenths as f64 / 10.0
+}
+
+/// The rating that the vector's version gives a score of so many tenths, as a record tells it.
+pub(crate) fn rating(cvss: &Cvss, tenths: u8) -> &'static str
+    ensures { result.now ≡ rating_word (rating_by cvss.now (score_of_tenths tenths)) }
+{
+    match cvss.severity_of(i128::from(tenths) * TENTH) {
+        Severity::None => "NONE",
+        Severity::Low => "LOW",
+        Severity::Medium => "MEDIUM",
+        Severity::High => "HIGH",
+        Severity::Critical => "CRITICAL",
+    }
+}

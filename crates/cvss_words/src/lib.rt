@@ -1,0 +1,11 @@
+//! The members and words of FIRST's JSON schemas for the metrics of all versions: `attackVector` for
+//! `AV`, and `NETWORK` for its value `N`.
+#![tactic(auto)]
+
+pub mod laws;
+pub mod v2;
+pub mod v3;
+pub mod v4;
+
+/// The word of a value that is not defined, spelled `ND` in CVSS v2 and `X` in v3 and v4.0.
+pub const NOT_DEFINED: &str = "NOT_DEFINED";
