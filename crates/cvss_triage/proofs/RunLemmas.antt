@@ -9,7 +9,7 @@ use Rattle.cvss_triage.specs.Exit.{fault_of}
 use Rattle.cvss_triage.specs.Lines.{lines, AreTexts}
 use Rattle.cvss_triage.specs.Runs.{ReadsAll, TellsOf, TellsArgument, IsTold}
 use Rattle.cvss_triage.specs.declared.fault.Fault.{Fault}
-use Rattle.cvss_triage.specs.declared.fault.Fault.TheVariants.{Read, Write, Memory, NotText, ArgumentNotText, Refused}
+use Rattle.cvss_triage.specs.declared.fault.Fault.TheVariants.{Read, Write, Memory, NotText, ArgumentNotText, UnknownOption, Refused}
 
 -- where all lines are texts, these are the lines
 pub all_lines : (lines : List (List ℕ)) (texts : List (Bor (List ℕ))) → AreTexts lines texts true → map (λ text. text.now) texts ≡ lines
@@ -42,4 +42,5 @@ IsTold-from overrides unread unread' input reads Write told = tt
 IsTold-from overrides unread unread' input reads Memory told = tt
 IsTold-from overrides unread unread' input reads (NotText index) told = (input, reads, told)
 IsTold-from overrides unread unread' input reads (ArgumentNotText index) told = (input, reads, told)
+IsTold-from overrides unread unread' input reads UnknownOption told = (input, reads, told)
 IsTold-from overrides unread unread' input reads (Refused error) told = (input, reads, told)

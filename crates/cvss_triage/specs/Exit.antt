@@ -8,7 +8,7 @@ use Rattle.cvss_ranking.specs.Faults as triage
 use Rattle.cvss_ranking.specs.declared.error.TriageError.{TriageError}
 use Rattle.cvss_ranking.specs.declared.error.TriageError.TheVariants.{Override, NotEnvironmental, Text, OutOfMemory}
 use Rattle.cvss_triage.specs.declared.fault.Fault.{Fault}
-use Rattle.cvss_triage.specs.declared.fault.Fault.TheVariants.{Read, Write, Memory, NotText, ArgumentNotText, Refused}
+use Rattle.cvss_triage.specs.declared.fault.Fault.TheVariants.{Read, Write, Memory, NotText, ArgumentNotText, UnknownOption, Refused}
 
 -- the fault that an error of triage is
 abbrev pub fault_of : TriageError → Fault
@@ -25,6 +25,7 @@ abbrev pub exit_status : Result (Unit {0}) Fault → ℕ
 exit_status (Ok _) = 0
 exit_status (Err (NotText index)) = 1
 exit_status (Err (ArgumentNotText index)) = 1
+exit_status (Err UnknownOption) = 1
 exit_status (Err (Refused error)) = 1
 exit_status (Err Read) = 2
 exit_status (Err Write) = 2
@@ -37,6 +38,7 @@ fault_text Write = codes "write failed"
 fault_text Memory = codes "out of memory"
 fault_text (NotText index) = codes "line " ++ decimal (index + 1) ++ codes ": not UTF-8"
 fault_text (ArgumentNotText index) = codes "argument " ++ decimal (index + 1) ++ codes ": not UTF-8"
+fault_text UnknownOption = codes "argument 1: no component, see `cvss_triage --help`"
 fault_text (Refused (Override index error)) = codes "argument " ++ decimal (index + 1) ++ codes ": " ++ error_text error
 fault_text (Refused (NotEnvironmental index)) = codes "argument " ++ decimal (index + 1) ++ codes ": no environmental CVSSv4 metric"
 fault_text (Refused (Text index error)) = codes "line " ++ decimal (index + 1) ++ codes ": " ++ error_text error
@@ -49,5 +51,6 @@ TellTheSame Write Write = ⊤
 TellTheSame Memory Memory = ⊤
 TellTheSame (NotText x) (NotText y) = x ≡ y
 TellTheSame (ArgumentNotText x) (ArgumentNotText y) = x ≡ y
+TellTheSame UnknownOption UnknownOption = ⊤
 TellTheSame (Refused x) (Refused y) = triage.TellTheSame x y
 TellTheSame _ _ = ⊥

@@ -11,7 +11,7 @@ use Rattle.cvss_ranking.specs.Triage.{AreRanked}
 use Rattle.cvss_triage.specs.Lines.{lines, IsNoText}
 use Rattle.cvss_triage.specs.Rows.{row_text}
 use Rattle.cvss_triage.specs.declared.fault.Fault.{Fault}
-use Rattle.cvss_triage.specs.declared.fault.Fault.TheVariants.{Read, Write, Memory, NotText, ArgumentNotText, Refused}
+use Rattle.cvss_triage.specs.declared.fault.Fault.TheVariants.{Read, Write, Memory, NotText, ArgumentNotText, UnknownOption, Refused}
 
 -- all of the input is read
 pub record ReadsAll (unread unread' : Option (List ℕ)) (input : List ℕ) : Type 0 where
@@ -53,6 +53,7 @@ TellsOf overrides input (NotText index) =
     (rows : List Row) × IsNoText (lines input) index × AreRanked (take index (lines input)) overrides rows
 TellsOf overrides input Memory = ⊤
 TellsOf overrides input (ArgumentNotText index) = ⊥
+TellsOf overrides input UnknownOption = ⊥
 TellsOf overrides input Read = ⊥
 TellsOf overrides input Write = ⊥
 
@@ -71,6 +72,7 @@ TellsArgument arguments place (Refused error) = TellsFirstFault [] (take place a
 TellsArgument arguments place (ArgumentNotText index) =
     (index ≡ place) × (vector : Vector) × AreOverrides (take place arguments) vector
 TellsArgument arguments place (NotText index) = ⊥
+TellsArgument arguments place UnknownOption = ⊥
 TellsArgument arguments place Memory = ⊤
 TellsArgument arguments place Read = ⊥
 TellsArgument arguments place Write = ⊥

@@ -12,7 +12,8 @@ pub fn exit_status(outcome: &Result<(), Fault>) -> u8
 {
     match outcome {
         Ok(()) => 0,
-        Err(Fault::NotText { .. } | Fault::ArgumentNotText { .. } | Fault::Refused(_)) => 1,
+        Err(Fault::NotText { .. } | Fault::ArgumentNotText { .. }) => 1,
+        Err(Fault::UnknownOption | Fault::Refused(_)) => 1,
         Err(_) => 2,
     }
 }

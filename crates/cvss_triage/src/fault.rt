@@ -23,6 +23,8 @@ pub enum Fault {
     NotText { index: usize },
     /// The argument at this place, counted from 0, is not UTF-8.
     ArgumentNotText { index: usize },
+    /// The first argument begins with `-` and is not `--help`.
+    UnknownOption,
     /// An override or a line is refused.
     Refused(TriageError),
 }
@@ -80,6 +82,9 @@ impl fmt::Display for Fault {
             Fault::NotText { index } => write!(f, "line {}: not UTF-8", *index as u128 + 1),
             Fault::ArgumentNotText { index } => {
                 write!(f, "argument {}: not UTF-8", *index as u128 + 1)
+            }
+            Fault::UnknownOption => {
+                f.write_str("argument 1: no component, see `cvss_triage --help`")
             }
             Fault::Refused(TriageError::NotEnvironmental { index }) => write!(
                 f,

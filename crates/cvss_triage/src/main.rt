@@ -1,5 +1,6 @@
 //! Reads vectors of CVSS v4.0 from standard input, one a line, puts the environmental metrics that
-//! are its arguments in place of theirs, and writes them in falling order of score.
+//! are its arguments in place of theirs, and writes them in falling order of score. `--help` prints
+//! how it is used.
 #![tactic(auto)]
 
 mod arguments;
@@ -7,6 +8,7 @@ mod exit;
 mod fault;
 pub mod laws;
 mod lines;
+mod program;
 mod rows;
 mod run;
 #[cfg(test)]
@@ -16,6 +18,7 @@ mod write;
 use arguments::arguments;
 pub use exit::exit_status;
 pub use fault::Fault;
+pub use program::{Request, USAGE, run_program};
 pub use run::{run, run_arguments};
 use std::process::ExitCode;
 
@@ -27,8 +30,8 @@ fn main(rt: HostRuntime) -> ExitCode {
     ExitCode::from(exit_status(&result))
 }
 
-/// Runs over standard input and output, with the arguments as overrides.
+/// Runs over standard input and output, with the program's arguments.
 fn triage(rt: &HostRuntime) -> Result<(), Fault> {
     let arguments = arguments(rt.alloc(), rt)?;
-    run_arguments(rt.alloc(), &arguments, &mut rt.stdin(), &mut rt.stdout())
+    run_program(rt.alloc(), &arguments, &mut rt.stdin(), &mut rt.stdout())
 }

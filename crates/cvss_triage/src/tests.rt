@@ -1,6 +1,6 @@
 //! Tests of whole runs, of faults and of what is told of them.
 
-use crate::{Fault, exit_status, run};
+use crate::{Fault, USAGE, exit_status, run, run_program};
 use cvss_ranking::TriageError;
 use std::alloc::Global;
 use std::io;
@@ -156,6 +156,27 @@ fn tells_the_first_refusal_and_writes_nothing(rt: HostRuntime) -> Result<(), Fai
 }
 
 #[test]
+fn looks_at_the_first_argument(rt: HostRuntime) -> Result<(), Fail> {
+    let rows: [(&[u8], &str, Result<(), Fault>); 5] = [
+        (b"--help", USAGE, Ok(())),
+        (b"-", "", Err(Fault::UnknownOption)),
+        (b"--helper", "", Err(Fault::UnknownOption)),
+        (b"-msi:s", "", Err(Fault::UnknownOption)),
+        (b"msi:s", "", Ok(())),
+    ];
+    for (argument, written, expected) in rows {
+        let mut bytes = Vec::new(rt.alloc());
+        bytes.extend_from_slice(argument)?;
+        let arguments = vec![in rt.alloc(); bytes]?;
+        let mut reader: &[u8] = b"";
+        let mut writer = Vec::new(rt.alloc());
+        let result = run_program(rt.alloc(), &arguments, &mut reader, &mut writer);
+        assert!(rt; result == expected && writer.as_slice() == written.as_bytes());
+    }
+    Ok(())
+}
+
+#[test]
 fn tells_failures_of_the_reader(rt: HostRuntime) -> Result<(), Fail> {
     let rows = [
         (ErrorKind::BrokenPipe, Fault::Read),
@@ -184,6 +205,10 @@ fn tells_every_fault(rt: HostRuntime) -> Result<(), Fail> {
         ("read failed", Fault::Read),
         ("write failed", Fault::Write),
         ("out of memory", Fault::Memory),
+        (
+            "argument 1: no component, see `cvss_triage --help`",
+            Fault::UnknownOption,
+        ),
         ("line 1: not UTF-8", Fault::NotText { index: 0 }),
         (
             "line 18446744073709551616: not UTF-8",

@@ -1,0 +1,105 @@
+//! The whole program: `--help`, or rows.
+
+ghost use Rattle.std.specs.Prelude.{◌≡◌, ◌≢◌, ◌⊎◌, ℕ, IfErr, IsErrOf, OnOk, take};
+ghost use Rattle.std.specs.Io.KnownBytes.{Appends, Keeps};
+ghost use Rattle.cvss_triage.specs.Program.{asked as asked_of, asked_by as asked_by_first, bytes_of};
+ghost use Rattle.cvss_triage.specs.Runs.{Ranks, RanksCut, IsTold, IsToldUnread};
+
+use crate::fault::Fault;
+use crate::run::run_arguments;
+use crate::write::write_whole;
+use std::alloc::Global;
+use std::io::{Read, Write};
+
+/// What `--help` prints.
+pub const USAGE: &str = "\
+usage: cvss_triage [METRIC:VALUE ...] < vectors
+
+Reads CVSS v4.0 vectors, one a line, puts the given environmental metrics in place of
+theirs, scores them again, and writes one row each in falling order of score: the score,
+its rating, the text that was scored, and the text as it was given. A METRIC is CR, IR,
+AR or a modified one; case is free:  cvss_triage msi:s cr:h < vectors
+
+Status: 0 the rows are written, 1 an argument or a line is refused, 2 another fault.
+";
+
+/// What the program is asked for.
+#[derive(Drop)]
+pub enum Request {
+    /// The usage, by `--help`.
+    Usage,
+    /// Something that there is not: the first argument begins with `-`, as no component does.
+    Unknown,
+    /// Rows.
+    Rows,
+}
+
+/// What the first argument asks for.
+fn asked(arguments: &[Vec<u8>]) -> Request
+    ensures { result ≡ asked_of arguments.now }
+{
+    match arguments.first() {
+        Some(first) => asked_by(first),
+        None => Request::Rows,
+    }
+}
+
+/// What a first argument asks for.
+fn asked_by(first: &[u8]) -> Request
+    ensures { result ≡ asked_by_first first.now }
+{
+    match first {
+        b"--help" => Request::Usage,
+        [b'-', ..] => Request::Unknown,
+        _ => Request::Rows,
+    }
+}
+
+/// Writes the usage, or runs as [`run_arguments`] does.
+///
+/// # Errors
+///
+/// A failure of the writer, after which a beginning of the usage may be written; a first argument
+/// that begins with `-` and is not `--help`, whereupon nothing is read or written; and those of
+/// `run_arguments`.
+pub fn run_program<R: Read, W: Write>(
+    alloc: Global,
+    arguments: &[Vec<u8>],
+    reader: &mut R,
+    writer: &mut W,
+) -> Result<(), Fault>
+    // The usage, for which nothing is read.
+    ensures usage { asked_of arguments.now ≡ Request.Usage
+        → OnOk result (Appends (W.contents writer.old) (W.contents writer.new) USAGE.now) }
+    ensures usage_cut { asked_of arguments.now ≡ Request.Usage
+        → IfErr result (λ fault. (fault ≡ Fault.Write) × ((count : ℕ)
+        × Appends (W.contents writer.old) (W.contents writer.new) (take count USAGE.now))) }
+    ensures unread { asked_of arguments.now ≢ Request.Rows
+        → Keeps (R.remaining reader.old) (R.remaining reader.new) }
+    // A first argument that is no component and not `--help`.
+    ensures unknown { asked_of arguments.now ≡ Request.Unknown
+        → (result ≡ Err Fault.UnknownOption) × Keeps (W.contents writer.old) (W.contents writer.new) }
+    // Rows.
+    ensures ranked { asked_of arguments.now ≡ Request.Rows
+        → OnOk result (Ranks (bytes_of arguments.now)
+        (R.remaining reader.old) (R.remaining reader.new)
+        (W.contents writer.old) (W.contents writer.new)) }
+    ensures cut { asked_of arguments.now ≡ Request.Rows
+        → IsErrOf result Fault.Write → RanksCut (bytes_of arguments.now)
+        (R.remaining reader.old) (R.remaining reader.new)
+        (W.contents writer.old) (W.contents writer.new) }
+    ensures refused { asked_of arguments.now ≡ Request.Rows
+        → IfErr result (λ fault. IsTold (bytes_of arguments.now)
+        (R.remaining reader.old) (R.remaining reader.new) fault
+        ⊎ IsToldUnread (bytes_of arguments.now)
+        (R.remaining reader.old) (R.remaining reader.new) fault) }
+    ensures silent { asked_of arguments.now ≡ Request.Rows
+        → IfErr result (λ fault. fault ≢ Fault.Write
+        → Keeps (W.contents writer.old) (W.contents writer.new)) }
+{
+    match asked(arguments) {
+        Request::Usage => write_whole(writer, USAGE.as_bytes()),
+        Request::Unknown => Err(Fault::UnknownOption),
+        Request::Rows => run_arguments(alloc, arguments, reader, writer),
+    }
+}
