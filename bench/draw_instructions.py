@@ -86,7 +86,8 @@ def drawing():
     for power in range(low, high + 1):
         x = place(10 ** power)
         parts.append(f'<path d="M{x:.0f},{TOP - 8}V{height - 24}" stroke="#ddd"/>'
-                     f'<text x="{x:.0f}" y="{height - 8}" text-anchor="middle">{10 ** power:,}</text>')
+                     f'<text x="{x:.0f}" y="{height - 8}" text-anchor="middle">'
+                     f'{10 ** power:,}</text>')
     y = TOP
     for text, row in groups:
         parts.append(label(text, 12, y + 11))

@@ -124,7 +124,8 @@ def line_of(way, places):
     for (x, y), (to, down) in zip(points, points[1:]):
         start, end = y + HEIGHT / 2, down - HEIGHT / 2
         half = (start + end) / 2
-        path.append(f"L{x:.0f},{start:.0f}C{x:.0f},{half:.0f} {to:.0f},{half:.0f} {to:.0f},{end:.0f}")
+        path.append(f"L{x:.0f},{start:.0f}"
+                    f"C{x:.0f},{half:.0f} {to:.0f},{half:.0f} {to:.0f},{end:.0f}")
     return f'<path d="{"".join(path)}" marker-end="url(#tip)"/>'
 
 
@@ -140,7 +141,8 @@ def drawing():
     places, width, height = places_of(rows)
     arrows = [line_of(way, places) for way in ways]
     boxes = [box_of(name, kinds[name], *places[name]) for name in needs]
-    legend = [box_of(kind, kind, MARGIN + WIDTH / 2 + at * (WIDTH + GAP), height - MARGIN - HEIGHT / 2)
+    bottom = height - MARGIN - HEIGHT / 2
+    legend = [box_of(kind, kind, MARGIN + WIDTH / 2 + at * (WIDTH + GAP), bottom)
               for at, kind in enumerate(COLOURS)]
     return "\n".join([
         f'<svg xmlns="http://www.w3.org/2000/svg" viewBox="0 0 {width:.0f} {height:.0f}" '

@@ -2,7 +2,7 @@
 
 ghost use Rattle.std.specs.Prelude.{◌≡◌, ◌≢◌, ◌⊎◌, ℕ, IfErr, IsErrOf, OnOk, take};
 ghost use Rattle.std.specs.Io.KnownBytes.{Appends, Keeps};
-ghost use Rattle.cvss_triage.specs.Program.{asked as asked_of, asked_by as asked_by_first, bytes_of};
+ghost use Rattle.cvss_triage.specs.Program.{asked as asked_of, asked_by as asked_first, bytes_of};
 ghost use Rattle.cvss_triage.specs.Runs.{Ranks, RanksCut, IsTold, IsToldUnread};
 
 use crate::fault::Fault;
@@ -46,7 +46,7 @@ fn asked(arguments: &[Vec<u8>]) -> Request
 
 /// What a first argument asks for.
 fn asked_by(first: &[u8]) -> Request
-    ensures { result ≡ asked_by_first first.now }
+    ensures { result ≡ asked_first first.now }
 {
     match first {
         b"--help" => Request::Usage,
@@ -78,7 +78,8 @@ pub fn run_program<R: Read, W: Write>(
         → Keeps (R.remaining reader.old) (R.remaining reader.new) }
     // A first argument that is no component and not `--help`.
     ensures unknown { asked_of arguments.now ≡ Request.Unknown
-        → (result ≡ Err Fault.UnknownOption) × Keeps (W.contents writer.old) (W.contents writer.new) }
+        → (result ≡ Err Fault.UnknownOption)
+        × Keeps (W.contents writer.old) (W.contents writer.new) }
     // Rows.
     ensures ranked { asked_of arguments.now ≡ Request.Rows
         → OnOk result (Ranks (bytes_of arguments.now)
