@@ -7,3 +7,4 @@ pub mod LinesLemmas
 pub mod MetricLemmas
 pub mod PartLemmas
 pub mod RatingLemmas
+pub mod UndefinedLemmas

@@ -10,6 +10,7 @@ mod buffer;
 mod calls;
 mod canonical;
 mod defined;
+pub mod laws;
 mod lines;
 mod metrics;
 mod numbers;
