@@ -11,14 +11,14 @@
  * returns the length of the whole result, whatever the buffer's size: where it is more than the size, the
  * buffer is left as it was, and the caller may call again with a larger one. No byte 0 is written.
  *
- * Pointers. A text or a buffer may be NULL where its length or size is 0: it is empty. A struct, and
+ * Pointers. A text, a buffer or an array may be NULL where its length or size is 0: it is empty. A struct, and
  * `read`, may not be NULL. What is written must not overlap what is read.
  *
  * Threads. The functions keep no state: any number of threads may call them at once, each with its own
  * buffer or struct.
  *
- * Memory. cvss_version, cvss_scores and cvss_canonical take none, and no function takes any for a text that
- * is accepted. To tell why a text is refused, the others call malloc, realloc and free, and free what they
+ * Memory. cvss_version, cvss_scores, cvss_canonical, cvss_metrics and cvss_without_undefined take none, and no
+ * function takes any for a text that is accepted. To tell why a text is refused, the others call malloc, realloc and free, and free what they
  * took before they return; where malloc refuses, a reason that carries a part of the text is told as
  * "out of memory". So these must not be called from a signal handler, or in a child that was forked from a process
  * with threads.
@@ -89,9 +89,36 @@ bool cvss_scores(const void *text, size_t length, CvssScores *scores);
  * large enough. Returns 0, and leaves the buffer as it was, where the text denotes no vector.
  *
  * Cut at each '/', the canonical text is the list of the vector's metrics, behind the piece CVSS:3.0, CVSS:3.1
- * or CVSS:4.0 of those versions: each piece is a name, a colon and a value.
+ * or CVSS:4.0 of those versions: each piece is a name, a colon and a value, which cvss_metrics tells as pairs.
  */
 size_t cvss_canonical(const void *text, size_t length, void *buffer, size_t size);
+
+/*
+ * A metric of a vector: its abbreviation, as "MSI", and how its value is spelled, as "S". Bytes 0 fill each field, so
+ * that it ends as a string does: no abbreviation has more than 3 bytes, and no value more than 5.
+ */
+typedef struct CvssMetric {
+    char name[8];
+    char value[8];
+} CvssMetric;
+
+/* No vector has more metrics. */
+enum { CVSS_MOST_METRICS = 32 };
+
+/*
+ * The metrics that the vector has, in the order of its canonical text. Returns how many they are, and writes them where
+ * `count`, the length of the array, is not less; a smaller array is left as it was. Returns 0, and leaves the array as
+ * it was, where the text denotes no vector.
+ */
+size_t cvss_metrics(const void *text, size_t length, CvssMetric *metrics, size_t count);
+
+/*
+ * The vector's canonical text without the metrics that are not defined (X, in v2 ND), which has the same scores; so a
+ * buffer as long as the text is large enough. Where no metric is defined, as may be in v3, all are kept. Returns its
+ * length. Returns 0, and leaves the buffer as it was, where the text denotes no vector. The nomenclature of v4.0 may
+ * become another: it counts a metric that is given as X.
+ */
+size_t cvss_without_undefined(const void *text, size_t length, void *buffer, size_t size);
 
 /*
  * The first reason why the text denotes no vector, as "unknown CVSS metric name: `XX`", in the encoding of the

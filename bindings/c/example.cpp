@@ -22,6 +22,10 @@ int main()
     cvss_canonical(text.data(), text.size(), &canonical[0], canonical.size());
     std::cout << canonical << ' ' << scores.base / 10 << '.' << scores.base % 10 << ' ' << ratings[scores.severity]
               << '\n';
+    CvssMetric metrics[CVSS_MOST_METRICS];
+    const size_t count = cvss_metrics(text.data(), text.size(), metrics, CVSS_MOST_METRICS);
+    if (count != 8 || metrics[7].name != std::string("A") || metrics[7].value != std::string("H"))
+        return 1;
     std::cout << reason_of("CVSS:3.1/AV:Q") << '\n';
     return std::cout.flush() ? 0 : 2;
 }

@@ -39,17 +39,34 @@ static void print_score(int32_t tenths, int32_t severity)
         printf(" %d.%d %s", (int)(tenths / 10), (int)(tenths % 10), ratings[severity]);
 }
 
-/* The metrics are the pieces of the canonical text, but for the piece that tells the version. */
-static void print_metrics(char *canonical)
+/* Writes the metrics, but for those that are not defined where these are left out, as pieces of a text. */
+static void put_metrics(const char *text, size_t length, bool without_undefined, const char *format, char *told)
 {
-    for (char *piece = strtok(canonical, "/"); piece != NULL; piece = strtok(NULL, "/")) {
-        char *colon = strchr(piece, ':');
-        if (colon == NULL)
-            exit(3);
-        *colon = '=';
-        if (strncmp(piece, "CVSS=", 5) != 0)
-            printf(" %s", piece);
+    CvssMetric metrics[CVSS_MOST_METRICS], untouched = {"#", "#"};
+    size_t count = cvss_metrics(text, length, metrics, CVSS_MOST_METRICS);
+    if (count > CVSS_MOST_METRICS || cvss_metrics(text, length, &untouched, 1) != count)
+        exit(3);
+    if (count > 1 && untouched.name[0] != '#')
+        exit(3);
+    for (size_t i = 0; i < count; i++) {
+        const CvssMetric *metric = &metrics[i];
+        if (without_undefined && (strcmp(metric->value, "X") == 0 || strcmp(metric->value, "ND") == 0))
+            continue;
+        told += sprintf(told, format, metric->name, metric->value);
     }
+}
+
+/* Whether the text has the defined metrics of the canonical text, and no others; or all, where none is defined. */
+static bool is_without_undefined(const char *shorter, const char *canonical, size_t length)
+{
+    char expected[400] = "";
+    bool has_version = strncmp(canonical, "CVSS:", 5) == 0;
+    put_metrics(canonical, length, true, "/%s:%s", expected + 8);
+    if (has_version)
+        memcpy(expected, canonical, 8);
+    if (has_version && expected[8] == '\0')
+        return strcmp(shorter, canonical) == 0;
+    return strcmp(shorter, has_version ? expected : expected + 9) == 0;
 }
 
 static void print_vector(const char *text, size_t length, const CvssScores *scores)
@@ -64,7 +81,13 @@ static void print_vector(const char *text, size_t length, const CvssScores *scor
     print_score(scores->base, scores->severity);
     print_score(scores->temporal, scores->temporal_severity);
     print_score(scores->environmental, scores->environmental_severity);
-    print_metrics(canonical);
+    char metrics[400] = "";
+    put_metrics(text, length, false, " %s=%s", metrics);
+    printf("%s", metrics);
+    char *shorter = written(cvss_without_undefined, text, length, &told);
+    if (!is_without_undefined(shorter, canonical, length))
+        exit(3);
+    free(shorter);
     free(canonical);
 }
 

@@ -10,10 +10,15 @@ int main(void)
     size_t length = sizeof text - 1;
     char buffer[80];
     CvssScores scores = {0};
+    CvssMetric metrics[6] = {{"", ""}};
     size_t told = cvss_reason(NULL, 0, buffer, sizeof buffer);
     int right = told == sizeof empty - 1 && memcmp(buffer, empty, told) == 0;
     right &= cvss_version(NULL, 0) == CVSS_NOTHING && !cvss_scores(NULL, 0, &scores);
     right &= cvss_canonical(NULL, 0, NULL, 0) == 0 && cvss_canonical(text, length, NULL, 0) == length;
+    right &= cvss_metrics(NULL, 0, NULL, 0) == 0 && cvss_metrics(text, length, NULL, 0) == 6;
+    right &= cvss_metrics(text, length, metrics, 5) == 6 && metrics[0].name[0] == '\0';
+    right &= cvss_metrics(text, length, metrics, 6) == 6 && strcmp(metrics[5].value, "C") == 0;
+    right &= cvss_without_undefined(NULL, 0, NULL, 0) == 0 && cvss_without_undefined(text, length, NULL, 0) == length;
     right &= cvss_reason(NULL, 0, NULL, 0) == told && cvss_reason(text, length, NULL, 0) == 0;
     right &= cvss_refusal_kind(NULL, 0) == CVSS_INVALID_COMPONENT;
     right &= cvss_refusal_metric(NULL, 0, NULL, 0) == 0 && cvss_refusal_metric("AV:N/AC:q", 9, NULL, 0) == 2;

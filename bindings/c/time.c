@@ -27,6 +27,17 @@ static size_t canonical(const char *text, size_t length)
     return cvss_canonical(text, length, buffer, sizeof buffer);
 }
 
+static size_t metrics(const char *text, size_t length)
+{
+    CvssMetric told[CVSS_MOST_METRICS];
+    return cvss_metrics(text, length, told, CVSS_MOST_METRICS) + (size_t)told[0].name[0];
+}
+
+static size_t without_undefined(const char *text, size_t length)
+{
+    return cvss_without_undefined(text, length, buffer, sizeof buffer);
+}
+
 static size_t answer(const char *text, size_t length)
 {
     return cvss_answer(text, length, buffer, sizeof buffer);
@@ -82,6 +93,8 @@ int main(void)
         return 1;
     print_time("cvss_scores", scores);
     print_time("cvss_canonical", canonical);
+    print_time("cvss_metrics", metrics);
+    print_time("cvss_without_undefined", without_undefined);
     print_time("cvss_answer", answer);
     print_time("cvss_answers", many);
     return 0;

@@ -123,12 +123,12 @@ func (v Vector) IsComplete() bool { return v.isComplete }
 
 // Metrics are the metrics that the vector has, in the order of its canonical text.
 func (v Vector) Metrics() []Metric {
-	var metrics []Metric
-	for _, piece := range strings.Split(v.text, "/") {
-		name, value, found := strings.Cut(piece, ":")
-		if found && name != "CVSS" {
-			metrics = append(metrics, Metric{name, value})
-		}
+	code, length := bytesOf(v.text)
+	var told [C.CVSS_MOST_METRICS]C.CvssMetric
+	count := C.cvss_metrics(pointer(code), length, &told[0], C.size_t(len(told)))
+	metrics := make([]Metric, count)
+	for i := range metrics {
+		metrics[i] = Metric{C.GoString(&told[i].name[0]), C.GoString(&told[i].value[0])}
 	}
 	return metrics
 }
@@ -137,18 +137,17 @@ func (v Vector) Metrics() []Metric {
 const environmental = " CDP TD CR IR AR MAV MAC MAT MPR MUI MS MC MI MA MVC MVI MVA MSC MSI MSA "
 
 // WithoutUndefined is the vector without the metrics that are not defined (X, in v2 ND): it has the same scores. A
-// vector of v3 that has no others is given as it is.
+// vector of v3 that has no others is given as it is. The nomenclature of v4.0 may become another, since it counts a
+// metric that is given as X.
 func (v Vector) WithoutUndefined() Vector {
-	var pieces []string
-	for _, piece := range strings.Split(v.text, "/") {
-		if !strings.HasSuffix(piece, ":X") && !strings.HasSuffix(piece, ":ND") {
-			pieces = append(pieces, piece)
-		}
+	code, length := bytesOf(v.text)
+	shorter, err := Parse(written(len(v.text), func(buffer unsafe.Pointer, size C.size_t) C.size_t {
+		return C.cvss_without_undefined(pointer(code), length, buffer, size)
+	}))
+	if err != nil {
+		return v
 	}
-	if shorter, err := Parse(strings.Join(pieces, "/")); err == nil {
-		return shorter
-	}
-	return v
+	return shorter
 }
 
 // WithOverrides is the vector with an organisation's environmental metrics in place of its own, or beside them. The

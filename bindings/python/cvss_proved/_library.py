@@ -9,7 +9,7 @@ from __future__ import annotations
 import ctypes
 import os
 from pathlib import Path
-from typing import Callable, List, Optional, Union
+from typing import Callable, List, Optional, Tuple, Union
 
 Text = Union[str, bytes, bytearray, memoryview]
 
@@ -32,6 +32,15 @@ class Scores(ctypes.Structure):
         ("is_complete", ctypes.c_int32),
         ("reserved", ctypes.c_int32 * 7),
     ]
+
+
+class Metric(ctypes.Structure):
+    """The struct CvssMetric of cvss.h."""
+
+    _fields_ = [("name", ctypes.c_char * 8), ("value", ctypes.c_char * 8)]
+
+
+_MOST_METRICS = 32
 
 
 def _places() -> List[Path]:
@@ -62,12 +71,15 @@ def _declared(library: ctypes.CDLL) -> ctypes.CDLL:
     library.cvss_refusal_kind.restype = ctypes.c_int32
     for call in (
         library.cvss_canonical,
+        library.cvss_without_undefined,
         library.cvss_reason,
         library.cvss_refusal_metric,
         library.cvss_answer,
     ):
         call.argtypes = text + [ctypes.c_char_p, ctypes.c_size_t]
         call.restype = ctypes.c_size_t
+    library.cvss_metrics.argtypes = text + [ctypes.POINTER(Metric), ctypes.c_size_t]
+    library.cvss_metrics.restype = ctypes.c_size_t
     many = text + [ctypes.c_char_p, ctypes.c_size_t]
     library.cvss_answers.argtypes = many + [ctypes.POINTER(ctypes.c_size_t)]
     library.cvss_answers.restype = ctypes.c_size_t
@@ -106,6 +118,18 @@ def scores(text: bytes) -> Optional[Scores]:
 def canonical(text: bytes) -> str:
     """The canonical text of the vector that a text denotes, or nothing."""
     return _written(_library.cvss_canonical, text, len(text) + 1)
+
+
+def metrics(text: bytes) -> List[Tuple[str, str]]:
+    """The metrics of the vector that a text denotes, as pairs of name and value, or none."""
+    array = (Metric * _MOST_METRICS)()
+    count = _library.cvss_metrics(text, len(text), array, _MOST_METRICS)
+    return [(metric.name.decode(), metric.value.decode()) for metric in array[:count]]
+
+
+def without_undefined(text: bytes) -> str:
+    """The canonical text of the vector that a text denotes, without its undefined metrics, or nothing."""
+    return _written(_library.cvss_without_undefined, text, len(text) + 1)
 
 
 def reason(text: bytes) -> str:

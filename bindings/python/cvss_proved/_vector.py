@@ -140,19 +140,18 @@ class Vector:
         >>> Vector("AV:N/AC:L/Au:N/C:N/I:N/A:C").metrics
         {'AV': 'N', 'AC': 'L', 'Au': 'N', 'C': 'N', 'I': 'N', 'A': 'C'}
         """
-        components = (piece.split(":") for piece in self._text.split("/"))
-        return {name: value for name, value in components if name != "CVSS"}
+        return dict(_library.metrics(self._text.encode()))
 
     def without_undefined(self) -> Vector:
         """The vector without the metrics that are not defined (`X`, in v2 `ND`): it has the same scores.
 
-        A vector of v3 that has no others is given as it is.
+        A vector of v3 that has no others is given as it is. The nomenclature of v4.0 may become another, since it
+        counts a metric that is given as X.
 
         >>> str(Vector("AV:N/AC:L/Au:N/C:N/I:N/A:C/E:ND/TD:H").without_undefined())
         'AV:N/AC:L/Au:N/C:N/I:N/A:C/TD:H'
         """
-        pieces = [piece for piece in self._text.split("/") if not piece.endswith((":X", ":ND"))]
-        return self if pieces in (["CVSS:3.0"], ["CVSS:3.1"]) else Vector("/".join(pieces))
+        return Vector(_library.without_undefined(self._text.encode()))
 
     def with_overrides(self, overrides: Mapping[str, str]) -> Vector:
         """The vector with an organisation's environmental metrics in place of its own, or beside them.

@@ -19,9 +19,32 @@ pub(crate) struct CvssScores {
     reserved: [i32; 7],
 }
 
+/// The struct of the same name in `cvss.h`.
+#[derive(Clone, Copy, Default)]
+#[repr(C)]
+pub(crate) struct CvssMetric {
+    pub(crate) name: [u8; 8],
+    pub(crate) value: [u8; 8],
+}
+
+/// No vector has more metrics.
+const MOST_METRICS: usize = 32;
+
 extern "C" {
     fn cvss_scores(text: *const u8, length: usize, scores: *mut CvssScores) -> bool;
     fn cvss_canonical(text: *const u8, length: usize, buffer: *mut u8, size: usize) -> usize;
+    fn cvss_metrics(
+        text: *const u8,
+        length: usize,
+        metrics: *mut CvssMetric,
+        count: usize,
+    ) -> usize;
+    fn cvss_without_undefined(
+        text: *const u8,
+        length: usize,
+        buffer: *mut u8,
+        size: usize,
+    ) -> usize;
     fn cvss_reason(text: *const u8, length: usize, buffer: *mut u8, size: usize) -> usize;
     fn cvss_refusal_kind(text: *const u8, length: usize) -> i32;
     fn cvss_refusal_metric(text: *const u8, length: usize, buffer: *mut u8, size: usize) -> usize;
@@ -48,6 +71,32 @@ pub(crate) fn canonical(text: &[u8]) -> Vec<u8> {
     written(text.len(), |buffer| {
         // SAFETY: the pointers are those of slices that live through the call and do not overlap.
         unsafe { cvss_canonical(text.as_ptr(), text.len(), buffer.as_mut_ptr(), buffer.len()) }
+    })
+}
+
+/// The metrics of the vector that a text denotes, or none.
+pub(crate) fn metrics(text: &[u8]) -> Vec<CvssMetric> {
+    let mut metrics = vec![CvssMetric::default(); MOST_METRICS];
+    // SAFETY: the pointers are those of slices that live through the call and do not overlap.
+    let count = unsafe {
+        cvss_metrics(
+            text.as_ptr(),
+            text.len(),
+            metrics.as_mut_ptr(),
+            metrics.len(),
+        )
+    };
+    metrics.truncate(count);
+    metrics
+}
+
+/// The canonical text of the vector that a text denotes, without its undefined metrics, or nothing.
+pub(crate) fn without_undefined(text: &[u8]) -> Vec<u8> {
+    written(text.len(), |buffer| {
+        // SAFETY: as above.
+        unsafe {
+            cvss_without_undefined(text.as_ptr(), text.len(), buffer.as_mut_ptr(), buffer.len())
+        }
     })
 }
 

@@ -25,7 +25,7 @@ mod vector;
 
 pub use numbers::{Nomenclature, Score, Severity, UnknownName, Version};
 pub use refused::{OverrideError, Refused, RefusedKind};
-pub use vector::Cvss;
+pub use vector::{Cvss, Metric};
 
 /// The line that the program `cvss_tool` answers to a text, which need not be UTF-8, without the
 /// newline: the canonical text, the score and its rating, or `error: ` and the reason.

@@ -1,11 +1,45 @@
 //! A vector, and what is known of it.
 
-use crate::calls::{self, CvssScores};
+use crate::calls::{self, CvssMetric, CvssScores};
 use crate::{Nomenclature, OverrideError, Refused, Score, Severity, Version};
 use std::cmp::Ordering;
 use std::fmt;
 use std::hash::{Hash, Hasher};
 use std::str::FromStr;
+
+/// A metric of a vector, by its abbreviation, and the spelling of the vector's value for it.
+#[derive(Clone, Copy, Debug, PartialEq, Eq, Hash)]
+pub struct Metric {
+    name: [u8; 8],
+    value: [u8; 8],
+}
+
+impl Metric {
+    fn of(metric: &CvssMetric) -> Metric {
+        Metric {
+            name: metric.name,
+            value: metric.value,
+        }
+    }
+
+    /// The abbreviation, as `MSI`.
+    #[must_use]
+    pub fn name(&self) -> &str {
+        field_text(&self.name)
+    }
+
+    /// The value as it is spelled, as `S`.
+    #[must_use]
+    pub fn value(&self) -> &str {
+        field_text(&self.value)
+    }
+}
+
+/// What stands before the bytes 0 of a field.
+fn field_text(field: &[u8; 8]) -> &str {
+    let end = field.iter().position(|byte| *byte == 0).unwrap_or(8);
+    std::str::from_utf8(&field[..end]).unwrap_or_default()
+}
 
 /// A vector with its canonical text and its scores.
 ///
@@ -126,18 +160,20 @@ impl Cvss {
     ///
     /// ```
     /// let cvss = cvss_proved::Cvss::parse("CVSS:3.1/S:C/AV:N")?;
-    /// assert_eq!(cvss.metrics().collect::<Vec<_>>(), [("AV", "N"), ("S", "C")]);
+    /// let metrics = cvss.metrics();
+    /// assert_eq!((metrics[0].name(), metrics[0].value()), ("AV", "N"));
+    /// assert_eq!((metrics[1].name(), metrics[1].value()), ("S", "C"));
     /// # Ok::<(), cvss_proved::Refused>(())
     /// ```
-    pub fn metrics(&self) -> impl Iterator<Item = (&str, &str)> {
-        let pieces = self.text.split('/');
-        pieces
-            .filter_map(|piece| piece.split_once(':'))
-            .filter(|(name, _)| *name != "CVSS")
+    #[must_use]
+    pub fn metrics(&self) -> Vec<Metric> {
+        let metrics = calls::metrics(self.text.as_bytes());
+        metrics.iter().map(Metric::of).collect()
     }
 
     /// The vector without the metrics that are not defined (`X`, in v2 `ND`): it has the same
-    /// scores. A vector of v3 that has no others is given as it is.
+    /// scores. A vector of v3 that has no others is given as it is. The nomenclature of v4.0 may
+    /// become another, since it counts a metric that is given as `X`.
     ///
     /// ```
     /// let cvss = cvss_proved::Cvss::parse("AV:N/AC:L/Au:N/C:N/I:N/A:C/E:ND/TD:H")?;
@@ -146,9 +182,8 @@ impl Cvss {
     /// ```
     #[must_use]
     pub fn without_undefined(&self) -> Cvss {
-        let is_defined = |piece: &&str| !(piece.ends_with(":X") || piece.ends_with(":ND"));
-        let pieces: Vec<&str> = self.text.split('/').filter(is_defined).collect();
-        Cvss::parse(&pieces.join("/")).unwrap_or_else(|_| self.clone())
+        let shorter = calls::without_undefined(self.text.as_bytes());
+        Cvss::parse_bytes(&shorter).unwrap_or_else(|_| self.clone())
     }
 
     /// The vector with an organisation's environmental metrics, as pairs of name and value, in

@@ -1,7 +1,7 @@
 //! The vectors that are kept in the repository, with their answers.
 
 use cvss_proved::{
-    answer, answer_lines, Cvss, Nomenclature, OverrideError, Refused, RefusedKind, Score, Severity,
+    answer, answer_lines, Cvss, Metric, Nomenclature, OverrideError, Refused, RefusedKind, Score, Severity,
     Version,
 };
 use std::fs;
@@ -36,7 +36,8 @@ fn vector_facts(cvss: &Cvss) -> String {
     let nomenclature = cvss.nomenclature();
     let metrics: Vec<String> = cvss
         .metrics()
-        .map(|(name, value)| format!("{name}={value}"))
+        .iter()
+        .map(|metric| format!("{}={}", metric.name(), metric.value()))
         .collect();
     [
         cvss.to_string(),
@@ -105,9 +106,19 @@ fn what_is_not_defined_scores_as_absent() {
         );
         assert_eq!(cvss.with_overrides(&[]).as_ref(), Ok(&cvss));
         let own = cvss.with_overrides(&[("IR", "H")]).unwrap();
-        assert!(own.metrics().any(|metric| metric == ("IR", "H")), "{cvss}");
-        let others = |cvss: &Cvss| cvss.metrics().filter(|(name, _)| *name != "IR").count();
+        let is_own = |metric: &Metric| (metric.name(), metric.value()) == ("IR", "H");
+        assert!(own.metrics().iter().any(is_own), "{cvss}");
+        let others = |cvss: &Cvss| -> Vec<Metric> {
+            let metrics = cvss.metrics().into_iter();
+            metrics.filter(|metric| metric.name() != "IR").collect()
+        };
         assert_eq!(others(&own), others(&cvss), "{cvss}");
+        let is_defined = |metric: &Metric| !["X", "ND"].contains(&metric.value());
+        let defined: Vec<Metric> = cvss.metrics().into_iter().filter(is_defined).collect();
+        assert!(
+            shorter.metrics() == defined || defined.is_empty() && shorter == cvss,
+            "{cvss}"
+        );
     }
 }
 

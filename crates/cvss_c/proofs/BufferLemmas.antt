@@ -18,18 +18,18 @@ module _ {V K : Type 0} (version : Version V K) (v : V) (kinds : List K) (i : �
       (length-flat_map-take (slashed_text version v) kinds i kind within)
 
 -- no text is written yet
-pub nothing_put : (old : List ℕ) → HasPut old [] old 0
+pub nothing_put : {X : Type 0} (old : List X) → HasPut old [] old 0
 nothing_put old = record { begins = refl; place_is = refl }
 
 -- a text that fits, and stands there
-pub IsWritten-put : (text old now : List ℕ) (place told : ℕ) → length text ≤ length old → told ≡ length text → HasPut old text now place → IsWritten text old now told
+pub IsWritten-put : {X : Type 0} (text old now : List X) (place told : ℕ) → length text ≤ length old → told ≡ length text → HasPut old text now place → IsWritten text old now told
 IsWritten-put text old now place told fits told_is put = record {
   told_is = told_is;
   now_is = rw (le-leb (length text) (length old) fits) put.begins;
 }
 
 -- a text that does not fit, and a buffer that is left as it was
-pub IsWritten-left : (text old : List ℕ) (told : ℕ) → length old < length text → told ≡ length text → IsWritten text old old told
+pub IsWritten-left : {X : Type 0} (text old : List X) (told : ℕ) → length old < length text → told ≡ length text → IsWritten text old old told
 IsWritten-left text old told large told_is = record {
   told_is = told_is;
   now_is = rw (lt-leb (length text) (length old) large);

@@ -1,7 +1,10 @@
 pub mod AnswerLemmas
 pub mod BufferLemmas
 pub mod CanonicalLemmas
+pub mod DefinedLemmas
 pub mod LengthLemmas
 pub mod LinesLemmas
+pub mod MetricLemmas
 pub mod PartLemmas
 pub mod RatingLemmas
+pub mod UndefinedLemmas

@@ -1,27 +1,27 @@
--- A buffer of the caller, into which a text is written.
+-- A buffer of the caller, into which a text is written, or an array, into which items are.
 use Rattle.std.specs.Prelude.{◌≡◌, ℕ, List, ◌++◌, length, drop, nat_le, if◌then◌else◌}
 
 -- the buffer with the text at its beginning, and behind it as it was
-abbrev pub begun : List ℕ → List ℕ → List ℕ
+abbrev pub begun : {X : Type 0} → List X → List X → List X
 begun text old = text ++ drop (length text) old
 
 -- the text's length is told, and the text stands at the beginning of the buffer where it fits; a buffer that
 -- is too small is left as it was
-pub record IsWritten (text old now : List ℕ) (told : ℕ) : Type 0 where
+pub record IsWritten {X : Type 0} (text old now : List X) (told : ℕ) : Type 0 where
   pub told_is : told ≡ length text
   pub now_is : now ≡ if nat_le (length text) (length old) then begun text old else old
 
 -- 0 is told, and the buffer is left as it was
-pub record IsLeft (old now : List ℕ) (told : ℕ) : Type 0 where
+pub record IsLeft {X : Type 0} (old now : List X) (told : ℕ) : Type 0 where
   pub told_is : told ≡ 0
   pub now_is : now ≡ old
 
 -- the text stands at the beginning of the buffer, up to this place
-pub record HasPut (old text now : List ℕ) (place : ℕ) : Type 0 where
+pub record HasPut {X : Type 0} (old text now : List X) (place : ℕ) : Type 0 where
   pub begins : now ≡ begun text old
   pub place_is : place ≡ length text
 
 -- where some text stands up to the first place, this one stands behind it up to the second
-abbrev pub Puts : List ℕ → List ℕ → ℕ → List ℕ → ℕ → Type 0
-Puts text before from after to =
-    (old first : List ℕ) → HasPut old first before from → HasPut old (first ++ text) after to
+abbrev pub Puts : {X : Type 0} → List X → List X → ℕ → List X → ℕ → Type 0
+Puts {X} text before from after to =
+    (old first : List X) → HasPut old first before from → HasPut old (first ++ text) after to

@@ -1,4 +1,4 @@
-//! Texts in a buffer of the caller, without memory.
+//! Texts in a buffer of the caller, and items in an array, without memory.
 
 ghost use Rattle.std.specs.Prelude.{◌≡◌, ◌≤◌, ◌+◌, ◌++◌, length};
 ghost use Rattle.cvss_base.specs.Printing.{slashed_texts};
@@ -6,8 +6,8 @@ ghost use Rattle.cvss_c.specs.Buffer.{HasPut, IsWritten, Puts};
 
 use cvss_base::print::Printed;
 
-/// Writes a text from a place in a buffer on, and tells the place behind it.
-pub(crate) fn put(text: &[u8], buffer: &mut [u8], place: usize) -> usize
+/// Writes a text, or items, from a place in a buffer on, and tells the place behind it.
+pub(crate) fn put<T: Copy>(text: &[T], buffer: &mut [T], place: usize) -> usize
     requires room { place + length text.now ≤ length buffer.old }
     ensures place { result ≡ place + length text.now }
     ensures text { Puts text.now buffer.old place buffer.new result }

@@ -6,18 +6,22 @@ ghost use Rattle.cvss.specs.Dispatch.{DenotesCvss};
 ghost use Rattle.cvss.specs.declared.vector.Cvss.{Cvss};
 ghost use Rattle.cvss_c.specs.Answers.{Answers, IsAnswer, IsReason};
 ghost use Rattle.cvss_c.specs.Buffer.{IsLeft, IsWritten};
+ghost use Rattle.cvss_c.specs.Defined.{text_without_undefined};
 ghost use Rattle.cvss_c.specs.Lines.{AnswersLines};
+ghost use Rattle.cvss_c.specs.Metrics.{metrics_in_order};
 ghost use Rattle.cvss_c.specs.Refusals.{IsBlamed, IsKind};
 ghost use Rattle.cvss_c.specs.Scores.{AreScoresOf, nothing, version_number as number_of_version};
 
-use crate::CvssScores;
 use crate::answer::put_answer;
 use crate::buffer::put_both;
 use crate::canonical::put_canonical;
+use crate::defined::put_without_undefined;
 use crate::lines::put_answers;
+use crate::metrics::put_metrics;
 use crate::numbers::{NOTHING, version_number};
 use crate::reason::put_reason;
 use crate::refusal::{ACCEPTED, blamed_by, kind_of};
+use crate::{CvssMetric, CvssScores};
 use cvss::Cvss;
 use std::alloc::Global;
 
@@ -66,6 +70,35 @@ pub extern "C" fn cvss_canonical(text: &[u8], buffer: &mut [u8]) -> usize
         put_canonical(&cvss, buffer);
     }
     text.len()
+}
+
+/// How many metrics the vector has that a text denotes; they are written into the array, in the order
+/// of the vector's canonical text, where they fit. 0 where the text denotes none. It takes no memory.
+#[unsafe(no_mangle)]
+pub extern "C" fn cvss_metrics(text: &[u8], metrics: &mut [CvssMetric]) -> usize
+    ensures { Answers text.now
+        (λ cvss. IsWritten (metrics_in_order cvss) metrics.old metrics.new result)
+        (IsLeft metrics.old metrics.new result) }
+{
+    match Cvss::read_bytes(text) {
+        Some(cvss) => put_metrics(&cvss, metrics),
+        None => 0,
+    }
+}
+
+/// The length of the canonical text, less the metrics that are not defined, of the vector that a text
+/// denotes; it is written into the buffer where it fits. Where no metric is defined, which may be in
+/// CVSS v3 alone, all are kept. 0 where the text denotes none. It takes no memory.
+#[unsafe(no_mangle)]
+pub extern "C" fn cvss_without_undefined(text: &[u8], buffer: &mut [u8]) -> usize
+    ensures { Answers text.now
+        (λ cvss. IsWritten (text_without_undefined cvss) buffer.old buffer.new result)
+        (IsLeft buffer.old buffer.new result) }
+{
+    match Cvss::read_bytes(text) {
+        Some(cvss) => put_without_undefined(&cvss, text, buffer),
+        None => 0,
+    }
 }
 
 /// The length of the reason why a text is refused, which is written into the buffer where it fits;
