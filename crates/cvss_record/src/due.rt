@@ -2,7 +2,6 @@
 
 ghost use Rattle.std.specs.Prelude.{◌≡◌, List, ℕ, bytes_eq, option_map, IfOk};
 ghost use Rattle.std.specs.List.{list_any};
-ghost use Rattle.cvss_base.specs.V4Types as types_v4;
 ghost use Rattle.cvss_record.specs.Differences.{due_view};
 ghost use Rattle.cvss_record.specs.Due.{agrees, due_at, due_value, group_due, is_metric_member, is_number, is_text, metric_due, version_due, word_at};
 ghost use Rattle.cvss_words.specs.WordsV2 as words_v2;
@@ -73,7 +72,8 @@ fn is_number(due: f64, said: &Value) -> bool
     }
 }
 
-/// What the member of this name should say of a vector, if it is one that the version's records have.
+/// What the member of this name should say of a vector, if it is one that the version's records
+/// have.
 pub(crate) fn due_at(cvss: &Cvss, scores: &Scores, name: &str) -> Option<Due>
     ensures { option_map due_view result ≡ due_at cvss.now scores.now name.now }
 {

@@ -1,7 +1,2 @@
-pub mod AnswersLemmas
-pub mod ChunkLemmas
-mod LineFacts
-pub mod LinesLemmas
-pub mod RunLemmas
-pub mod StepsLemmas
 mod TenthsLemmas
+pub mod TextsLemmas

@@ -1,5 +1,2 @@
 pub mod Answers
 pub mod Exit
-pub mod Lines
-pub mod Runs
-pub mod Steps

@@ -1,44 +1,47 @@
 //! The answer to one line.
 
-ghost use Rattle.std.specs.Prelude.{◌≡◌, ◌++◌, [], ◌∷◌, ◌≤◌, codes, IfOk, OnOk};
+ghost use Rattle.std.specs.Prelude.{◌≡◌, ℕ, ◌++◌, [], ◌∷◌, ◌≤◌, codes, IfOk, OnOk};
 ghost use Rattle.cvss.specs.Answers.{HasScore, score_text, text_of};
 ghost use Rattle.cvss.specs.ErrorText.{error_text};
 ghost use Rattle.cvss.specs.SeverityText.{text_of as severity_text};
 ghost use Rattle.cvss.specs.declared.vector.Cvss.{Cvss};
 ghost use Rattle.cvss.specs.Dispatch.{DenotesCvss};
-ghost use Rattle.cvss_tool.specs.Answers.{Answer, IsAnswer, WritesAnswer, WritesRefusal, WritesScore, WritesVector};
+ghost use Rattle.cvss_lines.specs.Answers.{WritesAnswer};
+ghost use Rattle.cvss_tool.specs.Answers.{IsAnswer, WritesRefusal, WritesScore, WritesVector};
 
-use crate::gathered::Gathered;
 use cvss::tenths::tenths_of;
 use cvss::{Cvss, Error, Severity};
+use cvss_lines::{Answering, Gathered};
 use std::alloc::{AllocError, Global};
 use std::fmt::{self, Write};
 
-/// Appends the answer to a line, and a byte 10. Tells whether the line was accepted.
-///
-/// Where memory is refused, what stands behind the earlier answers is not to be written.
-pub(crate) fn answer_line(
-    alloc: Global,
-    line: &[u8],
-    answers: &mut Gathered,
-) -> Result<bool, AllocError>
-    ensures { IfOk result
-        (WritesAnswer line.now answers.old.bytes.items answers.new.bytes.items) }
-{
-    if let Some(vector) = Cvss::read_canonical(line) {
-        write_canonical(line, &vector, answers)?;
-        return Ok(true);
-    }
-    match answer_other_line(alloc, line, answers) {
-        Ok(accepted) => Ok(accepted),
-        Err(_) => Err(AllocError),
+/// Lines that are texts of vectors, each answered by the vector or by why there is none.
+pub(crate) struct Vectors {}
+
+impl Answering for Vectors {
+    ghost rule = { IsAnswer };
+
+    fn answer_line(
+        alloc: Global,
+        _number: u64,
+        line: &[u8],
+        answers: &mut Gathered,
+    ) -> Result<bool, AllocError> {
+        if let Some(vector) = Cvss::read_canonical(line) {
+            write_canonical(line, &vector, answers)?;
+            return Ok(true);
+        }
+        match answer_other_line(alloc, line, answers) {
+            Ok(accepted) => Ok(accepted),
+            Err(_) => Err(AllocError),
+        }
     }
 }
 
-/// The same for a line that is not seen at once to be canonical.
+/// The answer to a line that is not seen at once to be canonical.
 fn answer_other_line(alloc: Global, line: &[u8], answers: &mut Gathered) -> Result<bool, fmt::Error>
-    ensures { IfOk result
-        (WritesAnswer line.now answers.old.bytes.items answers.new.bytes.items) }
+    ensures { (number : ℕ) → IfOk result (WritesAnswer IsAnswer number line.now
+        answers.old.bytes.items answers.new.bytes.items) }
 {
     if let Some(vector) = Cvss::read_in_any_order(line) {
         write_vector(&vector, answers)?;

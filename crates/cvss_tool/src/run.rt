@@ -1,13 +1,11 @@
-ghost use Rattle.std.specs.Prelude.{◌<◌, IfOk, IsErrOf, vec_len};
-ghost use Rattle.cvss_tool.specs.Runs.{AnswersAll, AnswersEnded, AnswersFirst, AnswersCut};
+ghost use Rattle.std.specs.Prelude.{IfOk, IsErrOf};
+ghost use Rattle.cvss_lines.specs.Runs.{AnswersAll, AnswersEnded, AnswersFirst, AnswersCut};
+ghost use Rattle.cvss_tool.specs.Answers.{IsAnswer};
 
-use crate::pending::Pending;
+use crate::answer::Vectors;
 use crate::{RunFault, Summary};
-use std::alloc::{AllocError, Global};
+use std::alloc::Global;
 use std::io::{Read, Write};
-
-/// How many bytes one read may give.
-const CHUNK: usize = 64 * 1024;
 
 /// Answers each line that the reader gives by one line to the writer.
 ///
@@ -19,33 +17,17 @@ pub fn run<R: Read, W: Write>(
     reader: &mut R,
     writer: &mut W,
 ) -> Result<Summary, RunFault>
-    ensures answered { IfOk result (λ summary. AnswersAll (R.remaining reader.old)
+    ensures answered { IfOk result (λ summary. AnswersAll IsAnswer (R.remaining reader.old)
         (R.remaining reader.new) (W.contents writer.old) (W.contents writer.new) summary) }
-    ensures read_fault { IsErrOf result RunFault.Read → AnswersEnded (R.remaining reader.old)
-        (R.remaining reader.new) (W.contents writer.old) (W.contents writer.new) }
-    ensures memory_fault { IsErrOf result RunFault.Memory → AnswersFirst (R.remaining reader.old)
-        (R.remaining reader.new) (W.contents writer.old) (W.contents writer.new) }
-    ensures write_fault { IsErrOf result RunFault.Write → AnswersCut (R.remaining reader.old)
-        (R.remaining reader.new) (W.contents writer.old) (W.contents writer.new) }
+    ensures read_fault { IsErrOf result RunFault.Read → AnswersEnded IsAnswer
+        (R.remaining reader.old) (R.remaining reader.new)
+        (W.contents writer.old) (W.contents writer.new) }
+    ensures memory_fault { IsErrOf result RunFault.Memory → AnswersFirst IsAnswer
+        (R.remaining reader.old) (R.remaining reader.new)
+        (W.contents writer.old) (W.contents writer.new) }
+    ensures write_fault { IsErrOf result RunFault.Write → AnswersCut IsAnswer
+        (R.remaining reader.old) (R.remaining reader.new)
+        (W.contents writer.old) (W.contents writer.new) }
 {
-    let mut chunk = read_buffer(alloc)?;
-    let mut pending = Pending::new(alloc);
-    for _ in 0..u64::MAX {
-        let Ok(count) = reader.read(&mut chunk) else {
-            return Err(RunFault::Read);
-        };
-        if count == 0 {
-            pending.answer_end(alloc, writer)?;
-            return Ok(pending.summary);
-        }
-        pending.answer_chunk(alloc, &chunk[..count], writer)?;
-    }
-    Err(RunFault::Read)
-}
-
-/// Room for the bytes of one read.
-fn read_buffer(alloc: Global) -> Result<Vec<u8>, AllocError>
-    ensures { IfOk result (λ buffer. 0 < vec_len buffer) }
-{
-    vec![in alloc; 0; CHUNK]
+    cvss_lines::run::<Vectors, R, W>(alloc, reader, writer)
 }

@@ -2,7 +2,7 @@ use Rattle.std.proofs.Common.{◌++◌, [], ◌∷◌, codes}
 use Rattle.std.proofs.lemmas.Fmt.{contents_after_writes}
 use Rattle.std.proofs.lemmas.Result.{on_ok_weaker}
 use Rattle.cvss.specs.ErrorText.{error_text}
-use Rattle.cvss_tool.specs.declared.gathered.Gathered.{Gathered}
+use Rattle.cvss_lines.specs.declared.gathered.Gathered.{Gathered}
 use Rattle.cvss_tool.proofs.answer.write_error.Goals as goal
 
 pub returns : goal.returns

@@ -1,7 +1,7 @@
 use Rattle.std.proofs.lemmas.Fmt.{contents_after_writes}
 use Rattle.std.proofs.lemmas.Result.{on_ok_weaker}
 use Rattle.cvss.specs.Answers.{text_of}
-use Rattle.cvss_tool.specs.declared.gathered.Gathered.{Gathered}
+use Rattle.cvss_lines.specs.declared.gathered.Gathered.{Gathered}
 use Rattle.cvss_tool.proofs.answer.write_text.Goals as goal
 
 pub returns : goal.returns

@@ -1,0 +1,6 @@
+pub mod AnswersLemmas
+pub mod ChunkLemmas
+mod LineFacts
+pub mod LinesLemmas
+pub mod RunLemmas
+pub mod StepsLemmas

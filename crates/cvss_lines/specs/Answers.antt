@@ -1,0 +1,55 @@
+-- Answers to the lines of an input.
+use Rattle.std.specs.Prelude.{◌≡◌, ℕ, ◌+◌, ◌-◌, ◌^◌, min, Bool, true, false, List, [], ◌∷◌, ◌++◌, flat_map, ⊤}
+
+-- an answer to one line: its texts, each without the byte 10 that ends it
+pub data Answer : Type 0 where
+  Accepted Refused : List (List ℕ) → Answer
+
+-- the answer's texts
+abbrev pub texts_of : Answer → List (List ℕ)
+texts_of (Accepted texts) = texts
+texts_of (Refused texts) = texts
+
+-- the line was accepted
+abbrev pub is_accepted : Answer → Bool
+is_accepted (Accepted texts) = true
+is_accepted (Refused texts) = false
+
+-- the line was refused
+abbrev pub is_refused : Answer → Bool
+is_refused (Accepted texts) = false
+is_refused (Refused texts) = true
+
+-- a rule says which answers a line of some number has
+abbrev pub Rule : Type 1
+Rule = ℕ → List ℕ → Answer → Type 0
+
+-- the number of the next line, as a `u64` that stops at its maximum
+abbrev pub next_number : ℕ → ℕ
+next_number number = min (number + 1) (2 ^ 64 - 1)
+
+-- by the rule each line has its answer, in the order of the lines, of which the first has this number
+abbrev pub IsAnswers : Rule → ℕ → List (List ℕ) → List Answer → Type 0
+IsAnswers rule number [] [] = ⊤
+IsAnswers rule number [] (answer ∷ answers) = ⊥
+IsAnswers rule number (line ∷ lines) [] = ⊥
+IsAnswers rule number (line ∷ lines) (answer ∷ answers) = rule number line answer × IsAnswers rule (next_number number) lines answers
+
+-- what is written for one text: the text and a byte 10
+abbrev pub written_text : List ℕ → List ℕ
+written_text text = text ++ 10 ∷ []
+
+-- what is written for one answer
+abbrev pub written_answer : Answer → List ℕ
+written_answer answer = flat_map written_text (texts_of answer)
+
+-- what is written for a list of answers
+abbrev pub written_answers : List Answer → List ℕ
+written_answers answers = flat_map written_answer answers
+
+-- an answer to the line of this number is written behind the earlier ones, and whether it accepts is told
+pub record WritesAnswer (rule : Rule) (number : ℕ) (line old new : List ℕ) (accepted : Bool) : Type 0 where
+  pub answer : Answer
+  pub answers : rule number line answer
+  pub told : accepted ≡ is_accepted answer
+  pub written : new ≡ old ++ written_answer answer

@@ -1,0 +1,5 @@
+pub mod Answers
+pub mod Exit
+pub mod Lines
+pub mod Runs
+pub mod Steps

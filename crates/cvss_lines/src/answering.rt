@@ -1,0 +1,28 @@
+//! What answers the lines of an input.
+
+ghost use Rattle.std.specs.Prelude.{IfOk};
+ghost use Rattle.cvss_lines.specs.Answers.{Rule, WritesAnswer};
+
+use crate::gathered::Gathered;
+use std::alloc::{AllocError, Global};
+
+/// A way to answer lines. Each answer is some texts, and accepts its line or refuses it.
+pub trait Answering {
+    /// Which answers a line has.
+    ghost rule: { Rule };
+
+    /// Appends an answer to the line of this number, a byte 10 behind each of its texts. Tells whether
+    /// the line was accepted. Lines are numbered from 1, and the number stops at `u64::MAX`.
+    ///
+    /// # Errors
+    ///
+    /// Want of memory alone. What stands behind the earlier answers is not to be written then.
+    fn answer_line(
+        alloc: Global,
+        number: u64,
+        line: &[u8],
+        answers: &mut Gathered,
+    ) -> Result<bool, AllocError>
+        ensures { IfOk result (WritesAnswer rule number line.now
+            answers.old.bytes.items answers.new.bytes.items) };
+}

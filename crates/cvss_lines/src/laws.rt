@@ -1,0 +1,19 @@
+//! Laws, each the contract of a function that does nothing.
+
+ghost use Rattle.std.specs.Prelude.{◌≡◌, ◌↔◌, IsTrue};
+ghost use Rattle.cvss_lines.specs.declared.fault.RunFault.{RunFault};
+ghost use Rattle.cvss_lines.specs.declared.summary.Summary.{Summary};
+
+use crate::{RunFault, Summary};
+
+/// Two summaries or faults are equal exactly if they are one value.
+pub fn equality_is_that_of_values()
+    ensures summary { (x y : Summary) → IsTrue (⟦<Summary as PartialEq>⟧.eq x y) ↔ (x ≡ y) }
+    ensures fault { (x y : RunFault) → IsTrue (⟦<RunFault as PartialEq>⟧.eq x y) ↔ (x ≡ y) }
+{}
+
+/// A clone of a summary or a fault is that value.
+pub fn clones_are_equal()
+    ensures summary { (x clone : Summary) → ⟦<Summary as Clone>⟧.is_clone x clone → clone ≡ x }
+    ensures fault { (x clone : RunFault) → ⟦<RunFault as Clone>⟧.is_clone x clone → clone ≡ x }
+{}

@@ -1,0 +1,22 @@
+//! Programs that answer each line of an input: how the input is cut into lines, in what pieces it is
+//! read and its answers are written, and how a run ends. What answers a line is an [`Answering`].
+#![tactic(auto)]
+
+mod answering;
+mod exit;
+mod fault;
+mod gathered;
+pub mod laws;
+mod lines;
+mod pending;
+mod running;
+mod search;
+mod summary;
+mod write;
+
+pub use answering::Answering;
+pub use exit::exit_status;
+pub use fault::RunFault;
+pub use gathered::Gathered;
+pub use running::run;
+pub use summary::Summary;

@@ -1,0 +1,26 @@
+ghost use Rattle.std.specs.Prelude.{◌≡◌, ◌≢◌, ◌++◌, ◌∷◌, All, MatchOption};
+ghost use Rattle.cvss_lines.specs.Lines.{line_text};
+
+use crate::search::line_end_or_len;
+
+/// The bytes before and after the first byte 10.
+pub(crate) fn cut_at_line_end(bytes: &[u8]) -> Option<(&[u8], &[u8])>
+    ensures { MatchOption result (All (λ b. b ≢ 10) bytes.now)
+        (λ cut. All (λ b. b ≢ 10) cut.0.now × (bytes.now ≡ cut.0.now ++ 10 ∷ cut.1.now)) }
+{
+    let end = line_end_or_len(bytes);
+    if end == bytes.len() {
+        return None;
+    }
+    Some((&bytes[..end], &bytes[end + 1..]))
+}
+
+/// A line's text: its piece of the input less the one byte 13 at its end.
+pub(crate) fn line_text(piece: &[u8]) -> &[u8]
+    ensures { result.now ≡ line_text piece.now }
+{
+    match piece.split_last() {
+        Some((b'\r', text)) => text,
+        _ => piece,
+    }
+}

@@ -1,0 +1,51 @@
+ghost use Rattle.std.specs.Prelude.{◌<◌, IfOk, IsErrOf, vec_len};
+ghost use Rattle.cvss_lines.specs.Runs.{AnswersAll, AnswersEnded, AnswersFirst, AnswersCut};
+
+use crate::pending::Pending;
+use crate::{Answering, RunFault, Summary};
+use std::alloc::{AllocError, Global};
+use std::io::{Read, Write};
+
+/// How many bytes one read may give.
+const CHUNK: usize = 64 * 1024;
+
+/// Answers each line that the reader gives, in order, to the writer.
+///
+/// The input is cut after each byte 10, and a last piece without one is a line if it isn't empty.
+/// The byte 10, and one byte 13 before it or at the end of that last piece, are not part of a
+/// line's text. Each line that a byte 10 ends is answered before the next read.
+pub fn run<A: Answering, R: Read, W: Write>(
+    alloc: Global,
+    reader: &mut R,
+    writer: &mut W,
+) -> Result<Summary, RunFault>
+    ensures answered { IfOk result (λ summary. AnswersAll A.rule (R.remaining reader.old)
+        (R.remaining reader.new) (W.contents writer.old) (W.contents writer.new) summary) }
+    ensures read_fault { IsErrOf result RunFault.Read → AnswersEnded A.rule (R.remaining reader.old)
+        (R.remaining reader.new) (W.contents writer.old) (W.contents writer.new) }
+    ensures memory_fault { IsErrOf result RunFault.Memory → AnswersFirst A.rule (R.remaining reader.old)
+        (R.remaining reader.new) (W.contents writer.old) (W.contents writer.new) }
+    ensures write_fault { IsErrOf result RunFault.Write → AnswersCut A.rule (R.remaining reader.old)
+        (R.remaining reader.new) (W.contents writer.old) (W.contents writer.new) }
+{
+    let mut chunk = read_buffer(alloc)?;
+    let mut pending = Pending::new(alloc);
+    for _ in 0..u64::MAX {
+        let Ok(count) = reader.read(&mut chunk) else {
+            return Err(RunFault::Read);
+        };
+        if count == 0 {
+            pending.answer_end::<A, W>(alloc, writer)?;
+            return Ok(pending.summary);
+        }
+        pending.answer_chunk::<A, W>(alloc, &chunk[..count], writer)?;
+    }
+    Err(RunFault::Read)
+}
+
+/// Room for the bytes of one read.
+fn read_buffer(alloc: Global) -> Result<Vec<u8>, AllocError>
+    ensures { IfOk result (λ buffer. 0 < vec_len buffer) }
+{
+    vec![in alloc; 0; CHUNK]
+}

@@ -1,0 +1,39 @@
+ghost use Rattle.std.specs.Prelude.{◌≡◌, [], ◌∷◌};
+ghost use Rattle.cvss_lines.specs.Answers.{Answer, is_accepted};
+ghost use Rattle.cvss_lines.specs.Steps.{Counts, no_lines};
+
+/// How many lines a run accepted and refused. Each count stops at `u64::MAX`.
+#[derive(Clone, Copy, Debug, PartialEq, Eq)]
+pub struct Summary {
+    pub accepted: u64,
+    pub refused: u64,
+}
+
+impl Summary {
+    pub(crate) fn new() -> Summary
+        ensures { result ≡ no_lines }
+    {
+        Summary {
+            accepted: 0,
+            refused: 0,
+        }
+    }
+
+    /// The counts with one more answer.
+    pub(crate) fn with(self, accepted: bool) -> Summary
+        ensures { (answer : Answer) → accepted ≡ is_accepted answer
+            → Counts self (answer ∷ []) result }
+    {
+        if accepted {
+            Summary {
+                accepted: self.accepted.saturating_add(1),
+                ..self
+            }
+        } else {
+            Summary {
+                refused: self.refused.saturating_add(1),
+                ..self
+            }
+        }
+    }
+}
