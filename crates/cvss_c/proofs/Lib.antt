@@ -6,5 +6,6 @@ pub mod LengthLemmas
 pub mod LinesLemmas
 pub mod MetricLemmas
 pub mod PartLemmas
+pub mod PartsLemmas
 pub mod RatingLemmas
 pub mod UndefinedLemmas

@@ -15,6 +15,16 @@ ghost use Rattle.cvss_c.specs.Defined.{HasDefinedOf, IsPrintedAsLess};
 use cvss::{v2, v3, v4};
 use cvss_base::walk::Components;
 
+/// For each vector there is one that has its defined metrics, and no others.
+pub fn vectors_have_defined_parts()
+    ensures v2 { (v : vector_v2.Vector)
+        → (w : vector_v2.Vector) × HasDefinedOf v2 (codes "ND") v w }
+    ensures v3 { (v : vector_v3.Vector)
+        → (w : vector_v3.Vector) × HasDefinedOf v3 (codes "X") v w }
+    ensures v4 { (v : vector_v4.Vector)
+        → (w : vector_v4.Vector) × HasDefinedOf v4 (codes "X") v w }
+{}
+
 /// A vector that has the defined metrics of another, and no others, is printed as the other's text
 /// without its undefined metrics.
 pub fn text_without_undefined_is_canonical()
