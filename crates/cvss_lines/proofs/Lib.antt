@@ -4,3 +4,4 @@ mod LineFacts
 pub mod LinesLemmas
 pub mod RunLemmas
 pub mod StepsLemmas
+pub mod TextsLemmas

@@ -1,3 +1,3 @@
 mod FloatLemmas
-mod ObjectLemmas
+pub mod ObjectLemmas
 mod TellingLemmas

@@ -128,8 +128,8 @@ fn put_optional(
     }
 }
 
-/// The value of a score of so many tenths.
-pub(crate) fn score_value(tenths: u8) -> Value
+/// The value of a score of so many tenths, as a record has it.
+pub fn score_value(tenths: u8) -> Value
     ensures { view result ≡ score_value tenths }
 {
     Value::from(score_number(tenths))

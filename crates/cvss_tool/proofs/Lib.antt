@@ -1,2 +1,1 @@
 mod TenthsLemmas
-pub mod TextsLemmas

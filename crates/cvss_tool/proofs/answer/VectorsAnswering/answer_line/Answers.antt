@@ -2,7 +2,7 @@ use Rattle.std.proofs.Common.{[], ◌∷◌, refl}
 use Rattle.cvss.specs.Answers.{vector_answer}
 use Rattle.cvss_lines.specs.Answers.{Accepted}
 use Rattle.cvss_tool.specs.Answers.{IsAnswer}
-use Rattle.cvss_tool.proofs.TextsLemmas.{one_text}
+use Rattle.cvss_lines.proofs.TextsLemmas.{one_text}
 use Rattle.cvss_tool.proofs.answer.VectorsAnswering.answer_line.Goals as goal
 
 pub returns-in-Some : goal.returns-in-Some

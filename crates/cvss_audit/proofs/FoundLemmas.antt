@@ -1,0 +1,71 @@
+-- What is found at the places of a document, one after another.
+use Rattle.std.proofs.Common.{◌≡◌, ℕ, ◌+◌, ◌<◌, Bool, true, false, ◌&&◌, if◌then◌else◌, List, [], ◌∷◌, ◌++◌, length, get_or, take, map, flat_map, refl, sym, ap, ap₂, ◌∙◌, subst, append_assoc, append-nil}
+use Rattle.std.proofs.Math.Bool.{and-true}
+use Rattle.std.proofs.lemmas.Grind.{flat_map-append}
+use Rattle.std.proofs.lemmas.List.{map-append, take_more}
+use Rattle.std.proofs.lemmas.List.Folds.{list_all-append}
+use Rattle.cvss_lines.specs.Answers.{Accepted, Refused, is_accepted, written_answer, written_text}
+use Rattle.cvss_record.specs.Places.{Place}
+use Rattle.cvss_audit.specs.Answers.{AreFound, Found, IsFound, WritesFound, WritesPlace, all_agree, answer_of, texts_of}
+
+AreFound-push : (line : ℕ) (places : List Place) (found : List Found) (place : Place) (last : Found)
+    → AreFound line places found → IsFound line place last → AreFound line (places ++ place ∷ []) (found ++ last ∷ [])
+AreFound-push line [] [] place last are is = (is, tt)
+AreFound-push line [] (each ∷ more) place last are is = absurd are
+AreFound-push line (each ∷ more) [] place last are is = absurd are
+AreFound-push line (first ∷ places) (each ∷ more) place last are is = (are.0, AreFound-push line places more place last are.1 is)
+
+all_agree-push : (found : List Found) (last : Found) → all_agree (found ++ last ∷ []) ≡ (all_agree found && last.agrees)
+all_agree-push found last =
+    list_all-append (λ (each : Found). each.agrees) found (last ∷ []) ∙ ap (λ b. all_agree found && b) (and-true last.agrees)
+
+written-push : (found : List Found) (last : Found) (old middle new : List ℕ)
+    → middle ≡ old ++ flat_map written_text (texts_of found) → new ≡ middle ++ written_text last.text
+    → new ≡ old ++ flat_map written_text (texts_of (found ++ last ∷ []))
+written-push found last old middle new before next =
+    next ∙ ap (λ bytes. bytes ++ written_text last.text) before
+    ∙ append_assoc old (flat_map written_text (texts_of found)) (written_text last.text)
+    ∙ ap (λ bytes. old ++ bytes)
+    (sym (ap (flat_map written_text) (map-append (λ (each : Found). each.text) found (last ∷ []))
+    ∙ flat_map-append written_text (texts_of found) (last.text ∷ [])
+    ∙ ap (λ bytes. flat_map written_text (texts_of found) ++ bytes) (append-nil (written_text last.text))))
+
+-- before the first place
+pub WritesFound-none : (line : ℕ) (bytes : List ℕ) → WritesFound line [] bytes bytes true
+WritesFound-none line bytes = record { found = []; are_found = tt; told = refl; written = sym (append-nil bytes) }
+
+-- after one more place
+pub WritesFound-push : (line : ℕ) (places : List Place) (place : Place) (old middle new : List ℕ) (agree agrees : Bool)
+    → WritesFound line places old middle agree → WritesPlace line place middle new agrees
+    → WritesFound line (places ++ place ∷ []) old new (agree && agrees)
+WritesFound-push line places place old middle new agree agrees before next = record {
+  found = before.found ++ next.found ∷ [];
+  are_found = AreFound-push line places before.found place next.found before.are_found next.is_found;
+  told = ap₂ (λ (a b : Bool). a && b) before.told next.told ∙ sym (all_agree-push before.found next.found);
+  written = written-push before.found next.found old middle new before.written next.written;
+}
+
+-- after one more of a list of places
+pub WritesFound-next : {X : Type 0} (seen : X → Place) (line : ℕ) (items : List X) (index : ℕ) (item : X) (old middle new : List ℕ) (agree agrees : Bool)
+    → index < length items → item ≡ get_or items index item
+    → WritesFound line (map seen (take index items)) old middle agree → WritesPlace line (seen item) middle new agrees
+    → WritesFound line (map seen (take (index + 1) items)) old new (agree && agrees)
+WritesFound-next seen line items index item old middle new agree agrees within is before next =
+    let more : map seen (take (index + 1) items) ≡ map seen (take index items) ++ seen item ∷ [] =
+    ap (map seen) (take_more items index item within ∙ ap (λ each. take index items ++ each ∷ []) (sym is))
+    ∙ map-append seen (take index items) (item ∷ []) in
+    subst (λ places. WritesFound line places old new (agree && agrees)) (sym more)
+    (WritesFound-push line (map seen (take index items)) (seen item) old middle new agree agrees before next)
+
+-- whether the answer to a document accepts it, and what is written for it
+pub told_answer : (found : List Found) → all_agree found ≡ is_accepted (answer_of found)
+told_answer found = told (all_agree found) where
+  told : (b : Bool) → b ≡ is_accepted (if b then Accepted (texts_of found) else Refused (texts_of found))
+  told true = refl
+  told false = refl
+
+pub written_answer_of : (found : List Found) → flat_map written_text (texts_of found) ≡ written_answer (answer_of found)
+written_answer_of found = written (all_agree found) where
+  written : (b : Bool) → flat_map written_text (texts_of found) ≡ written_answer (if b then Accepted (texts_of found) else Refused (texts_of found))
+  written true = refl
+  written false = refl

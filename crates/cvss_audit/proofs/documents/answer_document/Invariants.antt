@@ -1,0 +1,8 @@
+use Rattle.std.proofs.Common.{map, take}
+use Rattle.cvss_record.specs.Steps.{place_view}
+use Rattle.cvss_audit.specs.Answers.{WritesFound}
+use Rattle.cvss_audit.proofs.documents.answer_document.Given as goal
+
+abbrev pub invariant-loop-place : goal.invariant-loop-place
+invariant-loop-place l =
+    WritesFound l.number (map place_view (take l.place-index l.place-items)) l.fn.answers.bytes.items l.answers.bytes.items l.agree

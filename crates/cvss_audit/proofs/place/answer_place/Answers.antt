@@ -1,0 +1,18 @@
+use Rattle.std.proofs.Common.{refl}
+use Rattle.serde_json.specs.Data.{object}
+use Rattle.serde_json.specs.View.{members_view}
+use Rattle.cvss_audit.proofs.place.answer_place.Goals as goal
+
+pub returns : goal.returns
+returns c =
+    let written = c.in_ok-write_object.ensures in
+    record {
+      found = record { text = written.text; agrees = c.in_ok-members.agrees };
+      is_found = record {
+        value = object (members_view c.in_ok-members.members.entries);
+        is_object = c.in_ok-members.ensures;
+        is_text = written.is_text;
+      };
+      told = refl;
+      written = written.written;
+    }

@@ -1,0 +1,137 @@
+-- The answers that the program writes to the lines of its input, each of which is a JSON document.
+use Rattle.std.specs.Prelude.{◌≡◌, ◌≢◌, ℕ, ◌==◌, ◌||◌, ◌⊎◌, Bool, true, false, List, [], ◌∷◌, ◌++◌, codes, map, flat_map, if◌then◌else◌, Some, None, ⊤}
+use Rattle.std.specs.List.{list_all}
+use Rattle.std.specs.Str.{IsUtf8}
+use Rattle.cvss.specs.Dispatch.{DenotesCvss, IsFirstRefusalCvss, cvss_reason}
+use Rattle.cvss.specs.ErrorText.{error_text}
+use Rattle.cvss.specs.ErrorType.{Error}
+use Rattle.cvss_base.specs.declared.error.Error.TheVariants.{OutOfMemory}
+use Rattle.cvss.specs.Told.{TellsFirst}
+use Rattle.cvss.specs.declared.vector.Cvss.{Cvss}
+use Rattle.cvss_lines.specs.Answers.{Answer, Accepted, Refused, written_text}
+use Rattle.cvss_record.specs.Differences.{AreDifferencesAt, Difference}
+use Rattle.cvss_record.specs.Groups.{AreScoresOf}
+use Rattle.cvss_record.specs.Objects.{object_of}
+use Rattle.cvss_record.specs.Places.{Place, places_in}
+use Rattle.cvss_record.specs.declared.score.Scores.{Scores}
+use Rattle.serde_json.specs.Data.{Data}
+use Rattle.serde_json.specs.Read.{read}
+use Rattle.cvss_audit.specs.Objects.{accepted_members, place_members, refusal_member, refusal_value}
+use Rattle.cvss_audit.specs.Texts.{IsTextOf}
+
+-- nothing differs
+abbrev pub nothing_differs : List Difference → Bool
+nothing_differs [] = true
+nothing_differs (difference ∷ differences) = false
+
+-- the text at the place denotes a vector, and the object tells what it is and where the document says otherwise
+pub record IsAcceptedPlace (line : ℕ) (place : Place) (value : Data) (agrees : Bool) : Type 0 where
+  pub cvss : Cvss
+  pub scores : Scores
+  pub differences : List Difference
+  pub denoted : DenotesCvss place.2 cvss
+  pub are_scores : AreScoresOf cvss scores
+  pub are_differences : AreDifferencesAt cvss place.1 place.3 differences
+  pub is : value ≡ object_of (place_members line place ++ accepted_members cvss scores differences)
+  pub told : agrees ≡ nothing_differs differences
+
+-- the text at the place is no vector, and the object tells the first reason
+pub record IsRefusedPlace (line : ℕ) (place : Place) (value : Data) (agrees : Bool) : Type 0 where
+  pub error : Error
+  pub first : TellsFirst cvss_reason (IsFirstRefusalCvss place.2) error
+  pub no_want : error ≢ OutOfMemory
+  pub is : value ≡ object_of (place_members line place ++ refusal_member (error_text error) ∷ [])
+  pub told : agrees ≡ false
+
+-- what is written for a place, and whether its vector is accepted and nothing differs
+pub record Found : Type 0 where
+  pub text : List ℕ
+  pub agrees : Bool
+
+-- the object tells of the place
+abbrev pub IsPlaceObject : ℕ → Place → Data → Bool → Type 0
+IsPlaceObject line place value agrees = IsAcceptedPlace line place value agrees ⊎ IsRefusedPlace line place value agrees
+
+-- this is found at the place
+pub record IsFound (line : ℕ) (place : Place) (found : Found) : Type 0 where
+  pub value : Data
+  pub is_object : IsPlaceObject line place value found.agrees
+  pub is_text : IsTextOf value found.text
+
+-- these are found at the places, in their order
+abbrev pub AreFound : ℕ → List Place → List Found → Type 0
+AreFound line [] [] = ⊤
+AreFound line [] (found ∷ more) = ⊥
+AreFound line (place ∷ places) [] = ⊥
+AreFound line (place ∷ places) (found ∷ more) = IsFound line place found × AreFound line places more
+
+-- all vectors are accepted, and nothing differs
+abbrev pub all_agree : List Found → Bool
+all_agree found = list_all (λ each. each.agrees) found
+
+-- the texts for the places
+abbrev pub texts_of : List Found → List (List ℕ)
+texts_of found = map (λ each. each.text) found
+
+-- the answer to a document: a line for each place. The document is accepted if all agree.
+abbrev pub answer_of : List Found → Answer
+answer_of found = if all_agree found then Accepted (texts_of found) else Refused (texts_of found)
+
+-- a blank: RFC 8259, section 2
+abbrev pub is_blank : ℕ → Bool
+is_blank byte = (byte == 32) || (byte == 9) || (byte == 13) || (byte == 10)
+
+-- the line has nothing but blanks
+abbrev pub is_passed_over : List ℕ → Bool
+is_passed_over line = list_all is_blank line
+
+-- the line has nothing but blanks, and no text answers it
+pub record IsPassedOver (line : List ℕ) (answer : Answer) : Type 0 where
+  pub blank : is_passed_over line ≡ true
+  pub is : answer ≡ Accepted []
+
+-- one text answers the line, an object that tells why it is refused
+pub record IsRefusedLine (number : ℕ) (reason : List ℕ) (answer : Answer) : Type 0 where
+  pub text : List ℕ
+  pub is_text : IsTextOf (refusal_value number reason) text
+  pub is : answer ≡ Refused (text ∷ [])
+
+-- the line is no text
+pub record IsNoText (number : ℕ) (line : List ℕ) (answer : Answer) : Type 0 where
+  pub not_utf8 : ¬ (IsUtf8 line)
+  pub refused : IsRefusedLine number (codes "not UTF-8") answer
+
+-- the line is a text that is no JSON, and has more than blanks
+pub record IsNoJson (number : ℕ) (line : List ℕ) (answer : Answer) : Type 0 where
+  pub utf8 : IsUtf8 line
+  pub not_blank : is_passed_over line ≡ false
+  pub not_json : read line ≡ None
+  pub refused : IsRefusedLine number (codes "not JSON") answer
+
+-- the line is a JSON document, and the answer tells of each place in it where a vector stands
+pub record IsDocument (number : ℕ) (line : List ℕ) (answer : Answer) : Type 0 where
+  pub utf8 : IsUtf8 line
+  pub document : Data
+  pub reads : read line ≡ Some document
+  pub found : List Found
+  pub are_found : AreFound number (places_in document) found
+  pub is : answer ≡ answer_of found
+
+-- this is an answer to the line of this number
+unfoldable pub IsAnswer : ℕ → List ℕ → Answer → Type 0
+IsAnswer number line answer =
+    IsPassedOver line answer ⊎ (IsNoText number line answer ⊎ (IsNoJson number line answer ⊎ IsDocument number line answer))
+
+-- what is found at the place and a byte 10 are written behind the earlier answers
+pub record WritesPlace (line : ℕ) (place : Place) (old new : List ℕ) (agrees : Bool) : Type 0 where
+  pub found : Found
+  pub is_found : IsFound line place found
+  pub told : agrees ≡ found.agrees
+  pub written : new ≡ old ++ written_text found.text
+
+-- what is found at the places is written behind the earlier answers, each with a byte 10
+pub record WritesFound (line : ℕ) (places : List Place) (old new : List ℕ) (agree : Bool) : Type 0 where
+  pub found : List Found
+  pub are_found : AreFound line places found
+  pub told : agree ≡ all_agree found
+  pub written : new ≡ old ++ flat_map written_text (texts_of found)

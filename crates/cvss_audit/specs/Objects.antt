@@ -1,0 +1,109 @@
+-- The objects that the program writes: one for each place where a vector stands, and one for a line that is
+-- no JSON.
+use Rattle.std.specs.Prelude.{ℕ, List, [], ◌∷◌, ◌++◌, codes, map, if◌then◌else◌, is_some, Option, Some, None}
+use Rattle.std.specs.List.{filter_map}
+use Rattle.cvss.specs.Answers.{rating_by, score_of_tenths, text_of}
+use Rattle.cvss.specs.MetricTypeV3.{MetricType}
+use Rattle.cvss_base.specs.declared.v3.MetricType.TheVariants.{A, AC, AV, C, I, PR, S, UI}
+use Rattle.cvss.specs.NomenclatureV4.{nomenclature_of, text_of as nomenclature_text}
+use Rattle.cvss.specs.SeverityText.{text_of as severity_text}
+use Rattle.cvss.specs.TypesV3.{name_of}
+use Rattle.cvss.specs.VectorTypeV3 as type_v3
+use Rattle.cvss.specs.VectorTypeV4 as type_v4
+use Rattle.cvss.specs.VectorV3.{value_at}
+use Rattle.cvss.specs.declared.vector.Cvss.{Cvss}
+use Rattle.cvss.specs.declared.vector.Cvss.TheVariants.{CvssV20, CvssV30, CvssV31, CvssV40}
+use Rattle.cvss_record.specs.Differences.{Difference}
+use Rattle.cvss_record.specs.Objects.{Member, object_of}
+use Rattle.cvss_record.specs.Places.{Place}
+use Rattle.cvss_record.specs.Record.{score_value}
+use Rattle.cvss_record.specs.declared.score.Scores.{Scores}
+use Rattle.serde_json.specs.Data.{Data, unsigned, number, string, array}
+use Rattle.serde_json.specs.View.{items_of}
+
+-- the number of the line
+abbrev pub line_member : ℕ → Member
+line_member line = (codes "line", number (unsigned line))
+
+-- the reason why the line, or the vector's text, is refused
+abbrev pub refusal_member : List ℕ → Member
+refusal_member reason = (codes "refused", string reason)
+
+-- the object for a line that is no JSON
+abbrev pub refusal_value : ℕ → List ℕ → Data
+refusal_value line reason = object_of (line_member line ∷ refusal_member reason ∷ [])
+
+-- where a vector stands, and its text as it stands there
+abbrev pub place_members : ℕ → Place → List Member
+place_members line place = (codes "at", string place.0) ∷ line_member line ∷ (codes "given", string place.2) ∷ []
+
+-- a member for a score, if there is one
+abbrev pub optional_member : List ℕ → Option ℕ → List Member
+optional_member name None = []
+optional_member name (Some tenths) = (name, score_value tenths) ∷ []
+
+-- the scores of a vector of CVSS v2 or v3
+abbrev pub score_members : Scores → List Member
+score_members scores =
+    (codes "base", score_value scores.base)
+    ∷ (optional_member (codes "temporal") scores.temporal ++ optional_member (codes "environmental") scores.environmental)
+
+-- the score of a vector of CVSS v4.0, and the nomenclature of the groups that it rests on
+abbrev pub v4_members : type_v4.Vector → ℕ → List Member
+v4_members vector tenths =
+    (codes "nomenclature", string (nomenclature_text (nomenclature_of vector))) ∷ (codes "score", score_value tenths) ∷ []
+
+-- the scores of a vector
+abbrev pub scores_value : Cvss → Scores → Data
+scores_value (CvssV20 _) scores = object_of (score_members scores)
+scores_value (CvssV30 _) scores = object_of (score_members scores)
+scores_value (CvssV31 _) scores = object_of (score_members scores)
+scores_value (CvssV40 vector) scores = object_of (v4_members vector scores.base)
+
+-- the vector's canonical text, its scores, and the rating of its score
+abbrev pub told_members : Cvss → Scores → List Member
+told_members cvss scores =
+    (codes "vector", string (text_of cvss))
+    ∷ (codes "scores", scores_value cvss scores)
+    ∷ (codes "severity", string (severity_text (rating_by cvss (score_of_tenths scores.base))))
+    ∷ []
+
+-- the base metrics of CVSS v3, in printing order: v3.1 specification, section 2
+abbrev pub base_v3 : List MetricType
+base_v3 = AV ∷ AC ∷ PR ∷ UI ∷ S ∷ C ∷ I ∷ A ∷ []
+
+-- the metric's name, where the vector lacks the metric
+abbrev pub missing_at : type_v3.Vector → MetricType → Option Data
+missing_at vector kind = if is_some (value_at vector kind) then None else Some (string (name_of kind))
+
+-- the names of the base metrics that a vector of CVSS v3 lacks
+abbrev pub missing_v3 : type_v3.Vector → List Data
+missing_v3 vector = filter_map (missing_at vector) base_v3
+
+-- the names of the base metrics that the vector lacks; in CVSS v2 and v4.0 a text without one is refused
+abbrev pub missing_of : Cvss → List Data
+missing_of (CvssV20 _) = []
+missing_of (CvssV30 vector) = missing_v3 vector
+missing_of (CvssV31 vector) = missing_v3 vector
+missing_of (CvssV40 _) = []
+
+-- a member for a list of values, where there are some
+abbrev pub list_member : List ℕ → List Data → List Member
+list_member name [] = []
+list_member name (value ∷ values) = (name, array (items_of (value ∷ values))) ∷ []
+
+abbrev pub missing_members : Cvss → List Member
+missing_members cvss = list_member (codes "missing") (missing_of cvss)
+
+-- a difference: the member's name, what it says, and what would agree
+abbrev pub difference_value : Difference → Data
+difference_value difference =
+    object_of ((codes "is", difference.2) ∷ (codes "member", string difference.0) ∷ (codes "says", difference.1) ∷ [])
+
+abbrev pub differs_members : List Difference → List Member
+differs_members differences = list_member (codes "differs") (map difference_value differences)
+
+-- what an accepted vector is, and where the document says otherwise
+abbrev pub accepted_members : Cvss → Scores → List Difference → List Member
+accepted_members cvss scores differences =
+    told_members cvss scores ++ (missing_members cvss ++ differs_members differences)

@@ -1,0 +1,83 @@
+//! The base metrics that a vector lacks.
+
+ghost use Rattle.std.specs.Prelude.{◌≡◌, IfOk, OnOk, map, option_map};
+ghost use Rattle.std.specs.List.{filter_map};
+ghost use Rattle.cvss_audit.specs.Objects.{missing_at, missing_members, missing_v3};
+ghost use Rattle.cvss_record.specs.Objects.{with_members};
+ghost use Rattle.serde_json.specs.View.{members_view, view};
+
+use crate::told::put_list;
+use cvss::{Cvss, v3};
+use cvss_base::print::Printed;
+use serde_json::{Map, Value};
+use std::alloc::{AllocError, Global};
+
+/// The base metrics of CVSS v3, in the order in which a vector is printed.
+const BASE: &[v3::MetricType] = &[
+    v3::MetricType::AV,
+    v3::MetricType::AC,
+    v3::MetricType::PR,
+    v3::MetricType::UI,
+    v3::MetricType::S,
+    v3::MetricType::C,
+    v3::MetricType::I,
+    v3::MetricType::A,
+];
+
+/// Puts the names of the base metrics that a vector of CVSS v3 lacks, if it lacks any. A vector of
+/// another version that was read from a text lacks none.
+pub(crate) fn put_missing(
+    members: &mut Map<String, Value>,
+    alloc: Global,
+    cvss: &Cvss,
+) -> Result<(), AllocError>
+    ensures { OnOk result (members_view members.new.entries
+        ≡ with_members (missing_members cvss.now) (members_view members.old.entries)) }
+{
+    match cvss {
+        Cvss::CvssV30(vector) | Cvss::CvssV31(vector) => {
+            let missing = missing_v3(alloc, vector)?;
+            put_list(members, alloc, "missing", missing)
+        }
+        Cvss::CvssV20(_) | Cvss::CvssV40(_) => Ok(()),
+    }
+}
+
+fn missing_v3(alloc: Global, vector: &v3::Vector) -> Result<Vec<Value>, AllocError>
+    ensures { IfOk result (λ missing. map view missing.items ≡ missing_v3 vector.now) }
+{
+    missing_among(alloc, vector, BASE)
+}
+
+/// The names of those of these metrics that a vector lacks.
+fn missing_among(
+    alloc: Global,
+    vector: &v3::Vector,
+    kinds: &[v3::MetricType],
+) -> Result<Vec<Value>, AllocError>
+    ensures { IfOk result (λ missing. map view missing.items
+        ≡ filter_map (missing_at vector.now) kinds.now) }
+{
+    let mut missing = Vec::new(alloc);
+    for kind in kinds {
+        match missing_at(alloc, vector, *kind)? {
+            Some(name) => missing.push(name)?,
+            None => {}
+        }
+    }
+    Ok(missing)
+}
+
+/// The name of a metric, if a vector lacks it.
+fn missing_at(
+    alloc: Global,
+    vector: &v3::Vector,
+    kind: v3::MetricType,
+) -> Result<Option<Value>, AllocError>
+    ensures { IfOk result (λ found. option_map view found ≡ missing_at vector.now kind) }
+{
+    if vector.slashed(kind).is_some() {
+        return Ok(None);
+    }
+    Ok(Some(Value::try_from_str(alloc, kind.name())?))
+}

@@ -1,0 +1,57 @@
+//! The answer to one place where a vector stands.
+
+ghost use Rattle.std.specs.Prelude.{IfOk};
+ghost use Rattle.cvss_audit.specs.Answers.{IsPlaceObject, WritesPlace};
+ghost use Rattle.cvss_record.specs.Steps.{place_view};
+ghost use Rattle.serde_json.specs.Data.{object};
+ghost use Rattle.serde_json.specs.View.{members_view};
+
+use crate::told::{put_accepted, put_place, put_refusal};
+use crate::write::write_object;
+use cvss::{Cvss, Error};
+use cvss_lines::Gathered;
+use cvss_record::{Place, Scores, differences_at};
+use serde_json::{Map, Value};
+use std::alloc::{AllocError, Global};
+
+/// Writes the object of a place. Tells whether its vector is accepted and nothing differs.
+pub(crate) fn answer_place(
+    alloc: Global,
+    number: u64,
+    place: &Place<'_>,
+    answers: &mut Gathered,
+) -> Result<bool, AllocError>
+    ensures { IfOk result (WritesPlace number (place_view place.now)
+        answers.old.bytes.items answers.new.bytes.items) }
+{
+    let (members, agrees) = place_object(alloc, number, place)?;
+    write_object(alloc, members, answers)?;
+    Ok(agrees)
+}
+
+/// The object of a place, and whether its vector is accepted and nothing differs.
+fn place_object(
+    alloc: Global,
+    number: u64,
+    place: &Place<'_>,
+) -> Result<(Map<String, Value>, bool), AllocError>
+    ensures { IfOk result (λ told. IsPlaceObject number (place_view place.now)
+        (object (members_view told.0.entries)) told.1) }
+{
+    let mut members = Map::new(alloc);
+    put_place(&mut members, alloc, number, place)?;
+    match Cvss::from_str(alloc, place.text) {
+        Ok(cvss) => {
+            let differences = differences_at(alloc, &cvss, place)?;
+            let agrees = differences.is_empty();
+            put_accepted(&mut members, alloc, &cvss, &Scores::of(&cvss), differences)?;
+            Ok((members, agrees))
+        }
+        Err(Error::OutOfMemory) => Err(AllocError),
+        Err(error) => {
+            let reason = error.to_string(alloc)?;
+            put_refusal(&mut members, alloc, reason.as_str())?;
+            Ok((members, false))
+        }
+    }
+}
