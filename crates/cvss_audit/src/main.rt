@@ -6,6 +6,8 @@ mod documents;
 mod missing;
 mod place;
 mod run;
+#[cfg(test)]
+mod tests;
 mod told;
 mod write;
 
