@@ -6,7 +6,7 @@ use Rattle.std.proofs.lemmas.Bool.{cases_order}
 use Rattle.std.proofs.Math.Bool.{or-true}
 use Rattle.std.proofs.lemmas.List.Elements.{All-head}
 use Rattle.cvss_base.specs.Numeral.{numeral}
-use Rattle.cvss_base.specs.Pieces.{AreParts}
+use Rattle.cvss_base.specs.private.Pieces.{AreParts}
 use Rattle.cvss_base.specs.Refusal.{piece_at}
 use Rattle.cvss_base.specs.Text.{pieces, component, has, colon, dot}
 use Rattle.cvss_base.specs.V2Types.{name_of}

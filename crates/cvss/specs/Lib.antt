@@ -10,7 +10,7 @@ pub use Rattle.cvss_base.specs.ErrorText
 pub use Rattle.cvss_base.specs.Exact
 pub use Rattle.cvss_base.specs.Listing
 pub use Rattle.cvss_base.specs.MetricsLeft as MetricsLeftToList
-pub use Rattle.cvss_base.specs.Order
+pub use Rattle.cvss_base.specs.laws.Order
 pub use Rattle.cvss_base.specs.Rating
 pub use Rattle.cvss_base.specs.Refusal
 pub use Rattle.cvss_base.specs.Rounding

@@ -5,7 +5,7 @@ use Rattle.std.specs.Result.{MatchResult, IsErrAnd}
 use Rattle.cvss_base.specs.declared.walk.Fault.{Fault}
 use Rattle.cvss_base.specs.Version.{Version}
 use Rattle.cvss_base.specs.Refusal.{Refusal}
-use Rattle.cvss_base.specs.Walk.{reason_of}
+use Rattle.cvss_base.specs.private.Walk.{reason_of}
 
 module _ {V K : Type 0} (version : Version V K) (IsRead : V → Type 0) (IsRefusal : Refusal K → Type 0) where
   abbrev pub IsAnswer : Result V (Fault K) → Type 0

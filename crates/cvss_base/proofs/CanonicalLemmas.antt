@@ -6,7 +6,7 @@ use Rattle.std.proofs.lemmas.List.Elements.{All-from_get_or, All-head, All-weake
 use Rattle.std.proofs.lemmas.List.Sorted.{IsPermutation-refl}
 use Rattle.cvss_base.specs.Text.{slash, colon, pieces, joined, IsComponent}
 use Rattle.cvss_base.specs.Version.{Version, components_of, canonical_text, AreComponentsOf, Denotes}
-use Rattle.cvss_base.specs.Walk.{IsLawful}
+use Rattle.cvss_base.specs.private.Walk.{IsLawful}
 use Rattle.cvss_base.proofs.DenotesLemmas.{vectors_same}
 use Rattle.cvss_base.proofs.JoinLemmas.{IsUncut, pieces-joined, piece_is_component, piece_is_uncut}
 

@@ -9,7 +9,7 @@ use Rattle.std.proofs.lemmas.List.Sorted.{IsPermutation-middle, IsPermutation-co
 use Rattle.cvss_base.specs.Text.{IsComponent, name_part, value_part, component}
 use Rattle.cvss_base.specs.Version.{Version, read, component_of, components_of, AreComponentsOf}
 use Rattle.cvss_base.specs.Refusal.{piece_at}
-use Rattle.cvss_base.specs.Walk.{IsLawful, Adds}
+use Rattle.cvss_base.specs.private.Walk.{IsLawful, Adds}
 use Rattle.cvss_base.proofs.TextLemmas.{read-component, component-parts}
 use Rattle.cvss_base.proofs.LawLemmas.{IsCutAt, component_read, printed_once}
 

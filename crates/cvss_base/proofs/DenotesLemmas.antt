@@ -5,7 +5,7 @@ use Rattle.std.proofs.lemmas.Option.{slice_get_within, get_or_from_slice_get}
 use Rattle.cvss_base.specs.Text.{pieces, joined, name_part, value_part, component}
 use Rattle.cvss_base.specs.Version.{Version, read, AreComponentsOf, Denotes, IsComplete}
 use Rattle.cvss_base.specs.Refusal.{Refusal, BadComponent, WrongPrefix, WrongVersion, UnknownName, BadValue, Repeated, Missing, IsSpelling, piece_at, FaultAt, IsFirstReason}
-use Rattle.cvss_base.specs.Walk.{IsLawful}
+use Rattle.cvss_base.specs.private.Walk.{IsLawful}
 use Rattle.cvss_base.proofs.TextLemmas.{name_part-component, value_part-component}
 use Rattle.cvss_base.proofs.LawLemmas.{name_plain, names_differ}
 use Rattle.cvss_base.proofs.ComponentLemmas.{IsHeldAs, held_stands, piece_held}

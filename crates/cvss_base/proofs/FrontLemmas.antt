@@ -11,7 +11,7 @@ use Rattle.cvss_base.specs.declared.walk.Fault.{Fault}
 use Rattle.cvss_base.specs.Text.{slash, pieces, joined, name_part, value_part, IsComponent}
 use Rattle.cvss_base.specs.Version.{Version, version_piece, Denotes, IsComplete, IsWellFormed, AreComponentsOf}
 use Rattle.cvss_base.specs.Refusal.{Refusal, BadComponent, WrongPrefix, WrongVersion, UnknownName, BadValue, Repeated, Missing, AreComponentsBefore, piece_at, IsFirstReason, IsReasonBehind, IsFirstRefusalBehind, TellsVersion}
-use Rattle.cvss_base.specs.Walk.{IsLawful, IsLawfulFront, IsReadBehind, IsFrontFault, StartsWith, foreign_bytes, reason_of}
+use Rattle.cvss_base.specs.private.Walk.{IsLawful, IsLawfulFront, IsReadBehind, IsFrontFault, StartsWith, foreign_bytes, reason_of}
 use Rattle.cvss_base.proofs.AnswerLemmas as answer
 use Rattle.cvss_base.proofs.CanonicalLemmas.{denoted_once}
 use Rattle.cvss_base.proofs.DenotesLemmas.{vectors_same, no_reason}

@@ -10,7 +10,7 @@ use Rattle.std.proofs.lemmas.List.Splits.{slice_split_none, slice_split_at}
 use Rattle.cvss_base.specs.Text.{slash, pieces, joined, IsComponent}
 use Rattle.cvss_base.specs.Version.{Version, read, AreComponentsOf}
 use Rattle.cvss_base.specs.Refusal.{piece_at}
-use Rattle.cvss_base.specs.Walk.{IsLawful, foreign_bytes}
+use Rattle.cvss_base.specs.private.Walk.{IsLawful, foreign_bytes}
 use Rattle.cvss_base.proofs.TextLemmas.{none_passes, count_by-cons, foreign_bytes-read, slashes-read, colons-read, slashes-component, IsComponent-component, beyond-read, beyond-component}
 use Rattle.cvss_base.proofs.LawLemmas.{name_plain}
 use Rattle.cvss_base.proofs.ComponentLemmas.{piece_held}

@@ -9,7 +9,7 @@ use Rattle.std.proofs.lemmas.Option.{slice_get-map, slice_get_within, get_or_fro
 use Rattle.std.proofs.lemmas.Slice.Eq.{bytes_eq-Decides}
 use Rattle.cvss_base.specs.Text.{component, name_part, value_part}
 use Rattle.cvss_base.specs.Version.{Version, read}
-use Rattle.cvss_base.specs.Walk.{IsLawful, IsCut, foreign_bytes, place_of}
+use Rattle.cvss_base.specs.private.Walk.{IsLawful, IsCut, foreign_bytes, place_of}
 use Rattle.cvss_base.proofs.FindLemmas.{found_passes, not_found}
 use Rattle.cvss_base.proofs.TextLemmas.{read-component, foreign_bytes-read, name_part-component, value_part-component}
 

@@ -4,9 +4,9 @@ use Rattle.std.specs.Option.{option_map}
 use Rattle.std.specs.List.{position_or_len}
 use Rattle.std.proofs.lemmas.List.{drop-drop, drop_at}
 use Rattle.cvss_base.specs.Text.{colon, slash, component, value_part}
-use Rattle.cvss_base.specs.Printing.{slashed}
+use Rattle.cvss_base.specs.private.Printing.{slashed}
 use Rattle.cvss_base.proofs.TextLemmas.{position-none, colons-le, count_by-cons}
-use Rattle.cvss_base.specs.Walk.{foreign_bytes}
+use Rattle.cvss_base.specs.private.Walk.{foreign_bytes}
 
 -- the value of a component whose name has no colon
 value_part-no_colon : (name value : List ℕ) → count_by (λ byte. eqb byte colon) name ≡ 0 → value_part (component name value) ≡ value

@@ -6,7 +6,7 @@ use Rattle.std.proofs.lemmas.Bool.Decides.{nat_tests}
 use Rattle.std.proofs.lemmas.Fmt.{decimal_digit, decimal-digits_of}
 use Rattle.std.proofs.lemmas.Int.Digits.{all_below_base_digits_of, number_digits_of}
 use Rattle.cvss_base.specs.Numeral.{numeral}
-use Rattle.cvss_base.specs.Walk.{is_foreign, foreign_bytes}
+use Rattle.cvss_base.specs.private.Walk.{is_foreign, foreign_bytes}
 use Rattle.cvss_base.proofs.TextLemmas.{count_by-cons}
 
 -- what std writes of a number

@@ -12,7 +12,7 @@ use Rattle.std.proofs.lemmas.Slice.Eq.{bytes_eq-Decides}
 use Rattle.cvss_base.specs.Text.{name_part, component}
 use Rattle.cvss_base.specs.Version.{Version, read, component_of, components_of, AreComponentsOf}
 use Rattle.cvss_base.specs.Refusal.{piece_at, name_at}
-use Rattle.cvss_base.specs.Walk.{IsLawful}
+use Rattle.cvss_base.specs.private.Walk.{IsLawful}
 use Rattle.cvss_base.proofs.TextLemmas.{name_part-read, name_part-component}
 use Rattle.cvss_base.proofs.LawLemmas.{name_plain, names_differ, component_read, printed_once}
 use Rattle.cvss_base.proofs.ComponentLemmas.{components_cut}

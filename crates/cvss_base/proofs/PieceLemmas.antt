@@ -12,7 +12,7 @@ use Rattle.std.proofs.lemmas.List.Splits.{slice_split_none, slice_split_first, l
 use Rattle.std.proofs.lemmas.List.Sums.{fails_before_first}
 use Rattle.std.proofs.lemmas.Option.{cond_some}
 use Rattle.cvss_base.specs.declared.pieces.Pieces.{Pieces}
-use Rattle.cvss_base.specs.Pieces.{pieces_left, AreParts, IsWithoutColon}
+use Rattle.cvss_base.specs.private.Pieces.{pieces_left, AreParts, IsWithoutColon}
 use Rattle.cvss_base.specs.Refusal.{piece_at}
 use Rattle.cvss_base.specs.Text.{slash, colon, pieces}
 use Rattle.cvss_base.proofs.TextLemmas.{position-within, colon-parts}

@@ -6,7 +6,7 @@ use Rattle.cvss_base.specs.declared.walk.Fault.{Fault}
 use Rattle.cvss_base.specs.Text.{pieces}
 use Rattle.cvss_base.specs.Version.{Version, Denotes, IsComplete, AreComponentsOf}
 use Rattle.cvss_base.specs.Refusal.{Refusal, BadComponent, WrongPrefix, WrongVersion, UnknownName, BadValue, Repeated, Missing, AreComponentsBefore, IsFirstReason, IsFirstRefusal}
-use Rattle.cvss_base.specs.Walk.{IsLawful, HasRead, reason_of}
+use Rattle.cvss_base.specs.private.Walk.{IsLawful, HasRead, reason_of}
 use Rattle.cvss_base.proofs.AnswerLemmas as answer
 use Rattle.cvss_base.proofs.DenotesLemmas.{vectors_same, pieces_denoted, no_reason}
 use Rattle.std.specs.Str.{IsUtf8}

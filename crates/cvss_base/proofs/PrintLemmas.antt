@@ -7,7 +7,7 @@ use Rattle.std.proofs.Output.{has_written_append, has_written_of_eq}
 use Rattle.std.proofs.lemmas.List.{take_more, take_all}
 use Rattle.std.proofs.lemmas.List.Elements.{filter_map-append}
 use Rattle.cvss_base.specs.Text.{joined, slash}
-use Rattle.cvss_base.specs.Printing.{slashed, slashed_text, slashed_texts}
+use Rattle.cvss_base.specs.private.Printing.{slashed, slashed_text, slashed_texts}
 use Rattle.cvss_base.specs.Version.{Version, component_of}
 
 -- whether there is no piece

@@ -1,7 +1,7 @@
 -- Filling the place of one metric puts its value into the vector.
 use Rattle.std.proofs.Common.{◌≡◌, ◌⊎◌, ℕ, List, Result, Ok, Err, OnOk}
 use Rattle.cvss_base.specs.Version.{Version, reading}
-use Rattle.cvss_base.specs.Walk.{Fills, IsFilled, Puts, IsPut}
+use Rattle.cvss_base.specs.private.Walk.{Fills, IsFilled, Puts, IsPut}
 use Rattle.cvss_base.specs.declared.walk.Slip.{Slip}
 
 module _ {V K : Type 0} (version : Version V K) where

@@ -6,7 +6,7 @@ use Rattle.std.proofs.lemmas.Option.{same_Some}
 use Rattle.cvss_base.specs.Text.{pieces}
 use Rattle.cvss_base.specs.Version.{Version}
 use Rattle.cvss_base.specs.Refusal.{Refusal, BadComponent, WrongPrefix, WrongVersion, UnknownName, BadValue, Repeated, Missing, IsSpelling, piece_at, name_at, value_at, FaultAt, AreComponentsBefore, IsFirstBadPiece, IsFirstFault, IsFirstMissing, IsFirstReason, IsWrongPrefix, IsWrongVersion, TellsVersion, IsReasonBehind, BadPiecesFirst}
-use Rattle.cvss_base.specs.Walk.{IsLawful}
+use Rattle.cvss_base.specs.private.Walk.{IsLawful}
 use Rattle.cvss_base.proofs.LawLemmas.{names_differ}
 
 -- of two least places with a fact, neither is before the other

@@ -1,10 +1,10 @@
 -- Vectors with the same components.
 use Rattle.std.proofs.Common.{◌≡◌, ℕ, ◌+◌, ◌<◌, ◌≤◌, List, ◌∷◌, ◌++◌, length, get_or, Option, Some, None, refl, sym, ap, ◌∙◌, below_more, arith}
 use Rattle.std.proofs.lemmas.List.{get_or_default}
-use Rattle.cvss_base.specs.Printing.{slashed}
+use Rattle.cvss_base.specs.private.Printing.{slashed}
 use Rattle.cvss_base.specs.Text.{joined, slash}
 use Rattle.cvss_base.specs.Version.{Version, component_of, components_of, canonical_text}
-use Rattle.cvss_base.specs.Walk.{IsLawful}
+use Rattle.cvss_base.specs.private.Walk.{IsLawful}
 use Rattle.cvss_base.proofs.CanonicalLemmas.{canonical_text-same}
 use Rattle.cvss_base.proofs.ComponentLemmas.{filter_map-agree}
 

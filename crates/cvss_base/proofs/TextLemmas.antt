@@ -9,7 +9,7 @@ use Rattle.std.proofs.lemmas.List.Sums.{sum_by-cons, sum_by-append, sum_by-le-su
 use Rattle.std.specs.Str.{bytes_eq}
 use Rattle.std.proofs.lemmas.Slice.Eq.{bytes_eq-Decides}
 use Rattle.cvss_base.specs.Text.{slash, colon, IsComponent, name_part, value_part, component, read_as}
-use Rattle.cvss_base.specs.Walk.{is_foreign, foreign_bytes}
+use Rattle.cvss_base.specs.private.Walk.{is_foreign, foreign_bytes}
 
 -- what a byte is read as
 abbrev pub letter : Bool → ℕ → ℕ

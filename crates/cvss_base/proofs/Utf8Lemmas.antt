@@ -8,7 +8,7 @@ use Rattle.std.proofs.lemmas.List.Elements.{All-nil, All-cons}
 use Rattle.std.proofs.lemmas.List.Quantifiers.{position-Some}
 use Rattle.std.proofs.lemmas.Str.{IsUtf8-take, IsUtf8-drop, IsCharBoundary-before_ascii, IsCharBoundary-after_ascii}
 use Rattle.cvss_base.specs.Text.{colon, pieces, component}
-use Rattle.cvss_base.specs.Pieces.{AreParts}
+use Rattle.cvss_base.specs.private.Pieces.{AreParts}
 use Rattle.cvss_base.specs.Refusal.{IsFirstBadPiece}
 use Rattle.cvss_base.proofs.PieceLemmas.{is_slash, pieces-first, pieces-last}
 

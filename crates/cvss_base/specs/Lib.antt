@@ -4,9 +4,6 @@ pub mod Exact
 pub mod Listing
 pub mod MetricsLeft
 pub mod Numeral
-pub mod Order
-pub mod Pieces
-pub mod Printing
 pub mod Rating
 pub mod Refusal
 pub mod Rounding
@@ -18,4 +15,5 @@ pub mod V2Types
 pub mod V3Types
 pub mod V4Types
 pub mod Version
-pub mod Walk
+pub mod laws
+pub mod private

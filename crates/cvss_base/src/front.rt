@@ -5,7 +5,7 @@ ghost use Rattle.std.specs.Str.{IsUtf8};
 ghost use Rattle.cvss_base.specs.Refusal.{Refusal, AreComponentsBefore, IsFirstRefusalBehind};
 ghost use Rattle.cvss_base.specs.Text.{pieces, IsComponent};
 ghost use Rattle.cvss_base.specs.Version.{Denotes, IsWellFormed};
-ghost use Rattle.cvss_base.specs.Walk.{Starts, StartsWith, IsReadBehind, IsFrontFault, IsTellable, IsLawfulFront, reason_of};
+ghost use Rattle.cvss_base.specs.private.Walk.{Starts, StartsWith, IsReadBehind, IsFrontFault, IsTellable, IsLawfulFront, reason_of};
 
 use crate::PREFIX;
 use crate::pieces::{first_bad_piece, front_of, parts_of};

@@ -2,7 +2,7 @@
 
 ghost use Rattle.std.specs.Prelude.{◌≡◌, ◌↔◌, ◌^◌, pos, codes, IsTrue};
 ghost use Rattle.cvss_base.specs.Equality.{EqualsByValue, ClonesByValue, TellTheSame};
-ghost use Rattle.cvss_base.specs.Order.{ComparesAs};
+ghost use Rattle.cvss_base.specs.laws.Order.{ComparesAs};
 ghost use Rattle.cvss_base.specs.SeverityText as severity;
 ghost use Rattle.cvss_base.specs.V2Types as v2_types;
 ghost use Rattle.cvss_base.specs.V3Types as v3_types;

@@ -4,7 +4,7 @@ ghost use Rattle.std.specs.Prelude.{◌≡◌, ◌↔◌, ◌∷◌, [], IsTrue,
 ghost use Rattle.std.specs.Iterator.{YieldsFirstRef, item_count};
 ghost use Rattle.std.specs.List.{position};
 ghost use Rattle.cvss_base.specs.Text.{IsComponent, component, pieces};
-ghost use Rattle.cvss_base.specs.Pieces.{pieces_left, AreParts, IsWithoutColon};
+ghost use Rattle.cvss_base.specs.private.Pieces.{pieces_left, AreParts, IsWithoutColon};
 ghost use Rattle.cvss_base.specs.Refusal.{AreComponentsBefore, IsFirstBadPiece};
 
 /// The pieces of a text, cut at each slash.

@@ -5,7 +5,7 @@ ghost use Rattle.std.specs.Option.{option_copied};
 ghost use Rattle.std.specs.Fmt.{DisplaysOnOk, WritesOnOk, WritesStyledOnOk};
 ghost use Rattle.cvss_base.specs.Text.{joined};
 ghost use Rattle.cvss_base.specs.Version.{component_of, components_of, canonical_text};
-ghost use Rattle.cvss_base.specs.Printing.{slashed, StartsWithSlash};
+ghost use Rattle.cvss_base.specs.private.Printing.{slashed, StartsWithSlash};
 
 use crate::walk::Components;
 use std::fmt;

@@ -6,7 +6,7 @@ ghost use Rattle.cvss_base.specs.declared.error.Error.{Error};
 ghost use Rattle.cvss_base.specs.Refusal.{Refusal, BadValue, Repeated, Missing, carries_text, IsFirstRefusal, IsFirstRefusalBehind};
 ghost use Rattle.cvss_base.specs.Told.{Tells, TellsFirst, reason_told};
 ghost use Rattle.cvss_base.specs.Version.{read, Denotes, IsComplete, IsWellFormed};
-ghost use Rattle.cvss_base.specs.Walk.{IsEmpty, IsTellable, reason_of};
+ghost use Rattle.cvss_base.specs.private.Walk.{IsEmpty, IsTellable, reason_of};
 
 use crate::error::Error;
 use crate::front::{Fronted, read_behind};

@@ -4,11 +4,11 @@
 ghost use Rattle.std.specs.Prelude.{◌≡◌, ◌≢◌, ◌↔◌, IsTrue, bytes_eq, find, IfSome, IfOk, IfErr, OnOk, OnErr, IsErrAnd, Ok, [], length};
 ghost use Rattle.std.specs.List.{All};
 ghost use Rattle.std.specs.Str.{IsUtf8};
-ghost use Rattle.cvss_base.specs.Pieces.{pieces_left};
+ghost use Rattle.cvss_base.specs.private.Pieces.{pieces_left};
 ghost use Rattle.cvss_base.specs.Text.{IsComponent, name_part, raised, read_as};
 ghost use Rattle.cvss_base.specs.Version.{Version, read, Denotes, IsComplete};
 ghost use Rattle.cvss_base.specs.Refusal.{AreComponentsBefore, Refusal, IsFirstFault, IsFirstReason, IsFirstRefusal};
-ghost use Rattle.cvss_base.specs.Walk.{HasNoValue, IsEmpty, IsPut, IsCut, IsLawful, Adds, HasRead, IsFaultOf, first_missing, IsTellable, reason_of};
+ghost use Rattle.cvss_base.specs.private.Walk.{HasNoValue, IsEmpty, IsPut, IsCut, IsLawful, Adds, HasRead, IsFaultOf, first_missing, IsTellable, reason_of};
 
 use crate::pieces::{Pieces, first_bad_piece, parts_of, pieces_of};
 

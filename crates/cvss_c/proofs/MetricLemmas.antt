@@ -4,7 +4,7 @@ use Rattle.std.proofs.Math.Seq.{drop-append_seam}
 use Rattle.std.proofs.lemmas.List.{drop-drop}
 use Rattle.std.proofs.lemmas.List.Folds.{length-flat_map-take}
 use Rattle.std.specs.Option.{option_map, option_to_list}
-use Rattle.cvss_base.specs.Printing.{slashed}
+use Rattle.cvss_base.specs.private.Printing.{slashed}
 use Rattle.cvss_base.specs.Text.{colon, slash, component}
 use Rattle.cvss_base.specs.Version.{Version, held}
 use Rattle.cvss_c.specs.Metrics.{metric_at, metric_of, metrics_at}

@@ -3,7 +3,7 @@
 use Rattle.std.specs.Prelude.{◌≡◌, ◌≢◌, ℕ, List, [], ◌∷◌, ◌++◌, codes, bytes_eq, if◌then◌else◌, Option, Some, None, option_map, flat_map, unwrap_or}
 use Rattle.std.specs.List.{filter_map}
 use Rattle.std.specs.Option.{option_and_then}
-use Rattle.cvss_base.specs.Printing.{slashed}
+use Rattle.cvss_base.specs.private.Printing.{slashed}
 use Rattle.cvss_base.specs.Text.{component, joined}
 use Rattle.cvss_base.specs.Version.{Version, canonical_text, components_of, held}
 use Rattle.cvss.specs.VectorV2.{v2}

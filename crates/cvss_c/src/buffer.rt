@@ -1,7 +1,7 @@
 //! Texts in a buffer of the caller, and items in an array, without memory.
 
 ghost use Rattle.std.specs.Prelude.{◌≡◌, ◌≤◌, ◌+◌, ◌++◌, length};
-ghost use Rattle.cvss_base.specs.Printing.{slashed_texts};
+ghost use Rattle.cvss_base.specs.private.Printing.{slashed_texts};
 ghost use Rattle.cvss_c.specs.Buffer.{HasPut, IsWritten, Puts};
 
 use cvss_base::print::Printed;

@@ -5,7 +5,7 @@ ghost use Rattle.std.specs.Option.{option_copied};
 ghost use Rattle.cvss.specs.Version.{IsComplete};
 ghost use Rattle.cvss.specs.VectorV2.{v2};
 ghost use Rattle.cvss.specs.Dispatch.{DenotesCvss};
-ghost use Rattle.cvss_base.specs.Printing.{slashed, slashed_texts};
+ghost use Rattle.cvss_base.specs.private.Printing.{slashed, slashed_texts};
 ghost use Rattle.cvss_base.specs.Version.{canonical_text};
 ghost use Rattle.cvss_c.specs.Buffer.{IsWritten, Puts};
 ghost use Rattle.cvss_c.specs.Defined.{defined_component, defined_texts, text_less, text_without_undefined};

@@ -1,6 +1,6 @@
 -- A text denotes at most one vector, and a canonical text denotes its own.
 use Rattle.std.proofs.Common.{◌≡◌, ℕ, List, [], ◌∷◌, ◌++◌, drop, Option, Some, None, IsSome, option_map, unwrap_or, refl, sym, ap, ◌∙◌, lit<}
-use Rattle.cvss_base.specs.Printing.{slashed, slashed_texts}
+use Rattle.cvss_base.specs.private.Printing.{slashed, slashed_texts}
 use Rattle.cvss_base.specs.Text.{slash, component}
 use Rattle.cvss_base.specs.V2Types.{name_of}
 use Rattle.cvss_base.specs.declared.v2.MetricType.TheVariants.{AV}

@@ -1,7 +1,7 @@
 -- The metrics of CVSS v2, by the tables of the guide: section 2.1 (base), 2.2 (temporal) and 2.3
 -- (environmental) for the values and their spellings, section 3.2 for their weights.
 use Rattle.std.specs.Prelude.{ℕ, List, [], ◌∷◌, codes}
-use Rattle.cvss_base.specs.Order.{place_in}
+use Rattle.cvss_base.specs.laws.Order.{place_in}
 use Rattle.cvss_base.specs.Text.{component}
 use Rattle.cvss_base.specs.V2Types.{name_of}
 use Rattle.cvss_base.specs.declared.v2.MetricType.{MetricType}

@@ -2,7 +2,7 @@
 use Rattle.std.specs.Prelude.{◌≡◌, ℕ, Bool, true, false, List, Option, Some, find, bytes_eq, codes, unwrap_or, refl}
 use Rattle.std.proofs.Common.{ap, sym, ◌∙◌, subst}
 use Rattle.cvss_base.specs.Text.{has, dot}
-use Rattle.cvss_base.specs.Walk.{foreign_bytes}
+use Rattle.cvss_base.specs.private.Walk.{foreign_bytes}
 use Rattle.cvss_base.specs.declared.v2.MetricType.{MetricType}
 use Rattle.cvss_base.specs.declared.v2.MetricType.TheVariants.{A, AC, AV, Au, C, I, E, RL, RC, CDP, TD, CR, IR, AR}
 use Rattle.cvss_v2.specs.declared.metric.base.access.AccessVector.TheVariants as access_vector

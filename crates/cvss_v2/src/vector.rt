@@ -51,7 +51,7 @@ impl Vector {
     ghost use Rattle.cvss_base.specs.Refusal.{Refusal, IsFirstRefusal};
     ghost use Rattle.cvss_base.specs.Told.{Tells, TellsFirst, v2_reason};
     ghost use Rattle.cvss_base.specs.Version.{canonical_text, Denotes, IsComplete};
-    ghost use Rattle.cvss_base.specs.Walk.{IsEmpty};
+    ghost use Rattle.cvss_base.specs.private.Walk.{IsEmpty};
     ghost use Rattle.cvss_base.specs.declared.v2.MetricType.{MetricType};
     ghost use Rattle.cvss_v2.specs.Vector.{v2};
 

@@ -1,7 +1,7 @@
 -- The metrics of CVSS v3.0 and v3.1 by their types, in the order of the v3.1 specification: sections 2
 -- (base), 3 (temporal) and 4 (environmental).
 use Rattle.std.specs.Prelude.{ℕ, List, [], ◌∷◌, Option}
-use Rattle.cvss_base.specs.Order.{place_in}
+use Rattle.cvss_base.specs.laws.Order.{place_in}
 use Rattle.cvss_base.specs.Text.{component}
 use Rattle.cvss_base.specs.V3Types.{name_of}
 use Rattle.cvss_base.specs.declared.v3.MetricType.{MetricType}

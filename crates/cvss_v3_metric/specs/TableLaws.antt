@@ -2,7 +2,7 @@
 use Rattle.std.specs.Prelude.{◌≡◌, ℕ, List, Option, Some, find, bytes_eq, unwrap_or, refl}
 use Rattle.std.proofs.Common.{ap, sym, ◌∙◌}
 use Rattle.cvss_base.specs.Text.{raised}
-use Rattle.cvss_base.specs.Walk.{foreign_bytes}
+use Rattle.cvss_base.specs.private.Walk.{foreign_bytes}
 use Rattle.cvss_base.specs.declared.v3.MetricType.{MetricType}
 use Rattle.cvss_base.specs.declared.v3.MetricType.TheVariants.{A, AC, AV, C, I, PR, S, UI, E, RL, RC, CR, IR, AR, MAV, MAC, MPR, MUI, MS, MC, MI, MA}
 use Rattle.cvss_v3_metric.specs.declared.base.attack.AttackVector.TheVariants as attack_vector

@@ -1,7 +1,7 @@
 -- A vector is complete where it lacks no mandatory metric.
 use Rattle.std.proofs.Common.{◌≡◌, ◌↔◌, Bool, true, false, not, Option, Some, None, is_some, IsSome, IsTrue, refl, sym}
 use Rattle.cvss_base.specs.Version.{Version, IsComplete}
-use Rattle.cvss_base.specs.Walk.{first_missing}
+use Rattle.cvss_base.specs.private.Walk.{first_missing}
 use Rattle.cvss_base.proofs.MissingLemmas.{LacksFirst-from, IsComplete-from, Contains-missing}
 
 pub none_is_none : {X : Type 0} (o : Option X) → o ≡ None → IsSome o → ⊥

@@ -7,7 +7,7 @@ use Rattle.cvss_base.specs.Text.{IsComponent, name_part}
 use Rattle.cvss_base.specs.V4Types.{name_of}
 use Rattle.cvss_base.specs.Numeral.{numeral}
 use Rattle.cvss_base.specs.Version.{read, version_piece, IsComplete}
-use Rattle.cvss_base.specs.Walk.{HasNoValue, IsFaultOf}
+use Rattle.cvss_base.specs.private.Walk.{HasNoValue, IsFaultOf}
 use Rattle.cvss_base.specs.declared.v4.MetricType.{MetricType}
 use Rattle.cvss_base.specs.declared.v4.MetricType.TheVariants.{CR, IR, AR, MAV, MAC, MAT, MPR, MUI, MVC, MVI, MVA, MSC, MSI, MSA}
 use Rattle.cvss_base.proofs.ComponentLemmas.{piece_held}

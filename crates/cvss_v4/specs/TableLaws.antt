@@ -2,7 +2,7 @@
 use Rattle.std.specs.Prelude.{◌≡◌, ℕ, List, Option, Some, find, bytes_eq, unwrap_or, refl}
 use Rattle.std.proofs.Common.{ap, sym, ◌∙◌}
 use Rattle.cvss_base.specs.Text.{raised}
-use Rattle.cvss_base.specs.Walk.{foreign_bytes}
+use Rattle.cvss_base.specs.private.Walk.{foreign_bytes}
 use Rattle.cvss_base.specs.declared.v4.MetricType.{MetricType}
 use Rattle.cvss_base.specs.declared.v4.MetricType.TheVariants.{AC, AT, AV, PR, SA, SC, SI, UI, VA, VC, VI, E, AR, CR, IR, MAC, MAT, MAV, MPR, MSA, MSC, MSI, MUI, MVA, MVC, MVI, AU, R, RE, S, U, V}
 use Rattle.cvss_v4_metric.specs.declared.base.attack.AttackVector.TheVariants as attack_vector

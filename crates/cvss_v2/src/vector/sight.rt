@@ -3,7 +3,7 @@
 //! way, by components in any order, is `reading`.
 
 ghost use Rattle.std.specs.Prelude.{◌≡◌, IfSome, [], ◌∷◌, ◌++◌, option_map, unwrap_or};
-ghost use Rattle.cvss_base.specs.Printing.{slashed, slashed_texts};
+ghost use Rattle.cvss_base.specs.private.Printing.{slashed, slashed_texts};
 ghost use Rattle.cvss_base.specs.Text.{slash, colon, component};
 ghost use Rattle.cvss_base.specs.V2Types.{name_of};
 ghost use Rattle.cvss_base.specs.Version.{canonical_text, IsComplete};

@@ -3,7 +3,7 @@
 ghost use Rattle.std.specs.Prelude.{◌≡◌, IfSome};
 ghost use Rattle.cvss_base.specs.Text.{raised};
 ghost use Rattle.cvss_base.specs.V3Types.{name_of};
-ghost use Rattle.cvss_base.specs.Walk.{HasNoValue, IsFilled};
+ghost use Rattle.cvss_base.specs.private.Walk.{HasNoValue, IsFilled};
 ghost use Rattle.cvss_v3_metric.specs.Table.{spelling_of};
 ghost use Rattle.cvss_v3.specs.Vector.{v3};
 ghost use Rattle.cvss_v3.specs.VectorLaws.{v3_is_lawful, v3_fronts_are_lawful};

@@ -3,7 +3,7 @@
 ghost use Rattle.std.specs.Prelude.{◌≡◌, IfSome};
 ghost use Rattle.cvss_base.specs.Text.{raised};
 ghost use Rattle.cvss_base.specs.V4Types.{name_of};
-ghost use Rattle.cvss_base.specs.Walk.{HasNoValue, IsFilled};
+ghost use Rattle.cvss_base.specs.private.Walk.{HasNoValue, IsFilled};
 ghost use Rattle.cvss_v4.specs.Vector.{v4};
 ghost use Rattle.cvss_v4.specs.VectorLaws.{v4_is_lawful, v4_fronts_are_lawful};
 

@@ -1,5 +1,5 @@
 use Rattle.std.proofs.lemmas.Result.{err_from_is_err_and}
-use Rattle.cvss_base.specs.Walk.{reason_of}
+use Rattle.cvss_base.specs.private.Walk.{reason_of}
 use Rattle.cvss_base.proofs.FrontLemmas.{TellsVersion-started, front_fault_first, refused_behind, IsUtf8-front, IsUtf8-behind}
 use Rattle.cvss_base.proofs.front.read_pieces.Goals as goal
 

@@ -1,5 +1,5 @@
 use Rattle.std.proofs.Common.{◌≡◌, refl, sym, ap, ◌∙◌}
-use Rattle.cvss_base.specs.Printing.{slashed}
+use Rattle.cvss_base.specs.private.Printing.{slashed}
 use Rattle.cvss_base.specs.Version.{component_of}
 use Rattle.cvss_base.proofs.SameLemmas.{slashed-same, same_more, same_texts, same_vectors}
 use Rattle.cvss_base.proofs.print.same_components.Goals as goal

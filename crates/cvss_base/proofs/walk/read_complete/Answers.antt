@@ -1,5 +1,5 @@
 use Rattle.std.proofs.Common.{sym}
-use Rattle.cvss_base.specs.Pieces.{pieces_left}
+use Rattle.cvss_base.specs.private.Pieces.{pieces_left}
 use Rattle.cvss_base.proofs.MissingLemmas.{LacksFirst-from, IsComplete-from, Contains-missing}
 use Rattle.cvss_base.proofs.WalkLemmas.{IsFirstMissing-from}
 use Rattle.cvss_base.proofs.walk.read_complete.Goals as goal

@@ -1,8 +1,8 @@
 use Rattle.std.proofs.Common.{[], length, ap, ◌∙◌, refl}
 use Rattle.std.proofs.lemmas.List.{length_push}
 use Rattle.std.proofs.lemmas.Result.{err_from_is_err_and}
-use Rattle.cvss_base.specs.Pieces.{pieces_left}
-use Rattle.cvss_base.specs.Walk.{reason_of}
+use Rattle.cvss_base.specs.private.Pieces.{pieces_left}
+use Rattle.cvss_base.specs.private.Walk.{reason_of}
 use Rattle.cvss_base.proofs.PieceLemmas.{piece_in_turn}
 use Rattle.cvss_base.proofs.WalkLemmas.{HasRead-none, HasRead-more, IsFirstFault-at}
 use Rattle.cvss_base.proofs.walk.read_components.Goals as goal

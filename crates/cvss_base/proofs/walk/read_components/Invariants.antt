@@ -1,6 +1,6 @@
 use Rattle.std.proofs.Common.{◌≡◌, length}
-use Rattle.cvss_base.specs.Pieces.{pieces_left}
-use Rattle.cvss_base.specs.Walk.{HasRead}
+use Rattle.cvss_base.specs.private.Pieces.{pieces_left}
+use Rattle.cvss_base.specs.private.Walk.{HasRead}
 use Rattle.cvss_base.proofs.walk.read_components.Given as goal
 
 abbrev pub invariant-loop-piece : goal.invariant-loop-piece

@@ -1,7 +1,7 @@
 use Rattle.std.proofs.Common.{Ok, Err, ◌∙◌}
 use Rattle.cvss_base.specs.declared.walk.Fault.TheVariants.{InvalidComponent}
-use Rattle.cvss_base.specs.Pieces.{pieces_left}
-use Rattle.cvss_base.specs.Walk.{reason_of}
+use Rattle.cvss_base.specs.private.Pieces.{pieces_left}
+use Rattle.cvss_base.specs.private.Walk.{reason_of}
 use Rattle.cvss_base.proofs.PlainLemmas.{IsAnswer, IsReadFrom-parts, IsFirstRefusal-parts, denoted, utf8, accepts, refuses}
 use Rattle.cvss_base.proofs.Utf8Lemmas.{IsUtf8-pieces, IsUtf8-bad_piece}
 use Rattle.cvss_base.proofs.walk.read_vector.Given.{Over}

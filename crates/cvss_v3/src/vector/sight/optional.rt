@@ -1,7 +1,7 @@
 //! The optional metrics of a text that is recognised.
 
 ghost use Rattle.std.specs.Prelude.{◌≡◌, [], ◌∷◌, ◌++◌};
-ghost use Rattle.cvss_base.specs.Printing.{slashed_texts};
+ghost use Rattle.cvss_base.specs.private.Printing.{slashed_texts};
 ghost use Rattle.cvss_base.specs.declared.v3.MetricType.TheVariants.{E, RL, RC, CR, IR, AR, MAV, MAC, MPR, MUI, MS, MC, MI, MA};
 ghost use Rattle.cvss_v3.specs.Vector.{v3};
 

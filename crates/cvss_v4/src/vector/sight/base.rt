@@ -1,7 +1,7 @@
 //! The base metrics of a text that is recognised.
 
 ghost use Rattle.std.specs.Prelude.{◌≡◌, IfSome, [], ◌∷◌, ◌++◌};
-ghost use Rattle.cvss_base.specs.Printing.{slashed_texts};
+ghost use Rattle.cvss_base.specs.private.Printing.{slashed_texts};
 ghost use Rattle.cvss_base.specs.declared.v4.MetricType.TheVariants.{AC, AT, AV, PR, SA, SC, SI, UI, VA, VC, VI};
 ghost use Rattle.cvss_v4.specs.Vector.{v4};
 

@@ -1,6 +1,6 @@
 use Rattle.std.proofs.Common.{sym, ◌∙◌, subst}
 use Rattle.std.proofs.lemmas.Result.{err_from_is_err_and}
-use Rattle.cvss_base.specs.Walk.{reason_of}
+use Rattle.cvss_base.specs.private.Walk.{reason_of}
 use Rattle.cvss_base.proofs.LawLemmas.{names_differ}
 use Rattle.std.specs.List.{Contains}
 use Rattle.cvss_v4_metric.specs.Table.{environmental}

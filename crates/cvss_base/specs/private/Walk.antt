@@ -7,7 +7,7 @@ use Rattle.cvss_base.specs.declared.walk.Slip.{Slip}
 use Rattle.cvss_base.specs.declared.walk.Slip.TheVariants.{Invalid, Repeated as Twice}
 use Rattle.cvss_base.specs.declared.walk.Fault.{Fault}
 use Rattle.cvss_base.specs.declared.walk.Fault.TheVariants.{InvalidComponent, InvalidPrefix, UnsupportedVersion, UnknownMetric, InvalidMetric, DuplicateMetric, MissingMandatoryMetric}
-use Rattle.cvss_base.specs.Order.{place_in}
+use Rattle.cvss_base.specs.laws.Order.{place_in}
 use Rattle.cvss_base.specs.Text.{slash, colon, pieces, name_part, value_part, component}
 use Rattle.cvss_base.specs.Version.{Version, read, reading, version_piece, AreComponentsOf, IsComplete}
 use Rattle.cvss_base.specs.Refusal.{Refusal, BadComponent, WrongPrefix, WrongVersion, UnknownName, BadValue, Repeated, Missing, IsSpelling, Spells, HasNoFaultBefore, IsWrongPrefix, IsWrongVersion}
