@@ -75,8 +75,10 @@ impl BaseMetric for AttackVector {
 
     ghost base_law = { record {
       covers = λ x. (x, refl);
-      row = λ x. refl;
-      place = Prim.search rules;
+      undefined = refl;
+      spelled = Prim.search rules;
+      weightless = Prim.search rules;
+      rank = λ x. refl;
       blamed = refl;
       weighed = Prim.search rules;
       defined = Prim.search rules;
@@ -161,8 +163,10 @@ impl BaseMetric for AttackComplexity {
 
     ghost base_law = { record {
       covers = λ x. (x, refl);
-      row = λ x. refl;
-      place = Prim.search rules;
+      undefined = refl;
+      spelled = Prim.search rules;
+      weightless = Prim.search rules;
+      rank = λ x. refl;
       blamed = refl;
       weighed = Prim.search rules;
       defined = Prim.search rules;

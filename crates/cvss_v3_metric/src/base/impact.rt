@@ -71,8 +71,10 @@ impl BaseMetric for Confidentiality {
 
     ghost base_law = { record {
       covers = λ x. (x, refl);
-      row = λ x. refl;
-      place = Prim.search rules;
+      undefined = refl;
+      spelled = Prim.search rules;
+      weightless = Prim.search rules;
+      rank = λ x. refl;
       blamed = refl;
       weighed = Prim.search rules;
       defined = Prim.search rules;
@@ -150,8 +152,10 @@ impl BaseMetric for Integrity {
 
     ghost base_law = { record {
       covers = λ x. (x, refl);
-      row = λ x. refl;
-      place = Prim.search rules;
+      undefined = refl;
+      spelled = Prim.search rules;
+      weightless = Prim.search rules;
+      rank = λ x. refl;
       blamed = refl;
       weighed = Prim.search rules;
       defined = Prim.search rules;
@@ -229,8 +233,10 @@ impl BaseMetric for Availability {
 
     ghost base_law = { record {
       covers = λ x. (x, refl);
-      row = λ x. refl;
-      place = Prim.search rules;
+      undefined = refl;
+      spelled = Prim.search rules;
+      weightless = Prim.search rules;
+      rank = λ x. refl;
       blamed = refl;
       weighed = Prim.search rules;
       defined = Prim.search rules;

@@ -68,8 +68,10 @@ impl BaseMetric for UserInteraction {
 
     ghost base_law = { record {
       covers = λ x. (x, refl);
-      row = λ x. refl;
-      place = Prim.search rules;
+      undefined = refl;
+      spelled = Prim.search rules;
+      weightless = Prim.search rules;
+      rank = λ x. refl;
       blamed = refl;
       weighed = Prim.search rules;
       defined = Prim.search rules;

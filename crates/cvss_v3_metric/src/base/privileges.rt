@@ -5,8 +5,7 @@ ghost use Rattle.std.proofs.Common.{rules};
 ghost use Rattle.cvss_base.specs.Exact.{IsWithinLimit};
 ghost use Rattle.cvss_base.specs.declared.v3.MetricType.TheVariants.{PR, MPR};
 ghost use Rattle.cvss_base.specs.Text.{slash};
-ghost use Rattle.cvss_v3_metric.specs.Rows.{scoped_weight};
-ghost use Rattle.cvss_v3_metric.specs.Table.{metric_component};
+ghost use Rattle.cvss_v3_metric.specs.Table.{scoped_weight, metric_component};
 
 use crate::environmental::{BaseMetric, Modified};
 use crate::metric::{HUNDREDTH, Metric, MetricType};
@@ -74,8 +73,10 @@ impl BaseMetric for PrivilegesRequired {
 
     ghost base_law = { record {
       covers = λ x. (x, refl);
-      row = λ x. refl;
-      place = Prim.search rules;
+      undefined = refl;
+      spelled = Prim.search rules;
+      weightless = Prim.search rules;
+      rank = λ x. refl;
       blamed = refl;
       weighed = Prim.search rules;
       defined = Prim.search rules;
