@@ -73,16 +73,7 @@ impl BaseMetric for AttackVector {
 
     ghost modified = { λ metric. metric };
 
-    ghost base_law = { record {
-      covers = λ x. (x, refl);
-      undefined = refl;
-      spelled = Prim.search rules;
-      weightless = Prim.search rules;
-      rank = λ x. refl;
-      blamed = refl;
-      weighed = Prim.search rules;
-      defined = Prim.search rules;
-    } };
+    ghost base_law = { Prim.search rules };
 
     fn modified_slashed(metric: Modified<Self>) -> &'static str
         ensures { result.now ≡ slash ∷ metric_component MAV metric }
@@ -161,16 +152,7 @@ impl BaseMetric for AttackComplexity {
 
     ghost modified = { λ metric. metric };
 
-    ghost base_law = { record {
-      covers = λ x. (x, refl);
-      undefined = refl;
-      spelled = Prim.search rules;
-      weightless = Prim.search rules;
-      rank = λ x. refl;
-      blamed = refl;
-      weighed = Prim.search rules;
-      defined = Prim.search rules;
-    } };
+    ghost base_law = { Prim.search rules };
 
     fn modified_slashed(metric: Modified<Self>) -> &'static str
         ensures { result.now ≡ slash ∷ metric_component MAC metric }
