@@ -58,6 +58,9 @@ fn metrics_at_sight(minor_version: usize, text: &[u8]) -> Option<Vector>
         ..Vector::default()
     };
     let (base, text) = base_at_sight(empty, text)?;
+    if text.is_empty() {
+        return Some(base);
+    }
     let mut vector = base;
     let rest = others_at_sight(&mut vector, text);
     if rest.is_empty() { Some(vector) } else { None }
