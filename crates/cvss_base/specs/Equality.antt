@@ -1,16 +1,8 @@
--- What equality and a clone mean: that of values, and for an error that of what it tells.
-use Rattle.std.specs.Prelude.{◌≡◌, ◌↔◌, Bool, IsTrue}
+-- What equality of errors means: that of what they tell.
+use Rattle.std.specs.Prelude.{◌≡◌}
 use Rattle.std.specs.String.{string_bytes}
 use Rattle.cvss_base.specs.declared.error.Error.{Error}
 use Rattle.cvss_base.specs.declared.error.Error.TheVariants.{InvalidComponent, InvalidPrefix, UnsupportedVersion, InvalidMetricV2, DuplicateMetricV2, MissingMandatoryMetricV2, InvalidMetricV3, DuplicateMetricV3, InvalidMetricV4, DuplicateMetricV4, MissingMandatoryMetricV4, InvalidNomenclatureV4, InvalidSeverity, UnknownMetric, OutOfMemory}
-
--- two are equal exactly if they are one value
-abbrev pub EqualsByValue : {X : Type 0} → (X → X → Bool) → Type 0
-EqualsByValue {X} equals = (x y : X) → IsTrue (equals x y) ↔ (x ≡ y)
-
--- a clone is the value itself
-abbrev pub ClonesByValue : {X : Type 0} → (X → X → Type 0) → Type 0
-ClonesByValue {X} is_clone = (x clone : X) → is_clone x clone → clone ≡ x
 
 -- two errors are of one kind, and name the same metric and the same bytes
 abbrev pub TellTheSame : Error → Error → Type 0

@@ -7,6 +7,7 @@ pub mod Numeral
 pub mod Rating
 pub mod Refusal
 pub mod Rounding
+pub mod ScoreText
 pub mod SeverityText
 pub mod Tenths
 pub mod Text

@@ -1,3 +1,4 @@
+pub mod Names
 pub mod Pieces
 pub mod Printing
 pub mod Walk

@@ -1,13 +1,15 @@
 //! Laws, each the contract of a function that does nothing.
 
 ghost use Rattle.std.specs.Prelude.{◌≡◌, ◌↔◌, ◌^◌, pos, codes, IsTrue};
-ghost use Rattle.cvss_base.specs.Equality.{EqualsByValue, ClonesByValue, TellTheSame};
+ghost use Rattle.cvss_base.specs.Equality.{TellTheSame};
+ghost use Rattle.cvss_base.specs.laws.Equality.{EqualsByValue, ClonesByValue};
 ghost use Rattle.cvss_base.specs.laws.Order.{ComparesAs};
 ghost use Rattle.cvss_base.specs.SeverityText as severity;
 ghost use Rattle.cvss_base.specs.V2Types as v2_types;
 ghost use Rattle.cvss_base.specs.V3Types as v3_types;
 ghost use Rattle.cvss_base.specs.V4Types as v4_types;
-ghost use Rattle.cvss_base.specs.Rounding.{RoundsOneWay, IsRoundedV2, IsRoundedV30, IsRoundedV31, IsRoundedV4, IsNearestEven};
+ghost use Rattle.cvss_base.specs.Rounding.{IsRoundedV2, IsRoundedV30, IsRoundedV31, IsRoundedV4};
+ghost use Rattle.cvss_base.specs.laws.Rounding.{RoundsOneWay, IsNearestEven};
 
 use crate::error::Error;
 use crate::number::{LIMIT, ONE, TENTH};

@@ -9,7 +9,7 @@ ghost use Rattle.cvss_v2.specs.Table.{Value, spelling_of, weight_of, metric_comp
 ghost use Rattle.cvss_base.specs.Text.{slash};
 ghost use Rattle.std.specs.Ordering.{nat_cmp};
 ghost use Rattle.cvss_base.specs.Exact.{IsWithinLimit};
-ghost use Rattle.cvss_base.specs.Equality.{EqualsByValue, ClonesByValue};
+ghost use Rattle.cvss_base.specs.laws.Equality.{EqualsByValue, ClonesByValue};
 
 pub mod base;
 pub mod environmental;

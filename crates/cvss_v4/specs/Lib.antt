@@ -12,7 +12,6 @@ pub mod Overriding
 pub mod OverridingSteps
 pub mod Places
 pub mod ScoreLaws
-pub mod ScoreText
 pub mod Scores
 pub mod Shares
 pub mod Table

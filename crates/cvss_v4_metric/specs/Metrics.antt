@@ -1,7 +1,7 @@
 -- What holds of each enum of metric values.
 use Rattle.std.specs.Prelude.{◌≡◌, ℕ, Bool, List, map, Some, slice_get}
 use Rattle.std.specs.declared.cmp.Ordering.{Ordering}
-use Rattle.cvss_base.specs.Equality.{EqualsByValue, ClonesByValue}
+use Rattle.cvss_base.specs.laws.Equality.{EqualsByValue, ClonesByValue}
 use Rattle.cvss_base.specs.laws.Order.{place_in, ComparesAs}
 use Rattle.cvss_base.specs.declared.v4.MetricType.{MetricType}
 use Rattle.cvss_v4_metric.specs.Table.{spellings_of, default_of}

@@ -3,8 +3,8 @@ use Rattle.std.proofs.Common.{◌≡◌, ℕ, zero, suc, ◌*◌, ◌+◌, ◌^�
 use Rattle.std.proofs.lemmas.Bool.Decides.{nat_tests}
 use Rattle.std.proofs.lemmas.Int.{ints}
 use Rattle.cvss_base.specs.Exact.{of_count}
-use Rattle.cvss_base.specs.Rounding.{IsNearestEven}
-use Rattle.cvss_v4.specs.ScoreText.{even_tenths, printed_tenths}
+use Rattle.cvss_base.specs.laws.Rounding.{IsNearestEven, printed_tenths}
+use Rattle.cvss_base.specs.ScoreText.{even_tenths}
 
 -- the tenths are at most half a tenth away, and are even where they are so far away
 record IsNear (count tenths : ℕ) : Type 0 where

@@ -1,4 +1,4 @@
--- What the private code of the front door does. No public clause cites it.
+-- What the private code of the front door does.
 use Rattle.std.specs.Prelude.{⊤}
 use Rattle.std.specs.Str.{IsUtf8}
 use Rattle.cvss_base.specs.Refusal.{Refusal, BadComponent, WrongPrefix, WrongVersion}

@@ -1,0 +1,4 @@
+pub mod GivenBack
+pub use Rattle.cvss_base.specs.laws.Equality
+pub use Rattle.cvss_base.specs.laws.Order
+pub use Rattle.cvss_base.specs.laws.Rounding as RoundingLaws
