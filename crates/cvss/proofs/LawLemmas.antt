@@ -11,7 +11,7 @@ use Rattle.cvss_base.proofs.TenthsLemmas.{in_tenths_once}
 use Rattle.cvss_base.specs.laws.Rounding.{IsOneCount}
 use Rattle.cvss_v2.proofs.UniqueLemmas.{base_score_once}
 use Rattle.cvss_v2.specs.Vector.{v2}
-use Rattle.cvss_v2.specs.VectorLaws.{v2_is_lawful}
+use Rattle.cvss_v2.specs.private.VectorLaws.{v2_is_lawful}
 use Rattle.cvss_v2.specs.Weights.{weights_of}
 use Rattle.cvss_v3.proofs.LawLemmas as law_v3
 use Rattle.cvss_v3.specs.Vector.{v3}

@@ -27,7 +27,7 @@ pub use Rattle.cvss_base.specs.declared.v2.MetricType as MetricTypeV2
 pub use Rattle.cvss_base.specs.declared.v3.MetricType as MetricTypeV3
 pub use Rattle.cvss_base.specs.declared.v4.MetricType as MetricTypeV4
 pub use Rattle.cvss_v2.specs.Rating as RatingV2
-pub use Rattle.cvss_v2.specs.ScoreLaws as ScoreLawsV2
+pub use Rattle.cvss_v2.specs.laws.NotDefined as ScoreLawsV2
 pub use Rattle.cvss_v2.specs.Scores as ScoresV2
 pub use Rattle.cvss_v2.specs.Table as TableV2
 pub use Rattle.cvss_v2.specs.Vector as VectorV2

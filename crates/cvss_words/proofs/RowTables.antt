@@ -14,21 +14,9 @@ use Rattle.cvss_words.specs.WordsV2 as v2
 use Rattle.cvss_words.specs.WordsV3 as v3
 use Rattle.cvss_words.specs.WordsV4 as v4
 
-pub rows_v2 : (kind : kind_v2.MetricType) → AreRowsOf (map (table_v2.spelling_of kind) (table_v2.values_of kind)) (v2.words_of kind)
-rows_v2 metric_v2.AV = record { each = refl; told = refl }
-rows_v2 metric_v2.AC = record { each = refl; told = refl }
-rows_v2 metric_v2.Au = record { each = refl; told = refl }
-rows_v2 metric_v2.C = record { each = refl; told = refl }
-rows_v2 metric_v2.I = record { each = refl; told = refl }
+pub rows_v2 : (kind : kind_v2.MetricType) → AreRowsOf (map (λ row. row.0) (table_v2.rows_of kind)) (v2.words_of kind)
 rows_v2 metric_v2.A = record { each = refl; told = refl }
-rows_v2 metric_v2.E = record { each = refl; told = refl }
-rows_v2 metric_v2.RL = record { each = refl; told = refl }
-rows_v2 metric_v2.RC = record { each = refl; told = refl }
-rows_v2 metric_v2.CDP = record { each = refl; told = refl }
-rows_v2 metric_v2.TD = record { each = refl; told = refl }
-rows_v2 metric_v2.CR = record { each = refl; told = refl }
-rows_v2 metric_v2.IR = record { each = refl; told = refl }
-rows_v2 metric_v2.AR = record { each = refl; told = refl }
+rows_v2 _ = record { each = refl; told = refl }
 
 pub rows_v3 : (kind : kind_v3.MetricType) → AreRowsOf (map (table_v3.spelling_of kind) (table_v3.values_of kind)) (v3.words_of kind)
 rows_v3 metric_v3.AV = record { each = refl; told = refl }

@@ -1,5 +1,4 @@
--- What the laws of the scores speak of: guide, sections 2.2 and 2.3 (a metric that is Not Defined is
--- skipped by the equations).
+-- Metrics that are Not Defined: guide, sections 2.2 and 2.3 (the equations skip such a metric).
 use Rattle.std.specs.Prelude.{◌≡◌, ◌⊎◌, IfSome, codes}
 use Rattle.cvss_base.specs.declared.v2.MetricType.{MetricType}
 use Rattle.cvss_v2.specs.declared.vector.Vector.{Vector}

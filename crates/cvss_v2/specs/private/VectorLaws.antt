@@ -5,8 +5,8 @@ use Rattle.cvss_base.specs.private.Walk.{IsLawful}
 use Rattle.cvss_base.specs.declared.v2.MetricType.{MetricType}
 use Rattle.cvss_base.specs.declared.v2.MetricType.TheVariants.{A, AC, AV, Au, C, I, E, RL, RC, CDP, TD, CR, IR, AR}
 use Rattle.cvss_v2.specs.declared.vector.Vector.{Vector}
-use Rattle.cvss_v2.specs.TableLaws.{plain_spelling, one_value}
 use Rattle.cvss_v2.specs.Vector.{v2, value_at}
+use Rattle.cvss_v2.specs.private.TableLaws.{plain_spelling, one_value}
 
 -- a vector is its values
 one_vector : (v w : Vector) → ((kind : MetricType) → value_at v kind ≡ value_at w kind) → v ≡ w
@@ -29,7 +29,7 @@ one_vector v w same = λ i. record {
 
 pub v2_is_lawful : IsLawful v2
 v2_is_lawful = record {
-  placed = elim [ AV ↦ refl | AC ↦ refl | Au ↦ refl | C ↦ refl | I ↦ refl | A ↦ refl | E ↦ refl | RL ↦ refl | RC ↦ refl | CDP ↦ refl | TD ↦ refl | CR ↦ refl | IR ↦ refl | AR ↦ refl ];
+  placed = elim [ A ↦ refl | _ ↦ refl ];
   in_order = refl;
   names_read = refl;
   names_plain = refl;
