@@ -5,7 +5,6 @@ pub mod MetricTypes
 pub mod MetricsLeft
 pub mod laws
 pub mod private
-pub use Rattle.cvss_base.specs.Equality
 pub use Rattle.cvss_base.specs.ErrorText
 pub use Rattle.cvss_base.specs.Exact
 pub use Rattle.cvss_base.specs.Listing

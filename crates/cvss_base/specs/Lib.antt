@@ -1,4 +1,3 @@
-pub mod Equality
 pub mod ErrorText
 pub mod Exact
 pub mod Listing

@@ -1,7 +1,7 @@
 //! What is looked up by its name, once for the metric types of all versions.
 
 ghost use Rattle.std.specs.Prelude.{◌≡◌, IfOk, IfErr, IfSome, Some, Ok, ℕ, List, find, bytes_eq};
-ghost use Rattle.cvss_base.specs.Told.{TellsUnknown};
+ghost use Rattle.cvss_base.specs.private.Unknown.{TellsUnknown};
 
 use crate::error::Error;
 use std::alloc::Global;

@@ -2,8 +2,8 @@
 
 ghost use Rattle.std.specs.Prelude.{◌≡◌, IfOk, IfErr, Ok, Some};
 ghost use Rattle.cvss_base.specs.Refusal.{UnknownName};
-ghost use Rattle.cvss_base.specs.Told.{Tells, v2_reason};
-ghost use Rattle.cvss_base.specs.V2Types.{name_of, description_of, declared};
+ghost use Rattle.cvss_base.specs.Told.{Tells};
+ghost use Rattle.cvss_base.specs.V2Types.{v2_reason, name_of, description_of, declared};
 ghost use Rattle.cvss_base.specs.private.Names.{first_v2};
 
 use crate::error::Error;

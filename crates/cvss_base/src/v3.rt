@@ -2,8 +2,8 @@
 
 ghost use Rattle.std.specs.Prelude.{◌≡◌, IfOk, IfErr, Ok, Some};
 ghost use Rattle.cvss_base.specs.Refusal.{UnknownName};
-ghost use Rattle.cvss_base.specs.Told.{Tells, v3_reason};
-ghost use Rattle.cvss_base.specs.V3Types.{name_of, description_of, declared};
+ghost use Rattle.cvss_base.specs.Told.{Tells};
+ghost use Rattle.cvss_base.specs.V3Types.{v3_reason, name_of, description_of, declared};
 ghost use Rattle.cvss_base.specs.private.Names.{first_v3};
 
 use crate::error::Error;

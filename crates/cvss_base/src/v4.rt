@@ -2,8 +2,8 @@
 
 ghost use Rattle.std.specs.Prelude.{◌≡◌, IfOk, IfErr, Ok, Some};
 ghost use Rattle.cvss_base.specs.Refusal.{UnknownName};
-ghost use Rattle.cvss_base.specs.Told.{Tells, v4_reason};
-ghost use Rattle.cvss_base.specs.V4Types.{name_of, description_of, declared};
+ghost use Rattle.cvss_base.specs.Told.{Tells};
+ghost use Rattle.cvss_base.specs.V4Types.{v4_reason, name_of, description_of, declared};
 ghost use Rattle.cvss_base.specs.private.Names.{first_v4};
 
 use crate::error::Error;

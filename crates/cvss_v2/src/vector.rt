@@ -48,7 +48,8 @@ pub struct Vector {
 impl Vector {
     ghost use Rattle.std.specs.Str.{IsUtf8};
     ghost use Rattle.cvss_base.specs.Refusal.{Refusal, IsFirstRefusal};
-    ghost use Rattle.cvss_base.specs.Told.{Tells, TellsFirst, v2_reason};
+    ghost use Rattle.cvss_base.specs.Told.{Tells, TellsFirst};
+    ghost use Rattle.cvss_base.specs.V2Types.{v2_reason};
     ghost use Rattle.cvss_base.specs.Version.{canonical_text, Denotes, IsComplete};
     ghost use Rattle.cvss_base.specs.private.Walk.{IsEmpty};
     ghost use Rattle.cvss_base.specs.declared.v2.MetricType.{MetricType};

@@ -3,8 +3,8 @@
 ghost use Rattle.std.specs.Prelude.{◌≡◌, ◌↔◌, ◌∷◌, ℕ, List, IsTrue, IfSome, IfOk, IfErr, Some};
 ghost use Rattle.cvss_base.specs.Refusal.{BadValue};
 ghost use Rattle.cvss_base.specs.Text.{slash, raised, component};
-ghost use Rattle.cvss_base.specs.Told.{Tells, v4_reason};
-ghost use Rattle.cvss_base.specs.V4Types.{name_of};
+ghost use Rattle.cvss_base.specs.Told.{Tells};
+ghost use Rattle.cvss_base.specs.V4Types.{v4_reason, name_of};
 ghost use Rattle.cvss_base.specs.declared.v4.MetricType.{MetricType};
 ghost use Rattle.cvss_v4_metric.specs.Metrics.{IsMetric};
 ghost use Rattle.cvss_v4_metric.specs.Reading.{IsReading};

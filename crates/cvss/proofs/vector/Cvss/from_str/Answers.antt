@@ -1,5 +1,8 @@
 use Rattle.std.proofs.Common.{codes, IfErr, sym, subst}
-use Rattle.cvss_base.specs.Told.{TellsFirst, v2_reason, v3_reason, v4_reason}
+use Rattle.cvss_base.specs.Told.{TellsFirst}
+use Rattle.cvss_base.specs.V2Types.{v2_reason}
+use Rattle.cvss_base.specs.V3Types.{v3_reason}
+use Rattle.cvss_base.specs.V4Types.{v4_reason}
 use Rattle.cvss_base.specs.Refusal.{IsFirstRefusal, IsFirstRefusalBehind}
 use Rattle.cvss_v2.specs.Vector.{v2}
 use Rattle.cvss_v3.specs.Vector.{v3}
