@@ -15,7 +15,7 @@ use Rattle.cvss_v2.specs.private.VectorLaws.{v2_is_lawful}
 use Rattle.cvss_v2.specs.Weights.{weights_of}
 use Rattle.cvss_v3.proofs.LawLemmas as law_v3
 use Rattle.cvss_v3.specs.Vector.{v3}
-use Rattle.cvss_v3.specs.VectorLaws.{v3_is_lawful, v3_fronts_are_lawful}
+use Rattle.cvss_v3.specs.private.VectorLaws.{v3_is_lawful, v3_fronts_are_lawful}
 use Rattle.cvss_v3.specs.VectorWeights as weights_v3
 use Rattle.cvss_v3.specs.declared.vector.Vector.{Vector}
 use Rattle.cvss_v4.proofs.ScoreLawLemmas.{one_score}

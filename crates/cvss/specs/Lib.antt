@@ -35,11 +35,10 @@ pub use Rattle.cvss_v2.specs.declared.vector.Vector as VectorTypeV2
 pub use Rattle.cvss_v2.specs.declared.weights.Weights as WeightsTypeV2
 pub use Rattle.cvss_v3_metric.specs.Metrics as MetricsV3
 pub use Rattle.cvss_v3_metric.specs.Modified as ModifiedV3
-pub use Rattle.cvss_v3_metric.specs.Rows as RowsV3
 pub use Rattle.cvss_v3_metric.specs.Table as TableV3
 pub use Rattle.cvss_v3_metric.specs.declared.environmental.modified.Modified as ModifiedTypeV3
 pub use Rattle.cvss_v3.specs.Certainty as CertaintyV3
-pub use Rattle.cvss_v3.specs.ScoreLaws as ScoreLawsV3
+pub use Rattle.cvss_v3.specs.laws.ScoreLaws as ScoreLawsV3
 pub use Rattle.cvss_v3.specs.Scores as ScoresV3
 pub use Rattle.cvss_v3.specs.Vector as VectorV3
 pub use Rattle.cvss_v3.specs.VectorWeights as WeightsV3

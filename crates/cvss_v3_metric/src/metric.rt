@@ -78,7 +78,7 @@ pub trait Metric: Copy + Clone + fmt::Debug + fmt::Display + Eq + Ord + 'static 
     }
 
     /// The value with this spelling, exactly as it is written.
-    #[tactic(auto, using(crate::specs::TableLaws::raised_spelling))]
+    #[tactic(auto, using(crate::specs::private::TableLaws::raised_spelling))]
     final fn read(text: &str) -> Option<Self>
         ensures spelled { IfSome result (λ metric. spelling_of TYPE (value metric) ≡ text.now) }
         ensures read { (metric : Self) → spelling_of TYPE (value metric) ≡ text.now

@@ -18,29 +18,9 @@ pub rows_v2 : (kind : kind_v2.MetricType) → AreRowsOf (map (λ row. row.0) (ta
 rows_v2 metric_v2.A = record { each = refl; told = refl }
 rows_v2 _ = record { each = refl; told = refl }
 
-pub rows_v3 : (kind : kind_v3.MetricType) → AreRowsOf (map (table_v3.spelling_of kind) (table_v3.values_of kind)) (v3.words_of kind)
-rows_v3 metric_v3.AV = record { each = refl; told = refl }
-rows_v3 metric_v3.AC = record { each = refl; told = refl }
-rows_v3 metric_v3.PR = record { each = refl; told = refl }
-rows_v3 metric_v3.UI = record { each = refl; told = refl }
-rows_v3 metric_v3.S = record { each = refl; told = refl }
-rows_v3 metric_v3.C = record { each = refl; told = refl }
-rows_v3 metric_v3.I = record { each = refl; told = refl }
+pub rows_v3 : (kind : kind_v3.MetricType) → AreRowsOf (map (λ row. row.0) (table_v3.rows_of kind)) (v3.words_of kind)
 rows_v3 metric_v3.A = record { each = refl; told = refl }
-rows_v3 metric_v3.E = record { each = refl; told = refl }
-rows_v3 metric_v3.RL = record { each = refl; told = refl }
-rows_v3 metric_v3.RC = record { each = refl; told = refl }
-rows_v3 metric_v3.CR = record { each = refl; told = refl }
-rows_v3 metric_v3.IR = record { each = refl; told = refl }
-rows_v3 metric_v3.AR = record { each = refl; told = refl }
-rows_v3 metric_v3.MAV = record { each = refl; told = refl }
-rows_v3 metric_v3.MAC = record { each = refl; told = refl }
-rows_v3 metric_v3.MPR = record { each = refl; told = refl }
-rows_v3 metric_v3.MUI = record { each = refl; told = refl }
-rows_v3 metric_v3.MS = record { each = refl; told = refl }
-rows_v3 metric_v3.MC = record { each = refl; told = refl }
-rows_v3 metric_v3.MI = record { each = refl; told = refl }
-rows_v3 metric_v3.MA = record { each = refl; told = refl }
+rows_v3 _ = record { each = refl; told = refl }
 
 pub rows_v4 : (kind : kind_v4.MetricType) → AreRowsOf (table_v4.spellings_of kind) (v4.words_of kind)
 rows_v4 metric_v4.AV = record { each = refl; told = refl }

@@ -17,7 +17,7 @@ pub fn words_tell_values()
     ensures v2 { (kind : kind_v2.MetricType) → AreRowsOf
         (map (λ row. row.0) (table_v2.rows_of kind)) (v2.words_of kind) }
     ensures v3 { (kind : kind_v3.MetricType) → AreRowsOf
-        (map (table_v3.spelling_of kind) (table_v3.values_of kind)) (v3.words_of kind) }
+        (map (λ row. row.0) (table_v3.rows_of kind)) (v3.words_of kind) }
     ensures v4 { (kind : kind_v4.MetricType) → AreRowsOf
         (table_v4.spellings_of kind) (v4.words_of kind) }
 {}

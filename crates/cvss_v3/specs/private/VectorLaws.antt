@@ -5,7 +5,7 @@ use Rattle.cvss_base.specs.Numeral.{numeral}
 use Rattle.cvss_base.specs.declared.v3.MetricType.{MetricType}
 use Rattle.cvss_base.specs.declared.v3.MetricType.TheVariants.{A, AC, AV, C, I, PR, S, UI, E, RL, RC, CR, IR, AR, MAV, MAC, MPR, MUI, MS, MC, MI, MA}
 use Rattle.cvss_base.proofs.NumeralLemmas.{numeral-injective, numeral-plain}
-use Rattle.cvss_v3_metric.specs.TableLaws.{plain_spelling, one_value}
+use Rattle.cvss_v3_metric.specs.private.TableLaws.{plain_spelling, one_value}
 use Rattle.cvss_v3.specs.declared.vector.Vector.{Vector}
 use Rattle.cvss_v3.specs.Vector.{v3, value_at}
 
@@ -45,7 +45,7 @@ one_vector v w front same = λ i. record {
 
 pub v3_is_lawful : IsLawful v3
 v3_is_lawful = record {
-  placed = elim [ AV ↦ refl | AC ↦ refl | PR ↦ refl | UI ↦ refl | S ↦ refl | C ↦ refl | I ↦ refl | A ↦ refl | E ↦ refl | RL ↦ refl | RC ↦ refl | CR ↦ refl | IR ↦ refl | AR ↦ refl | MAV ↦ refl | MAC ↦ refl | MPR ↦ refl | MUI ↦ refl | MS ↦ refl | MC ↦ refl | MI ↦ refl | MA ↦ refl ];
+  placed = elim [ A ↦ refl | _ ↦ refl ];
   in_order = refl;
   names_read = refl;
   names_plain = refl;

@@ -1,45 +1,47 @@
--- The weights of the tables, in hundredths: v3.0 specification, 8.4; v3.1 specification, 7.4. An absent base metric
--- weighs 0.
-use Rattle.std.specs.Prelude.{ℕ, Bool, true, false, List, [], ◌∷◌}
+-- The weights that the metrics of a vector can have, in hundredths.
+use Rattle.std.specs.Prelude.{ℕ, Bool, true, false, List, ◌∷◌, map, unwrap_or}
 use Rattle.std.specs.List.{Contains}
+use Rattle.cvss_base.specs.declared.v3.MetricType.{MetricType}
+use Rattle.cvss_base.specs.declared.v3.MetricType.TheVariants.{AC, AV, C, PR, UI, E, RL, RC, CR}
+use Rattle.cvss_v3_metric.specs.Table.{rows_of, changed_privileges}
 use Rattle.cvss_v3.specs.declared.weights.Weights.{Weights}
 
--- Attack Vector: absent, Physical, Local, Adjacent, Network
+-- the weights of a metric's values
+abbrev pub weights_in : MetricType → List ℕ
+weights_in kind = map (λ row. unwrap_or row.1 0) (rows_of kind)
+
+-- those of the base metrics, where an absent one weighs 0
 abbrev pub attack_vectors : List ℕ
-attack_vectors = 0 ∷ 20 ∷ 55 ∷ 62 ∷ 85 ∷ []
+attack_vectors = 0 ∷ weights_in AV
 
--- Attack Complexity: absent, High, Low
 abbrev pub attack_complexities : List ℕ
-attack_complexities = 0 ∷ 44 ∷ 77 ∷ []
+attack_complexities = 0 ∷ weights_in AC
 
--- Privileges Required: absent, High, Low, None, by whether the scope is changed
+-- by whether the scope is changed
 abbrev pub privileges_required : Bool → List ℕ
-privileges_required false = 0 ∷ 27 ∷ 62 ∷ 85 ∷ []
-privileges_required true = 0 ∷ 50 ∷ 68 ∷ 85 ∷ []
+privileges_required false = 0 ∷ weights_in PR
+privileges_required true = 0 ∷ changed_privileges
 
--- User Interaction: absent, Required, None
 abbrev pub user_interactions : List ℕ
-user_interactions = 0 ∷ 62 ∷ 85 ∷ []
+user_interactions = 0 ∷ weights_in UI
 
--- Confidentiality, Integrity and Availability Impact: absent or None, Low, High
+-- of Confidentiality, Integrity and Availability
 abbrev pub impacts : List ℕ
-impacts = 0 ∷ 22 ∷ 56 ∷ []
+impacts = 0 ∷ weights_in C
 
--- Exploit Code Maturity: Unproven, Proof-of-Concept, Functional, High or Not Defined
+-- those of the optional metrics
 abbrev pub exploit_code_maturities : List ℕ
-exploit_code_maturities = 91 ∷ 94 ∷ 97 ∷ 100 ∷ []
+exploit_code_maturities = weights_in E
 
--- Remediation Level: Official Fix, Temporary Fix, Workaround, Unavailable or Not Defined
 abbrev pub remediation_levels : List ℕ
-remediation_levels = 95 ∷ 96 ∷ 97 ∷ 100 ∷ []
+remediation_levels = weights_in RL
 
--- Report Confidence: Unknown, Reasonable, Confirmed or Not Defined
 abbrev pub report_confidences : List ℕ
-report_confidences = 92 ∷ 96 ∷ 100 ∷ []
+report_confidences = weights_in RC
 
--- Confidentiality, Integrity and Availability Requirement: Low, Medium or Not Defined, High
+-- of the Confidentiality, Integrity and Availability Requirement
 abbrev pub requirements : List ℕ
-requirements = 50 ∷ 100 ∷ 150 ∷ []
+requirements = weights_in CR
 
 -- each weight is one of its metric's
 pub record IsFromTable (w : Weights) : Type 0 where
