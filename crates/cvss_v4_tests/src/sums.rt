@@ -1,12 +1,12 @@
 //! Sums of the scores over whole sets of effective values.
 
-use crate::scoring::effective::{
+use crate::samples::HARMLESS;
+use cvss_v4::scoring::effective::{
     AttackComplexity, AttackRequirements, AttackVector, Effective, ExploitMaturity,
     PrivilegesRequired, Requirement, SafetyImpact, SubsequentImpact, UserInteraction,
     VulnerableImpact,
 };
-use crate::scoring::score_tenths;
-use crate::scoring::tests::HARMLESS;
+use cvss_v4::scoring::score_tenths;
 use std::test::Fail;
 
 #[test]

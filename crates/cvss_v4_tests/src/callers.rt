@@ -6,10 +6,10 @@ ghost use Rattle.cvss_base.specs.Rounding.{IsRoundedV4};
 ghost use Rattle.cvss_v4.specs.ScoreLaws.{IsAsSevere};
 ghost use Rattle.cvss_v4.specs.Scores.{number};
 
-use crate::laws::{a_millionth_changes_no_score, scores_are_unique, severe_values_score_no_less};
-use crate::scoring::effective::Effective;
-use crate::scoring::score_tenths;
-use crate::scoring::tests::{HARMLESS, LEAST, WORST};
+use crate::samples::{HARMLESS, LEAST, WORST};
+use cvss_v4::laws::{a_millionth_changes_no_score, scores_are_unique, severe_values_score_no_less};
+use cvss_v4::scoring::effective::Effective;
+use cvss_v4::scoring::score_tenths;
 use std::test::Fail;
 
 /// The score, taken twice.
