@@ -1,6 +1,6 @@
 //! The scores of a vector.
 
-ghost use Rattle.std.specs.Prelude.{◌≡◌, ◌≤◌, option_map, unwrap_or};
+ghost use Rattle.std.specs.Prelude.{◌≡◌, ◌≤◌, ◌*ℤ◌, ◌^◌, pos, option_map, unwrap_or};
 ghost use Rattle.cvss_base.specs.Exact.{of_count, ◌≈◌, IsWithinLimit};
 ghost use Rattle.cvss_v2.specs.Scores.{impact, adjusted_impact, exploitability, IsTemporal, IsBaseScore, IsTemporalScore, IsEnvironmentalScore};
 ghost use Rattle.cvss_base.specs.Tenths.{IsInTenths, IsFromZeroToTen};
@@ -65,7 +65,15 @@ impl Vector {
         ensures value { IsBaseScore (weights_of self.now) result }
         ensures range { IsInTenths IsFromZeroToTen result }
     {
-        self.weights().score()
+        Score::of_tenths(i128::from(self.tenths()))
+    }
+
+    /// The base score (guide, section 3.2.1) in tenths, not below 0.
+    pub fn tenths(&self) -> u8
+        ensures value { IsBaseScore (weights_of self.now) (pos result *ℤ pos (10 ^ 23)) }
+        ensures bound { result ≤ 100 }
+    {
+        self.weights().tenths()
     }
 
     /// The temporal score (guide, section 3.2.2), not below 0.
