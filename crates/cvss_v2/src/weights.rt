@@ -84,6 +84,7 @@ impl Weights {
     }
 
     /// The base score in tenths, before it is raised to 0.
+    #[inline(always)]
     fn own_base(&self) -> i64
         requires { IsFromTable self.now }
         ensures value { IsBase self.now (impact self.now) result }
@@ -96,6 +97,7 @@ impl Weights {
     }
 
     /// The base score in tenths.
+    #[inline(always)]
     pub fn tenths(&self) -> u8
         requires { IsFromTable self.now }
         ensures value { IsBaseScore self.now (pos result *ℤ pos (10 ^ 23)) }

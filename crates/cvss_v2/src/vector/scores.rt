@@ -14,6 +14,7 @@ use crate::vector::Vector;
 use crate::weights::Weights;
 
 impl Vector {
+    #[inline(always)]
     fn weights(&self) -> Weights
         ensures weights { result ≡ weights_of self.now }
         ensures table { IsFromTable result }
@@ -69,6 +70,7 @@ impl Vector {
     }
 
     /// The base score (guide, section 3.2.1) in tenths, not below 0.
+    #[inline(always)]
     pub fn tenths(&self) -> u8
         ensures value { IsBaseScore (weights_of self.now) (pos result *ℤ pos (10 ^ 23)) }
         ensures bound { result ≤ 100 }
@@ -104,6 +106,7 @@ impl Vector {
 }
 
 /// The weight of a value in thousandths, or that of an absent metric.
+#[inline(always)]
 fn weight<M: Metric>(value: Option<M>, absent: u64) -> u64
     requires { absent ≤ greatest_weight M.TYPE }
     ensures weight { result
