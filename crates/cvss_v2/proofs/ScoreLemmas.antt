@@ -1,7 +1,7 @@
 -- The equations give the same numbers for equal sub-scores and weights.
 use Rattle.std.proofs.Common.{◌≡◌, ℕ, ◌*◌, ◌^◌, ◌<◌, ℤ, pos, ◌*ℤ◌, arith, refl, ap, lit<, zero, suc, negsuc, subst, sym}
 use Rattle.std.proofs.lemmas.Int.{ints}
-use Rattle.cvss_base.specs.Exact.{Exact, ◌over◌, whole, of_count, thousandths, ◌≈◌}
+use Rattle.cvss_base.specs.Exact.{Exact, ratio, ◌over◌, whole, of_count, thousandths, ◌≈◌}
 use Rattle.cvss_base.specs.Rounding.{IsRoundedV2}
 use Rattle.cvss_base.proofs.ExactLemmas.{equal_refl, equal_trans, sum_equal, difference_equal, product_equal}
 use Rattle.cvss_base.proofs.RoundingLemmas.{v2-equal}
@@ -76,3 +76,11 @@ base_of_counts w impact i exploitable x is_exploitability rounded same_i same_x 
     let x_is = subst (λ (m : ℤ). of_count m ≈ exploitability w) (sym same_x) is_exploitability in
     let i_is : of_count i ≈ of_count impact = record { equal = ap (λ m. m *ℤ pos (10 ^ 24)) same_i } in
     v2-equal (lit< tt) (lit< tt) (base_number_equal (lit< tt) (lit< tt) i_is x_is) same_tenths rounded
+
+-- and of an impact in 10^-11 and an exploitability in 10^-9
+pub own_base_is : (w : Weights) (i x : ℕ) {r s : ℤ} → ratio (pos i) (10 ^ 11) ≈ impact w
+    → ratio (pos x) (10 ^ 9) ≈ exploitability w
+    → IsRoundedV2 (base_number (ratio (pos i) (10 ^ 11)) (ratio (pos x) (10 ^ 9))) r → r ≡ s
+    → IsBase w (impact w) s
+own_base_is w i x is_impact is_exploitability rounded same_tenths =
+    v2-equal (lit< tt) (lit< tt) (base_number_equal (lit< tt) (lit< tt) is_impact is_exploitability) same_tenths rounded
