@@ -1,6 +1,7 @@
 //! The members and words of FIRST's JSON schema of CVSS v4.0.
 
 ghost use Rattle.std.specs.Prelude.{◌≡◌};
+ghost use Rattle.cvss_v4_metric.specs.Table.{spelling_at};
 ghost use Rattle.cvss_words.specs.Words.{word_in};
 ghost use Rattle.cvss_words.specs.WordsV4.{member_of, words_of};
 
@@ -34,7 +35,8 @@ use cvss_v4_metric::{Metric, MetricType};
 pub trait Worded: Metric {
     /// The word of the value.
     fn word(self) -> &'static str
-        ensures { result.now ≡ word_in (words_of Self.TYPE) (Self.spelling self) };
+        ensures { result.now ≡ word_in (words_of Self.TYPE)
+            (spelling_at Self.TYPE (Self.rank self)) };
 }
 
 /// The name of the member that holds the metric's value.
