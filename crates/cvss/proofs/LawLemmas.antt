@@ -22,7 +22,7 @@ use Rattle.cvss_v4.proofs.ScoreLawLemmas.{one_score}
 use Rattle.cvss_v4.specs.Merging.{effective_of}
 use Rattle.cvss_v4.specs.Scores.{IsScore}
 use Rattle.cvss_v4.specs.Vector.{v4}
-use Rattle.cvss_v4.specs.VectorLaws.{v4_is_lawful, v4_fronts_are_lawful}
+use Rattle.cvss_v4.specs.private.VectorLaws.{v4_is_lawful, v4_fronts_are_lawful}
 use Rattle.cvss.specs.Answers.{text_of, IsScoreOf}
 use Rattle.cvss.specs.Dispatch.{DenotesCvss, DenotesV3}
 use Rattle.cvss.specs.laws.GivenBack.{IsGivenBack, HasVersionAndMetric}

@@ -15,7 +15,7 @@ use Rattle.cvss_v3.specs.Vector.{v3}
 use Rattle.cvss_v3.specs.private.VectorLaws.{v3_is_lawful}
 use Rattle.cvss_v3.specs.declared.vector.Vector as vector_v3
 use Rattle.cvss_v4.specs.Vector.{v4}
-use Rattle.cvss_v4.specs.VectorLaws.{v4_is_lawful}
+use Rattle.cvss_v4.specs.private.VectorLaws.{v4_is_lawful}
 use Rattle.cvss_v4.specs.declared.vector.Vector as vector_v4
 use Rattle.cvss.proofs.RouteLemmas.{only_one}
 

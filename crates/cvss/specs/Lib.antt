@@ -46,19 +46,19 @@ pub use Rattle.cvss_v3.specs.declared.vector.Vector as VectorTypeV3
 pub use Rattle.cvss_v3.specs.declared.weights.Weights as WeightsTypeV3
 pub use Rattle.cvss_v4_metric.specs.Metrics as MetricsV4
 pub use Rattle.cvss_v4_metric.specs.Reading as ReadingV4
-pub use Rattle.cvss_v4_metric.specs.Spellings as SpellingsV4
+pub use Rattle.cvss_v4_metric.specs.Ranks as RanksV4
 pub use Rattle.cvss_v4_metric.specs.Table as TableV4
-pub use Rattle.cvss_v4_env.specs.Spellings as EnvironmentalSpellingsV4
-pub use Rattle.cvss_v4.specs.ClassLaws as ClassLawsV4
+pub use Rattle.cvss_v4_env.specs.Ranks as EnvironmentalRanksV4
+pub use Rattle.cvss_v4.specs.laws.ClassLaws as ClassLawsV4
 pub use Rattle.cvss_v4.specs.Classes as ClassesV4
 pub use Rattle.cvss_v4.specs.Distance as DistanceV4
 pub use Rattle.cvss_v4.specs.Gap as GapV4
-pub use Rattle.cvss_v4.specs.Maximal as MaximalV4
+pub use Rattle.cvss_v4.specs.laws.Maximal as MaximalV4
 pub use Rattle.cvss_v4.specs.Merging as MergingV4
-pub use Rattle.cvss_v4.specs.MergingLaws as MergingLawsV4
+pub use Rattle.cvss_v4.specs.laws.MergingLaws as MergingLawsV4
 pub use Rattle.cvss_v4.specs.Nomenclature as NomenclatureV4
 pub use Rattle.cvss_v4.specs.Overriding as OverridingV4
-pub use Rattle.cvss_v4.specs.ScoreLaws as ScoreLawsV4
+pub use Rattle.cvss_v4.specs.laws.ScoreLaws as ScoreLawsV4
 pub use Rattle.cvss_base.specs.ScoreText
 pub use Rattle.cvss_v4.specs.Scores as ScoresV4
 pub use Rattle.cvss_v4.specs.Values as ValuesV4

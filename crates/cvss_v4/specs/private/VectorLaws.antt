@@ -5,7 +5,7 @@ use Rattle.cvss_base.specs.Numeral.{numeral}
 use Rattle.cvss_base.specs.declared.v4.MetricType.{MetricType}
 use Rattle.cvss_base.specs.declared.v4.MetricType.TheVariants.{AC, AT, AV, PR, SA, SC, SI, UI, VA, VC, VI, E, AR, CR, IR, MAC, MAT, MAV, MPR, MSA, MSC, MSI, MUI, MVA, MVC, MVI, AU, R, RE, S, U, V}
 use Rattle.cvss_base.proofs.NumeralLemmas.{numeral-injective, numeral-plain}
-use Rattle.cvss_v4.specs.TableLaws.{plain_spelling, one_value}
+use Rattle.cvss_v4.specs.private.TableLaws.{plain_spelling, one_value}
 use Rattle.cvss_v4.specs.declared.vector.Vector.{Vector}
 use Rattle.cvss_v4.specs.Vector.{v4, value_at}
 

@@ -3,7 +3,7 @@ use Rattle.std.specs.Prelude.{◌≡◌, ℕ, ◌≤◌, List, [], ◌∷◌, Op
 use Rattle.cvss_base.specs.Exact.{Exact, ◌over◌, whole, ◌⊑◌}
 use Rattle.cvss_v4.specs.Classes.{macro_vector}
 use Rattle.cvss_v4.specs.Levels.{attack_vector_level, privileges_level, interaction_level, complexity_level, requirements_level, vulnerable_level, subsequent_level, safety_level, requirement_level}
-use Rattle.cvss_v4.specs.Maximal.{IsAtMost}
+use Rattle.cvss_v4.specs.laws.Maximal.{IsAtMost}
 use Rattle.cvss_v4.specs.declared.scoring.effective.Effective.{Effective}
 use Rattle.cvss_v4.specs.declared.scoring.classes.MacroVector.{MacroVector}
 
