@@ -33,7 +33,8 @@ impl Weights {
         ensures value { of_count result ≈ impact self.now }
         ensures bound { IsImpactCount result }
     {
-        Score::new(equations::impact_count(self.c * 1000, self.i * 1000, self.a * 1000))
+        let impact = base_score::impact(self.c, self.i, self.a);
+        Score::new(i128::from(impact) * 10_000_000_000_000)
     }
 
     /// The impact sub-score with the requirements, which is exact and at most 10.
@@ -56,7 +57,8 @@ impl Weights {
         ensures low { pos 0 ≤ℤ result }
         ensures high { result ≤ℤ pos (10 ^ 25) }
     {
-        Score::new(equations::exploitability_count(self.av, self.ac, self.au))
+        let exploitability = base_score::exploitability(self.av, self.ac, self.au);
+        Score::new(i128::from(exploitability) * 1_000_000_000_000_000)
     }
 
     /// The base score of an impact, in tenths.
@@ -101,7 +103,7 @@ impl Weights {
     pub fn tenths(&self) -> u8
         requires { IsFromTable self.now }
         ensures value { IsBaseScore self.now (pos result *ℤ pos (10 ^ 23)) }
-        ensures bound { result ≤ 100 }
+        ensures to_ten { result ≤ 100 }
     {
         self.own_base().max(0) as u8
     }

@@ -73,7 +73,7 @@ impl Vector {
     #[inline(always)]
     pub fn tenths(&self) -> u8
         ensures value { IsBaseScore (weights_of self.now) (pos result *ℤ pos (10 ^ 23)) }
-        ensures bound { result ≤ 100 }
+        ensures to_ten { result ≤ 100 }
     {
         self.weights().tenths()
     }

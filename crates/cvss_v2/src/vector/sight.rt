@@ -248,10 +248,7 @@ fn component_at_sight<M: Metric>(text: &[u8]) -> Option<(M, &[u8])>
     ensures { IfSome result
         (λ read. text.now ≡ slash ∷ (metric_component M.TYPE (M.value read.0) ++ read.1.now)) }
 {
-    match text {
-        [b'/', component @ ..] => value_at_sight(behind_name(M::TYPE, component)?),
-        _ => None,
-    }
+    value_at_sight(behind_name(M::TYPE, text)?)
 }
 
 /// The value of a metric, where a text begins with its spelling up to a slash, and what stands
@@ -270,26 +267,20 @@ fn value_at_sight<M: Metric>(text: &[u8]) -> Option<(M, &[u8])>
     Some((M::read_bytes(value)?, rest))
 }
 
-/// What stands behind a metric's name and the colon after it.
+/// What stands behind a slash, the name of an optional metric and the colon after it.
 #[inline(always)]
 fn behind_name(kind: MetricType, text: &[u8]) -> Option<&[u8]>
-    ensures { IfSome result (λ value. text.now ≡ name_of kind ++ (colon ∷ value.now)) }
+    ensures { IfSome result (λ value. text.now ≡ slash ∷ (name_of kind ++ (colon ∷ value.now))) }
 {
     match (kind, text) {
-        (MetricType::AV, [b'A', b'V', b':', value @ ..]) => Some(value),
-        (MetricType::AC, [b'A', b'C', b':', value @ ..]) => Some(value),
-        (MetricType::Au, [b'A', b'u', b':', value @ ..]) => Some(value),
-        (MetricType::C, [b'C', b':', value @ ..]) => Some(value),
-        (MetricType::I, [b'I', b':', value @ ..]) => Some(value),
-        (MetricType::A, [b'A', b':', value @ ..]) => Some(value),
-        (MetricType::E, [b'E', b':', value @ ..]) => Some(value),
-        (MetricType::RL, [b'R', b'L', b':', value @ ..]) => Some(value),
-        (MetricType::RC, [b'R', b'C', b':', value @ ..]) => Some(value),
-        (MetricType::CDP, [b'C', b'D', b'P', b':', value @ ..]) => Some(value),
-        (MetricType::TD, [b'T', b'D', b':', value @ ..]) => Some(value),
-        (MetricType::CR, [b'C', b'R', b':', value @ ..]) => Some(value),
-        (MetricType::IR, [b'I', b'R', b':', value @ ..]) => Some(value),
-        (MetricType::AR, [b'A', b'R', b':', value @ ..]) => Some(value),
+        (MetricType::E, [b'/', b'E', b':', value @ ..]) => Some(value),
+        (MetricType::RL, [b'/', b'R', b'L', b':', value @ ..]) => Some(value),
+        (MetricType::RC, [b'/', b'R', b'C', b':', value @ ..]) => Some(value),
+        (MetricType::CDP, [b'/', b'C', b'D', b'P', b':', value @ ..]) => Some(value),
+        (MetricType::TD, [b'/', b'T', b'D', b':', value @ ..]) => Some(value),
+        (MetricType::CR, [b'/', b'C', b'R', b':', value @ ..]) => Some(value),
+        (MetricType::IR, [b'/', b'I', b'R', b':', value @ ..]) => Some(value),
+        (MetricType::AR, [b'/', b'A', b'R', b':', value @ ..]) => Some(value),
         _ => None,
     }
 }

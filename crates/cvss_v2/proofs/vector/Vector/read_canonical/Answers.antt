@@ -1,4 +1,4 @@
-use Rattle.std.proofs.Common.{◌≡◌, ℕ, List, ◌∷◌, ◌++◌, Option, Some, None, IfSome, ◌∙◌}
+use Rattle.std.proofs.Common.{◌≡◌, ℕ, List, ◌∷◌, Option, Some, None, IfSome, ◌∙◌}
 use Rattle.cvss_base.specs.private.Printing.{slashed_texts}
 use Rattle.cvss_base.specs.private.Walk.{first_missing}
 use Rattle.cvss_base.specs.Text.{slash}
