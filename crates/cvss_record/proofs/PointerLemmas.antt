@@ -1,5 +1,5 @@
 -- The pointer of each place leads to its object.
-use Rattle.std.proofs.Common.{◌≡◌, ℕ, suc, ◌+◌, List, [], ◌∷◌, All, Option, Some, None, Ordering, Less, Equal, Greater, nat_cmp, bytes_eq, true, refl, sym, ap, ◌∙◌, arith, option_map}
+use Rattle.std.proofs.Common.{◌≡◌, ℕ, suc, ◌+◌, List, [], ◌∷◌, All, Option, Some, None, Ordering, Less, Equal, Greater, nat_cmp, bytes_eq, true, refl, sym, ap, ◌∙◌, arith, option_map, zero-add}
 use Rattle.std.proofs.lemmas.Cmp.{nat_list_cmp_total, tied_itself}
 use Rattle.std.proofs.lemmas.List.Elements.{All-append, All-cons, All-map, All-nil}
 use Rattle.std.proofs.lemmas.Map.Text.{is_eq-slice_cmp}
@@ -29,11 +29,11 @@ found_at Equal name sought value found rest ordered once is =
 first_found : (name : List ℕ) (value : Data) (rest : Members) → get_member name (member name value rest) ≡ Some value
 first_found name value rest = rw (tied_itself nat_list_cmp_total name) refl
 
-own_place : (members : Members) (found : Option (Form × List ℕ)) (Q : Place → Type 0)
-    → ((form : Form) (text : List ℕ) → Q ([], form, text, members))
-    → All Q (option_to_list (option_map (λ found. ([], found.0, found.1, members)) found))
-own_place members None Q each = All-nil Q
-own_place members (Some found) Q each = All-cons Q _ [] (each found.0 found.1) (All-nil Q)
+own_place : (own : Members) (found : Option (Form × List ℕ)) (Q : Place → Type 0)
+    → ((form : Form) (text : List ℕ) → Q ([], form, text, own))
+    → All Q (option_to_list (option_map (λ found. ([], found.0, found.1, own)) found))
+own_place own None Q each = All-nil Q
+own_place own (Some found) Q each = All-cons Q _ [] (each found.0 found.1) (All-nil Q)
 
 -- what holds wherever a pointer leads to an object holds of each place
 mutual
@@ -43,7 +43,7 @@ mutual
   in_data (boolean _) once Q each = All-nil Q
   in_data (number _) once Q each = All-nil Q
   in_data (string _) once Q each = All-nil Q
-  in_data (array items) once Q each = in_items items items 0 (λ index found is. is) once Q each
+  in_data (array items) once Q each = in_items items items 0 (λ index found is. ap (λ sought. get_item sought items) (zero-add index) ∙ is) once Q each
   in_data (object members) once Q each =
       All-append Q (place_of members) (places_in_members members)
       (own_place members (vector_in members) Q (λ form text. each ([], form, text, members) (here (object members))))

@@ -46,9 +46,9 @@ kept (each ∷ rest) old avoids =
 
 metric_avoids : (metric : MetricType) → bytes_eq text_name (member_of metric) ≡ false
 unfolding text_name
-metric_avoids (V2 kind) = elim kind [ metric_v2.AV ↦ refl | _ ↦ refl ]
-metric_avoids (V3 kind) = elim kind [ metric_v3.AV ↦ refl | _ ↦ refl ]
-metric_avoids (V4 kind) = elim kind [ metric_v4.AV ↦ refl | _ ↦ refl ]
+metric_avoids (V2 kind) = elim kind as (λ k. bytes_eq text_name (member_of (V2 k)) ≡ false) [ metric_v2.AV ↦ refl | _ ↦ refl ]
+metric_avoids (V3 kind) = elim kind as (λ k. bytes_eq text_name (member_of (V3 k)) ≡ false) [ metric_v3.AV ↦ refl | _ ↦ refl ]
+metric_avoids (V4 kind) = elim kind as (λ k. bytes_eq text_name (member_of (V4 k)) ≡ false) [ metric_v4.AV ↦ refl | _ ↦ refl ]
 
 metrics_avoid : (items : List (MetricType × List ℕ)) → Avoids (map metric_member items)
 unfolding Avoids
