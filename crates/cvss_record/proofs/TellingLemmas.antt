@@ -3,7 +3,7 @@ use Rattle.std.proofs.Common.{◌≡◌, ◌↔◌, ℕ, List, [], ◌∷◌, �
 use Rattle.std.proofs.lemmas.Slice.Eq.{bytes_eq-Decides}
 use Rattle.cvss.specs.Answers.{metrics_of, text_of}
 use Rattle.cvss.specs.Dispatch.{DenotesCvss}
-use Rattle.cvss.specs.Laws.{IsGivenBack}
+use Rattle.cvss.specs.laws.GivenBack.{IsGivenBack}
 use Rattle.cvss.specs.declared.metric_type.MetricType.{MetricType}
 use Rattle.cvss.specs.declared.metric_type.MetricType.TheVariants.{V2, V3, V4}
 use Rattle.cvss.specs.declared.vector.Cvss.{Cvss}
@@ -46,74 +46,9 @@ kept (each ∷ rest) old avoids =
 
 metric_avoids : (metric : MetricType) → bytes_eq text_name (member_of metric) ≡ false
 unfolding text_name
-metric_avoids (V2 metric_v2.AV) = refl
-metric_avoids (V2 metric_v2.AC) = refl
-metric_avoids (V2 metric_v2.Au) = refl
-metric_avoids (V2 metric_v2.C) = refl
-metric_avoids (V2 metric_v2.I) = refl
-metric_avoids (V2 metric_v2.A) = refl
-metric_avoids (V2 metric_v2.E) = refl
-metric_avoids (V2 metric_v2.RL) = refl
-metric_avoids (V2 metric_v2.RC) = refl
-metric_avoids (V2 metric_v2.CDP) = refl
-metric_avoids (V2 metric_v2.TD) = refl
-metric_avoids (V2 metric_v2.CR) = refl
-metric_avoids (V2 metric_v2.IR) = refl
-metric_avoids (V2 metric_v2.AR) = refl
-metric_avoids (V3 metric_v3.AV) = refl
-metric_avoids (V3 metric_v3.AC) = refl
-metric_avoids (V3 metric_v3.PR) = refl
-metric_avoids (V3 metric_v3.UI) = refl
-metric_avoids (V3 metric_v3.S) = refl
-metric_avoids (V3 metric_v3.C) = refl
-metric_avoids (V3 metric_v3.I) = refl
-metric_avoids (V3 metric_v3.A) = refl
-metric_avoids (V3 metric_v3.E) = refl
-metric_avoids (V3 metric_v3.RL) = refl
-metric_avoids (V3 metric_v3.RC) = refl
-metric_avoids (V3 metric_v3.CR) = refl
-metric_avoids (V3 metric_v3.IR) = refl
-metric_avoids (V3 metric_v3.AR) = refl
-metric_avoids (V3 metric_v3.MAV) = refl
-metric_avoids (V3 metric_v3.MAC) = refl
-metric_avoids (V3 metric_v3.MPR) = refl
-metric_avoids (V3 metric_v3.MUI) = refl
-metric_avoids (V3 metric_v3.MS) = refl
-metric_avoids (V3 metric_v3.MC) = refl
-metric_avoids (V3 metric_v3.MI) = refl
-metric_avoids (V3 metric_v3.MA) = refl
-metric_avoids (V4 metric_v4.AV) = refl
-metric_avoids (V4 metric_v4.AC) = refl
-metric_avoids (V4 metric_v4.AT) = refl
-metric_avoids (V4 metric_v4.PR) = refl
-metric_avoids (V4 metric_v4.UI) = refl
-metric_avoids (V4 metric_v4.VC) = refl
-metric_avoids (V4 metric_v4.VI) = refl
-metric_avoids (V4 metric_v4.VA) = refl
-metric_avoids (V4 metric_v4.SC) = refl
-metric_avoids (V4 metric_v4.SI) = refl
-metric_avoids (V4 metric_v4.SA) = refl
-metric_avoids (V4 metric_v4.E) = refl
-metric_avoids (V4 metric_v4.CR) = refl
-metric_avoids (V4 metric_v4.IR) = refl
-metric_avoids (V4 metric_v4.AR) = refl
-metric_avoids (V4 metric_v4.MAV) = refl
-metric_avoids (V4 metric_v4.MAC) = refl
-metric_avoids (V4 metric_v4.MAT) = refl
-metric_avoids (V4 metric_v4.MPR) = refl
-metric_avoids (V4 metric_v4.MUI) = refl
-metric_avoids (V4 metric_v4.MVC) = refl
-metric_avoids (V4 metric_v4.MVI) = refl
-metric_avoids (V4 metric_v4.MVA) = refl
-metric_avoids (V4 metric_v4.MSC) = refl
-metric_avoids (V4 metric_v4.MSI) = refl
-metric_avoids (V4 metric_v4.MSA) = refl
-metric_avoids (V4 metric_v4.S) = refl
-metric_avoids (V4 metric_v4.AU) = refl
-metric_avoids (V4 metric_v4.R) = refl
-metric_avoids (V4 metric_v4.V) = refl
-metric_avoids (V4 metric_v4.RE) = refl
-metric_avoids (V4 metric_v4.U) = refl
+metric_avoids (V2 kind) = elim kind as (λ k. bytes_eq text_name (member_of (V2 k)) ≡ false) [ metric_v2.AV ↦ refl | _ ↦ refl ]
+metric_avoids (V3 kind) = elim kind as (λ k. bytes_eq text_name (member_of (V3 k)) ≡ false) [ metric_v3.AV ↦ refl | _ ↦ refl ]
+metric_avoids (V4 kind) = elim kind as (λ k. bytes_eq text_name (member_of (V4 k)) ≡ false) [ metric_v4.AV ↦ refl | _ ↦ refl ]
 
 metrics_avoid : (items : List (MetricType × List ℕ)) → Avoids (map metric_member items)
 unfolding Avoids

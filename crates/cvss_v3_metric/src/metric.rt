@@ -2,9 +2,9 @@
 
 ghost use Rattle.std.specs.Prelude.{◌≡◌, [], ◌∷◌, ◌*◌, ◌^◌, ◌↔◌, pos, IsTrue, IsSome, IfSome, IfOk, IfErr, Some, unwrap_or};
 ghost use Rattle.cvss_base.specs.Refusal.{BadValue};
-ghost use Rattle.cvss_base.specs.Told.{Tells, v3_reason};
-ghost use Rattle.cvss_base.specs.V3Types.{name_of};
-ghost use Rattle.cvss_base.specs.Equality.{EqualsByValue, ClonesByValue};
+ghost use Rattle.cvss_base.specs.Told.{Tells};
+ghost use Rattle.cvss_base.specs.V3Types.{v3_reason, name_of};
+ghost use Rattle.cvss_base.specs.laws.Equality.{EqualsByValue, ClonesByValue};
 ghost use Rattle.cvss_base.specs.Exact.{IsWithinLimit};
 ghost use Rattle.cvss_base.specs.declared.v3.MetricType.{MetricType};
 ghost use Rattle.cvss_base.specs.Text.{slash, raised};

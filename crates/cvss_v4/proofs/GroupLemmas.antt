@@ -6,7 +6,7 @@ use Rattle.cvss_v4.specs.Distance.{eq1_sum, eq1_least, eq2_sum, eq2_least, eq3_e
 use Rattle.cvss_v4.specs.Gap.{eq1_group, eq2_group, eq3_eq6_group, eq4_group, eq5_group, groups}
 use Rattle.cvss_v4.specs.Values.{listed_value, table_value}
 use Rattle.cvss_v4.specs.declared.scoring.effective.Effective.{Effective}
-use Rattle.cvss_v4.specs.ScoreLaws.{IsListed}
+use Rattle.cvss_v4.specs.laws.ScoreLaws.{IsListed}
 use Rattle.cvss_v4.proofs.ClassLemmas.{macro_vector_is}
 use Rattle.cvss_v4.proofs.DistanceLemmas.{eq1_divides, eq2_divides, eq3_eq6_divides, eq4_divides}
 use Rattle.cvss_v4.proofs.LeastLemmas.{eq1_within, eq2_within, eq3_eq6_within, eq4_within}

@@ -12,7 +12,6 @@ mod MeanLemmas
 mod MergingFacts
 mod MergingLemmas
 mod OverridingLemmas
-mod PrintedLemmas
 mod RoundedLemmas
 pub mod ScoreLawLemmas
 mod ScoreLemmas

@@ -2,8 +2,9 @@ use Rattle.std.proofs.Common.{◌≡◌, ◌⊎◌, inl, inr, refl, ap, ◌∙�
 use Rattle.std.specs.Prelude.{ℕ, Bool, true, false, List, codes, bytes_eq, if◌then◌else◌, Some, None, unwrap_or}
 use Rattle.cvss_base.specs.declared.v4.MetricType.{MetricType}
 use Rattle.cvss_base.specs.declared.v4.MetricType.TheVariants.{AC, AT, AV, PR, SA, SC, SI, UI, VA, VC, VI, E, AR, CR, IR, MAC, MAT, MAV, MPR, MSA, MSC, MSI, MUI, MVA, MVC, MVI}
-use Rattle.cvss_v4.specs.Merging.{letter_at, replaced, merged, if_defined, effective_of, attack_vector_of, attack_complexity_of, attack_requirements_of, privileges_required_of, user_interaction_of, vulnerable_impact_of, subsequent_impact_of, safety_impact_of, requirement_of, exploit_maturity_of}
-use Rattle.cvss_v4.specs.MergingLaws.{IsWrittenAsBase, IsKept, HasModifiedAsBase, base_of}
+use Rattle.cvss_v4.specs.private.Defined.{if_defined}
+use Rattle.cvss_v4.specs.Merging.{letter_at, replaced, merged, effective_of, attack_vector_of, attack_complexity_of, attack_requirements_of, privileges_required_of, user_interaction_of, vulnerable_impact_of, subsequent_impact_of, safety_impact_of, requirement_of, exploit_maturity_of}
+use Rattle.cvss_v4.specs.laws.MergingLaws.{IsWrittenAsBase, IsKept, HasModifiedAsBase, base_of}
 use Rattle.cvss_v4.specs.declared.vector.Vector.{Vector}
 
 by_case : {E : Type 0} (meaning : List ℕ → E) (modified base : List ℕ) (undefined : Bool) → unwrap_or (if undefined then None else Some (meaning modified)) (meaning base) ≡ meaning (if undefined then base else modified)

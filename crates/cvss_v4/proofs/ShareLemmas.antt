@@ -2,7 +2,7 @@
 use Rattle.std.proofs.Common.{◌≡◌, ℕ, ◌-◌, ◌*◌, ◌/◌, ◌<◌, ◌≤◌, Some, None, refl, arith, pos}
 use Rattle.std.proofs.Math.Nat.{mul-le-mul, mul-le-mul_right}
 use Rattle.cvss_v4.specs.Gap.{Group}
-use Rattle.cvss_v4.specs.Shares.{IsShare}
+use Rattle.cvss_v4.specs.private.Shares.{IsShare}
 use Rattle.cvss_v4.specs.declared.scoring.shares.Share.{Share}
 
 -- nothing without a next lower value

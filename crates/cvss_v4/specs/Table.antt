@@ -35,8 +35,9 @@ use Rattle.cvss_v4_metric.specs.declared.supplemental.consequence.Recovery.{Reco
 use Rattle.cvss_v4_metric.specs.declared.supplemental.attack.ValueDensity.{ValueDensity}
 use Rattle.cvss_v4_metric.specs.declared.supplemental.response.VulnerabilityResponseEffort.{VulnerabilityResponseEffort}
 use Rattle.cvss_v4_metric.specs.declared.supplemental.response.ProviderUrgency.{ProviderUrgency}
-use Rattle.cvss_v4_metric.specs.Spellings.{attack_vector_spelling, attack_vector_values, attack_complexity_spelling, attack_complexity_values, attack_requirements_spelling, attack_requirements_values, privileges_required_spelling, privileges_required_values, user_interaction_spelling, user_interaction_values, confidentiality_impact_to_the_vulnerable_system_spelling, confidentiality_impact_to_the_vulnerable_system_values, integrity_impact_to_the_vulnerable_system_spelling, integrity_impact_to_the_vulnerable_system_values, availability_impact_to_the_vulnerable_system_spelling, availability_impact_to_the_vulnerable_system_values, confidentiality_impact_to_the_subsequent_system_spelling, confidentiality_impact_to_the_subsequent_system_values, integrity_impact_to_the_subsequent_system_spelling, integrity_impact_to_the_subsequent_system_values, availability_impact_to_the_subsequent_system_spelling, availability_impact_to_the_subsequent_system_values, exploit_maturity_spelling, exploit_maturity_values, safety_spelling, safety_values, automatable_spelling, automatable_values, recovery_spelling, recovery_values, value_density_spelling, value_density_values, vulnerability_response_effort_spelling, vulnerability_response_effort_values, provider_urgency_spelling, provider_urgency_values}
-use Rattle.cvss_v4_env.specs.Spellings.{confidentiality_requirements_spelling, confidentiality_requirements_values, integrity_requirements_spelling, integrity_requirements_values, availability_requirements_spelling, availability_requirements_values, modified_attack_vector_spelling, modified_attack_vector_values, modified_attack_complexity_spelling, modified_attack_complexity_values, modified_attack_requirements_spelling, modified_attack_requirements_values, modified_privileges_required_spelling, modified_privileges_required_values, modified_user_interaction_spelling, modified_user_interaction_values, modified_confidentiality_impact_to_the_vulnerable_system_spelling, modified_confidentiality_impact_to_the_vulnerable_system_values, modified_integrity_impact_to_the_vulnerable_system_spelling, modified_integrity_impact_to_the_vulnerable_system_values, modified_availability_impact_to_the_vulnerable_system_spelling, modified_availability_impact_to_the_vulnerable_system_values, modified_confidentiality_impact_to_the_subsequent_system_spelling, modified_confidentiality_impact_to_the_subsequent_system_values, modified_integrity_impact_to_the_subsequent_system_spelling, modified_integrity_impact_to_the_subsequent_system_values, modified_availability_impact_to_the_subsequent_system_spelling, modified_availability_impact_to_the_subsequent_system_values}
+use Rattle.cvss_v4_metric.specs.Ranks.{attack_vector_rank, attack_complexity_rank, attack_requirements_rank, privileges_required_rank, user_interaction_rank, confidentiality_impact_to_the_vulnerable_system_rank, integrity_impact_to_the_vulnerable_system_rank, availability_impact_to_the_vulnerable_system_rank, confidentiality_impact_to_the_subsequent_system_rank, integrity_impact_to_the_subsequent_system_rank, availability_impact_to_the_subsequent_system_rank, exploit_maturity_rank, safety_rank, automatable_rank, recovery_rank, value_density_rank, vulnerability_response_effort_rank, provider_urgency_rank}
+use Rattle.cvss_v4_metric.specs.Table.{spelling_at}
+use Rattle.cvss_v4_env.specs.Ranks.{confidentiality_requirements_rank, integrity_requirements_rank, availability_requirements_rank, modified_attack_vector_rank, modified_attack_complexity_rank, modified_attack_requirements_rank, modified_privileges_required_rank, modified_user_interaction_rank, modified_confidentiality_impact_to_the_vulnerable_system_rank, modified_integrity_impact_to_the_vulnerable_system_rank, modified_availability_impact_to_the_vulnerable_system_rank, modified_confidentiality_impact_to_the_subsequent_system_rank, modified_integrity_impact_to_the_subsequent_system_rank, modified_availability_impact_to_the_subsequent_system_rank}
 
 -- the type of a metric's values
 abbrev pub Value : MetricType → Type 0
@@ -73,72 +74,41 @@ Value V = ValueDensity
 Value RE = VulnerabilityResponseEffort
 Value U = ProviderUrgency
 
+-- the place of a value among the spellings of its metric
+abbrev pub rank_of : (kind : MetricType) → Value kind → ℕ
+rank_of AV = attack_vector_rank
+rank_of AC = attack_complexity_rank
+rank_of AT = attack_requirements_rank
+rank_of PR = privileges_required_rank
+rank_of UI = user_interaction_rank
+rank_of VC = confidentiality_impact_to_the_vulnerable_system_rank
+rank_of VI = integrity_impact_to_the_vulnerable_system_rank
+rank_of VA = availability_impact_to_the_vulnerable_system_rank
+rank_of SC = confidentiality_impact_to_the_subsequent_system_rank
+rank_of SI = integrity_impact_to_the_subsequent_system_rank
+rank_of SA = availability_impact_to_the_subsequent_system_rank
+rank_of E = exploit_maturity_rank
+rank_of CR = confidentiality_requirements_rank
+rank_of IR = integrity_requirements_rank
+rank_of AR = availability_requirements_rank
+rank_of MAV = modified_attack_vector_rank
+rank_of MAC = modified_attack_complexity_rank
+rank_of MAT = modified_attack_requirements_rank
+rank_of MPR = modified_privileges_required_rank
+rank_of MUI = modified_user_interaction_rank
+rank_of MVC = modified_confidentiality_impact_to_the_vulnerable_system_rank
+rank_of MVI = modified_integrity_impact_to_the_vulnerable_system_rank
+rank_of MVA = modified_availability_impact_to_the_vulnerable_system_rank
+rank_of MSC = modified_confidentiality_impact_to_the_subsequent_system_rank
+rank_of MSI = modified_integrity_impact_to_the_subsequent_system_rank
+rank_of MSA = modified_availability_impact_to_the_subsequent_system_rank
+rank_of S = safety_rank
+rank_of AU = automatable_rank
+rank_of R = recovery_rank
+rank_of V = value_density_rank
+rank_of RE = vulnerability_response_effort_rank
+rank_of U = provider_urgency_rank
+
 -- how a value is spelled
 abbrev pub spelling_of : (kind : MetricType) → Value kind → List ℕ
-spelling_of AV value = attack_vector_spelling value
-spelling_of AC value = attack_complexity_spelling value
-spelling_of AT value = attack_requirements_spelling value
-spelling_of PR value = privileges_required_spelling value
-spelling_of UI value = user_interaction_spelling value
-spelling_of VC value = confidentiality_impact_to_the_vulnerable_system_spelling value
-spelling_of VI value = integrity_impact_to_the_vulnerable_system_spelling value
-spelling_of VA value = availability_impact_to_the_vulnerable_system_spelling value
-spelling_of SC value = confidentiality_impact_to_the_subsequent_system_spelling value
-spelling_of SI value = integrity_impact_to_the_subsequent_system_spelling value
-spelling_of SA value = availability_impact_to_the_subsequent_system_spelling value
-spelling_of E value = exploit_maturity_spelling value
-spelling_of CR value = confidentiality_requirements_spelling value
-spelling_of IR value = integrity_requirements_spelling value
-spelling_of AR value = availability_requirements_spelling value
-spelling_of MAV value = modified_attack_vector_spelling value
-spelling_of MAC value = modified_attack_complexity_spelling value
-spelling_of MAT value = modified_attack_requirements_spelling value
-spelling_of MPR value = modified_privileges_required_spelling value
-spelling_of MUI value = modified_user_interaction_spelling value
-spelling_of MVC value = modified_confidentiality_impact_to_the_vulnerable_system_spelling value
-spelling_of MVI value = modified_integrity_impact_to_the_vulnerable_system_spelling value
-spelling_of MVA value = modified_availability_impact_to_the_vulnerable_system_spelling value
-spelling_of MSC value = modified_confidentiality_impact_to_the_subsequent_system_spelling value
-spelling_of MSI value = modified_integrity_impact_to_the_subsequent_system_spelling value
-spelling_of MSA value = modified_availability_impact_to_the_subsequent_system_spelling value
-spelling_of S value = safety_spelling value
-spelling_of AU value = automatable_spelling value
-spelling_of R value = recovery_spelling value
-spelling_of V value = value_density_spelling value
-spelling_of RE value = vulnerability_response_effort_spelling value
-spelling_of U value = provider_urgency_spelling value
-
--- all values of a metric, in the order in which they are compared
-abbrev pub values_of : (kind : MetricType) → List (Value kind)
-values_of AV = attack_vector_values
-values_of AC = attack_complexity_values
-values_of AT = attack_requirements_values
-values_of PR = privileges_required_values
-values_of UI = user_interaction_values
-values_of VC = confidentiality_impact_to_the_vulnerable_system_values
-values_of VI = integrity_impact_to_the_vulnerable_system_values
-values_of VA = availability_impact_to_the_vulnerable_system_values
-values_of SC = confidentiality_impact_to_the_subsequent_system_values
-values_of SI = integrity_impact_to_the_subsequent_system_values
-values_of SA = availability_impact_to_the_subsequent_system_values
-values_of E = exploit_maturity_values
-values_of CR = confidentiality_requirements_values
-values_of IR = integrity_requirements_values
-values_of AR = availability_requirements_values
-values_of MAV = modified_attack_vector_values
-values_of MAC = modified_attack_complexity_values
-values_of MAT = modified_attack_requirements_values
-values_of MPR = modified_privileges_required_values
-values_of MUI = modified_user_interaction_values
-values_of MVC = modified_confidentiality_impact_to_the_vulnerable_system_values
-values_of MVI = modified_integrity_impact_to_the_vulnerable_system_values
-values_of MVA = modified_availability_impact_to_the_vulnerable_system_values
-values_of MSC = modified_confidentiality_impact_to_the_subsequent_system_values
-values_of MSI = modified_integrity_impact_to_the_subsequent_system_values
-values_of MSA = modified_availability_impact_to_the_subsequent_system_values
-values_of S = safety_values
-values_of AU = automatable_values
-values_of R = recovery_values
-values_of V = value_density_values
-values_of RE = vulnerability_response_effort_values
-values_of U = provider_urgency_values
+spelling_of kind value = spelling_at kind (rank_of kind value)

@@ -2,7 +2,7 @@
 
 ghost use Rattle.std.specs.Prelude.{◌≡◌, ◌&&◌};
 ghost use Rattle.cvss_v4.specs.Classes.{eq1, eq2, eq3, eq4, eq5, eq6, is_requirement_high, is_vulnerable_high, macro_vector};
-ghost use Rattle.cvss_v4.specs.ScoreLaws.{IsMacroVector};
+ghost use Rattle.cvss_v4.specs.laws.ScoreLaws.{IsMacroVector};
 
 use crate::scoring::effective::{
     AttackComplexity, AttackRequirements, AttackVector, Effective, ExploitMaturity,

@@ -4,8 +4,8 @@
 ghost use Rattle.std.specs.Prelude.{◌≡◌, ◌+◌, ◌-◌, ◌*◌, ◌/◌, ◌%◌, ◌<◌, ◌≤◌, Some};
 ghost use Rattle.cvss_v4.specs.Classes.{macro_vector};
 ghost use Rattle.cvss_v4.specs.Gap.{eq1_group, eq2_group, eq3_eq6_group, eq4_group, eq5_group, eq3_eq6_next};
-ghost use Rattle.cvss_v4.specs.ScoreLaws.{IsMacroVector, IsListed};
-ghost use Rattle.cvss_v4.specs.Shares.{IsShare};
+ghost use Rattle.cvss_v4.specs.laws.ScoreLaws.{IsMacroVector, IsListed};
+ghost use Rattle.cvss_v4.specs.private.Shares.{IsShare};
 ghost use Rattle.cvss_v4.specs.Values.{listed_value};
 
 use crate::scoring::classes::MacroVector;

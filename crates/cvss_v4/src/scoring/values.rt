@@ -2,8 +2,8 @@
 
 ghost use Rattle.std.specs.Prelude.{◌≡◌, ◌<◌, Some};
 ghost use Rattle.cvss_v4.specs.Values.{listed_value};
-ghost use Rattle.cvss_v4.specs.Places.{place_of};
-ghost use Rattle.cvss_v4.specs.ScoreLaws.{IsMacroVector, IsListed};
+ghost use Rattle.cvss_v4.specs.private.Places.{place_of};
+ghost use Rattle.cvss_v4.specs.laws.ScoreLaws.{IsMacroVector, IsListed};
 
 use crate::scoring::classes::MacroVector;
 

@@ -1,0 +1,4 @@
+pub mod ClassLaws
+pub mod Maximal
+pub mod MergingLaws
+pub mod ScoreLaws
