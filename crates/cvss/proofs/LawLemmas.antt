@@ -8,14 +8,14 @@ use Rattle.cvss_base.specs.Version.{components_of, version_piece, IsWellFormed}
 use Rattle.cvss_base.proofs.CanonicalLemmas.{canonical_text-denotes, denoted_once}
 use Rattle.cvss_base.proofs.FrontLemmas.{denoted_once_behind}
 use Rattle.cvss_base.proofs.TenthsLemmas.{in_tenths_once}
-use Rattle.cvss_base.specs.Tenths.{IsOneCount}
+use Rattle.cvss_base.specs.laws.Rounding.{IsOneCount}
 use Rattle.cvss_v2.proofs.UniqueLemmas.{base_score_once}
 use Rattle.cvss_v2.specs.Vector.{v2}
-use Rattle.cvss_v2.specs.VectorLaws.{v2_is_lawful}
+use Rattle.cvss_v2.specs.private.VectorLaws.{v2_is_lawful}
 use Rattle.cvss_v2.specs.Weights.{weights_of}
 use Rattle.cvss_v3.proofs.LawLemmas as law_v3
 use Rattle.cvss_v3.specs.Vector.{v3}
-use Rattle.cvss_v3.specs.VectorLaws.{v3_is_lawful, v3_fronts_are_lawful}
+use Rattle.cvss_v3.specs.private.VectorLaws.{v3_is_lawful, v3_fronts_are_lawful}
 use Rattle.cvss_v3.specs.VectorWeights as weights_v3
 use Rattle.cvss_v3.specs.declared.vector.Vector.{Vector}
 use Rattle.cvss_v4.proofs.ScoreLawLemmas.{one_score}
@@ -25,7 +25,7 @@ use Rattle.cvss_v4.specs.Vector.{v4}
 use Rattle.cvss_v4.specs.private.VectorLaws.{v4_is_lawful, v4_fronts_are_lawful}
 use Rattle.cvss.specs.Answers.{text_of, IsScoreOf}
 use Rattle.cvss.specs.Dispatch.{DenotesCvss, DenotesV3}
-use Rattle.cvss.specs.Laws.{IsGivenBack, HasVersionAndMetric}
+use Rattle.cvss.specs.laws.GivenBack.{IsGivenBack, HasVersionAndMetric}
 use Rattle.cvss.specs.declared.vector.Cvss.{Cvss}
 use Rattle.cvss.specs.declared.vector.Cvss.TheVariants.{CvssV20, CvssV30, CvssV31, CvssV40}
 use Rattle.cvss.proofs.AnswerLemmas.{of_v20, of_v30, of_v31, of_v40}

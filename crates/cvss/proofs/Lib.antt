@@ -1,5 +1,4 @@
 mod AnswerLemmas
-mod DigitLemmas
 mod JsonLemmas
 mod LawLemmas
 mod RouteLemmas

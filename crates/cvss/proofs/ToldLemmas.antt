@@ -1,7 +1,10 @@
 -- A version's error tells of all metrics what it tells of that version's.
 use Rattle.std.proofs.Common.{◌≡◌, inl, inr, Some, Option, IfSome, refl, subst, ◌∙◌}
 use Rattle.cvss_base.specs.Refusal.{Refusal, BadComponent, WrongPrefix, WrongVersion, UnknownName, BadValue, Repeated, Missing, carries_text}
-use Rattle.cvss_base.specs.Told.{Tells, TellsFirst, reason_told, v2_reason, v3_reason, v4_reason}
+use Rattle.cvss_base.specs.Told.{Tells, TellsFirst, reason_told}
+use Rattle.cvss_base.specs.V2Types.{v2_reason}
+use Rattle.cvss_base.specs.V3Types.{v3_reason}
+use Rattle.cvss_base.specs.V4Types.{v4_reason}
 use Rattle.cvss_base.specs.declared.error.Error.{Error}
 use Rattle.cvss_base.specs.declared.error.Error.TheVariants.{InvalidComponent, InvalidPrefix, UnsupportedVersion, InvalidMetricV2, DuplicateMetricV2, MissingMandatoryMetricV2, InvalidMetricV3, DuplicateMetricV3, InvalidMetricV4, DuplicateMetricV4, MissingMandatoryMetricV4, UnknownMetric}
 use Rattle.cvss.specs.Dispatch.{IsReasonOf, wrapped, cvss_reason}

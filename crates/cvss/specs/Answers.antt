@@ -1,10 +1,9 @@
 -- What is answered of a vector of any version: its text, its score, the score's rating and its metrics.
-use Rattle.std.specs.Prelude.{ℕ, ◌*◌, ◌/◌, ◌%◌, ◌^◌, List, ◌++◌, codes, map, ℤ, pos, ⊤}
-use Rattle.std.specs.Fmt.{decimal}
+use Rattle.std.specs.Prelude.{◌≡◌, ℕ, ◌*◌, ◌^◌, List, ◌++◌, codes, map, ℤ, pos, ⊤}
 use Rattle.cvss_base.specs.Listing.{listed_metrics}
 use Rattle.cvss_base.specs.Rating.{rating_of_score}
 use Rattle.cvss_base.specs.SeverityText.{text_of as severity_text}
-use Rattle.cvss_base.specs.Tenths.{IsInTenths}
+use Rattle.cvss_base.specs.Tenths.{IsInTenths, tenths_text}
 use Rattle.cvss_base.specs.V4Types.{declared}
 use Rattle.cvss_base.specs.Version.{canonical_text, IsComplete}
 use Rattle.cvss_base.specs.declared.severity.Severity.{Severity}
@@ -57,13 +56,15 @@ rating_by (CvssV40 vector) = rating_of_score
 abbrev pub score_of_tenths : ℕ → ℤ
 score_of_tenths tenths = pos (tenths * 10 ^ 23)
 
--- a score of so many tenths as it is written: units, point, one decimal
-abbrev pub score_text : ℕ → List ℕ
-score_text tenths = decimal (tenths / 10) ++ codes "." ++ decimal (tenths % 10)
+-- the text is that of the vector's score, with one decimal
+pub record IsScoreText (vector : Cvss) (text : List ℕ) : Type 0 where
+  pub tenths : ℕ
+  pub scored : IsScoreOf vector (score_of_tenths tenths)
+  pub is : text ≡ tenths_text tenths
 
 -- a score of so many tenths, and a rating
 abbrev pub rating_text : ℕ → Severity → List ℕ
-rating_text tenths severity = score_text tenths ++ codes " " ++ severity_text severity
+rating_text tenths severity = tenths_text tenths ++ codes " " ++ severity_text severity
 
 -- the vector's text, a score of so many tenths, and its rating
 abbrev pub vector_answer : Cvss → ℕ → List ℕ

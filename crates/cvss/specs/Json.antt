@@ -1,6 +1,5 @@
 -- JSON values that stand for vectors, severities and nomenclatures: RFC 8259, sections 3 and 7.
-use Rattle.std.specs.Prelude.{◌≡◌, ◌≢◌, ℕ, List, codes, ⊤}
-use Rattle.cvss_base.specs.Equality as base
+use Rattle.std.specs.Prelude.{◌≡◌, ◌≢◌, ℕ, List, codes}
 use Rattle.cvss_base.specs.ErrorText.{error_text}
 use Rattle.cvss_base.specs.declared.error.Error.{Error}
 use Rattle.cvss.specs.declared.json.JsonError.{JsonError}
@@ -38,10 +37,3 @@ abbrev pub json_error_text : JsonError → List ℕ
 json_error_text NotAString = codes "not a JSON string"
 json_error_text (Invalid error) = error_text error
 json_error_text OutOfMemory = codes "out of memory"
-
--- two errors are of one kind, and their reasons tell the same
-abbrev pub TellTheSame : JsonError → JsonError → Type 0
-TellTheSame NotAString NotAString = ⊤
-TellTheSame (Invalid x) (Invalid y) = base.TellTheSame x y
-TellTheSame OutOfMemory OutOfMemory = ⊤
-TellTheSame _ _ = ⊥

@@ -1,16 +1,14 @@
 pub mod Answers
 pub mod Dispatch
 pub mod Json
-pub mod Laws
 pub mod MetricTypes
 pub mod MetricsLeft
-pub mod Steps
-pub use Rattle.cvss_base.specs.Equality
+pub mod laws
+pub mod private
 pub use Rattle.cvss_base.specs.ErrorText
 pub use Rattle.cvss_base.specs.Exact
 pub use Rattle.cvss_base.specs.Listing
 pub use Rattle.cvss_base.specs.MetricsLeft as MetricsLeftToList
-pub use Rattle.cvss_base.specs.laws.Order
 pub use Rattle.cvss_base.specs.Rating
 pub use Rattle.cvss_base.specs.Refusal
 pub use Rattle.cvss_base.specs.Rounding
@@ -28,7 +26,7 @@ pub use Rattle.cvss_base.specs.declared.v2.MetricType as MetricTypeV2
 pub use Rattle.cvss_base.specs.declared.v3.MetricType as MetricTypeV3
 pub use Rattle.cvss_base.specs.declared.v4.MetricType as MetricTypeV4
 pub use Rattle.cvss_v2.specs.Rating as RatingV2
-pub use Rattle.cvss_v2.specs.ScoreLaws as ScoreLawsV2
+pub use Rattle.cvss_v2.specs.laws.NotDefined as ScoreLawsV2
 pub use Rattle.cvss_v2.specs.Scores as ScoresV2
 pub use Rattle.cvss_v2.specs.Table as TableV2
 pub use Rattle.cvss_v2.specs.Vector as VectorV2
@@ -37,17 +35,16 @@ pub use Rattle.cvss_v2.specs.declared.vector.Vector as VectorTypeV2
 pub use Rattle.cvss_v2.specs.declared.weights.Weights as WeightsTypeV2
 pub use Rattle.cvss_v3_metric.specs.Metrics as MetricsV3
 pub use Rattle.cvss_v3_metric.specs.Modified as ModifiedV3
-pub use Rattle.cvss_v3_metric.specs.Rows as RowsV3
 pub use Rattle.cvss_v3_metric.specs.Table as TableV3
 pub use Rattle.cvss_v3_metric.specs.declared.environmental.modified.Modified as ModifiedTypeV3
 pub use Rattle.cvss_v3.specs.Certainty as CertaintyV3
-pub use Rattle.cvss_v3.specs.ScoreLaws as ScoreLawsV3
+pub use Rattle.cvss_v3.specs.laws.ScoreLaws as ScoreLawsV3
 pub use Rattle.cvss_v3.specs.Scores as ScoresV3
 pub use Rattle.cvss_v3.specs.Vector as VectorV3
 pub use Rattle.cvss_v3.specs.VectorWeights as WeightsV3
 pub use Rattle.cvss_v3.specs.declared.vector.Vector as VectorTypeV3
 pub use Rattle.cvss_v3.specs.declared.weights.Weights as WeightsTypeV3
-pub use Rattle.cvss_v4_metric.specs.Metrics as MetricsV4
+pub use Rattle.cvss_v4_metric.specs.laws.Metrics as MetricsV4
 pub use Rattle.cvss_v4_metric.specs.Reading as ReadingV4
 pub use Rattle.cvss_v4_metric.specs.Ranks as RanksV4
 pub use Rattle.cvss_v4_metric.specs.Table as TableV4
@@ -61,8 +58,9 @@ pub use Rattle.cvss_v4.specs.Merging as MergingV4
 pub use Rattle.cvss_v4.specs.laws.MergingLaws as MergingLawsV4
 pub use Rattle.cvss_v4.specs.Nomenclature as NomenclatureV4
 pub use Rattle.cvss_v4.specs.Overriding as OverridingV4
+pub use Rattle.cvss_v4.specs.laws.OverridingLaws as OverridingLawsV4
 pub use Rattle.cvss_v4.specs.laws.ScoreLaws as ScoreLawsV4
-pub use Rattle.cvss_v4.specs.ScoreText as ScoreTextV4
+pub use Rattle.cvss_base.specs.ScoreText
 pub use Rattle.cvss_v4.specs.Scores as ScoresV4
 pub use Rattle.cvss_v4.specs.Values as ValuesV4
 pub use Rattle.cvss_v4.specs.Vector as VectorV4

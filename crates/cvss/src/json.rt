@@ -2,7 +2,11 @@
 
 ghost use Rattle.std.specs.Prelude.{◌≡◌, ◌≢◌, ℕ, List, IfOk, IfErr, Some, Ok, Err, refl};
 ghost use Rattle.cvss_base.specs.SeverityText as severity;
-ghost use Rattle.cvss_base.specs.Told.{TellsFirst, TellsNoNomenclature, TellsNoSeverity, v2_reason, v3_reason, v4_reason};
+ghost use Rattle.cvss_base.specs.Told.{TellsFirst, TellsNoSeverity};
+ghost use Rattle.cvss_v4.specs.Nomenclature.{TellsNoNomenclature};
+ghost use Rattle.cvss_base.specs.V2Types.{v2_reason};
+ghost use Rattle.cvss_base.specs.V3Types.{v3_reason};
+ghost use Rattle.cvss_base.specs.V4Types.{v4_reason};
 ghost use Rattle.cvss_base.specs.Refusal.{IsFirstRefusal, IsFirstRefusalBehind};
 ghost use Rattle.cvss_base.specs.Version.{canonical_text, Denotes, IsComplete, IsWellFormed};
 ghost use Rattle.cvss_base.specs.declared.error.Error.{Error};

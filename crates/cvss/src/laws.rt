@@ -2,13 +2,13 @@
 //! needs a law calls it.
 
 ghost use Rattle.std.specs.Prelude.{◌≡◌, ◌↔◌, ℕ, List, IsTrue};
-ghost use Rattle.cvss_base.specs.Equality as same;
-ghost use Rattle.cvss_base.specs.Equality.{EqualsByValue, ClonesByValue};
-ghost use Rattle.cvss_base.specs.Tenths.{IsOneCount};
+ghost use Rattle.cvss_base.specs.laws.Equality as same;
+ghost use Rattle.cvss_base.specs.laws.Equality.{EqualsByValue, ClonesByValue};
+ghost use Rattle.cvss_base.specs.laws.Rounding.{IsOneCount};
 ghost use Rattle.cvss.specs.Answers.{text_of, IsScoreOf};
 ghost use Rattle.cvss.specs.Dispatch.{DenotesCvss};
-ghost use Rattle.cvss.specs.Laws.{IsGivenBack};
-ghost use Rattle.cvss.specs.Json.{TellTheSame};
+ghost use Rattle.cvss.specs.laws.GivenBack.{IsGivenBack};
+ghost use Rattle.cvss.specs.laws.JsonErrors.{TellTheSame};
 
 use crate::json::JsonError;
 use crate::{Cvss, Error, MetricType, v2, v3, v4};

@@ -11,10 +11,9 @@ mod metric_type;
 mod metrics;
 mod route;
 mod sight;
-pub mod tenths;
 mod vector;
 
-pub use cvss_base::{Error, LIMIT, ONE, PREFIX, Severity};
+pub use cvss_base::{Error, LIMIT, ONE, OneDecimal, PREFIX, Severity, tenths};
 pub use cvss_v2 as v2;
 pub use cvss_v3 as v3;
 pub use cvss_v4 as v4;

@@ -4,7 +4,7 @@ ghost use Rattle.std.specs.Prelude.{◌≡◌, IfOk, Some};
 ghost use Rattle.std.specs.Str.{IsUtf8};
 ghost use Rattle.cvss_base.specs.Told.{Tells, reason_told};
 ghost use Rattle.cvss.specs.Dispatch.{route_of, route_of_parts, cvss_reason};
-ghost use Rattle.cvss.specs.Steps.{as_route, IsTellable, IsTellableRoute, reason_of};
+ghost use Rattle.cvss.specs.private.Steps.{as_route, IsTellable, IsTellableRoute, reason_of};
 
 use cvss_base::pieces::{front_of, parts_of};
 use cvss_base::text::copied_text;

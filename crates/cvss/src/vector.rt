@@ -1,11 +1,12 @@
 //! A vector of any version.
 
-ghost use Rattle.std.specs.Prelude.{◌≡◌, ◌↔◌, IsTrue, IfSome, IsSome, IfOk, IfErr, IsErrAnd, Some, Ok, ℤ};
+ghost use Rattle.std.specs.Prelude.{◌≡◌, ◌≤◌, ◌↔◌, IsTrue, IfSome, IsSome, IfOk, IfErr, IsErrAnd, Some, Ok, ℤ};
 ghost use Rattle.cvss.specs.Answers.{text_of};
 
 use crate::metrics::Metrics;
 use crate::route::{Route, error_of, route_of_text};
 use crate::{v2, v3, v4};
+use cvss_base::tenths::{tenths_of, text_of as text_of_tenths};
 use cvss_base::{Error, Severity, severity_of_score};
 use std::alloc::Global;
 use std::fmt;
@@ -28,7 +29,7 @@ impl Cvss {
     ghost use Rattle.cvss_base.specs.Refusal.{Refusal};
     ghost use Rattle.cvss_base.specs.Tenths.{IsInTenths, IsFromZeroToTen};
     ghost use Rattle.cvss_base.specs.Told.{Tells, TellsFirst};
-    ghost use Rattle.cvss.specs.Answers.{HasScore, IsScoreOf, rating_by, metrics_of};
+    ghost use Rattle.cvss.specs.Answers.{HasScore, IsScoreOf, IsScoreText, score_of_tenths, rating_by, metrics_of};
     ghost use Rattle.cvss.specs.Dispatch.{DenotesCvss, IsFirstRefusalCvss, cvss_reason};
     ghost use Rattle.cvss.specs.MetricsLeft.{metrics_left};
     ghost use Rattle.cvss.specs.declared.metric_type.MetricType.{MetricType};
@@ -118,6 +119,23 @@ impl Cvss {
             Cvss::CvssV30(vector) | Cvss::CvssV31(vector) => vector.score().value(),
             Cvss::CvssV40(vector) => vector.score().value(),
         }
+    }
+
+    /// The tenths of the score of a vector that has one.
+    pub fn tenths(&self) -> u8
+        requires scored { HasScore self.now }
+        ensures value { IsScoreOf self.now (score_of_tenths result) }
+        ensures bound { result ≤ 100 }
+    {
+        tenths_of(self.score())
+    }
+
+    /// The score of a vector that has one, with one decimal.
+    pub fn score_text(&self) -> &'static str
+        requires scored { HasScore self.now }
+        ensures { IsScoreText self.now result.now }
+    {
+        text_of_tenths(self.tenths())
     }
 
     /// The rating of the score of a vector that has one (v3.1 specification, section 5; v4.0

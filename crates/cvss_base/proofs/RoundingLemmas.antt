@@ -2,7 +2,8 @@
 use Rattle.std.proofs.Common.{◌≡◌, ◌<◌, ℤ, pos, ◌+ℤ◌, ◌-ℤ◌, ◌≤ℤ◌, arith, rules, subst, lit<}
 use Rattle.std.proofs.lemmas.Int.{ints, by_lt_z}
 use Rattle.cvss_base.specs.Exact.{Exact, ratio, ◌over◌, whole, tenths, ◌⊕◌, ◌⊗◌, ◌≈◌, ◌⊑◌, ◌⊏◌}
-use Rattle.cvss_base.specs.Rounding.{half_below, half_above, IsNearestAway, IsRoundedV2, IsLeastTenth, IsRoundedV30, IsFloor, IsRoundedUp, IsRoundedV31, IsRoundedV4, IsEven, IsNearestEven, RoundsInOrder, RoundsOneWay}
+use Rattle.cvss_base.specs.Rounding.{half_below, half_above, IsNearestAway, IsRoundedV2, IsLeastTenth, IsRoundedV30, IsFloor, IsRoundedUp, IsRoundedV31, IsRoundedV4}
+use Rattle.cvss_base.specs.laws.Rounding.{IsEven, IsNearestEven, RoundsInOrder, RoundsOneWay}
 use Rattle.cvss_base.proofs.ExactLemmas.{equal_at_most, equal_refl, equal_sym, equal_from_at_most, by_below, at_most_trans, at_most_below, below_at_most, sum_at_most, sum_equal, scaled_at_most}
 
 -- what keeps an order takes equal numbers to one tenth

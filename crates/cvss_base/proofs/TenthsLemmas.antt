@@ -1,7 +1,8 @@
 -- What one number of tenths counts.
 use Rattle.std.specs.Prelude.{◌^◌}
 use Rattle.std.proofs.Common.{ℤ, pos, ◌*ℤ◌, sym, ap, ◌∙◌}
-use Rattle.cvss_base.specs.Tenths.{IsInTenths, IsOneCount}
+use Rattle.cvss_base.specs.Tenths.{IsInTenths}
+use Rattle.cvss_base.specs.laws.Rounding.{IsOneCount}
 
 pub in_tenths_once : (IsNumber : ℤ → Type 0) → IsOneCount IsNumber → IsOneCount (IsInTenths IsNumber)
 in_tenths_once IsNumber once r s is_r is_s =

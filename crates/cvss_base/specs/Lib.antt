@@ -1,4 +1,3 @@
-pub mod Equality
 pub mod ErrorText
 pub mod Exact
 pub mod Listing
@@ -7,6 +6,7 @@ pub mod Numeral
 pub mod Rating
 pub mod Refusal
 pub mod Rounding
+pub mod ScoreText
 pub mod SeverityText
 pub mod Tenths
 pub mod Text

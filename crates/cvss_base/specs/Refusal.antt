@@ -59,10 +59,7 @@ FaultAt version parts place (Repeated kind) =
     (version.name kind ≡ name_at version parts place)
     × IsSpelling version kind (value_at version parts place)
     × IsNamedBefore version parts place kind
-FaultAt version parts place (BadComponent _) = ⊥
-FaultAt version parts place (WrongPrefix _) = ⊥
-FaultAt version parts place (WrongVersion _) = ⊥
-FaultAt version parts place (Missing _) = ⊥
+FaultAt version parts place _ = ⊥
 
 -- no component before this place has a fault
 pub record HasNoFaultBefore {V K : Type 0} (version : Version V K) (parts : List (List ℕ)) (place : ℕ) : Type 0 where

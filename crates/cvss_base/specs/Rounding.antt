@@ -1,7 +1,7 @@
 -- Rounding to a whole number r of tenths: CVSS v2 guide, 3.2; v3.0 specification, 8.1; v3.1 specification,
 -- Appendix A; v4.0 specification, 8.2.
-use Rattle.std.specs.Prelude.{◌≡◌, ◌%◌, ◌<◌, ℤ, pos, ◌+ℤ◌, ◌-ℤ◌, ◌≤ℤ◌, unsigned_abs}
-use Rattle.cvss_base.specs.Exact.{Exact, ratio, ◌over◌, whole, tenths, ◌⊕◌, ◌⊖◌, ◌⊗◌, ◌≈◌, ◌⊑◌, ◌⊏◌}
+use Rattle.std.specs.Prelude.{◌≡◌, ℤ, pos, ◌+ℤ◌, ◌-ℤ◌}
+use Rattle.cvss_base.specs.Exact.{Exact, ratio, ◌over◌, whole, tenths, ◌⊕◌, ◌⊖◌, ◌⊗◌, ◌⊑◌, ◌⊏◌}
 
 -- r - 0.05
 abbrev pub half_below : ℤ → Exact
@@ -55,23 +55,3 @@ pub record IsRoundedV31 (x : Exact) (r : ℤ) : Type 0 where
 pub record IsRoundedV4 (x : Exact) (r : ℤ) : Type 0 where
   pub from_half_below : half_below r ⊑ x
   pub below_half_above : x ⊏ half_above r
-
--- an even number of tenths
-abbrev pub IsEven : ℤ → Type 0
-IsEven r = unsigned_abs r % 2 ≡ 0
-
--- printing: r is nearest to x, and of two equally near the even one
-pub record IsNearestEven (x : Exact) (r : ℤ) : Type 0 where
-  pub nearest : IsNearest x r
-  pub even_above : x ≈ half_below r → IsEven r
-  pub even_below : x ≈ half_above r → IsEven r
-
--- a greater number has no smaller rounding
-abbrev pub RoundsInOrder : (Exact → ℤ → Type 0) → Type 0
-RoundsInOrder IsRounded =
-    (x y : Exact) (r s : ℤ) → 0 < x.bottom → 0 < y.bottom → x ⊑ y → IsRounded x r → IsRounded y s → r ≤ℤ s
-
--- equal numbers have at most one rounding
-abbrev pub RoundsOneWay : (Exact → ℤ → Type 0) → Type 0
-RoundsOneWay IsRounded =
-    (x y : Exact) (r s : ℤ) → 0 < x.bottom → 0 < y.bottom → x ≈ y → IsRounded x r → IsRounded y s → r ≡ s

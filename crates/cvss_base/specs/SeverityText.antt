@@ -1,5 +1,5 @@
 -- CVSS v3.1 specification, section 5: the qualitative severity ratings, in lower case.
-use Rattle.std.specs.Prelude.{ℕ, List, [], ◌∷◌, codes, map}
+use Rattle.std.specs.Prelude.{ℕ, List, codes, map}
 use Rattle.std.specs.Char.{to_ascii_lowercase}
 use Rattle.cvss_base.specs.declared.severity.Severity.{Severity}
 use Rattle.cvss_base.specs.declared.severity.Severity.TheVariants.{None, Low, Medium, High, Critical}
@@ -15,7 +15,3 @@ text_of Critical = codes "critical"
 -- the text with its ASCII letters turned to lower case
 abbrev pub lowered : List ℕ → List ℕ
 lowered text = map to_ascii_lowercase text
-
--- the ratings as they are compared, the least first
-abbrev pub declared : List Severity
-declared = None ∷ Low ∷ Medium ∷ High ∷ Critical ∷ []

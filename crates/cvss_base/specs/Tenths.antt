@@ -1,6 +1,7 @@
 -- Scores that are whole tenths: v3.0 specification, section 8; v3.1 specification, section 7; v4.0 specification,
 -- 8.2.
-use Rattle.std.specs.Prelude.{◌≡◌, ◌^◌, ℤ, pos, ◌*ℤ◌, ◌≤ℤ◌}
+use Rattle.std.specs.Prelude.{◌≡◌, ℕ, ◌/◌, ◌%◌, ◌^◌, ℤ, pos, ◌*ℤ◌, ◌≤ℤ◌, List, ◌++◌, codes}
+use Rattle.std.specs.Fmt.{decimal}
 
 -- the count of 10^-24 is that of such a number of tenths
 pub record IsInTenths (IsNumber : ℤ → Type 0) (count : ℤ) : Type 0 where
@@ -13,6 +14,6 @@ pub record IsFromZeroToTen (r : ℤ) : Type 0 where
   pub from_zero : pos 0 ≤ℤ r
   pub to_ten : r ≤ℤ pos 100
 
--- no two counts are this score
-abbrev pub IsOneCount : (ℤ → Type 0) → Type 0
-IsOneCount IsScore = (r s : ℤ) → IsScore r → IsScore s → r ≡ s
+-- so many tenths, with one decimal
+abbrev pub tenths_text : ℕ → List ℕ
+tenths_text tenths = decimal (tenths / 10) ++ codes "." ++ decimal (tenths % 10)

@@ -1,6 +1,10 @@
 -- CVSS v3.1 specification, sections 2 to 4 (in v3.0 the same): the metrics, by their abbreviations and
 -- their names. The names of the requirements are in the plural, as the Rust crate prints them.
-use Rattle.std.specs.Prelude.{ℕ, List, [], ◌∷◌, codes}
+use Rattle.std.specs.Prelude.{ℕ, List, [], ◌∷◌, codes, Option, Some, None}
+use Rattle.std.specs.String.{string_bytes}
+use Rattle.cvss_base.specs.Refusal.{Refusal, BadValue, Repeated}
+use Rattle.cvss_base.specs.declared.error.Error.{Error}
+use Rattle.cvss_base.specs.declared.error.Error.TheVariants.{InvalidMetricV3, DuplicateMetricV3}
 use Rattle.cvss_base.specs.declared.v3.MetricType.{MetricType}
 use Rattle.cvss_base.specs.declared.v3.MetricType.TheVariants.{A, AC, AV, C, I, PR, S, UI, E, RL, RC, CR, IR, AR, MAV, MAC, MPR, MUI, MS, MC, MI, MA}
 
@@ -57,3 +61,9 @@ description_of MA = codes "Modified Availability"
 -- the metrics as they are compared, the least first
 abbrev pub declared : List MetricType
 declared = A ∷ AC ∷ AV ∷ C ∷ I ∷ PR ∷ S ∷ UI ∷ E ∷ RL ∷ RC ∷ CR ∷ IR ∷ AR ∷ MAV ∷ MAC ∷ MPR ∷ MUI ∷ MS ∷ MC ∷ MI ∷ MA ∷ []
+
+-- what the errors of CVSS v3 tell
+abbrev pub v3_reason : Error → Option (Refusal MetricType)
+v3_reason (InvalidMetricV3 kind value) = Some (BadValue kind (string_bytes value))
+v3_reason (DuplicateMetricV3 kind) = Some (Repeated kind)
+v3_reason _ = None

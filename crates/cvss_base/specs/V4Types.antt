@@ -1,6 +1,10 @@
 -- CVSS v4.0 specification, sections 2 to 5: the metrics, by their abbreviations and their names. The names of the
 -- requirements are in the plural, as the Rust crate prints them.
-use Rattle.std.specs.Prelude.{ℕ, List, [], ◌∷◌, codes}
+use Rattle.std.specs.Prelude.{ℕ, List, [], ◌∷◌, codes, Option, Some, None}
+use Rattle.std.specs.String.{string_bytes}
+use Rattle.cvss_base.specs.Refusal.{Refusal, BadValue, Repeated, Missing}
+use Rattle.cvss_base.specs.declared.error.Error.{Error}
+use Rattle.cvss_base.specs.declared.error.Error.TheVariants.{InvalidMetricV4, DuplicateMetricV4, MissingMandatoryMetricV4}
 use Rattle.cvss_base.specs.declared.v4.MetricType.{MetricType}
 use Rattle.cvss_base.specs.declared.v4.MetricType.TheVariants.{AC, AT, AV, PR, SA, SC, SI, UI, VA, VC, VI, E, AR, CR, IR, MAC, MAT, MAV, MPR, MSA, MSC, MSI, MUI, MVA, MVC, MVI, AU, R, RE, S, U, V}
 
@@ -77,3 +81,10 @@ description_of U = codes "Provider Urgency"
 -- the metrics as they are compared, the least first
 abbrev pub declared : List MetricType
 declared = AC ∷ AT ∷ AV ∷ PR ∷ SA ∷ SC ∷ SI ∷ UI ∷ VA ∷ VC ∷ VI ∷ E ∷ AR ∷ CR ∷ IR ∷ MAC ∷ MAT ∷ MAV ∷ MPR ∷ MSA ∷ MSC ∷ MSI ∷ MUI ∷ MVA ∷ MVC ∷ MVI ∷ AU ∷ R ∷ RE ∷ S ∷ U ∷ V ∷ []
+
+-- what the errors of CVSS v4 tell
+abbrev pub v4_reason : Error → Option (Refusal MetricType)
+v4_reason (InvalidMetricV4 kind value) = Some (BadValue kind (string_bytes value))
+v4_reason (DuplicateMetricV4 kind) = Some (Repeated kind)
+v4_reason (MissingMandatoryMetricV4 kind) = Some (Missing kind)
+v4_reason _ = None

@@ -1,3 +1,5 @@
+pub mod Names
 pub mod Pieces
 pub mod Printing
+pub mod Unknown
 pub mod Walk

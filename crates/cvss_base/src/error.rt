@@ -3,7 +3,7 @@
 ghost use Rattle.std.specs.Prelude.{◌≡◌, Some};
 ghost use Rattle.cvss_base.specs.declared.error.Error.TheVariants.{OutOfMemory};
 ghost use Rattle.cvss_base.specs.ErrorText.{error_text};
-ghost use Rattle.cvss_base.specs.Told.{TellsUnknown};
+ghost use Rattle.cvss_base.specs.private.Unknown.{TellsUnknown};
 
 use crate::{v2, v3, v4};
 use std::alloc::{AllocError, Global};

@@ -1,13 +1,14 @@
 //! Laws, each the contract of a function that does nothing.
 
 ghost use Rattle.std.specs.Prelude.{◌≡◌, ◌↔◌, ◌^◌, pos, codes, IsTrue};
-ghost use Rattle.cvss_base.specs.Equality.{EqualsByValue, ClonesByValue, TellTheSame};
-ghost use Rattle.cvss_base.specs.laws.Order.{ComparesAs};
+ghost use Rattle.cvss_base.specs.laws.Equality.{EqualsByValue, ClonesByValue, TellTheSame};
+ghost use Rattle.cvss_base.specs.laws.Order.{ComparesAs, severities};
 ghost use Rattle.cvss_base.specs.SeverityText as severity;
 ghost use Rattle.cvss_base.specs.V2Types as v2_types;
 ghost use Rattle.cvss_base.specs.V3Types as v3_types;
 ghost use Rattle.cvss_base.specs.V4Types as v4_types;
-ghost use Rattle.cvss_base.specs.Rounding.{RoundsOneWay, IsRoundedV2, IsRoundedV30, IsRoundedV31, IsRoundedV4, IsNearestEven};
+ghost use Rattle.cvss_base.specs.Rounding.{IsRoundedV2, IsRoundedV30, IsRoundedV31, IsRoundedV4};
+ghost use Rattle.cvss_base.specs.laws.Rounding.{RoundsOneWay, IsNearestEven};
 
 use crate::error::Error;
 use crate::number::{LIMIT, ONE, TENTH};
@@ -27,7 +28,7 @@ pub fn roundings_are_unique()
 
 /// Severities and metric types compare as they are declared in the tables.
 pub fn orders_are_declared()
-    ensures severity { ComparesAs severity.text_of severity.declared ⟦<Severity as Ord>⟧.cmp }
+    ensures severity { ComparesAs severity.text_of severities ⟦<Severity as Ord>⟧.cmp }
     ensures v2 { ComparesAs v2_types.name_of v2_types.declared ⟦<v2::MetricType as Ord>⟧.cmp }
     ensures v3 { ComparesAs v3_types.name_of v3_types.declared ⟦<v3::MetricType as Ord>⟧.cmp }
     ensures v4 { ComparesAs v4_types.name_of v4_types.declared ⟦<v4::MetricType as Ord>⟧.cmp }

@@ -6,12 +6,15 @@ mod error;
 pub mod front;
 pub mod laws;
 pub mod metrics;
+pub mod named;
 mod number;
+mod one_decimal;
 pub mod pieces;
 pub mod print;
 mod rating;
 pub mod refusing;
 mod severity;
+pub mod tenths;
 pub mod text;
 pub mod v2;
 pub mod v3;
@@ -20,6 +23,7 @@ pub mod walk;
 
 pub use error::Error;
 pub use number::{LIMIT, ONE, TENTH};
+pub use one_decimal::OneDecimal;
 pub use rating::severity_of_score;
 pub use severity::Severity;
 

@@ -1,10 +1,14 @@
 //! The metric types of CVSS v2 (guide, section 2).
 
-ghost use Rattle.std.specs.Prelude.{◌≡◌, IfOk, IfErr, Some, find, bytes_eq};
-ghost use Rattle.cvss_base.specs.Told.{TellsUnknown};
-ghost use Rattle.cvss_base.specs.V2Types.{name_of, description_of};
+ghost use Rattle.std.specs.Prelude.{◌≡◌, IfOk, IfErr, Ok, Some};
+ghost use Rattle.cvss_base.specs.Refusal.{UnknownName};
+ghost use Rattle.cvss_base.specs.Told.{Tells};
+ghost use Rattle.cvss_base.specs.V2Types.{v2_reason, name_of, description_of, declared};
+ghost use Rattle.cvss_base.specs.private.Names.{first_v2};
 
 use crate::error::Error;
+use crate::named::{Named, from_name};
+use MetricType::*;
 use std::alloc::Global;
 use std::fmt;
 
@@ -27,24 +31,10 @@ pub enum MetricType {
     AR,
 }
 
-impl MetricType {
-    const ALL: [MetricType; 14] = [
-        MetricType::A,
-        MetricType::AC,
-        MetricType::AV,
-        MetricType::Au,
-        MetricType::C,
-        MetricType::I,
-        MetricType::E,
-        MetricType::RL,
-        MetricType::RC,
-        MetricType::CDP,
-        MetricType::TD,
-        MetricType::CR,
-        MetricType::IR,
-        MetricType::AR,
-    ];
+/// The metric types as they are declared.
+const ALL: [MetricType; 14] = [A, AC, AV, Au, C, I, E, RL, RC, CDP, TD, CR, IR, AR];
 
+impl MetricType {
     /// The abbreviation that stands for the metric in a vector (guide, section 2.4).
     pub fn name(self) -> &'static str
         ensures { result.now ≡ name_of self }
@@ -89,27 +79,33 @@ impl MetricType {
         }
     }
 
-    fn named(name: &str, all: &[MetricType]) -> Option<MetricType>
-        ensures { result ≡ find (λ kind. bytes_eq (name_of kind) name.now) all.now }
-    {
-        all.iter().copied().find(|kind| kind.name() == name)
-    }
-
     /// The metric type with this abbreviation, exactly as it is written.
     ///
     /// # Errors
     ///
     /// `UnknownMetric` with the text where no metric has this name.
-    #[tactic(auto, using(crate::proofs::TypeLemmas::named_v2, crate::proofs::TypeLemmas::known_v2))]
     pub fn from_str(alloc: Global, text: &str) -> Result<MetricType, Error>
         ensures named { IfOk result (λ kind. name_of kind ≡ text.now) }
         ensures read { (kind : MetricType) → name_of kind ≡ text.now → result ≡ Ok kind }
-        ensures refused { IfErr result (TellsUnknown text.now) }
+        ensures refused { IfErr result (Tells v2_reason (UnknownName text.now)) }
     {
-        match MetricType::named(text, &MetricType::ALL) {
-            Some(kind) => Ok(kind),
-            None => Err(Error::unknown_metric(alloc, text)),
-        }
+        from_name(alloc, text)
+    }
+}
+
+impl Named for MetricType {
+    ghost name_of = { name_of };
+
+    ghost declared = { declared };
+
+    ghost first = { first_v2 };
+
+    fn all() -> &'static [MetricType] {
+        &ALL
+    }
+
+    fn abbreviation(self) -> &'static str {
+        self.name()
     }
 }
 

@@ -1,10 +1,14 @@
 //! The metric types of CVSS v3.0 and v3.1 (v3.1 specification, sections 2 to 4).
 
-ghost use Rattle.std.specs.Prelude.{◌≡◌, IfOk, IfErr, Some, find, bytes_eq};
-ghost use Rattle.cvss_base.specs.Told.{TellsUnknown};
-ghost use Rattle.cvss_base.specs.V3Types.{name_of, description_of};
+ghost use Rattle.std.specs.Prelude.{◌≡◌, IfOk, IfErr, Ok, Some};
+ghost use Rattle.cvss_base.specs.Refusal.{UnknownName};
+ghost use Rattle.cvss_base.specs.Told.{Tells};
+ghost use Rattle.cvss_base.specs.V3Types.{v3_reason, name_of, description_of, declared};
+ghost use Rattle.cvss_base.specs.private.Names.{first_v3};
 
 use crate::error::Error;
+use crate::named::{Named, from_name};
+use MetricType::*;
 use std::alloc::Global;
 use std::fmt;
 
@@ -35,32 +39,12 @@ pub enum MetricType {
     MA,
 }
 
-impl MetricType {
-    const ALL: [MetricType; 22] = [
-        MetricType::A,
-        MetricType::AC,
-        MetricType::AV,
-        MetricType::C,
-        MetricType::I,
-        MetricType::PR,
-        MetricType::S,
-        MetricType::UI,
-        MetricType::E,
-        MetricType::RL,
-        MetricType::RC,
-        MetricType::CR,
-        MetricType::IR,
-        MetricType::AR,
-        MetricType::MAV,
-        MetricType::MAC,
-        MetricType::MPR,
-        MetricType::MUI,
-        MetricType::MS,
-        MetricType::MC,
-        MetricType::MI,
-        MetricType::MA,
-    ];
+/// The metric types as they are declared.
+const ALL: [MetricType; 22] = [
+    A, AC, AV, C, I, PR, S, UI, E, RL, RC, CR, IR, AR, MAV, MAC, MPR, MUI, MS, MC, MI, MA,
+];
 
+impl MetricType {
     /// The abbreviation that stands for the metric in a vector (v3.1 specification, section 6).
     pub fn name(self) -> &'static str
         ensures { result.now ≡ name_of self }
@@ -121,27 +105,33 @@ impl MetricType {
         }
     }
 
-    fn named(name: &str, all: &[MetricType]) -> Option<MetricType>
-        ensures { result ≡ find (λ kind. bytes_eq (name_of kind) name.now) all.now }
-    {
-        all.iter().copied().find(|kind| kind.name() == name)
-    }
-
     /// The metric type with this abbreviation, exactly as it is written.
     ///
     /// # Errors
     ///
     /// `UnknownMetric` with the text where no metric has this name.
-    #[tactic(auto, using(crate::proofs::TypeLemmas::named_v3, crate::proofs::TypeLemmas::known_v3))]
     pub fn from_str(alloc: Global, text: &str) -> Result<MetricType, Error>
         ensures named { IfOk result (λ kind. name_of kind ≡ text.now) }
         ensures read { (kind : MetricType) → name_of kind ≡ text.now → result ≡ Ok kind }
-        ensures refused { IfErr result (TellsUnknown text.now) }
+        ensures refused { IfErr result (Tells v3_reason (UnknownName text.now)) }
     {
-        match MetricType::named(text, &MetricType::ALL) {
-            Some(kind) => Ok(kind),
-            None => Err(Error::unknown_metric(alloc, text)),
-        }
+        from_name(alloc, text)
+    }
+}
+
+impl Named for MetricType {
+    ghost name_of = { name_of };
+
+    ghost declared = { declared };
+
+    ghost first = { first_v3 };
+
+    fn all() -> &'static [MetricType] {
+        &ALL
+    }
+
+    fn abbreviation(self) -> &'static str {
+        self.name()
     }
 }
 

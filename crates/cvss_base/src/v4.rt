@@ -1,10 +1,14 @@
 //! The metric types of CVSS v4.0 (v4.0 specification, sections 2 to 5).
 
-ghost use Rattle.std.specs.Prelude.{◌≡◌, IfOk, IfErr, Some, find, bytes_eq};
-ghost use Rattle.cvss_base.specs.Told.{TellsUnknown};
-ghost use Rattle.cvss_base.specs.V4Types.{name_of, description_of};
+ghost use Rattle.std.specs.Prelude.{◌≡◌, IfOk, IfErr, Ok, Some};
+ghost use Rattle.cvss_base.specs.Refusal.{UnknownName};
+ghost use Rattle.cvss_base.specs.Told.{Tells};
+ghost use Rattle.cvss_base.specs.V4Types.{v4_reason, name_of, description_of, declared};
+ghost use Rattle.cvss_base.specs.private.Names.{first_v4};
 
 use crate::error::Error;
+use crate::named::{Named, from_name};
+use MetricType::*;
 use std::alloc::Global;
 use std::fmt;
 
@@ -45,42 +49,13 @@ pub enum MetricType {
     V,
 }
 
-impl MetricType {
-    const ALL: [MetricType; 32] = [
-        MetricType::AC,
-        MetricType::AT,
-        MetricType::AV,
-        MetricType::PR,
-        MetricType::SA,
-        MetricType::SC,
-        MetricType::SI,
-        MetricType::UI,
-        MetricType::VA,
-        MetricType::VC,
-        MetricType::VI,
-        MetricType::E,
-        MetricType::AR,
-        MetricType::CR,
-        MetricType::IR,
-        MetricType::MAC,
-        MetricType::MAT,
-        MetricType::MAV,
-        MetricType::MPR,
-        MetricType::MSA,
-        MetricType::MSC,
-        MetricType::MSI,
-        MetricType::MUI,
-        MetricType::MVA,
-        MetricType::MVC,
-        MetricType::MVI,
-        MetricType::AU,
-        MetricType::R,
-        MetricType::RE,
-        MetricType::S,
-        MetricType::U,
-        MetricType::V,
-    ];
+/// The metric types as they are declared.
+const ALL: [MetricType; 32] = [
+    AC, AT, AV, PR, SA, SC, SI, UI, VA, VC, VI, E, AR, CR, IR, MAC, MAT, MAV, MPR, MSA, MSC, MSI,
+    MUI, MVA, MVC, MVI, AU, R, RE, S, U, V,
+];
 
+impl MetricType {
     /// The abbreviation that stands for the metric in a vector (v4.0 specification, section 7).
     pub fn name(self) -> &'static str
         ensures { result.now ≡ name_of self }
@@ -161,27 +136,33 @@ impl MetricType {
         }
     }
 
-    fn named(name: &str, all: &[MetricType]) -> Option<MetricType>
-        ensures { result ≡ find (λ kind. bytes_eq (name_of kind) name.now) all.now }
-    {
-        all.iter().copied().find(|kind| kind.name() == name)
-    }
-
     /// The metric type with this abbreviation, exactly as it is written.
     ///
     /// # Errors
     ///
     /// `UnknownMetric` with the text where no metric has this name.
-    #[tactic(auto, using(crate::proofs::TypeLemmas::named_v4, crate::proofs::TypeLemmas::known_v4))]
     pub fn from_str(alloc: Global, text: &str) -> Result<MetricType, Error>
         ensures named { IfOk result (λ kind. name_of kind ≡ text.now) }
         ensures read { (kind : MetricType) → name_of kind ≡ text.now → result ≡ Ok kind }
-        ensures refused { IfErr result (TellsUnknown text.now) }
+        ensures refused { IfErr result (Tells v4_reason (UnknownName text.now)) }
     {
-        match MetricType::named(text, &MetricType::ALL) {
-            Some(kind) => Ok(kind),
-            None => Err(Error::unknown_metric(alloc, text)),
-        }
+        from_name(alloc, text)
+    }
+}
+
+impl Named for MetricType {
+    ghost name_of = { name_of };
+
+    ghost declared = { declared };
+
+    ghost first = { first_v4 };
+
+    fn all() -> &'static [MetricType] {
+        &ALL
+    }
+
+    fn abbreviation(self) -> &'static str {
+        self.name()
     }
 }
 

@@ -10,7 +10,7 @@ use Rattle.cvss.specs.Dispatch.{DenotesCvss, DenotesV3, IsFirstRefusalCvss, cvss
 use Rattle.cvss.specs.ErrorType.{Error}
 use Rattle.cvss.specs.ErrorType.TheVariants.{OutOfMemory}
 use Rattle.cvss.specs.Json.{StandsFor, TellsWhy, told_as}
-use Rattle.cvss.specs.Laws.{IsGivenBack}
+use Rattle.cvss.specs.laws.GivenBack.{IsGivenBack}
 use Rattle.cvss.specs.Told.{TellsFirst}
 use Rattle.cvss.specs.VectorTypeV3.{Vector}
 use Rattle.cvss.specs.VectorV3.{v3}

@@ -2,7 +2,8 @@
 use Rattle.std.proofs.Common.{◌≡◌, ℤ, pos, Bool, IsTrue, ap, sym, ◌∙◌, int_eq}
 use Rattle.std.specs.Prelude.{◌^◌, ◌*ℤ◌}
 use Rattle.std.proofs.lemmas.Bool.Decides.{Decides-int_eq}
-use Rattle.cvss.specs.Tenths.{IsInTenths, IsOneCount}
+use Rattle.cvss.specs.Tenths.{IsInTenths}
+use Rattle.cvss.specs.laws.RoundingLaws.{IsOneCount}
 
 pub equal_counts : {IsScore IsOther : ℤ → Type 0} → IsOneCount IsOther → ((count : ℤ) → IsScore count → IsOther count)
     → {a b : ℤ} {equal : Bool} → IsScore a → IsOther b → equal ≡ int_eq a b → IsTrue equal

@@ -1,17 +1,18 @@
 -- What an advisory tells of a text.
 use Rattle.std.specs.Prelude.{◌≡◌, ◌⊎◌, ◌++◌, ℕ, List, codes}
-use Rattle.cvss.specs.Answers.{text_of, IsScoreOf, rating_by, score_of_tenths, score_text}
+use Rattle.cvss.specs.Answers.{text_of, IsScoreOf, rating_by, score_of_tenths}
 use Rattle.cvss.specs.Dispatch.{DenotesCvss, IsFirstRefusalCvss, cvss_reason}
 use Rattle.cvss.specs.ErrorText.{error_text}
 use Rattle.cvss.specs.ErrorType.{Error}
 use Rattle.cvss.specs.SeverityText as severity
+use Rattle.cvss.specs.Tenths.{tenths_text}
 use Rattle.cvss.specs.Told.{TellsFirst}
 use Rattle.cvss.specs.declared.vector.Cvss.{Cvss}
 
 -- what is told of a vector with a score of so many tenths: its canonical text, the score, its rating
 abbrev pub advisory_text : Cvss → ℕ → List ℕ
 advisory_text vector tenths =
-    text_of vector ++ codes ": " ++ score_text tenths
+    text_of vector ++ codes ": " ++ tenths_text tenths
     ++ codes " (" ++ severity.text_of (rating_by vector (score_of_tenths tenths)) ++ codes ")"
 
 -- what is told of the vector, with its score

@@ -5,7 +5,7 @@ ghost use Rattle.cvss.specs.ErrorType.TheVariants.{OutOfMemory};
 ghost use Rattle.cvss.specs.Exact.{IsWithinLimit};
 ghost use Rattle.cvss.specs.Refusal.{IsFirstRefusal};
 ghost use Rattle.cvss.specs.ScoreLawsV2.{DefineTheSame};
-ghost use Rattle.cvss.specs.Told.{v2_reason};
+ghost use Rattle.cvss.specs.TypesV2.{v2_reason};
 ghost use Rattle.cvss.specs.VectorTypeV2.{Vector};
 ghost use Rattle.cvss.specs.VectorV2.{v2};
 ghost use Rattle.cvss.specs.Version.{Denotes, IsComplete};

@@ -4,7 +4,7 @@ ghost use Rattle.std.specs.Prelude.{◌≡◌, ◌⊎◌, IfOk, IfErr, IsTrue, O
 ghost use Rattle.cvss.specs.ErrorType.TheVariants.{OutOfMemory};
 ghost use Rattle.cvss.specs.Refusal.{IsFirstRefusalBehind};
 ghost use Rattle.cvss.specs.ScoreLawsV3.{DefineTheSame, with_modified_as_base};
-ghost use Rattle.cvss.specs.Told.{v3_reason};
+ghost use Rattle.cvss.specs.TypesV3.{v3_reason};
 ghost use Rattle.cvss.specs.VectorTypeV3.{Vector};
 ghost use Rattle.cvss.specs.VectorV3.{v3};
 ghost use Rattle.cvss.specs.Version.{Denotes, IsWellFormed};

@@ -9,7 +9,7 @@ ghost use Rattle.cvss.specs.MetricTypeV4.{MetricType};
 ghost use Rattle.cvss.specs.NomenclatureV4.{nomenclature_of};
 ghost use Rattle.cvss.specs.ScoresV4.{IsScore};
 ghost use Rattle.cvss.specs.Tenths.{IsInTenths};
-ghost use Rattle.cvss.specs.Told.{v4_reason};
+ghost use Rattle.cvss.specs.TypesV4.{v4_reason};
 ghost use Rattle.cvss.specs.VectorTypeV4.{Vector};
 ghost use Rattle.cvss.specs.VectorV4.{v4};
 ghost use Rattle.cvss.specs.Version.{Denotes, IsComplete, IsWellFormed};

@@ -3,7 +3,7 @@ use Rattle.std.proofs.Common.{◌≡◌, ◌↔◌, ℕ, List, [], ◌∷◌, �
 use Rattle.std.proofs.lemmas.Slice.Eq.{bytes_eq-Decides}
 use Rattle.cvss.specs.Answers.{metrics_of, text_of}
 use Rattle.cvss.specs.Dispatch.{DenotesCvss}
-use Rattle.cvss.specs.Laws.{IsGivenBack}
+use Rattle.cvss.specs.laws.GivenBack.{IsGivenBack}
 use Rattle.cvss.specs.declared.metric_type.MetricType.{MetricType}
 use Rattle.cvss.specs.declared.metric_type.MetricType.TheVariants.{V2, V3, V4}
 use Rattle.cvss.specs.declared.vector.Cvss.{Cvss}

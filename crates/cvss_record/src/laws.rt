@@ -2,7 +2,7 @@
 //! it.
 
 ghost use Rattle.std.specs.Prelude.{◌≡◌};
-ghost use Rattle.cvss.specs.Laws.{IsGivenBack};
+ghost use Rattle.cvss.specs.laws.GivenBack.{IsGivenBack};
 ghost use Rattle.cvss.specs.declared.vector.Cvss.{Cvss};
 ghost use Rattle.cvss_record.specs.Record.{IsRecordOf};
 ghost use Rattle.serde_json.specs.Data.{Data};

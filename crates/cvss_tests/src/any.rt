@@ -5,4 +5,5 @@ mod equality;
 mod examples;
 mod names;
 mod paths;
+mod printed;
 mod texts;

@@ -1,9 +1,10 @@
 //! The answer to one line.
 
 ghost use Rattle.std.specs.Prelude.{◌≡◌, ℕ, ◌++◌, [], ◌∷◌, ◌≤◌, codes, IfOk, OnOk};
-ghost use Rattle.cvss.specs.Answers.{HasScore, score_text, text_of};
+ghost use Rattle.cvss.specs.Answers.{HasScore, text_of};
 ghost use Rattle.cvss.specs.ErrorText.{error_text};
 ghost use Rattle.cvss.specs.SeverityText.{text_of as severity_text};
+ghost use Rattle.cvss.specs.Tenths.{tenths_text};
 ghost use Rattle.cvss.specs.declared.vector.Cvss.{Cvss};
 ghost use Rattle.cvss.specs.Dispatch.{DenotesCvss};
 ghost use Rattle.cvss_lines.specs.Answers.{WritesAnswer};
@@ -120,7 +121,7 @@ fn write_score(vector: &Cvss, answers: &mut Gathered) -> Result<(), AllocError>
 fn write_tenths(tenths: u8, answers: &mut Gathered) -> Result<(), AllocError>
     requires { tenths ≤ 100 }
     ensures { OnOk result
-        (answers.new.bytes.items ≡ answers.old.bytes.items ++ (codes " " ++ score_text tenths)) }
+        (answers.new.bytes.items ≡ answers.old.bytes.items ++ (codes " " ++ tenths_text tenths)) }
 {
     if tenths == 100 {
         answers.push(b" 10.0")

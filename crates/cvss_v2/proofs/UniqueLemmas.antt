@@ -8,7 +8,8 @@ use Rattle.cvss_base.proofs.RoundingLemmas.{v2-unique}
 use Rattle.cvss_base.proofs.TenthsLemmas.{in_tenths_once}
 use Rattle.cvss_v2.specs.declared.weights.Weights.{Weights}
 use Rattle.cvss_v2.specs.Scores.{impact, adjusted_impact, temporal_number, environmental_number, IsTemporal, IsBaseBy, IsTemporalBy, IsEnvironmentalBy, IsPublished, IsBaseScore, IsTemporalScore, IsEnvironmentalScore, IsBaseScoreBy, IsTemporalScoreBy, IsEnvironmentalScoreBy}
-use Rattle.cvss_base.specs.Tenths.{IsInTenths, IsOneCount}
+use Rattle.cvss_base.specs.Tenths.{IsInTenths}
+use Rattle.cvss_base.specs.laws.Rounding.{IsOneCount}
 
 -- a number has at most one rounding
 abbrev pub RoundsOnce : (Exact → ℤ → Type 0) → Type 0

@@ -2,7 +2,8 @@
 ghost use Rattle.std.specs.Prelude.{◌≡◌, ◌*◌, ◌^◌, ◌≤◌, ◌≤ℤ◌, ◌*ℤ◌, ◌/◌, ◌<◌, pos, neg_ℤ};
 ghost use Rattle.cvss_base.specs.Exact.{ratio, ◌over◌, whole, thousandths, tenths, of_count, ◌⊗◌, ◌≈◌, smaller, IsWithinLimit};
 ghost use Rattle.cvss_base.specs.Rounding.{IsRoundedV2};
-ghost use Rattle.cvss_v2.specs.Scores.{impact_of, base_number, temporal_number, environmental_number, IsImpactCount, IsOnScale};
+ghost use Rattle.cvss_v2.specs.Scores.{impact_of, base_number, temporal_number, environmental_number};
+ghost use Rattle.cvss_v2.specs.private.Bounds.{IsImpactCount, IsOnScale};
 
 use cvss_base::ONE;
 

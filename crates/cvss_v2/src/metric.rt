@@ -2,14 +2,14 @@
 
 ghost use Rattle.std.specs.Prelude.{◌≡◌, ◌∷◌, ◌*◌, ◌^◌, pos, IfSome, IfOk, IfErr, Some};
 ghost use Rattle.cvss_base.specs.Refusal.{BadValue};
-ghost use Rattle.cvss_base.specs.Told.{Tells, v2_reason};
-ghost use Rattle.cvss_base.specs.V2Types.{name_of};
+ghost use Rattle.cvss_base.specs.Told.{Tells};
+ghost use Rattle.cvss_base.specs.V2Types.{v2_reason, name_of};
 ghost use Rattle.cvss_base.specs.declared.v2.MetricType.{MetricType};
 ghost use Rattle.cvss_v2.specs.Table.{Value, spelling_of, weight_of, metric_component, rank_of};
 ghost use Rattle.cvss_base.specs.Text.{slash};
 ghost use Rattle.std.specs.Ordering.{nat_cmp};
 ghost use Rattle.cvss_base.specs.Exact.{IsWithinLimit};
-ghost use Rattle.cvss_base.specs.Equality.{EqualsByValue, ClonesByValue};
+ghost use Rattle.cvss_base.specs.laws.Equality.{EqualsByValue, ClonesByValue};
 
 pub mod base;
 pub mod environmental;

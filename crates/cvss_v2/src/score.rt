@@ -1,15 +1,17 @@
 //! A score of CVSS v2.
 
-ghost use Rattle.std.specs.Prelude.{◌≡◌, ◌≤ℤ◌, ◌*ℤ◌, ◌^◌, ℤ, pos, neg_ℤ};
+ghost use Rattle.std.specs.Prelude.{◌≡◌, ◌≤ℤ◌, ◌*ℤ◌, ◌^◌, ℤ, pos, neg_ℤ, Some};
 ghost use Rattle.std.specs.Int.{int_max};
 ghost use Rattle.cvss_base.specs.Exact.{of_count, IsWithinLimit};
 ghost use Rattle.cvss_base.specs.Rounding.{IsRoundedV2};
+ghost use Rattle.cvss_base.specs.ScoreText.{score_text};
 ghost use Rattle.cvss_v2.specs.Rating.{rating_of};
-ghost use Rattle.cvss_v2.specs.Scores.{IsOnScale};
+ghost use Rattle.cvss_v2.specs.private.Bounds.{IsOnScale};
 ghost use Rattle.cvss_base.specs.Tenths.{IsInTenths, IsFromZeroToTen};
 
 use crate::equations;
-use cvss_base::{ONE, Severity, TENTH};
+use cvss_base::{ONE, OneDecimal, Severity, TENTH};
+use std::fmt;
 use std::marker::Model;
 
 /// A score or sub-score: a count of 10^-24 of a score point.
@@ -79,6 +81,15 @@ impl Score {
         ensures { result ≡ self }
     {
         self.0
+    }
+}
+
+impl fmt::Display for Score {
+    ghost output = { λ score. Some (score_text score) };
+
+    /// Writes the tenth nearest to the score, of two equally near the even one.
+    fn fmt<W: fmt::Write>(&self, f: &mut fmt::Formatter<W>) -> fmt::Result {
+        OneDecimal { count: self.0 }.fmt(f)
     }
 }
 

@@ -2,7 +2,6 @@
 
 ghost use Rattle.std.specs.Prelude.{◌≡◌, ◌↔◌, IsTrue, IfSome, IsSome, IfOk, IfErr, IsErrAnd, Some, Ok};
 
-mod listing;
 mod printing;
 mod reading;
 mod refusing;
@@ -22,7 +21,7 @@ use cvss_base::Error;
 use cvss_base::print::same_components;
 use cvss_base::refusing::vector_of;
 use cvss_base::walk::read_vector;
-pub use listing::Metrics;
+pub use printing::Metrics;
 use std::alloc::Global;
 
 /// A vector of CVSS v2 (guide, section 2.4): at most one value for each metric.
@@ -49,7 +48,8 @@ pub struct Vector {
 impl Vector {
     ghost use Rattle.std.specs.Str.{IsUtf8};
     ghost use Rattle.cvss_base.specs.Refusal.{Refusal, IsFirstRefusal};
-    ghost use Rattle.cvss_base.specs.Told.{Tells, TellsFirst, v2_reason};
+    ghost use Rattle.cvss_base.specs.Told.{Tells, TellsFirst};
+    ghost use Rattle.cvss_base.specs.V2Types.{v2_reason};
     ghost use Rattle.cvss_base.specs.Version.{canonical_text, Denotes, IsComplete};
     ghost use Rattle.cvss_base.specs.private.Walk.{IsEmpty};
     ghost use Rattle.cvss_base.specs.declared.v2.MetricType.{MetricType};

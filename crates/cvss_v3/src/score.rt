@@ -1,13 +1,15 @@
 //! A score of CVSS v3.
 
-ghost use Rattle.std.specs.Prelude.{◌≡◌, ◌≤◌, ◌*ℤ◌, ◌^◌, ℤ, pos};
+ghost use Rattle.std.specs.Prelude.{◌≡◌, ◌≤◌, ◌*ℤ◌, ◌^◌, ℤ, pos, Some};
 ghost use Rattle.cvss_base.specs.Exact.{of_count, IsWithinLimit};
 ghost use Rattle.cvss_base.specs.Rating.{rating_of_score};
+ghost use Rattle.cvss_base.specs.ScoreText.{score_text};
 ghost use Rattle.cvss_base.specs.Tenths.{IsInTenths, IsFromZeroToTen};
 ghost use Rattle.cvss_v3.specs.Scores.{IsRounded};
 
 use crate::rounding;
-use cvss_base::{Severity, TENTH, severity_of_score};
+use cvss_base::{OneDecimal, Severity, TENTH, severity_of_score};
+use std::fmt;
 use std::marker::Model;
 
 /// A score or sub-score: a count of 10^-24 of a score point.
@@ -73,6 +75,15 @@ impl Score {
         ensures { result ≡ self }
     {
         self.0
+    }
+}
+
+impl fmt::Display for Score {
+    ghost output = { λ score. Some (score_text score) };
+
+    /// Writes the tenth nearest to the score, of two equally near the even one.
+    fn fmt<W: fmt::Write>(&self, f: &mut fmt::Formatter<W>) -> fmt::Result {
+        OneDecimal { count: self.0 }.fmt(f)
     }
 }
 

@@ -58,7 +58,8 @@ pub struct Vector {
 impl Vector {
     ghost use Rattle.std.specs.Str.{IsUtf8};
     ghost use Rattle.cvss_base.specs.Refusal.{Refusal, IsFirstRefusalBehind};
-    ghost use Rattle.cvss_base.specs.Told.{Tells, TellsFirst, v3_reason};
+    ghost use Rattle.cvss_base.specs.Told.{Tells, TellsFirst};
+    ghost use Rattle.cvss_base.specs.V3Types.{v3_reason};
     ghost use Rattle.cvss_base.specs.Version.{canonical_text, Denotes, IsWellFormed};
     ghost use Rattle.cvss_base.specs.declared.v3.MetricType.{MetricType};
     ghost use Rattle.cvss_v3.specs.Vector.{v3};

@@ -2,9 +2,9 @@
 
 ghost use Rattle.std.specs.Prelude.{◌≡◌, ◌∷◌, ◌*◌, ◌^◌, ◌↔◌, pos, IsTrue, IsSome, IfSome, IfOk, IfErr, Some, unwrap_or};
 ghost use Rattle.cvss_base.specs.Refusal.{BadValue};
-ghost use Rattle.cvss_base.specs.Told.{Tells, v3_reason};
-ghost use Rattle.cvss_base.specs.V3Types.{name_of};
-ghost use Rattle.cvss_base.specs.Equality.{EqualsByValue, ClonesByValue};
+ghost use Rattle.cvss_base.specs.Told.{Tells};
+ghost use Rattle.cvss_base.specs.V3Types.{v3_reason, name_of};
+ghost use Rattle.cvss_base.specs.laws.Equality.{EqualsByValue, ClonesByValue};
 ghost use Rattle.cvss_base.specs.Exact.{IsWithinLimit};
 ghost use Rattle.cvss_base.specs.declared.v3.MetricType.{MetricType};
 ghost use Rattle.cvss_base.specs.Text.{slash, raised};
@@ -78,7 +78,7 @@ pub trait Metric: Copy + Clone + fmt::Debug + fmt::Display + Eq + Ord + 'static 
     }
 
     /// The value with this spelling, exactly as it is written.
-    #[tactic(auto, using(crate::specs::TableLaws::raised_spelling))]
+    #[tactic(auto, using(crate::specs::private::TableLaws::raised_spelling))]
     final fn read(text: &str) -> Option<Self>
         ensures spelled { IfSome result (λ metric. spelling_of TYPE (value metric) ≡ text.now) }
         ensures read { (metric : Self) → spelling_of TYPE (value metric) ≡ text.now

@@ -6,7 +6,6 @@ pub mod Levels
 pub mod Merging
 pub mod Nomenclature
 pub mod Overriding
-pub mod ScoreText
 pub mod Scores
 pub mod Table
 pub mod Values

@@ -1,6 +1,10 @@
 -- Which groups of metrics a score rests on: CVSS v4.0 specification, section 1.3.
-use Rattle.std.specs.Prelude.{ℕ, Bool, true, false, List, codes, is_some}
+use Rattle.std.specs.Prelude.{◌≡◌, ℕ, Bool, true, false, ℤ, List, ◌++◌, codes, is_some}
 use Rattle.std.specs.List.{list_any}
+use Rattle.cvss_base.specs.ScoreText.{score_text}
+use Rattle.std.specs.String.{string_bytes}
+use Rattle.cvss_base.specs.declared.error.Error.{Error}
+use Rattle.cvss_base.specs.declared.error.Error.TheVariants.{InvalidNomenclatureV4, OutOfMemory}
 use Rattle.cvss_base.specs.declared.v4.MetricType.{MetricType}
 use Rattle.cvss_v4_metric.specs.Table.{threat, environmental}
 use Rattle.cvss_v4.specs.declared.nomenclature.Nomenclature.{Nomenclature}
@@ -29,3 +33,13 @@ nomenclature_with true true = CvssBTE
 -- the nomenclature of a vector
 abbrev pub nomenclature_of : Vector → Nomenclature
 nomenclature_of v = nomenclature_with (has_any v threat) (has_any v environmental)
+
+-- a score, a count of 10^-24, and its nomenclature in parentheses
+abbrev pub named_score_text : ℤ → Nomenclature → List ℕ
+named_score_text value nomenclature = score_text value ++ codes " (" ++ text_of nomenclature ++ codes ")"
+
+-- the error says that no nomenclature has this name, or that there was no memory for the name
+abbrev pub TellsNoNomenclature : List ℕ → Error → Type 0
+TellsNoNomenclature text (InvalidNomenclatureV4 nomenclature) = string_bytes nomenclature ≡ text
+TellsNoNomenclature text OutOfMemory = Unit {0}
+TellsNoNomenclature text _ = ⊥

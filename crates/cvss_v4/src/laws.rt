@@ -3,9 +3,10 @@
 
 ghost use Rattle.std.specs.List.{All};
 ghost use Rattle.std.specs.Prelude.{◌≡◌, ℕ, ℤ, List, ◌≤◌, ◌↔◌, ◌≤ℤ◌, IfSome, IsTrue, None};
-ghost use Rattle.cvss_base.specs.Equality.{EqualsByValue, ClonesByValue};
+ghost use Rattle.cvss_base.specs.laws.Equality.{EqualsByValue, ClonesByValue};
 ghost use Rattle.cvss_base.specs.Exact.{of_count, ◌over◌, ◌⊕◌};
-ghost use Rattle.cvss_base.specs.Rounding.{IsNearestEven, IsRoundedV4};
+ghost use Rattle.cvss_base.specs.Rounding.{IsRoundedV4};
+ghost use Rattle.cvss_base.specs.laws.Rounding.{IsNearestEven, printed_tenths};
 ghost use Rattle.cvss_base.specs.Version.{canonical_text, Denotes};
 ghost use Rattle.cvss_base.specs.declared.v4.MetricType.{MetricType};
 ghost use Rattle.cvss_v4.specs.laws.ClassLaws.{IsDominated, HaveLeastSum, IsDepth};
@@ -16,9 +17,8 @@ ghost use Rattle.cvss_v4.specs.laws.Maximal.{Eq1Values, eq1_levels, eq1_maximal,
 ghost use Rattle.cvss_v4.specs.Merging.{letter_at, effective_of};
 ghost use Rattle.cvss_v4.specs.laws.MergingLaws.{HasModifiedAsBase, without_supplemental};
 ghost use Rattle.cvss_v4.specs.Nomenclature.{nomenclature_of};
-ghost use Rattle.cvss_v4.specs.Overriding.{AreAlike};
+ghost use Rattle.cvss_v4.specs.laws.OverridingLaws.{AreAlike};
 ghost use Rattle.cvss_v4.specs.laws.ScoreLaws.{IsListed, IsPair, IsAsSevere, IsFromTenthToTen};
-ghost use Rattle.cvss_v4.specs.ScoreText.{printed_tenths};
 ghost use Rattle.cvss_v4.specs.Scores.{has_impact, number, IsScore};
 ghost use Rattle.cvss_v4.specs.Values.{listed_value, table_value};
 ghost use Rattle.cvss_v4.specs.Vector.{v4, value_at};

@@ -1,7 +1,7 @@
 //! Which groups of metrics a score rests on (v4.0 specification, section 1.3).
 
 ghost use Rattle.std.specs.Prelude.{◌≡◌, IfOk, IfErr, IfSome, Some};
-ghost use Rattle.cvss_base.specs.Told.{TellsNoNomenclature};
+ghost use Rattle.cvss_v4.specs.Nomenclature.{TellsNoNomenclature};
 ghost use Rattle.cvss_v4.specs.Nomenclature.{text_of, nomenclature_of};
 
 use crate::vector::Vector;

@@ -1,12 +1,12 @@
 //! A score of CVSS v4.0 with its nomenclature.
 
-ghost use Rattle.std.specs.Prelude.{◌≡◌, ◌≤◌, ◌*ℤ◌, ◌≤ℤ◌, ◌^◌, pos, Some, unsigned_abs};
+ghost use Rattle.std.specs.Prelude.{◌≡◌, ◌≤◌, ◌*ℤ◌, ◌≤ℤ◌, ◌^◌, pos, Some};
 ghost use Rattle.cvss_base.specs.Rating.{rating_of_score};
 ghost use Rattle.cvss_base.specs.Tenths.{IsInTenths, IsFromZeroToTen};
-ghost use Rattle.cvss_v4.specs.ScoreText.{even_tenths, sign, score_text};
+ghost use Rattle.cvss_v4.specs.Nomenclature.{named_score_text};
 
 use crate::nomenclature::Nomenclature;
-use cvss_base::{Severity, TENTH, severity_of_score};
+use cvss_base::{OneDecimal, Severity, TENTH, severity_of_score};
 use std::fmt;
 use std::marker::Model;
 
@@ -65,44 +65,12 @@ impl Score {
     }
 }
 
-/// Half of a tenth in 10^-24.
-const HALF_TENTH: u128 = TENTH as u128 / 2;
-
-/// The tenths nearest to so many of 10^-24, of two equally near the even one.
-fn nearest_tenths(count: u128) -> u128
-    ensures { result ≡ even_tenths count }
-{
-    let tenths = count / (2 * HALF_TENTH);
-    let rest = count % (2 * HALF_TENTH);
-    if rest < HALF_TENTH {
-        tenths
-    } else if rest > HALF_TENTH {
-        tenths + 1
-    } else {
-        tenths + tenths % 2
-    }
-}
-
-/// The sign that stands before a value.
-fn sign_of(value: i128) -> &'static str
-    ensures { result.now ≡ sign value }
-{
-    if value < 0 { "-" } else { "" }
-}
-
 impl fmt::Display for Score {
-    ghost output = { λ score. Some (score_text score.0 score.1) };
+    ghost output = { λ score. Some (named_score_text score.0 score.1) };
 
     fn fmt<W: fmt::Write>(&self, f: &mut fmt::Formatter<W>) -> fmt::Result {
-        let tenths = nearest_tenths(self.value.unsigned_abs());
-        write!(
-            f,
-            "{}{}.{} ({})",
-            sign_of(self.value),
-            tenths / 10,
-            tenths % 10,
-            self.nomenclature
-        )
+        let number = OneDecimal { count: self.value };
+        write!(f, "{number} ({})", self.nomenclature)
     }
 }
 

@@ -84,7 +84,8 @@ pub struct Vector {
 impl Vector {
     ghost use Rattle.std.specs.Str.{IsUtf8};
     ghost use Rattle.cvss_base.specs.Refusal.{Refusal, IsFirstRefusalBehind};
-    ghost use Rattle.cvss_base.specs.Told.{Tells, TellsFirst, v4_reason};
+    ghost use Rattle.cvss_base.specs.Told.{Tells, TellsFirst};
+    ghost use Rattle.cvss_base.specs.V4Types.{v4_reason};
     ghost use Rattle.cvss_base.specs.Version.{canonical_text, Denotes, IsComplete, IsWellFormed};
     ghost use Rattle.cvss_base.specs.declared.v4.MetricType.{MetricType};
     ghost use Rattle.cvss_v4.specs.Vector.{v4};

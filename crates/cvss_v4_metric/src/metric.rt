@@ -3,10 +3,10 @@
 ghost use Rattle.std.specs.Prelude.{◌≡◌, ◌↔◌, ◌∷◌, ℕ, List, IsTrue, IfSome, IfOk, IfErr, Some};
 ghost use Rattle.cvss_base.specs.Refusal.{BadValue};
 ghost use Rattle.cvss_base.specs.Text.{slash, raised};
-ghost use Rattle.cvss_base.specs.Told.{Tells, v4_reason};
-ghost use Rattle.cvss_base.specs.V4Types.{name_of};
+ghost use Rattle.cvss_base.specs.Told.{Tells};
+ghost use Rattle.cvss_base.specs.V4Types.{v4_reason, name_of};
 ghost use Rattle.cvss_base.specs.declared.v4.MetricType.{MetricType};
-ghost use Rattle.cvss_v4_metric.specs.Metrics.{IsMetric};
+ghost use Rattle.cvss_v4_metric.specs.laws.Metrics.{IsMetric};
 ghost use Rattle.cvss_v4_metric.specs.Reading.{IsReading};
 ghost use Rattle.cvss_v4_metric.specs.Table.{spelling_at, metric_component};
 

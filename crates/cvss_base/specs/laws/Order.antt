@@ -1,8 +1,10 @@
 -- Values in the order of a list.
-use Rattle.std.specs.Prelude.{◌≡◌, ℕ, List}
+use Rattle.std.specs.Prelude.{◌≡◌, ℕ, List, [], ◌∷◌}
 use Rattle.std.specs.List.{position_or_len}
 use Rattle.std.specs.Ordering.{nat_cmp}
 use Rattle.std.specs.Str.{bytes_eq}
+use Rattle.cvss_base.specs.declared.severity.Severity.{Severity}
+use Rattle.cvss_base.specs.declared.severity.Severity.TheVariants.{None, Low, Medium, High, Critical}
 use Rattle.std.specs.declared.cmp.Ordering.{Ordering}
 
 -- the place of an item in a list, which its text tells
@@ -13,3 +15,7 @@ place_in text items item = position_or_len (λ other. bytes_eq (text other) (tex
 abbrev pub ComparesAs : {A : Type 0} → (A → List ℕ) → List A → (A → A → Ordering) → Type 0
 ComparesAs {A} text items compared =
     (x y : A) → compared x y ≡ nat_cmp (place_in text items x) (place_in text items y)
+
+-- the ratings as they are compared, the least first
+abbrev pub severities : List Severity
+severities = None ∷ Low ∷ Medium ∷ High ∷ Critical ∷ []

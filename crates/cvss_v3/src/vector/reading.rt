@@ -6,7 +6,7 @@ ghost use Rattle.cvss_base.specs.V3Types.{name_of};
 ghost use Rattle.cvss_base.specs.private.Walk.{HasNoValue, IsFilled};
 ghost use Rattle.cvss_v3_metric.specs.Table.{spelling_of};
 ghost use Rattle.cvss_v3.specs.Vector.{v3};
-ghost use Rattle.cvss_v3.specs.VectorLaws.{v3_is_lawful, v3_fronts_are_lawful};
+ghost use Rattle.cvss_v3.specs.private.VectorLaws.{v3_is_lawful, v3_fronts_are_lawful};
 
 use crate::metric::{Metric, MetricType};
 use crate::vector::Vector;
@@ -168,7 +168,7 @@ fn named(name: &[u8]) -> Option<MetricType>
 }
 
 /// Reads a value into its place, which has to be empty.
-#[tactic(auto, using(cvss_v3_metric::specs::TableLaws::raised_spelling))]
+#[tactic(auto, using(cvss_v3_metric::specs::private::TableLaws::raised_spelling))]
 fn fill<M: Metric>(place: &mut Option<M>, text: &[u8]) -> Result<(), Slip>
     ensures { IsFilled (λ x. raised (spelling_of M.TYPE (M.value x))) place.old (raised text.now)
         result place.new }

@@ -1,6 +1,6 @@
 //! The errors that tell why a text is no vector.
 
-ghost use Rattle.cvss_base.specs.Told.{v3_reason};
+ghost use Rattle.cvss_base.specs.V3Types.{v3_reason};
 
 use crate::metric::MetricType;
 use crate::vector::Vector;

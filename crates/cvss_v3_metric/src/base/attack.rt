@@ -73,14 +73,7 @@ impl BaseMetric for AttackVector {
 
     ghost modified = { λ metric. metric };
 
-    ghost base_law = { record {
-      covers = λ x. (x, refl);
-      row = λ x. refl;
-      place = Prim.search rules;
-      blamed = refl;
-      weighed = Prim.search rules;
-      defined = Prim.search rules;
-    } };
+    ghost base_law = { Prim.search rules };
 
     fn modified_slashed(metric: Modified<Self>) -> &'static str
         ensures { result.now ≡ slash ∷ metric_component MAV metric }
@@ -159,14 +152,7 @@ impl BaseMetric for AttackComplexity {
 
     ghost modified = { λ metric. metric };
 
-    ghost base_law = { record {
-      covers = λ x. (x, refl);
-      row = λ x. refl;
-      place = Prim.search rules;
-      blamed = refl;
-      weighed = Prim.search rules;
-      defined = Prim.search rules;
-    } };
+    ghost base_law = { Prim.search rules };
 
     fn modified_slashed(metric: Modified<Self>) -> &'static str
         ensures { result.now ≡ slash ∷ metric_component MAC metric }

@@ -66,14 +66,7 @@ impl BaseMetric for UserInteraction {
 
     ghost modified = { λ metric. metric };
 
-    ghost base_law = { record {
-      covers = λ x. (x, refl);
-      row = λ x. refl;
-      place = Prim.search rules;
-      blamed = refl;
-      weighed = Prim.search rules;
-      defined = Prim.search rules;
-    } };
+    ghost base_law = { Prim.search rules };
 
     fn modified_slashed(metric: Modified<Self>) -> &'static str
         ensures { result.now ≡ slash ∷ metric_component MUI metric }

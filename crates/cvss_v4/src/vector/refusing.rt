@@ -1,6 +1,6 @@
 //! The errors that tell why a text is no vector.
 
-ghost use Rattle.cvss_base.specs.Told.{v4_reason};
+ghost use Rattle.cvss_base.specs.V4Types.{v4_reason};
 
 use crate::metric::MetricType;
 use crate::vector::Vector;

@@ -1,11 +1,14 @@
 use Rattle.std.proofs.Common.{codes, IfErr, sym, subst}
-use Rattle.cvss_base.specs.Told.{TellsFirst, v2_reason, v3_reason, v4_reason}
+use Rattle.cvss_base.specs.Told.{TellsFirst}
+use Rattle.cvss_base.specs.V2Types.{v2_reason}
+use Rattle.cvss_base.specs.V3Types.{v3_reason}
+use Rattle.cvss_base.specs.V4Types.{v4_reason}
 use Rattle.cvss_base.specs.Refusal.{IsFirstRefusal, IsFirstRefusalBehind}
 use Rattle.cvss_v2.specs.Vector.{v2}
 use Rattle.cvss_v3.specs.Vector.{v3}
 use Rattle.cvss_v4.specs.Vector.{v4}
 use Rattle.cvss.specs.Dispatch.{DenotesV2, DenotesV3, DenotesV4, ToV20, ToV30, ToV31, ToV40, ToNone, IsFirstReasonAt, cvss_reason}
-use Rattle.cvss.specs.Steps.{reason_of}
+use Rattle.cvss.specs.private.Steps.{reason_of}
 use Rattle.cvss.specs.declared.metric_type.MetricType.TheVariants.{V2, V3, V4}
 use Rattle.cvss.specs.declared.vector.Cvss.TheVariants.{CvssV20, CvssV30, CvssV31, CvssV40}
 use Rattle.cvss.proofs.RouteLemmas.{v30_denoted, v31_denoted}

@@ -1,6 +1,6 @@
 use Rattle.std.proofs.Common.{codes, sym}
 use Rattle.cvss.specs.Dispatch.{DenotesV2, DenotesV3, DenotesV4}
-use Rattle.cvss.specs.Steps.{reason_of}
+use Rattle.cvss.specs.private.Steps.{reason_of}
 use Rattle.cvss.specs.declared.vector.Cvss.TheVariants.{CvssV20, CvssV30, CvssV31, CvssV40}
 use Rattle.cvss.proofs.RouteLemmas.{v30_denoted, v31_denoted}
 use Rattle.cvss.proofs.AnswerLemmas.{of_v20, of_v30, of_v31, of_v40, of_none, reads_wrapped, some_denoted_wrapped, some_both}

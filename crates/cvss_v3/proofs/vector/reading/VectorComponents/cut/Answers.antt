@@ -1,6 +1,6 @@
 use Rattle.cvss_base.proofs.LawLemmas.{IsCut_named}
 use Rattle.cvss_v3.specs.Vector.{v3}
-use Rattle.cvss_v3.specs.VectorLaws.{v3_is_lawful}
+use Rattle.cvss_v3.specs.private.VectorLaws.{v3_is_lawful}
 use Rattle.cvss_v3.proofs.vector.reading.VectorComponents.cut.Goals as goal
 
 pub returns : goal.returns
