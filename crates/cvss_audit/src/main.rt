@@ -5,6 +5,7 @@
 
 mod documents;
 mod fault;
+pub mod laws;
 mod missing;
 mod place;
 mod program;

@@ -7,7 +7,8 @@ use Rattle.std.proofs.lemmas.Slice.Eq.{bytes_eq-Decides}
 use Rattle.cvss.specs.MergingV4.{letter}
 use Rattle.cvss_base.specs.Text.{component, joined}
 use Rattle.cvss_base.specs.Version.{Version, component_of, components_of}
-use Rattle.cvss_c.specs.Defined.{HasDefinedOf, IsPrintedAsLess, defined_component, if_defined, or_if_none}
+use Rattle.cvss_c.specs.Defined.{defined_component, if_defined, or_if_none}
+use Rattle.cvss_c.specs.laws.DefinedParts.{HasDefinedOf, IsPrintedAsLess}
 
 or_if_none-kept : (parts others : List (List ℕ)) → parts ≢ [] → parts ≡ or_if_none parts others
 or_if_none-kept [] others some = absurd (some refl)

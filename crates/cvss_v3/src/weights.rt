@@ -110,7 +110,7 @@ impl Weights {
     }
 
     /// The base score in tenths.
-    fn base_tenths(&self, minor_version: usize) -> u64
+    pub fn base_tenths(&self, minor_version: usize) -> u64
         requires { IsFromTable self.now }
         ensures value { IsBase minor_version self.now (pos result) }
         ensures to_ten { result ≤ 100 }

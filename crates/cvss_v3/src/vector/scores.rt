@@ -1,6 +1,6 @@
 //! The scores of a vector.
 
-ghost use Rattle.std.specs.Prelude.{◌≡◌, ℤ, Some, IsTrue};
+ghost use Rattle.std.specs.Prelude.{◌≡◌, ◌≤◌, ◌*ℤ◌, ◌^◌, ℤ, pos, Some, IsTrue};
 ghost use Rattle.cvss_base.specs.Exact.{of_count, whole, ◌≈◌, ◌⊏◌, IsWithinLimit};
 ghost use Rattle.cvss_base.specs.Tenths.{IsInTenths, IsFromZeroToTen};
 ghost use Rattle.cvss_v3_metric.specs.Modified.{weight_or};
@@ -66,6 +66,16 @@ impl Vector {
         ensures range { IsInTenths IsFromZeroToTen result }
     {
         self.weights().base_score(self.minor_version)
+    }
+
+    /// The base score in tenths, from 0 to 100 (v3.1 specification, section 7.1; v3.0 specification,
+    /// section 8.1).
+    pub fn tenths(&self) -> u8
+        ensures value { IsBaseScore self.now.minor_version (weights_of self.now)
+            (pos result *ℤ pos (10 ^ 23)) }
+        ensures to_ten { result ≤ 100 }
+    {
+        self.weights().base_tenths(self.minor_version) as u8
     }
 
     /// The temporal score (v3.1 specification, section 7.2; v3.0 specification, section 8.2).

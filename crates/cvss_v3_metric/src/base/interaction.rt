@@ -40,10 +40,11 @@ impl Metric for UserInteraction {
         }
     }
 
-    fn read_bytes(text: &[u8]) -> Option<Self> {
-        match text {
-            b"R" | b"r" => Some(UserInteraction::Required),
-            b"N" | b"n" => Some(UserInteraction::None),
+    #[inline(always)]
+    fn read_letter(letter: u8) -> Option<Self> {
+        match letter {
+            b'R' => Some(UserInteraction::Required),
+            b'N' => Some(UserInteraction::None),
             _ => None,
         }
     }

@@ -44,11 +44,12 @@ impl Metric for PrivilegesRequired {
         }
     }
 
-    fn read_bytes(text: &[u8]) -> Option<Self> {
-        match text {
-            b"H" | b"h" => Some(PrivilegesRequired::High),
-            b"L" | b"l" => Some(PrivilegesRequired::Low),
-            b"N" | b"n" => Some(PrivilegesRequired::None),
+    #[inline(always)]
+    fn read_letter(letter: u8) -> Option<Self> {
+        match letter {
+            b'H' => Some(PrivilegesRequired::High),
+            b'L' => Some(PrivilegesRequired::Low),
+            b'N' => Some(PrivilegesRequired::None),
             _ => None,
         }
     }

@@ -67,10 +67,11 @@ impl<T: BaseMetric> Metric for Modified<T> {
         (T::modified_slashed(self), Some(0))
     }
 
-    fn read_bytes(text: &[u8]) -> Option<Self> {
-        match text {
-            b"X" | b"x" => Some(Modified::NotDefined),
-            _ => Some(Modified::Modified(T::read_bytes(text)?)),
+    #[inline(always)]
+    fn read_letter(letter: u8) -> Option<Self> {
+        match letter {
+            b'X' => Some(Modified::NotDefined),
+            _ => Some(Modified::Modified(T::read_letter(letter)?)),
         }
     }
 }

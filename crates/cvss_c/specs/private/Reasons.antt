@@ -1,4 +1,4 @@
--- How the private code tells an error. No public clause cites it.
+-- How an error is told.
 use Rattle.std.specs.Prelude.{◌≡◌, ℕ, true, List, ◌++◌, codes}
 use Rattle.cvss.specs.Dispatch.{cvss_reason}
 use Rattle.cvss.specs.ErrorText.{error_text}
