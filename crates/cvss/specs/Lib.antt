@@ -44,7 +44,7 @@ pub use Rattle.cvss_v3.specs.Vector as VectorV3
 pub use Rattle.cvss_v3.specs.VectorWeights as WeightsV3
 pub use Rattle.cvss_v3.specs.declared.vector.Vector as VectorTypeV3
 pub use Rattle.cvss_v3.specs.declared.weights.Weights as WeightsTypeV3
-pub use Rattle.cvss_v4_metric.specs.Metrics as MetricsV4
+pub use Rattle.cvss_v4_metric.specs.laws.Metrics as MetricsV4
 pub use Rattle.cvss_v4_metric.specs.Reading as ReadingV4
 pub use Rattle.cvss_v4_metric.specs.Ranks as RanksV4
 pub use Rattle.cvss_v4_metric.specs.Table as TableV4
@@ -58,6 +58,7 @@ pub use Rattle.cvss_v4.specs.Merging as MergingV4
 pub use Rattle.cvss_v4.specs.laws.MergingLaws as MergingLawsV4
 pub use Rattle.cvss_v4.specs.Nomenclature as NomenclatureV4
 pub use Rattle.cvss_v4.specs.Overriding as OverridingV4
+pub use Rattle.cvss_v4.specs.laws.OverridingLaws as OverridingLawsV4
 pub use Rattle.cvss_v4.specs.laws.ScoreLaws as ScoreLawsV4
 pub use Rattle.cvss_base.specs.ScoreText
 pub use Rattle.cvss_v4.specs.Scores as ScoresV4

@@ -87,7 +87,3 @@ eq3_eq6_distance v =
 -- the distance in EQ4
 abbrev pub eq4_distance : Effective → ℤ
 eq4_distance v = pos (eq4_sum v.sc v.si v.sa) -ℤ pos (eq4_least (eq4 v.sc v.si v.sa))
-
--- the distance in EQ5, whose classes have one value each
-abbrev pub eq5_distance : Effective → ℤ
-eq5_distance v = pos 0

@@ -17,7 +17,7 @@ ghost use Rattle.cvss_v4.specs.laws.Maximal.{Eq1Values, eq1_levels, eq1_maximal,
 ghost use Rattle.cvss_v4.specs.Merging.{letter_at, effective_of};
 ghost use Rattle.cvss_v4.specs.laws.MergingLaws.{HasModifiedAsBase, without_supplemental};
 ghost use Rattle.cvss_v4.specs.Nomenclature.{nomenclature_of};
-ghost use Rattle.cvss_v4.specs.Overriding.{AreAlike};
+ghost use Rattle.cvss_v4.specs.laws.OverridingLaws.{AreAlike};
 ghost use Rattle.cvss_v4.specs.laws.ScoreLaws.{IsListed, IsPair, IsAsSevere, IsFromTenthToTen};
 ghost use Rattle.cvss_v4.specs.Scores.{has_impact, number, IsScore};
 ghost use Rattle.cvss_v4.specs.Values.{listed_value, table_value};

@@ -63,21 +63,6 @@ spelling_at kind rank = unwrap_or (slice_get (spellings_of kind) rank) []
 abbrev pub metric_component : MetricType → ℕ → List ℕ
 metric_component kind rank = component (name_of kind) (spelling_at kind rank)
 
--- how the value is spelled that a metric has by default
-abbrev pub default_of : MetricType → List ℕ
-default_of AV = codes "N"
-default_of AC = codes "L"
-default_of AT = codes "N"
-default_of PR = codes "N"
-default_of UI = codes "N"
-default_of VC = codes "H"
-default_of VI = codes "H"
-default_of VA = codes "H"
-default_of SC = codes "H"
-default_of SI = codes "H"
-default_of SA = codes "H"
-default_of _ = codes "X"
-
 -- the order in which a vector is printed
 abbrev pub printed : List MetricType
 printed = AV ∷ AC ∷ AT ∷ PR ∷ UI ∷ VC ∷ VI ∷ VA ∷ SC ∷ SI ∷ SA ∷ E ∷ CR ∷ IR ∷ AR ∷ MAV ∷ MAC ∷ MAT ∷ MPR ∷ MUI ∷ MVC ∷ MVI ∷ MVA ∷ MSC ∷ MSI ∷ MSA ∷ S ∷ AU ∷ R ∷ V ∷ RE ∷ U ∷ []

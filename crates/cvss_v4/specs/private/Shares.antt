@@ -13,6 +13,12 @@ taken value group =
 abbrev pub counted : Group → ℕ
 counted group = unwrap_or (option_map (λ _. 1) group.next_lower) 0
 
+-- a part of 840 for each tenth of a distance, which takes at most the gap to the next lower value
+pub record IsPart (value lower distance part : ℕ) : Type 0 where
+  pub from_one : 1 ≤ lower
+  pub to_value : lower ≤ value
+  pub within : distance * part ≤ 840
+
 -- both numbers of a group below a value, which they leave above 0
 pub record IsShare (value : ℕ) (group : Group) (share : Share) : Type 0 where
   pub taken : share.taken ≡ taken value group

@@ -55,7 +55,7 @@ one_vector v w front same = λ i. record {
 
 pub v4_is_lawful : IsLawful v4
 v4_is_lawful = record {
-  placed = elim [ AV ↦ refl | AC ↦ refl | AT ↦ refl | PR ↦ refl | UI ↦ refl | VC ↦ refl | VI ↦ refl | VA ↦ refl | SC ↦ refl | SI ↦ refl | SA ↦ refl | E ↦ refl | CR ↦ refl | IR ↦ refl | AR ↦ refl | MAV ↦ refl | MAC ↦ refl | MAT ↦ refl | MPR ↦ refl | MUI ↦ refl | MVC ↦ refl | MVI ↦ refl | MVA ↦ refl | MSC ↦ refl | MSI ↦ refl | MSA ↦ refl | S ↦ refl | AU ↦ refl | R ↦ refl | V ↦ refl | RE ↦ refl | U ↦ refl ];
+  placed = elim [ AC ↦ refl | _ ↦ refl ];
   in_order = refl;
   names_read = refl;
   names_plain = refl;

@@ -3,7 +3,8 @@
 ghost use Rattle.std.specs.Prelude.{◌≡◌};
 ghost use Rattle.cvss_base.specs.declared.v4.MetricType.TheVariants.{MVA, MVC, MVI, VA, VC, VI};
 ghost use Rattle.cvss_v4.specs.private.Defined.{if_defined};
-ghost use Rattle.cvss_v4.specs.Merging.{letter_of, vulnerable_impact_of};
+ghost use Rattle.cvss_v4.specs.Effective.{meaning, vulnerable_impacts};
+ghost use Rattle.cvss_v4.specs.Merging.{letter_of};
 
 use crate::metric::base::{
     AvailabilityImpactToTheVulnerableSystem, ConfidentialityImpactToTheVulnerableSystem,
@@ -20,7 +21,7 @@ use crate::scoring::effective;
 pub(super) fn confidentiality_impact_to_the_vulnerable_system(
     value: Option<ConfidentialityImpactToTheVulnerableSystem>,
 ) -> effective::VulnerableImpact
-    ensures { result ≡ vulnerable_impact_of (letter_of VC value) }
+    ensures { result ≡ meaning vulnerable_impacts (letter_of VC value) }
 {
     match value {
         None | Some(ConfidentialityImpactToTheVulnerableSystem::High) =>
@@ -34,7 +35,7 @@ pub(super) fn confidentiality_impact_to_the_vulnerable_system(
 pub(super) fn modified_confidentiality_impact_to_the_vulnerable_system(
     value: Option<ModifiedConfidentialityImpactToTheVulnerableSystem>,
 ) -> Option<effective::VulnerableImpact>
-    ensures { result ≡ if_defined vulnerable_impact_of (letter_of MVC value) }
+    ensures { result ≡ if_defined (meaning vulnerable_impacts) (letter_of MVC value) }
 {
     match value {
         None | Some(ModifiedConfidentialityImpactToTheVulnerableSystem::NotDefined) => None,
@@ -54,7 +55,7 @@ pub(super) fn modified_confidentiality_impact_to_the_vulnerable_system(
 pub(super) fn integrity_impact_to_the_vulnerable_system(
     value: Option<IntegrityImpactToTheVulnerableSystem>,
 ) -> effective::VulnerableImpact
-    ensures { result ≡ vulnerable_impact_of (letter_of VI value) }
+    ensures { result ≡ meaning vulnerable_impacts (letter_of VI value) }
 {
     match value {
         None | Some(IntegrityImpactToTheVulnerableSystem::High) =>
@@ -68,7 +69,7 @@ pub(super) fn integrity_impact_to_the_vulnerable_system(
 pub(super) fn modified_integrity_impact_to_the_vulnerable_system(
     value: Option<ModifiedIntegrityImpactToTheVulnerableSystem>,
 ) -> Option<effective::VulnerableImpact>
-    ensures { result ≡ if_defined vulnerable_impact_of (letter_of MVI value) }
+    ensures { result ≡ if_defined (meaning vulnerable_impacts) (letter_of MVI value) }
 {
     match value {
         None | Some(ModifiedIntegrityImpactToTheVulnerableSystem::NotDefined) => None,
@@ -88,7 +89,7 @@ pub(super) fn modified_integrity_impact_to_the_vulnerable_system(
 pub(super) fn availability_impact_to_the_vulnerable_system(
     value: Option<AvailabilityImpactToTheVulnerableSystem>,
 ) -> effective::VulnerableImpact
-    ensures { result ≡ vulnerable_impact_of (letter_of VA value) }
+    ensures { result ≡ meaning vulnerable_impacts (letter_of VA value) }
 {
     match value {
         None | Some(AvailabilityImpactToTheVulnerableSystem::High) =>
@@ -102,7 +103,7 @@ pub(super) fn availability_impact_to_the_vulnerable_system(
 pub(super) fn modified_availability_impact_to_the_vulnerable_system(
     value: Option<ModifiedAvailabilityImpactToTheVulnerableSystem>,
 ) -> Option<effective::VulnerableImpact>
-    ensures { result ≡ if_defined vulnerable_impact_of (letter_of MVA value) }
+    ensures { result ≡ if_defined (meaning vulnerable_impacts) (letter_of MVA value) }
 {
     match value {
         None | Some(ModifiedAvailabilityImpactToTheVulnerableSystem::NotDefined) => None,
