@@ -1,5 +1,5 @@
 -- The distances of the code are those of the specification, and lie below the depths.
-use Rattle.std.proofs.Common.{◌≡◌, ℕ, zero, suc, ◌+◌, ◌-◌, ◌*◌, ◌/◌, ◌<◌, ◌≤◌, List, [], ◌∷◌, slice_index, refl, arith, pos}
+use Rattle.std.proofs.Common.{◌≡◌, ℕ, zero, suc, ◌+◌, ◌-◌, ◌*◌, ◌/◌, ◌<◌, ◌≤◌, [], ◌∷◌, slice_index, refl, arith, pos}
 use Rattle.std.proofs.lemmas.Int.{ints}
 use Rattle.cvss_v4.specs.Classes.{eq1, eq2, eq3, eq4, eq6}
 use Rattle.cvss_v4.specs.Distance.{eq1_sum, eq2_sum, eq3_eq6_sum, eq4_sum, eq1_distance, eq2_distance, eq3_eq6_distance, eq4_distance}

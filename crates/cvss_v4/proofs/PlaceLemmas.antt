@@ -1,5 +1,5 @@
 -- Where the values of the next lower classes stand.
-use Rattle.std.proofs.Common.{◌≡◌, ℕ, zero, suc, ◌+◌, ◌*◌, ◌<◌, ◌≤◌, max, slice_index, Option, Some, refl, arith, sym, subst}
+use Rattle.std.proofs.Common.{◌≡◌, ℕ, zero, suc, ◌+◌, ◌*◌, ◌<◌, ◌≤◌, max, slice_index, Option, refl, arith, sym, subst}
 use Rattle.std.proofs.Math.Nat.{min-le_right}
 use Rattle.std.proofs.lemmas.Bool.{lt-ltb}
 use Rattle.cvss_v4.specs.Gap.{next_of, eq1_next, eq2_next, eq3_eq6_next, eq4_next, eq5_next, larger, next_of_pair}

@@ -1,5 +1,5 @@
 -- The values of the code are those of the table, and no class has a smaller value than its next lower ones.
-use Rattle.std.proofs.Common.{◌≡◌, ℕ, ◌+◌, ◌≤◌, Bool, true, false, ◌&&◌, ◌||◌, ◌==◌, leb, ltb, slice_index, Option, Some, None, refl, arith, ap}
+use Rattle.std.proofs.Common.{◌≡◌, ℕ, ◌≤◌, Bool, true, false, ◌&&◌, ◌||◌, ◌==◌, leb, slice_index, Option, Some, None, refl, arith, ap}
 use Rattle.std.proofs.lemmas.Bool.Decides.{nat_tests}
 use Rattle.cvss_v4.specs.laws.ScoreLaws.{IsMacroVector, IsListed}
 use Rattle.cvss_v4.specs.Gap.{eq1_next, eq2_next, eq3_eq6_next, eq4_next, eq5_next}

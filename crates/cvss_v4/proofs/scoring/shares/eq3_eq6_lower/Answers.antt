@@ -1,6 +1,5 @@
 use Rattle.std.proofs.Common.{arith}
 use Rattle.cvss_v4.proofs.PlaceLemmas.{value_there, eq3_lower, eq3_eq6_lower, first_pair, second_pair, larger_pair}
-use Rattle.cvss_v4.specs.Gap.{eq3_eq6_next}
 use Rattle.cvss_v4.proofs.scoring.shares.eq3_eq6_lower.Goals as goal
 
 pub value_at-first-requires : goal.value_at-first-requires

@@ -1,6 +1,5 @@
 use Rattle.std.proofs.Common.{◌≡◌, ◌+◌, Some, None, arith, refl, subst, slice_index}
 use Rattle.cvss_v4.specs.Gap.{eq5_next, eq5_group}
-use Rattle.cvss_v4.specs.Values.{table_value}
 use Rattle.cvss_v4.specs.private.Places.{place_of}
 use Rattle.cvss_v4.specs.declared.scoring.values.TheConstants.{VALUES}
 use Rattle.cvss_v4.proofs.ClassLemmas.{class_is}
