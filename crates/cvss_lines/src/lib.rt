@@ -18,5 +18,6 @@ pub use answering::Answering;
 pub use exit::exit_status;
 pub use fault::RunFault;
 pub use gathered::Gathered;
+pub use lines::first_line;
 pub use running::run;
 pub use summary::Summary;
