@@ -3,6 +3,7 @@ pub mod Dispatch
 pub mod Json
 pub mod MetricTypes
 pub mod MetricsLeft
+pub mod Published
 pub mod laws
 pub mod private
 pub use Rattle.cvss_base.specs.ErrorText

@@ -4,7 +4,9 @@ ghost use Rattle.std.specs.Prelude.{◌≡◌, IfSome, IsSome};
 ghost use Rattle.std.specs.Str.{IsUtf8};
 ghost use Rattle.cvss.specs.Answers.{HasScore, text_of};
 ghost use Rattle.cvss.specs.Dispatch.{DenotesCvss};
+ghost use Rattle.cvss.specs.Published.{IsPublishedOf};
 
+use crate::published::Published;
 use crate::vector::Cvss;
 use crate::{v2, v3, v4};
 
@@ -26,11 +28,47 @@ impl Cvss {
             _ => v4_at_sight(text),
         }
     }
+
+    /// What is published of the vector whose canonical text this is, where that is seen at once, as
+    /// by `read_canonical`.
+    pub fn published_at_sight(text: &[u8]) -> Option<Published>
+        ensures { IfSome result (IsPublishedOf text.now) }
+    {
+        match text {
+            [b'A', ..] => v2_published(text),
+            [_, _, _, _, _, b'3', ..] => v3_published(text),
+            _ => v4_published(text),
+        }
+    }
 }
 
 // A call of its own for each version keeps the vectors apart: joined in one place, each would be
 // laid out byte by byte as any of the four.
 #[inline(never)]
+fn v2_published(text: &[u8]) -> Option<Published>
+    ensures { IfSome result (IsPublishedOf text.now) }
+{
+    let cvss = v2_at_sight(text)?;
+    Some(cvss.published())
+}
+
+#[inline(never)]
+fn v3_published(text: &[u8]) -> Option<Published>
+    ensures { IfSome result (IsPublishedOf text.now) }
+{
+    let cvss = v3_at_sight(text)?;
+    Some(cvss.published())
+}
+
+#[inline(never)]
+fn v4_published(text: &[u8]) -> Option<Published>
+    ensures { IfSome result (IsPublishedOf text.now) }
+{
+    let cvss = v4_at_sight(text)?;
+    Some(cvss.published())
+}
+
+#[inline(always)]
 fn v2_at_sight(text: &[u8]) -> Option<Cvss>
     ensures canonical { IfSome result (λ cvss. text.now ≡ text_of cvss) }
     ensures denoted { IfSome result (λ cvss. DenotesCvss text.now cvss) }
@@ -41,7 +79,7 @@ fn v2_at_sight(text: &[u8]) -> Option<Cvss>
     Some(Cvss::CvssV20(vector))
 }
 
-#[inline(never)]
+#[inline(always)]
 fn v3_at_sight(text: &[u8]) -> Option<Cvss>
     ensures canonical { IfSome result (λ cvss. text.now ≡ text_of cvss) }
     ensures denoted { IfSome result (λ cvss. DenotesCvss text.now cvss) }
@@ -59,7 +97,7 @@ fn v3_at_sight(text: &[u8]) -> Option<Cvss>
     }
 }
 
-#[inline(never)]
+#[inline(always)]
 fn v4_at_sight(text: &[u8]) -> Option<Cvss>
     ensures canonical { IfSome result (λ cvss. text.now ≡ text_of cvss) }
     ensures denoted { IfSome result (λ cvss. DenotesCvss text.now cvss) }

@@ -4,6 +4,7 @@ ghost use Rattle.std.specs.Prelude.{◌≡◌, ◌≤◌, ◌↔◌, IsTrue, IfS
 ghost use Rattle.cvss.specs.Answers.{text_of};
 
 use crate::metrics::Metrics;
+use crate::published::{Bounds, Published};
 use crate::route::{Route, error_of, route_of_text};
 use crate::{v2, v3, v4};
 use cvss_base::tenths::{tenths_of, text_of as text_of_tenths};
@@ -32,6 +33,7 @@ impl Cvss {
     ghost use Rattle.cvss.specs.Answers.{HasScore, IsScoreOf, IsScoreText, score_of_tenths, rating_by, metrics_of};
     ghost use Rattle.cvss.specs.Dispatch.{DenotesCvss, IsFirstRefusalCvss, cvss_reason};
     ghost use Rattle.cvss.specs.MetricsLeft.{metrics_left};
+    ghost use Rattle.cvss.specs.Published.{IsPublished, rating_within};
     ghost use Rattle.cvss.specs.declared.metric_type.MetricType.{MetricType};
 
     /// The vector that a text denotes, by the rules of the version that it tells: CVSS v3.0, v3.1
@@ -122,12 +124,36 @@ impl Cvss {
     }
 
     /// The tenths of the score of a vector that has one.
+    #[inline(always)]
     pub fn tenths(&self) -> u8
         requires scored { HasScore self.now }
         ensures value { IsScoreOf self.now (score_of_tenths result) }
         ensures bound { result ≤ 100 }
     {
         tenths_of(self.score())
+    }
+
+    /// The bounds by which the vector's version rates scores.
+    #[inline(always)]
+    pub fn bounds(&self) -> Bounds
+        ensures { rating_by self.now ≡ rating_within result }
+    {
+        match self {
+            Cvss::CvssV20(_) => Bounds::OfV2,
+            Cvss::CvssV30(_) | Cvss::CvssV31(_) | Cvss::CvssV40(_) => Bounds::OfV3,
+        }
+    }
+
+    /// What is published of a vector that has a score.
+    #[inline(always)]
+    pub fn published(&self) -> Published
+        requires scored { HasScore self.now }
+        ensures { IsPublished self.now result }
+    {
+        Published {
+            tenths: self.tenths(),
+            bounds: self.bounds(),
+        }
     }
 
     /// The score of a vector that has one, with one decimal.

@@ -105,9 +105,15 @@ lines-none bytes none =
     ∙ ap last_line (unended_piece-none bytes none)
 
 -- bytes without a line end are one line where there are some
-pub lines-one : (bytes : List ℕ) → NoLineEnd bytes → 0 < length bytes → lines bytes ≡ line_text bytes ∷ []
-lines-one [] none some = absurd (omega arith)
-lines-one (byte ∷ bytes) none some = lines-none (byte ∷ bytes) none
+pub one_line : (bytes : List ℕ) → NoLineEnd bytes → 0 < length bytes → lines bytes ≡ line_text bytes ∷ []
+one_line [] none some = absurd (omega arith)
+one_line (byte ∷ bytes) none some = lines-none (byte ∷ bytes) none
+
+-- a line comes off an input, and the lines behind it are left
+pub line_off : (piece behind : List ℕ) → NoLineEnd piece → lines (piece ++ 10 ∷ behind) ≡ line_text piece ∷ lines behind
+line_off piece behind none =
+    ap (λ ls. ls ++ last_line (unended_piece (piece ++ 10 ∷ behind))) (ended_lines-line piece behind none)
+    ∙ ap (λ last. line_text piece ∷ (ended_lines behind ++ last_line last)) (unended_piece-line piece behind none)
 
 -- the lines of an input are those that are ended, and those of what stands behind the last line end
 pub lines-ended : (read : List ℕ) → lines read ≡ ended_lines read ++ lines (unended_piece read)

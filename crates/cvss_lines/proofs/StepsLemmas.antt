@@ -8,7 +8,7 @@ use Rattle.cvss_lines.specs.Steps.{Counts, Gathers, NoLineEnd, Writes, StopsAt, 
 use Rattle.cvss_lines.specs.declared.fault.RunFault.{RunFault}
 use Rattle.cvss_lines.specs.declared.fault.RunFault.TheVariants.{Write}
 use Rattle.cvss_lines.specs.declared.pending.Pending.{Pending}
-use Rattle.cvss_lines.proofs.LinesLemmas.{lines-one}
+use Rattle.cvss_lines.proofs.LinesLemmas.{one_line}
 use Rattle.cvss_lines.proofs.AnswersLemmas.{IsAnswers-append, number_behind-append, written_answers-append, Counts-append, Counts-nil}
 
 module _ (rule : Rule) where
@@ -75,7 +75,7 @@ module _ (rule : Rule) where
   pub Gathers-end : (start next : Pending) → NoLineEnd start.cut.items → 0 < length start.cut.items
       → Gathers rule start next (line_text (start.cut.items ++ []) ∷ []) → Gathers rule start next (lines start.cut.items)
   Gathers-end start next none some = subst (Gathers rule start next)
-      (ap (λ line. line_text line ∷ []) (append-nil start.cut.items) ∙ sym (lines-one start.cut.items none some))
+      (ap (λ line. line_text line ∷ []) (append-nil start.cut.items) ∙ sym (one_line start.cut.items none some))
 
   -- the answers that were added to none are what waits
   waiting : (old new : Pending) (answers : List Answer) → old.answers.bytes.items ≡ []

@@ -20,6 +20,7 @@ pub use asking::{Request, arguments, asked};
 pub use exit::exit_status;
 pub use fault::RunFault;
 pub use gathered::Gathered;
+pub use lines::first_line;
 pub use running::run;
 pub use summary::Summary;
 pub use write::write_whole;

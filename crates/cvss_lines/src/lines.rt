@@ -1,7 +1,21 @@
-ghost use Rattle.std.specs.Prelude.{◌≡◌, ◌≢◌, ◌++◌, ◌∷◌, All, MatchOption};
-ghost use Rattle.cvss_lines.specs.Lines.{line_text};
+ghost use Rattle.std.specs.Prelude.{◌≡◌, ◌≢◌, ◌<◌, ◌++◌, [], ◌∷◌, All, MatchOption, length};
+ghost use Rattle.cvss_lines.specs.Lines.{line_text, lines};
 
 use crate::search::line_end_or_len;
+
+/// The first line of a whole input, and what stands behind it.
+#[tactic(auto, using(crate::proofs::LinesLemmas::one_line))]
+pub fn first_line(input: &[u8]) -> Option<(&[u8], &[u8])>
+    ensures { MatchOption result (lines input.now ≡ [])
+        (λ cut. (lines input.now ≡ cut.0.now ∷ lines cut.1.now)
+        × (length cut.1.now < length input.now)) }
+{
+    match cut_at_line_end(input) {
+        Some((piece, behind)) => Some((line_text(piece), behind)),
+        None if input.is_empty() => None,
+        None => Some((line_text(input), &[])),
+    }
+}
 
 /// The bytes before and after the first byte 10.
 pub(crate) fn cut_at_line_end(bytes: &[u8]) -> Option<(&[u8], &[u8])>

@@ -1,13 +1,13 @@
 -- The first fault of overrides and texts, and the error that tells it.
-use Rattle.std.specs.Prelude.{◌≡◌, ◌⊎◌, ℕ, ◌<◌, true, Some, List, length, ◌++◌, codes, ⊤}
+use Rattle.std.specs.Prelude.{◌≡◌, ◌⊎◌, ℕ, ◌<◌, true, Some, List, length, ◌++◌, codes}
 use Rattle.std.specs.Fmt.{decimal}
-use Rattle.cvss.specs.Equality as same
 use Rattle.cvss.specs.ErrorText.{error_text}
 use Rattle.cvss.specs.ErrorType.{Error}
 use Rattle.cvss.specs.MetricTypeV4.{MetricType}
 use Rattle.cvss.specs.OverridingV4.{Objection, OfOtherGroup, OfText, HasNoObjectionBefore, IsFirstObjection}
 use Rattle.cvss.specs.Refusal.{Refusal, carries_text, piece_at, IsFirstRefusalBehind}
-use Rattle.cvss.specs.Told.{reason_told, v4_reason}
+use Rattle.cvss.specs.Told.{reason_told}
+use Rattle.cvss.specs.TypesV4.{v4_reason}
 use Rattle.cvss.specs.VectorV4.{v4}
 use Rattle.cvss_ranking.specs.declared.error.TriageError.{TriageError}
 use Rattle.cvss_ranking.specs.declared.error.TriageError.TheVariants.{Override, NotEnvironmental, Text, OutOfMemory}
@@ -66,11 +66,3 @@ triage_error_text (Override index error) = codes "override " ++ decimal index ++
 triage_error_text (NotEnvironmental index) = codes "override " ++ decimal index ++ codes ": no environmental CVSSv4 metric"
 triage_error_text (Text index error) = codes "text " ++ decimal index ++ codes ": " ++ error_text error
 triage_error_text OutOfMemory = codes "out of memory"
-
--- two errors are of one kind, at one place, and their reasons tell the same
-abbrev pub TellTheSame : TriageError → TriageError → Type 0
-TellTheSame (Override x e) (Override y f) = (x ≡ y) × same.TellTheSame e f
-TellTheSame (NotEnvironmental x) (NotEnvironmental y) = x ≡ y
-TellTheSame (Text x e) (Text y f) = (x ≡ y) × same.TellTheSame e f
-TellTheSame OutOfMemory OutOfMemory = ⊤
-TellTheSame _ _ = ⊥

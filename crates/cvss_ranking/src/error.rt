@@ -3,7 +3,8 @@
 ghost use Rattle.std.specs.Prelude.{◌≡◌, ℕ, Some};
 ghost use Rattle.cvss.specs.OverridingV4.{Objection, TellsObjection};
 ghost use Rattle.cvss.specs.Refusal.{Refusal};
-ghost use Rattle.cvss.specs.Told.{Tells, v4_reason};
+ghost use Rattle.cvss.specs.Told.{Tells};
+ghost use Rattle.cvss.specs.TypesV4.{v4_reason};
 ghost use Rattle.cvss.specs.MetricTypeV4.{MetricType};
 ghost use Rattle.cvss_ranking.specs.Faults.{InOverride, InText, TellsFault, triage_error_text};
 ghost use Rattle.cvss_ranking.specs.declared.error.TriageError.TheVariants.{OutOfMemory};

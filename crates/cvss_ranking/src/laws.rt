@@ -1,7 +1,7 @@
 //! Laws, each the contract of a function that does nothing.
 
 ghost use Rattle.std.specs.Prelude.{◌↔◌, IsTrue};
-ghost use Rattle.cvss_ranking.specs.Faults.{TellTheSame};
+ghost use Rattle.cvss_ranking.specs.laws.Faults.{TellTheSame};
 ghost use Rattle.cvss_ranking.specs.Triage.{AreTheSame};
 
 use crate::error::TriageError;

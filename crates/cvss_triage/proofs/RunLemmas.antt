@@ -6,7 +6,8 @@ use Rattle.cvss_ranking.specs.Faults.{TellsFirstFault}
 use Rattle.cvss_ranking.specs.declared.error.TriageError.{TriageError}
 use Rattle.cvss_ranking.specs.declared.error.TriageError.TheVariants.{Override, NotEnvironmental, Text, OutOfMemory}
 use Rattle.cvss_triage.specs.Exit.{fault_of}
-use Rattle.cvss_triage.specs.Lines.{lines, AreTexts}
+use Rattle.cvss_lines.specs.Lines.{lines}
+use Rattle.cvss_triage.specs.Lines.{AreTexts}
 use Rattle.cvss_triage.specs.Runs.{ReadsAll, TellsOf, TellsArgument, IsTold}
 use Rattle.cvss_triage.specs.declared.fault.Fault.{Fault}
 use Rattle.cvss_triage.specs.declared.fault.Fault.TheVariants.{Read, Write, Memory, NotText, ArgumentNotText, UnknownOption, Refused}

@@ -1,10 +1,9 @@
 -- How the program ends: its exit status, and what it says of a fault on standard error.
-use Rattle.std.specs.Prelude.{◌≡◌, ℕ, ◌+◌, List, ◌++◌, codes, Result, Ok, Err, ⊤}
+use Rattle.std.specs.Prelude.{◌≡◌, ℕ, ◌+◌, List, ◌++◌, codes, Result, Ok, Err}
 use Rattle.std.specs.Fmt.{decimal}
 use Rattle.std.specs.declared.io.ErrorKind.{ErrorKind}
 use Rattle.std.specs.declared.io.ErrorKind.TheVariants.{OutOfMemory as NoMemory}
 use Rattle.cvss.specs.ErrorText.{error_text}
-use Rattle.cvss_ranking.specs.Faults as triage
 use Rattle.cvss_ranking.specs.declared.error.TriageError.{TriageError}
 use Rattle.cvss_ranking.specs.declared.error.TriageError.TheVariants.{Override, NotEnvironmental, Text, OutOfMemory}
 use Rattle.cvss_triage.specs.declared.fault.Fault.{Fault}
@@ -43,14 +42,3 @@ fault_text (Refused (Override index error)) = codes "argument " ++ decimal (inde
 fault_text (Refused (NotEnvironmental index)) = codes "argument " ++ decimal (index + 1) ++ codes ": no environmental CVSSv4 metric"
 fault_text (Refused (Text index error)) = codes "line " ++ decimal (index + 1) ++ codes ": " ++ error_text error
 fault_text (Refused OutOfMemory) = codes "out of memory"
-
--- two faults are of one kind, at one place, and their reasons tell the same
-abbrev pub TellTheSame : Fault → Fault → Type 0
-TellTheSame Read Read = ⊤
-TellTheSame Write Write = ⊤
-TellTheSame Memory Memory = ⊤
-TellTheSame (NotText x) (NotText y) = x ≡ y
-TellTheSame (ArgumentNotText x) (ArgumentNotText y) = x ≡ y
-TellTheSame UnknownOption UnknownOption = ⊤
-TellTheSame (Refused x) (Refused y) = triage.TellTheSame x y
-TellTheSame _ _ = ⊥

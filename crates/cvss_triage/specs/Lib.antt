@@ -3,3 +3,4 @@ pub mod Lines
 pub mod Program
 pub mod Rows
 pub mod Runs
+pub mod laws

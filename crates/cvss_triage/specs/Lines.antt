@@ -1,24 +1,7 @@
--- The lines of an input, which is cut after each byte 10, and their texts.
-use Rattle.std.specs.Prelude.{◌≡◌, ℕ, ◌<◌, ◌==◌, Bool, true, false, List, [], ◌∷◌, map, take, length, slice_index_or, All}
-use Rattle.std.specs.Io.BufRead.{strip_last}
-use Rattle.std.specs.List.{slice_split}
+-- The lines of an input as texts.
+use Rattle.std.specs.Prelude.{◌≡◌, ℕ, ◌<◌, Bool, true, false, List, [], map, take, length, slice_index_or, All}
 use Rattle.std.specs.Str.{IsUtf8}
 use denote.Ref.{Bor}
-
--- a byte that ends a line
-abbrev pub is_line_end : ℕ → Bool
-is_line_end byte = byte == 10
-
--- the pieces of an input, without a last one that is empty
-abbrev pub without_empty_last : List (List ℕ) → List (List ℕ)
-without_empty_last [] = []
-without_empty_last ([] ∷ []) = []
-without_empty_last ((byte ∷ bytes) ∷ []) = (byte ∷ bytes) ∷ []
-without_empty_last (piece ∷ next ∷ more) = piece ∷ without_empty_last (next ∷ more)
-
--- the lines, each less the one byte 13 at its end, if it has one
-abbrev pub lines : List ℕ → List (List ℕ)
-lines input = map (strip_last 13) (without_empty_last (slice_split is_line_end input))
 
 -- the line at a place is not UTF-8
 pub record IsNoText (lines : List (List ℕ)) (place : ℕ) : Type 0 where

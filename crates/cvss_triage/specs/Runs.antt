@@ -8,7 +8,8 @@ use Rattle.cvss_ranking.specs.Faults.{TellsFirstFault}
 use Rattle.cvss_ranking.specs.declared.error.TriageError.TheVariants.{OutOfMemory}
 use Rattle.cvss_ranking.specs.declared.row.Row.{Row}
 use Rattle.cvss_ranking.specs.Triage.{AreRanked}
-use Rattle.cvss_triage.specs.Lines.{lines, IsNoText}
+use Rattle.cvss_lines.specs.Lines.{lines}
+use Rattle.cvss_triage.specs.Lines.{IsNoText}
 use Rattle.cvss_triage.specs.Rows.{row_text}
 use Rattle.cvss_triage.specs.declared.fault.Fault.{Fault}
 use Rattle.cvss_triage.specs.declared.fault.Fault.TheVariants.{Read, Write, Memory, NotText, ArgumentNotText, UnknownOption, Refused}

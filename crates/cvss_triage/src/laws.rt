@@ -1,7 +1,7 @@
 //! Laws, each the contract of a function that does nothing.
 
 ghost use Rattle.std.specs.Prelude.{◌↔◌, IsTrue};
-ghost use Rattle.cvss_triage.specs.Exit.{TellTheSame};
+ghost use Rattle.cvss_triage.specs.laws.Faults.{TellTheSame};
 
 use crate::fault::Fault;
 use cvss_ranking::laws;

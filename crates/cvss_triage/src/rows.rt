@@ -1,15 +1,11 @@
 //! How rows are written.
 
 ghost use Rattle.std.specs.Prelude.{◌≡◌, ◌++◌, IfOk, OnOk, flat_map, string_bytes};
-ghost use Rattle.cvss.specs.Answers.{score_text};
-ghost use Rattle.cvss_triage.specs.Rows.{row_text, tenths_of};
+ghost use Rattle.cvss_triage.specs.Rows.{row_text};
 
-use cvss::ONE;
+use cvss::OneDecimal;
 use cvss_ranking::Row;
 use std::alloc::{AllocError, Global};
-
-/// A tenth of a score point.
-const TENTH: u128 = ONE as u128 / 10;
 
 /// The rows as they are written, one a line.
 pub(crate) fn written_rows(alloc: Global, rows: &[Row]) -> Result<String, AllocError>
@@ -27,16 +23,7 @@ pub(crate) fn written_rows(alloc: Global, rows: &[Row]) -> Result<String, AllocE
 fn write_row(row: &Row, text: &mut String) -> Result<(), AllocError>
     ensures { OnOk result (string_bytes text.new ≡ string_bytes text.old ++ row_text row.now) }
 {
-    write_score(row, text)?;
-    writeln!(text, " {} {} {}", row.severity(), row.scored, row.text)?;
-    Ok(())
-}
-
-/// Writes a row's score with one decimal.
-fn write_score(row: &Row, text: &mut String) -> Result<(), AllocError>
-    ensures { OnOk result (string_bytes text.new ≡ string_bytes text.old ++ score_text (tenths_of row.now)) }
-{
-    let tenths = row.score.unsigned_abs() / TENTH;
-    write!(text, "{}.{}", tenths / 10, tenths % 10)?;
+    let score = OneDecimal { count: row.score };
+    writeln!(text, "{score} {} {} {}", row.severity(), row.scored, row.text)?;
     Ok(())
 }

@@ -1,4 +1,4 @@
-use Rattle.cvss_triage.specs.Lines.{lines}
+use Rattle.cvss_lines.specs.Lines.{lines}
 use Rattle.cvss_triage.proofs.LinesLemmas.{lines_more, utf8_more}
 use Rattle.cvss_triage.proofs.lines.texts_of.Goals as goal
 

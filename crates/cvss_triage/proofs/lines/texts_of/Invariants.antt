@@ -1,6 +1,6 @@
 use Rattle.std.proofs.Common.{◌≡◌, ◌++◌, length, map, All}
 use Rattle.std.specs.Str.{IsUtf8}
-use Rattle.cvss_triage.specs.Lines.{lines}
+use Rattle.cvss_lines.specs.Lines.{lines}
 use Rattle.cvss_triage.proofs.lines.texts_of.Given as goal
 
 abbrev pub invariant-loop-line : goal.invariant-loop-line

@@ -4,7 +4,8 @@ use Rattle.std.proofs.lemmas.Result.{err_from_is_err_and}
 use Rattle.cvss_ranking.specs.Faults.{TellsFirstFault}
 use Rattle.cvss_ranking.specs.Triage.{AreRanked}
 use Rattle.cvss_ranking.specs.declared.error.TriageError.TheVariants.{OutOfMemory}
-use Rattle.cvss_triage.specs.Lines.{lines, AreTexts}
+use Rattle.cvss_lines.specs.Lines.{lines}
+use Rattle.cvss_triage.specs.Lines.{AreTexts}
 use Rattle.std.specs.List.{flat_map}
 use Rattle.cvss_triage.specs.Rows.{row_text}
 use Rattle.cvss_triage.proofs.RunLemmas.{all_lines, TellsOf-from}
