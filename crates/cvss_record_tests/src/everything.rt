@@ -37,8 +37,11 @@ fn text_of(alloc: Global, front: &str, metrics: &[Choices], number: usize) -> Re
         if !text.is_empty() {
             text.push('/')?;
         }
-        text.push_str(choices[left % choices.len()])?;
-        left /= choices.len();
+        let count = choices.len().max(1);
+        if let Some(component) = choices.get(left % count) {
+            text.push_str(component)?;
+        }
+        left /= count;
     }
     Ok(text)
 }
