@@ -10,10 +10,15 @@ of the first lines.
 string, and writing one, may lack memory; reading one that is accepted may not, and reading one that
 is refused, and copying the error, may only where the refusal carries text.
 
+`cvss_audit` answers documents: where memory is refused it ends with status 2, and what it has written
+are the whole answers of the first lines, as they are written with ample memory, which the stored run
+compares.
+
 It needs cc beside the toolchain and python3.
 
 usage: bench/refused_memory.py
 """
+import json
 import os
 import subprocess
 import sys
@@ -187,6 +192,33 @@ def refuse_in_turn(shim, program, given, expected, whole_status, fault_status):
           f"{ended} runs ended early, {lacked} answers became `out of memory`, all else stayed")
 
 
+def refuse_in_turn_over_documents(shim):
+    """The same over `cvss_audit`, whose lines have any number of answers."""
+    folder = os.path.join(HERE, "../crates/cvss_audit")
+    with open(os.path.join(folder, "stdin"), "rb") as file:
+        given = file.read()
+    with open(os.path.join(folder, "stdout"), "rb") as file:
+        whole = file.read()
+    # Where the answers of a line end: behind the last answer that tells its number, or none.
+    numbers = [json.loads(line)["line"] for line in whole.splitlines()]
+    ends = {0, len(whole)}
+    place = 0
+    for now, following, line in zip(numbers, numbers[1:], whole.splitlines(keepends=True)):
+        place += len(line)
+        if now != following:
+            ends.add(place)
+    for turn in range(1, 1_000_000):
+        status, written, was_refused = run(shim, "cvss_audit", given, turn)
+        if not was_refused:
+            break
+        if status != 2 or len(written) not in ends or not whole.startswith(written):
+            sys.exit(f"turn {turn}: status {status}, wrote {written[:2000]!r}")
+    if run(shim, "cvss_audit", given, 0)[:2] != (1, whole):
+        sys.exit("cvss_audit: the run with ample memory is not the stored one")
+    print(f"cvss_audit: {turn - 1} requests refused in turn over {given.count(bytes([10]))} documents: "
+          "each run ended early, with the whole answers of a beginning of the lines")
+
+
 def main():
     typed = [(kind, text) for kind, (_, texts) in TYPES.items() for text in texts]
     with tempfile.TemporaryDirectory() as room:
@@ -200,6 +232,7 @@ def main():
                        "\n".join(f"{kind} {text}" for kind, text in typed).encode(),
                        [converted(TYPES[kind][0], text) for kind, text in typed],
                        whole_status=0, fault_status=1)
+        refuse_in_turn_over_documents(shim)
 
 
 if __name__ == "__main__":

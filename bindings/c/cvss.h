@@ -17,11 +17,11 @@
  * Threads. The functions keep no state: any number of threads may call them at once, each with its own
  * buffer or struct.
  *
- * Memory. cvss_version, cvss_scores, cvss_canonical, cvss_metrics and cvss_without_undefined take none, and no
- * function takes any for a text that is accepted. To tell why a text is refused, the others call malloc, realloc and free, and free what they
- * took before they return; where malloc refuses, a reason that carries a part of the text is told as
- * "out of memory". So these must not be called from a signal handler, or in a child that was forked from a process
- * with threads.
+ * Memory. cvss_version, cvss_scores, cvss_canonical, cvss_metrics and cvss_without_undefined take none, and but for
+ * cvss_record no function takes any for a text that is accepted. To tell why a text is refused, and to make a record,
+ * the others call malloc, realloc and free, and free what they took before they return; where malloc refuses, a record
+ * and a reason that carries a part of the text are told as "out of memory". So these must not be called from a signal
+ * handler, or in a child that was forked from a process with threads.
  */
 #ifndef CVSS_H
 #define CVSS_H
@@ -119,6 +119,14 @@ size_t cvss_metrics(const void *text, size_t length, CvssMetric *metrics, size_t
  * become another: it counts a metric that is given as X.
  */
 size_t cvss_without_undefined(const void *text, size_t length, void *buffer, size_t size);
+
+/*
+ * The record of the vector: the JSON object of FIRST's schema of its version, without spaces, with the version, the
+ * canonical text, a member for each metric that the vector has, its scores and, but for v2, their ratings, in the order
+ * of the members' names. Returns its length. Returns 0, and leaves the buffer as it was, where the text denotes no
+ * vector. Where malloc refuses, "out of memory" stands in place of the object, which begins with '{'.
+ */
+size_t cvss_record(const void *text, size_t length, void *buffer, size_t size);
 
 /*
  * The first reason why the text denotes no vector, as "unknown CVSS metric name: `XX`", in the encoding of the

@@ -56,9 +56,21 @@ static void tell(const char *text, bool without, char told[256])
     snprintf(told, 256, "%d %s %zu %s", kind, metric, size, answer);
 }
 
+/* Whether the record of a vector is told with memory, and without it that there is none. */
+static bool is_record_told(void)
+{
+    char with[1024] = "", without[1024] = "";
+    size_t length = strlen(texts[0]);
+    size_t size = cvss_record(texts[0], length, with, sizeof with);
+    refuses = true;
+    cvss_record(texts[0], length, without, sizeof without);
+    refuses = false;
+    return with[0] == '{' && with[size - 1] == '}' && strcmp(without, "out of memory") == 0;
+}
+
 int main(void)
 {
-    int wrong = 0;
+    int wrong = is_record_told() ? 0 : 1;
     for (size_t i = 0; i < sizeof texts / sizeof *texts; i++) {
         char with[256], without[256];
         tell(texts[i], false, with);

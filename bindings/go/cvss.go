@@ -150,6 +150,15 @@ func (v Vector) WithoutUndefined() Vector {
 	return shorter
 }
 
+// Record is the vector's record: the JSON object of FIRST's schema of its version, without spaces. Where there was no
+// memory for it, it is the text "out of memory".
+func (v Vector) Record() []byte {
+	code, length := bytesOf(v.text)
+	return []byte(written(1<<11, func(buffer unsafe.Pointer, size C.size_t) C.size_t {
+		return C.cvss_record(pointer(code), length, buffer, size)
+	}))
+}
+
 // WithOverrides is the vector with an organisation's environmental metrics in place of its own, or beside them. The
 // error is ErrNotEnvironmental, or else a *RefusedError of the vector with these metrics.
 func (v Vector) WithOverrides(overrides []Metric) (Vector, error) {

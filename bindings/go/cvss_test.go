@@ -1,6 +1,7 @@
 package cvss_test
 
 import (
+	"encoding/json"
 	"errors"
 	"fmt"
 	"os"
@@ -98,6 +99,20 @@ func TestTextsThatAreNoUTF8AreRefused(t *testing.T) {
 func TestEmptyTextIsRefused(t *testing.T) {
 	if _, err := cvss.Parse(""); err == nil {
 		t.Error("an empty text is accepted")
+	}
+}
+
+// The records were written by hand from FIRST's JSON schemas.
+func TestRecords(t *testing.T) {
+	for _, record := range lines(t, "bindings/stored/records") {
+		var members struct{ VectorString string }
+		if err := json.Unmarshal([]byte(record), &members); err != nil {
+			t.Fatal(err)
+		}
+		vector, err := cvss.Parse(members.VectorString)
+		if err != nil || string(vector.Record()) != record {
+			t.Errorf("%s: %s, %v", record, vector.Record(), err)
+		}
 	}
 }
 

@@ -3,6 +3,7 @@
 Usage: check.py ROOT, the folder of the checkout. The package is the one that Python finds.
 """
 
+import json
 import pickle
 import sys
 from pathlib import Path
@@ -119,6 +120,25 @@ def check_changes(root: Path) -> None:
         assert raises(CvssError, lambda: vector.with_overrides(unknown)), unknown
 
 
+def check_records(root: Path) -> None:
+    """The records are those that were written by hand from FIRST's JSON schemas; all tell the vector's scores."""
+    for line in lines_of(root / "bindings" / "stored" / "records"):
+        record = json.loads(line)
+        assert Vector(record["vectorString"]).record() == record, line
+    for line in lines_of(root / "crates" / "cvss_vectors" / "stdin"):
+        try:
+            vector = Vector(line)
+        except CvssError:
+            continue
+        record = vector.record()
+        assert (record["vectorString"], record["version"], record["baseScore"]) == (vector.text, vector.version, vector.score)
+        assert record.get("baseSeverity", vector.severity.upper()) == vector.severity.upper(), line
+        told = (record.get("temporalScore"), record.get("environmentalScore"))
+        assert all(score in (None, own) for score, own in zip(told, vector.scores[1:])), line
+        names = ("vectorString", "version", "Score", "Severity")
+        assert len([name for name in record if not name.endswith(names)]) == len(vector.metrics), line
+
+
 def check_values() -> None:
     """The two vectors have the base scores 7.8 and 10.0 (CVSS v2 guide, sections 3.3.1 and 3.3.2)."""
     lower, higher = Vector(TEXT), Vector("AV:N/AC:L/Au:N/C:C/I:C/A:C")
@@ -139,4 +159,5 @@ if __name__ == "__main__":
     check_texts()
     check_many_texts()
     check_changes(Path(sys.argv[1]))
+    check_records(Path(sys.argv[1]))
     check_values()

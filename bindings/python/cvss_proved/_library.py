@@ -72,6 +72,7 @@ def _declared(library: ctypes.CDLL) -> ctypes.CDLL:
     for call in (
         library.cvss_canonical,
         library.cvss_without_undefined,
+        library.cvss_record,
         library.cvss_reason,
         library.cvss_refusal_metric,
         library.cvss_answer,
@@ -130,6 +131,11 @@ def metrics(text: bytes) -> List[Tuple[str, str]]:
 def without_undefined(text: bytes) -> str:
     """The canonical text of the vector that a text denotes, without its undefined metrics, or nothing."""
     return _written(_library.cvss_without_undefined, text, len(text) + 1)
+
+
+def record(text: bytes) -> str:
+    """The record of the vector that a text denotes, or nothing."""
+    return _written(_library.cvss_record, text, 2048)
 
 
 def reason(text: bytes) -> str:

@@ -2,8 +2,9 @@
 
 from __future__ import annotations
 
+import json
 from functools import total_ordering
-from typing import Dict, Iterable, List, Mapping, NamedTuple, Optional, Tuple, Type
+from typing import Any, Dict, Iterable, List, Mapping, NamedTuple, Optional, Tuple, Type
 
 from . import _library
 from ._error import CvssError
@@ -152,6 +153,21 @@ class Vector:
         'AV:N/AC:L/Au:N/C:N/I:N/A:C/TD:H'
         """
         return Vector(_library.without_undefined(self._text.encode()))
+
+    def record(self) -> Dict[str, Any]:
+        """The JSON object of FIRST's schema of the version: the text, the metrics, the scores and their ratings.
+
+        Where there is no memory for it, this is a `MemoryError`.
+
+        >>> record = Vector("AV:N/AC:L/Au:N/C:N/I:N/A:C").record()
+        >>> record["version"], record["accessVector"], record["baseScore"]
+        ('2.0', 'NETWORK', 7.8)
+        """
+        told = _library.record(self._text.encode())
+        if not told.startswith("{"):
+            raise MemoryError(told)
+        record: Dict[str, Any] = json.loads(told)
+        return record
 
     def with_overrides(self, overrides: Mapping[str, str]) -> Vector:
         """The vector with an organisation's environmental metrics in place of its own, or beside them.

@@ -45,6 +45,7 @@ extern "C" {
         buffer: *mut u8,
         size: usize,
     ) -> usize;
+    fn cvss_record(text: *const u8, length: usize, buffer: *mut u8, size: usize) -> usize;
     fn cvss_reason(text: *const u8, length: usize, buffer: *mut u8, size: usize) -> usize;
     fn cvss_refusal_kind(text: *const u8, length: usize) -> i32;
     fn cvss_refusal_metric(text: *const u8, length: usize, buffer: *mut u8, size: usize) -> usize;
@@ -97,6 +98,14 @@ pub(crate) fn without_undefined(text: &[u8]) -> Vec<u8> {
         unsafe {
             cvss_without_undefined(text.as_ptr(), text.len(), buffer.as_mut_ptr(), buffer.len())
         }
+    })
+}
+
+/// The record of the vector that a text denotes, or nothing.
+pub(crate) fn record(text: &[u8]) -> Vec<u8> {
+    written(1 << 11, |buffer| {
+        // SAFETY: as above.
+        unsafe { cvss_record(text.as_ptr(), text.len(), buffer.as_mut_ptr(), buffer.len()) }
     })
 }
 

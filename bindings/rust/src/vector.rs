@@ -186,6 +186,19 @@ impl Cvss {
         Cvss::parse_bytes(&shorter).unwrap_or_else(|_| self.clone())
     }
 
+    /// The record of the vector: the JSON object of FIRST's schema of its version, without spaces.
+    /// Where there was no memory for it, it is the text `out of memory`.
+    ///
+    /// ```
+    /// let cvss = cvss_proved::Cvss::parse("AV:N/AC:L/Au:N/C:N/I:N/A:C")?;
+    /// assert!(cvss.record().contains(r#""baseScore":7.8"#));
+    /// # Ok::<(), cvss_proved::Refused>(())
+    /// ```
+    #[must_use]
+    pub fn record(&self) -> String {
+        calls::text_of(calls::record(self.text.as_bytes()))
+    }
+
     /// The vector with an organisation's environmental metrics, as pairs of name and value, in
     /// place of its own or beside them.
     ///
@@ -203,15 +216,7 @@ impl Cvss {
     /// # Ok::<(), Box<dyn std::error::Error>>(())
     /// ```
     pub fn with_overrides(&self, overrides: &[(&str, &str)]) -> Result<Cvss, OverrideError> {
-        let is_word = |value: &str| value.bytes().all(|byte| byte.is_ascii_alphanumeric());
-        let mut added = Vec::new();
-        for (name, value) in overrides {
-            let component = format!("{name}:{value}");
-            if !ENVIRONMENTAL.contains(name) || !is_word(value) {
-                return Err(OverrideError::NotEnvironmental(component));
-            }
-            added.push(component);
-        }
+        let added = components_of(overrides)?;
         let is_kept = |piece: &&str| {
             let name = piece.split(':').next().unwrap_or_default();
             overrides.iter().all(|(own, _)| *own != name)
@@ -220,6 +225,20 @@ impl Cvss {
         let pieces: Vec<String> = kept.chain(added).collect();
         Cvss::parse(&pieces.join("/")).map_err(OverrideError::Refused)
     }
+}
+
+/// The components of environmental metrics, each of which has a name and a word for its value.
+fn components_of(overrides: &[(&str, &str)]) -> Result<Vec<String>, OverrideError> {
+    let is_word = |value: &str| value.bytes().all(|byte| byte.is_ascii_alphanumeric());
+    let component = |(name, value): &(&str, &str)| {
+        let component = format!("{name}:{value}");
+        if ENVIRONMENTAL.contains(name) && is_word(value) {
+            Ok(component)
+        } else {
+            Err(OverrideError::NotEnvironmental(component))
+        }
+    };
+    overrides.iter().map(component).collect()
 }
 
 /// The environmental metrics of all versions.

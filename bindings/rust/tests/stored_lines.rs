@@ -89,6 +89,19 @@ fn stored_lines_have_their_facts() {
     }
 }
 
+/// The records were written by hand from FIRST's JSON schemas.
+#[test]
+fn vectors_have_their_records() {
+    let root = Path::new(env!("CARGO_MANIFEST_DIR")).join("../..");
+    let records = fs::read_to_string(root.join("bindings/stored/records")).unwrap();
+    assert_eq!(records.lines().count(), 3);
+    for record in records.lines() {
+        let text = record.split(r#""vectorString":""#).nth(1).unwrap();
+        let text = text.split('"').next().unwrap();
+        assert_eq!(Cvss::parse(text).unwrap().record(), record);
+    }
+}
+
 /// What is not defined scores as what is absent (CVSS v2 guide, section 2.2; v3.1, section 3; v4.0,
 /// section 3).
 #[test]

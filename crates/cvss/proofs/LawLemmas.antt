@@ -11,18 +11,18 @@ use Rattle.cvss_base.proofs.TenthsLemmas.{in_tenths_once}
 use Rattle.cvss_base.specs.laws.Rounding.{IsOneCount}
 use Rattle.cvss_v2.proofs.UniqueLemmas.{base_score_once}
 use Rattle.cvss_v2.specs.Vector.{v2}
-use Rattle.cvss_v2.specs.VectorLaws.{v2_is_lawful}
+use Rattle.cvss_v2.specs.private.VectorLaws.{v2_is_lawful}
 use Rattle.cvss_v2.specs.Weights.{weights_of}
 use Rattle.cvss_v3.proofs.LawLemmas as law_v3
 use Rattle.cvss_v3.specs.Vector.{v3}
-use Rattle.cvss_v3.specs.VectorLaws.{v3_is_lawful, v3_fronts_are_lawful}
+use Rattle.cvss_v3.specs.private.VectorLaws.{v3_is_lawful, v3_fronts_are_lawful}
 use Rattle.cvss_v3.specs.VectorWeights as weights_v3
 use Rattle.cvss_v3.specs.declared.vector.Vector.{Vector}
 use Rattle.cvss_v4.proofs.ScoreLawLemmas.{one_score}
 use Rattle.cvss_v4.specs.Merging.{effective_of}
 use Rattle.cvss_v4.specs.Scores.{IsScore}
 use Rattle.cvss_v4.specs.Vector.{v4}
-use Rattle.cvss_v4.specs.VectorLaws.{v4_is_lawful, v4_fronts_are_lawful}
+use Rattle.cvss_v4.specs.private.VectorLaws.{v4_is_lawful, v4_fronts_are_lawful}
 use Rattle.cvss.specs.Answers.{text_of, IsScoreOf}
 use Rattle.cvss.specs.Dispatch.{DenotesCvss, DenotesV3}
 use Rattle.cvss.specs.laws.GivenBack.{IsGivenBack, HasVersionAndMetric}

@@ -20,15 +20,15 @@ use Rattle.cvss_base.proofs.FrontLemmas.{pieces_denoted_behind}
 use Rattle.cvss_base.proofs.NumeralLemmas.{numeral-injective, numeral-plain}
 use Rattle.cvss_base.proofs.Utf8Lemmas.{IsUtf8-pieces}
 use Rattle.cvss_base.proofs.WalkLemmas.{value_from}
-use Rattle.cvss_v2.specs.TableLaws.{undotted_spelling}
+use Rattle.cvss_v2.specs.private.TableLaws.{undotted_spelling}
 use Rattle.cvss_v2.specs.Vector.{v2}
-use Rattle.cvss_v2.specs.VectorLaws.{v2_is_lawful}
+use Rattle.cvss_v2.specs.private.VectorLaws.{v2_is_lawful}
 use Rattle.cvss_v2.specs.declared.vector.Vector as vector_v2
 use Rattle.cvss_v3.specs.Vector.{v3}
-use Rattle.cvss_v3.specs.VectorLaws.{v3_is_lawful, v3_fronts_are_lawful}
+use Rattle.cvss_v3.specs.private.VectorLaws.{v3_is_lawful, v3_fronts_are_lawful}
 use Rattle.cvss_v3.specs.declared.vector.Vector as vector_v3
 use Rattle.cvss_v4.specs.Vector.{v4}
-use Rattle.cvss_v4.specs.VectorLaws.{v4_is_lawful, v4_fronts_are_lawful}
+use Rattle.cvss_v4.specs.private.VectorLaws.{v4_is_lawful, v4_fronts_are_lawful}
 use Rattle.cvss_v4.specs.declared.vector.Vector as vector_v4
 use Rattle.cvss.specs.Dispatch.{DenotesV2, DenotesV3, DenotesV4, DenotesCvss, Route, ToV20, ToV30, ToV31, ToV40, route_of, route_of_pieces, route_of_parts}
 use Rattle.cvss.specs.declared.vector.Cvss.{Cvss}

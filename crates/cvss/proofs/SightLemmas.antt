@@ -9,13 +9,13 @@ use Rattle.cvss_base.specs.private.Walk.{IsLawful}
 use Rattle.cvss_base.proofs.CanonicalLemmas.{canonical_text-denotes}
 use Rattle.cvss_base.proofs.JoinLemmas.{IsUtf8-denoting, none_beyond}
 use Rattle.cvss_v2.specs.Vector.{v2}
-use Rattle.cvss_v2.specs.VectorLaws.{v2_is_lawful}
+use Rattle.cvss_v2.specs.private.VectorLaws.{v2_is_lawful}
 use Rattle.cvss_v2.specs.declared.vector.Vector as vector_v2
 use Rattle.cvss_v3.specs.Vector.{v3}
-use Rattle.cvss_v3.specs.VectorLaws.{v3_is_lawful}
+use Rattle.cvss_v3.specs.private.VectorLaws.{v3_is_lawful}
 use Rattle.cvss_v3.specs.declared.vector.Vector as vector_v3
 use Rattle.cvss_v4.specs.Vector.{v4}
-use Rattle.cvss_v4.specs.VectorLaws.{v4_is_lawful}
+use Rattle.cvss_v4.specs.private.VectorLaws.{v4_is_lawful}
 use Rattle.cvss_v4.specs.declared.vector.Vector as vector_v4
 use Rattle.cvss.proofs.RouteLemmas.{only_one}
 

@@ -1,3 +1,4 @@
 pub mod Answers
 pub mod Objects
+pub mod Program
 pub mod Texts

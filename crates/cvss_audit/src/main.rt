@@ -1,24 +1,37 @@
 //! Reads JSON documents from standard input, one a line, and answers each by one JSON object for each
 //! place in it where a CVSS vector stands: what the vector is, and where the document says otherwise.
+//! `--help` prints how it is used.
 #![tactic(auto)]
 
 mod documents;
+mod fault;
+pub mod laws;
 mod missing;
 mod place;
+mod program;
 mod run;
 #[cfg(test)]
 mod tests;
 mod told;
 mod write;
 
-pub use cvss_lines::{RunFault, Summary, exit_status};
+use cvss_lines::arguments;
+pub use cvss_lines::{RunFault, Summary};
+pub use fault::{Fault, exit_status};
+pub use program::{USAGE, run_program};
 pub use run::run;
 use std::process::ExitCode;
 
 fn main(rt: HostRuntime) -> ExitCode {
-    let result = run(rt.alloc(), &mut rt.stdin(), &mut rt.stdout());
+    let result = audit(&rt);
     if let Err(fault) = &result {
         let _ = eprintln!(rt; "cvss_audit: {fault}");
     }
     ExitCode::from(exit_status(&result))
+}
+
+/// Runs over standard input and output, with the program's arguments.
+fn audit(rt: &HostRuntime) -> Result<Summary, Fault> {
+    let arguments = arguments(rt.alloc(), rt)?;
+    run_program(rt.alloc(), &arguments, &mut rt.stdin(), &mut rt.stdout())
 }

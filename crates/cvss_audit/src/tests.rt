@@ -1,6 +1,6 @@
 //! Tests of whole runs.
 
-use crate::{RunFault, Summary, exit_status, run};
+use crate::{Fault, RunFault, Summary, USAGE, exit_status, run_program};
 use std::alloc::Global;
 use std::io;
 use std::io::{ErrorKind, Read};
@@ -102,7 +102,7 @@ fn is_answered(
     let fails = false;
     let mut reader = Steps { bytes, step, fails };
     let mut writer = Vec::new(alloc);
-    let result = run(alloc, &mut reader, &mut writer);
+    let result = run_program(alloc, &[], &mut reader, &mut writer);
     assert_eq!(rt; result, Ok(Summary { accepted, refused }), "{written}");
     assert!(rt; writer.as_slice() == written.as_bytes(), "{written}");
     assert_eq!(rt; exit_status(&result), if refused == 0 { 0 } else { 1 });
@@ -157,8 +157,8 @@ fn answers_ended_lines_before_a_failed_read(rt: HostRuntime) -> Result<(), Fail>
     let (bytes, step, fails) = (input.as_bytes(), 50, true);
     let mut reader = Steps { bytes, step, fails };
     let mut writer = Vec::new(alloc);
-    let result = run(alloc, &mut reader, &mut writer);
-    assert_eq!(rt; result, Err(RunFault::Read));
+    let result = run_program(alloc, &[], &mut reader, &mut writer);
+    assert_eq!(rt; result, Err(Fault::Run(RunFault::Read)));
     assert!(rt; writer.as_slice() == ANSWER.as_bytes());
     assert_eq!(rt; exit_status(&result), 2);
     Ok(())
@@ -167,12 +167,39 @@ fn answers_ended_lines_before_a_failed_read(rt: HostRuntime) -> Result<(), Fail>
 #[test]
 fn tells_faults(rt: HostRuntime) -> Result<(), Fail> {
     let rows = [
-        (RunFault::Read, "read failed"),
-        (RunFault::Write, "write failed"),
-        (RunFault::Memory, "out of memory"),
+        (Fault::Run(RunFault::Read), 2, "read failed"),
+        (Fault::Run(RunFault::Write), 2, "write failed"),
+        (Fault::Run(RunFault::Memory), 2, "out of memory"),
+        (
+            Fault::UnknownOption,
+            1,
+            "argument 1: no option, see `cvss_audit --help`",
+        ),
     ];
-    for (fault, text) in rows {
+    for (fault, status, text) in rows {
         assert!(rt; fault.to_string(rt.alloc())?.as_str() == text, "{text}");
+        assert!(rt; exit_status(&Err(fault)) == status, "{text}");
+    }
+    Ok(())
+}
+
+#[test]
+fn looks_at_the_first_argument(rt: HostRuntime) -> Result<(), Fail> {
+    let rows: [(&[u8], &str, Option<Fault>); 5] = [
+        (b"--help", USAGE, None),
+        (b"-", "", Some(Fault::UnknownOption)),
+        (b"--helper", "", Some(Fault::UnknownOption)),
+        (b"", ANSWER, None),
+        (b"documents", ANSWER, None),
+    ];
+    for (argument, written, fault) in rows {
+        let mut bytes = Vec::new(rt.alloc());
+        bytes.extend_from_slice(argument)?;
+        let arguments = vec![in rt.alloc(); bytes]?;
+        let mut reader = DOCUMENT.as_bytes();
+        let mut writer = Vec::new(rt.alloc());
+        let result = run_program(rt.alloc(), &arguments, &mut reader, &mut writer);
+        assert!(rt; result.err() == fault && writer.as_slice() == written.as_bytes());
     }
     Ok(())
 }

@@ -13,7 +13,8 @@ use Rattle.cvss_v2.specs.declared.metric.base.access.AccessVector.{AccessVector}
 use Rattle.cvss_v2.specs.declared.metric.base.access.AccessVector.TheVariants as access_vector
 use Rattle.cvss.specs.VectorTypeV2 as vector_v2
 use Rattle.cvss.specs.VectorV2.{v2}
-use Rattle.cvss_c.specs.Defined.{defined_component, defined_texts, if_defined, or_if_none, text_less}
+use Rattle.cvss_c.specs.Defined.{defined_component, if_defined, or_if_none, text_less}
+use Rattle.cvss_c.specs.private.Steps.{defined_texts}
 use Rattle.cvss_c.proofs.CanonicalLemmas.{text_from_front}
 
 -- a component that may be left out is no longer than it is

@@ -1,11 +1,11 @@
 -- A vector's canonical text is as long as each text that denotes the vector.
-use Rattle.std.proofs.Common.{◌≡◌, ℕ, ◌+◌, Bool, true, false, List, [], ◌∷◌, ◌++◌, length, map, refl, sym, ap, ◌∙◌, arith, length-append}
+use Rattle.std.proofs.Common.{◌≡◌, ◌≤◌, ℕ, ◌+◌, Bool, true, false, List, [], ◌∷◌, ◌++◌, length, map, refl, sym, ap, ◌∙◌, arith, length-append}
 use Rattle.std.specs.List.{sum_by}
 use Rattle.std.proofs.lemmas.List.{length-map}
 use Rattle.std.proofs.lemmas.List.Sorted.{sum_by-IsPermutation}
 use Rattle.std.proofs.lemmas.List.Sums.{sum_by-cons, sum_by-append}
 use Rattle.cvss_base.specs.Text.{slash, joined, read_as}
-use Rattle.cvss_base.specs.Version.{Version, read, components_of, canonical_text, Denotes}
+use Rattle.cvss_base.specs.Version.{AreComponentsOf, Version, read, components_of, canonical_text, Denotes}
 use Rattle.cvss.specs.Answers.{text_of}
 use Rattle.cvss.specs.Dispatch.{DenotesCvss}
 use Rattle.cvss.specs.VectorV2.{v2}
@@ -15,7 +15,7 @@ use Rattle.cvss.specs.declared.vector.Cvss.{Cvss}
 use Rattle.cvss.specs.declared.vector.Cvss.TheVariants.{CvssV20, CvssV30, CvssV31, CvssV40}
 
 -- a piece and the slash before it
-abbrev piece_length : List ℕ → ℕ
+abbrev pub piece_length : List ℕ → ℕ
 piece_length piece = length piece + 1
 
 -- pieces with slashes between them
@@ -40,12 +40,22 @@ sums-read version [] = refl
 sums-read version (part ∷ parts) =
     omega (arith, sum_by-cons piece_length (read version part) (map (read version) parts), sum_by-cons piece_length part parts, read_as-length version.any_case part, sums-read version parts)
 
+-- a vector's components are as long as the pieces that are them
+pub sums-components : {V K : Type 0} (version : Version V K) (parts : List (List ℕ)) (v : V) → AreComponentsOf version parts v → sum_by piece_length (components_of version v) ≡ sum_by piece_length parts
+sums-components version parts v are =
+    let read_same : sum_by piece_length (map (read version) parts) ≡ sum_by piece_length (map (read version) (components_of version v)) = sum_by-IsPermutation piece_length _ _ are.each_once in
+    sym (sums-read version (components_of version v)) ∙ (sym read_same ∙ sums-read version parts)
+
+-- pieces are no longer than their join and a slash
+pub sums-joined : (parts : List (List ℕ)) → sum_by piece_length parts ≤ length (joined parts) + 1
+sums-joined [] = omega arith
+sums-joined (part ∷ parts) = omega (arith, joined-length part parts)
+
 length-denoted : {V K : Type 0} (version : Version V K) (text : List ℕ) (v : V) → Denotes version text v → length (canonical_text version v) ≡ length text
 length-denoted version text v denoted =
     let parts = denoted.parts in
     let front = version.front v in
-    let read_same : sum_by piece_length (map (read version) parts) ≡ sum_by piece_length (map (read version) (components_of version v)) = sum_by-IsPermutation piece_length _ _ denoted.components.each_once in
-    let same : sum_by piece_length (components_of version v) ≡ sum_by piece_length parts = sym (sums-read version (components_of version v)) ∙ (sym read_same ∙ sums-read version parts) in
+    let same = sums-components version parts v denoted.components in
     let whole : sum_by piece_length (front ++ components_of version v) ≡ sum_by piece_length (front ++ parts) = omega (arith, same, sum_by-append piece_length front (components_of version v), sum_by-append piece_length front parts) in
     joined-same_length (front ++ components_of version v) (front ++ parts) whole ∙ ap length (sym denoted.text_is)
 

@@ -8,4 +8,5 @@ pub mod MetricLemmas
 pub mod PartLemmas
 pub mod PartsLemmas
 pub mod RatingLemmas
+pub mod RecordLemmas
 pub mod UndefinedLemmas

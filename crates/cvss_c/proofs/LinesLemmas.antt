@@ -2,8 +2,9 @@
 use Rattle.std.proofs.Common.{◌≡◌, ℕ, ◌+◌, List, [], ◌∷◌, ◌++◌, length, refl, sym, ap, ◌∙◌, append_assoc, arith, length-append}
 use Rattle.std.proofs.lemmas.List.{flat_map_more}
 use Rattle.std.proofs.lemmas.List.Elements.{All-push, All-nil}
-use Rattle.cvss_c.specs.Buffer.{HasPut, Puts}
+use Rattle.cvss_c.specs.Buffer.{HasPut}
 use Rattle.cvss_c.specs.Lines.{AreAnswers, AnswersLines, IsLast, IsLineAnswer, ended}
+use Rattle.cvss_c.specs.private.Steps.{Puts}
 use Rattle.cvss_c.proofs.BufferLemmas.{nothing_put}
 
 -- some lines are answered, and the rest stands behind them

@@ -10,7 +10,8 @@ use Rattle.cvss.specs.VectorTypeV4 as vector_v4
 use Rattle.cvss.specs.VectorV2.{v2}
 use Rattle.cvss.specs.VectorV3.{v3}
 use Rattle.cvss.specs.VectorV4.{v4}
-use Rattle.cvss_c.specs.Defined.{HasDefinedOf, if_defined}
+use Rattle.cvss_c.specs.Defined.{if_defined}
+use Rattle.cvss_c.specs.laws.DefinedParts.{HasDefinedOf}
 
 module _ {X : Type 0} (spelling : X → List ℕ) (undefined : List ℕ) where
   -- the value, if it is defined

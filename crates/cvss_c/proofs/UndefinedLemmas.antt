@@ -2,12 +2,12 @@
 use Rattle.std.proofs.Common.{◌≡◌, ◌≢◌, ◌⊎◌, inl, inr, ℕ, Bool, true, false, List, [], ◌∷◌, ◌++◌, codes, Option, Some, None, IfSome, bytes_eq, if◌then◌else◌, refl, sym, ap, ◌∙◌}
 use Rattle.std.specs.Bool.{Decides}
 use Rattle.std.specs.List.{filter_map, cons_option}
-use Rattle.std.specs.Option.{option_map, option_and_then}
+use Rattle.std.specs.Option.{option_map, option_map_or, option_and_then}
 use Rattle.std.proofs.lemmas.Slice.Eq.{bytes_eq-Decides}
-use Rattle.cvss.specs.MergingV4.{letter}
 use Rattle.cvss_base.specs.Text.{component, joined}
 use Rattle.cvss_base.specs.Version.{Version, component_of, components_of}
-use Rattle.cvss_c.specs.Defined.{HasDefinedOf, IsPrintedAsLess, defined_component, if_defined, or_if_none}
+use Rattle.cvss_c.specs.Defined.{defined_component, if_defined, or_if_none}
+use Rattle.cvss_c.specs.laws.DefinedParts.{HasDefinedOf, IsPrintedAsLess}
 
 or_if_none-kept : (parts others : List (List ℕ)) → parts ≢ [] → parts ≡ or_if_none parts others
 or_if_none-kept [] others some = absurd (some refl)
@@ -26,6 +26,10 @@ module _ {V K : Type 0} (version : Version V K) (undefined : List ℕ) where
       ap (λ pieces. joined (pieces ++ components_of version w)) part.front_is
       ∙ ap (λ kept. joined (version.front v ++ kept)) (or_if_none-kept (components_of version w) (components_of version v) some)
       ∙ ap (λ kept. joined (version.front v ++ or_if_none kept (components_of version v))) parts
+
+-- the letter of a value, where an absent one counts as X
+abbrev letter : {X : Type 0} → (X → List ℕ) → Option X → List ℕ
+letter spelling value = option_map_or spelling value (codes "X")
 
 module _ {X : Type 0} (spelling : X → List ℕ) where
   same_value : (undefined : List ℕ) → ((x y : X) → spelling x ≡ spelling y → x ≡ y) → (x : X) (p : Option X) (out : Bool) → Decides out (spelling x ≡ undefined) → option_map spelling p ≡ (if out then None else Some (spelling x)) → (Some x ≡ p) ⊎ ((spelling x ≡ undefined) × IfSome p (λ y. spelling y ≡ undefined))

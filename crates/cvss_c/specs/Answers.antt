@@ -1,18 +1,12 @@
 -- What is answered to a text: something of the vector that it denotes, or why it denotes none.
 use Rattle.std.specs.Prelude.{◌≡◌, ℕ, ◌⊎◌, ◌++◌, List, codes}
 use Rattle.std.specs.Str.{IsUtf8}
-use Rattle.cvss.specs.Answers.{text_of, IsScoreOf, rating_by, rating_text, score_of_tenths}
+use Rattle.cvss.specs.Answers.{IsScoreOf, score_of_tenths, vector_answer}
 use Rattle.cvss.specs.declared.vector.Cvss.{Cvss}
 use Rattle.cvss.specs.Dispatch.{DenotesCvss, IsFirstRefusalCvss, cvss_reason}
 use Rattle.cvss.specs.ErrorText.{error_text}
 use Rattle.cvss.specs.ErrorType.{Error}
-use Rattle.cvss_base.specs.declared.severity.Severity.{Severity}
 use Rattle.cvss.specs.Told.{TellsFirst}
-
--- the vector was read from a text
-pub record IsRead (cvss : Cvss) : Type 0 where
-  pub text : List ℕ
-  pub denoted : DenotesCvss text cvss
 
 -- the text denotes a vector, of which this holds
 pub record IsAccepted (text : List ℕ) (IsOf : Cvss → Type 0) : Type 0 where
@@ -48,15 +42,11 @@ pub record IsTold (text reason : List ℕ) : Type 0 where
 abbrev pub IsReason : List ℕ → List ℕ → Type 0
 IsReason text reason = IsNoText text reason ⊎ IsTold text reason
 
--- what stands behind the vector's text: the score and its rating, each behind a blank
-abbrev pub rating_behind : ℕ → Severity → List ℕ
-rating_behind tenths severity = codes " " ++ rating_text tenths severity
-
--- the vector's canonical text, its score, and the score's rating
+-- the vector's canonical text, its score of so many tenths, and the score's rating
 pub record IsAnswerOf (answer : List ℕ) (cvss : Cvss) : Type 0 where
   pub tenths : ℕ
   pub scored : IsScoreOf cvss (score_of_tenths tenths)
-  pub is : answer ≡ text_of cvss ++ rating_behind tenths (rating_by cvss (score_of_tenths tenths))
+  pub is : answer ≡ vector_answer cvss tenths
 
 -- the word error, and the reason
 pub record IsErrorAnswer (text answer : List ℕ) : Type 0 where

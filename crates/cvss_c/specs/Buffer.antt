@@ -20,8 +20,3 @@ pub record IsLeft {X : Type 0} (old now : List X) (told : ℕ) : Type 0 where
 pub record HasPut {X : Type 0} (old text now : List X) (place : ℕ) : Type 0 where
   pub begins : now ≡ begun text old
   pub place_is : place ≡ length text
-
--- where some text stands up to the first place, this one stands behind it up to the second
-abbrev pub Puts : {X : Type 0} → List X → List X → ℕ → List X → ℕ → Type 0
-Puts {X} text before from after to =
-    (old first : List X) → HasPut old first before from → HasPut old (first ++ text) after to

@@ -1,11 +1,10 @@
 -- A vector's text without the metrics that are not defined: CVSS v2 guide, sections 2.2 and 2.3 (ND); v3.1
 -- specification, sections 3 and 4 (X); v4.0 specification, sections 3 to 5 (X).
-use Rattle.std.specs.Prelude.{◌≡◌, ◌≢◌, ℕ, List, [], ◌∷◌, ◌++◌, codes, bytes_eq, if◌then◌else◌, Option, Some, None, option_map, flat_map, unwrap_or}
+use Rattle.std.specs.Prelude.{ℕ, List, [], ◌∷◌, ◌++◌, codes, bytes_eq, if◌then◌else◌, Option, Some, None, option_map}
 use Rattle.std.specs.List.{filter_map}
 use Rattle.std.specs.Option.{option_and_then}
-use Rattle.cvss_base.specs.private.Printing.{slashed}
 use Rattle.cvss_base.specs.Text.{component, joined}
-use Rattle.cvss_base.specs.Version.{Version, canonical_text, components_of, held}
+use Rattle.cvss_base.specs.Version.{Version, components_of, held}
 use Rattle.cvss.specs.VectorV2.{v2}
 use Rattle.cvss.specs.VectorV3.{v3}
 use Rattle.cvss.specs.VectorV4.{v4}
@@ -20,11 +19,6 @@ if_defined undefined spelling = if bytes_eq spelling undefined then None else So
 abbrev pub defined_component : {V K : Type 0} → Version V K → List ℕ → V → K → Option (List ℕ)
 defined_component version undefined v kind =
     option_map (component (version.name kind)) (option_and_then (if_defined undefined) (held version v kind))
-
--- the same of these metrics, each with a slash before it
-abbrev pub defined_texts : {V K : Type 0} → Version V K → List ℕ → V → List K → List ℕ
-defined_texts version undefined v kinds =
-    flat_map (λ kind. unwrap_or (slashed (defined_component version undefined v kind)) []) kinds
 
 -- the ones, or the others where there are none
 abbrev pub or_if_none : List (List ℕ) → List (List ℕ) → List (List ℕ)
@@ -41,13 +35,3 @@ text_without_undefined (CvssV20 vector) = text_less v2 (codes "ND") vector
 text_without_undefined (CvssV30 vector) = text_less v3 (codes "X") vector
 text_without_undefined (CvssV31 vector) = text_less v3 (codes "X") vector
 text_without_undefined (CvssV40 vector) = text_less v4 (codes "X") vector
-
--- the second vector has the first's defined metrics, and no others
-pub record HasDefinedOf {V K : Type 0} (version : Version V K) (undefined : List ℕ) (v w : V) : Type 0 where
-  pub front_is : version.front w ≡ version.front v
-  pub held_is : (kind : K) → held version w kind ≡ option_and_then (if_defined undefined) (held version v kind)
-
--- where it has a metric at all, its canonical text is the first's text less the undefined metrics
-abbrev pub IsPrintedAsLess : {V K : Type 0} → Version V K → List ℕ → Type 0
-IsPrintedAsLess {V} version undefined =
-    (v w : V) → HasDefinedOf version undefined v w → components_of version w ≢ [] → canonical_text version w ≡ text_less version undefined v

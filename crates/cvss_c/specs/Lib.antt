@@ -3,6 +3,8 @@ pub mod Buffer
 pub mod Defined
 pub mod Lines
 pub mod Metrics
-pub mod Reasons
+pub mod Records
 pub mod Refusals
 pub mod Scores
+pub mod laws
+pub mod private

@@ -1,5 +1,5 @@
 -- Answers to many texts in one call: a line each, ended by a byte 10.
-use Rattle.std.specs.Prelude.{◌≡◌, ◌≢◌, ℕ, ◌+◌, ◌<◌, ◌≤◌, ◌⊎◌, All, List, [], ◌∷◌, ◌++◌, length, slice_index, flat_map}
+use Rattle.std.specs.Prelude.{◌≡◌, ◌≢◌, ℕ, ◌+◌, ◌<◌, ◌⊎◌, All, List, [], ◌∷◌, ◌++◌, length, flat_map}
 use Rattle.std.specs.Io.BufRead.{strip_last}
 use Rattle.cvss_c.specs.Answers.{IsAnswer}
 use Rattle.cvss_c.specs.Buffer.{HasPut}
@@ -7,12 +7,6 @@ use Rattle.cvss_c.specs.Buffer.{HasPut}
 -- no line ends in these bytes
 abbrev pub HasNoEnd : List ℕ → Type 0
 HasNoEnd bytes = All (λ byte. byte ≢ 10) bytes
-
--- the place of the first byte 10, or the length where there is none
-pub record IsFirstEnd (bytes : List ℕ) (place : ℕ) : Type 0 where
-  pub within : place ≤ length bytes
-  pub before : (k : ℕ) → k < place → slice_index bytes k ≢ 10
-  pub found : place < length bytes → slice_index bytes place ≡ 10
 
 -- a line, and the byte that ends it
 abbrev pub ended : List ℕ → List ℕ

@@ -1,10 +1,11 @@
 //! The line that the program answers to a text.
 
 ghost use Rattle.std.specs.Prelude.{◌≡◌, ◌≤◌, ◌+◌, ℕ, List, length};
-ghost use Rattle.cvss.specs.Answers.{HasScore, IsScoreOf, score_of_tenths};
+ghost use Rattle.cvss.specs.Answers.{HasScore, IsScoreOf, rating_by, score_of_tenths};
 ghost use Rattle.cvss.specs.Dispatch.{DenotesCvss};
-ghost use Rattle.cvss_c.specs.Answers.{IsAnswerOf, rating_behind};
-ghost use Rattle.cvss_c.specs.Buffer.{IsWritten, Puts};
+ghost use Rattle.cvss_c.specs.Answers.{IsAnswerOf};
+ghost use Rattle.cvss_c.specs.Buffer.{IsWritten};
+ghost use Rattle.cvss_c.specs.private.Steps.{Puts, rating_behind};
 
 use crate::buffer::put;
 use crate::canonical::put_canonical;
@@ -18,8 +19,7 @@ pub(crate) fn put_answer(cvss: &Cvss, text: &[u8], buffer: &mut [u8]) -> usize
     ensures { (answer : List ℕ) × IsAnswerOf answer cvss.now
         × IsWritten answer buffer.old buffer.new result }
 {
-    let tenths = score_tenths(cvss);
-    let severity = cvss.severity();
+    let (tenths, severity) = rated(cvss);
     let length = text.len() + rating_length(tenths, severity);
     if length <= buffer.len() {
         let place = put_canonical(cvss, buffer);
@@ -28,13 +28,15 @@ pub(crate) fn put_answer(cvss: &Cvss, text: &[u8], buffer: &mut [u8]) -> usize
     length
 }
 
-/// The tenths of the score of a vector that has one.
-fn score_tenths(cvss: &Cvss) -> u8
+/// The tenths of the score of a vector that has one, and the score's rating.
+fn rated(cvss: &Cvss) -> (u8, Severity)
     requires { HasScore cvss.now }
-    ensures scored { IsScoreOf cvss.now (score_of_tenths result) }
-    ensures bound { result ≤ 100 }
+    ensures scored { IsScoreOf cvss.now (score_of_tenths result.0) }
+    ensures rating { result.1 ≡ rating_by cvss.now (score_of_tenths result.0) }
+    ensures bound { result.0 ≤ 100 }
 {
-    tenths_of(cvss.score())
+    let score = cvss.score();
+    (tenths_of(score), cvss.severity_of(score))
 }
 
 /// How long a score and its rating are, each behind a blank.

@@ -2,7 +2,8 @@
 
 ghost use Rattle.std.specs.Prelude.{◌≡◌, ◌≤◌, ◌+◌, ◌++◌, length};
 ghost use Rattle.cvss_base.specs.private.Printing.{slashed_texts};
-ghost use Rattle.cvss_c.specs.Buffer.{HasPut, IsWritten, Puts};
+ghost use Rattle.cvss_c.specs.Buffer.{HasPut, IsWritten};
+ghost use Rattle.cvss_c.specs.private.Steps.{Puts};
 
 use cvss_base::print::Printed;
 

@@ -9,6 +9,7 @@ ghost use Rattle.cvss_c.specs.Buffer.{IsLeft, IsWritten};
 ghost use Rattle.cvss_c.specs.Defined.{text_without_undefined};
 ghost use Rattle.cvss_c.specs.Lines.{AnswersLines};
 ghost use Rattle.cvss_c.specs.Metrics.{metrics_in_order};
+ghost use Rattle.cvss_c.specs.Records.{IsRecordTold};
 ghost use Rattle.cvss_c.specs.Refusals.{IsBlamed, IsKind};
 ghost use Rattle.cvss_c.specs.Scores.{AreScoresOf, nothing, version_number as number_of_version};
 
@@ -20,6 +21,7 @@ use crate::lines::put_answers;
 use crate::metrics::put_metrics;
 use crate::numbers::{NOTHING, version_number};
 use crate::reason::put_reason;
+use crate::record::put_record;
 use crate::refusal::{ACCEPTED, blamed_by, kind_of};
 use crate::{CvssMetric, CvssScores};
 use cvss::Cvss;
@@ -97,6 +99,22 @@ pub extern "C" fn cvss_without_undefined(text: &[u8], buffer: &mut [u8]) -> usiz
 {
     match Cvss::read_bytes(text) {
         Some(cvss) => put_without_undefined(&cvss, text, buffer),
+        None => 0,
+    }
+}
+
+/// The length of the record of the vector that a text denotes, the JSON object of FIRST's schema of
+/// its version, which is written into the buffer where it fits; 0 where the text denotes none. Where
+/// there was no memory for it, `out of memory` is written in its place.
+#[unsafe(no_mangle)]
+pub extern "C" fn cvss_record(alloc: Global, text: &[u8], buffer: &mut [u8]) -> usize
+    ensures { Answers text.now
+        (λ cvss. (told : List ℕ) × IsRecordTold cvss told
+        × IsWritten told buffer.old buffer.new result)
+        (IsLeft buffer.old buffer.new result) }
+{
+    match Cvss::read_bytes(text) {
+        Some(cvss) => put_record(alloc, &cvss, buffer),
         None => 0,
     }
 }

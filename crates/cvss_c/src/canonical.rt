@@ -4,8 +4,8 @@ ghost use Rattle.std.specs.Prelude.{◌≡◌, ◌≤◌, length};
 ghost use Rattle.cvss.specs.Answers.{text_of};
 ghost use Rattle.cvss.specs.Version.{canonical_text, IsComplete};
 ghost use Rattle.cvss.specs.VectorV2.{v2};
-ghost use Rattle.cvss_c.specs.Answers.{IsRead};
 ghost use Rattle.cvss_c.specs.Buffer.{HasPut};
+ghost use Rattle.cvss_c.specs.private.Steps.{IsRead};
 
 use crate::buffer::put_behind;
 use cvss::v2::Metric;

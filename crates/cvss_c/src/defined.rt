@@ -7,8 +7,9 @@ ghost use Rattle.cvss.specs.VectorV2.{v2};
 ghost use Rattle.cvss.specs.Dispatch.{DenotesCvss};
 ghost use Rattle.cvss_base.specs.private.Printing.{slashed, slashed_texts};
 ghost use Rattle.cvss_base.specs.Version.{canonical_text};
-ghost use Rattle.cvss_c.specs.Buffer.{IsWritten, Puts};
-ghost use Rattle.cvss_c.specs.Defined.{defined_component, defined_texts, text_less, text_without_undefined};
+ghost use Rattle.cvss_c.specs.Buffer.{IsWritten};
+ghost use Rattle.cvss_c.specs.Defined.{defined_component, text_less, text_without_undefined};
+ghost use Rattle.cvss_c.specs.private.Steps.{Puts, defined_texts};
 
 use crate::buffer::{put, put_behind};
 use crate::metrics::spelled;

@@ -10,7 +10,7 @@ ghost use Rattle.cvss.specs.VectorV3.{v3};
 ghost use Rattle.cvss.specs.VectorV4.{v4};
 ghost use Rattle.cvss.specs.WeightsV2 as weights_v2;
 ghost use Rattle.cvss.specs.WeightsV3 as weights_v3;
-ghost use Rattle.cvss_c.specs.Defined.{HasDefinedOf, IsPrintedAsLess};
+ghost use Rattle.cvss_c.specs.laws.DefinedParts.{HasDefinedOf, IsPrintedAsLess};
 
 use cvss::{v2, v3, v4};
 use cvss_base::walk::Components;

@@ -2,8 +2,8 @@
 
 ghost use Rattle.std.specs.Prelude.{◌≡◌, ◌≢◌, ◌+◌, ◌<◌, ◌≤◌, ℕ, ◌++◌, ◌∷◌, [], All, List, MatchOption, length};
 ghost use Rattle.cvss_c.specs.Answers.{IsAnswer};
-ghost use Rattle.cvss_c.specs.Buffer.{Puts};
-ghost use Rattle.cvss_c.specs.Lines.{AnswersLines, HasNoEnd, IsFirstEnd, ended, text_of_line};
+ghost use Rattle.cvss_c.specs.Lines.{AnswersLines, HasNoEnd, ended, text_of_line};
+ghost use Rattle.cvss_c.specs.private.Steps.{IsFirstEnd, Puts};
 
 use crate::buffer::put;
 use crate::calls::cvss_answer;

@@ -4,7 +4,7 @@ ghost use Rattle.std.specs.Prelude.{◌≡◌, ◌≤◌, ◌+◌, ◌++◌, ℕ
 ghost use Rattle.cvss.specs.ErrorText.{error_text};
 ghost use Rattle.cvss_c.specs.Answers.{IsReason, IsRefused};
 ghost use Rattle.cvss_c.specs.Buffer.{IsWritten};
-ghost use Rattle.cvss_c.specs.Reasons.{CarriesText, IsErrorTold, metric_text};
+ghost use Rattle.cvss_c.specs.private.Reasons.{CarriesText, IsErrorTold, metric_text};
 
 use crate::buffer::{put, put_both};
 use cvss::{Cvss, Error};

@@ -5,8 +5,8 @@ ghost use Rattle.cvss.specs.Tenths.{IsInTenths, IsFromZeroToTen};
 ghost use Rattle.cvss.specs.Version.{IsComplete};
 ghost use Rattle.cvss.specs.VectorV2.{v2};
 ghost use Rattle.cvss.specs.VectorV4.{v4};
-ghost use Rattle.cvss_c.specs.Answers.{IsRead};
 ghost use Rattle.cvss_c.specs.Scores.{AreScoresOf, AreScoresV2, AreScoresV3, AreScoresV4, HasBaseMetrics, IsFlag, count_of};
+ghost use Rattle.cvss_c.specs.private.Steps.{IsRead};
 
 use crate::numbers::{NOTHING, nomenclature_number, severity_number};
 use cvss::tenths::tenths_of;

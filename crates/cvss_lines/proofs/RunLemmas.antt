@@ -6,10 +6,12 @@ use Rattle.std.proofs.Math.Seq.{take-append_seam, take-add, drop-append_seam}
 use Rattle.std.specs.Prelude.{IsErrAnd}
 use Rattle.cvss_lines.specs.Answers.{Answer, IsAnswers, Rule, written_answers}
 use Rattle.cvss_lines.specs.Lines.{ended_lines, unended_piece, lines}
-use Rattle.cvss_lines.specs.Runs.{AnswersAll, AnswersEnded, AnswersFirst, AnswersCut}
+use Rattle.cvss_lines.specs.Runs.{AnswersAll, AnswersEnded, AnswersFirst, AnswersCut, Ends}
 use Rattle.cvss_lines.specs.Steps.{Counts, Writes, WritesBeginning, no_lines, number_behind}
 use Rattle.cvss_lines.specs.declared.fault.RunFault.{RunFault}
+use Rattle.cvss_lines.specs.declared.fault.RunFault.TheVariants.{Read, Write, Memory}
 use Rattle.cvss_lines.specs.declared.pending.Pending.{Pending}
+use Rattle.cvss_lines.specs.declared.summary.Summary.{Summary}
 use Rattle.cvss_lines.proofs.AnswersLemmas.{IsAnswers-append, number_behind-append, written_answers-append, Counts-append, Counts-nil, summary_of-Counts}
 use Rattle.cvss_lines.proofs.LinesLemmas.{ended_lines-append, unended_piece-append, lines-ended}
 
@@ -197,4 +199,25 @@ AnswersCut-end rule u0 u u' w0 w w' now a read end x = record {
   consumed = consumed-none u0 u u' a.input a.consumed read;
   answered = inr (end, answered-end rule a.input now.cut.items now.number a.answers x.answers a.kept a.numbered a.answered x.answered);
   appended = appended-beginning w0 w w' a.answers x.answers x.count a.appended x.appended;
+}
+
+-- a run that ends well
+pub Ends-well : (rule : Rule) (u u' w w' : Option (List ℕ)) (summary : Summary) → AnswersAll rule u u' w w' summary → Ends rule u u' w w' (Ok summary)
+Ends-well rule u u' w w' summary all = record {
+  answered = all;
+  read_fault = λ is. absurd (cc);
+  memory_fault = λ is. absurd (cc);
+  write_fault = λ is. absurd (cc);
+}
+
+-- a run that ends with the fault that a call gave
+pub Ends-fault : (rule : Rule) (u u' w w' : Option (List ℕ)) (outcome : Result Summary RunFault) (given : RunFault)
+    → IsErrAnd outcome (λ fault. fault ≡ given) → (given ≡ Read → AnswersEnded rule u u' w w')
+    → (given ≡ Memory → AnswersFirst rule u u' w w') → (given ≡ Write → AnswersCut rule u u' w w') → Ends rule u u' w w' outcome
+Ends-fault rule u u' w w' (Ok summary) given is read memory write = absurd is
+Ends-fault rule u u' w w' (Err fault) given is read memory write = record {
+  answered = tt;
+  read_fault = λ told. read (fault_is (Err fault) given Read is told);
+  memory_fault = λ told. memory (fault_is (Err fault) given Memory is told);
+  write_fault = λ told. write (fault_is (Err fault) given Write is told);
 }

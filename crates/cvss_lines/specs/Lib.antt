@@ -1,5 +1,6 @@
 pub mod Answers
 pub mod Exit
 pub mod Lines
+pub mod Requests
 pub mod Runs
 pub mod Steps

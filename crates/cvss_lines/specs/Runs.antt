@@ -1,9 +1,11 @@
 -- What a run has read and written when it ends, well or with a fault, where a rule says which answers a line
 -- has. Lines are numbered from 1.
-use Rattle.std.specs.Prelude.{◌≡◌, ℕ, ◌-◌, ◌^◌, ◌⊎◌, min, Bool, List, take, Option, count_by}
+use Rattle.std.specs.Prelude.{◌≡◌, ℕ, ◌-◌, ◌^◌, ◌⊎◌, min, Bool, List, take, Option, count_by, Result, IfOk, IsErrOf}
 use Rattle.std.specs.Io.KnownBytes.{Consumes, Appends, IsAtEnd}
 use Rattle.cvss_lines.specs.Answers.{Answer, IsAnswers, Rule, is_accepted, is_refused, written_answers}
 use Rattle.cvss_lines.specs.Lines.{lines, ended_lines}
+use Rattle.cvss_lines.specs.declared.fault.RunFault.{RunFault}
+use Rattle.cvss_lines.specs.declared.fault.RunFault.TheVariants.{Read, Write, Memory}
 use Rattle.cvss_lines.specs.declared.summary.Summary.{Summary}
 
 -- how many answers pass a test, as a `u64` that stops at its maximum
@@ -55,3 +57,11 @@ pub record AnswersCut (rule : Rule) (unread unread' written written' : Option (L
   pub answered : IsAnswers rule 1 (ended_lines input) answers
       ⊎ (IsAtEnd unread' × IsAnswers rule 1 (lines input) answers)
   pub appended : Appends written written' (take count (written_answers answers))
+
+-- how a run ends: well, or with a fault of the reader, of memory or of the writer
+pub record Ends (rule : Rule) (unread unread' written written' : Option (List ℕ)) (outcome : Result Summary RunFault)
+    : Type 0 where
+  pub answered : IfOk outcome (AnswersAll rule unread unread' written written')
+  pub read_fault : IsErrOf outcome Read → AnswersEnded rule unread unread' written written'
+  pub memory_fault : IsErrOf outcome Memory → AnswersFirst rule unread unread' written written'
+  pub write_fault : IsErrOf outcome Write → AnswersCut rule unread unread' written written'

@@ -3,6 +3,7 @@
 #![tactic(auto)]
 
 mod answering;
+mod asking;
 mod exit;
 mod fault;
 mod gathered;
@@ -15,9 +16,11 @@ mod summary;
 mod write;
 
 pub use answering::Answering;
+pub use asking::{Request, arguments, asked};
 pub use exit::exit_status;
 pub use fault::RunFault;
 pub use gathered::Gathered;
 pub use lines::first_line;
 pub use running::run;
 pub use summary::Summary;
+pub use write::write_whole;

@@ -1,5 +1,5 @@
-ghost use Rattle.std.specs.Prelude.{◌<◌, IfOk, IsErrOf, vec_len};
-ghost use Rattle.cvss_lines.specs.Runs.{AnswersAll, AnswersEnded, AnswersFirst, AnswersCut};
+ghost use Rattle.std.specs.Prelude.{◌<◌, IfOk, vec_len};
+ghost use Rattle.cvss_lines.specs.Runs.{Ends};
 
 use crate::pending::Pending;
 use crate::{Answering, RunFault, Summary};
@@ -19,14 +19,8 @@ pub fn run<A: Answering, R: Read, W: Write>(
     reader: &mut R,
     writer: &mut W,
 ) -> Result<Summary, RunFault>
-    ensures answered { IfOk result (λ summary. AnswersAll A.rule (R.remaining reader.old)
-        (R.remaining reader.new) (W.contents writer.old) (W.contents writer.new) summary) }
-    ensures read_fault { IsErrOf result RunFault.Read → AnswersEnded A.rule (R.remaining reader.old)
-        (R.remaining reader.new) (W.contents writer.old) (W.contents writer.new) }
-    ensures memory_fault { IsErrOf result RunFault.Memory → AnswersFirst A.rule (R.remaining reader.old)
-        (R.remaining reader.new) (W.contents writer.old) (W.contents writer.new) }
-    ensures write_fault { IsErrOf result RunFault.Write → AnswersCut A.rule (R.remaining reader.old)
-        (R.remaining reader.new) (W.contents writer.old) (W.contents writer.new) }
+    ensures { Ends A.rule (R.remaining reader.old) (R.remaining reader.new)
+        (W.contents writer.old) (W.contents writer.new) result }
 {
     let mut chunk = read_buffer(alloc)?;
     let mut pending = Pending::new(alloc);

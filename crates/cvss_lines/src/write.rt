@@ -5,7 +5,7 @@ use crate::RunFault;
 use std::io::Write;
 
 /// Writes all of the bytes. Where the writer fails, it has a beginning of them.
-pub(crate) fn write_whole<W: Write>(writer: &mut W, bytes: &[u8]) -> Result<(), RunFault>
+pub fn write_whole<W: Write>(writer: &mut W, bytes: &[u8]) -> Result<(), RunFault>
     ensures ok { OnOk result (Appends (W.contents writer.old) (W.contents writer.new) bytes.now) }
     ensures err { IfErr result (λ fault. (fault ≡ RunFault.Write) × ((count : ℕ)
         × Appends (W.contents writer.old) (W.contents writer.new) (take count bytes.now))) }

@@ -1,3 +1,4 @@
 mod FloatLemmas
 pub mod ObjectLemmas
+mod PointerLemmas
 mod TellingLemmas

@@ -6,3 +6,4 @@ pub mod Objects
 pub mod Places
 pub mod Record
 pub mod Steps
+pub mod laws

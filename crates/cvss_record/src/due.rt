@@ -77,11 +77,19 @@ fn is_number(due: f64, said: &Value) -> bool
 pub(crate) fn due_at(cvss: &Cvss, scores: &Scores, name: &str) -> Option<Due>
     ensures { option_map due_view result ≡ due_at cvss.now scores.now name.now }
 {
-    version_due(cvss, name)
-        .or(group_due(cvss, scores, name, Group::Base))
-        .or(group_due(cvss, scores, name, Group::Temporal))
-        .or(group_due(cvss, scores, name, Group::Environmental))
-        .or(metric_due(cvss, name))
+    if let Some(due) = version_due(cvss, name) {
+        return Some(due);
+    }
+    if let Some(due) = group_due(cvss, scores, name, Group::Base) {
+        return Some(due);
+    }
+    if let Some(due) = group_due(cvss, scores, name, Group::Temporal) {
+        return Some(due);
+    }
+    if let Some(due) = group_due(cvss, scores, name, Group::Environmental) {
+        return Some(due);
+    }
+    metric_due(cvss, name)
 }
 
 fn version_due(cvss: &Cvss, name: &str) -> Option<Due>

@@ -2,6 +2,8 @@
 #![tactic(auto)]
 
 #[cfg(test)]
+mod everything;
+#[cfg(test)]
 mod numbers;
 #[cfg(test)]
 mod places;

@@ -8,8 +8,11 @@ use std::test::Fail;
 
 const CRITICAL: &str = "CVSS:3.1/AV:N/AC:L/PR:N/UI:N/S:U/C:H/I:H/A:H";
 
+/// CVE-2021-45046, whose base score is 9.0.
+const NINE: &str = "CVSS:3.1/AV:N/AC:H/PR:N/UI:N/S:C/C:H/I:H/A:H";
+
 /// A vector, an object, and the names of the members that differ.
-const OBJECTS: [(&str, &str, &str); 22] = [
+const OBJECTS: [(&str, &str, &str); 32] = [
     (
         "CVSS:3.1/AV:N/AC:L/PR:N/UI:N/S:U/C:H/I:H/A:N",
         "{\"version\":\"3.1\",\"baseScore\":9.8,\"baseSeverity\":\"CRITICAL\",\"attackVector\":\"NETWORK\"}",
@@ -25,6 +28,20 @@ const OBJECTS: [(&str, &str, &str); 22] = [
     (CRITICAL, "{\"baseScore\":9.80}", ""),
     (CRITICAL, "{\"baseScore\":9.799999999999999}", "baseScore "),
     (CRITICAL, "{\"baseScore\":\"9.8\"}", "baseScore "),
+    (CRITICAL, "{\"baseScore\":true}", "baseScore "),
+    (CRITICAL, "{\"baseScore\":[9.8]}", "baseScore "),
+    (CRITICAL, "{\"baseScore\":9,\"baseScore\":9.8}", ""),
+    (
+        CRITICAL,
+        "{\"baseScore\":9.8,\"baseScore\":9}",
+        "baseScore ",
+    ),
+    (NINE, "{\"baseScore\":9}", ""),
+    (NINE, "{\"baseScore\":9.0}", ""),
+    (NINE, "{\"baseScore\":90e-1}", ""),
+    (NINE, "{\"baseScore\":8.999999999999999}", "baseScore "),
+    (NINE, "{\"baseScore\":\"9\"}", "baseScore "),
+    (NINE, "{\"baseScore\":-9}", "baseScore "),
     (CRITICAL, "{\"baseScore\":null}", "baseScore "),
     (CRITICAL, "{\"baseSeverity\":\"Critical\"}", "baseSeverity "),
     (

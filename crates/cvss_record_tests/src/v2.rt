@@ -1,6 +1,6 @@
 //! The members and words of CVSS v2, metric by metric.
 
-use crate::words::{Row, words_are_told};
+use crate::words::{Row, false_members_are_told, words_are_told};
 use std::test::Fail;
 
 const BASE: &str = "AV:N/AC:L/Au:N/C:N/I:N/A:C";
@@ -66,4 +66,12 @@ const ROWS: [Row; 55] = [
 #[test]
 fn words_of_v2_are_told(rt: HostRuntime) -> Result<(), Fail> {
     words_are_told(&rt, rt.alloc(), "", BASE, &ROWS)
+}
+
+/// A vector with all metrics.
+const WHOLE: &str = "AV:N/AC:L/Au:N/C:N/I:N/A:C/E:F/RL:OF/RC:C/CDP:H/TD:H/CR:M/IR:M/AR:H";
+
+#[test]
+fn false_members_of_v2_are_told(rt: HostRuntime) -> Result<(), Fail> {
+    false_members_are_told(&rt, rt.alloc(), WHOLE, 19)
 }

@@ -1,11 +1,11 @@
 //! The members and words of CVSS v3.0 and v3.1, metric by metric.
 
-use crate::words::{Row, words_are_told};
+use crate::words::{REQUIREMENTS, Row, false_members_are_told, words_are_told};
 use std::test::Fail;
 
 const BASE: &str = "AV:N/AC:L/PR:N/UI:N/S:U/C:H/I:H/A:H";
 
-const ROWS: [Row; 78] = [
+const ROWS: [Row; 66] = [
     ("AV:N", "attackVector", "NETWORK"),
     ("AV:A", "attackVector", "ADJACENT_NETWORK"),
     ("AV:L", "attackVector", "LOCAL"),
@@ -42,18 +42,6 @@ const ROWS: [Row; 78] = [
     ("RC:R", "reportConfidence", "REASONABLE"),
     ("RC:C", "reportConfidence", "CONFIRMED"),
     ("RC:X", "reportConfidence", "NOT_DEFINED"),
-    ("CR:L", "confidentialityRequirement", "LOW"),
-    ("CR:M", "confidentialityRequirement", "MEDIUM"),
-    ("CR:H", "confidentialityRequirement", "HIGH"),
-    ("CR:X", "confidentialityRequirement", "NOT_DEFINED"),
-    ("IR:L", "integrityRequirement", "LOW"),
-    ("IR:M", "integrityRequirement", "MEDIUM"),
-    ("IR:H", "integrityRequirement", "HIGH"),
-    ("IR:X", "integrityRequirement", "NOT_DEFINED"),
-    ("AR:L", "availabilityRequirement", "LOW"),
-    ("AR:M", "availabilityRequirement", "MEDIUM"),
-    ("AR:H", "availabilityRequirement", "HIGH"),
-    ("AR:X", "availabilityRequirement", "NOT_DEFINED"),
     ("MAV:N", "modifiedAttackVector", "NETWORK"),
     ("MAV:A", "modifiedAttackVector", "ADJACENT_NETWORK"),
     ("MAV:L", "modifiedAttackVector", "LOCAL"),
@@ -88,10 +76,25 @@ const ROWS: [Row; 78] = [
 
 #[test]
 fn words_of_v3_0_are_told(rt: HostRuntime) -> Result<(), Fail> {
-    words_are_told(&rt, rt.alloc(), "CVSS:3.0/", BASE, &ROWS)
+    words_are_told(&rt, rt.alloc(), "CVSS:3.0/", BASE, &ROWS)?;
+    words_are_told(&rt, rt.alloc(), "CVSS:3.0/", BASE, &REQUIREMENTS)
 }
 
 #[test]
 fn words_of_v3_1_are_told(rt: HostRuntime) -> Result<(), Fail> {
-    words_are_told(&rt, rt.alloc(), "CVSS:3.1/", BASE, &ROWS)
+    words_are_told(&rt, rt.alloc(), "CVSS:3.1/", BASE, &ROWS)?;
+    words_are_told(&rt, rt.alloc(), "CVSS:3.1/", BASE, &REQUIREMENTS)
+}
+
+/// The metrics behind the version of a vector that has all.
+const WHOLE: &str = "AV:N/AC:L/PR:N/UI:N/S:U/C:H/I:H/A:H/E:P/RL:O/RC:C/CR:H/IR:M/AR:L\
+                     /MAV:L/MAC:H/MPR:L/MUI:R/MS:C/MC:L/MI:N/MA:H";
+
+#[test]
+fn false_members_of_v3_are_told(rt: HostRuntime) -> Result<(), Fail> {
+    for version in ["CVSS:3.0", "CVSS:3.1"] {
+        let text = format!(in rt.alloc(); "{version}/{WHOLE}")?;
+        false_members_are_told(&rt, rt.alloc(), text.as_str(), 30)?;
+    }
+    Ok(())
 }

@@ -1,11 +1,11 @@
 //! The members and words of CVSS v4.0, metric by metric.
 
-use crate::words::{Row, words_are_told};
+use crate::words::{REQUIREMENTS, Row, false_members_are_told, words_are_told};
 use std::test::Fail;
 
 const BASE: &str = "AV:N/AC:L/AT:N/PR:N/UI:N/VC:L/VI:H/VA:N/SC:N/SI:N/SA:N";
 
-const ROWS: [Row; 115] = [
+const ROWS: [Row; 103] = [
     ("AV:N", "attackVector", "NETWORK"),
     ("AV:A", "attackVector", "ADJACENT"),
     ("AV:L", "attackVector", "LOCAL"),
@@ -42,18 +42,6 @@ const ROWS: [Row; 115] = [
     ("E:P", "exploitMaturity", "PROOF_OF_CONCEPT"),
     ("E:A", "exploitMaturity", "ATTACKED"),
     ("E:X", "exploitMaturity", "NOT_DEFINED"),
-    ("CR:L", "confidentialityRequirement", "LOW"),
-    ("CR:M", "confidentialityRequirement", "MEDIUM"),
-    ("CR:H", "confidentialityRequirement", "HIGH"),
-    ("CR:X", "confidentialityRequirement", "NOT_DEFINED"),
-    ("IR:L", "integrityRequirement", "LOW"),
-    ("IR:M", "integrityRequirement", "MEDIUM"),
-    ("IR:H", "integrityRequirement", "HIGH"),
-    ("IR:X", "integrityRequirement", "NOT_DEFINED"),
-    ("AR:L", "availabilityRequirement", "LOW"),
-    ("AR:M", "availabilityRequirement", "MEDIUM"),
-    ("AR:H", "availabilityRequirement", "HIGH"),
-    ("AR:X", "availabilityRequirement", "NOT_DEFINED"),
     ("MAV:N", "modifiedAttackVector", "NETWORK"),
     ("MAV:A", "modifiedAttackVector", "ADJACENT"),
     ("MAV:L", "modifiedAttackVector", "LOCAL"),
@@ -125,5 +113,17 @@ const ROWS: [Row; 115] = [
 
 #[test]
 fn words_of_v4_are_told(rt: HostRuntime) -> Result<(), Fail> {
-    words_are_told(&rt, rt.alloc(), "CVSS:4.0/", BASE, &ROWS)
+    words_are_told(&rt, rt.alloc(), "CVSS:4.0/", BASE, &ROWS)?;
+    words_are_told(&rt, rt.alloc(), "CVSS:4.0/", BASE, &REQUIREMENTS)
+}
+
+/// A vector with all metrics.
+const WHOLE: &str =
+    "CVSS:4.0/AV:N/AC:L/AT:N/PR:N/UI:N/VC:L/VI:H/VA:N/SC:N/SI:N/SA:N/E:P/CR:H/IR:M/AR:L\
+                     /MAV:L/MAC:H/MAT:P/MPR:L/MUI:P/MVC:H/MVI:L/MVA:N/MSC:L/MSI:S/MSA:N\
+                     /S:P/AU:Y/R:U/V:D/RE:L/U:Red";
+
+#[test]
+fn false_members_of_v4_are_told(rt: HostRuntime) -> Result<(), Fail> {
+    false_members_are_told(&rt, rt.alloc(), WHOLE, 36)
 }

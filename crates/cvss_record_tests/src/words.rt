@@ -10,6 +10,22 @@ use std::test::Fail;
 /// A component, the member of its metric, and the word of its value.
 pub type Row = (&'static str, &'static str, &'static str);
 
+/// The rows of the requirements, which CVSS v3 and v4.0 share.
+pub const REQUIREMENTS: [Row; 12] = [
+    ("CR:L", "confidentialityRequirement", "LOW"),
+    ("CR:M", "confidentialityRequirement", "MEDIUM"),
+    ("CR:H", "confidentialityRequirement", "HIGH"),
+    ("CR:X", "confidentialityRequirement", "NOT_DEFINED"),
+    ("IR:L", "integrityRequirement", "LOW"),
+    ("IR:M", "integrityRequirement", "MEDIUM"),
+    ("IR:H", "integrityRequirement", "HIGH"),
+    ("IR:X", "integrityRequirement", "NOT_DEFINED"),
+    ("AR:L", "availabilityRequirement", "LOW"),
+    ("AR:M", "availabilityRequirement", "MEDIUM"),
+    ("AR:H", "availabilityRequirement", "HIGH"),
+    ("AR:X", "availabilityRequirement", "NOT_DEFINED"),
+];
+
 /// The text of the vector with base metrics and this component, in whose place no other stands.
 fn text_with(alloc: Global, front: &str, base: &str, row: &Row) -> Result<String, AllocError> {
     let mut text = String::from_str(alloc, front)?;
@@ -24,7 +40,7 @@ fn text_with(alloc: Global, front: &str, base: &str, row: &Row) -> Result<String
     Ok(text)
 }
 
-fn members_of(alloc: Global, text: &str) -> Result<Map<String, Value>, Fail> {
+pub fn members_of(alloc: Global, text: &str) -> Result<Map<String, Value>, Fail> {
     let cvss = Cvss::from_str(alloc, text)?;
     match record_of(alloc, &cvss)? {
         Value::Object(members) => Ok(members),
@@ -60,13 +76,36 @@ pub fn words_are_told(
     Ok(())
 }
 
+/// A record has so many members, and where one of them is false it is the one difference; of the
+/// vector's text nothing is said.
+pub fn false_members_are_told(
+    rt: &impl Abort,
+    alloc: Global,
+    text: &str,
+    count: usize,
+) -> Result<(), Fail> {
+    let members = members_of(alloc, text)?;
+    assert!(rt; members.len() == count, "{text}");
+    for (name, _) in members.iter() {
+        let mut spoilt = members_of(alloc, text)?;
+        put(&mut spoilt, alloc, name.as_str(), Value::Bool(true))?;
+        let found = differing(alloc, text, &spoilt)?;
+        let told = match name.as_str() {
+            "vectorString" => "",
+            other => other,
+        };
+        assert!(rt; found.as_str() == told, "{told}");
+    }
+    Ok(())
+}
+
 fn is_told(rt: &impl Abort, members: &Map<String, Value>, row: &Row) {
     let told = members.get(row.1).and_then(Value::as_str);
     assert!(rt; told == Some(row.2), "{}", row.0);
 }
 
 /// The names of the members that differ, one after the other.
-fn differing(alloc: Global, text: &str, members: &Map<String, Value>) -> Result<String, Fail> {
+pub fn differing(alloc: Global, text: &str, members: &Map<String, Value>) -> Result<String, Fail> {
     let cvss = Cvss::from_str(alloc, text)?;
     let mut names = String::new(alloc);
     for difference in &differences(alloc, &cvss, members)? {

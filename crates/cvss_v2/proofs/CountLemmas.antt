@@ -14,13 +14,13 @@ product_of : (x y z : ℤ) (k m n : ℕ) → x ≡ pos k → y ≡ pos m → z �
 product_of x y z k m n is_k is_m is_n = rw (is_k, is_m, is_n) refl
 
 -- a weight of at most 1, taken from 1
-rest_is : (n : ℕ) → n ≤ 1_000_000 → (rest (n over 1_000_000)).top ≡ pos (1_000_000 - n)
-rest_is n small = omega (arith, ints)
+rest_is : (unit n : ℕ) → n ≤ unit → (rest (n over unit)).top ≡ pos (unit - n)
+rest_is unit n small = omega (arith, ints)
 
 -- the product of three such rests is at most 1
-rests_bound : (c i a : ℕ) → (1_000_000 - c) * (1_000_000 - i) * (1_000_000 - a) ≤ 10 ^ 18
-rests_bound c i a =
-    let bound : (n : ℕ) → 1_000_000 - n ≤ 1_000_000 = λ n. omega arith in
+rests_bound : (unit c i a : ℕ) → (unit - c) * (unit - i) * (unit - a) ≤ unit * unit * unit
+rests_bound unit c i a =
+    let bound : (n : ℕ) → unit - n ≤ unit = λ n. omega arith in
     mul-le-mul (mul-le-mul (bound c) (bound i)) (bound a)
 
 -- Impact as a count, of weights in millionths
@@ -29,8 +29,17 @@ pub impact_is : (count : ℤ) (c i a : ℕ) → c ≤ 1_000_000 → i ≤ 1_000_
     → of_count count ≈ impact_of (c over 1_000_000) (i over 1_000_000) (a over 1_000_000)
 impact_is count c i a small_c small_i small_a is_count =
     let rests = product_of _ _ _ (1_000_000 - c) (1_000_000 - i) (1_000_000 - a)
-    (rest_is c small_c) (rest_is i small_i) (rest_is a small_a) in
-    record { equal = omega (arith, ints, rests, rests_bound c i a) }
+    (rest_is 1_000_000 c small_c) (rest_is 1_000_000 i small_i) (rest_is 1_000_000 a small_a) in
+    record { equal = omega (arith, ints, rests, rests_bound 1_000_000 c i a) }
+
+-- Impact in 10^-11, of weights in thousandths
+pub own_impact_is : (c i a : ℕ) → c ≤ 1000 → i ≤ 1000 → a ≤ 1000
+    → ratio (pos ((10 ^ 9 - (1000 - c) * (1000 - i) * (1000 - a)) * 1041)) (10 ^ 11)
+    ≈ impact_of (thousandths c) (thousandths i) (thousandths a)
+own_impact_is c i a small_c small_i small_a =
+    let rests = product_of _ _ _ (1000 - c) (1000 - i) (1000 - a)
+    (rest_is 1000 c small_c) (rest_is 1000 i small_i) (rest_is 1000 a small_a) in
+    record { equal = omega (arith, ints, rests, rests_bound 1000 c i a) }
 
 -- f of an impact that is not 0
 f_with_impact : (top : ℤ) → top ≢ pos 0 → f_thousandths top ≡ 1176
@@ -48,6 +57,18 @@ base_rounded impact exploitability {number} some is_number same rounded =
     let is_product : ratio number (10 ^ 28) ≈ sum ⊗ thousandths 1176 = record { equal = omega (arith, ints) } in
     let is_base = subst (λ (n : ℕ). ratio number (10 ^ 28) ≈ sum ⊗ thousandths n)
     (sym (f_with_impact impact some)) is_product in
+    v2-equal (lit< tt) (lit< tt) is_base same rounded
+
+-- the base score of an impact in 10^-11 and an exploitability in 10^-9, rounded in 10^-15
+pub own_base_rounded : (impact exploitability : ℕ) {number r s : ℤ} → impact ≢ 0
+    → number ≡ (pos (6 * impact + 400 * exploitability) -ℤ pos 1_500_000_000_000) *ℤ pos 1176 → r ≡ s
+    → IsRoundedV2 (ratio number (10 ^ 15)) r
+    → IsRoundedV2 (base_number (ratio (pos impact) (10 ^ 11)) (ratio (pos exploitability) (10 ^ 9))) s
+own_base_rounded impact exploitability {number} some is_number same rounded =
+    let sum = 6 over 10 ⊗ ratio (pos impact) (10 ^ 11) ⊕ 4 over 10 ⊗ ratio (pos exploitability) (10 ^ 9) ⊖ 15 over 10 in
+    let is_product : ratio number (10 ^ 15) ≈ sum ⊗ thousandths 1176 = record { equal = omega (arith, ints) } in
+    let is_base = subst (λ (n : ℕ). ratio number (10 ^ 15) ≈ sum ⊗ thousandths n)
+    (sym (f_with_impact (pos impact) (λ zero. some (omega (arith, ints, zero))))) is_product in
     v2-equal (lit< tt) (lit< tt) is_base same rounded
 
 -- the temporal score of a base score, rounded in 10^-28

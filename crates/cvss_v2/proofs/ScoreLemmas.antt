@@ -1,30 +1,12 @@
 -- The equations give the same numbers for equal sub-scores and weights.
-use Rattle.std.proofs.Common.{◌≡◌, ℕ, ◌*◌, ◌^◌, ◌<◌, ℤ, pos, ◌*ℤ◌, arith, refl, ap, lit<, zero, suc, negsuc, subst, sym}
+use Rattle.std.proofs.Common.{◌≡◌, ℕ, ◌^◌, ◌<◌, ℤ, pos, ◌*ℤ◌, arith, refl, ap, lit<, zero, suc, negsuc, subst, sym}
 use Rattle.std.proofs.lemmas.Int.{ints}
-use Rattle.cvss_base.specs.Exact.{Exact, ◌over◌, whole, of_count, thousandths, ◌≈◌}
+use Rattle.cvss_base.specs.Exact.{Exact, ratio, ◌over◌, of_count, ◌≈◌}
 use Rattle.cvss_base.specs.Rounding.{IsRoundedV2}
-use Rattle.cvss_base.proofs.ExactLemmas.{equal_refl, equal_trans, sum_equal, difference_equal, product_equal}
+use Rattle.cvss_base.proofs.ExactLemmas.{equal_refl, sum_equal, difference_equal, product_equal}
 use Rattle.cvss_base.proofs.RoundingLemmas.{v2-equal}
 use Rattle.cvss_v2.specs.declared.weights.Weights.{Weights}
-use Rattle.cvss_v2.specs.Scores.{rest, impact_of, f_thousandths, f, base_number, impact, exploitability, IsBase, IsTemporal}
-
-rest_equal : {x x' : Exact} → x ≈ x' → rest x ≈ rest x'
-rest_equal same = difference_equal (equal_refl (whole 1)) same
-
-impact_of_equal : {c c' i i' a a' : Exact} → c ≈ c' → i ≈ i' → a ≈ a' → impact_of c i a ≈ impact_of c' i' a'
-impact_of_equal same_c same_i same_a =
-    let rests = product_equal (product_equal (rest_equal same_c) (rest_equal same_i)) (rest_equal same_a) in
-    product_equal (equal_refl (1041 over 100)) (rest_equal rests)
-
--- Impact may be taken of weights in millionths
-pub impact_in_millionths : (w : Weights) {count n : ℤ} → count ≡ n
-    → of_count n
-    ≈ impact_of ((w.c * 1000) over 1_000_000) ((w.i * 1000) over 1_000_000) ((w.a * 1000) over 1_000_000)
-    → of_count count ≈ impact w
-impact_in_millionths w {count} {n} is_n of_millionths =
-    let same : (n : ℕ) → (n * 1000) over 1_000_000 ≈ thousandths n = λ n. record { equal = omega (arith, ints) } in
-    let is_impact = equal_trans (lit< tt) of_millionths (impact_of_equal (same w.c) (same w.i) (same w.a)) in
-    subst (λ (m : ℤ). of_count m ≈ impact w) (sym is_n) is_impact
+use Rattle.cvss_v2.specs.Scores.{f_thousandths, f, base_number, impact, exploitability, IsBase, IsTemporal}
 
 -- the tops of equal numbers are both 0 or both not
 f_thousandths_equal : (m n : ℤ) (p q : ℕ) → 0 < p → 0 < q → m *ℤ pos q ≡ n *ℤ pos p
@@ -76,3 +58,11 @@ base_of_counts w impact i exploitable x is_exploitability rounded same_i same_x 
     let x_is = subst (λ (m : ℤ). of_count m ≈ exploitability w) (sym same_x) is_exploitability in
     let i_is : of_count i ≈ of_count impact = record { equal = ap (λ m. m *ℤ pos (10 ^ 24)) same_i } in
     v2-equal (lit< tt) (lit< tt) (base_number_equal (lit< tt) (lit< tt) i_is x_is) same_tenths rounded
+
+-- and of an impact in 10^-11 and an exploitability in 10^-9
+pub own_base_is : (w : Weights) (i x : ℕ) {r s : ℤ} → ratio (pos i) (10 ^ 11) ≈ impact w
+    → ratio (pos x) (10 ^ 9) ≈ exploitability w
+    → IsRoundedV2 (base_number (ratio (pos i) (10 ^ 11)) (ratio (pos x) (10 ^ 9))) r → r ≡ s
+    → IsBase w (impact w) s
+own_base_is w i x is_impact is_exploitability rounded same_tenths =
+    v2-equal (lit< tt) (lit< tt) (base_number_equal (lit< tt) (lit< tt) is_impact is_exploitability) same_tenths rounded

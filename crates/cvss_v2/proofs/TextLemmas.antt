@@ -11,7 +11,7 @@ use Rattle.cvss_base.specs.Version.{canonical_text, Denotes, IsComplete}
 use Rattle.cvss_base.proofs.CanonicalLemmas.{canonical_text-denotes, denoted_once}
 use Rattle.cvss_v2.specs.declared.vector.Vector.{Vector}
 use Rattle.cvss_v2.specs.Vector.{v2}
-use Rattle.cvss_v2.specs.VectorLaws.{v2_is_lawful}
+use Rattle.cvss_v2.specs.private.VectorLaws.{v2_is_lawful}
 
 pub own_text : (vector : Vector) → Denotes v2 (canonical_text v2 vector) vector
 own_text = canonical_text-denotes v2 v2_is_lawful

@@ -2,13 +2,12 @@
 use Rattle.std.specs.Prelude.{codes, option_map, unwrap_or, IfSome}
 use Rattle.std.proofs.Common.{◌≡◌, inl, inr, Option, Some, None, refl, sym, ap, ◌∙◌}
 use Rattle.cvss_base.specs.declared.v2.MetricType.{MetricType}
-use Rattle.cvss_base.specs.declared.v2.MetricType.TheVariants.{A, AC, AV, Au, C, I, E, RL, RC, CDP, TD, CR, IR, AR}
 use Rattle.cvss_v2.specs.declared.vector.Vector.{Vector}
-use Rattle.cvss_v2.specs.ScoreLaws.{DefineTheSame}
+use Rattle.cvss_v2.specs.laws.NotDefined.{DefineTheSame}
 use Rattle.cvss_v2.specs.Table.{Value, spelling_of, weight_of, absent_weight}
-use Rattle.cvss_v2.specs.TableLaws.{not_defined_weight}
+use Rattle.cvss_v2.specs.private.TableLaws.{not_defined_weight}
 use Rattle.cvss_v2.specs.Vector.{value_at}
-use Rattle.cvss_v2.specs.Weights.{weight_in, weights_of}
+use Rattle.cvss_v2.specs.Weights.{weight_in, weights_by, weights_of}
 
 undefined_weight : (kind : MetricType) (held : Option (Value kind)) → IfSome held (λ value. spelling_of kind value ≡ codes "ND")
     → unwrap_or (option_map (weight_of kind) held) (absent_weight kind) ≡ absent_weight kind
@@ -22,19 +21,4 @@ one_weight v w same kind = elim (same kind) [
 ]
 
 pub one_weights : (v w : Vector) → DefineTheSame v w → weights_of v ≡ weights_of w
-one_weights v w same =
-    let av = one_weight v w same AV in
-    let ac = one_weight v w same AC in
-    let au = one_weight v w same Au in
-    let c = one_weight v w same C in
-    let i = one_weight v w same I in
-    let a = one_weight v w same A in
-    let e = one_weight v w same E in
-    let rl = one_weight v w same RL in
-    let rc = one_weight v w same RC in
-    let cdp = one_weight v w same CDP in
-    let td = one_weight v w same TD in
-    let cr = one_weight v w same CR in
-    let ir = one_weight v w same IR in
-    let ar = one_weight v w same AR in
-    cc
+one_weights v w same = λ i. weights_by (λ kind. one_weight v w same kind i)

@@ -1,5 +1,5 @@
 -- The equations of the CVSS v2 guide: base (3.2.1), temporal (3.2.2) and environmental (3.2.3).
-use Rattle.std.specs.Prelude.{◌≡◌, ◌*◌, ◌^◌, ◌≤ℤ◌, ℕ, zero, ℤ, pos, negsuc, ◌*ℤ◌}
+use Rattle.std.specs.Prelude.{◌≡◌, ◌^◌, ℕ, zero, ℤ, pos, ◌*ℤ◌}
 use Rattle.std.specs.Int.{int_max}
 use Rattle.cvss_base.specs.Exact.{Exact, ◌over◌, whole, thousandths, tenths, ◌⊕◌, ◌⊖◌, ◌⊗◌, smaller}
 use Rattle.cvss_base.specs.Rounding.{IsRoundedV2}
@@ -109,13 +109,3 @@ IsTemporalScore = IsTemporalScoreBy IsRoundedV2
 -- the count is the published environmental score
 abbrev pub IsEnvironmentalScore : Weights → ℤ → Type 0
 IsEnvironmentalScore = IsEnvironmentalScoreBy IsRoundedV2
-
--- so many tenths, from -1.8 to 10, where the numbers lie before they are raised to 0
-pub record IsOnScale (r : ℤ) : Type 0 where
-  pub low : negsuc 17 ≤ℤ r
-  pub high : r ≤ℤ pos 100
-
--- a count from 0 to 10.001, as each Impact is
-pub record IsImpactCount (count : ℤ) : Type 0 where
-  pub from_zero : pos 0 ≤ℤ count
-  pub to_highest : count ≤ℤ pos (10_001 * 10 ^ 21)

@@ -1,7 +1,8 @@
 -- The metrics of CVSS v2, by the tables of the guide: section 2.1 (base), 2.2 (temporal) and 2.3
 -- (environmental) for the values and their spellings, section 3.2 for their weights.
-use Rattle.std.specs.Prelude.{ℕ, List, [], ◌∷◌, codes}
-use Rattle.cvss_base.specs.laws.Order.{place_in}
+use Rattle.std.specs.Prelude.{ℕ, List, [], ◌∷◌, codes, slice_get, unwrap_or, find}
+use Rattle.std.specs.Option.{option_map_or}
+use Rattle.std.specs.Str.{bytes_eq}
 use Rattle.cvss_base.specs.Text.{component}
 use Rattle.cvss_base.specs.V2Types.{name_of}
 use Rattle.cvss_base.specs.declared.v2.MetricType.{MetricType}
@@ -52,126 +53,55 @@ Value CR = ConfidentialityRequirement
 Value IR = IntegrityRequirement
 Value AR = AvailabilityRequirement
 
--- all values of a metric, in the order in which they are compared
-abbrev pub values_of : (kind : MetricType) → List (Value kind)
-values_of AV = access_vector.Local ∷ access_vector.AdjacentNetwork ∷ access_vector.Network ∷ []
-values_of AC = access_complexity.High ∷ access_complexity.Medium ∷ access_complexity.Low ∷ []
-values_of Au = authentication.Multiple ∷ authentication.Single ∷ authentication.None ∷ []
-values_of C = confidentiality_impact.None ∷ confidentiality_impact.Partial ∷ confidentiality_impact.Complete ∷ []
-values_of I = integrity_impact.None ∷ integrity_impact.Partial ∷ integrity_impact.Complete ∷ []
-values_of A = availability_impact.None ∷ availability_impact.Partial ∷ availability_impact.Complete ∷ []
-values_of E = exploitability.Unproven ∷ exploitability.ProofOfConcept ∷ exploitability.Functional ∷ exploitability.High ∷ exploitability.NotDefined ∷ []
-values_of RL = remediation_level.OfficialFix ∷ remediation_level.TemporaryFix ∷ remediation_level.Workaround ∷ remediation_level.Unavailable ∷ remediation_level.NotDefined ∷ []
-values_of RC = report_confidence.Unconfirmed ∷ report_confidence.Uncorroborated ∷ report_confidence.Confirmed ∷ report_confidence.NotDefined ∷ []
-values_of CDP = collateral_damage_potential.None ∷ collateral_damage_potential.Low ∷ collateral_damage_potential.LowMedium ∷ collateral_damage_potential.MediumHigh ∷ collateral_damage_potential.High ∷ collateral_damage_potential.NotDefined ∷ []
-values_of TD = target_distribution.None ∷ target_distribution.Low ∷ target_distribution.Medium ∷ target_distribution.High ∷ target_distribution.NotDefined ∷ []
-values_of CR = confidentiality_requirement.Low ∷ confidentiality_requirement.Medium ∷ confidentiality_requirement.High ∷ confidentiality_requirement.NotDefined ∷ []
-values_of IR = integrity_requirement.Low ∷ integrity_requirement.Medium ∷ integrity_requirement.High ∷ integrity_requirement.NotDefined ∷ []
-values_of AR = availability_requirement.Low ∷ availability_requirement.Medium ∷ availability_requirement.High ∷ availability_requirement.NotDefined ∷ []
+-- how each value of a metric is spelled, and its weight in thousandths, the least value first
+abbrev pub rows_of : MetricType → List (List ℕ × ℕ)
+rows_of AV = (codes "L", 395) ∷ (codes "A", 646) ∷ (codes "N", 1000) ∷ []
+rows_of AC = (codes "H", 350) ∷ (codes "M", 610) ∷ (codes "L", 710) ∷ []
+rows_of Au = (codes "M", 450) ∷ (codes "S", 560) ∷ (codes "N", 704) ∷ []
+rows_of C = (codes "N", 0) ∷ (codes "P", 275) ∷ (codes "C", 660) ∷ []
+rows_of I = (codes "N", 0) ∷ (codes "P", 275) ∷ (codes "C", 660) ∷ []
+rows_of A = (codes "N", 0) ∷ (codes "P", 275) ∷ (codes "C", 660) ∷ []
+rows_of E = (codes "U", 850) ∷ (codes "POC", 900) ∷ (codes "F", 950) ∷ (codes "H", 1000) ∷ (codes "ND", 1000) ∷ []
+rows_of RL = (codes "OF", 870) ∷ (codes "TF", 900) ∷ (codes "W", 950) ∷ (codes "U", 1000) ∷ (codes "ND", 1000) ∷ []
+rows_of RC = (codes "UC", 900) ∷ (codes "UR", 950) ∷ (codes "C", 1000) ∷ (codes "ND", 1000) ∷ []
+rows_of CDP = (codes "N", 0) ∷ (codes "L", 100) ∷ (codes "LM", 300) ∷ (codes "MH", 400) ∷ (codes "H", 500) ∷ (codes "ND", 0) ∷ []
+rows_of TD = (codes "N", 0) ∷ (codes "L", 250) ∷ (codes "M", 750) ∷ (codes "H", 1000) ∷ (codes "ND", 1000) ∷ []
+rows_of CR = (codes "L", 500) ∷ (codes "M", 1000) ∷ (codes "H", 1510) ∷ (codes "ND", 1000) ∷ []
+rows_of IR = (codes "L", 500) ∷ (codes "M", 1000) ∷ (codes "H", 1510) ∷ (codes "ND", 1000) ∷ []
+rows_of AR = (codes "L", 500) ∷ (codes "M", 1000) ∷ (codes "H", 1510) ∷ (codes "ND", 1000) ∷ []
 
--- how a value is spelled, and its weight in thousandths
-abbrev pub row_of : (kind : MetricType) → Value kind → List ℕ × ℕ
-row_of AV access_vector.Local = (codes "L", 395)
-row_of AV access_vector.AdjacentNetwork = (codes "A", 646)
-row_of AV access_vector.Network = (codes "N", 1000)
-row_of AC access_complexity.High = (codes "H", 350)
-row_of AC access_complexity.Medium = (codes "M", 610)
-row_of AC access_complexity.Low = (codes "L", 710)
-row_of Au authentication.Multiple = (codes "M", 450)
-row_of Au authentication.Single = (codes "S", 560)
-row_of Au authentication.None = (codes "N", 704)
-row_of C confidentiality_impact.None = (codes "N", 0)
-row_of C confidentiality_impact.Partial = (codes "P", 275)
-row_of C confidentiality_impact.Complete = (codes "C", 660)
-row_of I integrity_impact.None = (codes "N", 0)
-row_of I integrity_impact.Partial = (codes "P", 275)
-row_of I integrity_impact.Complete = (codes "C", 660)
-row_of A availability_impact.None = (codes "N", 0)
-row_of A availability_impact.Partial = (codes "P", 275)
-row_of A availability_impact.Complete = (codes "C", 660)
-row_of E exploitability.Unproven = (codes "U", 850)
-row_of E exploitability.ProofOfConcept = (codes "POC", 900)
-row_of E exploitability.Functional = (codes "F", 950)
-row_of E exploitability.High = (codes "H", 1000)
-row_of E exploitability.NotDefined = (codes "ND", 1000)
-row_of RL remediation_level.OfficialFix = (codes "OF", 870)
-row_of RL remediation_level.TemporaryFix = (codes "TF", 900)
-row_of RL remediation_level.Workaround = (codes "W", 950)
-row_of RL remediation_level.Unavailable = (codes "U", 1000)
-row_of RL remediation_level.NotDefined = (codes "ND", 1000)
-row_of RC report_confidence.Unconfirmed = (codes "UC", 900)
-row_of RC report_confidence.Uncorroborated = (codes "UR", 950)
-row_of RC report_confidence.Confirmed = (codes "C", 1000)
-row_of RC report_confidence.NotDefined = (codes "ND", 1000)
-row_of CDP collateral_damage_potential.None = (codes "N", 0)
-row_of CDP collateral_damage_potential.Low = (codes "L", 100)
-row_of CDP collateral_damage_potential.LowMedium = (codes "LM", 300)
-row_of CDP collateral_damage_potential.MediumHigh = (codes "MH", 400)
-row_of CDP collateral_damage_potential.High = (codes "H", 500)
-row_of CDP collateral_damage_potential.NotDefined = (codes "ND", 0)
-row_of TD target_distribution.None = (codes "N", 0)
-row_of TD target_distribution.Low = (codes "L", 250)
-row_of TD target_distribution.Medium = (codes "M", 750)
-row_of TD target_distribution.High = (codes "H", 1000)
-row_of TD target_distribution.NotDefined = (codes "ND", 1000)
-row_of CR confidentiality_requirement.Low = (codes "L", 500)
-row_of CR confidentiality_requirement.Medium = (codes "M", 1000)
-row_of CR confidentiality_requirement.High = (codes "H", 1510)
-row_of CR confidentiality_requirement.NotDefined = (codes "ND", 1000)
-row_of IR integrity_requirement.Low = (codes "L", 500)
-row_of IR integrity_requirement.Medium = (codes "M", 1000)
-row_of IR integrity_requirement.High = (codes "H", 1510)
-row_of IR integrity_requirement.NotDefined = (codes "ND", 1000)
-row_of AR availability_requirement.Low = (codes "L", 500)
-row_of AR availability_requirement.Medium = (codes "M", 1000)
-row_of AR availability_requirement.High = (codes "H", 1510)
-row_of AR availability_requirement.NotDefined = (codes "ND", 1000)
+-- the place of a value among the rows of its metric
+abbrev pub rank_of : (kind : MetricType) → Value kind → ℕ
+rank_of AV = elim [ access_vector.Local ↦ 0 | access_vector.AdjacentNetwork ↦ 1 | access_vector.Network ↦ 2 ]
+rank_of AC = elim [ access_complexity.High ↦ 0 | access_complexity.Medium ↦ 1 | access_complexity.Low ↦ 2 ]
+rank_of Au = elim [ authentication.Multiple ↦ 0 | authentication.Single ↦ 1 | authentication.None ↦ 2 ]
+rank_of C = elim [ confidentiality_impact.None ↦ 0 | confidentiality_impact.Partial ↦ 1 | confidentiality_impact.Complete ↦ 2 ]
+rank_of I = elim [ integrity_impact.None ↦ 0 | integrity_impact.Partial ↦ 1 | integrity_impact.Complete ↦ 2 ]
+rank_of A = elim [ availability_impact.None ↦ 0 | availability_impact.Partial ↦ 1 | availability_impact.Complete ↦ 2 ]
+rank_of E = elim [ exploitability.Unproven ↦ 0 | exploitability.ProofOfConcept ↦ 1 | exploitability.Functional ↦ 2 | exploitability.High ↦ 3 | exploitability.NotDefined ↦ 4 ]
+rank_of RL = elim [ remediation_level.OfficialFix ↦ 0 | remediation_level.TemporaryFix ↦ 1 | remediation_level.Workaround ↦ 2 | remediation_level.Unavailable ↦ 3 | remediation_level.NotDefined ↦ 4 ]
+rank_of RC = elim [ report_confidence.Unconfirmed ↦ 0 | report_confidence.Uncorroborated ↦ 1 | report_confidence.Confirmed ↦ 2 | report_confidence.NotDefined ↦ 3 ]
+rank_of CDP = elim [ collateral_damage_potential.None ↦ 0 | collateral_damage_potential.Low ↦ 1 | collateral_damage_potential.LowMedium ↦ 2 | collateral_damage_potential.MediumHigh ↦ 3 | collateral_damage_potential.High ↦ 4 | collateral_damage_potential.NotDefined ↦ 5 ]
+rank_of TD = elim [ target_distribution.None ↦ 0 | target_distribution.Low ↦ 1 | target_distribution.Medium ↦ 2 | target_distribution.High ↦ 3 | target_distribution.NotDefined ↦ 4 ]
+rank_of CR = elim [ confidentiality_requirement.Low ↦ 0 | confidentiality_requirement.Medium ↦ 1 | confidentiality_requirement.High ↦ 2 | confidentiality_requirement.NotDefined ↦ 3 ]
+rank_of IR = elim [ integrity_requirement.Low ↦ 0 | integrity_requirement.Medium ↦ 1 | integrity_requirement.High ↦ 2 | integrity_requirement.NotDefined ↦ 3 ]
+rank_of AR = elim [ availability_requirement.Low ↦ 0 | availability_requirement.Medium ↦ 1 | availability_requirement.High ↦ 2 | availability_requirement.NotDefined ↦ 3 ]
+
+-- a value's row
+abbrev row_of : (kind : MetricType) → Value kind → List ℕ × ℕ
+row_of kind value = unwrap_or (slice_get (rows_of kind) (rank_of kind value)) ([], 0)
 
 -- how the value is spelled
 abbrev pub spelling_of : (kind : MetricType) → Value kind → List ℕ
 spelling_of kind value = (row_of kind value).0
 
--- the value's place among all values of its metric
-abbrev pub rank_of : (kind : MetricType) → Value kind → ℕ
-rank_of kind value = place_in (spelling_of kind) (values_of kind) value
-
 -- the value's weight, in thousandths
 abbrev pub weight_of : (kind : MetricType) → Value kind → ℕ
 weight_of kind value = (row_of kind value).1
 
--- the greatest weight of a metric's values
-abbrev pub greatest_weight : MetricType → ℕ
-greatest_weight AV = 1000
-greatest_weight AC = 710
-greatest_weight Au = 704
-greatest_weight C = 660
-greatest_weight I = 660
-greatest_weight A = 660
-greatest_weight E = 1000
-greatest_weight RL = 1000
-greatest_weight RC = 1000
-greatest_weight CDP = 500
-greatest_weight TD = 1000
-greatest_weight CR = 1510
-greatest_weight IR = 1510
-greatest_weight AR = 1510
-
--- the weight of an absent metric: nothing in the base group, and else that of Not Defined
+-- the weight of an absent metric: that of Not Defined, where the metric has this value
 abbrev pub absent_weight : MetricType → ℕ
-absent_weight AV = 0
-absent_weight AC = 0
-absent_weight Au = 0
-absent_weight C = 0
-absent_weight I = 0
-absent_weight A = 0
-absent_weight E = weight_of E exploitability.NotDefined
-absent_weight RL = weight_of RL remediation_level.NotDefined
-absent_weight RC = weight_of RC report_confidence.NotDefined
-absent_weight CDP = weight_of CDP collateral_damage_potential.NotDefined
-absent_weight TD = weight_of TD target_distribution.NotDefined
-absent_weight CR = weight_of CR confidentiality_requirement.NotDefined
-absent_weight IR = weight_of IR integrity_requirement.NotDefined
-absent_weight AR = weight_of AR availability_requirement.NotDefined
+absent_weight kind = option_map_or (λ row. row.1) (find (λ row. bytes_eq row.0 (codes "ND")) (rows_of kind)) 0
 
 -- the metric's name, a colon and the value's spelling
 abbrev pub metric_component : (kind : MetricType) → Value kind → List ℕ

@@ -2,17 +2,17 @@
 ghost use Rattle.std.specs.Prelude.{◌≡◌, ◌*◌, ◌^◌, ◌≤◌, ◌≤ℤ◌, ◌*ℤ◌, ◌/◌, ◌<◌, pos, neg_ℤ};
 ghost use Rattle.cvss_base.specs.Exact.{ratio, ◌over◌, whole, thousandths, tenths, of_count, ◌⊗◌, ◌≈◌, smaller, IsWithinLimit};
 ghost use Rattle.cvss_base.specs.Rounding.{IsRoundedV2};
-ghost use Rattle.cvss_v2.specs.Scores.{impact_of, base_number, temporal_number, environmental_number, IsImpactCount, IsOnScale};
+ghost use Rattle.cvss_v2.specs.Scores.{impact_of, base_number, temporal_number, environmental_number};
+ghost use Rattle.cvss_v2.specs.private.Bounds.{IsImpactCount, IsOnScale};
 
 use cvss_base::ONE;
 
 /// Impact in 10^-24, of three weights in millionths.
-pub fn impact_count(c: u64, i: u64, a: u64) -> i128
+fn impact_count(c: u64, i: u64, a: u64) -> i128
     requires c { c ≤ 1_000_000 }
     requires i { i ≤ 1_000_000 }
     requires a { a ≤ 1_000_000 }
     ensures value { of_count result ≈ impact_of (c over 1_000_000) (i over 1_000_000) (a over 1_000_000) }
-    ensures bound { c ≤ 660_000 → i ≤ 660_000 → a ≤ 660_000 → IsImpactCount result }
     ensures low { pos 0 ≤ℤ result }
 {
     let rests = (1_000_000 - c) * (1_000_000 - i) * (1_000_000 - a);
@@ -29,18 +29,6 @@ pub fn adjusted_impact_count(c: u64, i: u64, a: u64) -> i128
     ensures bound { IsImpactCount result }
 {
     impact_count(c, i, a).min(10 * ONE)
-}
-
-/// Exploitability in 10^-24, of three weights in thousandths.
-pub fn exploitability_count(av: u64, ac: u64, au: u64) -> i128
-    requires av { av ≤ 1000 }
-    requires ac { ac ≤ 710 }
-    requires au { au ≤ 704 }
-    ensures value { of_count result ≈ whole 20 ⊗ thousandths av ⊗ thousandths ac ⊗ thousandths au }
-    ensures low { pos 0 ≤ℤ result }
-    ensures high { result ≤ℤ pos (10 ^ 25) }
-{
-    (av * ac * au) as i128 * 20_000_000_000_000_000
 }
 
 /// The base score in tenths, of an impact and an exploitability in 10^-24.

@@ -6,7 +6,7 @@ ghost use Rattle.std.specs.Ordering.{int_cmp};
 ghost use Rattle.cvss_base.specs.laws.Equality.{EqualsByValue, ClonesByValue};
 ghost use Rattle.cvss_base.specs.Exact.{of_count};
 ghost use Rattle.cvss_base.specs.Version.{canonical_text, Denotes};
-ghost use Rattle.cvss_v2.specs.ScoreLaws.{DefineTheSame};
+ghost use Rattle.cvss_v2.specs.laws.NotDefined.{DefineTheSame};
 ghost use Rattle.cvss_base.specs.laws.Rounding.{IsOneCount};
 ghost use Rattle.cvss_v2.specs.Scores.{IsTemporal, IsBaseScore, IsTemporalScore, IsEnvironmentalScore, IsBaseScoreBy, IsTemporalScoreBy, IsEnvironmentalScoreBy};
 ghost use Rattle.cvss_base.specs.Rounding.{IsNearestAway};

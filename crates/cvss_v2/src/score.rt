@@ -6,7 +6,7 @@ ghost use Rattle.cvss_base.specs.Exact.{of_count, IsWithinLimit};
 ghost use Rattle.cvss_base.specs.Rounding.{IsRoundedV2};
 ghost use Rattle.cvss_base.specs.ScoreText.{score_text};
 ghost use Rattle.cvss_v2.specs.Rating.{rating_of};
-ghost use Rattle.cvss_v2.specs.Scores.{IsOnScale};
+ghost use Rattle.cvss_v2.specs.private.Bounds.{IsOnScale};
 ghost use Rattle.cvss_base.specs.Tenths.{IsInTenths, IsFromZeroToTen};
 
 use crate::equations;

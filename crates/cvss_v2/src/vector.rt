@@ -2,7 +2,6 @@
 
 ghost use Rattle.std.specs.Prelude.{◌≡◌, ◌↔◌, IsTrue, IfSome, IsSome, IfOk, IfErr, IsErrAnd, Some, Ok};
 
-mod listing;
 mod printing;
 mod reading;
 mod refusing;
@@ -22,7 +21,7 @@ use cvss_base::Error;
 use cvss_base::print::same_components;
 use cvss_base::refusing::vector_of;
 use cvss_base::walk::read_vector;
-pub use listing::Metrics;
+pub use printing::Metrics;
 use std::alloc::Global;
 
 /// A vector of CVSS v2 (guide, section 2.4): at most one value for each metric.

@@ -1,11 +1,11 @@
 //! The scores of the guide over the weights of a vector's metrics.
-ghost use Rattle.std.specs.Prelude.{◌≡◌, ◌^◌, ◌≤ℤ◌, pos, neg_ℤ};
+ghost use Rattle.std.specs.Prelude.{◌≡◌, ◌^◌, ◌≤◌, ◌≤ℤ◌, ◌*ℤ◌, pos, neg_ℤ};
 ghost use Rattle.cvss_base.specs.Exact.{of_count, ◌≈◌, IsWithinLimit};
-ghost use Rattle.cvss_v2.specs.Scores.{impact, adjusted_impact, exploitability, IsBase, IsTemporal, IsBaseScore, IsTemporalScore, IsEnvironmentalScore, IsImpactCount, IsOnScale};
+ghost use Rattle.cvss_v2.specs.Scores.{impact, adjusted_impact, exploitability, IsBase, IsTemporal, IsBaseScore, IsTemporalScore, IsEnvironmentalScore};
 ghost use Rattle.cvss_base.specs.Tenths.{IsInTenths, IsFromZeroToTen};
-ghost use Rattle.cvss_v2.specs.Weights.{IsFromTable};
+ghost use Rattle.cvss_v2.specs.private.Bounds.{IsFromTable, IsImpactCount, IsOnScale};
 
-use crate::{Score, equations};
+use crate::{Score, base_score, equations};
 
 /// The weights of a vector's metrics in thousandths, by their short names.
 #[derive(Clone, Copy)]
@@ -33,7 +33,8 @@ impl Weights {
         ensures value { of_count result ≈ impact self.now }
         ensures bound { IsImpactCount result }
     {
-        Score::new(equations::impact_count(self.c * 1000, self.i * 1000, self.a * 1000))
+        let impact = base_score::impact(self.c, self.i, self.a);
+        Score::new(i128::from(impact) * 10_000_000_000_000)
     }
 
     /// The impact sub-score with the requirements, which is exact and at most 10.
@@ -56,7 +57,8 @@ impl Weights {
         ensures low { pos 0 ≤ℤ result }
         ensures high { result ≤ℤ pos (10 ^ 25) }
     {
-        Score::new(equations::exploitability_count(self.av, self.ac, self.au))
+        let exploitability = base_score::exploitability(self.av, self.ac, self.au);
+        Score::new(i128::from(exploitability) * 1_000_000_000_000_000)
     }
 
     /// The base score of an impact, in tenths.
@@ -83,13 +85,27 @@ impl Weights {
         equations::temporal_tenths(self.base(impact), self.e, self.rl, self.rc)
     }
 
-    /// The base score.
-    pub fn score(&self) -> Score
+    /// The base score in tenths, before it is raised to 0.
+    #[inline(always)]
+    fn own_base(&self) -> i64
         requires { IsFromTable self.now }
-        ensures value { IsBaseScore self.now result }
-        ensures range { IsInTenths IsFromZeroToTen result }
+        ensures value { IsBase self.now (impact self.now) result }
+        ensures on_scale { IsOnScale result }
     {
-        Score::published(self.base(self.impact()))
+        base_score::tenths(
+            base_score::impact(self.c, self.i, self.a),
+            base_score::exploitability(self.av, self.ac, self.au),
+        )
+    }
+
+    /// The base score in tenths.
+    #[inline(always)]
+    pub fn tenths(&self) -> u8
+        requires { IsFromTable self.now }
+        ensures value { IsBaseScore self.now (pos result *ℤ pos (10 ^ 23)) }
+        ensures to_ten { result ≤ 100 }
+    {
+        self.own_base().max(0) as u8
     }
 
     /// The temporal score.

@@ -10,12 +10,12 @@ use Rattle.cvss_v3.proofs.SubScoreLemmas.{exploitabilities, exploitability_liste
 use Rattle.cvss_v3.proofs.CountLemmas.{iss_is, miss_is, miss_is_listed}
 use Rattle.cvss_v3.proofs.CutLemmas.{cut_is}
 use Rattle.cvss_v3.proofs.RoundLemmas.{rounded_v31}
-use Rattle.cvss_v3.specs.FifthDecimals.{IsSameWhenCut}
-use Rattle.cvss_v3.specs.Weights.{IsFromTable}
+use Rattle.cvss_v3.specs.laws.FifthDecimals.{IsSameWhenCut}
+use Rattle.cvss_v3.specs.private.Weights.{IsFromTable}
 use Rattle.cvss_v3.specs.declared.weights.Weights.{Weights}
 use Rattle.cvss_v3.specs.Certainty.{IsCertain}
 use Rattle.cvss_v3.specs.Scores.{unchanged_impact, changed_impact, changed_modified_impact, impact_of, modified_impact_of, first_number, exploitability, modified_exploitability, base_number, environmental_number, IsRounded}
-use Rattle.cvss_v3.specs.SubScores.{IsSubScore}
+use Rattle.cvss_v3.specs.private.SubScores.{IsSubScore}
 use Rattle.cvss_v3.proofs.EqualLemmas.{sign_equal, first_bottom}
 use Rattle.cvss_v3.proofs.FormulaLemmas.{IsSettledFormula, unchanged_formula, changed_formula, changed_modified_formula}
 use Rattle.cvss_v3.proofs.NumberLemmas.{no_number, no_impact, settled_certain, settled_same_when_cut}

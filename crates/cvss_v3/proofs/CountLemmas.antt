@@ -9,8 +9,8 @@ use Rattle.cvss_base.proofs.ExactLemmas.{equal_refl, equal_trans, difference_equ
 use Rattle.cvss_v3.proofs.CapLemmas.{by_smaller}
 use Rattle.cvss_v3.specs.declared.weights.Weights.{Weights}
 use Rattle.cvss_v3.specs.Scores.{hundredths, rest, sub_score_of, exploitability_of, iss, miss}
-use Rattle.cvss_v3.specs.SubScores.{weighted_impacts, IsSubScore}
-use Rattle.cvss_v3.specs.Weights.{impacts, requirements, IsFromTable}
+use Rattle.cvss_v3.specs.private.SubScores.{weighted_impacts, IsSubScore}
+use Rattle.cvss_v3.specs.private.Weights.{impacts, requirements, exploit_code_maturities, remediation_levels, report_confidences, IsFromTable}
 use Rattle.cvss_v3.proofs.SubScoreLemmas.{millionths_of, weight_bound, weighted_listed, weighted_whole, miss_listed}
 
 -- three factors that are known
@@ -80,8 +80,10 @@ miss_parts c i a w is_c is_i is_a =
     rest_equal (product_equal (product_equal (rest_equal is_c) (rest_equal is_i)) (rest_equal is_a))
 
 -- the product of E, RL and RC
-pub three_bound : (e rl rc : ℕ) → e ≤ 100 → rl ≤ 100 → rc ≤ 100 → e * rl * rc ≤ 10 ^ 6
-three_bound e rl rc small_e small_rl small_rc = mul-le-mul (mul-le-mul small_e small_rl) small_rc
+pub temporal_bound : (w : Weights) → IsFromTable w → w.e * w.rl * w.rc ≤ 10 ^ 6
+temporal_bound w table =
+    mul-le-mul (mul-le-mul (weight_bound exploit_code_maturities w.e 100 refl table.e)
+    (weight_bound remediation_levels w.rl 100 refl table.rl)) (weight_bound report_confidences w.rc 100 refl table.rc)
 
 -- so many tenths times it, in 10^-13
 pub temporal_is : (r e rl rc : ℕ)

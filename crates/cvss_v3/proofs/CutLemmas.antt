@@ -7,9 +7,9 @@ use Rattle.std.proofs.Math.Nat.{eq-or-lt_of_le}
 use Rattle.cvss_base.specs.Exact.{Exact, ratio, ◌over◌, whole, tenths, ◌⊕◌, ◌⊗◌, ◌⊑◌}
 use Rattle.cvss_base.specs.Rounding.{IsRoundedV31}
 use Rattle.cvss_base.proofs.ExactLemmas.{at_most_trans, at_most_below, scaled_at_most, times_sum, times_times}
-use Rattle.cvss_v3.specs.FifthDecimals.{IsRoundedCut, IsSameWhenCut}
+use Rattle.cvss_v3.specs.laws.FifthDecimals.{IsRoundedCut, IsSameWhenCut}
 use Rattle.cvss_v3.specs.Scores.{temporal_number}
-use Rattle.cvss_v3.specs.Weights.{IsFromTable, exploit_code_maturities, remediation_levels, report_confidences}
+use Rattle.cvss_v3.specs.private.Weights.{IsFromTable, exploit_code_maturities, remediation_levels, report_confidences}
 use Rattle.cvss_v3.specs.declared.weights.Weights.{Weights}
 use Rattle.cvss_v3.proofs.RoundLemmas.{between_jumps}
 use Rattle.cvss_v3.proofs.TestLemmas.{passes}

@@ -6,7 +6,7 @@ use Rattle.cvss_base.specs.Exact.{Exact, ◌over◌, ◌≈◌}
 use Rattle.cvss_base.proofs.ExactLemmas.{equal_refl, product_equal}
 use Rattle.cvss_v3.proofs.SubScoreLemmas.{exploitabilities}
 use Rattle.cvss_v3.specs.Scores.{power, unchanged_impact, changed_impact, changed_modified_impact}
-use Rattle.cvss_v3.specs.SubScores.{IsSubScore}
+use Rattle.cvss_v3.specs.private.SubScores.{IsSubScore}
 use Rattle.cvss_v3.proofs.EqualLemmas.{changed_equal, changed_bottom, changed_modified_equal, changed_modified_bottom}
 use Rattle.cvss_v3.proofs.SettledLemmas.{SettlesWith, unchanged_settles, changed_settles, changed_modified_settles}
 

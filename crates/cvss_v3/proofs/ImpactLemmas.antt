@@ -6,9 +6,9 @@ use Rattle.cvss_base.proofs.ExactLemmas.{equal_refl, product_equal}
 use Rattle.cvss_v3.proofs.SubScoreLemmas.{exploitabilities}
 use Rattle.cvss_v3.proofs.FormulaLemmas.{IsSettledFormula, changed_formula, changed_modified_formula}
 use Rattle.cvss_v3.proofs.NumberLemmas.{no_impact, unchanged_rounds, settled_rounds}
-use Rattle.cvss_v3.specs.Near.{IsNear, RoundsAs}
+use Rattle.cvss_v3.specs.private.Near.{IsNear, RoundsAs}
 use Rattle.cvss_v3.specs.Scores.{unchanged_impact, changed_impact, changed_modified_impact, impact_of, modified_impact_of, first_number}
-use Rattle.cvss_v3.specs.SubScores.{IsSubScore}
+use Rattle.cvss_v3.specs.private.SubScores.{IsSubScore}
 
 -- S is a sub-score, and E an exploitability
 module _ (minor : ℕ) (S E : Exact) (some_S : 0 < S.bottom) (some_E : 0 < E.bottom) where

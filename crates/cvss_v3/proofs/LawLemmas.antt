@@ -1,6 +1,6 @@
 -- Weights have one score of each kind, and the temporal score is at most the base score.
 use Rattle.std.specs.Prelude.{int_lt, if◌then◌else◌}
-use Rattle.std.proofs.Common.{◌≡◌, ℕ, zero, suc, ◌*◌, ◌^◌, ◌<◌, ◌≤◌, ℤ, pos, negsuc, ◌≤ℤ◌, Bool, true, false, arith, refl, subst, lit<}
+use Rattle.std.proofs.Common.{◌≡◌, ℕ, zero, suc, ◌*◌, ◌^◌, ◌<◌, ◌≤◌, ℤ, pos, negsuc, ◌≤ℤ◌, Bool, true, false, arith, subst, lit<}
 use Rattle.std.proofs.lemmas.Int.{ints}
 use Rattle.std.proofs.Math.Nat.{mul-le-mul, le_refl}
 use Rattle.cvss_base.specs.Exact.{Exact, ratio, ◌over◌, whole, ◌⊑◌}
@@ -8,13 +8,12 @@ use Rattle.cvss_base.specs.laws.Rounding.{IsOneCount}
 use Rattle.cvss_base.proofs.RoundingLemmas.{least_tenth-ordered, v31-ordered}
 use Rattle.cvss_base.proofs.TenthsLemmas.{in_tenths_once}
 use Rattle.cvss_v3.specs.Scores.{impact, impact_of, modified_impact_of, iss, miss, exploitability, modified_exploitability, total_of, first_number, base_number, environmental_number, temporal_number, IsRounded, IsBase, IsTemporal, IsEnvironmental, IsBaseScore, IsTemporalScore, IsEnvironmentalScore}
-use Rattle.cvss_v3.specs.Weights.{IsFromTable, exploit_code_maturities, remediation_levels, report_confidences}
+use Rattle.cvss_v3.specs.private.Weights.{IsFromTable}
 use Rattle.cvss_v3.specs.declared.weights.Weights.{Weights}
 use Rattle.cvss_v3.proofs.CapLemmas.{capped, not_below_cap}
-use Rattle.cvss_v3.proofs.CountLemmas.{three_bound}
+use Rattle.cvss_v3.proofs.CountLemmas.{temporal_bound}
 use Rattle.cvss_v3.proofs.EqualLemmas.{changed_bottom, changed_modified_bottom, first_bottom, rounded_once}
 use Rattle.cvss_v3.proofs.RoundLemmas.{between_jumps}
-use Rattle.cvss_v3.proofs.SubScoreLemmas.{weight_bound}
 
 impact_bottom : (changed : Bool) (S : Exact) → 0 < S.bottom → 0 < (impact_of changed S).bottom
 impact_bottom false S some = omega arith
@@ -93,9 +92,7 @@ zero_rounded (suc minor) =
 -- tenths that are not negative, times E, RL and RC, are rounded to no more
 product_at_most : (minor : ℕ) (w : Weights) (m r : ℤ) → IsFromTable w → pos 0 ≤ℤ m → IsRounded minor (temporal_number m w) r → r ≤ℤ m
 product_at_most minor w (pos n) r table from_zero rounded =
-    let weights : w.e * w.rl * w.rc ≤ 10 ^ 6 = three_bound w.e w.rl w.rc (weight_bound exploit_code_maturities w.e 100 refl table.e)
-    (weight_bound remediation_levels w.rl 100 refl table.rl) (weight_bound report_confidences w.rc 100 refl table.rc) in
-    let product : n * (w.e * w.rl * w.rc) ≤ n * 10 ^ 6 = mul-le-mul (le_refl n) weights in
+    let product : n * (w.e * w.rl * w.rc) ≤ n * 10 ^ 6 = mul-le-mul (le_refl n) (temporal_bound w table) in
     let order : temporal_number (pos n) w ⊑ n over 10 = record { at_most = omega (arith, ints) } in
     ordered minor (temporal_number (pos n) w) (n over 10) r (pos n) (lit< tt) (lit< tt) order rounded (tenths_rounded minor n)
 product_at_most minor w (negsuc n) r table from_zero rounded = absurd (omega (arith, ints))

@@ -7,7 +7,7 @@ use Rattle.cvss_base.specs.Exact.{Exact, ratio, ◌over◌, whole, ◌⊕◌, �
 use Rattle.cvss_base.proofs.ExactLemmas.{at_most_trans, sum_at_most, times_difference, times_times, times_sum}
 use Rattle.cvss_v3.proofs.CapLemmas.{capped, by_smaller, capped_down, capped_to_ten}
 use Rattle.cvss_v3.proofs.EqualLemmas.{total_bottom}
-use Rattle.cvss_v3.specs.Near.{IsNear}
+use Rattle.cvss_v3.specs.private.Near.{IsNear}
 use Rattle.cvss_v3.specs.Scores.{total_of, first_number}
 
 -- a millionth

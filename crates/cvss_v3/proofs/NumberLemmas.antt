@@ -10,8 +10,8 @@ use Rattle.cvss_v3.proofs.EqualLemmas.{above_zero, first_equal, first_bottom, ro
 use Rattle.cvss_v3.proofs.NearLemmas.{error, error_moved, above_itself, first_is, first_near}
 use Rattle.cvss_v3.proofs.SettledLemmas.{IsWithinError, SettlesWith}
 use Rattle.cvss_v3.specs.Certainty.{IsCertain}
-use Rattle.cvss_v3.specs.FifthDecimals.{IsSameWhenCut}
-use Rattle.cvss_v3.specs.Near.{IsNear, RoundsAs}
+use Rattle.cvss_v3.specs.laws.FifthDecimals.{IsSameWhenCut}
+use Rattle.cvss_v3.specs.private.Near.{IsNear, RoundsAs}
 use Rattle.cvss_v3.specs.Scores.{unchanged_impact, total_of, first_number, IsRounded}
 
 -- without impact the number is 0

@@ -8,7 +8,7 @@ use Rattle.cvss_base.specs.Exact.{Exact, ratio, ◌over◌, whole, tenths, ◌�
 use Rattle.cvss_base.proofs.ExactLemmas.{at_most_trans, at_most_below, below_at_most, times_sum, times_times}
 use Rattle.cvss_v3.proofs.SubScoreLemmas.{exploitabilities}
 use Rattle.cvss_v3.specs.Scores.{power, unchanged_impact, changed_impact, changed_modified_impact, first_number, IsRounded}
-use Rattle.cvss_v3.specs.SubScores.{sub_scores, IsSubScore}
+use Rattle.cvss_v3.specs.private.SubScores.{sub_scores, IsSubScore}
 use Rattle.cvss_v3.proofs.EqualLemmas.{changed_bottom, changed_modified_bottom, first_bottom}
 use Rattle.cvss_v3.proofs.NearLemmas.{error}
 use Rattle.cvss_v3.proofs.RoundLemmas.{jump, between_jumps}

@@ -2,8 +2,8 @@
 use Rattle.std.specs.List.{list_all, Contains}
 use Rattle.std.proofs.Common.{◌≡◌, ℕ, ◌-◌, ◌*◌, ◌/◌, ◌≤◌, min, List, [], ◌∷◌, Bool, true, false, leb, eqb, ◌||◌, ◌⊎◌, inl, inr, refl, subst, sym}
 use Rattle.std.proofs.lemmas.Bool.{leb-true, eqb-true, or_cases}
-use Rattle.cvss_v3.specs.SubScores.{sub_scores, weighted_impacts, IsSubScore}
-use Rattle.cvss_v3.specs.Weights.{attack_vectors, attack_complexities, privileges_required, user_interactions, impacts, requirements}
+use Rattle.cvss_v3.specs.private.SubScores.{sub_scores, weighted_impacts, IsSubScore}
+use Rattle.cvss_v3.specs.private.Weights.{attack_vectors, attack_complexities, privileges_required, user_interactions, impacts, requirements}
 use Rattle.cvss_v3.proofs.TestLemmas.{passes, is_listed, listed_if}
 
 -- Exploitability by whether the scope is changed, in 10^-10, absent metrics included

@@ -10,7 +10,7 @@ use Rattle.cvss_base.proofs.PrintLemmas.{joined-slashed}
 use Rattle.cvss_v3_metric.specs.Table.{printed}
 use Rattle.cvss_v3.specs.declared.vector.Vector.{Vector}
 use Rattle.cvss_v3.specs.Vector.{v3}
-use Rattle.cvss_v3.specs.VectorLaws.{v3_is_lawful, v3_fronts_are_lawful, one_minor_version}
+use Rattle.cvss_v3.specs.private.VectorLaws.{v3_is_lawful, v3_fronts_are_lawful, one_minor_version}
 
 pub own_text : (vector : Vector) → Denotes v3 (canonical_text v3 vector) vector
 own_text = canonical_text-denotes v3 v3_is_lawful

@@ -1,10 +1,6 @@
 pub mod Certainty
-pub mod FifthDecimals
-pub mod Near
-pub mod ScoreLaws
 pub mod Scores
-pub mod SubScores
 pub mod Vector
-pub mod VectorLaws
 pub mod VectorWeights
-pub mod Weights
+pub mod laws
+pub mod private

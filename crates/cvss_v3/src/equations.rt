@@ -4,8 +4,8 @@ ghost use Rattle.std.specs.Prelude.{◌≡◌, ◌≤◌, ◌<◌, ◌*◌, ◌^
 ghost use Rattle.std.specs.List.{Contains};
 ghost use Rattle.cvss_base.specs.Exact.{◌over◌, ◌⊗◌, ◌≈◌};
 ghost use Rattle.cvss_v3.specs.Scores.{hundredths, sub_score_of, unchanged_impact, exploitability_of, first_number};
-ghost use Rattle.cvss_v3.specs.SubScores.{weighted_impacts};
-ghost use Rattle.cvss_v3.specs.Weights.{impacts, requirements};
+ghost use Rattle.cvss_v3.specs.private.SubScores.{weighted_impacts};
+ghost use Rattle.cvss_v3.specs.private.Weights.{impacts, requirements};
 
 /// An impact times its requirement.
 pub fn weighted_impact(requirement: u64, impact: u64) -> u64

@@ -3,9 +3,9 @@
 
 ghost use Rattle.std.specs.Prelude.{◌≡◌, ◌≤◌, ◌<◌, ◌*◌, ◌/◌, ◌^◌};
 ghost use Rattle.cvss_base.specs.Exact.{◌over◌};
-ghost use Rattle.cvss_v3.specs.Near.{IsNear};
+ghost use Rattle.cvss_v3.specs.private.Near.{IsNear};
 ghost use Rattle.cvss_v3.specs.Scores.{changed_impact, changed_modified_impact};
-ghost use Rattle.cvss_v3.specs.SubScores.{IsSubScore};
+ghost use Rattle.cvss_v3.specs.private.SubScores.{IsSubScore};
 
 /// 7.52 * (ISS - 0.029) - 3.25 * (ISS - 0.02)^15 in 10^-11, of an ISS in millionths.
 pub fn changed_impact(iss: u64) -> u64

@@ -3,10 +3,10 @@
 ghost use Rattle.std.specs.Prelude.{◌≡◌, ◌⊎◌, ◌≤◌, ◌^◌, ℕ, pos};
 ghost use Rattle.cvss_base.specs.Exact.{of_count, ◌over◌, ◌≈◌, IsWithinLimit};
 ghost use Rattle.cvss_base.specs.Tenths.{IsInTenths, IsFromZeroToTen};
-ghost use Rattle.cvss_v3.specs.Near.{RoundsAs};
+ghost use Rattle.cvss_v3.specs.private.Near.{RoundsAs};
 ghost use Rattle.cvss_v3.specs.Scores.{iss, miss, exploitability, base_number, environmental_number, temporal_number, IsRounded, IsBase, IsBaseScore, IsTemporalScore, IsEnvironmentalScore};
-ghost use Rattle.cvss_v3.specs.SubScores.{IsSubScore};
-ghost use Rattle.cvss_v3.specs.Weights.{IsFromTable};
+ghost use Rattle.cvss_v3.specs.private.SubScores.{IsSubScore};
+ghost use Rattle.cvss_v3.specs.private.Weights.{IsFromTable};
 
 use crate::rounding::round_tenths;
 use crate::{Score, equations, power};
@@ -110,7 +110,7 @@ impl Weights {
     }
 
     /// The base score in tenths.
-    fn base_tenths(&self, minor_version: usize) -> u64
+    pub fn base_tenths(&self, minor_version: usize) -> u64
         requires { IsFromTable self.now }
         ensures value { IsBase minor_version self.now (pos result) }
         ensures to_ten { result ≤ 100 }

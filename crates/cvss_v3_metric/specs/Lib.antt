@@ -1,6 +1,4 @@
 pub mod Metrics
 pub mod Modified
-pub mod ModifiedLaws
-pub mod Rows
 pub mod Table
-pub mod TableLaws
+pub mod private

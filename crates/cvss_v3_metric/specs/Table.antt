@@ -1,29 +1,43 @@
--- The metrics of CVSS v3.0 and v3.1 by their types, in the order of the v3.1 specification: sections 2
--- (base), 3 (temporal) and 4 (environmental).
-use Rattle.std.specs.Prelude.{ℕ, List, [], ◌∷◌, Option}
-use Rattle.cvss_base.specs.laws.Order.{place_in}
+-- The metrics of CVSS v3.0 and v3.1 by their types, in the order of the v3.1 specification: sections 2 (base), 3
+-- (temporal) and 4 (environmental) for the values and their spellings, section 7.4 for their weights.
+use Rattle.std.specs.Prelude.{ℕ, ◌+◌, Bool, true, false, List, [], ◌∷◌, codes, Option, Some, None, unwrap_or, slice_get, find, bytes_eq}
+use Rattle.std.specs.Option.{option_map_or}
 use Rattle.cvss_base.specs.Text.{component}
 use Rattle.cvss_base.specs.V3Types.{name_of}
 use Rattle.cvss_base.specs.declared.v3.MetricType.{MetricType}
 use Rattle.cvss_base.specs.declared.v3.MetricType.TheVariants.{A, AC, AV, C, I, PR, S, UI, E, RL, RC, CR, IR, AR, MAV, MAC, MPR, MUI, MS, MC, MI, MA}
 use Rattle.cvss_v3_metric.specs.declared.base.attack.AttackVector.{AttackVector}
+use Rattle.cvss_v3_metric.specs.declared.base.attack.AttackVector.TheVariants as attack_vector
 use Rattle.cvss_v3_metric.specs.declared.base.attack.AttackComplexity.{AttackComplexity}
+use Rattle.cvss_v3_metric.specs.declared.base.attack.AttackComplexity.TheVariants as attack_complexity
 use Rattle.cvss_v3_metric.specs.declared.base.privileges.PrivilegesRequired.{PrivilegesRequired}
+use Rattle.cvss_v3_metric.specs.declared.base.privileges.PrivilegesRequired.TheVariants as privileges_required
 use Rattle.cvss_v3_metric.specs.declared.base.interaction.UserInteraction.{UserInteraction}
+use Rattle.cvss_v3_metric.specs.declared.base.interaction.UserInteraction.TheVariants as user_interaction
 use Rattle.cvss_v3_metric.specs.declared.base.scope.Scope.{Scope}
+use Rattle.cvss_v3_metric.specs.declared.base.scope.Scope.TheVariants as scope
 use Rattle.cvss_v3_metric.specs.declared.base.impact.Confidentiality.{Confidentiality}
+use Rattle.cvss_v3_metric.specs.declared.base.impact.Confidentiality.TheVariants as confidentiality
 use Rattle.cvss_v3_metric.specs.declared.base.impact.Integrity.{Integrity}
+use Rattle.cvss_v3_metric.specs.declared.base.impact.Integrity.TheVariants as integrity
 use Rattle.cvss_v3_metric.specs.declared.base.impact.Availability.{Availability}
+use Rattle.cvss_v3_metric.specs.declared.base.impact.Availability.TheVariants as availability
 use Rattle.cvss_v3_metric.specs.declared.temporal.ExploitCodeMaturity.{ExploitCodeMaturity}
+use Rattle.cvss_v3_metric.specs.declared.temporal.ExploitCodeMaturity.TheVariants as exploit_code_maturity
 use Rattle.cvss_v3_metric.specs.declared.temporal.RemediationLevel.{RemediationLevel}
+use Rattle.cvss_v3_metric.specs.declared.temporal.RemediationLevel.TheVariants as remediation_level
 use Rattle.cvss_v3_metric.specs.declared.temporal.ReportConfidence.{ReportConfidence}
+use Rattle.cvss_v3_metric.specs.declared.temporal.ReportConfidence.TheVariants as report_confidence
 use Rattle.cvss_v3_metric.specs.declared.environmental.requirement.ConfidentialityRequirement.{ConfidentialityRequirement}
+use Rattle.cvss_v3_metric.specs.declared.environmental.requirement.ConfidentialityRequirement.TheVariants as confidentiality_requirement
 use Rattle.cvss_v3_metric.specs.declared.environmental.requirement.IntegrityRequirement.{IntegrityRequirement}
+use Rattle.cvss_v3_metric.specs.declared.environmental.requirement.IntegrityRequirement.TheVariants as integrity_requirement
 use Rattle.cvss_v3_metric.specs.declared.environmental.requirement.AvailabilityRequirement.{AvailabilityRequirement}
-use Rattle.cvss_v3_metric.specs.declared.environmental.modified.Modified.{Modified}
+use Rattle.cvss_v3_metric.specs.declared.environmental.requirement.AvailabilityRequirement.TheVariants as availability_requirement
 use Rattle.cvss_v3_metric.specs.declared.environmental.modified_scope.ModifiedScope.{ModifiedScope}
-use Rattle.cvss_v3_metric.specs.Modified.{modified_row, modified_values}
-use Rattle.cvss_v3_metric.specs.Rows.{Row, attack_vector_row, attack_complexity_row, privileges_required_row, user_interaction_row, scope_row, confidentiality_row, integrity_row, availability_row, exploit_code_maturity_row, remediation_level_row, report_confidence_row, confidentiality_requirement_row, integrity_requirement_row, availability_requirement_row, modified_scope_row, attack_vector_values, attack_complexity_values, privileges_required_values, user_interaction_values, scope_values, confidentiality_values, integrity_values, availability_values, exploit_code_maturity_values, remediation_level_values, report_confidence_values, confidentiality_requirement_values, integrity_requirement_values, availability_requirement_values, modified_scope_values}
+use Rattle.cvss_v3_metric.specs.declared.environmental.modified_scope.ModifiedScope.TheVariants as modified_scope
+use Rattle.cvss_v3_metric.specs.declared.environmental.modified.Modified.{Modified}
+use Rattle.cvss_v3_metric.specs.Modified.{Row, modified_rows, modified_rank}
 
 -- the type of a metric's values
 abbrev pub Value : MetricType → Type 0
@@ -50,30 +64,74 @@ Value MC = Modified Confidentiality
 Value MI = Modified Integrity
 Value MA = Modified Availability
 
--- a value's row in the table
-abbrev pub row_of : (kind : MetricType) → Value kind → Row
-row_of AV value = attack_vector_row value
-row_of AC value = attack_complexity_row value
-row_of PR value = privileges_required_row value
-row_of UI value = user_interaction_row value
-row_of S value = scope_row value
-row_of C value = confidentiality_row value
-row_of I value = integrity_row value
-row_of A value = availability_row value
-row_of E value = exploit_code_maturity_row value
-row_of RL value = remediation_level_row value
-row_of RC value = report_confidence_row value
-row_of CR value = confidentiality_requirement_row value
-row_of IR value = integrity_requirement_row value
-row_of AR value = availability_requirement_row value
-row_of MAV value = modified_row attack_vector_row value
-row_of MAC value = modified_row attack_complexity_row value
-row_of MPR value = modified_row privileges_required_row value
-row_of MUI value = modified_row user_interaction_row value
-row_of MS value = modified_scope_row value
-row_of MC value = modified_row confidentiality_row value
-row_of MI value = modified_row integrity_row value
-row_of MA value = modified_row availability_row value
+-- how each value of a metric is spelled, and its weight in hundredths, if it has one; the values as they are compared,
+-- the least first; none of the modified metrics, whose rows are made of these
+abbrev own_rows : MetricType → List Row
+own_rows AV = (codes "P", Some 20) ∷ (codes "L", Some 55) ∷ (codes "A", Some 62) ∷ (codes "N", Some 85) ∷ []
+own_rows AC = (codes "H", Some 44) ∷ (codes "L", Some 77) ∷ []
+own_rows PR = (codes "H", Some 27) ∷ (codes "L", Some 62) ∷ (codes "N", Some 85) ∷ []
+own_rows UI = (codes "R", Some 62) ∷ (codes "N", Some 85) ∷ []
+own_rows S = (codes "U", None) ∷ (codes "C", None) ∷ []
+own_rows C = (codes "N", Some 0) ∷ (codes "L", Some 22) ∷ (codes "H", Some 56) ∷ []
+own_rows I = (codes "N", Some 0) ∷ (codes "L", Some 22) ∷ (codes "H", Some 56) ∷ []
+own_rows A = (codes "N", Some 0) ∷ (codes "L", Some 22) ∷ (codes "H", Some 56) ∷ []
+own_rows E = (codes "X", Some 100) ∷ (codes "H", Some 100) ∷ (codes "F", Some 97) ∷ (codes "P", Some 94) ∷ (codes "U", Some 91) ∷ []
+own_rows RL = (codes "X", Some 100) ∷ (codes "U", Some 100) ∷ (codes "W", Some 97) ∷ (codes "T", Some 96) ∷ (codes "O", Some 95) ∷ []
+own_rows RC = (codes "X", Some 100) ∷ (codes "C", Some 100) ∷ (codes "R", Some 96) ∷ (codes "U", Some 92) ∷ []
+own_rows CR = (codes "X", Some 100) ∷ (codes "H", Some 150) ∷ (codes "M", Some 100) ∷ (codes "L", Some 50) ∷ []
+own_rows IR = (codes "X", Some 100) ∷ (codes "H", Some 150) ∷ (codes "M", Some 100) ∷ (codes "L", Some 50) ∷ []
+own_rows AR = (codes "X", Some 100) ∷ (codes "H", Some 150) ∷ (codes "M", Some 100) ∷ (codes "L", Some 50) ∷ []
+own_rows modified = []
+
+-- the rows of each metric
+abbrev pub rows_of : MetricType → List Row
+rows_of MAV = modified_rows (own_rows AV)
+rows_of MAC = modified_rows (own_rows AC)
+rows_of MPR = modified_rows (own_rows PR)
+rows_of MUI = modified_rows (own_rows UI)
+rows_of MS = (codes "X", Some 0) ∷ own_rows S
+rows_of MC = modified_rows (own_rows C)
+rows_of MI = modified_rows (own_rows I)
+rows_of MA = modified_rows (own_rows A)
+rows_of kind = own_rows kind
+
+-- the weights of Privileges Required in hundredths, in the order of its rows, where the scope is changed
+abbrev pub changed_privileges : List ℕ
+changed_privileges = 50 ∷ 68 ∷ 85 ∷ []
+
+-- the place of a value among the rows of its metric, of none of the modified metrics
+abbrev own_rank : (kind : MetricType) → Value kind → ℕ
+own_rank AV = elim [ attack_vector.Physical ↦ 0 | attack_vector.Local ↦ 1 | attack_vector.Adjacent ↦ 2 | attack_vector.Network ↦ 3 ]
+own_rank AC = elim [ attack_complexity.High ↦ 0 | attack_complexity.Low ↦ 1 ]
+own_rank PR = elim [ privileges_required.High ↦ 0 | privileges_required.Low ↦ 1 | privileges_required.None ↦ 2 ]
+own_rank UI = elim [ user_interaction.Required ↦ 0 | user_interaction.None ↦ 1 ]
+own_rank S = elim [ scope.Unchanged ↦ 0 | scope.Changed ↦ 1 ]
+own_rank C = elim [ confidentiality.None ↦ 0 | confidentiality.Low ↦ 1 | confidentiality.High ↦ 2 ]
+own_rank I = elim [ integrity.None ↦ 0 | integrity.Low ↦ 1 | integrity.High ↦ 2 ]
+own_rank A = elim [ availability.None ↦ 0 | availability.Low ↦ 1 | availability.High ↦ 2 ]
+own_rank E = elim [ exploit_code_maturity.NotDefined ↦ 0 | exploit_code_maturity.High ↦ 1 | exploit_code_maturity.Functional ↦ 2 | exploit_code_maturity.ProofOfConcept ↦ 3 | exploit_code_maturity.Unproven ↦ 4 ]
+own_rank RL = elim [ remediation_level.NotDefined ↦ 0 | remediation_level.Unavailable ↦ 1 | remediation_level.Workaround ↦ 2 | remediation_level.TemporaryFix ↦ 3 | remediation_level.OfficialFix ↦ 4 ]
+own_rank RC = elim [ report_confidence.NotDefined ↦ 0 | report_confidence.Confirmed ↦ 1 | report_confidence.Reasonable ↦ 2 | report_confidence.Unknown ↦ 3 ]
+own_rank CR = elim [ confidentiality_requirement.NotDefined ↦ 0 | confidentiality_requirement.High ↦ 1 | confidentiality_requirement.Medium ↦ 2 | confidentiality_requirement.Low ↦ 3 ]
+own_rank IR = elim [ integrity_requirement.NotDefined ↦ 0 | integrity_requirement.High ↦ 1 | integrity_requirement.Medium ↦ 2 | integrity_requirement.Low ↦ 3 ]
+own_rank AR = elim [ availability_requirement.NotDefined ↦ 0 | availability_requirement.High ↦ 1 | availability_requirement.Medium ↦ 2 | availability_requirement.Low ↦ 3 ]
+own_rank modified = λ value. 0
+
+-- the place of a value among the rows of its metric
+abbrev pub rank_of : (kind : MetricType) → Value kind → ℕ
+rank_of MAV = modified_rank (own_rank AV)
+rank_of MAC = modified_rank (own_rank AC)
+rank_of MPR = modified_rank (own_rank PR)
+rank_of MUI = modified_rank (own_rank UI)
+rank_of MS = elim [ modified_scope.NotDefined ↦ 0 | modified_scope.Modified value ↦ own_rank S value + 1 ]
+rank_of MC = modified_rank (own_rank C)
+rank_of MI = modified_rank (own_rank I)
+rank_of MA = modified_rank (own_rank A)
+rank_of kind = own_rank kind
+
+-- a value's row
+abbrev row_of : (kind : MetricType) → Value kind → Row
+row_of kind value = unwrap_or (slice_get (rows_of kind) (rank_of kind value)) ([], None)
 
 -- how a value is spelled
 abbrev pub spelling_of : (kind : MetricType) → Value kind → List ℕ
@@ -83,34 +141,15 @@ spelling_of kind value = (row_of kind value).0
 abbrev pub weight_of : (kind : MetricType) → Value kind → Option ℕ
 weight_of kind value = (row_of kind value).1
 
--- all values of a metric, in the order in which they are compared
-abbrev pub values_of : (kind : MetricType) → List (Value kind)
-values_of AV = attack_vector_values
-values_of AC = attack_complexity_values
-values_of PR = privileges_required_values
-values_of UI = user_interaction_values
-values_of S = scope_values
-values_of C = confidentiality_values
-values_of I = integrity_values
-values_of A = availability_values
-values_of E = exploit_code_maturity_values
-values_of RL = remediation_level_values
-values_of RC = report_confidence_values
-values_of CR = confidentiality_requirement_values
-values_of IR = integrity_requirement_values
-values_of AR = availability_requirement_values
-values_of MAV = modified_values attack_vector_values
-values_of MAC = modified_values attack_complexity_values
-values_of MPR = modified_values privileges_required_values
-values_of MUI = modified_values user_interaction_values
-values_of MS = modified_scope_values
-values_of MC = modified_values confidentiality_values
-values_of MI = modified_values integrity_values
-values_of MA = modified_values availability_values
+-- the weight in hundredths of a metric that is absent: that of X, where the metric has this value
+abbrev pub absent_weight : MetricType → ℕ
+absent_weight kind =
+    option_map_or (λ row. unwrap_or row.1 0) (find (λ row. bytes_eq row.0 (codes "X")) (rows_of kind)) 0
 
--- the place of a value among the metric's values
-abbrev pub place_of : (kind : MetricType) → Value kind → ℕ
-place_of kind value = place_in (spelling_of kind) (values_of kind) value
+-- the weight of Privileges Required in hundredths, by whether the scope is changed
+abbrev pub scoped_weight : Bool → PrivilegesRequired → ℕ
+scoped_weight false value = unwrap_or (weight_of PR value) 0
+scoped_weight true value = unwrap_or (slice_get changed_privileges (rank_of PR value)) 0
 
 -- the metric's name, a colon and the value's spelling
 abbrev pub metric_component : (kind : MetricType) → Value kind → List ℕ

@@ -1,6 +1,6 @@
 //! What all metrics of CVSS v3 have in common.
 
-ghost use Rattle.std.specs.Prelude.{◌≡◌, ◌∷◌, ◌*◌, ◌^◌, ◌↔◌, pos, IsTrue, IsSome, IfSome, IfOk, IfErr, Some, unwrap_or};
+ghost use Rattle.std.specs.Prelude.{◌≡◌, [], ◌∷◌, ◌*◌, ◌^◌, ◌↔◌, pos, IsTrue, IsSome, IfSome, IfOk, IfErr, Some, unwrap_or};
 ghost use Rattle.cvss_base.specs.Refusal.{BadValue};
 ghost use Rattle.cvss_base.specs.Told.{Tells};
 ghost use Rattle.cvss_base.specs.V3Types.{v3_reason, name_of};
@@ -39,11 +39,11 @@ pub trait Metric: Copy + Clone + fmt::Debug + fmt::Display + Eq + Ord + 'static 
         ensures text { result.0.now ≡ slash ∷ metric_component TYPE (value self) }
         ensures weight { result.1 ≡ weight_of TYPE (value self) };
 
-    /// The value with this spelling, in any ASCII case.
-    fn read_bytes(text: &[u8]) -> Option<Self>
-        ensures spelled { IfSome result
-            (λ metric. spelling_of TYPE (value metric) ≡ raised text.now) }
-        ensures read { (metric : Self) → spelling_of TYPE (value metric) ≡ raised text.now
+    /// The value that is spelled by this letter, exactly as it is written: each value is spelled by
+    /// one letter.
+    fn read_letter(letter: u8) -> Option<Self>
+        ensures spelled { IfSome result (λ metric. spelling_of TYPE (value metric) ≡ letter ∷ []) }
+        ensures read { (metric : Self) → spelling_of TYPE (value metric) ≡ letter ∷ []
             → result ≡ Some metric };
 
     /// A slash and the component that stands for the value in a vector.
@@ -68,6 +68,19 @@ pub trait Metric: Copy + Clone + fmt::Debug + fmt::Display + Eq + Ord + 'static 
     }
 
     /// The value with this spelling, in any ASCII case.
+    final fn read_bytes(text: &[u8]) -> Option<Self>
+        ensures spelled { IfSome result
+            (λ metric. spelling_of TYPE (value metric) ≡ raised text.now) }
+        ensures read { (metric : Self) → spelling_of TYPE (value metric) ≡ raised text.now
+            → result ≡ Some metric }
+    {
+        match text {
+            [letter] => Self::read_letter(letter.to_ascii_uppercase()),
+            _ => None,
+        }
+    }
+
+    /// The value with this spelling, in any ASCII case.
     final fn read_raised(text: &str) -> Option<Self>
         ensures spelled { IfSome result
             (λ metric. spelling_of TYPE (value metric) ≡ raised text.now) }
@@ -78,7 +91,7 @@ pub trait Metric: Copy + Clone + fmt::Debug + fmt::Display + Eq + Ord + 'static 
     }
 
     /// The value with this spelling, exactly as it is written.
-    #[tactic(auto, using(crate::specs::TableLaws::raised_spelling))]
+    #[tactic(auto, using(crate::specs::private::TableLaws::raised_spelling))]
     final fn read(text: &str) -> Option<Self>
         ensures spelled { IfSome result (λ metric. spelling_of TYPE (value metric) ≡ text.now) }
         ensures read { (metric : Self) → spelling_of TYPE (value metric) ≡ text.now

@@ -44,13 +44,14 @@ impl Metric for ExploitCodeMaturity {
         }
     }
 
-    fn read_bytes(text: &[u8]) -> Option<Self> {
-        match text {
-            b"X" | b"x" => Some(ExploitCodeMaturity::NotDefined),
-            b"H" | b"h" => Some(ExploitCodeMaturity::High),
-            b"F" | b"f" => Some(ExploitCodeMaturity::Functional),
-            b"P" | b"p" => Some(ExploitCodeMaturity::ProofOfConcept),
-            b"U" | b"u" => Some(ExploitCodeMaturity::Unproven),
+    #[inline(always)]
+    fn read_letter(letter: u8) -> Option<Self> {
+        match letter {
+            b'X' => Some(ExploitCodeMaturity::NotDefined),
+            b'H' => Some(ExploitCodeMaturity::High),
+            b'F' => Some(ExploitCodeMaturity::Functional),
+            b'P' => Some(ExploitCodeMaturity::ProofOfConcept),
+            b'U' => Some(ExploitCodeMaturity::Unproven),
             _ => None,
         }
     }
@@ -101,13 +102,14 @@ impl Metric for RemediationLevel {
         }
     }
 
-    fn read_bytes(text: &[u8]) -> Option<Self> {
-        match text {
-            b"X" | b"x" => Some(RemediationLevel::NotDefined),
-            b"U" | b"u" => Some(RemediationLevel::Unavailable),
-            b"W" | b"w" => Some(RemediationLevel::Workaround),
-            b"T" | b"t" => Some(RemediationLevel::TemporaryFix),
-            b"O" | b"o" => Some(RemediationLevel::OfficialFix),
+    #[inline(always)]
+    fn read_letter(letter: u8) -> Option<Self> {
+        match letter {
+            b'X' => Some(RemediationLevel::NotDefined),
+            b'U' => Some(RemediationLevel::Unavailable),
+            b'W' => Some(RemediationLevel::Workaround),
+            b'T' => Some(RemediationLevel::TemporaryFix),
+            b'O' => Some(RemediationLevel::OfficialFix),
             _ => None,
         }
     }
@@ -156,12 +158,13 @@ impl Metric for ReportConfidence {
         }
     }
 
-    fn read_bytes(text: &[u8]) -> Option<Self> {
-        match text {
-            b"X" | b"x" => Some(ReportConfidence::NotDefined),
-            b"C" | b"c" => Some(ReportConfidence::Confirmed),
-            b"R" | b"r" => Some(ReportConfidence::Reasonable),
-            b"U" | b"u" => Some(ReportConfidence::Unknown),
+    #[inline(always)]
+    fn read_letter(letter: u8) -> Option<Self> {
+        match letter {
+            b'X' => Some(ReportConfidence::NotDefined),
+            b'C' => Some(ReportConfidence::Confirmed),
+            b'R' => Some(ReportConfidence::Reasonable),
+            b'U' => Some(ReportConfidence::Unknown),
             _ => None,
         }
     }

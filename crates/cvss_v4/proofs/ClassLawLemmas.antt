@@ -4,11 +4,11 @@ use Rattle.std.specs.List.{list_all, list_any}
 use Rattle.std.proofs.lemmas.Bool.Decides.{nat_tests}
 use Rattle.std.proofs.lemmas.List.Folds.{Any-from_list_any}
 use Rattle.std.proofs.lemmas.List.Sums.{AllPass-from_list_all}
-use Rattle.cvss_v4.specs.ClassLaws.{IsDominated, HaveLeastSum}
+use Rattle.cvss_v4.specs.laws.ClassLaws.{IsDominated, HaveLeastSum}
 use Rattle.cvss_v4.specs.Classes.{eq1, eq2, eq3, eq4, eq6}
 use Rattle.cvss_v4.specs.Distance.{eq1_sum, eq1_least, eq2_sum, eq2_least, eq3_eq6_sum, eq3_eq6_least, eq4_sum, eq4_least}
-use Rattle.cvss_v4.specs.Maximal.{IsAtMost, Eq1Values, eq1_levels, eq1_maximal, Eq2Values, eq2_levels, eq2_maximal, Eq3Eq6Values, eq3_eq6_levels, eq3_eq6_maximal, Eq4Values, eq4_levels, eq4_maximal}
-use Rattle.cvss_v4.specs.ScoreLaws.{IsPair}
+use Rattle.cvss_v4.specs.laws.Maximal.{IsAtMost, Eq1Values, eq1_levels, eq1_maximal, Eq2Values, eq2_levels, eq2_maximal, Eq3Eq6Values, eq3_eq6_levels, eq3_eq6_maximal, Eq4Values, eq4_levels, eq4_maximal}
+use Rattle.cvss_v4.specs.laws.ScoreLaws.{IsPair}
 use Rattle.cvss_v4.proofs.TestLemmas.{both, each_eq1, each_eq2, each_eq3_eq6, each_eq4}
 
 -- no level is above that of the same place of as many, as a test

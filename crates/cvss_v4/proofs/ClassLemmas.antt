@@ -1,7 +1,7 @@
 -- The six numbers of effective values are those of a class.
-use Rattle.std.proofs.Common.{◌≡◌, ◌+◌, ◌<◌, ◌≤◌, lit≤, arith, sym, subst}
+use Rattle.std.proofs.Common.{◌≡◌, ◌≤◌, lit≤, sym, subst}
 use Rattle.cvss_v4.specs.Classes.{eq5, macro_vector}
-use Rattle.cvss_v4.specs.ScoreLaws.{IsMacroVector}
+use Rattle.cvss_v4.specs.laws.ScoreLaws.{IsMacroVector}
 use Rattle.cvss_v4.specs.declared.scoring.classes.MacroVector.{MacroVector}
 use Rattle.cvss_v4.specs.declared.scoring.effective.Effective.{Effective}
 use Rattle.cvss_v4.specs.declared.scoring.effective.ExploitMaturity.{ExploitMaturity}
@@ -28,51 +28,3 @@ macro_vector_is v =
 
 pub class_is : (m : MacroVector) (v : Effective) → m ≡ macro_vector v → IsMacroVector m
 class_is m v same = subst (λ n. IsMacroVector n) (sym same) (macro_vector_is v)
-
--- a class whose EQ1 is not the last has a next lower one
-pub eq1_raised : (m : MacroVector) → IsMacroVector m → m.eq1 < 2 → IsMacroVector (record m { eq1 = m.eq1 + 1 })
-eq1_raised m is_class before = record {
-  eq1 = omega arith;
-  eq2 = is_class.eq2;
-  eq3 = is_class.eq3;
-  eq4 = is_class.eq4;
-  eq5 = is_class.eq5;
-  eq6 = is_class.eq6;
-  eq3_eq6 = is_class.eq3_eq6;
-}
-
--- a class whose EQ2 is not the last has a next lower one
-pub eq2_raised : (m : MacroVector) → IsMacroVector m → m.eq2 < 1 → IsMacroVector (record m { eq2 = m.eq2 + 1 })
-eq2_raised m is_class before = record {
-  eq1 = is_class.eq1;
-  eq2 = omega arith;
-  eq3 = is_class.eq3;
-  eq4 = is_class.eq4;
-  eq5 = is_class.eq5;
-  eq6 = is_class.eq6;
-  eq3_eq6 = is_class.eq3_eq6;
-}
-
--- a class whose EQ4 is not the last has a next lower one
-pub eq4_raised : (m : MacroVector) → IsMacroVector m → m.eq4 < 2 → IsMacroVector (record m { eq4 = m.eq4 + 1 })
-eq4_raised m is_class before = record {
-  eq1 = is_class.eq1;
-  eq2 = is_class.eq2;
-  eq3 = is_class.eq3;
-  eq4 = omega arith;
-  eq5 = is_class.eq5;
-  eq6 = is_class.eq6;
-  eq3_eq6 = is_class.eq3_eq6;
-}
-
--- a class whose EQ5 is not the last has a next lower one
-pub eq5_raised : (m : MacroVector) → IsMacroVector m → m.eq5 < 2 → IsMacroVector (record m { eq5 = m.eq5 + 1 })
-eq5_raised m is_class before = record {
-  eq1 = is_class.eq1;
-  eq2 = is_class.eq2;
-  eq3 = is_class.eq3;
-  eq4 = is_class.eq4;
-  eq5 = omega arith;
-  eq6 = is_class.eq6;
-  eq3_eq6 = is_class.eq3_eq6;
-}

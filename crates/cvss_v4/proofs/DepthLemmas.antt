@@ -1,11 +1,11 @@
 -- The depth of each class is its greatest distance plus 1.
 use Rattle.std.proofs.Common.{◌≡◌, ℕ, zero, suc, ◌≤◌, pos, ◌<ℤ◌, arith, refl, subst}
 use Rattle.std.proofs.lemmas.Int.{ints}
-use Rattle.cvss_v4.specs.ClassLaws.{IsDepth}
+use Rattle.cvss_v4.specs.laws.ClassLaws.{IsDepth}
 use Rattle.cvss_v4.specs.Classes.{eq1, eq2, eq3, eq4, eq6}
 use Rattle.cvss_v4.specs.Distance.{eq1_least, eq1_distance, eq2_least, eq2_distance, eq3_eq6_least, eq3_eq6_distance, eq4_least, eq4_distance}
 use Rattle.cvss_v4.specs.Gap.{eq1_depth, eq2_depth, eq3_eq6_depth, eq4_depth}
-use Rattle.cvss_v4.specs.ScoreLaws.{IsPair}
+use Rattle.cvss_v4.specs.laws.ScoreLaws.{IsPair}
 use Rattle.cvss_v4.specs.declared.scoring.effective.Effective.{Effective}
 use Rattle.cvss_v4.specs.declared.scoring.effective.AttackVector.TheVariants as attack_vector
 use Rattle.cvss_v4.specs.declared.scoring.effective.PrivilegesRequired.TheVariants as privileges_required

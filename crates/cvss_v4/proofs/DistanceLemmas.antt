@@ -1,5 +1,5 @@
 -- The distances of the code are those of the specification, and lie below the depths.
-use Rattle.std.proofs.Common.{◌≡◌, ℕ, zero, suc, ◌+◌, ◌-◌, ◌*◌, ◌/◌, ◌<◌, ◌≤◌, List, [], ◌∷◌, slice_index, refl, arith, pos}
+use Rattle.std.proofs.Common.{◌≡◌, ℕ, zero, suc, ◌+◌, ◌-◌, ◌*◌, ◌/◌, ◌<◌, ◌≤◌, [], ◌∷◌, slice_index, refl, arith, pos}
 use Rattle.std.proofs.lemmas.Int.{ints}
 use Rattle.cvss_v4.specs.Classes.{eq1, eq2, eq3, eq4, eq6}
 use Rattle.cvss_v4.specs.Distance.{eq1_sum, eq2_sum, eq3_eq6_sum, eq4_sum, eq1_distance, eq2_distance, eq3_eq6_distance, eq4_distance}
@@ -50,90 +50,44 @@ eq3_eq6_from_least v class3 class6 is_class3 is_class6 =
     let same = eq3_eq6_least_is (eq3 v.vc v.vi v.va) (eq6 v.vc v.vi v.va v.cr v.ir v.ar) bounds.0 in
     rw (is_class3, is_class6) (omega (arith, same, bounds.1.from_least))
 
--- the depths of EQ1 in the order of its classes
-eq1_depth_is : (class : ℕ) → class ≤ 2 → eq1_depth class ≡ slice_index (1 ∷ 4 ∷ 5 ∷ []) class
-eq1_depth_is zero h = refl
-eq1_depth_is (suc zero) h = refl
-eq1_depth_is (suc (suc zero)) h = refl
-eq1_depth_is (suc (suc (suc rest))) h = absurd (omega arith)
+-- the depth of each class divides 840
+pub eq1_divides : (class : ℕ) → eq1_depth class * (840 / eq1_depth class) ≡ 840
+eq1_divides = elim [ zero ↦ refl | suc zero ↦ refl | suc (suc _) ↦ refl ]
 
--- a distance in EQ1 is below the depth
-pub eq1_below : (v : Effective) (class distance : ℕ) → class ≡ eq1 v.av v.pr v.ui → pos distance ≡ eq1_distance v
-    → distance < slice_index (1 ∷ 4 ∷ 5 ∷ []) class
-eq1_below v class distance is_class is_distance =
-    let bounds = eq1_within v.av v.pr v.ui in
-    let depth = eq1_depth_is (eq1 v.av v.pr v.ui) bounds.to_limit in
-    rw is_class (omega (arith, ints, depth, bounds.from_least, bounds.to_depth))
+pub eq2_divides : (class : ℕ) → eq2_depth class * (840 / eq2_depth class) ≡ 840
+eq2_divides = elim [ zero ↦ refl | suc _ ↦ refl ]
 
--- the depths of EQ2 in the order of its classes
-eq2_depth_is : (class : ℕ) → class ≤ 1 → eq2_depth class ≡ slice_index (1 ∷ 2 ∷ []) class
-eq2_depth_is zero h = refl
-eq2_depth_is (suc zero) h = refl
-eq2_depth_is (suc (suc rest)) h = absurd (omega arith)
+pub eq4_divides : (class : ℕ) → eq4_depth class * (840 / eq4_depth class) ≡ 840
+eq4_divides = elim [ zero ↦ refl | suc zero ↦ refl | suc (suc _) ↦ refl ]
 
--- a distance in EQ2 is below the depth
-pub eq2_below : (v : Effective) (class distance : ℕ) → class ≡ eq2 v.ac v.at → pos distance ≡ eq2_distance v
-    → distance < slice_index (1 ∷ 2 ∷ []) class
-eq2_below v class distance is_class is_distance =
-    let bounds = eq2_within v.ac v.at in
-    let depth = eq2_depth_is (eq2 v.ac v.at) bounds.to_limit in
-    rw is_class (omega (arith, ints, depth, bounds.from_least, bounds.to_depth))
-
--- the depths of EQ4 in the order of its classes
-eq4_depth_is : (class : ℕ) → class ≤ 2 → eq4_depth class ≡ slice_index (6 ∷ 5 ∷ 4 ∷ []) class
-eq4_depth_is zero h = refl
-eq4_depth_is (suc zero) h = refl
-eq4_depth_is (suc (suc zero)) h = refl
-eq4_depth_is (suc (suc (suc rest))) h = absurd (omega arith)
-
--- a distance in EQ4 is below the depth
-pub eq4_below : (v : Effective) (class distance : ℕ) → class ≡ eq4 v.sc v.si v.sa → pos distance ≡ eq4_distance v
-    → distance < slice_index (6 ∷ 5 ∷ 4 ∷ []) class
-eq4_below v class distance is_class is_distance =
-    let bounds = eq4_within v.sc v.si v.sa in
-    let depth = eq4_depth_is (eq4 v.sc v.si v.sa) bounds.to_limit in
-    rw is_class (omega (arith, ints, depth, bounds.from_least, bounds.to_depth))
-
--- the depths of EQ3 with EQ6 in the order of their classes, the last apart
-abbrev eq3_eq6_depths : List ℕ
-eq3_eq6_depths = 7 ∷ 6 ∷ 8 ∷ 8 ∷ 10 ∷ []
-
-pub eq3_eq6_depth_is : (class3 class6 : ℕ) → class3 < 2 → class6 ≤ 1
-    → eq3_eq6_depth class3 class6 ≡ slice_index eq3_eq6_depths (2 * class3 + class6)
-eq3_eq6_depth_is zero zero h k = refl
-eq3_eq6_depth_is zero (suc zero) h k = refl
-eq3_eq6_depth_is (suc zero) zero h k = refl
-eq3_eq6_depth_is (suc zero) (suc zero) h k = refl
-eq3_eq6_depth_is class3 class6 h k = absurd (omega arith)
-
--- each depth of EQ3 with EQ6 divides 840
 pub eq3_eq6_divides : (class3 class6 : ℕ) → eq3_eq6_depth class3 class6 * (840 / eq3_eq6_depth class3 class6) ≡ 840
 eq3_eq6_divides zero zero = refl
 eq3_eq6_divides zero (suc _) = refl
 eq3_eq6_divides (suc zero) _ = refl
 eq3_eq6_divides (suc (suc _)) _ = refl
 
--- a distance in EQ3 with EQ6 is below the depth
-pub eq3_eq6_below : (v : Effective) (class3 class6 distance : ℕ) → class3 ≡ eq3 v.vc v.vi v.va
-    → class6 ≡ eq6 v.vc v.vi v.va v.cr v.ir v.ar → pos distance ≡ eq3_eq6_distance v
-    → distance < eq3_eq6_depth class3 class6
-eq3_eq6_below v class3 class6 distance is_class3 is_class6 is_distance =
-    let bounds = (eq3_eq6_within v.vc v.vi v.va v.cr v.ir v.ar).1 in
-    rw (is_class3, is_class6) (omega (arith, ints, bounds.from_least, bounds.to_depth))
+-- the parts of the code are 840 divided by the depths
+pub eq1_part : (class : ℕ) → class ≤ 2 → slice_index (840 ∷ 210 ∷ 168 ∷ []) class ≡ 840 / eq1_depth class
+eq1_part zero h = refl
+eq1_part (suc zero) h = refl
+eq1_part (suc (suc zero)) h = refl
+eq1_part (suc (suc (suc rest))) h = absurd (omega arith)
 
--- each depth of EQ1 divides 840
-pub eq1_divides : (class : ℕ) → eq1_depth class * (840 / eq1_depth class) ≡ 840
-eq1_divides zero = refl
-eq1_divides (suc zero) = refl
-eq1_divides (suc (suc _)) = refl
+pub eq2_part : (class : ℕ) → class ≤ 1 → slice_index (840 ∷ 420 ∷ []) class ≡ 840 / eq2_depth class
+eq2_part zero h = refl
+eq2_part (suc zero) h = refl
+eq2_part (suc (suc rest)) h = absurd (omega arith)
 
--- each depth of EQ2 divides 840
-pub eq2_divides : (class : ℕ) → eq2_depth class * (840 / eq2_depth class) ≡ 840
-eq2_divides zero = refl
-eq2_divides (suc _) = refl
+pub eq4_part : (class : ℕ) → class ≤ 2 → slice_index (140 ∷ 168 ∷ 210 ∷ []) class ≡ 840 / eq4_depth class
+eq4_part zero h = refl
+eq4_part (suc zero) h = refl
+eq4_part (suc (suc zero)) h = refl
+eq4_part (suc (suc (suc rest))) h = absurd (omega arith)
 
--- each depth of EQ4 divides 840
-pub eq4_divides : (class : ℕ) → eq4_depth class * (840 / eq4_depth class) ≡ 840
-eq4_divides zero = refl
-eq4_divides (suc zero) = refl
-eq4_divides (suc (suc _)) = refl
+pub eq3_eq6_part : (class3 class6 : ℕ) → class3 < 2 → class6 ≤ 1
+    → slice_index (120 ∷ 140 ∷ 105 ∷ 105 ∷ []) (2 * class3 + class6) ≡ 840 / eq3_eq6_depth class3 class6
+eq3_eq6_part zero zero h k = refl
+eq3_eq6_part zero (suc zero) h k = refl
+eq3_eq6_part (suc zero) zero h k = refl
+eq3_eq6_part (suc zero) (suc zero) h k = refl
+eq3_eq6_part class3 class6 h k = absurd (omega arith)

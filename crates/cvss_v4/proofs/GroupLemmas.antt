@@ -6,7 +6,7 @@ use Rattle.cvss_v4.specs.Distance.{eq1_sum, eq1_least, eq2_sum, eq2_least, eq3_e
 use Rattle.cvss_v4.specs.Gap.{eq1_group, eq2_group, eq3_eq6_group, eq4_group, eq5_group, groups}
 use Rattle.cvss_v4.specs.Values.{listed_value, table_value}
 use Rattle.cvss_v4.specs.declared.scoring.effective.Effective.{Effective}
-use Rattle.cvss_v4.specs.ScoreLaws.{IsListed}
+use Rattle.cvss_v4.specs.laws.ScoreLaws.{IsListed}
 use Rattle.cvss_v4.proofs.ClassLemmas.{macro_vector_is}
 use Rattle.cvss_v4.proofs.DistanceLemmas.{eq1_divides, eq2_divides, eq3_eq6_divides, eq4_divides}
 use Rattle.cvss_v4.proofs.LeastLemmas.{eq1_within, eq2_within, eq3_eq6_within, eq4_within}
@@ -19,7 +19,7 @@ table_value_listed v =
     let there = value_at_place (macro_vector v) (macro_vector_is v) in
     rw there.is_value (record { is_value = refl; from_one = there.from_one; to_hundred = there.to_hundred })
 
-eq1_sound : (v : Effective) → IsSound (table_value v) (eq1_group v)
+pub eq1_sound : (v : Effective) → IsSound (table_value v) (eq1_group v)
 eq1_sound v =
     let within = eq1_within v.av v.pr v.ui in
     record {
@@ -32,7 +32,7 @@ eq1_sound v =
           eq1_falls (macro_vector v) (macro_vector_is v) (table_value v) lower is_value next;
     }
 
-eq2_sound : (v : Effective) → IsSound (table_value v) (eq2_group v)
+pub eq2_sound : (v : Effective) → IsSound (table_value v) (eq2_group v)
 eq2_sound v =
     let within = eq2_within v.ac v.at in
     record {
@@ -45,7 +45,7 @@ eq2_sound v =
           eq2_falls (macro_vector v) (macro_vector_is v) (table_value v) lower is_value next;
     }
 
-eq4_sound : (v : Effective) → IsSound (table_value v) (eq4_group v)
+pub eq4_sound : (v : Effective) → IsSound (table_value v) (eq4_group v)
 eq4_sound v =
     let within = eq4_within v.sc v.si v.sa in
     record {
@@ -58,7 +58,7 @@ eq4_sound v =
           eq4_falls (macro_vector v) (macro_vector_is v) (table_value v) lower is_value next;
     }
 
-eq3_eq6_sound : (v : Effective) → IsSound (table_value v) (eq3_eq6_group v)
+pub eq3_eq6_sound : (v : Effective) → IsSound (table_value v) (eq3_eq6_group v)
 eq3_eq6_sound v =
     let class3 = eq3 v.vc v.vi v.va in
     let class6 = eq6 v.vc v.vi v.va v.cr v.ir v.ar in
@@ -73,7 +73,7 @@ eq3_eq6_sound v =
           eq3_eq6_falls (macro_vector v) (macro_vector_is v) (table_value v) lower is_value next;
     }
 
-eq5_sound : (v : Effective) → IsSound (table_value v) (eq5_group v)
+pub eq5_sound : (v : Effective) → IsSound (table_value v) (eq5_group v)
 eq5_sound v = record {
   distance = 0;
   is_distance = refl;

@@ -4,7 +4,7 @@ use Rattle.std.proofs.lemmas.Bool.Decides.{nat_tests}
 use Rattle.cvss_v4.specs.Classes.{eq1, eq2, eq3, eq4, eq6}
 use Rattle.cvss_v4.specs.Distance.{eq1_sum, eq1_least, eq2_sum, eq2_least, eq3_eq6_sum, eq3_eq6_least, eq4_sum, eq4_least}
 use Rattle.cvss_v4.specs.Gap.{eq1_depth, eq2_depth, eq3_eq6_depth, eq4_depth}
-use Rattle.cvss_v4.specs.ScoreLaws.{IsPair}
+use Rattle.cvss_v4.specs.laws.ScoreLaws.{IsPair}
 use Rattle.cvss_v4.specs.declared.scoring.effective.AttackVector.{AttackVector}
 use Rattle.cvss_v4.specs.declared.scoring.effective.PrivilegesRequired.{PrivilegesRequired}
 use Rattle.cvss_v4.specs.declared.scoring.effective.UserInteraction.{UserInteraction}

@@ -1,16 +1,15 @@
 -- A value that is spelled by one letter in some case is spelled by that letter in upper case.
-use Rattle.std.proofs.Common.{◌≡◌, ℕ, Bool, true, nat_eq, List, [], ◌∷◌, Option, None, Some, IfSome, option_map, refl, sym, ap, ◌∙◌}
+use Rattle.std.proofs.Common.{◌≡◌, ℕ, Bool, true, nat_eq, List, [], ◌∷◌, Option, None, Some, IfSome, option_map, refl, sym, ap, ◌∙◌, rules}
 use Rattle.std.specs.Char.{to_ascii_uppercase}
 use Rattle.std.specs.List.{list_all, slice_get}
 use Rattle.std.specs.declared.cmp.Ordering.{Ordering}
 use Rattle.std.proofs.lemmas.Bool.{eqb-true}
 use Rattle.std.proofs.lemmas.Option.{slice_get-map}
-use Rattle.cvss_base.specs.laws.Order.{place_in}
 use Rattle.cvss_base.specs.Text.{raised}
 use Rattle.cvss_base.specs.declared.v4.MetricType.{MetricType}
-use Rattle.cvss_base.specs.declared.v4.MetricType.TheVariants.{AC, AT, AV, PR, SA, SC, SI, UI, VA, VC, VI, E, AR, CR, IR, MAC, MAT, MAV, MPR, MSA, MSC, MSI, MUI, MVA, MVC, MVI, AU, R, RE, S, U, V}
-use Rattle.cvss_v4_metric.specs.Metrics.{IsMetric}
-use Rattle.cvss_v4_metric.specs.Table.{spellings_of}
+use Rattle.cvss_base.specs.declared.v4.MetricType.TheVariants.{AC}
+use Rattle.cvss_v4_metric.specs.laws.Metrics.{IsMetric}
+use Rattle.cvss_v4_metric.specs.Table.{spellings_of, spelling_at}
 use Rattle.cvss_v4.proofs.TestLemmas.{at_place}
 
 -- whether a spelling of one letter is in upper case
@@ -20,7 +19,8 @@ is_plain (letter ∷ []) = nat_eq (to_ascii_uppercase letter) letter
 is_plain (letter ∷ next ∷ more) = true
 
 all_plain : (kind : MetricType) → list_all is_plain (spellings_of kind) ≡ true
-all_plain = elim [ AV ↦ refl | AC ↦ refl | AT ↦ refl | PR ↦ refl | UI ↦ refl | VC ↦ refl | VI ↦ refl | VA ↦ refl | SC ↦ refl | SI ↦ refl | SA ↦ refl | E ↦ refl | CR ↦ refl | IR ↦ refl | AR ↦ refl | MAV ↦ refl | MAC ↦ refl | MAT ↦ refl | MPR ↦ refl | MUI ↦ refl | MVC ↦ refl | MVI ↦ refl | MVA ↦ refl | MSC ↦ refl | MSI ↦ refl | MSA ↦ refl | S ↦ refl | AU ↦ refl | R ↦ refl | V ↦ refl | RE ↦ refl | U ↦ refl ]
+all_plain AC = refl
+all_plain _ = search rules
 
 plain_letter : (text : List ℕ) (letter : ℕ) → is_plain text ≡ true → raised text ≡ letter ∷ [] → text ≡ letter ∷ []
 plain_letter [] letter plain same = absurd cc
@@ -28,16 +28,18 @@ plain_letter (first ∷ []) letter plain same =
     let upper : to_ascii_uppercase first ≡ first = eqb-true _ _ plain in cc
 plain_letter (first ∷ next ∷ more) letter plain same = absurd cc
 
-module _ {A : Type 0} (kind : MetricType) (spelling : A → List ℕ) (values : List A) (is_default : A → Type 0) (compared : A → A → Ordering) (same : A → A → Bool) (is_clone : A → A → Type 0) (is_infallible : A → Type 0) (law : IsMetric kind spelling values is_default compared same is_clone is_infallible) where
-  stands : (x : A) → slice_get (spellings_of kind) (place_in spelling values x) ≡ Some (spelling x)
-  stands x =
-      let place = place_in spelling values x in
-      ap (λ list. slice_get list place) (sym law.rows)
-      ∙ slice_get-map spelling values place ∙ ap (option_map spelling) (law.covers x)
+module _ {A : Type 0} (kind : MetricType) (rank : A → ℕ) (values : List A) (is_default : A → Type 0) (compared : A → A → Ordering) (same : A → A → Bool) (is_clone : A → A → Type 0) (is_infallible : A → Type 0) (law : IsMetric kind rank values is_default compared same is_clone is_infallible) where
+  abbrev spelling : A → List ℕ
+  spelling x = spelling_at kind (rank x)
 
-  pub spelled_by_letter : (read : Option A) (letter : ℕ) → to_ascii_uppercase letter ≡ letter → IfSome read (λ x. raised (spelling x) ≡ raised (letter ∷ [])) → IfSome read (λ x. spelling x ≡ letter ∷ [])
+  stands : (x : A) → slice_get (spellings_of kind) (rank x) ≡ Some (spelling x)
+  stands x =
+      ap (λ list. slice_get list (rank x)) (sym law.rows)
+      ∙ slice_get-map spelling values (rank x) ∙ ap (option_map spelling) (law.covers x)
+
+  pub spelled_by_letter : (read : Option A) (letter : ℕ) → to_ascii_uppercase letter ≡ letter → IfSome read (λ x. raised (spelling_at kind (rank x)) ≡ raised (letter ∷ [])) → IfSome read (λ x. spelling_at kind (rank x) ≡ letter ∷ [])
   spelled_by_letter None letter upper spelled = tt
   spelled_by_letter (Some x) letter upper spelled =
       plain_letter (spelling x) letter
-      (at_place is_plain (spellings_of kind) (spelling x) (place_in spelling values x) (all_plain kind) (stands x))
+      (at_place is_plain (spellings_of kind) (spelling x) (rank x) (all_plain kind) (stands x))
       (spelled ∙ ap (λ byte. byte ∷ []) upper)

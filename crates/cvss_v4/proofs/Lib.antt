@@ -5,6 +5,7 @@ mod CountLemmas
 mod DepthLemmas
 mod DistanceLemmas
 mod EqualLemmas
+mod FitLemmas
 mod GroupLemmas
 mod LeastLemmas
 mod LetterLemmas
@@ -12,6 +13,7 @@ mod MeanLemmas
 mod MergingFacts
 mod MergingLemmas
 mod OverridingLemmas
+mod PlaceLemmas
 mod RoundedLemmas
 pub mod ScoreLawLemmas
 mod ScoreLemmas

@@ -7,7 +7,7 @@ use Rattle.cvss_base.specs.Exact.{Exact, ratio, ◌over◌, tenths, ◌⊕◌, �
 use Rattle.cvss_base.proofs.ExactLemmas.{equal_refl, equal_trans, sum_equal, difference_equal, product_equal}
 use Rattle.cvss_v4.specs.Gap.{Group}
 use Rattle.cvss_v4.specs.Scores.{proportion, total, mean}
-use Rattle.cvss_v4.specs.Shares.{taken, counted}
+use Rattle.cvss_v4.specs.private.Shares.{taken, counted}
 use Rattle.cvss_v4.proofs.TableLemmas.{Falls}
 
 -- gap * distance / depth in 8400ths of a point

@@ -6,7 +6,7 @@ use Rattle.cvss_base.specs.declared.v4.MetricType.TheVariants.{AC, AT, AV, PR, S
 use Rattle.cvss_v4_metric.specs.declared.base.attack.AttackVector.TheVariants as attack_vector
 use Rattle.cvss_v4_env.specs.declared.attack.ModifiedAttackVector.TheVariants as modified_attack_vector
 use Rattle.cvss_v4.specs.Merging.{letter_at}
-use Rattle.cvss_v4.specs.MergingLaws.{IsWrittenAsBase, IsKept, HasModifiedAsBase, base_of}
+use Rattle.cvss_v4.specs.laws.MergingLaws.{IsWrittenAsBase, IsKept, HasModifiedAsBase, base_of}
 use Rattle.cvss_v4.specs.declared.vector.Vector.{Vector}
 
 module _ (v w : Vector) where

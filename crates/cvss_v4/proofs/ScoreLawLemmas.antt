@@ -8,9 +8,9 @@ use Rattle.cvss_base.specs.Rounding.{IsRoundedV4}
 use Rattle.cvss_base.proofs.ExactLemmas.{equal_refl, equal_sym, equal_at_most, at_most_trans, sum_equal}
 use Rattle.cvss_base.proofs.RoundingLemmas.{v4-unique}
 use Rattle.cvss_v4.specs.Gap.{Group, groups}
-use Rattle.cvss_v4.specs.ScoreLaws.{IsFromTenthToTen}
+use Rattle.cvss_v4.specs.laws.ScoreLaws.{IsFromTenthToTen}
 use Rattle.cvss_v4.specs.Scores.{has_impact, number, IsScore}
-use Rattle.cvss_v4.specs.Shares.{taken, counted}
+use Rattle.cvss_v4.specs.private.Shares.{taken, counted}
 use Rattle.cvss_v4.specs.Values.{table_value}
 use Rattle.cvss_v4.specs.declared.scoring.effective.Effective.{Effective}
 use Rattle.cvss_v4.proofs.GroupLemmas.{table_value_listed, groups_sound}

@@ -6,7 +6,7 @@ use Rattle.cvss_base.proofs.ExactLemmas.{equal_sym}
 use Rattle.cvss_v4.specs.Classes.{macro_vector}
 use Rattle.cvss_v4.specs.Gap.{groups}
 use Rattle.cvss_v4.specs.Scores.{has_impact, number, proportion}
-use Rattle.cvss_v4.specs.ScoreLaws.{IsListed}
+use Rattle.cvss_v4.specs.laws.ScoreLaws.{IsListed}
 use Rattle.cvss_v4.specs.Values.{listed_value, table_value}
 use Rattle.cvss_v4.specs.declared.scoring.effective.Effective.{Effective}
 use Rattle.cvss_v4.proofs.GroupLemmas.{groups_sound}

@@ -1,9 +1,9 @@
 -- The values of the code are those of the table, and no class has a smaller value than its next lower ones.
-use Rattle.std.proofs.Common.{◌≡◌, ℕ, ◌+◌, ◌≤◌, Bool, true, false, ◌&&◌, ◌||◌, ◌==◌, leb, ltb, slice_index, Option, Some, None, refl, arith, ap}
+use Rattle.std.proofs.Common.{◌≡◌, ℕ, ◌≤◌, Bool, true, false, ◌&&◌, ◌||◌, ◌==◌, leb, slice_index, Option, Some, None, refl, arith, ap}
 use Rattle.std.proofs.lemmas.Bool.Decides.{nat_tests}
-use Rattle.cvss_v4.specs.ScoreLaws.{IsMacroVector, IsListed}
+use Rattle.cvss_v4.specs.laws.ScoreLaws.{IsMacroVector, IsListed}
 use Rattle.cvss_v4.specs.Gap.{eq1_next, eq2_next, eq3_eq6_next, eq4_next, eq5_next}
-use Rattle.cvss_v4.specs.Places.{place_of}
+use Rattle.cvss_v4.specs.private.Places.{place_of}
 use Rattle.cvss_v4.specs.Values.{rows, listed_value}
 use Rattle.cvss_v4.specs.declared.scoring.classes.MacroVector.{MacroVector}
 use Rattle.cvss_v4.specs.declared.scoring.values.TheConstants.{VALUES}
@@ -94,140 +94,51 @@ falling (Some v) (Some l) value lower h is_value is_lower =
     let same_lower : l ≡ lower = cc in
     record { from_one = grind (arith, nat_tests); to_value = grind (arith, nat_tests) }
 
--- there is nothing, or the class is not the last
-abbrev ends : Option ℕ → Bool → Bool
-ends None is_before = true
-ends (Some lower) is_before = is_before
+-- a next lower value falls from that of each class
+module _ (next : MacroVector → Option ℕ) where
+  abbrev falls_from : MacroVector → Bool
+  falls_from m = falls (listed_value m) (next m)
 
-ending : (next : Option ℕ) (is_before : Bool) → ends next is_before ≡ true → is_before ≡ false → next ≡ None
-ending None is_before h last = refl
-ending (Some lower) is_before h last = cc
+  falls_of : all_classes falls_from ≡ true → (m : MacroVector) → IsMacroVector m → (value lower : ℕ)
+      → listed_value m ≡ Some value → next m ≡ Some lower → Falls value lower
+  falls_of down m is_class value lower = falling (listed_value m) (next m) value lower (each_class falls_from down m is_class)
 
--- both of the next lower value of a class
-abbrev steps_down : (MacroVector → Option ℕ) → (MacroVector → Bool) → MacroVector → Bool
-steps_down next is_before m = falls (listed_value m) (next m) && ends (next m) (is_before m)
-
-module _ (next : MacroVector → Option ℕ) (is_before : MacroVector → Bool)
-    (down : all_classes (steps_down next is_before) ≡ true) (m : MacroVector) (is_class : IsMacroVector m) where
-  passed : (falls (listed_value m) (next m) ≡ true) × (ends (next m) (is_before m) ≡ true)
-  passed =
-      both (falls (listed_value m) (next m)) (ends (next m) (is_before m))
-      (each_class (steps_down next is_before) down m is_class)
-
-  step_falls : (value lower : ℕ) → listed_value m ≡ Some value → next m ≡ Some lower → Falls value lower
-  step_falls value lower is_value is_lower = falling (listed_value m) (next m) value lower passed.0 is_value is_lower
-
-  step_ends : is_before m ≡ false → next m ≡ None
-  step_ends last = ending (next m) (is_before m) passed.1 last
-
--- the next lower value in EQ1, which all classes but the last have
-abbrev eq1_before : MacroVector → Bool
-eq1_before m = ltb m.eq1 2
-
-eq1_down : all_classes (steps_down eq1_next eq1_before) ≡ true
+eq1_down : all_classes (falls_from eq1_next) ≡ true
 unfolding rows listed_value
 eq1_down = refl
 
 pub eq1_falls : (m : MacroVector) → IsMacroVector m → (value lower : ℕ) → listed_value m ≡ Some value
     → eq1_next m ≡ Some lower → Falls value lower
-eq1_falls m is_class = step_falls eq1_next eq1_before eq1_down m is_class
+eq1_falls = falls_of eq1_next eq1_down
 
-pub eq1_ends : (m : MacroVector) → IsMacroVector m → m.eq1 ≡ 2 → eq1_next m ≡ None
-eq1_ends m is_class last = step_ends eq1_next eq1_before eq1_down m is_class (grind (arith, nat_tests))
-
--- the next lower value in EQ2, which all classes but the last have
-abbrev eq2_before : MacroVector → Bool
-eq2_before m = ltb m.eq2 1
-
-eq2_down : all_classes (steps_down eq2_next eq2_before) ≡ true
+eq2_down : all_classes (falls_from eq2_next) ≡ true
 unfolding rows listed_value
 eq2_down = refl
 
 pub eq2_falls : (m : MacroVector) → IsMacroVector m → (value lower : ℕ) → listed_value m ≡ Some value
     → eq2_next m ≡ Some lower → Falls value lower
-eq2_falls m is_class = step_falls eq2_next eq2_before eq2_down m is_class
+eq2_falls = falls_of eq2_next eq2_down
 
-pub eq2_ends : (m : MacroVector) → IsMacroVector m → m.eq2 ≡ 1 → eq2_next m ≡ None
-eq2_ends m is_class last = step_ends eq2_next eq2_before eq2_down m is_class (grind (arith, nat_tests))
-
--- the next lower value in EQ3 with EQ6, which all classes but the last have
-abbrev eq3_eq6_before : MacroVector → Bool
-eq3_eq6_before m = ltb m.eq3 2
-
-eq3_eq6_down : all_classes (steps_down eq3_eq6_next eq3_eq6_before) ≡ true
+eq3_eq6_down : all_classes (falls_from eq3_eq6_next) ≡ true
 unfolding rows listed_value
 eq3_eq6_down = refl
 
 pub eq3_eq6_falls : (m : MacroVector) → IsMacroVector m → (value lower : ℕ) → listed_value m ≡ Some value
     → eq3_eq6_next m ≡ Some lower → Falls value lower
-eq3_eq6_falls m is_class = step_falls eq3_eq6_next eq3_eq6_before eq3_eq6_down m is_class
+eq3_eq6_falls = falls_of eq3_eq6_next eq3_eq6_down
 
-pub eq3_eq6_ends : (m : MacroVector) → IsMacroVector m → m.eq3 ≡ 2 → eq3_eq6_next m ≡ None
-eq3_eq6_ends m is_class last = step_ends eq3_eq6_next eq3_eq6_before eq3_eq6_down m is_class (grind (arith, nat_tests))
-
--- the next lower value in EQ4, which all classes but the last have
-abbrev eq4_before : MacroVector → Bool
-eq4_before m = ltb m.eq4 2
-
-eq4_down : all_classes (steps_down eq4_next eq4_before) ≡ true
+eq4_down : all_classes (falls_from eq4_next) ≡ true
 unfolding rows listed_value
 eq4_down = refl
 
 pub eq4_falls : (m : MacroVector) → IsMacroVector m → (value lower : ℕ) → listed_value m ≡ Some value
     → eq4_next m ≡ Some lower → Falls value lower
-eq4_falls m is_class = step_falls eq4_next eq4_before eq4_down m is_class
+eq4_falls = falls_of eq4_next eq4_down
 
-pub eq4_ends : (m : MacroVector) → IsMacroVector m → m.eq4 ≡ 2 → eq4_next m ≡ None
-eq4_ends m is_class last = step_ends eq4_next eq4_before eq4_down m is_class (grind (arith, nat_tests))
-
--- the next lower value in EQ5, which all classes but the last have
-abbrev eq5_before : MacroVector → Bool
-eq5_before m = ltb m.eq5 2
-
-eq5_down : all_classes (steps_down eq5_next eq5_before) ≡ true
+eq5_down : all_classes (falls_from eq5_next) ≡ true
 unfolding rows listed_value
 eq5_down = refl
 
 pub eq5_falls : (m : MacroVector) → IsMacroVector m → (value lower : ℕ) → listed_value m ≡ Some value
     → eq5_next m ≡ Some lower → Falls value lower
-eq5_falls m is_class = step_falls eq5_next eq5_before eq5_down m is_class
-
-pub eq5_ends : (m : MacroVector) → IsMacroVector m → m.eq5 ≡ 2 → eq5_next m ≡ None
-eq5_ends m is_class last = step_ends eq5_next eq5_before eq5_down m is_class (grind (arith, nat_tests))
-
--- there is a next lower value in EQ5 where there is such a class
-pub eq5_there : (m : MacroVector) → IsMacroVector (record m { eq5 = m.eq5 + 1 })
-    → (lower : ℕ) × (eq5_next m ≡ Some lower)
-eq5_there m is_next =
-    let next = record m { eq5 = m.eq5 + 1 } in
-    (slice_index VALUES (place_of next), (value_at_place next is_next).is_value)
-
--- the value with EQ3 or with EQ6 one higher
-abbrev pub eq3_raised : MacroVector → Option ℕ
-eq3_raised m = listed_value (record m { eq3 = m.eq3 + 1 })
-
-abbrev pub eq6_raised : MacroVector → Option ℕ
-eq6_raised m = listed_value (record m { eq6 = m.eq6 + 1 })
-
--- where there is one of the two alone
-abbrev is_single : MacroVector → Bool
-is_single m = ends (eq6_raised m) (ltb m.eq6 1) && ends (eq3_raised m) (ltb m.eq3 1 || (m.eq6 == 1))
-
-all_single : all_classes is_single ≡ true
-unfolding rows listed_value
-all_single = refl
-
-single : (m : MacroVector) → IsMacroVector m
-    → (ends (eq6_raised m) (ltb m.eq6 1) ≡ true) × (ends (eq3_raised m) (ltb m.eq3 1 || (m.eq6 == 1)) ≡ true)
-single m is_class =
-    both (ends (eq6_raised m) (ltb m.eq6 1)) (ends (eq3_raised m) (ltb m.eq3 1 || (m.eq6 == 1)))
-    (each_class is_single all_single m is_class)
-
--- at EQ6 = 1 it is that of EQ3
-pub eq6_ends : (m : MacroVector) → IsMacroVector m → m.eq6 ≡ 1 → eq6_raised m ≡ None
-eq6_ends m is_class last = ending (eq6_raised m) (ltb m.eq6 1) (single m is_class).0 (grind (arith, nat_tests))
-
--- at EQ3 = 1 and EQ6 = 0 it is that of EQ6
-pub eq3_ends : (m : MacroVector) → IsMacroVector m → m.eq3 ≡ 1 → m.eq6 ≡ 0 → eq3_raised m ≡ None
-eq3_ends m is_class one none =
-    ending (eq3_raised m) (ltb m.eq3 1 || (m.eq6 == 1)) (single m is_class).1 (grind (arith, nat_tests))
+eq5_falls = falls_of eq5_next eq5_down

@@ -2,7 +2,7 @@
 use Rattle.std.proofs.Common.{◌≡◌, ℕ, zero, suc, ◌<◌, Bool, true, false, ◌&&◌, List, [], ◌∷◌, Some, slice_get, refl, arith, ap, sym, ◌∙◌, inl, inr}
 use Rattle.std.specs.List.{list_all}
 use Rattle.std.proofs.lemmas.Bool.{cases_eq}
-use Rattle.cvss_v4.specs.Effective.{attack_vectors, privileges, user_interactions, attack_complexities, all_attack_requirements, vulnerable_impacts, subsequent_impacts, safety_impacts, requirements}
+use Rattle.cvss_v4.specs.Effective.{attack_vectors, privileges, user_interactions, attack_complexities, all_attack_requirements, vulnerable_impacts, subsequent_impacts, safety_impacts, requirements, values}
 use Rattle.cvss_v4.specs.declared.scoring.effective.AttackVector.{AttackVector}
 use Rattle.cvss_v4.specs.declared.scoring.effective.AttackVector.TheVariants as attack_vector
 use Rattle.cvss_v4.specs.declared.scoring.effective.PrivilegesRequired.{PrivilegesRequired}
@@ -36,61 +36,61 @@ at_place p [] x (suc k) all here = cc
 at_place p (y ∷ ys) x zero all here = let same : y ≡ x = cc in ap p (sym same) ∙ (both (p y) (list_all p ys) all).0
 at_place p (y ∷ ys) x (suc k) all here = at_place p ys x k (both (p y) (list_all p ys) all).1 here
 
-each_attack_vector : (p : AttackVector → Bool) → list_all p attack_vectors ≡ true → (x : AttackVector) → p x ≡ true
-each_attack_vector p h attack_vector.Network = at_place p attack_vectors attack_vector.Network 0 h refl
-each_attack_vector p h attack_vector.Adjacent = at_place p attack_vectors attack_vector.Adjacent 1 h refl
-each_attack_vector p h attack_vector.Local = at_place p attack_vectors attack_vector.Local 2 h refl
-each_attack_vector p h attack_vector.Physical = at_place p attack_vectors attack_vector.Physical 3 h refl
+each_attack_vector : (p : AttackVector → Bool) → list_all p (values attack_vectors) ≡ true → (x : AttackVector) → p x ≡ true
+each_attack_vector p h attack_vector.Network = at_place p (values attack_vectors) attack_vector.Network 0 h refl
+each_attack_vector p h attack_vector.Adjacent = at_place p (values attack_vectors) attack_vector.Adjacent 1 h refl
+each_attack_vector p h attack_vector.Local = at_place p (values attack_vectors) attack_vector.Local 2 h refl
+each_attack_vector p h attack_vector.Physical = at_place p (values attack_vectors) attack_vector.Physical 3 h refl
 
-each_privileges : (p : PrivilegesRequired → Bool) → list_all p privileges ≡ true → (x : PrivilegesRequired) → p x ≡ true
-each_privileges p h privileges_required.None = at_place p privileges privileges_required.None 0 h refl
-each_privileges p h privileges_required.Low = at_place p privileges privileges_required.Low 1 h refl
-each_privileges p h privileges_required.High = at_place p privileges privileges_required.High 2 h refl
+each_privileges : (p : PrivilegesRequired → Bool) → list_all p (values privileges) ≡ true → (x : PrivilegesRequired) → p x ≡ true
+each_privileges p h privileges_required.None = at_place p (values privileges) privileges_required.None 0 h refl
+each_privileges p h privileges_required.Low = at_place p (values privileges) privileges_required.Low 1 h refl
+each_privileges p h privileges_required.High = at_place p (values privileges) privileges_required.High 2 h refl
 
-each_interaction : (p : UserInteraction → Bool) → list_all p user_interactions ≡ true → (x : UserInteraction) → p x ≡ true
-each_interaction p h user_interaction.None = at_place p user_interactions user_interaction.None 0 h refl
-each_interaction p h user_interaction.Passive = at_place p user_interactions user_interaction.Passive 1 h refl
-each_interaction p h user_interaction.Active = at_place p user_interactions user_interaction.Active 2 h refl
+each_interaction : (p : UserInteraction → Bool) → list_all p (values user_interactions) ≡ true → (x : UserInteraction) → p x ≡ true
+each_interaction p h user_interaction.None = at_place p (values user_interactions) user_interaction.None 0 h refl
+each_interaction p h user_interaction.Passive = at_place p (values user_interactions) user_interaction.Passive 1 h refl
+each_interaction p h user_interaction.Active = at_place p (values user_interactions) user_interaction.Active 2 h refl
 
-each_complexity : (p : AttackComplexity → Bool) → list_all p attack_complexities ≡ true → (x : AttackComplexity) → p x ≡ true
-each_complexity p h attack_complexity.Low = at_place p attack_complexities attack_complexity.Low 0 h refl
-each_complexity p h attack_complexity.High = at_place p attack_complexities attack_complexity.High 1 h refl
+each_complexity : (p : AttackComplexity → Bool) → list_all p (values attack_complexities) ≡ true → (x : AttackComplexity) → p x ≡ true
+each_complexity p h attack_complexity.Low = at_place p (values attack_complexities) attack_complexity.Low 0 h refl
+each_complexity p h attack_complexity.High = at_place p (values attack_complexities) attack_complexity.High 1 h refl
 
-each_requirements : (p : AttackRequirements → Bool) → list_all p all_attack_requirements ≡ true → (x : AttackRequirements) → p x ≡ true
-each_requirements p h attack_requirements.None = at_place p all_attack_requirements attack_requirements.None 0 h refl
-each_requirements p h attack_requirements.Present = at_place p all_attack_requirements attack_requirements.Present 1 h refl
+each_requirements : (p : AttackRequirements → Bool) → list_all p (values all_attack_requirements) ≡ true → (x : AttackRequirements) → p x ≡ true
+each_requirements p h attack_requirements.None = at_place p (values all_attack_requirements) attack_requirements.None 0 h refl
+each_requirements p h attack_requirements.Present = at_place p (values all_attack_requirements) attack_requirements.Present 1 h refl
 
-each_vulnerable : (p : VulnerableImpact → Bool) → list_all p vulnerable_impacts ≡ true → (x : VulnerableImpact) → p x ≡ true
-each_vulnerable p h vulnerable_impact.High = at_place p vulnerable_impacts vulnerable_impact.High 0 h refl
-each_vulnerable p h vulnerable_impact.Low = at_place p vulnerable_impacts vulnerable_impact.Low 1 h refl
-each_vulnerable p h vulnerable_impact.None = at_place p vulnerable_impacts vulnerable_impact.None 2 h refl
+each_vulnerable : (p : VulnerableImpact → Bool) → list_all p (values vulnerable_impacts) ≡ true → (x : VulnerableImpact) → p x ≡ true
+each_vulnerable p h vulnerable_impact.High = at_place p (values vulnerable_impacts) vulnerable_impact.High 0 h refl
+each_vulnerable p h vulnerable_impact.Low = at_place p (values vulnerable_impacts) vulnerable_impact.Low 1 h refl
+each_vulnerable p h vulnerable_impact.None = at_place p (values vulnerable_impacts) vulnerable_impact.None 2 h refl
 
-each_subsequent : (p : SubsequentImpact → Bool) → list_all p subsequent_impacts ≡ true → (x : SubsequentImpact) → p x ≡ true
-each_subsequent p h subsequent_impact.High = at_place p subsequent_impacts subsequent_impact.High 0 h refl
-each_subsequent p h subsequent_impact.Low = at_place p subsequent_impacts subsequent_impact.Low 1 h refl
-each_subsequent p h subsequent_impact.None = at_place p subsequent_impacts subsequent_impact.None 2 h refl
+each_subsequent : (p : SubsequentImpact → Bool) → list_all p (values subsequent_impacts) ≡ true → (x : SubsequentImpact) → p x ≡ true
+each_subsequent p h subsequent_impact.High = at_place p (values subsequent_impacts) subsequent_impact.High 0 h refl
+each_subsequent p h subsequent_impact.Low = at_place p (values subsequent_impacts) subsequent_impact.Low 1 h refl
+each_subsequent p h subsequent_impact.None = at_place p (values subsequent_impacts) subsequent_impact.None 2 h refl
 
-each_safety : (p : SafetyImpact → Bool) → list_all p safety_impacts ≡ true → (x : SafetyImpact) → p x ≡ true
-each_safety p h safety_impact.Safety = at_place p safety_impacts safety_impact.Safety 0 h refl
-each_safety p h safety_impact.High = at_place p safety_impacts safety_impact.High 1 h refl
-each_safety p h safety_impact.Low = at_place p safety_impacts safety_impact.Low 2 h refl
-each_safety p h safety_impact.None = at_place p safety_impacts safety_impact.None 3 h refl
+each_safety : (p : SafetyImpact → Bool) → list_all p (values safety_impacts) ≡ true → (x : SafetyImpact) → p x ≡ true
+each_safety p h safety_impact.Safety = at_place p (values safety_impacts) safety_impact.Safety 0 h refl
+each_safety p h safety_impact.High = at_place p (values safety_impacts) safety_impact.High 1 h refl
+each_safety p h safety_impact.Low = at_place p (values safety_impacts) safety_impact.Low 2 h refl
+each_safety p h safety_impact.None = at_place p (values safety_impacts) safety_impact.None 3 h refl
 
-each_requirement : (p : Requirement → Bool) → list_all p requirements ≡ true → (x : Requirement) → p x ≡ true
-each_requirement p h requirement.High = at_place p requirements requirement.High 0 h refl
-each_requirement p h requirement.Medium = at_place p requirements requirement.Medium 1 h refl
-each_requirement p h requirement.Low = at_place p requirements requirement.Low 2 h refl
+each_requirement : (p : Requirement → Bool) → list_all p (values requirements) ≡ true → (x : Requirement) → p x ≡ true
+each_requirement p h requirement.High = at_place p (values requirements) requirement.High 0 h refl
+each_requirement p h requirement.Medium = at_place p (values requirements) requirement.Medium 1 h refl
+each_requirement p h requirement.Low = at_place p (values requirements) requirement.Low 2 h refl
 
 -- a test that is true for all assignments to AV, PR and UI is true for each
 module _ (p : AttackVector → PrivilegesRequired → UserInteraction → Bool) where
   abbrev eq1_from_ui : AttackVector → PrivilegesRequired → Bool
-  eq1_from_ui av pr = list_all (p av pr) user_interactions
+  eq1_from_ui av pr = list_all (p av pr) (values user_interactions)
 
   abbrev eq1_from_pr : AttackVector → Bool
-  eq1_from_pr av = list_all (eq1_from_ui av) privileges
+  eq1_from_pr av = list_all (eq1_from_ui av) (values privileges)
 
   abbrev pub all_eq1 : Bool
-  all_eq1 = list_all eq1_from_pr attack_vectors
+  all_eq1 = list_all eq1_from_pr (values attack_vectors)
 
   pub each_eq1 : all_eq1 ≡ true → (av : AttackVector) (pr : PrivilegesRequired) (ui : UserInteraction) → p av pr ui ≡ true
   each_eq1 h av pr ui =
@@ -101,10 +101,10 @@ module _ (p : AttackVector → PrivilegesRequired → UserInteraction → Bool) 
 -- a test that is true for all assignments to AC and AT is true for each
 module _ (p : AttackComplexity → AttackRequirements → Bool) where
   abbrev eq2_from_at : AttackComplexity → Bool
-  eq2_from_at ac = list_all (p ac) all_attack_requirements
+  eq2_from_at ac = list_all (p ac) (values all_attack_requirements)
 
   abbrev pub all_eq2 : Bool
-  all_eq2 = list_all eq2_from_at attack_complexities
+  all_eq2 = list_all eq2_from_at (values attack_complexities)
 
   pub each_eq2 : all_eq2 ≡ true → (ac : AttackComplexity) (at : AttackRequirements) → p ac at ≡ true
   each_eq2 h ac at =
@@ -114,22 +114,22 @@ module _ (p : AttackComplexity → AttackRequirements → Bool) where
 -- a test that is true for all assignments to VC, VI, VA, CR, IR and AR is true for each
 module _ (p : VulnerableImpact → VulnerableImpact → VulnerableImpact → Requirement → Requirement → Requirement → Bool) where
   abbrev eq3_eq6_from_ar : VulnerableImpact → VulnerableImpact → VulnerableImpact → Requirement → Requirement → Bool
-  eq3_eq6_from_ar vc vi va cr ir = list_all (p vc vi va cr ir) requirements
+  eq3_eq6_from_ar vc vi va cr ir = list_all (p vc vi va cr ir) (values requirements)
 
   abbrev eq3_eq6_from_ir : VulnerableImpact → VulnerableImpact → VulnerableImpact → Requirement → Bool
-  eq3_eq6_from_ir vc vi va cr = list_all (eq3_eq6_from_ar vc vi va cr) requirements
+  eq3_eq6_from_ir vc vi va cr = list_all (eq3_eq6_from_ar vc vi va cr) (values requirements)
 
   abbrev eq3_eq6_from_cr : VulnerableImpact → VulnerableImpact → VulnerableImpact → Bool
-  eq3_eq6_from_cr vc vi va = list_all (eq3_eq6_from_ir vc vi va) requirements
+  eq3_eq6_from_cr vc vi va = list_all (eq3_eq6_from_ir vc vi va) (values requirements)
 
   abbrev eq3_eq6_from_va : VulnerableImpact → VulnerableImpact → Bool
-  eq3_eq6_from_va vc vi = list_all (eq3_eq6_from_cr vc vi) vulnerable_impacts
+  eq3_eq6_from_va vc vi = list_all (eq3_eq6_from_cr vc vi) (values vulnerable_impacts)
 
   abbrev eq3_eq6_from_vi : VulnerableImpact → Bool
-  eq3_eq6_from_vi vc = list_all (eq3_eq6_from_va vc) vulnerable_impacts
+  eq3_eq6_from_vi vc = list_all (eq3_eq6_from_va vc) (values vulnerable_impacts)
 
   abbrev pub all_eq3_eq6 : Bool
-  all_eq3_eq6 = list_all eq3_eq6_from_vi vulnerable_impacts
+  all_eq3_eq6 = list_all eq3_eq6_from_vi (values vulnerable_impacts)
 
   pub each_eq3_eq6 : all_eq3_eq6 ≡ true → (vc vi va : VulnerableImpact) (cr ir ar : Requirement) → p vc vi va cr ir ar ≡ true
   each_eq3_eq6 h vc vi va cr ir ar =
@@ -143,13 +143,13 @@ module _ (p : VulnerableImpact → VulnerableImpact → VulnerableImpact → Req
 -- a test that is true for all assignments to SC, SI and SA is true for each
 module _ (p : SubsequentImpact → SafetyImpact → SafetyImpact → Bool) where
   abbrev eq4_from_sa : SubsequentImpact → SafetyImpact → Bool
-  eq4_from_sa sc si = list_all (p sc si) safety_impacts
+  eq4_from_sa sc si = list_all (p sc si) (values safety_impacts)
 
   abbrev eq4_from_si : SubsequentImpact → Bool
-  eq4_from_si sc = list_all (eq4_from_sa sc) safety_impacts
+  eq4_from_si sc = list_all (eq4_from_sa sc) (values safety_impacts)
 
   abbrev pub all_eq4 : Bool
-  all_eq4 = list_all eq4_from_si subsequent_impacts
+  all_eq4 = list_all eq4_from_si (values subsequent_impacts)
 
   pub each_eq4 : all_eq4 ≡ true → (sc : SubsequentImpact) (si sa : SafetyImpact) → p sc si sa ≡ true
   each_eq4 h sc si sa =

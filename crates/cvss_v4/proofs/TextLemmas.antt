@@ -10,7 +10,7 @@ use Rattle.cvss_base.proofs.PrintLemmas.{joined-slashed}
 use Rattle.cvss_v4_metric.specs.Table.{printed}
 use Rattle.cvss_v4.specs.declared.vector.Vector.{Vector}
 use Rattle.cvss_v4.specs.Vector.{v4}
-use Rattle.cvss_v4.specs.VectorLaws.{v4_is_lawful, v4_fronts_are_lawful, one_minor_version}
+use Rattle.cvss_v4.specs.private.VectorLaws.{v4_is_lawful, v4_fronts_are_lawful, one_minor_version}
 
 pub own_text : (vector : Vector) → Denotes v4 (canonical_text v4 vector) vector
 own_text = canonical_text-denotes v4 v4_is_lawful

@@ -23,25 +23,18 @@ use Rattle.cvss_v4.specs.declared.scoring.effective.Requirement.TheVariants as r
 use Rattle.cvss_v4.specs.declared.scoring.effective.ExploitMaturity.{ExploitMaturity}
 use Rattle.cvss_v4.specs.declared.scoring.effective.ExploitMaturity.TheVariants.{Attacked, ProofOfConcept, Unreported}
 
--- whether it is AV:N
+-- AV:N, AV:P, PR:N and UI:N
 abbrev pub is_network : AttackVector → Bool
-is_network Network = true
-is_network _ = false
+is_network = elim [ Network ↦ true | _ ↦ false ]
 
--- AV:P
 abbrev pub is_physical : AttackVector → Bool
-is_physical Physical = true
-is_physical _ = false
+is_physical = elim [ Physical ↦ true | _ ↦ false ]
 
--- PR:N
 abbrev pub is_unprivileged : PrivilegesRequired → Bool
-is_unprivileged privileges_required.None = true
-is_unprivileged _ = false
+is_unprivileged = elim [ privileges_required.None ↦ true | _ ↦ false ]
 
--- UI:N
 abbrev pub is_alone : UserInteraction → Bool
-is_alone user_interaction.None = true
-is_alone _ = false
+is_alone = elim [ user_interaction.None ↦ true | _ ↦ false ]
 
 -- 0: AV:N and PR:N and UI:N; 1: not 0, AV:N or PR:N or UI:N, and not AV:P; 2: AV:P, or none of AV:N, PR:N, UI:N
 abbrev pub eq1 : AttackVector → PrivilegesRequired → UserInteraction → ℕ
@@ -49,24 +42,23 @@ eq1 av pr ui =
     if is_network av && is_unprivileged pr && is_alone ui then 0
     else (if (is_network av || (is_unprivileged pr || is_alone ui)) && not (is_physical av) then 1 else 2)
 
--- AC:L
+-- AC:L and AT:N
 abbrev pub is_simple : AttackComplexity → Bool
-is_simple attack_complexity.Low = true
-is_simple _ = false
+is_simple = elim [ attack_complexity.Low ↦ true | _ ↦ false ]
 
--- AT:N
 abbrev pub is_unconditional : AttackRequirements → Bool
-is_unconditional attack_requirements.None = true
-is_unconditional _ = false
+is_unconditional = elim [ attack_requirements.None ↦ true | _ ↦ false ]
 
 -- 0: AC:L and AT:N; 1: not AC:L, or not AT:N
 abbrev pub eq2 : AttackComplexity → AttackRequirements → ℕ
 eq2 ac at = if is_simple ac && is_unconditional at then 0 else 1
 
--- VC:H, VI:H or VA:H
+-- VC:H, VI:H or VA:H; CR:H, IR:H or AR:H
 abbrev pub is_vulnerable_high : VulnerableImpact → Bool
-is_vulnerable_high vulnerable_impact.High = true
-is_vulnerable_high _ = false
+is_vulnerable_high = elim [ vulnerable_impact.High ↦ true | _ ↦ false ]
+
+abbrev pub is_requirement_high : Requirement → Bool
+is_requirement_high = elim [ requirement.High ↦ true | _ ↦ false ]
 
 -- 0: VC:H and VI:H; 1: not 0, and VC:H or VI:H or VA:H; 2: none of VC:H, VI:H, VA:H
 abbrev pub eq3 : VulnerableImpact → VulnerableImpact → VulnerableImpact → ℕ
@@ -74,20 +66,23 @@ eq3 vc vi va =
     if is_vulnerable_high vc && is_vulnerable_high vi then 0
     else (if is_vulnerable_high vc || (is_vulnerable_high vi || is_vulnerable_high va) then 1 else 2)
 
--- SC:H
+-- 0: CR:H and VC:H, or IR:H and VI:H, or AR:H and VA:H; 1: none of the three
+abbrev pub eq6 : VulnerableImpact → VulnerableImpact → VulnerableImpact → Requirement → Requirement → Requirement → ℕ
+eq6 vc vi va cr ir ar =
+    if is_requirement_high cr && is_vulnerable_high vc
+    || (is_requirement_high ir && is_vulnerable_high vi || is_requirement_high ar && is_vulnerable_high va)
+    then 0
+    else 1
+
+-- SC:H; SI:H or SA:H; SI:S or SA:S
 abbrev pub is_subsequent_high : SubsequentImpact → Bool
-is_subsequent_high subsequent_impact.High = true
-is_subsequent_high _ = false
+is_subsequent_high = elim [ subsequent_impact.High ↦ true | _ ↦ false ]
 
--- SI:H or SA:H
 abbrev pub is_safety_high : SafetyImpact → Bool
-is_safety_high safety_impact.High = true
-is_safety_high _ = false
+is_safety_high = elim [ safety_impact.High ↦ true | _ ↦ false ]
 
--- SI:S or SA:S
 abbrev pub is_unsafe : SafetyImpact → Bool
-is_unsafe safety_impact.Safety = true
-is_unsafe _ = false
+is_unsafe = elim [ safety_impact.Safety ↦ true | _ ↦ false ]
 
 -- 0: SI:S or SA:S; 1: not 0, and SC:H or SI:H or SA:H; 2: none of SI:S, SA:S, SC:H, SI:H, SA:H
 abbrev pub eq4 : SubsequentImpact → SafetyImpact → SafetyImpact → ℕ
@@ -97,22 +92,7 @@ eq4 sc si sa =
 
 -- 0: E:A; 1: E:P; 2: E:U
 abbrev pub eq5 : ExploitMaturity → ℕ
-eq5 Attacked = 0
-eq5 ProofOfConcept = 1
-eq5 Unreported = 2
-
--- CR:H, IR:H or AR:H
-abbrev pub is_requirement_high : Requirement → Bool
-is_requirement_high requirement.High = true
-is_requirement_high _ = false
-
--- 0: CR:H and VC:H, or IR:H and VI:H, or AR:H and VA:H; 1: none of the three
-abbrev pub eq6 : VulnerableImpact → VulnerableImpact → VulnerableImpact → Requirement → Requirement → Requirement → ℕ
-eq6 vc vi va cr ir ar =
-    if is_requirement_high cr && is_vulnerable_high vc
-    || (is_requirement_high ir && is_vulnerable_high vi || is_requirement_high ar && is_vulnerable_high va)
-    then 0
-    else 1
+eq5 = elim [ Attacked ↦ 0 | ProofOfConcept ↦ 1 | Unreported ↦ 2 ]
 
 -- the six numbers of effective values
 abbrev pub macro_vector : Effective → MacroVector

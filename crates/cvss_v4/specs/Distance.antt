@@ -2,7 +2,7 @@
 -- It is the sum of their levels, less the least such sum over all assignments of values with the same class.
 use Rattle.std.specs.Prelude.{ℕ, ◌+◌, ◌==◌, ◌&&◌, min, Bool, if◌then◌else◌, List, [], ◌∷◌, ℤ, pos, ◌-ℤ◌}
 use Rattle.std.specs.List.{flat_map}
-use Rattle.cvss_v4.specs.Effective.{attack_vectors, privileges, user_interactions, attack_complexities, all_attack_requirements, vulnerable_impacts, subsequent_impacts, safety_impacts, requirements}
+use Rattle.cvss_v4.specs.Effective.{attack_vectors, privileges, user_interactions, attack_complexities, all_attack_requirements, vulnerable_impacts, subsequent_impacts, safety_impacts, requirements, values}
 use Rattle.cvss_v4.specs.Levels.{attack_vector_level, privileges_level, interaction_level, complexity_level, requirements_level, vulnerable_level, subsequent_level, safety_level, requirement_level}
 use Rattle.cvss_v4.specs.Classes.{eq1, eq2, eq3, eq4, eq6}
 use Rattle.cvss_v4.specs.declared.scoring.effective.Effective.{Effective}
@@ -34,7 +34,7 @@ eq1_sum av pr ui = attack_vector_level av + privileges_level pr + interaction_le
 unfoldable pub eq1_least : ℕ → ℕ
 eq1_least class =
     least (flat_map (λ av. flat_map (λ pr. flat_map (λ ui.
-    sum_if (eq1 av pr ui == class) (eq1_sum av pr ui)) user_interactions) privileges) attack_vectors)
+    sum_if (eq1 av pr ui == class) (eq1_sum av pr ui)) (values user_interactions)) (values privileges)) (values attack_vectors))
 
 -- EQ2: the levels of AC and AT
 abbrev pub eq2_sum : AttackComplexity → AttackRequirements → ℕ
@@ -44,7 +44,7 @@ eq2_sum ac at = complexity_level ac + requirements_level at
 unfoldable pub eq2_least : ℕ → ℕ
 eq2_least class =
     least (flat_map (λ ac. flat_map (λ at.
-    sum_if (eq2 ac at == class) (eq2_sum ac at)) all_attack_requirements) attack_complexities)
+    sum_if (eq2 ac at == class) (eq2_sum ac at)) (values all_attack_requirements)) (values attack_complexities))
 
 -- EQ3 with EQ6: the levels of VC, VI, VA, CR, IR and AR
 abbrev pub eq3_eq6_sum : VulnerableImpact → VulnerableImpact → VulnerableImpact → Requirement → Requirement → Requirement
@@ -58,7 +58,7 @@ unfoldable pub eq3_eq6_least : ℕ → ℕ → ℕ
 eq3_eq6_least class3 class6 =
     least (flat_map (λ vc. flat_map (λ vi. flat_map (λ va. flat_map (λ cr. flat_map (λ ir. flat_map (λ ar.
     sum_if ((eq3 vc vi va == class3) && (eq6 vc vi va cr ir ar == class6)) (eq3_eq6_sum vc vi va cr ir ar))
-    requirements) requirements) requirements) vulnerable_impacts) vulnerable_impacts) vulnerable_impacts)
+    (values requirements)) (values requirements)) (values requirements)) (values vulnerable_impacts)) (values vulnerable_impacts)) (values vulnerable_impacts))
 
 -- EQ4: the levels of SC, SI and SA
 abbrev pub eq4_sum : SubsequentImpact → SafetyImpact → SafetyImpact → ℕ
@@ -68,7 +68,7 @@ eq4_sum sc si sa = subsequent_level sc + safety_level si + safety_level sa
 unfoldable pub eq4_least : ℕ → ℕ
 eq4_least class =
     least (flat_map (λ sc. flat_map (λ si. flat_map (λ sa.
-    sum_if (eq4 sc si sa == class) (eq4_sum sc si sa)) safety_impacts) safety_impacts) subsequent_impacts)
+    sum_if (eq4 sc si sa == class) (eq4_sum sc si sa)) (values safety_impacts)) (values safety_impacts)) (values subsequent_impacts))
 
 -- the distance in EQ1
 abbrev pub eq1_distance : Effective → ℤ
@@ -87,7 +87,3 @@ eq3_eq6_distance v =
 -- the distance in EQ4
 abbrev pub eq4_distance : Effective → ℤ
 eq4_distance v = pos (eq4_sum v.sc v.si v.sa) -ℤ pos (eq4_least (eq4 v.sc v.si v.sa))
-
--- the distance in EQ5, whose classes have one value each
-abbrev pub eq5_distance : Effective → ℤ
-eq5_distance v = pos 0

@@ -1,5 +1,6 @@
--- All effective values of each metric: CVSS v4.0 specification, sections 2 to 4.
-use Rattle.std.specs.Prelude.{List, [], ◌∷◌}
+-- The effective values of each metric by their letters, the most severe first: CVSS v4.0 specification, sections 2 to 4.
+use Rattle.std.specs.Prelude.{ℕ, List, [], ◌∷◌, codes, map, find, bytes_eq}
+use Rattle.std.specs.Option.{option_map_or}
 use Rattle.cvss_v4.specs.declared.scoring.effective.AttackVector.{AttackVector}
 use Rattle.cvss_v4.specs.declared.scoring.effective.AttackVector.TheVariants as attack_vector
 use Rattle.cvss_v4.specs.declared.scoring.effective.PrivilegesRequired.{PrivilegesRequired}
@@ -18,39 +19,58 @@ use Rattle.cvss_v4.specs.declared.scoring.effective.SafetyImpact.{SafetyImpact}
 use Rattle.cvss_v4.specs.declared.scoring.effective.SafetyImpact.TheVariants as safety_impact
 use Rattle.cvss_v4.specs.declared.scoring.effective.Requirement.{Requirement}
 use Rattle.cvss_v4.specs.declared.scoring.effective.Requirement.TheVariants as requirement
+use Rattle.cvss_v4.specs.declared.scoring.effective.ExploitMaturity.{ExploitMaturity}
+use Rattle.cvss_v4.specs.declared.scoring.effective.ExploitMaturity.TheVariants as exploit_maturity
+
+-- what counts where nothing is defined, and letters, each with the effective value that it stands for
+pub record Letters (E : Type 0) : Type 0 where
+  pub undefined : E
+  pub rows : List (List ℕ × E)
 
 -- AV
-abbrev pub attack_vectors : List AttackVector
-attack_vectors = attack_vector.Network ∷ attack_vector.Adjacent ∷ attack_vector.Local ∷ attack_vector.Physical ∷ []
+abbrev pub attack_vectors : Letters AttackVector
+attack_vectors = record { undefined = attack_vector.Network; rows = (codes "N", attack_vector.Network) ∷ (codes "A", attack_vector.Adjacent) ∷ (codes "L", attack_vector.Local) ∷ (codes "P", attack_vector.Physical) ∷ [] }
 
 -- PR
-abbrev pub privileges : List PrivilegesRequired
-privileges = privileges_required.None ∷ privileges_required.Low ∷ privileges_required.High ∷ []
+abbrev pub privileges : Letters PrivilegesRequired
+privileges = record { undefined = privileges_required.None; rows = (codes "N", privileges_required.None) ∷ (codes "L", privileges_required.Low) ∷ (codes "H", privileges_required.High) ∷ [] }
 
 -- UI
-abbrev pub user_interactions : List UserInteraction
-user_interactions = user_interaction.None ∷ user_interaction.Passive ∷ user_interaction.Active ∷ []
+abbrev pub user_interactions : Letters UserInteraction
+user_interactions = record { undefined = user_interaction.None; rows = (codes "N", user_interaction.None) ∷ (codes "P", user_interaction.Passive) ∷ (codes "A", user_interaction.Active) ∷ [] }
 
 -- AC
-abbrev pub attack_complexities : List AttackComplexity
-attack_complexities = attack_complexity.Low ∷ attack_complexity.High ∷ []
+abbrev pub attack_complexities : Letters AttackComplexity
+attack_complexities = record { undefined = attack_complexity.Low; rows = (codes "L", attack_complexity.Low) ∷ (codes "H", attack_complexity.High) ∷ [] }
 
 -- AT
-abbrev pub all_attack_requirements : List AttackRequirements
-all_attack_requirements = attack_requirements.None ∷ attack_requirements.Present ∷ []
+abbrev pub all_attack_requirements : Letters AttackRequirements
+all_attack_requirements = record { undefined = attack_requirements.None; rows = (codes "N", attack_requirements.None) ∷ (codes "P", attack_requirements.Present) ∷ [] }
 
 -- VC, VI and VA
-abbrev pub vulnerable_impacts : List VulnerableImpact
-vulnerable_impacts = vulnerable_impact.High ∷ vulnerable_impact.Low ∷ vulnerable_impact.None ∷ []
+abbrev pub vulnerable_impacts : Letters VulnerableImpact
+vulnerable_impacts = record { undefined = vulnerable_impact.High; rows = (codes "H", vulnerable_impact.High) ∷ (codes "L", vulnerable_impact.Low) ∷ (codes "N", vulnerable_impact.None) ∷ [] }
 
--- SC
-abbrev pub subsequent_impacts : List SubsequentImpact
-subsequent_impacts = subsequent_impact.High ∷ subsequent_impact.Low ∷ subsequent_impact.None ∷ []
+-- SC; where it is modified, N is Negligible
+abbrev pub subsequent_impacts : Letters SubsequentImpact
+subsequent_impacts = record { undefined = subsequent_impact.High; rows = (codes "H", subsequent_impact.High) ∷ (codes "L", subsequent_impact.Low) ∷ (codes "N", subsequent_impact.None) ∷ [] }
 
--- SI and SA, which may be Safety
-abbrev pub safety_impacts : List SafetyImpact
-safety_impacts = safety_impact.Safety ∷ safety_impact.High ∷ safety_impact.Low ∷ safety_impact.None ∷ []
+-- SI and SA; where they are modified, N is Negligible and S is Safety
+abbrev pub safety_impacts : Letters SafetyImpact
+safety_impacts = record { undefined = safety_impact.High; rows = (codes "S", safety_impact.Safety) ∷ (codes "H", safety_impact.High) ∷ (codes "L", safety_impact.Low) ∷ (codes "N", safety_impact.None) ∷ [] }
 
 -- CR, IR and AR
-abbrev pub requirements : List Requirement
-requirements = requirement.High ∷ requirement.Medium ∷ requirement.Low ∷ []
+abbrev pub requirements : Letters Requirement
+requirements = record { undefined = requirement.High; rows = (codes "H", requirement.High) ∷ (codes "M", requirement.Medium) ∷ (codes "L", requirement.Low) ∷ [] }
+
+-- E
+abbrev pub exploit_maturities : Letters ExploitMaturity
+exploit_maturities = record { undefined = exploit_maturity.Attacked; rows = (codes "A", exploit_maturity.Attacked) ∷ (codes "P", exploit_maturity.ProofOfConcept) ∷ (codes "U", exploit_maturity.Unreported) ∷ [] }
+
+-- the values of all letters
+abbrev pub values : {E : Type 0} → Letters E → List E
+values letters = map (λ row. row.1) letters.rows
+
+-- the value that a letter stands for; X, which is none of the letters, for what counts where nothing is defined
+abbrev pub meaning : {E : Type 0} → Letters E → List ℕ → E
+meaning letters text = option_map_or (λ row. row.1) (find (λ row. bytes_eq row.0 text) letters.rows) letters.undefined

@@ -20,56 +20,33 @@ use Rattle.cvss_v4.specs.declared.scoring.effective.SafetyImpact.TheVariants as 
 use Rattle.cvss_v4.specs.declared.scoring.effective.Requirement.{Requirement}
 use Rattle.cvss_v4.specs.declared.scoring.effective.Requirement.TheVariants as requirement
 
--- AV
+-- AV, PR and UI
 abbrev pub attack_vector_level : AttackVector → ℕ
-attack_vector_level attack_vector.Network = 0
-attack_vector_level attack_vector.Adjacent = 1
-attack_vector_level attack_vector.Local = 2
-attack_vector_level attack_vector.Physical = 3
+attack_vector_level = elim [ attack_vector.Network ↦ 0 | attack_vector.Adjacent ↦ 1 | attack_vector.Local ↦ 2 | attack_vector.Physical ↦ 3 ]
 
--- PR
 abbrev pub privileges_level : PrivilegesRequired → ℕ
-privileges_level privileges_required.None = 0
-privileges_level privileges_required.Low = 1
-privileges_level privileges_required.High = 2
+privileges_level = elim [ privileges_required.None ↦ 0 | privileges_required.Low ↦ 1 | privileges_required.High ↦ 2 ]
 
--- UI
 abbrev pub interaction_level : UserInteraction → ℕ
-interaction_level user_interaction.None = 0
-interaction_level user_interaction.Passive = 1
-interaction_level user_interaction.Active = 2
+interaction_level = elim [ user_interaction.None ↦ 0 | user_interaction.Passive ↦ 1 | user_interaction.Active ↦ 2 ]
 
--- AC
+-- AC and AT
 abbrev pub complexity_level : AttackComplexity → ℕ
-complexity_level attack_complexity.Low = 0
-complexity_level attack_complexity.High = 1
+complexity_level = elim [ attack_complexity.Low ↦ 0 | attack_complexity.High ↦ 1 ]
 
--- AT
 abbrev pub requirements_level : AttackRequirements → ℕ
-requirements_level attack_requirements.None = 0
-requirements_level attack_requirements.Present = 1
+requirements_level = elim [ attack_requirements.None ↦ 0 | attack_requirements.Present ↦ 1 ]
 
--- VC, VI and VA
+-- VC, VI and VA; CR, IR and AR
 abbrev pub vulnerable_level : VulnerableImpact → ℕ
-vulnerable_level vulnerable_impact.High = 0
-vulnerable_level vulnerable_impact.Low = 1
-vulnerable_level vulnerable_impact.None = 2
+vulnerable_level = elim [ vulnerable_impact.High ↦ 0 | vulnerable_impact.Low ↦ 1 | vulnerable_impact.None ↦ 2 ]
 
--- SC, on the scale of SI and SA
-abbrev pub subsequent_level : SubsequentImpact → ℕ
-subsequent_level subsequent_impact.High = 1
-subsequent_level subsequent_impact.Low = 2
-subsequent_level subsequent_impact.None = 3
-
--- SI and SA
-abbrev pub safety_level : SafetyImpact → ℕ
-safety_level safety_impact.Safety = 0
-safety_level safety_impact.High = 1
-safety_level safety_impact.Low = 2
-safety_level safety_impact.None = 3
-
--- CR, IR and AR
 abbrev pub requirement_level : Requirement → ℕ
-requirement_level requirement.High = 0
-requirement_level requirement.Medium = 1
-requirement_level requirement.Low = 2
+requirement_level = elim [ requirement.High ↦ 0 | requirement.Medium ↦ 1 | requirement.Low ↦ 2 ]
+
+-- SC, and on the same scale SI and SA
+abbrev pub subsequent_level : SubsequentImpact → ℕ
+subsequent_level = elim [ subsequent_impact.High ↦ 1 | subsequent_impact.Low ↦ 2 | subsequent_impact.None ↦ 3 ]
+
+abbrev pub safety_level : SafetyImpact → ℕ
+safety_level = elim [ safety_impact.Safety ↦ 0 | safety_impact.High ↦ 1 | safety_impact.Low ↦ 2 | safety_impact.None ↦ 3 ]

@@ -2,7 +2,6 @@
 use Rattle.std.specs.Prelude.{◌++◌, codes, ◌≡◌, ℕ, ◌<◌, List, length, IsSome, Contains}
 use Rattle.std.specs.Fmt.{decimal}
 use Rattle.std.specs.Option.{option_or}
-use Rattle.cvss_base.specs.laws.Equality.{TellTheSame}
 use Rattle.cvss_base.specs.ErrorText.{error_text}
 use Rattle.cvss_base.specs.Refusal.{Refusal, BadComponent, piece_at, name_at, FaultAt}
 use Rattle.cvss_base.specs.Text.{IsComponent}
@@ -81,9 +80,3 @@ pub record TellsFirstObjection (texts : List (List ℕ)) (told : OverrideError) 
 abbrev pub override_error_text : OverrideError → List ℕ
 override_error_text (NotEnvironmental index) = codes "override " ++ decimal index ++ codes ": no environmental CVSSv4 metric"
 override_error_text (Refused index error) = codes "override " ++ decimal index ++ codes ": " ++ error_text error
-
--- two errors are of one kind and at one place, and tell the same of the text there
-abbrev pub AreAlike : OverrideError → OverrideError → Type 0
-AreAlike (NotEnvironmental index) (NotEnvironmental other) = index ≡ other
-AreAlike (Refused index error) (Refused other told) = (index ≡ other) × TellTheSame error told
-AreAlike _ _ = ⊥

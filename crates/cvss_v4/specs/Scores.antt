@@ -12,20 +12,15 @@ use Rattle.cvss_v4.specs.declared.scoring.effective.SubsequentImpact.TheVariants
 use Rattle.cvss_v4.specs.declared.scoring.effective.SafetyImpact.{SafetyImpact}
 use Rattle.cvss_v4.specs.declared.scoring.effective.SafetyImpact.TheVariants as safety_impact
 
--- not VC:N, VI:N or VA:N
+-- not VC:N, VI:N or VA:N; not SC:N; not SI:N or SA:N
 abbrev pub is_vulnerable_impact : VulnerableImpact → Bool
-is_vulnerable_impact vulnerable_impact.None = false
-is_vulnerable_impact _ = true
+is_vulnerable_impact = elim [ vulnerable_impact.None ↦ false | _ ↦ true ]
 
--- not SC:N
 abbrev pub is_subsequent_impact : SubsequentImpact → Bool
-is_subsequent_impact subsequent_impact.None = false
-is_subsequent_impact _ = true
+is_subsequent_impact = elim [ subsequent_impact.None ↦ false | _ ↦ true ]
 
--- not SI:N or SA:N
 abbrev pub is_safety_impact : SafetyImpact → Bool
-is_safety_impact safety_impact.None = false
-is_safety_impact _ = true
+is_safety_impact = elim [ safety_impact.None ↦ false | _ ↦ true ]
 
 -- one of VC, VI, VA, SC, SI and SA is not N
 abbrev pub has_impact : Effective → Bool

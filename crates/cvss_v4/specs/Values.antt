@@ -12,20 +12,12 @@ digits class1 class2 class3 class6 = ((class1 * 10 + class2) * 10 + class3) * 10
 abbrev pub three : ℕ → ℕ → ℕ → List ℕ
 three attacked proof_of_concept unreported = attacked ∷ proof_of_concept ∷ unreported ∷ []
 
--- the values of the classes with these digits, a list for each of EQ4 = 0, 1 and 2
-pub record Row : Type 0 where
-  pub key : ℕ
-  pub values : List (List ℕ)
-
--- EQ1, EQ2, EQ3, EQ6, and the values of EQ4 = 0, 1 and 2
-abbrev pub listed : ℕ → ℕ → ℕ → ℕ → List ℕ → List ℕ → List ℕ → Row
-listed class1 class2 class3 class6 safety high low = record {
-  key = digits class1 class2 class3 class6;
-  values = safety ∷ high ∷ low ∷ [];
-}
+-- the classes with these digits: the values of EQ4 = 0, 1 and 2
+abbrev pub listed : ℕ → ℕ → ℕ → ℕ → List ℕ → List ℕ → List ℕ → ℕ × List (List ℕ)
+listed class1 class2 class3 class6 safety high low = (digits class1 class2 class3 class6, safety ∷ high ∷ low ∷ [])
 
 -- the table
-unfoldable pub rows : List Row
+unfoldable pub rows : List (ℕ × List (List ℕ))
 rows =
     listed 0 0 0 0 (three 100 98 95) (three 100 93 91) (three 93 89 81)
     ∷ listed 0 0 0 1 (three 99 95 92) (three 96 87 81) (three 90 80 68)
@@ -62,8 +54,8 @@ rows =
 -- the value of six numbers, where there is such a class
 unfoldable pub listed_value : MacroVector → Option ℕ
 listed_value m =
-    option_and_then (λ row. option_and_then (λ values. slice_get values m.eq5) (slice_get row.values m.eq4))
-    (find (λ row. row.key == digits m.eq1 m.eq2 m.eq3 m.eq6) rows)
+    option_and_then (λ row. option_and_then (λ values. slice_get values m.eq5) (slice_get row.1 m.eq4))
+    (find (λ row. row.0 == digits m.eq1 m.eq2 m.eq3 m.eq6) rows)
 
 -- the value of the class of effective values
 abbrev pub table_value : Effective → ℕ

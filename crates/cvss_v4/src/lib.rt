@@ -5,7 +5,7 @@ pub mod laws;
 pub mod metric;
 mod nomenclature;
 mod score;
-mod scoring;
+pub mod scoring;
 mod vector;
 
 pub use metric::MetricType;

@@ -7,7 +7,4 @@ mod score;
 mod shares;
 mod values;
 
-pub(crate) use score::score_tenths;
-
-#[cfg(test)]
-mod tests;
+pub use score::score_tenths;

@@ -1,1 +1,1 @@
-pub mod Spellings
+pub mod Ranks

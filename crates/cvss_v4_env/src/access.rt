@@ -1,12 +1,13 @@
 //! What the attack needs of others, in the user's own environment (v4.0 specification, section
 //! 4.2).
 
-ghost use Rattle.std.specs.Prelude.{Some};
+ghost use Rattle.std.specs.Prelude.{Some, [], ◌∷◌};
 ghost use Rattle.std.proofs.Common.{rules};
-ghost use Rattle.cvss_base.specs.Text.{component};
-ghost use Rattle.cvss_base.specs.V4Types.{name_of};
 ghost use Rattle.cvss_base.specs.declared.v4.MetricType.TheVariants.{MPR, MUI};
-ghost use Rattle.cvss_v4_env.specs.Spellings.{modified_privileges_required_spelling, modified_privileges_required_values, modified_user_interaction_spelling, modified_user_interaction_values};
+ghost use Rattle.cvss_v4_env.specs.Ranks.{modified_privileges_required_rank, modified_user_interaction_rank};
+ghost use Rattle.cvss_v4_metric.specs.Table.{metric_component};
+ghost use Rattle.cvss_v4_env.specs.declared.access.ModifiedPrivilegesRequired.TheVariants as modified_privileges_required;
+ghost use Rattle.cvss_v4_env.specs.declared.access.ModifiedUserInteraction.TheVariants as modified_user_interaction;
 
 use cvss_base::print::write_component;
 use cvss_v4_metric::{Metric, MetricType};
@@ -27,9 +28,9 @@ impl Metric for ModifiedPrivilegesRequired {
 
     ghost TYPE = { MPR };
 
-    ghost spelling = { modified_privileges_required_spelling };
+    ghost rank = { modified_privileges_required_rank };
 
-    ghost values = { modified_privileges_required_values };
+    ghost values = { modified_privileges_required.NotDefined ∷ modified_privileges_required.High ∷ modified_privileges_required.Low ∷ modified_privileges_required.None ∷ [] };
 
     ghost law = { Prim.search rules };
 
@@ -54,9 +55,9 @@ impl Metric for ModifiedPrivilegesRequired {
 }
 
 impl fmt::Display for ModifiedPrivilegesRequired {
-    ghost output = { λ metric. Some (component (name_of MPR) (modified_privileges_required_spelling metric)) };
+    ghost output = { λ metric. Some (metric_component MPR (modified_privileges_required_rank metric)) };
 
-    ghost styled_output = { λ metric _. Some (component (name_of MPR) (modified_privileges_required_spelling metric)) };
+    ghost styled_output = { λ metric _. Some (metric_component MPR (modified_privileges_required_rank metric)) };
 
     fn fmt<W: fmt::Write>(&self, f: &mut fmt::Formatter<W>) -> fmt::Result {
         write_component(self.slashed(), f)
@@ -78,9 +79,9 @@ impl Metric for ModifiedUserInteraction {
 
     ghost TYPE = { MUI };
 
-    ghost spelling = { modified_user_interaction_spelling };
+    ghost rank = { modified_user_interaction_rank };
 
-    ghost values = { modified_user_interaction_values };
+    ghost values = { modified_user_interaction.NotDefined ∷ modified_user_interaction.Active ∷ modified_user_interaction.Passive ∷ modified_user_interaction.None ∷ [] };
 
     ghost law = { Prim.search rules };
 
@@ -105,9 +106,9 @@ impl Metric for ModifiedUserInteraction {
 }
 
 impl fmt::Display for ModifiedUserInteraction {
-    ghost output = { λ metric. Some (component (name_of MUI) (modified_user_interaction_spelling metric)) };
+    ghost output = { λ metric. Some (metric_component MUI (modified_user_interaction_rank metric)) };
 
-    ghost styled_output = { λ metric _. Some (component (name_of MUI) (modified_user_interaction_spelling metric)) };
+    ghost styled_output = { λ metric _. Some (metric_component MUI (modified_user_interaction_rank metric)) };
 
     fn fmt<W: fmt::Write>(&self, f: &mut fmt::Formatter<W>) -> fmt::Result {
         write_component(self.slashed(), f)

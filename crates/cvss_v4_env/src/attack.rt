@@ -1,12 +1,14 @@
 //! Where the attack comes from and what it depends on, in the user's own environment (v4.0
 //! specification, section 4.2).
 
-ghost use Rattle.std.specs.Prelude.{Some};
+ghost use Rattle.std.specs.Prelude.{Some, [], ◌∷◌};
 ghost use Rattle.std.proofs.Common.{rules};
-ghost use Rattle.cvss_base.specs.Text.{component};
-ghost use Rattle.cvss_base.specs.V4Types.{name_of};
 ghost use Rattle.cvss_base.specs.declared.v4.MetricType.TheVariants.{MAV, MAC, MAT};
-ghost use Rattle.cvss_v4_env.specs.Spellings.{modified_attack_vector_spelling, modified_attack_vector_values, modified_attack_complexity_spelling, modified_attack_complexity_values, modified_attack_requirements_spelling, modified_attack_requirements_values};
+ghost use Rattle.cvss_v4_env.specs.Ranks.{modified_attack_vector_rank, modified_attack_complexity_rank, modified_attack_requirements_rank};
+ghost use Rattle.cvss_v4_metric.specs.Table.{metric_component};
+ghost use Rattle.cvss_v4_env.specs.declared.attack.ModifiedAttackVector.TheVariants as modified_attack_vector;
+ghost use Rattle.cvss_v4_env.specs.declared.attack.ModifiedAttackComplexity.TheVariants as modified_attack_complexity;
+ghost use Rattle.cvss_v4_env.specs.declared.attack.ModifiedAttackRequirements.TheVariants as modified_attack_requirements;
 
 use cvss_base::print::write_component;
 use cvss_v4_metric::{Metric, MetricType};
@@ -28,9 +30,9 @@ impl Metric for ModifiedAttackVector {
 
     ghost TYPE = { MAV };
 
-    ghost spelling = { modified_attack_vector_spelling };
+    ghost rank = { modified_attack_vector_rank };
 
-    ghost values = { modified_attack_vector_values };
+    ghost values = { modified_attack_vector.Physical ∷ modified_attack_vector.Local ∷ modified_attack_vector.Adjacent ∷ modified_attack_vector.Network ∷ modified_attack_vector.NotDefined ∷ [] };
 
     ghost law = { Prim.search rules };
 
@@ -57,9 +59,9 @@ impl Metric for ModifiedAttackVector {
 }
 
 impl fmt::Display for ModifiedAttackVector {
-    ghost output = { λ metric. Some (component (name_of MAV) (modified_attack_vector_spelling metric)) };
+    ghost output = { λ metric. Some (metric_component MAV (modified_attack_vector_rank metric)) };
 
-    ghost styled_output = { λ metric _. Some (component (name_of MAV) (modified_attack_vector_spelling metric)) };
+    ghost styled_output = { λ metric _. Some (metric_component MAV (modified_attack_vector_rank metric)) };
 
     fn fmt<W: fmt::Write>(&self, f: &mut fmt::Formatter<W>) -> fmt::Result {
         write_component(self.slashed(), f)
@@ -80,9 +82,9 @@ impl Metric for ModifiedAttackComplexity {
 
     ghost TYPE = { MAC };
 
-    ghost spelling = { modified_attack_complexity_spelling };
+    ghost rank = { modified_attack_complexity_rank };
 
-    ghost values = { modified_attack_complexity_values };
+    ghost values = { modified_attack_complexity.NotDefined ∷ modified_attack_complexity.High ∷ modified_attack_complexity.Low ∷ [] };
 
     ghost law = { Prim.search rules };
 
@@ -105,9 +107,9 @@ impl Metric for ModifiedAttackComplexity {
 }
 
 impl fmt::Display for ModifiedAttackComplexity {
-    ghost output = { λ metric. Some (component (name_of MAC) (modified_attack_complexity_spelling metric)) };
+    ghost output = { λ metric. Some (metric_component MAC (modified_attack_complexity_rank metric)) };
 
-    ghost styled_output = { λ metric _. Some (component (name_of MAC) (modified_attack_complexity_spelling metric)) };
+    ghost styled_output = { λ metric _. Some (metric_component MAC (modified_attack_complexity_rank metric)) };
 
     fn fmt<W: fmt::Write>(&self, f: &mut fmt::Formatter<W>) -> fmt::Result {
         write_component(self.slashed(), f)
@@ -128,9 +130,9 @@ impl Metric for ModifiedAttackRequirements {
 
     ghost TYPE = { MAT };
 
-    ghost spelling = { modified_attack_requirements_spelling };
+    ghost rank = { modified_attack_requirements_rank };
 
-    ghost values = { modified_attack_requirements_values };
+    ghost values = { modified_attack_requirements.NotDefined ∷ modified_attack_requirements.Present ∷ modified_attack_requirements.None ∷ [] };
 
     ghost law = { Prim.search rules };
 
@@ -153,9 +155,9 @@ impl Metric for ModifiedAttackRequirements {
 }
 
 impl fmt::Display for ModifiedAttackRequirements {
-    ghost output = { λ metric. Some (component (name_of MAT) (modified_attack_requirements_spelling metric)) };
+    ghost output = { λ metric. Some (metric_component MAT (modified_attack_requirements_rank metric)) };
 
-    ghost styled_output = { λ metric _. Some (component (name_of MAT) (modified_attack_requirements_spelling metric)) };
+    ghost styled_output = { λ metric _. Some (metric_component MAT (modified_attack_requirements_rank metric)) };
 
     fn fmt<W: fmt::Write>(&self, f: &mut fmt::Formatter<W>) -> fmt::Result {
         write_component(self.slashed(), f)

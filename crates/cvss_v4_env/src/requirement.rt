@@ -1,12 +1,14 @@
 //! How much the user's organisation depends on each kind of security (v4.0 specification, section
 //! 4.1).
 
-ghost use Rattle.std.specs.Prelude.{Some};
+ghost use Rattle.std.specs.Prelude.{Some, [], ◌∷◌};
 ghost use Rattle.std.proofs.Common.{rules};
-ghost use Rattle.cvss_base.specs.Text.{component};
-ghost use Rattle.cvss_base.specs.V4Types.{name_of};
 ghost use Rattle.cvss_base.specs.declared.v4.MetricType.TheVariants.{CR, IR, AR};
-ghost use Rattle.cvss_v4_env.specs.Spellings.{confidentiality_requirements_spelling, confidentiality_requirements_values, integrity_requirements_spelling, integrity_requirements_values, availability_requirements_spelling, availability_requirements_values};
+ghost use Rattle.cvss_v4_env.specs.Ranks.{confidentiality_requirements_rank, integrity_requirements_rank, availability_requirements_rank};
+ghost use Rattle.cvss_v4_metric.specs.Table.{metric_component};
+ghost use Rattle.cvss_v4_env.specs.declared.requirement.ConfidentialityRequirements.TheVariants as confidentiality_requirements;
+ghost use Rattle.cvss_v4_env.specs.declared.requirement.IntegrityRequirements.TheVariants as integrity_requirements;
+ghost use Rattle.cvss_v4_env.specs.declared.requirement.AvailabilityRequirements.TheVariants as availability_requirements;
 
 use cvss_base::print::write_component;
 use cvss_v4_metric::{Metric, MetricType};
@@ -27,9 +29,9 @@ impl Metric for ConfidentialityRequirements {
 
     ghost TYPE = { CR };
 
-    ghost spelling = { confidentiality_requirements_spelling };
+    ghost rank = { confidentiality_requirements_rank };
 
-    ghost values = { confidentiality_requirements_values };
+    ghost values = { confidentiality_requirements.NotDefined ∷ confidentiality_requirements.Low ∷ confidentiality_requirements.Medium ∷ confidentiality_requirements.High ∷ [] };
 
     ghost law = { Prim.search rules };
 
@@ -54,9 +56,9 @@ impl Metric for ConfidentialityRequirements {
 }
 
 impl fmt::Display for ConfidentialityRequirements {
-    ghost output = { λ metric. Some (component (name_of CR) (confidentiality_requirements_spelling metric)) };
+    ghost output = { λ metric. Some (metric_component CR (confidentiality_requirements_rank metric)) };
 
-    ghost styled_output = { λ metric _. Some (component (name_of CR) (confidentiality_requirements_spelling metric)) };
+    ghost styled_output = { λ metric _. Some (metric_component CR (confidentiality_requirements_rank metric)) };
 
     fn fmt<W: fmt::Write>(&self, f: &mut fmt::Formatter<W>) -> fmt::Result {
         write_component(self.slashed(), f)
@@ -78,9 +80,9 @@ impl Metric for IntegrityRequirements {
 
     ghost TYPE = { IR };
 
-    ghost spelling = { integrity_requirements_spelling };
+    ghost rank = { integrity_requirements_rank };
 
-    ghost values = { integrity_requirements_values };
+    ghost values = { integrity_requirements.NotDefined ∷ integrity_requirements.Low ∷ integrity_requirements.Medium ∷ integrity_requirements.High ∷ [] };
 
     ghost law = { Prim.search rules };
 
@@ -105,9 +107,9 @@ impl Metric for IntegrityRequirements {
 }
 
 impl fmt::Display for IntegrityRequirements {
-    ghost output = { λ metric. Some (component (name_of IR) (integrity_requirements_spelling metric)) };
+    ghost output = { λ metric. Some (metric_component IR (integrity_requirements_rank metric)) };
 
-    ghost styled_output = { λ metric _. Some (component (name_of IR) (integrity_requirements_spelling metric)) };
+    ghost styled_output = { λ metric _. Some (metric_component IR (integrity_requirements_rank metric)) };
 
     fn fmt<W: fmt::Write>(&self, f: &mut fmt::Formatter<W>) -> fmt::Result {
         write_component(self.slashed(), f)
@@ -129,9 +131,9 @@ impl Metric for AvailabilityRequirements {
 
     ghost TYPE = { AR };
 
-    ghost spelling = { availability_requirements_spelling };
+    ghost rank = { availability_requirements_rank };
 
-    ghost values = { availability_requirements_values };
+    ghost values = { availability_requirements.NotDefined ∷ availability_requirements.Low ∷ availability_requirements.Medium ∷ availability_requirements.High ∷ [] };
 
     ghost law = { Prim.search rules };
 
@@ -156,9 +158,9 @@ impl Metric for AvailabilityRequirements {
 }
 
 impl fmt::Display for AvailabilityRequirements {
-    ghost output = { λ metric. Some (component (name_of AR) (availability_requirements_spelling metric)) };
+    ghost output = { λ metric. Some (metric_component AR (availability_requirements_rank metric)) };
 
-    ghost styled_output = { λ metric _. Some (component (name_of AR) (availability_requirements_spelling metric)) };
+    ghost styled_output = { λ metric _. Some (metric_component AR (availability_requirements_rank metric)) };
 
     fn fmt<W: fmt::Write>(&self, f: &mut fmt::Formatter<W>) -> fmt::Result {
         write_component(self.slashed(), f)

@@ -1,12 +1,14 @@
 //! What systems behind the vulnerable one lose, in the user's own environment (v4.0 specification,
 //! section 4.2).
 
-ghost use Rattle.std.specs.Prelude.{Some};
+ghost use Rattle.std.specs.Prelude.{Some, [], ◌∷◌};
 ghost use Rattle.std.proofs.Common.{rules};
-ghost use Rattle.cvss_base.specs.Text.{component};
-ghost use Rattle.cvss_base.specs.V4Types.{name_of};
 ghost use Rattle.cvss_base.specs.declared.v4.MetricType.TheVariants.{MSC, MSI, MSA};
-ghost use Rattle.cvss_v4_env.specs.Spellings.{modified_confidentiality_impact_to_the_subsequent_system_spelling, modified_confidentiality_impact_to_the_subsequent_system_values, modified_integrity_impact_to_the_subsequent_system_spelling, modified_integrity_impact_to_the_subsequent_system_values, modified_availability_impact_to_the_subsequent_system_spelling, modified_availability_impact_to_the_subsequent_system_values};
+ghost use Rattle.cvss_v4_env.specs.Ranks.{modified_confidentiality_impact_to_the_subsequent_system_rank, modified_integrity_impact_to_the_subsequent_system_rank, modified_availability_impact_to_the_subsequent_system_rank};
+ghost use Rattle.cvss_v4_metric.specs.Table.{metric_component};
+ghost use Rattle.cvss_v4_env.specs.declared.subsequent.ModifiedConfidentialityImpactToTheSubsequentSystem.TheVariants as modified_confidentiality_impact_to_the_subsequent_system;
+ghost use Rattle.cvss_v4_env.specs.declared.subsequent.ModifiedIntegrityImpactToTheSubsequentSystem.TheVariants as modified_integrity_impact_to_the_subsequent_system;
+ghost use Rattle.cvss_v4_env.specs.declared.subsequent.ModifiedAvailabilityImpactToTheSubsequentSystem.TheVariants as modified_availability_impact_to_the_subsequent_system;
 
 use cvss_base::print::write_component;
 use cvss_v4_metric::{Metric, MetricType};
@@ -28,9 +30,9 @@ impl Metric for ModifiedConfidentialityImpactToTheSubsequentSystem {
 
     ghost TYPE = { MSC };
 
-    ghost spelling = { modified_confidentiality_impact_to_the_subsequent_system_spelling };
+    ghost rank = { modified_confidentiality_impact_to_the_subsequent_system_rank };
 
-    ghost values = { modified_confidentiality_impact_to_the_subsequent_system_values };
+    ghost values = { modified_confidentiality_impact_to_the_subsequent_system.NotDefined ∷ modified_confidentiality_impact_to_the_subsequent_system.Negligible ∷ modified_confidentiality_impact_to_the_subsequent_system.Low ∷ modified_confidentiality_impact_to_the_subsequent_system.High ∷ [] };
 
     ghost law = { Prim.search rules };
 
@@ -55,9 +57,9 @@ impl Metric for ModifiedConfidentialityImpactToTheSubsequentSystem {
 }
 
 impl fmt::Display for ModifiedConfidentialityImpactToTheSubsequentSystem {
-    ghost output = { λ metric. Some (component (name_of MSC) (modified_confidentiality_impact_to_the_subsequent_system_spelling metric)) };
+    ghost output = { λ metric. Some (metric_component MSC (modified_confidentiality_impact_to_the_subsequent_system_rank metric)) };
 
-    ghost styled_output = { λ metric _. Some (component (name_of MSC) (modified_confidentiality_impact_to_the_subsequent_system_spelling metric)) };
+    ghost styled_output = { λ metric _. Some (metric_component MSC (modified_confidentiality_impact_to_the_subsequent_system_rank metric)) };
 
     fn fmt<W: fmt::Write>(&self, f: &mut fmt::Formatter<W>) -> fmt::Result {
         write_component(self.slashed(), f)
@@ -81,9 +83,9 @@ impl Metric for ModifiedIntegrityImpactToTheSubsequentSystem {
 
     ghost TYPE = { MSI };
 
-    ghost spelling = { modified_integrity_impact_to_the_subsequent_system_spelling };
+    ghost rank = { modified_integrity_impact_to_the_subsequent_system_rank };
 
-    ghost values = { modified_integrity_impact_to_the_subsequent_system_values };
+    ghost values = { modified_integrity_impact_to_the_subsequent_system.NotDefined ∷ modified_integrity_impact_to_the_subsequent_system.Negligible ∷ modified_integrity_impact_to_the_subsequent_system.Low ∷ modified_integrity_impact_to_the_subsequent_system.High ∷ modified_integrity_impact_to_the_subsequent_system.Safety ∷ [] };
 
     ghost law = { Prim.search rules };
 
@@ -110,9 +112,9 @@ impl Metric for ModifiedIntegrityImpactToTheSubsequentSystem {
 }
 
 impl fmt::Display for ModifiedIntegrityImpactToTheSubsequentSystem {
-    ghost output = { λ metric. Some (component (name_of MSI) (modified_integrity_impact_to_the_subsequent_system_spelling metric)) };
+    ghost output = { λ metric. Some (metric_component MSI (modified_integrity_impact_to_the_subsequent_system_rank metric)) };
 
-    ghost styled_output = { λ metric _. Some (component (name_of MSI) (modified_integrity_impact_to_the_subsequent_system_spelling metric)) };
+    ghost styled_output = { λ metric _. Some (metric_component MSI (modified_integrity_impact_to_the_subsequent_system_rank metric)) };
 
     fn fmt<W: fmt::Write>(&self, f: &mut fmt::Formatter<W>) -> fmt::Result {
         write_component(self.slashed(), f)
@@ -136,9 +138,9 @@ impl Metric for ModifiedAvailabilityImpactToTheSubsequentSystem {
 
     ghost TYPE = { MSA };
 
-    ghost spelling = { modified_availability_impact_to_the_subsequent_system_spelling };
+    ghost rank = { modified_availability_impact_to_the_subsequent_system_rank };
 
-    ghost values = { modified_availability_impact_to_the_subsequent_system_values };
+    ghost values = { modified_availability_impact_to_the_subsequent_system.NotDefined ∷ modified_availability_impact_to_the_subsequent_system.Negligible ∷ modified_availability_impact_to_the_subsequent_system.Low ∷ modified_availability_impact_to_the_subsequent_system.High ∷ modified_availability_impact_to_the_subsequent_system.Safety ∷ [] };
 
     ghost law = { Prim.search rules };
 
@@ -165,9 +167,9 @@ impl Metric for ModifiedAvailabilityImpactToTheSubsequentSystem {
 }
 
 impl fmt::Display for ModifiedAvailabilityImpactToTheSubsequentSystem {
-    ghost output = { λ metric. Some (component (name_of MSA) (modified_availability_impact_to_the_subsequent_system_spelling metric)) };
+    ghost output = { λ metric. Some (metric_component MSA (modified_availability_impact_to_the_subsequent_system_rank metric)) };
 
-    ghost styled_output = { λ metric _. Some (component (name_of MSA) (modified_availability_impact_to_the_subsequent_system_spelling metric)) };
+    ghost styled_output = { λ metric _. Some (metric_component MSA (modified_availability_impact_to_the_subsequent_system_rank metric)) };
 
     fn fmt<W: fmt::Write>(&self, f: &mut fmt::Formatter<W>) -> fmt::Result {
         write_component(self.slashed(), f)

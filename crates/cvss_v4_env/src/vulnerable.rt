@@ -1,12 +1,14 @@
 //! What the vulnerable system loses, in the user's own environment (v4.0 specification, section
 //! 4.2).
 
-ghost use Rattle.std.specs.Prelude.{Some};
+ghost use Rattle.std.specs.Prelude.{Some, [], ◌∷◌};
 ghost use Rattle.std.proofs.Common.{rules};
-ghost use Rattle.cvss_base.specs.Text.{component};
-ghost use Rattle.cvss_base.specs.V4Types.{name_of};
 ghost use Rattle.cvss_base.specs.declared.v4.MetricType.TheVariants.{MVC, MVI, MVA};
-ghost use Rattle.cvss_v4_env.specs.Spellings.{modified_confidentiality_impact_to_the_vulnerable_system_spelling, modified_confidentiality_impact_to_the_vulnerable_system_values, modified_integrity_impact_to_the_vulnerable_system_spelling, modified_integrity_impact_to_the_vulnerable_system_values, modified_availability_impact_to_the_vulnerable_system_spelling, modified_availability_impact_to_the_vulnerable_system_values};
+ghost use Rattle.cvss_v4_env.specs.Ranks.{modified_confidentiality_impact_to_the_vulnerable_system_rank, modified_integrity_impact_to_the_vulnerable_system_rank, modified_availability_impact_to_the_vulnerable_system_rank};
+ghost use Rattle.cvss_v4_metric.specs.Table.{metric_component};
+ghost use Rattle.cvss_v4_env.specs.declared.vulnerable.ModifiedConfidentialityImpactToTheVulnerableSystem.TheVariants as modified_confidentiality_impact_to_the_vulnerable_system;
+ghost use Rattle.cvss_v4_env.specs.declared.vulnerable.ModifiedIntegrityImpactToTheVulnerableSystem.TheVariants as modified_integrity_impact_to_the_vulnerable_system;
+ghost use Rattle.cvss_v4_env.specs.declared.vulnerable.ModifiedAvailabilityImpactToTheVulnerableSystem.TheVariants as modified_availability_impact_to_the_vulnerable_system;
 
 use cvss_base::print::write_component;
 use cvss_v4_metric::{Metric, MetricType};
@@ -28,9 +30,9 @@ impl Metric for ModifiedConfidentialityImpactToTheVulnerableSystem {
 
     ghost TYPE = { MVC };
 
-    ghost spelling = { modified_confidentiality_impact_to_the_vulnerable_system_spelling };
+    ghost rank = { modified_confidentiality_impact_to_the_vulnerable_system_rank };
 
-    ghost values = { modified_confidentiality_impact_to_the_vulnerable_system_values };
+    ghost values = { modified_confidentiality_impact_to_the_vulnerable_system.NotDefined ∷ modified_confidentiality_impact_to_the_vulnerable_system.None ∷ modified_confidentiality_impact_to_the_vulnerable_system.Low ∷ modified_confidentiality_impact_to_the_vulnerable_system.High ∷ [] };
 
     ghost law = { Prim.search rules };
 
@@ -55,9 +57,9 @@ impl Metric for ModifiedConfidentialityImpactToTheVulnerableSystem {
 }
 
 impl fmt::Display for ModifiedConfidentialityImpactToTheVulnerableSystem {
-    ghost output = { λ metric. Some (component (name_of MVC) (modified_confidentiality_impact_to_the_vulnerable_system_spelling metric)) };
+    ghost output = { λ metric. Some (metric_component MVC (modified_confidentiality_impact_to_the_vulnerable_system_rank metric)) };
 
-    ghost styled_output = { λ metric _. Some (component (name_of MVC) (modified_confidentiality_impact_to_the_vulnerable_system_spelling metric)) };
+    ghost styled_output = { λ metric _. Some (metric_component MVC (modified_confidentiality_impact_to_the_vulnerable_system_rank metric)) };
 
     fn fmt<W: fmt::Write>(&self, f: &mut fmt::Formatter<W>) -> fmt::Result {
         write_component(self.slashed(), f)
@@ -80,9 +82,9 @@ impl Metric for ModifiedIntegrityImpactToTheVulnerableSystem {
 
     ghost TYPE = { MVI };
 
-    ghost spelling = { modified_integrity_impact_to_the_vulnerable_system_spelling };
+    ghost rank = { modified_integrity_impact_to_the_vulnerable_system_rank };
 
-    ghost values = { modified_integrity_impact_to_the_vulnerable_system_values };
+    ghost values = { modified_integrity_impact_to_the_vulnerable_system.NotDefined ∷ modified_integrity_impact_to_the_vulnerable_system.None ∷ modified_integrity_impact_to_the_vulnerable_system.Low ∷ modified_integrity_impact_to_the_vulnerable_system.High ∷ [] };
 
     ghost law = { Prim.search rules };
 
@@ -107,9 +109,9 @@ impl Metric for ModifiedIntegrityImpactToTheVulnerableSystem {
 }
 
 impl fmt::Display for ModifiedIntegrityImpactToTheVulnerableSystem {
-    ghost output = { λ metric. Some (component (name_of MVI) (modified_integrity_impact_to_the_vulnerable_system_spelling metric)) };
+    ghost output = { λ metric. Some (metric_component MVI (modified_integrity_impact_to_the_vulnerable_system_rank metric)) };
 
-    ghost styled_output = { λ metric _. Some (component (name_of MVI) (modified_integrity_impact_to_the_vulnerable_system_spelling metric)) };
+    ghost styled_output = { λ metric _. Some (metric_component MVI (modified_integrity_impact_to_the_vulnerable_system_rank metric)) };
 
     fn fmt<W: fmt::Write>(&self, f: &mut fmt::Formatter<W>) -> fmt::Result {
         write_component(self.slashed(), f)
@@ -132,9 +134,9 @@ impl Metric for ModifiedAvailabilityImpactToTheVulnerableSystem {
 
     ghost TYPE = { MVA };
 
-    ghost spelling = { modified_availability_impact_to_the_vulnerable_system_spelling };
+    ghost rank = { modified_availability_impact_to_the_vulnerable_system_rank };
 
-    ghost values = { modified_availability_impact_to_the_vulnerable_system_values };
+    ghost values = { modified_availability_impact_to_the_vulnerable_system.NotDefined ∷ modified_availability_impact_to_the_vulnerable_system.None ∷ modified_availability_impact_to_the_vulnerable_system.Low ∷ modified_availability_impact_to_the_vulnerable_system.High ∷ [] };
 
     ghost law = { Prim.search rules };
 
@@ -159,9 +161,9 @@ impl Metric for ModifiedAvailabilityImpactToTheVulnerableSystem {
 }
 
 impl fmt::Display for ModifiedAvailabilityImpactToTheVulnerableSystem {
-    ghost output = { λ metric. Some (component (name_of MVA) (modified_availability_impact_to_the_vulnerable_system_spelling metric)) };
+    ghost output = { λ metric. Some (metric_component MVA (modified_availability_impact_to_the_vulnerable_system_rank metric)) };
 
-    ghost styled_output = { λ metric _. Some (component (name_of MVA) (modified_availability_impact_to_the_vulnerable_system_spelling metric)) };
+    ghost styled_output = { λ metric _. Some (metric_component MVA (modified_availability_impact_to_the_vulnerable_system_rank metric)) };
 
     fn fmt<W: fmt::Write>(&self, f: &mut fmt::Formatter<W>) -> fmt::Result {
         write_component(self.slashed(), f)

@@ -2,12 +2,13 @@
 
 ghost use Rattle.std.specs.Prelude.{◌≡◌, ◌↔◌, ◌∷◌, ℕ, List, IsTrue, IfSome, IfOk, IfErr, Some};
 ghost use Rattle.cvss_base.specs.Refusal.{BadValue};
-ghost use Rattle.cvss_base.specs.Text.{slash, raised, component};
+ghost use Rattle.cvss_base.specs.Text.{slash, raised};
 ghost use Rattle.cvss_base.specs.Told.{Tells};
 ghost use Rattle.cvss_base.specs.V4Types.{v4_reason, name_of};
 ghost use Rattle.cvss_base.specs.declared.v4.MetricType.{MetricType};
-ghost use Rattle.cvss_v4_metric.specs.Metrics.{IsMetric};
+ghost use Rattle.cvss_v4_metric.specs.laws.Metrics.{IsMetric};
 ghost use Rattle.cvss_v4_metric.specs.Reading.{IsReading};
+ghost use Rattle.cvss_v4_metric.specs.Table.{spelling_at, metric_component};
 
 use cvss_base::Error;
 pub use cvss_base::v4::MetricType;
@@ -22,23 +23,24 @@ pub trait Metric: Copy + Clone + fmt::Debug + fmt::Display + Eq + Ord + Default 
 
     ghost TYPE: { MetricType };
 
-    ghost spelling: { Self → List ℕ };
+    ghost rank: { Self → ℕ };
 
     ghost values: { List Self };
 
     /// A slash and the component that stands for the value in a vector.
     fn slashed(self) -> &'static str
-        ensures { result.now ≡ slash ∷ component (name_of TYPE) (spelling self) };
+        ensures { result.now ≡ slash ∷ metric_component TYPE (rank self) };
 
     /// The value with this spelling, in any ASCII case.
     fn read_bytes(text: &[u8]) -> Option<Self>
-        ensures spelled { IfSome result (λ metric. raised (spelling metric) ≡ raised text.now) }
-        ensures read { (metric : Self) → raised (spelling metric) ≡ raised text.now
+        ensures spelled { IfSome result
+            (λ metric. raised (spelling_at TYPE (rank metric)) ≡ raised text.now) }
+        ensures read { (metric : Self) → raised (spelling_at TYPE (rank metric)) ≡ raised text.now
             → result ≡ Some metric };
 
     /// How the value is spelled in a vector.
     final fn as_str(self) -> &'static str
-        ensures { result.now ≡ spelling self }
+        ensures { result.now ≡ spelling_at TYPE (rank self) }
     {
         &self.slashed()[Self::TYPE.name().len() + 2..]
     }
@@ -46,8 +48,10 @@ pub trait Metric: Copy + Clone + fmt::Debug + fmt::Display + Eq + Ord + Default 
     /// The value that `read` gives for the text in upper case.
     #[tactic(auto, using(crate::proofs::ReadingLemmas::read_alike))]
     final fn read_raised(text: &str) -> Option<Self>
-        ensures spelled { IfSome result (λ metric. IsReading (spelling metric) (raised text.now)) }
-        ensures read { (metric : Self) → IsReading (spelling metric) (raised text.now)
+        ensures spelled { IfSome result
+            (λ metric. IsReading (spelling_at TYPE (rank metric)) (raised text.now)) }
+        ensures read { (metric : Self)
+            → IsReading (spelling_at TYPE (rank metric)) (raised text.now)
             → result ≡ Some metric }
     {
         Self::read_bytes(text.as_bytes())
@@ -56,8 +60,9 @@ pub trait Metric: Copy + Clone + fmt::Debug + fmt::Display + Eq + Ord + Default 
     /// The value with this spelling, as it is printed or in upper case.
     #[tactic(auto, using(crate::proofs::ReadingLemmas::read_alike))]
     final fn read(text: &str) -> Option<Self>
-        ensures spelled { IfSome result (λ metric. IsReading (spelling metric) text.now) }
-        ensures read { (metric : Self) → IsReading (spelling metric) text.now
+        ensures spelled { IfSome result
+            (λ metric. IsReading (spelling_at TYPE (rank metric)) text.now) }
+        ensures read { (metric : Self) → IsReading (spelling_at TYPE (rank metric)) text.now
             → result ≡ Some metric }
     {
         let metric = Self::read_bytes(text.as_bytes())?;
@@ -74,8 +79,9 @@ pub trait Metric: Copy + Clone + fmt::Debug + fmt::Display + Eq + Ord + Default 
     ///
     /// `InvalidMetricV4` with the text where the metric has no such value.
     final fn from_str(alloc: Global, text: &str) -> Result<Self, Error>
-        ensures spelled { IfOk result (λ metric. IsReading (spelling metric) text.now) }
-        ensures read { (metric : Self) → IsReading (spelling metric) text.now
+        ensures spelled { IfOk result
+            (λ metric. IsReading (spelling_at TYPE (rank metric)) text.now) }
+        ensures read { (metric : Self) → IsReading (spelling_at TYPE (rank metric)) text.now
             → result ≡ Ok metric }
         ensures refused { IfErr result (Tells v4_reason (BadValue TYPE text.now)) }
     {
@@ -98,7 +104,7 @@ pub trait Metric: Copy + Clone + fmt::Debug + fmt::Display + Eq + Ord + Default 
         Self::TYPE.name()
     }
 
-    ghost law: { IsMetric TYPE spelling values ⟦<Self as Default>⟧.is_default
+    ghost law: { IsMetric TYPE rank values ⟦<Self as Default>⟧.is_default
         ⟦<Self as Ord>⟧.cmp ⟦<Self as PartialEq>⟧.eq ⟦<Self as Clone>⟧.is_clone
         ⟦<Self as Clone>⟧.is_infallible };
 }

@@ -1,11 +1,11 @@
 //! The threat metric (v4.0 specification, section 3).
 
-ghost use Rattle.std.specs.Prelude.{Some};
+ghost use Rattle.std.specs.Prelude.{Some, [], ◌∷◌};
 ghost use Rattle.std.proofs.Common.{rules};
-ghost use Rattle.cvss_base.specs.Text.{component};
-ghost use Rattle.cvss_base.specs.V4Types.{name_of};
 ghost use Rattle.cvss_base.specs.declared.v4.MetricType.TheVariants.{E};
-ghost use Rattle.cvss_v4_metric.specs.Spellings.{exploit_maturity_spelling, exploit_maturity_values};
+ghost use Rattle.cvss_v4_metric.specs.Ranks.{exploit_maturity_rank};
+ghost use Rattle.cvss_v4_metric.specs.Table.{metric_component};
+ghost use Rattle.cvss_v4_metric.specs.declared.threat.ExploitMaturity.TheVariants as exploit_maturity;
 
 use crate::metric::{Metric, MetricType};
 use cvss_base::print::write_component;
@@ -26,9 +26,9 @@ impl Metric for ExploitMaturity {
 
     ghost TYPE = { E };
 
-    ghost spelling = { exploit_maturity_spelling };
+    ghost rank = { exploit_maturity_rank };
 
-    ghost values = { exploit_maturity_values };
+    ghost values = { exploit_maturity.NotDefined ∷ exploit_maturity.Unreported ∷ exploit_maturity.ProofOfConcept ∷ exploit_maturity.Attacked ∷ [] };
 
     ghost law = { Prim.search rules };
 
@@ -53,9 +53,9 @@ impl Metric for ExploitMaturity {
 }
 
 impl fmt::Display for ExploitMaturity {
-    ghost output = { λ metric. Some (component (name_of E) (exploit_maturity_spelling metric)) };
+    ghost output = { λ metric. Some (metric_component E (exploit_maturity_rank metric)) };
 
-    ghost styled_output = { λ metric _. Some (component (name_of E) (exploit_maturity_spelling metric)) };
+    ghost styled_output = { λ metric _. Some (metric_component E (exploit_maturity_rank metric)) };
 
     fn fmt<W: fmt::Write>(&self, f: &mut fmt::Formatter<W>) -> fmt::Result {
         write_component(self.slashed(), f)

@@ -30,7 +30,7 @@ member_of MC = codes "modifiedConfidentialityImpact"
 member_of MI = codes "modifiedIntegrityImpact"
 member_of MA = codes "modifiedAvailabilityImpact"
 
--- the words of the base metrics, which are also those of the modified ones
+-- words that several metrics have
 abbrev attack_vector_words : List Row
 attack_vector_words = (codes "P", codes "PHYSICAL") ∷ (codes "L", codes "LOCAL") ∷ (codes "A", codes "ADJACENT_NETWORK") ∷ (codes "N", codes "NETWORK") ∷ []
 
@@ -49,6 +49,9 @@ scope_words = (codes "U", codes "UNCHANGED") ∷ (codes "C", codes "CHANGED") �
 abbrev impact_words : List Row
 impact_words = (codes "N", codes "NONE") ∷ (codes "L", codes "LOW") ∷ (codes "H", codes "HIGH") ∷ []
 
+abbrev requirement_words : List Row
+requirement_words = not_defined (codes "X") ∷ (codes "H", codes "HIGH") ∷ (codes "M", codes "MEDIUM") ∷ (codes "L", codes "LOW") ∷ []
+
 -- how the values of a metric are spelled, each with its word, in the order in which they are compared
 abbrev pub words_of : MetricType → List Row
 words_of AV = attack_vector_words
@@ -62,9 +65,9 @@ words_of A = impact_words
 words_of E = not_defined (codes "X") ∷ (codes "H", codes "HIGH") ∷ (codes "F", codes "FUNCTIONAL") ∷ (codes "P", codes "PROOF_OF_CONCEPT") ∷ (codes "U", codes "UNPROVEN") ∷ []
 words_of RL = not_defined (codes "X") ∷ (codes "U", codes "UNAVAILABLE") ∷ (codes "W", codes "WORKAROUND") ∷ (codes "T", codes "TEMPORARY_FIX") ∷ (codes "O", codes "OFFICIAL_FIX") ∷ []
 words_of RC = not_defined (codes "X") ∷ (codes "C", codes "CONFIRMED") ∷ (codes "R", codes "REASONABLE") ∷ (codes "U", codes "UNKNOWN") ∷ []
-words_of CR = not_defined (codes "X") ∷ (codes "H", codes "HIGH") ∷ (codes "M", codes "MEDIUM") ∷ (codes "L", codes "LOW") ∷ []
-words_of IR = not_defined (codes "X") ∷ (codes "H", codes "HIGH") ∷ (codes "M", codes "MEDIUM") ∷ (codes "L", codes "LOW") ∷ []
-words_of AR = not_defined (codes "X") ∷ (codes "H", codes "HIGH") ∷ (codes "M", codes "MEDIUM") ∷ (codes "L", codes "LOW") ∷ []
+words_of CR = requirement_words
+words_of IR = requirement_words
+words_of AR = requirement_words
 words_of MAV = not_defined (codes "X") ∷ attack_vector_words
 words_of MAC = not_defined (codes "X") ∷ attack_complexity_words
 words_of MPR = not_defined (codes "X") ∷ privileges_required_words

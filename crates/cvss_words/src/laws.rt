@@ -15,9 +15,9 @@ ghost use Rattle.cvss_words.specs.WordsV4 as v4;
 /// Each value of a metric has a word, and no other value of the metric has it.
 pub fn words_tell_values()
     ensures v2 { (kind : kind_v2.MetricType) → AreRowsOf
-        (map (table_v2.spelling_of kind) (table_v2.values_of kind)) (v2.words_of kind) }
+        (map (λ row. row.0) (table_v2.rows_of kind)) (v2.words_of kind) }
     ensures v3 { (kind : kind_v3.MetricType) → AreRowsOf
-        (map (table_v3.spelling_of kind) (table_v3.values_of kind)) (v3.words_of kind) }
+        (map (λ row. row.0) (table_v3.rows_of kind)) (v3.words_of kind) }
     ensures v4 { (kind : kind_v4.MetricType) → AreRowsOf
         (table_v4.spellings_of kind) (v4.words_of kind) }
 {}

@@ -3,6 +3,7 @@
 #![tactic(auto)]
 
 pub mod laws;
+mod rows;
 pub mod v2;
 pub mod v3;
 pub mod v4;

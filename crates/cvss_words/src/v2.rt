@@ -1,31 +1,12 @@
 //! The members and words of FIRST's JSON schema of CVSS v2.
 
-ghost use Rattle.std.specs.Prelude.{◌≡◌};
-ghost use Rattle.cvss_v2.specs.Table.{spelling_of};
+ghost use Rattle.std.specs.Prelude.{◌≡◌, map};
 ghost use Rattle.cvss_words.specs.Words.{word_in};
 ghost use Rattle.cvss_words.specs.WordsV2.{member_of, words_of};
 
-mod base;
-mod optional;
-
-use cvss_v2::metric::base::{
-    AccessComplexity, AccessVector, Authentication, AvailabilityImpact, ConfidentialityImpact,
-    IntegrityImpact,
-};
-use cvss_v2::metric::environmental::{
-    AvailabilityRequirement, CollateralDamagePotential, ConfidentialityRequirement,
-    IntegrityRequirement, TargetDistribution,
-};
-use cvss_v2::metric::temporal::{Exploitability, RemediationLevel, ReportConfidence};
-use cvss_v2::{Metric, MetricType};
-
-/// A metric whose values have words.
-pub trait Worded: Metric {
-    /// The word of the value.
-    fn word(self) -> &'static str
-        ensures { result.now
-            ≡ word_in (words_of Self.TYPE) (spelling_of Self.TYPE (Self.value self)) };
-}
+use crate::NOT_DEFINED;
+use crate::rows::{Row, word_in};
+use cvss_base::v2::MetricType;
 
 /// The name of the member that holds the metric's value.
 pub fn member(kind: MetricType) -> &'static str
@@ -49,33 +30,66 @@ pub fn member(kind: MetricType) -> &'static str
     }
 }
 
+/// How the metric's values are spelled, each with its word.
+fn rows(kind: MetricType) -> &'static [Row]
+    ensures { map (λ row. (row.0.now, row.1.now)) result.now ≡ words_of kind }
+{
+    match kind {
+        MetricType::AV => &[("L", "LOCAL"), ("A", "ADJACENT_NETWORK"), ("N", "NETWORK")],
+        MetricType::AC => &[("H", "HIGH"), ("M", "MEDIUM"), ("L", "LOW")],
+        MetricType::Au => &[("M", "MULTIPLE"), ("S", "SINGLE"), ("N", "NONE")],
+        MetricType::C | MetricType::I | MetricType::A => &[
+            ("N", "NONE"),
+            ("P", "PARTIAL"),
+            ("C", "COMPLETE"),
+        ],
+        MetricType::E => &[
+            ("U", "UNPROVEN"),
+            ("POC", "PROOF_OF_CONCEPT"),
+            ("F", "FUNCTIONAL"),
+            ("H", "HIGH"),
+            ("ND", NOT_DEFINED),
+        ],
+        MetricType::RL => &[
+            ("OF", "OFFICIAL_FIX"),
+            ("TF", "TEMPORARY_FIX"),
+            ("W", "WORKAROUND"),
+            ("U", "UNAVAILABLE"),
+            ("ND", NOT_DEFINED),
+        ],
+        MetricType::RC => &[
+            ("UC", "UNCONFIRMED"),
+            ("UR", "UNCORROBORATED"),
+            ("C", "CONFIRMED"),
+            ("ND", NOT_DEFINED),
+        ],
+        MetricType::CDP => &[
+            ("N", "NONE"),
+            ("L", "LOW"),
+            ("LM", "LOW_MEDIUM"),
+            ("MH", "MEDIUM_HIGH"),
+            ("H", "HIGH"),
+            ("ND", NOT_DEFINED),
+        ],
+        MetricType::TD => &[
+            ("N", "NONE"),
+            ("L", "LOW"),
+            ("M", "MEDIUM"),
+            ("H", "HIGH"),
+            ("ND", NOT_DEFINED),
+        ],
+        MetricType::CR | MetricType::IR | MetricType::AR => &[
+            ("L", "LOW"),
+            ("M", "MEDIUM"),
+            ("H", "HIGH"),
+            ("ND", NOT_DEFINED),
+        ],
+    }
+}
+
 /// The word of the metric's value with this spelling; empty where it has no such value.
 pub fn word(kind: MetricType, spelling: &str) -> &'static str
     ensures { result.now ≡ word_in (words_of kind) spelling.now }
 {
-    match kind {
-        MetricType::AV => word_of::<AccessVector>(spelling),
-        MetricType::AC => word_of::<AccessComplexity>(spelling),
-        MetricType::Au => word_of::<Authentication>(spelling),
-        MetricType::C => word_of::<ConfidentialityImpact>(spelling),
-        MetricType::I => word_of::<IntegrityImpact>(spelling),
-        MetricType::A => word_of::<AvailabilityImpact>(spelling),
-        MetricType::E => word_of::<Exploitability>(spelling),
-        MetricType::RL => word_of::<RemediationLevel>(spelling),
-        MetricType::RC => word_of::<ReportConfidence>(spelling),
-        MetricType::CDP => word_of::<CollateralDamagePotential>(spelling),
-        MetricType::TD => word_of::<TargetDistribution>(spelling),
-        MetricType::CR => word_of::<ConfidentialityRequirement>(spelling),
-        MetricType::IR => word_of::<IntegrityRequirement>(spelling),
-        MetricType::AR => word_of::<AvailabilityRequirement>(spelling),
-    }
-}
-
-fn word_of<M: Worded>(spelling: &str) -> &'static str
-    ensures { result.now ≡ word_in (words_of M.TYPE) spelling.now }
-{
-    match M::read(spelling) {
-        Some(metric) => metric.word(),
-        None => "",
-    }
+    word_in(rows(kind), spelling)
 }

@@ -1,41 +1,12 @@
 //! The members and words of FIRST's JSON schema of CVSS v4.0.
 
-ghost use Rattle.std.specs.Prelude.{◌≡◌};
+ghost use Rattle.std.specs.Prelude.{◌≡◌, map};
 ghost use Rattle.cvss_words.specs.Words.{word_in};
 ghost use Rattle.cvss_words.specs.WordsV4.{member_of, words_of};
 
-mod base;
-mod modified;
-mod optional;
-
-use cvss_v4_env::{
-    AvailabilityRequirements, ConfidentialityRequirements, IntegrityRequirements,
-    ModifiedAttackComplexity, ModifiedAttackRequirements, ModifiedAttackVector,
-    ModifiedAvailabilityImpactToTheSubsequentSystem,
-    ModifiedAvailabilityImpactToTheVulnerableSystem,
-    ModifiedConfidentialityImpactToTheSubsequentSystem,
-    ModifiedConfidentialityImpactToTheVulnerableSystem,
-    ModifiedIntegrityImpactToTheSubsequentSystem, ModifiedIntegrityImpactToTheVulnerableSystem,
-    ModifiedPrivilegesRequired, ModifiedUserInteraction,
-};
-use cvss_v4_metric::base::{
-    AttackComplexity, AttackRequirements, AttackVector, AvailabilityImpactToTheSubsequentSystem,
-    AvailabilityImpactToTheVulnerableSystem, ConfidentialityImpactToTheSubsequentSystem,
-    ConfidentialityImpactToTheVulnerableSystem, IntegrityImpactToTheSubsequentSystem,
-    IntegrityImpactToTheVulnerableSystem, PrivilegesRequired, UserInteraction,
-};
-use cvss_v4_metric::supplemental::{
-    Automatable, ProviderUrgency, Recovery, Safety, ValueDensity, VulnerabilityResponseEffort,
-};
-use cvss_v4_metric::threat::ExploitMaturity;
-use cvss_v4_metric::{Metric, MetricType};
-
-/// A metric whose values have words.
-pub trait Worded: Metric {
-    /// The word of the value.
-    fn word(self) -> &'static str
-        ensures { result.now ≡ word_in (words_of Self.TYPE) (Self.spelling self) };
-}
+use crate::NOT_DEFINED;
+use crate::rows::{Row, word_in};
+use cvss_base::v4::MetricType;
 
 /// The name of the member that holds the metric's value.
 pub fn member(kind: MetricType) -> &'static str
@@ -77,57 +48,107 @@ pub fn member(kind: MetricType) -> &'static str
     }
 }
 
+/// How the metric's values are spelled, each with its word.
+fn rows(kind: MetricType) -> &'static [Row]
+    ensures { map (λ row. (row.0.now, row.1.now)) result.now ≡ words_of kind }
+{
+    match kind {
+        MetricType::AV => &[
+            ("P", "PHYSICAL"),
+            ("L", "LOCAL"),
+            ("A", "ADJACENT"),
+            ("N", "NETWORK"),
+        ],
+        MetricType::AC => &[("H", "HIGH"), ("L", "LOW")],
+        MetricType::AT => &[("P", "PRESENT"), ("N", "NONE")],
+        MetricType::PR => &[("H", "HIGH"), ("L", "LOW"), ("N", "NONE")],
+        MetricType::UI => &[("A", "ACTIVE"), ("P", "PASSIVE"), ("N", "NONE")],
+        MetricType::VC
+        | MetricType::VI
+        | MetricType::VA
+        | MetricType::SC
+        | MetricType::SI
+        | MetricType::SA => &[("N", "NONE"), ("L", "LOW"), ("H", "HIGH")],
+        MetricType::E => &[
+            ("X", NOT_DEFINED),
+            ("U", "UNREPORTED"),
+            ("P", "PROOF_OF_CONCEPT"),
+            ("A", "ATTACKED"),
+        ],
+        MetricType::CR | MetricType::IR | MetricType::AR => &[
+            ("X", NOT_DEFINED),
+            ("L", "LOW"),
+            ("M", "MEDIUM"),
+            ("H", "HIGH"),
+        ],
+        MetricType::MAV => &[
+            ("P", "PHYSICAL"),
+            ("L", "LOCAL"),
+            ("A", "ADJACENT"),
+            ("N", "NETWORK"),
+            ("X", NOT_DEFINED),
+        ],
+        MetricType::MAC => &[("X", NOT_DEFINED), ("H", "HIGH"), ("L", "LOW")],
+        MetricType::MAT => &[("X", NOT_DEFINED), ("P", "PRESENT"), ("N", "NONE")],
+        MetricType::MPR => &[
+            ("X", NOT_DEFINED),
+            ("H", "HIGH"),
+            ("L", "LOW"),
+            ("N", "NONE"),
+        ],
+        MetricType::MUI => &[
+            ("X", NOT_DEFINED),
+            ("A", "ACTIVE"),
+            ("P", "PASSIVE"),
+            ("N", "NONE"),
+        ],
+        MetricType::MVC | MetricType::MVI | MetricType::MVA => &[
+            ("X", NOT_DEFINED),
+            ("N", "NONE"),
+            ("L", "LOW"),
+            ("H", "HIGH"),
+        ],
+        MetricType::MSC => &[
+            ("X", NOT_DEFINED),
+            ("N", "NEGLIGIBLE"),
+            ("L", "LOW"),
+            ("H", "HIGH"),
+        ],
+        MetricType::MSI | MetricType::MSA => &[
+            ("X", NOT_DEFINED),
+            ("N", "NEGLIGIBLE"),
+            ("L", "LOW"),
+            ("H", "HIGH"),
+            ("S", "SAFETY"),
+        ],
+        MetricType::S => &[("X", NOT_DEFINED), ("P", "PRESENT"), ("N", "NEGLIGIBLE")],
+        MetricType::AU => &[("X", NOT_DEFINED), ("Y", "YES"), ("N", "NO")],
+        MetricType::R => &[
+            ("X", NOT_DEFINED),
+            ("A", "AUTOMATIC"),
+            ("U", "USER"),
+            ("I", "IRRECOVERABLE"),
+        ],
+        MetricType::V => &[("X", NOT_DEFINED), ("D", "DIFFUSE"), ("C", "CONCENTRATED")],
+        MetricType::RE => &[
+            ("X", NOT_DEFINED),
+            ("L", "LOW"),
+            ("M", "MODERATE"),
+            ("H", "HIGH"),
+        ],
+        MetricType::U => &[
+            ("X", NOT_DEFINED),
+            ("Red", "RED"),
+            ("Amber", "AMBER"),
+            ("Green", "GREEN"),
+            ("Clear", "CLEAR"),
+        ],
+    }
+}
+
 /// The word of the metric's value with this spelling; empty where it has no such value.
 pub fn word(kind: MetricType, spelling: &str) -> &'static str
     ensures { result.now ≡ word_in (words_of kind) spelling.now }
 {
-    match kind {
-        MetricType::AV => word_of::<AttackVector>(spelling),
-        MetricType::AC => word_of::<AttackComplexity>(spelling),
-        MetricType::AT => word_of::<AttackRequirements>(spelling),
-        MetricType::PR => word_of::<PrivilegesRequired>(spelling),
-        MetricType::UI => word_of::<UserInteraction>(spelling),
-        MetricType::VC => word_of::<ConfidentialityImpactToTheVulnerableSystem>(spelling),
-        MetricType::VI => word_of::<IntegrityImpactToTheVulnerableSystem>(spelling),
-        MetricType::VA => word_of::<AvailabilityImpactToTheVulnerableSystem>(spelling),
-        MetricType::SC => word_of::<ConfidentialityImpactToTheSubsequentSystem>(spelling),
-        MetricType::SI => word_of::<IntegrityImpactToTheSubsequentSystem>(spelling),
-        MetricType::SA => word_of::<AvailabilityImpactToTheSubsequentSystem>(spelling),
-        MetricType::E => word_of::<ExploitMaturity>(spelling),
-        MetricType::CR => word_of::<ConfidentialityRequirements>(spelling),
-        MetricType::IR => word_of::<IntegrityRequirements>(spelling),
-        MetricType::AR => word_of::<AvailabilityRequirements>(spelling),
-        MetricType::MAV => word_of::<ModifiedAttackVector>(spelling),
-        MetricType::MAC => word_of::<ModifiedAttackComplexity>(spelling),
-        MetricType::MAT => word_of::<ModifiedAttackRequirements>(spelling),
-        MetricType::MPR => word_of::<ModifiedPrivilegesRequired>(spelling),
-        MetricType::MUI => word_of::<ModifiedUserInteraction>(spelling),
-        MetricType::MVC => word_of::<ModifiedConfidentialityImpactToTheVulnerableSystem>(spelling),
-        MetricType::MVI => word_of::<ModifiedIntegrityImpactToTheVulnerableSystem>(spelling),
-        MetricType::MVA => word_of::<ModifiedAvailabilityImpactToTheVulnerableSystem>(spelling),
-        MetricType::MSC => word_of::<ModifiedConfidentialityImpactToTheSubsequentSystem>(spelling),
-        MetricType::MSI => word_of::<ModifiedIntegrityImpactToTheSubsequentSystem>(spelling),
-        MetricType::MSA => word_of::<ModifiedAvailabilityImpactToTheSubsequentSystem>(spelling),
-        MetricType::S => word_of::<Safety>(spelling),
-        MetricType::AU => word_of::<Automatable>(spelling),
-        MetricType::R => word_of::<Recovery>(spelling),
-        MetricType::V => word_of::<ValueDensity>(spelling),
-        MetricType::RE => word_of::<VulnerabilityResponseEffort>(spelling),
-        MetricType::U => word_of::<ProviderUrgency>(spelling),
-    }
-}
-
-fn word_of<M: Worded>(spelling: &str) -> &'static str
-    ensures { result.now ≡ word_in (words_of M.TYPE) spelling.now }
-{
-    match M::read(spelling) {
-        Some(metric) => {
-            if metric.as_str() == spelling {
-                metric.word()
-            } else {
-                ""
-            }
-        }
-        None => "",
-    }
+    word_in(rows(kind), spelling)
 }

@@ -1,18 +1,21 @@
-//! How a vector is printed.
+//! How a vector is printed, and its metrics are listed.
 
 ghost use Rattle.std.specs.Prelude.{◌≡◌, Some, [], ◌∷◌, drop, option_map, unwrap_or};
 ghost use Rattle.std.specs.Fmt.{WritesOnOk};
 ghost use Rattle.std.specs.Option.{option_copied};
+ghost use Rattle.cvss_base.specs.Listing.{listed_metrics};
+ghost use Rattle.cvss_base.specs.MetricsLeft.{metrics_left};
 ghost use Rattle.cvss_base.specs.private.Printing.{slashed, slashed_texts};
 ghost use Rattle.cvss_base.specs.Text.{component};
 ghost use Rattle.cvss_base.specs.V2Types.{name_of};
 ghost use Rattle.cvss_base.specs.Version.{canonical_text};
 ghost use Rattle.cvss_base.specs.declared.v2.MetricType.TheVariants.{A, AC, Au, C, I, E, RL, RC, CDP, TD, CR, IR, AR};
-ghost use Rattle.cvss_v2.specs.Table.{spelling_of, printed};
+ghost use Rattle.cvss_v2.specs.Table.{spelling_of, printed, listed};
 ghost use Rattle.cvss_v2.specs.Vector.{v2};
 
 use crate::metric::{Metric, MetricType};
 use crate::vector::Vector;
+use cvss_base::metrics::{self, Listed};
 use cvss_base::print::{Printed, write_component, write_components, write_slashed};
 use std::fmt;
 
@@ -109,5 +112,43 @@ impl fmt::Display for Vector {
         };
         write_component(av.slashed(), f)?;
         self.write_others(f)
+    }
+}
+
+/// The metrics that a vector has, each with the spelling of its value; at most 14.
+pub type Metrics = metrics::Metrics<Vector>;
+
+/// The metrics in the order in which they are listed.
+const LISTED: [MetricType; 14] = [
+    MetricType::AC,
+    MetricType::Au,
+    MetricType::AV,
+    MetricType::C,
+    MetricType::I,
+    MetricType::A,
+    MetricType::CR,
+    MetricType::IR,
+    MetricType::AR,
+    MetricType::CDP,
+    MetricType::TD,
+    MetricType::E,
+    MetricType::RC,
+    MetricType::RL,
+];
+
+impl Listed for Vector {
+    ghost order = { listed };
+
+    fn listed() -> &'static [MetricType] {
+        &LISTED
+    }
+}
+
+impl Vector {
+    /// The type and the spelling of each metric that the vector has. It takes no memory.
+    pub fn metrics(&self) -> Metrics
+        ensures { metrics_left v2 listed result ≡ listed_metrics v2 self.now listed }
+    {
+        Metrics::of(self)
     }
 }

@@ -2,7 +2,7 @@
 
 ghost use Rattle.cvss_v2.specs.Table.{spelling_of};
 ghost use Rattle.cvss_v2.specs.Vector.{v2};
-ghost use Rattle.cvss_v2.specs.VectorLaws.{v2_is_lawful};
+ghost use Rattle.cvss_v2.specs.private.VectorLaws.{v2_is_lawful};
 ghost use Rattle.cvss_base.specs.private.Walk.{IsFilled};
 
 use crate::metric::{Metric, MetricType};

@@ -1,11 +1,12 @@
 //! The scores of a vector.
 
-ghost use Rattle.std.specs.Prelude.{◌≡◌, ◌≤◌, option_map, unwrap_or};
+ghost use Rattle.std.specs.Prelude.{◌≡◌, ◌≤◌, ◌*ℤ◌, ◌^◌, pos, option_map, unwrap_or};
 ghost use Rattle.cvss_base.specs.Exact.{of_count, ◌≈◌, IsWithinLimit};
 ghost use Rattle.cvss_v2.specs.Scores.{impact, adjusted_impact, exploitability, IsTemporal, IsBaseScore, IsTemporalScore, IsEnvironmentalScore};
 ghost use Rattle.cvss_base.specs.Tenths.{IsInTenths, IsFromZeroToTen};
-ghost use Rattle.cvss_v2.specs.Table.{weight_of, greatest_weight};
-ghost use Rattle.cvss_v2.specs.Weights.{IsFromTable, weights_of};
+ghost use Rattle.cvss_v2.specs.Table.{weight_of};
+ghost use Rattle.cvss_v2.specs.private.Bounds.{greatest_weight, IsFromTable};
+ghost use Rattle.cvss_v2.specs.Weights.{weights_of};
 
 use crate::metric::Metric;
 use crate::score::Score;
@@ -13,6 +14,7 @@ use crate::vector::Vector;
 use crate::weights::Weights;
 
 impl Vector {
+    #[inline(always)]
     fn weights(&self) -> Weights
         ensures weights { result ≡ weights_of self.now }
         ensures table { IsFromTable result }
@@ -64,7 +66,16 @@ impl Vector {
         ensures value { IsBaseScore (weights_of self.now) result }
         ensures range { IsInTenths IsFromZeroToTen result }
     {
-        self.weights().score()
+        Score::of_tenths(i128::from(self.tenths()))
+    }
+
+    /// The base score (guide, section 3.2.1) in tenths, not below 0.
+    #[inline(always)]
+    pub fn tenths(&self) -> u8
+        ensures value { IsBaseScore (weights_of self.now) (pos result *ℤ pos (10 ^ 23)) }
+        ensures to_ten { result ≤ 100 }
+    {
+        self.weights().tenths()
     }
 
     /// The temporal score (guide, section 3.2.2), not below 0.
@@ -95,6 +106,7 @@ impl Vector {
 }
 
 /// The weight of a value in thousandths, or that of an absent metric.
+#[inline(always)]
 fn weight<M: Metric>(value: Option<M>, absent: u64) -> u64
     requires { absent ≤ greatest_weight M.TYPE }
     ensures weight { result

@@ -2,8 +2,9 @@
 //! printed, so that the text is gone through once, with no cutting and no searching. The other
 //! way, by components in any order, is `reading`.
 
-ghost use Rattle.std.specs.Prelude.{◌≡◌, IfSome, [], ◌∷◌, ◌++◌, option_map, unwrap_or};
+ghost use Rattle.std.specs.Prelude.{◌≡◌, IfSome, None, [], ◌∷◌, ◌++◌, option_map, unwrap_or};
 ghost use Rattle.cvss_base.specs.private.Printing.{slashed, slashed_texts};
+ghost use Rattle.cvss_base.specs.private.Walk.{first_missing};
 ghost use Rattle.cvss_base.specs.Text.{slash, colon, component};
 ghost use Rattle.cvss_base.specs.V2Types.{name_of};
 ghost use Rattle.cvss_base.specs.Version.{canonical_text, IsComplete};
@@ -11,31 +12,38 @@ ghost use Rattle.cvss_base.specs.declared.v2.MetricType.TheVariants.{A, AC, AV, 
 ghost use Rattle.cvss_v2.specs.Table.{spelling_of, metric_component, printed};
 ghost use Rattle.cvss_v2.specs.Vector.{v2};
 
+use crate::metric::base::{
+    AccessComplexity, AccessVector, Authentication, AvailabilityImpact, ConfidentialityImpact,
+    IntegrityImpact,
+};
 use crate::metric::{Metric, MetricType};
 use crate::vector::Vector;
-use cvss_base::walk::Components;
 
 impl Vector {
     /// The vector whose canonical text this is, where that is seen at once: `None` tells nothing of
     /// the text. It takes no memory.
+    #[inline(always)]
     pub fn read_canonical(text: &[u8]) -> Option<Vector>
         ensures canonical { IfSome result (λ vector. text.now ≡ canonical_text v2 vector) }
         ensures complete { IfSome result (λ vector. IsComplete v2 vector) }
     {
-        let vector = vector_at_sight(text)?;
-        match vector.first_missing() {
-            Some(_) => None,
-            None => Some(vector),
+        let (base, rest) = base_at_sight(text)?;
+        if rest.is_empty() {
+            Some(base)
+        } else {
+            whole_at_sight(base, rest)
         }
     }
 }
 
-/// The vector whose components, in printing order, are the whole text.
+/// The vector of the base metrics and of the optional ones that are the whole text behind them.
 #[inline(always)]
-fn vector_at_sight(text: &[u8]) -> Option<Vector>
-    ensures { IfSome result (λ vector. slash ∷ text.now ≡ slashed_texts v2 vector printed) }
+fn whole_at_sight(base: Vector, text: &[u8]) -> Option<Vector>
+    requires { first_missing v2 base ≡ None }
+    ensures text { IfSome result (λ vector. slashed_texts v2 base (AV ∷ AC ∷ Au ∷ C ∷ I ∷ A ∷ [])
+        ++ text.now ≡ slashed_texts v2 vector printed) }
+    ensures present { IfSome result (λ vector. first_missing v2 vector ≡ None) }
 {
-    let (base, text) = base_at_sight(text)?;
     let mut vector = base;
     let rest = others_at_sight(&mut vector, text);
     if rest.is_empty() { Some(vector) } else { None }
@@ -63,18 +71,17 @@ fn others_at_sight<'a>(vector: &mut Vector, text: &'a [u8]) -> &'a [u8]
     environmental_at_sight(vector, text)
 }
 
-/// The vector of the base metrics with which a text begins.
+/// The vector of the base metrics with which a text begins, each value spelled by one letter.
 #[inline(always)]
 fn base_at_sight(text: &[u8]) -> Option<(Vector, &[u8])>
-    ensures { IfSome result (λ read. slash ∷ text.now
+    ensures text { IfSome result (λ read. slash ∷ text.now
         ≡ slashed_texts v2 read.0 (AV ∷ AC ∷ Au ∷ C ∷ I ∷ A ∷ []) ++ read.1.now) }
+    ensures present { IfSome result (λ read. first_missing v2 read.0 ≡ None) }
+    ensures bare { IfSome result (λ read. slashed_texts v2 read.0
+        (E ∷ RL ∷ RC ∷ CDP ∷ TD ∷ CR ∷ IR ∷ AR ∷ []) ≡ []) }
 {
-    let (av, text) = first_at_sight(text)?;
-    let (ac, text) = next_at_sight(text)?;
-    let (au, text) = next_at_sight(text)?;
-    let (c, text) = next_at_sight(text)?;
-    let (i, text) = next_at_sight(text)?;
-    let (a, text) = next_at_sight(text)?;
+    let (av, ac, au, text) = access_at_sight(text)?;
+    let (c, i, a, text) = impact_at_sight(text)?;
     let base = Vector {
         av: Some(av),
         ac: Some(ac),
@@ -85,6 +92,87 @@ fn base_at_sight(text: &[u8]) -> Option<(Vector, &[u8])>
         ..Vector::default()
     };
     Some((base, text))
+}
+
+/// The values of the access metrics with which a text begins, and what stands behind them. Each
+/// spelling of a base metric's value is one letter.
+#[inline(always)]
+fn access_at_sight(text: &[u8]) -> Option<(AccessVector, AccessComplexity, Authentication, &[u8])>
+    ensures { IfSome result (λ read. text.now ≡ metric_component AV read.0
+        ++ slash ∷ metric_component AC read.1 ++ slash ∷ metric_component Au read.2
+        ++ read.3.now) }
+{
+    match text {
+        [
+            b'A',
+            b'V',
+            b':',
+            av,
+            b'/',
+            b'A',
+            b'C',
+            b':',
+            ac,
+            b'/',
+            b'A',
+            b'u',
+            b':',
+            au,
+            rest @ ..,
+        ] => {
+            Some((
+                letter_at_sight(*av)?,
+                letter_at_sight(*ac)?,
+                letter_at_sight(*au)?,
+                rest,
+            ))
+        }
+        _ => None,
+    }
+}
+
+/// The values of the impact metrics with which a text begins, behind a slash each, and what stands
+/// behind them.
+#[inline(always)]
+fn impact_at_sight(
+    text: &[u8],
+) -> Option<
+    (
+        ConfidentialityImpact,
+        IntegrityImpact,
+        AvailabilityImpact,
+        &[u8],
+    ),
+>
+    ensures { IfSome result (λ read. text.now ≡ slash ∷ metric_component C read.0
+        ++ slash ∷ metric_component I read.1 ++ slash ∷ metric_component A read.2
+        ++ read.3.now) }
+{
+    match text {
+        [
+            b'/',
+            b'C',
+            b':',
+            c,
+            b'/',
+            b'I',
+            b':',
+            i,
+            b'/',
+            b'A',
+            b':',
+            a,
+            rest @ ..,
+        ] => {
+            Some((
+                letter_at_sight(*c)?,
+                letter_at_sight(*i)?,
+                letter_at_sight(*a)?,
+                rest,
+            ))
+        }
+        _ => None,
+    }
 }
 
 /// Puts the temporal metrics with which a text begins into the vector, and gives what stands behind
@@ -125,39 +213,12 @@ fn environmental_at_sight<'a>(vector: &mut Vector, text: &'a [u8]) -> &'a [u8]
     optional_at_sight(&mut vector.ar, text)
 }
 
-/// The value of a base metric, where a text begins with a slash and its component, and what stands
-/// behind that.
+/// The value that a letter spells.
 #[inline(always)]
-fn next_at_sight<M: Metric>(text: &[u8]) -> Option<(M, &[u8])>
-    ensures { IfSome result
-        (λ read. text.now ≡ slash ∷ (metric_component M.TYPE (M.value read.0) ++ read.1.now)) }
+fn letter_at_sight<M: Metric>(letter: u8) -> Option<M>
+    ensures { IfSome result (λ metric. spelling_of M.TYPE (M.value metric) ≡ letter ∷ []) }
 {
-    match text {
-        [b'/', component @ ..] => first_at_sight(component),
-        _ => None,
-    }
-}
-
-/// The value of a base metric, where a text begins with its component, and what stands behind that.
-#[inline(always)]
-fn first_at_sight<M: Metric>(text: &[u8]) -> Option<(M, &[u8])>
-    ensures { IfSome result
-        (λ read. text.now ≡ metric_component M.TYPE (M.value read.0) ++ read.1.now) }
-{
-    letter_at_sight(behind_name(M::TYPE, text)?)
-}
-
-/// The value that the first letter of a text spells, and what stands behind that letter. Each
-/// spelling of a base metric's value is one letter.
-#[inline(always)]
-fn letter_at_sight<M: Metric>(text: &[u8]) -> Option<(M, &[u8])>
-    ensures { IfSome result
-        (λ read. text.now ≡ spelling_of M.TYPE (M.value read.0) ++ read.1.now) }
-{
-    match text {
-        [letter, rest @ ..] => Some((M::read_bytes(&[*letter])?, rest)),
-        [] => None,
-    }
+    M::read_bytes(&[letter])
 }
 
 /// Puts the value of a metric into its place, if a text begins with a slash and its component, and
@@ -187,10 +248,7 @@ fn component_at_sight<M: Metric>(text: &[u8]) -> Option<(M, &[u8])>
     ensures { IfSome result
         (λ read. text.now ≡ slash ∷ (metric_component M.TYPE (M.value read.0) ++ read.1.now)) }
 {
-    match text {
-        [b'/', component @ ..] => value_at_sight(behind_name(M::TYPE, component)?),
-        _ => None,
-    }
+    value_at_sight(behind_name(M::TYPE, text)?)
 }
 
 /// The value of a metric, where a text begins with its spelling up to a slash, and what stands
@@ -209,26 +267,20 @@ fn value_at_sight<M: Metric>(text: &[u8]) -> Option<(M, &[u8])>
     Some((M::read_bytes(value)?, rest))
 }
 
-/// What stands behind a metric's name and the colon after it.
+/// What stands behind a slash, the name of an optional metric and the colon after it.
 #[inline(always)]
 fn behind_name(kind: MetricType, text: &[u8]) -> Option<&[u8]>
-    ensures { IfSome result (λ value. text.now ≡ name_of kind ++ (colon ∷ value.now)) }
+    ensures { IfSome result (λ value. text.now ≡ slash ∷ (name_of kind ++ (colon ∷ value.now))) }
 {
     match (kind, text) {
-        (MetricType::AV, [b'A', b'V', b':', value @ ..]) => Some(value),
-        (MetricType::AC, [b'A', b'C', b':', value @ ..]) => Some(value),
-        (MetricType::Au, [b'A', b'u', b':', value @ ..]) => Some(value),
-        (MetricType::C, [b'C', b':', value @ ..]) => Some(value),
-        (MetricType::I, [b'I', b':', value @ ..]) => Some(value),
-        (MetricType::A, [b'A', b':', value @ ..]) => Some(value),
-        (MetricType::E, [b'E', b':', value @ ..]) => Some(value),
-        (MetricType::RL, [b'R', b'L', b':', value @ ..]) => Some(value),
-        (MetricType::RC, [b'R', b'C', b':', value @ ..]) => Some(value),
-        (MetricType::CDP, [b'C', b'D', b'P', b':', value @ ..]) => Some(value),
-        (MetricType::TD, [b'T', b'D', b':', value @ ..]) => Some(value),
-        (MetricType::CR, [b'C', b'R', b':', value @ ..]) => Some(value),
-        (MetricType::IR, [b'I', b'R', b':', value @ ..]) => Some(value),
-        (MetricType::AR, [b'A', b'R', b':', value @ ..]) => Some(value),
+        (MetricType::E, [b'/', b'E', b':', value @ ..]) => Some(value),
+        (MetricType::RL, [b'/', b'R', b'L', b':', value @ ..]) => Some(value),
+        (MetricType::RC, [b'/', b'R', b'C', b':', value @ ..]) => Some(value),
+        (MetricType::CDP, [b'/', b'C', b'D', b'P', b':', value @ ..]) => Some(value),
+        (MetricType::TD, [b'/', b'T', b'D', b':', value @ ..]) => Some(value),
+        (MetricType::CR, [b'/', b'C', b'R', b':', value @ ..]) => Some(value),
+        (MetricType::IR, [b'/', b'I', b'R', b':', value @ ..]) => Some(value),
+        (MetricType::AR, [b'/', b'A', b'R', b':', value @ ..]) => Some(value),
         _ => None,
     }
 }

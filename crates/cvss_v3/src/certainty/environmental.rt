@@ -4,7 +4,7 @@ ghost use Rattle.std.specs.Prelude.{IsTrue};
 ghost use Rattle.cvss_base.specs.Exact.{whole, ◌⊏◌};
 ghost use Rattle.cvss_v3.specs.Certainty.{IsCertain};
 ghost use Rattle.cvss_v3.specs.Scores.{modified_impact, environmental_number};
-ghost use Rattle.cvss_v3.specs.Weights.{IsFromTable};
+ghost use Rattle.cvss_v3.specs.private.Weights.{IsFromTable};
 
 use crate::weights::Weights;
 

@@ -1,17 +1,16 @@
 //! How a vector is filled from its components.
 
-ghost use Rattle.std.specs.Prelude.{◌≡◌, IfSome};
-ghost use Rattle.cvss_base.specs.Text.{raised};
+ghost use Rattle.std.specs.Prelude.{◌≡◌, ◌∷◌, ◌++◌, IfSome, length, take};
+ghost use Rattle.cvss_base.specs.Text.{colon, raised};
 ghost use Rattle.cvss_base.specs.V3Types.{name_of};
 ghost use Rattle.cvss_base.specs.private.Walk.{HasNoValue, IsFilled};
 ghost use Rattle.cvss_v3_metric.specs.Table.{spelling_of};
 ghost use Rattle.cvss_v3.specs.Vector.{v3};
-ghost use Rattle.cvss_v3.specs.VectorLaws.{v3_is_lawful, v3_fronts_are_lawful};
+ghost use Rattle.cvss_v3.specs.private.VectorLaws.{v3_is_lawful, v3_fronts_are_lawful};
 
 use crate::metric::{Metric, MetricType};
 use crate::vector::Vector;
 use cvss_base::front::Fronted;
-use cvss_base::pieces::cut_early;
 use cvss_base::walk::{Components, Slip};
 
 /// The metrics in printing order (v3.1 specification, section 6).
@@ -60,8 +59,8 @@ impl Components for Vector {
     }
 
     fn cut(piece: &[u8]) -> Option<(MetricType, &[u8])> {
-        let (name, value) = cut_early(piece)?;
-        Some((named(name)?, value))
+        let (kind, value) = cut_named(piece)?;
+        Some((kind, value))
     }
 
     fn blamed(kind: MetricType) -> MetricType {
@@ -136,39 +135,44 @@ impl Vector {
     }
 }
 
-/// The metric with this name, in any ASCII case.
-fn named(name: &[u8]) -> Option<MetricType>
-    ensures { IfSome result (λ kind. name_of kind ≡ raised name.now) }
+/// The metric with whose name, in any ASCII case, and a colon a piece begins, and what stands behind
+/// these.
+#[inline(always)]
+fn cut_named(piece: &[u8]) -> Option<(MetricType, &[u8])>
+    ensures name { IfSome result
+        (λ cut. name_of cut.0 ≡ raised (take (length (name_of cut.0)) piece.now)) }
+    ensures piece { IfSome result (λ cut. piece.now
+        ≡ take (length (name_of cut.0)) piece.now ++ (colon ∷ cut.1.now)) }
 {
-    match name {
-        [b'A' | b'a', b'V' | b'v'] => Some(MetricType::AV),
-        [b'A' | b'a', b'C' | b'c'] => Some(MetricType::AC),
-        [b'P' | b'p', b'R' | b'r'] => Some(MetricType::PR),
-        [b'U' | b'u', b'I' | b'i'] => Some(MetricType::UI),
-        [b'S' | b's'] => Some(MetricType::S),
-        [b'C' | b'c'] => Some(MetricType::C),
-        [b'I' | b'i'] => Some(MetricType::I),
-        [b'A' | b'a'] => Some(MetricType::A),
-        [b'E' | b'e'] => Some(MetricType::E),
-        [b'R' | b'r', b'L' | b'l'] => Some(MetricType::RL),
-        [b'R' | b'r', b'C' | b'c'] => Some(MetricType::RC),
-        [b'C' | b'c', b'R' | b'r'] => Some(MetricType::CR),
-        [b'I' | b'i', b'R' | b'r'] => Some(MetricType::IR),
-        [b'A' | b'a', b'R' | b'r'] => Some(MetricType::AR),
-        [b'M' | b'm', b'A' | b'a', b'V' | b'v'] => Some(MetricType::MAV),
-        [b'M' | b'm', b'A' | b'a', b'C' | b'c'] => Some(MetricType::MAC),
-        [b'M' | b'm', b'P' | b'p', b'R' | b'r'] => Some(MetricType::MPR),
-        [b'M' | b'm', b'U' | b'u', b'I' | b'i'] => Some(MetricType::MUI),
-        [b'M' | b'm', b'S' | b's'] => Some(MetricType::MS),
-        [b'M' | b'm', b'C' | b'c'] => Some(MetricType::MC),
-        [b'M' | b'm', b'I' | b'i'] => Some(MetricType::MI),
-        [b'M' | b'm', b'A' | b'a'] => Some(MetricType::MA),
+    match piece {
+        [b'A' | b'a', b'V' | b'v', b':', value @ ..] => Some((MetricType::AV, value)),
+        [b'A' | b'a', b'C' | b'c', b':', value @ ..] => Some((MetricType::AC, value)),
+        [b'P' | b'p', b'R' | b'r', b':', value @ ..] => Some((MetricType::PR, value)),
+        [b'U' | b'u', b'I' | b'i', b':', value @ ..] => Some((MetricType::UI, value)),
+        [b'S' | b's', b':', value @ ..] => Some((MetricType::S, value)),
+        [b'C' | b'c', b':', value @ ..] => Some((MetricType::C, value)),
+        [b'I' | b'i', b':', value @ ..] => Some((MetricType::I, value)),
+        [b'A' | b'a', b':', value @ ..] => Some((MetricType::A, value)),
+        [b'E' | b'e', b':', value @ ..] => Some((MetricType::E, value)),
+        [b'R' | b'r', b'L' | b'l', b':', value @ ..] => Some((MetricType::RL, value)),
+        [b'R' | b'r', b'C' | b'c', b':', value @ ..] => Some((MetricType::RC, value)),
+        [b'C' | b'c', b'R' | b'r', b':', value @ ..] => Some((MetricType::CR, value)),
+        [b'I' | b'i', b'R' | b'r', b':', value @ ..] => Some((MetricType::IR, value)),
+        [b'A' | b'a', b'R' | b'r', b':', value @ ..] => Some((MetricType::AR, value)),
+        [b'M' | b'm', b'A' | b'a', b'V' | b'v', b':', value @ ..] => Some((MetricType::MAV, value)),
+        [b'M' | b'm', b'A' | b'a', b'C' | b'c', b':', value @ ..] => Some((MetricType::MAC, value)),
+        [b'M' | b'm', b'P' | b'p', b'R' | b'r', b':', value @ ..] => Some((MetricType::MPR, value)),
+        [b'M' | b'm', b'U' | b'u', b'I' | b'i', b':', value @ ..] => Some((MetricType::MUI, value)),
+        [b'M' | b'm', b'S' | b's', b':', value @ ..] => Some((MetricType::MS, value)),
+        [b'M' | b'm', b'C' | b'c', b':', value @ ..] => Some((MetricType::MC, value)),
+        [b'M' | b'm', b'I' | b'i', b':', value @ ..] => Some((MetricType::MI, value)),
+        [b'M' | b'm', b'A' | b'a', b':', value @ ..] => Some((MetricType::MA, value)),
         _ => None,
     }
 }
 
 /// Reads a value into its place, which has to be empty.
-#[tactic(auto, using(cvss_v3_metric::specs::TableLaws::raised_spelling))]
+#[tactic(auto, using(cvss_v3_metric::specs::private::TableLaws::raised_spelling))]
 fn fill<M: Metric>(place: &mut Option<M>, text: &[u8]) -> Result<(), Slip>
     ensures { IsFilled (λ x. raised (spelling_of M.TYPE (M.value x))) place.old (raised text.now)
         result place.new }

@@ -1,24 +1,19 @@
 //! The scores of a vector.
 
-ghost use Rattle.std.specs.Prelude.{◌≡◌, ℤ, Some, IsTrue};
+ghost use Rattle.std.specs.Prelude.{◌≡◌, ◌≤◌, ◌*ℤ◌, ◌^◌, ℤ, pos, Some, IsTrue};
 ghost use Rattle.cvss_base.specs.Exact.{of_count, whole, ◌≈◌, ◌⊏◌, IsWithinLimit};
 ghost use Rattle.cvss_base.specs.Tenths.{IsInTenths, IsFromZeroToTen};
-ghost use Rattle.cvss_v3_metric.specs.Modified.{weight_if_set};
+ghost use Rattle.cvss_v3_metric.specs.Modified.{weight_or};
 ghost use Rattle.cvss_v3_metric.specs.Table.{weight_of};
-ghost use Rattle.cvss_v3_metric.specs.Rows.{scoped_weight};
 ghost use Rattle.cvss_v3.specs.Certainty.{IsCertain};
 ghost use Rattle.cvss_v3.specs.Scores.{iss, impact, modified_impact, exploitability, base_number, environmental_number, IsBaseScore, IsTemporalScore, IsEnvironmentalScore};
-ghost use Rattle.cvss_v3.specs.VectorWeights.{weights_of, effective, effective_scope, is_changed as is_scope_changed, or_not_defined};
-ghost use Rattle.cvss_v3.specs.Weights.{IsFromTable};
+ghost use Rattle.cvss_v3.specs.VectorWeights.{weights_of, effective, effective_scope, is_changed as is_scope_changed, privileges_weight};
+ghost use Rattle.cvss_v3.specs.private.Weights.{IsFromTable};
 ghost use Rattle.cvss_base.specs.Rating.{rating_of_score};
 
 use crate::metric::Metric;
 use crate::metric::base::{PrivilegesRequired, Scope};
-use crate::metric::environmental::{
-    AvailabilityRequirement, BaseMetric, ConfidentialityRequirement, IntegrityRequirement,
-    Modified, ModifiedScope,
-};
-use crate::metric::temporal::{ExploitCodeMaturity, RemediationLevel, ReportConfidence};
+use crate::metric::environmental::{BaseMetric, Modified, ModifiedScope};
 use crate::score::Score;
 use crate::vector::Vector;
 use crate::weights::Weights;
@@ -40,12 +35,12 @@ impl Vector {
             c: weight(self.c),
             i: weight(self.i),
             a: weight(self.a),
-            e: optional_weight(self.e, ExploitCodeMaturity::NotDefined),
-            rl: optional_weight(self.rl, RemediationLevel::NotDefined),
-            rc: optional_weight(self.rc, ReportConfidence::NotDefined),
-            cr: optional_weight(self.cr, ConfidentialityRequirement::NotDefined),
-            ir: optional_weight(self.ir, IntegrityRequirement::NotDefined),
-            ar: optional_weight(self.ar, AvailabilityRequirement::NotDefined),
+            e: optional_weight(self.e),
+            rl: optional_weight(self.rl),
+            rc: optional_weight(self.rc),
+            cr: optional_weight(self.cr),
+            ir: optional_weight(self.ir),
+            ar: optional_weight(self.ar),
             mav: weight(effective(self.mav, self.av)),
             mac: weight(effective(self.mac, self.ac)),
             mpr: scoped_weight(effective(self.mpr, self.pr), modified_changed),
@@ -71,6 +66,16 @@ impl Vector {
         ensures range { IsInTenths IsFromZeroToTen result }
     {
         self.weights().base_score(self.minor_version)
+    }
+
+    /// The base score in tenths, from 0 to 100 (v3.1 specification, section 7.1; v3.0 specification,
+    /// section 8.1).
+    pub fn tenths(&self) -> u8
+        ensures value { IsBaseScore self.now.minor_version (weights_of self.now)
+            (pos result *ℤ pos (10 ^ 23)) }
+        ensures to_ten { result ≤ 100 }
+    {
+        self.weights().base_tenths(self.minor_version) as u8
     }
 
     /// The temporal score (v3.1 specification, section 7.2; v3.0 specification, section 8.2).
@@ -138,9 +143,9 @@ impl Vector {
     }
 }
 
-/// The weight of a value in hundredths, or 0 where there is none.
+/// The weight of a base metric in hundredths, or 0 where it is absent.
 fn weight<M: Metric>(value: Option<M>) -> u64
-    ensures { result ≡ weight_if_set (λ metric. weight_of M.TYPE (M.value metric)) value }
+    ensures { result ≡ weight_or (λ metric. weight_of M.TYPE (M.value metric)) value 0 }
 {
     match value {
         Some(metric) => metric.hundredths().unwrap_or(0),
@@ -148,17 +153,19 @@ fn weight<M: Metric>(value: Option<M>) -> u64
     }
 }
 
-/// The weight of a value in hundredths, or of the value that is not defined where there is none.
-fn optional_weight<M: Metric>(value: Option<M>, not_defined: M) -> u64
-    ensures { result ≡ weight_if_set (λ metric. weight_of M.TYPE (M.value metric))
-        (or_not_defined not_defined value) }
+/// The weight of an optional metric in hundredths, or that of `X` where it is absent.
+fn optional_weight<M: Metric>(value: Option<M>) -> u64
+    ensures { result ≡ weight_or (λ metric. weight_of M.TYPE (M.value metric)) value 100 }
 {
-    weight(Some(value.unwrap_or(not_defined)))
+    match value {
+        Some(metric) => metric.hundredths().unwrap_or(0),
+        None => 100,
+    }
 }
 
 /// The weight of the privileges required in hundredths by the scope, or 0 where there is none.
 fn scoped_weight(value: Option<PrivilegesRequired>, changed: bool) -> u64
-    ensures { result ≡ weight_if_set (λ privileges. Some (scoped_weight changed privileges)) value }
+    ensures { result ≡ privileges_weight changed value }
 {
     match value {
         Some(privileges) => privileges.scoped_hundredths(changed),

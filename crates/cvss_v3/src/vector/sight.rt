@@ -58,6 +58,9 @@ fn metrics_at_sight(minor_version: usize, text: &[u8]) -> Option<Vector>
         ..Vector::default()
     };
     let (base, text) = base_at_sight(empty, text)?;
+    if text.is_empty() {
+        return Some(base);
+    }
     let mut vector = base;
     let rest = others_at_sight(&mut vector, text);
     if rest.is_empty() { Some(vector) } else { None }
@@ -93,18 +96,15 @@ fn component_at_sight<M: Metric>(text: &[u8]) -> Option<(M, &[u8])>
     value_at_sight(behind_name(M::TYPE, text)?)
 }
 
-/// The value of a metric, where a text begins with its spelling, and what stands behind that. Each
-/// spelling is one letter.
+/// The value of a metric, where a text begins with its spelling, and what stands behind that.
 #[inline(always)]
 fn value_at_sight<M: Metric>(text: &[u8]) -> Option<(M, &[u8])>
     ensures { IfSome result
         (λ read. text.now ≡ spelling_of M.TYPE (M.value read.0) ++ read.1.now) }
 {
     match text {
-        [letter, rest @ ..] if letter.to_ascii_uppercase() == *letter => {
-            Some((M::read_bytes(&[*letter])?, rest))
-        }
-        _ => None,
+        [letter, rest @ ..] => Some((M::read_letter(*letter)?, rest)),
+        [] => None,
     }
 }
 

@@ -45,12 +45,13 @@ impl Metric for AttackVector {
         }
     }
 
-    fn read_bytes(text: &[u8]) -> Option<Self> {
-        match text {
-            b"P" | b"p" => Some(AttackVector::Physical),
-            b"L" | b"l" => Some(AttackVector::Local),
-            b"A" | b"a" => Some(AttackVector::Adjacent),
-            b"N" | b"n" => Some(AttackVector::Network),
+    #[inline(always)]
+    fn read_letter(letter: u8) -> Option<Self> {
+        match letter {
+            b'P' => Some(AttackVector::Physical),
+            b'L' => Some(AttackVector::Local),
+            b'A' => Some(AttackVector::Adjacent),
+            b'N' => Some(AttackVector::Network),
             _ => None,
         }
     }
@@ -73,14 +74,7 @@ impl BaseMetric for AttackVector {
 
     ghost modified = { λ metric. metric };
 
-    ghost base_law = { record {
-      covers = λ x. (x, refl);
-      row = λ x. refl;
-      place = Prim.search rules;
-      blamed = refl;
-      weighed = Prim.search rules;
-      defined = Prim.search rules;
-    } };
+    ghost base_law = { Prim.search rules };
 
     fn modified_slashed(metric: Modified<Self>) -> &'static str
         ensures { result.now ≡ slash ∷ metric_component MAV metric }
@@ -133,10 +127,11 @@ impl Metric for AttackComplexity {
         }
     }
 
-    fn read_bytes(text: &[u8]) -> Option<Self> {
-        match text {
-            b"H" | b"h" => Some(AttackComplexity::High),
-            b"L" | b"l" => Some(AttackComplexity::Low),
+    #[inline(always)]
+    fn read_letter(letter: u8) -> Option<Self> {
+        match letter {
+            b'H' => Some(AttackComplexity::High),
+            b'L' => Some(AttackComplexity::Low),
             _ => None,
         }
     }
@@ -159,14 +154,7 @@ impl BaseMetric for AttackComplexity {
 
     ghost modified = { λ metric. metric };
 
-    ghost base_law = { record {
-      covers = λ x. (x, refl);
-      row = λ x. refl;
-      place = Prim.search rules;
-      blamed = refl;
-      weighed = Prim.search rules;
-      defined = Prim.search rules;
-    } };
+    ghost base_law = { Prim.search rules };
 
     fn modified_slashed(metric: Modified<Self>) -> &'static str
         ensures { result.now ≡ slash ∷ metric_component MAC metric }

@@ -42,11 +42,12 @@ impl Metric for Confidentiality {
         }
     }
 
-    fn read_bytes(text: &[u8]) -> Option<Self> {
-        match text {
-            b"N" | b"n" => Some(Confidentiality::None),
-            b"L" | b"l" => Some(Confidentiality::Low),
-            b"H" | b"h" => Some(Confidentiality::High),
+    #[inline(always)]
+    fn read_letter(letter: u8) -> Option<Self> {
+        match letter {
+            b'N' => Some(Confidentiality::None),
+            b'L' => Some(Confidentiality::Low),
+            b'H' => Some(Confidentiality::High),
             _ => None,
         }
     }
@@ -69,14 +70,7 @@ impl BaseMetric for Confidentiality {
 
     ghost modified = { λ metric. metric };
 
-    ghost base_law = { record {
-      covers = λ x. (x, refl);
-      row = λ x. refl;
-      place = Prim.search rules;
-      blamed = refl;
-      weighed = Prim.search rules;
-      defined = Prim.search rules;
-    } };
+    ghost base_law = { Prim.search rules };
 
     fn modified_slashed(metric: Modified<Self>) -> &'static str
         ensures { result.now ≡ slash ∷ metric_component MC metric }
@@ -121,11 +115,12 @@ impl Metric for Integrity {
         }
     }
 
-    fn read_bytes(text: &[u8]) -> Option<Self> {
-        match text {
-            b"N" | b"n" => Some(Integrity::None),
-            b"L" | b"l" => Some(Integrity::Low),
-            b"H" | b"h" => Some(Integrity::High),
+    #[inline(always)]
+    fn read_letter(letter: u8) -> Option<Self> {
+        match letter {
+            b'N' => Some(Integrity::None),
+            b'L' => Some(Integrity::Low),
+            b'H' => Some(Integrity::High),
             _ => None,
         }
     }
@@ -148,14 +143,7 @@ impl BaseMetric for Integrity {
 
     ghost modified = { λ metric. metric };
 
-    ghost base_law = { record {
-      covers = λ x. (x, refl);
-      row = λ x. refl;
-      place = Prim.search rules;
-      blamed = refl;
-      weighed = Prim.search rules;
-      defined = Prim.search rules;
-    } };
+    ghost base_law = { Prim.search rules };
 
     fn modified_slashed(metric: Modified<Self>) -> &'static str
         ensures { result.now ≡ slash ∷ metric_component MI metric }
@@ -200,11 +188,12 @@ impl Metric for Availability {
         }
     }
 
-    fn read_bytes(text: &[u8]) -> Option<Self> {
-        match text {
-            b"N" | b"n" => Some(Availability::None),
-            b"L" | b"l" => Some(Availability::Low),
-            b"H" | b"h" => Some(Availability::High),
+    #[inline(always)]
+    fn read_letter(letter: u8) -> Option<Self> {
+        match letter {
+            b'N' => Some(Availability::None),
+            b'L' => Some(Availability::Low),
+            b'H' => Some(Availability::High),
             _ => None,
         }
     }
@@ -227,14 +216,7 @@ impl BaseMetric for Availability {
 
     ghost modified = { λ metric. metric };
 
-    ghost base_law = { record {
-      covers = λ x. (x, refl);
-      row = λ x. refl;
-      place = Prim.search rules;
-      blamed = refl;
-      weighed = Prim.search rules;
-      defined = Prim.search rules;
-    } };
+    ghost base_law = { Prim.search rules };
 
     fn modified_slashed(metric: Modified<Self>) -> &'static str
         ensures { result.now ≡ slash ∷ metric_component MA metric }

@@ -40,10 +40,11 @@ impl Metric for UserInteraction {
         }
     }
 
-    fn read_bytes(text: &[u8]) -> Option<Self> {
-        match text {
-            b"R" | b"r" => Some(UserInteraction::Required),
-            b"N" | b"n" => Some(UserInteraction::None),
+    #[inline(always)]
+    fn read_letter(letter: u8) -> Option<Self> {
+        match letter {
+            b'R' => Some(UserInteraction::Required),
+            b'N' => Some(UserInteraction::None),
             _ => None,
         }
     }
@@ -66,14 +67,7 @@ impl BaseMetric for UserInteraction {
 
     ghost modified = { λ metric. metric };
 
-    ghost base_law = { record {
-      covers = λ x. (x, refl);
-      row = λ x. refl;
-      place = Prim.search rules;
-      blamed = refl;
-      weighed = Prim.search rules;
-      defined = Prim.search rules;
-    } };
+    ghost base_law = { Prim.search rules };
 
     fn modified_slashed(metric: Modified<Self>) -> &'static str
         ensures { result.now ≡ slash ∷ metric_component MUI metric }

@@ -5,8 +5,7 @@ ghost use Rattle.std.proofs.Common.{rules};
 ghost use Rattle.cvss_base.specs.Exact.{IsWithinLimit};
 ghost use Rattle.cvss_base.specs.declared.v3.MetricType.TheVariants.{PR, MPR};
 ghost use Rattle.cvss_base.specs.Text.{slash};
-ghost use Rattle.cvss_v3_metric.specs.Rows.{scoped_weight};
-ghost use Rattle.cvss_v3_metric.specs.Table.{metric_component};
+ghost use Rattle.cvss_v3_metric.specs.Table.{scoped_weight, metric_component};
 
 use crate::environmental::{BaseMetric, Modified};
 use crate::metric::{HUNDREDTH, Metric, MetricType};
@@ -45,11 +44,12 @@ impl Metric for PrivilegesRequired {
         }
     }
 
-    fn read_bytes(text: &[u8]) -> Option<Self> {
-        match text {
-            b"H" | b"h" => Some(PrivilegesRequired::High),
-            b"L" | b"l" => Some(PrivilegesRequired::Low),
-            b"N" | b"n" => Some(PrivilegesRequired::None),
+    #[inline(always)]
+    fn read_letter(letter: u8) -> Option<Self> {
+        match letter {
+            b'H' => Some(PrivilegesRequired::High),
+            b'L' => Some(PrivilegesRequired::Low),
+            b'N' => Some(PrivilegesRequired::None),
             _ => None,
         }
     }
@@ -72,14 +72,7 @@ impl BaseMetric for PrivilegesRequired {
 
     ghost modified = { λ metric. metric };
 
-    ghost base_law = { record {
-      covers = λ x. (x, refl);
-      row = λ x. refl;
-      place = Prim.search rules;
-      blamed = refl;
-      weighed = Prim.search rules;
-      defined = Prim.search rules;
-    } };
+    ghost base_law = { Prim.search rules };
 
     fn modified_slashed(metric: Modified<Self>) -> &'static str
         ensures { result.now ≡ slash ∷ metric_component MPR metric }

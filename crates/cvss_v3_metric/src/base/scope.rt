@@ -39,10 +39,11 @@ impl Metric for Scope {
         }
     }
 
-    fn read_bytes(text: &[u8]) -> Option<Self> {
-        match text {
-            b"U" | b"u" => Some(Scope::Unchanged),
-            b"C" | b"c" => Some(Scope::Changed),
+    #[inline(always)]
+    fn read_letter(letter: u8) -> Option<Self> {
+        match letter {
+            b'U' => Some(Scope::Unchanged),
+            b'C' => Some(Scope::Changed),
             _ => None,
         }
     }

@@ -4,10 +4,9 @@ ghost use Rattle.std.specs.Prelude.{◌≡◌, ◌∷◌, ◌*◌, ◌^◌, pos,
 ghost use Rattle.cvss_base.specs.Exact.{IsWithinLimit};
 ghost use Rattle.cvss_base.specs.Text.{slash};
 ghost use Rattle.cvss_base.specs.declared.v3.MetricType.{MetricType};
-ghost use Rattle.cvss_v3_metric.specs.Rows.{scoped_weight};
-ghost use Rattle.cvss_v3_metric.specs.Table.{Value, weight_of, metric_component};
+ghost use Rattle.cvss_v3_metric.specs.Table.{scoped_weight, Value, weight_of, metric_component};
 ghost use Rattle.cvss_v3_metric.specs.Metrics.{IsBaseMetric};
-ghost use Rattle.cvss_v3_metric.specs.Modified.{replaced, weight_if_set};
+ghost use Rattle.cvss_v3_metric.specs.Modified.{replaced, weight_or};
 
 use crate::base::PrivilegesRequired;
 use crate::metric::{HUNDREDTH, Metric, MetricType};
@@ -40,7 +39,7 @@ pub trait BaseMetric: Metric {
 }
 
 impl<T: BaseMetric> Metric for Modified<T> {
-    ghost use Rattle.cvss_v3_metric.specs.ModifiedLaws.{modified_order, modified_equality};
+    ghost use Rattle.cvss_v3_metric.specs.private.ModifiedLaws.{modified_order, modified_equality};
     ghost use Rattle.std.proofs.Common.{rules};
 
     const TYPE: MetricType = T::MODIFIED_TYPE;
@@ -68,10 +67,11 @@ impl<T: BaseMetric> Metric for Modified<T> {
         (T::modified_slashed(self), Some(0))
     }
 
-    fn read_bytes(text: &[u8]) -> Option<Self> {
-        match text {
-            b"X" | b"x" => Some(Modified::NotDefined),
-            _ => Some(Modified::Modified(T::read_bytes(text)?)),
+    #[inline(always)]
+    fn read_letter(letter: u8) -> Option<Self> {
+        match letter {
+            b'X' => Some(Modified::NotDefined),
+            _ => Some(Modified::Modified(T::read_letter(letter)?)),
         }
     }
 }
@@ -99,8 +99,8 @@ impl<T: BaseMetric> Modified<T> {
 
     /// The weight of the value that is set, and else of the base metric's, in counts of 10^-24.
     pub fn modified_score(self, base: Option<T>) -> i128
-        ensures value { result ≡ pos (weight_if_set (λ value. weight_of T.TYPE (T.value value))
-            (replaced self base) * 10 ^ 22) }
+        ensures value { result ≡ pos (weight_or (λ value. weight_of T.TYPE (T.value value))
+            (replaced self base) 0 * 10 ^ 22) }
         ensures limit { IsWithinLimit result }
     {
         match self.or(base) {
@@ -114,8 +114,8 @@ impl Modified<PrivilegesRequired> {
     /// The weight of the value that is set, and else of the base metric's, in counts of 10^-24. It is
     /// higher where the scope changes.
     pub fn scoped_score(self, scope_changed: bool, base: Option<PrivilegesRequired>) -> i128
-        ensures value { result ≡ pos (weight_if_set
-            (λ value. Some (scoped_weight scope_changed value)) (replaced self base) * 10 ^ 22) }
+        ensures value { result ≡ pos (weight_or
+            (λ value. Some (scoped_weight scope_changed value)) (replaced self base) 0 * 10 ^ 22) }
         ensures limit { IsWithinLimit result }
     {
         match self.or(base) {

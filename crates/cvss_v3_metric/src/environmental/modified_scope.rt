@@ -40,10 +40,11 @@ impl Metric for ModifiedScope {
         }
     }
 
-    fn read_bytes(text: &[u8]) -> Option<Self> {
-        match text {
-            b"X" | b"x" => Some(ModifiedScope::NotDefined),
-            _ => Some(ModifiedScope::Modified(Scope::read_bytes(text)?)),
+    #[inline(always)]
+    fn read_letter(letter: u8) -> Option<Self> {
+        match letter {
+            b'X' => Some(ModifiedScope::NotDefined),
+            _ => Some(ModifiedScope::Modified(Scope::read_letter(letter)?)),
         }
     }
 }

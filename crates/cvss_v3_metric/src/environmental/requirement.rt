@@ -42,12 +42,13 @@ impl Metric for ConfidentialityRequirement {
         }
     }
 
-    fn read_bytes(text: &[u8]) -> Option<Self> {
-        match text {
-            b"X" | b"x" => Some(ConfidentialityRequirement::NotDefined),
-            b"H" | b"h" => Some(ConfidentialityRequirement::High),
-            b"M" | b"m" => Some(ConfidentialityRequirement::Medium),
-            b"L" | b"l" => Some(ConfidentialityRequirement::Low),
+    #[inline(always)]
+    fn read_letter(letter: u8) -> Option<Self> {
+        match letter {
+            b'X' => Some(ConfidentialityRequirement::NotDefined),
+            b'H' => Some(ConfidentialityRequirement::High),
+            b'M' => Some(ConfidentialityRequirement::Medium),
+            b'L' => Some(ConfidentialityRequirement::Low),
             _ => None,
         }
     }
@@ -96,12 +97,13 @@ impl Metric for IntegrityRequirement {
         }
     }
 
-    fn read_bytes(text: &[u8]) -> Option<Self> {
-        match text {
-            b"X" | b"x" => Some(IntegrityRequirement::NotDefined),
-            b"H" | b"h" => Some(IntegrityRequirement::High),
-            b"M" | b"m" => Some(IntegrityRequirement::Medium),
-            b"L" | b"l" => Some(IntegrityRequirement::Low),
+    #[inline(always)]
+    fn read_letter(letter: u8) -> Option<Self> {
+        match letter {
+            b'X' => Some(IntegrityRequirement::NotDefined),
+            b'H' => Some(IntegrityRequirement::High),
+            b'M' => Some(IntegrityRequirement::Medium),
+            b'L' => Some(IntegrityRequirement::Low),
             _ => None,
         }
     }
@@ -150,12 +152,13 @@ impl Metric for AvailabilityRequirement {
         }
     }
 
-    fn read_bytes(text: &[u8]) -> Option<Self> {
-        match text {
-            b"X" | b"x" => Some(AvailabilityRequirement::NotDefined),
-            b"H" | b"h" => Some(AvailabilityRequirement::High),
-            b"M" | b"m" => Some(AvailabilityRequirement::Medium),
-            b"L" | b"l" => Some(AvailabilityRequirement::Low),
+    #[inline(always)]
+    fn read_letter(letter: u8) -> Option<Self> {
+        match letter {
+            b'X' => Some(AvailabilityRequirement::NotDefined),
+            b'H' => Some(AvailabilityRequirement::High),
+            b'M' => Some(AvailabilityRequirement::Medium),
+            b'L' => Some(AvailabilityRequirement::Low),
             _ => None,
         }
     }

@@ -2,7 +2,7 @@
 
 ghost use Rattle.std.specs.Prelude.{◌≡◌, ◌&&◌};
 ghost use Rattle.cvss_v4.specs.Classes.{eq1, eq2, eq3, eq4, eq5, eq6, is_requirement_high, is_vulnerable_high, macro_vector};
-ghost use Rattle.cvss_v4.specs.ScoreLaws.{IsMacroVector};
+ghost use Rattle.cvss_v4.specs.laws.ScoreLaws.{IsMacroVector};
 
 use crate::scoring::effective::{
     AttackComplexity, AttackRequirements, AttackVector, Effective, ExploitMaturity,
@@ -22,6 +22,7 @@ pub struct MacroVector {
 }
 
 /// EQ1, the class of exploitability.
+#[inline(always)]
 fn eq1(av: AttackVector, pr: PrivilegesRequired, ui: UserInteraction) -> u8
     ensures { result ≡ eq1 av pr ui }
 {
@@ -36,6 +37,7 @@ fn eq1(av: AttackVector, pr: PrivilegesRequired, ui: UserInteraction) -> u8
 }
 
 /// EQ2, the class of complexity.
+#[inline(always)]
 fn eq2(ac: AttackComplexity, at: AttackRequirements) -> u8
     ensures { result ≡ eq2 ac at }
 {
@@ -46,6 +48,7 @@ fn eq2(ac: AttackComplexity, at: AttackRequirements) -> u8
 }
 
 /// EQ3, the class of impacts on the vulnerable system.
+#[inline(always)]
 fn eq3(vc: VulnerableImpact, vi: VulnerableImpact, va: VulnerableImpact) -> u8
     ensures { result ≡ eq3 vc vi va }
 {
@@ -59,6 +62,7 @@ fn eq3(vc: VulnerableImpact, vi: VulnerableImpact, va: VulnerableImpact) -> u8
 }
 
 /// EQ4, the class of impacts on subsequent systems.
+#[inline(always)]
 fn eq4(sc: SubsequentImpact, si: SafetyImpact, sa: SafetyImpact) -> u8
     ensures { result ≡ eq4 sc si sa }
 {
@@ -73,6 +77,7 @@ fn eq4(sc: SubsequentImpact, si: SafetyImpact, sa: SafetyImpact) -> u8
 }
 
 /// EQ5, the class of exploits.
+#[inline(always)]
 fn eq5(e: ExploitMaturity) -> u8
     ensures { result ≡ eq5 e }
 {
@@ -84,6 +89,7 @@ fn eq5(e: ExploitMaturity) -> u8
 }
 
 /// Whether an impact is high and of high importance.
+#[inline(always)]
 fn is_critical(impact: VulnerableImpact, requirement: Requirement) -> bool
     ensures { result ≡ (is_requirement_high requirement && is_vulnerable_high impact) }
 {
@@ -94,6 +100,7 @@ fn is_critical(impact: VulnerableImpact, requirement: Requirement) -> bool
 }
 
 /// EQ6, the class of important impacts on the vulnerable system.
+#[inline(always)]
 fn eq6(effective: &Effective) -> u8
     ensures { result ≡ eq6 effective.now.vc effective.now.vi effective.now.va
         effective.now.cr effective.now.ir effective.now.ar }
@@ -110,6 +117,7 @@ fn eq6(effective: &Effective) -> u8
 
 impl MacroVector {
     /// The class of effective values.
+    #[inline(always)]
     pub fn of(effective: &Effective) -> Self
         ensures value { result ≡ macro_vector effective.now }
         ensures valid { IsMacroVector result }

@@ -151,6 +151,7 @@ impl Requirement {
 }
 
 /// The distance in EQ1.
+#[inline(always)]
 pub fn eq1_distance(effective: &Effective, class: &MacroVector) -> u8
     requires { class.now ≡ macro_vector effective.now }
     ensures { pos result ≡ eq1_distance effective.now }
@@ -160,6 +161,7 @@ pub fn eq1_distance(effective: &Effective, class: &MacroVector) -> u8
 }
 
 /// The distance in EQ2.
+#[inline(always)]
 pub fn eq2_distance(effective: &Effective, class: &MacroVector) -> u8
     requires { class.now ≡ macro_vector effective.now }
     ensures { pos result ≡ eq2_distance effective.now }
@@ -168,6 +170,7 @@ pub fn eq2_distance(effective: &Effective, class: &MacroVector) -> u8
 }
 
 /// The distance in EQ3 with EQ6.
+#[inline(always)]
 pub fn eq3_eq6_distance(effective: &Effective, class: &MacroVector) -> u8
     requires { class.now ≡ macro_vector effective.now }
     ensures { pos result ≡ eq3_eq6_distance effective.now }
@@ -178,6 +181,7 @@ pub fn eq3_eq6_distance(effective: &Effective, class: &MacroVector) -> u8
 }
 
 /// The distance in EQ4.
+#[inline(always)]
 pub fn eq4_distance(effective: &Effective, class: &MacroVector) -> u8
     requires { class.now ≡ macro_vector effective.now }
     ensures { pos result ≡ eq4_distance effective.now }

@@ -10,7 +10,7 @@ ghost use Rattle.cvss_v4.specs.Values.{listed_value};
 use crate::scoring::classes::MacroVector;
 use crate::scoring::effective::{Effective, SafetyImpact, SubsequentImpact, VulnerableImpact};
 use crate::scoring::shares::{eq1_share, eq2_share, eq3_eq6_share, eq4_share, eq5_share};
-use crate::scoring::values::value_of;
+use crate::scoring::values::{place_of, value_of};
 
 /// The score of effective values in tenths: the value of their class less the mean of what the
 /// groups with a next lower class take, rounded half up, and 0 without impact.
@@ -23,11 +23,12 @@ pub fn score_tenths(effective: &Effective) -> u8
         return 0;
     }
     let class = MacroVector::of(effective);
-    let value = value_of(&class);
-    let eq1 = eq1_share(effective, &class, value);
-    let eq2 = eq2_share(effective, &class, value);
-    let eq3_eq6 = eq3_eq6_share(effective, &class, value);
-    let eq4 = eq4_share(effective, &class, value);
+    let place = place_of(&class);
+    let value = value_of(&class, place);
+    let eq1 = eq1_share(effective, &class, place, value);
+    let eq2 = eq2_share(effective, &class, place, value);
+    let eq3_eq6 = eq3_eq6_share(effective, &class, place, value);
+    let eq4 = eq4_share(effective, &class, place, value);
     let eq5 = eq5_share(effective, &class, value);
     let taken = eq1.taken + eq2.taken + eq3_eq6.taken + eq4.taken + eq5.taken;
     let counted = eq1.counted + eq2.counted + eq3_eq6.counted + eq4.counted + eq5.counted;
@@ -35,6 +36,7 @@ pub fn score_tenths(effective: &Effective) -> u8
 }
 
 /// A value less the mean of what is taken in 8400ths of a point, rounded to tenths.
+#[inline(always)]
 fn rounded(value: u8, taken: u32, counted: u32) -> u8
     requires some { 1 ≤ value }
     requires value { value ≤ 100 }
@@ -44,11 +46,27 @@ fn rounded(value: u8, taken: u32, counted: u32) -> u8
     ensures range { result ≤ 100 }
     ensures some { 1 ≤ result }
 {
-    let mean = taken * (60 / counted.max(1));
+    let mean = taken * sixty_by(counted);
     ((value as u32 * 50_400 - mean + 25_200) / 50_400) as u8
 }
 
+/// 60 divided by how many groups count, where one does.
+#[inline(always)]
+fn sixty_by(counted: u32) -> u32
+    requires { counted ≤ 5 }
+    ensures { result ≡ 60 / max counted 1 }
+{
+    match counted {
+        0 | 1 => 60,
+        2 => 30,
+        3 => 20,
+        4 => 15,
+        _ => 12,
+    }
+}
+
 /// Whether one of the six impacts is not None.
+#[inline(always)]
 fn has_impact(effective: &Effective) -> bool
     ensures { result ≡ has_impact effective.now }
 {

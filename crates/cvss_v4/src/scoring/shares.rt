@@ -1,29 +1,43 @@
 //! What each group of metrics takes from the value of a class: the gap to the next lower class times
 //! the proportion of the distance to the depth (v4.0 specification, section 8.2).
 
-ghost use Rattle.std.specs.Prelude.{◌≡◌, ◌+◌, ◌-◌, ◌*◌, ◌/◌, ◌%◌, ◌<◌, ◌≤◌, Some};
+ghost use Rattle.std.specs.Prelude.{◌≡◌, ◌+◌, ◌-◌, ◌*◌, ◌<◌, ◌≤◌, slice_index};
 ghost use Rattle.cvss_v4.specs.Classes.{macro_vector};
 ghost use Rattle.cvss_v4.specs.Gap.{eq1_group, eq2_group, eq3_eq6_group, eq4_group, eq5_group, eq3_eq6_next};
-ghost use Rattle.cvss_v4.specs.ScoreLaws.{IsMacroVector, IsListed};
-ghost use Rattle.cvss_v4.specs.Shares.{IsShare};
 ghost use Rattle.cvss_v4.specs.Values.{listed_value};
+ghost use Rattle.cvss_v4.specs.laws.ScoreLaws.{IsMacroVector, IsListed};
+ghost use Rattle.cvss_v4.specs.private.Places.{place_of};
+ghost use Rattle.cvss_v4.specs.private.Shares.{IsPart, IsShare};
 
 use crate::scoring::classes::MacroVector;
 use crate::scoring::distances::{eq1_distance, eq2_distance, eq3_eq6_distance, eq4_distance};
 use crate::scoring::effective::Effective;
-use crate::scoring::values::value_of;
+use crate::scoring::values::value_at;
 
-/// The depth of each class of EQ1, in tenths.
-const EQ1_DEPTHS: [u8; 3] = [1, 4, 5];
+/// What a distance of a tenth takes from a gap in each class of EQ1, in 840ths: 840 divided by the
+/// depth.
+const EQ1_PARTS: [u32; 3] = [840, 210, 168];
 
-/// The depth of each class of EQ2.
-const EQ2_DEPTHS: [u8; 2] = [1, 2];
+/// The same of EQ2.
+const EQ2_PARTS: [u32; 2] = [840, 420];
 
-/// The depth of each class of EQ3 with EQ6: 0,0, 0,1, 1,0, 1,1 and 2,1.
-const EQ3_EQ6_DEPTHS: [u8; 5] = [7, 6, 8, 8, 10];
+/// The same of EQ3 with EQ6: 0,0, 0,1, 1,0 and 1,1.
+const EQ3_EQ6_PARTS: [u32; 4] = [120, 140, 105, 105];
 
-/// The depth of each class of EQ4.
-const EQ4_DEPTHS: [u8; 3] = [6, 5, 4];
+/// The same of EQ4.
+const EQ4_PARTS: [u32; 3] = [140, 168, 210];
+
+/// How far behind the place of a class that with EQ1 one higher stands among the values.
+const EQ1_STEP: usize = 90;
+
+/// The same of EQ2.
+const EQ2_STEP: usize = 45;
+
+/// The same of the next pair of EQ3 with EQ6.
+const PAIR_STEP: usize = 9;
+
+/// The same of EQ4.
+const EQ4_STEP: usize = 3;
 
 /// What a group takes in 8400ths of a point, and 1 if it has a next lower class.
 #[derive(Clone, Copy)]
@@ -40,131 +54,107 @@ impl Share {
     };
 
     /// The share of a group with a next lower class.
-    fn of(value: u8, lower: u8, distance: u8, depth: u8) -> Self
+    #[inline(always)]
+    fn of(value: u8, lower: u8, distance: u8, part: u32) -> Self
         requires value { value ≤ 100 }
-        requires some { 1 ≤ lower }
-        requires lower { lower ≤ value }
-        requires distance { distance < depth }
-        requires depth { depth * (840 / depth) ≡ 840 }
-        ensures taken { result.taken ≡ (value - lower) * distance * (840 / depth) }
+        requires part { IsPart value lower distance part }
+        ensures taken { result.taken ≡ (value - lower) * distance * part }
         ensures counted { result.counted ≡ 1 }
         ensures bound { result.taken ≤ 840 * (value - 1) }
     {
-        let part = 840 / depth as u32;
         Share {
-            taken: (value - lower) as u32 * distance as u32 * part,
+            taken: (value - lower) as u32 * (distance as u32 * part),
             counted: 1,
         }
     }
 }
 
 /// The share of EQ1.
-pub fn eq1_share(effective: &Effective, class: &MacroVector, value: u8) -> Share
+#[inline(always)]
+pub fn eq1_share(effective: &Effective, class: &MacroVector, place: usize, value: u8) -> Share
     requires class { class.now ≡ macro_vector effective.now }
+    requires place { place ≡ place_of class.now }
     requires value { IsListed (listed_value class.now) value }
     ensures { IsShare value (eq1_group effective.now) result }
 {
     if class.eq1 == 2 {
         return Share::NONE;
     }
-    let lower = value_of(&MacroVector {
-        eq1: class.eq1 + 1,
-        ..*class
-    });
-    Share::of(
-        value,
-        lower,
-        eq1_distance(effective, class),
-        EQ1_DEPTHS[class.eq1 as usize],
-    )
+    let lower = value_at(place + EQ1_STEP);
+    let distance = eq1_distance(effective, class);
+    Share::of(value, lower, distance, EQ1_PARTS[class.eq1 as usize])
 }
 
 /// The share of EQ2.
-pub fn eq2_share(effective: &Effective, class: &MacroVector, value: u8) -> Share
+#[inline(always)]
+pub fn eq2_share(effective: &Effective, class: &MacroVector, place: usize, value: u8) -> Share
     requires class { class.now ≡ macro_vector effective.now }
+    requires place { place ≡ place_of class.now }
     requires value { IsListed (listed_value class.now) value }
     ensures { IsShare value (eq2_group effective.now) result }
 {
     if class.eq2 == 1 {
         return Share::NONE;
     }
-    let lower = value_of(&MacroVector {
-        eq2: class.eq2 + 1,
-        ..*class
-    });
-    Share::of(
-        value,
-        lower,
-        eq2_distance(effective, class),
-        EQ2_DEPTHS[class.eq2 as usize],
-    )
+    let lower = value_at(place + EQ2_STEP);
+    let distance = eq2_distance(effective, class);
+    Share::of(value, lower, distance, EQ2_PARTS[class.eq2 as usize])
 }
 
 /// The share of EQ3 with EQ6.
-pub fn eq3_eq6_share(effective: &Effective, class: &MacroVector, value: u8) -> Share
+#[inline(always)]
+pub fn eq3_eq6_share(effective: &Effective, class: &MacroVector, place: usize, value: u8) -> Share
     requires class { class.now ≡ macro_vector effective.now }
+    requires place { place ≡ place_of class.now }
     requires value { IsListed (listed_value class.now) value }
     ensures { IsShare value (eq3_eq6_group effective.now) result }
 {
     if class.eq3 == 2 {
         return Share::NONE;
     }
-    let depth = EQ3_EQ6_DEPTHS[(2 * class.eq3 + class.eq6) as usize];
-    Share::of(
-        value,
-        eq3_eq6_lower(class),
-        eq3_eq6_distance(effective, class),
-        depth,
-    )
+    let lower = eq3_eq6_lower(class, place);
+    let distance = eq3_eq6_distance(effective, class);
+    let pair = 2 * class.eq3 + class.eq6;
+    Share::of(value, lower, distance, EQ3_EQ6_PARTS[pair as usize])
 }
 
 /// The next lower value of EQ3 with EQ6, in tenths.
-fn eq3_eq6_lower(class: &MacroVector) -> u8
+#[inline(always)]
+fn eq3_eq6_lower(class: &MacroVector, place: usize) -> u8
     requires class { IsMacroVector class.now }
+    requires place { place ≡ place_of class.now }
     requires lower { class.now.eq3 < 2 }
-    ensures { eq3_eq6_next class.now ≡ Some result }
+    ensures { IsListed (eq3_eq6_next class.now) result }
 {
-    if class.eq6 == 1 {
-        return value_of(&MacroVector {
-            eq3: class.eq3 + 1,
-            ..*class
-        });
-    }
-    let less_important = value_of(&MacroVector {
-        eq6: class.eq6 + 1,
-        ..*class
-    });
     if class.eq3 == 1 {
-        return less_important;
+        return value_at(place + PAIR_STEP);
     }
-    less_important.max(value_of(&MacroVector {
-        eq3: class.eq3 + 1,
-        ..*class
-    }))
+    let second = value_at(place + 2 * PAIR_STEP);
+    if class.eq6 == 1 {
+        return second;
+    }
+    let first = value_at(place + PAIR_STEP);
+    first.max(second)
 }
 
 /// The share of EQ4.
-pub fn eq4_share(effective: &Effective, class: &MacroVector, value: u8) -> Share
+#[inline(always)]
+pub fn eq4_share(effective: &Effective, class: &MacroVector, place: usize, value: u8) -> Share
     requires class { class.now ≡ macro_vector effective.now }
+    requires place { place ≡ place_of class.now }
     requires value { IsListed (listed_value class.now) value }
     ensures { IsShare value (eq4_group effective.now) result }
 {
     if class.eq4 == 2 {
         return Share::NONE;
     }
-    let lower = value_of(&MacroVector {
-        eq4: class.eq4 + 1,
-        ..*class
-    });
-    Share::of(
-        value,
-        lower,
-        eq4_distance(effective, class),
-        EQ4_DEPTHS[class.eq4 as usize],
-    )
+    let lower = value_at(place + EQ4_STEP);
+    let distance = eq4_distance(effective, class);
+    Share::of(value, lower, distance, EQ4_PARTS[class.eq4 as usize])
 }
 
 /// The share of EQ5, whose classes have one value each: it takes nothing, and is counted.
+#[inline(always)]
 pub fn eq5_share(effective: &Effective, class: &MacroVector, value: u8) -> Share
     requires class { class.now ≡ macro_vector effective.now }
     requires value { IsListed (listed_value class.now) value }

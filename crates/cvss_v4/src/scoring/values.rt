@@ -1,9 +1,10 @@
 //! The values of the classes (v4.0 specification, section 8.2).
 
-ghost use Rattle.std.specs.Prelude.{◌≡◌, ◌<◌, Some};
+ghost use Rattle.std.specs.Prelude.{◌≡◌, ◌<◌, slice_index};
+ghost use Rattle.cvss_v4.specs.laws.ScoreLaws.{IsMacroVector, IsListed};
 ghost use Rattle.cvss_v4.specs.Values.{listed_value};
-ghost use Rattle.cvss_v4.specs.Places.{place_of};
-ghost use Rattle.cvss_v4.specs.ScoreLaws.{IsMacroVector, IsListed};
+ghost use Rattle.cvss_v4.specs.private.Places.{place_of};
+ghost use Rattle.cvss_v4.specs.declared.scoring.values.TheConstants.{VALUES};
 
 use crate::scoring::classes::MacroVector;
 
@@ -43,16 +44,28 @@ pub(crate) const VALUES: [u8; 270] = [
     53, 24, 14, 24, 12, 5, 10, 3, 1,
 ];
 
-/// The value of a class in tenths.
-pub fn value_of(class: &MacroVector) -> u8
-    requires { IsMacroVector class.now }
+/// The value at the place of a class, in tenths.
+#[inline(always)]
+pub fn value_at(place: usize) -> u8
+    requires { place < 270 }
+    ensures { result ≡ slice_index VALUES place }
+{
+    VALUES[place]
+}
+
+/// The value of a class, whose place is known.
+#[inline(always)]
+pub fn value_of(class: &MacroVector, place: usize) -> u8
+    requires class { IsMacroVector class.now }
+    requires place { place ≡ place_of class.now }
     ensures { IsListed (listed_value class.now) result }
 {
-    VALUES[index_of(class)]
+    value_at(place)
 }
 
 /// The place of a class among the values.
-fn index_of(class: &MacroVector) -> usize
+#[inline(always)]
+pub fn place_of(class: &MacroVector) -> usize
     requires { IsMacroVector class.now }
     ensures value { result ≡ place_of class.now }
     ensures bound { result < 270 }

@@ -1,9 +1,9 @@
 //! The effective values of a vector (v4.0 specification, sections 4.2 and 8.2).
 
 ghost use Rattle.std.specs.Prelude.{◌≡◌};
-ghost use Rattle.cvss_v4_metric.specs.Spellings.{exploit_maturity_spelling};
-ghost use Rattle.cvss_v4_env.specs.Spellings.{confidentiality_requirements_spelling, integrity_requirements_spelling, availability_requirements_spelling};
-ghost use Rattle.cvss_v4.specs.Merging.{letter, requirement_of, exploit_maturity_of, effective_of};
+ghost use Rattle.cvss_base.specs.declared.v4.MetricType.TheVariants.{AR, CR, E, IR};
+ghost use Rattle.cvss_v4.specs.Effective.{meaning, requirements, exploit_maturities};
+ghost use Rattle.cvss_v4.specs.Merging.{letter_of, effective_of};
 
 mod attack;
 mod subsequent;
@@ -38,6 +38,7 @@ use vulnerable::{
 impl Vector {
     /// The effective values: a modified metric that is defined replaces its base metric, and what is
     /// not defined counts as its default.
+    #[inline(always)]
     pub(super) fn effective(&self) -> Effective
         ensures { result ≡ effective_of self.now }
     {
@@ -77,7 +78,7 @@ impl Vector {
 fn confidentiality_requirements(
     value: Option<ConfidentialityRequirements>,
 ) -> effective::Requirement
-    ensures { result ≡ requirement_of (letter confidentiality_requirements_spelling value) }
+    ensures { result ≡ meaning requirements (letter_of CR value) }
 {
     match value {
         None | Some(ConfidentialityRequirements::NotDefined) => effective::Requirement::High,
@@ -89,7 +90,7 @@ fn confidentiality_requirements(
 
 /// The effective value that IR gives.
 fn integrity_requirements(value: Option<IntegrityRequirements>) -> effective::Requirement
-    ensures { result ≡ requirement_of (letter integrity_requirements_spelling value) }
+    ensures { result ≡ meaning requirements (letter_of IR value) }
 {
     match value {
         None | Some(IntegrityRequirements::NotDefined) => effective::Requirement::High,
@@ -101,7 +102,7 @@ fn integrity_requirements(value: Option<IntegrityRequirements>) -> effective::Re
 
 /// The effective value that AR gives.
 fn availability_requirements(value: Option<AvailabilityRequirements>) -> effective::Requirement
-    ensures { result ≡ requirement_of (letter availability_requirements_spelling value) }
+    ensures { result ≡ meaning requirements (letter_of AR value) }
 {
     match value {
         None | Some(AvailabilityRequirements::NotDefined) => effective::Requirement::High,
@@ -113,7 +114,7 @@ fn availability_requirements(value: Option<AvailabilityRequirements>) -> effecti
 
 /// The effective value that E gives.
 fn exploit_maturity(value: Option<ExploitMaturity>) -> effective::ExploitMaturity
-    ensures { result ≡ exploit_maturity_of (letter exploit_maturity_spelling value) }
+    ensures { result ≡ meaning exploit_maturities (letter_of E value) }
 {
     match value {
         None | Some(ExploitMaturity::NotDefined) => effective::ExploitMaturity::Attacked,

@@ -7,7 +7,7 @@ ghost use Rattle.cvss_base.specs.Text.{IsComponent};
 ghost use Rattle.cvss_base.specs.Version.{IsComplete};
 ghost use Rattle.cvss_v4_metric.specs.Table.{environmental};
 ghost use Rattle.cvss_v4.specs.Overriding.{AreOverrides, IsOverridden, Objection, HasNoObjectionBefore, IsFirstObjection, TellsObjection, TellsFirstObjection, override_error_text};
-ghost use Rattle.cvss_v4.specs.OverridingSteps.{AddsOverride, IsObjectionTo, IsTellableFault, objection_of};
+ghost use Rattle.cvss_v4.specs.private.OverridingSteps.{AddsOverride, IsObjectionTo, IsTellableFault, objection_of};
 ghost use Rattle.cvss_v4.specs.Vector.{v4};
 ghost use Rattle.cvss_v4.specs.declared.vector.overriding.OverrideFault.TheVariants.{Component};
 

@@ -9,7 +9,7 @@ ghost use Rattle.cvss_base.specs.Text.{component};
 ghost use Rattle.cvss_base.specs.V4Types.{name_of};
 ghost use Rattle.cvss_base.specs.Version.{canonical_text, version_piece};
 ghost use Rattle.cvss_base.specs.declared.v4.MetricType.TheVariants.{AC, AT, AV, PR, SA, SC, SI, UI, VA, VC, VI, E, AR, CR, IR, MAC, MAT, MAV, MPR, MSA, MSC, MSI, MUI, MVA, MVC, MVI, AU, R, RE, S, U, V};
-ghost use Rattle.cvss_v4_metric.specs.Table.{printed};
+ghost use Rattle.cvss_v4_metric.specs.Table.{printed, spelling_at};
 ghost use Rattle.cvss_v4.specs.Vector.{v4};
 
 use crate::metric::{Metric, MetricType};
@@ -59,7 +59,7 @@ impl Printed for Vector {
 /// A slash and the component of a value.
 fn slashed_value<M: Metric>(value: Option<M>) -> Option<&'static str>
     ensures { option_copied result
-        ≡ slashed (option_map (component (name_of M.TYPE)) (option_map M.spelling value)) }
+        ≡ slashed (option_map (component (name_of M.TYPE)) (option_map (λ x. spelling_at M.TYPE (M.rank x)) value)) }
 {
     match value {
         Some(metric) => Some(metric.slashed()),
@@ -70,7 +70,7 @@ fn slashed_value<M: Metric>(value: Option<M>) -> Option<&'static str>
 /// Writes a slash and the component of a value, if there is one.
 fn write_value<M: Metric, W: fmt::Write>(value: Option<M>, f: &mut fmt::Formatter<W>) -> fmt::Result
     ensures { WritesOnOk W.write_str_gives f.old result (unwrap_or (slashed
-        (option_map (component (name_of M.TYPE)) (option_map M.spelling value))) []) f.new }
+        (option_map (component (name_of M.TYPE)) (option_map (λ x. spelling_at M.TYPE (M.rank x)) value))) []) f.new }
 {
     write_slashed(slashed_value(value), f)
 }

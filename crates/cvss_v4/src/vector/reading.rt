@@ -4,8 +4,9 @@ ghost use Rattle.std.specs.Prelude.{◌≡◌, IfSome};
 ghost use Rattle.cvss_base.specs.Text.{raised};
 ghost use Rattle.cvss_base.specs.V4Types.{name_of};
 ghost use Rattle.cvss_base.specs.private.Walk.{HasNoValue, IsFilled};
+ghost use Rattle.cvss_v4_metric.specs.Table.{spelling_at};
 ghost use Rattle.cvss_v4.specs.Vector.{v4};
-ghost use Rattle.cvss_v4.specs.VectorLaws.{v4_is_lawful, v4_fronts_are_lawful};
+ghost use Rattle.cvss_v4.specs.private.VectorLaws.{v4_is_lawful, v4_fronts_are_lawful};
 
 use crate::laws::default_vectors_have_no_metric;
 use crate::metric::{Metric, MetricType};
@@ -198,7 +199,7 @@ fn named(name: &[u8]) -> Option<MetricType>
 
 /// Reads a value into its place, which has to be empty.
 fn fill<M: Metric>(place: &mut Option<M>, text: &[u8]) -> Result<(), Slip>
-    ensures { IsFilled (λ x. raised (M.spelling x)) place.old (raised text.now) result place.new }
+    ensures { IsFilled (λ x. raised (spelling_at M.TYPE (M.rank x))) place.old (raised text.now) result place.new }
 {
     let Some(metric) = M::read_bytes(text) else {
         return Err(Slip::Invalid);

@@ -1,13 +1,13 @@
 //! The score of a vector.
 
-ghost use Rattle.std.specs.Prelude.{◌≡◌, ◌≤ℤ◌, ℤ, pos, IsTrue};
+ghost use Rattle.std.specs.Prelude.{◌≡◌, ◌≤◌, ◌^◌, ◌*ℤ◌, ◌≤ℤ◌, ℤ, pos, IsTrue};
 ghost use Rattle.cvss_base.specs.Exact.{◌over◌, ◌⊕◌};
 ghost use Rattle.cvss_base.specs.Rounding.{IsRoundedV4};
 ghost use Rattle.cvss_base.specs.Tenths.{IsInTenths, IsFromZeroToTen};
 ghost use Rattle.cvss_base.specs.Version.{IsComplete};
 ghost use Rattle.cvss_v4.specs.Merging.{effective_of};
 ghost use Rattle.cvss_v4.specs.Nomenclature.{nomenclature_of};
-ghost use Rattle.cvss_v4.specs.ScoreLaws.{IsAsSevere};
+ghost use Rattle.cvss_v4.specs.laws.ScoreLaws.{IsAsSevere};
 ghost use Rattle.cvss_v4.specs.Scores.{has_impact, number, IsScore};
 ghost use Rattle.cvss_v4.specs.Vector.{v4};
 ghost use Rattle.cvss_v4.specs.declared.scoring.effective.Effective.{Effective};
@@ -36,5 +36,15 @@ impl Vector {
             (IsRoundedV4 (number (effective_of self.now) ⊕ 1 over 1_000_000)) result.0 }
     {
         Score::of_tenths(score_tenths(&self.effective()), self.nomenclature())
+    }
+
+    /// The score of a complete vector in tenths: what `score` counts in 10^-24.
+    pub fn tenths(&self) -> u8
+        requires complete { IsComplete v4 self.now }
+        ensures value { IsInTenths (IsScore (effective_of self.now)) (pos result *ℤ pos (10 ^ 23)) }
+        ensures range { result ≤ 100 }
+        ensures with_impact { IsTrue (has_impact (effective_of self.now)) → 1 ≤ result }
+    {
+        score_tenths(&self.effective())
     }
 }

@@ -8,8 +8,8 @@ ghost use Rattle.cvss_base.specs.Text.{slash, colon, component};
 ghost use Rattle.cvss_base.specs.V4Types.{name_of};
 ghost use Rattle.cvss_base.specs.Version.{canonical_text, version_piece, IsWellFormed};
 ghost use Rattle.cvss_base.specs.declared.v4.MetricType.TheVariants.{U};
-ghost use Rattle.cvss_v4_metric.specs.Spellings.{provider_urgency_spelling};
-ghost use Rattle.cvss_v4_metric.specs.Table.{printed};
+ghost use Rattle.cvss_v4_metric.specs.Table.{printed, spelling_at, metric_component};
+ghost use Rattle.cvss_v4.specs.Table.{spelling_of};
 ghost use Rattle.cvss_v4.specs.Vector.{v4};
 
 mod base;
@@ -66,7 +66,7 @@ fn metrics_at_sight(text: &[u8]) -> Option<Vector>
 #[inline(always)]
 fn urgency_at_sight(text: &[u8]) -> Option<Option<ProviderUrgency>>
     ensures { IfSome result (λ urgency. text.now ≡ unwrap_or (slashed (option_map
-        (component (name_of U)) (option_map provider_urgency_spelling urgency))) []) }
+        (component (name_of U)) (option_map (spelling_of U) urgency))) []) }
 {
     if text.is_empty() {
         return Some(None);
@@ -85,7 +85,7 @@ fn urgency_at_sight(text: &[u8]) -> Option<Option<ProviderUrgency>>
 #[inline(always)]
 fn put_at_sight<'a, M: Metric>(place: &mut Option<M>, text: &'a [u8]) -> &'a [u8]
     ensures { text.now ≡ unwrap_or (slashed (option_map (component (name_of M.TYPE))
-        (option_map M.spelling place.new))) [] ++ result.now }
+        (option_map (λ x. spelling_at M.TYPE (M.rank x)) place.new))) [] ++ result.now }
 {
     match component_at_sight(text) {
         Some((metric, rest)) => {
@@ -104,7 +104,7 @@ fn put_at_sight<'a, M: Metric>(place: &mut Option<M>, text: &'a [u8]) -> &'a [u8
 #[inline(always)]
 fn component_at_sight<M: Metric>(text: &[u8]) -> Option<(M, &[u8])>
     ensures { IfSome result (λ read. text.now
-        ≡ slash ∷ (component (name_of M.TYPE) (M.spelling read.0) ++ read.1.now)) }
+        ≡ slash ∷ (metric_component M.TYPE (M.rank read.0) ++ read.1.now)) }
 {
     value_at_sight(behind_name(M::TYPE, text)?)
 }
@@ -113,7 +113,7 @@ fn component_at_sight<M: Metric>(text: &[u8]) -> Option<(M, &[u8])>
 /// spelling of several letters is not recognised.
 #[inline(always)]
 fn value_at_sight<M: Metric>(text: &[u8]) -> Option<(M, &[u8])>
-    ensures { IfSome result (λ read. text.now ≡ M.spelling read.0 ++ read.1.now) }
+    ensures { IfSome result (λ read. text.now ≡ spelling_at M.TYPE (M.rank read.0) ++ read.1.now) }
 {
     match text {
         [letter, rest @ ..] => Some((spelled_by_letter(*letter)?, rest)),
@@ -124,7 +124,7 @@ fn value_at_sight<M: Metric>(text: &[u8]) -> Option<(M, &[u8])>
 /// The value that a letter spells.
 #[inline(always)]
 fn spelled_by_letter<M: Metric>(letter: u8) -> Option<M>
-    ensures { IfSome result (λ metric. M.spelling metric ≡ letter ∷ []) }
+    ensures { IfSome result (λ metric. spelling_at M.TYPE (M.rank metric) ≡ letter ∷ []) }
 {
     if letter.to_ascii_uppercase() == letter {
         M::read_bytes(&[letter])

@@ -1,12 +1,13 @@
 //! What the attack needs of others: privileges, and somebody who takes part (v4.0 specification,
 //! sections 2.1.4 and 2.1.5).
 
-ghost use Rattle.std.specs.Prelude.{Some};
+ghost use Rattle.std.specs.Prelude.{Some, [], ◌∷◌};
 ghost use Rattle.std.proofs.Common.{rules};
-ghost use Rattle.cvss_base.specs.Text.{component};
-ghost use Rattle.cvss_base.specs.V4Types.{name_of};
 ghost use Rattle.cvss_base.specs.declared.v4.MetricType.TheVariants.{PR, UI};
-ghost use Rattle.cvss_v4_metric.specs.Spellings.{privileges_required_spelling, privileges_required_values, user_interaction_spelling, user_interaction_values};
+ghost use Rattle.cvss_v4_metric.specs.Ranks.{privileges_required_rank, user_interaction_rank};
+ghost use Rattle.cvss_v4_metric.specs.Table.{metric_component};
+ghost use Rattle.cvss_v4_metric.specs.declared.base.access.PrivilegesRequired.TheVariants as privileges_required;
+ghost use Rattle.cvss_v4_metric.specs.declared.base.access.UserInteraction.TheVariants as user_interaction;
 
 use crate::metric::{Metric, MetricType};
 use cvss_base::print::write_component;
@@ -26,9 +27,9 @@ impl Metric for PrivilegesRequired {
 
     ghost TYPE = { PR };
 
-    ghost spelling = { privileges_required_spelling };
+    ghost rank = { privileges_required_rank };
 
-    ghost values = { privileges_required_values };
+    ghost values = { privileges_required.High ∷ privileges_required.Low ∷ privileges_required.None ∷ [] };
 
     ghost law = { Prim.search rules };
 
@@ -51,9 +52,9 @@ impl Metric for PrivilegesRequired {
 }
 
 impl fmt::Display for PrivilegesRequired {
-    ghost output = { λ metric. Some (component (name_of PR) (privileges_required_spelling metric)) };
+    ghost output = { λ metric. Some (metric_component PR (privileges_required_rank metric)) };
 
-    ghost styled_output = { λ metric _. Some (component (name_of PR) (privileges_required_spelling metric)) };
+    ghost styled_output = { λ metric _. Some (metric_component PR (privileges_required_rank metric)) };
 
     fn fmt<W: fmt::Write>(&self, f: &mut fmt::Formatter<W>) -> fmt::Result {
         write_component(self.slashed(), f)
@@ -74,9 +75,9 @@ impl Metric for UserInteraction {
 
     ghost TYPE = { UI };
 
-    ghost spelling = { user_interaction_spelling };
+    ghost rank = { user_interaction_rank };
 
-    ghost values = { user_interaction_values };
+    ghost values = { user_interaction.Active ∷ user_interaction.Passive ∷ user_interaction.None ∷ [] };
 
     ghost law = { Prim.search rules };
 
@@ -99,9 +100,9 @@ impl Metric for UserInteraction {
 }
 
 impl fmt::Display for UserInteraction {
-    ghost output = { λ metric. Some (component (name_of UI) (user_interaction_spelling metric)) };
+    ghost output = { λ metric. Some (metric_component UI (user_interaction_rank metric)) };
 
-    ghost styled_output = { λ metric _. Some (component (name_of UI) (user_interaction_spelling metric)) };
+    ghost styled_output = { λ metric _. Some (metric_component UI (user_interaction_rank metric)) };
 
     fn fmt<W: fmt::Write>(&self, f: &mut fmt::Formatter<W>) -> fmt::Result {
         write_component(self.slashed(), f)

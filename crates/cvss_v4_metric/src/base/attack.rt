@@ -1,12 +1,14 @@
 //! Where the attack comes from and what it depends on (v4.0 specification, sections 2.1.1 to
 //! 2.1.3).
 
-ghost use Rattle.std.specs.Prelude.{Some};
+ghost use Rattle.std.specs.Prelude.{Some, [], ◌∷◌};
 ghost use Rattle.std.proofs.Common.{rules};
-ghost use Rattle.cvss_base.specs.Text.{component};
-ghost use Rattle.cvss_base.specs.V4Types.{name_of};
 ghost use Rattle.cvss_base.specs.declared.v4.MetricType.TheVariants.{AV, AC, AT};
-ghost use Rattle.cvss_v4_metric.specs.Spellings.{attack_vector_spelling, attack_vector_values, attack_complexity_spelling, attack_complexity_values, attack_requirements_spelling, attack_requirements_values};
+ghost use Rattle.cvss_v4_metric.specs.Ranks.{attack_vector_rank, attack_complexity_rank, attack_requirements_rank};
+ghost use Rattle.cvss_v4_metric.specs.Table.{metric_component};
+ghost use Rattle.cvss_v4_metric.specs.declared.base.attack.AttackVector.TheVariants as attack_vector;
+ghost use Rattle.cvss_v4_metric.specs.declared.base.attack.AttackComplexity.TheVariants as attack_complexity;
+ghost use Rattle.cvss_v4_metric.specs.declared.base.attack.AttackRequirements.TheVariants as attack_requirements;
 
 use crate::metric::{Metric, MetricType};
 use cvss_base::print::write_component;
@@ -27,9 +29,9 @@ impl Metric for AttackVector {
 
     ghost TYPE = { AV };
 
-    ghost spelling = { attack_vector_spelling };
+    ghost rank = { attack_vector_rank };
 
-    ghost values = { attack_vector_values };
+    ghost values = { attack_vector.Physical ∷ attack_vector.Local ∷ attack_vector.Adjacent ∷ attack_vector.Network ∷ [] };
 
     ghost law = { Prim.search rules };
 
@@ -54,9 +56,9 @@ impl Metric for AttackVector {
 }
 
 impl fmt::Display for AttackVector {
-    ghost output = { λ metric. Some (component (name_of AV) (attack_vector_spelling metric)) };
+    ghost output = { λ metric. Some (metric_component AV (attack_vector_rank metric)) };
 
-    ghost styled_output = { λ metric _. Some (component (name_of AV) (attack_vector_spelling metric)) };
+    ghost styled_output = { λ metric _. Some (metric_component AV (attack_vector_rank metric)) };
 
     fn fmt<W: fmt::Write>(&self, f: &mut fmt::Formatter<W>) -> fmt::Result {
         write_component(self.slashed(), f)
@@ -77,9 +79,9 @@ impl Metric for AttackComplexity {
 
     ghost TYPE = { AC };
 
-    ghost spelling = { attack_complexity_spelling };
+    ghost rank = { attack_complexity_rank };
 
-    ghost values = { attack_complexity_values };
+    ghost values = { attack_complexity.High ∷ attack_complexity.Low ∷ [] };
 
     ghost law = { Prim.search rules };
 
@@ -100,9 +102,9 @@ impl Metric for AttackComplexity {
 }
 
 impl fmt::Display for AttackComplexity {
-    ghost output = { λ metric. Some (component (name_of AC) (attack_complexity_spelling metric)) };
+    ghost output = { λ metric. Some (metric_component AC (attack_complexity_rank metric)) };
 
-    ghost styled_output = { λ metric _. Some (component (name_of AC) (attack_complexity_spelling metric)) };
+    ghost styled_output = { λ metric _. Some (metric_component AC (attack_complexity_rank metric)) };
 
     fn fmt<W: fmt::Write>(&self, f: &mut fmt::Formatter<W>) -> fmt::Result {
         write_component(self.slashed(), f)
@@ -123,9 +125,9 @@ impl Metric for AttackRequirements {
 
     ghost TYPE = { AT };
 
-    ghost spelling = { attack_requirements_spelling };
+    ghost rank = { attack_requirements_rank };
 
-    ghost values = { attack_requirements_values };
+    ghost values = { attack_requirements.Present ∷ attack_requirements.None ∷ [] };
 
     ghost law = { Prim.search rules };
 
@@ -146,9 +148,9 @@ impl Metric for AttackRequirements {
 }
 
 impl fmt::Display for AttackRequirements {
-    ghost output = { λ metric. Some (component (name_of AT) (attack_requirements_spelling metric)) };
+    ghost output = { λ metric. Some (metric_component AT (attack_requirements_rank metric)) };
 
-    ghost styled_output = { λ metric _. Some (component (name_of AT) (attack_requirements_spelling metric)) };
+    ghost styled_output = { λ metric _. Some (metric_component AT (attack_requirements_rank metric)) };
 
     fn fmt<W: fmt::Write>(&self, f: &mut fmt::Formatter<W>) -> fmt::Result {
         write_component(self.slashed(), f)

@@ -1,11 +1,13 @@
 //! What systems behind the vulnerable one lose (v4.0 specification, section 2.2).
 
-ghost use Rattle.std.specs.Prelude.{Some};
+ghost use Rattle.std.specs.Prelude.{Some, [], ◌∷◌};
 ghost use Rattle.std.proofs.Common.{rules};
-ghost use Rattle.cvss_base.specs.Text.{component};
-ghost use Rattle.cvss_base.specs.V4Types.{name_of};
 ghost use Rattle.cvss_base.specs.declared.v4.MetricType.TheVariants.{SC, SI, SA};
-ghost use Rattle.cvss_v4_metric.specs.Spellings.{confidentiality_impact_to_the_subsequent_system_spelling, confidentiality_impact_to_the_subsequent_system_values, integrity_impact_to_the_subsequent_system_spelling, integrity_impact_to_the_subsequent_system_values, availability_impact_to_the_subsequent_system_spelling, availability_impact_to_the_subsequent_system_values};
+ghost use Rattle.cvss_v4_metric.specs.Ranks.{confidentiality_impact_to_the_subsequent_system_rank, integrity_impact_to_the_subsequent_system_rank, availability_impact_to_the_subsequent_system_rank};
+ghost use Rattle.cvss_v4_metric.specs.Table.{metric_component};
+ghost use Rattle.cvss_v4_metric.specs.declared.base.subsequent.ConfidentialityImpactToTheSubsequentSystem.TheVariants as confidentiality_impact_to_the_subsequent_system;
+ghost use Rattle.cvss_v4_metric.specs.declared.base.subsequent.IntegrityImpactToTheSubsequentSystem.TheVariants as integrity_impact_to_the_subsequent_system;
+ghost use Rattle.cvss_v4_metric.specs.declared.base.subsequent.AvailabilityImpactToTheSubsequentSystem.TheVariants as availability_impact_to_the_subsequent_system;
 
 use crate::metric::{Metric, MetricType};
 use cvss_base::print::write_component;
@@ -26,9 +28,9 @@ impl Metric for ConfidentialityImpactToTheSubsequentSystem {
 
     ghost TYPE = { SC };
 
-    ghost spelling = { confidentiality_impact_to_the_subsequent_system_spelling };
+    ghost rank = { confidentiality_impact_to_the_subsequent_system_rank };
 
-    ghost values = { confidentiality_impact_to_the_subsequent_system_values };
+    ghost values = { confidentiality_impact_to_the_subsequent_system.None ∷ confidentiality_impact_to_the_subsequent_system.Low ∷ confidentiality_impact_to_the_subsequent_system.High ∷ [] };
 
     ghost law = { Prim.search rules };
 
@@ -51,9 +53,9 @@ impl Metric for ConfidentialityImpactToTheSubsequentSystem {
 }
 
 impl fmt::Display for ConfidentialityImpactToTheSubsequentSystem {
-    ghost output = { λ metric. Some (component (name_of SC) (confidentiality_impact_to_the_subsequent_system_spelling metric)) };
+    ghost output = { λ metric. Some (metric_component SC (confidentiality_impact_to_the_subsequent_system_rank metric)) };
 
-    ghost styled_output = { λ metric _. Some (component (name_of SC) (confidentiality_impact_to_the_subsequent_system_spelling metric)) };
+    ghost styled_output = { λ metric _. Some (metric_component SC (confidentiality_impact_to_the_subsequent_system_rank metric)) };
 
     fn fmt<W: fmt::Write>(&self, f: &mut fmt::Formatter<W>) -> fmt::Result {
         write_component(self.slashed(), f)
@@ -74,9 +76,9 @@ impl Metric for IntegrityImpactToTheSubsequentSystem {
 
     ghost TYPE = { SI };
 
-    ghost spelling = { integrity_impact_to_the_subsequent_system_spelling };
+    ghost rank = { integrity_impact_to_the_subsequent_system_rank };
 
-    ghost values = { integrity_impact_to_the_subsequent_system_values };
+    ghost values = { integrity_impact_to_the_subsequent_system.None ∷ integrity_impact_to_the_subsequent_system.Low ∷ integrity_impact_to_the_subsequent_system.High ∷ [] };
 
     ghost law = { Prim.search rules };
 
@@ -99,9 +101,9 @@ impl Metric for IntegrityImpactToTheSubsequentSystem {
 }
 
 impl fmt::Display for IntegrityImpactToTheSubsequentSystem {
-    ghost output = { λ metric. Some (component (name_of SI) (integrity_impact_to_the_subsequent_system_spelling metric)) };
+    ghost output = { λ metric. Some (metric_component SI (integrity_impact_to_the_subsequent_system_rank metric)) };
 
-    ghost styled_output = { λ metric _. Some (component (name_of SI) (integrity_impact_to_the_subsequent_system_spelling metric)) };
+    ghost styled_output = { λ metric _. Some (metric_component SI (integrity_impact_to_the_subsequent_system_rank metric)) };
 
     fn fmt<W: fmt::Write>(&self, f: &mut fmt::Formatter<W>) -> fmt::Result {
         write_component(self.slashed(), f)
@@ -123,9 +125,9 @@ impl Metric for AvailabilityImpactToTheSubsequentSystem {
 
     ghost TYPE = { SA };
 
-    ghost spelling = { availability_impact_to_the_subsequent_system_spelling };
+    ghost rank = { availability_impact_to_the_subsequent_system_rank };
 
-    ghost values = { availability_impact_to_the_subsequent_system_values };
+    ghost values = { availability_impact_to_the_subsequent_system.None ∷ availability_impact_to_the_subsequent_system.Low ∷ availability_impact_to_the_subsequent_system.High ∷ [] };
 
     ghost law = { Prim.search rules };
 
@@ -148,9 +150,9 @@ impl Metric for AvailabilityImpactToTheSubsequentSystem {
 }
 
 impl fmt::Display for AvailabilityImpactToTheSubsequentSystem {
-    ghost output = { λ metric. Some (component (name_of SA) (availability_impact_to_the_subsequent_system_spelling metric)) };
+    ghost output = { λ metric. Some (metric_component SA (availability_impact_to_the_subsequent_system_rank metric)) };
 
-    ghost styled_output = { λ metric _. Some (component (name_of SA) (availability_impact_to_the_subsequent_system_spelling metric)) };
+    ghost styled_output = { λ metric _. Some (metric_component SA (availability_impact_to_the_subsequent_system_rank metric)) };
 
     fn fmt<W: fmt::Write>(&self, f: &mut fmt::Formatter<W>) -> fmt::Result {
         write_component(self.slashed(), f)

@@ -1,11 +1,13 @@
 //! What the vulnerable system loses (v4.0 specification, section 2.2).
 
-ghost use Rattle.std.specs.Prelude.{Some};
+ghost use Rattle.std.specs.Prelude.{Some, [], ◌∷◌};
 ghost use Rattle.std.proofs.Common.{rules};
-ghost use Rattle.cvss_base.specs.Text.{component};
-ghost use Rattle.cvss_base.specs.V4Types.{name_of};
 ghost use Rattle.cvss_base.specs.declared.v4.MetricType.TheVariants.{VC, VI, VA};
-ghost use Rattle.cvss_v4_metric.specs.Spellings.{confidentiality_impact_to_the_vulnerable_system_spelling, confidentiality_impact_to_the_vulnerable_system_values, integrity_impact_to_the_vulnerable_system_spelling, integrity_impact_to_the_vulnerable_system_values, availability_impact_to_the_vulnerable_system_spelling, availability_impact_to_the_vulnerable_system_values};
+ghost use Rattle.cvss_v4_metric.specs.Ranks.{confidentiality_impact_to_the_vulnerable_system_rank, integrity_impact_to_the_vulnerable_system_rank, availability_impact_to_the_vulnerable_system_rank};
+ghost use Rattle.cvss_v4_metric.specs.Table.{metric_component};
+ghost use Rattle.cvss_v4_metric.specs.declared.base.vulnerable.ConfidentialityImpactToTheVulnerableSystem.TheVariants as confidentiality_impact_to_the_vulnerable_system;
+ghost use Rattle.cvss_v4_metric.specs.declared.base.vulnerable.IntegrityImpactToTheVulnerableSystem.TheVariants as integrity_impact_to_the_vulnerable_system;
+ghost use Rattle.cvss_v4_metric.specs.declared.base.vulnerable.AvailabilityImpactToTheVulnerableSystem.TheVariants as availability_impact_to_the_vulnerable_system;
 
 use crate::metric::{Metric, MetricType};
 use cvss_base::print::write_component;
@@ -25,9 +27,9 @@ impl Metric for ConfidentialityImpactToTheVulnerableSystem {
 
     ghost TYPE = { VC };
 
-    ghost spelling = { confidentiality_impact_to_the_vulnerable_system_spelling };
+    ghost rank = { confidentiality_impact_to_the_vulnerable_system_rank };
 
-    ghost values = { confidentiality_impact_to_the_vulnerable_system_values };
+    ghost values = { confidentiality_impact_to_the_vulnerable_system.None ∷ confidentiality_impact_to_the_vulnerable_system.Low ∷ confidentiality_impact_to_the_vulnerable_system.High ∷ [] };
 
     ghost law = { Prim.search rules };
 
@@ -50,9 +52,9 @@ impl Metric for ConfidentialityImpactToTheVulnerableSystem {
 }
 
 impl fmt::Display for ConfidentialityImpactToTheVulnerableSystem {
-    ghost output = { λ metric. Some (component (name_of VC) (confidentiality_impact_to_the_vulnerable_system_spelling metric)) };
+    ghost output = { λ metric. Some (metric_component VC (confidentiality_impact_to_the_vulnerable_system_rank metric)) };
 
-    ghost styled_output = { λ metric _. Some (component (name_of VC) (confidentiality_impact_to_the_vulnerable_system_spelling metric)) };
+    ghost styled_output = { λ metric _. Some (metric_component VC (confidentiality_impact_to_the_vulnerable_system_rank metric)) };
 
     fn fmt<W: fmt::Write>(&self, f: &mut fmt::Formatter<W>) -> fmt::Result {
         write_component(self.slashed(), f)
@@ -73,9 +75,9 @@ impl Metric for IntegrityImpactToTheVulnerableSystem {
 
     ghost TYPE = { VI };
 
-    ghost spelling = { integrity_impact_to_the_vulnerable_system_spelling };
+    ghost rank = { integrity_impact_to_the_vulnerable_system_rank };
 
-    ghost values = { integrity_impact_to_the_vulnerable_system_values };
+    ghost values = { integrity_impact_to_the_vulnerable_system.None ∷ integrity_impact_to_the_vulnerable_system.Low ∷ integrity_impact_to_the_vulnerable_system.High ∷ [] };
 
     ghost law = { Prim.search rules };
 
@@ -98,9 +100,9 @@ impl Metric for IntegrityImpactToTheVulnerableSystem {
 }
 
 impl fmt::Display for IntegrityImpactToTheVulnerableSystem {
-    ghost output = { λ metric. Some (component (name_of VI) (integrity_impact_to_the_vulnerable_system_spelling metric)) };
+    ghost output = { λ metric. Some (metric_component VI (integrity_impact_to_the_vulnerable_system_rank metric)) };
 
-    ghost styled_output = { λ metric _. Some (component (name_of VI) (integrity_impact_to_the_vulnerable_system_spelling metric)) };
+    ghost styled_output = { λ metric _. Some (metric_component VI (integrity_impact_to_the_vulnerable_system_rank metric)) };
 
     fn fmt<W: fmt::Write>(&self, f: &mut fmt::Formatter<W>) -> fmt::Result {
         write_component(self.slashed(), f)
@@ -121,9 +123,9 @@ impl Metric for AvailabilityImpactToTheVulnerableSystem {
 
     ghost TYPE = { VA };
 
-    ghost spelling = { availability_impact_to_the_vulnerable_system_spelling };
+    ghost rank = { availability_impact_to_the_vulnerable_system_rank };
 
-    ghost values = { availability_impact_to_the_vulnerable_system_values };
+    ghost values = { availability_impact_to_the_vulnerable_system.None ∷ availability_impact_to_the_vulnerable_system.Low ∷ availability_impact_to_the_vulnerable_system.High ∷ [] };
 
     ghost law = { Prim.search rules };
 
@@ -146,9 +148,9 @@ impl Metric for AvailabilityImpactToTheVulnerableSystem {
 }
 
 impl fmt::Display for AvailabilityImpactToTheVulnerableSystem {
-    ghost output = { λ metric. Some (component (name_of VA) (availability_impact_to_the_vulnerable_system_spelling metric)) };
+    ghost output = { λ metric. Some (metric_component VA (availability_impact_to_the_vulnerable_system_rank metric)) };
 
-    ghost styled_output = { λ metric _. Some (component (name_of VA) (availability_impact_to_the_vulnerable_system_spelling metric)) };
+    ghost styled_output = { λ metric _. Some (metric_component VA (availability_impact_to_the_vulnerable_system_rank metric)) };
 
     fn fmt<W: fmt::Write>(&self, f: &mut fmt::Formatter<W>) -> fmt::Result {
         write_component(self.slashed(), f)

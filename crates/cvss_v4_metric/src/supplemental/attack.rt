@@ -1,11 +1,12 @@
 //! What an attacker can reach (v4.0 specification, sections 5.2 and 5.5).
 
-ghost use Rattle.std.specs.Prelude.{Some};
+ghost use Rattle.std.specs.Prelude.{Some, [], ◌∷◌};
 ghost use Rattle.std.proofs.Common.{rules};
-ghost use Rattle.cvss_base.specs.Text.{component};
-ghost use Rattle.cvss_base.specs.V4Types.{name_of};
 ghost use Rattle.cvss_base.specs.declared.v4.MetricType.TheVariants.{AU, V};
-ghost use Rattle.cvss_v4_metric.specs.Spellings.{automatable_spelling, automatable_values, value_density_spelling, value_density_values};
+ghost use Rattle.cvss_v4_metric.specs.Ranks.{automatable_rank, value_density_rank};
+ghost use Rattle.cvss_v4_metric.specs.Table.{metric_component};
+ghost use Rattle.cvss_v4_metric.specs.declared.supplemental.attack.Automatable.TheVariants as automatable;
+ghost use Rattle.cvss_v4_metric.specs.declared.supplemental.attack.ValueDensity.TheVariants as value_density;
 
 use crate::metric::{Metric, MetricType};
 use cvss_base::print::write_component;
@@ -25,9 +26,9 @@ impl Metric for Automatable {
 
     ghost TYPE = { AU };
 
-    ghost spelling = { automatable_spelling };
+    ghost rank = { automatable_rank };
 
-    ghost values = { automatable_values };
+    ghost values = { automatable.NotDefined ∷ automatable.Yes ∷ automatable.No ∷ [] };
 
     ghost law = { Prim.search rules };
 
@@ -50,9 +51,9 @@ impl Metric for Automatable {
 }
 
 impl fmt::Display for Automatable {
-    ghost output = { λ metric. Some (component (name_of AU) (automatable_spelling metric)) };
+    ghost output = { λ metric. Some (metric_component AU (automatable_rank metric)) };
 
-    ghost styled_output = { λ metric _. Some (component (name_of AU) (automatable_spelling metric)) };
+    ghost styled_output = { λ metric _. Some (metric_component AU (automatable_rank metric)) };
 
     fn fmt<W: fmt::Write>(&self, f: &mut fmt::Formatter<W>) -> fmt::Result {
         write_component(self.slashed(), f)
@@ -73,9 +74,9 @@ impl Metric for ValueDensity {
 
     ghost TYPE = { V };
 
-    ghost spelling = { value_density_spelling };
+    ghost rank = { value_density_rank };
 
-    ghost values = { value_density_values };
+    ghost values = { value_density.NotDefined ∷ value_density.Diffuse ∷ value_density.Concentrated ∷ [] };
 
     ghost law = { Prim.search rules };
 
@@ -98,9 +99,9 @@ impl Metric for ValueDensity {
 }
 
 impl fmt::Display for ValueDensity {
-    ghost output = { λ metric. Some (component (name_of V) (value_density_spelling metric)) };
+    ghost output = { λ metric. Some (metric_component V (value_density_rank metric)) };
 
-    ghost styled_output = { λ metric _. Some (component (name_of V) (value_density_spelling metric)) };
+    ghost styled_output = { λ metric _. Some (metric_component V (value_density_rank metric)) };
 
     fn fmt<W: fmt::Write>(&self, f: &mut fmt::Formatter<W>) -> fmt::Result {
         write_component(self.slashed(), f)

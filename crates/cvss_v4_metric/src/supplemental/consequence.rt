@@ -1,11 +1,12 @@
 //! What comes of an attack (v4.0 specification, sections 5.1 and 5.4).
 
-ghost use Rattle.std.specs.Prelude.{Some};
+ghost use Rattle.std.specs.Prelude.{Some, [], ◌∷◌};
 ghost use Rattle.std.proofs.Common.{rules};
-ghost use Rattle.cvss_base.specs.Text.{component};
-ghost use Rattle.cvss_base.specs.V4Types.{name_of};
 ghost use Rattle.cvss_base.specs.declared.v4.MetricType.TheVariants.{S, R};
-ghost use Rattle.cvss_v4_metric.specs.Spellings.{safety_spelling, safety_values, recovery_spelling, recovery_values};
+ghost use Rattle.cvss_v4_metric.specs.Ranks.{safety_rank, recovery_rank};
+ghost use Rattle.cvss_v4_metric.specs.Table.{metric_component};
+ghost use Rattle.cvss_v4_metric.specs.declared.supplemental.consequence.Safety.TheVariants as safety;
+ghost use Rattle.cvss_v4_metric.specs.declared.supplemental.consequence.Recovery.TheVariants as recovery;
 
 use crate::metric::{Metric, MetricType};
 use cvss_base::print::write_component;
@@ -25,9 +26,9 @@ impl Metric for Safety {
 
     ghost TYPE = { S };
 
-    ghost spelling = { safety_spelling };
+    ghost rank = { safety_rank };
 
-    ghost values = { safety_values };
+    ghost values = { safety.NotDefined ∷ safety.Present ∷ safety.Negligible ∷ [] };
 
     ghost law = { Prim.search rules };
 
@@ -50,9 +51,9 @@ impl Metric for Safety {
 }
 
 impl fmt::Display for Safety {
-    ghost output = { λ metric. Some (component (name_of S) (safety_spelling metric)) };
+    ghost output = { λ metric. Some (metric_component S (safety_rank metric)) };
 
-    ghost styled_output = { λ metric _. Some (component (name_of S) (safety_spelling metric)) };
+    ghost styled_output = { λ metric _. Some (metric_component S (safety_rank metric)) };
 
     fn fmt<W: fmt::Write>(&self, f: &mut fmt::Formatter<W>) -> fmt::Result {
         write_component(self.slashed(), f)
@@ -74,9 +75,9 @@ impl Metric for Recovery {
 
     ghost TYPE = { R };
 
-    ghost spelling = { recovery_spelling };
+    ghost rank = { recovery_rank };
 
-    ghost values = { recovery_values };
+    ghost values = { recovery.NotDefined ∷ recovery.Automatic ∷ recovery.User ∷ recovery.Irrecoverable ∷ [] };
 
     ghost law = { Prim.search rules };
 
@@ -101,9 +102,9 @@ impl Metric for Recovery {
 }
 
 impl fmt::Display for Recovery {
-    ghost output = { λ metric. Some (component (name_of R) (recovery_spelling metric)) };
+    ghost output = { λ metric. Some (metric_component R (recovery_rank metric)) };
 
-    ghost styled_output = { λ metric _. Some (component (name_of R) (recovery_spelling metric)) };
+    ghost styled_output = { λ metric _. Some (metric_component R (recovery_rank metric)) };
 
     fn fmt<W: fmt::Write>(&self, f: &mut fmt::Formatter<W>) -> fmt::Result {
         write_component(self.slashed(), f)

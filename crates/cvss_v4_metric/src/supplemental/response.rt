@@ -1,11 +1,12 @@
 //! How to respond to the vulnerability (v4.0 specification, sections 5.3 and 5.6).
 
-ghost use Rattle.std.specs.Prelude.{Some};
+ghost use Rattle.std.specs.Prelude.{Some, [], ◌∷◌};
 ghost use Rattle.std.proofs.Common.{rules};
-ghost use Rattle.cvss_base.specs.Text.{component};
-ghost use Rattle.cvss_base.specs.V4Types.{name_of};
 ghost use Rattle.cvss_base.specs.declared.v4.MetricType.TheVariants.{RE, U};
-ghost use Rattle.cvss_v4_metric.specs.Spellings.{vulnerability_response_effort_spelling, vulnerability_response_effort_values, provider_urgency_spelling, provider_urgency_values};
+ghost use Rattle.cvss_v4_metric.specs.Ranks.{vulnerability_response_effort_rank, provider_urgency_rank};
+ghost use Rattle.cvss_v4_metric.specs.Table.{metric_component};
+ghost use Rattle.cvss_v4_metric.specs.declared.supplemental.response.VulnerabilityResponseEffort.TheVariants as vulnerability_response_effort;
+ghost use Rattle.cvss_v4_metric.specs.declared.supplemental.response.ProviderUrgency.TheVariants as provider_urgency;
 
 use crate::metric::{Metric, MetricType};
 use cvss_base::print::write_component;
@@ -27,9 +28,9 @@ impl Metric for VulnerabilityResponseEffort {
 
     ghost TYPE = { RE };
 
-    ghost spelling = { vulnerability_response_effort_spelling };
+    ghost rank = { vulnerability_response_effort_rank };
 
-    ghost values = { vulnerability_response_effort_values };
+    ghost values = { vulnerability_response_effort.NotDefined ∷ vulnerability_response_effort.Low ∷ vulnerability_response_effort.Moderate ∷ vulnerability_response_effort.High ∷ [] };
 
     ghost law = { Prim.search rules };
 
@@ -54,9 +55,9 @@ impl Metric for VulnerabilityResponseEffort {
 }
 
 impl fmt::Display for VulnerabilityResponseEffort {
-    ghost output = { λ metric. Some (component (name_of RE) (vulnerability_response_effort_spelling metric)) };
+    ghost output = { λ metric. Some (metric_component RE (vulnerability_response_effort_rank metric)) };
 
-    ghost styled_output = { λ metric _. Some (component (name_of RE) (vulnerability_response_effort_spelling metric)) };
+    ghost styled_output = { λ metric _. Some (metric_component RE (vulnerability_response_effort_rank metric)) };
 
     fn fmt<W: fmt::Write>(&self, f: &mut fmt::Formatter<W>) -> fmt::Result {
         write_component(self.slashed(), f)
@@ -80,9 +81,9 @@ impl Metric for ProviderUrgency {
 
     ghost TYPE = { U };
 
-    ghost spelling = { provider_urgency_spelling };
+    ghost rank = { provider_urgency_rank };
 
-    ghost values = { provider_urgency_values };
+    ghost values = { provider_urgency.NotDefined ∷ provider_urgency.Red ∷ provider_urgency.Amber ∷ provider_urgency.Green ∷ provider_urgency.Clear ∷ [] };
 
     ghost law = { Prim.search rules };
 
@@ -109,9 +110,9 @@ impl Metric for ProviderUrgency {
 }
 
 impl fmt::Display for ProviderUrgency {
-    ghost output = { λ metric. Some (component (name_of U) (provider_urgency_spelling metric)) };
+    ghost output = { λ metric. Some (metric_component U (provider_urgency_rank metric)) };
 
-    ghost styled_output = { λ metric _. Some (component (name_of U) (provider_urgency_spelling metric)) };
+    ghost styled_output = { λ metric _. Some (metric_component U (provider_urgency_rank metric)) };
 
     fn fmt<W: fmt::Write>(&self, f: &mut fmt::Formatter<W>) -> fmt::Result {
         write_component(self.slashed(), f)

@@ -1,5 +1,5 @@
 use Rattle.std.proofs.Common.{length, ◌≡◌, take}
-use Rattle.cvss_c.specs.Defined.{defined_texts}
+use Rattle.cvss_c.specs.private.Steps.{defined_texts}
 use Rattle.cvss_c.proofs.defined.defined_length.Given as goal
 
 abbrev pub invariant-loop-kind : goal.invariant-loop-kind

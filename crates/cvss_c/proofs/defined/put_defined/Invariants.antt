@@ -1,6 +1,5 @@
 use Rattle.std.proofs.Common.{◌+◌, length, ◌≡◌, take}
-use Rattle.cvss_c.specs.Buffer.{Puts}
-use Rattle.cvss_c.specs.Defined.{defined_texts}
+use Rattle.cvss_c.specs.private.Steps.{Puts, defined_texts}
 use Rattle.cvss_c.proofs.defined.put_defined.Given as goal
 
 abbrev pub invariant-loop-kind : goal.invariant-loop-kind

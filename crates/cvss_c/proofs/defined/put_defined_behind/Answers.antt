@@ -1,5 +1,5 @@
 use Rattle.std.proofs.Common.{◌++◌, arith, length-append}
-use Rattle.cvss_c.specs.Defined.{defined_texts}
+use Rattle.cvss_c.specs.private.Steps.{defined_texts}
 use Rattle.cvss_c.proofs.BufferLemmas.{IsWritten-put, nothing_put}
 use Rattle.cvss_c.proofs.defined.put_defined_behind.Goals as goal
 

@@ -1,6 +1,6 @@
 use Rattle.std.proofs.Common.{◌++◌, arith, append_assoc, length-append}
 use Rattle.cvss_c.proofs.BufferLemmas.{IsWritten-left, IsWritten-put, nothing_put}
-use Rattle.cvss_c.specs.Reasons.{metric_text}
+use Rattle.cvss_c.specs.private.Reasons.{metric_text}
 use Rattle.cvss_c.proofs.reason.put_metric_reason.Goals as goal
 
 pub returns-then-length-buffer : goal.returns-then-length-buffer

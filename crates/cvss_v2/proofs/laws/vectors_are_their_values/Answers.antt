@@ -1,6 +1,6 @@
 use Rattle.std.specs.Prelude.{◌≡◌, ◌↔◌, refl}
 use Rattle.std.proofs.Common.{rules}
-use Rattle.cvss_base.specs.declared.v2.MetricType.TheVariants.{A, AC, AV, Au, C, I, E, RL, RC, CDP, TD, CR, IR, AR}
+use Rattle.cvss_base.specs.declared.v2.MetricType.TheVariants.{A}
 use Rattle.cvss_base.proofs.EqualityLemmas.{both, options_by_value, through}
 use Rattle.cvss_v2.specs.contracts.metric.base.access.AccessVectorMetric.TheImpl.Laws as access_vector
 use Rattle.cvss_v2.specs.contracts.metric.base.access.AccessComplexityMetric.TheImpl.Laws as access_complexity
@@ -17,7 +17,7 @@ use Rattle.cvss_v2.specs.contracts.metric.environmental.requirement.Confidential
 use Rattle.cvss_v2.specs.contracts.metric.environmental.requirement.IntegrityRequirementMetric.TheImpl.Laws as integrity_requirement
 use Rattle.cvss_v2.specs.contracts.metric.environmental.requirement.AvailabilityRequirementMetric.TheImpl.Laws as availability_requirement
 use Rattle.cvss_v2.specs.declared.vector.Vector.{Vector}
-use Rattle.cvss_v2.specs.VectorLaws.{v2_is_lawful}
+use Rattle.cvss_v2.specs.private.VectorLaws.{v2_is_lawful}
 use Rattle.cvss_v2.proofs.laws.vectors_are_their_values.Goals as goal
 
 -- the two have the same value for each metric
@@ -27,7 +27,7 @@ HaveTheSame x y =
 
 as_values : (x y : Vector) → HaveTheSame x y ↔ (x ≡ y)
 as_values x y = (
-  λ same. v2_is_lawful.one_vector x y refl (elim [ AV ↦ same.0 | AC ↦ same.1.0 | Au ↦ same.1.1.0 | C ↦ same.1.1.1.0 | I ↦ same.1.1.1.1.0 | A ↦ same.1.1.1.1.1.0 | E ↦ same.1.1.1.1.1.1.0 | RL ↦ same.1.1.1.1.1.1.1.0 | RC ↦ same.1.1.1.1.1.1.1.1.0 | CDP ↦ same.1.1.1.1.1.1.1.1.1.0 | TD ↦ same.1.1.1.1.1.1.1.1.1.1.0 | CR ↦ same.1.1.1.1.1.1.1.1.1.1.1.0 | IR ↦ same.1.1.1.1.1.1.1.1.1.1.1.1.0 | AR ↦ same.1.1.1.1.1.1.1.1.1.1.1.1.1 ]),
+  λ same. v2_is_lawful.one_vector x y refl (elim [ A ↦ search rules | _ ↦ search rules ]),
   λ same. (cc, (cc, (cc, (cc, (cc, (cc, (cc, (cc, (cc, (cc, (cc, (cc, (cc, cc))))))))))))),
 )
 
@@ -50,4 +50,4 @@ returns-clause-equality c = λ x y.
     (options_by_value availability_requirement.by_value-law.0 x.ar y.ar))))))))))))))
 
 pub returns-clause-default : goal.returns-clause-default
-returns-clause-default c = λ vector empty. elim [ AV ↦ search rules | AC ↦ search rules | Au ↦ search rules | C ↦ search rules | I ↦ search rules | A ↦ search rules | E ↦ search rules | RL ↦ search rules | RC ↦ search rules | CDP ↦ search rules | TD ↦ search rules | CR ↦ search rules | IR ↦ search rules | AR ↦ search rules ]
+returns-clause-default c = λ vector empty. elim [ A ↦ search rules | _ ↦ search rules ]

@@ -1,9 +1,9 @@
 use Rattle.std.specs.Prelude.{◌≡◌, ◌↔◌, refl}
 use Rattle.std.proofs.Common.{rules}
 use Rattle.cvss_base.specs.declared.v3.MetricType.{MetricType}
-use Rattle.cvss_base.specs.declared.v3.MetricType.TheVariants.{AV, AC, PR, UI, S, C, I, A, E, RL, RC, MAV, CR, IR, AR, MAC, MPR, MUI, MS, MC, MI, MA}
+use Rattle.cvss_base.specs.declared.v3.MetricType.TheVariants.{A}
 use Rattle.cvss_base.proofs.EqualityLemmas.{both, options_by_value, through}
-use Rattle.cvss_v3_metric.specs.ModifiedLaws.{modified_equality}
+use Rattle.cvss_v3_metric.specs.private.ModifiedLaws.{modified_equality}
 use Rattle.cvss_v3_metric.specs.contracts.base.attack.AttackVectorMetric.TheImpl.Laws as attack_vector
 use Rattle.cvss_v3_metric.specs.contracts.base.attack.AttackComplexityMetric.TheImpl.Laws as attack_complexity
 use Rattle.cvss_v3_metric.specs.contracts.base.privileges.PrivilegesRequiredMetric.TheImpl.Laws as privileges_required
@@ -21,7 +21,7 @@ use Rattle.cvss_v3_metric.specs.contracts.environmental.requirement.Availability
 use Rattle.cvss_v3_metric.specs.contracts.environmental.modified_scope.ModifiedScopeMetric.TheImpl.Laws as modified_scope
 use Rattle.cvss_v3.specs.declared.vector.Vector.{Vector}
 use Rattle.cvss_v3.specs.Vector.{v3, value_at}
-use Rattle.cvss_v3.specs.VectorLaws.{v3_is_lawful}
+use Rattle.cvss_v3.specs.private.VectorLaws.{v3_is_lawful}
 use Rattle.cvss_v3.proofs.laws.vectors_are_their_values.Goals as goal
 
 -- the two have the same minor version and the same value for each metric
@@ -33,7 +33,7 @@ as_values : (x y : Vector) → HaveTheSame x y ↔ (x ≡ y)
 as_values x y = (
   λ same.
       let front : v3.front x ≡ v3.front y = cc in
-      let values : (kind : MetricType) → value_at x kind ≡ value_at y kind = elim [ AV ↦ same.1.0 | AC ↦ same.1.1.0 | PR ↦ same.1.1.1.0 | UI ↦ same.1.1.1.1.0 | S ↦ same.1.1.1.1.1.0 | C ↦ same.1.1.1.1.1.1.0 | I ↦ same.1.1.1.1.1.1.1.0 | A ↦ same.1.1.1.1.1.1.1.1.0 | E ↦ same.1.1.1.1.1.1.1.1.1.0 | RL ↦ same.1.1.1.1.1.1.1.1.1.1.0 | RC ↦ same.1.1.1.1.1.1.1.1.1.1.1.0 | MAV ↦ same.1.1.1.1.1.1.1.1.1.1.1.1.0 | CR ↦ same.1.1.1.1.1.1.1.1.1.1.1.1.1.0 | IR ↦ same.1.1.1.1.1.1.1.1.1.1.1.1.1.1.0 | AR ↦ same.1.1.1.1.1.1.1.1.1.1.1.1.1.1.1.0 | MAC ↦ same.1.1.1.1.1.1.1.1.1.1.1.1.1.1.1.1.0 | MPR ↦ same.1.1.1.1.1.1.1.1.1.1.1.1.1.1.1.1.1.0 | MUI ↦ same.1.1.1.1.1.1.1.1.1.1.1.1.1.1.1.1.1.1.0 | MS ↦ same.1.1.1.1.1.1.1.1.1.1.1.1.1.1.1.1.1.1.1.0 | MC ↦ same.1.1.1.1.1.1.1.1.1.1.1.1.1.1.1.1.1.1.1.1.0 | MI ↦ same.1.1.1.1.1.1.1.1.1.1.1.1.1.1.1.1.1.1.1.1.1.0 | MA ↦ same.1.1.1.1.1.1.1.1.1.1.1.1.1.1.1.1.1.1.1.1.1.1 ] in
+      let values : (kind : MetricType) → value_at x kind ≡ value_at y kind = elim [ A ↦ search rules | _ ↦ search rules ] in
       v3_is_lawful.one_vector x y front values,
   λ same. (cc, (cc, (cc, (cc, (cc, (cc, (cc, (cc, (cc, (cc, (cc, (cc, (cc, (cc, (cc, (cc, (cc, (cc, (cc, (cc, (cc, (cc, cc)))))))))))))))))))))),
 )
@@ -66,4 +66,4 @@ returns-clause-equality c = λ x y.
     (options_by_value (modified_equality _ availability.by_value-law.0 refl (λ y. refl) (λ x. refl) (λ x y. refl)) x.ma y.ma)))))))))))))))))))))))
 
 pub returns-clause-default : goal.returns-clause-default
-returns-clause-default c = λ vector empty. elim [ AV ↦ search rules | AC ↦ search rules | PR ↦ search rules | UI ↦ search rules | S ↦ search rules | C ↦ search rules | I ↦ search rules | A ↦ search rules | E ↦ search rules | RL ↦ search rules | RC ↦ search rules | MAV ↦ search rules | CR ↦ search rules | IR ↦ search rules | AR ↦ search rules | MAC ↦ search rules | MPR ↦ search rules | MUI ↦ search rules | MS ↦ search rules | MC ↦ search rules | MI ↦ search rules | MA ↦ search rules ]
+returns-clause-default c = λ vector empty. elim [ A ↦ search rules | _ ↦ search rules ]

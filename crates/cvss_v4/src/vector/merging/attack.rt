@@ -1,9 +1,10 @@
 //! The effective values of the metrics of the attack (v4.0 specification, sections 2.1 and 4.2).
 
 ghost use Rattle.std.specs.Prelude.{◌≡◌};
-ghost use Rattle.cvss_v4_metric.specs.Spellings.{attack_vector_spelling, attack_complexity_spelling, attack_requirements_spelling, privileges_required_spelling, user_interaction_spelling};
-ghost use Rattle.cvss_v4_env.specs.Spellings.{modified_attack_vector_spelling, modified_attack_complexity_spelling, modified_attack_requirements_spelling, modified_privileges_required_spelling, modified_user_interaction_spelling};
-ghost use Rattle.cvss_v4.specs.Merging.{letter, if_defined, attack_vector_of, attack_complexity_of, attack_requirements_of, privileges_required_of, user_interaction_of};
+ghost use Rattle.cvss_base.specs.declared.v4.MetricType.TheVariants.{AC, AT, AV, MAC, MAT, MAV, MPR, MUI, PR, UI};
+ghost use Rattle.cvss_v4.specs.private.Defined.{if_defined};
+ghost use Rattle.cvss_v4.specs.Effective.{meaning, attack_vectors, privileges, user_interactions, attack_complexities, all_attack_requirements};
+ghost use Rattle.cvss_v4.specs.Merging.{letter_of};
 
 use crate::metric::base::{
     AttackComplexity, AttackRequirements, AttackVector, PrivilegesRequired, UserInteraction,
@@ -16,7 +17,7 @@ use crate::scoring::effective;
 
 /// The effective value that AV gives.
 pub(super) fn attack_vector(value: Option<AttackVector>) -> effective::AttackVector
-    ensures { result ≡ attack_vector_of (letter attack_vector_spelling value) }
+    ensures { result ≡ meaning attack_vectors (letter_of AV value) }
 {
     match value {
         None | Some(AttackVector::Network) => effective::AttackVector::Network,
@@ -30,7 +31,7 @@ pub(super) fn attack_vector(value: Option<AttackVector>) -> effective::AttackVec
 pub(super) fn modified_attack_vector(
     value: Option<ModifiedAttackVector>,
 ) -> Option<effective::AttackVector>
-    ensures { result ≡ if_defined attack_vector_of (letter modified_attack_vector_spelling value) }
+    ensures { result ≡ if_defined (meaning attack_vectors) (letter_of MAV value) }
 {
     match value {
         None | Some(ModifiedAttackVector::NotDefined) => None,
@@ -43,7 +44,7 @@ pub(super) fn modified_attack_vector(
 
 /// The effective value that AC gives.
 pub(super) fn attack_complexity(value: Option<AttackComplexity>) -> effective::AttackComplexity
-    ensures { result ≡ attack_complexity_of (letter attack_complexity_spelling value) }
+    ensures { result ≡ meaning attack_complexities (letter_of AC value) }
 {
     match value {
         None | Some(AttackComplexity::Low) => effective::AttackComplexity::Low,
@@ -55,7 +56,7 @@ pub(super) fn attack_complexity(value: Option<AttackComplexity>) -> effective::A
 pub(super) fn modified_attack_complexity(
     value: Option<ModifiedAttackComplexity>,
 ) -> Option<effective::AttackComplexity>
-    ensures { result ≡ if_defined attack_complexity_of (letter modified_attack_complexity_spelling value) }
+    ensures { result ≡ if_defined (meaning attack_complexities) (letter_of MAC value) }
 {
     match value {
         None | Some(ModifiedAttackComplexity::NotDefined) => None,
@@ -68,7 +69,7 @@ pub(super) fn modified_attack_complexity(
 pub(super) fn attack_requirements(
     value: Option<AttackRequirements>,
 ) -> effective::AttackRequirements
-    ensures { result ≡ attack_requirements_of (letter attack_requirements_spelling value) }
+    ensures { result ≡ meaning all_attack_requirements (letter_of AT value) }
 {
     match value {
         None | Some(AttackRequirements::None) => effective::AttackRequirements::None,
@@ -80,7 +81,7 @@ pub(super) fn attack_requirements(
 pub(super) fn modified_attack_requirements(
     value: Option<ModifiedAttackRequirements>,
 ) -> Option<effective::AttackRequirements>
-    ensures { result ≡ if_defined attack_requirements_of (letter modified_attack_requirements_spelling value) }
+    ensures { result ≡ if_defined (meaning all_attack_requirements) (letter_of MAT value) }
 {
     match value {
         None | Some(ModifiedAttackRequirements::NotDefined) => None,
@@ -93,7 +94,7 @@ pub(super) fn modified_attack_requirements(
 pub(super) fn privileges_required(
     value: Option<PrivilegesRequired>,
 ) -> effective::PrivilegesRequired
-    ensures { result ≡ privileges_required_of (letter privileges_required_spelling value) }
+    ensures { result ≡ meaning privileges (letter_of PR value) }
 {
     match value {
         None | Some(PrivilegesRequired::None) => effective::PrivilegesRequired::None,
@@ -106,7 +107,7 @@ pub(super) fn privileges_required(
 pub(super) fn modified_privileges_required(
     value: Option<ModifiedPrivilegesRequired>,
 ) -> Option<effective::PrivilegesRequired>
-    ensures { result ≡ if_defined privileges_required_of (letter modified_privileges_required_spelling value) }
+    ensures { result ≡ if_defined (meaning privileges) (letter_of MPR value) }
 {
     match value {
         None | Some(ModifiedPrivilegesRequired::NotDefined) => None,
@@ -118,7 +119,7 @@ pub(super) fn modified_privileges_required(
 
 /// The effective value that UI gives.
 pub(super) fn user_interaction(value: Option<UserInteraction>) -> effective::UserInteraction
-    ensures { result ≡ user_interaction_of (letter user_interaction_spelling value) }
+    ensures { result ≡ meaning user_interactions (letter_of UI value) }
 {
     match value {
         None | Some(UserInteraction::None) => effective::UserInteraction::None,
@@ -131,7 +132,7 @@ pub(super) fn user_interaction(value: Option<UserInteraction>) -> effective::Use
 pub(super) fn modified_user_interaction(
     value: Option<ModifiedUserInteraction>,
 ) -> Option<effective::UserInteraction>
-    ensures { result ≡ if_defined user_interaction_of (letter modified_user_interaction_spelling value) }
+    ensures { result ≡ if_defined (meaning user_interactions) (letter_of MUI value) }
 {
     match value {
         None | Some(ModifiedUserInteraction::NotDefined) => None,

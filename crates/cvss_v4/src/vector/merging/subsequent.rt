@@ -3,9 +3,10 @@
 //! A modified impact may be Negligible, which is None, and those on integrity and availability Safety.
 
 ghost use Rattle.std.specs.Prelude.{◌≡◌};
-ghost use Rattle.cvss_v4_metric.specs.Spellings.{confidentiality_impact_to_the_subsequent_system_spelling, integrity_impact_to_the_subsequent_system_spelling, availability_impact_to_the_subsequent_system_spelling};
-ghost use Rattle.cvss_v4_env.specs.Spellings.{modified_confidentiality_impact_to_the_subsequent_system_spelling, modified_integrity_impact_to_the_subsequent_system_spelling, modified_availability_impact_to_the_subsequent_system_spelling};
-ghost use Rattle.cvss_v4.specs.Merging.{letter, if_defined, subsequent_impact_of, safety_impact_of};
+ghost use Rattle.cvss_base.specs.declared.v4.MetricType.TheVariants.{MSA, MSC, MSI, SA, SC, SI};
+ghost use Rattle.cvss_v4.specs.private.Defined.{if_defined};
+ghost use Rattle.cvss_v4.specs.Effective.{meaning, subsequent_impacts, safety_impacts};
+ghost use Rattle.cvss_v4.specs.Merging.{letter_of};
 
 use crate::metric::base::{
     AvailabilityImpactToTheSubsequentSystem, ConfidentialityImpactToTheSubsequentSystem,
@@ -22,7 +23,7 @@ use crate::scoring::effective;
 pub(super) fn confidentiality_impact_to_the_subsequent_system(
     value: Option<ConfidentialityImpactToTheSubsequentSystem>,
 ) -> effective::SubsequentImpact
-    ensures { result ≡ subsequent_impact_of (letter confidentiality_impact_to_the_subsequent_system_spelling value) }
+    ensures { result ≡ meaning subsequent_impacts (letter_of SC value) }
 {
     match value {
         None | Some(ConfidentialityImpactToTheSubsequentSystem::High) =>
@@ -36,7 +37,7 @@ pub(super) fn confidentiality_impact_to_the_subsequent_system(
 pub(super) fn modified_confidentiality_impact_to_the_subsequent_system(
     value: Option<ModifiedConfidentialityImpactToTheSubsequentSystem>,
 ) -> Option<effective::SubsequentImpact>
-    ensures { result ≡ if_defined subsequent_impact_of (letter modified_confidentiality_impact_to_the_subsequent_system_spelling value) }
+    ensures { result ≡ if_defined (meaning subsequent_impacts) (letter_of MSC value) }
 {
     match value {
         None | Some(ModifiedConfidentialityImpactToTheSubsequentSystem::NotDefined) => None,
@@ -56,7 +57,7 @@ pub(super) fn modified_confidentiality_impact_to_the_subsequent_system(
 pub(super) fn integrity_impact_to_the_subsequent_system(
     value: Option<IntegrityImpactToTheSubsequentSystem>,
 ) -> effective::SafetyImpact
-    ensures { result ≡ safety_impact_of (letter integrity_impact_to_the_subsequent_system_spelling value) }
+    ensures { result ≡ meaning safety_impacts (letter_of SI value) }
 {
     match value {
         None | Some(IntegrityImpactToTheSubsequentSystem::High) => effective::SafetyImpact::High,
@@ -69,7 +70,7 @@ pub(super) fn integrity_impact_to_the_subsequent_system(
 pub(super) fn modified_integrity_impact_to_the_subsequent_system(
     value: Option<ModifiedIntegrityImpactToTheSubsequentSystem>,
 ) -> Option<effective::SafetyImpact>
-    ensures { result ≡ if_defined safety_impact_of (letter modified_integrity_impact_to_the_subsequent_system_spelling value) }
+    ensures { result ≡ if_defined (meaning safety_impacts) (letter_of MSI value) }
 {
     match value {
         None | Some(ModifiedIntegrityImpactToTheSubsequentSystem::NotDefined) => None,
@@ -92,7 +93,7 @@ pub(super) fn modified_integrity_impact_to_the_subsequent_system(
 pub(super) fn availability_impact_to_the_subsequent_system(
     value: Option<AvailabilityImpactToTheSubsequentSystem>,
 ) -> effective::SafetyImpact
-    ensures { result ≡ safety_impact_of (letter availability_impact_to_the_subsequent_system_spelling value) }
+    ensures { result ≡ meaning safety_impacts (letter_of SA value) }
 {
     match value {
         None | Some(AvailabilityImpactToTheSubsequentSystem::High) => effective::SafetyImpact::High,
@@ -105,7 +106,7 @@ pub(super) fn availability_impact_to_the_subsequent_system(
 pub(super) fn modified_availability_impact_to_the_subsequent_system(
     value: Option<ModifiedAvailabilityImpactToTheSubsequentSystem>,
 ) -> Option<effective::SafetyImpact>
-    ensures { result ≡ if_defined safety_impact_of (letter modified_availability_impact_to_the_subsequent_system_spelling value) }
+    ensures { result ≡ if_defined (meaning safety_impacts) (letter_of MSA value) }
 {
     match value {
         None | Some(ModifiedAvailabilityImpactToTheSubsequentSystem::NotDefined) => None,

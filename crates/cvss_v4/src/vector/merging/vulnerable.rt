@@ -1,9 +1,10 @@
 //! The effective values of the impacts on the vulnerable system (v4.0 specification, sections 2.2 and 4.2).
 
 ghost use Rattle.std.specs.Prelude.{◌≡◌};
-ghost use Rattle.cvss_v4_metric.specs.Spellings.{confidentiality_impact_to_the_vulnerable_system_spelling, integrity_impact_to_the_vulnerable_system_spelling, availability_impact_to_the_vulnerable_system_spelling};
-ghost use Rattle.cvss_v4_env.specs.Spellings.{modified_confidentiality_impact_to_the_vulnerable_system_spelling, modified_integrity_impact_to_the_vulnerable_system_spelling, modified_availability_impact_to_the_vulnerable_system_spelling};
-ghost use Rattle.cvss_v4.specs.Merging.{letter, if_defined, vulnerable_impact_of};
+ghost use Rattle.cvss_base.specs.declared.v4.MetricType.TheVariants.{MVA, MVC, MVI, VA, VC, VI};
+ghost use Rattle.cvss_v4.specs.private.Defined.{if_defined};
+ghost use Rattle.cvss_v4.specs.Effective.{meaning, vulnerable_impacts};
+ghost use Rattle.cvss_v4.specs.Merging.{letter_of};
 
 use crate::metric::base::{
     AvailabilityImpactToTheVulnerableSystem, ConfidentialityImpactToTheVulnerableSystem,
@@ -20,7 +21,7 @@ use crate::scoring::effective;
 pub(super) fn confidentiality_impact_to_the_vulnerable_system(
     value: Option<ConfidentialityImpactToTheVulnerableSystem>,
 ) -> effective::VulnerableImpact
-    ensures { result ≡ vulnerable_impact_of (letter confidentiality_impact_to_the_vulnerable_system_spelling value) }
+    ensures { result ≡ meaning vulnerable_impacts (letter_of VC value) }
 {
     match value {
         None | Some(ConfidentialityImpactToTheVulnerableSystem::High) =>
@@ -34,7 +35,7 @@ pub(super) fn confidentiality_impact_to_the_vulnerable_system(
 pub(super) fn modified_confidentiality_impact_to_the_vulnerable_system(
     value: Option<ModifiedConfidentialityImpactToTheVulnerableSystem>,
 ) -> Option<effective::VulnerableImpact>
-    ensures { result ≡ if_defined vulnerable_impact_of (letter modified_confidentiality_impact_to_the_vulnerable_system_spelling value) }
+    ensures { result ≡ if_defined (meaning vulnerable_impacts) (letter_of MVC value) }
 {
     match value {
         None | Some(ModifiedConfidentialityImpactToTheVulnerableSystem::NotDefined) => None,
@@ -54,7 +55,7 @@ pub(super) fn modified_confidentiality_impact_to_the_vulnerable_system(
 pub(super) fn integrity_impact_to_the_vulnerable_system(
     value: Option<IntegrityImpactToTheVulnerableSystem>,
 ) -> effective::VulnerableImpact
-    ensures { result ≡ vulnerable_impact_of (letter integrity_impact_to_the_vulnerable_system_spelling value) }
+    ensures { result ≡ meaning vulnerable_impacts (letter_of VI value) }
 {
     match value {
         None | Some(IntegrityImpactToTheVulnerableSystem::High) =>
@@ -68,7 +69,7 @@ pub(super) fn integrity_impact_to_the_vulnerable_system(
 pub(super) fn modified_integrity_impact_to_the_vulnerable_system(
     value: Option<ModifiedIntegrityImpactToTheVulnerableSystem>,
 ) -> Option<effective::VulnerableImpact>
-    ensures { result ≡ if_defined vulnerable_impact_of (letter modified_integrity_impact_to_the_vulnerable_system_spelling value) }
+    ensures { result ≡ if_defined (meaning vulnerable_impacts) (letter_of MVI value) }
 {
     match value {
         None | Some(ModifiedIntegrityImpactToTheVulnerableSystem::NotDefined) => None,
@@ -88,7 +89,7 @@ pub(super) fn modified_integrity_impact_to_the_vulnerable_system(
 pub(super) fn availability_impact_to_the_vulnerable_system(
     value: Option<AvailabilityImpactToTheVulnerableSystem>,
 ) -> effective::VulnerableImpact
-    ensures { result ≡ vulnerable_impact_of (letter availability_impact_to_the_vulnerable_system_spelling value) }
+    ensures { result ≡ meaning vulnerable_impacts (letter_of VA value) }
 {
     match value {
         None | Some(AvailabilityImpactToTheVulnerableSystem::High) =>
@@ -102,7 +103,7 @@ pub(super) fn availability_impact_to_the_vulnerable_system(
 pub(super) fn modified_availability_impact_to_the_vulnerable_system(
     value: Option<ModifiedAvailabilityImpactToTheVulnerableSystem>,
 ) -> Option<effective::VulnerableImpact>
-    ensures { result ≡ if_defined vulnerable_impact_of (letter modified_availability_impact_to_the_vulnerable_system_spelling value) }
+    ensures { result ≡ if_defined (meaning vulnerable_impacts) (letter_of MVA value) }
 {
     match value {
         None | Some(ModifiedAvailabilityImpactToTheVulnerableSystem::NotDefined) => None,

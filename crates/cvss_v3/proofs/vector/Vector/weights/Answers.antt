@@ -1,10 +1,7 @@
-use Rattle.std.proofs.Common.{◌≡◌, Some, ap, sym, subst, ◌∙◌}
+use Rattle.std.proofs.Common.{◌≡◌, ap, sym, subst, ◌∙◌}
 use Rattle.cvss_base.specs.declared.v3.MetricType.TheVariants.{A, AC, AV, C, I, UI}
-use Rattle.cvss_v3_metric.specs.Modified.{weight_if_set}
-use Rattle.cvss_v3_metric.specs.Rows.{scoped_weight}
-use Rattle.cvss_v3_metric.specs.Table.{weight_of}
-use Rattle.cvss_v3.specs.VectorWeights.{effective_scope, is_changed}
-use Rattle.cvss_v3.specs.Weights.{IsFromTable}
+use Rattle.cvss_v3.specs.VectorWeights.{weight_at, privileges_weight, effective_scope, is_changed}
+use Rattle.cvss_v3.specs.private.Weights.{IsFromTable}
 use Rattle.cvss_v3.proofs.TableLemmas.{from_table}
 use Rattle.cvss_v3.proofs.vector.Vector.weights.Goals as goal
 
@@ -15,7 +12,7 @@ pub returns-clause-weights : goal.returns-clause-weights
 returns-clause-weights c = λ at. record {
   av = c.weight.ensures at;
   ac = c.weight-2.ensures at;
-  pr = (c.scoped_weight.ensures ∙ ap (λ scope. weight_if_set (λ value. Some (scoped_weight scope value)) c.args.self.now.pr) c.is_changed-changed.ensures) at;
+  pr = (c.scoped_weight.ensures ∙ ap (λ scope. privileges_weight scope c.args.self.now.pr) c.is_changed-changed.ensures) at;
   ui = c.weight-3.ensures at;
   changed = c.is_changed-changed.ensures at;
   c = c.weight-4.ensures at;
@@ -27,14 +24,14 @@ returns-clause-weights c = λ at. record {
   cr = c.optional_weight-4.ensures at;
   ir = c.optional_weight-5.ensures at;
   ar = c.optional_weight-6.ensures at;
-  mav = (c.weight-7.ensures ∙ ap (weight_if_set (weight_of AV)) c.effective.ensures) at;
-  mac = (c.weight-8.ensures ∙ ap (weight_if_set (weight_of AC)) c.effective-2.ensures) at;
-  mpr = (c.scoped_weight-2.ensures ∙ (λ j. weight_if_set (λ value. Some (scoped_weight (changed c j) value)) (c.effective-3.ensures j))) at;
-  mui = (c.weight-9.ensures ∙ ap (weight_if_set (weight_of UI)) c.effective-4.ensures) at;
+  mav = (c.weight-7.ensures ∙ ap (weight_at AV) c.effective.ensures) at;
+  mac = (c.weight-8.ensures ∙ ap (weight_at AC) c.effective-2.ensures) at;
+  mpr = (c.scoped_weight-2.ensures ∙ (λ j. privileges_weight (changed c j) (c.effective-3.ensures j))) at;
+  mui = (c.weight-9.ensures ∙ ap (weight_at UI) c.effective-4.ensures) at;
   modified_changed = changed c at;
-  mc = (c.weight-10.ensures ∙ ap (weight_if_set (weight_of C)) c.effective-5.ensures) at;
-  mi = (c.weight-11.ensures ∙ ap (weight_if_set (weight_of I)) c.effective-6.ensures) at;
-  ma = (c.weight-12.ensures ∙ ap (weight_if_set (weight_of A)) c.effective-7.ensures) at;
+  mc = (c.weight-10.ensures ∙ ap (weight_at C) c.effective-5.ensures) at;
+  mi = (c.weight-11.ensures ∙ ap (weight_at I) c.effective-6.ensures) at;
+  ma = (c.weight-12.ensures ∙ ap (weight_at A) c.effective-7.ensures) at;
 }
 
 pub returns-clause-table : goal.returns-clause-table

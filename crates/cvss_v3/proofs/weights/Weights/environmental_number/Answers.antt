@@ -1,7 +1,7 @@
 use Rattle.std.proofs.Common.{arith, refl, lit<, subst}
 use Rattle.cvss_base.specs.Exact.{◌over◌, ◌≈◌}
 use Rattle.cvss_v3.specs.Scores.{miss}
-use Rattle.cvss_v3.specs.Weights.{attack_vectors, attack_complexities, user_interactions}
+use Rattle.cvss_v3.specs.private.Weights.{attack_vectors, attack_complexities, user_interactions}
 use Rattle.cvss_v3.proofs.CountLemmas.{exploitability_alone}
 use Rattle.cvss_v3.proofs.ImpactLemmas.{none_modified_rounds, unchanged_number, changed_number_v30, changed_number_v31}
 use Rattle.cvss_v3.proofs.SubScoreLemmas.{weight_bound, privileges_bound, sub_score_high, some_sub_score, changed_exploitability_listed}

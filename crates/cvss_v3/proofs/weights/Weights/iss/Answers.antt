@@ -1,8 +1,8 @@
 use Rattle.std.proofs.Common.{refl, sym, subst, ◌≡◌, ◌⊎◌}
 use Rattle.cvss_v3.proofs.CountLemmas.{millionths_alone}
 use Rattle.cvss_v3.proofs.SubScoreLemmas.{weight_bound, iss_listed}
-use Rattle.cvss_v3.specs.SubScores.{IsSubScore}
-use Rattle.cvss_v3.specs.Weights.{impacts}
+use Rattle.cvss_v3.specs.private.SubScores.{IsSubScore}
+use Rattle.cvss_v3.specs.private.Weights.{impacts}
 use Rattle.cvss_v3.proofs.weights.Weights.iss.Goals as goal
 
 pub sub_score-requires-clause-c : goal.sub_score-requires-clause-c

@@ -4,7 +4,7 @@ use Rattle.cvss_base.proofs.ExactLemmas.{equal_trans}
 use Rattle.cvss_v3.proofs.CountLemmas.{millionths_alone, capped_millionths, miss_parts}
 use Rattle.cvss_v3.proofs.SubScoreLemmas.{weight_bound, miss_listed}
 use Rattle.cvss_v3.specs.Scores.{miss}
-use Rattle.cvss_v3.specs.SubScores.{weighted_impacts, IsSubScore}
+use Rattle.cvss_v3.specs.private.SubScores.{weighted_impacts, IsSubScore}
 use Rattle.cvss_v3.proofs.weights.Weights.miss.Goals as goal
 
 pub sub_score-requires-clause-c : goal.sub_score-requires-clause-c

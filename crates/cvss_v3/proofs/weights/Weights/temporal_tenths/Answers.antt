@@ -1,7 +1,7 @@
 use Rattle.std.proofs.Common.{arith, refl, lit<}
 use Rattle.std.proofs.Math.Nat.{mul-le-mul}
-use Rattle.cvss_v3.specs.Weights.{exploit_code_maturities, remediation_levels, report_confidences}
-use Rattle.cvss_v3.proofs.CountLemmas.{three_bound, temporal_is}
+use Rattle.cvss_v3.specs.private.Weights.{exploit_code_maturities, remediation_levels}
+use Rattle.cvss_v3.proofs.CountLemmas.{temporal_bound, temporal_is}
 use Rattle.cvss_v3.proofs.EqualLemmas.{rounds_equal}
 use Rattle.cvss_v3.proofs.SubScoreLemmas.{weight_bound}
 use Rattle.cvss_v3.proofs.weights.Weights.temporal_tenths.Goals as goal
@@ -15,10 +15,17 @@ overflow_mul-self c =
 
 pub overflow_mul-self-2 : goal.overflow_mul-self-2
 overflow_mul-self-2 c =
-    let small_e = weight_bound exploit_code_maturities _ 100 refl c.requires.table.e in
-    let small_rl = weight_bound remediation_levels _ 100 refl c.requires.table.rl in
-    let small_rc = weight_bound report_confidences _ 100 refl c.requires.table.rc in
-    let product = three_bound _ _ _ small_e small_rl small_rc in
+    let product = temporal_bound c.args.self.now c.requires.table in
+    omega arith
+
+pub overflow_mul-tenths : goal.overflow_mul-tenths
+overflow_mul-tenths c =
+    let product = mul-le-mul c.requires.to_ten (temporal_bound c.args.self.now c.requires.table) in
+    omega arith
+
+pub overflow_mul-tenths-2 : goal.overflow_mul-tenths-2
+overflow_mul-tenths-2 c =
+    let product = mul-le-mul c.requires.to_ten (temporal_bound c.args.self.now c.requires.table) in
     omega arith
 
 pub returns-clause-value : goal.returns-clause-value

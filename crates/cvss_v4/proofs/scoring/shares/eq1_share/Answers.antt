@@ -1,28 +1,34 @@
-use Rattle.std.proofs.Common.{◌≡◌, None, arith, ap, subst}
-use Rattle.cvss_v4.proofs.ClassLemmas.{class_is, eq1_raised}
-use Rattle.cvss_v4.proofs.DistanceLemmas.{eq1_below}
+use Rattle.std.proofs.Common.{◌≡◌, None, arith, refl, subst}
 use Rattle.cvss_v4.specs.Gap.{eq1_next, eq1_group}
-use Rattle.cvss_v4.proofs.ShareLemmas.{no_share}
-use Rattle.cvss_v4.proofs.TableLemmas.{eq1_falls, eq1_ends}
+use Rattle.cvss_v4.proofs.ClassLemmas.{class_is}
+use Rattle.cvss_v4.proofs.FitLemmas.{eq1_fits}
+use Rattle.cvss_v4.proofs.PlaceLemmas.{eq1_lower}
+use Rattle.cvss_v4.proofs.ShareLemmas.{no_share, share_is}
 use Rattle.cvss_v4.proofs.scoring.shares.eq1_share.Goals as goal
 
 pub returns-then-class-eq2 : goal.returns-then-class-eq2
 returns-then-class-eq2 c =
-    let class = class_is c.args.class.now c.args.effective.now c.requires.class in
-    let none = eq1_ends c.args.class.now class c.if-class-eq2.true in
+    let none : eq1_next c.args.class.now ≡ None = rw c.if-class-eq2.true refl in
     no_share c.args.value (eq1_group c.args.effective.now) (subst (λ m. eq1_next m ≡ None) c.requires.class none)
 
-pub value_of-lower-requires : goal.value_of-lower-requires
-value_of-lower-requires c =
+pub value_at-lower-requires : goal.value_at-lower-requires
+value_at-lower-requires c =
     let class = class_is c.args.class.now c.args.effective.now c.requires.class in
-    eq1_raised c.args.class.now class (omega arith)
+    let there = eq1_lower c.args.class.now class (omega arith) in
+    omega (arith, there.within)
 
-pub of-requires-clause-lower : goal.of-requires-clause-lower
-of-requires-clause-lower c =
+pub of-requires-clause-part : goal.of-requires-clause-part
+of-requires-clause-part c =
     let class = class_is c.args.class.now c.args.effective.now c.requires.class in
-    (eq1_falls c.args.class.now class _ _ c.requires.value.is_value c.value_of-lower.ensures.is_value).to_value
+    (eq1_fits c.args.effective.now c.args.class.now c.args.place c.args.value c.value_at-lower.result
+    c.eq1_distance-distance.result c.requires.class c.requires.place c.requires.value (omega arith) c.value_at-lower.ensures
+    c.eq1_distance-distance.ensures).takes
 
-pub of-requires-clause-distance : goal.of-requires-clause-distance
-of-requires-clause-distance c =
-    let is_class = ap (λ m. m.eq1) c.requires.class in
-    eq1_below c.args.effective.now c.args.class.now.eq1 c.eq1_distance.result is_class c.eq1_distance.ensures
+pub returns : goal.returns
+returns c =
+    let class = class_is c.args.class.now c.args.effective.now c.requires.class in
+    let fits = eq1_fits c.args.effective.now c.args.class.now c.args.place c.args.value c.value_at-lower.result
+    c.eq1_distance-distance.result c.requires.class c.requires.place c.requires.value (omega arith) c.value_at-lower.ensures
+    c.eq1_distance-distance.ensures in
+    share_is c.args.value (eq1_group c.args.effective.now) c.value_at-lower.result c.eq1_distance-distance.result _
+    c.of.result fits c.of.ensures.taken c.of.ensures.counted c.of.ensures.bound

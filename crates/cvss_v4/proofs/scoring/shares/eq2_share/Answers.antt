@@ -1,28 +1,34 @@
-use Rattle.std.proofs.Common.{◌≡◌, None, arith, ap, subst}
-use Rattle.cvss_v4.proofs.ClassLemmas.{class_is, eq2_raised}
-use Rattle.cvss_v4.proofs.DistanceLemmas.{eq2_below}
+use Rattle.std.proofs.Common.{◌≡◌, None, arith, refl, subst}
 use Rattle.cvss_v4.specs.Gap.{eq2_next, eq2_group}
-use Rattle.cvss_v4.proofs.ShareLemmas.{no_share}
-use Rattle.cvss_v4.proofs.TableLemmas.{eq2_falls, eq2_ends}
+use Rattle.cvss_v4.proofs.ClassLemmas.{class_is}
+use Rattle.cvss_v4.proofs.FitLemmas.{eq2_fits}
+use Rattle.cvss_v4.proofs.PlaceLemmas.{eq2_lower}
+use Rattle.cvss_v4.proofs.ShareLemmas.{no_share, share_is}
 use Rattle.cvss_v4.proofs.scoring.shares.eq2_share.Goals as goal
 
 pub returns-then-class-eq1 : goal.returns-then-class-eq1
 returns-then-class-eq1 c =
-    let class = class_is c.args.class.now c.args.effective.now c.requires.class in
-    let none = eq2_ends c.args.class.now class c.if-class-eq1.true in
+    let none : eq2_next c.args.class.now ≡ None = rw c.if-class-eq1.true refl in
     no_share c.args.value (eq2_group c.args.effective.now) (subst (λ m. eq2_next m ≡ None) c.requires.class none)
 
-pub value_of-lower-requires : goal.value_of-lower-requires
-value_of-lower-requires c =
+pub value_at-lower-requires : goal.value_at-lower-requires
+value_at-lower-requires c =
     let class = class_is c.args.class.now c.args.effective.now c.requires.class in
-    eq2_raised c.args.class.now class (omega arith)
+    let there = eq2_lower c.args.class.now class (omega arith) in
+    omega (arith, there.within)
 
-pub of-requires-clause-lower : goal.of-requires-clause-lower
-of-requires-clause-lower c =
+pub of-requires-clause-part : goal.of-requires-clause-part
+of-requires-clause-part c =
     let class = class_is c.args.class.now c.args.effective.now c.requires.class in
-    (eq2_falls c.args.class.now class _ _ c.requires.value.is_value c.value_of-lower.ensures.is_value).to_value
+    (eq2_fits c.args.effective.now c.args.class.now c.args.place c.args.value c.value_at-lower.result
+    c.eq2_distance-distance.result c.requires.class c.requires.place c.requires.value (omega arith) c.value_at-lower.ensures
+    c.eq2_distance-distance.ensures).takes
 
-pub of-requires-clause-distance : goal.of-requires-clause-distance
-of-requires-clause-distance c =
-    let is_class = ap (λ m. m.eq2) c.requires.class in
-    eq2_below c.args.effective.now c.args.class.now.eq2 c.eq2_distance.result is_class c.eq2_distance.ensures
+pub returns : goal.returns
+returns c =
+    let class = class_is c.args.class.now c.args.effective.now c.requires.class in
+    let fits = eq2_fits c.args.effective.now c.args.class.now c.args.place c.args.value c.value_at-lower.result
+    c.eq2_distance-distance.result c.requires.class c.requires.place c.requires.value (omega arith) c.value_at-lower.ensures
+    c.eq2_distance-distance.ensures in
+    share_is c.args.value (eq2_group c.args.effective.now) c.value_at-lower.result c.eq2_distance-distance.result _
+    c.of.result fits c.of.ensures.taken c.of.ensures.counted c.of.ensures.bound

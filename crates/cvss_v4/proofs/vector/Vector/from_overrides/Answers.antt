@@ -2,7 +2,7 @@ use Rattle.std.proofs.Common.{◌≡◌, ◌<◌, ℕ, List, [], length, map, Bo
 use Rattle.std.specs.Prelude.{Ok}
 use Rattle.std.proofs.lemmas.List.{length-map, get_or-map}
 use Rattle.cvss_v4.specs.Overriding.{TellsObjection, IsFirstObjection}
-use Rattle.cvss_v4.specs.OverridingSteps.{HasReadOverrides, objection_of}
+use Rattle.cvss_v4.specs.private.OverridingSteps.{HasReadOverrides, objection_of}
 use Rattle.cvss_v4.proofs.OverridingLemmas.{HasReadOverrides-none, HasReadOverrides-more, IsFirstObjection-at, AreOverrides-all, one_overrides, no_objection_held, first_objections_same}
 use Rattle.cvss_v4.proofs.vector.Vector.from_overrides.Goals as goal
 

@@ -1,5 +1,5 @@
 use Rattle.std.specs.Prelude.{map}
-use Rattle.cvss_v4.specs.OverridingSteps.{HasReadOverrides}
+use Rattle.cvss_v4.specs.private.OverridingSteps.{HasReadOverrides}
 use Rattle.cvss_v4.proofs.vector.Vector.from_overrides.Given as goal
 
 abbrev pub invariant-loop-index : goal.invariant-loop-index

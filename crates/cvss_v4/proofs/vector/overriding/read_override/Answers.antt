@@ -6,7 +6,7 @@ use Rattle.std.specs.List.{Contains}
 use Rattle.cvss_v4_metric.specs.Table.{environmental}
 use Rattle.cvss_v4.proofs.OverridingLemmas.{names_no_other, component_objection}
 use Rattle.cvss_v4.specs.Vector.{v4}
-use Rattle.cvss_v4.specs.VectorLaws.{v4_is_lawful}
+use Rattle.cvss_v4.specs.private.VectorLaws.{v4_is_lawful}
 use Rattle.cvss_v4.proofs.vector.overriding.read_override.Goals as goal
 
 pub returns-in_err-kind-clause-refused : goal.returns-in_err-kind-clause-refused

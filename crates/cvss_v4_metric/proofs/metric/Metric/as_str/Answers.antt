@@ -4,6 +4,7 @@ use Rattle.std.proofs.lemmas.Str.{IsCharBoundary-after_ascii}
 use Rattle.std.specs.Str.{IsUtf8, IsCharBoundary}
 use Rattle.cvss_base.specs.Text.{slash, colon, component}
 use Rattle.cvss_base.specs.V4Types.{name_of}
+use Rattle.cvss_v4_metric.specs.Table.{spelling_at}
 use Rattle.cvss_v4_metric.proofs.metric.Metric.as_str.Goals as goal
 
 colon_at : (name value : List ℕ) → get_or (slash ∷ component name value) (length name + 1) 0 ≡ colon
@@ -22,7 +23,7 @@ behind_colon text name value is utf8 =
 
 pub range_from-requires : goal.range_from-requires
 range_from-requires g c =
-    let value = g.Self.Metric.spelling c.args.self in
+    let value = spelling_at g.Self.Metric.TYPE (g.Self.Metric.rank c.args.self) in
     let named = sym (c.name.ensures ∙ ap name_of c.TYPE.ensures) in
     λ _. behind_colon c.slashed.result.now c.name.result.now value
     (c.slashed.ensures ∙ ap (λ name. slash ∷ component name value) named) c.slashed.utf8

@@ -1,0 +1,4 @@
+pub mod Bounds
+pub mod TableLaws
+pub mod Values
+pub mod VectorLaws

@@ -1,0 +1,2 @@
+pub mod FifthDecimals
+pub mod ScoreLaws

@@ -1,0 +1,4 @@
+pub mod Near
+pub mod SubScores
+pub mod VectorLaws
+pub mod Weights

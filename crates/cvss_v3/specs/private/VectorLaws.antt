@@ -1,0 +1,62 @@
+-- What the walk over a text needs to know of CVSS v3.
+use Rattle.std.specs.Prelude.{◌≡◌, ◌++◌, codes, refl}
+use Rattle.cvss_base.specs.private.Walk.{IsLawful, IsLawfulFront}
+use Rattle.cvss_base.specs.Numeral.{numeral}
+use Rattle.cvss_base.specs.declared.v3.MetricType.{MetricType}
+use Rattle.cvss_base.specs.declared.v3.MetricType.TheVariants.{A, AC, AV, C, I, PR, S, UI, E, RL, RC, CR, IR, AR, MAV, MAC, MPR, MUI, MS, MC, MI, MA}
+use Rattle.cvss_base.proofs.NumeralLemmas.{numeral-injective, numeral-plain}
+use Rattle.cvss_v3_metric.specs.private.TableLaws.{plain_spelling, one_value}
+use Rattle.cvss_v3.specs.declared.vector.Vector.{Vector}
+use Rattle.cvss_v3.specs.Vector.{v3, value_at}
+
+-- vectors with one version piece have one minor version
+pub one_minor_version : (v w : Vector) → v3.front v ≡ v3.front w → v.minor_version ≡ w.minor_version
+one_minor_version v w same =
+    let numerals : numeral v.minor_version ≡ numeral w.minor_version = cc in
+    numeral-injective v.minor_version w.minor_version numerals
+
+-- a vector is its minor version and its values
+one_vector : (v w : Vector) → v3.front v ≡ v3.front w → ((kind : MetricType) → value_at v kind ≡ value_at w kind) → v ≡ w
+one_vector v w front same = λ i. record {
+  minor_version = one_minor_version v w front i;
+  av = same AV i;
+  ac = same AC i;
+  pr = same PR i;
+  ui = same UI i;
+  s = same S i;
+  c = same C i;
+  i = same I i;
+  a = same A i;
+  e = same E i;
+  rl = same RL i;
+  rc = same RC i;
+  cr = same CR i;
+  ir = same IR i;
+  ar = same AR i;
+  mav = same MAV i;
+  mac = same MAC i;
+  mpr = same MPR i;
+  mui = same MUI i;
+  ms = same MS i;
+  mc = same MC i;
+  mi = same MI i;
+  ma = same MA i;
+}
+
+pub v3_is_lawful : IsLawful v3
+v3_is_lawful = record {
+  placed = elim [ A ↦ refl | _ ↦ refl ];
+  in_order = refl;
+  names_read = refl;
+  names_plain = refl;
+  spelling_plain = plain_spelling;
+  one_value = one_value;
+  one_vector = one_vector;
+  some_piece = λ v front. absurd cc;
+}
+
+pub v3_fronts_are_lawful : IsLawfulFront v3
+v3_fronts_are_lawful = record {
+  fronts = λ v. record { told = codes "3." ++ numeral v.minor_version; front_is = refl; plain = numeral-plain v.minor_version };
+  plain = refl;
+}

@@ -1,0 +1,3 @@
+pub mod ModifiedLaws
+pub mod TableLaws
+pub mod Values

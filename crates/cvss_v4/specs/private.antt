@@ -1,0 +1,6 @@
+pub mod Defined
+pub mod OverridingSteps
+pub mod Places
+pub mod Shares
+pub mod TableLaws
+pub mod VectorLaws

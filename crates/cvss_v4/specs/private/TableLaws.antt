@@ -1,0 +1,18 @@
+-- What holds of each value of a metric of CVSS v4.0, checked value by value.
+use Rattle.std.specs.Prelude.{◌≡◌}
+use Rattle.std.proofs.Common.{rules}
+use Rattle.cvss_base.specs.Text.{raised}
+use Rattle.cvss_base.specs.private.Walk.{foreign_bytes}
+use Rattle.cvss_base.specs.declared.v4.MetricType.{MetricType}
+use Rattle.cvss_base.specs.declared.v4.MetricType.TheVariants.{AC}
+use Rattle.cvss_v4.specs.Table.{Value, spelling_of}
+
+-- no spelling has a slash or a colon
+pub plain_spelling : (kind : MetricType) (value : Value kind) → foreign_bytes (spelling_of kind value) ≡ 0
+plain_spelling AC = search rules
+plain_spelling _ = search rules
+
+-- two values with one spelling, as it is read, are one
+pub one_value : (kind : MetricType) (x y : Value kind) → raised (spelling_of kind x) ≡ raised (spelling_of kind y) → x ≡ y
+one_value AC = search rules
+one_value _ = search rules

@@ -1,0 +1,49 @@
+//! Callers that are proved from the contracts of the score and of the laws alone.
+
+ghost use Rattle.std.specs.Prelude.{◌≡◌, ◌≤◌, pos};
+ghost use Rattle.cvss_base.specs.Exact.{◌over◌, ◌⊕◌};
+ghost use Rattle.cvss_base.specs.Rounding.{IsRoundedV4};
+ghost use Rattle.cvss_v4.specs.laws.ScoreLaws.{IsAsSevere};
+ghost use Rattle.cvss_v4.specs.Scores.{number};
+
+use crate::samples::{HARMLESS, LEAST, WORST};
+use cvss_v4::laws::{a_millionth_changes_no_score, scores_are_unique, severe_values_score_no_less};
+use cvss_v4::scoring::effective::Effective;
+use cvss_v4::scoring::score_tenths;
+use std::test::Fail;
+
+/// The score, taken twice.
+fn taken_twice(effective: &Effective) -> (u8, u8)
+    ensures { result.0 ≡ result.1 }
+{
+    scores_are_unique();
+    (score_tenths(effective), score_tenths(effective))
+}
+
+/// The scores of values of one class, the first of which are as severe.
+fn scores_in_order(severe: &Effective, mild: &Effective) -> (u8, u8)
+    requires { IsAsSevere severe.now mild.now }
+    ensures { result.1 ≤ result.0 }
+{
+    severe_values_score_no_less();
+    (score_tenths(severe), score_tenths(mild))
+}
+
+/// The score as calculators in binary numbers round it.
+fn lifted_score(effective: &Effective) -> u8
+    ensures { IsRoundedV4 (number effective.now ⊕ 1 over 1_000_000) (pos result) }
+{
+    a_millionth_changes_no_score();
+    score_tenths(effective)
+}
+
+#[test]
+fn callers_agree(rt: HostRuntime) -> Result<(), Fail> {
+    let (first, second) = taken_twice(&WORST);
+    assert_eq!(rt; first, second);
+    let (severe, mild) = scores_in_order(&WORST, &WORST);
+    assert_eq!(rt; severe, mild);
+    assert_eq!(rt; lifted_score(&LEAST), 1);
+    assert_eq!(rt; lifted_score(&HARMLESS), 0);
+    Ok(())
+}
