@@ -4,9 +4,12 @@ use Rattle.std.specs.Str.{IsUtf8}
 use Rattle.cvss.specs.ErrorType.{Error}
 use Rattle.cvss.specs.declared.vector.Cvss.{Cvss}
 use Rattle.cvss.specs.ErrorText.{error_text}
-use Rattle.cvss.specs.Answers.{IsScoreOf, rating_by, rating_text, score_of_tenths, vector_answer}
+use Rattle.cvss.specs.Answers.{IsScoreOf, rating_text, score_of_tenths, vector_answer}
 use Rattle.cvss.specs.Dispatch.{DenotesCvss, IsFirstRefusalCvss, cvss_reason}
+use Rattle.cvss.specs.Published.{rating_within}
 use Rattle.cvss.specs.Told.{TellsFirst}
+use Rattle.cvss.specs.declared.published.Bounds.{Bounds}
+use Rattle.cvss.specs.declared.published.Published.{Published}
 use Rattle.cvss_lines.specs.Answers.{Answer, Accepted, Refused, written_text}
 
 -- the line is a text that denotes a vector of some version, and the answer is this vector's
@@ -42,11 +45,14 @@ pub record WritesVector (vector : Cvss) (old new : List ℕ) : Type 0 where
   pub scored : IsScoreOf vector (score_of_tenths tenths)
   pub written : new ≡ old ++ written_text (vector_answer vector tenths)
 
--- what follows the vector's text in its answer and a byte 10 are written behind the earlier answers
-pub record WritesScore (vector : Cvss) (old new : List ℕ) : Type 0 where
-  pub tenths : ℕ
-  pub scored : IsScoreOf vector (score_of_tenths tenths)
-  pub written : new ≡ old ++ (codes " " ++ rating_text tenths (rating_by vector (score_of_tenths tenths)) ++ 10 ∷ [])
+-- what follows a vector's text in its answer: a score of so many tenths and its rating within these bounds, each
+-- behind a blank, and a byte 10
+abbrev pub rated_line : Bounds → ℕ → List ℕ
+rated_line bounds tenths =
+    codes " " ++ (rating_text tenths (rating_within bounds (score_of_tenths tenths)) ++ 10 ∷ [])
+
+abbrev pub score_line : Published → List ℕ
+score_line published = rated_line published.bounds published.tenths
 
 -- a refusal's answer and a byte 10 are written behind the earlier answers
 pub record WritesRefusal (line old new : List ℕ) : Type 0 where

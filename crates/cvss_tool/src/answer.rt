@@ -3,15 +3,13 @@
 ghost use Rattle.std.specs.Prelude.{◌≡◌, ℕ, ◌++◌, [], ◌∷◌, ◌≤◌, codes, IfOk, OnOk};
 ghost use Rattle.cvss.specs.Answers.{HasScore, text_of};
 ghost use Rattle.cvss.specs.ErrorText.{error_text};
-ghost use Rattle.cvss.specs.SeverityText.{text_of as severity_text};
-ghost use Rattle.cvss.specs.Tenths.{tenths_text};
 ghost use Rattle.cvss.specs.declared.vector.Cvss.{Cvss};
 ghost use Rattle.cvss.specs.Dispatch.{DenotesCvss};
 ghost use Rattle.cvss_lines.specs.Answers.{WritesAnswer};
-ghost use Rattle.cvss_tool.specs.Answers.{IsAnswer, WritesRefusal, WritesScore, WritesVector};
+ghost use Rattle.cvss_tool.specs.Answers.{IsAnswer, WritesRefusal, WritesVector, score_line};
 
-use cvss::tenths::tenths_of;
-use cvss::{Cvss, Error, Severity};
+use crate::score_line::score_line;
+use cvss::{Cvss, Error, Published};
 use cvss_lines::{Answering, Gathered};
 use std::alloc::{AllocError, Global};
 use std::fmt::{self, Write};
@@ -28,8 +26,8 @@ impl Answering for Vectors {
         line: &[u8],
         answers: &mut Gathered,
     ) -> Result<bool, AllocError> {
-        if let Some(vector) = Cvss::read_canonical(line) {
-            write_canonical(line, &vector, answers)?;
+        if let Some(published) = Cvss::published_at_sight(line) {
+            write_canonical(line, published, answers)?;
             return Ok(true);
         }
         match answer_other_line(alloc, line, answers) {
@@ -76,15 +74,18 @@ fn write_error(error: &Error, answers: &mut Gathered) -> fmt::Result
     writeln!(answers, "error: {error}")
 }
 
-/// Writes the answer of a vector to its canonical text, which is the line, and a byte 10.
-fn write_canonical(line: &[u8], vector: &Cvss, answers: &mut Gathered) -> Result<(), AllocError>
-    requires own { line.now ≡ text_of vector.now }
-    requires scored { HasScore vector.now }
-    ensures { OnOk result
-        (WritesVector vector.now answers.old.bytes.items answers.new.bytes.items) }
+/// Writes a canonical line with what is published of its vector, and a byte 10.
+fn write_canonical(
+    line: &[u8],
+    published: Published,
+    answers: &mut Gathered,
+) -> Result<(), AllocError>
+    requires { published.tenths ≤ 100 }
+    ensures { OnOk result (answers.new.bytes.items
+        ≡ answers.old.bytes.items ++ (line.now ++ score_line published)) }
 {
     answers.push(line)?;
-    write_score(vector, answers)
+    answers.push(score_line(published).as_bytes())
 }
 
 /// Writes the answer of a vector, and a byte 10.
@@ -94,7 +95,7 @@ fn write_vector(vector: &Cvss, answers: &mut Gathered) -> fmt::Result
         (WritesVector vector.now answers.old.bytes.items answers.new.bytes.items) }
 {
     write_text(vector, answers)?;
-    write_score(vector, answers)?;
+    answers.push(score_line(vector.published()).as_bytes())?;
     Ok(())
 }
 
@@ -104,41 +105,4 @@ fn write_text(vector: &Cvss, answers: &mut Gathered) -> fmt::Result
         (answers.new.bytes.items ≡ answers.old.bytes.items ++ text_of vector.now) }
 {
     write!(answers, "{vector}")
-}
-
-/// Writes the score of a vector and the score's rating, each behind a blank, and a byte 10.
-fn write_score(vector: &Cvss, answers: &mut Gathered) -> Result<(), AllocError>
-    requires { HasScore vector.now }
-    ensures { OnOk result
-        (WritesScore vector.now answers.old.bytes.items answers.new.bytes.items) }
-{
-    let score = vector.score();
-    write_tenths(tenths_of(score), answers)?;
-    answers.push(rating_line(vector.severity_of(score)).as_bytes())
-}
-
-/// Writes a score behind a blank.
-fn write_tenths(tenths: u8, answers: &mut Gathered) -> Result<(), AllocError>
-    requires { tenths ≤ 100 }
-    ensures { OnOk result
-        (answers.new.bytes.items ≡ answers.old.bytes.items ++ (codes " " ++ tenths_text tenths)) }
-{
-    if tenths == 100 {
-        answers.push(b" 10.0")
-    } else {
-        answers.push(&[b' ', b'0' + tenths / 10, b'.', b'0' + tenths % 10])
-    }
-}
-
-/// A rating behind a blank, and a byte 10.
-fn rating_line(severity: Severity) -> &'static str
-    ensures { result.now ≡ codes " " ++ (severity_text severity ++ 10 ∷ []) }
-{
-    match severity {
-        Severity::None => " none\n",
-        Severity::Low => " low\n",
-        Severity::Medium => " medium\n",
-        Severity::High => " high\n",
-        Severity::Critical => " critical\n",
-    }
 }

@@ -4,6 +4,7 @@
 mod answer;
 mod fault;
 mod run;
+mod score_line;
 #[cfg(test)]
 mod tests;
 
