@@ -24,6 +24,12 @@ fn write_row(row: &Row, text: &mut String) -> Result<(), AllocError>
     ensures { OnOk result (string_bytes text.new ≡ string_bytes text.old ++ row_text row.now) }
 {
     let score = OneDecimal { count: row.score };
-    writeln!(text, "{score} {} {} {}", row.severity(), row.scored, row.text)?;
+    writeln!(
+        text,
+        "{score} {} {} {}",
+        row.severity(),
+        row.scored,
+        row.text
+    )?;
     Ok(())
 }
