@@ -54,12 +54,3 @@ below_passes test (suc n) k all less =
       | inl same ↦ subst (λ m. test m ≡ true) (sym same) parts.0
       | inr before ↦ below_passes test n k parts.1 before
     ]
-
--- a test of three members in turn
-pub passes_three : (test : ℕ → ℕ → ℕ → Bool) (xs ys zs : List ℕ) (x y z : ℕ)
-    → list_all (λ x. list_all (λ y. list_all (λ z. test x y z) zs) ys) xs ≡ true
-    → Contains xs x → Contains ys y → Contains zs z → test x y z ≡ true
-passes_three test xs ys zs x y z all is_x is_y is_z =
-    passes (λ z. test x y z) zs z
-    (passes (λ y. list_all (λ z. test x y z) zs) ys y
-    (passes (λ x. list_all (λ y. list_all (λ z. test x y z) zs) ys) xs x all is_x) is_y) is_z

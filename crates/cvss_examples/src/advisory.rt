@@ -5,6 +5,7 @@ ghost use Rattle.cvss.specs.Answers.{HasScore};
 ghost use Rattle.cvss_examples.specs.Advisories.{IsAdvisory, IsVectorAdvisory};
 
 use cvss::Cvss;
+use cvss::tenths::tenths_of;
 use std::alloc::{AllocError, Global};
 
 /// The canonical text of a text's vector, its score with one decimal and its severity; or the
@@ -23,5 +24,8 @@ fn vector_advisory(alloc: Global, cvss: &Cvss) -> Result<String, AllocError>
     requires { HasScore cvss.now }
     ensures { IfOk result (λ advisory. IsVectorAdvisory cvss.now (string_bytes advisory)) }
 {
-    Ok(format!(in alloc; "{cvss}: {} ({})", cvss.score_text(), cvss.severity())?)
+    let score = cvss.score();
+    let tenths = tenths_of(score);
+    let severity = cvss.severity_of(score);
+    Ok(format!(in alloc; "{cvss}: {}.{} ({severity})", tenths / 10, tenths % 10)?)
 }

@@ -8,7 +8,7 @@ use Rattle.cvss_base.specs.declared.v2.MetricType.TheVariants.{A, AC, AV, Au, C,
 use Rattle.cvss_v2.specs.Scores.{impact_of, impact, adjusted_impact, exploitability, base_number, temporal_number, environmental_number}
 use Rattle.cvss_v2.specs.declared.vector.Vector.{Vector}
 use Rattle.cvss_v2.specs.Weights.{weights_of}
-use Rattle.cvss_v2.proofs.TestLemmas.{passes, all_below, below_passes}
+use Rattle.cvss_base.proofs.TestLemmas.{passes, all_below, below_passes}
 use Rattle.cvss_v2.proofs.PlainLemmas.{above_least, place, place_of, rounds_alike, is_published_alike, IsAlike, IsPublishedAlike, alike_if, published_alike_if}
 use Rattle.cvss_v2.proofs.TableLemmas.{weights, weight_listed, weighted_impacts, weighted_listed}
 

@@ -5,7 +5,6 @@ mod PlainLemmas
 mod ScoreLemmas
 mod StandardFacts
 mod TableLemmas
-mod TestLemmas
 mod TextLemmas
 pub mod UniqueLemmas
 mod WeightLemmas

@@ -8,7 +8,7 @@ use Rattle.cvss_v2.specs.declared.vector.Vector.{Vector}
 use Rattle.cvss_v2.specs.Table.{Value, rows_of, weight_of, absent_weight}
 use Rattle.cvss_v2.specs.Vector.{value_at}
 use Rattle.cvss_v2.specs.Weights.{weight_in}
-use Rattle.cvss_v2.proofs.TestLemmas.{passes, is_listed, listed_if}
+use Rattle.cvss_base.proofs.TestLemmas.{passes, is_listed, listed_if}
 
 -- the weights of a metric, that of an absent one included
 abbrev pub weights : MetricType → List ℕ

@@ -2,8 +2,7 @@
 use Rattle.std.specs.List.{list_all}
 use Rattle.std.proofs.Common.{◌≡◌, ℕ, zero, suc, ◌*◌, ◌^◌, ◌%◌, ◌<◌, ◌≤◌, ℤ, pos, negsuc, ◌-ℤ◌, ◌+ℤ◌, ◌*ℤ◌, Bool, true, ◌&&◌, ◌||◌, leb, ltb, ◌⊎◌, inl, inr, arith, refl, subst, sym, lit<}
 use Rattle.std.proofs.lemmas.Int.{ints}
-use Rattle.std.proofs.lemmas.Bool.{and_parts, or_cases, leb-true, ltb-true}
-use Rattle.std.proofs.Math.Nat.{eq-or-lt_of_le}
+use Rattle.std.proofs.lemmas.Bool.{or_cases, leb-true, ltb-true}
 use Rattle.cvss_base.specs.Exact.{Exact, ratio, ◌over◌, whole, tenths, ◌⊕◌, ◌⊗◌, ◌⊑◌}
 use Rattle.cvss_base.specs.Rounding.{IsRoundedV31}
 use Rattle.cvss_base.proofs.ExactLemmas.{at_most_trans, at_most_below, scaled_at_most, times_sum, times_times}
@@ -12,7 +11,7 @@ use Rattle.cvss_v3.specs.Scores.{temporal_number}
 use Rattle.cvss_v3.specs.private.Weights.{IsFromTable, exploit_code_maturities, remediation_levels, report_confidences}
 use Rattle.cvss_v3.specs.declared.weights.Weights.{Weights}
 use Rattle.cvss_v3.proofs.RoundLemmas.{between_jumps}
-use Rattle.cvss_v3.proofs.TestLemmas.{passes}
+use Rattle.cvss_base.proofs.TestLemmas.{passes, all_below, below_passes}
 
 -- x is at most a half above x
 half_above_itself : (x : Exact) → x ⊑ x ⊕ 1 over 2
@@ -55,21 +54,6 @@ same_when_cut k apart (pos r) cut =
     })
 same_when_cut k apart (negsuc r) cut =
     absurd (omega (arith, ints, cut.cut.greatest.below, cut.rounded.not_below.at_most))
-
-unfoldable all_below : (ℕ → Bool) → ℕ → Bool
-all_below test zero = true
-all_below test (suc n) = test n && all_below test n
-
-below_passes : (test : ℕ → Bool) (n k : ℕ) → all_below test n ≡ true → k < n → test k ≡ true
-unfolding all_below
-below_passes test zero k all less = absurd (omega arith)
-below_passes test (suc n) k all less =
-    let parts = and_parts (test n) (all_below test n) all in
-    let at_most : k ≤ n = omega arith in
-    elim (eq-or-lt_of_le at_most) [
-      | inl same ↦ subst (λ m. test m ≡ true) (sym same) parts.0
-      | inr before ↦ below_passes test n k parts.1 before
-    ]
 
 -- whether so many 10^-7 are not from 5 to 9 millionths above a tenth
 abbrev is_apart : ℕ → Bool

@@ -15,5 +15,4 @@ mod SettledLemmas
 mod StandardFacts
 mod SubScoreLemmas
 mod TableLemmas
-mod TestLemmas
 mod TextLemmas

@@ -6,7 +6,7 @@ use Rattle.cvss_base.specs.Exact.{Exact, ◌over◌, ◌⊕◌}
 use Rattle.cvss_v3.specs.private.Near.{IsNear}
 use Rattle.cvss_v3.specs.Scores.{power, changed_impact, changed_modified_impact}
 use Rattle.cvss_v3.specs.private.SubScores.{sub_scores, IsSubScore}
-use Rattle.cvss_v3.proofs.TestLemmas.{is_at_most, at_most_if, passes}
+use Rattle.cvss_base.proofs.TestLemmas.{is_at_most, at_most_if, passes}
 
 -- the product of two numbers in nine decimals, cut to nine decimals
 abbrev cut : ℕ → ℕ → ℕ

@@ -12,7 +12,7 @@ use Rattle.cvss_v3.specs.private.SubScores.{sub_scores, IsSubScore}
 use Rattle.cvss_v3.proofs.EqualLemmas.{changed_bottom, changed_modified_bottom, first_bottom}
 use Rattle.cvss_v3.proofs.NearLemmas.{error}
 use Rattle.cvss_v3.proofs.RoundLemmas.{jump, between_jumps}
-use Rattle.cvss_v3.proofs.TestLemmas.{is_below, is_at_most, below_if, at_most_if, passes}
+use Rattle.cvss_base.proofs.TestLemmas.{is_below, is_at_most, below_if, at_most_if, passes}
 
 -- whether what lies within an error of n and is at most 10 is rounded to r tenths by v3.0, and by v3.1 to s, and n lies a
 -- fifth decimal or more above the tenth before s

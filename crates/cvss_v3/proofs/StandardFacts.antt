@@ -9,7 +9,7 @@ use Rattle.cvss_v3.specs.laws.FifthDecimals.{IsRoundedCut}
 use Rattle.cvss_v3.specs.Scores.{power, changed_impact, changed_modified_impact, base_number, environmental_number, temporal_number, miss, IsRounded, IsBase, IsTemporal, IsEnvironmental}
 use Rattle.cvss_v3.specs.declared.weights.Weights.{Weights}
 use Rattle.cvss_v3.proofs.RoundLemmas.{jump, between_jumps}
-use Rattle.cvss_v3.proofs.TestLemmas.{is_below, is_at_most, below_if, at_most_if}
+use Rattle.cvss_base.proofs.TestLemmas.{is_below, is_at_most, below_if, at_most_if}
 
 -- whether t/q is rounded to r tenths
 abbrev is_rounded : ℕ → ℕ → ℕ → ℕ → Bool
