@@ -1,5 +1,5 @@
 -- What is wrong with the first of some overrides is wrong with all of them, and no vector has more than fourteen.
-use Rattle.std.proofs.Common.{◌≡◌, ◌≤◌, ◌<◌, ℕ, ◌+◌, suc, Bool, true, false, List, [], ◌∷◌, length, take, map, Option, Some, None, IsSome, Contains, if◌then◌else◌, bytes_eq, inl, inr, refl, sym, ap, subst, ◌∙◌, arith}
+use Rattle.std.proofs.Common.{◌≡◌, ◌≤◌, ◌<◌, ℕ, suc, Bool, true, false, List, [], ◌∷◌, length, take, Option, Some, None, IsSome, Contains, if◌then◌else◌, bytes_eq, inl, inr, refl, sym, ap, subst, ◌∙◌, arith}
 use Rattle.std.specs.List.{cons_option, filter_map, list_any}
 use Rattle.std.specs.Option.{option_map}
 use Rattle.std.proofs.lemmas.List.{get_or-take, length-map, length-take, length-take-le, take_all}
@@ -10,7 +10,7 @@ use Rattle.std.proofs.lemmas.Map.Views.{Contains-from_any}
 use Rattle.std.proofs.lemmas.Slice.Eq.{bytes_eq-Decides}
 use Rattle.cvss.specs.MetricTypeV4.{MetricType}
 use Rattle.cvss.specs.OverrideErrorTypeV4.{OverrideError}
-use Rattle.cvss.specs.OverridingV4.{AreOverrides, IsFirstObjection, Objection, NamesOther, ObjectionAt, OfOtherGroup, OfText, TellsFirstObjection}
+use Rattle.cvss.specs.OverridingV4.{AreOverrides, Objection, NamesOther, ObjectionAt, OfOtherGroup, OfText, TellsFirstObjection}
 use Rattle.cvss.specs.Refusal.{BadComponent, BadValue, FaultAt, IsNamedBefore, IsSpelling, Missing, Refusal, Repeated, UnknownName, WrongPrefix, WrongVersion, name_at, piece_at, value_at}
 use Rattle.cvss.specs.TableV4.{environmental}
 use Rattle.cvss.specs.Text.{IsComponent, name_part, value_part}

@@ -12,7 +12,7 @@ use Rattle.cvss.specs.OverridingV4.{IsOverridden}
 use Rattle.cvss.specs.Text.{component, joined, pieces, slash}
 use Rattle.cvss.specs.VectorTypeV4.{Vector}
 use Rattle.cvss.specs.VectorV4.{v4}
-use Rattle.cvss.specs.Version.{Version, canonical_text, component_of, components_of, version_piece}
+use Rattle.cvss.specs.Version.{Version, canonical_text, component_of, version_piece}
 use Rattle.cvss.specs.declared.vector.Cvss.{Cvss}
 use Rattle.cvss.specs.declared.vector.Cvss.TheVariants.{CvssV20, CvssV30, CvssV31, CvssV40}
 use Rattle.cvss_base.specs.Numeral.{numeral}

@@ -8,7 +8,7 @@ use Rattle.cvss.specs.VectorV4.{v4}
 use Rattle.cvss.specs.Version.{canonical_text}
 use Rattle.cvss.specs.declared.vector.Cvss.{Cvss}
 use Rattle.cvss.specs.declared.vector.Cvss.TheVariants.{CvssV40}
-use Rattle.cvss_c.specs.Overriding.{IsWithOverrides, overrides_in}
+use Rattle.cvss_c.specs.Overriding.{overrides_in}
 use Rattle.cvss_c.specs.Records.{no_memory_text}
 use Rattle.cvss_c.specs.declared.overriding.Unfit.{Unfit}
 use Rattle.cvss_c.specs.declared.overriding.Unfit.TheVariants.{OtherVersion, NotUtf8, Override}

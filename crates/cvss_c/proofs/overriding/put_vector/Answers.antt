@@ -1,7 +1,6 @@
-use Rattle.std.proofs.Common.{◌≡◌, ◌++◌, ◌≤◌, ◌+◌, codes, length, ap, refl, arith, length-append}
+use Rattle.std.proofs.Common.{codes, length, ap, arith}
 use Rattle.cvss.specs.VectorV4.{v4}
 use Rattle.cvss.specs.Version.{canonical_text}
-use Rattle.cvss_base.specs.private.Printing.{slashed_texts}
 use Rattle.cvss_c.proofs.BufferLemmas.{IsWritten-left, IsWritten-put}
 use Rattle.cvss_c.proofs.CanonicalLemmas.{text_from_front}
 use Rattle.cvss_c.proofs.OverriddenLemmas.{whole_length}
