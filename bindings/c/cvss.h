@@ -121,6 +121,24 @@ size_t cvss_metrics(const void *text, size_t length, CvssMetric *metrics, size_t
 size_t cvss_without_undefined(const void *text, size_t length, void *buffer, size_t size);
 
 /*
+ * The canonical text of the vector of v4.0 that the text denotes, with an organisation's environmental metrics in place
+ * of its own or beside them. These overrides are components as "MSI:S/CR:H", joined by '/', in any order and any ASCII
+ * case, each metric once; an empty text has none. Returns the length of the canonical text, which is at most
+ * `length` + `overrides_length` + 1. Returns 0, and leaves the buffer as it was, where the text denotes no vector of
+ * v4.0 (of v2 and v3 the library puts no overrides in), or an override is refused.
+ */
+size_t cvss_overridden(const void *text, size_t length, const void *overrides, size_t overrides_length, void *buffer,
+                       size_t size);
+
+/*
+ * Why cvss_overridden returns 0: the reason of cvss_reason; "no CVSSv4 vector"; or what is wrong with the first override
+ * that is refused, counted from 0, as "override 0: no environmental CVSSv4 metric", or "not UTF-8". Returns its length.
+ * Returns 0, and leaves the buffer as it was, where the overrides are put in.
+ */
+size_t cvss_override_reason(const void *text, size_t length, const void *overrides, size_t overrides_length,
+                            void *buffer, size_t size);
+
+/*
  * The record of the vector: the JSON object of FIRST's schema of its version, without spaces, with the version, the
  * canonical text, a member for each metric that the vector has, its scores and, but for v2, their ratings, in the order
  * of the members' names. Returns its length. Returns 0, and leaves the buffer as it was, where the text denotes no

@@ -19,6 +19,9 @@ int main(void)
     right &= cvss_metrics(text, length, metrics, 5) == 6 && metrics[0].name[0] == '\0';
     right &= cvss_metrics(text, length, metrics, 6) == 6 && strcmp(metrics[5].value, "C") == 0;
     right &= cvss_without_undefined(NULL, 0, NULL, 0) == 0 && cvss_without_undefined(text, length, NULL, 0) == length;
+    right &= cvss_overridden(NULL, 0, NULL, 0, NULL, 0) == 0 && cvss_overridden(text, length, NULL, 0, NULL, 0) == 0;
+    right &= cvss_override_reason(NULL, 0, NULL, 0, NULL, 0) == told;
+    right &= cvss_override_reason(text, length, NULL, 0, NULL, 0) == strlen("no CVSSv4 vector");
     right &= cvss_record(NULL, 0, NULL, 0) == 0 && cvss_record(text, length, NULL, 0) > sizeof buffer;
     right &= cvss_reason(NULL, 0, NULL, 0) == told && cvss_reason(text, length, NULL, 0) == 0;
     right &= cvss_refusal_kind(NULL, 0) == CVSS_INVALID_COMPONENT;

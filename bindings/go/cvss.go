@@ -159,8 +159,9 @@ func (v Vector) Record() []byte {
 	}))
 }
 
-// WithOverrides is the vector with an organisation's environmental metrics in place of its own, or beside them. The
-// error is ErrNotEnvironmental, or else a *RefusedError of the vector with these metrics.
+// WithOverrides is the vector with an organisation's environmental metrics in place of its own, or beside them. Into a
+// vector of v4.0 the library puts them, into others this package. The error is ErrNotEnvironmental, or else a
+// *RefusedError of the vector with these metrics.
 func (v Vector) WithOverrides(overrides []Metric) (Vector, error) {
 	own := make(map[string]bool)
 	var added []string
@@ -171,6 +172,11 @@ func (v Vector) WithOverrides(overrides []Metric) (Vector, error) {
 		own[metric.Name] = true
 		added = append(added, metric.Name+":"+metric.Value)
 	}
+	if v.version == V40 {
+		if scored, err := Parse(v.overridden(strings.Join(added, "/"))); err == nil {
+			return scored, nil
+		}
+	}
 	var pieces []string
 	for _, piece := range strings.Split(v.text, "/") {
 		if name, _, _ := strings.Cut(piece, ":"); !own[name] {
@@ -178,6 +184,15 @@ func (v Vector) WithOverrides(overrides []Metric) (Vector, error) {
 		}
 	}
 	return Parse(strings.Join(append(pieces, added...), "/"))
+}
+
+// overridden is the canonical text of a vector of v4.0 with overrides in place, or nothing.
+func (v Vector) overridden(overrides string) string {
+	code, length := bytesOf(v.text)
+	own, ownLength := bytesOf(overrides)
+	return written(len(code)+len(own), func(buffer unsafe.Pointer, size C.size_t) C.size_t {
+		return C.cvss_overridden(pointer(code), length, pointer(own), ownLength, buffer, size)
+	})
 }
 
 // Answer is the line that the program cvss_tool answers to a text, without the newline: the canonical text, the score

@@ -79,6 +79,8 @@ def _declared(library: ctypes.CDLL) -> ctypes.CDLL:
     ):
         call.argtypes = text + [ctypes.c_char_p, ctypes.c_size_t]
         call.restype = ctypes.c_size_t
+    library.cvss_overridden.argtypes = text + text + [ctypes.c_char_p, ctypes.c_size_t]
+    library.cvss_overridden.restype = ctypes.c_size_t
     library.cvss_metrics.argtypes = text + [ctypes.POINTER(Metric), ctypes.c_size_t]
     library.cvss_metrics.restype = ctypes.c_size_t
     many = text + [ctypes.c_char_p, ctypes.c_size_t]
@@ -131,6 +133,16 @@ def metrics(text: bytes) -> List[Tuple[str, str]]:
 def without_undefined(text: bytes) -> str:
     """The canonical text of the vector that a text denotes, without its undefined metrics, or nothing."""
     return _written(_library.cvss_without_undefined, text, len(text) + 1)
+
+
+def overridden(text: bytes, overrides: bytes) -> str:
+    """The canonical text of the vector of v4.0 that a text denotes, with overrides in place, or nothing."""
+
+    def call(text: bytes, length: int, buffer: object, size: int) -> int:
+        told = _library.cvss_overridden(text, length, overrides, len(overrides), buffer, size)
+        return int(told)
+
+    return _written(call, text, len(text) + len(overrides) + 1)
 
 
 def record(text: bytes) -> str:

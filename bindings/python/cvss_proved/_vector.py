@@ -172,6 +172,8 @@ class Vector:
     def with_overrides(self, overrides: Mapping[str, str]) -> Vector:
         """The vector with an organisation's environmental metrics in place of its own, or beside them.
 
+        Into a vector of v4.0 the library puts them, into others this package.
+
         A name that is no environmental metric is a `ValueError`; one that the version does not have, or a value
         that the metric does not have, is refused by `CvssError`.
 
@@ -182,6 +184,11 @@ class Vector:
         for name, value in overrides.items():
             if name not in _ENVIRONMENTAL or not value.isalnum():
                 raise ValueError(f"{name}:{value} is no environmental metric")
+        own = [f"{name}:{value}" for name, value in overrides.items()]
+        if self.version == "4.0":
+            scored = _library.overridden(self._text.encode(), "/".join(own).encode())
+            if scored:
+                return Vector(scored)
         front = [piece for piece in self._text.split("/") if piece.startswith("CVSS:")]
         metrics = {**self.metrics, **overrides}
         return Vector("/".join(front + [f"{name}:{value}" for name, value in metrics.items()]))

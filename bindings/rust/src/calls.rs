@@ -45,6 +45,14 @@ extern "C" {
         buffer: *mut u8,
         size: usize,
     ) -> usize;
+    fn cvss_overridden(
+        text: *const u8,
+        length: usize,
+        overrides: *const u8,
+        overrides_length: usize,
+        buffer: *mut u8,
+        size: usize,
+    ) -> usize;
     fn cvss_record(text: *const u8, length: usize, buffer: *mut u8, size: usize) -> usize;
     fn cvss_reason(text: *const u8, length: usize, buffer: *mut u8, size: usize) -> usize;
     fn cvss_refusal_kind(text: *const u8, length: usize) -> i32;
@@ -97,6 +105,23 @@ pub(crate) fn without_undefined(text: &[u8]) -> Vec<u8> {
         // SAFETY: as above.
         unsafe {
             cvss_without_undefined(text.as_ptr(), text.len(), buffer.as_mut_ptr(), buffer.len())
+        }
+    })
+}
+
+/// The canonical text of the vector of v4.0 that a text denotes, with overrides in place, or nothing.
+pub(crate) fn overridden(text: &[u8], overrides: &[u8]) -> Vec<u8> {
+    written(text.len() + overrides.len() + 1, |buffer| {
+        // SAFETY: as above.
+        unsafe {
+            cvss_overridden(
+                text.as_ptr(),
+                text.len(),
+                overrides.as_ptr(),
+                overrides.len(),
+                buffer.as_mut_ptr(),
+                buffer.len(),
+            )
         }
     })
 }

@@ -200,7 +200,8 @@ impl Cvss {
     }
 
     /// The vector with an organisation's environmental metrics, as pairs of name and value, in
-    /// place of its own or beside them.
+    /// place of its own or beside them. Into a vector of v4.0 the library puts them, into others
+    /// this crate.
     ///
     /// # Errors
     ///
@@ -217,6 +218,12 @@ impl Cvss {
     /// ```
     pub fn with_overrides(&self, overrides: &[(&str, &str)]) -> Result<Cvss, OverrideError> {
         let added = components_of(overrides)?;
+        if self.version == Version::V40 {
+            let own = calls::overridden(self.text.as_bytes(), added.join("/").as_bytes());
+            if let Ok(cvss) = Cvss::parse_bytes(&own) {
+                return Ok(cvss);
+            }
+        }
         let is_kept = |piece: &&str| {
             let name = piece.split(':').next().unwrap_or_default();
             overrides.iter().all(|(own, _)| *own != name)

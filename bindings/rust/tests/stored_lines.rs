@@ -153,6 +153,19 @@ fn metrics_that_are_not_environmental_are_no_overrides() {
 }
 
 #[test]
+fn overrides_of_v4_are_put_in_place() {
+    let text = "CVSS:4.0/AV:N/AC:L/AT:N/PR:N/UI:N/VC:L/VI:L/VA:L/SC:N/SI:N/SA:N/CR:H/S:P";
+    let cvss = Cvss::parse(text).unwrap();
+    let own = cvss.with_overrides(&[("MSI", "S"), ("CR", "L")]).unwrap();
+    let expected = "CVSS:4.0/AV:N/AC:L/AT:N/PR:N/UI:N/VC:L/VI:L/VA:L/SC:N/SI:N/SA:N/CR:L/MSI:S/S:P";
+    assert_eq!(own.as_str(), expected);
+    let twice = cvss.with_overrides(&[("MSI", "S"), ("MSI", "H")]).unwrap_err();
+    assert!(matches!(twice, OverrideError::Refused(_)));
+    let unknown = cvss.with_overrides(&[("MS", "C")]).unwrap_err();
+    assert_eq!(unknown.to_string(), "unknown CVSS metric name: `MS`");
+}
+
+#[test]
 fn each_text_that_is_printed_is_read_back() {
     for tenths in 0..=100 {
         let score = Score::from_tenths(tenths).unwrap();

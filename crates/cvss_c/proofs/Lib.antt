@@ -5,6 +5,8 @@ pub mod DefinedLemmas
 pub mod LengthLemmas
 pub mod LinesLemmas
 pub mod MetricLemmas
+pub mod ObjectionLemmas
+pub mod OverriddenLemmas
 pub mod PartLemmas
 pub mod PartsLemmas
 pub mod RatingLemmas

@@ -3,6 +3,7 @@ pub mod Buffer
 pub mod Defined
 pub mod Lines
 pub mod Metrics
+pub mod Overriding
 pub mod Records
 pub mod Refusals
 pub mod Scores

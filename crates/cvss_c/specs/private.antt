@@ -1,2 +1,3 @@
+pub mod Overridden
 pub mod Reasons
 pub mod Steps

@@ -3,12 +3,15 @@
 ghost use Rattle.std.specs.Prelude.{◌≡◌, ◌++◌, ℕ, List, codes, length, pos, true, false};
 ghost use Rattle.cvss.specs.Answers.{text_of};
 ghost use Rattle.cvss.specs.Dispatch.{DenotesCvss};
+ghost use Rattle.cvss.specs.VectorV4.{v4};
+ghost use Rattle.cvss.specs.Version.{canonical_text};
 ghost use Rattle.cvss.specs.declared.vector.Cvss.{Cvss};
 ghost use Rattle.cvss_c.specs.Answers.{Answers, IsAnswer, IsReason};
 ghost use Rattle.cvss_c.specs.Buffer.{IsLeft, IsWritten};
 ghost use Rattle.cvss_c.specs.Defined.{text_without_undefined};
 ghost use Rattle.cvss_c.specs.Lines.{AnswersLines};
 ghost use Rattle.cvss_c.specs.Metrics.{metrics_in_order};
+ghost use Rattle.cvss_c.specs.Overriding.{AnswersOverridden, IsOverrideReason};
 ghost use Rattle.cvss_c.specs.Records.{IsRecordTold};
 ghost use Rattle.cvss_c.specs.Refusals.{IsBlamed, IsKind};
 ghost use Rattle.cvss_c.specs.Scores.{AreScoresOf, nothing, version_number as number_of_version};
@@ -20,6 +23,7 @@ use crate::defined::put_without_undefined;
 use crate::lines::put_answers;
 use crate::metrics::put_metrics;
 use crate::numbers::{NOTHING, version_number};
+use crate::overriding::{put_overridden, put_override_reason};
 use crate::reason::put_reason;
 use crate::record::put_record;
 use crate::refusal::{ACCEPTED, blamed_by, kind_of};
@@ -100,6 +104,52 @@ pub extern "C" fn cvss_without_undefined(text: &[u8], buffer: &mut [u8]) -> usiz
     match Cvss::read_bytes(text) {
         Some(cvss) => put_without_undefined(&cvss, text, buffer),
         None => 0,
+    }
+}
+
+/// The length of the canonical text of the vector of CVSS v4.0 that a text denotes, with overrides in
+/// place: components of environmental metrics, in any order and any ASCII case, each once, joined by
+/// slashes. It is written into the buffer where it fits. 0 where the text denotes no vector of CVSS
+/// v4.0, and where an override is refused; overrides that are accepted take no memory.
+#[unsafe(no_mangle)]
+pub extern "C" fn cvss_overridden(
+    alloc: Global,
+    text: &[u8],
+    overrides: &[u8],
+    buffer: &mut [u8],
+) -> usize
+    ensures { Answers text.now
+        (λ cvss. AnswersOverridden cvss overrides.now
+        (λ new. IsWritten (canonical_text v4 new) buffer.old buffer.new result)
+        (IsLeft buffer.old buffer.new result))
+        (IsLeft buffer.old buffer.new result) }
+{
+    match Cvss::read_bytes(text) {
+        Some(cvss) => put_overridden(alloc, &cvss, text, overrides, buffer),
+        None => 0,
+    }
+}
+
+/// The length of the reason why `cvss_overridden` answers 0: why the text denotes no vector, that it
+/// is none of CVSS v4.0, or what is wrong with the first override that is refused. It is written into
+/// the buffer where it fits. 0 where the overrides are put into the vector.
+#[unsafe(no_mangle)]
+pub extern "C" fn cvss_override_reason(
+    alloc: Global,
+    text: &[u8],
+    overrides: &[u8],
+    buffer: &mut [u8],
+) -> usize
+    ensures { Answers text.now
+        (λ cvss. AnswersOverridden cvss overrides.now (λ _. IsLeft buffer.old buffer.new result)
+        ((reason : List ℕ) × IsOverrideReason cvss overrides.now reason
+        × IsWritten reason buffer.old buffer.new result))
+        ((reason : List ℕ) × IsReason text.now reason
+        × IsWritten reason buffer.old buffer.new result) }
+{
+    match Cvss::read_bytes(text) {
+        Some(cvss) => put_override_reason(alloc, &cvss, text, overrides, buffer),
+        None => put_reason(alloc, &[], text, buffer),
     }
 }
 

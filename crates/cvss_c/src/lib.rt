@@ -14,14 +14,16 @@ pub mod laws;
 mod lines;
 mod metrics;
 mod numbers;
+mod overriding;
 mod reason;
 mod record;
 mod refusal;
 mod scores;
 
 pub use calls::{
-    cvss_answer, cvss_answers, cvss_canonical, cvss_metrics, cvss_reason, cvss_record,
-    cvss_refusal_kind, cvss_refusal_metric, cvss_scores, cvss_version, cvss_without_undefined,
+    cvss_answer, cvss_answers, cvss_canonical, cvss_metrics, cvss_overridden, cvss_override_reason,
+    cvss_reason, cvss_record, cvss_refusal_kind, cvss_refusal_metric, cvss_scores, cvss_version,
+    cvss_without_undefined,
 };
 pub use metrics::CvssMetric;
 pub use scores::CvssScores;

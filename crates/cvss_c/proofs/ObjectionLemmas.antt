@@ -1,0 +1,154 @@
+-- What is wrong with the first of some overrides is wrong with all of them, and no vector has more than fourteen.
+use Rattle.std.proofs.Common.{◌≡◌, ◌≤◌, ◌<◌, ℕ, suc, Bool, true, false, List, [], ◌∷◌, length, take, Option, Some, None, IsSome, Contains, if◌then◌else◌, bytes_eq, inl, inr, refl, sym, ap, subst, ◌∙◌, arith}
+use Rattle.std.specs.List.{cons_option, filter_map, list_any}
+use Rattle.std.specs.Option.{option_map}
+use Rattle.std.proofs.lemmas.List.{get_or-take, length-map, length-take, length-take-le, take_all}
+use Rattle.std.proofs.lemmas.List.Folds.{list_any_at}
+use Rattle.std.proofs.lemmas.List.Sorted.{length_permutation}
+use Rattle.std.proofs.lemmas.Bool.{cases_lt}
+use Rattle.std.proofs.lemmas.Map.Views.{Contains-from_any}
+use Rattle.std.proofs.lemmas.Slice.Eq.{bytes_eq-Decides}
+use Rattle.cvss.specs.MetricTypeV4.{MetricType}
+use Rattle.cvss.specs.OverrideErrorTypeV4.{OverrideError}
+use Rattle.cvss.specs.OverridingV4.{AreOverrides, Objection, NamesOther, ObjectionAt, OfOtherGroup, OfText, TellsFirstObjection}
+use Rattle.cvss.specs.Refusal.{BadComponent, BadValue, FaultAt, IsNamedBefore, IsSpelling, Missing, Refusal, Repeated, UnknownName, WrongPrefix, WrongVersion, name_at, piece_at, value_at}
+use Rattle.cvss.specs.TableV4.{environmental}
+use Rattle.cvss.specs.Text.{IsComponent, name_part, value_part}
+use Rattle.cvss.specs.TypesV4.{name_of}
+use Rattle.cvss.specs.VectorTypeV4.{Vector}
+use Rattle.cvss.specs.VectorV4.{v4}
+use Rattle.cvss.specs.Version.{component_of, components_of, read}
+use Rattle.cvss_base.proofs.LawLemmas.{names_differ}
+use Rattle.cvss_v4.specs.VectorLaws.{v4_is_lawful}
+
+-- whether two metrics have one name
+abbrev pub same_name : MetricType → MetricType → Bool
+same_name kind other = bytes_eq (name_of kind) (name_of other)
+
+one_metric : (kind other : MetricType) → same_name kind other ≡ true → kind ≡ other
+one_metric kind other same =
+    names_differ v4 v4_is_lawful kind other ((bytes_eq-Decides _ _).0 same)
+
+-- whether a metric is an environmental one
+abbrev pub is_environmental : MetricType → Bool
+is_environmental kind = list_any (same_name kind) environmental
+
+pub environmental_from : (kind : MetricType) → is_environmental kind ≡ true → Contains environmental kind
+environmental_from kind is = Contains-from_any one_metric kind environmental is
+
+pub environmental_is : (kind : MetricType) → Contains environmental kind → is_environmental kind ≡ true
+environmental_is kind (place, within, is) =
+    list_any_at (same_name kind) environmental place kind within ((bytes_eq-Decides _ _).1 (ap name_of (sym is)))
+
+-- how many of these metrics are environmental ones
+abbrev count : List MetricType → ℕ
+count [] = 0
+count (kind ∷ kinds) = if is_environmental kind then suc (count kinds) else count kinds
+
+counted : (part : Option (List ℕ)) (is : Bool) (parts : List (List ℕ)) (n : ℕ) → (IsSome part → is ≡ true) → length parts ≤ n → length (cons_option part parts) ≤ (if is then suc n else n)
+counted None true parts n only fits = omega arith
+counted None false parts n only fits = fits
+counted (Some part) true parts n only fits = omega arith
+counted (Some part) false parts n only fits = absurd (let no : false ≡ true = only refl in cc)
+
+module _ (texts : List (List ℕ)) (v : Vector) (are : AreOverrides texts v) where
+  has_value : {A B C : Type 0} (f : B → C) (g : A → B) (o : Option A) → IsSome (option_map f (option_map g o)) → IsSome o
+  has_value f g None some = some
+  has_value f g (Some value) some = refl
+
+  counted_all : (kinds : List MetricType) → length (filter_map (component_of v4 v) kinds) ≤ count kinds
+  counted_all [] = omega arith
+  counted_all (kind ∷ kinds) =
+      counted (component_of v4 v kind) (is_environmental kind) (filter_map (component_of v4 v) kinds) (count kinds)
+      (λ some. environmental_is kind (are.environmental.each kind (has_value _ _ _ some))) (counted_all kinds)
+
+  pub overrides-most : length texts ≤ 14
+  overrides-most =
+      let fourteen : count v4.printed ≡ 14 = refl in
+      omega (
+        arith,
+        length_permutation _ _ are.components.each_once,
+        length-map texts (read v4),
+        length-map (components_of v4 v) (read v4),
+        counted_all v4.printed,
+        fourteen,
+      )
+
+module _ (xs ys : List (List ℕ)) (place : ℕ) (same : (k : ℕ) → k ≤ place → piece_at xs k ≡ piece_at ys k) where
+  name_same : (k : ℕ) → k ≤ place → name_at v4 xs k ≡ name_at v4 ys k
+  name_same k before = ap (λ piece. read v4 (name_part piece)) (same k before)
+
+  value_same : value_at v4 xs place ≡ value_at v4 ys place
+  value_same = ap (λ piece. read v4 (value_part piece)) (same place (omega arith))
+
+  named_same : (kind : MetricType) → IsNamedBefore v4 xs place kind → IsNamedBefore v4 ys place kind
+  named_same kind named = record {
+    earlier = named.earlier;
+    is_before = named.is_before;
+    same_name = sym (name_same named.earlier (omega (arith, named.is_before))) ∙ named.same_name;
+  }
+
+  fault_same : (reason : Refusal MetricType) → FaultAt v4 xs place reason → FaultAt v4 ys place reason
+  fault_same (UnknownName name) (is, none) = (is ∙ name_same place (omega arith), none)
+  fault_same (BadValue blamed value) (kind, blames, named, is, wrong) =
+      (kind, blames, named ∙ name_same place (omega arith), is ∙ value_same, wrong)
+  fault_same (Repeated kind) (named, spelled, before) =
+      (named ∙ name_same place (omega arith), subst (IsSpelling v4 kind) value_same spelled, named_same kind before)
+  fault_same (BadComponent piece) none = none
+  fault_same (WrongPrefix prefix) none = none
+  fault_same (WrongVersion told) none = none
+  fault_same (Missing kind) none = none
+
+  is_component : IsComponent (piece_at xs place) → IsComponent (piece_at ys place)
+  is_component is = subst IsComponent (same place (omega arith)) is
+
+  names_other : NamesOther (name_at v4 ys place) → NamesOther (name_at v4 xs place)
+  names_other other = subst NamesOther (sym (name_same place (omega arith))) other
+
+  -- what is wrong at a place rests on the pieces up to there
+  objection_same : (objection : Objection) → ObjectionAt xs place objection → ObjectionAt ys place objection
+  objection_same OfOtherGroup (is, other) = (is_component is, subst NamesOther (name_same place (omega arith)) other)
+  objection_same (OfText (BadComponent piece)) (is, bad) =
+      (is ∙ same place (omega arith), λ good. bad (subst IsComponent (sym (same place (omega arith))) good))
+  objection_same (OfText (UnknownName name)) (is, none, fault) = (is_component is, λ other. none (names_other other), fault_same (UnknownName name) fault)
+  objection_same (OfText (BadValue kind value)) (is, none, fault) = (is_component is, λ other. none (names_other other), fault_same (BadValue kind value) fault)
+  objection_same (OfText (Repeated kind)) (is, none, fault) = (is_component is, λ other. none (names_other other), fault_same (Repeated kind) fault)
+  objection_same (OfText (WrongPrefix prefix)) (is, none, fault) = absurd fault
+  objection_same (OfText (WrongVersion told)) (is, none, fault) = absurd fault
+  objection_same (OfText (Missing kind)) (is, none, fault) = absurd fault
+
+module _ (texts : List (List ℕ)) where
+  first_same : (k : ℕ) → k < 15 → piece_at (take 15 texts) k ≡ piece_at texts k
+  first_same k within = get_or-take 15 texts k [] within
+
+  -- the first override of the first ones with which something is wrong
+  pub first_objection : (error : OverrideError) → TellsFirstObjection (take 15 texts) error → TellsFirstObjection texts error
+  first_objection error told =
+      let first = told.first in
+      let within : told.place < 15 = omega (arith, first.within, length-take 15 texts) in
+      record {
+        place = told.place;
+        objection = told.objection;
+        first = record {
+          within = omega (arith, first.within, length-take 15 texts);
+          is = objection_same (take 15 texts) texts told.place (λ k before. first_same k (omega (arith, before, within))) told.objection first.is;
+          earlier = record {
+            none = λ earlier objection below at. first.earlier.none earlier objection below
+                (objection_same texts (take 15 texts) earlier (λ k before. sym (first_same k (omega (arith, before, below, within)))) objection at);
+          };
+        };
+        tells = told.tells;
+      }
+
+  -- overrides are no more than the first ones
+  pub first_overrides : (v : Vector) → AreOverrides (take 15 texts) v → AreOverrides texts v
+  first_overrides v are =
+      let most = overrides-most (take 15 texts) v are in
+      elim (cases_lt 14 (length texts)) [
+        | inl more ↦ absurd (omega (arith, most, length-take-le 15 texts (omega (arith, more))))
+        | inr fits ↦ subst (λ pieces. AreOverrides pieces v) (take_all 15 texts (omega (arith, fits))) are
+      ]
+
+  pub all_overrides : (v : Vector) → AreOverrides texts v → AreOverrides (take 15 texts) v
+  all_overrides v are =
+      subst (λ pieces. AreOverrides pieces v) (sym (take_all 15 texts (omega (arith, overrides-most texts v are)))) are

@@ -1,0 +1,168 @@
+//! An organisation's own environmental metrics in place of those of a vector of CVSS v4.0.
+
+ghost use Rattle.std.specs.Prelude.{◌≡◌, ◌≤◌, ◌+◌, ◌∷◌, [], ℕ, List, IfOk, IfErr, IsOk, codes, length, map, take};
+ghost use Rattle.cvss.specs.OverridingV4.{AreOverrides, TellsFirstObjection};
+ghost use Rattle.cvss.specs.VectorTypeV4.{Vector};
+ghost use Rattle.cvss.specs.VectorV4.{v4};
+ghost use Rattle.cvss.specs.Version.{canonical_text};
+ghost use Rattle.cvss_base.specs.private.Printing.{slashed_texts};
+ghost use Rattle.cvss.specs.Dispatch.{DenotesCvss};
+ghost use Rattle.cvss_c.specs.Buffer.{IsLeft, IsWritten};
+ghost use Rattle.cvss_c.specs.Overriding.{AnswersOverridden, IsOverrideReason, IsWithOverrides, overrides_in};
+ghost use Rattle.cvss_c.specs.private.Overridden.{IsPrintable, IsUnfit, TellsObjection};
+
+use crate::buffer::{put_behind, put_both};
+use arrayvec::ArrayVec;
+use cvss::v4::OverrideError;
+use cvss::{Cvss, v4};
+use cvss_base::print::Printed;
+use cvss_base::walk::Components;
+use std::alloc::Global;
+
+/// One override more than a vector has environmental metrics is too many.
+const TOO_MANY: usize = 15;
+
+/// Why overrides cannot be put into a vector.
+#[derive(Drop)]
+enum Unfit {
+    /// The vector is not of CVSS v4.0.
+    OtherVersion,
+    /// The overrides are not UTF-8.
+    NotUtf8,
+    /// One of the overrides is refused.
+    Override(OverrideError),
+}
+
+/// Writes the canonical text of a vector with overrides in place at the beginning of a buffer where
+/// it fits, and tells its length; 0 where they cannot be put into it. The text that denotes the
+/// vector is given.
+pub(crate) fn put_overridden(
+    alloc: Global,
+    cvss: &Cvss,
+    text: &[u8],
+    overrides: &[u8],
+    buffer: &mut [u8],
+) -> usize
+    requires { DenotesCvss text.now cvss.now }
+    ensures { AnswersOverridden cvss.now overrides.now
+        (λ new. IsWritten (canonical_text v4 new) buffer.old buffer.new result)
+        (IsLeft buffer.old buffer.new result) }
+{
+    let Ok(vector) = overridden(alloc, cvss, text, overrides) else {
+        return 0;
+    };
+    put_vector(&vector, text.len() + overrides.len() + 1, buffer)
+}
+
+/// Writes why overrides cannot be put into a vector at the beginning of a buffer where it fits, and
+/// tells its length; 0 where they can.
+pub(crate) fn put_override_reason(
+    alloc: Global,
+    cvss: &Cvss,
+    text: &[u8],
+    overrides: &[u8],
+    buffer: &mut [u8],
+) -> usize
+    requires { DenotesCvss text.now cvss.now }
+    ensures { AnswersOverridden cvss.now overrides.now (λ _. IsLeft buffer.old buffer.new result)
+        ((reason : List ℕ) × IsOverrideReason cvss.now overrides.now reason
+        × IsWritten reason buffer.old buffer.new result) }
+{
+    match overridden(alloc, cvss, text, overrides) {
+        Ok(_) => 0,
+        Err(Unfit::OtherVersion) => put_both(&[], "no CVSSv4 vector".as_bytes(), buffer),
+        Err(Unfit::NotUtf8) => put_both(&[], "not UTF-8".as_bytes(), buffer),
+        Err(Unfit::Override(error)) => put_objection(alloc, &error, buffer),
+    }
+}
+
+/// Writes what is wrong with an override at the beginning of a buffer where it fits, and tells its
+/// length.
+fn put_objection(alloc: Global, error: &OverrideError, buffer: &mut [u8]) -> usize
+    ensures { (reason : List ℕ) × TellsObjection error.now reason
+        × IsWritten reason buffer.old buffer.new result }
+{
+    match error.to_string(alloc) {
+        Ok(reason) => put_both(&[], reason.as_bytes(), buffer),
+        Err(_) => put_both(&[], "out of memory".as_bytes(), buffer),
+    }
+}
+
+/// The vector with overrides in place. The text that denotes the vector is given.
+fn overridden(
+    alloc: Global,
+    cvss: &Cvss,
+    text: &[u8],
+    overrides: &[u8],
+) -> Result<v4::Vector, Unfit>
+    requires { DenotesCvss text.now cvss.now }
+    ensures is { IfOk result (IsWithOverrides cvss.now overrides.now) }
+    ensures printable { IfOk result (IsPrintable text.now overrides.now) }
+    ensures accepts { (new : Vector) → IsWithOverrides cvss.now overrides.now new → IsOk result }
+    ensures unfit { IfErr result (IsUnfit cvss.now overrides.now) }
+{
+    let Cvss::CvssV40(vector) = cvss else {
+        return Err(Unfit::OtherVersion);
+    };
+    let Ok(overrides) = str::from_utf8(overrides) else {
+        return Err(Unfit::NotUtf8);
+    };
+    match read_overrides(alloc, overrides) {
+        Ok(overrides) => Ok(vector.overridden_by(&overrides)),
+        Err(error) => Err(Unfit::Override(error)),
+    }
+}
+
+/// The overrides that a text has.
+fn read_overrides(alloc: Global, text: &str) -> Result<v4::Vector, OverrideError>
+    ensures accepted { IfOk result (AreOverrides (overrides_in text.now)) }
+    ensures accepts { (overrides : Vector) → AreOverrides (overrides_in text.now) overrides
+        → IsOk result }
+    ensures refused { IfErr result (TellsFirstObjection (overrides_in text.now)) }
+{
+    v4::Vector::from_overrides(alloc, first_pieces(text).as_slice())
+}
+
+/// The first pieces of a text, no more than `TOO_MANY`; none of an empty text.
+fn first_pieces(text: &str) -> ArrayVec<&str, TOO_MANY>
+    ensures { map (λ piece. piece.now) result.items ≡ take 15 (overrides_in text.now) }
+{
+    let mut pieces = ArrayVec::new();
+    if !text.is_empty() {
+        for piece in text.split('/').take(TOO_MANY) {
+            pieces.push(piece);
+        }
+    }
+    pieces
+}
+
+/// Writes the canonical text of a vector at the beginning of a buffer where it fits, and tells its
+/// length, which is bounded.
+fn put_vector(vector: &v4::Vector, bound: usize, buffer: &mut [u8]) -> usize
+    requires front { v4.front vector.now ≡ codes "CVSS:4.0" ∷ [] }
+    requires bound { length (canonical_text v4 vector.now) ≤ bound }
+    ensures { IsWritten (canonical_text v4 vector.now) buffer.old buffer.new result }
+{
+    let piece = "CVSS:4.0".as_bytes();
+    let kinds = v4::Vector::printed();
+    let length = piece.len() + components_length(vector, kinds, bound);
+    if length <= buffer.len() {
+        put_behind(piece, vector, kinds, buffer);
+    }
+    length
+}
+
+/// How long the components are that a vector has for these metrics, each with a slash before it. It
+/// is bounded.
+fn components_length<V: Printed>(vector: &V, kinds: &[V::Kind], bound: usize) -> usize
+    requires { length (slashed_texts V.version vector.now kinds.now) ≤ bound }
+    ensures { result ≡ length (slashed_texts V.version vector.now kinds.now) }
+{
+    let mut length = 0;
+    for kind in kinds {
+        if let Some(text) = vector.slashed(*kind) {
+            length += text.len();
+        }
+    }
+    length
+}
