@@ -1,6 +1,7 @@
 //! How rows are written.
 
 ghost use Rattle.std.specs.Prelude.{◌≡◌, ◌++◌, IfOk, OnOk, flat_map, string_bytes};
+ghost use Rattle.cvss.specs.ScoreText.{score_text};
 ghost use Rattle.cvss_triage.specs.Rows.{row_text};
 
 use cvss::OneDecimal;
@@ -23,13 +24,15 @@ pub(crate) fn written_rows(alloc: Global, rows: &[Row]) -> Result<String, AllocE
 fn write_row(row: &Row, text: &mut String) -> Result<(), AllocError>
     ensures { OnOk result (string_bytes text.new ≡ string_bytes text.old ++ row_text row.now) }
 {
-    let score = OneDecimal { count: row.score };
-    writeln!(
-        text,
-        "{score} {} {} {}",
-        row.severity(),
-        row.scored,
-        row.text
-    )?;
+    write_score(row, text)?;
+    writeln!(text, " {} {} {}", row.severity(), row.scored, row.text)?;
+    Ok(())
+}
+
+/// Writes a row's score with one decimal.
+fn write_score(row: &Row, text: &mut String) -> Result<(), AllocError>
+    ensures { OnOk result (string_bytes text.new ≡ string_bytes text.old ++ score_text row.now.score) }
+{
+    write!(text, "{}", OneDecimal { count: row.score })?;
     Ok(())
 }
