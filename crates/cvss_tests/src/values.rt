@@ -1,5 +1,6 @@
 //! What is asked of the values of every public type: that they are told apart, copied and printed.
 
+use cvss::Error;
 use std::alloc::Global;
 use std::fmt;
 use std::process::Abort;
@@ -45,3 +46,54 @@ where
     }
     Ok(())
 }
+
+/// Compares what a refusal tells.
+pub(crate) fn is_told(
+    rt: &impl Abort,
+    alloc: Global,
+    refused: &Option<Error>,
+    told: &str,
+) -> Result<(), Fail> {
+    match refused {
+        None => assert!(rt; false, "{told}"),
+        Some(error) => assert_eq!(rt; error.to_string(alloc)?.as_str(), told),
+    }
+    Ok(())
+}
+
+/// What a test's helper ends with.
+pub(crate) type Tried = Result<(), Fail>;
+
+/// Reads, spells, prints, copies and compares all values of a version's metric, which are as many of
+/// the version's spellings as are counted.
+macro_rules! are_values {
+    ($rt:expr, $alloc:expr, $metric:ty, $spellings:expr, $name:expr, $count:expr) => {{
+        let mut rows = Vec::new($alloc);
+        for spelling in $spellings {
+            if let Some(metric) = <$metric>::read(spelling) {
+                assert_eq!($rt; metric.as_str(), spelling, "{}", $name);
+                rows.push((spelling, metric))?;
+            }
+        }
+        assert!($rt; <$metric>::name() == $name && rows.len() == $count, "{}", $name);
+        let beginning = format!(in $alloc; "{}:", $name)?;
+        are_printed($rt, $alloc, beginning.as_str(), &rows)
+    }};
+}
+
+pub(crate) use are_values;
+
+/// Names each metric of a version by the calls that its type has, and prints, copies and compares it.
+macro_rules! are_named {
+    ($rt:expr, $kind:ty, $names:expr) => {{
+        let mut named = Vec::new($rt.alloc());
+        for (kind, name, description) in $names {
+            assert!($rt; kind.name() == name && kind.description() == description, "{name}");
+            assert!($rt; <$kind>::from_str($rt.alloc(), name) == Ok(kind), "{name}");
+            named.push((name, kind))?;
+        }
+        are_printed($rt, $rt.alloc(), "", &named)
+    }};
+}
+
+pub(crate) use are_named;

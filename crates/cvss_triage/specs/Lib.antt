@@ -1,6 +1,5 @@
 pub mod Exit
 pub mod Lines
-pub mod Program
 pub mod Rows
 pub mod Runs
 pub mod laws

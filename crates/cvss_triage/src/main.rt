@@ -15,10 +15,10 @@ mod run;
 mod tests;
 mod write;
 
-use arguments::arguments;
+use cvss_lines::arguments;
 pub use exit::exit_status;
 pub use fault::Fault;
-pub use program::{Request, USAGE, run_program};
+pub use program::{USAGE, run_program};
 pub use run::{run, run_arguments};
 use std::process::ExitCode;
 

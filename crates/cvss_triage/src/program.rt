@@ -2,12 +2,14 @@
 
 ghost use Rattle.std.specs.Prelude.{◌≡◌, ◌≢◌, ◌⊎◌, ℕ, IfErr, IsErrOf, OnOk, take};
 ghost use Rattle.std.specs.Io.KnownBytes.{Appends, Keeps};
-ghost use Rattle.cvss_triage.specs.Program.{asked as asked_of, asked_by as asked_first, bytes_of};
+ghost use Rattle.cvss_lines.specs.Requests.{asked as asked_of};
+ghost use Rattle.cvss_triage.specs.Lines.{bytes_of};
 ghost use Rattle.cvss_triage.specs.Runs.{Ranks, RanksCut, IsTold, IsToldUnread};
 
 use crate::fault::Fault;
 use crate::run::run_arguments;
 use crate::write::write_whole;
+use cvss_lines::{Request, asked};
 use std::alloc::Global;
 use std::io::{Read, Write};
 
@@ -22,38 +24,6 @@ AR or a modified one; case is free:  cvss_triage msi:s cr:h < vectors
 
 Status: 0 the rows are written, 1 an argument or a line is refused, 2 another fault.
 ";
-
-/// What the program is asked for.
-#[derive(Drop)]
-pub enum Request {
-    /// The usage, by `--help`.
-    Usage,
-    /// Something that there is not: the first argument begins with `-`, as no component does.
-    Unknown,
-    /// Rows.
-    Rows,
-}
-
-/// What the first argument asks for.
-fn asked(arguments: &[Vec<u8>]) -> Request
-    ensures { result ≡ asked_of arguments.now }
-{
-    match arguments.first() {
-        Some(first) => asked_by(first),
-        None => Request::Rows,
-    }
-}
-
-/// What a first argument asks for.
-fn asked_by(first: &[u8]) -> Request
-    ensures { result ≡ asked_first first.now }
-{
-    match first {
-        b"--help" => Request::Usage,
-        [b'-', ..] => Request::Unknown,
-        _ => Request::Rows,
-    }
-}
 
 /// Writes the usage, or runs as [`run_arguments`] does.
 ///
@@ -74,33 +44,33 @@ pub fn run_program<R: Read, W: Write>(
     ensures usage_cut { asked_of arguments.now ≡ Request.Usage
         → IfErr result (λ fault. (fault ≡ Fault.Write) × ((count : ℕ)
         × Appends (W.contents writer.old) (W.contents writer.new) (take count USAGE.now))) }
-    ensures unread { asked_of arguments.now ≢ Request.Rows
+    ensures unread { asked_of arguments.now ≢ Request.Run
         → Keeps (R.remaining reader.old) (R.remaining reader.new) }
     // A first argument that is no component and not `--help`.
     ensures unknown { asked_of arguments.now ≡ Request.Unknown
         → (result ≡ Err Fault.UnknownOption)
         × Keeps (W.contents writer.old) (W.contents writer.new) }
     // Rows.
-    ensures ranked { asked_of arguments.now ≡ Request.Rows
+    ensures ranked { asked_of arguments.now ≡ Request.Run
         → OnOk result (Ranks (bytes_of arguments.now)
         (R.remaining reader.old) (R.remaining reader.new)
         (W.contents writer.old) (W.contents writer.new)) }
-    ensures cut { asked_of arguments.now ≡ Request.Rows
+    ensures cut { asked_of arguments.now ≡ Request.Run
         → IsErrOf result Fault.Write → RanksCut (bytes_of arguments.now)
         (R.remaining reader.old) (R.remaining reader.new)
         (W.contents writer.old) (W.contents writer.new) }
-    ensures refused { asked_of arguments.now ≡ Request.Rows
+    ensures refused { asked_of arguments.now ≡ Request.Run
         → IfErr result (λ fault. IsTold (bytes_of arguments.now)
         (R.remaining reader.old) (R.remaining reader.new) fault
         ⊎ IsToldUnread (bytes_of arguments.now)
         (R.remaining reader.old) (R.remaining reader.new) fault) }
-    ensures silent { asked_of arguments.now ≡ Request.Rows
+    ensures silent { asked_of arguments.now ≡ Request.Run
         → IfErr result (λ fault. fault ≢ Fault.Write
         → Keeps (W.contents writer.old) (W.contents writer.new)) }
 {
     match asked(arguments) {
         Request::Usage => write_whole(writer, USAGE.as_bytes()),
         Request::Unknown => Err(Fault::UnknownOption),
-        Request::Rows => run_arguments(alloc, arguments, reader, writer),
+        Request::Run => run_arguments(alloc, arguments, reader, writer),
     }
 }

@@ -2,6 +2,7 @@
 
 ghost use Rattle.std.specs.Prelude.{◌≡◌, ◌≢◌, ◌⊎◌, IfOk, IfErr, IsErrOf, OnOk, map, string_bytes};
 ghost use Rattle.std.specs.Io.KnownBytes.{Keeps};
+ghost use Rattle.cvss_triage.specs.Lines.{bytes_of};
 ghost use Rattle.cvss_triage.specs.Runs.{AreRowsOf, Ranks, RanksCut, IsTold, IsToldUnread, TellsOf};
 
 use crate::arguments::texts_of_arguments;
@@ -25,17 +26,17 @@ pub fn run_arguments<R: Read, W: Write>(
     reader: &mut R,
     writer: &mut W,
 ) -> Result<(), Fault>
-    ensures ranked { OnOk result (Ranks (map (λ argument. argument.items) arguments.now)
+    ensures ranked { OnOk result (Ranks (bytes_of arguments.now)
         (R.remaining reader.old) (R.remaining reader.new)
         (W.contents writer.old) (W.contents writer.new)) }
     ensures cut { IsErrOf result Fault.Write
-        → RanksCut (map (λ argument. argument.items) arguments.now)
+        → RanksCut (bytes_of arguments.now)
         (R.remaining reader.old) (R.remaining reader.new)
         (W.contents writer.old) (W.contents writer.new) }
     ensures refused { IfErr result (λ fault.
-        IsTold (map (λ argument. argument.items) arguments.now)
+        IsTold (bytes_of arguments.now)
         (R.remaining reader.old) (R.remaining reader.new) fault
-        ⊎ IsToldUnread (map (λ argument. argument.items) arguments.now)
+        ⊎ IsToldUnread (bytes_of arguments.now)
         (R.remaining reader.old) (R.remaining reader.new) fault) }
     ensures silent { IfErr result (λ fault. fault ≢ Fault.Write
         → Keeps (W.contents writer.old) (W.contents writer.new)) }

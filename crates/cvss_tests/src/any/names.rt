@@ -1,24 +1,11 @@
 //! Tests of what is told of names and spellings that nothing has.
 
+use crate::values::is_told;
 use cvss::v3::metric::environmental::{Modified, ModifiedScope};
 use cvss::{Error, Severity, v2, v3, v4};
 use std::alloc::Global;
 use std::process::Abort;
 use std::test::Fail;
-
-/// Compares what a refusal tells.
-fn is_told(
-    rt: &impl Abort,
-    alloc: Global,
-    refused: &Option<Error>,
-    told: &str,
-) -> Result<(), Fail> {
-    match refused {
-        None => assert!(rt; false, "{told}"),
-        Some(error) => assert_eq!(rt; error.to_string(alloc)?.as_str(), told),
-    }
-    Ok(())
-}
 
 /// Reads a text as a name of each type, and as a value of a metric of each version.
 fn is_refused_by_all(rt: &impl Abort, alloc: Global, text: &str) -> Result<(), Fail> {

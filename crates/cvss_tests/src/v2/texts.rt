@@ -1,5 +1,6 @@
 //! Tests of texts: reading, refusing, printing and listing.
 
+use crate::values::is_told;
 use cvss::Error;
 use cvss::v2::metric::base::{AccessVector, AvailabilityImpact};
 use cvss::v2::metric::temporal::RemediationLevel;
@@ -80,10 +81,8 @@ fn refuses_for_the_first_reason(rt: HostRuntime) -> Result<(), Fail> {
         ),
     ];
     for (text, expected) in rows {
-        match Vector::from_str(rt.alloc(), text) {
-            Ok(_) => assert!(rt; false, "{text} is accepted"),
-            Err(error) => assert_eq!(rt; error.to_string(rt.alloc())?.as_str(), expected, "{text}"),
-        }
+        let refused = Vector::from_str(rt.alloc(), text).err();
+        is_told(&rt, rt.alloc(), &refused, expected)?;
     }
     Ok(())
 }

@@ -1,6 +1,6 @@
 //! Tests of the metrics.
 
-use crate::values::are_printed;
+use crate::values::{Tried, are_printed, are_values};
 use cvss::v3::metric::base::{
     AttackComplexity, AttackVector, Availability, Confidentiality, Integrity, PrivilegesRequired,
     Scope, UserInteraction,
@@ -24,21 +24,8 @@ const SPELLINGS: [&str; 14] = [
 ];
 
 /// Reads, spells, prints, copies and compares all values of a metric.
-fn has_values<M: Metric + Drop>(
-    rt: &impl Abort,
-    alloc: Global,
-    name: &str,
-    count: usize,
-) -> Result<(), Fail> {
-    let mut rows = Vec::new(alloc);
-    for spelling in SPELLINGS {
-        if let Some(metric) = M::read(spelling) {
-            assert_eq!(rt; metric.as_str(), spelling, "{name}");
-            rows.push((spelling, metric))?;
-        }
-    }
-    assert!(rt; M::name() == name && rows.len() == count, "{name}");
-    are_printed(rt, alloc, format!(in alloc; "{name}:")?.as_str(), &rows)
+fn has_values<M: Metric + Drop>(rt: &impl Abort, alloc: Global, name: &str, count: usize) -> Tried {
+    are_values!(rt, alloc, M, SPELLINGS, name, count)
 }
 
 #[test]

@@ -1,5 +1,6 @@
 //! Tests of texts: reading, refusing, printing and listing.
 
+use crate::values::is_told;
 use cvss::Error;
 use cvss::v3::metric::base::AttackVector;
 use cvss::v3::metric::environmental::{Modified, ModifiedScope};
@@ -86,10 +87,8 @@ fn refuses_for_the_first_reason(rt: HostRuntime) -> Result<(), Fail> {
     ];
     for (text, expected) in rows {
         assert!(rt; Vector::read_bytes(text.as_bytes()) == None, "{text}");
-        match Vector::from_str(rt.alloc(), text) {
-            Ok(_) => assert!(rt; false, "{text} is accepted"),
-            Err(error) => assert_eq!(rt; error.to_string(rt.alloc())?.as_str(), expected, "{text}"),
-        }
+        let refused = Vector::from_str(rt.alloc(), text).err();
+        is_told(&rt, rt.alloc(), &refused, expected)?;
     }
     Ok(())
 }

@@ -1,6 +1,6 @@
 //! Tests of the metrics.
 
-use crate::values::are_printed;
+use crate::values::{Tried, are_printed, are_values};
 use cvss::Error;
 use cvss::v4::MetricType;
 use cvss::v4::metric::Metric;
@@ -35,78 +35,60 @@ const SPELLINGS: [&str; 17] = [
 ];
 
 /// Reads, spells, prints, copies and compares all values of a metric.
-fn has_values<M: Metric + Drop>(
-    rt: &impl Abort,
-    alloc: Global,
-    name: &str,
-    count: usize,
-) -> Result<(), Fail> {
-    let mut rows = Vec::new(alloc);
-    for spelling in SPELLINGS {
-        if let Some(metric) = M::read(spelling) {
-            assert_eq!(rt; metric.as_str(), spelling, "{name}");
-            rows.push((spelling, metric))?;
-        }
-    }
-    assert!(rt; M::name() == name && rows.len() == count, "{name}");
-    are_printed(rt, alloc, format!(in alloc; "{name}:")?.as_str(), &rows)
+fn has_values<M: Metric + Drop>(rt: &impl Abort, alloc: Global, name: &str, count: usize) -> Tried {
+    are_values!(rt, alloc, M, SPELLINGS, name, count)
 }
 
 #[test]
 fn values_of_base_metrics(rt: HostRuntime) -> Result<(), Fail> {
-    let alloc = rt.alloc();
-    has_values::<AttackVector>(&rt, alloc, "AV", 4)?;
-    has_values::<AttackComplexity>(&rt, alloc, "AC", 2)?;
-    has_values::<AttackRequirements>(&rt, alloc, "AT", 2)?;
-    has_values::<PrivilegesRequired>(&rt, alloc, "PR", 3)?;
-    has_values::<UserInteraction>(&rt, alloc, "UI", 3)
+    has_values::<AttackVector>(&rt, rt.alloc(), "AV", 4)?;
+    has_values::<AttackComplexity>(&rt, rt.alloc(), "AC", 2)?;
+    has_values::<AttackRequirements>(&rt, rt.alloc(), "AT", 2)?;
+    has_values::<PrivilegesRequired>(&rt, rt.alloc(), "PR", 3)?;
+    has_values::<UserInteraction>(&rt, rt.alloc(), "UI", 3)
 }
 
 #[test]
 fn values_of_impact_metrics(rt: HostRuntime) -> Result<(), Fail> {
-    let alloc = rt.alloc();
-    has_values::<ConfidentialityImpactToTheVulnerableSystem>(&rt, alloc, "VC", 3)?;
-    has_values::<IntegrityImpactToTheVulnerableSystem>(&rt, alloc, "VI", 3)?;
-    has_values::<AvailabilityImpactToTheVulnerableSystem>(&rt, alloc, "VA", 3)?;
-    has_values::<ConfidentialityImpactToTheSubsequentSystem>(&rt, alloc, "SC", 3)?;
-    has_values::<IntegrityImpactToTheSubsequentSystem>(&rt, alloc, "SI", 3)?;
-    has_values::<AvailabilityImpactToTheSubsequentSystem>(&rt, alloc, "SA", 3)
+    has_values::<ConfidentialityImpactToTheVulnerableSystem>(&rt, rt.alloc(), "VC", 3)?;
+    has_values::<IntegrityImpactToTheVulnerableSystem>(&rt, rt.alloc(), "VI", 3)?;
+    has_values::<AvailabilityImpactToTheVulnerableSystem>(&rt, rt.alloc(), "VA", 3)?;
+    has_values::<ConfidentialityImpactToTheSubsequentSystem>(&rt, rt.alloc(), "SC", 3)?;
+    has_values::<IntegrityImpactToTheSubsequentSystem>(&rt, rt.alloc(), "SI", 3)?;
+    has_values::<AvailabilityImpactToTheSubsequentSystem>(&rt, rt.alloc(), "SA", 3)
 }
 
 #[test]
 fn values_of_threat_and_supplemental_metrics(rt: HostRuntime) -> Result<(), Fail> {
-    let alloc = rt.alloc();
-    has_values::<ExploitMaturity>(&rt, alloc, "E", 4)?;
-    has_values::<Safety>(&rt, alloc, "S", 3)?;
-    has_values::<Automatable>(&rt, alloc, "AU", 3)?;
-    has_values::<Recovery>(&rt, alloc, "R", 4)?;
-    has_values::<ValueDensity>(&rt, alloc, "V", 3)?;
-    has_values::<VulnerabilityResponseEffort>(&rt, alloc, "RE", 4)?;
-    has_values::<ProviderUrgency>(&rt, alloc, "U", 5)
+    has_values::<ExploitMaturity>(&rt, rt.alloc(), "E", 4)?;
+    has_values::<Safety>(&rt, rt.alloc(), "S", 3)?;
+    has_values::<Automatable>(&rt, rt.alloc(), "AU", 3)?;
+    has_values::<Recovery>(&rt, rt.alloc(), "R", 4)?;
+    has_values::<ValueDensity>(&rt, rt.alloc(), "V", 3)?;
+    has_values::<VulnerabilityResponseEffort>(&rt, rt.alloc(), "RE", 4)?;
+    has_values::<ProviderUrgency>(&rt, rt.alloc(), "U", 5)
 }
 
 #[test]
 fn values_of_environmental_metrics(rt: HostRuntime) -> Result<(), Fail> {
-    let alloc = rt.alloc();
-    has_values::<ConfidentialityRequirements>(&rt, alloc, "CR", 4)?;
-    has_values::<IntegrityRequirements>(&rt, alloc, "IR", 4)?;
-    has_values::<AvailabilityRequirements>(&rt, alloc, "AR", 4)?;
-    has_values::<ModifiedAttackVector>(&rt, alloc, "MAV", 5)?;
-    has_values::<ModifiedAttackComplexity>(&rt, alloc, "MAC", 3)?;
-    has_values::<ModifiedAttackRequirements>(&rt, alloc, "MAT", 3)?;
-    has_values::<ModifiedPrivilegesRequired>(&rt, alloc, "MPR", 4)?;
-    has_values::<ModifiedUserInteraction>(&rt, alloc, "MUI", 4)
+    has_values::<ConfidentialityRequirements>(&rt, rt.alloc(), "CR", 4)?;
+    has_values::<IntegrityRequirements>(&rt, rt.alloc(), "IR", 4)?;
+    has_values::<AvailabilityRequirements>(&rt, rt.alloc(), "AR", 4)?;
+    has_values::<ModifiedAttackVector>(&rt, rt.alloc(), "MAV", 5)?;
+    has_values::<ModifiedAttackComplexity>(&rt, rt.alloc(), "MAC", 3)?;
+    has_values::<ModifiedAttackRequirements>(&rt, rt.alloc(), "MAT", 3)?;
+    has_values::<ModifiedPrivilegesRequired>(&rt, rt.alloc(), "MPR", 4)?;
+    has_values::<ModifiedUserInteraction>(&rt, rt.alloc(), "MUI", 4)
 }
 
 #[test]
 fn values_of_modified_impact_metrics(rt: HostRuntime) -> Result<(), Fail> {
-    let alloc = rt.alloc();
-    has_values::<ModifiedConfidentialityImpactToTheVulnerableSystem>(&rt, alloc, "MVC", 4)?;
-    has_values::<ModifiedIntegrityImpactToTheVulnerableSystem>(&rt, alloc, "MVI", 4)?;
-    has_values::<ModifiedAvailabilityImpactToTheVulnerableSystem>(&rt, alloc, "MVA", 4)?;
-    has_values::<ModifiedConfidentialityImpactToTheSubsequentSystem>(&rt, alloc, "MSC", 4)?;
-    has_values::<ModifiedIntegrityImpactToTheSubsequentSystem>(&rt, alloc, "MSI", 5)?;
-    has_values::<ModifiedAvailabilityImpactToTheSubsequentSystem>(&rt, alloc, "MSA", 5)
+    has_values::<ModifiedConfidentialityImpactToTheVulnerableSystem>(&rt, rt.alloc(), "MVC", 4)?;
+    has_values::<ModifiedIntegrityImpactToTheVulnerableSystem>(&rt, rt.alloc(), "MVI", 4)?;
+    has_values::<ModifiedAvailabilityImpactToTheVulnerableSystem>(&rt, rt.alloc(), "MVA", 4)?;
+    has_values::<ModifiedConfidentialityImpactToTheSubsequentSystem>(&rt, rt.alloc(), "MSC", 4)?;
+    has_values::<ModifiedIntegrityImpactToTheSubsequentSystem>(&rt, rt.alloc(), "MSI", 5)?;
+    has_values::<ModifiedAvailabilityImpactToTheSubsequentSystem>(&rt, rt.alloc(), "MSA", 5)
 }
 
 #[test]

@@ -1,18 +1,15 @@
-use Rattle.std.proofs.Common.{◌≡◌, ◌⊎◌, inr, ℕ, [], List, Bor, Vec, Global, length, map, ap, ◌∙◌, subst, arith}
+use Rattle.std.proofs.Common.{◌≡◌, ◌⊎◌, inr, ℕ, [], List, Bor, length, map, ap, ◌∙◌, subst, arith}
 use Rattle.std.proofs.KnownBytes.{Keeps-refl}
 use Rattle.std.proofs.lemmas.Result.{err_from_is_err_and}
 use Rattle.cvss.specs.OverridingV4.{AreOverrides}
 use Rattle.cvss_ranking.specs.Faults.{TellsFirstFault}
 use Rattle.cvss_ranking.specs.declared.error.TriageError.TheVariants.{OutOfMemory}
-use Rattle.cvss_triage.specs.Lines.{AreTexts}
+use Rattle.cvss_triage.specs.Lines.{AreTexts, bytes_of}
 use Rattle.cvss_triage.proofs.RunLemmas.{TellsArgument-from}
 use Rattle.cvss_triage.proofs.run.run_arguments.Goals as goal
 
 abbrev texts_of : List (Bor (List ℕ)) → List (List ℕ)
 texts_of texts = map (λ text. text.now) texts
-
-abbrev bytes_of : List (Vec ℕ Global) → List (List ℕ)
-bytes_of arguments = map (λ argument. argument.items) arguments
 
 pub returns-in_err-apply-clause-refused : goal.returns-in_err-apply-clause-refused
 returns-in_err-apply-clause-refused g c =
