@@ -14,6 +14,7 @@ pub mod print;
 mod rating;
 pub mod refusing;
 mod severity;
+pub mod sight;
 pub mod tenths;
 pub mod text;
 pub mod v2;

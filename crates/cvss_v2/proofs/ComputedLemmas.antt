@@ -1,14 +1,14 @@
 -- Each number that is rounded on the way to a score of a vector has one nearest tenth with 10^-6 added and without, and
 -- what the environmental score is the rounding of is at least published as one: by trying all.
-use Rattle.std.specs.List.{list_all, Contains}
-use Rattle.std.proofs.Common.{◌≡◌, ◌≢◌, ℕ, ◌<◌, List, Bool, true, ◌&&◌, ◌||◌, eqb, not, inl, inr, refl}
+use Rattle.std.specs.List.{list_all}
+use Rattle.std.proofs.Common.{◌≡◌, ◌≢◌, ℕ, ◌<◌, Bool, true, ◌&&◌, ◌||◌, eqb, not, inl, inr, refl}
 use Rattle.std.proofs.lemmas.Bool.{and_parts, or_cases, eqb-true, eqb-false, not-true}
 use Rattle.cvss_base.specs.Exact.{Exact, ◌over◌, whole, thousandths, tenths, ◌⊗◌, smaller}
 use Rattle.cvss_base.specs.declared.v2.MetricType.TheVariants.{A, AC, AV, Au, C, I, E, RL, RC, CDP, TD, CR, IR, AR}
 use Rattle.cvss_v2.specs.Scores.{impact_of, impact, adjusted_impact, exploitability, base_number, temporal_number, environmental_number}
 use Rattle.cvss_v2.specs.declared.vector.Vector.{Vector}
 use Rattle.cvss_v2.specs.Weights.{weights_of}
-use Rattle.cvss_base.proofs.TestLemmas.{passes, all_below, below_passes}
+use Rattle.cvss_base.proofs.TestLemmas.{passes, passes_three, all_below, below_passes}
 use Rattle.cvss_v2.proofs.PlainLemmas.{above_least, place, place_of, rounds_alike, is_published_alike, IsAlike, IsPublishedAlike, alike_if, published_alike_if}
 use Rattle.cvss_v2.proofs.TableLemmas.{weights, weight_listed, weighted_impacts, weighted_listed}
 
@@ -60,15 +60,6 @@ environmentals_alike : list_all (λ cdp. list_all (λ td. all_below (environment
     (weights TD)) (weights CDP) ≡ true
 unfolding all_below environmental_alike is_published_alike place
 environmentals_alike = refl
-
--- a test of three weights in turn
-passes_three : (test : ℕ → ℕ → ℕ → Bool) (xs ys zs : List ℕ) (x y z : ℕ)
-    → list_all (λ x. list_all (λ y. list_all (λ z. test x y z) zs) ys) xs ≡ true
-    → Contains xs x → Contains ys y → Contains zs z → test x y z ≡ true
-passes_three test xs ys zs x y z all is_x is_y is_z =
-    passes (λ z. test x y z) zs z
-    (passes (λ y. list_all (λ z. test x y z) zs) ys y
-    (passes (λ x. list_all (λ y. list_all (λ z. test x y z) zs) ys) xs x all is_x) is_y) is_z
 
 -- a base number rounds alike, and not to -0.5
 pub record IsBaseAlike (number : Exact) : Type 0 where

@@ -26,39 +26,18 @@ apache = record {
 
 -- CVE-2003-0818: AV:N/AC:L/Au:N/C:C/I:C/A:C/E:F/RL:OF/RC:C/CDP:H/TD:H/CR:M/IR:M/AR:L
 abbrev windows : Weights
-windows = record {
-  av = 1000;
-  ac = 710;
-  au = 704;
+windows = record apache {
   c = 660;
   i = 660;
-  a = 660;
-  e = 950;
-  rl = 870;
-  rc = 1000;
-  cdp = 500;
-  td = 1000;
-  cr = 1000;
-  ir = 1000;
   ar = 500;
 }
 
 -- CVE-2003-0062: AV:L/AC:H/Au:N/C:C/I:C/A:C/E:POC/RL:OF/RC:C/CDP:H/TD:H/CR:M/IR:M/AR:M
 abbrev nod32 : Weights
-nod32 = record {
+nod32 = record windows {
   av = 395;
   ac = 350;
-  au = 704;
-  c = 660;
-  i = 660;
-  a = 660;
   e = 900;
-  rl = 870;
-  rc = 1000;
-  cdp = 500;
-  td = 1000;
-  cr = 1000;
-  ir = 1000;
   ar = 1000;
 }
 

@@ -4,7 +4,7 @@ use Rattle.std.proofs.Common.{◌≡◌, ℕ, ◌-◌, ◌*◌, ◌/◌, ◌≤�
 use Rattle.std.proofs.lemmas.Bool.{leb-true, eqb-true, or_cases}
 use Rattle.cvss_v3.specs.private.SubScores.{sub_scores, weighted_impacts, IsSubScore}
 use Rattle.cvss_v3.specs.private.Weights.{attack_vectors, attack_complexities, privileges_required, user_interactions, impacts, requirements}
-use Rattle.cvss_base.proofs.TestLemmas.{passes, is_listed, listed_if}
+use Rattle.cvss_base.proofs.TestLemmas.{passes, passes_three, is_listed, listed_if}
 
 -- Exploitability by whether the scope is changed, in 10^-10, absent metrics included
 abbrev pub exploitabilities : Bool → List ℕ
@@ -67,26 +67,18 @@ pub some_sub_score : (s : ℕ) → (s ≡ 0) ⊎ IsSubScore s → ¬ (s ≡ 0) �
 some_sub_score s (inl is_zero) some = absurd (some is_zero)
 some_sub_score s (inr sub_score) some = sub_score
 
--- a test of three weights in turn
-passes_three : (test : ℕ → ℕ → ℕ → Bool) (xs : List ℕ) (c i a : ℕ)
-    → list_all (λ c. list_all (λ i. list_all (λ a. test c i a) xs) xs) xs ≡ true
-    → Contains xs c → Contains xs i → Contains xs a → test c i a ≡ true
-passes_three test xs c i a all is_c is_i is_a =
-    passes (λ a. test c i a) xs a
-    (passes (λ i. list_all (λ a. test c i a) xs) xs i
-    (passes (λ c. list_all (λ i. list_all (λ a. test c i a) xs) xs) xs c all is_c) is_i) is_a
-
 pub iss_listed : (c i a : ℕ) → Contains impacts c → Contains impacts i → Contains impacts a
     → (millionths_of c i a ≡ 0) ⊎ IsSubScore (millionths_of c i a)
 iss_listed c i a is_c is_i is_a =
     sub_score_if (millionths_of c i a)
-    (passes_three (λ c i a. is_sub_score (millionths_of c i a)) impacts c i a refl is_c is_i is_a)
+    (passes_three (λ c i a. is_sub_score (millionths_of c i a)) impacts impacts impacts c i a refl is_c is_i is_a)
 
 pub miss_listed : (c i a : ℕ) → Contains weighted_impacts c → Contains weighted_impacts i → Contains weighted_impacts a
     → (min (millionths_of c i a) 915_000 ≡ 0) ⊎ IsSubScore (min (millionths_of c i a) 915_000)
 miss_listed c i a is_c is_i is_a =
     sub_score_if (min (millionths_of c i a) 915_000)
-    (passes_three (λ c i a. is_sub_score (min (millionths_of c i a) 915_000)) weighted_impacts c i a refl is_c is_i is_a)
+    (passes_three (λ c i a. is_sub_score (min (millionths_of c i a) 915_000))
+    weighted_impacts weighted_impacts weighted_impacts c i a refl is_c is_i is_a)
 
 -- whether all exploitabilities are listed
 abbrev are_listed : Bool → Bool

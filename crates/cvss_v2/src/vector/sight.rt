@@ -18,6 +18,7 @@ use crate::metric::base::{
 };
 use crate::metric::{Metric, MetricType};
 use crate::vector::Vector;
+use cvss_base::sight::{behind_five, behind_four, put_read};
 
 impl Vector {
     /// The vector whose canonical text this is, where that is seen at once: `None` tells nothing of
@@ -80,6 +81,10 @@ fn base_at_sight(text: &[u8]) -> Option<(Vector, &[u8])>
     ensures bare { IfSome result (λ read. slashed_texts v2 read.0
         (E ∷ RL ∷ RC ∷ CDP ∷ TD ∷ CR ∷ IR ∷ AR ∷ []) ≡ []) }
 {
+    // No six base metrics are shorter, so their lengths are compared once.
+    if text.len() < 26 {
+        return None;
+    }
     let (av, ac, au, text) = access_at_sight(text)?;
     let (c, i, a, text) = impact_at_sight(text)?;
     let base = Vector {
@@ -102,33 +107,10 @@ fn access_at_sight(text: &[u8]) -> Option<(AccessVector, AccessComplexity, Authe
         ++ slash ∷ metric_component AC read.1 ++ slash ∷ metric_component Au read.2
         ++ read.3.now) }
 {
-    match text {
-        [
-            b'A',
-            b'V',
-            b':',
-            av,
-            b'/',
-            b'A',
-            b'C',
-            b':',
-            ac,
-            b'/',
-            b'A',
-            b'u',
-            b':',
-            au,
-            rest @ ..,
-        ] => {
-            Some((
-                letter_at_sight(*av)?,
-                letter_at_sight(*ac)?,
-                letter_at_sight(*au)?,
-                rest,
-            ))
-        }
-        _ => None,
-    }
+    let (av, text) = first_at_sight(text)?;
+    let (ac, text) = base_component_at_sight(text)?;
+    let (au, text) = base_component_at_sight(text)?;
+    Some((av, ac, au, text))
 }
 
 /// The values of the impact metrics with which a text begins, behind a slash each, and what stands
@@ -148,30 +130,33 @@ fn impact_at_sight(
         ++ slash ∷ metric_component I read.1 ++ slash ∷ metric_component A read.2
         ++ read.3.now) }
 {
+    let (c, text) = base_component_at_sight(text)?;
+    let (i, text) = base_component_at_sight(text)?;
+    let (a, text) = base_component_at_sight(text)?;
+    Some((c, i, a, text))
+}
+
+/// The value of the first metric, with whose component a text begins, and what stands behind it.
+#[inline(always)]
+fn first_at_sight(text: &[u8]) -> Option<(AccessVector, &[u8])>
+    ensures { IfSome result (λ read. text.now ≡ metric_component AV read.0 ++ read.1.now) }
+{
     match text {
-        [
-            b'/',
-            b'C',
-            b':',
-            c,
-            b'/',
-            b'I',
-            b':',
-            i,
-            b'/',
-            b'A',
-            b':',
-            a,
-            rest @ ..,
-        ] => {
-            Some((
-                letter_at_sight(*c)?,
-                letter_at_sight(*i)?,
-                letter_at_sight(*a)?,
-                rest,
-            ))
-        }
+        [b'A', b'V', b':', letter, rest @ ..] => Some((letter_at_sight(*letter)?, rest)),
         _ => None,
+    }
+}
+
+/// The value of a base metric, where a text begins with a slash and its component, and what stands
+/// behind that.
+#[inline(always)]
+fn base_component_at_sight<M: Metric>(text: &[u8]) -> Option<(M, &[u8])>
+    ensures { IfSome result
+        (λ read. text.now ≡ slash ∷ (metric_component M.TYPE (M.value read.0) ++ read.1.now)) }
+{
+    match behind_name(M::TYPE, text)? {
+        [letter, rest @ ..] => Some((letter_at_sight(*letter)?, rest)),
+        [] => None,
     }
 }
 
@@ -229,16 +214,7 @@ fn optional_at_sight<'a, M: Metric>(place: &mut Option<M>, text: &'a [u8]) -> &'
         (option_map (λ metric. spelling_of M.TYPE (M.value metric)) place.new))) []
         ++ result.now }
 {
-    match component_at_sight(text) {
-        Some((metric, rest)) => {
-            *place = Some(metric);
-            rest
-        }
-        None => {
-            *place = None;
-            text
-        }
-    }
+    put_read(place, component_at_sight(text), text)
 }
 
 /// The value of a metric, where a text begins with a slash and its component, and what stands
@@ -267,20 +243,25 @@ fn value_at_sight<M: Metric>(text: &[u8]) -> Option<(M, &[u8])>
     Some((M::read_bytes(value)?, rest))
 }
 
-/// What stands behind a slash, the name of an optional metric and the colon after it.
+/// What stands behind a slash, the name of a metric but the first, and the colon after it.
 #[inline(always)]
 fn behind_name(kind: MetricType, text: &[u8]) -> Option<&[u8]>
     ensures { IfSome result (λ value. text.now ≡ slash ∷ (name_of kind ++ (colon ∷ value.now))) }
 {
     match (kind, text) {
+        (MetricType::AC, _) => behind_four(text, *b"/AC:"),
+        (MetricType::Au, _) => behind_four(text, *b"/Au:"),
+        (MetricType::C, [b'/', b'C', b':', value @ ..]) => Some(value),
+        (MetricType::I, [b'/', b'I', b':', value @ ..]) => Some(value),
+        (MetricType::A, [b'/', b'A', b':', value @ ..]) => Some(value),
         (MetricType::E, [b'/', b'E', b':', value @ ..]) => Some(value),
-        (MetricType::RL, [b'/', b'R', b'L', b':', value @ ..]) => Some(value),
-        (MetricType::RC, [b'/', b'R', b'C', b':', value @ ..]) => Some(value),
-        (MetricType::CDP, [b'/', b'C', b'D', b'P', b':', value @ ..]) => Some(value),
-        (MetricType::TD, [b'/', b'T', b'D', b':', value @ ..]) => Some(value),
-        (MetricType::CR, [b'/', b'C', b'R', b':', value @ ..]) => Some(value),
-        (MetricType::IR, [b'/', b'I', b'R', b':', value @ ..]) => Some(value),
-        (MetricType::AR, [b'/', b'A', b'R', b':', value @ ..]) => Some(value),
+        (MetricType::RL, _) => behind_four(text, *b"/RL:"),
+        (MetricType::RC, _) => behind_four(text, *b"/RC:"),
+        (MetricType::CDP, _) => behind_five(text, *b"/CDP:"),
+        (MetricType::TD, _) => behind_four(text, *b"/TD:"),
+        (MetricType::CR, _) => behind_four(text, *b"/CR:"),
+        (MetricType::IR, _) => behind_four(text, *b"/IR:"),
+        (MetricType::AR, _) => behind_four(text, *b"/AR:"),
         _ => None,
     }
 }

@@ -17,6 +17,7 @@ mod optional;
 use crate::metric::{Metric, MetricType};
 use crate::vector::Vector;
 use base::base_at_sight;
+use cvss_base::sight::{behind_five, behind_four, put_read};
 use optional::others_at_sight;
 
 impl Vector {
@@ -40,10 +41,10 @@ fn version_at_sight(text: &[u8]) -> Option<(usize, &[u8])>
     ensures supported { IfSome result
         (λ read. Contains v3.supported (codes "3." ++ numeral read.0)) }
 {
-    match text {
-        [b'C', b'V', b'S', b'S', b':', b'3', b'.', b'0', rest @ ..] => Some((0, rest)),
-        [b'C', b'V', b'S', b'S', b':', b'3', b'.', b'1', rest @ ..] => Some((1, rest)),
-        _ => None,
+    let text = behind_four(text, *b"CVSS")?;
+    match behind_four(text, *b":3.1") {
+        Some(rest) => Some((1, rest)),
+        None => Some((0, behind_four(text, *b":3.0")?)),
     }
 }
 
@@ -74,16 +75,7 @@ fn put_at_sight<'a, M: Metric>(place: &mut Option<M>, text: &'a [u8]) -> &'a [u8
         (option_map (λ metric. spelling_of M.TYPE (M.value metric)) place.new))) []
         ++ result.now }
 {
-    match component_at_sight(text) {
-        Some((metric, rest)) => {
-            *place = Some(metric);
-            rest
-        }
-        None => {
-            *place = None;
-            text
-        }
-    }
+    put_read(place, component_at_sight(text), text)
 }
 
 /// The value of a metric, where a text begins with a slash and its component, and what stands
@@ -114,28 +106,28 @@ fn behind_name(kind: MetricType, text: &[u8]) -> Option<&[u8]>
     ensures { IfSome result (λ value. text.now ≡ slash ∷ (name_of kind ++ (colon ∷ value.now))) }
 {
     match (kind, text) {
-        (MetricType::AV, [b'/', b'A', b'V', b':', value @ ..]) => Some(value),
-        (MetricType::AC, [b'/', b'A', b'C', b':', value @ ..]) => Some(value),
-        (MetricType::PR, [b'/', b'P', b'R', b':', value @ ..]) => Some(value),
-        (MetricType::UI, [b'/', b'U', b'I', b':', value @ ..]) => Some(value),
+        (MetricType::AV, _) => behind_four(text, *b"/AV:"),
+        (MetricType::AC, _) => behind_four(text, *b"/AC:"),
+        (MetricType::PR, _) => behind_four(text, *b"/PR:"),
+        (MetricType::UI, _) => behind_four(text, *b"/UI:"),
         (MetricType::S, [b'/', b'S', b':', value @ ..]) => Some(value),
         (MetricType::C, [b'/', b'C', b':', value @ ..]) => Some(value),
         (MetricType::I, [b'/', b'I', b':', value @ ..]) => Some(value),
         (MetricType::A, [b'/', b'A', b':', value @ ..]) => Some(value),
         (MetricType::E, [b'/', b'E', b':', value @ ..]) => Some(value),
-        (MetricType::RL, [b'/', b'R', b'L', b':', value @ ..]) => Some(value),
-        (MetricType::RC, [b'/', b'R', b'C', b':', value @ ..]) => Some(value),
-        (MetricType::CR, [b'/', b'C', b'R', b':', value @ ..]) => Some(value),
-        (MetricType::IR, [b'/', b'I', b'R', b':', value @ ..]) => Some(value),
-        (MetricType::AR, [b'/', b'A', b'R', b':', value @ ..]) => Some(value),
-        (MetricType::MAV, [b'/', b'M', b'A', b'V', b':', value @ ..]) => Some(value),
-        (MetricType::MAC, [b'/', b'M', b'A', b'C', b':', value @ ..]) => Some(value),
-        (MetricType::MPR, [b'/', b'M', b'P', b'R', b':', value @ ..]) => Some(value),
-        (MetricType::MUI, [b'/', b'M', b'U', b'I', b':', value @ ..]) => Some(value),
-        (MetricType::MS, [b'/', b'M', b'S', b':', value @ ..]) => Some(value),
-        (MetricType::MC, [b'/', b'M', b'C', b':', value @ ..]) => Some(value),
-        (MetricType::MI, [b'/', b'M', b'I', b':', value @ ..]) => Some(value),
-        (MetricType::MA, [b'/', b'M', b'A', b':', value @ ..]) => Some(value),
+        (MetricType::RL, _) => behind_four(text, *b"/RL:"),
+        (MetricType::RC, _) => behind_four(text, *b"/RC:"),
+        (MetricType::CR, _) => behind_four(text, *b"/CR:"),
+        (MetricType::IR, _) => behind_four(text, *b"/IR:"),
+        (MetricType::AR, _) => behind_four(text, *b"/AR:"),
+        (MetricType::MAV, _) => behind_five(text, *b"/MAV:"),
+        (MetricType::MAC, _) => behind_five(text, *b"/MAC:"),
+        (MetricType::MPR, _) => behind_five(text, *b"/MPR:"),
+        (MetricType::MUI, _) => behind_five(text, *b"/MUI:"),
+        (MetricType::MS, _) => behind_four(text, *b"/MS:"),
+        (MetricType::MC, _) => behind_four(text, *b"/MC:"),
+        (MetricType::MI, _) => behind_four(text, *b"/MI:"),
+        (MetricType::MA, _) => behind_four(text, *b"/MA:"),
         _ => None,
     }
 }

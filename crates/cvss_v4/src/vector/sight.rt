@@ -19,6 +19,7 @@ use crate::metric::supplemental::ProviderUrgency;
 use crate::metric::{Metric, MetricType};
 use crate::vector::Vector;
 use base::base_at_sight;
+use cvss_base::sight::put_read;
 use cvss_base::walk::Components;
 use optional::others_at_sight;
 
@@ -87,16 +88,7 @@ fn put_at_sight<'a, M: Metric>(place: &mut Option<M>, text: &'a [u8]) -> &'a [u8
     ensures { text.now ≡ unwrap_or (slashed (option_map (component (name_of M.TYPE))
         (option_map (λ x. spelling_at M.TYPE (M.rank x)) place.new))) [] ++ result.now }
 {
-    match component_at_sight(text) {
-        Some((metric, rest)) => {
-            *place = Some(metric);
-            rest
-        }
-        None => {
-            *place = None;
-            text
-        }
-    }
+    put_read(place, component_at_sight(text), text)
 }
 
 /// The value of a metric, where a text begins with a slash and its component, and what stands

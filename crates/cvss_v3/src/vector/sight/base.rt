@@ -1,11 +1,11 @@
-//! The base metrics of a text that is recognised. They stand at fixed places.
+//! The base metrics of a text that is recognised.
 
 ghost use Rattle.std.specs.Prelude.{◌≡◌, IfSome, Some, [], ◌∷◌, ◌++◌};
 ghost use Rattle.cvss_base.specs.private.Printing.{slashed_texts};
 ghost use Rattle.cvss_base.specs.declared.v3.MetricType.TheVariants.{A, AC, AV, C, I, PR, S, UI};
 ghost use Rattle.cvss_v3.specs.Vector.{v3};
 
-use crate::metric::Metric;
+use super::component_at_sight;
 use crate::vector::Vector;
 
 /// The vector with the base metrics with which a text begins, if all of them do.
@@ -24,6 +24,10 @@ pub(super) fn base_at_sight(vector: Vector, text: &[u8]) -> Option<(Vector, &[u8
       a = read.0.a;
     }) }
 {
+    // No eight base metrics are shorter, so their lengths are compared once.
+    if text.len() < 36 {
+        return None;
+    }
     let (vector, text) = attack_at_sight(vector, text)?;
     impact_at_sight(vector, text)
 }
@@ -41,41 +45,18 @@ fn attack_at_sight(vector: Vector, text: &[u8]) -> Option<(Vector, &[u8])>
       ui = read.0.ui;
     }) }
 {
-    match text {
-        [
-            b'/',
-            b'A',
-            b'V',
-            b':',
-            av,
-            b'/',
-            b'A',
-            b'C',
-            b':',
-            ac,
-            b'/',
-            b'P',
-            b'R',
-            b':',
-            pr,
-            b'/',
-            b'U',
-            b'I',
-            b':',
-            ui,
-            rest @ ..,
-        ] => {
-            let vector = Vector {
-                av: Some(Metric::read_letter(*av)?),
-                ac: Some(Metric::read_letter(*ac)?),
-                pr: Some(Metric::read_letter(*pr)?),
-                ui: Some(Metric::read_letter(*ui)?),
-                ..vector
-            };
-            Some((vector, rest))
-        }
-        _ => None,
-    }
+    let (av, text) = component_at_sight(text)?;
+    let (ac, text) = component_at_sight(text)?;
+    let (pr, text) = component_at_sight(text)?;
+    let (ui, text) = component_at_sight(text)?;
+    let vector = Vector {
+        av: Some(av),
+        ac: Some(ac),
+        pr: Some(pr),
+        ui: Some(ui),
+        ..vector
+    };
+    Some((vector, text))
 }
 
 /// The vector with the scope and the impacts with which a text begins, if all of them do.
@@ -90,35 +71,16 @@ fn impact_at_sight(vector: Vector, text: &[u8]) -> Option<(Vector, &[u8])>
       a = read.0.a;
     }) }
 {
-    match text {
-        [
-            b'/',
-            b'S',
-            b':',
-            s,
-            b'/',
-            b'C',
-            b':',
-            c,
-            b'/',
-            b'I',
-            b':',
-            i,
-            b'/',
-            b'A',
-            b':',
-            a,
-            rest @ ..,
-        ] => {
-            let vector = Vector {
-                s: Some(Metric::read_letter(*s)?),
-                c: Some(Metric::read_letter(*c)?),
-                i: Some(Metric::read_letter(*i)?),
-                a: Some(Metric::read_letter(*a)?),
-                ..vector
-            };
-            Some((vector, rest))
-        }
-        _ => None,
-    }
+    let (s, text) = component_at_sight(text)?;
+    let (c, text) = component_at_sight(text)?;
+    let (i, text) = component_at_sight(text)?;
+    let (a, text) = component_at_sight(text)?;
+    let vector = Vector {
+        s: Some(s),
+        c: Some(c),
+        i: Some(i),
+        a: Some(a),
+        ..vector
+    };
+    Some((vector, text))
 }

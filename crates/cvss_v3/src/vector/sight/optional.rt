@@ -33,46 +33,8 @@ pub(super) fn others_at_sight<'a>(vector: &mut Vector, text: &'a [u8]) -> &'a [u
       ma = vector.new.ma;
     } }
 {
-    let text = optional_at_sight(vector, text);
-    modified_at_sight(vector, text)
-}
-
-/// Puts the temporal metrics and the security requirements with which a text begins into the
-/// vector, and gives what stands behind them.
-#[inline(always)]
-fn optional_at_sight<'a>(vector: &mut Vector, text: &'a [u8]) -> &'a [u8]
-    ensures text { text.now ≡ slashed_texts v3 vector.new
-        (E ∷ RL ∷ RC ∷ CR ∷ IR ∷ AR ∷ []) ++ result.now }
-    ensures kept { vector.new ≡ record vector.old {
-      e = vector.new.e;
-      rl = vector.new.rl;
-      rc = vector.new.rc;
-      cr = vector.new.cr;
-      ir = vector.new.ir;
-      ar = vector.new.ar;
-    } }
-{
     let text = temporal_at_sight(vector, text);
-    requirements_at_sight(vector, text)
-}
-
-/// Puts the modified metrics with which a text begins into the vector, and gives what stands behind
-/// them.
-#[inline(always)]
-fn modified_at_sight<'a>(vector: &mut Vector, text: &'a [u8]) -> &'a [u8]
-    ensures text { text.now ≡ slashed_texts v3 vector.new
-        (MAV ∷ MAC ∷ MPR ∷ MUI ∷ MS ∷ MC ∷ MI ∷ MA ∷ []) ++ result.now }
-    ensures kept { vector.new ≡ record vector.old {
-      mav = vector.new.mav;
-      mac = vector.new.mac;
-      mpr = vector.new.mpr;
-      mui = vector.new.mui;
-      ms = vector.new.ms;
-      mc = vector.new.mc;
-      mi = vector.new.mi;
-      ma = vector.new.ma;
-    } }
-{
+    let text = requirements_at_sight(vector, text);
     let text = modified_attack_at_sight(vector, text);
     modified_impact_at_sight(vector, text)
 }
