@@ -20,7 +20,8 @@ use Rattle.cvss_v4.proofs.CompleteLemmas.{none_is_none}
 use Rattle.cvss_v4_metric.specs.Table.{environmental, mandatory}
 use Rattle.cvss_v4.specs.Overriding.{AreOverrides, IsOverridden, NamesOther, Objection, OfOtherGroup, OfText, ObjectionAt, IsFirstObjection}
 use Rattle.cvss_v4.specs.private.OverridingSteps.{AddsOverride, IsObjectionTo, HasReadOverrides}
-use Rattle.cvss_v4.specs.Vector.{v4, value_at}
+use Rattle.cvss_v4.specs.Table.{value_at}
+use Rattle.cvss_v4.specs.Vector.{v4}
 use Rattle.cvss_v4.specs.private.VectorLaws.{v4_is_lawful, one_minor_version}
 use Rattle.cvss_v4.specs.declared.vector.Vector.{Vector}
 
