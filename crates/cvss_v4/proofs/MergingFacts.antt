@@ -52,6 +52,6 @@ module _ (v : Vector) where
   pair is modified base named (inr (inr same_modified)) (inr (inr same_base)) =
       inr (record { same_modified = same_modified; same_base = same_base })
 
--- MAV:L may be written as AV:L whatever the other metrics are, be it MSI:S
+-- MAV:L may be written as AV:L whatever the other metrics are
 pub local_written : (v : Vector) → v.mav ≡ Some modified_attack_vector.Local → HasModifiedAsBase v (local v)
 local_written v is = record { each = λ modified base named. pair v is modified base named (others v modified) (others v base); e = refl; cr = refl; ir = refl; ar = refl }

@@ -1,11 +1,11 @@
 //! The base metrics of a text that is recognised. They stand at fixed places.
 
-ghost use Rattle.std.specs.Prelude.{◌≡◌, IfSome, None, [], ◌∷◌, ◌++◌};
+ghost use Rattle.std.specs.Prelude.{◌≡◌, IfSome, None, [], ◌∷◌, ◌++◌, drop};
 ghost use Rattle.cvss_base.specs.private.Printing.{slashed_texts};
 ghost use Rattle.cvss_base.specs.private.Walk.{first_missing};
 ghost use Rattle.cvss_base.specs.Text.{slash};
-ghost use Rattle.cvss_base.specs.declared.v4.MetricType.TheVariants.{AC, AT, AV, PR, SA, SC, SI, UI, VA, VC, VI, E, AR, CR, IR, MAC, MAT, MAV, MPR, MSA, MSC, MSI, MUI, MVA, MVC, MVI, AU, R, RE, S, U, V};
-ghost use Rattle.cvss_v4_metric.specs.Table.{metric_component};
+ghost use Rattle.cvss_base.specs.declared.v4.MetricType.TheVariants.{AC, AT, AV, PR, SA, SC, SI, UI, VA, VC, VI};
+ghost use Rattle.cvss_v4_metric.specs.Table.{metric_component, printed};
 ghost use Rattle.cvss_v4.specs.Table.{rank_of};
 ghost use Rattle.cvss_v4.specs.Vector.{v4};
 
@@ -25,9 +25,7 @@ pub(super) fn base_at_sight(text: &[u8]) -> Option<(Vector, &[u8])>
         (AV ∷ AC ∷ AT ∷ PR ∷ UI ∷ VC ∷ VI ∷ VA ∷ SC ∷ SI ∷ SA ∷ []) ++ read.1.now) }
     ensures version { IfSome result (λ read. read.0.minor_version ≡ 0) }
     ensures present { IfSome result (λ read. first_missing v4 read.0 ≡ None) }
-    ensures bare { IfSome result (λ read. slashed_texts v4 read.0
-        (E ∷ CR ∷ IR ∷ AR ∷ MAV ∷ MAC ∷ MAT ∷ MPR ∷ MUI ∷ MVC ∷ MVI ∷ MVA ∷ MSC ∷ MSI ∷ MSA ∷
-        S ∷ AU ∷ R ∷ V ∷ RE ∷ U ∷ []) ≡ []) }
+    ensures bare { IfSome result (λ read. slashed_texts v4 read.0 (drop 11 printed) ≡ []) }
 {
     let (av, ac, at, text) = attack_at_sight(text)?;
     let (pr, ui, text) = access_at_sight(text)?;
