@@ -7,39 +7,30 @@ use Rattle.cvss_base.specs.declared.error.Error.TheVariants.{InvalidMetricV2, Du
 use Rattle.cvss_base.specs.declared.v2.MetricType.{MetricType}
 use Rattle.cvss_base.specs.declared.v2.MetricType.TheVariants.{A, AC, AV, Au, C, I, E, RL, RC, CDP, TD, CR, IR, AR}
 
--- the abbreviation that stands for a metric in a vector
-abbrev pub name_of : MetricType → List ℕ
-name_of AV = codes "AV"
-name_of AC = codes "AC"
-name_of Au = codes "Au"
-name_of C = codes "C"
-name_of I = codes "I"
-name_of A = codes "A"
-name_of E = codes "E"
-name_of RL = codes "RL"
-name_of RC = codes "RC"
-name_of CDP = codes "CDP"
-name_of TD = codes "TD"
-name_of CR = codes "CR"
-name_of IR = codes "IR"
-name_of AR = codes "AR"
+-- a metric's two names: the abbreviation that stands for it in a vector, and the one in words
+abbrev pub names_of : MetricType → List ℕ × List ℕ
+names_of AV = (codes "AV", codes "Access Vector")
+names_of AC = (codes "AC", codes "Access Complexity")
+names_of Au = (codes "Au", codes "Authentication")
+names_of C = (codes "C", codes "Confidentiality Impact")
+names_of I = (codes "I", codes "Integrity Impact")
+names_of A = (codes "A", codes "Availability Impact")
+names_of E = (codes "E", codes "Exploitability")
+names_of RL = (codes "RL", codes "Remediation Level")
+names_of RC = (codes "RC", codes "Report Confidence")
+names_of CDP = (codes "CDP", codes "Collateral Damage Potential")
+names_of TD = (codes "TD", codes "Target Distribution")
+names_of CR = (codes "CR", codes "Confidentiality Requirement")
+names_of IR = (codes "IR", codes "Integrity Requirement")
+names_of AR = (codes "AR", codes "Availability Requirement")
 
--- the metric's name in words
+-- the abbreviation
+abbrev pub name_of : MetricType → List ℕ
+name_of kind = (names_of kind).0
+
+-- the name in words
 abbrev pub description_of : MetricType → List ℕ
-description_of AV = codes "Access Vector"
-description_of AC = codes "Access Complexity"
-description_of Au = codes "Authentication"
-description_of C = codes "Confidentiality Impact"
-description_of I = codes "Integrity Impact"
-description_of A = codes "Availability Impact"
-description_of E = codes "Exploitability"
-description_of RL = codes "Remediation Level"
-description_of RC = codes "Report Confidence"
-description_of CDP = codes "Collateral Damage Potential"
-description_of TD = codes "Target Distribution"
-description_of CR = codes "Confidentiality Requirement"
-description_of IR = codes "Integrity Requirement"
-description_of AR = codes "Availability Requirement"
+description_of kind = (names_of kind).1
 
 -- the metrics as they are compared, the least first
 abbrev pub declared : List MetricType

@@ -8,55 +8,38 @@ use Rattle.cvss_base.specs.declared.error.Error.TheVariants.{InvalidMetricV3, Du
 use Rattle.cvss_base.specs.declared.v3.MetricType.{MetricType}
 use Rattle.cvss_base.specs.declared.v3.MetricType.TheVariants.{A, AC, AV, C, I, PR, S, UI, E, RL, RC, CR, IR, AR, MAV, MAC, MPR, MUI, MS, MC, MI, MA}
 
--- the abbreviation that stands for a metric in a vector
-abbrev pub name_of : MetricType → List ℕ
-name_of AV = codes "AV"
-name_of AC = codes "AC"
-name_of PR = codes "PR"
-name_of UI = codes "UI"
-name_of S = codes "S"
-name_of C = codes "C"
-name_of I = codes "I"
-name_of A = codes "A"
-name_of E = codes "E"
-name_of RL = codes "RL"
-name_of RC = codes "RC"
-name_of CR = codes "CR"
-name_of IR = codes "IR"
-name_of AR = codes "AR"
-name_of MAV = codes "MAV"
-name_of MAC = codes "MAC"
-name_of MPR = codes "MPR"
-name_of MUI = codes "MUI"
-name_of MS = codes "MS"
-name_of MC = codes "MC"
-name_of MI = codes "MI"
-name_of MA = codes "MA"
+-- a metric's two names: the abbreviation that stands for it in a vector, and the one in words
+abbrev pub names_of : MetricType → List ℕ × List ℕ
+names_of AV = (codes "AV", codes "Attack Vector")
+names_of AC = (codes "AC", codes "Attack Complexity")
+names_of PR = (codes "PR", codes "Privileges Required")
+names_of UI = (codes "UI", codes "User Interaction")
+names_of S = (codes "S", codes "Scope")
+names_of C = (codes "C", codes "Confidentiality Impact")
+names_of I = (codes "I", codes "Integrity Impact")
+names_of A = (codes "A", codes "Availability Impact")
+names_of E = (codes "E", codes "Exploit Code Maturity")
+names_of RL = (codes "RL", codes "Remediation Level")
+names_of RC = (codes "RC", codes "Report Confidence")
+names_of CR = (codes "CR", codes "Confidentiality Requirements")
+names_of IR = (codes "IR", codes "Integrity Requirements")
+names_of AR = (codes "AR", codes "Availability Requirements")
+names_of MAV = (codes "MAV", codes "Modified Attack Vector")
+names_of MAC = (codes "MAC", codes "Modified Attack Complexity")
+names_of MPR = (codes "MPR", codes "Modified Privileges Required")
+names_of MUI = (codes "MUI", codes "Modified User Interaction")
+names_of MS = (codes "MS", codes "Modified Scope")
+names_of MC = (codes "MC", codes "Modified Confidentiality")
+names_of MI = (codes "MI", codes "Modified Integrity")
+names_of MA = (codes "MA", codes "Modified Availability")
 
--- the metric's name in words
+-- the abbreviation
+abbrev pub name_of : MetricType → List ℕ
+name_of kind = (names_of kind).0
+
+-- the name in words
 abbrev pub description_of : MetricType → List ℕ
-description_of AV = codes "Attack Vector"
-description_of AC = codes "Attack Complexity"
-description_of PR = codes "Privileges Required"
-description_of UI = codes "User Interaction"
-description_of S = codes "Scope"
-description_of C = codes "Confidentiality Impact"
-description_of I = codes "Integrity Impact"
-description_of A = codes "Availability Impact"
-description_of E = codes "Exploit Code Maturity"
-description_of RL = codes "Remediation Level"
-description_of RC = codes "Report Confidence"
-description_of CR = codes "Confidentiality Requirements"
-description_of IR = codes "Integrity Requirements"
-description_of AR = codes "Availability Requirements"
-description_of MAV = codes "Modified Attack Vector"
-description_of MAC = codes "Modified Attack Complexity"
-description_of MPR = codes "Modified Privileges Required"
-description_of MUI = codes "Modified User Interaction"
-description_of MS = codes "Modified Scope"
-description_of MC = codes "Modified Confidentiality"
-description_of MI = codes "Modified Integrity"
-description_of MA = codes "Modified Availability"
+description_of kind = (names_of kind).1
 
 -- the metrics as they are compared, the least first
 abbrev pub declared : List MetricType

@@ -8,75 +8,48 @@ use Rattle.cvss_base.specs.declared.error.Error.TheVariants.{InvalidMetricV4, Du
 use Rattle.cvss_base.specs.declared.v4.MetricType.{MetricType}
 use Rattle.cvss_base.specs.declared.v4.MetricType.TheVariants.{AC, AT, AV, PR, SA, SC, SI, UI, VA, VC, VI, E, AR, CR, IR, MAC, MAT, MAV, MPR, MSA, MSC, MSI, MUI, MVA, MVC, MVI, AU, R, RE, S, U, V}
 
--- the abbreviation that stands for a metric in a vector
-abbrev pub name_of : MetricType → List ℕ
-name_of AV = codes "AV"
-name_of AC = codes "AC"
-name_of AT = codes "AT"
-name_of PR = codes "PR"
-name_of UI = codes "UI"
-name_of VC = codes "VC"
-name_of VI = codes "VI"
-name_of VA = codes "VA"
-name_of SC = codes "SC"
-name_of SI = codes "SI"
-name_of SA = codes "SA"
-name_of E = codes "E"
-name_of CR = codes "CR"
-name_of IR = codes "IR"
-name_of AR = codes "AR"
-name_of MAV = codes "MAV"
-name_of MAC = codes "MAC"
-name_of MAT = codes "MAT"
-name_of MPR = codes "MPR"
-name_of MUI = codes "MUI"
-name_of MVC = codes "MVC"
-name_of MVI = codes "MVI"
-name_of MVA = codes "MVA"
-name_of MSC = codes "MSC"
-name_of MSI = codes "MSI"
-name_of MSA = codes "MSA"
-name_of S = codes "S"
-name_of AU = codes "AU"
-name_of R = codes "R"
-name_of V = codes "V"
-name_of RE = codes "RE"
-name_of U = codes "U"
+-- a metric's two names: the abbreviation that stands for it in a vector, and the one in words
+abbrev pub names_of : MetricType → List ℕ × List ℕ
+names_of AV = (codes "AV", codes "Attack Vector")
+names_of AC = (codes "AC", codes "Attack Complexity")
+names_of AT = (codes "AT", codes "Attack Requirements")
+names_of PR = (codes "PR", codes "Privileges Required")
+names_of UI = (codes "UI", codes "User Interaction")
+names_of VC = (codes "VC", codes "Confidentiality Impact to the Vulnerable System")
+names_of VI = (codes "VI", codes "Integrity Impact to the Vulnerable System")
+names_of VA = (codes "VA", codes "Availability Impact to the Vulnerable System")
+names_of SC = (codes "SC", codes "Confidentiality Impact to the Subsequent System")
+names_of SI = (codes "SI", codes "Integrity Impact to the Subsequent System")
+names_of SA = (codes "SA", codes "Availability Impact to the Subsequent System")
+names_of E = (codes "E", codes "Exploit Maturity")
+names_of CR = (codes "CR", codes "Confidentiality Requirements")
+names_of IR = (codes "IR", codes "Integrity Requirements")
+names_of AR = (codes "AR", codes "Availability Requirements")
+names_of MAV = (codes "MAV", codes "Modified Attack Vector")
+names_of MAC = (codes "MAC", codes "Modified Attack Complexity")
+names_of MAT = (codes "MAT", codes "Modified Attack Requirements")
+names_of MPR = (codes "MPR", codes "Modified Privileges Required")
+names_of MUI = (codes "MUI", codes "Modified User Interaction")
+names_of MVC = (codes "MVC", codes "Modified Confidentiality Impact to the Vulnerable System")
+names_of MVI = (codes "MVI", codes "Modified Integrity Impact to the Vulnerable System")
+names_of MVA = (codes "MVA", codes "Modified Availability Impact to the Vulnerable System")
+names_of MSC = (codes "MSC", codes "Modified Confidentiality Impact to the Subsequent System")
+names_of MSI = (codes "MSI", codes "Modified Integrity Impact to the Subsequent System")
+names_of MSA = (codes "MSA", codes "Modified Availability Impact to the Subsequent System")
+names_of S = (codes "S", codes "Safety")
+names_of AU = (codes "AU", codes "Automatable")
+names_of R = (codes "R", codes "Recovery")
+names_of V = (codes "V", codes "Value Density")
+names_of RE = (codes "RE", codes "Vulnerability Response Effort")
+names_of U = (codes "U", codes "Provider Urgency")
 
--- the metric's name in words
+-- the abbreviation
+abbrev pub name_of : MetricType → List ℕ
+name_of kind = (names_of kind).0
+
+-- the name in words
 abbrev pub description_of : MetricType → List ℕ
-description_of AV = codes "Attack Vector"
-description_of AC = codes "Attack Complexity"
-description_of AT = codes "Attack Requirements"
-description_of PR = codes "Privileges Required"
-description_of UI = codes "User Interaction"
-description_of VC = codes "Confidentiality Impact to the Vulnerable System"
-description_of VI = codes "Integrity Impact to the Vulnerable System"
-description_of VA = codes "Availability Impact to the Vulnerable System"
-description_of SC = codes "Confidentiality Impact to the Subsequent System"
-description_of SI = codes "Integrity Impact to the Subsequent System"
-description_of SA = codes "Availability Impact to the Subsequent System"
-description_of E = codes "Exploit Maturity"
-description_of CR = codes "Confidentiality Requirements"
-description_of IR = codes "Integrity Requirements"
-description_of AR = codes "Availability Requirements"
-description_of MAV = codes "Modified Attack Vector"
-description_of MAC = codes "Modified Attack Complexity"
-description_of MAT = codes "Modified Attack Requirements"
-description_of MPR = codes "Modified Privileges Required"
-description_of MUI = codes "Modified User Interaction"
-description_of MVC = codes "Modified Confidentiality Impact to the Vulnerable System"
-description_of MVI = codes "Modified Integrity Impact to the Vulnerable System"
-description_of MVA = codes "Modified Availability Impact to the Vulnerable System"
-description_of MSC = codes "Modified Confidentiality Impact to the Subsequent System"
-description_of MSI = codes "Modified Integrity Impact to the Subsequent System"
-description_of MSA = codes "Modified Availability Impact to the Subsequent System"
-description_of S = codes "Safety"
-description_of AU = codes "Automatable"
-description_of R = codes "Recovery"
-description_of V = codes "Value Density"
-description_of RE = codes "Vulnerability Response Effort"
-description_of U = codes "Provider Urgency"
+description_of kind = (names_of kind).1
 
 -- the metrics as they are compared, the least first
 abbrev pub declared : List MetricType

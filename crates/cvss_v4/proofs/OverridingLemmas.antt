@@ -1,7 +1,11 @@
 -- Overrides: the environmental metrics, and texts that are read one after another.
-use Rattle.std.proofs.Common.{◌≡◌, ◌⊎◌, inl, inr, ℕ, ◌+◌, ◌<◌, Bool, true, false, List, [], ◌∷◌, ◌++◌, codes, length, get_or, map, IsSome, Contains, below_more, refl, sym, ap, ◌∙◌, subst, arith}
+use Rattle.std.proofs.Common.{◌≡◌, ◌⊎◌, inl, inr, ℕ, ◌+◌, ◌<◌, Bool, true, false, if◌then◌else◌, bytes_eq, Option, List, [], ◌∷◌, ◌++◌, codes, length, get_or, map, IsSome, Contains, below_more, refl, sym, ap, ◌∙◌, subst, arith}
+use Rattle.std.specs.List.{list_any}
+use Rattle.std.specs.Option.{option_or}
 use Rattle.std.proofs.lemmas.List.{get_or-map}
 use Rattle.std.proofs.lemmas.List.Elements.{Contains-append_right}
+use Rattle.std.proofs.lemmas.Map.Views.{Contains-from_any}
+use Rattle.std.proofs.lemmas.Slice.Eq.{bytes_eq-Decides}
 use Rattle.cvss_base.specs.Refusal.{Refusal, BadComponent, WrongPrefix, WrongVersion, UnknownName, BadValue, Repeated, Missing, piece_at, name_at, FaultAt}
 use Rattle.cvss_base.specs.Text.{IsComponent, name_part}
 use Rattle.cvss_base.specs.V4Types.{name_of}
@@ -9,7 +13,7 @@ use Rattle.cvss_base.specs.Numeral.{numeral}
 use Rattle.cvss_base.specs.Version.{read, version_piece, IsComplete}
 use Rattle.cvss_base.specs.private.Walk.{HasNoValue, IsFaultOf}
 use Rattle.cvss_base.specs.declared.v4.MetricType.{MetricType}
-use Rattle.cvss_base.specs.declared.v4.MetricType.TheVariants.{CR, IR, AR, MAV, MAC, MAT, MPR, MUI, MVC, MVI, MVA, MSC, MSI, MSA}
+use Rattle.cvss_base.specs.declared.v4.MetricType.TheVariants.{AC}
 use Rattle.cvss_base.proofs.ComponentLemmas.{piece_held}
 use Rattle.cvss_base.proofs.DenotesLemmas.{no_fault_held, vectors_same}
 use Rattle.cvss_base.proofs.JoinLemmas.{piece_is_component}
@@ -20,7 +24,8 @@ use Rattle.cvss_v4.proofs.CompleteLemmas.{none_is_none}
 use Rattle.cvss_v4_metric.specs.Table.{environmental, mandatory}
 use Rattle.cvss_v4.specs.Overriding.{AreOverrides, IsOverridden, NamesOther, Objection, OfOtherGroup, OfText, ObjectionAt, IsFirstObjection}
 use Rattle.cvss_v4.specs.private.OverridingSteps.{AddsOverride, IsObjectionTo, HasReadOverrides}
-use Rattle.cvss_v4.specs.Vector.{v4, value_at}
+use Rattle.cvss_v4.specs.Table.{Value, value_at}
+use Rattle.cvss_v4.specs.Vector.{v4}
 use Rattle.cvss_v4.specs.private.VectorLaws.{v4_is_lawful, one_minor_version}
 use Rattle.cvss_v4.specs.declared.vector.Vector.{Vector}
 
@@ -156,16 +161,23 @@ module _ (texts : List (List ℕ)) where
       let same = same_place p q (λ before. second.earlier.none p one before first.is) (λ before. first.earlier.none q other before second.is) in
       (same, sorts_same q one other (sort_of q one (subst (λ place. ObjectionAt texts place one) same first.is)) (sort_of q other second.is))
 
--- whether a metric is an environmental one, by cases
+-- whether two metrics have one name
+abbrev have_one_name : MetricType → MetricType → Bool
+have_one_name kind other = bytes_eq (name_of kind) (name_of other)
+
+one_metric : (kind other : MetricType) → have_one_name kind other ≡ true → kind ≡ other
+one_metric kind other same = names_differ v4 v4_is_lawful kind other ((bytes_eq-Decides _ _).0 same)
+
+-- whether a metric is an environmental one
 abbrev is_environmental : MetricType → Bool
-is_environmental = elim [ CR ↦ true | IR ↦ true | AR ↦ true | MAV ↦ true | MAC ↦ true | MAT ↦ true | MPR ↦ true | MUI ↦ true | MVC ↦ true | MVI ↦ true | MVA ↦ true | MSC ↦ true | MSI ↦ true | MSA ↦ true | _ ↦ false ]
+is_environmental kind = list_any (have_one_name kind) environmental
 
 -- what holds of each metric of a list
 alike : (f : MetricType → Bool) (answer : Bool) (kinds : List MetricType) → map f kinds ≡ map (λ _. answer) kinds → (kind : MetricType) → Contains kinds kind → f kind ≡ answer
 alike f answer kinds same kind (place, within, is) =
     ap f (sym is) ∙ (sym (get_or-map f kinds place kind answer within) ∙ (ap (λ list. get_or list place answer) same ∙ get_or-map (λ _. answer) kinds place kind answer within))
 
-pub known_environmental : (kind : MetricType) → Contains environmental kind → is_environmental kind ≡ true
+known_environmental : (kind : MetricType) → Contains environmental kind → is_environmental kind ≡ true
 known_environmental = alike is_environmental true environmental refl
 
 -- a metric that each vector has is not environmental
@@ -178,4 +190,32 @@ mandatory_kept kind is other =
 pub IsComplete-overridden : (v overrides new : Vector) → IsOverridden v overrides new → IsComplete v4 v → IsComplete v4 new
 IsComplete-overridden v overrides new is complete = record {
   present = λ kind mandatory. subst IsSome (sym (is.kept kind (mandatory_kept kind mandatory))) (complete.present kind mandatory);
+}
+
+-- a vector with another's environmental metrics where that has them
+abbrev pub overridden : Vector → Vector → Vector
+overridden v overrides = record v {
+  cr = option_or overrides.cr v.cr; ir = option_or overrides.ir v.ir; ar = option_or overrides.ar v.ar;
+  mav = option_or overrides.mav v.mav; mac = option_or overrides.mac v.mac; mat = option_or overrides.mat v.mat;
+  mpr = option_or overrides.mpr v.mpr; mui = option_or overrides.mui v.mui;
+  mvc = option_or overrides.mvc v.mvc; mvi = option_or overrides.mvi v.mvi; mva = option_or overrides.mva v.mva;
+  msc = option_or overrides.msc v.msc; msi = option_or overrides.msi v.msi; msa = option_or overrides.msa v.msa;
+}
+
+-- its value for a metric of the environmental group or of another one
+abbrev value_by : Vector → Vector → (kind : MetricType) → Bool → Option (Value kind)
+value_by v overrides kind is = if is then option_or (value_at overrides kind) (value_at v kind) else value_at v kind
+
+by_group : (v overrides : Vector) (kind : MetricType) → value_at (overridden v overrides) kind ≡ value_by v overrides kind (is_environmental kind)
+by_group v overrides = elim [ AC ↦ refl | _ ↦ refl ]
+
+of_no_group : (is : Bool) → (is ≡ true → ⊥) → is ≡ false
+of_no_group true not = absurd (not refl)
+of_no_group false not = refl
+
+pub IsOverridden-own : (v overrides : Vector) → IsOverridden v overrides (overridden v overrides)
+IsOverridden-own v overrides = record {
+  replaced = λ kind is. by_group v overrides kind ∙ ap (value_by v overrides kind) (known_environmental kind is);
+  kept = λ kind not. by_group v overrides kind ∙ ap (value_by v overrides kind) (of_no_group (is_environmental kind) (λ is. not (Contains-from_any one_metric kind environmental is)));
+  minor_version = refl;
 }

@@ -1,11 +1,13 @@
 -- A text denotes at most one vector, and a canonical text denotes its own.
-use Rattle.std.proofs.Common.{◌≡◌, ◌≢◌, ◌↔◌, ℕ, IsTrue, nat_eq, List, [], ◌∷◌, ◌++◌, codes, refl, sym, ap, ◌∙◌, lit<, subst}
+use Rattle.std.proofs.Common.{◌≡◌, ◌≢◌, ◌↔◌, ℕ, IsTrue, nat_eq, List, [], ◌∷◌, ◌++◌, codes, Option, Some, None, IfSome, refl, sym, ap, ◌∙◌, lit<, subst}
 use Rattle.std.proofs.lemmas.Bool.Decides.{Decides-eqb}
 use Rattle.cvss_base.specs.Numeral.{numeral}
 use Rattle.cvss_base.specs.private.Printing.{slashed_texts}
-use Rattle.cvss_base.specs.Version.{canonical_text, version_piece, Denotes, IsSupported}
+use Rattle.cvss_base.specs.private.Walk.{first_missing}
+use Rattle.cvss_base.specs.Version.{canonical_text, version_piece, Denotes, IsSupported, IsWellFormed}
 use Rattle.cvss_base.proofs.CanonicalLemmas.{canonical_text-denotes}
 use Rattle.cvss_base.proofs.FrontLemmas.{denoted_once_behind, fronts_same}
+use Rattle.cvss_base.proofs.MissingLemmas.{IsComplete-from}
 use Rattle.cvss_base.proofs.PrintLemmas.{joined-slashed}
 use Rattle.cvss_v4_metric.specs.Table.{printed}
 use Rattle.cvss_v4.specs.declared.vector.Vector.{Vector}
@@ -34,16 +36,22 @@ abbrev front_of : ℕ → List ℕ
 front_of minor = version_piece (codes "4." ++ numeral minor)
 
 -- a text that is the piece of version 4.0 and the vector's components, each behind a slash
-pub text_behind : (text rest : List ℕ) (vector : Vector) → text ≡ version_piece (codes "4.0") ++ rest → rest ≡ slashed_texts v4 vector printed → vector.minor_version ≡ 0 → text ≡ canonical_text v4 vector
-text_behind text rest vector is components version =
+pub text_behind : (text rest : List ℕ) (seen : Option Vector) → text ≡ version_piece (codes "4.0") ++ rest → IfSome seen (λ vector. rest ≡ slashed_texts v4 vector printed) → IfSome seen (λ vector. vector.minor_version ≡ 0) → IfSome seen (λ vector. text ≡ canonical_text v4 vector)
+text_behind text rest None is components version = tt
+text_behind text rest (Some vector) is components version =
     is ∙ ap (λ told. front_of told ++ rest) (sym version)
     ∙ ap (λ behind. front_of vector.minor_version ++ behind) components
     ∙ sym (joined-slashed v4 vector (front_of vector.minor_version) printed)
 
 -- version 4.0 is supported
-pub supported : (vector : Vector) → vector.minor_version ≡ 0 → IsSupported v4 vector
+supported : (vector : Vector) → vector.minor_version ≡ 0 → IsSupported v4 vector
 supported vector version = record {
   told = codes "4.0";
   front_is = ap (λ minor. front_of minor ∷ []) version;
   supported = (0, lit< tt, refl);
 }
+
+-- a vector of version 4.0 that lacks no base metric
+pub well_formed : (seen : Option Vector) → IfSome seen (λ vector. first_missing v4 vector ≡ None) → IfSome seen (λ vector. vector.minor_version ≡ 0) → IfSome seen (λ vector. IsWellFormed v4 vector)
+well_formed None present version = tt
+well_formed (Some vector) present version = record { complete = IsComplete-from v4 vector present; supported = supported vector version }

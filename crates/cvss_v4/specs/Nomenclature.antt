@@ -7,10 +7,10 @@ use Rattle.cvss_base.specs.declared.error.Error.{Error}
 use Rattle.cvss_base.specs.declared.error.Error.TheVariants.{InvalidNomenclatureV4, OutOfMemory}
 use Rattle.cvss_base.specs.declared.v4.MetricType.{MetricType}
 use Rattle.cvss_v4_metric.specs.Table.{threat, environmental}
+use Rattle.cvss_v4.specs.Table.{value_at}
 use Rattle.cvss_v4.specs.declared.nomenclature.Nomenclature.{Nomenclature}
 use Rattle.cvss_v4.specs.declared.nomenclature.Nomenclature.TheVariants.{CvssB, CvssBE, CvssBT, CvssBTE}
 use Rattle.cvss_v4.specs.declared.vector.Vector.{Vector}
-use Rattle.cvss_v4.specs.Vector.{value_at}
 
 -- the nomenclature's name
 abbrev pub text_of : Nomenclature → List ℕ

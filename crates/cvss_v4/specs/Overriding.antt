@@ -11,7 +11,8 @@ use Rattle.cvss_base.specs.Version.{AreComponentsOf}
 use Rattle.cvss_base.specs.declared.error.Error.{Error}
 use Rattle.cvss_base.specs.declared.v4.MetricType.{MetricType}
 use Rattle.cvss_v4_metric.specs.Table.{environmental}
-use Rattle.cvss_v4.specs.Vector.{v4, value_at}
+use Rattle.cvss_v4.specs.Table.{value_at}
+use Rattle.cvss_v4.specs.Vector.{v4}
 use Rattle.cvss_v4.specs.declared.vector.Vector.{Vector}
 use Rattle.cvss_v4.specs.declared.vector.overriding.OverrideError.{OverrideError}
 use Rattle.cvss_v4.specs.declared.vector.overriding.OverrideError.TheVariants.{NotEnvironmental, Refused}

@@ -1,4 +1,3 @@
-pub mod Defined
 pub mod OverridingSteps
 pub mod Places
 pub mod Shares

@@ -2,17 +2,20 @@
 //! calls it.
 
 ghost use Rattle.std.specs.List.{All};
-ghost use Rattle.std.specs.Prelude.{◌≡◌, ℕ, ℤ, List, ◌≤◌, ◌↔◌, ◌≤ℤ◌, IfSome, IsTrue, None};
+ghost use Rattle.std.specs.Prelude.{◌≡◌, ℕ, ℤ, List, [], ◌∷◌, ◌≤◌, ◌↔◌, ◌≤ℤ◌, IfSome, IsTrue, None};
 ghost use Rattle.cvss_base.specs.laws.Equality.{EqualsByValue, ClonesByValue};
 ghost use Rattle.cvss_base.specs.Exact.{of_count, ◌over◌, ◌⊕◌};
 ghost use Rattle.cvss_base.specs.Rounding.{IsRoundedV4};
 ghost use Rattle.cvss_base.specs.laws.Rounding.{IsNearestEven, printed_tenths};
 ghost use Rattle.cvss_base.specs.Version.{canonical_text, Denotes};
 ghost use Rattle.cvss_base.specs.declared.v4.MetricType.{MetricType};
+ghost use Rattle.cvss_base.specs.declared.v4.MetricType.TheVariants.{AC, AT, AV, PR, SA, SC, SI, UI, VA, VC, VI, E, AR, CR, IR, MAC, MAT, MAV, MPR, MSA, MSC, MSI, MUI, MVA, MVC, MVI};
 ghost use Rattle.cvss_v4.specs.laws.ClassLaws.{IsDominated, HaveLeastSum, IsDepth};
 ghost use Rattle.cvss_v4.specs.Classes.{eq1, eq2, eq3, eq4, eq6, macro_vector};
 ghost use Rattle.cvss_v4.specs.Distance.{eq1_sum, eq1_least, eq1_distance, eq2_sum, eq2_least, eq2_distance, eq3_eq6_sum, eq3_eq6_least, eq3_eq6_distance, eq4_sum, eq4_least, eq4_distance};
 ghost use Rattle.cvss_v4.specs.Gap.{eq1_depth, eq2_depth, eq3_eq6_depth, eq4_depth, groups};
+ghost use Rattle.cvss_v4.specs.Effective.{attack_vectors, privileges, user_interactions, attack_complexities, all_attack_requirements, vulnerable_impacts, subsequent_impacts, safety_impacts, requirements, exploit_maturities};
+ghost use Rattle.cvss_v4.specs.laws.LetterLaws.{AreLettersOf};
 ghost use Rattle.cvss_v4.specs.laws.Maximal.{Eq1Values, eq1_levels, eq1_maximal, Eq2Values, eq2_levels, eq2_maximal, Eq3Eq6Values, eq3_eq6_levels, eq3_eq6_maximal, Eq4Values, eq4_levels, eq4_maximal};
 ghost use Rattle.cvss_v4.specs.Merging.{letter_at, effective_of};
 ghost use Rattle.cvss_v4.specs.laws.MergingLaws.{HasModifiedAsBase, without_supplemental};
@@ -21,7 +24,8 @@ ghost use Rattle.cvss_v4.specs.laws.OverridingLaws.{AreAlike};
 ghost use Rattle.cvss_v4.specs.laws.ScoreLaws.{IsListed, IsPair, IsAsSevere, IsFromTenthToTen};
 ghost use Rattle.cvss_v4.specs.Scores.{has_impact, number, IsScore};
 ghost use Rattle.cvss_v4.specs.Values.{listed_value, table_value};
-ghost use Rattle.cvss_v4.specs.Vector.{v4, value_at};
+ghost use Rattle.cvss_v4.specs.Table.{value_at};
+ghost use Rattle.cvss_v4.specs.Vector.{v4};
 ghost use Rattle.cvss_v4.specs.declared.nomenclature.Nomenclature.{Nomenclature};
 ghost use Rattle.cvss_v4.specs.declared.scoring.effective.Effective.{Effective};
 ghost use Rattle.cvss_v4.specs.declared.vector.Vector.{Vector};
@@ -160,6 +164,22 @@ pub fn severe_values_score_no_less()
 pub fn a_millionth_changes_no_score()
     ensures { (v : Effective) → (r : ℤ)
         → (IsScore v r ↔ IsRoundedV4 (number v ⊕ 1 over 1_000_000) r) }
+{}
+
+/// Each spelling of a metric that is scored but `X` stands for an effective value of its own, so that
+/// no other is taken for what counts where nothing is defined.
+pub fn spellings_have_effective_values()
+    ensures av { AreLettersOf attack_vectors (AV ∷ MAV ∷ []) }
+    ensures pr { AreLettersOf privileges (PR ∷ MPR ∷ []) }
+    ensures ui { AreLettersOf user_interactions (UI ∷ MUI ∷ []) }
+    ensures ac { AreLettersOf attack_complexities (AC ∷ MAC ∷ []) }
+    ensures at { AreLettersOf all_attack_requirements (AT ∷ MAT ∷ []) }
+    ensures vulnerable { AreLettersOf vulnerable_impacts
+        (VC ∷ VI ∷ VA ∷ MVC ∷ MVI ∷ MVA ∷ []) }
+    ensures sc { AreLettersOf subsequent_impacts (SC ∷ MSC ∷ []) }
+    ensures si_sa { AreLettersOf safety_impacts (SI ∷ SA ∷ MSI ∷ MSA ∷ []) }
+    ensures requirements { AreLettersOf requirements (CR ∷ IR ∷ AR ∷ []) }
+    ensures e { AreLettersOf exploit_maturities (E ∷ []) }
 {}
 
 /// Vectors whose metrics have the same letters, where an absent metric counts as Not Defined, have

@@ -1,24 +1,10 @@
 -- Vectors with the same effective values: CVSS v4.0 specification, section 4.2.
-use Rattle.std.specs.Prelude.{◌≡◌, ◌⊎◌, codes, Option, Some, None}
+use Rattle.std.specs.Prelude.{◌≡◌, ◌⊎◌, ◌++◌, codes, None}
+use Rattle.cvss_base.specs.V4Types.{name_of}
 use Rattle.cvss_base.specs.declared.v4.MetricType.{MetricType}
-use Rattle.cvss_base.specs.declared.v4.MetricType.TheVariants.{AC, AT, AV, PR, SA, SC, SI, UI, VA, VC, VI, E, AR, CR, IR, MAC, MAT, MAV, MPR, MSA, MSC, MSI, MUI, MVA, MVC, MVI}
+use Rattle.cvss_base.specs.declared.v4.MetricType.TheVariants.{E, AR, CR, IR}
 use Rattle.cvss_v4.specs.Merging.{letter_at, merged}
 use Rattle.cvss_v4.specs.declared.vector.Vector.{Vector}
-
--- the base metric that a modified metric replaces
-abbrev pub base_of : MetricType → Option MetricType
-base_of MAV = Some AV
-base_of MAC = Some AC
-base_of MAT = Some AT
-base_of MPR = Some PR
-base_of MUI = Some UI
-base_of MVC = Some VC
-base_of MVI = Some VI
-base_of MVA = Some VA
-base_of MSC = Some SC
-base_of MSI = Some SI
-base_of MSA = Some SA
-base_of _ = None
 
 -- the second vector has no such modified metric, and in the base metric the letter of the first's two together
 pub record IsWrittenAsBase (v w : Vector) (modified base : MetricType) : Type 0 where
@@ -31,9 +17,9 @@ pub record IsKept (v w : Vector) (modified base : MetricType) : Type 0 where
   pub same_base : letter_at w base ≡ letter_at v base
 
 -- the second vector has each modified metric of the first as it is or written as its base metric, be it one of
--- them, some or all, and all else that is scored as it is
+-- them, some or all, and all else that is scored as it is; a modified metric is named by an M and its base metric
 pub record HasModifiedAsBase (v w : Vector) : Type 0 where
-  pub each : (modified base : MetricType) → base_of modified ≡ Some base
+  pub each : (modified base : MetricType) → name_of modified ≡ codes "M" ++ name_of base
       → IsWrittenAsBase v w modified base ⊎ IsKept v w modified base
   pub e : letter_at w E ≡ letter_at v E
   pub cr : letter_at w CR ≡ letter_at v CR

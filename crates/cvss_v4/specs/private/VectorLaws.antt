@@ -7,7 +7,8 @@ use Rattle.cvss_base.specs.declared.v4.MetricType.TheVariants.{AC, AT, AV, PR, S
 use Rattle.cvss_base.proofs.NumeralLemmas.{numeral-injective, numeral-plain}
 use Rattle.cvss_v4.specs.private.TableLaws.{plain_spelling, one_value}
 use Rattle.cvss_v4.specs.declared.vector.Vector.{Vector}
-use Rattle.cvss_v4.specs.Vector.{v4, value_at}
+use Rattle.cvss_v4.specs.Table.{value_at}
+use Rattle.cvss_v4.specs.Vector.{v4}
 
 -- vectors with one version piece have one minor version
 pub one_minor_version : (v w : Vector) → v4.front v ≡ v4.front w → v.minor_version ≡ w.minor_version

@@ -16,23 +16,15 @@ use crate::metric::threat::ExploitMaturity;
 use crate::scoring::effective::{self, Effective};
 use crate::vector::Vector;
 use attack::{
-    attack_complexity, attack_requirements, attack_vector, modified_attack_complexity,
-    modified_attack_requirements, modified_attack_vector, modified_privileges_required,
-    modified_user_interaction, privileges_required, user_interaction,
+    attack_complexity, attack_requirements, attack_vector, privileges_required, user_interaction,
 };
 use subsequent::{
     availability_impact_to_the_subsequent_system, confidentiality_impact_to_the_subsequent_system,
     integrity_impact_to_the_subsequent_system,
-    modified_availability_impact_to_the_subsequent_system,
-    modified_confidentiality_impact_to_the_subsequent_system,
-    modified_integrity_impact_to_the_subsequent_system,
 };
 use vulnerable::{
     availability_impact_to_the_vulnerable_system, confidentiality_impact_to_the_vulnerable_system,
     integrity_impact_to_the_vulnerable_system,
-    modified_availability_impact_to_the_vulnerable_system,
-    modified_confidentiality_impact_to_the_vulnerable_system,
-    modified_integrity_impact_to_the_vulnerable_system,
 };
 
 impl Vector {
@@ -43,29 +35,17 @@ impl Vector {
         ensures { result ≡ effective_of self.now }
     {
         Effective {
-            av: modified_attack_vector(self.mav).unwrap_or(attack_vector(self.av)),
-            pr: modified_privileges_required(self.mpr).unwrap_or(privileges_required(self.pr)),
-            ui: modified_user_interaction(self.mui).unwrap_or(user_interaction(self.ui)),
-            ac: modified_attack_complexity(self.mac).unwrap_or(attack_complexity(self.ac)),
-            at: modified_attack_requirements(self.mat).unwrap_or(attack_requirements(self.at)),
-            vc: modified_confidentiality_impact_to_the_vulnerable_system(self.mvc).unwrap_or(
-                confidentiality_impact_to_the_vulnerable_system(self.vc),
-            ),
-            vi: modified_integrity_impact_to_the_vulnerable_system(self.mvi).unwrap_or(
-                integrity_impact_to_the_vulnerable_system(self.vi),
-            ),
-            va: modified_availability_impact_to_the_vulnerable_system(self.mva).unwrap_or(
-                availability_impact_to_the_vulnerable_system(self.va),
-            ),
-            sc: modified_confidentiality_impact_to_the_subsequent_system(self.msc).unwrap_or(
-                confidentiality_impact_to_the_subsequent_system(self.sc),
-            ),
-            si: modified_integrity_impact_to_the_subsequent_system(self.msi).unwrap_or(
-                integrity_impact_to_the_subsequent_system(self.si),
-            ),
-            sa: modified_availability_impact_to_the_subsequent_system(self.msa).unwrap_or(
-                availability_impact_to_the_subsequent_system(self.sa),
-            ),
+            av: attack_vector(self.mav, self.av),
+            pr: privileges_required(self.mpr, self.pr),
+            ui: user_interaction(self.mui, self.ui),
+            ac: attack_complexity(self.mac, self.ac),
+            at: attack_requirements(self.mat, self.at),
+            vc: confidentiality_impact_to_the_vulnerable_system(self.mvc, self.vc),
+            vi: integrity_impact_to_the_vulnerable_system(self.mvi, self.vi),
+            va: availability_impact_to_the_vulnerable_system(self.mva, self.va),
+            sc: confidentiality_impact_to_the_subsequent_system(self.msc, self.sc),
+            si: integrity_impact_to_the_subsequent_system(self.msi, self.si),
+            sa: availability_impact_to_the_subsequent_system(self.msa, self.sa),
             cr: confidentiality_requirements(self.cr),
             ir: integrity_requirements(self.ir),
             ar: availability_requirements(self.ar),

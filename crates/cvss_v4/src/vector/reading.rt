@@ -1,6 +1,6 @@
 //! How a vector is filled from its components.
 
-ghost use Rattle.std.specs.Prelude.{◌≡◌, IfSome};
+ghost use Rattle.std.specs.Prelude.{◌≡◌, IfSome, [], ◌∷◌, ◌++◌, codes};
 ghost use Rattle.cvss_base.specs.Text.{raised};
 ghost use Rattle.cvss_base.specs.V4Types.{name_of};
 ghost use Rattle.cvss_base.specs.private.Walk.{HasNoValue, IsFilled};
@@ -11,44 +11,15 @@ ghost use Rattle.cvss_v4.specs.private.VectorLaws.{v4_is_lawful, v4_fronts_are_l
 use crate::laws::default_vectors_have_no_metric;
 use crate::metric::{Metric, MetricType};
 use crate::vector::Vector;
+use MetricType::*;
 use cvss_base::front::Fronted;
 use cvss_base::pieces::cut_early;
 use cvss_base::walk::{Components, Slip};
 
 /// The metrics in printing order (v4.0 specification, section 7).
 const PRINTED: [MetricType; 32] = [
-    MetricType::AV,
-    MetricType::AC,
-    MetricType::AT,
-    MetricType::PR,
-    MetricType::UI,
-    MetricType::VC,
-    MetricType::VI,
-    MetricType::VA,
-    MetricType::SC,
-    MetricType::SI,
-    MetricType::SA,
-    MetricType::E,
-    MetricType::CR,
-    MetricType::IR,
-    MetricType::AR,
-    MetricType::MAV,
-    MetricType::MAC,
-    MetricType::MAT,
-    MetricType::MPR,
-    MetricType::MUI,
-    MetricType::MVC,
-    MetricType::MVI,
-    MetricType::MVA,
-    MetricType::MSC,
-    MetricType::MSI,
-    MetricType::MSA,
-    MetricType::S,
-    MetricType::AU,
-    MetricType::R,
-    MetricType::V,
-    MetricType::RE,
-    MetricType::U,
+    AV, AC, AT, PR, UI, VC, VI, VA, SC, SI, SA, E, CR, IR, AR, MAV, MAC, MAT, MPR, MUI, MVC, MVI,
+    MVA, MSC, MSI, MSA, S, AU, R, V, RE, U,
 ];
 
 impl Components for Vector {
@@ -157,42 +128,94 @@ impl Vector {
 }
 
 /// The metric with this name, in any ASCII case.
+#[inline(always)]
 fn named(name: &[u8]) -> Option<MetricType>
     ensures { IfSome result (λ kind. name_of kind ≡ raised name.now) }
 {
     match name {
-        [b'A' | b'a', b'V' | b'v'] => Some(MetricType::AV),
-        [b'A' | b'a', b'C' | b'c'] => Some(MetricType::AC),
-        [b'A' | b'a', b'T' | b't'] => Some(MetricType::AT),
-        [b'P' | b'p', b'R' | b'r'] => Some(MetricType::PR),
-        [b'U' | b'u', b'I' | b'i'] => Some(MetricType::UI),
-        [b'V' | b'v', b'C' | b'c'] => Some(MetricType::VC),
-        [b'V' | b'v', b'I' | b'i'] => Some(MetricType::VI),
-        [b'V' | b'v', b'A' | b'a'] => Some(MetricType::VA),
-        [b'S' | b's', b'C' | b'c'] => Some(MetricType::SC),
-        [b'S' | b's', b'I' | b'i'] => Some(MetricType::SI),
-        [b'S' | b's', b'A' | b'a'] => Some(MetricType::SA),
-        [b'E' | b'e'] => Some(MetricType::E),
-        [b'C' | b'c', b'R' | b'r'] => Some(MetricType::CR),
-        [b'I' | b'i', b'R' | b'r'] => Some(MetricType::IR),
-        [b'A' | b'a', b'R' | b'r'] => Some(MetricType::AR),
-        [b'M' | b'm', b'A' | b'a', b'V' | b'v'] => Some(MetricType::MAV),
-        [b'M' | b'm', b'A' | b'a', b'C' | b'c'] => Some(MetricType::MAC),
-        [b'M' | b'm', b'A' | b'a', b'T' | b't'] => Some(MetricType::MAT),
-        [b'M' | b'm', b'P' | b'p', b'R' | b'r'] => Some(MetricType::MPR),
-        [b'M' | b'm', b'U' | b'u', b'I' | b'i'] => Some(MetricType::MUI),
-        [b'M' | b'm', b'V' | b'v', b'C' | b'c'] => Some(MetricType::MVC),
-        [b'M' | b'm', b'V' | b'v', b'I' | b'i'] => Some(MetricType::MVI),
-        [b'M' | b'm', b'V' | b'v', b'A' | b'a'] => Some(MetricType::MVA),
-        [b'M' | b'm', b'S' | b's', b'C' | b'c'] => Some(MetricType::MSC),
-        [b'M' | b'm', b'S' | b's', b'I' | b'i'] => Some(MetricType::MSI),
-        [b'M' | b'm', b'S' | b's', b'A' | b'a'] => Some(MetricType::MSA),
-        [b'S' | b's'] => Some(MetricType::S),
-        [b'A' | b'a', b'U' | b'u'] => Some(MetricType::AU),
-        [b'R' | b'r'] => Some(MetricType::R),
-        [b'V' | b'v'] => Some(MetricType::V),
-        [b'R' | b'r', b'E' | b'e'] => Some(MetricType::RE),
-        [b'U' | b'u'] => Some(MetricType::U),
+        [letter] => named_by_one(*letter),
+        [first, second] => named_by_two(*first, *second),
+        [b'M' | b'm', first, second] => modified(*first, *second),
+        _ => None,
+    }
+}
+
+/// The metric whose name is this letter.
+#[inline(always)]
+fn named_by_one(letter: u8) -> Option<MetricType>
+    ensures { IfSome result (λ kind. name_of kind ≡ raised (letter ∷ [])) }
+{
+    match letter {
+        b'E' | b'e' => Some(MetricType::E),
+        b'S' | b's' => Some(MetricType::S),
+        b'R' | b'r' => Some(MetricType::R),
+        b'V' | b'v' => Some(MetricType::V),
+        b'U' | b'u' => Some(MetricType::U),
+        _ => None,
+    }
+}
+
+/// The metric whose name is these two letters.
+#[inline(always)]
+fn named_by_two(first: u8, second: u8) -> Option<MetricType>
+    ensures { IfSome result (λ kind. name_of kind ≡ raised (first ∷ second ∷ [])) }
+{
+    match first {
+        b'A' | b'a' => match second {
+            b'V' | b'v' => Some(MetricType::AV),
+            b'C' | b'c' => Some(MetricType::AC),
+            b'T' | b't' => Some(MetricType::AT),
+            b'R' | b'r' => Some(MetricType::AR),
+            b'U' | b'u' => Some(MetricType::AU),
+            _ => None,
+        },
+        b'V' | b'v' => match second {
+            b'C' | b'c' => Some(MetricType::VC),
+            b'I' | b'i' => Some(MetricType::VI),
+            b'A' | b'a' => Some(MetricType::VA),
+            _ => None,
+        },
+        b'S' | b's' => match second {
+            b'C' | b'c' => Some(MetricType::SC),
+            b'I' | b'i' => Some(MetricType::SI),
+            b'A' | b'a' => Some(MetricType::SA),
+            _ => None,
+        },
+        b'P' | b'p' if matches!(second, b'R' | b'r') => Some(MetricType::PR),
+        b'U' | b'u' if matches!(second, b'I' | b'i') => Some(MetricType::UI),
+        b'C' | b'c' if matches!(second, b'R' | b'r') => Some(MetricType::CR),
+        b'I' | b'i' if matches!(second, b'R' | b'r') => Some(MetricType::IR),
+        b'R' | b'r' if matches!(second, b'E' | b'e') => Some(MetricType::RE),
+        _ => None,
+    }
+}
+
+/// The modified metric whose base metric's name is these two letters.
+#[inline(always)]
+fn modified(first: u8, second: u8) -> Option<MetricType>
+    ensures { IfSome result (λ kind. name_of kind ≡ codes "M" ++ raised (first ∷ second ∷ [])) }
+{
+    match first {
+        b'A' | b'a' => match second {
+            b'V' | b'v' => Some(MetricType::MAV),
+            b'C' | b'c' => Some(MetricType::MAC),
+            b'T' | b't' => Some(MetricType::MAT),
+            _ => None,
+        },
+        b'V' | b'v' => match second {
+            b'C' | b'c' => Some(MetricType::MVC),
+            b'I' | b'i' => Some(MetricType::MVI),
+            b'A' | b'a' => Some(MetricType::MVA),
+            _ => None,
+        },
+        b'S' | b's' => match second {
+            b'C' | b'c' => Some(MetricType::MSC),
+            b'I' | b'i' => Some(MetricType::MSI),
+            b'A' | b'a' => Some(MetricType::MSA),
+            _ => None,
+        },
+        b'P' | b'p' if matches!(second, b'R' | b'r') => Some(MetricType::MPR),
+        b'U' | b'u' if matches!(second, b'I' | b'i') => Some(MetricType::MUI),
         _ => None,
     }
 }

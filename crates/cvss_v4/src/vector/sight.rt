@@ -2,12 +2,13 @@
 //! printed, so that the text is gone through once, with no cutting and no searching. The other
 //! way, by components in any order and any case, is `reading`.
 
-ghost use Rattle.std.specs.Prelude.{◌≡◌, IfSome, [], ◌∷◌, ◌++◌, codes, option_map, unwrap_or};
+ghost use Rattle.std.specs.Prelude.{◌≡◌, IfSome, None, [], ◌∷◌, ◌++◌, codes, option_map, unwrap_or};
 ghost use Rattle.cvss_base.specs.private.Printing.{slashed, slashed_texts};
+ghost use Rattle.cvss_base.specs.private.Walk.{first_missing};
 ghost use Rattle.cvss_base.specs.Text.{slash, colon, component};
 ghost use Rattle.cvss_base.specs.V4Types.{name_of};
 ghost use Rattle.cvss_base.specs.Version.{canonical_text, version_piece, IsWellFormed};
-ghost use Rattle.cvss_base.specs.declared.v4.MetricType.TheVariants.{U};
+ghost use Rattle.cvss_base.specs.declared.v4.MetricType.TheVariants.{AC, AT, AV, PR, SA, SC, SI, U, UI, VA, VC, VI};
 ghost use Rattle.cvss_v4_metric.specs.Table.{printed, spelling_at, metric_component};
 ghost use Rattle.cvss_v4.specs.Table.{spelling_of};
 ghost use Rattle.cvss_v4.specs.Vector.{v4};
@@ -20,7 +21,6 @@ use crate::metric::{Metric, MetricType};
 use crate::vector::Vector;
 use base::base_at_sight;
 use cvss_base::sight::put_read;
-use cvss_base::walk::Components;
 use optional::others_at_sight;
 
 impl Vector {
@@ -30,11 +30,7 @@ impl Vector {
         ensures canonical { IfSome result (λ vector. text.now ≡ canonical_text v4 vector) }
         ensures well_formed { IfSome result (λ vector. IsWellFormed v4 vector) }
     {
-        let vector = metrics_at_sight(behind_version(text)?)?;
-        match vector.first_missing() {
-            Some(_) => None,
-            None => Some(vector),
-        }
+        metrics_at_sight(behind_version(text)?)
     }
 }
 
@@ -54,8 +50,26 @@ fn behind_version(text: &[u8]) -> Option<&[u8]>
 fn metrics_at_sight(text: &[u8]) -> Option<Vector>
     ensures text { IfSome result (λ vector. text.now ≡ slashed_texts v4 vector printed) }
     ensures version { IfSome result (λ vector. vector.minor_version ≡ 0) }
+    ensures present { IfSome result (λ vector. first_missing v4 vector ≡ None) }
 {
-    let (base, text) = base_at_sight(Vector::empty(), text)?;
+    let (base, rest) = base_at_sight(text)?;
+    if rest.is_empty() {
+        Some(base)
+    } else {
+        whole_at_sight(base, rest)
+    }
+}
+
+/// The vector of the base metrics and of the optional ones that are the whole text behind them.
+#[inline(always)]
+fn whole_at_sight(base: Vector, text: &[u8]) -> Option<Vector>
+    requires { first_missing v4 base ≡ None }
+    ensures text { IfSome result (λ vector. slashed_texts v4 base
+        (AV ∷ AC ∷ AT ∷ PR ∷ UI ∷ VC ∷ VI ∷ VA ∷ SC ∷ SI ∷ SA ∷ []) ++ text.now
+        ≡ slashed_texts v4 vector printed) }
+    ensures version { IfSome result (λ vector. vector.minor_version ≡ base.minor_version) }
+    ensures present { IfSome result (λ vector. first_missing v4 vector ≡ None) }
+{
     let mut vector = base;
     let rest = others_at_sight(&mut vector, text);
     let u = urgency_at_sight(rest)?;

@@ -1,39 +1,6 @@
 use Rattle.std.specs.Prelude.{refl}
-use Rattle.cvss_base.specs.declared.v4.MetricType.TheVariants.{AC, AT, AV, PR, SA, SC, SI, UI, VA, VC, VI, E, AR, CR, IR, MAC, MAT, MAV, MPR, MSA, MSC, MSI, MUI, MVA, MVC, MVI, AU, R, RE, S, U, V}
+use Rattle.cvss_base.specs.declared.v4.MetricType.TheVariants.{AC}
 use Rattle.cvss_base.proofs.laws.orders_are_declared.Goals as goal
 
 pub returns-clause-v4 : goal.returns-clause-v4
-returns-clause-v4 c = elim [
-  | AC ↦ elim [ AC ↦ refl | _ ↦ refl ]
-  | AT ↦ elim [ AC ↦ refl | _ ↦ refl ]
-  | AV ↦ elim [ AC ↦ refl | _ ↦ refl ]
-  | PR ↦ elim [ AC ↦ refl | _ ↦ refl ]
-  | SA ↦ elim [ AC ↦ refl | _ ↦ refl ]
-  | SC ↦ elim [ AC ↦ refl | _ ↦ refl ]
-  | SI ↦ elim [ AC ↦ refl | _ ↦ refl ]
-  | UI ↦ elim [ AC ↦ refl | _ ↦ refl ]
-  | VA ↦ elim [ AC ↦ refl | _ ↦ refl ]
-  | VC ↦ elim [ AC ↦ refl | _ ↦ refl ]
-  | VI ↦ elim [ AC ↦ refl | _ ↦ refl ]
-  | E ↦ elim [ AC ↦ refl | _ ↦ refl ]
-  | AR ↦ elim [ AC ↦ refl | _ ↦ refl ]
-  | CR ↦ elim [ AC ↦ refl | _ ↦ refl ]
-  | IR ↦ elim [ AC ↦ refl | _ ↦ refl ]
-  | MAC ↦ elim [ AC ↦ refl | _ ↦ refl ]
-  | MAT ↦ elim [ AC ↦ refl | _ ↦ refl ]
-  | MAV ↦ elim [ AC ↦ refl | _ ↦ refl ]
-  | MPR ↦ elim [ AC ↦ refl | _ ↦ refl ]
-  | MSA ↦ elim [ AC ↦ refl | _ ↦ refl ]
-  | MSC ↦ elim [ AC ↦ refl | _ ↦ refl ]
-  | MSI ↦ elim [ AC ↦ refl | _ ↦ refl ]
-  | MUI ↦ elim [ AC ↦ refl | _ ↦ refl ]
-  | MVA ↦ elim [ AC ↦ refl | _ ↦ refl ]
-  | MVC ↦ elim [ AC ↦ refl | _ ↦ refl ]
-  | MVI ↦ elim [ AC ↦ refl | _ ↦ refl ]
-  | AU ↦ elim [ AC ↦ refl | _ ↦ refl ]
-  | R ↦ elim [ AC ↦ refl | _ ↦ refl ]
-  | RE ↦ elim [ AC ↦ refl | _ ↦ refl ]
-  | S ↦ elim [ AC ↦ refl | _ ↦ refl ]
-  | U ↦ elim [ AC ↦ refl | _ ↦ refl ]
-  | V ↦ elim [ AC ↦ refl | _ ↦ refl ]
-]
+returns-clause-v4 c = elim [ AC ↦ elim [ AC ↦ refl | _ ↦ refl ] | _ ↦ elim [ AC ↦ refl | _ ↦ refl ] ]

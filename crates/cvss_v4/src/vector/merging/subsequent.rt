@@ -4,9 +4,8 @@
 
 ghost use Rattle.std.specs.Prelude.{◌≡◌};
 ghost use Rattle.cvss_base.specs.declared.v4.MetricType.TheVariants.{MSA, MSC, MSI, SA, SC, SI};
-ghost use Rattle.cvss_v4.specs.private.Defined.{if_defined};
 ghost use Rattle.cvss_v4.specs.Effective.{meaning, subsequent_impacts, safety_impacts};
-ghost use Rattle.cvss_v4.specs.Merging.{letter_of};
+ghost use Rattle.cvss_v4.specs.Merging.{letter_of, replaced};
 
 use crate::metric::base::{
     AvailabilityImpactToTheSubsequentSystem, ConfidentialityImpactToTheSubsequentSystem,
@@ -19,108 +18,76 @@ use crate::metric::environmental::{
 };
 use crate::scoring::effective;
 
-/// The effective value that SC gives.
+/// The effective value of SC, which MSC replaces where it is defined.
 pub(super) fn confidentiality_impact_to_the_subsequent_system(
-    value: Option<ConfidentialityImpactToTheSubsequentSystem>,
+    modified: Option<ModifiedConfidentialityImpactToTheSubsequentSystem>,
+    base: Option<ConfidentialityImpactToTheSubsequentSystem>,
 ) -> effective::SubsequentImpact
-    ensures { result ≡ meaning subsequent_impacts (letter_of SC value) }
+    ensures { result ≡ meaning subsequent_impacts
+        (replaced (letter_of MSC modified) (letter_of SC base)) }
 {
-    match value {
+    let unmodified = match base {
         None | Some(ConfidentialityImpactToTheSubsequentSystem::High) =>
             effective::SubsequentImpact::High,
         Some(ConfidentialityImpactToTheSubsequentSystem::Low) => effective::SubsequentImpact::Low,
         Some(ConfidentialityImpactToTheSubsequentSystem::None) => effective::SubsequentImpact::None,
-    }
-}
-
-/// The effective value that MSC gives, if it is defined.
-pub(super) fn modified_confidentiality_impact_to_the_subsequent_system(
-    value: Option<ModifiedConfidentialityImpactToTheSubsequentSystem>,
-) -> Option<effective::SubsequentImpact>
-    ensures { result ≡ if_defined (meaning subsequent_impacts) (letter_of MSC value) }
-{
-    match value {
-        None | Some(ModifiedConfidentialityImpactToTheSubsequentSystem::NotDefined) => None,
-        Some(ModifiedConfidentialityImpactToTheSubsequentSystem::High) => Some(
+    };
+    match modified {
+        None | Some(ModifiedConfidentialityImpactToTheSubsequentSystem::NotDefined) => unmodified,
+        Some(ModifiedConfidentialityImpactToTheSubsequentSystem::High) =>
             effective::SubsequentImpact::High,
-        ),
-        Some(ModifiedConfidentialityImpactToTheSubsequentSystem::Low) => Some(
+        Some(ModifiedConfidentialityImpactToTheSubsequentSystem::Low) =>
             effective::SubsequentImpact::Low,
-        ),
-        Some(ModifiedConfidentialityImpactToTheSubsequentSystem::Negligible) => Some(
+        Some(ModifiedConfidentialityImpactToTheSubsequentSystem::Negligible) =>
             effective::SubsequentImpact::None,
-        ),
     }
 }
 
-/// The effective value that SI gives.
+/// The effective value of SI, which MSI replaces where it is defined.
 pub(super) fn integrity_impact_to_the_subsequent_system(
-    value: Option<IntegrityImpactToTheSubsequentSystem>,
+    modified: Option<ModifiedIntegrityImpactToTheSubsequentSystem>,
+    base: Option<IntegrityImpactToTheSubsequentSystem>,
 ) -> effective::SafetyImpact
-    ensures { result ≡ meaning safety_impacts (letter_of SI value) }
+    ensures { result ≡ meaning safety_impacts
+        (replaced (letter_of MSI modified) (letter_of SI base)) }
 {
-    match value {
+    let unmodified = match base {
         None | Some(IntegrityImpactToTheSubsequentSystem::High) => effective::SafetyImpact::High,
         Some(IntegrityImpactToTheSubsequentSystem::Low) => effective::SafetyImpact::Low,
         Some(IntegrityImpactToTheSubsequentSystem::None) => effective::SafetyImpact::None,
-    }
-}
-
-/// The effective value that MSI gives, if it is defined.
-pub(super) fn modified_integrity_impact_to_the_subsequent_system(
-    value: Option<ModifiedIntegrityImpactToTheSubsequentSystem>,
-) -> Option<effective::SafetyImpact>
-    ensures { result ≡ if_defined (meaning safety_impacts) (letter_of MSI value) }
-{
-    match value {
-        None | Some(ModifiedIntegrityImpactToTheSubsequentSystem::NotDefined) => None,
-        Some(ModifiedIntegrityImpactToTheSubsequentSystem::Safety) => Some(
+    };
+    match modified {
+        None | Some(ModifiedIntegrityImpactToTheSubsequentSystem::NotDefined) => unmodified,
+        Some(ModifiedIntegrityImpactToTheSubsequentSystem::Safety) =>
             effective::SafetyImpact::Safety,
-        ),
-        Some(ModifiedIntegrityImpactToTheSubsequentSystem::High) => Some(
-            effective::SafetyImpact::High,
-        ),
-        Some(ModifiedIntegrityImpactToTheSubsequentSystem::Low) => Some(
-            effective::SafetyImpact::Low,
-        ),
-        Some(ModifiedIntegrityImpactToTheSubsequentSystem::Negligible) => Some(
+        Some(ModifiedIntegrityImpactToTheSubsequentSystem::High) => effective::SafetyImpact::High,
+        Some(ModifiedIntegrityImpactToTheSubsequentSystem::Low) => effective::SafetyImpact::Low,
+        Some(ModifiedIntegrityImpactToTheSubsequentSystem::Negligible) =>
             effective::SafetyImpact::None,
-        ),
     }
 }
 
-/// The effective value that SA gives.
+/// The effective value of SA, which MSA replaces where it is defined.
 pub(super) fn availability_impact_to_the_subsequent_system(
-    value: Option<AvailabilityImpactToTheSubsequentSystem>,
+    modified: Option<ModifiedAvailabilityImpactToTheSubsequentSystem>,
+    base: Option<AvailabilityImpactToTheSubsequentSystem>,
 ) -> effective::SafetyImpact
-    ensures { result ≡ meaning safety_impacts (letter_of SA value) }
+    ensures { result ≡ meaning safety_impacts
+        (replaced (letter_of MSA modified) (letter_of SA base)) }
 {
-    match value {
+    let unmodified = match base {
         None | Some(AvailabilityImpactToTheSubsequentSystem::High) => effective::SafetyImpact::High,
         Some(AvailabilityImpactToTheSubsequentSystem::Low) => effective::SafetyImpact::Low,
         Some(AvailabilityImpactToTheSubsequentSystem::None) => effective::SafetyImpact::None,
-    }
-}
-
-/// The effective value that MSA gives, if it is defined.
-pub(super) fn modified_availability_impact_to_the_subsequent_system(
-    value: Option<ModifiedAvailabilityImpactToTheSubsequentSystem>,
-) -> Option<effective::SafetyImpact>
-    ensures { result ≡ if_defined (meaning safety_impacts) (letter_of MSA value) }
-{
-    match value {
-        None | Some(ModifiedAvailabilityImpactToTheSubsequentSystem::NotDefined) => None,
-        Some(ModifiedAvailabilityImpactToTheSubsequentSystem::Safety) => Some(
+    };
+    match modified {
+        None | Some(ModifiedAvailabilityImpactToTheSubsequentSystem::NotDefined) => unmodified,
+        Some(ModifiedAvailabilityImpactToTheSubsequentSystem::Safety) =>
             effective::SafetyImpact::Safety,
-        ),
-        Some(ModifiedAvailabilityImpactToTheSubsequentSystem::High) => Some(
+        Some(ModifiedAvailabilityImpactToTheSubsequentSystem::High) =>
             effective::SafetyImpact::High,
-        ),
-        Some(ModifiedAvailabilityImpactToTheSubsequentSystem::Low) => Some(
-            effective::SafetyImpact::Low,
-        ),
-        Some(ModifiedAvailabilityImpactToTheSubsequentSystem::Negligible) => Some(
+        Some(ModifiedAvailabilityImpactToTheSubsequentSystem::Low) => effective::SafetyImpact::Low,
+        Some(ModifiedAvailabilityImpactToTheSubsequentSystem::Negligible) =>
             effective::SafetyImpact::None,
-        ),
     }
 }

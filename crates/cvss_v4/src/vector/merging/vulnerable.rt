@@ -2,9 +2,8 @@
 
 ghost use Rattle.std.specs.Prelude.{◌≡◌};
 ghost use Rattle.cvss_base.specs.declared.v4.MetricType.TheVariants.{MVA, MVC, MVI, VA, VC, VI};
-ghost use Rattle.cvss_v4.specs.private.Defined.{if_defined};
 ghost use Rattle.cvss_v4.specs.Effective.{meaning, vulnerable_impacts};
-ghost use Rattle.cvss_v4.specs.Merging.{letter_of};
+ghost use Rattle.cvss_v4.specs.Merging.{letter_of, replaced};
 
 use crate::metric::base::{
     AvailabilityImpactToTheVulnerableSystem, ConfidentialityImpactToTheVulnerableSystem,
@@ -17,104 +16,76 @@ use crate::metric::environmental::{
 };
 use crate::scoring::effective;
 
-/// The effective value that VC gives.
+/// The effective value of VC, which MVC replaces where it is defined.
 pub(super) fn confidentiality_impact_to_the_vulnerable_system(
-    value: Option<ConfidentialityImpactToTheVulnerableSystem>,
+    modified: Option<ModifiedConfidentialityImpactToTheVulnerableSystem>,
+    base: Option<ConfidentialityImpactToTheVulnerableSystem>,
 ) -> effective::VulnerableImpact
-    ensures { result ≡ meaning vulnerable_impacts (letter_of VC value) }
+    ensures { result ≡ meaning vulnerable_impacts
+        (replaced (letter_of MVC modified) (letter_of VC base)) }
 {
-    match value {
+    let unmodified = match base {
         None | Some(ConfidentialityImpactToTheVulnerableSystem::High) =>
             effective::VulnerableImpact::High,
         Some(ConfidentialityImpactToTheVulnerableSystem::Low) => effective::VulnerableImpact::Low,
         Some(ConfidentialityImpactToTheVulnerableSystem::None) => effective::VulnerableImpact::None,
-    }
-}
-
-/// The effective value that MVC gives, if it is defined.
-pub(super) fn modified_confidentiality_impact_to_the_vulnerable_system(
-    value: Option<ModifiedConfidentialityImpactToTheVulnerableSystem>,
-) -> Option<effective::VulnerableImpact>
-    ensures { result ≡ if_defined (meaning vulnerable_impacts) (letter_of MVC value) }
-{
-    match value {
-        None | Some(ModifiedConfidentialityImpactToTheVulnerableSystem::NotDefined) => None,
-        Some(ModifiedConfidentialityImpactToTheVulnerableSystem::High) => Some(
+    };
+    match modified {
+        None | Some(ModifiedConfidentialityImpactToTheVulnerableSystem::NotDefined) => unmodified,
+        Some(ModifiedConfidentialityImpactToTheVulnerableSystem::High) =>
             effective::VulnerableImpact::High,
-        ),
-        Some(ModifiedConfidentialityImpactToTheVulnerableSystem::Low) => Some(
+        Some(ModifiedConfidentialityImpactToTheVulnerableSystem::Low) =>
             effective::VulnerableImpact::Low,
-        ),
-        Some(ModifiedConfidentialityImpactToTheVulnerableSystem::None) => Some(
+        Some(ModifiedConfidentialityImpactToTheVulnerableSystem::None) =>
             effective::VulnerableImpact::None,
-        ),
     }
 }
 
-/// The effective value that VI gives.
+/// The effective value of VI, which MVI replaces where it is defined.
 pub(super) fn integrity_impact_to_the_vulnerable_system(
-    value: Option<IntegrityImpactToTheVulnerableSystem>,
+    modified: Option<ModifiedIntegrityImpactToTheVulnerableSystem>,
+    base: Option<IntegrityImpactToTheVulnerableSystem>,
 ) -> effective::VulnerableImpact
-    ensures { result ≡ meaning vulnerable_impacts (letter_of VI value) }
+    ensures { result ≡ meaning vulnerable_impacts
+        (replaced (letter_of MVI modified) (letter_of VI base)) }
 {
-    match value {
+    let unmodified = match base {
         None | Some(IntegrityImpactToTheVulnerableSystem::High) =>
             effective::VulnerableImpact::High,
         Some(IntegrityImpactToTheVulnerableSystem::Low) => effective::VulnerableImpact::Low,
         Some(IntegrityImpactToTheVulnerableSystem::None) => effective::VulnerableImpact::None,
-    }
-}
-
-/// The effective value that MVI gives, if it is defined.
-pub(super) fn modified_integrity_impact_to_the_vulnerable_system(
-    value: Option<ModifiedIntegrityImpactToTheVulnerableSystem>,
-) -> Option<effective::VulnerableImpact>
-    ensures { result ≡ if_defined (meaning vulnerable_impacts) (letter_of MVI value) }
-{
-    match value {
-        None | Some(ModifiedIntegrityImpactToTheVulnerableSystem::NotDefined) => None,
-        Some(ModifiedIntegrityImpactToTheVulnerableSystem::High) => Some(
+    };
+    match modified {
+        None | Some(ModifiedIntegrityImpactToTheVulnerableSystem::NotDefined) => unmodified,
+        Some(ModifiedIntegrityImpactToTheVulnerableSystem::High) =>
             effective::VulnerableImpact::High,
-        ),
-        Some(ModifiedIntegrityImpactToTheVulnerableSystem::Low) => Some(
-            effective::VulnerableImpact::Low,
-        ),
-        Some(ModifiedIntegrityImpactToTheVulnerableSystem::None) => Some(
+        Some(ModifiedIntegrityImpactToTheVulnerableSystem::Low) => effective::VulnerableImpact::Low,
+        Some(ModifiedIntegrityImpactToTheVulnerableSystem::None) =>
             effective::VulnerableImpact::None,
-        ),
     }
 }
 
-/// The effective value that VA gives.
+/// The effective value of VA, which MVA replaces where it is defined.
 pub(super) fn availability_impact_to_the_vulnerable_system(
-    value: Option<AvailabilityImpactToTheVulnerableSystem>,
+    modified: Option<ModifiedAvailabilityImpactToTheVulnerableSystem>,
+    base: Option<AvailabilityImpactToTheVulnerableSystem>,
 ) -> effective::VulnerableImpact
-    ensures { result ≡ meaning vulnerable_impacts (letter_of VA value) }
+    ensures { result ≡ meaning vulnerable_impacts
+        (replaced (letter_of MVA modified) (letter_of VA base)) }
 {
-    match value {
+    let unmodified = match base {
         None | Some(AvailabilityImpactToTheVulnerableSystem::High) =>
             effective::VulnerableImpact::High,
         Some(AvailabilityImpactToTheVulnerableSystem::Low) => effective::VulnerableImpact::Low,
         Some(AvailabilityImpactToTheVulnerableSystem::None) => effective::VulnerableImpact::None,
-    }
-}
-
-/// The effective value that MVA gives, if it is defined.
-pub(super) fn modified_availability_impact_to_the_vulnerable_system(
-    value: Option<ModifiedAvailabilityImpactToTheVulnerableSystem>,
-) -> Option<effective::VulnerableImpact>
-    ensures { result ≡ if_defined (meaning vulnerable_impacts) (letter_of MVA value) }
-{
-    match value {
-        None | Some(ModifiedAvailabilityImpactToTheVulnerableSystem::NotDefined) => None,
-        Some(ModifiedAvailabilityImpactToTheVulnerableSystem::High) => Some(
+    };
+    match modified {
+        None | Some(ModifiedAvailabilityImpactToTheVulnerableSystem::NotDefined) => unmodified,
+        Some(ModifiedAvailabilityImpactToTheVulnerableSystem::High) =>
             effective::VulnerableImpact::High,
-        ),
-        Some(ModifiedAvailabilityImpactToTheVulnerableSystem::Low) => Some(
+        Some(ModifiedAvailabilityImpactToTheVulnerableSystem::Low) =>
             effective::VulnerableImpact::Low,
-        ),
-        Some(ModifiedAvailabilityImpactToTheVulnerableSystem::None) => Some(
+        Some(ModifiedAvailabilityImpactToTheVulnerableSystem::None) =>
             effective::VulnerableImpact::None,
-        ),
     }
 }

@@ -1,95 +1,212 @@
-//! The base metrics of a text that is recognised.
+//! The base metrics of a text that is recognised. They stand at fixed places.
 
-ghost use Rattle.std.specs.Prelude.{◌≡◌, IfSome, [], ◌∷◌, ◌++◌};
+ghost use Rattle.std.specs.Prelude.{◌≡◌, IfSome, None, [], ◌∷◌, ◌++◌, drop};
 ghost use Rattle.cvss_base.specs.private.Printing.{slashed_texts};
+ghost use Rattle.cvss_base.specs.private.Walk.{first_missing};
+ghost use Rattle.cvss_base.specs.Text.{slash};
 ghost use Rattle.cvss_base.specs.declared.v4.MetricType.TheVariants.{AC, AT, AV, PR, SA, SC, SI, UI, VA, VC, VI};
+ghost use Rattle.cvss_v4_metric.specs.Table.{metric_component, printed};
+ghost use Rattle.cvss_v4.specs.Table.{rank_of};
 ghost use Rattle.cvss_v4.specs.Vector.{v4};
 
-use super::component_at_sight;
+use super::spelled_by_letter;
+use crate::metric::base::{
+    AttackComplexity, AttackRequirements, AttackVector, AvailabilityImpactToTheSubsequentSystem,
+    AvailabilityImpactToTheVulnerableSystem, ConfidentialityImpactToTheSubsequentSystem,
+    ConfidentialityImpactToTheVulnerableSystem, IntegrityImpactToTheSubsequentSystem,
+    IntegrityImpactToTheVulnerableSystem, PrivilegesRequired, UserInteraction,
+};
 use crate::vector::Vector;
 
-/// The vector with the base metrics with which a text begins, if all of them do.
+/// The vector of the base metrics with which a text begins, if all of them do.
 #[inline(always)]
-pub(super) fn base_at_sight(vector: Vector, text: &[u8]) -> Option<(Vector, &[u8])>
-    ensures text { IfSome result (λ read. text.now
-        ≡ slashed_texts v4 read.0
+pub(super) fn base_at_sight(text: &[u8]) -> Option<(Vector, &[u8])>
+    ensures text { IfSome result (λ read. text.now ≡ slashed_texts v4 read.0
         (AV ∷ AC ∷ AT ∷ PR ∷ UI ∷ VC ∷ VI ∷ VA ∷ SC ∷ SI ∷ SA ∷ []) ++ read.1.now) }
-    ensures kept { IfSome result (λ read. read.0 ≡ record vector {
-      av = read.0.av;
-      ac = read.0.ac;
-      at = read.0.at;
-      pr = read.0.pr;
-      ui = read.0.ui;
-      vc = read.0.vc;
-      vi = read.0.vi;
-      va = read.0.va;
-      sc = read.0.sc;
-      si = read.0.si;
-      sa = read.0.sa;
-    }) }
+    ensures version { IfSome result (λ read. read.0.minor_version ≡ 0) }
+    ensures present { IfSome result (λ read. first_missing v4 read.0 ≡ None) }
+    ensures bare { IfSome result (λ read. slashed_texts v4 read.0 (drop 11 printed) ≡ []) }
 {
-    let (vector, text) = attack_at_sight(vector, text)?;
-    impact_at_sight(vector, text)
-}
-
-/// The vector with the metrics of how the attack is made with which a text begins, if all of them
-/// do.
-#[inline(always)]
-fn attack_at_sight(vector: Vector, text: &[u8]) -> Option<(Vector, &[u8])>
-    ensures text { IfSome result (λ read. text.now
-        ≡ slashed_texts v4 read.0 (AV ∷ AC ∷ AT ∷ PR ∷ UI ∷ []) ++ read.1.now) }
-    ensures kept { IfSome result (λ read. read.0 ≡ record vector {
-      av = read.0.av;
-      ac = read.0.ac;
-      at = read.0.at;
-      pr = read.0.pr;
-      ui = read.0.ui;
-    }) }
-{
-    let (av, text) = component_at_sight(text)?;
-    let (ac, text) = component_at_sight(text)?;
-    let (at, text) = component_at_sight(text)?;
-    let (pr, text) = component_at_sight(text)?;
-    let (ui, text) = component_at_sight(text)?;
-    let vector = Vector {
+    let (av, ac, at, text) = attack_at_sight(text)?;
+    let (pr, ui, text) = access_at_sight(text)?;
+    let (vc, vi, va, text) = vulnerable_at_sight(text)?;
+    let (sc, si, sa, text) = subsequent_at_sight(text)?;
+    let base = Vector {
         av: Some(av),
         ac: Some(ac),
         at: Some(at),
         pr: Some(pr),
         ui: Some(ui),
-        ..vector
-    };
-    Some((vector, text))
-}
-
-/// The vector with the impacts with which a text begins, if all of them do.
-#[inline(always)]
-fn impact_at_sight(vector: Vector, text: &[u8]) -> Option<(Vector, &[u8])>
-    ensures text { IfSome result (λ read. text.now
-        ≡ slashed_texts v4 read.0 (VC ∷ VI ∷ VA ∷ SC ∷ SI ∷ SA ∷ []) ++ read.1.now) }
-    ensures kept { IfSome result (λ read. read.0 ≡ record vector {
-      vc = read.0.vc;
-      vi = read.0.vi;
-      va = read.0.va;
-      sc = read.0.sc;
-      si = read.0.si;
-      sa = read.0.sa;
-    }) }
-{
-    let (vc, text) = component_at_sight(text)?;
-    let (vi, text) = component_at_sight(text)?;
-    let (va, text) = component_at_sight(text)?;
-    let (sc, text) = component_at_sight(text)?;
-    let (si, text) = component_at_sight(text)?;
-    let (sa, text) = component_at_sight(text)?;
-    let vector = Vector {
         vc: Some(vc),
         vi: Some(vi),
         va: Some(va),
         sc: Some(sc),
         si: Some(si),
         sa: Some(sa),
-        ..vector
+        ..Vector::default()
     };
-    Some((vector, text))
+    Some((base, text))
+}
+
+/// The values of the metrics of the attack with which a text begins, and what stands
+/// behind them.
+#[inline(always)]
+fn attack_at_sight(
+    text: &[u8],
+) -> Option<(AttackVector, AttackComplexity, AttackRequirements, &[u8])>
+    ensures { IfSome result (λ read. text.now
+        ≡ slash ∷ metric_component AV (rank_of AV read.0)
+        ++ slash ∷ metric_component AC (rank_of AC read.1)
+        ++ slash ∷ metric_component AT (rank_of AT read.2) ++ read.3.now) }
+{
+    match text {
+        [
+            b'/',
+            b'A',
+            b'V',
+            b':',
+            av,
+            b'/',
+            b'A',
+            b'C',
+            b':',
+            ac,
+            b'/',
+            b'A',
+            b'T',
+            b':',
+            at,
+            rest @ ..,
+        ] => {
+            Some((
+                spelled_by_letter(*av)?,
+                spelled_by_letter(*ac)?,
+                spelled_by_letter(*at)?,
+                rest,
+            ))
+        }
+        _ => None,
+    }
+}
+
+/// The values of the metrics of what the attack needs of others with which a text begins, and what stands
+/// behind them.
+#[inline(always)]
+fn access_at_sight(text: &[u8]) -> Option<(PrivilegesRequired, UserInteraction, &[u8])>
+    ensures { IfSome result (λ read. text.now
+        ≡ slash ∷ metric_component PR (rank_of PR read.0)
+        ++ slash ∷ metric_component UI (rank_of UI read.1) ++ read.2.now) }
+{
+    match text {
+        [
+            b'/',
+            b'P',
+            b'R',
+            b':',
+            pr,
+            b'/',
+            b'U',
+            b'I',
+            b':',
+            ui,
+            rest @ ..,
+        ] => { Some((spelled_by_letter(*pr)?, spelled_by_letter(*ui)?, rest)) }
+        _ => None,
+    }
+}
+
+/// The values of the impacts on the vulnerable system with which a text begins, and what stands
+/// behind them.
+#[inline(always)]
+fn vulnerable_at_sight(
+    text: &[u8],
+) -> Option<
+    (
+        ConfidentialityImpactToTheVulnerableSystem,
+        IntegrityImpactToTheVulnerableSystem,
+        AvailabilityImpactToTheVulnerableSystem,
+        &[u8],
+    ),
+>
+    ensures { IfSome result (λ read. text.now
+        ≡ slash ∷ metric_component VC (rank_of VC read.0)
+        ++ slash ∷ metric_component VI (rank_of VI read.1)
+        ++ slash ∷ metric_component VA (rank_of VA read.2) ++ read.3.now) }
+{
+    match text {
+        [
+            b'/',
+            b'V',
+            b'C',
+            b':',
+            vc,
+            b'/',
+            b'V',
+            b'I',
+            b':',
+            vi,
+            b'/',
+            b'V',
+            b'A',
+            b':',
+            va,
+            rest @ ..,
+        ] => {
+            Some((
+                spelled_by_letter(*vc)?,
+                spelled_by_letter(*vi)?,
+                spelled_by_letter(*va)?,
+                rest,
+            ))
+        }
+        _ => None,
+    }
+}
+
+/// The values of the impacts on subsequent systems with which a text begins, and what stands
+/// behind them.
+#[inline(always)]
+fn subsequent_at_sight(
+    text: &[u8],
+) -> Option<
+    (
+        ConfidentialityImpactToTheSubsequentSystem,
+        IntegrityImpactToTheSubsequentSystem,
+        AvailabilityImpactToTheSubsequentSystem,
+        &[u8],
+    ),
+>
+    ensures { IfSome result (λ read. text.now
+        ≡ slash ∷ metric_component SC (rank_of SC read.0)
+        ++ slash ∷ metric_component SI (rank_of SI read.1)
+        ++ slash ∷ metric_component SA (rank_of SA read.2) ++ read.3.now) }
+{
+    match text {
+        [
+            b'/',
+            b'S',
+            b'C',
+            b':',
+            sc,
+            b'/',
+            b'S',
+            b'I',
+            b':',
+            si,
+            b'/',
+            b'S',
+            b'A',
+            b':',
+            sa,
+            rest @ ..,
+        ] => {
+            Some((
+                spelled_by_letter(*sc)?,
+                spelled_by_letter(*si)?,
+                spelled_by_letter(*sa)?,
+                rest,
+            ))
+        }
+        _ => None,
+    }
 }

@@ -40,7 +40,8 @@ pub(super) fn others_at_sight<'a>(vector: &mut Vector, text: &'a [u8]) -> &'a [u
     } }
 {
     let text = threat_at_sight(vector, text);
-    let text = modified_at_sight(vector, text);
+    let text = modified_attack_at_sight(vector, text);
+    let text = modified_impact_at_sight(vector, text);
     supplemental_at_sight(vector, text)
 }
 
@@ -60,30 +61,6 @@ fn threat_at_sight<'a>(vector: &mut Vector, text: &'a [u8]) -> &'a [u8]
     let text = put_at_sight(&mut vector.cr, text);
     let text = put_at_sight(&mut vector.ir, text);
     put_at_sight(&mut vector.ar, text)
-}
-
-/// Puts the modified metrics with which a text begins into the vector, and gives what stands behind
-/// them.
-#[inline(always)]
-fn modified_at_sight<'a>(vector: &mut Vector, text: &'a [u8]) -> &'a [u8]
-    ensures text { text.now ≡ slashed_texts v4 vector.new
-        (MAV ∷ MAC ∷ MAT ∷ MPR ∷ MUI ∷ MVC ∷ MVI ∷ MVA ∷ MSC ∷ MSI ∷ MSA ∷ []) ++ result.now }
-    ensures kept { vector.new ≡ record vector.old {
-      mav = vector.new.mav;
-      mac = vector.new.mac;
-      mat = vector.new.mat;
-      mpr = vector.new.mpr;
-      mui = vector.new.mui;
-      mvc = vector.new.mvc;
-      mvi = vector.new.mvi;
-      mva = vector.new.mva;
-      msc = vector.new.msc;
-      msi = vector.new.msi;
-      msa = vector.new.msa;
-    } }
-{
-    let text = modified_attack_at_sight(vector, text);
-    modified_impact_at_sight(vector, text)
 }
 
 /// Puts the modified metrics of how the attack is made with which a text begins into the vector,
