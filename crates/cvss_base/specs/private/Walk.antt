@@ -100,6 +100,12 @@ pub record StartsWith {V K : Type 0} (version : Version V K) (piece : List ℕ) 
   pub is : piece ≡ version_piece (value_part piece)
   pub starts : Starts version (value_part piece) v
 
+-- the first piece of the text starts the vector, and these pieces stand behind it
+pub record IsStarted {V K : Type 0} (version : Version V K) (text : List ℕ) (behind : List (List ℕ)) (v : V) : Type 0 where
+  pub piece : List ℕ
+  pub cut : pieces text ≡ piece ∷ behind
+  pub starts : StartsWith version piece v
+
 -- the vector's front is a version piece without a foreign byte
 pub record HasVersionPiece {V K : Type 0} (version : Version V K) (v : V) : Type 0 where
   pub told : List ℕ
