@@ -1,19 +1,17 @@
 -- How pieces come off a text.
 use Rattle.std.proofs.Common.{◌≡◌, ◌↔◌, IsTrue, not, ℕ, ◌+◌, ◌<◌, ◌≤◌, Bool, true, false, cond, eqb, ltb, List, [], ◌∷◌, inl, inr, length, take, drop, Option, Some, None, refl, sym, ap, ◌∙◌, Bor, arith}
-use Rattle.std.specs.Iterator.{MakesProgress, Yields, YieldsFirstRef, item_count}
+use Rattle.std.specs.Iterator.{MakesProgress, item_count}
 use Rattle.std.specs.List.{position, position_or_len}
 use Rattle.std.specs.Option.{option_map_or, unwrap_or, is_some}
 use Rattle.std.specs.Slice.{IsGetRangeResult}
 use Rattle.std.proofs.lemmas.Bool.{ltb-true, ltb-false}
-use Rattle.std.proofs.lemmas.Iterator.Consumers.{YieldsList-from_first, YieldsList-turn}
 use Rattle.std.proofs.lemmas.List.Folds.{list_any_none}
-use Rattle.std.proofs.lemmas.List.{get_or_read, take_all, take_rest}
+use Rattle.std.proofs.lemmas.List.{take_all, take_rest}
 use Rattle.std.proofs.lemmas.List.Splits.{slice_split_none, slice_split_first, length-slice_split}
 use Rattle.std.proofs.lemmas.List.Sums.{fails_before_first}
 use Rattle.std.proofs.lemmas.Option.{cond_some}
 use Rattle.cvss_base.specs.declared.pieces.Pieces.{Pieces}
 use Rattle.cvss_base.specs.private.Pieces.{pieces_left, AreParts, IsWithoutColon}
-use Rattle.cvss_base.specs.Refusal.{piece_at}
 use Rattle.cvss_base.specs.Text.{slash, colon, pieces}
 use Rattle.cvss_base.proofs.TextLemmas.{position-within, colon-parts}
 
@@ -79,9 +77,3 @@ none_left (Some text) none is = (λ holds. absurd (differ none is holds), λ emp
 -- a call that takes the first of what is left comes nearer to the end
 pub MakesProgress-first : {S A B : Type 0} (rest : S → List B) (s t : S) (x : A) (y : B) → rest s ≡ y ∷ rest t → MakesProgress (λ _. Unit {0}) (item_count rest) s (Some x) t
 MakesProgress-first rest s t x y step = record { on = λ finite. (tt, tt, omega (arith, ap length step)); keeps = tt; rests = λ finite. tt }
-
--- in a loop over pieces, the piece of this turn
-pub piece_in_turn : (parts : List (List ℕ)) (start now after : Pieces) (yielded : List (Bor (List ℕ))) (item : Option (Bor (List ℕ))) (piece : Bor (List ℕ)) → pieces_left start ≡ parts → Yields (YieldsFirstRef pieces_left) start yielded now → item ≡ Some piece → YieldsFirstRef pieces_left now item after → (length yielded < length parts) × (piece.now ≡ piece_at parts (length yielded))
-piece_in_turn parts start now after yielded item piece starts yields is step =
-    let turn = YieldsList-turn (YieldsList-from_first (λ x. x.now) pieces_left parts starts) yielded now yields item after piece is step in
-    (turn.0, get_or_read parts (length yielded) piece.now turn.0 turn.1 [])

@@ -113,7 +113,7 @@ module _ (p : ℕ → Bool) where
 pub colons-le : (text : List ℕ) → count_by (λ byte. eqb byte colon) text ≤ foreign_bytes text
 colons-le text = sum_by-le-sum_by _ _ text (λ byte. grind (arith, nat_tests))
 
-slashes-le : (text : List ℕ) → count_by (λ byte. eqb byte slash) text ≤ foreign_bytes text
+pub slashes-le : (text : List ℕ) → count_by (λ byte. eqb byte slash) text ≤ foreign_bytes text
 slashes-le text = sum_by-le-sum_by _ _ text (λ byte. grind (arith, nat_tests))
 
 beyond-le : (text : List ℕ) → count_by (ltb 127) text ≤ foreign_bytes text

@@ -1,17 +1,21 @@
 -- The steps of the walk over the components.
-use Rattle.std.proofs.Common.{◌≡◌, ℕ, ◌+◌, ◌<◌, ◌≤◌, List, [], ◌∷◌, length, take, Option, Some, None, IsSome, below_more, refl, sym, ap, ◌∙◌, subst, arith}
-use Rattle.std.specs.List.{filter_map}
-use Rattle.std.proofs.lemmas.List.{get_or-take, take_more, take_all, length-take-le}
-use Rattle.std.proofs.lemmas.List.Splits.{join_with_byte-slice_split}
+use Rattle.std.proofs.Common.{◌≡◌, ℕ, ◌+◌, ◌<◌, ◌≤◌, List, [], ◌∷◌, length, ◌++◌, take, drop, false, Option, Some, None, IsSome, below_more, refl, sym, ap, ◌∙◌, subst, arith}
+use Rattle.std.specs.List.{All, filter_map, onto_first}
+use Rattle.std.proofs.lemmas.List.{get_or-take, take_more, take_all, length-take-le, length-drop, drop_more, get_or-drop}
+use Rattle.std.proofs.lemmas.List.Elements.{All-head, All-tail, All-drop}
+use Rattle.std.proofs.lemmas.List.Splits.{join_with_byte-slice_split, length-slice_split, slice_split-cons_no}
 use Rattle.std.proofs.lemmas.Option.{none-some}
 use Rattle.std.proofs.lemmas.List.Sorted.{IsPermutation-refl}
-use Rattle.cvss_base.specs.Text.{slash, pieces, IsComponent, name_part, value_part, component}
+use Rattle.std.specs.Str.{IsUtf8}
+use Rattle.cvss_base.specs.Text.{slash, colon, pieces, IsComponent, name_part, value_part, component}
 use Rattle.cvss_base.specs.private.Pieces.{AreParts}
 use Rattle.cvss_base.specs.Version.{Version, read, component_of, AreComponentsOf, Denotes}
-use Rattle.cvss_base.specs.Refusal.{Refusal, BadComponent, WrongPrefix, WrongVersion, UnknownName, BadValue, Repeated, Missing, IsSpelling, piece_at, FaultAt, IsNamedBefore, IsFirstFault, IsFirstMissing}
-use Rattle.cvss_base.specs.private.Walk.{IsLawful, IsCut, foreign_bytes, HasNoValue, Puts, Adds, HasRead, IsFaultOf, LacksFirst}
-use Rattle.cvss_base.proofs.TextLemmas.{name_part-read, value_part-read, name_part-component, value_part-component, foreign_bytes-read, IsComponent-component}
+use Rattle.cvss_base.specs.Refusal.{Refusal, AreComponentsBefore, BadComponent, WrongPrefix, WrongVersion, UnknownName, BadValue, Repeated, Missing, IsSpelling, piece_at, FaultAt, IsNamedBefore, IsFirstFault, IsFirstMissing}
+use Rattle.cvss_base.specs.private.Walk.{IsLawful, IsCut, IsCutFirst, IsReadFirst, foreign_bytes, HasNoValue, Puts, Adds, HasRead, IsFaultOf, LacksFirst}
+use Rattle.cvss_base.proofs.TextLemmas.{name_part-read, value_part-read, name_part-component, value_part-component, foreign_bytes-read, slashes-le, IsComponent-component}
+use Rattle.cvss_base.proofs.JoinLemmas.{All-from_count}
 use Rattle.cvss_base.proofs.LawLemmas.{name_plain, names_differ}
+use Rattle.cvss_base.proofs.PieceLemmas.{is_slash}
 use Rattle.cvss_base.proofs.ComponentLemmas.{adds_component, held_stands, piece_held}
 
 -- the value that is there
@@ -22,9 +26,28 @@ value_from (Some value) is = (value, refl)
 none_absent : {A : Type 0} (option : Option A) → option ≡ None → IsSome option → ⊥
 none_absent option none is = let value = value_from option is in none-some value.0 (sym none ∙ value.1)
 
+-- pieces that begin with bytes that are no slash
+onto_first_piece : (front rest first : List ℕ) (behind : List (List ℕ)) → All (λ byte. is_slash byte ≡ false) front → pieces rest ≡ first ∷ behind → pieces (front ++ rest) ≡ (front ++ first) ∷ behind
+onto_first_piece [] rest first behind none found = found
+onto_first_piece (byte ∷ front) rest first behind none found =
+    slice_split-cons_no is_slash byte (front ++ rest) (All-head (λ each. is_slash each ≡ false) byte front none)
+    ∙ ap (onto_first byte) (onto_first_piece front rest first behind (All-tail (λ each. is_slash each ≡ false) byte front none) found)
+
+pieces-behind : (name rest value : List ℕ) (behind : List (List ℕ)) → foreign_bytes name ≡ 0 → pieces rest ≡ value ∷ behind → pieces (component name rest) ≡ component name value ∷ behind
+pieces-behind name rest value behind plain found =
+    onto_first_piece name (colon ∷ rest) (colon ∷ value) behind (All-from_count is_slash name (omega (arith, slashes-le name, plain)))
+    (slice_split-cons_no is_slash colon rest refl ∙ ap (onto_first colon) found)
+
 -- a piece that is cut behind a metric's name is cut at its first colon
 pub AreParts-cut : {V K : Type 0} (version : Version V K) {piece value : List ℕ} {kind : K} → IsCut version piece kind value → AreParts piece (name_part piece) value
 AreParts-cut version is = record { cut = is.cut; name_is = refl; value_is = is.value_is }
+
+-- the vector holds the components before those that are left, none of which has a fault
+pub record HasReadTo {V K : Type 0} (version : Version V K) (parts left : List (List ℕ)) (v : V) : Type 0 where
+  pub place : ℕ
+  pub within : place ≤ length parts
+  pub left_is : left ≡ drop place parts
+  pub read : HasRead version parts place v
 
 module _ {V K : Type 0} (version : Version V K) (lawful : IsLawful version) where
   -- the name and the value of a piece that stands for a component
@@ -77,6 +100,22 @@ module _ {V K : Type 0} (version : Version V K) (lawful : IsLawful version) wher
     no_fault_at new adds (WrongVersion told) fault = fault
     no_fault_at new adds (Missing kind) fault = fault
 
+  -- a text that begins with a metric's name and a colon: no slash stands before the value
+  pub IsCutFirst-behind : (text rest value : List ℕ) (kind : K) (behind : List (List ℕ)) → IsCut version text kind rest → pieces rest ≡ value ∷ behind → IsCutFirst version text kind value behind
+  IsCutFirst-behind text rest value kind behind is found =
+      let name = name_part text in
+      let plain : foreign_bytes name ≡ 0 = sym (foreign_bytes-read version.any_case name) ∙ (ap foreign_bytes (sym is.named) ∙ name_plain version lawful kind) in
+      let same_name : name_part (component name value) ≡ name = name_part-component name value plain in
+      record {
+        piece = component name value;
+        first = ap pieces is.cut ∙ pieces-behind name rest value behind plain found;
+        is = record {
+          named = is.named ∙ ap (read version) (sym same_name);
+          value_is = sym (value_part-component name value plain);
+          cut = ap (λ each. component each value) (sym same_name);
+        };
+      }
+
   -- a piece that was read has one colon, since no name and no value has one
   pub IsComponent-read : (old new : V) (piece name value : List ℕ) (kind : K) → AreParts piece name value → version.name kind ≡ read version name → Puts version old kind (read version value) new → IsComponent piece
   IsComponent-read old new piece name value kind parts named puts =
@@ -104,6 +143,36 @@ module _ {V K : Type 0} (version : Version V K) (lawful : IsLawful version) wher
 
     pub IsFirstFault-at : (v : V) (reason : Refusal K) → IsFaultOf version v piece reason → HasRead version parts place v → IsFirstFault version parts reason
     IsFirstFault-at v reason fault before = record { place = place; within = within; fault = fault_at v parts place (omega arith) before.components reason (subst (λ text. IsFaultOf version v text reason) here fault); earlier = before.faultless }
+
+  pub HasReadTo-start : (parts : List (List ℕ)) (v : V) → HasNoValue version v → HasReadTo version parts parts v
+  HasReadTo-start parts v empty = record { place = 0; within = omega arith; left_is = refl; read = HasRead-none parts v empty }
+
+  pub HasReadTo-all : (parts left : List (List ℕ)) (v : V) → left ≡ [] → HasReadTo version parts left v → HasRead version parts (length parts) v
+  HasReadTo-all parts left v none to =
+      let all : to.place ≡ length parts = omega (arith, to.within, ap length (sym to.left_is ∙ none), length-drop to.place parts) in
+      subst (λ place. HasRead version parts place v) all to.read
+
+  -- the first piece of what is left stands at the place up to which is read
+  module _ (parts left : List (List ℕ)) (text : List ℕ) (v : V) (cut : left ≡ pieces text) (to : HasReadTo version parts left v) where
+    pub place_within : to.place < length parts
+    place_within = omega (arith, ap length (sym to.left_is ∙ cut), length-slice_split is_slash text, length-drop to.place parts)
+
+    pub first_at_place : piece_at (pieces text) 0 ≡ piece_at parts to.place
+    first_at_place = ap (λ list. piece_at list 0) (sym cut ∙ to.left_is) ∙ (get_or-drop to.place parts 0 [] ∙ ap (piece_at parts) (omega arith))
+
+    pub first_utf8 : All IsUtf8 parts → All IsUtf8 (pieces text)
+    first_utf8 all = subst (All IsUtf8) (sym to.left_is ∙ cut) (All-drop IsUtf8 to.place parts all)
+
+    pub HasReadTo-more : (new : V) (behind : List (List ℕ)) → IsReadFirst version text v new behind → HasReadTo version parts behind new
+    HasReadTo-more new behind first =
+        let here : first.piece ≡ piece_at parts to.place = ap (λ list. piece_at list 0) (sym first.first) ∙ first_at_place in
+        let both : first.piece ∷ behind ≡ piece_at parts to.place ∷ drop (to.place + 1) parts = sym first.first ∙ (sym cut ∙ (to.left_is ∙ drop_more parts to.place [] place_within)) in
+        let rest : behind ≡ drop (to.place + 1) parts = cc in
+        record { place = to.place + 1; within = omega (arith, place_within); left_is = rest; read = HasRead-more parts to.place place_within first.piece here v new first.component first.adds to.read }
+
+    pub IsFirstFault-first : (reason : Refusal K) → (IsComponent (piece_at (pieces text) 0) → IsFaultOf version v (piece_at (pieces text) 0) reason) → AreComponentsBefore parts (length parts) → IsFirstFault version parts reason
+    IsFirstFault-first reason fault components =
+        IsFirstFault-at parts to.place place_within (piece_at (pieces text) 0) first_at_place v reason (fault (rw first_at_place (components.each to.place place_within))) to.read
 
   pub AreComponentsOf-all : (parts : List (List ℕ)) (v : V) → HasRead version parts (length parts) v → AreComponentsOf version parts v
   AreComponentsOf-all parts v all = rw (take_all (length parts) parts (omega arith)) at all.components

@@ -13,7 +13,16 @@ pub struct Pieces<'a> {
     rest: Option<&'a [u8]>,
 }
 
-impl Pieces<'_> {
+impl<'a> Pieces<'a> {
+    /// The text that the pieces left are cut from, if there are some.
+    #[inline(always)]
+    pub(crate) fn text(&self) -> Option<&'a [u8]>
+        ensures { MatchOption result (pieces_left self.now ≡ [])
+            (λ text. pieces_left self.now ≡ pieces text.now) }
+    {
+        self.rest
+    }
+
     /// Whether no piece is left.
     pub fn is_empty(&self) -> bool
         ensures { IsTrue result ↔ (pieces_left self.now ≡ []) }

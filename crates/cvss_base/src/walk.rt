@@ -1,16 +1,16 @@
 //! The walk over a vector's components, once for all versions. It takes no memory: a fault borrows
 //! the part of the text that it names.
 
-ghost use Rattle.std.specs.Prelude.{◌≡◌, ◌≢◌, ◌↔◌, IsTrue, bytes_eq, find, IfSome, IfOk, IfErr, OnOk, OnErr, IsErrAnd, Ok, [], length};
+ghost use Rattle.std.specs.Prelude.{◌≡◌, ◌≢◌, ◌↔◌, ℕ, List, IsTrue, bytes_eq, find, IfSome, IfOk, IfErr, OnOk, OnErr, IsErrAnd, Ok, [], length};
 ghost use Rattle.std.specs.List.{All};
 ghost use Rattle.std.specs.Str.{IsUtf8};
 ghost use Rattle.cvss_base.specs.private.Pieces.{pieces_left};
-ghost use Rattle.cvss_base.specs.Text.{IsComponent, name_part, raised, read_as};
+ghost use Rattle.cvss_base.specs.Text.{IsComponent, name_part, pieces, raised, read_as};
 ghost use Rattle.cvss_base.specs.Version.{Version, read, Denotes, IsComplete};
-ghost use Rattle.cvss_base.specs.Refusal.{AreComponentsBefore, Refusal, IsFirstFault, IsFirstReason, IsFirstRefusal};
-ghost use Rattle.cvss_base.specs.private.Walk.{HasNoValue, IsEmpty, IsPut, IsCut, IsLawful, Adds, HasRead, IsFaultOf, first_missing, IsTellable, reason_of};
+ghost use Rattle.cvss_base.specs.Refusal.{AreComponentsBefore, Refusal, piece_at, IsFirstFault, IsFirstReason, IsFirstRefusal};
+ghost use Rattle.cvss_base.specs.private.Walk.{HasNoValue, IsEmpty, IsPut, IsCut, IsCutFirst, IsReadFirst, IsLawful, Puts, Adds, HasRead, IsFaultOf, first_missing, IsTellable, reason_of};
 
-use crate::pieces::{Pieces, first_bad_piece, parts_of, pieces_of};
+use crate::pieces::{Pieces, first_bad_piece, front_of, parts_of, pieces_of};
 
 /// Why a value does not go into a vector.
 #[derive(Clone, Copy, Debug, PartialEq, Eq)]
@@ -126,11 +126,65 @@ pub fn read_component<'a, V: Components>(
     ensures tellable { IsUtf8 piece.now → IfErr result (IsTellable V.version) }
 {
     let (kind, value) = cut_component::<V>(piece)?;
+    put_component(kind, value, vector)
+}
+
+/// Puts a component, which is cut, into the vector.
+fn put_component<'a, V: Components>(
+    kind: V::Kind,
+    value: &'a [u8],
+    vector: &mut V,
+) -> Result<(), Fault<'a, V::Kind>>
+    ensures put { OnOk result
+        (Puts V.version vector.old kind (read V.version value.now) vector.new) }
+    ensures refused { IfErr result (λ fault. (piece : List ℕ) → IsCut V.version piece kind value.now
+        → IsFaultOf V.version vector.old piece (reason_of V.version fault)) }
+    ensures tellable { IsUtf8 value.now → IfErr result (IsTellable V.version) }
+{
     match vector.put(kind, value) {
         Ok(()) => Ok(()),
         Err(Slip::Invalid) => Err(Fault::InvalidMetric(V::blamed(kind), value)),
         Err(Slip::Repeated) => Err(Fault::DuplicateMetric(kind)),
     }
+}
+
+/// The metric that the first piece of a text names, the value behind its colon, and the pieces behind
+/// that. The end of the piece is sought behind the colon, since no name has a slash.
+#[inline(always)]
+fn cut_first<'a, V: Components>(
+    text: &'a [u8],
+) -> Result<(V::Kind, &'a [u8], Pieces<'a>), Fault<'a, V::Kind>>
+    ensures cut { IfOk result (λ cut.
+        IsCutFirst V.version text.now cut.0 cut.1.now (pieces_left cut.2)) }
+    ensures refused { IfErr result (λ fault. (v : V) → IsComponent (piece_at (pieces text.now) 0)
+        → IsFaultOf V.version v (piece_at (pieces text.now) 0) (reason_of V.version fault)) }
+    ensures tellable { All IsUtf8 (pieces text.now) → IfErr result (IsTellable V.version) }
+{
+    if let Some(cut) = V::cut(text) {
+        let (value, left) = front_of(cut.1);
+        return Ok((cut.0, value, left));
+    }
+    let (piece, left) = front_of(text);
+    let (kind, value) = cut_component::<V>(piece)?;
+    Ok((kind, value, left))
+}
+
+/// Reads the first component of a text into the vector, and gives the pieces behind it.
+#[inline(always)]
+fn read_first<'a, V: Components>(
+    text: &'a [u8],
+    vector: &mut V,
+) -> Result<Pieces<'a>, Fault<'a, V::Kind>>
+    ensures read { IfOk result (λ left.
+        IsReadFirst V.version text.now vector.old vector.new (pieces_left left)) }
+    ensures refused { IfErr result (λ fault. IsComponent (piece_at (pieces text.now) 0)
+        → IsFaultOf V.version vector.old (piece_at (pieces text.now) 0)
+        (reason_of V.version fault)) }
+    ensures tellable { All IsUtf8 (pieces text.now) → IfErr result (IsTellable V.version) }
+{
+    let (kind, value, left) = cut_first::<V>(text)?;
+    put_component(kind, value, vector)?;
+    Ok(left)
 }
 
 /// Reads the components that are left of a text into the vector.
@@ -149,8 +203,9 @@ fn read_components<'a, V: Components>(
         → IsFirstFault V.version (pieces_left left.entry) (reason_of V.version fault)) }
     ensures tellable { All IsUtf8 (pieces_left left.entry) → IfErr result (IsTellable V.version) }
 {
-    for piece in left {
-        read_component(piece, vector)?;
+    let mut rest = left;
+    while let Some(text) = rest.text() {
+        rest = read_first(text, vector)?;
     }
     Ok(())
 }

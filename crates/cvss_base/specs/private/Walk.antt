@@ -8,7 +8,7 @@ use Rattle.cvss_base.specs.declared.walk.Slip.TheVariants.{Invalid, Repeated as 
 use Rattle.cvss_base.specs.declared.walk.Fault.{Fault}
 use Rattle.cvss_base.specs.declared.walk.Fault.TheVariants.{InvalidComponent, InvalidPrefix, UnsupportedVersion, UnknownMetric, InvalidMetric, DuplicateMetric, MissingMandatoryMetric}
 use Rattle.cvss_base.specs.laws.Order.{place_in}
-use Rattle.cvss_base.specs.Text.{slash, colon, pieces, name_part, value_part, component}
+use Rattle.cvss_base.specs.Text.{slash, colon, pieces, IsComponent, name_part, value_part, component}
 use Rattle.cvss_base.specs.Version.{Version, read, reading, version_piece, AreComponentsOf, IsComplete}
 use Rattle.cvss_base.specs.Refusal.{Refusal, BadComponent, WrongPrefix, WrongVersion, UnknownName, BadValue, Repeated, Missing, IsSpelling, Spells, HasNoFaultBefore, IsWrongPrefix, IsWrongVersion}
 
@@ -83,6 +83,12 @@ pub record IsCut {V K : Type 0} (version : Version V K) (piece : List ℕ) (kind
   pub value_is : value ≡ value_part piece
   pub cut : piece ≡ component (name_part piece) value
 
+-- the first piece of the text is such a component, and these pieces stand behind it
+pub record IsCutFirst {V K : Type 0} (version : Version V K) (text : List ℕ) (kind : K) (value : List ℕ) (behind : List (List ℕ)) : Type 0 where
+  pub piece : List ℕ
+  pub first : pieces text ≡ piece ∷ behind
+  pub is : IsCut version piece kind value
+
 -- why a piece starts no vector
 abbrev pub IsFrontFault : {V K : Type 0} → Version V K → List ℕ → Refusal K → Type 0
 IsFrontFault version piece (WrongPrefix prefix) = IsWrongPrefix piece prefix
@@ -99,6 +105,12 @@ pub record Starts {V K : Type 0} (version : Version V K) (told : List ℕ) (v : 
 pub record StartsWith {V K : Type 0} (version : Version V K) (piece : List ℕ) (v : V) : Type 0 where
   pub is : piece ≡ version_piece (value_part piece)
   pub starts : Starts version (value_part piece) v
+
+-- the first piece of the text starts the vector, and these pieces stand behind it
+pub record IsStarted {V K : Type 0} (version : Version V K) (text : List ℕ) (behind : List (List ℕ)) (v : V) : Type 0 where
+  pub piece : List ℕ
+  pub cut : pieces text ≡ piece ∷ behind
+  pub starts : StartsWith version piece v
 
 -- the vector's front is a version piece without a foreign byte
 pub record HasVersionPiece {V K : Type 0} (version : Version V K) (v : V) : Type 0 where
@@ -127,6 +139,13 @@ pub record Adds {V K : Type 0} (version : Version V K) (old : V) (piece : List �
   pub kind : K
   pub named : version.name kind ≡ read version (name_part piece)
   pub puts : Puts version old kind (read version (value_part piece)) new
+
+-- the first piece of the text is a component, which goes into the vector, and these pieces stand behind it
+pub record IsReadFirst {V K : Type 0} (version : Version V K) (text : List ℕ) (old new : V) (behind : List (List ℕ)) : Type 0 where
+  pub piece : List ℕ
+  pub first : pieces text ≡ piece ∷ behind
+  pub component : IsComponent piece
+  pub adds : Adds version old piece new
 
 -- the vector holds the components before this place, none of which has a fault
 pub record HasRead {V K : Type 0} (version : Version V K) (parts : List (List ℕ)) (place : ℕ) (v : V) : Type 0 where
