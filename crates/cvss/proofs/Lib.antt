@@ -1,6 +1,7 @@
 mod AnswerLemmas
 mod JsonLemmas
 mod LawLemmas
+mod ReadLemmas
 mod RouteLemmas
 mod SightLemmas
 mod ToldLemmas

@@ -223,3 +223,7 @@ cut_routed text piece prefix told (next ∷ more) to cut some parts is =
 -- the first piece of a text
 pub first_utf8 : (text piece : List ℕ) (rest : List (List ℕ)) → pieces text ≡ piece ∷ rest → IsUtf8 text → IsUtf8 piece
 first_utf8 text piece rest cut is = All-head IsUtf8 piece rest (subst (All IsUtf8) cut (IsUtf8-pieces text is))
+
+-- a version piece, from its parts
+pub version_cut : (prefix told version : List ℕ) (left : List (List ℕ)) → prefix ≡ codes "CVSS" → told ≡ version → component prefix told ∷ left ≡ version_piece version ∷ left
+version_cut prefix told version left is_prefix is_version = rw (is_prefix, is_version) refl

@@ -1,13 +1,13 @@
 -- A version's error tells of all metrics what it tells of that version's.
 use Rattle.std.proofs.Common.{◌≡◌, inl, inr, Some, Option, IfSome, refl, subst, ◌∙◌}
 use Rattle.cvss_base.specs.Refusal.{Refusal, BadComponent, WrongPrefix, WrongVersion, UnknownName, BadValue, Repeated, Missing, carries_text}
-use Rattle.cvss_base.specs.Told.{Tells, TellsFirst, reason_told}
+use Rattle.cvss_base.specs.Told.{Tells, reason_told}
 use Rattle.cvss_base.specs.V2Types.{v2_reason}
 use Rattle.cvss_base.specs.V3Types.{v3_reason}
 use Rattle.cvss_base.specs.V4Types.{v4_reason}
 use Rattle.cvss_base.specs.declared.error.Error.{Error}
 use Rattle.cvss_base.specs.declared.error.Error.TheVariants.{InvalidComponent, InvalidPrefix, UnsupportedVersion, InvalidMetricV2, DuplicateMetricV2, MissingMandatoryMetricV2, InvalidMetricV3, DuplicateMetricV3, InvalidMetricV4, DuplicateMetricV4, MissingMandatoryMetricV4, UnknownMetric}
-use Rattle.cvss.specs.Dispatch.{IsReasonOf, wrapped, cvss_reason}
+use Rattle.cvss.specs.Dispatch.{wrapped, cvss_reason}
 use Rattle.cvss.specs.declared.metric_type.MetricType.{MetricType}
 use Rattle.cvss.specs.declared.metric_type.MetricType.TheVariants.{V2, V3, V4}
 
@@ -57,10 +57,3 @@ module _ {K : Type 0} (wrap : K → MetricType) (own : Error → Option (Refusal
   pub tells_wrapped : (reason : Refusal K) (error : Error) → Tells own reason error → Tells cvss_reason (wrapped wrap reason) error
   tells_wrapped reason error (inl told) = inl (subst (λ each. IfSome each (λ known. reason_told cvss_reason error ≡ Some (wrapped wrap known))) told (wraps error))
   tells_wrapped reason error (inr lacking) = inr (lacking.0, carries-wrapped wrap reason ∙ lacking.1)
-
-  pub tells_first_wrapped : (IsFirst : Refusal K → Type 0) (error : Error) → TellsFirst own IsFirst error → TellsFirst cvss_reason (IsReasonOf wrap IsFirst) error
-  tells_first_wrapped IsFirst error tells = record {
-    reason = wrapped wrap tells.reason;
-    first = record { own = tells.reason; first = tells.first; is = refl };
-    told = tells_wrapped tells.reason error tells.told;
-  }

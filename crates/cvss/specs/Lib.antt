@@ -1,4 +1,5 @@
 pub mod Answers
+pub mod Bytes
 pub mod Dispatch
 pub mod Json
 pub mod MetricTypes

@@ -5,15 +5,18 @@
 //! [`json`] writes them as JSON strings and reads them back.
 #![tactic(auto)]
 
+mod bytes_error;
 pub mod json;
 pub mod laws;
 mod metric_type;
 mod metrics;
 mod published;
+mod reading;
 mod route;
 mod sight;
 mod vector;
 
+pub use bytes_error::BytesError;
 pub use cvss_base::{Error, LIMIT, ONE, OneDecimal, PREFIX, Severity, tenths};
 pub use cvss_v2 as v2;
 pub use cvss_v3 as v3;

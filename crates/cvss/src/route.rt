@@ -1,12 +1,14 @@
 //! By the rules of which version a text is read.
 
-ghost use Rattle.std.specs.Prelude.{◌≡◌, IfOk, Some};
+ghost use Rattle.std.specs.Prelude.{◌≡◌, ◌∷◌, IfOk, Some};
 ghost use Rattle.std.specs.Str.{IsUtf8};
 ghost use Rattle.cvss_base.specs.Told.{Tells, reason_told};
+ghost use Rattle.cvss_base.specs.Text.{component, pieces};
+ghost use Rattle.cvss_base.specs.private.Pieces.{pieces_left};
 ghost use Rattle.cvss.specs.Dispatch.{route_of, route_of_parts, cvss_reason};
-ghost use Rattle.cvss.specs.private.Steps.{as_route, IsTellable, IsTellableRoute, reason_of};
+ghost use Rattle.cvss.specs.private.Steps.{as_route, IsBehindVersion, IsTellable, IsTellableRoute, reason_of};
 
-use cvss_base::pieces::{front_of, parts_of};
+use cvss_base::pieces::{Pieces, front_of, parts_of};
 use cvss_base::text::copied_text;
 use cvss_base::{Error, PREFIX};
 use std::alloc::{AllocError, Global};
@@ -15,9 +17,10 @@ use std::alloc::{AllocError, Global};
 #[derive(Clone, Copy, Debug)]
 pub(crate) enum Route<'a> {
     V20,
-    V30,
-    V31,
-    V40,
+    /// Each of these with the pieces behind the one that tells the version.
+    V30(Pieces<'a>),
+    V31(Pieces<'a>),
+    V40(Pieces<'a>),
     None(Fault<'a>),
 }
 
@@ -35,6 +38,7 @@ pub(crate) enum Fault<'a> {
 /// By the rules of which version a text is read.
 pub(crate) fn route_of_text(text: &[u8]) -> Route<'_>
     ensures route { as_route result ≡ route_of text.now }
+    ensures behind { IsBehindVersion (pieces text.now) result }
     ensures tellable { IsUtf8 text.now → IsTellableRoute result }
 {
     let (front, behind) = front_of(text);
@@ -42,14 +46,15 @@ pub(crate) fn route_of_text(text: &[u8]) -> Route<'_>
         return Route::None(Fault::InvalidComponent(front));
     }
     match parts_of(front) {
-        Some((prefix, told)) => route_by(prefix, told),
+        Some((prefix, told)) => route_by(prefix, told, behind),
         None => Route::None(Fault::InvalidComponent(front)),
     }
 }
 
 /// By which rules a text is read whose first piece has this prefix and tells this version.
-fn route_by<'a>(prefix: &'a [u8], told: &'a [u8]) -> Route<'a>
+fn route_by<'a>(prefix: &'a [u8], told: &'a [u8], behind: Pieces<'a>) -> Route<'a>
     ensures route { as_route result ≡ route_of_parts prefix.now told.now }
+    ensures behind { IsBehindVersion (component prefix.now told.now ∷ pieces_left behind.entry) result }
     ensures tellable { IsUtf8 prefix.now → IsUtf8 told.now → IsTellableRoute result }
 {
     if !told.contains(&b'.') {
@@ -58,12 +63,16 @@ fn route_by<'a>(prefix: &'a [u8], told: &'a [u8]) -> Route<'a>
     if prefix != PREFIX.as_bytes() {
         return Route::None(Fault::InvalidPrefix(prefix));
     }
-    match told {
-        b"3.0" => Route::V30,
-        b"3.1" => Route::V31,
-        b"4.0" => Route::V40,
-        _ => Route::None(Fault::UnsupportedVersion(told)),
+    if told == "3.1".as_bytes() {
+        return Route::V31(behind);
     }
+    if told == "4.0".as_bytes() {
+        return Route::V40(behind);
+    }
+    if told == "3.0".as_bytes() {
+        return Route::V30(behind);
+    }
+    Route::None(Fault::UnsupportedVersion(told))
 }
 
 /// The error that tells a fault, or that there is no memory for the text that the fault names.

@@ -1,13 +1,14 @@
 //! A vector of any version.
 
-ghost use Rattle.std.specs.Prelude.{◌≡◌, ◌≤◌, ◌↔◌, IsTrue, IfSome, IsSome, IfOk, IfErr, IsErrAnd, Some, Ok, ℤ};
+ghost use Rattle.std.specs.Prelude.{◌≡◌, ◌≤◌, ◌↔◌, IsTrue, IfSome, IsSome, IfOk, OnOk, IfErr, IsErrAnd, Some, Ok, Err, ℤ};
 ghost use Rattle.cvss.specs.Answers.{text_of};
 
+use crate::bytes_error::BytesError;
 use crate::metrics::Metrics;
 use crate::published::{Bounds, Published};
-use crate::route::{Route, error_of, route_of_text};
+use crate::reading::{bytes_error_of, error_of, read};
 use crate::{v2, v3, v4};
-use cvss_base::tenths::{tenths_of, text_of as text_of_tenths};
+use cvss_base::tenths::text_of as text_of_tenths;
 use cvss_base::{Error, Severity, severity_of_score};
 use std::alloc::Global;
 use std::fmt;
@@ -31,9 +32,11 @@ impl Cvss {
     ghost use Rattle.cvss_base.specs.Tenths.{IsInTenths, IsFromZeroToTen};
     ghost use Rattle.cvss_base.specs.Told.{Tells, TellsFirst};
     ghost use Rattle.cvss.specs.Answers.{HasScore, IsScoreOf, IsScoreText, score_of_tenths, rating_by, metrics_of};
+    ghost use Rattle.cvss.specs.Bytes.{IsRefusedAs, TellsWhyNot};
     ghost use Rattle.cvss.specs.Dispatch.{DenotesCvss, IsFirstRefusalCvss, cvss_reason};
     ghost use Rattle.cvss.specs.MetricsLeft.{metrics_left};
     ghost use Rattle.cvss.specs.Published.{IsPublished, rating_within};
+    ghost use Rattle.cvss.specs.declared.bytes_error.BytesError.TheVariants.{NotUtf8};
     ghost use Rattle.cvss.specs.declared.metric_type.MetricType.{MetricType};
 
     /// The vector that a text denotes, by the rules of the version that it tells: CVSS v3.0, v3.1
@@ -58,12 +61,35 @@ impl Cvss {
         ensures refuses { (reason : Refusal MetricType) → IsFirstRefusalCvss text.now reason
             → IsErrAnd result (Tells cvss_reason reason) }
     {
-        match route_of_text(text.as_bytes()) {
-            Route::V20 => v2::Vector::from_str(alloc, text).map(Cvss::CvssV20),
-            Route::V30 => v3::Vector::from_str(alloc, text).map(Cvss::CvssV30),
-            Route::V31 => v3::Vector::from_str(alloc, text).map(Cvss::CvssV31),
-            Route::V40 => v4::Vector::from_str(alloc, text).map(Cvss::CvssV40),
-            Route::None(fault) => Err(error_of(alloc, fault)),
+        match read(text.as_bytes()) {
+            Ok(cvss) => Ok(cvss),
+            Err(fault) => Err(error_of(alloc, fault)),
+        }
+    }
+
+    /// The same of bytes, which are read once: whether they are UTF-8 is asked only where they are
+    /// refused, since a text that is accepted is ASCII.
+    ///
+    /// # Errors
+    ///
+    /// `NotUtf8` for bytes that are no text, and else the error of `from_str`.
+    pub fn from_bytes(alloc: Global, text: &[u8]) -> Result<Cvss, BytesError>
+        // Accepted: what is given is what the text denotes, and each such vector is given; it has a
+        // score.
+        ensures denoted { IfOk result (λ cvss. DenotesCvss text.now cvss) }
+        ensures accepts { (cvss : Cvss) → DenotesCvss text.now cvss → result ≡ Ok cvss }
+        ensures scored { IfOk result (λ cvss. HasScore cvss) }
+        ensures utf8 { OnOk result (IsUtf8 text.now) }
+        // Refused: as no text wherever it is none, and else for the first reason, and wherever there
+        // is one. Memory is the answer only where the reason carries text.
+        ensures refused { IfErr result (TellsWhyNot text.now) }
+        ensures not_utf8 { ¬ (IsUtf8 text.now) → result ≡ Err NotUtf8 }
+        ensures refuses { (reason : Refusal MetricType) → IsFirstRefusalCvss text.now reason
+            → IsErrAnd result (IsRefusedAs text.now reason) }
+    {
+        match read(text) {
+            Ok(cvss) => Ok(cvss),
+            Err(fault) => Err(bytes_error_of(alloc, text, fault)),
         }
     }
 
@@ -88,13 +114,7 @@ impl Cvss {
         ensures scored { IfSome result (λ cvss. HasScore cvss) }
         ensures utf8 { IsSome result → IsUtf8 text.now }
     {
-        match route_of_text(text) {
-            Route::V20 => v2::Vector::read_bytes(text).map(Cvss::CvssV20),
-            Route::V30 => v3::Vector::read_bytes(text).map(Cvss::CvssV30),
-            Route::V31 => v3::Vector::read_bytes(text).map(Cvss::CvssV31),
-            Route::V40 => v4::Vector::read_bytes(text).map(Cvss::CvssV40),
-            Route::None(_) => None,
-        }
+        read(text).ok()
     }
 
     /// Whether the vector has a score, as each has that was read from a text: a vector of CVSS v4.0
@@ -130,7 +150,11 @@ impl Cvss {
         ensures value { IsScoreOf self.now (score_of_tenths result) }
         ensures bound { result ≤ 100 }
     {
-        tenths_of(self.score())
+        match self {
+            Cvss::CvssV20(vector) => vector.tenths(),
+            Cvss::CvssV30(vector) | Cvss::CvssV31(vector) => vector.tenths(),
+            Cvss::CvssV40(vector) => vector.tenths(),
+        }
     }
 
     /// The bounds by which the vector's version rates scores.

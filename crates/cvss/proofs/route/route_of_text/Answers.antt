@@ -1,4 +1,7 @@
+use Rattle.std.proofs.Common.{◌∷◌, ◌∙◌, ap, subst, sym}
 use Rattle.std.proofs.lemmas.Bool.{iff_false}
+use Rattle.cvss_base.specs.private.Pieces.{pieces_left}
+use Rattle.cvss.specs.private.Steps.{IsBehindVersion}
 use Rattle.cvss.proofs.RouteLemmas.{cut_routed, first_utf8}
 use Rattle.cvss_base.proofs.Utf8Lemmas.{IsUtf8-name, IsUtf8-value}
 use Rattle.cvss.proofs.route.route_of_text.Goals as goal
@@ -18,3 +21,8 @@ returns-in-Some-clause-tellable c = λ is.
 
 pub returns-in-None-clause-tellable : goal.returns-in-None-clause-tellable
 returns-in-None-clause-tellable c = first_utf8 c.args.text.now _ _ c.front_of.ensures
+
+pub returns-in-Some-clause-behind : goal.returns-in-Some-clause-behind
+returns-in-Some-clause-behind c =
+    let cut = c.front_of.ensures ∙ ap (λ piece. piece ∷ pieces_left c.front_of.result.1) c.in-Some.ensures.cut in
+    subst (λ parts. IsBehindVersion parts c.route_by.result) (sym cut) c.route_by.ensures.behind
