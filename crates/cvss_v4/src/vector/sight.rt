@@ -139,24 +139,13 @@ fn spelled_by_letter<M: Metric>(letter: u8) -> Option<M>
     }
 }
 
-/// What stands behind a slash, a metric's name and a colon.
+/// What stands behind a slash, the name of an optional metric and a colon.
 #[inline(always)]
 fn behind_name(kind: MetricType, text: &[u8]) -> Option<&[u8]>
     ensures { IfSome result
         (λ value. text.now ≡ slash ∷ (name_of kind ++ (colon ∷ value.now))) }
 {
     match (kind, text) {
-        (MetricType::AV, [b'/', b'A', b'V', b':', value @ ..]) => Some(value),
-        (MetricType::AC, [b'/', b'A', b'C', b':', value @ ..]) => Some(value),
-        (MetricType::AT, [b'/', b'A', b'T', b':', value @ ..]) => Some(value),
-        (MetricType::PR, [b'/', b'P', b'R', b':', value @ ..]) => Some(value),
-        (MetricType::UI, [b'/', b'U', b'I', b':', value @ ..]) => Some(value),
-        (MetricType::VC, [b'/', b'V', b'C', b':', value @ ..]) => Some(value),
-        (MetricType::VI, [b'/', b'V', b'I', b':', value @ ..]) => Some(value),
-        (MetricType::VA, [b'/', b'V', b'A', b':', value @ ..]) => Some(value),
-        (MetricType::SC, [b'/', b'S', b'C', b':', value @ ..]) => Some(value),
-        (MetricType::SI, [b'/', b'S', b'I', b':', value @ ..]) => Some(value),
-        (MetricType::SA, [b'/', b'S', b'A', b':', value @ ..]) => Some(value),
         (MetricType::E, [b'/', b'E', b':', value @ ..]) => Some(value),
         (MetricType::CR, [b'/', b'C', b'R', b':', value @ ..]) => Some(value),
         (MetricType::IR, [b'/', b'I', b'R', b':', value @ ..]) => Some(value),
