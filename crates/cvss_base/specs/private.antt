@@ -1,4 +1,3 @@
-pub mod Names
 pub mod Pieces
 pub mod Printing
 pub mod Unknown

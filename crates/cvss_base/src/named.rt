@@ -12,10 +12,6 @@ pub trait Named: Copy + 'static {
 
     ghost declared: { List Self };
 
-    /// All metric types, in the order in which they are declared.
-    fn all() -> &'static [Self]
-        ensures { result.now ≡ declared };
-
     /// The abbreviation.
     fn abbreviation(self) -> &'static str
         ensures { result.now ≡ name_of self };
@@ -25,23 +21,23 @@ pub trait Named: Copy + 'static {
         → find (λ other. bytes_eq (name_of other) (name_of kind)) declared ≡ Some kind };
 }
 
-/// The metric type with this name, exactly as it is written.
-fn kind_of<N: Named>(name: &str) -> Option<N>
+/// The metric type with this name, exactly as it is written, where all metric types are given.
+fn kind_of<N: Named>(all: &[N], name: &str) -> Option<N>
+    requires { all.now ≡ N.declared }
     ensures { result ≡ find (λ kind. bytes_eq (N.name_of kind) name.now) N.declared }
 {
-    N::all()
-        .iter()
-        .copied()
-        .find(|kind| kind.abbreviation() == name)
+    all.iter().copied().find(|kind| kind.abbreviation() == name)
 }
 
-/// The metric type with this name, exactly as it is written, or the error that there is none.
-pub(crate) fn from_name<N: Named>(alloc: Global, name: &str) -> Result<N, Error>
+/// The metric type with this name, exactly as it is written, or the error that there is none, where
+/// all metric types are given.
+pub(crate) fn from_name<N: Named>(alloc: Global, all: &[N], name: &str) -> Result<N, Error>
+    requires { all.now ≡ N.declared }
     ensures named { IfOk result (λ kind. N.name_of kind ≡ name.now) }
     ensures read { (kind : N) → N.name_of kind ≡ name.now → result ≡ Ok kind }
     ensures refused { IfErr result (TellsUnknown name.now) }
 {
-    match kind_of(name) {
+    match kind_of(all, name) {
         Some(kind) => Ok(kind),
         None => Err(Error::unknown_metric(alloc, name)),
     }

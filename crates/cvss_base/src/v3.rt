@@ -1,10 +1,10 @@
 //! The metric types of CVSS v3.0 and v3.1 (v3.1 specification, sections 2 to 4).
 
 ghost use Rattle.std.specs.Prelude.{◌≡◌, IfOk, IfErr, Ok, Some};
+ghost use Rattle.std.proofs.Common.{rules};
 ghost use Rattle.cvss_base.specs.Refusal.{UnknownName};
 ghost use Rattle.cvss_base.specs.Told.{Tells};
 ghost use Rattle.cvss_base.specs.V3Types.{v3_reason, name_of, description_of, declared};
-ghost use Rattle.cvss_base.specs.private.Names.{first_v3};
 
 use crate::error::Error;
 use crate::named::{Named, from_name};
@@ -115,7 +115,7 @@ impl MetricType {
         ensures read { (kind : MetricType) → name_of kind ≡ text.now → result ≡ Ok kind }
         ensures refused { IfErr result (Tells v3_reason (UnknownName text.now)) }
     {
-        from_name(alloc, text)
+        from_name(alloc, &ALL, text)
     }
 }
 
@@ -124,11 +124,7 @@ impl Named for MetricType {
 
     ghost declared = { declared };
 
-    ghost first = { first_v3 };
-
-    fn all() -> &'static [MetricType] {
-        &ALL
-    }
+    ghost first = { Prim.search rules };
 
     fn abbreviation(self) -> &'static str {
         self.name()
