@@ -2,7 +2,6 @@
 use Rattle.std.proofs.Common.{◌≡◌, ℕ, List, ◌++◌, codes, true, Option, IfSome, inl, inr, refl, sym, ap, ◌∙◌, subst, append_assoc, true≢false}
 use Rattle.std.specs.Fmt.{decimal}
 use Rattle.cvss.specs.Dispatch.{cvss_reason}
-use Rattle.cvss.specs.ErrorText.{error_text}
 use Rattle.cvss.specs.ErrorType.{Error}
 use Rattle.cvss.specs.ErrorType.TheVariants.{InvalidComponent, InvalidPrefix, UnsupportedVersion, InvalidMetricV4, DuplicateMetricV4, MissingMandatoryMetricV4, UnknownMetric}
 use Rattle.cvss.specs.MetricTypeV4 as metric_v4
