@@ -20,8 +20,9 @@
  * Memory. cvss_version, cvss_scores, cvss_canonical, cvss_metrics and cvss_without_undefined take none, and but for
  * cvss_record no function takes any for a text that is accepted. To tell why a text is refused, and to make a record,
  * the others call malloc, realloc and free, and free what they took before they return; where malloc refuses, a record
- * and a reason that carries a part of the text are told as "out of memory". So these must not be called from a signal
- * handler, or in a child that was forked from a process with threads.
+ * and a reason that carries a part of the text are told as "out of memory", and that of an override as
+ * "override 0: out of memory". So these must not be called from a signal handler, or in a child that was forked from a
+ * process with threads.
  */
 #ifndef CVSS_H
 #define CVSS_H

@@ -1,7 +1,7 @@
 /*
  * Refuses each request for memory of the library: no answer to a text that is accepted changes, nor the reason of a
  * metric that stands twice or is missing; any other reason becomes "out of memory". Ends with status 0 where that is
- * so. Linked with -Wl,--wrap=malloc,--wrap=realloc.
+ * so, and the same of overrides. Linked with -Wl,--wrap=malloc,--wrap=realloc.
  */
 #include "cvss.h"
 
@@ -68,9 +68,36 @@ static bool is_record_told(void)
     return with[0] == '{' && with[size - 1] == '}' && strcmp(without, "out of memory") == 0;
 }
 
+/* Overrides that are refused, and how that is told without memory. */
+static const char *const overrides[][2] = {
+    {"MSI:S/AV:N", "override 1: no environmental CVSSv4 metric"},
+    {"CR:L/cr:h", "override 1: duplicate CVSSv4 CR (Confidentiality Requirements) metric"},
+    {"MSI:Q", "override 0: out of memory"},
+    {"MSI:S/XX:Q", "override 1: out of memory"},
+    {"/", "override 0: out of memory"},
+    {"MSI:\xff", "not UTF-8"},
+    {"MSI:S/CR:H", ""},
+};
+
+/* Whether the reason why overrides are refused is told so without memory. */
+static bool is_objection_told(const char *own, const char *expected)
+{
+    char told[256] = "";
+    refuses = true;
+    size_t size = cvss_override_reason(texts[1], strlen(texts[1]), own, strlen(own), told, sizeof told);
+    refuses = false;
+    return size == strlen(expected) && strcmp(told, expected) == 0;
+}
+
 int main(void)
 {
     int wrong = is_record_told() ? 0 : 1;
+    for (size_t i = 0; i < sizeof overrides / sizeof *overrides; i++) {
+        if (!is_objection_told(overrides[i][0], overrides[i][1])) {
+            printf("%s is told otherwise\n", overrides[i][0]);
+            wrong = 1;
+        }
+    }
     for (size_t i = 0; i < sizeof texts / sizeof *texts; i++) {
         char with[256], without[256];
         tell(texts[i], false, with);

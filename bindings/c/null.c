@@ -6,6 +6,7 @@
 int main(void)
 {
     static const char text[] = "AV:N/AC:L/Au:N/C:N/I:N/A:C";
+    static const char v4[] = "CVSS:4.0/AV:N/AC:L/AT:N/PR:N/UI:N/VC:H/VI:H/VA:H/SC:H/SI:H/SA:H";
     static const char empty[] = "invalid CVSS metric group component: ``";
     size_t length = sizeof text - 1;
     char buffer[80];
@@ -22,6 +23,8 @@ int main(void)
     right &= cvss_overridden(NULL, 0, NULL, 0, NULL, 0) == 0 && cvss_overridden(text, length, NULL, 0, NULL, 0) == 0;
     right &= cvss_override_reason(NULL, 0, NULL, 0, NULL, 0) == told;
     right &= cvss_override_reason(text, length, NULL, 0, NULL, 0) == strlen("no CVSSv4 vector");
+    right &= cvss_overridden(v4, sizeof v4 - 1, NULL, 0, NULL, 0) == sizeof v4 - 1;
+    right &= cvss_override_reason(v4, sizeof v4 - 1, NULL, 0, NULL, 0) == 0;
     right &= cvss_record(NULL, 0, NULL, 0) == 0 && cvss_record(text, length, NULL, 0) > sizeof buffer;
     right &= cvss_reason(NULL, 0, NULL, 0) == told && cvss_reason(text, length, NULL, 0) == 0;
     right &= cvss_refusal_kind(NULL, 0) == CVSS_INVALID_COMPONENT;

@@ -38,6 +38,25 @@ static size_t without_undefined(const char *text, size_t length)
     return cvss_without_undefined(text, length, buffer, sizeof buffer);
 }
 
+/* Overrides that are put into a vector of v4.0. */
+static size_t overridden(const char *text, size_t length)
+{
+    static const char own[] = "MSI:S/CR:H";
+    return cvss_overridden(text, length, own, sizeof own - 1, buffer, sizeof buffer);
+}
+
+/* The second override is refused, and is told; or that the vector is not of v4.0. */
+static size_t override_reason(const char *text, size_t length)
+{
+    static const char own[] = "MSI:S/CR:Q";
+    return cvss_override_reason(text, length, own, sizeof own - 1, buffer, sizeof buffer);
+}
+
+static size_t record(const char *text, size_t length)
+{
+    return cvss_record(text, length, buffer, sizeof buffer);
+}
+
 static size_t answer(const char *text, size_t length)
 {
     return cvss_answer(text, length, buffer, sizeof buffer);
@@ -95,6 +114,9 @@ int main(void)
     print_time("cvss_canonical", canonical);
     print_time("cvss_metrics", metrics);
     print_time("cvss_without_undefined", without_undefined);
+    print_time("cvss_overridden", overridden);
+    print_time("cvss_override_reason", override_reason);
+    print_time("cvss_record", record);
     print_time("cvss_answer", answer);
     print_time("cvss_answers", many);
     return 0;

@@ -6,7 +6,8 @@ use Rattle.std.proofs.lemmas.List.{map-append, take_more}
 use Rattle.std.proofs.lemmas.List.Folds.{list_all-append}
 use Rattle.cvss_lines.specs.Answers.{Accepted, Refused, is_accepted, written_answer, written_text}
 use Rattle.cvss_record.specs.Places.{Place}
-use Rattle.cvss_audit.specs.Answers.{AreFound, Found, IsFound, WritesFound, WritesPlace, all_agree, answer_of, texts_of}
+use Rattle.cvss_audit.specs.Answers.{AreFound, Found, IsFound, all_agree, answer_of, texts_of}
+use Rattle.cvss_audit.specs.private.Writing.{WritesFound, WritesPlace}
 
 AreFound-push : (line : ℕ) (places : List Place) (found : List Found) (place : Place) (last : Found)
     → AreFound line places found → IsFound line place last → AreFound line (places ++ place ∷ []) (found ++ last ∷ [])

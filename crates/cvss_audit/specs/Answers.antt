@@ -1,5 +1,5 @@
 -- The answers that the program writes to the lines of its input, each of which is a JSON document.
-use Rattle.std.specs.Prelude.{◌≡◌, ◌≢◌, ℕ, ◌==◌, ◌||◌, ◌⊎◌, Bool, true, false, List, [], ◌∷◌, ◌++◌, codes, map, flat_map, if◌then◌else◌, Some, None, ⊤}
+use Rattle.std.specs.Prelude.{◌≡◌, ◌≢◌, ℕ, ◌==◌, ◌||◌, ◌⊎◌, Bool, true, false, List, [], ◌∷◌, ◌++◌, codes, map, if◌then◌else◌, Some, None, ⊤}
 use Rattle.std.specs.List.{list_all}
 use Rattle.std.specs.Str.{IsUtf8}
 use Rattle.cvss.specs.Dispatch.{DenotesCvss, IsFirstRefusalCvss, cvss_reason}
@@ -8,7 +8,7 @@ use Rattle.cvss.specs.ErrorType.{Error}
 use Rattle.cvss_base.specs.declared.error.Error.TheVariants.{OutOfMemory}
 use Rattle.cvss.specs.Told.{TellsFirst}
 use Rattle.cvss.specs.declared.vector.Cvss.{Cvss}
-use Rattle.cvss_lines.specs.Answers.{Answer, Accepted, Refused, written_text}
+use Rattle.cvss_lines.specs.Answers.{Answer, Accepted, Refused}
 use Rattle.cvss_record.specs.Differences.{AreDifferencesAt, Difference}
 use Rattle.cvss_record.specs.Groups.{AreScoresOf}
 use Rattle.cvss_record.specs.Objects.{object_of}
@@ -121,17 +121,3 @@ pub record IsDocument (number : ℕ) (line : List ℕ) (answer : Answer) : Type 
 unfoldable pub IsAnswer : ℕ → List ℕ → Answer → Type 0
 IsAnswer number line answer =
     IsPassedOver line answer ⊎ (IsNoText number line answer ⊎ (IsNoJson number line answer ⊎ IsDocument number line answer))
-
--- what is found at the place and a byte 10 are written behind the earlier answers
-pub record WritesPlace (line : ℕ) (place : Place) (old new : List ℕ) (agrees : Bool) : Type 0 where
-  pub found : Found
-  pub is_found : IsFound line place found
-  pub told : agrees ≡ found.agrees
-  pub written : new ≡ old ++ written_text found.text
-
--- what is found at the places is written behind the earlier answers, each with a byte 10
-pub record WritesFound (line : ℕ) (places : List Place) (old new : List ℕ) (agree : Bool) : Type 0 where
-  pub found : List Found
-  pub are_found : AreFound line places found
-  pub told : agree ≡ all_agree found
-  pub written : new ≡ old ++ flat_map written_text (texts_of found)

@@ -1,9 +1,9 @@
 //! The answer to a line, which is a JSON document.
 
 ghost use Rattle.std.specs.Prelude.{◌≡◌, IfOk, OnOk};
-ghost use Rattle.cvss_audit.specs.Answers.{IsAnswer, WritesFound, is_passed_over};
+ghost use Rattle.cvss_audit.specs.Answers.{IsAnswer, is_passed_over};
 ghost use Rattle.cvss_audit.specs.Objects.{refusal_value};
-ghost use Rattle.cvss_audit.specs.Texts.{WritesObject};
+ghost use Rattle.cvss_audit.specs.private.Writing.{WritesFound, WritesObject};
 ghost use Rattle.cvss_record.specs.Places.{places_in};
 ghost use Rattle.serde_json.specs.View.{view};
 

@@ -11,3 +11,10 @@ pub fn equality_is_that_of_values()
 {
     cvss_lines::laws::equality_is_that_of_values();
 }
+
+/// A clone of a fault is that value.
+pub fn clones_are_equal()
+    ensures { (x clone : Fault) → ⟦<Fault as Clone>⟧.is_clone x clone → clone ≡ x }
+{
+    cvss_lines::laws::clones_are_equal();
+}

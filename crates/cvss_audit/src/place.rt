@@ -1,8 +1,9 @@
 //! The answer to one place where a vector stands.
 
 ghost use Rattle.std.specs.Prelude.{IfOk};
-ghost use Rattle.cvss_audit.specs.Answers.{IsPlaceObject, WritesPlace};
-ghost use Rattle.cvss_record.specs.Steps.{place_view};
+ghost use Rattle.cvss_audit.specs.Answers.{IsPlaceObject};
+ghost use Rattle.cvss_audit.specs.private.Writing.{WritesPlace};
+ghost use Rattle.cvss_record.specs.Places.{place_view};
 ghost use Rattle.serde_json.specs.Data.{object};
 ghost use Rattle.serde_json.specs.View.{members_view};
 

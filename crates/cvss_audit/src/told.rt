@@ -4,7 +4,7 @@ ghost use Rattle.std.specs.Prelude.{◌≡◌, ◌∷◌, [], IfOk, OnOk, map, s
 ghost use Rattle.cvss_audit.specs.Objects.{accepted_members, difference_value, differs_members, line_member, list_member, optional_member, place_members, refusal_member, score_members, scores_value, told_members, v4_members};
 ghost use Rattle.cvss_record.specs.Differences.{difference_view};
 ghost use Rattle.cvss_record.specs.Objects.{object_of, with_members};
-ghost use Rattle.cvss_record.specs.Steps.{place_view};
+ghost use Rattle.cvss_record.specs.Places.{place_view};
 ghost use Rattle.serde_json.specs.View.{members_view, view};
 
 use crate::missing::put_missing;

@@ -1,7 +1,7 @@
 //! How objects are written.
 
 ghost use Rattle.std.specs.Prelude.{OnOk};
-ghost use Rattle.cvss_audit.specs.Texts.{WritesObject};
+ghost use Rattle.cvss_audit.specs.private.Writing.{WritesObject};
 ghost use Rattle.serde_json.specs.Data.{object};
 ghost use Rattle.serde_json.specs.View.{members_view};
 

@@ -10,5 +10,6 @@ pub mod OverriddenLemmas
 pub mod PartLemmas
 pub mod PartsLemmas
 pub mod RatingLemmas
+pub mod ReasonLemmas
 pub mod RecordLemmas
 pub mod UndefinedLemmas

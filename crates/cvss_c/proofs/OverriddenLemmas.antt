@@ -7,19 +7,17 @@ use Rattle.std.proofs.lemmas.List.Splits.{join_with_byte-slice_split}
 use Rattle.std.proofs.lemmas.List.Sums.{sum_by-cons}
 use Rattle.cvss.specs.Dispatch.{DenotesCvss}
 use Rattle.cvss.specs.MetricTypeV4.{MetricType}
-use Rattle.cvss.specs.OverrideErrorTypeV4.{OverrideError}
 use Rattle.cvss.specs.OverridingV4.{IsOverridden}
 use Rattle.cvss.specs.Text.{component, joined, pieces, slash}
 use Rattle.cvss.specs.VectorTypeV4.{Vector}
 use Rattle.cvss.specs.VectorV4.{v4}
 use Rattle.cvss.specs.Version.{Version, canonical_text, component_of, version_piece}
 use Rattle.cvss.specs.declared.vector.Cvss.{Cvss}
-use Rattle.cvss.specs.declared.vector.Cvss.TheVariants.{CvssV20, CvssV30, CvssV31, CvssV40}
+use Rattle.cvss.specs.declared.vector.Cvss.TheVariants.{CvssV40}
 use Rattle.cvss_base.specs.Numeral.{numeral}
 use Rattle.cvss_base.specs.private.Printing.{slashed, slashed_text, slashed_texts}
-use Rattle.cvss_c.specs.Overriding.{IsOverrideReason, IsWithOverrides, overrides_in}
-use Rattle.cvss_c.specs.declared.overriding.Unfit.TheVariants.{Override}
-use Rattle.cvss_c.specs.private.Overridden.{IsPrintable, IsUnfit, TellsObjection}
+use Rattle.cvss_c.specs.Overriding.{IsWithOverrides, overrides_in}
+use Rattle.cvss_c.specs.private.Overridden.{IsPrintable}
 use Rattle.cvss_c.proofs.CanonicalLemmas.{front_v40, text_from_front}
 use Rattle.cvss_c.proofs.LengthLemmas.{length-denoted_cvss, piece_length, sums-components, sums-joined}
 use Rattle.cvss_c.proofs.ObjectionLemmas.{environmental_from, environmental_is, is_environmental}
@@ -115,11 +113,3 @@ printable cvss text own new denoted is =
         length-denoted_cvss text (CvssV40 is.vector) denotes,
       );
     }
-
--- why an override is refused, as it is told
-pub objection_told : (cvss : Cvss) (text : List ℕ) (error : OverrideError) (reason : List ℕ) → IsUnfit cvss text (Override error) → TellsObjection error reason → IsOverrideReason cvss text reason
-objection_told (CvssV20 vector) text error reason unfit told = absurd unfit
-objection_told (CvssV30 vector) text error reason unfit told = absurd unfit
-objection_told (CvssV31 vector) text error reason unfit told = absurd unfit
-objection_told (CvssV40 vector) text error reason unfit told =
-    inr (record { utf8 = unfit.0; error = error; first = unfit.1; is = told })

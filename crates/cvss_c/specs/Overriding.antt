@@ -9,7 +9,6 @@ use Rattle.cvss.specs.VectorTypeV4.{Vector}
 use Rattle.cvss.specs.declared.vector.Cvss.{Cvss}
 use Rattle.cvss.specs.declared.vector.Cvss.TheVariants.{CvssV40}
 use Rattle.cvss_c.specs.Answers.{IsNoText}
-use Rattle.cvss_c.specs.Records.{no_memory_text}
 
 -- the overrides that a text has: its pieces, and none where it is empty
 abbrev pub overrides_in : List ℕ → List (List ℕ)
@@ -34,12 +33,12 @@ abbrev pub AnswersOverridden : Cvss → List ℕ → (Vector → Type 0) → Typ
 AnswersOverridden cvss text IsOf Otherwise =
     ((new : Vector) × IsWithOverrides cvss text new × IsOf new) ⊎ (IsWithoutOverrides cvss text × Otherwise)
 
--- the reason tells the first override with which something is wrong, and what, or that there was no memory for it
+-- the reason tells the first override with which something is wrong, and what
 pub record IsObjectionTold (text reason : List ℕ) : Type 0 where
   pub utf8 : IsUtf8 text
   pub error : OverrideError
   pub first : TellsFirstObjection (overrides_in text) error
-  pub is : (reason ≡ override_error_text error) ⊎ (reason ≡ no_memory_text)
+  pub is : reason ≡ override_error_text error
 
 -- why the overrides cannot be put into the vector: it is of another version, or they are refused
 abbrev pub IsOverrideReason : Cvss → List ℕ → List ℕ → Type 0

@@ -60,7 +60,7 @@ pub(crate) fn put_behind<V: Printed>(
 /// Writes two texts, one behind the other, at the beginning of a buffer where both fit, and tells
 /// their length.
 pub(crate) fn put_both(first: &[u8], second: &[u8], buffer: &mut [u8]) -> usize
-    requires { length first.now ≤ 16 }
+    requires { length first.now ≤ 32 }
     ensures { IsWritten (first.now ++ second.now) buffer.old buffer.new result }
 {
     let length = first.len() + second.len();

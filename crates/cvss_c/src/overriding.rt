@@ -9,14 +9,17 @@ ghost use Rattle.cvss_base.specs.private.Printing.{slashed_texts};
 ghost use Rattle.cvss.specs.Dispatch.{DenotesCvss};
 ghost use Rattle.cvss_c.specs.Buffer.{IsLeft, IsWritten};
 ghost use Rattle.cvss_c.specs.Overriding.{AnswersOverridden, IsOverrideReason, IsWithOverrides, overrides_in};
-ghost use Rattle.cvss_c.specs.private.Overridden.{IsPrintable, IsUnfit, TellsObjection};
+ghost use Rattle.cvss_c.specs.private.Overridden.{IsPrintable, IsUnfit};
+ghost use Rattle.cvss_c.specs.private.Reasons.{IsOverrideErrorTold, override_words};
 
 use crate::buffer::{put_behind, put_both};
-use arrayvec::ArrayVec;
+use crate::reason::put_error;
+use arrayvec::{ArrayString, ArrayVec};
 use cvss::v4::OverrideError;
 use cvss::{Cvss, v4};
 use cvss_base::print::Printed;
 use cvss_base::walk::Components;
+use itoa::Buffer;
 use std::alloc::Global;
 
 /// One override more than a vector has environmental metrics is too many.
@@ -77,15 +80,34 @@ pub(crate) fn put_override_reason(
 }
 
 /// Writes what is wrong with an override at the beginning of a buffer where it fits, and tells its
-/// length.
+/// length. Where memory is refused for an error that carries text, the error told is that.
 fn put_objection(alloc: Global, error: &OverrideError, buffer: &mut [u8]) -> usize
-    ensures { (reason : List ℕ) × TellsObjection error.now reason
+    ensures { (reason : List ℕ) × IsOverrideErrorTold error.now reason
         × IsWritten reason buffer.old buffer.new result }
 {
-    match error.to_string(alloc) {
-        Ok(reason) => put_both(&[], reason.as_bytes(), buffer),
-        Err(_) => put_both(&[], "out of memory".as_bytes(), buffer),
+    match error {
+        OverrideError::NotEnvironmental { index } => {
+            let words = override_words(*index);
+            let reason = "no environmental CVSSv4 metric";
+            put_both(words.as_str().as_bytes(), reason.as_bytes(), buffer)
+        }
+        OverrideError::Refused { index, error } => {
+            let words = override_words(*index);
+            put_error(alloc, words.as_str().as_bytes(), error, buffer)
+        }
     }
+}
+
+/// The words that name the override at a place.
+fn override_words(index: usize) -> ArrayString<31>
+    ensures { result.bytes ≡ override_words index }
+{
+    let mut words = ArrayString::new();
+    let mut digits = Buffer::new();
+    words.push_str("override ");
+    words.push_str(digits.format(index));
+    words.push_str(": ");
+    words
 }
 
 /// The vector with overrides in place. The text that denotes the vector is given.

@@ -13,7 +13,7 @@ use std::alloc::Global;
 /// Writes a first text and the reason behind it at the beginning of a buffer where both fit, and
 /// tells their length. Where memory is refused for a reason that carries text, the reason is that.
 pub(crate) fn put_reason(alloc: Global, first: &[u8], text: &[u8], buffer: &mut [u8]) -> usize
-    requires first { length first.now ≤ 16 }
+    requires first { length first.now ≤ 32 }
     requires refused { IsRefused text.now }
     ensures { (reason : List ℕ) × IsReason text.now reason
         × IsWritten (first.now ++ reason) buffer.old buffer.new result }
@@ -28,8 +28,8 @@ pub(crate) fn put_reason(alloc: Global, first: &[u8], text: &[u8], buffer: &mut 
 }
 
 /// The same of an error.
-fn put_error(alloc: Global, first: &[u8], error: &Error, buffer: &mut [u8]) -> usize
-    requires { length first.now ≤ 16 }
+pub(crate) fn put_error(alloc: Global, first: &[u8], error: &Error, buffer: &mut [u8]) -> usize
+    requires { length first.now ≤ 32 }
     ensures { (reason : List ℕ) × IsErrorTold error.now reason
         × IsWritten (first.now ++ reason) buffer.old buffer.new result }
 {
@@ -87,7 +87,7 @@ fn put_metric_reason(
     description: &str,
     buffer: &mut [u8],
 ) -> usize
-    requires first { length first.now ≤ 16 }
+    requires first { length first.now ≤ 32 }
     requires words { length words.now ≤ 32 }
     requires metric { length name.now + length description.now ≤ 80 }
     ensures { IsWritten (first.now ++ metric_text words.now name.now description.now) buffer.old

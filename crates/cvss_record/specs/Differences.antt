@@ -12,8 +12,6 @@ use Rattle.cvss_record.specs.Due.{Due, text, score, nothing, agrees, due_at, due
 use Rattle.cvss_record.specs.Groups.{AreScoresOf}
 use Rattle.cvss_record.specs.Objects.{Member}
 use Rattle.cvss_record.specs.declared.difference.Difference as code
-use Rattle.cvss_record.specs.declared.due.Due as due_code
-use Rattle.cvss_record.specs.declared.due.Due.TheVariants as due_variants
 use Rattle.cvss_record.specs.declared.place.Form.{Form}
 use Rattle.cvss_record.specs.declared.place.Form.TheVariants.{Record, GitHub, Osv}
 use Rattle.cvss_record.specs.declared.score.Scores.{Scores}
@@ -77,9 +75,3 @@ pub record AreDifferencesAt (cvss : Cvss) (form : Form) (object : Members) (diff
 -- a difference, as the code holds it
 abbrev pub difference_view : code.Difference → Difference
 difference_view difference = (string_bytes difference.member, view difference.says, view difference.is)
-
--- what is due, as the code holds it
-abbrev pub due_view : due_code.Due → Due
-due_view (due_variants.Text told) = text told.now
-due_view (due_variants.Score tenths) = score tenths
-due_view due_variants.Nothing = nothing

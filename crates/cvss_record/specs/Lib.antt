@@ -5,5 +5,5 @@ pub mod Members
 pub mod Objects
 pub mod Places
 pub mod Record
-pub mod Steps
 pub mod laws
+pub mod private

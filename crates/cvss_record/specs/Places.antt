@@ -6,8 +6,11 @@ use Rattle.std.specs.Fmt.{decimal}
 use Rattle.std.specs.List.{list_any}
 use Rattle.std.specs.Option.{option_or, option_to_list}
 use Rattle.std.specs.Str.{chars}
+use Rattle.std.specs.String.{string_bytes}
 use Rattle.serde_json.specs.Data.{Data, null, boolean, number, string, array, object, Items, no_items, item, Members, no_members, member}
 use Rattle.serde_json.specs.Find.{as_str, get_member}
+use Rattle.serde_json.specs.View.{members_view}
+use Rattle.cvss_record.specs.declared.place.Place as code
 use Rattle.cvss_record.specs.declared.place.Form.{Form}
 use Rattle.cvss_record.specs.declared.place.Form.TheVariants.{Record, GitHub, Osv}
 
@@ -33,6 +36,10 @@ vector_in members =
 -- a pointer to an object, the form and the text of its vector, and its members
 abbrev pub Place : Type 0
 Place = List ℕ × Form × List ℕ × Members
+
+-- a place, as the code holds it
+abbrev pub place_view : code.Place → Place
+place_view place = (string_bytes place.at, place.form, place.text.now, members_view place.object.now.entries)
 
 -- a character of a name in a pointer: `~` is written `~0`, and `/` is written `~1`
 abbrev pub escaped_char : ℕ → List ℕ

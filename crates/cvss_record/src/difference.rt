@@ -3,7 +3,8 @@
 ghost use Rattle.std.specs.Prelude.{◌≡◌, IfOk, map, option_map};
 ghost use Rattle.std.specs.Option.{option_to_list};
 ghost use Rattle.cvss.specs.Answers.{HasScore};
-ghost use Rattle.cvss_record.specs.Differences.{AreDifferences, AreDifferencesAt, difference_at, difference_from, difference_view, differences_of, due_view, github_difference, osv_type, score_differences, type_differences};
+ghost use Rattle.cvss_record.specs.Differences.{AreDifferences, AreDifferencesAt, difference_at, difference_from, difference_view, differences_of, github_difference, osv_type, score_differences, type_differences};
+ghost use Rattle.cvss_record.specs.private.Views.{due_view};
 ghost use Rattle.serde_json.specs.View.{members_view, view};
 
 use crate::due::{Due, due_at};

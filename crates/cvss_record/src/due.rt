@@ -2,8 +2,8 @@
 
 ghost use Rattle.std.specs.Prelude.{◌≡◌, List, ℕ, bytes_eq, option_map, IfOk};
 ghost use Rattle.std.specs.List.{list_any};
-ghost use Rattle.cvss_record.specs.Differences.{due_view};
 ghost use Rattle.cvss_record.specs.Due.{agrees, due_at, due_value, group_due, is_metric_member, is_number, is_text, metric_due, version_due, word_at};
+ghost use Rattle.cvss_record.specs.private.Views.{due_view};
 ghost use Rattle.cvss_words.specs.WordsV2 as words_v2;
 ghost use Rattle.cvss_words.specs.WordsV3 as words_v3;
 ghost use Rattle.cvss_words.specs.WordsV4 as words_v4;

@@ -4,11 +4,13 @@
 ghost use Rattle.std.specs.Prelude.{◌≡◌, All};
 ghost use Rattle.cvss.specs.laws.GivenBack.{IsGivenBack};
 ghost use Rattle.cvss.specs.declared.vector.Cvss.{Cvss};
+ghost use Rattle.cvss_base.specs.laws.Equality.{ClonesByValue, EqualsByValue};
 ghost use Rattle.cvss_record.specs.Places.{places_in};
 ghost use Rattle.cvss_record.specs.Record.{IsRecordOf};
 ghost use Rattle.cvss_record.specs.laws.Pointers.{HasNamesOnce, LeadsTo};
 ghost use Rattle.serde_json.specs.Data.{Data, object};
 
+use crate::{Form, Group, Scores};
 use cvss::laws::texts_denote_one_vector;
 
 /// A record tells its vector: two vectors that their own texts give back, as each vector is that was
@@ -25,4 +27,18 @@ pub fn records_tell_vectors()
 pub fn pointers_lead_to_objects()
     ensures { (document : Data) → HasNamesOnce document
         → All (λ place. LeadsTo place.0 document (object place.3)) (places_in document) }
+{}
+
+/// Two forms, groups or scores are equal exactly if they are one value.
+pub fn equality_is_that_of_values()
+    ensures form { EqualsByValue ⟦<Form as PartialEq>⟧.eq }
+    ensures group { EqualsByValue ⟦<Group as PartialEq>⟧.eq }
+    ensures scores { EqualsByValue ⟦<Scores as PartialEq>⟧.eq }
+{}
+
+/// A clone of a form, a group or scores is that value.
+pub fn clones_are_equal()
+    ensures form { ClonesByValue ⟦<Form as Clone>⟧.is_clone }
+    ensures group { ClonesByValue ⟦<Group as Clone>⟧.is_clone }
+    ensures scores { ClonesByValue ⟦<Scores as Clone>⟧.is_clone }
 {}

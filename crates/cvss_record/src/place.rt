@@ -1,8 +1,8 @@
 //! Where vectors stand in a document, as JSON Pointers (RFC 6901).
 
 ghost use Rattle.std.specs.Prelude.{◌≡◌, ◌++◌, ◌+◌, codes, flat_map, map, option_map, string_bytes, IfOk, OnOk, length};
-ghost use Rattle.cvss_record.specs.Places.{below, escaped, is_osv_type, places_in, places_in_items, place_of, places_in_members, text_at, vector_in};
-ghost use Rattle.cvss_record.specs.Steps.{place_view, step_text};
+ghost use Rattle.cvss_record.specs.Places.{below, escaped, is_osv_type, places_in, places_in_items, place_of, place_view, places_in_members, text_at, vector_in};
+ghost use Rattle.cvss_record.specs.private.Views.{step_text};
 ghost use Rattle.serde_json.specs.Find.{get_member};
 ghost use Rattle.serde_json.specs.View.{items_view, members_view, view};
 

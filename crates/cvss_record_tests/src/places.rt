@@ -68,6 +68,34 @@ fn vectors_are_found_in_order(rt: HostRuntime) -> Result<(), Fail> {
     Ok(())
 }
 
+/// A record below so many arrays.
+fn below_arrays(alloc: Global, depth: usize) -> Result<String, Fail> {
+    let mut document = String::new(alloc);
+    for _ in 0..depth {
+        document.push('[')?;
+    }
+    document.push_str("{\"vectorString\":\"V\"}")?;
+    for _ in 0..depth {
+        document.push(']')?;
+    }
+    Ok(document)
+}
+
+#[test]
+fn vectors_are_found_to_depth_127(rt: HostRuntime) -> Result<(), Fail> {
+    let deepest = below_arrays(rt.alloc(), 126)?;
+    let mut place = String::new(rt.alloc());
+    for _ in 0..126 {
+        place.push_str("/0")?;
+    }
+    place.push_str("=record V;")?;
+    let told = places_of(rt.alloc(), deepest.as_str())?;
+    assert!(rt; told.as_str() == place.as_str(), "{told}");
+    let deeper = below_arrays(rt.alloc(), 127)?;
+    assert!(rt; Value::from_str(rt.alloc(), deeper.as_str()).is_err());
+    Ok(())
+}
+
 /// A document with one place, and the name of the member that differs from its vector.
 const ANSWERS: [(&str, &str); 7] = [
     (

@@ -1,15 +1,13 @@
 -- How overrides are read and put into a vector.
-use Rattle.std.specs.Prelude.{◌≡◌, ◌⊎◌, ◌≤◌, ◌+◌, ℕ, List, [], ◌∷◌, ⊤, codes, length}
+use Rattle.std.specs.Prelude.{◌≡◌, ◌≤◌, ◌+◌, ℕ, List, [], ◌∷◌, ⊤, codes, length}
 use Rattle.std.specs.Str.{IsUtf8}
-use Rattle.cvss.specs.OverrideErrorTypeV4.{OverrideError}
-use Rattle.cvss.specs.OverridingV4.{TellsFirstObjection, override_error_text}
+use Rattle.cvss.specs.OverridingV4.{TellsFirstObjection}
 use Rattle.cvss.specs.VectorTypeV4.{Vector}
 use Rattle.cvss.specs.VectorV4.{v4}
 use Rattle.cvss.specs.Version.{canonical_text}
 use Rattle.cvss.specs.declared.vector.Cvss.{Cvss}
 use Rattle.cvss.specs.declared.vector.Cvss.TheVariants.{CvssV40}
 use Rattle.cvss_c.specs.Overriding.{overrides_in}
-use Rattle.cvss_c.specs.Records.{no_memory_text}
 use Rattle.cvss_c.specs.declared.overriding.Unfit.{Unfit}
 use Rattle.cvss_c.specs.declared.overriding.Unfit.TheVariants.{OtherVersion, NotUtf8, Override}
 
@@ -25,7 +23,3 @@ IsUnfit (CvssV40 vector) text (Override error) = IsUtf8 text × TellsFirstObject
 IsUnfit (CvssV40 vector) text OtherVersion = ⊥
 IsUnfit cvss text OtherVersion = ⊤
 IsUnfit cvss text unfit = ⊥
-
--- the reason is the text of the error, or there was no memory for it
-abbrev pub TellsObjection : OverrideError → List ℕ → Type 0
-TellsObjection error reason = (reason ≡ override_error_text error) ⊎ (reason ≡ no_memory_text)

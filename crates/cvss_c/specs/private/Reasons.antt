@@ -1,8 +1,12 @@
 -- How an error is told.
-use Rattle.std.specs.Prelude.{◌≡◌, ℕ, true, List, ◌++◌, codes}
+use Rattle.std.specs.Prelude.{◌≡◌, ◌⊎◌, ℕ, true, List, ◌++◌, codes}
+use Rattle.std.specs.Fmt.{decimal}
 use Rattle.cvss.specs.Dispatch.{cvss_reason}
 use Rattle.cvss.specs.ErrorText.{error_text}
 use Rattle.cvss.specs.ErrorType.{Error}
+use Rattle.cvss.specs.ErrorType.TheVariants.{OutOfMemory}
+use Rattle.cvss.specs.OverrideErrorTypeV4.{OverrideError}
+use Rattle.cvss.specs.OverrideErrorTypeV4.TheVariants.{NotEnvironmental, Refused}
 use Rattle.cvss.specs.Refusal.{Refusal, carries_text}
 use Rattle.cvss.specs.Told.{Tells}
 use Rattle.cvss.specs.declared.metric_type.MetricType.{MetricType}
@@ -15,8 +19,21 @@ CarriesText error = (reason : Refusal MetricType) → Tells cvss_reason reason e
 abbrev pub metric_text : List ℕ → List ℕ → List ℕ → List ℕ
 metric_text words name description = words ++ (name ++ codes " (" ++ description ++ codes ")") ++ codes " metric"
 
--- the text is that of the error, or of another that tells each reason that it tells
+-- the error is told itself, or that there was no memory where each reason that it tells carries a part of the text
+abbrev pub IsToldAs : Error → Error → Type 0
+IsToldAs error told = (told ≡ error) ⊎ ((told ≡ OutOfMemory) × CarriesText error)
+
+-- the text is that of the error that is told
 pub record IsErrorTold (error : Error) (text : List ℕ) : Type 0 where
   pub told : Error
-  pub same : (reason : Refusal MetricType) → Tells cvss_reason reason error → Tells cvss_reason reason told
+  pub same : IsToldAs error told
   pub is : text ≡ error_text told
+
+-- the words that name an override
+abbrev pub override_words : ℕ → List ℕ
+override_words index = codes "override " ++ decimal index ++ codes ": "
+
+-- the reason names the override, and tells what is wrong with it
+abbrev pub IsOverrideErrorTold : OverrideError → List ℕ → Type 0
+IsOverrideErrorTold (NotEnvironmental index) reason = reason ≡ override_words index ++ codes "no environmental CVSSv4 metric"
+IsOverrideErrorTold (Refused index error) reason = (told : List ℕ) × IsErrorTold error told × (reason ≡ override_words index ++ told)

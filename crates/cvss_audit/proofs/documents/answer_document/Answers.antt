@@ -1,4 +1,4 @@
-use Rattle.cvss_record.specs.Steps.{place_view}
+use Rattle.cvss_record.specs.Places.{place_view}
 use Rattle.cvss_audit.proofs.FoundLemmas.{WritesFound-next, WritesFound-none}
 use Rattle.cvss_audit.proofs.documents.answer_document.Goals as goal
 

@@ -1,6 +1,6 @@
 use Rattle.std.proofs.Common.{map, take}
-use Rattle.cvss_record.specs.Steps.{place_view}
-use Rattle.cvss_audit.specs.Answers.{WritesFound}
+use Rattle.cvss_record.specs.Places.{place_view}
+use Rattle.cvss_audit.specs.private.Writing.{WritesFound}
 use Rattle.cvss_audit.proofs.documents.answer_document.Given as goal
 
 abbrev pub invariant-loop-place : goal.invariant-loop-place

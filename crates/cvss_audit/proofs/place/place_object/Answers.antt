@@ -3,7 +3,7 @@ use Rattle.std.proofs.lemmas.Bool.{ne_eqb}
 use Rattle.cvss_record.proofs.ObjectLemmas.{put_next}
 use Rattle.cvss_record.specs.Differences.{difference_view}
 use Rattle.cvss_record.specs.Objects.{with_members}
-use Rattle.cvss_record.specs.Steps.{place_view}
+use Rattle.cvss_record.specs.Places.{place_view}
 use Rattle.cvss_record.specs.declared.difference.Difference.{Difference}
 use Rattle.serde_json.specs.Data.{object}
 use Rattle.serde_json.specs.View.{members_view}

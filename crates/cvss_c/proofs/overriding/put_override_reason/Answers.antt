@@ -1,7 +1,7 @@
 use Rattle.std.proofs.Common.{inr}
 use Rattle.cvss_c.specs.declared.overriding.Unfit.TheVariants.{Override}
 use Rattle.cvss_c.specs.private.Overridden.{IsUnfit}
-use Rattle.cvss_c.proofs.OverriddenLemmas.{objection_told}
+use Rattle.cvss_c.proofs.ReasonLemmas.{objection_told}
 use Rattle.cvss_c.proofs.overriding.put_override_reason.Goals as goal
 
 pub returns-in-Err-Override : goal.returns-in-Err-Override

@@ -7,7 +7,7 @@ returns-in-Err c = (
   c.as_bytes-in-Err.result.now,
   record {
     told = OutOfMemory;
-    same = λ reason told. inr (refl, c.in_default.ensures reason told);
+    same = inr (refl, c.in_default.ensures);
     is = c.as_bytes-in-Err.ensures.value;
   },
   c.put_both-in-Err.ensures,

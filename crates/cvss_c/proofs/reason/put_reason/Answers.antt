@@ -1,4 +1,5 @@
 use Rattle.std.proofs.Common.{rules, inr}
+use Rattle.cvss_c.proofs.ReasonLemmas.{tells_reason}
 use Rattle.cvss_c.proofs.reason.put_reason.Goals as goal
 
 pub returns : goal.returns
@@ -10,7 +11,7 @@ returns c =
         utf8 = search rules;
         told = record {
           error = told.1.told;
-          told = record { reason = first.reason; first = search rules; told = told.1.same first.reason first.told };
+          told = record { reason = first.reason; first = search rules; told = tells_reason c.in-Err.error told.1.told first.reason told.1.same first.told };
           is = told.1.is;
         };
       }),

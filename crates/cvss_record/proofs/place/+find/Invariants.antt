@@ -1,6 +1,5 @@
 use Rattle.std.proofs.Common.{◌≡◌, ◌++◌, drop, map}
-use Rattle.cvss_record.specs.Places.{places_in_items, places_in_members}
-use Rattle.cvss_record.specs.Steps.{place_view}
+use Rattle.cvss_record.specs.Places.{place_view, places_in_items, places_in_members}
 use Rattle.serde_json.specs.View.{items_view, members_view}
 use Rattle.cvss_record.proofs.place.+find.Given as goal
 

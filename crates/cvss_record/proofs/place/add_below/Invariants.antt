@@ -1,6 +1,6 @@
 use Rattle.std.proofs.Common.{◌≡◌, ◌++◌, map}
-use Rattle.cvss_record.specs.Places.{below}
-use Rattle.cvss_record.specs.Steps.{place_view, step_text}
+use Rattle.cvss_record.specs.Places.{below, place_view}
+use Rattle.cvss_record.specs.private.Views.{step_text}
 use Rattle.cvss_record.proofs.place.add_below.Given as goal
 
 abbrev pub invariant-loop-place : goal.invariant-loop-place
