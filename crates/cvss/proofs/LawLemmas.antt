@@ -2,9 +2,8 @@
 use Rattle.std.proofs.Common.{◌≡◌, ◌≢◌, ◌↔◌, ℕ, List, [], ◌∷◌, ◌++◌, codes, length, refl, sym, ap, ◌∙◌, arith, lit<}
 use Rattle.std.specs.List.{Contains}
 use Rattle.std.proofs.lemmas.List.{length-append}
-use Rattle.cvss_base.specs.Numeral.{numeral}
+use Rattle.cvss_base.specs.Version.{numeral, components_of, version_piece, IsWellFormed}
 use Rattle.cvss_base.specs.Text.{slash, joined}
-use Rattle.cvss_base.specs.Version.{components_of, version_piece, IsWellFormed}
 use Rattle.cvss_base.proofs.CanonicalLemmas.{canonical_text-denotes, denoted_once}
 use Rattle.cvss_base.proofs.FrontLemmas.{denoted_once_behind}
 use Rattle.cvss_base.proofs.TenthsLemmas.{in_tenths_once}

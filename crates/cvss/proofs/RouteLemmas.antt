@@ -5,12 +5,11 @@ use Rattle.std.specs.Str.{IsUtf8}
 use Rattle.std.proofs.lemmas.Bool.{cases_order}
 use Rattle.std.proofs.Math.Bool.{or-true}
 use Rattle.std.proofs.lemmas.List.Elements.{All-head}
-use Rattle.cvss_base.specs.Numeral.{numeral}
+use Rattle.cvss_base.specs.Version.{numeral, version_piece, Denotes, IsWellFormed}
 use Rattle.cvss_base.specs.private.Pieces.{AreParts}
 use Rattle.cvss_base.specs.Refusal.{piece_at}
 use Rattle.cvss_base.specs.Text.{pieces, component, has, colon, dot}
 use Rattle.cvss_base.specs.V2Types.{name_of}
-use Rattle.cvss_base.specs.Version.{version_piece, Denotes, IsWellFormed}
 use Rattle.cvss_base.specs.declared.v2.MetricType as type_v2
 use Rattle.cvss_base.specs.declared.v2.MetricType.TheVariants as kind_v2
 use Rattle.cvss_base.specs.declared.v4.MetricType.TheVariants as kind_v4

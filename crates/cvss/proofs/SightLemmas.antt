@@ -3,8 +3,7 @@ use Rattle.std.proofs.Common.{◌≡◌, ℕ, List, [], ◌∷◌, ◌++◌, cod
 use Rattle.std.specs.Str.{IsUtf8}
 use Rattle.std.proofs.lemmas.List.Elements.{All-nil, All-cons}
 use Rattle.std.proofs.lemmas.Str.{IsUtf8-from_ascii}
-use Rattle.cvss_base.specs.Numeral.{numeral}
-use Rattle.cvss_base.specs.Version.{Version, canonical_text, version_piece, Denotes, IsWellFormed}
+use Rattle.cvss_base.specs.Version.{numeral, Version, canonical_text, version_piece, Denotes, IsWellFormed}
 use Rattle.cvss_base.specs.private.Walk.{IsLawful}
 use Rattle.cvss_base.proofs.CanonicalLemmas.{canonical_text-denotes}
 use Rattle.cvss_base.proofs.JoinLemmas.{IsUtf8-denoting, none_beyond}

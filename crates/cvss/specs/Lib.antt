@@ -10,7 +10,6 @@ pub mod private
 pub use Rattle.cvss_base.specs.ErrorText
 pub use Rattle.cvss_base.specs.Exact
 pub use Rattle.cvss_base.specs.Listing
-pub use Rattle.cvss_base.specs.MetricsLeft as MetricsLeftToList
 pub use Rattle.cvss_base.specs.Rating
 pub use Rattle.cvss_base.specs.Refusal
 pub use Rattle.cvss_base.specs.Rounding
@@ -62,7 +61,6 @@ pub use Rattle.cvss_v4.specs.Nomenclature as NomenclatureV4
 pub use Rattle.cvss_v4.specs.Overriding as OverridingV4
 pub use Rattle.cvss_v4.specs.laws.OverridingLaws as OverridingLawsV4
 pub use Rattle.cvss_v4.specs.laws.ScoreLaws as ScoreLawsV4
-pub use Rattle.cvss_base.specs.ScoreText
 pub use Rattle.cvss_v4.specs.Scores as ScoresV4
 pub use Rattle.cvss_v4.specs.Values as ValuesV4
 pub use Rattle.cvss_v4.specs.Vector as VectorV4

@@ -1,6 +1,6 @@
 -- What the iterator over a vector's metrics has still to give.
 use Rattle.std.specs.Prelude.{ℕ, List}
-use Rattle.cvss_base.specs.MetricsLeft as base
+use Rattle.cvss_base.specs.Listing as base
 use Rattle.cvss_base.specs.V4Types.{declared}
 use Rattle.cvss_v2.specs.Table as table_v2
 use Rattle.cvss_v2.specs.Vector.{v2}

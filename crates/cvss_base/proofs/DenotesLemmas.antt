@@ -3,8 +3,8 @@ use Rattle.std.proofs.Common.{◌≡◌, ℕ, ◌<◌, List, [], length, Option,
 use Rattle.std.proofs.lemmas.List.{take_all}
 use Rattle.std.proofs.lemmas.Option.{slice_get_within, get_or_from_slice_get}
 use Rattle.cvss_base.specs.Text.{pieces, joined, name_part, value_part, component}
-use Rattle.cvss_base.specs.Version.{Version, read, AreComponentsOf, Denotes, IsComplete}
-use Rattle.cvss_base.specs.Refusal.{Refusal, BadComponent, WrongPrefix, WrongVersion, UnknownName, BadValue, Repeated, Missing, IsSpelling, piece_at, FaultAt, IsFirstReason}
+use Rattle.cvss_base.specs.Version.{Version, read, AreComponentsOf, Denotes, IsComplete, reading}
+use Rattle.cvss_base.specs.Refusal.{Refusal, BadComponent, WrongPrefix, WrongVersion, UnknownName, BadValue, Repeated, Missing, Spells, piece_at, FaultAt, IsFirstReason}
 use Rattle.cvss_base.specs.private.Walk.{IsLawful}
 use Rattle.cvss_base.proofs.TextLemmas.{name_part-component, value_part-component}
 use Rattle.cvss_base.proofs.LawLemmas.{name_plain, names_differ}
@@ -55,7 +55,7 @@ module _ {V K : Type 0} (version : Version V K) (lawful : IsLawful version) wher
   no_fault_held v parts place components within (BadValue blamed value) (kind, _, named, is, no_spelling) =
       let held = piece_held version lawful v parts place components within in
       let one : held.kind ≡ kind = names_differ version lawful held.kind kind (sym (name_from version lawful (piece_at parts place) held.kind _ held.is) ∙ sym named) in
-      no_spelling (subst (λ each. IsSpelling version each value) one (record { value = held.value; spelled = sym (value_from_piece version lawful (piece_at parts place) held.kind _ held.is) ∙ sym is }))
+      no_spelling (subst (λ each. Spells (reading version each) value) one (record { value = held.value; spelled = sym (value_from_piece version lawful (piece_at parts place) held.kind _ held.is) ∙ sym is }))
   no_fault_held v parts place components within (Repeated kind) (named, _, before) =
       names_apart version lawful v kind parts before.earlier place components before.is_before within before.same_name (sym named)
 

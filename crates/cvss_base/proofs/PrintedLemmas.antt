@@ -4,7 +4,7 @@ use Rattle.std.proofs.lemmas.Bool.Decides.{nat_tests}
 use Rattle.std.proofs.lemmas.Int.{ints}
 use Rattle.cvss_base.specs.Exact.{of_count}
 use Rattle.cvss_base.specs.laws.Rounding.{IsNearestEven, printed_tenths}
-use Rattle.cvss_base.specs.ScoreText.{even_tenths}
+use Rattle.cvss_base.specs.Tenths.{even_tenths}
 
 -- the tenths are at most half a tenth away, and are even where they are so far away
 record IsNear (count tenths : ℕ) : Type 0 where

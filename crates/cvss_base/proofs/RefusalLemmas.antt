@@ -4,8 +4,8 @@ use Rattle.std.specs.List.{slice_get}
 use Rattle.std.proofs.lemmas.Bool.{cases_order}
 use Rattle.std.proofs.lemmas.Option.{same_Some}
 use Rattle.cvss_base.specs.Text.{pieces}
-use Rattle.cvss_base.specs.Version.{Version}
-use Rattle.cvss_base.specs.Refusal.{Refusal, BadComponent, WrongPrefix, WrongVersion, UnknownName, BadValue, Repeated, Missing, IsSpelling, piece_at, name_at, value_at, FaultAt, AreComponentsBefore, IsFirstBadPiece, IsFirstFault, IsFirstMissing, IsFirstReason, IsWrongPrefix, IsWrongVersion, TellsVersion, IsReasonBehind, BadPiecesFirst}
+use Rattle.cvss_base.specs.Version.{Version, reading}
+use Rattle.cvss_base.specs.Refusal.{Refusal, BadComponent, WrongPrefix, WrongVersion, UnknownName, BadValue, Repeated, Missing, Spells, piece_at, name_at, value_at, FaultAt, AreComponentsBefore, IsFirstBadPiece, IsFirstFault, IsFirstMissing, IsFirstReason, IsWrongPrefix, IsWrongVersion, TellsVersion, IsReasonBehind, BadPiecesFirst}
 use Rattle.cvss_base.specs.private.Walk.{IsLawful}
 use Rattle.cvss_base.proofs.LawLemmas.{names_differ}
 
@@ -37,10 +37,10 @@ pub data IsSortFirst {K : Type 0} (IsReason : Refusal K → Type 0) (text : List
 
 module _ {V K : Type 0} (version : Version V K) (lawful : IsLawful version) (parts : List (List ℕ)) where
   -- a value cannot be both bad and repeated
-  no_spelling_both : (place : ℕ) (kind other : K) (value : List ℕ) → version.name kind ≡ name_at version parts place → version.name other ≡ name_at version parts place → value ≡ value_at version parts place → ¬ (IsSpelling version kind value) → IsSpelling version other (value_at version parts place) → ⊥
+  no_spelling_both : (place : ℕ) (kind other : K) (value : List ℕ) → version.name kind ≡ name_at version parts place → version.name other ≡ name_at version parts place → value ≡ value_at version parts place → ¬ (Spells (reading version kind) value) → Spells (reading version other) (value_at version parts place) → ⊥
   no_spelling_both place kind other value named also_named is no_spelling spelling =
       let one = names_differ version lawful other kind (also_named ∙ sym named) in
-      no_spelling (subst (λ each. IsSpelling version each value) one (subst (IsSpelling version other) (sym is) spelling))
+      no_spelling (subst (λ each. Spells (reading version each) value) one (subst (Spells (reading version other)) (sym is) spelling))
 
   -- a place has one fault
   pub faults_same : (place : ℕ) (reason other : Refusal K) → FaultAt version parts place reason → FaultAt version parts place other → reason ≡ other

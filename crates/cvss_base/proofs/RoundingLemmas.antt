@@ -2,7 +2,7 @@
 use Rattle.std.proofs.Common.{◌≡◌, ◌<◌, ℤ, pos, ◌+ℤ◌, ◌-ℤ◌, ◌≤ℤ◌, arith, rules, subst, lit<}
 use Rattle.std.proofs.lemmas.Int.{ints, by_lt_z}
 use Rattle.cvss_base.specs.Exact.{Exact, ratio, ◌over◌, whole, tenths, ◌⊕◌, ◌⊗◌, ◌≈◌, ◌⊑◌, ◌⊏◌}
-use Rattle.cvss_base.specs.Rounding.{half_below, half_above, IsNearestAway, IsRoundedV2, IsLeastTenth, IsRoundedV30, IsFloor, IsRoundedUp, IsRoundedV31, IsRoundedV4}
+use Rattle.cvss_base.specs.Rounding.{half_below, half_above, IsNearestAway, IsRoundedV2, IsRoundedV30, IsRoundedV30, IsFloor, IsRoundedUp, IsRoundedV31, IsRoundedV4}
 use Rattle.cvss_base.specs.laws.Rounding.{IsEven, IsNearestEven, RoundsInOrder, RoundsOneWay}
 use Rattle.cvss_base.proofs.ExactLemmas.{equal_at_most, equal_refl, equal_sym, equal_from_at_most, by_below, at_most_trans, at_most_below, below_at_most, sum_at_most, sum_equal, scaled_at_most}
 
@@ -49,7 +49,7 @@ v2-ordered x y r s some_x some_y order is_r is_s =
     let lifted = sum_at_most x y lift lift order same_lift in
     nearest_away-ordered (x ⊕ lift) (y ⊕ lift) r s (omega arith) (omega arith) lifted is_r.lifted is_s.lifted
 
-pub least_tenth-ordered : RoundsInOrder IsLeastTenth
+pub least_tenth-ordered : RoundsInOrder IsRoundedV30
 least_tenth-ordered x y r s some_x some_y order is_r is_s =
     let before = tenths (r -ℤ pos 1) in
     let before_y = below_at_most before x y some_y is_r.least order in

@@ -2,7 +2,7 @@
 use Rattle.std.proofs.Common.{ℤ, pos, negsuc, ◌^◌, arith, rules}
 use Rattle.std.proofs.lemmas.Int.{ints}
 use Rattle.cvss_base.specs.Exact.{Exact, ratio, ◌over◌, whole, ◌⊕◌, ◌⊗◌, ◌⊑◌}
-use Rattle.cvss_base.specs.Rounding.{IsRoundedV2, IsRoundedV30, IsFloor, IsLeastTenth, IsRoundedV31, IsRoundedV4}
+use Rattle.cvss_base.specs.Rounding.{IsRoundedV2, IsRoundedV30, IsFloor, IsRoundedV30, IsRoundedV31, IsRoundedV4}
 use Rattle.cvss_base.specs.laws.Rounding.{IsNearestEven}
 
 -- v3.0 specification, 8.1: Round up (4.02) is 4.1, and Round up (4.00) is 4.0
@@ -10,7 +10,7 @@ pub v30_examples : IsRoundedV30 (402 over 100) (pos 41) × IsRoundedV30 (400 ove
 v30_examples = (search rules, search rules)
 
 rounded_by : (x : Exact) (n r : ℤ) → whole 0 ⊑ x → IsFloor (x ⊗ whole 100_000 ⊕ 1 over 2) n
-    → IsLeastTenth (ratio n 100_000) r → IsRoundedV31 x r
+    → IsRoundedV30 (ratio n 100_000) r → IsRoundedV31 x r
 rounded_by x n r not_negative nearest rounded = record {
   negative = λ negative. absurd (omega (arith, ints));
   not_negative = λ _. record { fifth_decimals = n; nearest = nearest; rounded = rounded };

@@ -9,8 +9,8 @@ use Rattle.std.proofs.lemmas.List.Sorted.{IsPermutation-refl}
 use Rattle.std.specs.Str.{IsUtf8}
 use Rattle.cvss_base.specs.Text.{slash, colon, pieces, IsComponent, name_part, value_part, component}
 use Rattle.cvss_base.specs.private.Pieces.{AreParts}
-use Rattle.cvss_base.specs.Version.{Version, read, component_of, AreComponentsOf, Denotes}
-use Rattle.cvss_base.specs.Refusal.{Refusal, AreComponentsBefore, BadComponent, WrongPrefix, WrongVersion, UnknownName, BadValue, Repeated, Missing, IsSpelling, piece_at, FaultAt, IsNamedBefore, IsFirstFault, IsFirstMissing}
+use Rattle.cvss_base.specs.Version.{Version, read, component_of, AreComponentsOf, Denotes, reading}
+use Rattle.cvss_base.specs.Refusal.{Refusal, AreComponentsBefore, BadComponent, WrongPrefix, WrongVersion, UnknownName, BadValue, Repeated, Missing, Spells, piece_at, FaultAt, IsNamedBefore, IsFirstFault, IsFirstMissing}
 use Rattle.cvss_base.specs.private.Walk.{IsLawful, IsCut, IsCutFirst, IsReadFirst, foreign_bytes, HasNoValue, Puts, Adds, HasRead, IsFaultOf, LacksFirst}
 use Rattle.cvss_base.proofs.TextLemmas.{name_part-read, value_part-read, name_part-component, value_part-component, foreign_bytes-read, slashes-le, IsComponent-component}
 use Rattle.cvss_base.proofs.JoinLemmas.{All-from_count}
@@ -92,7 +92,7 @@ module _ {V K : Type 0} (version : Version V K) (lawful : IsLawful version) wher
     no_fault_at new adds (UnknownName name) (is, unknown) = unknown adds.kind (adds.named ∙ sym is)
     no_fault_at new adds (BadValue blamed value) (kind, _, named, is, no_spelling) =
         let is_kind : adds.kind ≡ kind = names_differ version lawful adds.kind kind (adds.named ∙ sym named) in
-        no_spelling (subst (λ each. IsSpelling version each value) is_kind (record { value = adds.puts.fills.value; spelled = adds.puts.fills.spelled ∙ sym is }))
+        no_spelling (subst (λ each. Spells (reading version each) value) is_kind (record { value = adds.puts.fills.value; spelled = adds.puts.fills.spelled ∙ sym is }))
     no_fault_at new adds (Repeated kind) (named, _, earlier) =
         let is_kind : adds.kind ≡ kind = names_differ version lawful adds.kind kind (adds.named ∙ sym named) in
         none_absent (version.value_of v kind) (subst (λ each. version.value_of v each ≡ None) is_kind adds.puts.fills.was_empty) (named_is_held kind earlier)

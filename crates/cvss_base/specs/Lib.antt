@@ -1,12 +1,9 @@
 pub mod ErrorText
 pub mod Exact
 pub mod Listing
-pub mod MetricsLeft
-pub mod Numeral
 pub mod Rating
 pub mod Refusal
 pub mod Rounding
-pub mod ScoreText
 pub mod SeverityText
 pub mod Tenths
 pub mod Text

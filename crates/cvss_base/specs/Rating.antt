@@ -1,5 +1,4 @@
--- The qualitative severity ratings: v3.0 specification, section 5; v3.1 specification, section 5; v4.0
--- specification, section 6.
+-- The qualitative severity ratings: v3.0 and v3.1 specifications, section 5; v4.0 specification, section 6.
 use Rattle.std.specs.Prelude.{◌*◌, ◌^◌, ℤ, pos, int_lt, if◌then◌else◌}
 use Rattle.cvss_base.specs.declared.severity.Severity.{Severity}
 use Rattle.cvss_base.specs.declared.severity.Severity.TheVariants.{None, Low, Medium, High, Critical}

@@ -37,10 +37,6 @@ pub record Spells {X : Type 0} (spelling : X → List ℕ) (text : List ℕ) : T
   pub value : X
   pub spelled : spelling value ≡ text
 
--- the text, as it is read, spells a value of the metric
-abbrev pub IsSpelling : {V K : Type 0} → Version V K → K → List ℕ → Type 0
-IsSpelling version kind text = Spells (reading version kind) text
-
 -- a component before this place has the metric's name
 pub record IsNamedBefore {V K : Type 0} (version : Version V K) (parts : List (List ℕ)) (place : ℕ) (kind : K) : Type 0 where
   pub earlier : ℕ
@@ -54,10 +50,10 @@ FaultAt version parts place (UnknownName name) =
     (name ≡ name_at version parts place) × ((kind : _) → version.name kind ≢ name)
 FaultAt {K} version parts place (BadValue blamed value) =
     (kind : K) × (blamed ≡ version.blamed kind) × (version.name kind ≡ name_at version parts place)
-    × (value ≡ value_at version parts place) × ¬ (IsSpelling version kind value)
+    × (value ≡ value_at version parts place) × ¬ (Spells (reading version kind) value)
 FaultAt version parts place (Repeated kind) =
     (version.name kind ≡ name_at version parts place)
-    × IsSpelling version kind (value_at version parts place)
+    × Spells (reading version kind) (value_at version parts place)
     × IsNamedBefore version parts place kind
 FaultAt version parts place _ = ⊥
 

@@ -26,14 +26,10 @@ pub record IsNearestAway (x : Exact) (r : ℤ) : Type 0 where
 pub record IsRoundedV2 (x : Exact) (r : ℤ) : Type 0 where
   pub lifted : IsNearestAway (x ⊕ 1 over 1_000_000) r
 
--- r is the least tenth that is not below x
-pub record IsLeastTenth (x : Exact) (r : ℤ) : Type 0 where
+-- v3.0: Round up, r is the least tenth that is not below x
+pub record IsRoundedV30 (x : Exact) (r : ℤ) : Type 0 where
   pub not_below : x ⊑ tenths r
   pub least : tenths (r -ℤ pos 1) ⊏ x
-
--- v3.0: Round up
-abbrev pub IsRoundedV30 : Exact → ℤ → Type 0
-IsRoundedV30 x r = IsLeastTenth x r
 
 -- n is the greatest whole number that is not above x
 pub record IsFloor (x : Exact) (n : ℤ) : Type 0 where
@@ -44,7 +40,7 @@ pub record IsFloor (x : Exact) (n : ℤ) : Type 0 where
 pub record IsRoundedUp (x : Exact) (r : ℤ) : Type 0 where
   pub fifth_decimals : ℤ
   pub nearest : IsFloor (x ⊗ whole 100_000 ⊕ 1 over 2) fifth_decimals
-  pub rounded : IsLeastTenth (ratio fifth_decimals 100_000) r
+  pub rounded : IsRoundedV30 (ratio fifth_decimals 100_000) r
 
 -- v3.1: Roundup of Appendix A, which is for numbers that are not negative, and 0 for the others
 pub record IsRoundedV31 (x : Exact) (r : ℤ) : Type 0 where

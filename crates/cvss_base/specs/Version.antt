@@ -1,7 +1,8 @@
 -- What a version of CVSS brings to the grammar of vectors, and the words of that grammar: CVSS v2
 -- guide, section 2.4; v3.1 specification, section 6; v4.0 specification, section 7.
-use Rattle.std.specs.Prelude.{◌≡◌, ℕ, Bool, List, [], ◌∷◌, ◌++◌, codes, map, Option, IsSome, Contains, IsPermutation, option_map}
+use Rattle.std.specs.Prelude.{◌≡◌, ℕ, zero, suc, ◌+◌, Bool, List, [], ◌∷◌, ◌++◌, codes, map, Option, IsSome, Contains, IsPermutation, option_map}
 use Rattle.std.specs.List.{filter_map}
+use Rattle.std.specs.Int.Digits.{digits_of}
 use Rattle.cvss_base.specs.Text.{joined, component, read_as}
 
 -- a version, with its vectors V and its metric types K
@@ -62,6 +63,11 @@ pub record Denotes {V K : Type 0} (version : Version V K) (text : List ℕ) (v :
 -- the vector has each metric that it must have
 pub record IsComplete {V K : Type 0} (version : Version V K) (v : V) : Type 0 where
   pub present : (kind : K) → Contains version.mandatory kind → IsSome (version.value_of v kind)
+
+-- the digits of a number, the highest first
+abbrev pub numeral : ℕ → List ℕ
+numeral zero = codes "0"
+numeral (suc n) = map (λ digit. 48 + digit) (digits_of 10 (suc n))
 
 -- the piece that tells a version
 abbrev pub version_piece : List ℕ → List ℕ

@@ -5,8 +5,7 @@ ghost use Rattle.std.specs.Option.{option_copied};
 ghost use Rattle.std.specs.Iterator.{YieldsFirstBy, item_count};
 ghost use Rattle.cvss_base.specs.Text.{value_part};
 ghost use Rattle.cvss_base.specs.Version.{held};
-ghost use Rattle.cvss_base.specs.Listing.{listed_metrics};
-ghost use Rattle.cvss_base.specs.MetricsLeft.{metrics_left, as_listed};
+ghost use Rattle.cvss_base.specs.Listing.{listed_metrics, metrics_left, as_listed};
 
 use crate::print::Printed;
 

@@ -1,7 +1,7 @@
 //! How a score is printed.
 
 ghost use Rattle.std.specs.Prelude.{◌≡◌, Some};
-ghost use Rattle.cvss_base.specs.ScoreText.{even_tenths, sign, score_text};
+ghost use Rattle.cvss_base.specs.Tenths.{even_tenths, sign, score_text};
 
 use crate::number::TENTH;
 use std::fmt;

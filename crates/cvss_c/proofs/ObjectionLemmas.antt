@@ -11,13 +11,13 @@ use Rattle.std.proofs.lemmas.Slice.Eq.{bytes_eq-Decides}
 use Rattle.cvss.specs.MetricTypeV4.{MetricType}
 use Rattle.cvss.specs.OverrideErrorTypeV4.{OverrideError}
 use Rattle.cvss.specs.OverridingV4.{AreOverrides, Objection, NamesOther, ObjectionAt, OfOtherGroup, OfText, TellsFirstObjection}
-use Rattle.cvss.specs.Refusal.{BadComponent, BadValue, FaultAt, IsNamedBefore, IsSpelling, Missing, Refusal, Repeated, UnknownName, WrongPrefix, WrongVersion, name_at, piece_at, value_at}
+use Rattle.cvss.specs.Refusal.{BadComponent, BadValue, FaultAt, IsNamedBefore, Spells, Missing, Refusal, Repeated, UnknownName, WrongPrefix, WrongVersion, name_at, piece_at, value_at}
 use Rattle.cvss.specs.TableV4.{environmental}
 use Rattle.cvss.specs.Text.{IsComponent, name_part, value_part}
 use Rattle.cvss.specs.TypesV4.{name_of}
 use Rattle.cvss.specs.VectorTypeV4.{Vector}
 use Rattle.cvss.specs.VectorV4.{v4}
-use Rattle.cvss.specs.Version.{component_of, components_of, read}
+use Rattle.cvss.specs.Version.{component_of, components_of, read, reading}
 use Rattle.cvss_base.proofs.LawLemmas.{names_differ}
 use Rattle.cvss_v4.specs.private.VectorLaws.{v4_is_lawful}
 
@@ -93,7 +93,7 @@ module _ (xs ys : List (List ℕ)) (place : ℕ) (same : (k : ℕ) → k ≤ pla
   fault_same (BadValue blamed value) (kind, blames, named, is, wrong) =
       (kind, blames, named ∙ name_same place (omega arith), is ∙ value_same, wrong)
   fault_same (Repeated kind) (named, spelled, before) =
-      (named ∙ name_same place (omega arith), subst (IsSpelling v4 kind) value_same spelled, named_same kind before)
+      (named ∙ name_same place (omega arith), subst (Spells (reading v4 kind)) value_same spelled, named_same kind before)
   fault_same (BadComponent piece) none = none
   fault_same (WrongPrefix prefix) none = none
   fault_same (WrongVersion told) none = none

@@ -1,7 +1,7 @@
 -- How rows are written.
 use Rattle.std.specs.Prelude.{ℕ, List, ◌++◌, codes, string_bytes}
 use Rattle.cvss.specs.Rating.{rating_of_score}
-use Rattle.cvss.specs.ScoreText.{score_text}
+use Rattle.cvss.specs.Tenths.{score_text}
 use Rattle.cvss.specs.SeverityText.{text_of as severity_text}
 use Rattle.cvss_ranking.specs.declared.row.Row.{Row}
 

@@ -1,7 +1,7 @@
 //! How rows are written.
 
 ghost use Rattle.std.specs.Prelude.{◌≡◌, ◌++◌, IfOk, OnOk, flat_map, string_bytes};
-ghost use Rattle.cvss.specs.ScoreText.{score_text};
+ghost use Rattle.cvss.specs.Tenths.{score_text};
 ghost use Rattle.cvss_triage.specs.Rows.{row_text};
 
 use cvss::OneDecimal;

@@ -4,10 +4,9 @@ ghost use Rattle.std.specs.Prelude.{◌≡◌, ◌≤ℤ◌, ◌*ℤ◌, ◌^◌
 ghost use Rattle.std.specs.Int.{int_max};
 ghost use Rattle.cvss_base.specs.Exact.{of_count, IsWithinLimit};
 ghost use Rattle.cvss_base.specs.Rounding.{IsRoundedV2};
-ghost use Rattle.cvss_base.specs.ScoreText.{score_text};
+ghost use Rattle.cvss_base.specs.Tenths.{score_text, IsInTenths, IsFromZeroToTen};
 ghost use Rattle.cvss_v2.specs.Rating.{rating_of};
 ghost use Rattle.cvss_v2.specs.private.Bounds.{IsOnScale};
-ghost use Rattle.cvss_base.specs.Tenths.{IsInTenths, IsFromZeroToTen};
 
 use crate::equations;
 use cvss_base::{ONE, OneDecimal, Severity, TENTH};

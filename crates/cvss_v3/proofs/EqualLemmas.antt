@@ -5,7 +5,7 @@ use Rattle.std.proofs.Math.Nat.{mul-pos}
 use Rattle.std.proofs.lemmas.Int.{ints}
 use Rattle.std.proofs.lemmas.Bool.{lt-ltb}
 use Rattle.cvss_base.specs.Exact.{Exact, ratio, ◌over◌, whole, tenths, ◌⊕◌, ◌⊗◌, ◌≈◌}
-use Rattle.cvss_base.specs.Rounding.{IsLeastTenth, IsRoundedV31}
+use Rattle.cvss_base.specs.Rounding.{IsRoundedV30, IsRoundedV31}
 use Rattle.cvss_base.proofs.ExactLemmas.{equal_refl, equal_sym, equal_at_most, sum_equal, difference_equal, product_equal, at_most_trans, at_most_below, below_at_most}
 use Rattle.cvss_base.proofs.RoundingLemmas.{v30-unique, v31-unique}
 use Rattle.cvss_v3.proofs.CapLemmas.{capped, capped_equal}
@@ -98,7 +98,7 @@ first_bottom changed x y some_x some_y =
     ] in
     parted (int_lt (pos 0) x.top)
 
-least_tenth-equal : (x y : Exact) (r : ℤ) → 0 < x.bottom → 0 < y.bottom → x ≈ y → IsLeastTenth x r → IsLeastTenth y r
+least_tenth-equal : (x y : Exact) (r : ℤ) → 0 < x.bottom → 0 < y.bottom → x ≈ y → IsRoundedV30 x r → IsRoundedV30 y r
 least_tenth-equal x y r some_x some_y same rounded = record {
   not_below = at_most_trans y x (tenths r) some_x (equal_at_most y x (equal_sym same)) rounded.not_below;
   least = below_at_most (tenths (r -ℤ pos 1)) x y some_y rounded.least (equal_at_most x y same);

@@ -9,8 +9,7 @@ use Rattle.std.proofs.lemmas.Slice.Eq.{bytes_eq-Decides}
 use Rattle.cvss_base.specs.Refusal.{Refusal, BadComponent, WrongPrefix, WrongVersion, UnknownName, BadValue, Repeated, Missing, piece_at, name_at, FaultAt}
 use Rattle.cvss_base.specs.Text.{IsComponent, name_part}
 use Rattle.cvss_base.specs.V4Types.{name_of}
-use Rattle.cvss_base.specs.Numeral.{numeral}
-use Rattle.cvss_base.specs.Version.{read, version_piece, IsComplete}
+use Rattle.cvss_base.specs.Version.{numeral, read, version_piece, IsComplete}
 use Rattle.cvss_base.specs.private.Walk.{HasNoValue, IsFaultOf}
 use Rattle.cvss_base.specs.declared.v4.MetricType.{MetricType}
 use Rattle.cvss_base.specs.declared.v4.MetricType.TheVariants.{AC}
@@ -195,11 +194,20 @@ IsComplete-overridden v overrides new is complete = record {
 -- a vector with another's environmental metrics where that has them
 abbrev pub overridden : Vector → Vector → Vector
 overridden v overrides = record v {
-  cr = option_or overrides.cr v.cr; ir = option_or overrides.ir v.ir; ar = option_or overrides.ar v.ar;
-  mav = option_or overrides.mav v.mav; mac = option_or overrides.mac v.mac; mat = option_or overrides.mat v.mat;
-  mpr = option_or overrides.mpr v.mpr; mui = option_or overrides.mui v.mui;
-  mvc = option_or overrides.mvc v.mvc; mvi = option_or overrides.mvi v.mvi; mva = option_or overrides.mva v.mva;
-  msc = option_or overrides.msc v.msc; msi = option_or overrides.msi v.msi; msa = option_or overrides.msa v.msa;
+  cr = option_or overrides.cr v.cr;
+  ir = option_or overrides.ir v.ir;
+  ar = option_or overrides.ar v.ar;
+  mav = option_or overrides.mav v.mav;
+  mac = option_or overrides.mac v.mac;
+  mat = option_or overrides.mat v.mat;
+  mpr = option_or overrides.mpr v.mpr;
+  mui = option_or overrides.mui v.mui;
+  mvc = option_or overrides.mvc v.mvc;
+  mvi = option_or overrides.mvi v.mvi;
+  mva = option_or overrides.mva v.mva;
+  msc = option_or overrides.msc v.msc;
+  msi = option_or overrides.msi v.msi;
+  msa = option_or overrides.msa v.msa;
 }
 
 -- its value for a metric of the environmental group or of another one

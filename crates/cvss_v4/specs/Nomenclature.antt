@@ -1,7 +1,7 @@
 -- Which groups of metrics a score rests on: CVSS v4.0 specification, section 1.3.
 use Rattle.std.specs.Prelude.{◌≡◌, ℕ, Bool, true, false, ℤ, List, ◌++◌, codes, is_some}
 use Rattle.std.specs.List.{list_any}
-use Rattle.cvss_base.specs.ScoreText.{score_text}
+use Rattle.cvss_base.specs.Tenths.{score_text}
 use Rattle.std.specs.String.{string_bytes}
 use Rattle.cvss_base.specs.declared.error.Error.{Error}
 use Rattle.cvss_base.specs.declared.error.Error.TheVariants.{InvalidNomenclatureV4, OutOfMemory}

@@ -2,7 +2,7 @@
 use Rattle.std.specs.Prelude.{◌≡◌, ◌%◌, ◌<◌, ℤ, pos, neg_ℤ, int_lt, ◌≤ℤ◌, unsigned_abs, if◌then◌else◌}
 use Rattle.cvss_base.specs.Exact.{Exact, ◌≈◌, ◌⊑◌}
 use Rattle.cvss_base.specs.Rounding.{IsNearest, half_below, half_above}
-use Rattle.cvss_base.specs.ScoreText.{even_tenths}
+use Rattle.cvss_base.specs.Tenths.{even_tenths}
 
 -- an even number of tenths
 abbrev pub IsEven : ℤ → Type 0

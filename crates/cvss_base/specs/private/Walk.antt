@@ -10,7 +10,7 @@ use Rattle.cvss_base.specs.declared.walk.Fault.TheVariants.{InvalidComponent, In
 use Rattle.cvss_base.specs.laws.Order.{place_in}
 use Rattle.cvss_base.specs.Text.{slash, colon, pieces, IsComponent, name_part, value_part, component}
 use Rattle.cvss_base.specs.Version.{Version, read, reading, version_piece, AreComponentsOf, IsComplete}
-use Rattle.cvss_base.specs.Refusal.{Refusal, BadComponent, WrongPrefix, WrongVersion, UnknownName, BadValue, Repeated, Missing, IsSpelling, Spells, HasNoFaultBefore, IsWrongPrefix, IsWrongVersion}
+use Rattle.cvss_base.specs.Refusal.{Refusal, BadComponent, WrongPrefix, WrongVersion, UnknownName, BadValue, Repeated, Missing, Spells, HasNoFaultBefore, IsWrongPrefix, IsWrongVersion}
 
 -- a byte that no name and no spelling has: it divides, or is not ASCII
 abbrev pub is_foreign : ℕ → Bool
@@ -178,10 +178,10 @@ IsFaultOf {V} {K} version v piece (UnknownName name) =
     (name ≡ read version (name_part piece)) × ((kind : K) → version.name kind ≢ name)
 IsFaultOf {V} {K} version v piece (BadValue blamed value) =
     (kind : K) × (blamed ≡ version.blamed kind) × (version.name kind ≡ read version (name_part piece))
-    × (value ≡ read version (value_part piece)) × ¬ (IsSpelling version kind value)
+    × (value ≡ read version (value_part piece)) × ¬ (Spells (reading version kind) value)
 IsFaultOf version v piece (Repeated kind) =
     (version.name kind ≡ read version (name_part piece))
-    × IsSpelling version kind (read version (value_part piece))
+    × Spells (reading version kind) (read version (value_part piece))
     × IsSome (version.value_of v kind)
 IsFaultOf version v piece (BadComponent _) = ⊥
 IsFaultOf version v piece (WrongPrefix _) = ⊥

@@ -2,13 +2,13 @@
 -- decimal, where calculators are known that cut.
 use Rattle.std.specs.Prelude.{ℤ}
 use Rattle.cvss_base.specs.Exact.{Exact, ratio, whole, ◌⊗◌}
-use Rattle.cvss_base.specs.Rounding.{IsFloor, IsLeastTenth, IsRoundedV31}
+use Rattle.cvss_base.specs.Rounding.{IsFloor, IsRoundedV30, IsRoundedV31}
 
 -- r is the least tenth that is not below x, cut to five decimals
 pub record IsRoundedCut (x : Exact) (r : ℤ) : Type 0 where
   pub fifth_decimals : ℤ
   pub cut : IsFloor (x ⊗ whole 100_000) fifth_decimals
-  pub rounded : IsLeastTenth (ratio fifth_decimals 100_000) r
+  pub rounded : IsRoundedV30 (ratio fifth_decimals 100_000) r
 
 -- cut or not, x has the same rounding
 abbrev pub IsSameWhenCut : Exact → Type 0

@@ -1,8 +1,7 @@
 //! The metrics of a vector, as a list.
 
 ghost use Rattle.std.specs.Prelude.{◌≡◌};
-ghost use Rattle.cvss_base.specs.Listing.{listed_metrics};
-ghost use Rattle.cvss_base.specs.MetricsLeft.{metrics_left};
+ghost use Rattle.cvss_base.specs.Listing.{listed_metrics, metrics_left};
 ghost use Rattle.cvss_v3_metric.specs.Table.{listed};
 ghost use Rattle.cvss_v3.specs.Vector.{v3};
 

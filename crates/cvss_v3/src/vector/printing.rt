@@ -3,11 +3,10 @@
 ghost use Rattle.std.specs.Prelude.{◌≡◌, Some, [], ◌∷◌, ◌++◌, codes, option_map, unwrap_or};
 ghost use Rattle.std.specs.Fmt.{WritesOnOk};
 ghost use Rattle.std.specs.Option.{option_copied};
-ghost use Rattle.cvss_base.specs.Numeral.{numeral};
+ghost use Rattle.cvss_base.specs.Version.{numeral, canonical_text, version_piece};
 ghost use Rattle.cvss_base.specs.private.Printing.{slashed, slashed_texts};
 ghost use Rattle.cvss_base.specs.Text.{component};
 ghost use Rattle.cvss_base.specs.V3Types.{name_of};
-ghost use Rattle.cvss_base.specs.Version.{canonical_text, version_piece};
 ghost use Rattle.cvss_base.specs.declared.v3.MetricType.TheVariants.{A, AC, AV, C, I, PR, S, UI, E, RL, RC, CR, IR, AR, MAV, MAC, MPR, MUI, MS, MC, MI, MA};
 ghost use Rattle.cvss_v3_metric.specs.Table.{spelling_of, printed};
 ghost use Rattle.cvss_v3.specs.Vector.{v3};

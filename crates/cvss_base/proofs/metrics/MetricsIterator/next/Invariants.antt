@@ -1,5 +1,5 @@
 use Rattle.std.proofs.Common.{◌≡◌, ◌-◌, length}
-use Rattle.cvss_base.specs.MetricsLeft.{metrics_left}
+use Rattle.cvss_base.specs.Listing.{metrics_left}
 use Rattle.cvss_base.proofs.metrics.MetricsIterator.next.Given as goal
 
 abbrev pub invariant-loop-kind : goal.invariant-loop-kind
