@@ -96,6 +96,13 @@ impl MetricType {
         }
     }
 
+    /// All metrics, in the order in which they are compared.
+    pub fn all() -> &'static [MetricType]
+        ensures { result.now ≡ declared }
+    {
+        &ALL
+    }
+
     /// The metric's name in words.
     pub fn description(self) -> &'static str
         ensures { result.now ≡ description_of self }

@@ -8,7 +8,6 @@ ghost use Rattle.cvss_v4.specs.Vector.{v4};
 use crate::metric::MetricType;
 use crate::vector::Vector;
 use cvss_base::metrics::{self, Listed};
-use cvss_base::named::Named;
 
 /// The metrics that a vector has, each with the spelling of its value; at most 32.
 pub type Metrics = metrics::Metrics<Vector>;
