@@ -1,6 +1,6 @@
 -- What follows for a text from the one answer that a reader gives: a vector that is read from it, or
 -- else the first reason to refuse it.
-use Rattle.std.proofs.Common.{◌≡◌, Result, Ok, Err, ap}
+use Rattle.std.proofs.Common.{◌≡◌, Result, Ok, Err, IfOk, IfErr, OnOk, ap}
 use Rattle.std.specs.Result.{MatchResult, IsErrAnd}
 use Rattle.cvss_base.specs.declared.walk.Fault.{Fault}
 use Rattle.cvss_base.specs.Version.{Version}
@@ -18,3 +18,16 @@ module _ {V K : Type 0} (version : Version V K) (IsRead : V → Type 0) (IsRefus
   pub refuses-from : (answer : Result V (Fault K)) → IsAnswer answer → ((w : V) → IsRead w → (reason : Refusal K) → IsRefusal reason → ⊥) → ((one two : Refusal K) → IsRefusal one → IsRefusal two → one ≡ two) → (reason : Refusal K) → IsRefusal reason → IsErrAnd answer (λ fault. reason_of version fault ≡ reason)
   refuses-from (Ok w) is none same reason first = absurd (none w is reason first)
   refuses-from (Err fault) refused none same reason first = same (reason_of version fault) reason refused first
+
+  -- what holds of each vector that is read, holds of the one that is answered
+  pub answered : (P : V → Type 0) → ((v : V) → IsRead v → P v) → (answer : Result V (Fault K)) → IsAnswer answer → IfOk answer P
+  answered P holds (Ok v) is = holds v is
+  answered P holds (Err fault) is = tt
+
+  pub answered_alone : (P : Type 0) → ((v : V) → IsRead v → P) → (answer : Result V (Fault K)) → IsAnswer answer → OnOk answer P
+  answered_alone P holds (Ok v) is = holds v is
+  answered_alone P holds (Err fault) is = tt
+
+  pub refused : (answer : Result V (Fault K)) → IsAnswer answer → IfErr answer (λ fault. IsRefusal (reason_of version fault))
+  refused (Ok v) is = tt
+  refused (Err fault) is = is

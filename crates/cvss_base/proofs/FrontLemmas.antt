@@ -1,5 +1,5 @@
 -- Texts behind a version piece: what a reader of them has read, and why it refuses.
-use Rattle.std.proofs.Common.{◌≡◌, ℕ, ◌+◌, ◌<◌, zero, suc, List, [], ◌∷◌, ◌++◌, length, get_or, codes, Result, Ok, Err, IfErr, refl, subst, sym, ap, ◌∙◌, add-one, arith}
+use Rattle.std.proofs.Common.{◌≡◌, ℕ, ◌+◌, ◌<◌, zero, suc, List, [], ◌∷◌, ◌++◌, length, get_or, codes, Result, Ok, Err, IfOk, IfErr, refl, subst, sym, ap, ◌∙◌, add-one, arith}
 use Rattle.std.specs.List.{All, Contains}
 use Rattle.std.specs.Result.{IsErrAnd}
 use Rattle.std.proofs.lemmas.List.{get_or-map}
@@ -10,8 +10,8 @@ use Rattle.std.proofs.lemmas.Str.{IsUtf8-from_ascii}
 use Rattle.cvss_base.specs.declared.walk.Fault.{Fault}
 use Rattle.cvss_base.specs.Text.{slash, pieces, joined, name_part, value_part, IsComponent}
 use Rattle.cvss_base.specs.Version.{Version, version_piece, Denotes, IsComplete, IsWellFormed, AreComponentsOf}
-use Rattle.cvss_base.specs.Refusal.{Refusal, BadComponent, WrongPrefix, WrongVersion, UnknownName, BadValue, Repeated, Missing, AreComponentsBefore, piece_at, IsFirstReason, IsReasonBehind, IsFirstRefusalBehind, TellsVersion}
-use Rattle.cvss_base.specs.private.Walk.{IsLawful, IsLawfulFront, IsReadBehind, IsFrontFault, StartsWith, foreign_bytes, reason_of}
+use Rattle.cvss_base.specs.Refusal.{Refusal, BadComponent, WrongPrefix, WrongVersion, UnknownName, BadValue, Repeated, Missing, AreComponentsBefore, IsFirstBadPiece, piece_at, IsReasonBehind, IsFirstRefusalBehind, TellsVersion}
+use Rattle.cvss_base.specs.private.Walk.{IsLawful, IsLawfulFront, IsReadBehind, IsFrontFault, IsStarted, IsFirstOfPieces, HasRead, foreign_bytes, reason_of}
 use Rattle.cvss_base.proofs.AnswerLemmas as answer
 use Rattle.cvss_base.proofs.CanonicalLemmas.{denoted_once}
 use Rattle.cvss_base.proofs.DenotesLemmas.{vectors_same, no_reason}
@@ -167,40 +167,65 @@ module _ (text piece : List ℕ) (parts : List (List ℕ)) (cut : pieces text �
   pub IsUtf8-behind : IsUtf8 text → All IsUtf8 parts
   IsUtf8-behind is = All-tail IsUtf8 piece parts (subst (All IsUtf8) cut (IsUtf8-pieces text is))
 
-module _ {V K : Type 0} (version : Version V K) (text piece : List ℕ) (parts : List (List ℕ)) (cut : pieces text ≡ piece ∷ parts) (components : AreComponentsBefore (pieces text) (length (pieces text))) where
-  first_is_component : IsComponent piece
-  first_is_component = subst (λ list. IsComponent (piece_at list 0)) cut (components.each 0 (omega (arith, ap length cut)))
-
+module _ {V K : Type 0} (version : Version V K) (text piece : List ℕ) (parts : List (List ℕ)) (cut : pieces text ≡ piece ∷ parts) where
   -- a fault of the first piece is a first refusal
-  pub front_fault_first : (reason : Refusal K) → (IsComponent piece → IsFrontFault version piece reason) → IsFirstRefusalBehind version text reason
-  front_fault_first (BadComponent bad) fault = absurd (fault first_is_component)
-  front_fault_first (UnknownName name) fault = absurd (fault first_is_component)
-  front_fault_first (BadValue kind value) fault = absurd (fault first_is_component)
-  front_fault_first (Repeated kind) fault = absurd (fault first_is_component)
-  front_fault_first (Missing kind) fault = absurd (fault first_is_component)
-  front_fault_first (WrongPrefix prefix) fault = (components, rw cut (fault first_is_component))
-  front_fault_first (WrongVersion told) fault = (components, rw cut (fault first_is_component))
+  module _ (components : AreComponentsBefore (pieces text) (length (pieces text))) where
+    first_is_component : IsComponent piece
+    first_is_component = subst (λ list. IsComponent (piece_at list 0)) cut (components.each 0 (omega (arith, ap length cut)))
 
-  components_behind : AreComponentsBefore parts (length parts)
-  components_behind = record { each = λ place before. rw add-one at (subst (λ list. IsComponent (piece_at list (place + 1))) cut (components.each (place + 1) (omega (arith, ap length cut)))) }
+    pub front_fault_first : (reason : Refusal K) → (IsComponent piece → IsFrontFault version piece reason) → IsFirstRefusalBehind version text reason
+    front_fault_first (BadComponent bad) fault = absurd (fault first_is_component)
+    front_fault_first (UnknownName name) fault = absurd (fault first_is_component)
+    front_fault_first (BadValue kind value) fault = absurd (fault first_is_component)
+    front_fault_first (Repeated kind) fault = absurd (fault first_is_component)
+    front_fault_first (Missing kind) fault = absurd (fault first_is_component)
+    front_fault_first (WrongPrefix prefix) fault = (components, rw cut (fault first_is_component))
+    front_fault_first (WrongVersion told) fault = (components, rw cut (fault first_is_component))
 
   -- and a first reason of the components behind a version piece
-  reason_behind_first : (reason : Refusal K) → TellsVersion version piece → (AreComponentsBefore parts (length parts) → IsFirstReason version parts reason) → IsFirstRefusalBehind version text reason
-  reason_behind_first (BadComponent bad) tells first = absurd ((first components_behind).fault)
-  reason_behind_first (WrongPrefix prefix) tells first = absurd ((first components_behind).fault)
-  reason_behind_first (WrongVersion told) tells first = absurd ((first components_behind).fault)
-  reason_behind_first (UnknownName name) tells first = (components, rw cut (tells, first components_behind))
-  reason_behind_first (BadValue kind value) tells first = (components, rw cut (tells, first components_behind))
-  reason_behind_first (Repeated kind) tells first = (components, rw cut (tells, first components_behind))
-  reason_behind_first (Missing kind) tells first = (components, rw cut (tells, first components_behind))
+  module _ (is_component : IsComponent piece) (tells : TellsVersion version piece) where
+    front_or : (n : ℕ) → AreComponentsBefore parts n → (place : ℕ) → place < n + 1 → IsComponent (piece_at (piece ∷ parts) place)
+    front_or n behind zero before = is_component
+    front_or n behind (suc place) before = behind.each place (omega arith)
 
--- a piece that starts a vector tells its version
-pub TellsVersion-started : {V K : Type 0} (version : Version V K) (piece : List ℕ) (v : V) → StartsWith version piece v → TellsVersion version piece
-TellsVersion-started version piece v is = record {
-  prefix = ap name_part is.is ∙ name_part-component (codes "CVSS") (value_part piece) refl;
-  supported = is.starts.supported;
-}
+    with_front : AreComponentsBefore parts (length parts) → AreComponentsBefore (pieces text) (length (pieces text))
+    with_front behind = rw cut (record { each = λ place before. front_or (length parts) behind place (omega (arith, before)) })
 
-pub refused_behind : {V K : Type 0} (version : Version V K) (text piece : List ℕ) (parts : List (List ℕ)) → pieces text ≡ piece ∷ parts → TellsVersion version piece → (result : Result V (Fault K)) → IfErr result (λ fault. AreComponentsBefore parts (length parts) → IsFirstReason version parts (reason_of version fault)) → IfErr result (λ fault. AreComponentsBefore (pieces text) (length (pieces text)) → IsFirstRefusalBehind version text (reason_of version fault))
-refused_behind version text piece parts cut tells (Ok v) first = tt
-refused_behind version text piece parts cut tells (Err fault) first = λ components. reason_behind_first version text piece parts cut components (reason_of version fault) tells first
+    bad_behind : (bad : List ℕ) → IsFirstBadPiece parts bad → IsFirstBadPiece (pieces text) bad
+    bad_behind bad first = rw cut (record {
+      place = suc first.place;
+      within = omega (arith, first.within);
+      is = first.is;
+      bad = first.bad;
+      earlier = record { each = λ place before. front_or first.place first.earlier place (omega (arith, before)) };
+    })
+
+    reason_behind : (reason : Refusal K) → IsFirstOfPieces version parts reason → IsFirstRefusalBehind version text reason
+    reason_behind (BadComponent bad) first = bad_behind bad first
+    reason_behind (WrongPrefix prefix) (behind, first) = absurd first.fault
+    reason_behind (WrongVersion told) (behind, first) = absurd first.fault
+    reason_behind (UnknownName name) (behind, first) = (with_front behind, rw cut (tells, first))
+    reason_behind (BadValue kind value) (behind, first) = (with_front behind, rw cut (tells, first))
+    reason_behind (Repeated kind) (behind, first) = (with_front behind, rw cut (tells, first))
+    reason_behind (Missing kind) (behind, first) = (with_front behind, rw cut (tells, first))
+
+-- a text whose first piece starts a vector is read from behind it
+module _ {V K : Type 0} (version : Version V K) (plain : IsLawfulFront version) (text : List ℕ) (parts : List (List ℕ)) (empty : V) (started : IsStarted version text parts empty) where
+  tells_version : TellsVersion version started.piece
+  tells_version = record {
+    prefix = ap name_part started.starts.is ∙ name_part-component (codes "CVSS") (value_part started.piece) refl;
+    supported = started.starts.starts.supported;
+  }
+
+  pub IsAnswer-started : (result : Result V (Fault K)) → IfOk result (λ v. HasRead version parts (length parts) v) → IfOk result (λ v. version.front v ≡ version.front empty) → IfOk result (λ v. IsComplete version v) → IfErr result (λ fault. IsFirstOfPieces version parts (reason_of version fault)) → IsAnswer version text result
+  IsAnswer-started (Ok v) all front complete refused = record {
+    told = value_part started.piece;
+    parts = parts;
+    cut = started.cut ∙ ap (λ piece. piece ∷ parts) started.starts.is;
+    front_is = front ∙ started.starts.starts.front_is;
+    supported = started.starts.starts.supported;
+    all = all;
+    complete = complete;
+  }
+  IsAnswer-started (Err fault) all front complete refused =
+      reason_behind version text started.piece parts started.cut (subst IsComponent (sym started.starts.is) (front_is_component version plain (value_part started.piece) started.starts.starts.supported)) tells_version (reason_of version fault) refused

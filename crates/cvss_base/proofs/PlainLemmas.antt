@@ -1,12 +1,12 @@
 -- Texts of components alone: what a reader of them has read, and why it refuses.
 use Rattle.std.proofs.Common.{◌≡◌, ℕ, List, [], length, Result, subst, sym, ◌∙◌}
 use Rattle.std.specs.Result.{IsErrAnd}
-use Rattle.std.proofs.Common.{Ok}
+use Rattle.std.proofs.Common.{Ok, Err, IfOk, IfErr}
 use Rattle.cvss_base.specs.declared.walk.Fault.{Fault}
 use Rattle.cvss_base.specs.Text.{pieces}
 use Rattle.cvss_base.specs.Version.{Version, Denotes, IsComplete, AreComponentsOf}
-use Rattle.cvss_base.specs.Refusal.{Refusal, BadComponent, WrongPrefix, WrongVersion, UnknownName, BadValue, Repeated, Missing, AreComponentsBefore, IsFirstReason, IsFirstRefusal}
-use Rattle.cvss_base.specs.private.Walk.{IsLawful, HasRead, reason_of}
+use Rattle.cvss_base.specs.Refusal.{Refusal, BadComponent, WrongPrefix, WrongVersion, UnknownName, BadValue, Repeated, Missing, IsFirstReason, IsFirstRefusal}
+use Rattle.cvss_base.specs.private.Walk.{IsLawful, HasRead, IsFirstOfPieces, reason_of}
 use Rattle.cvss_base.proofs.AnswerLemmas as answer
 use Rattle.cvss_base.proofs.DenotesLemmas.{vectors_same, pieces_denoted, no_reason}
 use Rattle.std.specs.Str.{IsUtf8}
@@ -26,22 +26,24 @@ abbrev pub IsAnswer : {V K : Type 0} → Version V K → List ℕ → Result V (
 IsAnswer version text = answer.IsAnswer version (IsReadFrom version text) (IsFirstRefusal version text)
 
 module _ {V K : Type 0} (version : Version V K) (lawful : IsLawful version) (text : List ℕ) where
-  refusal_from : AreComponentsBefore (pieces text) (length (pieces text)) → (reason : Refusal K) → IsFirstReason version (pieces text) reason → IsFirstRefusal version text reason
-  refusal_from components (BadComponent piece) is = absurd is.fault
-  refusal_from components (WrongPrefix prefix) is = (components, is)
-  refusal_from components (WrongVersion told) is = (components, is)
-  refusal_from components (UnknownName name) is = (components, is)
-  refusal_from components (BadValue kind value) is = (components, is)
-  refusal_from components (Repeated kind) is = (components, is)
-  refusal_from components (Missing kind) is = (components, is)
+  refusal_from : (reason : Refusal K) → IsFirstOfPieces version (pieces text) reason → IsFirstRefusal version text reason
+  refusal_from (BadComponent piece) is = is
+  refusal_from (WrongPrefix prefix) is = is
+  refusal_from (WrongVersion told) is = is
+  refusal_from (UnknownName name) is = is
+  refusal_from (BadValue kind value) is = is
+  refusal_from (Repeated kind) is = is
+  refusal_from (Missing kind) is = is
 
   -- whatever pieces were read, they are those of the text
-  module _ (parts : List (List ℕ)) (are : parts ≡ pieces text) where
-    pub IsReadFrom-parts : (v : V) → version.front v ≡ [] → HasRead version parts (length parts) v → IsComplete version v → IsReadFrom version text v
-    IsReadFrom-parts v frontless all complete = record { frontless = frontless; all = subst (λ list. HasRead version list (length list) v) are all; complete = complete }
-
-    pub IsFirstRefusal-parts : (reason : Refusal K) → AreComponentsBefore (pieces text) (length (pieces text)) → (AreComponentsBefore parts (length parts) → IsFirstReason version parts reason) → IsFirstRefusal version text reason
-    IsFirstRefusal-parts reason components first = refusal_from components reason (subst (λ list. AreComponentsBefore list (length list) → IsFirstReason version list reason) are first components)
+  pub IsAnswer-parts : (parts : List (List ℕ)) → parts ≡ pieces text → (empty : V) → version.front empty ≡ [] → (result : Result V (Fault K)) → IfOk result (λ v. HasRead version parts (length parts) v) → IfOk result (λ v. version.front v ≡ version.front empty) → IfOk result (λ v. IsComplete version v) → IfErr result (λ fault. IsFirstOfPieces version parts (reason_of version fault)) → IsAnswer version text result
+  IsAnswer-parts parts are empty frontless (Ok v) all front complete refused = record {
+    frontless = front ∙ frontless;
+    all = subst (λ list. HasRead version list (length list) v) are all;
+    complete = complete;
+  }
+  IsAnswer-parts parts are empty frontless (Err fault) all front complete refused =
+      refusal_from (reason_of version fault) (subst (λ list. IsFirstOfPieces version list (reason_of version fault)) are refused)
 
   -- where the pieces of a text are the components of a complete vector, the text has no refusal
   no_refusal : (v : V) → AreComponentsOf version (pieces text) v → IsComplete version v → (reason : Refusal K) → IsSortFirst (IsFirstReason version (pieces text)) text reason → ⊥

@@ -1,6 +1,7 @@
 -- The steps of the walk over the components.
-use Rattle.std.proofs.Common.{◌≡◌, ℕ, ◌+◌, ◌<◌, ◌≤◌, List, [], ◌∷◌, length, ◌++◌, take, drop, false, Option, Some, None, IsSome, below_more, refl, sym, ap, ◌∙◌, subst, arith}
+use Rattle.std.proofs.Common.{◌≡◌, ℕ, ◌+◌, ◌-◌, ◌<◌, ◌≤◌, List, [], ◌∷◌, length, ◌++◌, take, drop, false, Option, Some, None, IsSome, below_more, inl, inr, refl, sym, ap, ◌∙◌, subst, arith}
 use Rattle.std.specs.List.{All, filter_map, onto_first}
+use Rattle.std.proofs.lemmas.Bool.{cases_lt}
 use Rattle.std.proofs.lemmas.List.{get_or-take, take_more, take_all, length-take-le, length-drop, drop_more, get_or-drop}
 use Rattle.std.proofs.lemmas.List.Elements.{All-head, All-tail, All-drop}
 use Rattle.std.proofs.lemmas.List.Splits.{join_with_byte-slice_split, length-slice_split, slice_split-cons_no}
@@ -10,8 +11,8 @@ use Rattle.std.specs.Str.{IsUtf8}
 use Rattle.cvss_base.specs.Text.{slash, colon, pieces, IsComponent, name_part, value_part, component}
 use Rattle.cvss_base.specs.private.Pieces.{AreParts}
 use Rattle.cvss_base.specs.Version.{Version, read, component_of, AreComponentsOf, Denotes, reading}
-use Rattle.cvss_base.specs.Refusal.{Refusal, AreComponentsBefore, BadComponent, WrongPrefix, WrongVersion, UnknownName, BadValue, Repeated, Missing, Spells, piece_at, FaultAt, IsNamedBefore, IsFirstFault, IsFirstMissing}
-use Rattle.cvss_base.specs.private.Walk.{IsLawful, IsCut, IsCutFirst, IsReadFirst, foreign_bytes, HasNoValue, Puts, Adds, HasRead, IsFaultOf, LacksFirst}
+use Rattle.cvss_base.specs.Refusal.{Refusal, AreComponentsBefore, BadComponent, WrongPrefix, WrongVersion, UnknownName, BadValue, Repeated, Missing, Spells, piece_at, FaultAt, IsNamedBefore, IsFirstBadPiece, IsFirstFault, IsFirstMissing}
+use Rattle.cvss_base.specs.private.Walk.{IsLawful, IsCut, IsCutFirst, IsReadFirst, IsFirstOfPieces, foreign_bytes, HasNoValue, Puts, Adds, HasRead, IsFaultOf, LacksFirst}
 use Rattle.cvss_base.proofs.TextLemmas.{name_part-read, value_part-read, name_part-component, value_part-component, foreign_bytes-read, slashes-le, IsComponent-component}
 use Rattle.cvss_base.proofs.JoinLemmas.{All-from_count}
 use Rattle.cvss_base.proofs.LawLemmas.{name_plain, names_differ}
@@ -47,6 +48,7 @@ pub record HasReadTo {V K : Type 0} (version : Version V K) (parts left : List (
   pub place : ℕ
   pub within : place ≤ length parts
   pub left_is : left ≡ drop place parts
+  pub components : AreComponentsBefore parts place
   pub read : HasRead version parts place v
 
 module _ {V K : Type 0} (version : Version V K) (lawful : IsLawful version) where
@@ -144,21 +146,58 @@ module _ {V K : Type 0} (version : Version V K) (lawful : IsLawful version) wher
     pub IsFirstFault-at : (v : V) (reason : Refusal K) → IsFaultOf version v piece reason → HasRead version parts place v → IsFirstFault version parts reason
     IsFirstFault-at v reason fault before = record { place = place; within = within; fault = fault_at v parts place (omega arith) before.components reason (subst (λ text. IsFaultOf version v text reason) here fault); earlier = before.faultless }
 
-  pub HasReadTo-start : (parts : List (List ℕ)) (v : V) → HasNoValue version v → HasReadTo version parts parts v
-  HasReadTo-start parts v empty = record { place = 0; within = omega arith; left_is = refl; read = HasRead-none parts v empty }
+  of_fault : (parts : List (List ℕ)) (reason : Refusal K) → AreComponentsBefore parts (length parts) → IsFirstFault version parts reason → IsFirstOfPieces version parts reason
+  of_fault parts (BadComponent piece) components first = absurd first.fault
+  of_fault parts (Missing kind) components first = absurd first.fault
+  of_fault parts (WrongPrefix prefix) components first = (components, first)
+  of_fault parts (WrongVersion told) components first = (components, first)
+  of_fault parts (UnknownName name) components first = (components, first)
+  of_fault parts (BadValue kind value) components first = (components, first)
+  of_fault parts (Repeated kind) components first = (components, first)
 
-  pub HasReadTo-all : (parts left : List (List ℕ)) (v : V) → left ≡ [] → HasReadTo version parts left v → HasRead version parts (length parts) v
-  HasReadTo-all parts left v none to =
-      let all : to.place ≡ length parts = omega (arith, to.within, ap length (sym to.left_is ∙ none), length-drop to.place parts) in
-      subst (λ place. HasRead version parts place v) all to.read
+  pub HasReadTo-start : (parts : List (List ℕ)) (v : V) → HasNoValue version v → HasReadTo version parts parts v
+  HasReadTo-start parts v empty = record { place = 0; within = omega arith; left_is = refl; components = record { each = λ earlier below. absurd (omega arith) }; read = HasRead-none parts v empty }
+
+  module _ (parts left : List (List ℕ)) (v : V) (none : left ≡ []) (to : HasReadTo version parts left v) where
+    to_end : to.place ≡ length parts
+    to_end = omega (arith, to.within, ap length (sym to.left_is ∙ none), length-drop to.place parts)
+
+    pub HasReadTo-all : HasRead version parts (length parts) v
+    HasReadTo-all = subst (λ place. HasRead version parts place v) to_end to.read
+
+    pub HasReadTo-components : AreComponentsBefore parts (length parts)
+    HasReadTo-components = subst (AreComponentsBefore parts) to_end to.components
 
   -- the first piece of what is left stands at the place up to which is read
   module _ (parts left : List (List ℕ)) (text : List ℕ) (v : V) (cut : left ≡ pieces text) (to : HasReadTo version parts left v) where
     pub place_within : to.place < length parts
     place_within = omega (arith, ap length (sym to.left_is ∙ cut), length-slice_split is_slash text, length-drop to.place parts)
 
+    here_at : (k : ℕ) → piece_at (pieces text) k ≡ piece_at parts (to.place + k)
+    here_at k = ap (λ list. piece_at list k) (sym cut ∙ to.left_is) ∙ get_or-drop to.place parts k []
+
     pub first_at_place : piece_at (pieces text) 0 ≡ piece_at parts to.place
-    first_at_place = ap (λ list. piece_at list 0) (sym cut ∙ to.left_is) ∙ (get_or-drop to.place parts 0 [] ∙ ap (piece_at parts) (omega arith))
+    first_at_place = here_at 0 ∙ ap (piece_at parts) (omega arith)
+
+    length_here : to.place + length (pieces text) ≡ length parts
+    length_here = omega (arith, to.within, ap length (sym to.left_is ∙ cut), length-drop to.place parts)
+
+    components_to : (n : ℕ) → AreComponentsBefore (pieces text) n → AreComponentsBefore parts (to.place + n)
+    components_to n here = record {
+      each = λ k below. elim (cases_lt k to.place) [
+        | inl before ↦ to.components.each k before
+        | inr back ↦ subst IsComponent (here_at (k - to.place) ∙ ap (piece_at parts) (omega arith)) (here.each (k - to.place) (omega arith))
+      ];
+    }
+
+    pub IsFirstBadPiece-to : (piece : List ℕ) → IsFirstBadPiece (pieces text) piece → IsFirstBadPiece parts piece
+    IsFirstBadPiece-to piece bad = record {
+      place = to.place + bad.place;
+      within = omega (arith, bad.within, length_here);
+      is = bad.is ∙ here_at bad.place;
+      bad = bad.bad;
+      earlier = components_to bad.place bad.earlier;
+    }
 
     pub first_utf8 : All IsUtf8 parts → All IsUtf8 (pieces text)
     first_utf8 all = subst (All IsUtf8) (sym to.left_is ∙ cut) (All-drop IsUtf8 to.place parts all)
@@ -168,11 +207,13 @@ module _ {V K : Type 0} (version : Version V K) (lawful : IsLawful version) wher
         let here : first.piece ≡ piece_at parts to.place = ap (λ list. piece_at list 0) (sym first.first) ∙ first_at_place in
         let both : first.piece ∷ behind ≡ piece_at parts to.place ∷ drop (to.place + 1) parts = sym first.first ∙ (sym cut ∙ (to.left_is ∙ drop_more parts to.place [] place_within)) in
         let rest : behind ≡ drop (to.place + 1) parts = cc in
-        record { place = to.place + 1; within = omega (arith, place_within); left_is = rest; read = HasRead-more parts to.place place_within first.piece here v new first.component first.adds to.read }
+        record { place = to.place + 1; within = omega (arith, place_within); left_is = rest; components = record { each = λ k below. below_more (λ each. IsComponent (piece_at parts each)) to.place to.components.each (subst IsComponent here first.component) k below }; read = HasRead-more parts to.place place_within first.piece here v new first.component first.adds to.read }
 
-    pub IsFirstFault-first : (reason : Refusal K) → (IsComponent (piece_at (pieces text) 0) → IsFaultOf version v (piece_at (pieces text) 0) reason) → AreComponentsBefore parts (length parts) → IsFirstFault version parts reason
-    IsFirstFault-first reason fault components =
-        IsFirstFault-at parts to.place place_within (piece_at (pieces text) 0) first_at_place v reason (fault (rw first_at_place (components.each to.place place_within))) to.read
+    -- the fault of a component is the first reason, where all that are left are components
+    pub IsFirstOfPieces-fault : (reason : Refusal K) → (IsComponent (piece_at (pieces text) 0) → IsFaultOf version v (piece_at (pieces text) 0) reason) → AreComponentsBefore (pieces text) (length (pieces text)) → IsFirstOfPieces version parts reason
+    IsFirstOfPieces-fault reason fault components =
+        let all = subst (AreComponentsBefore parts) length_here (components_to (length (pieces text)) components) in
+        of_fault parts reason all (IsFirstFault-at parts to.place place_within (piece_at (pieces text) 0) first_at_place v reason (fault (rw first_at_place (all.each to.place place_within))) to.read)
 
   pub AreComponentsOf-all : (parts : List (List ℕ)) (v : V) → HasRead version parts (length parts) v → AreComponentsOf version parts v
   AreComponentsOf-all parts v all = rw (take_all (length parts) parts (omega arith)) at all.components

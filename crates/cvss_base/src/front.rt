@@ -1,12 +1,12 @@
 //! Texts that begin with a piece that tells their version, once for all versions that have one.
 
-ghost use Rattle.std.specs.Prelude.{◌≡◌, IfSome, IfNone, IfOk, IfErr, OnOk, IsErrAnd, Contains, Ok, length};
+ghost use Rattle.std.specs.Prelude.{◌≡◌, IfSome, IfNone, IfOk, IfErr, OnOk, IsErrAnd, Contains, Ok};
 ghost use Rattle.std.specs.Str.{IsUtf8};
-ghost use Rattle.cvss_base.specs.Refusal.{Refusal, AreComponentsBefore, IsFirstRefusalBehind};
-ghost use Rattle.cvss_base.specs.Text.{pieces, IsComponent};
+ghost use Rattle.cvss_base.specs.Refusal.{Refusal, IsFirstRefusalBehind};
+ghost use Rattle.cvss_base.specs.Text.{IsComponent};
 ghost use Rattle.cvss_base.specs.Version.{Denotes, IsWellFormed};
 ghost use Rattle.cvss_base.specs.private.Pieces.{pieces_left};
-ghost use Rattle.cvss_base.specs.private.Walk.{Starts, StartsWith, IsStarted, IsReadBehind, IsFrontFault, IsTellable, IsLawfulFront, reason_of};
+ghost use Rattle.cvss_base.specs.private.Walk.{Starts, StartsWith, IsStarted, IsFrontFault, IsTellable, IsLawfulFront, reason_of};
 
 use crate::PREFIX;
 use crate::pieces::{Pieces, first_bad_piece, front_of, parts_of};
@@ -38,7 +38,14 @@ pub fn read_behind<'a, V: Fronted>(text: &'a [u8]) -> Result<V, Fault<'a, V::Kin
     // A refusal can be told.
     ensures tellable { IsUtf8 text.now → IfErr result (IsTellable V.version) }
 {
-    bad_piece_first(text, read_pieces(text))
+    let (front, left) = front_of(text);
+    match start(front) {
+        Ok(empty) => read_started(text, left, empty),
+        Err(fault) => match first_bad_piece(text) {
+            Some(piece) => Err(Fault::InvalidComponent(piece)),
+            None => Err(fault),
+        },
+    }
 }
 
 /// The same of a text whose version piece is read already, with the pieces behind that and the
@@ -64,54 +71,7 @@ pub fn read_started<'a, V: Fronted>(
     // A refusal can be told.
     ensures tellable { IsUtf8 text.now → IfErr result (IsTellable V.version) }
 {
-    bad_piece_first(text, read_complete(left, empty))
-}
-
-/// What was read of a text, where a piece that is no component goes before each other fault.
-#[inline(always)]
-fn bad_piece_first<'a, V: Fronted>(
-    text: &'a [u8],
-    read: Result<V, Fault<'a, V::Kind>>,
-) -> Result<V, Fault<'a, V::Kind>>
-    requires read { IfOk read (IsReadBehind V.version text.now) }
-    requires refused { IfErr read (λ fault.
-        AreComponentsBefore (pieces text.now) (length (pieces text.now))
-        → IsFirstRefusalBehind V.version text.now (reason_of V.version fault)) }
-    requires tellable { IsUtf8 text.now → IfErr read (IsTellable V.version) }
-    // Accepted: what is given is what the text denotes, and each such vector is given.
-    ensures denoted { IfOk result (λ v. Denotes V.version text.now v) }
-    ensures well_formed { IfOk result (λ v. IsWellFormed V.version v) }
-    ensures accepts { (v : V) → Denotes V.version text.now v → IsWellFormed V.version v
-        → result ≡ Ok v }
-    ensures utf8 { OnOk result (IsUtf8 text.now) }
-    // Refused: for the first reason, and wherever there is one.
-    ensures refused { IfErr result
-        (λ fault. IsFirstRefusalBehind V.version text.now (reason_of V.version fault)) }
-    ensures refuses { (reason : Refusal V.Kind) → IsFirstRefusalBehind V.version text.now reason
-        → IsErrAnd result (λ fault. reason_of V.version fault ≡ reason) }
-    // A refusal can be told.
-    ensures tellable { IsUtf8 text.now → IfErr result (IsTellable V.version) }
-{
-    match read {
-        Ok(vector) => Ok(vector),
-        Err(fault) => match first_bad_piece(text) {
-            Some(piece) => Err(Fault::InvalidComponent(piece)),
-            None => Err(fault),
-        },
-    }
-}
-
-/// Reads the version piece and the components behind it. The fault is the first only where each
-/// piece is a component.
-fn read_pieces<'a, V: Fronted>(text: &'a [u8]) -> Result<V, Fault<'a, V::Kind>>
-    ensures read { IfOk result (IsReadBehind V.version text.now) }
-    ensures refused { IfErr result (λ fault.
-        AreComponentsBefore (pieces text.now) (length (pieces text.now))
-        → IsFirstRefusalBehind V.version text.now (reason_of V.version fault)) }
-    ensures tellable { IsUtf8 text.now → IfErr result (IsTellable V.version) }
-{
-    let (front, left) = front_of(text);
-    read_complete(left, start(front)?)
+    read_complete(left, empty)
 }
 
 /// The vector without values that a version piece starts.

@@ -7,8 +7,8 @@ ghost use Rattle.std.specs.Str.{IsUtf8};
 ghost use Rattle.cvss_base.specs.private.Pieces.{pieces_left};
 ghost use Rattle.cvss_base.specs.Text.{IsComponent, name_part, pieces, raised, read_as};
 ghost use Rattle.cvss_base.specs.Version.{Version, read, Denotes, IsComplete};
-ghost use Rattle.cvss_base.specs.Refusal.{AreComponentsBefore, Refusal, piece_at, IsFirstFault, IsFirstReason, IsFirstRefusal};
-ghost use Rattle.cvss_base.specs.private.Walk.{HasNoValue, IsEmpty, IsPut, IsCut, IsCutFirst, IsReadFirst, IsLawful, Puts, Adds, HasRead, IsFaultOf, first_missing, IsTellable, reason_of};
+ghost use Rattle.cvss_base.specs.Refusal.{AreComponentsBefore, Refusal, piece_at, IsFirstRefusal};
+ghost use Rattle.cvss_base.specs.private.Walk.{HasNoValue, IsEmpty, IsPut, IsCut, IsCutFirst, IsReadFirst, IsLawful, Puts, Adds, HasRead, IsFaultOf, IsFirstOfPieces, first_missing, IsTellable, reason_of};
 
 use crate::pieces::{Pieces, first_bad_piece, front_of, parts_of, pieces_of};
 
@@ -91,7 +91,6 @@ fn kind_named<V: Components>(name: &[u8]) -> Option<V::Kind>
 }
 
 /// The metric that a piece names, and the value behind its colon.
-#[inline(always)]
 pub fn cut_component<'a, V: Components>(
     piece: &'a [u8],
 ) -> Result<(V::Kind, &'a [u8]), Fault<'a, V::Kind>>
@@ -102,9 +101,23 @@ pub fn cut_component<'a, V: Components>(
         → (kind : V.Kind) → V.version.name kind ≢ read V.version (name_part piece.now)) }
     ensures tellable { IsUtf8 piece.now → IfErr result (IsTellable V.version) }
 {
-    if let Some(cut) = V::cut(piece) {
-        return Ok(cut);
+    match V::cut(piece) {
+        Some(cut) => Ok(cut),
+        None => cut_at_colon::<V>(piece),
     }
+}
+
+/// The same, the longer way.
+fn cut_at_colon<'a, V: Components>(
+    piece: &'a [u8],
+) -> Result<(V::Kind, &'a [u8]), Fault<'a, V::Kind>>
+    ensures cut { IfOk result (λ cut. IsCut V.version piece.now cut.0 cut.1.now) }
+    ensures refused { IfErr result (λ fault. (v : V) → IsComponent piece.now
+        → IsFaultOf V.version v piece.now (reason_of V.version fault)) }
+    ensures unnamed { OnErr result (IsComponent piece.now
+        → (kind : V.Kind) → V.version.name kind ≢ read V.version (name_part piece.now)) }
+    ensures tellable { IsUtf8 piece.now → IfErr result (IsTellable V.version) }
+{
     let Some((name, value)) = parts_of(piece) else {
         return Err(Fault::InvalidComponent(piece));
     };
@@ -165,7 +178,7 @@ fn cut_first<'a, V: Components>(
         return Ok((cut.0, value, left));
     }
     let (piece, left) = front_of(text);
-    let (kind, value) = cut_component::<V>(piece)?;
+    let (kind, value) = cut_at_colon::<V>(piece)?;
     Ok((kind, value, left))
 }
 
@@ -197,21 +210,29 @@ fn read_components<'a, V: Components>(
     requires { HasNoValue V.version vector.old }
     ensures read { OnOk result (HasRead V.version (pieces_left left.entry)
         (length (pieces_left left.entry)) vector.new) }
+    ensures components { OnOk result
+        (AreComponentsBefore (pieces_left left.entry) (length (pieces_left left.entry))) }
     ensures front { OnOk result (V.version.front vector.new ≡ V.version.front vector.old) }
     ensures refused { IfErr result (λ fault.
-        AreComponentsBefore (pieces_left left.entry) (length (pieces_left left.entry))
-        → IsFirstFault V.version (pieces_left left.entry) (reason_of V.version fault)) }
+        IsFirstOfPieces V.version (pieces_left left.entry) (reason_of V.version fault)) }
     ensures tellable { All IsUtf8 (pieces_left left.entry) → IfErr result (IsTellable V.version) }
 {
     let mut rest = left;
     while let Some(text) = rest.text() {
-        rest = read_first(text, vector)?;
+        match read_first(text, vector) {
+            Ok(behind) => rest = behind,
+            // The pieces before are components, so the first that is none is sought from here on.
+            Err(fault) => match first_bad_piece(text) {
+                Some(piece) => return Err(Fault::InvalidComponent(piece)),
+                None => return Err(fault),
+            },
+        }
     }
     Ok(())
 }
 
 /// Reads the components that are left of a text into a vector without values, which then has to be
-/// complete. The fault is the first only where each of these pieces is a component.
+/// complete. A piece that is no component goes before each other fault.
 pub(crate) fn read_complete<'a, V: Components>(
     left: Pieces<'a>,
     empty: V,
@@ -222,8 +243,7 @@ pub(crate) fn read_complete<'a, V: Components>(
     ensures front { IfOk result (λ v. V.version.front v ≡ V.version.front empty) }
     ensures complete { IfOk result (λ v. IsComplete V.version v) }
     ensures refused { IfErr result (λ fault.
-        AreComponentsBefore (pieces_left left.entry) (length (pieces_left left.entry))
-        → IsFirstReason V.version (pieces_left left.entry) (reason_of V.version fault)) }
+        IsFirstOfPieces V.version (pieces_left left.entry) (reason_of V.version fault)) }
     ensures tellable { All IsUtf8 (pieces_left left.entry) → IfErr result (IsTellable V.version) }
 {
     let mut vector = empty;
@@ -251,13 +271,7 @@ pub fn read_vector<'a, V: Components>(text: &'a [u8], empty: V) -> Result<V, Fau
     // A refusal can be told.
     ensures tellable { IsUtf8 text.now → IfErr result (IsTellable V.version) }
 {
-    match read_complete(pieces_of(text), empty) {
-        Ok(vector) => Ok(vector),
-        Err(fault) => match first_bad_piece(text) {
-            Some(piece) => Err(Fault::InvalidComponent(piece)),
-            None => Err(fault),
-        },
-    }
+    read_complete(pieces_of(text), empty)
 }
 
 /// Whether a text is read as this name.

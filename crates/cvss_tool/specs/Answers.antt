@@ -53,9 +53,3 @@ rated_line bounds tenths =
 
 abbrev pub score_line : Published → List ℕ
 score_line published = rated_line published.bounds published.tenths
-
--- a refusal's answer and a byte 10 are written behind the earlier answers
-pub record WritesRefusal (line old new : List ℕ) : Type 0 where
-  pub text : List ℕ
-  pub refused : IsRefusal line text ⊎ IsNoText line text
-  pub written : new ≡ old ++ written_text text

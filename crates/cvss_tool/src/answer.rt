@@ -2,14 +2,12 @@
 
 ghost use Rattle.std.specs.Prelude.{◌≡◌, ℕ, ◌++◌, [], ◌∷◌, ◌≤◌, codes, IfOk, OnOk};
 ghost use Rattle.cvss.specs.Answers.{HasScore, text_of};
-ghost use Rattle.cvss.specs.ErrorText.{error_text};
-ghost use Rattle.cvss.specs.declared.vector.Cvss.{Cvss};
-ghost use Rattle.cvss.specs.Dispatch.{DenotesCvss};
+ghost use Rattle.cvss.specs.Bytes.{bytes_error_text};
 ghost use Rattle.cvss_lines.specs.Answers.{WritesAnswer};
-ghost use Rattle.cvss_tool.specs.Answers.{IsAnswer, WritesRefusal, WritesVector, score_line};
+ghost use Rattle.cvss_tool.specs.Answers.{IsAnswer, WritesVector, score_line};
 
 use crate::score_line::score_line;
-use cvss::{Cvss, Error, Published};
+use cvss::{BytesError, Cvss, Published};
 use cvss_lines::{Answering, Gathered};
 use std::alloc::{AllocError, Global};
 use std::fmt::{self, Write};
@@ -42,34 +40,22 @@ fn answer_other_line(alloc: Global, line: &[u8], answers: &mut Gathered) -> Resu
     ensures { (number : ℕ) → IfOk result (WritesAnswer IsAnswer number line.now
         answers.old.bytes.items answers.new.bytes.items) }
 {
-    if let Some(vector) = Cvss::read_in_any_order(line) {
-        write_vector(&vector, answers)?;
-        return Ok(true);
+    match Cvss::from_bytes(alloc, line) {
+        Ok(vector) => {
+            write_vector(&vector, answers)?;
+            Ok(true)
+        }
+        Err(error) => {
+            write_error(&error, answers)?;
+            Ok(false)
+        }
     }
-    write_refusal(alloc, line, answers)?;
-    Ok(false)
 }
 
 /// Writes why a line is no vector, and a byte 10.
-fn write_refusal(alloc: Global, line: &[u8], answers: &mut Gathered) -> fmt::Result
-    requires { (vector : Cvss) → ¬ (DenotesCvss line.now vector) }
-    ensures { OnOk result
-        (WritesRefusal line.now answers.old.bytes.items answers.new.bytes.items) }
-{
-    let Ok(text) = str::from_utf8(line) else {
-        answers.push(b"error: not UTF-8\n")?;
-        return Ok(());
-    };
-    match Cvss::from_str(alloc, text) {
-        Ok(_) => unreachable!(),
-        Err(error) => write_error(&error, answers),
-    }
-}
-
-/// Writes an error, and a byte 10.
-fn write_error(error: &Error, answers: &mut Gathered) -> fmt::Result
-    ensures { OnOk result (answers.new.bytes.items
-        ≡ answers.old.bytes.items ++ (codes "error: " ++ (error_text error.now ++ 10 ∷ []))) }
+fn write_error(error: &BytesError, answers: &mut Gathered) -> fmt::Result
+    ensures { OnOk result (answers.new.bytes.items ≡ answers.old.bytes.items
+        ++ (codes "error: " ++ (bytes_error_text error.now ++ 10 ∷ []))) }
 {
     writeln!(answers, "error: {error}")
 }

@@ -10,7 +10,7 @@ use Rattle.cvss_base.specs.declared.walk.Fault.TheVariants.{InvalidComponent, In
 use Rattle.cvss_base.specs.laws.Order.{place_in}
 use Rattle.cvss_base.specs.Text.{slash, colon, pieces, IsComponent, name_part, value_part, component}
 use Rattle.cvss_base.specs.Version.{Version, read, reading, version_piece, AreComponentsOf, IsComplete}
-use Rattle.cvss_base.specs.Refusal.{Refusal, BadComponent, WrongPrefix, WrongVersion, UnknownName, BadValue, Repeated, Missing, Spells, HasNoFaultBefore, IsWrongPrefix, IsWrongVersion}
+use Rattle.cvss_base.specs.Refusal.{Refusal, BadComponent, WrongPrefix, WrongVersion, UnknownName, BadValue, Repeated, Missing, Spells, HasNoFaultBefore, AreComponentsBefore, IsFirstBadPiece, IsFirstReason, IsWrongPrefix, IsWrongVersion}
 
 -- a byte that no name and no spelling has: it divides, or is not ASCII
 abbrev pub is_foreign : ℕ → Bool
@@ -129,6 +129,11 @@ pub record LacksFirst {V K : Type 0} (version : Version V K) (v : V) (kind : K) 
   pub is : slice_get version.mandatory place ≡ Some kind
   pub absent : version.value_of v kind ≡ None
   pub earlier : (before : ℕ) (other : K) → before < place → slice_get version.mandatory before ≡ Some other → IsSome (version.value_of v other)
+
+-- the first reason among the pieces, of which one that is no component goes before each other reason
+abbrev pub IsFirstOfPieces : {V K : Type 0} → Version V K → List (List ℕ) → Refusal K → Type 0
+IsFirstOfPieces version parts (BadComponent piece) = IsFirstBadPiece parts piece
+IsFirstOfPieces version parts reason = AreComponentsBefore parts (length parts) × IsFirstReason version parts reason
 
 -- the first mandatory metric that the vector lacks
 abbrev pub first_missing : {V K : Type 0} → Version V K → V → Option K

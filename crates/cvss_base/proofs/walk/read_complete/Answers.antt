@@ -5,7 +5,9 @@ use Rattle.cvss_base.proofs.WalkLemmas.{IsFirstMissing-from}
 use Rattle.cvss_base.proofs.walk.read_complete.Goals as goal
 
 pub returns-in-Some-clause-refused : goal.returns-in-Some-clause-refused
-returns-in-Some-clause-refused g c = λ _. IsFirstMissing-from g.V.Components.version g.met.V.Components.lawful (pieces_left c.args.left) c.read_components.new.vector c.in-Some.kind c.in_ok-read_components.ensures.read (LacksFirst-from g.V.Components.version c.read_components.new.vector c.in-Some.kind (sym c.in-Some.ensures))
+returns-in-Some-clause-refused g c =
+    let all = c.in_ok-read_components.ensures in
+    (all.components, IsFirstMissing-from g.V.Components.version g.met.V.Components.lawful (pieces_left c.args.left) c.read_components.new.vector c.in-Some.kind all.read (LacksFirst-from g.V.Components.version c.read_components.new.vector c.in-Some.kind (sym c.in-Some.ensures)))
 
 pub returns-in-None-clause-complete : goal.returns-in-None-clause-complete
 returns-in-None-clause-complete g c =
