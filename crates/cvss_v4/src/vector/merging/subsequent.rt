@@ -32,15 +32,19 @@ pub(super) fn confidentiality_impact_to_the_subsequent_system(
         Some(ConfidentialityImpactToTheSubsequentSystem::Low) => effective::SubsequentImpact::Low,
         Some(ConfidentialityImpactToTheSubsequentSystem::None) => effective::SubsequentImpact::None,
     };
-    match modified {
-        None | Some(ModifiedConfidentialityImpactToTheSubsequentSystem::NotDefined) => unmodified,
-        Some(ModifiedConfidentialityImpactToTheSubsequentSystem::High) =>
+    let modified = match modified {
+        None | Some(ModifiedConfidentialityImpactToTheSubsequentSystem::NotDefined) => None,
+        Some(ModifiedConfidentialityImpactToTheSubsequentSystem::High) => Some(
             effective::SubsequentImpact::High,
-        Some(ModifiedConfidentialityImpactToTheSubsequentSystem::Low) =>
+        ),
+        Some(ModifiedConfidentialityImpactToTheSubsequentSystem::Low) => Some(
             effective::SubsequentImpact::Low,
-        Some(ModifiedConfidentialityImpactToTheSubsequentSystem::Negligible) =>
+        ),
+        Some(ModifiedConfidentialityImpactToTheSubsequentSystem::Negligible) => Some(
             effective::SubsequentImpact::None,
-    }
+        ),
+    };
+    modified.unwrap_or(unmodified)
 }
 
 /// The effective value of SI, which MSI replaces where it is defined.
@@ -56,15 +60,22 @@ pub(super) fn integrity_impact_to_the_subsequent_system(
         Some(IntegrityImpactToTheSubsequentSystem::Low) => effective::SafetyImpact::Low,
         Some(IntegrityImpactToTheSubsequentSystem::None) => effective::SafetyImpact::None,
     };
-    match modified {
-        None | Some(ModifiedIntegrityImpactToTheSubsequentSystem::NotDefined) => unmodified,
-        Some(ModifiedIntegrityImpactToTheSubsequentSystem::Safety) =>
+    let modified = match modified {
+        None | Some(ModifiedIntegrityImpactToTheSubsequentSystem::NotDefined) => None,
+        Some(ModifiedIntegrityImpactToTheSubsequentSystem::Safety) => Some(
             effective::SafetyImpact::Safety,
-        Some(ModifiedIntegrityImpactToTheSubsequentSystem::High) => effective::SafetyImpact::High,
-        Some(ModifiedIntegrityImpactToTheSubsequentSystem::Low) => effective::SafetyImpact::Low,
-        Some(ModifiedIntegrityImpactToTheSubsequentSystem::Negligible) =>
+        ),
+        Some(ModifiedIntegrityImpactToTheSubsequentSystem::High) => Some(
+            effective::SafetyImpact::High,
+        ),
+        Some(ModifiedIntegrityImpactToTheSubsequentSystem::Low) => Some(
+            effective::SafetyImpact::Low,
+        ),
+        Some(ModifiedIntegrityImpactToTheSubsequentSystem::Negligible) => Some(
             effective::SafetyImpact::None,
-    }
+        ),
+    };
+    modified.unwrap_or(unmodified)
 }
 
 /// The effective value of SA, which MSA replaces where it is defined.
@@ -80,14 +91,20 @@ pub(super) fn availability_impact_to_the_subsequent_system(
         Some(AvailabilityImpactToTheSubsequentSystem::Low) => effective::SafetyImpact::Low,
         Some(AvailabilityImpactToTheSubsequentSystem::None) => effective::SafetyImpact::None,
     };
-    match modified {
-        None | Some(ModifiedAvailabilityImpactToTheSubsequentSystem::NotDefined) => unmodified,
-        Some(ModifiedAvailabilityImpactToTheSubsequentSystem::Safety) =>
+    let modified = match modified {
+        None | Some(ModifiedAvailabilityImpactToTheSubsequentSystem::NotDefined) => None,
+        Some(ModifiedAvailabilityImpactToTheSubsequentSystem::Safety) => Some(
             effective::SafetyImpact::Safety,
-        Some(ModifiedAvailabilityImpactToTheSubsequentSystem::High) =>
+        ),
+        Some(ModifiedAvailabilityImpactToTheSubsequentSystem::High) => Some(
             effective::SafetyImpact::High,
-        Some(ModifiedAvailabilityImpactToTheSubsequentSystem::Low) => effective::SafetyImpact::Low,
-        Some(ModifiedAvailabilityImpactToTheSubsequentSystem::Negligible) =>
+        ),
+        Some(ModifiedAvailabilityImpactToTheSubsequentSystem::Low) => Some(
+            effective::SafetyImpact::Low,
+        ),
+        Some(ModifiedAvailabilityImpactToTheSubsequentSystem::Negligible) => Some(
             effective::SafetyImpact::None,
-    }
+        ),
+    };
+    modified.unwrap_or(unmodified)
 }

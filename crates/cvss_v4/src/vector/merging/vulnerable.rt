@@ -30,15 +30,19 @@ pub(super) fn confidentiality_impact_to_the_vulnerable_system(
         Some(ConfidentialityImpactToTheVulnerableSystem::Low) => effective::VulnerableImpact::Low,
         Some(ConfidentialityImpactToTheVulnerableSystem::None) => effective::VulnerableImpact::None,
     };
-    match modified {
-        None | Some(ModifiedConfidentialityImpactToTheVulnerableSystem::NotDefined) => unmodified,
-        Some(ModifiedConfidentialityImpactToTheVulnerableSystem::High) =>
+    let modified = match modified {
+        None | Some(ModifiedConfidentialityImpactToTheVulnerableSystem::NotDefined) => None,
+        Some(ModifiedConfidentialityImpactToTheVulnerableSystem::High) => Some(
             effective::VulnerableImpact::High,
-        Some(ModifiedConfidentialityImpactToTheVulnerableSystem::Low) =>
+        ),
+        Some(ModifiedConfidentialityImpactToTheVulnerableSystem::Low) => Some(
             effective::VulnerableImpact::Low,
-        Some(ModifiedConfidentialityImpactToTheVulnerableSystem::None) =>
+        ),
+        Some(ModifiedConfidentialityImpactToTheVulnerableSystem::None) => Some(
             effective::VulnerableImpact::None,
-    }
+        ),
+    };
+    modified.unwrap_or(unmodified)
 }
 
 /// The effective value of VI, which MVI replaces where it is defined.
@@ -55,14 +59,19 @@ pub(super) fn integrity_impact_to_the_vulnerable_system(
         Some(IntegrityImpactToTheVulnerableSystem::Low) => effective::VulnerableImpact::Low,
         Some(IntegrityImpactToTheVulnerableSystem::None) => effective::VulnerableImpact::None,
     };
-    match modified {
-        None | Some(ModifiedIntegrityImpactToTheVulnerableSystem::NotDefined) => unmodified,
-        Some(ModifiedIntegrityImpactToTheVulnerableSystem::High) =>
+    let modified = match modified {
+        None | Some(ModifiedIntegrityImpactToTheVulnerableSystem::NotDefined) => None,
+        Some(ModifiedIntegrityImpactToTheVulnerableSystem::High) => Some(
             effective::VulnerableImpact::High,
-        Some(ModifiedIntegrityImpactToTheVulnerableSystem::Low) => effective::VulnerableImpact::Low,
-        Some(ModifiedIntegrityImpactToTheVulnerableSystem::None) =>
+        ),
+        Some(ModifiedIntegrityImpactToTheVulnerableSystem::Low) => Some(
+            effective::VulnerableImpact::Low,
+        ),
+        Some(ModifiedIntegrityImpactToTheVulnerableSystem::None) => Some(
             effective::VulnerableImpact::None,
-    }
+        ),
+    };
+    modified.unwrap_or(unmodified)
 }
 
 /// The effective value of VA, which MVA replaces where it is defined.
@@ -79,13 +88,17 @@ pub(super) fn availability_impact_to_the_vulnerable_system(
         Some(AvailabilityImpactToTheVulnerableSystem::Low) => effective::VulnerableImpact::Low,
         Some(AvailabilityImpactToTheVulnerableSystem::None) => effective::VulnerableImpact::None,
     };
-    match modified {
-        None | Some(ModifiedAvailabilityImpactToTheVulnerableSystem::NotDefined) => unmodified,
-        Some(ModifiedAvailabilityImpactToTheVulnerableSystem::High) =>
+    let modified = match modified {
+        None | Some(ModifiedAvailabilityImpactToTheVulnerableSystem::NotDefined) => None,
+        Some(ModifiedAvailabilityImpactToTheVulnerableSystem::High) => Some(
             effective::VulnerableImpact::High,
-        Some(ModifiedAvailabilityImpactToTheVulnerableSystem::Low) =>
+        ),
+        Some(ModifiedAvailabilityImpactToTheVulnerableSystem::Low) => Some(
             effective::VulnerableImpact::Low,
-        Some(ModifiedAvailabilityImpactToTheVulnerableSystem::None) =>
+        ),
+        Some(ModifiedAvailabilityImpactToTheVulnerableSystem::None) => Some(
             effective::VulnerableImpact::None,
-    }
+        ),
+    };
+    modified.unwrap_or(unmodified)
 }
