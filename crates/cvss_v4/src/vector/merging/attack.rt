@@ -28,14 +28,13 @@ pub(super) fn attack_vector(
         Some(AttackVector::Local) => effective::AttackVector::Local,
         Some(AttackVector::Physical) => effective::AttackVector::Physical,
     };
-    let modified = match modified {
-        None | Some(ModifiedAttackVector::NotDefined) => None,
-        Some(ModifiedAttackVector::Network) => Some(effective::AttackVector::Network),
-        Some(ModifiedAttackVector::Adjacent) => Some(effective::AttackVector::Adjacent),
-        Some(ModifiedAttackVector::Local) => Some(effective::AttackVector::Local),
-        Some(ModifiedAttackVector::Physical) => Some(effective::AttackVector::Physical),
-    };
-    modified.unwrap_or(unmodified)
+    match modified {
+        None | Some(ModifiedAttackVector::NotDefined) => unmodified,
+        Some(ModifiedAttackVector::Network) => effective::AttackVector::Network,
+        Some(ModifiedAttackVector::Adjacent) => effective::AttackVector::Adjacent,
+        Some(ModifiedAttackVector::Local) => effective::AttackVector::Local,
+        Some(ModifiedAttackVector::Physical) => effective::AttackVector::Physical,
+    }
 }
 
 /// The effective value of AC, which MAC replaces where it is defined.
@@ -50,12 +49,11 @@ pub(super) fn attack_complexity(
         None | Some(AttackComplexity::Low) => effective::AttackComplexity::Low,
         Some(AttackComplexity::High) => effective::AttackComplexity::High,
     };
-    let modified = match modified {
-        None | Some(ModifiedAttackComplexity::NotDefined) => None,
-        Some(ModifiedAttackComplexity::Low) => Some(effective::AttackComplexity::Low),
-        Some(ModifiedAttackComplexity::High) => Some(effective::AttackComplexity::High),
-    };
-    modified.unwrap_or(unmodified)
+    match modified {
+        None | Some(ModifiedAttackComplexity::NotDefined) => unmodified,
+        Some(ModifiedAttackComplexity::Low) => effective::AttackComplexity::Low,
+        Some(ModifiedAttackComplexity::High) => effective::AttackComplexity::High,
+    }
 }
 
 /// The effective value of AT, which MAT replaces where it is defined.
@@ -70,12 +68,11 @@ pub(super) fn attack_requirements(
         None | Some(AttackRequirements::None) => effective::AttackRequirements::None,
         Some(AttackRequirements::Present) => effective::AttackRequirements::Present,
     };
-    let modified = match modified {
-        None | Some(ModifiedAttackRequirements::NotDefined) => None,
-        Some(ModifiedAttackRequirements::None) => Some(effective::AttackRequirements::None),
-        Some(ModifiedAttackRequirements::Present) => Some(effective::AttackRequirements::Present),
-    };
-    modified.unwrap_or(unmodified)
+    match modified {
+        None | Some(ModifiedAttackRequirements::NotDefined) => unmodified,
+        Some(ModifiedAttackRequirements::None) => effective::AttackRequirements::None,
+        Some(ModifiedAttackRequirements::Present) => effective::AttackRequirements::Present,
+    }
 }
 
 /// The effective value of PR, which MPR replaces where it is defined.
@@ -91,13 +88,12 @@ pub(super) fn privileges_required(
         Some(PrivilegesRequired::Low) => effective::PrivilegesRequired::Low,
         Some(PrivilegesRequired::High) => effective::PrivilegesRequired::High,
     };
-    let modified = match modified {
-        None | Some(ModifiedPrivilegesRequired::NotDefined) => None,
-        Some(ModifiedPrivilegesRequired::None) => Some(effective::PrivilegesRequired::None),
-        Some(ModifiedPrivilegesRequired::Low) => Some(effective::PrivilegesRequired::Low),
-        Some(ModifiedPrivilegesRequired::High) => Some(effective::PrivilegesRequired::High),
-    };
-    modified.unwrap_or(unmodified)
+    match modified {
+        None | Some(ModifiedPrivilegesRequired::NotDefined) => unmodified,
+        Some(ModifiedPrivilegesRequired::None) => effective::PrivilegesRequired::None,
+        Some(ModifiedPrivilegesRequired::Low) => effective::PrivilegesRequired::Low,
+        Some(ModifiedPrivilegesRequired::High) => effective::PrivilegesRequired::High,
+    }
 }
 
 /// The effective value of UI, which MUI replaces where it is defined.
@@ -113,11 +109,10 @@ pub(super) fn user_interaction(
         Some(UserInteraction::Passive) => effective::UserInteraction::Passive,
         Some(UserInteraction::Active) => effective::UserInteraction::Active,
     };
-    let modified = match modified {
-        None | Some(ModifiedUserInteraction::NotDefined) => None,
-        Some(ModifiedUserInteraction::None) => Some(effective::UserInteraction::None),
-        Some(ModifiedUserInteraction::Passive) => Some(effective::UserInteraction::Passive),
-        Some(ModifiedUserInteraction::Active) => Some(effective::UserInteraction::Active),
-    };
-    modified.unwrap_or(unmodified)
+    match modified {
+        None | Some(ModifiedUserInteraction::NotDefined) => unmodified,
+        Some(ModifiedUserInteraction::None) => effective::UserInteraction::None,
+        Some(ModifiedUserInteraction::Passive) => effective::UserInteraction::Passive,
+        Some(ModifiedUserInteraction::Active) => effective::UserInteraction::Active,
+    }
 }

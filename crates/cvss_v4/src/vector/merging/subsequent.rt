@@ -32,19 +32,15 @@ pub(super) fn confidentiality_impact_to_the_subsequent_system(
         Some(ConfidentialityImpactToTheSubsequentSystem::Low) => effective::SubsequentImpact::Low,
         Some(ConfidentialityImpactToTheSubsequentSystem::None) => effective::SubsequentImpact::None,
     };
-    let modified = match modified {
-        None | Some(ModifiedConfidentialityImpactToTheSubsequentSystem::NotDefined) => None,
-        Some(ModifiedConfidentialityImpactToTheSubsequentSystem::High) => Some(
+    match modified {
+        None | Some(ModifiedConfidentialityImpactToTheSubsequentSystem::NotDefined) => unmodified,
+        Some(ModifiedConfidentialityImpactToTheSubsequentSystem::High) =>
             effective::SubsequentImpact::High,
-        ),
-        Some(ModifiedConfidentialityImpactToTheSubsequentSystem::Low) => Some(
+        Some(ModifiedConfidentialityImpactToTheSubsequentSystem::Low) =>
             effective::SubsequentImpact::Low,
-        ),
-        Some(ModifiedConfidentialityImpactToTheSubsequentSystem::Negligible) => Some(
+        Some(ModifiedConfidentialityImpactToTheSubsequentSystem::Negligible) =>
             effective::SubsequentImpact::None,
-        ),
-    };
-    modified.unwrap_or(unmodified)
+    }
 }
 
 /// The effective value of SI, which MSI replaces where it is defined.
@@ -60,22 +56,15 @@ pub(super) fn integrity_impact_to_the_subsequent_system(
         Some(IntegrityImpactToTheSubsequentSystem::Low) => effective::SafetyImpact::Low,
         Some(IntegrityImpactToTheSubsequentSystem::None) => effective::SafetyImpact::None,
     };
-    let modified = match modified {
-        None | Some(ModifiedIntegrityImpactToTheSubsequentSystem::NotDefined) => None,
-        Some(ModifiedIntegrityImpactToTheSubsequentSystem::Safety) => Some(
+    match modified {
+        None | Some(ModifiedIntegrityImpactToTheSubsequentSystem::NotDefined) => unmodified,
+        Some(ModifiedIntegrityImpactToTheSubsequentSystem::Safety) =>
             effective::SafetyImpact::Safety,
-        ),
-        Some(ModifiedIntegrityImpactToTheSubsequentSystem::High) => Some(
-            effective::SafetyImpact::High,
-        ),
-        Some(ModifiedIntegrityImpactToTheSubsequentSystem::Low) => Some(
-            effective::SafetyImpact::Low,
-        ),
-        Some(ModifiedIntegrityImpactToTheSubsequentSystem::Negligible) => Some(
+        Some(ModifiedIntegrityImpactToTheSubsequentSystem::High) => effective::SafetyImpact::High,
+        Some(ModifiedIntegrityImpactToTheSubsequentSystem::Low) => effective::SafetyImpact::Low,
+        Some(ModifiedIntegrityImpactToTheSubsequentSystem::Negligible) =>
             effective::SafetyImpact::None,
-        ),
-    };
-    modified.unwrap_or(unmodified)
+    }
 }
 
 /// The effective value of SA, which MSA replaces where it is defined.
@@ -91,20 +80,14 @@ pub(super) fn availability_impact_to_the_subsequent_system(
         Some(AvailabilityImpactToTheSubsequentSystem::Low) => effective::SafetyImpact::Low,
         Some(AvailabilityImpactToTheSubsequentSystem::None) => effective::SafetyImpact::None,
     };
-    let modified = match modified {
-        None | Some(ModifiedAvailabilityImpactToTheSubsequentSystem::NotDefined) => None,
-        Some(ModifiedAvailabilityImpactToTheSubsequentSystem::Safety) => Some(
+    match modified {
+        None | Some(ModifiedAvailabilityImpactToTheSubsequentSystem::NotDefined) => unmodified,
+        Some(ModifiedAvailabilityImpactToTheSubsequentSystem::Safety) =>
             effective::SafetyImpact::Safety,
-        ),
-        Some(ModifiedAvailabilityImpactToTheSubsequentSystem::High) => Some(
+        Some(ModifiedAvailabilityImpactToTheSubsequentSystem::High) =>
             effective::SafetyImpact::High,
-        ),
-        Some(ModifiedAvailabilityImpactToTheSubsequentSystem::Low) => Some(
-            effective::SafetyImpact::Low,
-        ),
-        Some(ModifiedAvailabilityImpactToTheSubsequentSystem::Negligible) => Some(
+        Some(ModifiedAvailabilityImpactToTheSubsequentSystem::Low) => effective::SafetyImpact::Low,
+        Some(ModifiedAvailabilityImpactToTheSubsequentSystem::Negligible) =>
             effective::SafetyImpact::None,
-        ),
-    };
-    modified.unwrap_or(unmodified)
+    }
 }

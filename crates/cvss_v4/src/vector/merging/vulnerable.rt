@@ -30,19 +30,15 @@ pub(super) fn confidentiality_impact_to_the_vulnerable_system(
         Some(ConfidentialityImpactToTheVulnerableSystem::Low) => effective::VulnerableImpact::Low,
         Some(ConfidentialityImpactToTheVulnerableSystem::None) => effective::VulnerableImpact::None,
     };
-    let modified = match modified {
-        None | Some(ModifiedConfidentialityImpactToTheVulnerableSystem::NotDefined) => None,
-        Some(ModifiedConfidentialityImpactToTheVulnerableSystem::High) => Some(
+    match modified {
+        None | Some(ModifiedConfidentialityImpactToTheVulnerableSystem::NotDefined) => unmodified,
+        Some(ModifiedConfidentialityImpactToTheVulnerableSystem::High) =>
             effective::VulnerableImpact::High,
-        ),
-        Some(ModifiedConfidentialityImpactToTheVulnerableSystem::Low) => Some(
+        Some(ModifiedConfidentialityImpactToTheVulnerableSystem::Low) =>
             effective::VulnerableImpact::Low,
-        ),
-        Some(ModifiedConfidentialityImpactToTheVulnerableSystem::None) => Some(
+        Some(ModifiedConfidentialityImpactToTheVulnerableSystem::None) =>
             effective::VulnerableImpact::None,
-        ),
-    };
-    modified.unwrap_or(unmodified)
+    }
 }
 
 /// The effective value of VI, which MVI replaces where it is defined.
@@ -59,19 +55,14 @@ pub(super) fn integrity_impact_to_the_vulnerable_system(
         Some(IntegrityImpactToTheVulnerableSystem::Low) => effective::VulnerableImpact::Low,
         Some(IntegrityImpactToTheVulnerableSystem::None) => effective::VulnerableImpact::None,
     };
-    let modified = match modified {
-        None | Some(ModifiedIntegrityImpactToTheVulnerableSystem::NotDefined) => None,
-        Some(ModifiedIntegrityImpactToTheVulnerableSystem::High) => Some(
+    match modified {
+        None | Some(ModifiedIntegrityImpactToTheVulnerableSystem::NotDefined) => unmodified,
+        Some(ModifiedIntegrityImpactToTheVulnerableSystem::High) =>
             effective::VulnerableImpact::High,
-        ),
-        Some(ModifiedIntegrityImpactToTheVulnerableSystem::Low) => Some(
-            effective::VulnerableImpact::Low,
-        ),
-        Some(ModifiedIntegrityImpactToTheVulnerableSystem::None) => Some(
+        Some(ModifiedIntegrityImpactToTheVulnerableSystem::Low) => effective::VulnerableImpact::Low,
+        Some(ModifiedIntegrityImpactToTheVulnerableSystem::None) =>
             effective::VulnerableImpact::None,
-        ),
-    };
-    modified.unwrap_or(unmodified)
+    }
 }
 
 /// The effective value of VA, which MVA replaces where it is defined.
@@ -88,17 +79,13 @@ pub(super) fn availability_impact_to_the_vulnerable_system(
         Some(AvailabilityImpactToTheVulnerableSystem::Low) => effective::VulnerableImpact::Low,
         Some(AvailabilityImpactToTheVulnerableSystem::None) => effective::VulnerableImpact::None,
     };
-    let modified = match modified {
-        None | Some(ModifiedAvailabilityImpactToTheVulnerableSystem::NotDefined) => None,
-        Some(ModifiedAvailabilityImpactToTheVulnerableSystem::High) => Some(
+    match modified {
+        None | Some(ModifiedAvailabilityImpactToTheVulnerableSystem::NotDefined) => unmodified,
+        Some(ModifiedAvailabilityImpactToTheVulnerableSystem::High) =>
             effective::VulnerableImpact::High,
-        ),
-        Some(ModifiedAvailabilityImpactToTheVulnerableSystem::Low) => Some(
+        Some(ModifiedAvailabilityImpactToTheVulnerableSystem::Low) =>
             effective::VulnerableImpact::Low,
-        ),
-        Some(ModifiedAvailabilityImpactToTheVulnerableSystem::None) => Some(
+        Some(ModifiedAvailabilityImpactToTheVulnerableSystem::None) =>
             effective::VulnerableImpact::None,
-        ),
-    };
-    modified.unwrap_or(unmodified)
+    }
 }
