@@ -193,22 +193,7 @@ IsComplete-overridden v overrides new is complete = record {
 
 -- a vector with another's environmental metrics where that has them
 abbrev pub overridden : Vector → Vector → Vector
-overridden v overrides = record v {
-  cr = option_or overrides.cr v.cr;
-  ir = option_or overrides.ir v.ir;
-  ar = option_or overrides.ar v.ar;
-  mav = option_or overrides.mav v.mav;
-  mac = option_or overrides.mac v.mac;
-  mat = option_or overrides.mat v.mat;
-  mpr = option_or overrides.mpr v.mpr;
-  mui = option_or overrides.mui v.mui;
-  mvc = option_or overrides.mvc v.mvc;
-  mvi = option_or overrides.mvi v.mvi;
-  mva = option_or overrides.mva v.mva;
-  msc = option_or overrides.msc v.msc;
-  msi = option_or overrides.msi v.msi;
-  msa = option_or overrides.msa v.msa;
-}
+overridden v overrides = record v { cr = option_or overrides.cr v.cr; ir = option_or overrides.ir v.ir; ar = option_or overrides.ar v.ar; mav = option_or overrides.mav v.mav; mac = option_or overrides.mac v.mac; mat = option_or overrides.mat v.mat; mpr = option_or overrides.mpr v.mpr; mui = option_or overrides.mui v.mui; mvc = option_or overrides.mvc v.mvc; mvi = option_or overrides.mvi v.mvi; mva = option_or overrides.mva v.mva; msc = option_or overrides.msc v.msc; msi = option_or overrides.msi v.msi; msa = option_or overrides.msa v.msa }
 
 -- its value for a metric of the environmental group or of another one
 abbrev value_by : Vector → Vector → (kind : MetricType) → Bool → Option (Value kind)

@@ -83,15 +83,14 @@ fn urgency_at_sight(text: &[u8]) -> Option<Option<ProviderUrgency>>
     ensures { IfSome result (λ urgency. text.now ≡ unwrap_or (slashed (option_map
         (component (name_of U)) (option_map (spelling_of U) urgency))) []) }
 {
-    if text.is_empty() {
-        return Some(None);
-    }
-    let value = behind_name(MetricType::U, text)?;
-    let urgency = ProviderUrgency::read_bytes(value)?;
-    if urgency.as_str().as_bytes() == value {
-        Some(Some(urgency))
-    } else {
-        None
+    match text {
+        b"" => Some(None),
+        b"/U:X" => Some(Some(ProviderUrgency::NotDefined)),
+        b"/U:Red" => Some(Some(ProviderUrgency::Red)),
+        b"/U:Amber" => Some(Some(ProviderUrgency::Amber)),
+        b"/U:Green" => Some(Some(ProviderUrgency::Green)),
+        b"/U:Clear" => Some(Some(ProviderUrgency::Clear)),
+        _ => None,
     }
 }
 
@@ -166,7 +165,6 @@ fn behind_name(kind: MetricType, text: &[u8]) -> Option<&[u8]>
         (MetricType::R, [b'/', b'R', b':', value @ ..]) => Some(value),
         (MetricType::V, [b'/', b'V', b':', value @ ..]) => Some(value),
         (MetricType::RE, [b'/', b'R', b'E', b':', value @ ..]) => Some(value),
-        (MetricType::U, [b'/', b'U', b':', value @ ..]) => Some(value),
         _ => None,
     }
 }

@@ -23,40 +23,6 @@ returns-clause-vector c = λ left right. (
       then_same (search rules) (λ re.
       λ last.
       let u = same_option (search rules) last in
-      λ i. record {
-        minor_version = minor_version i;
-        av = av i;
-        ac = ac i;
-        at = at i;
-        pr = pr i;
-        ui = ui i;
-        vc = vc i;
-        vi = vi i;
-        va = va i;
-        sc = sc i;
-        si = si i;
-        sa = sa i;
-        e = e i;
-        cr = cr i;
-        ir = ir i;
-        ar = ar i;
-        mav = mav i;
-        mac = mac i;
-        mat = mat i;
-        mpr = mpr i;
-        mui = mui i;
-        mvc = mvc i;
-        mvi = mvi i;
-        mva = mva i;
-        msc = msc i;
-        msi = msi i;
-        msa = msa i;
-        s = s i;
-        au = au i;
-        r = r i;
-        v = v i;
-        re = re i;
-        u = u i;
-      }))))))))))))))))))))))))))))))) parts.1,
+      λ i. record { minor_version = minor_version i; av = av i; ac = ac i; at = at i; pr = pr i; ui = ui i; vc = vc i; vi = vi i; va = va i; sc = sc i; si = si i; sa = sa i; e = e i; cr = cr i; ir = ir i; ar = ar i; mav = mav i; mac = mac i; mat = mat i; mpr = mpr i; mui = mui i; mvc = mvc i; mvi = mvi i; mva = mva i; msc = msc i; msi = msi i; msa = msa i; s = s i; au = au i; r = r i; v = v i; re = re i; u = u i }))))))))))))))))))))))))))))))) parts.1,
   λ same. let own = laws-law.refl left in cc,
 )
