@@ -70,6 +70,7 @@ impl Weights {
     }
 
     /// A number of 10^-13 that has the rounding of the first number of the base score.
+    #[inline(always)]
     fn base_number(&self) -> u64
         requires { IsFromTable self.now }
         ensures value { (minor : ℕ) → RoundsAs minor (result over (10 ^ 13)) (base_number self.now) }
@@ -110,6 +111,7 @@ impl Weights {
     }
 
     /// The base score in tenths.
+    #[inline(always)]
     pub fn base_tenths(&self, minor_version: usize) -> u64
         requires { IsFromTable self.now }
         ensures value { IsBase minor_version self.now (pos result) }

@@ -20,6 +20,7 @@ use crate::weights::Weights;
 use cvss_base::Severity;
 
 impl Vector {
+    #[inline(always)]
     fn weights(&self) -> Weights
         ensures weights { result ≡ weights_of self.now }
         ensures table { IsFromTable result }
@@ -70,6 +71,7 @@ impl Vector {
 
     /// The base score in tenths, from 0 to 100 (v3.1 specification, section 7.1; v3.0 specification,
     /// section 8.1).
+    #[inline(always)]
     pub fn tenths(&self) -> u8
         ensures value { IsBaseScore self.now.minor_version (weights_of self.now)
             (pos result *ℤ pos (10 ^ 23)) }
