@@ -86,25 +86,21 @@ fn answers_documents_that_reads_cut(rt: HostRuntime) -> Result<(), Fail> {
     ];
     for row in rows {
         for step in [1, 7, 100_000] {
-            is_answered(&rt, rt.alloc(), row, step)?;
+            is_answered(&rt, rt.alloc(), step, row)?;
         }
     }
     Ok(())
 }
 
-/// Answers lines, and compares what is written and counted.
-fn is_answered(
-    rt: &impl Abort,
-    alloc: Global,
-    (bytes, written, accepted, refused): Row<'_>,
-    step: usize,
-) -> Result<(), Fail> {
+/// Answers the lines of a row by reads of so many bytes.
+fn is_answered(rt: &impl Abort, alloc: Global, step: usize, row: Row<'_>) -> Result<(), Fail> {
+    let (bytes, text, accepted, refused) = row;
     let fails = false;
     let mut reader = Steps { bytes, step, fails };
     let mut writer = Vec::new(alloc);
     let result = run_program(alloc, &[], &mut reader, &mut writer);
-    assert_eq!(rt; result, Ok(Summary { accepted, refused }), "{written}");
-    assert!(rt; writer.as_slice() == written.as_bytes(), "{written}");
+    assert_eq!(rt; result, Ok(Summary { accepted, refused }), "{text}");
+    assert!(rt; writer.as_slice() == text.as_bytes(), "{text}");
     assert_eq!(rt; exit_status(&result), if refused == 0 { 0 } else { 1 });
     Ok(())
 }
@@ -129,10 +125,10 @@ fn reads_documents_of_depth_127(rt: HostRuntime) -> Result<(), Fail> {
     let document = format!(in alloc; "{{\"vectorString\":\"CVSS:2\",\"says\":{deep}}}")?;
     let refused = "{\"at\":\"\",\"given\":\"CVSS:2\",\"line\":1,\
          \"refused\":\"invalid CVSS metric group component: `CVSS:2`\"}\n";
-    is_answered(&rt, alloc, (document.as_bytes(), refused, 0, 1), 100_000)?;
+    is_answered(&rt, alloc, 100_000, (document.as_bytes(), refused, 0, 1))?;
     let deeper = nested(alloc, 1, document.as_str())?;
     let refused = "{\"line\":1,\"refused\":\"not JSON\"}\n";
-    is_answered(&rt, alloc, (deeper.as_bytes(), refused, 0, 1), 100_000)?;
+    is_answered(&rt, alloc, 100_000, (deeper.as_bytes(), refused, 0, 1))?;
     let differing = format!(in alloc;
         "{{\"vectorString\":\"AV:N/AC:L/Au:N/C:N/I:N/A:C\",\"baseScore\":{deep}}}"
     )?;
@@ -142,12 +138,8 @@ fn reads_documents_of_depth_127(rt: HostRuntime) -> Result<(), Fail> {
          \"scores\":{{\"base\":7.8,\"environmental\":7.8,\"temporal\":7.8}},\"severity\":\"high\",\
          \"vector\":\"AV:N/AC:L/Au:N/C:N/I:N/A:C\"}}\n"
     )?;
-    is_answered(
-        &rt,
-        alloc,
-        (differing.as_bytes(), told.as_str(), 0, 1),
-        100_000,
-    )
+    let row = (differing.as_bytes(), told.as_str(), 0, 1);
+    is_answered(&rt, alloc, 100_000, row)
 }
 
 #[test]
