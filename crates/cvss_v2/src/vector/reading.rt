@@ -1,8 +1,5 @@
 //! How a vector is filled from its components.
 
-ghost use Rattle.std.specs.Prelude.{◌≡◌, [], ◌∷◌, ◌++◌, IfSome};
-ghost use Rattle.cvss_base.specs.Text.{colon};
-ghost use Rattle.cvss_base.specs.V2Types.{name_of};
 ghost use Rattle.cvss_v2.specs.Table.{spelling_of};
 ghost use Rattle.cvss_v2.specs.Vector.{v2};
 ghost use Rattle.cvss_v2.specs.private.VectorLaws.{v2_is_lawful};
@@ -50,8 +47,23 @@ impl Components for Vector {
     }
 
     fn cut(piece: &[u8]) -> Option<(MetricType, &[u8])> {
-        let (kind, value) = cut_named(piece)?;
-        Some((kind, value))
+        match piece {
+            [b'A', b'V', b':', value @ ..] => Some((MetricType::AV, value)),
+            [b'A', b'C', b':', value @ ..] => Some((MetricType::AC, value)),
+            [b'A', b'u', b':', value @ ..] => Some((MetricType::Au, value)),
+            [b'C', b':', value @ ..] => Some((MetricType::C, value)),
+            [b'I', b':', value @ ..] => Some((MetricType::I, value)),
+            [b'A', b':', value @ ..] => Some((MetricType::A, value)),
+            [b'E', b':', value @ ..] => Some((MetricType::E, value)),
+            [b'R', b'L', b':', value @ ..] => Some((MetricType::RL, value)),
+            [b'R', b'C', b':', value @ ..] => Some((MetricType::RC, value)),
+            [b'C', b'D', b'P', b':', value @ ..] => Some((MetricType::CDP, value)),
+            [b'T', b'D', b':', value @ ..] => Some((MetricType::TD, value)),
+            [b'C', b'R', b':', value @ ..] => Some((MetricType::CR, value)),
+            [b'I', b'R', b':', value @ ..] => Some((MetricType::IR, value)),
+            [b'A', b'R', b':', value @ ..] => Some((MetricType::AR, value)),
+            _ => None,
+        }
     }
 
     fn blamed(kind: MetricType) -> MetricType {
@@ -87,52 +99,6 @@ impl Components for Vector {
             Vector { a: None, .. } => Some(MetricType::A),
             _ => None,
         }
-    }
-}
-
-/// The metric with whose name and a colon a piece begins, and what stands behind these.
-#[inline(always)]
-fn cut_named(piece: &[u8]) -> Option<(MetricType, &[u8])>
-    ensures { IfSome result (λ cut. piece.now ≡ name_of cut.0 ++ (colon ∷ cut.1.now)) }
-{
-    match piece {
-        [first, second, b':', value @ ..] => Some((named_by_two(*first, *second)?, value)),
-        [letter, b':', value @ ..] => Some((named_by_one(*letter)?, value)),
-        [b'C', b'D', b'P', b':', value @ ..] => Some((MetricType::CDP, value)),
-        _ => None,
-    }
-}
-
-/// The metric whose name is a letter.
-#[inline(always)]
-fn named_by_one(letter: u8) -> Option<MetricType>
-    ensures { IfSome result (λ kind. name_of kind ≡ letter ∷ []) }
-{
-    match letter {
-        b'C' => Some(MetricType::C),
-        b'I' => Some(MetricType::I),
-        b'A' => Some(MetricType::A),
-        b'E' => Some(MetricType::E),
-        _ => None,
-    }
-}
-
-/// The metric whose name are two letters.
-#[inline(always)]
-fn named_by_two(first: u8, second: u8) -> Option<MetricType>
-    ensures { IfSome result (λ kind. name_of kind ≡ first ∷ second ∷ []) }
-{
-    match (first, second) {
-        (b'A', b'V') => Some(MetricType::AV),
-        (b'A', b'C') => Some(MetricType::AC),
-        (b'A', b'u') => Some(MetricType::Au),
-        (b'R', b'L') => Some(MetricType::RL),
-        (b'R', b'C') => Some(MetricType::RC),
-        (b'T', b'D') => Some(MetricType::TD),
-        (b'C', b'R') => Some(MetricType::CR),
-        (b'I', b'R') => Some(MetricType::IR),
-        (b'A', b'R') => Some(MetricType::AR),
-        _ => None,
     }
 }
 

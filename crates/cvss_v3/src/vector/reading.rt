@@ -1,6 +1,6 @@
 //! How a vector is filled from its components.
 
-ghost use Rattle.std.specs.Prelude.{◌≡◌, [], ◌∷◌, ◌++◌, IfSome, length, take};
+ghost use Rattle.std.specs.Prelude.{◌≡◌, ◌∷◌, ◌++◌, IfSome, length, take};
 ghost use Rattle.cvss_base.specs.Text.{colon, raised};
 ghost use Rattle.cvss_base.specs.V3Types.{name_of};
 ghost use Rattle.cvss_base.specs.private.Walk.{HasNoValue, IsFilled};
@@ -145,63 +145,28 @@ fn cut_named(piece: &[u8]) -> Option<(MetricType, &[u8])>
         ≡ take (length (name_of cut.0)) piece.now ++ (colon ∷ cut.1.now)) }
 {
     match piece {
-        [first, second, b':', value @ ..] => Some((named_by_two(*first, *second)?, value)),
-        [letter, b':', value @ ..] => Some((named_by_one(*letter)?, value)),
-        [b'M' | b'm', first, second, b':', value @ ..] => {
-            Some((modified_by_two(*first, *second)?, value))
-        }
-        _ => None,
-    }
-}
-
-/// The metric whose name is a letter, in any ASCII case.
-#[inline(always)]
-fn named_by_one(letter: u8) -> Option<MetricType>
-    ensures { IfSome result (λ kind. name_of kind ≡ raised (letter ∷ [])) }
-{
-    match letter {
-        b'S' | b's' => Some(MetricType::S),
-        b'C' | b'c' => Some(MetricType::C),
-        b'I' | b'i' => Some(MetricType::I),
-        b'A' | b'a' => Some(MetricType::A),
-        b'E' | b'e' => Some(MetricType::E),
-        _ => None,
-    }
-}
-
-/// The metric whose name are two letters, in any ASCII case.
-#[inline(always)]
-fn named_by_two(first: u8, second: u8) -> Option<MetricType>
-    ensures { IfSome result (λ kind. name_of kind ≡ raised (first ∷ second ∷ [])) }
-{
-    match (first, second) {
-        (b'A' | b'a', b'V' | b'v') => Some(MetricType::AV),
-        (b'A' | b'a', b'C' | b'c') => Some(MetricType::AC),
-        (b'P' | b'p', b'R' | b'r') => Some(MetricType::PR),
-        (b'U' | b'u', b'I' | b'i') => Some(MetricType::UI),
-        (b'R' | b'r', b'L' | b'l') => Some(MetricType::RL),
-        (b'R' | b'r', b'C' | b'c') => Some(MetricType::RC),
-        (b'C' | b'c', b'R' | b'r') => Some(MetricType::CR),
-        (b'I' | b'i', b'R' | b'r') => Some(MetricType::IR),
-        (b'A' | b'a', b'R' | b'r') => Some(MetricType::AR),
-        (b'M' | b'm', b'S' | b's') => Some(MetricType::MS),
-        (b'M' | b'm', b'C' | b'c') => Some(MetricType::MC),
-        (b'M' | b'm', b'I' | b'i') => Some(MetricType::MI),
-        (b'M' | b'm', b'A' | b'a') => Some(MetricType::MA),
-        _ => None,
-    }
-}
-
-/// The modified metric whose name are an M and two letters, in any ASCII case.
-#[inline(always)]
-fn modified_by_two(first: u8, second: u8) -> Option<MetricType>
-    ensures { IfSome result (λ kind. name_of kind ≡ raised (77 ∷ first ∷ second ∷ [])) }
-{
-    match (first, second) {
-        (b'A' | b'a', b'V' | b'v') => Some(MetricType::MAV),
-        (b'A' | b'a', b'C' | b'c') => Some(MetricType::MAC),
-        (b'P' | b'p', b'R' | b'r') => Some(MetricType::MPR),
-        (b'U' | b'u', b'I' | b'i') => Some(MetricType::MUI),
+        [b'A' | b'a', b'V' | b'v', b':', value @ ..] => Some((MetricType::AV, value)),
+        [b'A' | b'a', b'C' | b'c', b':', value @ ..] => Some((MetricType::AC, value)),
+        [b'P' | b'p', b'R' | b'r', b':', value @ ..] => Some((MetricType::PR, value)),
+        [b'U' | b'u', b'I' | b'i', b':', value @ ..] => Some((MetricType::UI, value)),
+        [b'S' | b's', b':', value @ ..] => Some((MetricType::S, value)),
+        [b'C' | b'c', b':', value @ ..] => Some((MetricType::C, value)),
+        [b'I' | b'i', b':', value @ ..] => Some((MetricType::I, value)),
+        [b'A' | b'a', b':', value @ ..] => Some((MetricType::A, value)),
+        [b'E' | b'e', b':', value @ ..] => Some((MetricType::E, value)),
+        [b'R' | b'r', b'L' | b'l', b':', value @ ..] => Some((MetricType::RL, value)),
+        [b'R' | b'r', b'C' | b'c', b':', value @ ..] => Some((MetricType::RC, value)),
+        [b'C' | b'c', b'R' | b'r', b':', value @ ..] => Some((MetricType::CR, value)),
+        [b'I' | b'i', b'R' | b'r', b':', value @ ..] => Some((MetricType::IR, value)),
+        [b'A' | b'a', b'R' | b'r', b':', value @ ..] => Some((MetricType::AR, value)),
+        [b'M' | b'm', b'A' | b'a', b'V' | b'v', b':', value @ ..] => Some((MetricType::MAV, value)),
+        [b'M' | b'm', b'A' | b'a', b'C' | b'c', b':', value @ ..] => Some((MetricType::MAC, value)),
+        [b'M' | b'm', b'P' | b'p', b'R' | b'r', b':', value @ ..] => Some((MetricType::MPR, value)),
+        [b'M' | b'm', b'U' | b'u', b'I' | b'i', b':', value @ ..] => Some((MetricType::MUI, value)),
+        [b'M' | b'm', b'S' | b's', b':', value @ ..] => Some((MetricType::MS, value)),
+        [b'M' | b'm', b'C' | b'c', b':', value @ ..] => Some((MetricType::MC, value)),
+        [b'M' | b'm', b'I' | b'i', b':', value @ ..] => Some((MetricType::MI, value)),
+        [b'M' | b'm', b'A' | b'a', b':', value @ ..] => Some((MetricType::MA, value)),
         _ => None,
     }
 }
