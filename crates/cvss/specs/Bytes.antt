@@ -1,5 +1,5 @@
 -- Why bytes are the text of no vector: they are no text, or the text is refused.
-use Rattle.std.specs.Prelude.{◌≡◌, ℕ, List, codes}
+use Rattle.std.specs.Prelude.{ℕ, List, codes}
 use Rattle.std.specs.Str.{IsUtf8}
 use Rattle.cvss_base.specs.ErrorText.{error_text}
 use Rattle.cvss_base.specs.Refusal.{Refusal}

@@ -10,8 +10,7 @@ use Rattle.std.proofs.lemmas.List.{take_all, take_rest}
 use Rattle.std.proofs.lemmas.List.Splits.{slice_split_none, slice_split_first, length-slice_split}
 use Rattle.std.proofs.lemmas.List.Sums.{fails_before_first}
 use Rattle.std.proofs.lemmas.Option.{cond_some}
-use Rattle.cvss_base.specs.declared.pieces.Pieces.{Pieces}
-use Rattle.cvss_base.specs.private.Pieces.{pieces_left, AreParts, IsWithoutColon}
+use Rattle.cvss_base.specs.private.Pieces.{AreParts, IsWithoutColon}
 use Rattle.cvss_base.specs.Text.{slash, colon, pieces}
 use Rattle.cvss_base.proofs.TextLemmas.{position-within, colon-parts}
 

@@ -1,5 +1,5 @@
 -- The pointer of each place leads to its object.
-use Rattle.std.proofs.Common.{◌≡◌, ℕ, suc, ◌+◌, List, [], ◌∷◌, All, Option, Some, None, Ordering, Less, Equal, Greater, nat_cmp, bytes_eq, true, refl, sym, ap, ◌∙◌, arith, option_map, zero-add}
+use Rattle.std.proofs.Common.{◌≡◌, ℕ, suc, ◌+◌, List, [], All, Option, Some, None, Ordering, Less, Equal, Greater, nat_cmp, bytes_eq, true, refl, sym, ap, ◌∙◌, arith, option_map, zero-add}
 use Rattle.std.proofs.lemmas.Cmp.{nat_list_cmp_total, tied_itself}
 use Rattle.std.proofs.lemmas.List.Elements.{All-append, All-cons, All-map, All-nil}
 use Rattle.std.proofs.lemmas.Map.Text.{is_eq-slice_cmp}

@@ -8,7 +8,7 @@ use Rattle.cvss.specs.declared.vector.Cvss.TheVariants.{CvssV20, CvssV30, CvssV3
 use Rattle.serde_json.specs.Data.{Data, Members, no_members, member}
 use Rattle.serde_json.specs.Find.{as_number, get_member}
 use Rattle.serde_json.specs.View.{view}
-use Rattle.cvss_record.specs.Due.{Due, text, score, nothing, agrees, due_at, due_value}
+use Rattle.cvss_record.specs.Due.{Due, text, score, agrees, due_at, due_value}
 use Rattle.cvss_record.specs.Groups.{AreScoresOf}
 use Rattle.cvss_record.specs.Objects.{Member}
 use Rattle.cvss_record.specs.declared.difference.Difference as code

@@ -9,7 +9,8 @@ use Rattle.cvss_v3_metric.specs.declared.environmental.modified.Modified.TheVari
 abbrev pub Row : Type 0
 Row = List ℕ × Option ℕ
 
--- the rows of a modified metric, by those of the base metric: X and the base metric's spellings; none weighs of its own
+-- the rows of a modified metric, by those of the base metric: X and the base metric's spellings; each weighs 0 of its own,
+-- since the equations take the base metric's weight of the value that it puts in place
 abbrev pub modified_rows : List Row → List Row
 modified_rows rows = (codes "X", Some 0) ∷ map (λ row. (row.0, Some 0)) rows
 
