@@ -82,18 +82,3 @@ macro_rules! are_values {
 }
 
 pub(crate) use are_values;
-
-/// Names each metric of a version by the calls that its type has, and prints, copies and compares it.
-macro_rules! are_named {
-    ($rt:expr, $kind:ty, $names:expr) => {{
-        let mut named = Vec::new($rt.alloc());
-        for (kind, name, description) in $names {
-            assert!($rt; kind.name() == name && kind.description() == description, "{name}");
-            assert!($rt; <$kind>::from_str($rt.alloc(), name) == Ok(kind), "{name}");
-            named.push((name, kind))?;
-        }
-        are_printed($rt, $rt.alloc(), "", &named)
-    }};
-}
-
-pub(crate) use are_named;

@@ -1,7 +1,9 @@
 //! Tests of the metrics' names.
 
-use crate::values::{are_named, are_printed};
+use crate::values::are_printed;
 use cvss::v2::MetricType;
+use std::alloc::Global;
+use std::process::Abort;
 use std::test::Fail;
 
 /// The metrics' names and descriptions, in printing order.
@@ -22,8 +24,22 @@ const NAMES: [(MetricType, &str, &str); 14] = [
     (MetricType::AR, "AR", "Availability Requirement"),
 ];
 
+/// Names one metric by the calls that its type has.
+fn is_named(rt: &impl Abort, alloc: Global, kind: MetricType, name: &str, description: &str) {
+    assert!(rt;
+        kind.name() == name && kind.description() == description,
+        "{name}"
+    );
+    assert!(rt; MetricType::from_str(alloc, name) == Ok(kind), "{name}");
+}
+
 #[test]
 fn names_metrics(rt: HostRuntime) -> Result<(), Fail> {
+    let mut named = Vec::new(rt.alloc());
+    for (kind, name, description) in NAMES {
+        is_named(&rt, rt.alloc(), kind, name, description);
+        named.push((name, kind))?;
+    }
     assert!(rt; MetricType::A < MetricType::AC && MetricType::IR < MetricType::AR);
-    are_named!(&rt, MetricType, NAMES)
+    are_printed(&rt, rt.alloc(), "", &named)
 }

@@ -1,7 +1,9 @@
 //! Tests of the metrics' names.
 
-use crate::values::{are_named, are_printed};
+use crate::values::are_printed;
 use cvss::v4::MetricType;
+use std::alloc::Global;
+use std::process::Abort;
 use std::test::Fail;
 
 /// The metrics' names and descriptions, in the order in which they are declared.
@@ -88,7 +90,21 @@ const NAMES: [(MetricType, &str, &str); 32] = [
     (MetricType::V, "V", "Value Density"),
 ];
 
+/// Names one metric by the calls that its type has.
+fn is_named(rt: &impl Abort, alloc: Global, kind: MetricType, name: &str, description: &str) {
+    assert!(rt;
+        kind.name() == name && kind.description() == description,
+        "{name}"
+    );
+    assert!(rt; MetricType::from_str(alloc, name) == Ok(kind), "{name}");
+}
+
 #[test]
 fn names_metrics(rt: HostRuntime) -> Result<(), Fail> {
-    are_named!(&rt, MetricType, NAMES)
+    let mut named = Vec::new(rt.alloc());
+    for (kind, name, description) in NAMES {
+        is_named(&rt, rt.alloc(), kind, name, description);
+        named.push((name, kind))?;
+    }
+    are_printed(&rt, rt.alloc(), "", &named)
 }

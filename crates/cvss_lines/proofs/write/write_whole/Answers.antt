@@ -6,15 +6,12 @@ use Rattle.cvss_lines.proofs.write.write_whole.Goals as goal
 
 -- what was written before, and then what this write took
 pub loop-written-preserved : goal.loop-written-preserved
-loop-written-preserved g c =
-    let bytes = c.args.bytes.now in
-    let written = c.loop-written.written in
-    let count = c.in_ok-count.count in
-    record {
-      within = omega (arith, c.in_ok-count.ensures.moved.1, length-drop written bytes, length-take (length bytes - written) (drop written bytes));
-      appended = rw (take-add written count bytes)
-          (Appends-trans (g.W.Write.contents c.args.writer.now) (g.W.Write.contents c.loop-written.writer)
-          (g.W.Write.contents c.write_some.new.writer) (take written bytes) (take count (drop written bytes))
-          c.loop-written.invariant.appended
-          (rw (take_rest bytes written) at c.in_ok-count.ensures.ok));
-    }
+loop-written-preserved g c = record {
+  within = omega (arith, c.in-Ok.ensures.bound, length-drop c.loop-written.written c.args.bytes.now, length-take (length c.args.bytes.now - c.loop-written.written) (drop c.loop-written.written c.args.bytes.now));
+  appended = rw (take-add c.loop-written.written c.in-Ok.count c.args.bytes.now)
+      (Appends-trans (g.W.Write.contents c.args.writer.now) (g.W.Write.contents c.loop-written.writer)
+      (g.W.Write.contents c.write.new.self) (take c.loop-written.written c.args.bytes.now)
+      (take c.in-Ok.count (drop c.loop-written.written c.args.bytes.now))
+      c.loop-written.invariant.appended
+      (rw (take_rest c.args.bytes.now c.loop-written.written) at c.in-Ok.ensures.bytes));
+}
