@@ -89,8 +89,7 @@ fn attack_at_sight(
     }
 }
 
-/// The values of the metrics of what the attack needs of others with which a text begins, and what stands
-/// behind them.
+/// The values of PR and UI, with which a text begins, and what stands behind them.
 #[inline(always)]
 fn access_at_sight(text: &[u8]) -> Option<(PrivilegesRequired, UserInteraction, &[u8])>
     ensures { IfSome result (λ read. text.now
