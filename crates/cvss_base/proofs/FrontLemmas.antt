@@ -11,7 +11,7 @@ use Rattle.cvss_base.specs.declared.walk.Fault.{Fault}
 use Rattle.cvss_base.specs.Text.{slash, pieces, joined, name_part, value_part, IsComponent}
 use Rattle.cvss_base.specs.Version.{Version, version_piece, Denotes, IsComplete, IsWellFormed, AreComponentsOf}
 use Rattle.cvss_base.specs.Refusal.{Refusal, BadComponent, WrongPrefix, WrongVersion, UnknownName, BadValue, Repeated, Missing, AreComponentsBefore, IsFirstBadPiece, piece_at, IsReasonBehind, IsFirstRefusalBehind, TellsVersion}
-use Rattle.cvss_base.specs.private.Walk.{IsLawful, IsLawfulFront, IsReadBehind, IsFrontFault, IsStarted, IsFirstOfPieces, HasRead, foreign_bytes, reason_of}
+use Rattle.cvss_base.specs.private.Walk.{IsLawful, IsLawfulFront, IsReadBehind, IsAnswerBehind, IsFrontFault, IsStarted, IsFirstOfPieces, HasRead, IsTellable, foreign_bytes, reason_of}
 use Rattle.cvss_base.proofs.AnswerLemmas as answer
 use Rattle.cvss_base.proofs.CanonicalLemmas.{denoted_once}
 use Rattle.cvss_base.proofs.DenotesLemmas.{vectors_same, no_reason}
@@ -129,36 +129,57 @@ module _ {V K : Type 0} (version : Version V K) (lawful : IsLawful version) (fro
   no_reason_behind v is (Repeated kind) (_, first) = no_reason version lawful v is.parts is.components is.complete (Repeated kind) first
   no_reason_behind v is (Missing kind) (_, first) = no_reason version lawful v is.parts is.components is.complete (Missing kind) first
 
-  no_refusal : (v : V) → IsText version text v → (reason : Refusal K) → IsSortFirst (IsReasonBehind version (pieces text)) text reason → ⊥
+  no_refusal : (v : V) → IsText version text v → (reason : Refusal K) → IsSortFirst (IsReasonBehind version (pieces text)) (pieces text) reason → ⊥
   no_refusal v is _ (bad_piece bad) =
       bad.bad (rw bad.is (rw is.cut (is_component_at v is bad.place (rw is.cut at bad.within))))
   no_refusal v is reason (later _ reasoned) =
       no_reason_behind v is reason (subst (λ parts. IsReasonBehind version parts reason) is.cut reasoned)
 
-  pub denoted : (v : V) → IsReadBehind version text v → Denotes version text v
+  denoted : (v : V) → IsReadBehind version text v → Denotes version text v
   denoted v is = record {
     parts = is.parts;
     text_is = sym (join_with_byte-slice_split slash text) ∙ (ap joined is.cut ∙ ap (λ pieces. joined (pieces ++ is.parts)) (sym is.front_is));
     components = AreComponentsOf-all version lawful is.parts v is.all;
   }
 
-  pub utf8 : (v : V) → IsReadBehind version text v → IsUtf8 text
+  utf8 : (v : V) → IsReadBehind version text v → IsUtf8 text
   utf8 v is =
       let denotes = denoted v is in
       rw (denotes.text_is, is.front_is) (IsUtf8-denoting version lawful v denotes.parts denotes.components (version_piece is.told ∷ []) (All-cons IsUtf8 (version_piece is.told) [] (front_is_utf8 version front is.told is.supported) (All-nil IsUtf8)))
 
-  pub accepts : (result : Result V (Fault K)) → IsAnswer version text result → (v : V) → Denotes version text v → IsWellFormed version v → result ≡ Ok v
+  accepts : (result : Result V (Fault K)) → IsAnswer version text result → (v : V) → Denotes version text v → IsWellFormed version v → result ≡ Ok v
   accepts result is v denotes formed =
       let meant = text_denoted v denotes formed in
       answer.accepts-from version (IsReadBehind version text) (IsFirstRefusalBehind version text) result is v
       (λ w read. texts_same w v (text_read w read) meant)
-      (λ reason first. no_refusal v meant reason (sort_first _ text reason first))
+      (λ reason first. no_refusal v meant reason (sort_first _ (pieces text) reason first))
 
-  pub refuses : (result : Result V (Fault K)) → IsAnswer version text result → (reason : Refusal K) → IsFirstRefusalBehind version text reason → IsErrAnd result (λ fault. reason_of version fault ≡ reason)
+  refuses : (result : Result V (Fault K)) → IsAnswer version text result → (reason : Refusal K) → IsFirstRefusalBehind version text reason → IsErrAnd result (λ fault. reason_of version fault ≡ reason)
   refuses result is =
       answer.refuses-from version (IsReadBehind version text) (IsFirstRefusalBehind version text) result is
-      (λ w read reason first. no_refusal w (text_read w read) reason (sort_first _ text reason first))
-      (refusals_same (IsReasonBehind version (pieces text)) text (reasons_behind_same version lawful (pieces text)))
+      (λ w read reason first. no_refusal w (text_read w read) reason (sort_first _ (pieces text) reason first))
+      (refusals_same (IsReasonBehind version (pieces text)) (pieces text) (reasons_behind_same version lawful (pieces text)))
+
+  -- so this one answer is all that a reader promises
+  pub IsAnswerBehind-from : (result : Result V (Fault K)) → IsAnswer version text result → (IsUtf8 text → IfErr result (IsTellable version)) → IsAnswerBehind version text result
+  IsAnswerBehind-from (Ok v) is tellable = record {
+    denoted = denoted v is;
+    well_formed = record { complete = is.complete; supported = record { told = is.told; front_is = is.front_is; supported = is.supported } };
+    accepts = accepts (Ok v) is;
+    utf8 = utf8 v is;
+    refused = tt;
+    refuses = refuses (Ok v) is;
+    tellable = tellable;
+  }
+  IsAnswerBehind-from (Err fault) is tellable = record {
+    denoted = tt;
+    well_formed = tt;
+    accepts = accepts (Err fault) is;
+    utf8 = tt;
+    refused = is;
+    refuses = refuses (Err fault) is;
+    tellable = tellable;
+  }
 
 module _ (text piece : List ℕ) (parts : List (List ℕ)) (cut : pieces text ≡ piece ∷ parts) where
   pub IsUtf8-front : IsUtf8 text → IsUtf8 piece

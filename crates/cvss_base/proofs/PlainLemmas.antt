@@ -5,7 +5,7 @@ use Rattle.std.proofs.Common.{Ok, Err, IfOk, IfErr}
 use Rattle.cvss_base.specs.declared.walk.Fault.{Fault}
 use Rattle.cvss_base.specs.Text.{pieces}
 use Rattle.cvss_base.specs.Version.{Version, Denotes, IsComplete, AreComponentsOf}
-use Rattle.cvss_base.specs.Refusal.{Refusal, BadComponent, WrongPrefix, WrongVersion, UnknownName, BadValue, Repeated, Missing, IsFirstReason, IsFirstRefusal}
+use Rattle.cvss_base.specs.Refusal.{Refusal, IsFirstReason, IsFirstRefusal}
 use Rattle.cvss_base.specs.private.Walk.{IsLawful, HasRead, IsFirstOfPieces, reason_of}
 use Rattle.cvss_base.proofs.AnswerLemmas as answer
 use Rattle.cvss_base.proofs.DenotesLemmas.{vectors_same, pieces_denoted, no_reason}
@@ -26,15 +26,6 @@ abbrev pub IsAnswer : {V K : Type 0} → Version V K → List ℕ → Result V (
 IsAnswer version text = answer.IsAnswer version (IsReadFrom version text) (IsFirstRefusal version text)
 
 module _ {V K : Type 0} (version : Version V K) (lawful : IsLawful version) (text : List ℕ) where
-  refusal_from : (reason : Refusal K) → IsFirstOfPieces version (pieces text) reason → IsFirstRefusal version text reason
-  refusal_from (BadComponent piece) is = is
-  refusal_from (WrongPrefix prefix) is = is
-  refusal_from (WrongVersion told) is = is
-  refusal_from (UnknownName name) is = is
-  refusal_from (BadValue kind value) is = is
-  refusal_from (Repeated kind) is = is
-  refusal_from (Missing kind) is = is
-
   -- whatever pieces were read, they are those of the text
   pub IsAnswer-parts : (parts : List (List ℕ)) → parts ≡ pieces text → (empty : V) → version.front empty ≡ [] → (result : Result V (Fault K)) → IfOk result (λ v. HasRead version parts (length parts) v) → IfOk result (λ v. version.front v ≡ version.front empty) → IfOk result (λ v. IsComplete version v) → IfErr result (λ fault. IsFirstOfPieces version parts (reason_of version fault)) → IsAnswer version text result
   IsAnswer-parts parts are empty frontless (Ok v) all front complete refused = record {
@@ -43,10 +34,10 @@ module _ {V K : Type 0} (version : Version V K) (lawful : IsLawful version) (tex
     complete = complete;
   }
   IsAnswer-parts parts are empty frontless (Err fault) all front complete refused =
-      refusal_from (reason_of version fault) (subst (λ list. IsFirstOfPieces version list (reason_of version fault)) are refused)
+      subst (λ list. IsFirstOfPieces version list (reason_of version fault)) are refused
 
   -- where the pieces of a text are the components of a complete vector, the text has no refusal
-  no_refusal : (v : V) → AreComponentsOf version (pieces text) v → IsComplete version v → (reason : Refusal K) → IsSortFirst (IsFirstReason version (pieces text)) text reason → ⊥
+  no_refusal : (v : V) → AreComponentsOf version (pieces text) v → IsComplete version v → (reason : Refusal K) → IsSortFirst (IsFirstReason version (pieces text)) (pieces text) reason → ⊥
   no_refusal v components complete _ (bad_piece bad) = bad.bad (rw bad.is (piece_is_component version lawful v (pieces text) components bad.place bad.within))
   no_refusal v components complete reason (later _ is) = no_reason version lawful v (pieces text) components complete reason is
 
@@ -63,10 +54,10 @@ module _ {V K : Type 0} (version : Version V K) (lawful : IsLawful version) (tex
       let components = pieces_denoted version lawful v text frontless denotes complete in
       answer.accepts-from version (IsReadFrom version text) (IsFirstRefusal version text) result is v
       (λ w read. vectors_same version lawful w v (pieces text) (read.frontless ∙ sym frontless) (AreComponentsOf-all version lawful (pieces text) w read.all) components)
-      (λ reason first. no_refusal v components complete reason (sort_first _ text reason first))
+      (λ reason first. no_refusal v components complete reason (sort_first _ (pieces text) reason first))
 
   pub refuses : (result : Result V (Fault K)) → IsAnswer version text result → (reason : Refusal K) → IsFirstRefusal version text reason → IsErrAnd result (λ fault. reason_of version fault ≡ reason)
   refuses result is =
       answer.refuses-from version (IsReadFrom version text) (IsFirstRefusal version text) result is
-      (λ w read reason first. no_refusal w (AreComponentsOf-all version lawful (pieces text) w read.all) read.complete reason (sort_first _ text reason first))
-      (refusals_same (IsFirstReason version (pieces text)) text (reasons_same version lawful (pieces text)))
+      (λ w read reason first. no_refusal w (AreComponentsOf-all version lawful (pieces text) w read.all) read.complete reason (sort_first _ (pieces text) reason first))
+      (refusals_same (IsFirstReason version (pieces text)) (pieces text) (reasons_same version lawful (pieces text)))

@@ -3,7 +3,6 @@ use Rattle.std.proofs.Common.{◌≡◌, inl, inr, ℕ, ◌<◌, List, Contains,
 use Rattle.std.specs.List.{slice_get}
 use Rattle.std.proofs.lemmas.Bool.{cases_order}
 use Rattle.std.proofs.lemmas.Option.{same_Some}
-use Rattle.cvss_base.specs.Text.{pieces}
 use Rattle.cvss_base.specs.Version.{Version, reading}
 use Rattle.cvss_base.specs.Refusal.{Refusal, BadComponent, WrongPrefix, WrongVersion, UnknownName, BadValue, Repeated, Missing, Spells, piece_at, name_at, value_at, FaultAt, AreComponentsBefore, IsFirstBadPiece, IsFirstFault, IsFirstMissing, IsFirstReason, IsWrongPrefix, IsWrongVersion, TellsVersion, IsReasonBehind, BadPiecesFirst}
 use Rattle.cvss_base.specs.private.Walk.{IsLawful}
@@ -31,9 +30,9 @@ data IsSortBehind {V K : Type 0} (version : Version V K) (parts : List (List ℕ
   behind : {reason : Refusal K} → TellsVersion version (piece_at parts 0) → IsFirstReason version (drop 1 parts) reason → IsSortBehind version parts reason
 
 -- whether a reason is a bad piece
-pub data IsSortFirst {K : Type 0} (IsReason : Refusal K → Type 0) (text : List ℕ) : Refusal K → Type 0 where
-  bad_piece : {piece : List ℕ} → IsFirstBadPiece (pieces text) piece → IsSortFirst IsReason text (BadComponent piece)
-  later : {reason : Refusal K} → AreComponentsBefore (pieces text) (length (pieces text)) → IsReason reason → IsSortFirst IsReason text reason
+pub data IsSortFirst {K : Type 0} (IsReason : Refusal K → Type 0) (parts : List (List ℕ)) : Refusal K → Type 0 where
+  bad_piece : {piece : List ℕ} → IsFirstBadPiece parts piece → IsSortFirst IsReason parts (BadComponent piece)
+  later : {reason : Refusal K} → AreComponentsBefore parts (length parts) → IsReason reason → IsSortFirst IsReason parts reason
 
 module _ {V K : Type 0} (version : Version V K) (lawful : IsLawful version) (parts : List (List ℕ)) where
   -- a value cannot be both bad and repeated
@@ -120,8 +119,8 @@ module _ {V K : Type 0} (version : Version V K) (lawful : IsLawful version) (par
   pub reasons_behind_same : (reason other : Refusal K) → IsReasonBehind version parts reason → IsReasonBehind version parts other → reason ≡ other
   reasons_behind_same reason other first second = sorts_behind_same reason other (sort_behind reason first) (sort_behind other second)
 
-module _ {K : Type 0} (IsReason : Refusal K → Type 0) (text : List ℕ) where
-  pub sort_first : (reason : Refusal K) → BadPiecesFirst IsReason text reason → IsSortFirst IsReason text reason
+module _ {K : Type 0} (IsReason : Refusal K → Type 0) (parts : List (List ℕ)) where
+  pub sort_first : (reason : Refusal K) → BadPiecesFirst IsReason parts reason → IsSortFirst IsReason parts reason
   sort_first (BadComponent piece) is = bad_piece is
   sort_first (WrongPrefix prefix) (components, is) = later components is
   sort_first (WrongVersion told) (components, is) = later components is
@@ -130,12 +129,12 @@ module _ {K : Type 0} (IsReason : Refusal K → Type 0) (text : List ℕ) where
   sort_first (BadValue kind value) (components, is) = later components is
   sort_first (Repeated kind) (components, is) = later components is
 
-  sorts_first_same : ((one two : Refusal K) → IsReason one → IsReason two → one ≡ two) → (reason other : Refusal K) → IsSortFirst IsReason text reason → IsSortFirst IsReason text other → reason ≡ other
-  sorts_first_same same _ _ (bad_piece first) (bad_piece second) = ap BadComponent (bad_pieces_same (pieces text) _ _ first second)
+  sorts_first_same : ((one two : Refusal K) → IsReason one → IsReason two → one ≡ two) → (reason other : Refusal K) → IsSortFirst IsReason parts reason → IsSortFirst IsReason parts other → reason ≡ other
+  sorts_first_same same _ _ (bad_piece first) (bad_piece second) = ap BadComponent (bad_pieces_same parts _ _ first second)
   sorts_first_same same _ _ (bad_piece first) (later components _) = absurd (first.bad (rw first.is (components.each first.place first.within)))
   sorts_first_same same _ _ (later components _) (bad_piece second) = absurd (second.bad (rw second.is (components.each second.place second.within)))
   sorts_first_same same reason other (later _ first) (later _ second) = same reason other first second
 
-  -- two first refusals of a text are one, where two later reasons are
-  pub refusals_same : ((one two : Refusal K) → IsReason one → IsReason two → one ≡ two) → (reason other : Refusal K) → BadPiecesFirst IsReason text reason → BadPiecesFirst IsReason text other → reason ≡ other
+  -- two first refusals of the pieces are one, where two later reasons are
+  pub refusals_same : ((one two : Refusal K) → IsReason one → IsReason two → one ≡ two) → (reason other : Refusal K) → BadPiecesFirst IsReason parts reason → BadPiecesFirst IsReason parts other → reason ≡ other
   refusals_same same reason other first second = sorts_first_same same reason other (sort_first reason first) (sort_first other second)

@@ -94,14 +94,13 @@ IsFirstReason version parts (Missing kind) = IsFirstMissing version parts kind
 IsFirstReason version parts reason = IsFirstFault version parts reason
 
 -- a piece that is no component goes before each other reason
-abbrev pub BadPiecesFirst : {K : Type 0} → (Refusal K → Type 0) → List ℕ → Refusal K → Type 0
-BadPiecesFirst IsReason text (BadComponent piece) = IsFirstBadPiece (pieces text) piece
-BadPiecesFirst IsReason text reason =
-    AreComponentsBefore (pieces text) (length (pieces text)) × IsReason reason
+abbrev pub BadPiecesFirst : {K : Type 0} → (Refusal K → Type 0) → List (List ℕ) → Refusal K → Type 0
+BadPiecesFirst IsReason parts (BadComponent piece) = IsFirstBadPiece parts piece
+BadPiecesFirst IsReason parts reason = AreComponentsBefore parts (length parts) × IsReason reason
 
 -- the first reason why the text, which has no piece that tells a version, is refused
 abbrev pub IsFirstRefusal : {V K : Type 0} → Version V K → List ℕ → Refusal K → Type 0
-IsFirstRefusal version text = BadPiecesFirst (IsFirstReason version (pieces text)) text
+IsFirstRefusal version text = BadPiecesFirst (IsFirstReason version (pieces text)) (pieces text)
 
 -- the piece that has to tell the version does not begin with CVSS
 pub record IsWrongPrefix (piece prefix : List ℕ) : Type 0 where
@@ -129,4 +128,4 @@ IsReasonBehind version parts reason =
 
 -- the first reason why the text, whose first piece has to tell the version, is refused
 abbrev pub IsFirstRefusalBehind : {V K : Type 0} → Version V K → List ℕ → Refusal K → Type 0
-IsFirstRefusalBehind version text = BadPiecesFirst (IsReasonBehind version (pieces text)) text
+IsFirstRefusalBehind version text = BadPiecesFirst (IsReasonBehind version (pieces text)) (pieces text)

@@ -1,12 +1,10 @@
 //! Texts that begin with a piece that tells their version, once for all versions that have one.
 
-ghost use Rattle.std.specs.Prelude.{◌≡◌, IfSome, IfNone, IfOk, IfErr, OnOk, IsErrAnd, Contains, Ok};
+ghost use Rattle.std.specs.Prelude.{IfSome, IfNone, IfOk, IfErr, Contains};
 ghost use Rattle.std.specs.Str.{IsUtf8};
-ghost use Rattle.cvss_base.specs.Refusal.{Refusal, IsFirstRefusalBehind};
 ghost use Rattle.cvss_base.specs.Text.{IsComponent};
-ghost use Rattle.cvss_base.specs.Version.{Denotes, IsWellFormed};
 ghost use Rattle.cvss_base.specs.private.Pieces.{pieces_left};
-ghost use Rattle.cvss_base.specs.private.Walk.{Starts, StartsWith, IsStarted, IsFrontFault, IsTellable, IsLawfulFront, reason_of};
+ghost use Rattle.cvss_base.specs.private.Walk.{Starts, StartsWith, IsStarted, IsAnswerBehind, IsFrontFault, IsTellable, IsLawfulFront, reason_of};
 
 use crate::PREFIX;
 use crate::pieces::{Pieces, first_bad_piece, front_of, parts_of};
@@ -24,19 +22,7 @@ pub trait Fronted: Components {
 
 /// Reads a text that begins with a version piece, or finds the first reason why it is refused.
 pub fn read_behind<'a, V: Fronted>(text: &'a [u8]) -> Result<V, Fault<'a, V::Kind>>
-    // Accepted: what is given is what the text denotes, and each such vector is given.
-    ensures denoted { IfOk result (λ v. Denotes V.version text.now v) }
-    ensures well_formed { IfOk result (λ v. IsWellFormed V.version v) }
-    ensures accepts { (v : V) → Denotes V.version text.now v → IsWellFormed V.version v
-        → result ≡ Ok v }
-    ensures utf8 { OnOk result (IsUtf8 text.now) }
-    // Refused: for the first reason, and wherever there is one.
-    ensures refused { IfErr result
-        (λ fault. IsFirstRefusalBehind V.version text.now (reason_of V.version fault)) }
-    ensures refuses { (reason : Refusal V.Kind) → IsFirstRefusalBehind V.version text.now reason
-        → IsErrAnd result (λ fault. reason_of V.version fault ≡ reason) }
-    // A refusal can be told.
-    ensures tellable { IsUtf8 text.now → IfErr result (IsTellable V.version) }
+    ensures { IsAnswerBehind V.version text.now result }
 {
     let (front, left) = front_of(text);
     match start(front) {
@@ -57,19 +43,7 @@ pub fn read_started<'a, V: Fronted>(
     empty: V,
 ) -> Result<V, Fault<'a, V::Kind>>
     requires { IsStarted V.version text.now (pieces_left left) empty }
-    // Accepted: what is given is what the text denotes, and each such vector is given.
-    ensures denoted { IfOk result (λ v. Denotes V.version text.now v) }
-    ensures well_formed { IfOk result (λ v. IsWellFormed V.version v) }
-    ensures accepts { (v : V) → Denotes V.version text.now v → IsWellFormed V.version v
-        → result ≡ Ok v }
-    ensures utf8 { OnOk result (IsUtf8 text.now) }
-    // Refused: for the first reason, and wherever there is one.
-    ensures refused { IfErr result
-        (λ fault. IsFirstRefusalBehind V.version text.now (reason_of V.version fault)) }
-    ensures refuses { (reason : Refusal V.Kind) → IsFirstRefusalBehind V.version text.now reason
-        → IsErrAnd result (λ fault. reason_of V.version fault ≡ reason) }
-    // A refusal can be told.
-    ensures tellable { IsUtf8 text.now → IfErr result (IsTellable V.version) }
+    ensures { IsAnswerBehind V.version text.now result }
 {
     read_complete(left, empty)
 }

@@ -1,14 +1,14 @@
 //! The walk over a vector's components, once for all versions. It takes no memory: a fault borrows
 //! the part of the text that it names.
 
-ghost use Rattle.std.specs.Prelude.{◌≡◌, ◌≢◌, ◌↔◌, ℕ, List, IsTrue, bytes_eq, find, IfSome, IfOk, IfErr, OnOk, OnErr, IsErrAnd, Ok, [], length};
+ghost use Rattle.std.specs.Prelude.{◌≡◌, ◌↔◌, ℕ, List, IsTrue, bytes_eq, find, IfSome, IfOk, IfErr, OnOk, IsErrAnd, Ok, [], length};
 ghost use Rattle.std.specs.List.{All};
 ghost use Rattle.std.specs.Str.{IsUtf8};
 ghost use Rattle.cvss_base.specs.private.Pieces.{pieces_left};
-ghost use Rattle.cvss_base.specs.Text.{IsComponent, name_part, pieces, raised, read_as};
+ghost use Rattle.cvss_base.specs.Text.{IsComponent, pieces, raised, read_as};
 ghost use Rattle.cvss_base.specs.Version.{Version, read, Denotes, IsComplete};
 ghost use Rattle.cvss_base.specs.Refusal.{AreComponentsBefore, Refusal, piece_at, IsFirstRefusal};
-ghost use Rattle.cvss_base.specs.private.Walk.{HasNoValue, IsEmpty, IsPut, IsCut, IsCutFirst, IsReadFirst, IsLawful, Puts, Adds, HasRead, IsFaultOf, IsFirstOfPieces, first_missing, IsTellable, reason_of};
+ghost use Rattle.cvss_base.specs.private.Walk.{HasNoValue, IsEmpty, IsPut, IsCut, IsCutAnswer, IsCutFirst, IsReadFirst, IsLawful, Puts, Adds, HasRead, IsFaultOf, IsFirstOfPieces, first_missing, IsTellable, reason_of};
 
 use crate::pieces::{Pieces, first_bad_piece, front_of, parts_of, pieces_of};
 
@@ -94,12 +94,7 @@ fn kind_named<V: Components>(name: &[u8]) -> Option<V::Kind>
 pub fn cut_component<'a, V: Components>(
     piece: &'a [u8],
 ) -> Result<(V::Kind, &'a [u8]), Fault<'a, V::Kind>>
-    ensures cut { IfOk result (λ cut. IsCut V.version piece.now cut.0 cut.1.now) }
-    ensures refused { IfErr result (λ fault. (v : V) → IsComponent piece.now
-        → IsFaultOf V.version v piece.now (reason_of V.version fault)) }
-    ensures unnamed { OnErr result (IsComponent piece.now
-        → (kind : V.Kind) → V.version.name kind ≢ read V.version (name_part piece.now)) }
-    ensures tellable { IsUtf8 piece.now → IfErr result (IsTellable V.version) }
+    ensures { IsCutAnswer V.version piece.now result }
 {
     match V::cut(piece) {
         Some(cut) => Ok(cut),
@@ -111,12 +106,7 @@ pub fn cut_component<'a, V: Components>(
 fn cut_at_colon<'a, V: Components>(
     piece: &'a [u8],
 ) -> Result<(V::Kind, &'a [u8]), Fault<'a, V::Kind>>
-    ensures cut { IfOk result (λ cut. IsCut V.version piece.now cut.0 cut.1.now) }
-    ensures refused { IfErr result (λ fault. (v : V) → IsComponent piece.now
-        → IsFaultOf V.version v piece.now (reason_of V.version fault)) }
-    ensures unnamed { OnErr result (IsComponent piece.now
-        → (kind : V.Kind) → V.version.name kind ≢ read V.version (name_part piece.now)) }
-    ensures tellable { IsUtf8 piece.now → IfErr result (IsTellable V.version) }
+    ensures { IsCutAnswer V.version piece.now result }
 {
     let Some((name, value)) = parts_of(piece) else {
         return Err(Fault::InvalidComponent(piece));

@@ -1,7 +1,8 @@
 -- What the private walk over the components does at each step. What callers rely on stands in
 -- Version and Refusal.
-use Rattle.std.specs.Prelude.{◌≡◌, ◌≢◌, ℕ, Bool, nat_lt, ◌||◌, ◌⊎◌, List, [], ◌∷◌, length, map, take, Option, Some, None, IsSome, Result, OnOk, IfErr, Contains, slice_get, find, is_none, ◌<◌, count_by, ◌==◌, ⊤}
+use Rattle.std.specs.Prelude.{◌≡◌, ◌≢◌, ℕ, Bool, nat_lt, ◌||◌, ◌⊎◌, List, [], ◌∷◌, length, map, take, Option, Some, None, IsSome, Result, Ok, IfOk, OnOk, IfErr, OnErr, IsErrAnd, Contains, slice_get, find, is_none, ◌<◌, count_by, ◌==◌, ⊤}
 use Rattle.std.specs.List.{range_with_len}
+use Rattle.std.specs.Borrow.{Bor}
 use Rattle.std.specs.Str.{IsUtf8}
 use Rattle.cvss_base.specs.declared.walk.Slip.{Slip}
 use Rattle.cvss_base.specs.declared.walk.Slip.TheVariants.{Invalid, Repeated as Twice}
@@ -9,8 +10,8 @@ use Rattle.cvss_base.specs.declared.walk.Fault.{Fault}
 use Rattle.cvss_base.specs.declared.walk.Fault.TheVariants.{InvalidComponent, InvalidPrefix, UnsupportedVersion, UnknownMetric, InvalidMetric, DuplicateMetric, MissingMandatoryMetric}
 use Rattle.cvss_base.specs.laws.Order.{place_in}
 use Rattle.cvss_base.specs.Text.{slash, colon, pieces, IsComponent, name_part, value_part, component}
-use Rattle.cvss_base.specs.Version.{Version, read, reading, version_piece, AreComponentsOf, IsComplete}
-use Rattle.cvss_base.specs.Refusal.{Refusal, BadComponent, WrongPrefix, WrongVersion, UnknownName, BadValue, Repeated, Missing, Spells, HasNoFaultBefore, AreComponentsBefore, IsFirstBadPiece, IsFirstReason, IsWrongPrefix, IsWrongVersion}
+use Rattle.cvss_base.specs.Version.{Version, read, reading, version_piece, AreComponentsOf, Denotes, IsComplete, IsWellFormed}
+use Rattle.cvss_base.specs.Refusal.{Refusal, BadComponent, WrongPrefix, WrongVersion, UnknownName, BadValue, Repeated, Missing, Spells, HasNoFaultBefore, IsFirstReason, BadPiecesFirst, IsFirstRefusalBehind, IsWrongPrefix, IsWrongVersion}
 
 -- a byte that no name and no spelling has: it divides, or is not ASCII
 abbrev pub is_foreign : ℕ → Bool
@@ -130,10 +131,9 @@ pub record LacksFirst {V K : Type 0} (version : Version V K) (v : V) (kind : K) 
   pub absent : version.value_of v kind ≡ None
   pub earlier : (before : ℕ) (other : K) → before < place → slice_get version.mandatory before ≡ Some other → IsSome (version.value_of v other)
 
--- the first reason among the pieces, of which one that is no component goes before each other reason
+-- the first reason why the pieces are refused
 abbrev pub IsFirstOfPieces : {V K : Type 0} → Version V K → List (List ℕ) → Refusal K → Type 0
-IsFirstOfPieces version parts (BadComponent piece) = IsFirstBadPiece parts piece
-IsFirstOfPieces version parts reason = AreComponentsBefore parts (length parts) × IsFirstReason version parts reason
+IsFirstOfPieces version parts = BadPiecesFirst (IsFirstReason version parts) parts
 
 -- the first mandatory metric that the vector lacks
 abbrev pub first_missing : {V K : Type 0} → Version V K → V → Option K
@@ -193,6 +193,13 @@ IsFaultOf version v piece (WrongPrefix _) = ⊥
 IsFaultOf version v piece (WrongVersion _) = ⊥
 IsFaultOf version v piece (Missing _) = ⊥
 
+-- what cutting a piece answers: its metric and value, or that it is no component, or of no metric
+pub record IsCutAnswer {V K : Type 0} (version : Version V K) (piece : List ℕ) (answer : Result (K × Bor (List ℕ)) (Fault K)) : Type 0 where
+  pub cut : IfOk answer (λ cut. IsCut version piece cut.0 cut.1.now)
+  pub refused : IfErr answer (λ fault. (v : V) → IsComponent piece → IsFaultOf version v piece (reason_of version fault))
+  pub unnamed : OnErr answer (IsComponent piece → (kind : K) → version.name kind ≢ read version (name_part piece))
+  pub tellable : IsUtf8 piece → IfErr answer (IsTellable version)
+
 -- the text is a version piece and components, which the complete vector holds
 pub record IsReadBehind {V K : Type 0} (version : Version V K) (text : List ℕ) (v : V) : Type 0 where
   pub told : List ℕ
@@ -202,3 +209,15 @@ pub record IsReadBehind {V K : Type 0} (version : Version V K) (text : List ℕ)
   pub supported : Contains version.supported told
   pub all : HasRead version parts (length parts) v
   pub complete : IsComplete version v
+
+-- what reading a text that begins with a version piece answers
+pub record IsAnswerBehind {V K : Type 0} (version : Version V K) (text : List ℕ) (answer : Result V (Fault K)) : Type 0 where
+  -- accepted: what is given is what the text denotes, and each such vector is given
+  pub denoted : IfOk answer (λ v. Denotes version text v)
+  pub well_formed : IfOk answer (λ v. IsWellFormed version v)
+  pub accepts : (v : V) → Denotes version text v → IsWellFormed version v → answer ≡ Ok v
+  pub utf8 : OnOk answer (IsUtf8 text)
+  -- refused: for the first reason, and wherever there is one, which can be told
+  pub refused : IfErr answer (λ fault. IsFirstRefusalBehind version text (reason_of version fault))
+  pub refuses : (reason : Refusal K) → IsFirstRefusalBehind version text reason → IsErrAnd answer (λ fault. reason_of version fault ≡ reason)
+  pub tellable : IsUtf8 text → IfErr answer (IsTellable version)

@@ -7,6 +7,7 @@ ghost use Rattle.cvss_v3.specs.Vector.{v3};
 
 use crate::metric::MetricType;
 use crate::vector::Vector;
+use MetricType::*;
 use cvss_base::metrics::{self, Listed};
 
 /// The metrics that a vector has, each with the spelling of its value; at most 22.
@@ -14,28 +15,7 @@ pub type Metrics = metrics::Metrics<Vector>;
 
 /// The metrics in the order in which they are listed.
 const LISTED: [MetricType; 22] = [
-    MetricType::AV,
-    MetricType::AC,
-    MetricType::PR,
-    MetricType::UI,
-    MetricType::S,
-    MetricType::C,
-    MetricType::I,
-    MetricType::A,
-    MetricType::E,
-    MetricType::RL,
-    MetricType::RC,
-    MetricType::MAV,
-    MetricType::MAC,
-    MetricType::MPR,
-    MetricType::MUI,
-    MetricType::MS,
-    MetricType::MC,
-    MetricType::MI,
-    MetricType::CR,
-    MetricType::IR,
-    MetricType::AR,
-    MetricType::MA,
+    AV, AC, PR, UI, S, C, I, A, E, RL, RC, MAV, MAC, MPR, MUI, MS, MC, MI, CR, IR, AR, MA,
 ];
 
 impl Listed for Vector {

@@ -10,33 +10,13 @@ ghost use Rattle.cvss_v3.specs.private.VectorLaws.{v3_is_lawful, v3_fronts_are_l
 
 use crate::metric::{Metric, MetricType};
 use crate::vector::Vector;
+use MetricType::*;
 use cvss_base::front::Fronted;
 use cvss_base::walk::{Components, Slip};
 
 /// The metrics in printing order (v3.1 specification, section 6).
 const PRINTED: [MetricType; 22] = [
-    MetricType::AV,
-    MetricType::AC,
-    MetricType::PR,
-    MetricType::UI,
-    MetricType::S,
-    MetricType::C,
-    MetricType::I,
-    MetricType::A,
-    MetricType::E,
-    MetricType::RL,
-    MetricType::RC,
-    MetricType::CR,
-    MetricType::IR,
-    MetricType::AR,
-    MetricType::MAV,
-    MetricType::MAC,
-    MetricType::MPR,
-    MetricType::MUI,
-    MetricType::MS,
-    MetricType::MC,
-    MetricType::MI,
-    MetricType::MA,
+    AV, AC, PR, UI, S, C, I, A, E, RL, RC, CR, IR, AR, MAV, MAC, MPR, MUI, MS, MC, MI, MA,
 ];
 
 impl Components for Vector {

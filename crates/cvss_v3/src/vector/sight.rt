@@ -84,16 +84,7 @@ fn component_at_sight<M: Metric>(text: &[u8]) -> Option<(M, &[u8])>
     ensures { IfSome result
         (λ read. text.now ≡ slash ∷ (metric_component M.TYPE (M.value read.0) ++ read.1.now)) }
 {
-    value_at_sight(behind_name(M::TYPE, text)?)
-}
-
-/// The value of a metric, where a text begins with its spelling, and what stands behind that.
-#[inline(always)]
-fn value_at_sight<M: Metric>(text: &[u8]) -> Option<(M, &[u8])>
-    ensures { IfSome result
-        (λ read. text.now ≡ spelling_of M.TYPE (M.value read.0) ++ read.1.now) }
-{
-    match text {
+    match behind_name(M::TYPE, text)? {
         [letter, rest @ ..] => Some((M::read_letter(*letter)?, rest)),
         [] => None,
     }
