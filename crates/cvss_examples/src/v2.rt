@@ -5,6 +5,7 @@ ghost use Rattle.cvss.specs.ErrorType.TheVariants.{OutOfMemory};
 ghost use Rattle.cvss.specs.Exact.{IsWithinLimit};
 ghost use Rattle.cvss.specs.Refusal.{IsFirstRefusal};
 ghost use Rattle.cvss.specs.ScoreLawsV2.{DefineTheSame};
+ghost use Rattle.cvss.specs.ScoresV2.{IsBaseScore, IsTemporalScore, IsEnvironmentalScore};
 ghost use Rattle.cvss.specs.TypesV2.{v2_reason};
 ghost use Rattle.cvss.specs.VectorTypeV2.{Vector};
 ghost use Rattle.cvss.specs.VectorV2.{v2};
@@ -56,18 +57,25 @@ pub fn twice_is_once(alloc: Global, text: &str) -> Result<bool, Error>
 
 /// Whether two vectors that differ only in `ND` and absent metrics have the same base, temporal and
 /// environmental scores, which they have.
-pub fn not_defined_scores_as_absent(left: &Vector, right: &Vector) -> (bool, bool, bool)
+pub fn not_defined_scores_as_absent(left: &Vector, right: &Vector) -> bool
     requires { DefineTheSame left.now right.now }
-    ensures base { IsTrue result.0 }
-    ensures temporal { IsTrue result.1 }
-    ensures environmental { IsTrue result.2 }
+    ensures { IsTrue result }
 {
     laws::not_defined_weighs_as_absent();
     laws::scores_are_unique();
+    scores_of(left) == scores_of(right)
+}
+
+/// The base, temporal and environmental scores of a vector.
+fn scores_of(vector: &Vector) -> (Score, Score, Score)
+    ensures base { IsBaseScore (weights_of vector.now) result.0 }
+    ensures temporal { IsTemporalScore (weights_of vector.now) result.1 }
+    ensures environmental { IsEnvironmentalScore (weights_of vector.now) result.2 }
+{
     (
-        left.score() == right.score(),
-        left.temporal_score() == right.temporal_score(),
-        left.environmental_score() == right.environmental_score(),
+        vector.score(),
+        vector.temporal_score(),
+        vector.environmental_score(),
     )
 }
 

@@ -4,14 +4,16 @@ ghost use Rattle.std.specs.Prelude.{◌≡◌, ◌⊎◌, IfOk, IfErr, IsTrue, O
 ghost use Rattle.cvss.specs.ErrorType.TheVariants.{OutOfMemory};
 ghost use Rattle.cvss.specs.Refusal.{IsFirstRefusalBehind};
 ghost use Rattle.cvss.specs.ScoreLawsV3.{DefineTheSame, with_modified_as_base};
+ghost use Rattle.cvss.specs.ScoresV3.{IsBaseScore, IsTemporalScore, IsEnvironmentalScore};
 ghost use Rattle.cvss.specs.TypesV3.{v3_reason};
 ghost use Rattle.cvss.specs.VectorTypeV3.{Vector};
 ghost use Rattle.cvss.specs.VectorV3.{v3};
 ghost use Rattle.cvss.specs.Version.{Denotes, IsWellFormed};
+ghost use Rattle.cvss.specs.WeightsV3.{weights_of};
 ghost use Rattle.cvss_examples.specs.Canonical.{IsCanonicalTextOf, TellsRefusal};
 
 use cvss::Error;
-use cvss::v3::{Vector, laws};
+use cvss::v3::{Score, Vector, laws};
 use std::alloc::Global;
 
 /// Prints a well-formed vector and reads what was printed, which gives the vector back.
@@ -53,19 +55,27 @@ pub fn twice_is_once(alloc: Global, text: &str) -> Result<bool, Error>
 
 /// Whether two vectors of one version that differ only in `X` and absent metrics have the same base,
 /// temporal and environmental scores, which they have.
-pub fn not_defined_scores_as_absent(left: &Vector, right: &Vector) -> (bool, bool, bool)
+pub fn not_defined_scores_as_absent(left: &Vector, right: &Vector) -> bool
     requires version { left.now.minor_version ≡ right.now.minor_version }
     requires defined { DefineTheSame left.now right.now }
-    ensures base { IsTrue result.0 }
-    ensures temporal { IsTrue result.1 }
-    ensures environmental { IsTrue result.2 }
+    ensures { IsTrue result }
 {
     laws::not_defined_weighs_as_absent();
     laws::scores_are_unique();
+    scores_of(left) == scores_of(right)
+}
+
+/// The base, temporal and environmental scores of a vector.
+fn scores_of(vector: &Vector) -> (Score, Score, Score)
+    ensures base { IsBaseScore vector.now.minor_version (weights_of vector.now) result.0 }
+    ensures temporal { IsTemporalScore vector.now.minor_version (weights_of vector.now) result.1 }
+    ensures environmental { IsEnvironmentalScore vector.now.minor_version (weights_of vector.now)
+        result.2 }
+{
     (
-        left.score() == right.score(),
-        left.temporal_score() == right.temporal_score(),
-        left.environmental_score() == right.environmental_score(),
+        vector.score(),
+        vector.temporal_score(),
+        vector.environmental_score(),
     )
 }
 
