@@ -9,23 +9,25 @@ import (
 	"cvss"
 )
 
-// The accepted lines of the file that CVSS_LINES names.
-func timed(b *testing.B) []string {
+// The accepted lines of the file that CVSS_LINES names, and their vectors.
+func timed(b *testing.B) ([]string, []cvss.Vector) {
 	text, err := os.ReadFile(os.Getenv("CVSS_LINES"))
 	if err != nil {
 		b.Skip("CVSS_LINES names no file")
 	}
 	var accepted []string
+	var vectors []cvss.Vector
 	for _, line := range strings.Split(string(text), "\n") {
-		if _, err := cvss.Parse(line); err == nil {
+		if vector, err := cvss.Parse(line); err == nil {
 			accepted = append(accepted, line)
+			vectors = append(vectors, vector)
 		}
 	}
-	return accepted
+	return accepted, vectors
 }
 
 func BenchmarkParse(b *testing.B) {
-	lines := timed(b)
+	lines, _ := timed(b)
 	b.ResetTimer()
 	for i := 0; i < b.N; i++ {
 		if _, err := cvss.Parse(lines[i%len(lines)]); err != nil {
@@ -34,8 +36,37 @@ func BenchmarkParse(b *testing.B) {
 	}
 }
 
+func timeVectors(b *testing.B, call func(cvss.Vector)) {
+	_, vectors := timed(b)
+	b.ResetTimer()
+	for i := 0; i < b.N; i++ {
+		call(vectors[i%len(vectors)])
+	}
+}
+
+func BenchmarkMetrics(b *testing.B) {
+	timeVectors(b, func(v cvss.Vector) { v.Metrics() })
+}
+
+func BenchmarkWithoutUndefined(b *testing.B) {
+	timeVectors(b, func(v cvss.Vector) { v.WithoutUndefined() })
+}
+
+func BenchmarkWithOverrides(b *testing.B) {
+	overrides := []cvss.Metric{{Name: "CR", Value: "H"}, {Name: "AR", Value: "L"}}
+	timeVectors(b, func(v cvss.Vector) {
+		if _, err := v.WithOverrides(overrides); err != nil {
+			b.Fatal(err)
+		}
+	})
+}
+
+func BenchmarkRecord(b *testing.B) {
+	timeVectors(b, func(v cvss.Vector) { v.Record() })
+}
+
 func BenchmarkAnswer(b *testing.B) {
-	lines := timed(b)
+	lines, _ := timed(b)
 	b.ResetTimer()
 	for i := 0; i < b.N; i++ {
 		cvss.Answer(lines[i%len(lines)])
@@ -44,7 +75,7 @@ func BenchmarkAnswer(b *testing.B) {
 
 // The time is that of one line.
 func BenchmarkAnswerLines(b *testing.B) {
-	lines := timed(b)
+	lines, _ := timed(b)
 	all := []byte(strings.Join(lines, "\n") + "\n")
 	b.ResetTimer()
 	for i := 0; i < b.N; i += len(lines) {

@@ -7,10 +7,8 @@ use std::time::Instant;
 
 const ROUNDS: u32 = 200;
 
-fn print_time(name: &str, lines: &[&str], call: impl Fn(&str)) {
-    print_round_time(name, lines.len(), || {
-        lines.iter().for_each(|line| call(line))
-    });
+fn print_time<T>(name: &str, items: &[T], call: impl Fn(&T)) {
+    print_round_time(name, items.len(), || items.iter().for_each(&call));
 }
 
 /// Of the rounds the fastest, which other programs on the machine have disturbed least.
@@ -34,6 +32,22 @@ fn main() -> io::Result<()> {
         .collect();
     print_time("Cvss::parse", &lines, |line| {
         let _ = black_box(Cvss::parse(line));
+    });
+    let vectors: Vec<Cvss> = lines
+        .iter()
+        .filter_map(|line| Cvss::parse(line).ok())
+        .collect();
+    print_time("metrics", &vectors, |vector| {
+        black_box(vector.metrics());
+    });
+    print_time("without_undefined", &vectors, |vector| {
+        black_box(vector.without_undefined());
+    });
+    print_time("with_overrides", &vectors, |vector| {
+        let _ = black_box(vector.with_overrides(&[("CR", "H"), ("AR", "L")]));
+    });
+    print_time("record", &vectors, |vector| {
+        black_box(vector.record());
     });
     print_time("answer", &lines, |line| {
         black_box(answer(line.as_bytes()));

@@ -1,8 +1,8 @@
 //! The vectors that are kept in the repository, with their answers.
 
 use cvss_proved::{
-    answer, answer_lines, Cvss, Metric, Nomenclature, OverrideError, Refused, RefusedKind, Score, Severity,
-    Version,
+    answer, answer_lines, Cvss, Metric, Nomenclature, OverrideError, Refused, RefusedKind, Score,
+    Severity, Version,
 };
 use std::fs;
 use std::path::Path;
@@ -159,7 +159,9 @@ fn overrides_of_v4_are_put_in_place() {
     let own = cvss.with_overrides(&[("MSI", "S"), ("CR", "L")]).unwrap();
     let expected = "CVSS:4.0/AV:N/AC:L/AT:N/PR:N/UI:N/VC:L/VI:L/VA:L/SC:N/SI:N/SA:N/CR:L/MSI:S/S:P";
     assert_eq!(own.as_str(), expected);
-    let twice = cvss.with_overrides(&[("MSI", "S"), ("MSI", "H")]).unwrap_err();
+    let twice = cvss
+        .with_overrides(&[("MSI", "S"), ("MSI", "H")])
+        .unwrap_err();
     assert!(matches!(twice, OverrideError::Refused(_)));
     let unknown = cvss.with_overrides(&[("MS", "C")]).unwrap_err();
     assert_eq!(unknown.to_string(), "unknown CVSS metric name: `MS`");

@@ -54,42 +54,39 @@ impl Vector {
     }
 }
 
+/// The effective value of a requirement, by one table for the types of all three.
+macro_rules! requirement {
+    ($value:ident: $value_type:ident) => {
+        match $value {
+            None | Some($value_type::NotDefined) => effective::Requirement::High,
+            Some($value_type::High) => effective::Requirement::High,
+            Some($value_type::Medium) => effective::Requirement::Medium,
+            Some($value_type::Low) => effective::Requirement::Low,
+        }
+    };
+}
+
 /// The effective value that CR gives.
 fn confidentiality_requirements(
     value: Option<ConfidentialityRequirements>,
 ) -> effective::Requirement
     ensures { result ≡ meaning requirements (letter_of CR value) }
 {
-    match value {
-        None | Some(ConfidentialityRequirements::NotDefined) => effective::Requirement::High,
-        Some(ConfidentialityRequirements::High) => effective::Requirement::High,
-        Some(ConfidentialityRequirements::Medium) => effective::Requirement::Medium,
-        Some(ConfidentialityRequirements::Low) => effective::Requirement::Low,
-    }
+    requirement!(value: ConfidentialityRequirements)
 }
 
 /// The effective value that IR gives.
 fn integrity_requirements(value: Option<IntegrityRequirements>) -> effective::Requirement
     ensures { result ≡ meaning requirements (letter_of IR value) }
 {
-    match value {
-        None | Some(IntegrityRequirements::NotDefined) => effective::Requirement::High,
-        Some(IntegrityRequirements::High) => effective::Requirement::High,
-        Some(IntegrityRequirements::Medium) => effective::Requirement::Medium,
-        Some(IntegrityRequirements::Low) => effective::Requirement::Low,
-    }
+    requirement!(value: IntegrityRequirements)
 }
 
 /// The effective value that AR gives.
 fn availability_requirements(value: Option<AvailabilityRequirements>) -> effective::Requirement
     ensures { result ≡ meaning requirements (letter_of AR value) }
 {
-    match value {
-        None | Some(AvailabilityRequirements::NotDefined) => effective::Requirement::High,
-        Some(AvailabilityRequirements::High) => effective::Requirement::High,
-        Some(AvailabilityRequirements::Medium) => effective::Requirement::Medium,
-        Some(AvailabilityRequirements::Low) => effective::Requirement::Low,
-    }
+    requirement!(value: AvailabilityRequirements)
 }
 
 /// The effective value that E gives.

@@ -18,6 +18,24 @@ use crate::metric::environmental::{
 };
 use crate::scoring::effective;
 
+/// The effective value of an impact that may be Safety, by one table for the types of both.
+macro_rules! safety_impact {
+    ($modified:ident: $modified_type:ident, $base:ident: $base_type:ident) => {{
+        let unmodified = match $base {
+            None | Some($base_type::High) => effective::SafetyImpact::High,
+            Some($base_type::Low) => effective::SafetyImpact::Low,
+            Some($base_type::None) => effective::SafetyImpact::None,
+        };
+        match $modified {
+            None | Some($modified_type::NotDefined) => unmodified,
+            Some($modified_type::Safety) => effective::SafetyImpact::Safety,
+            Some($modified_type::High) => effective::SafetyImpact::High,
+            Some($modified_type::Low) => effective::SafetyImpact::Low,
+            Some($modified_type::Negligible) => effective::SafetyImpact::None,
+        }
+    }};
+}
+
 /// The effective value of SC, which MSC replaces where it is defined.
 pub(super) fn confidentiality_impact_to_the_subsequent_system(
     modified: Option<ModifiedConfidentialityImpactToTheSubsequentSystem>,
@@ -51,20 +69,10 @@ pub(super) fn integrity_impact_to_the_subsequent_system(
     ensures { result ≡ meaning safety_impacts
         (replaced (letter_of MSI modified) (letter_of SI base)) }
 {
-    let unmodified = match base {
-        None | Some(IntegrityImpactToTheSubsequentSystem::High) => effective::SafetyImpact::High,
-        Some(IntegrityImpactToTheSubsequentSystem::Low) => effective::SafetyImpact::Low,
-        Some(IntegrityImpactToTheSubsequentSystem::None) => effective::SafetyImpact::None,
-    };
-    match modified {
-        None | Some(ModifiedIntegrityImpactToTheSubsequentSystem::NotDefined) => unmodified,
-        Some(ModifiedIntegrityImpactToTheSubsequentSystem::Safety) =>
-            effective::SafetyImpact::Safety,
-        Some(ModifiedIntegrityImpactToTheSubsequentSystem::High) => effective::SafetyImpact::High,
-        Some(ModifiedIntegrityImpactToTheSubsequentSystem::Low) => effective::SafetyImpact::Low,
-        Some(ModifiedIntegrityImpactToTheSubsequentSystem::Negligible) =>
-            effective::SafetyImpact::None,
-    }
+    safety_impact!(
+        modified: ModifiedIntegrityImpactToTheSubsequentSystem,
+        base: IntegrityImpactToTheSubsequentSystem
+    )
 }
 
 /// The effective value of SA, which MSA replaces where it is defined.
@@ -75,19 +83,8 @@ pub(super) fn availability_impact_to_the_subsequent_system(
     ensures { result ≡ meaning safety_impacts
         (replaced (letter_of MSA modified) (letter_of SA base)) }
 {
-    let unmodified = match base {
-        None | Some(AvailabilityImpactToTheSubsequentSystem::High) => effective::SafetyImpact::High,
-        Some(AvailabilityImpactToTheSubsequentSystem::Low) => effective::SafetyImpact::Low,
-        Some(AvailabilityImpactToTheSubsequentSystem::None) => effective::SafetyImpact::None,
-    };
-    match modified {
-        None | Some(ModifiedAvailabilityImpactToTheSubsequentSystem::NotDefined) => unmodified,
-        Some(ModifiedAvailabilityImpactToTheSubsequentSystem::Safety) =>
-            effective::SafetyImpact::Safety,
-        Some(ModifiedAvailabilityImpactToTheSubsequentSystem::High) =>
-            effective::SafetyImpact::High,
-        Some(ModifiedAvailabilityImpactToTheSubsequentSystem::Low) => effective::SafetyImpact::Low,
-        Some(ModifiedAvailabilityImpactToTheSubsequentSystem::Negligible) =>
-            effective::SafetyImpact::None,
-    }
+    safety_impact!(
+        modified: ModifiedAvailabilityImpactToTheSubsequentSystem,
+        base: AvailabilityImpactToTheSubsequentSystem
+    )
 }

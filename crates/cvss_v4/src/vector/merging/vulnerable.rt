@@ -16,6 +16,23 @@ use crate::metric::environmental::{
 };
 use crate::scoring::effective;
 
+/// The effective value of an impact, by one table for the types of all three.
+macro_rules! vulnerable_impact {
+    ($modified:ident: $modified_type:ident, $base:ident: $base_type:ident) => {{
+        let unmodified = match $base {
+            None | Some($base_type::High) => effective::VulnerableImpact::High,
+            Some($base_type::Low) => effective::VulnerableImpact::Low,
+            Some($base_type::None) => effective::VulnerableImpact::None,
+        };
+        match $modified {
+            None | Some($modified_type::NotDefined) => unmodified,
+            Some($modified_type::High) => effective::VulnerableImpact::High,
+            Some($modified_type::Low) => effective::VulnerableImpact::Low,
+            Some($modified_type::None) => effective::VulnerableImpact::None,
+        }
+    }};
+}
+
 /// The effective value of VC, which MVC replaces where it is defined.
 pub(super) fn confidentiality_impact_to_the_vulnerable_system(
     modified: Option<ModifiedConfidentialityImpactToTheVulnerableSystem>,
@@ -24,21 +41,10 @@ pub(super) fn confidentiality_impact_to_the_vulnerable_system(
     ensures { result ≡ meaning vulnerable_impacts
         (replaced (letter_of MVC modified) (letter_of VC base)) }
 {
-    let unmodified = match base {
-        None | Some(ConfidentialityImpactToTheVulnerableSystem::High) =>
-            effective::VulnerableImpact::High,
-        Some(ConfidentialityImpactToTheVulnerableSystem::Low) => effective::VulnerableImpact::Low,
-        Some(ConfidentialityImpactToTheVulnerableSystem::None) => effective::VulnerableImpact::None,
-    };
-    match modified {
-        None | Some(ModifiedConfidentialityImpactToTheVulnerableSystem::NotDefined) => unmodified,
-        Some(ModifiedConfidentialityImpactToTheVulnerableSystem::High) =>
-            effective::VulnerableImpact::High,
-        Some(ModifiedConfidentialityImpactToTheVulnerableSystem::Low) =>
-            effective::VulnerableImpact::Low,
-        Some(ModifiedConfidentialityImpactToTheVulnerableSystem::None) =>
-            effective::VulnerableImpact::None,
-    }
+    vulnerable_impact!(
+        modified: ModifiedConfidentialityImpactToTheVulnerableSystem,
+        base: ConfidentialityImpactToTheVulnerableSystem
+    )
 }
 
 /// The effective value of VI, which MVI replaces where it is defined.
@@ -49,20 +55,10 @@ pub(super) fn integrity_impact_to_the_vulnerable_system(
     ensures { result ≡ meaning vulnerable_impacts
         (replaced (letter_of MVI modified) (letter_of VI base)) }
 {
-    let unmodified = match base {
-        None | Some(IntegrityImpactToTheVulnerableSystem::High) =>
-            effective::VulnerableImpact::High,
-        Some(IntegrityImpactToTheVulnerableSystem::Low) => effective::VulnerableImpact::Low,
-        Some(IntegrityImpactToTheVulnerableSystem::None) => effective::VulnerableImpact::None,
-    };
-    match modified {
-        None | Some(ModifiedIntegrityImpactToTheVulnerableSystem::NotDefined) => unmodified,
-        Some(ModifiedIntegrityImpactToTheVulnerableSystem::High) =>
-            effective::VulnerableImpact::High,
-        Some(ModifiedIntegrityImpactToTheVulnerableSystem::Low) => effective::VulnerableImpact::Low,
-        Some(ModifiedIntegrityImpactToTheVulnerableSystem::None) =>
-            effective::VulnerableImpact::None,
-    }
+    vulnerable_impact!(
+        modified: ModifiedIntegrityImpactToTheVulnerableSystem,
+        base: IntegrityImpactToTheVulnerableSystem
+    )
 }
 
 /// The effective value of VA, which MVA replaces where it is defined.
@@ -73,19 +69,8 @@ pub(super) fn availability_impact_to_the_vulnerable_system(
     ensures { result ≡ meaning vulnerable_impacts
         (replaced (letter_of MVA modified) (letter_of VA base)) }
 {
-    let unmodified = match base {
-        None | Some(AvailabilityImpactToTheVulnerableSystem::High) =>
-            effective::VulnerableImpact::High,
-        Some(AvailabilityImpactToTheVulnerableSystem::Low) => effective::VulnerableImpact::Low,
-        Some(AvailabilityImpactToTheVulnerableSystem::None) => effective::VulnerableImpact::None,
-    };
-    match modified {
-        None | Some(ModifiedAvailabilityImpactToTheVulnerableSystem::NotDefined) => unmodified,
-        Some(ModifiedAvailabilityImpactToTheVulnerableSystem::High) =>
-            effective::VulnerableImpact::High,
-        Some(ModifiedAvailabilityImpactToTheVulnerableSystem::Low) =>
-            effective::VulnerableImpact::Low,
-        Some(ModifiedAvailabilityImpactToTheVulnerableSystem::None) =>
-            effective::VulnerableImpact::None,
-    }
+    vulnerable_impact!(
+        modified: ModifiedAvailabilityImpactToTheVulnerableSystem,
+        base: AvailabilityImpactToTheVulnerableSystem
+    )
 }
