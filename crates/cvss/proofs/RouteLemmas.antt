@@ -1,14 +1,17 @@
 -- Where a text is read that denotes a vector, and what is then told of it.
-use Rattle.std.proofs.Common.{◌≡◌, ◌≢◌, ◌⊎◌, inl, inr, ℕ, ◌<◌, zero, suc, true, false, eqb, ◌||◌, List, [], ◌∷◌, ◌++◌, codes, length, get_or, refl, sym, ap, ◌∙◌, subst, arith, lit<}
-use Rattle.std.specs.List.{All, Contains}
+use Rattle.std.proofs.Common.{◌≡◌, ◌≢◌, ◌⊎◌, inl, inr, ℕ, ◌<◌, zero, suc, true, false, eqb, ◌||◌, List, [], ◌∷◌, ◌++◌, ◌-◌, codes, length, get_or, take, drop, refl, sym, ap, ◌∙◌, subst, arith, lit<}
+use Rattle.std.specs.List.{All, Contains, onto_first}
 use Rattle.std.specs.Str.{IsUtf8}
-use Rattle.std.proofs.lemmas.Bool.{cases_order}
+use Rattle.std.proofs.lemmas.Bool.{cases_order, or_parts}
 use Rattle.std.proofs.Math.Bool.{or-true}
 use Rattle.std.proofs.lemmas.List.Elements.{All-head}
+use Rattle.std.proofs.lemmas.List.Splits.{length-slice_split, slice_split-cons_no}
+use Rattle.std.proofs.lemmas.List.{take_rest}
+use Rattle.std.proofs.Math.Seq.{split_at}
 use Rattle.cvss_base.specs.Version.{numeral, version_piece, Denotes, IsWellFormed}
 use Rattle.cvss_base.specs.private.Pieces.{AreParts}
 use Rattle.cvss_base.specs.Refusal.{piece_at}
-use Rattle.cvss_base.specs.Text.{pieces, component, has, colon, dot}
+use Rattle.cvss_base.specs.Text.{pieces, component, has, colon, dot, slash}
 use Rattle.cvss_base.specs.V2Types.{name_of}
 use Rattle.cvss_base.specs.declared.v2.MetricType as type_v2
 use Rattle.cvss_base.specs.declared.v2.MetricType.TheVariants as kind_v2
@@ -223,6 +226,25 @@ cut_routed text piece prefix told (next ∷ more) to cut some parts is =
 pub first_utf8 : (text piece : List ℕ) (rest : List (List ℕ)) → pieces text ≡ piece ∷ rest → IsUtf8 text → IsUtf8 piece
 first_utf8 text piece rest cut is = All-head IsUtf8 piece rest (subst (All IsUtf8) cut (IsUtf8-pieces text is))
 
--- a version piece, from its parts
-pub version_cut : (prefix told version : List ℕ) (left : List (List ℕ)) → prefix ≡ codes "CVSS" → told ≡ version → component prefix told ∷ left ≡ version_piece version ∷ left
-version_cut prefix told version left is_prefix is_version = rw (is_prefix, is_version) refl
+-- a version piece is cut at its colon
+pub version_parts : (told : List ℕ) → AreParts (version_piece told) (codes "CVSS") told
+version_parts told = record { cut = refl; name_is = refl; value_is = refl }
+
+-- a text has a first piece
+pub some_piece : (text : List ℕ) → pieces text ≢ []
+some_piece text none = omega (arith, ap length none, length-slice_split (λ byte. eqb byte slash) text)
+
+-- a text that begins with a piece and a slash
+pieces_behind : (piece rest : List ℕ) → has slash piece ≡ false → pieces (piece ++ (slash ∷ rest)) ≡ piece ∷ pieces rest
+pieces_behind [] rest none = refl
+pieces_behind (byte ∷ piece) rest none =
+    let apart = or_parts (eqb byte slash) (has slash piece) none in
+    slice_split-cons_no (λ each. eqb each slash) byte (piece ++ (slash ∷ rest)) apart.0 ∙ ap (onto_first byte) (pieces_behind piece rest apart.1)
+
+-- the same of the piece that tells the version
+pub version_first : (text told rest : List ℕ) (left : List (List ℕ)) → text ≡ version_piece told ++ (slash ∷ rest) → has slash told ≡ false → left ≡ pieces rest → pieces text ≡ version_piece told ∷ left
+version_first text told rest left is none left_is = ap pieces is ∙ (pieces_behind (version_piece told) rest none ∙ ap (λ parts. version_piece told ∷ parts) (sym left_is))
+
+-- a text is cut at a slash that stands in it
+pub cut_at_slash : (text : List ℕ) (at : ℕ) → at < length text → get_or text at 0 ≡ slash → text ≡ take at text ++ (slash ∷ take (length text - suc at) (drop (suc at) text))
+cut_at_slash text at within is = split_at text at 0 within ∙ rw (is, take_rest text (suc at)) refl

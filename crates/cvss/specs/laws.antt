@@ -1,3 +1,4 @@
+pub mod BytesErrors
 pub mod GivenBack
 pub mod JsonErrors
 pub use Rattle.cvss_base.specs.laws.Equality

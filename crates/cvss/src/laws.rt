@@ -7,11 +7,12 @@ ghost use Rattle.cvss_base.specs.laws.Equality.{EqualsByValue, ClonesByValue};
 ghost use Rattle.cvss_base.specs.laws.Rounding.{IsOneCount};
 ghost use Rattle.cvss.specs.Answers.{text_of, IsScoreOf};
 ghost use Rattle.cvss.specs.Dispatch.{DenotesCvss};
+ghost use Rattle.cvss.specs.laws.BytesErrors as of_bytes;
 ghost use Rattle.cvss.specs.laws.GivenBack.{IsGivenBack};
 ghost use Rattle.cvss.specs.laws.JsonErrors.{TellTheSame};
 
 use crate::json::JsonError;
-use crate::{Cvss, Error, MetricType, v2, v3, v4};
+use crate::{BytesError, Cvss, Error, MetricType, v2, v3, v4};
 
 /// A text denotes at most one vector, and the text that is printed of a vector denotes that vector
 /// exactly where it is well formed and, in CVSS v3, has a metric and the minor version of its
@@ -34,6 +35,8 @@ pub fn equality_is_that_of_values()
     ensures metric { EqualsByValue ⟦<MetricType as PartialEq>⟧.eq }
     ensures json { (x y : JsonError) → IsTrue (⟦<JsonError as PartialEq>⟧.eq x y)
         ↔ TellTheSame x y }
+    ensures bytes { (x y : BytesError) → IsTrue (⟦<BytesError as PartialEq>⟧.eq x y)
+        ↔ of_bytes.TellTheSame x y }
     ensures error { (x y : Error) → IsTrue (⟦<Error as PartialEq>⟧.eq x y) ↔ same.TellTheSame x y }
 {
     cvss_base::laws::equality_is_that_of_values();
@@ -48,6 +51,8 @@ pub fn clones_are_equal()
     ensures metric { ClonesByValue ⟦<MetricType as Clone>⟧.is_clone }
     ensures json { (x clone : JsonError) → ⟦<JsonError as Clone>⟧.is_clone x clone
         → TellTheSame x clone }
+    ensures bytes { (x clone : BytesError) → ⟦<BytesError as Clone>⟧.is_clone x clone
+        → of_bytes.TellTheSame x clone }
     ensures error { (x clone : Error) → ⟦<Error as Clone>⟧.is_clone x clone
         → same.TellTheSame x clone }
 {

@@ -1,14 +1,16 @@
 //! By the rules of which version a text is read.
 
-ghost use Rattle.std.specs.Prelude.{◌≡◌, ◌∷◌, IfOk, Some};
+ghost use Rattle.std.specs.Prelude.{◌≡◌, ◌∷◌, ◌++◌, IfOk, IfSome, Some, codes, true, false};
 ghost use Rattle.std.specs.Str.{IsUtf8};
 ghost use Rattle.cvss_base.specs.Told.{Tells, reason_told};
-ghost use Rattle.cvss_base.specs.Text.{component, pieces};
+ghost use Rattle.cvss_base.specs.Text.{component, dot, has, pieces, slash};
+ghost use Rattle.cvss_base.specs.Version.{version_piece};
 ghost use Rattle.cvss_base.specs.private.Pieces.{pieces_left};
 ghost use Rattle.cvss.specs.Dispatch.{route_of, route_of_parts, cvss_reason};
 ghost use Rattle.cvss.specs.private.Steps.{as_route, IsBehindVersion, IsTellable, IsTellableRoute, reason_of};
 
-use cvss_base::pieces::{Pieces, front_of, parts_of};
+use cvss_base::pieces::{Pieces, front_of, parts_of, pieces_of};
+use cvss_base::sight::behind_five;
 use cvss_base::text::copied_text;
 use cvss_base::{Error, PREFIX};
 use std::alloc::{AllocError, Global};
@@ -36,7 +38,36 @@ pub(crate) enum Fault<'a> {
 }
 
 /// By the rules of which version a text is read.
+#[inline(always)]
 pub(crate) fn route_of_text(text: &[u8]) -> Route<'_>
+    ensures route { as_route result ≡ route_of text.now }
+    ensures behind { IsBehindVersion (pieces text.now) result }
+    ensures tellable { IsUtf8 text.now → IsTellableRoute result }
+{
+    match told_at_sight(text) {
+        Some((told, rest)) => route_by_version(told, pieces_of(rest)),
+        None => route_by_front(text),
+    }
+}
+
+/// The version of two digits that a text tells behind `CVSS`, and what stands behind the slash after
+/// it. `None` tells nothing of the text.
+#[inline(always)]
+fn told_at_sight(text: &[u8]) -> Option<(&[u8], &[u8])>
+    ensures text { IfSome result
+        (λ cut. text.now ≡ version_piece cut.0.now ++ (slash ∷ cut.1.now)) }
+    ensures slash { IfSome result (λ cut. has slash cut.0.now ≡ false) }
+    ensures dot { IfSome result (λ cut. has dot cut.0.now ≡ true) }
+{
+    let rest = behind_five(text, *b"CVSS:")?;
+    match rest {
+        [b'0'..=b'9', b'.', b'0'..=b'9', b'/', behind @ ..] => Some((&rest[..3], behind)),
+        _ => None,
+    }
+}
+
+/// The same, where the end of the first piece has to be sought.
+fn route_by_front(text: &[u8]) -> Route<'_>
     ensures route { as_route result ≡ route_of text.now }
     ensures behind { IsBehindVersion (pieces text.now) result }
     ensures tellable { IsUtf8 text.now → IsTellableRoute result }
@@ -63,6 +94,17 @@ fn route_by<'a>(prefix: &'a [u8], told: &'a [u8], behind: Pieces<'a>) -> Route<'
     if prefix != PREFIX.as_bytes() {
         return Route::None(Fault::InvalidPrefix(prefix));
     }
+    route_by_version(told, behind)
+}
+
+/// The same where the prefix is `CVSS`, and a dot stands in what is told.
+#[inline(always)]
+fn route_by_version<'a>(told: &'a [u8], behind: Pieces<'a>) -> Route<'a>
+    requires { has dot told.now ≡ true }
+    ensures route { as_route result ≡ route_of_parts (codes "CVSS") told.now }
+    ensures behind { IsBehindVersion (version_piece told.now ∷ pieces_left behind.entry) result }
+    ensures tellable { IsUtf8 told.now → IsTellableRoute result }
+{
     if told == "3.1".as_bytes() {
         return Route::V31(behind);
     }

@@ -1,4 +1,3 @@
-use Rattle.std.proofs.Common.{rules}
 use Rattle.cvss_base.specs.Refusal.{IsFirstRefusalBehind}
 use Rattle.cvss_base.specs.private.Walk.{reason_of}
 use Rattle.cvss_v3.specs.Vector.{v3}
