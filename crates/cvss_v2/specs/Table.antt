@@ -115,6 +115,6 @@ printed = AV ∷ AC ∷ Au ∷ C ∷ I ∷ A ∷ E ∷ RL ∷ RC ∷ CDP ∷ TD 
 abbrev pub mandatory : List MetricType
 mandatory = AV ∷ AC ∷ Au ∷ C ∷ I ∷ A ∷ []
 
--- the order in which the metrics of a vector are listed
+-- the order in which the metrics of a vector are listed, which is the Rust crate's
 abbrev pub listed : List MetricType
 listed = AC ∷ Au ∷ AV ∷ C ∷ I ∷ A ∷ CR ∷ IR ∷ AR ∷ CDP ∷ TD ∷ E ∷ RC ∷ RL ∷ []

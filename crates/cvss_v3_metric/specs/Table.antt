@@ -171,6 +171,6 @@ blamed kind = kind
 abbrev pub printed : List MetricType
 printed = AV ∷ AC ∷ PR ∷ UI ∷ S ∷ C ∷ I ∷ A ∷ E ∷ RL ∷ RC ∷ CR ∷ IR ∷ AR ∷ MAV ∷ MAC ∷ MPR ∷ MUI ∷ MS ∷ MC ∷ MI ∷ MA ∷ []
 
--- the order in which the metrics of a vector are listed
+-- the order in which the metrics of a vector are listed, which is the Rust crate's
 abbrev pub listed : List MetricType
 listed = AV ∷ AC ∷ PR ∷ UI ∷ S ∷ C ∷ I ∷ A ∷ E ∷ RL ∷ RC ∷ MAV ∷ MAC ∷ MPR ∷ MUI ∷ MS ∷ MC ∷ MI ∷ CR ∷ IR ∷ AR ∷ MA ∷ []
