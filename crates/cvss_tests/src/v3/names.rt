@@ -2,8 +2,6 @@
 
 use crate::values::are_printed;
 use cvss::v3::MetricType;
-use std::alloc::Global;
-use std::process::Abort;
 use std::test::Fail;
 
 /// The metrics' names and descriptions, in printing order.
@@ -32,20 +30,12 @@ const NAMES: [(MetricType, &str, &str); 22] = [
     (MetricType::MA, "MA", "Modified Availability"),
 ];
 
-/// Names one metric by the calls that its type has.
-fn is_named(rt: &impl Abort, alloc: Global, kind: MetricType, name: &str, description: &str) {
-    assert!(rt;
-        kind.name() == name && kind.description() == description,
-        "{name}"
-    );
-    assert!(rt; MetricType::from_str(alloc, name) == Ok(kind), "{name}");
-}
-
 #[test]
 fn names_metrics(rt: HostRuntime) -> Result<(), Fail> {
     let mut named = Vec::new(rt.alloc());
     for (kind, name, description) in NAMES {
-        is_named(&rt, rt.alloc(), kind, name, description);
+        assert_eq!(rt; (kind.name(), kind.description()), (name, description));
+        assert_eq!(rt; MetricType::from_str(rt.alloc(), name), Ok(kind));
         named.push((name, kind))?;
     }
     are_printed(&rt, rt.alloc(), "", &named)
