@@ -3,6 +3,7 @@
 mod changes;
 mod kinds;
 mod long;
+mod sight;
 
 use crate::tests::changes::{ANSWERS, LINES};
 use crate::tests::kinds::KINDS;
