@@ -1,6 +1,7 @@
 //! Tests of what all versions have in common.
 
 mod answers;
+mod bytes;
 mod equality;
 mod examples;
 mod names;
