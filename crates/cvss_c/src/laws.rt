@@ -10,8 +10,10 @@ ghost use Rattle.cvss.specs.VectorV3.{v3};
 ghost use Rattle.cvss.specs.VectorV4.{v4};
 ghost use Rattle.cvss.specs.WeightsV2 as weights_v2;
 ghost use Rattle.cvss.specs.WeightsV3 as weights_v3;
+ghost use Rattle.cvss_base.specs.laws.Equality.{ClonesByValue};
 ghost use Rattle.cvss_c.specs.laws.DefinedParts.{HasDefinedOf, IsPrintedAsLess};
 
+use crate::{CvssMetric, CvssScores};
 use cvss::{v2, v3, v4};
 use cvss_base::walk::Components;
 
@@ -48,6 +50,12 @@ pub fn undefined_metrics_change_no_score()
     v3::laws::not_defined_weighs_as_absent();
     v4::laws::not_defined_scores_as_absent();
 }
+
+/// A clone of scores or of a metric is that value.
+pub fn clones_are_equal()
+    ensures scores { ClonesByValue ⟦<CvssScores as Clone>⟧.is_clone }
+    ensures metric { ClonesByValue ⟦<CvssMetric as Clone>⟧.is_clone }
+{}
 
 /// Values of one metric that are spelled alike are one.
 fn spellings_differ<V: Components>()
