@@ -96,9 +96,9 @@ const TEXTS: [(&str, &str); 29] = [
 #[test]
 fn tells_every_reason_why_a_text_is_no_vector(rt: HostRuntime) -> Result<(), Fail> {
     let mut rows = Vec::new(rt.alloc());
-    for (text, told) in TEXTS {
+    for (text, told) in &TEXTS {
         if let Err(error) = Cvss::from_str(rt.alloc(), text) {
-            rows.push((told, error))?;
+            rows.push((*told, error))?;
         }
     }
     assert_eq!(rt; rows.len(), TEXTS.len());

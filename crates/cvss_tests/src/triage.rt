@@ -169,12 +169,12 @@ const REFUSED: [(&[&str], &[&str], &str); 14] = [
 fn tells_the_first_refusal(rt: HostRuntime) -> Result<(), Fail> {
     let mut refusals = Vec::new(rt.alloc());
     let mut objections = Vec::new(rt.alloc());
-    for (texts, overrides, told) in REFUSED {
+    for (texts, overrides, told) in &REFUSED {
         if let Err(error) = apply(rt.alloc(), texts, overrides) {
-            refusals.push((told, error))?;
+            refusals.push((*told, error))?;
         }
         if let Err(error) = Vector::from_overrides(rt.alloc(), overrides) {
-            objections.push((told, error))?;
+            objections.push((*told, error))?;
         }
     }
     refusals.push(("out of memory", TriageError::OutOfMemory))?;

@@ -1,6 +1,6 @@
 //! What is asked of the values of every public type: that they are told apart, copied and printed.
 
-use cvss::Error;
+use cvss::{Cvss, Error, Severity};
 use std::alloc::Global;
 use std::fmt;
 use std::process::Abort;
@@ -44,6 +44,21 @@ where
         let expected = format!(in alloc; "{beginning}{text}")?;
         assert_eq!(rt; value.to_string(alloc)?.as_str(), expected.as_str());
     }
+    Ok(())
+}
+
+/// Compares the score, its rating and the canonical text of a vector that was read.
+pub(crate) fn is_scored(
+    rt: &impl Abort,
+    alloc: Global,
+    cvss: &Cvss,
+    canonical: &str,
+    (score, severity): (i128, Severity),
+) -> Result<(), Fail> {
+    assert!(rt; cvss.has_score(), "{canonical}");
+    assert_eq!(rt; cvss.score(), score, "{canonical}");
+    assert!(rt; cvss.severity() == severity, "{canonical}");
+    assert_eq!(rt; cvss.to_string(alloc)?.as_str(), canonical);
     Ok(())
 }
 

@@ -1,5 +1,6 @@
 //! Tests of what is answered of a vector of any version.
 
+use crate::values::is_scored;
 use cvss::{Cvss, MetricType, ONE, Severity, v2, v3, v4};
 use std::alloc::Global;
 use std::process::Abort;
@@ -33,10 +34,7 @@ fn answers_by_the_version_that_a_text_tells(rt: HostRuntime) -> Result<(), Fail>
     ];
     for (text, canonical, score, severity) in rows {
         let cvss = Cvss::from_str(rt.alloc(), text)?;
-        assert!(rt; cvss.has_score(), "{text}");
-        assert_eq!(rt; cvss.score(), score, "{text}");
-        assert!(rt; cvss.severity() == severity, "{text}");
-        assert_eq!(rt; cvss.to_string(rt.alloc())?.as_str(), canonical);
+        is_scored(&rt, rt.alloc(), &cvss, canonical, (score, severity))?;
         assert!(rt;
             Cvss::read_bytes(canonical.as_bytes()) == Some(cvss),
             "{text}"

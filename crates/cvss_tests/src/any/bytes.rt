@@ -1,7 +1,7 @@
 //! Tests of bytes: what they denote, why they are refused, and bytes that are no text.
 
-use crate::values::are_printed;
-use cvss::{BytesError, Cvss, Error, ONE, v2, v3, v4};
+use crate::values::{are_printed, is_scored};
+use cvss::{BytesError, Cvss, Error, ONE, Severity, v2, v3, v4};
 use std::alloc::Global;
 use std::process::Abort;
 use std::test::Fail;
@@ -15,30 +15,32 @@ fn bytes_denote_vectors_of_each_version(rt: HostRuntime) -> Result<(), Fail> {
         (
             "A:C/I:N/C:N/Au:N/AC:L/AV:N",
             "AV:N/AC:L/Au:N/C:N/I:N/A:C",
-            78 * TENTH,
+            (78 * TENTH, Severity::High),
         ),
         (
             "CVSS:3.0/a:h/i:h/c:h/s:c/ui:r/pr:n/ac:l/av:n",
             "CVSS:3.0/AV:N/AC:L/PR:N/UI:R/S:C/C:H/I:H/A:H",
-            96 * TENTH,
+            (96 * TENTH, Severity::Critical),
         ),
         (
             "CVSS:3.1/A:H/I:H/C:H/S:U/UI:N/PR:N/AC:L/AV:N",
             "CVSS:3.1/AV:N/AC:L/PR:N/UI:N/S:U/C:H/I:H/A:H",
-            98 * TENTH,
+            (98 * TENTH, Severity::Critical),
         ),
-        ("CVSS:3.1/s:c/AV:n", "CVSS:3.1/AV:N/S:C", 0),
+        (
+            "CVSS:3.1/s:c/AV:n",
+            "CVSS:3.1/AV:N/S:C",
+            (0, Severity::None),
+        ),
         (
             "CVSS:4.0/E:p/SA:N/SI:N/SC:N/VA:N/VI:h/VC:L/UI:N/PR:N/AT:N/AC:L/AV:N",
             "CVSS:4.0/AV:N/AC:L/AT:N/PR:N/UI:N/VC:L/VI:H/VA:N/SC:N/SI:N/SA:N/E:P",
-            78 * TENTH,
+            (78 * TENTH, Severity::High),
         ),
     ];
-    for (text, canonical, score) in rows {
+    for (text, canonical, rated) in rows {
         let cvss = Cvss::from_bytes(rt.alloc(), text.as_bytes())?;
-        assert!(rt; cvss.has_score(), "{text}");
-        assert_eq!(rt; cvss.score(), score, "{text}");
-        assert_eq!(rt; cvss.to_string(rt.alloc())?.as_str(), canonical);
+        is_scored(&rt, rt.alloc(), &cvss, canonical, rated)?;
         assert!(rt;
             Cvss::from_bytes(rt.alloc(), canonical.as_bytes()) == Ok(cvss),
             "{text}"

@@ -1,7 +1,7 @@
 //! Vectors with optional metrics, drawn at random, with the scores that an implementation on
 //! fractions gives (`bench/reference.py`).
 
-use cvss::ONE;
+use super::scores::tenths_of;
 use cvss::v2::Vector;
 use std::alloc::Global;
 use std::process::Abort;
@@ -189,23 +189,26 @@ const ROWS: [(&str, i128, i128, i128); 36] = [
 
 #[test]
 fn scores_optional_metrics(rt: HostRuntime) -> Result<(), Fail> {
-    for row in ROWS {
-        has_scores(&rt, rt.alloc(), row)?;
+    for row in &ROWS {
+        has_scores(&rt, rt.alloc(), *row)?;
     }
     Ok(())
 }
 
+/// The base, temporal and environmental score in tenths, where they are whole tenths.
+fn scores_of(vector: &Vector) -> [Option<i128>; 3] {
+    [
+        tenths_of(vector.score()),
+        tenths_of(vector.temporal_score()),
+        tenths_of(vector.environmental_score()),
+    ]
+}
+
 fn has_scores(rt: &impl Abort, alloc: Global, row: (&str, i128, i128, i128)) -> Result<(), Fail> {
     let (text, base, temporal, environmental) = row;
-    let tenth = ONE / 10;
     let vector = Vector::from_str(alloc, text)?;
     assert_eq!(rt; vector.to_string(alloc)?.as_str(), text);
-    assert_eq!(rt; vector.score().value() / tenth, base, "{text}");
-    assert_eq!(rt; vector.temporal_score().value() / tenth, temporal, "{text}");
-    assert_eq!(rt;
-        vector.environmental_score().value() / tenth,
-        environmental,
-        "{text}"
-    );
+    let expected = [Some(base), Some(temporal), Some(environmental)];
+    assert_eq!(rt; scores_of(&vector), expected, "{text}");
     Ok(())
 }

@@ -2,6 +2,8 @@
 
 use crate::values::are_printed;
 use cvss::v4::MetricType;
+use std::alloc::Global;
+use std::process::Abort;
 use std::test::Fail;
 
 /// The metrics' names and descriptions, in the order in which they are declared.
@@ -88,13 +90,19 @@ const NAMES: [(MetricType, &str, &str); 32] = [
     (MetricType::V, "V", "Value Density"),
 ];
 
+/// Compares the two names of a metric, and reads it by the first.
+fn is_named(rt: &impl Abort, alloc: Global, row: &(MetricType, &str, &str)) {
+    let (kind, name, description) = *row;
+    assert_eq!(rt; (kind.name(), kind.description()), (name, description));
+    assert_eq!(rt; MetricType::from_str(alloc, name), Ok(kind));
+}
+
 #[test]
 fn names_metrics(rt: HostRuntime) -> Result<(), Fail> {
     let mut named = Vec::new(rt.alloc());
-    for (kind, name, description) in NAMES {
-        assert_eq!(rt; (kind.name(), kind.description()), (name, description));
-        assert_eq!(rt; MetricType::from_str(rt.alloc(), name), Ok(kind));
-        named.push((name, kind))?;
+    for row in &NAMES {
+        is_named(&rt, rt.alloc(), row);
+        named.push((row.1, row.0))?;
     }
     are_printed(&rt, rt.alloc(), "", &named)
 }
