@@ -1,9 +1,10 @@
 //! Where vectors are found.
 
+use crate::words::names_of;
 use cvss::Cvss;
-use cvss_record::{Form, differences_at, vectors_in};
+use cvss_record::{Form, Place, differences_at, vectors_in};
 use serde_json::Value;
-use std::alloc::Global;
+use std::alloc::{AllocError, Global};
 use std::test::Fail;
 
 /// A document, and the places in it, each with its form and text.
@@ -45,25 +46,29 @@ fn form_text(form: Form) -> &'static str {
     }
 }
 
+fn push_place(told: &mut String, place: &Place) -> Result<(), AllocError> {
+    told.push_str(place.at.as_str())?;
+    told.push('=')?;
+    told.push_str(form_text(place.form))?;
+    told.push(' ')?;
+    told.push_str(place.text)?;
+    told.push(';')
+}
+
 fn places_of(alloc: Global, document: &str) -> Result<String, Fail> {
     let value = Value::from_str(alloc, document)?;
     let mut told = String::new(alloc);
     for place in &vectors_in(alloc, &value)? {
-        told.push_str(place.at.as_str())?;
-        told.push('=')?;
-        told.push_str(form_text(place.form))?;
-        told.push(' ')?;
-        told.push_str(place.text)?;
-        told.push(';')?;
+        push_place(&mut told, place)?;
     }
     Ok(told)
 }
 
 #[test]
 fn vectors_are_found_in_order(rt: HostRuntime) -> Result<(), Fail> {
-    for (document, places) in DOCUMENTS {
+    for (document, places) in &DOCUMENTS {
         let told = places_of(rt.alloc(), document)?;
-        assert!(rt; told.as_str() == places, "{document}");
+        assert!(rt; told.as_str() == *places, "{document}");
     }
     Ok(())
 }
@@ -130,21 +135,22 @@ const ANSWERS: [(&str, &str); 7] = [
 
 fn difference_in(alloc: Global, document: &str) -> Result<String, Fail> {
     let value = Value::from_str(alloc, document)?;
-    let mut names = String::new(alloc);
-    for place in &vectors_in(alloc, &value)? {
-        let cvss = Cvss::from_str(alloc, place.text)?;
-        for difference in &differences_at(alloc, &cvss, place)? {
-            names.push_str(difference.member.as_str())?;
-        }
+    match vectors_in(alloc, &value)?.first() {
+        Some(place) => difference_at(alloc, place),
+        None => Err("no place")?,
     }
-    Ok(names)
+}
+
+fn difference_at(alloc: Global, place: &Place) -> Result<String, Fail> {
+    let cvss = Cvss::from_str(alloc, place.text)?;
+    Ok(names_of(alloc, &differences_at(alloc, &cvss, place)?)?)
 }
 
 #[test]
 fn places_differ_by_their_forms(rt: HostRuntime) -> Result<(), Fail> {
-    for (document, name) in ANSWERS {
+    for (document, name) in &ANSWERS {
         let found = difference_in(rt.alloc(), document)?;
-        assert!(rt; found.as_str() == name, "{document}");
+        assert!(rt; found.as_str() == *name, "{document}");
     }
     Ok(())
 }

@@ -31,10 +31,10 @@ const RECORDS: [(&str, &str); 5] = [
 #[test]
 fn records_are_written(rt: HostRuntime) -> Result<(), Fail> {
     let alloc = rt.alloc();
-    for (text, record) in RECORDS {
+    for (text, record) in &RECORDS {
         let cvss = Cvss::from_str(alloc, text)?;
         let written = record_of(alloc, &cvss)?.to_string(alloc)?;
-        assert_eq!(rt; written.as_str(), record);
+        assert_eq!(rt; written.as_str(), *record);
     }
     Ok(())
 }

@@ -1,7 +1,7 @@
 //! One value of one metric at a time, in an otherwise fixed vector.
 
 use cvss::Cvss;
-use cvss_record::{differences, record_of};
+use cvss_record::{Difference, differences, record_of};
 use serde_json::{Map, Value, put};
 use std::alloc::{AllocError, Global};
 use std::process::Abort;
@@ -58,22 +58,18 @@ pub fn words_are_told(
 ) -> Result<(), Fail> {
     for row in rows {
         let text = text_with(alloc, front, base, row)?;
-        let mut members = members_of(alloc, text.as_str())?;
-        is_told(rt, &members, row);
-        assert!(rt;
-            differing(alloc, text.as_str(), &members)?.is_empty(),
-            "{text}"
-        );
-        put(
-            &mut members,
-            alloc,
-            row.1,
-            Value::try_from_str(alloc, "OTHER")?,
-        )?;
-        let found = differing(alloc, text.as_str(), &members)?;
-        assert!(rt; found.as_str() == row.1, "{text}");
+        word_is_told(rt, alloc, text.as_str(), row)?;
     }
     Ok(())
+}
+
+fn word_is_told(rt: &impl Abort, alloc: Global, text: &str, row: &Row) -> Result<(), Fail> {
+    let mut members = members_of(alloc, text)?;
+    is_told(rt, &members, row);
+    differs_by(rt, alloc, text, &members, "")?;
+    let other = Value::try_from_str(alloc, "OTHER")?;
+    put(&mut members, alloc, row.1, other)?;
+    differs_by(rt, alloc, text, &members, row.1)
 }
 
 /// A record has so many members, and where one of them is false it is the one difference; of the
@@ -87,15 +83,35 @@ pub fn false_members_are_told(
     let members = members_of(alloc, text)?;
     assert!(rt; members.len() == count, "{text}");
     for (name, _) in members.iter() {
-        let mut spoilt = members_of(alloc, text)?;
-        put(&mut spoilt, alloc, name.as_str(), Value::Bool(true))?;
-        let found = differing(alloc, text, &spoilt)?;
-        let told = match name.as_str() {
-            "vectorString" => "",
-            other => other,
-        };
-        assert!(rt; found.as_str() == told, "{told}");
+        false_member_is_told(rt, alloc, text, name.as_str())?;
     }
+    Ok(())
+}
+
+fn false_member_is_told(
+    rt: &impl Abort,
+    alloc: Global,
+    text: &str,
+    name: &str,
+) -> Result<(), Fail> {
+    let mut spoilt = members_of(alloc, text)?;
+    put(&mut spoilt, alloc, name, Value::Bool(true))?;
+    let told = match name {
+        "vectorString" => "",
+        other => other,
+    };
+    differs_by(rt, alloc, text, &spoilt, told)
+}
+
+/// These are the names of the members that differ.
+fn differs_by(
+    rt: &impl Abort,
+    alloc: Global,
+    text: &str,
+    members: &Map<String, Value>,
+    names: &str,
+) -> Result<(), Fail> {
+    assert_eq!(rt; differing(alloc, text, members)?.as_str(), names);
     Ok(())
 }
 
@@ -104,11 +120,18 @@ fn is_told(rt: &impl Abort, members: &Map<String, Value>, row: &Row) {
     assert!(rt; told == Some(row.2), "{}", row.0);
 }
 
-/// The names of the members that differ, one after the other.
+/// The names of the members that differ from a text's record, with spaces between them.
 pub fn differing(alloc: Global, text: &str, members: &Map<String, Value>) -> Result<String, Fail> {
     let cvss = Cvss::from_str(alloc, text)?;
+    Ok(names_of(alloc, &differences(alloc, &cvss, members)?)?)
+}
+
+pub fn names_of(alloc: Global, found: &[Difference]) -> Result<String, AllocError> {
     let mut names = String::new(alloc);
-    for difference in &differences(alloc, &cvss, members)? {
+    for difference in found {
+        if !names.is_empty() {
+            names.push(' ')?;
+        }
         names.push_str(difference.member.as_str())?;
     }
     Ok(names)

@@ -1,6 +1,6 @@
 //! Tests of JSON values: what they stand for, and what is written.
 
-use crate::values::are_printed;
+use crate::values::{are_printed, is_told};
 use cvss::json::{JsonError, JsonText};
 use cvss::{Cvss, Error, Severity, v2, v3, v4};
 use serde_json::{Map, Value};
@@ -100,10 +100,7 @@ where
     let value = Value::try_from_str(alloc, text)?;
     let refused = T::from_value(alloc, &value).err();
     assert!(rt; matches!(&refused, Some(JsonError::Invalid(_))), "{text}");
-    if let Some(error) = &refused {
-        assert_eq!(rt; error.to_string(alloc)?.as_str(), reason);
-    }
-    Ok(())
+    is_told(rt, alloc, &refused, reason)
 }
 
 #[test]

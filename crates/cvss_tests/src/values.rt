@@ -1,6 +1,6 @@
 //! What is asked of the values of every public type: that they are told apart, copied and printed.
 
-use cvss::{Cvss, Error, Severity};
+use cvss::{Cvss, Severity};
 use std::alloc::Global;
 use std::fmt;
 use std::process::Abort;
@@ -42,8 +42,33 @@ where
     are_copied(rt, rows)?;
     for (text, value) in rows {
         let expected = format!(in alloc; "{beginning}{text}")?;
-        assert_eq!(rt; value.to_string(alloc)?.as_str(), expected.as_str());
+        prints(rt, alloc, value, expected.as_str())?;
     }
+    Ok(())
+}
+
+/// Prints each kind, which gives its name, and copies it.
+pub(crate) fn are_printed_by_name<K>(
+    rt: &impl Abort,
+    alloc: Global,
+    rows: &[(K, &str, &str)],
+) -> Tried
+where
+    K: fmt::Display + Copy + PartialEq,
+{
+    let mut named = Vec::new(alloc);
+    for (kind, name, _) in rows {
+        named.push((*name, *kind))?;
+    }
+    are_printed(rt, alloc, "", &named)
+}
+
+/// Compares what a value prints.
+pub(crate) fn prints<T>(rt: &impl Abort, alloc: Global, value: &T, text: &str) -> Tried
+where
+    T: fmt::Display,
+{
+    assert_eq!(rt; value.to_string(alloc)?.as_str(), text);
     Ok(())
 }
 
@@ -58,22 +83,35 @@ pub(crate) fn is_scored(
     assert!(rt; cvss.has_score(), "{canonical}");
     assert_eq!(rt; cvss.score(), score, "{canonical}");
     assert!(rt; cvss.severity() == severity, "{canonical}");
-    assert_eq!(rt; cvss.to_string(alloc)?.as_str(), canonical);
-    Ok(())
+    prints(rt, alloc, cvss, canonical)
 }
 
 /// Compares what a refusal tells.
-pub(crate) fn is_told(
-    rt: &impl Abort,
-    alloc: Global,
-    refused: &Option<Error>,
-    told: &str,
-) -> Result<(), Fail> {
+pub(crate) fn is_told<T>(rt: &impl Abort, alloc: Global, refused: &Option<T>, told: &str) -> Tried
+where
+    T: fmt::Display,
+{
     match refused {
         None => assert!(rt; false, "{told}"),
-        Some(error) => assert_eq!(rt; error.to_string(alloc)?.as_str(), told),
+        Some(error) => prints(rt, alloc, error, told)?,
     }
     Ok(())
+}
+
+/// Counts the values of a metric, and prints each behind its name.
+pub(crate) fn are_named<T>(
+    rt: &impl Abort,
+    alloc: Global,
+    name: &str,
+    count: usize,
+    rows: &[(&str, T)],
+) -> Tried
+where
+    T: fmt::Display + Clone + PartialEq,
+{
+    assert_eq!(rt; rows.len(), count, "{name}");
+    let beginning = format!(in alloc; "{name}:")?;
+    are_printed(rt, alloc, beginning.as_str(), rows)
 }
 
 /// What a test's helper ends with.
@@ -84,15 +122,14 @@ pub(crate) type Tried = Result<(), Fail>;
 macro_rules! are_values {
     ($rt:expr, $alloc:expr, $metric:ty, $spellings:expr, $name:expr, $count:expr) => {{
         let mut rows = Vec::new($alloc);
-        for spelling in $spellings {
+        for spelling in &$spellings {
             if let Some(metric) = <$metric>::read(spelling) {
-                assert_eq!($rt; metric.as_str(), spelling, "{}", $name);
-                rows.push((spelling, metric))?;
+                assert_eq!($rt; metric.as_str(), *spelling);
+                rows.push((*spelling, metric))?;
             }
         }
-        assert!($rt; <$metric>::name() == $name && rows.len() == $count, "{}", $name);
-        let beginning = format!(in $alloc; "{}:", $name)?;
-        are_printed($rt, $alloc, beginning.as_str(), &rows)
+        assert_eq!($rt; <$metric>::name(), $name);
+        are_named($rt, $alloc, $name, $count, &rows)
     }};
 }
 

@@ -1,9 +1,12 @@
 //! Tests that run the examples.
 
+use crate::values::prints;
 use cvss::{Cvss, Severity};
 use cvss_examples::advisory::advisory;
 use cvss_examples::audit::{Audit, count_findings};
 use cvss_examples::json::{converted_and_back, text_of, value_of, written_and_read};
+use std::alloc::Global;
+use std::process::Abort;
 use std::test::Fail;
 
 #[test]
@@ -66,9 +69,18 @@ fn a_json_value_gives_the_vector_back(rt: HostRuntime) -> Result<(), Fail> {
     ];
     for text in texts {
         let cvss = Cvss::from_str(rt.alloc(), text)?;
-        assert!(rt; written_and_read(rt.alloc(), &cvss) == Ok(cvss), "{text}");
+        let read = written_and_read(rt.alloc(), &cvss)?;
+        assert!(rt; read == cvss, "{text}");
     }
     Ok(())
+}
+
+/// Writes a text's vector as a JSON value and reads it back.
+fn passes(rt: &impl Abort, alloc: Global, text: &str, canonical: &str) -> Result<(), Fail> {
+    let value = value_of(alloc, text)?;
+    assert!(rt; value.as_str() == Some(canonical), "{text}");
+    prints(rt, alloc, &text_of(alloc, &value)?, canonical)?;
+    prints(rt, alloc, &converted_and_back(alloc, text)?, canonical)
 }
 
 #[test]
@@ -82,11 +94,7 @@ fn texts_pass_through_json_values(rt: HostRuntime) -> Result<(), Fail> {
         ),
     ];
     for (text, canonical) in rows {
-        let value = value_of(rt.alloc(), text)?;
-        assert!(rt; value.as_str() == Some(canonical), "{text}");
-        assert_eq!(rt; text_of(rt.alloc(), &value)?.as_str(), canonical);
-        let back = converted_and_back(rt.alloc(), text)?;
-        assert_eq!(rt; back.as_str(), canonical);
+        passes(&rt, rt.alloc(), text, canonical)?;
     }
     Ok(())
 }

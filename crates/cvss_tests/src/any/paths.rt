@@ -7,9 +7,8 @@ use std::test::Fail;
 
 #[test]
 fn items_of_the_root(rt: HostRuntime) -> Result<(), Fail> {
-    let component = String::from_str(rt.alloc(), PREFIX)?;
     let refused: Result<Cvss, Error> = Cvss::from_str(rt.alloc(), PREFIX);
-    assert!(rt; refused == Err(Error::InvalidComponent { component }));
+    assert!(rt; matches!(&refused, Err(Error::InvalidComponent { .. })));
     let value: Result<Value, JsonError> = Severity::Low.to_value(rt.alloc());
     assert!(rt; value?.as_str() == Some("low"));
     assert_eq!(rt; LIMIT / ONE, 1_000_000);

@@ -1,5 +1,6 @@
 //! Tests of scores as they are written with one decimal.
 
+use crate::values::prints;
 use cvss::{Cvss, ONE, OneDecimal, tenths, v2, v3};
 use std::test::Fail;
 
@@ -21,10 +22,9 @@ fn prints_scores_to_the_nearest_tenth(rt: HostRuntime) -> Result<(), Fail> {
         (i128::MIN, "-170141183460469.2"),
     ];
     for (count, printed) in rows {
-        let alloc = rt.alloc();
-        assert_eq!(rt; v2::Score::new(count).to_string(alloc)?.as_str(), printed);
-        assert_eq!(rt; v3::Score::new(count).to_string(alloc)?.as_str(), printed);
-        assert_eq!(rt; OneDecimal { count }.to_string(alloc)?.as_str(), printed);
+        prints(&rt, rt.alloc(), &v2::Score::new(count), printed)?;
+        prints(&rt, rt.alloc(), &v3::Score::new(count), printed)?;
+        prints(&rt, rt.alloc(), &OneDecimal { count }, printed)?;
     }
     Ok(())
 }

@@ -1,7 +1,11 @@
 //! Tests of the scores, with the guide's examples and values of the Rust crate.
 
+use super::vectors::has_scores;
+use crate::values::Tried;
 use cvss::v2::{Score, Vector};
 use cvss::{LIMIT, ONE, Severity};
+use std::alloc::Global;
+use std::process::Abort;
 use std::test::Fail;
 
 const TENTH: i128 = ONE / 10;
@@ -15,91 +19,81 @@ pub(crate) fn tenths_of(score: Score) -> Option<i128> {
     (value % TENTH == 0).then_some(value / TENTH)
 }
 
+/// Vectors with their base, temporal and environmental scores in tenths.
+const VECTORS: [(&str, i128, i128, i128); 8] = [
+    (
+        "AV:N/AC:L/Au:N/C:N/I:N/A:C/E:F/RL:OF/RC:C/CDP:H/TD:H/CR:M/IR:M/AR:H",
+        78,
+        64,
+        92,
+    ),
+    (
+        "AV:N/AC:L/Au:N/C:C/I:C/A:C/E:F/RL:OF/RC:C/CDP:H/TD:H/CR:M/IR:M/AR:L",
+        100,
+        83,
+        90,
+    ),
+    (
+        "AV:L/AC:H/Au:N/C:C/I:C/A:C/E:POC/RL:OF/RC:C/CDP:H/TD:H/CR:M/IR:M/AR:M",
+        62,
+        49,
+        75,
+    ),
+    ("AV:N/AC:L/Au:S/C:C/I:C/A:C/E:F/RL:U/RC:C", 90, 86, 86),
+    (
+        "AV:N/AC:M/Au:N/C:C/I:C/A:P/RL:TF/RC:UC/CDP:MH/TD:M/IR:L/AR:H",
+        90,
+        73,
+        62,
+    ),
+    (
+        "AV:L/AC:H/Au:M/C:N/I:P/A:N/E:F/RL:TF/RC:UR/CDP:MH/TD:ND/CR:H/IR:L/AR:L",
+        8,
+        6,
+        39,
+    ),
+    (
+        "AV:L/AC:H/Au:M/C:N/I:N/A:P/E:H/RL:ND/TD:H/CR:L/IR:H/AR:L",
+        8,
+        8,
+        0,
+    ),
+    ("AV:N/AC:L/Au:N/C:N/I:N/A:N", 0, 0, 0),
+];
+
 #[test]
 fn scores_vectors(rt: HostRuntime) -> Result<(), Fail> {
-    let rows = [
-        (
-            "AV:N/AC:L/Au:N/C:N/I:N/A:C/E:F/RL:OF/RC:C/CDP:H/TD:H/CR:M/IR:M/AR:H",
-            78,
-            64,
-            92,
-        ),
-        (
-            "AV:N/AC:L/Au:N/C:C/I:C/A:C/E:F/RL:OF/RC:C/CDP:H/TD:H/CR:M/IR:M/AR:L",
-            100,
-            83,
-            90,
-        ),
-        (
-            "AV:L/AC:H/Au:N/C:C/I:C/A:C/E:POC/RL:OF/RC:C/CDP:H/TD:H/CR:M/IR:M/AR:M",
-            62,
-            49,
-            75,
-        ),
-        ("AV:N/AC:L/Au:S/C:C/I:C/A:C/E:F/RL:U/RC:C", 90, 86, 86),
-        (
-            "AV:N/AC:M/Au:N/C:C/I:C/A:P/RL:TF/RC:UC/CDP:MH/TD:M/IR:L/AR:H",
-            90,
-            73,
-            62,
-        ),
-        (
-            "AV:L/AC:H/Au:M/C:N/I:P/A:N/E:F/RL:TF/RC:UR/CDP:MH/TD:ND/CR:H/IR:L/AR:L",
-            8,
-            6,
-            39,
-        ),
-        (
-            "AV:L/AC:H/Au:M/C:N/I:N/A:P/E:H/RL:ND/TD:H/CR:L/IR:H/AR:L",
-            8,
-            8,
-            0,
-        ),
-        ("AV:N/AC:L/Au:N/C:N/I:N/A:N", 0, 0, 0),
-    ];
-    for (text, base, temporal, environmental) in rows {
-        let vector = Vector::from_str(rt.alloc(), text)?;
-        assert_eq!(rt; tenths_of(vector.score()), Some(base), "{text}");
-        assert_eq!(rt;
-            tenths_of(vector.temporal_score()),
-            Some(temporal),
-            "{text}"
-        );
-        assert_eq!(rt;
-            tenths_of(vector.environmental_score()),
-            Some(environmental),
-            "{text}"
-        );
+    for row in &VECTORS {
+        has_scores(&rt, rt.alloc(), *row)?;
     }
     Ok(())
 }
 
-#[test]
-fn sub_scores_of_the_guide(rt: HostRuntime) -> Result<(), Fail> {
-    let rows = [
-        ("AV:N/AC:L/Au:N/C:N/I:N/A:C/CR:M/IR:M/AR:H", 69, 100, 100),
-        ("AV:N/AC:L/Au:N/C:C/I:C/A:C/CR:M/IR:M/AR:L", 100, 100, 96),
-        ("AV:L/AC:H/Au:N/C:C/I:C/A:C/CR:M/IR:M/AR:M", 100, 19, 100),
-    ];
-    for (text, impact, exploitability, adjusted_impact) in rows {
-        let vector = Vector::from_str(rt.alloc(), text)?;
-        assert_eq!(rt;
-            tenths_of(rounded(vector.impact())?),
-            Some(impact),
-            "{text}"
-        );
-        assert_eq!(rt;
-            tenths_of(rounded(vector.exploitability())?),
-            Some(exploitability),
-            "{text}"
-        );
-        assert_eq!(rt;
-            tenths_of(rounded(vector.adjusted_impact())?),
-            Some(adjusted_impact),
-            "{text}"
-        );
-    }
+/// The impact, the exploitability and the adjusted impact in tenths, to which they are rounded.
+fn sub_scores_of(vector: &Vector) -> Result<[Option<i128>; 3], &'static str> {
+    Ok([
+        tenths_of(rounded(vector.impact())?),
+        tenths_of(rounded(vector.exploitability())?),
+        tenths_of(rounded(vector.adjusted_impact())?),
+    ])
+}
+
+/// Compares a vector's sub-scores in tenths.
+fn has_sub_scores(rt: &impl Abort, alloc: Global, text: &str, tenths: [i128; 3]) -> Tried {
+    let vector = Vector::from_str(alloc, text)?;
+    assert_eq!(rt; sub_scores_of(&vector)?, tenths.map(Some), "{text}");
     Ok(())
+}
+
+#[test]
+fn sub_scores_of_the_guide(rt: HostRuntime) -> Tried {
+    let alloc = rt.alloc();
+    let text = "AV:N/AC:L/Au:N/C:N/I:N/A:C/CR:M/IR:M/AR:H";
+    has_sub_scores(&rt, alloc, text, [69, 100, 100])?;
+    let text = "AV:N/AC:L/Au:N/C:C/I:C/A:C/CR:M/IR:M/AR:L";
+    has_sub_scores(&rt, alloc, text, [100, 100, 96])?;
+    let text = "AV:L/AC:H/Au:N/C:C/I:C/A:C/CR:M/IR:M/AR:M";
+    has_sub_scores(&rt, alloc, text, [100, 19, 100])
 }
 
 /// The score, rounded to a tenth.

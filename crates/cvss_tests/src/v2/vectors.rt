@@ -2,6 +2,7 @@
 //! fractions gives (`bench/reference.py`).
 
 use super::scores::tenths_of;
+use crate::values::prints;
 use cvss::v2::Vector;
 use std::alloc::Global;
 use std::process::Abort;
@@ -204,10 +205,15 @@ fn scores_of(vector: &Vector) -> [Option<i128>; 3] {
     ]
 }
 
-fn has_scores(rt: &impl Abort, alloc: Global, row: (&str, i128, i128, i128)) -> Result<(), Fail> {
+/// Compares a canonical text's vector as it prints, and its scores in tenths.
+pub(crate) fn has_scores(
+    rt: &impl Abort,
+    alloc: Global,
+    row: (&str, i128, i128, i128),
+) -> Result<(), Fail> {
     let (text, base, temporal, environmental) = row;
     let vector = Vector::from_str(alloc, text)?;
-    assert_eq!(rt; vector.to_string(alloc)?.as_str(), text);
+    prints(rt, alloc, &vector, text)?;
     let expected = [Some(base), Some(temporal), Some(environmental)];
     assert_eq!(rt; scores_of(&vector), expected, "{text}");
     Ok(())

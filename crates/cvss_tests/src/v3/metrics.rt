@@ -1,6 +1,6 @@
 //! Tests of the metrics.
 
-use crate::values::{Tried, are_printed, are_values};
+use crate::values::{Tried, are_named, are_values};
 use cvss::v3::metric::base::{
     AttackComplexity, AttackVector, Availability, Confidentiality, Integrity, PrivilegesRequired,
     Scope, UserInteraction,

@@ -1,8 +1,17 @@
 //! Tests of the metrics' names.
 
-use crate::values::are_printed;
+use crate::values::are_printed_by_name;
 use cvss::v3::MetricType;
+use std::alloc::Global;
+use std::process::Abort;
 use std::test::Fail;
+
+/// Compares the two names of a metric, and reads it by the first.
+fn is_named(rt: &impl Abort, alloc: Global, row: &(MetricType, &str, &str)) {
+    let (kind, name, description) = *row;
+    assert_eq!(rt; (kind.name(), kind.description()), (name, description));
+    assert_eq!(rt; MetricType::from_str(alloc, name), Ok(kind));
+}
 
 /// The metrics' names and descriptions, in printing order.
 const NAMES: [(MetricType, &str, &str); 22] = [
@@ -32,11 +41,8 @@ const NAMES: [(MetricType, &str, &str); 22] = [
 
 #[test]
 fn names_metrics(rt: HostRuntime) -> Result<(), Fail> {
-    let mut named = Vec::new(rt.alloc());
-    for (kind, name, description) in NAMES {
-        assert_eq!(rt; (kind.name(), kind.description()), (name, description));
-        assert_eq!(rt; MetricType::from_str(rt.alloc(), name), Ok(kind));
-        named.push((name, kind))?;
+    for row in &NAMES {
+        is_named(&rt, rt.alloc(), row);
     }
-    are_printed(&rt, rt.alloc(), "", &named)
+    are_printed_by_name(&rt, rt.alloc(), &NAMES)
 }

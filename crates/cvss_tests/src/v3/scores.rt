@@ -1,123 +1,128 @@
 //! Tests of the scores, with the specifications' examples and values of the Rust crate.
 
 use crate::checksum::tenths_of;
+use crate::values::Tried;
 use cvss::v3::{Score, Vector};
 use cvss::{LIMIT, ONE, Severity};
+use std::alloc::Global;
+use std::process::Abort;
 use std::test::Fail;
 
-#[test]
-fn scores_vectors(rt: HostRuntime) -> Result<(), Fail> {
-    let rows = [
-        (
-            "CVSS:3.1/AV:N/AC:L/PR:N/UI:N/S:U/C:H/I:H/A:H",
-            98,
-            98,
-            98,
-            Severity::Critical,
-        ),
-        (
-            "CVSS:3.1/AV:A/AC:H/PR:L/UI:N/S:U/C:L/I:L/A:N/E:P/RL:T/RC:R/CR:X/IR:X/AR:H/MAV:X/MAC:H/MPR:X/MUI:R/MS:C/MC:L/MI:X/MA:N",
-            37,
-            33,
-            35,
-            Severity::Low,
-        ),
-        (
-            "CVSS:3.0/AV:N/AC:L/PR:N/UI:R/S:C/C:H/I:H/A:H",
-            96,
-            96,
-            96,
-            Severity::Critical,
-        ),
-        (
-            "CVSS:3.1/AV:N/AC:L/PR:N/UI:R/S:C/C:H/I:H/A:H",
-            96,
-            96,
-            97,
-            Severity::Critical,
-        ),
+/// Vectors with their base, temporal and environmental scores in tenths, and their ratings.
+const VECTORS: [(&str, [u64; 3], Severity); 4] = [
+    (
+        "CVSS:3.1/AV:N/AC:L/PR:N/UI:N/S:U/C:H/I:H/A:H",
+        [98, 98, 98],
+        Severity::Critical,
+    ),
+    (
+        "CVSS:3.1/AV:A/AC:H/PR:L/UI:N/S:U/C:L/I:L/A:N/E:P/RL:T/RC:R/CR:X/IR:X/AR:H/MAV:X/MAC:H/MPR:X/MUI:R/MS:C/MC:L/MI:X/MA:N",
+        [37, 33, 35],
+        Severity::Low,
+    ),
+    (
+        "CVSS:3.0/AV:N/AC:L/PR:N/UI:R/S:C/C:H/I:H/A:H",
+        [96, 96, 96],
+        Severity::Critical,
+    ),
+    (
+        "CVSS:3.1/AV:N/AC:L/PR:N/UI:R/S:C/C:H/I:H/A:H",
+        [96, 96, 97],
+        Severity::Critical,
+    ),
+];
+
+/// The base, the temporal and the environmental score in tenths, where they are whole tenths.
+fn scores_of(vector: &Vector) -> [Option<u64>; 3] {
+    let scores = [
+        vector.base_score(),
+        vector.temporal_score(),
+        vector.environmental_score(),
     ];
-    for (text, base, temporal, environmental, severity) in rows {
-        let vector = Vector::from_str(rt.alloc(), text)?;
-        let scores = [
-            vector.base_score(),
-            vector.temporal_score(),
-            vector.environmental_score(),
-        ];
-        let tenths = scores.map(|score| tenths_of(score.value()));
-        let expected = [Some(base), Some(temporal), Some(environmental)];
-        assert_eq!(rt; tenths, expected, "{text}");
-        assert!(rt;
-            vector.score() == vector.base_score() && vector.severity() == severity,
-            "{text}"
-        );
-        assert!(rt; vector.base_is_certain() && vector.environmental_is_certain());
+    scores.map(|score| tenths_of(score.value()))
+}
+
+/// Compares a vector's scores, its rating, and that its scores are certain.
+fn has_scores(rt: &impl Abort, alloc: Global, row: &(&str, [u64; 3], Severity)) -> Tried {
+    let (text, tenths, severity) = *row;
+    let vector = Vector::from_str(alloc, text)?;
+    assert_eq!(rt; scores_of(&vector), tenths.map(Some), "{text}");
+    assert!(rt; vector.score() == vector.base_score(), "{text}");
+    assert!(rt; vector.severity() == severity, "{text}");
+    assert!(rt; vector.base_is_certain() && vector.environmental_is_certain());
+    Ok(())
+}
+
+#[test]
+fn scores_vectors(rt: HostRuntime) -> Tried {
+    for row in &VECTORS {
+        has_scores(&rt, rt.alloc(), row)?;
     }
     Ok(())
 }
+
+/// Vectors with their base scores in tenths.
+const BASE: [(&str, u64); 27] = [
+    ("CVSS:3.1/AV:N/AC:L/PR:N/UI:R/S:C/C:L/I:L/A:N", 61),
+    ("CVSS:3.0/AV:N/AC:L/PR:N/UI:R/S:C/C:L/I:L/A:N", 61),
+    ("CVSS:3.1/AV:N/AC:L/PR:L/UI:N/S:C/C:L/I:L/A:N", 64),
+    ("CVSS:3.1/AV:N/AC:H/PR:N/UI:R/S:U/C:L/I:N/A:N", 31),
+    ("CVSS:3.1/AV:N/AC:L/PR:L/UI:N/S:C/C:H/I:H/A:H", 99),
+    ("CVSS:3.1/AV:L/AC:L/PR:H/UI:N/S:U/C:L/I:L/A:L", 42),
+    ("CVSS:3.1/AV:N/AC:L/PR:L/UI:N/S:U/C:H/I:H/A:H", 88),
+    ("CVSS:3.1/AV:L/AC:L/PR:N/UI:R/S:U/C:H/I:H/A:H", 78),
+    ("CVSS:3.1/AV:N/AC:L/PR:N/UI:N/S:U/C:H/I:N/A:N", 75),
+    ("CVSS:3.1/AV:N/AC:L/PR:N/UI:N/S:U/C:H/I:H/A:H", 98),
+    ("CVSS:3.1/AV:N/AC:H/PR:N/UI:N/S:C/C:N/I:H/A:N", 68),
+    ("CVSS:3.1/AV:P/AC:L/PR:N/UI:N/S:U/C:H/I:H/A:H", 68),
+    ("CVSS:3.1/AV:N/AC:L/PR:N/UI:N/S:C/C:L/I:N/A:N", 58),
+    ("CVSS:3.1/AV:N/AC:L/PR:N/UI:N/S:C/C:N/I:L/A:N", 58),
+    ("CVSS:3.1/AV:A/AC:L/PR:N/UI:N/S:C/C:H/I:N/A:H", 93),
+    ("CVSS:3.1/AV:N/AC:L/PR:L/UI:R/S:C/C:L/I:L/A:N", 54),
+    ("CVSS:3.1/AV:A/AC:L/PR:N/UI:N/S:U/C:H/I:H/A:H", 88),
+    ("CVSS:3.1/AV:P/AC:L/PR:N/UI:N/S:U/C:N/I:H/A:N", 46),
+    ("CVSS:3.1/AV:N/AC:L/PR:N/UI:R/S:U/C:H/I:H/A:H", 88),
+    ("CVSS:3.1/AV:N/AC:H/PR:N/UI:N/S:U/C:H/I:H/A:N", 74),
+    ("CVSS:3.1/AV:N/AC:L/PR:N/UI:R/S:C/C:H/I:H/A:H", 96),
+    ("CVSS:3.1/AV:N/AC:L/PR:N/UI:N/S:C/C:N/I:N/A:N", 0),
+    ("CVSS:3.1/AV:N/AC:L/PR:N/UI:N/S:U/C:N/I:N/A:N", 0),
+    ("CVSS:3.1/AV:P/AC:H/PR:H/UI:R/S:U/C:N/I:N/A:L", 16),
+    ("CVSS:3.1/AV:P/AC:H/PR:H/UI:R/S:C/C:N/I:N/A:L", 18),
+    ("CVSS:3.1/AV:N/S:C", 0),
+    ("CVSS:3.1", 0),
+];
 
 #[test]
 fn base_scores(rt: HostRuntime) -> Result<(), Fail> {
-    let rows = [
-        ("CVSS:3.1/AV:N/AC:L/PR:N/UI:R/S:C/C:L/I:L/A:N", 61),
-        ("CVSS:3.0/AV:N/AC:L/PR:N/UI:R/S:C/C:L/I:L/A:N", 61),
-        ("CVSS:3.1/AV:N/AC:L/PR:L/UI:N/S:C/C:L/I:L/A:N", 64),
-        ("CVSS:3.1/AV:N/AC:H/PR:N/UI:R/S:U/C:L/I:N/A:N", 31),
-        ("CVSS:3.1/AV:N/AC:L/PR:L/UI:N/S:C/C:H/I:H/A:H", 99),
-        ("CVSS:3.1/AV:L/AC:L/PR:H/UI:N/S:U/C:L/I:L/A:L", 42),
-        ("CVSS:3.1/AV:N/AC:L/PR:L/UI:N/S:U/C:H/I:H/A:H", 88),
-        ("CVSS:3.1/AV:L/AC:L/PR:N/UI:R/S:U/C:H/I:H/A:H", 78),
-        ("CVSS:3.1/AV:N/AC:L/PR:N/UI:N/S:U/C:H/I:N/A:N", 75),
-        ("CVSS:3.1/AV:N/AC:L/PR:N/UI:N/S:U/C:H/I:H/A:H", 98),
-        ("CVSS:3.1/AV:N/AC:H/PR:N/UI:N/S:C/C:N/I:H/A:N", 68),
-        ("CVSS:3.1/AV:P/AC:L/PR:N/UI:N/S:U/C:H/I:H/A:H", 68),
-        ("CVSS:3.1/AV:N/AC:L/PR:N/UI:N/S:C/C:L/I:N/A:N", 58),
-        ("CVSS:3.1/AV:N/AC:L/PR:N/UI:N/S:C/C:N/I:L/A:N", 58),
-        ("CVSS:3.1/AV:A/AC:L/PR:N/UI:N/S:C/C:H/I:N/A:H", 93),
-        ("CVSS:3.1/AV:N/AC:L/PR:L/UI:R/S:C/C:L/I:L/A:N", 54),
-        ("CVSS:3.1/AV:A/AC:L/PR:N/UI:N/S:U/C:H/I:H/A:H", 88),
-        ("CVSS:3.1/AV:P/AC:L/PR:N/UI:N/S:U/C:N/I:H/A:N", 46),
-        ("CVSS:3.1/AV:N/AC:L/PR:N/UI:R/S:U/C:H/I:H/A:H", 88),
-        ("CVSS:3.1/AV:N/AC:H/PR:N/UI:N/S:U/C:H/I:H/A:N", 74),
-        ("CVSS:3.1/AV:N/AC:L/PR:N/UI:R/S:C/C:H/I:H/A:H", 96),
-        ("CVSS:3.1/AV:N/AC:L/PR:N/UI:N/S:C/C:N/I:N/A:N", 0),
-        ("CVSS:3.1/AV:N/AC:L/PR:N/UI:N/S:U/C:N/I:N/A:N", 0),
-        ("CVSS:3.1/AV:P/AC:H/PR:H/UI:R/S:U/C:N/I:N/A:L", 16),
-        ("CVSS:3.1/AV:P/AC:H/PR:H/UI:R/S:C/C:N/I:N/A:L", 18),
-        ("CVSS:3.1/AV:N/S:C", 0),
-        ("CVSS:3.1", 0),
-    ];
-    for (text, tenths) in rows {
-        let vector = Vector::from_str(rt.alloc(), text)?;
-        assert_eq!(rt; tenths_of(vector.score().value()), Some(tenths), "{text}");
+    for (text, tenths) in &BASE {
+        let score = Vector::from_str(rt.alloc(), text)?.score();
+        assert_eq!(rt; tenths_of(score.value()), Some(*tenths), "{text}");
     }
     Ok(())
 }
 
+/// Vectors with their environmental scores in tenths.
+const ENVIRONMENTAL: [(&str, u64); 4] = [
+    (
+        "CVSS:3.1/AV:N/AC:L/PR:N/UI:N/S:U/C:H/I:H/A:H/CR:L/IR:L/AR:L",
+        80,
+    ),
+    (
+        "CVSS:3.1/AV:N/AC:L/PR:N/UI:N/S:U/C:H/I:H/A:H/CR:H/IR:H/AR:H",
+        98,
+    ),
+    (
+        "CVSS:3.1/AV:N/AC:L/PR:N/UI:N/S:U/C:H/I:H/A:H/MC:N/MI:N/MA:N",
+        0,
+    ),
+    ("CVSS:3.1/AV:N/AC:L/PR:L/UI:N/S:C/C:H/I:H/A:H/MS:U", 88),
+];
+
 #[test]
 fn environmental_scores(rt: HostRuntime) -> Result<(), Fail> {
-    let rows = [
-        (
-            "CVSS:3.1/AV:N/AC:L/PR:N/UI:N/S:U/C:H/I:H/A:H/CR:L/IR:L/AR:L",
-            80,
-        ),
-        (
-            "CVSS:3.1/AV:N/AC:L/PR:N/UI:N/S:U/C:H/I:H/A:H/CR:H/IR:H/AR:H",
-            98,
-        ),
-        (
-            "CVSS:3.1/AV:N/AC:L/PR:N/UI:N/S:U/C:H/I:H/A:H/MC:N/MI:N/MA:N",
-            0,
-        ),
-        ("CVSS:3.1/AV:N/AC:L/PR:L/UI:N/S:C/C:H/I:H/A:H/MS:U", 88),
-    ];
-    for (text, tenths) in rows {
-        let vector = Vector::from_str(rt.alloc(), text)?;
-        assert_eq!(rt;
-            tenths_of(vector.environmental_score().value()),
-            Some(tenths),
-            "{text}"
-        );
+    for (text, tenths) in &ENVIRONMENTAL {
+        let score = Vector::from_str(rt.alloc(), text)?.environmental_score();
+        assert_eq!(rt; tenths_of(score.value()), Some(*tenths), "{text}");
     }
     Ok(())
 }

@@ -1,7 +1,6 @@
 //! Tests of the metrics.
 
-use crate::values::{Tried, are_printed, are_values};
-use cvss::Error;
+use crate::values::{Tried, are_named, are_values, is_told};
 use cvss::v4::MetricType;
 use cvss::v4::metric::Metric;
 use cvss::v4::metric::base::{
@@ -99,13 +98,11 @@ fn provider_urgency_is_read_as_printed_and_in_capitals(rt: HostRuntime) -> Resul
             "{text}"
         );
     }
-    let value = String::from_str(rt.alloc(), "red")?;
-    let metric_type = MetricType::U;
-    let refused = ProviderUrgency::from_str(rt.alloc(), "red");
-    assert!(rt; refused == Err(Error::InvalidMetricV4 { metric_type, value }));
     assert!(rt; ProviderUrgency::read("red") == None);
     assert!(rt; ProviderUrgency::read_raised("red") == Some(ProviderUrgency::Red));
-    Ok(())
+    let refused = ProviderUrgency::from_str(rt.alloc(), "red").err();
+    let reason = "invalid CVSSv4 U (Provider Urgency) metric: `red`";
+    is_told(&rt, rt.alloc(), &refused, reason)
 }
 
 #[test]

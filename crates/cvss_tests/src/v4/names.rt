@@ -1,10 +1,17 @@
 //! Tests of the metrics' names.
 
-use crate::values::are_printed;
+use crate::values::are_printed_by_name;
 use cvss::v4::MetricType;
 use std::alloc::Global;
 use std::process::Abort;
 use std::test::Fail;
+
+/// Compares the two names of a metric, and reads it by the first.
+fn is_named(rt: &impl Abort, alloc: Global, row: &(MetricType, &str, &str)) {
+    let (kind, name, description) = *row;
+    assert_eq!(rt; (kind.name(), kind.description()), (name, description));
+    assert_eq!(rt; MetricType::from_str(alloc, name), Ok(kind));
+}
 
 /// The metrics' names and descriptions, in the order in which they are declared.
 const NAMES: [(MetricType, &str, &str); 32] = [
@@ -90,19 +97,10 @@ const NAMES: [(MetricType, &str, &str); 32] = [
     (MetricType::V, "V", "Value Density"),
 ];
 
-/// Compares the two names of a metric, and reads it by the first.
-fn is_named(rt: &impl Abort, alloc: Global, row: &(MetricType, &str, &str)) {
-    let (kind, name, description) = *row;
-    assert_eq!(rt; (kind.name(), kind.description()), (name, description));
-    assert_eq!(rt; MetricType::from_str(alloc, name), Ok(kind));
-}
-
 #[test]
 fn names_metrics(rt: HostRuntime) -> Result<(), Fail> {
-    let mut named = Vec::new(rt.alloc());
     for row in &NAMES {
         is_named(&rt, rt.alloc(), row);
-        named.push((row.1, row.0))?;
     }
-    are_printed(&rt, rt.alloc(), "", &named)
+    are_printed_by_name(&rt, rt.alloc(), &NAMES)
 }

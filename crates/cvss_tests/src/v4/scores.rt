@@ -1,5 +1,6 @@
 //! Tests of scores: the values and how they are printed.
 
+use crate::values::prints;
 use cvss::v4::{Nomenclature, Score, Vector};
 use cvss::{ONE, Severity};
 use std::test::Fail;
@@ -71,7 +72,7 @@ fn scores_vectors(rt: HostRuntime) -> Result<(), Fail> {
     ];
     for (text, printed, severity) in rows {
         let score = Vector::from_str(rt.alloc(), text)?.score();
-        assert_eq!(rt; score.to_string(rt.alloc())?.as_str(), printed, "{text}");
+        prints(&rt, rt.alloc(), &score, printed)?;
         assert!(rt; score.severity() == severity, "{text}");
     }
     Ok(())
@@ -105,7 +106,7 @@ fn prints_to_the_nearest_tenth(rt: HostRuntime) -> Result<(), Fail> {
     ];
     for (count, printed) in rows {
         let score = Score::new(count, Nomenclature::CvssB);
-        assert_eq!(rt; score.to_string(rt.alloc())?.as_str(), printed);
+        prints(&rt, rt.alloc(), &score, printed)?;
         assert!(rt; score.value() == count);
     }
     Ok(())
