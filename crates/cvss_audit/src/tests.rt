@@ -1,7 +1,7 @@
 //! Tests of whole runs.
 
 use crate::{Fault, RunFault, Summary, USAGE, exit_status, run_program};
-use std::alloc::Global;
+use std::alloc::{AllocError, Global};
 use std::io;
 use std::io::{ErrorKind, Read};
 use std::process::Abort;
@@ -184,14 +184,31 @@ fn looks_at_the_first_argument(rt: HostRuntime) -> Result<(), Fail> {
         (b"", ANSWER, None),
         (b"documents", ANSWER, None),
     ];
-    for (argument, written, fault) in rows {
-        let mut bytes = Vec::new(rt.alloc());
-        bytes.extend_from_slice(argument)?;
-        let arguments = vec![in rt.alloc(); bytes]?;
-        let mut reader = DOCUMENT.as_bytes();
-        let mut writer = Vec::new(rt.alloc());
-        let result = run_program(rt.alloc(), &arguments, &mut reader, &mut writer);
-        assert!(rt; result.err() == fault && writer.as_slice() == written.as_bytes());
+    for (argument, written, fault) in &rows {
+        is_asked(&rt, rt.alloc(), argument, written, *fault)?;
     }
     Ok(())
+}
+
+/// Runs over a document with one argument, and compares what is written and the fault.
+fn is_asked(
+    rt: &impl Abort,
+    alloc: Global,
+    argument: &[u8],
+    written: &str,
+    fault: Option<Fault>,
+) -> Result<(), Fail> {
+    let arguments = one_argument(alloc, argument)?;
+    let mut reader = DOCUMENT.as_bytes();
+    let mut writer = Vec::new(alloc);
+    let result = run_program(alloc, &arguments, &mut reader, &mut writer);
+    assert!(rt; result.err() == fault);
+    assert!(rt; writer.as_slice() == written.as_bytes());
+    Ok(())
+}
+
+fn one_argument(alloc: Global, argument: &[u8]) -> Result<Vec<Vec<u8>>, AllocError> {
+    let mut bytes = Vec::new(alloc);
+    bytes.extend_from_slice(argument)?;
+    Ok(vec![in alloc; bytes]?)
 }

@@ -170,15 +170,20 @@ fn answers_ended_lines_before_a_failed_read(rt: HostRuntime) -> Result<(), Fail>
         for kind in KINDS {
             for step in [1, 100] {
                 let fault = Some(kind);
-                let mut reader = Steps { bytes, step, fault };
-                let mut writer = Vec::new(rt.alloc());
-                let result = run(rt.alloc(), &mut reader, &mut writer);
-                assert_eq!(rt; result, Err(RunFault::Read), "{written:?}");
-                assert!(rt; writer.as_slice() == written.as_bytes(), "{written:?}");
+                let reader = Steps { bytes, step, fault };
+                is_answered_until(&rt, rt.alloc(), reader, written);
             }
         }
     }
     Ok(())
+}
+
+/// Runs over a reader that fails, and compares what is written.
+fn is_answered_until(rt: &impl Abort, alloc: Global, mut reader: Steps<'_>, written: &str) {
+    let mut writer = Vec::new(alloc);
+    let result = run(alloc, &mut reader, &mut writer);
+    assert_eq!(rt; result, Err(RunFault::Read), "{written:?}");
+    assert!(rt; writer.as_slice() == written.as_bytes(), "{written:?}");
 }
 
 #[test]
@@ -217,21 +222,31 @@ fn tells_how_it_ended(rt: HostRuntime) -> Result<(), Fail> {
     assert_eq!(rt; exit_status(&Ok(refused)), 1);
     assert!(rt; accepted != refused && accepted != fewer && !(accepted == refused));
     assert!(rt; accepted == accepted.clone()? && fewer == fewer.clone()?);
-    let rows = [
-        (RunFault::Read, "cvss_tool: read failed"),
-        (RunFault::Write, "cvss_tool: write failed"),
-        (RunFault::Memory, "cvss_tool: out of memory"),
-    ];
-    for (fault, text) in rows {
-        assert_eq!(rt; exit_status(&Err(fault)), 2);
-        assert_eq!(rt; fault_text(&fault.clone()?), text);
-        for (other, other_text) in rows {
-            let same = text == other_text;
-            assert!(rt;
-                (fault == other) == same && (fault != other) != same,
-                "{text}"
-            );
-        }
+    Ok(())
+}
+
+/// The faults and their texts.
+const FAULTS: [(RunFault, &str); 3] = [
+    (RunFault::Read, "cvss_tool: read failed"),
+    (RunFault::Write, "cvss_tool: write failed"),
+    (RunFault::Memory, "cvss_tool: out of memory"),
+];
+
+#[test]
+fn tells_every_fault(rt: HostRuntime) -> Result<(), Fail> {
+    for (fault, text) in &FAULTS {
+        assert_eq!(rt; exit_status(&Err(*fault)), 2);
+        assert_eq!(rt; fault_text(&fault.clone()?), *text);
+        is_told_apart(&rt, *fault, text);
     }
     Ok(())
+}
+
+/// Compares a fault with each. Two are equal exactly where their texts are.
+fn is_told_apart(rt: &impl Abort, fault: RunFault, text: &str) {
+    for (other, other_text) in &FAULTS {
+        let same = text == *other_text;
+        assert!(rt; (fault == *other) == same, "{text}");
+        assert!(rt; (fault != *other) != same, "{text}");
+    }
 }

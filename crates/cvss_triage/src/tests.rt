@@ -2,7 +2,7 @@
 
 use crate::{Fault, USAGE, exit_status, run, run_program};
 use cvss_ranking::TriageError;
-use std::alloc::Global;
+use std::alloc::{AllocError, Global};
 use std::io;
 use std::io::{ErrorKind, Read, Write};
 use std::process::Abort;
@@ -62,26 +62,21 @@ fn are_written(
     rows: &str,
 ) -> Result<(), Fail> {
     for room in [usize::MAX, rows.len() / 2] {
-        let mut reader = input.as_bytes();
         let taken = Vec::new(alloc);
         let mut writer = Narrow { taken, room };
-        let result = run(alloc, overrides, &mut reader, &mut writer);
+        let result = run(alloc, overrides, &mut input.as_bytes(), &mut writer);
         let held = room.min(rows.len());
-        assert!(rt;
-            writer.taken.as_slice() == &rows.as_bytes()[..held],
-            "{input}"
-        );
-        let (expected, status) = if held == rows.len() {
-            (Ok(()), 0)
-        } else {
-            (Err(Fault::Write), 2)
-        };
-        assert!(rt;
-            result == expected && exit_status(&result) == status,
-            "{input}"
-        );
+        has_written(rt, &result, held == rows.len());
+        assert!(rt; writer.taken.as_slice() == &rows.as_bytes()[..held]);
     }
     Ok(())
+}
+
+/// All rows are written, or the writer failed.
+fn has_written(rt: &impl Abort, outcome: &Result<(), Fault>, all: bool) {
+    let status = if all { 0 } else { 2 };
+    assert_eq!(rt; exit_status(outcome), status);
+    assert!(rt; all || matches!(outcome, Err(Fault::Write)));
 }
 
 /// Runs over an input, and compares what the refusal says.
@@ -97,10 +92,25 @@ fn is_told(
     let result = run(alloc, overrides, &mut reader, &mut writer);
     assert!(rt; writer.is_empty(), "{told}");
     assert_eq!(rt; exit_status(&result), 1);
-    match result {
-        Ok(()) => assert!(rt; false, "{told}"),
-        Err(fault) => assert_eq!(rt; fault.to_string(alloc)?.as_str(), told),
+    is_refused(rt, alloc, &result, told)
+}
+
+/// Compares what a refusal says.
+fn is_refused(
+    rt: &impl Abort,
+    alloc: Global,
+    outcome: &Result<(), Fault>,
+    told: &str,
+) -> Result<(), Fail> {
+    match outcome {
+        Ok(()) => Err("nothing is refused")?,
+        Err(fault) => is_printed(rt, alloc, fault, told),
     }
+}
+
+/// Compares what a fault prints.
+fn is_printed(rt: &impl Abort, alloc: Global, fault: &Fault, told: &str) -> Result<(), Fail> {
+    assert_eq!(rt; fault.to_string(alloc)?.as_str(), told);
     Ok(())
 }
 
@@ -157,46 +167,78 @@ fn tells_the_first_refusal_and_writes_nothing(rt: HostRuntime) -> Result<(), Fai
 
 #[test]
 fn looks_at_the_first_argument(rt: HostRuntime) -> Result<(), Fail> {
-    let rows: [(&[u8], &str, Result<(), Fault>); 5] = [
-        (b"--help", USAGE, Ok(())),
-        (b"-", "", Err(Fault::UnknownOption)),
-        (b"--helper", "", Err(Fault::UnknownOption)),
-        (b"-msi:s", "", Err(Fault::UnknownOption)),
-        (b"msi:s", "", Ok(())),
-    ];
-    for (argument, written, expected) in rows {
-        let mut bytes = Vec::new(rt.alloc());
-        bytes.extend_from_slice(argument)?;
-        let arguments = vec![in rt.alloc(); bytes]?;
-        let mut reader: &[u8] = b"";
-        let mut writer = Vec::new(rt.alloc());
-        let result = run_program(rt.alloc(), &arguments, &mut reader, &mut writer);
-        assert!(rt; result == expected && writer.as_slice() == written.as_bytes());
+    let alloc = rt.alloc();
+    is_asked(&rt, alloc, b"--help", Some(USAGE))?;
+    is_asked(&rt, alloc, b"-", None)?;
+    is_asked(&rt, alloc, b"--helper", None)?;
+    is_asked(&rt, alloc, b"-msi:s", None)?;
+    is_asked(&rt, alloc, b"msi:s", Some(""))
+}
+
+/// Runs over no text with one argument, and compares what is written; none is that the argument is
+/// an unknown option.
+fn is_asked(
+    rt: &impl Abort,
+    alloc: Global,
+    argument: &[u8],
+    written: Option<&str>,
+) -> Result<(), Fail> {
+    let arguments = one_argument(alloc, argument)?;
+    let mut reader: &[u8] = b"";
+    let mut writer = Vec::new(alloc);
+    let result = run_program(alloc, &arguments, &mut reader, &mut writer);
+    match written {
+        Some(_) => assert_eq!(rt; exit_status(&result), 0),
+        None => has_failed(rt, &result, &Fault::UnknownOption),
     }
+    assert!(rt; writer.as_slice() == written.unwrap_or("").as_bytes());
     Ok(())
+}
+
+fn one_argument(alloc: Global, argument: &[u8]) -> Result<Vec<Vec<u8>>, AllocError> {
+    let mut bytes = Vec::new(alloc);
+    bytes.extend_from_slice(argument)?;
+    Ok(vec![in alloc; bytes]?)
+}
+
+/// Compares the fault of a run.
+fn has_failed(rt: &impl Abort, outcome: &Result<(), Fault>, expected: &Fault) {
+    match outcome {
+        Ok(()) => assert!(rt; false, "no fault"),
+        Err(fault) => assert!(rt; fault == expected),
+    }
 }
 
 #[test]
 fn tells_failures_of_the_reader(rt: HostRuntime) -> Result<(), Fail> {
-    let rows = [
-        (ErrorKind::BrokenPipe, Fault::Read),
-        (ErrorKind::WouldBlock, Fault::Read),
-        (ErrorKind::UnexpectedEof, Fault::Read),
-        (ErrorKind::WriteZero, Fault::Read),
-        (ErrorKind::InvalidData, Fault::Read),
-        (ErrorKind::Other, Fault::Read),
-        (ErrorKind::OutOfMemory, Fault::Memory),
-    ];
-    for (kind, fault) in rows {
-        for bytes in [INPUT.as_bytes(), b""] {
-            let mut reader = Failing { bytes, kind };
-            let mut writer = Vec::new(rt.alloc());
-            let result = run(rt.alloc(), &["msi:s"], &mut reader, &mut writer);
-            assert_eq!(rt; exit_status(&result), 2);
-            assert!(rt; result.err().as_ref() == Some(&fault) && writer.is_empty());
-        }
+    for kind in READ_FAULTS {
+        is_failed(&rt, rt.alloc(), INPUT.as_bytes(), kind, &Fault::Read);
+        is_failed(&rt, rt.alloc(), b"", kind, &Fault::Read);
     }
+    let kind = ErrorKind::OutOfMemory;
+    is_failed(&rt, rt.alloc(), INPUT.as_bytes(), kind, &Fault::Memory);
+    is_failed(&rt, rt.alloc(), b"", kind, &Fault::Memory);
     Ok(())
+}
+
+/// Kinds of failures that are told as failures of the reader.
+const READ_FAULTS: [ErrorKind; 6] = [
+    ErrorKind::BrokenPipe,
+    ErrorKind::WouldBlock,
+    ErrorKind::UnexpectedEof,
+    ErrorKind::WriteZero,
+    ErrorKind::InvalidData,
+    ErrorKind::Other,
+];
+
+/// Runs over a reader that fails behind these bytes, and compares the fault.
+fn is_failed(rt: &impl Abort, alloc: Global, bytes: &'static [u8], kind: ErrorKind, fault: &Fault) {
+    let mut reader = Failing { bytes, kind };
+    let mut writer = Vec::new(alloc);
+    let result = run(alloc, &["msi:s"], &mut reader, &mut writer);
+    assert!(rt; writer.is_empty());
+    assert_eq!(rt; exit_status(&result), 2);
+    has_failed(rt, &result, fault);
 }
 
 #[test]
@@ -225,15 +267,18 @@ fn tells_every_fault(rt: HostRuntime) -> Result<(), Fail> {
             Fault::Refused(TriageError::NotEnvironmental { index: 1 }),
         ),
     ];
-    for (text, fault) in &rows {
-        assert_eq!(rt; fault.to_string(rt.alloc())?.as_str(), *text);
-        for (other_text, other) in &rows {
-            let same = text == other_text;
-            assert!(rt;
-                (fault == other) == same && (fault != other) != same,
-                "{text}"
-            );
-        }
+    for row in &rows {
+        is_printed(&rt, rt.alloc(), &row.1, row.0)?;
+        is_told_apart(&rt, row, &rows);
     }
     Ok(())
+}
+
+/// Compares a fault with each. Two are equal exactly where their texts are.
+fn is_told_apart(rt: &impl Abort, (text, fault): &(&str, Fault), rows: &[(&str, Fault)]) {
+    for (other_text, other) in rows {
+        let same = text == other_text;
+        assert!(rt; (fault == other) == same, "{text}");
+        assert!(rt; (fault != other) != same, "{text}");
+    }
 }

@@ -97,3 +97,29 @@ pub(crate) const WORST: Effective = Effective {
     sa: SafetyImpact::High,
     ..HARMLESS
 };
+
+/// VC:L, VI:H and E:P.
+pub(crate) const LOW_CONFIDENTIALITY: Effective = Effective {
+    vc: VulnerableImpact::Low,
+    ..INTEGRITY
+};
+
+/// PR:H and VC:L/VI:L.
+pub(crate) const HIGHLY_PRIVILEGED: Effective = Effective {
+    pr: PrivilegesRequired::High,
+    vc: VulnerableImpact::Low,
+    vi: VulnerableImpact::Low,
+    ..HARMLESS
+};
+
+/// VC:H.
+pub(crate) const CONFIDENTIAL: Effective = Effective {
+    vc: VulnerableImpact::High,
+    ..HARMLESS
+};
+
+/// SI:S.
+pub(crate) const UNSAFE_INTEGRITY: Effective = Effective {
+    si: SafetyImpact::Safety,
+    ..HARMLESS
+};

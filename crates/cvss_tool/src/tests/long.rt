@@ -33,18 +33,27 @@ const PIECES: [&[&str]; 9] = [
     &["/A:N\n", "/A:L\n", "/A:H\n"],
 ];
 
+/// Each text with each ending, where the ending changes fastest.
+fn with_endings(
+    alloc: Global,
+    texts: &[String],
+    endings: &[&str],
+) -> Result<Vec<String>, AllocError> {
+    let mut longer = Vec::new(alloc);
+    for text in texts {
+        for ending in endings {
+            longer.push(format!(in alloc; "{text}{ending}")?)?;
+        }
+    }
+    Ok(longer)
+}
+
 /// The lines of all vectors of these pieces, where the last piece changes fastest.
 fn changed_scopes(alloc: Global) -> Result<String, AllocError> {
     let mut lines = Vec::new(alloc);
     lines.push(String::new(alloc))?;
-    for endings in PIECES {
-        let mut longer = Vec::new(alloc);
-        for line in &lines {
-            for ending in endings {
-                longer.push(format!(in alloc; "{line}{ending}")?)?;
-            }
-        }
-        lines = longer;
+    for endings in &PIECES {
+        lines = with_endings(alloc, &lines, endings)?;
     }
     let mut input = String::new(alloc);
     for line in &lines {
