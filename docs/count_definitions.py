@@ -12,7 +12,7 @@ from pathlib import Path
 
 ROOT = Path(__file__).resolve().parent.parent
 PAGE = ROOT / "docs" / "DEFINITIONS.md"
-CRATES = ["base", "v2", "v3_metric", "v3", "v4_metric", "v4_env", "v4"]
+CRATES = ["grammar", "number", "text", "name", "base", "v2", "v3_metric", "v3", "v4_metric", "v4_env", "v4"]
 ROW = re.compile(r"(\| \[[^]]+\]\(\.\./(crates/\w+/specs/\w+\.antt)\) \| )\d+( \|)")
 HEAD = re.compile(r"^(### .*, )\d+( lines)$", re.M)
 

@@ -1,6 +1,6 @@
 -- What a text denotes by the rules of each version.
 use Rattle.std.proofs.Common.{◌≡◌, codes, List, ℕ, refl, sym, ◌∙◌}
-use Rattle.cvss_base.specs.Refusal.{Refusal}
+use Rattle.cvss_grammar.specs.Refusal.{Refusal}
 use Rattle.cvss.specs.Dispatch.{DenotesCvss, DenotesV2, DenotesV3, DenotesV4, ToV20, ToV30, ToV31, ToV40, ToNone, route_of}
 use Rattle.cvss.specs.declared.metric_type.MetricType.{MetricType}
 use Rattle.cvss.specs.declared.vector.Cvss.{Cvss}

@@ -2,12 +2,12 @@
 use Rattle.std.proofs.Common.{◌≡◌, ◌≢◌, ◌↔◌, ℕ, List, [], ◌∷◌, ◌++◌, codes, length, refl, sym, ap, ◌∙◌, arith, lit<}
 use Rattle.std.specs.List.{Contains}
 use Rattle.std.proofs.lemmas.List.{length-append}
-use Rattle.cvss_base.specs.Version.{numeral, components_of, version_piece, IsWellFormed}
-use Rattle.cvss_base.specs.Text.{slash, joined}
-use Rattle.cvss_base.proofs.CanonicalLemmas.{canonical_text-denotes, denoted_once}
-use Rattle.cvss_base.proofs.FrontLemmas.{denoted_once_behind}
-use Rattle.cvss_base.proofs.TenthsLemmas.{in_tenths_once}
-use Rattle.cvss_base.specs.laws.Rounding.{IsOneCount}
+use Rattle.cvss_grammar.specs.Version.{numeral, components_of, version_piece, IsWellFormed}
+use Rattle.cvss_grammar.specs.Text.{slash, joined}
+use Rattle.cvss_text.proofs.CanonicalLemmas.{canonical_text-denotes, denoted_once}
+use Rattle.cvss_text.proofs.FrontLemmas.{denoted_once_behind}
+use Rattle.cvss_number.proofs.TenthsLemmas.{in_tenths_once}
+use Rattle.cvss_number.specs.laws.Rounding.{IsOneCount}
 use Rattle.cvss_v2.proofs.UniqueLemmas.{base_score_once}
 use Rattle.cvss_v2.specs.Vector.{v2}
 use Rattle.cvss_v2.specs.private.VectorLaws.{v2_is_lawful}

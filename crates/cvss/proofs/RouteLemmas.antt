@@ -8,20 +8,20 @@ use Rattle.std.proofs.lemmas.List.Elements.{All-head}
 use Rattle.std.proofs.lemmas.List.Splits.{length-slice_split, slice_split-cons_no}
 use Rattle.std.proofs.lemmas.List.{take_rest}
 use Rattle.std.proofs.Math.Seq.{split_at}
-use Rattle.cvss_base.specs.Version.{numeral, version_piece, Denotes, IsWellFormed}
-use Rattle.cvss_base.specs.private.Pieces.{AreParts}
-use Rattle.cvss_base.specs.Refusal.{piece_at}
-use Rattle.cvss_base.specs.Text.{pieces, component, has, colon, dot, slash}
-use Rattle.cvss_base.specs.V2Types.{name_of}
-use Rattle.cvss_base.specs.declared.v2.MetricType as type_v2
-use Rattle.cvss_base.specs.declared.v2.MetricType.TheVariants as kind_v2
-use Rattle.cvss_base.specs.declared.v4.MetricType.TheVariants as kind_v4
-use Rattle.cvss_base.proofs.ComponentLemmas.{piece_held, held_stands}
-use Rattle.cvss_base.proofs.DenotesLemmas.{pieces_denoted}
-use Rattle.cvss_base.proofs.FrontLemmas.{pieces_denoted_behind}
-use Rattle.cvss_base.proofs.NumeralLemmas.{numeral-injective, numeral-plain}
-use Rattle.cvss_base.proofs.Utf8Lemmas.{IsUtf8-pieces}
-use Rattle.cvss_base.proofs.WalkLemmas.{value_from}
+use Rattle.cvss_grammar.specs.Version.{numeral, version_piece, Denotes, IsWellFormed}
+use Rattle.cvss_text.specs.private.Pieces.{AreParts}
+use Rattle.cvss_grammar.specs.Refusal.{piece_at}
+use Rattle.cvss_grammar.specs.Text.{pieces, component, has, colon, dot, slash}
+use Rattle.cvss_name.specs.V2Types.{name_of}
+use Rattle.cvss_name.specs.declared.v2.MetricType as type_v2
+use Rattle.cvss_name.specs.declared.v2.MetricType.TheVariants as kind_v2
+use Rattle.cvss_name.specs.declared.v4.MetricType.TheVariants as kind_v4
+use Rattle.cvss_text.proofs.ComponentLemmas.{piece_held, held_stands}
+use Rattle.cvss_text.proofs.DenotesLemmas.{pieces_denoted}
+use Rattle.cvss_text.proofs.FrontLemmas.{pieces_denoted_behind}
+use Rattle.cvss_text.proofs.NumeralLemmas.{numeral-injective, numeral-plain}
+use Rattle.cvss_text.proofs.Utf8Lemmas.{IsUtf8-pieces}
+use Rattle.cvss_text.proofs.WalkLemmas.{value_from}
 use Rattle.cvss_v2.specs.private.TableLaws.{undotted_spelling}
 use Rattle.cvss_v2.specs.Vector.{v2}
 use Rattle.cvss_v2.specs.private.VectorLaws.{v2_is_lawful}

@@ -3,10 +3,10 @@ use Rattle.std.proofs.Common.{◌≡◌, ℕ, List, [], ◌∷◌, ◌++◌, cod
 use Rattle.std.specs.Str.{IsUtf8}
 use Rattle.std.proofs.lemmas.List.Elements.{All-nil, All-cons}
 use Rattle.std.proofs.lemmas.Str.{IsUtf8-from_ascii}
-use Rattle.cvss_base.specs.Version.{numeral, Version, canonical_text, version_piece, Denotes, IsWellFormed}
-use Rattle.cvss_base.specs.private.Walk.{IsLawful}
-use Rattle.cvss_base.proofs.CanonicalLemmas.{canonical_text-denotes}
-use Rattle.cvss_base.proofs.JoinLemmas.{IsUtf8-denoting, none_beyond}
+use Rattle.cvss_grammar.specs.Version.{numeral, Version, canonical_text, version_piece, Denotes, IsWellFormed}
+use Rattle.cvss_text.specs.private.Walk.{IsLawful}
+use Rattle.cvss_text.proofs.CanonicalLemmas.{canonical_text-denotes}
+use Rattle.cvss_text.proofs.JoinLemmas.{IsUtf8-denoting, none_beyond}
 use Rattle.cvss_v2.specs.Vector.{v2}
 use Rattle.cvss_v2.specs.private.VectorLaws.{v2_is_lawful}
 use Rattle.cvss_v2.specs.declared.vector.Vector as vector_v2

@@ -1,12 +1,12 @@
 -- What is answered of a vector of any version: its text, its score, the score's rating and its metrics.
 use Rattle.std.specs.Prelude.{◌≡◌, ℕ, ◌*◌, ◌^◌, List, ◌++◌, codes, map, ℤ, pos, ⊤}
-use Rattle.cvss_base.specs.Listing.{listed_metrics}
+use Rattle.cvss_text.specs.Listing.{listed_metrics}
 use Rattle.cvss_base.specs.Rating.{rating_of_score}
-use Rattle.cvss_base.specs.SeverityText.{text_of as severity_text}
-use Rattle.cvss_base.specs.Tenths.{IsInTenths, tenths_text}
-use Rattle.cvss_base.specs.V4Types.{declared}
-use Rattle.cvss_base.specs.Version.{canonical_text, IsComplete}
-use Rattle.cvss_base.specs.declared.severity.Severity.{Severity}
+use Rattle.cvss_name.specs.SeverityText.{text_of as severity_text}
+use Rattle.cvss_number.specs.Tenths.{IsInTenths, tenths_text}
+use Rattle.cvss_name.specs.V4Types.{declared}
+use Rattle.cvss_grammar.specs.Version.{canonical_text, IsComplete}
+use Rattle.cvss_name.specs.declared.severity.Severity.{Severity}
 use Rattle.cvss_v2.specs.Rating.{rating_of}
 use Rattle.cvss_v2.specs.Scores as scores_v2
 use Rattle.cvss_v2.specs.Table as table_v2

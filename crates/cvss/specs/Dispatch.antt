@@ -2,11 +2,11 @@
 -- section 2.4; v3.1 specification, section 6; v4.0 specification, section 7.
 use Rattle.std.specs.Prelude.{◌≡◌, ◌≢◌, ℕ, List, [], ◌∷◌, codes, Option, Some, None, if◌then◌else◌, bytes_eq}
 use Rattle.std.specs.String.{string_bytes}
-use Rattle.cvss_base.specs.Refusal.{Refusal, BadComponent, WrongPrefix, WrongVersion, UnknownName, BadValue, Repeated, Missing, IsFirstRefusal, IsFirstRefusalBehind}
-use Rattle.cvss_base.specs.Text.{pieces, name_part, value_part, has, colon, dot}
-use Rattle.cvss_base.specs.Version.{Denotes, IsComplete, IsWellFormed}
-use Rattle.cvss_base.specs.declared.error.Error.{Error}
-use Rattle.cvss_base.specs.declared.error.Error.TheVariants.{InvalidMetricV2, DuplicateMetricV2, MissingMandatoryMetricV2, InvalidMetricV3, DuplicateMetricV3, InvalidMetricV4, DuplicateMetricV4, MissingMandatoryMetricV4}
+use Rattle.cvss_grammar.specs.Refusal.{Refusal, BadComponent, WrongPrefix, WrongVersion, UnknownName, BadValue, Repeated, Missing, IsFirstRefusal, IsFirstRefusalBehind}
+use Rattle.cvss_grammar.specs.Text.{pieces, name_part, value_part, has, colon, dot}
+use Rattle.cvss_grammar.specs.Version.{Denotes, IsComplete, IsWellFormed}
+use Rattle.cvss_name.specs.declared.error.Error.{Error}
+use Rattle.cvss_name.specs.declared.error.Error.TheVariants.{InvalidMetricV2, DuplicateMetricV2, MissingMandatoryMetricV2, InvalidMetricV3, DuplicateMetricV3, InvalidMetricV4, DuplicateMetricV4, MissingMandatoryMetricV4}
 use Rattle.cvss_v2.specs.Vector.{v2}
 use Rattle.cvss_v2.specs.declared.vector.Vector as vector_v2
 use Rattle.cvss_v3.specs.Vector.{v3}

@@ -7,25 +7,25 @@ pub mod MetricsLeft
 pub mod Published
 pub mod laws
 pub mod private
-pub use Rattle.cvss_base.specs.ErrorText
-pub use Rattle.cvss_base.specs.Exact
-pub use Rattle.cvss_base.specs.Listing
+pub use Rattle.cvss_name.specs.ErrorText
+pub use Rattle.cvss_number.specs.Exact
+pub use Rattle.cvss_text.specs.Listing
 pub use Rattle.cvss_base.specs.Rating
-pub use Rattle.cvss_base.specs.Refusal
-pub use Rattle.cvss_base.specs.Rounding
-pub use Rattle.cvss_base.specs.SeverityText
-pub use Rattle.cvss_base.specs.Tenths
-pub use Rattle.cvss_base.specs.Text
-pub use Rattle.cvss_base.specs.Told
-pub use Rattle.cvss_base.specs.V2Types as TypesV2
-pub use Rattle.cvss_base.specs.V3Types as TypesV3
-pub use Rattle.cvss_base.specs.V4Types as TypesV4
-pub use Rattle.cvss_base.specs.Version
-pub use Rattle.cvss_base.specs.declared.error.Error as ErrorType
-pub use Rattle.cvss_base.specs.declared.severity.Severity as SeverityType
-pub use Rattle.cvss_base.specs.declared.v2.MetricType as MetricTypeV2
-pub use Rattle.cvss_base.specs.declared.v3.MetricType as MetricTypeV3
-pub use Rattle.cvss_base.specs.declared.v4.MetricType as MetricTypeV4
+pub use Rattle.cvss_grammar.specs.Refusal
+pub use Rattle.cvss_number.specs.Rounding
+pub use Rattle.cvss_name.specs.SeverityText
+pub use Rattle.cvss_number.specs.Tenths
+pub use Rattle.cvss_grammar.specs.Text
+pub use Rattle.cvss_name.specs.Told
+pub use Rattle.cvss_name.specs.V2Types as TypesV2
+pub use Rattle.cvss_name.specs.V3Types as TypesV3
+pub use Rattle.cvss_name.specs.V4Types as TypesV4
+pub use Rattle.cvss_grammar.specs.Version
+pub use Rattle.cvss_name.specs.declared.error.Error as ErrorType
+pub use Rattle.cvss_name.specs.declared.severity.Severity as SeverityType
+pub use Rattle.cvss_name.specs.declared.v2.MetricType as MetricTypeV2
+pub use Rattle.cvss_name.specs.declared.v3.MetricType as MetricTypeV3
+pub use Rattle.cvss_name.specs.declared.v4.MetricType as MetricTypeV4
 pub use Rattle.cvss_v2.specs.Rating as RatingV2
 pub use Rattle.cvss_v2.specs.laws.NotDefined as ScoreLawsV2
 pub use Rattle.cvss_v2.specs.Scores as ScoresV2

@@ -2,9 +2,9 @@
 //! needs a law calls it.
 
 ghost use Rattle.std.specs.Prelude.{◌≡◌, ◌↔◌, ℕ, List, IsTrue};
-ghost use Rattle.cvss_base.specs.laws.Equality as same;
-ghost use Rattle.cvss_base.specs.laws.Equality.{EqualsByValue, ClonesByValue};
-ghost use Rattle.cvss_base.specs.laws.Rounding.{IsOneCount};
+ghost use Rattle.cvss_name.specs.laws.Errors as same;
+ghost use Rattle.cvss_grammar.specs.laws.Equality.{EqualsByValue, ClonesByValue};
+ghost use Rattle.cvss_number.specs.laws.Rounding.{IsOneCount};
 ghost use Rattle.cvss.specs.Answers.{text_of, IsScoreOf};
 ghost use Rattle.cvss.specs.Dispatch.{DenotesCvss};
 ghost use Rattle.cvss.specs.laws.BytesErrors as of_bytes;
@@ -39,7 +39,7 @@ pub fn equality_is_that_of_values()
         ↔ of_bytes.TellTheSame x y }
     ensures error { (x y : Error) → IsTrue (⟦<Error as PartialEq>⟧.eq x y) ↔ same.TellTheSame x y }
 {
-    cvss_base::laws::equality_is_that_of_values();
+    cvss_name::laws::equality_is_that_of_values();
     v2::laws::vectors_are_their_values();
     v3::laws::vectors_are_their_values();
     v4::laws::equality_is_that_of_values();
@@ -56,5 +56,5 @@ pub fn clones_are_equal()
     ensures error { (x clone : Error) → ⟦<Error as Clone>⟧.is_clone x clone
         → same.TellTheSame x clone }
 {
-    cvss_base::laws::clones_are_equal();
+    cvss_name::laws::clones_are_equal();
 }

@@ -1,7 +1,7 @@
 //! The metrics of a vector of any version, as a list.
 
 ghost use Rattle.std.specs.Iterator.{YieldsFirstBy, item_count};
-ghost use Rattle.cvss_base.specs.Listing.{as_listed};
+ghost use Rattle.cvss_text.specs.Listing.{as_listed};
 ghost use Rattle.cvss.specs.MetricsLeft.{metrics_left};
 
 use crate::metric_type::MetricType;

@@ -3,10 +3,10 @@
 
 ghost use Rattle.std.specs.Prelude.{◌≡◌, ◌∷◌, codes};
 ghost use Rattle.std.specs.Str.{IsUtf8};
-ghost use Rattle.cvss_base.specs.Text.{pieces};
-ghost use Rattle.cvss_base.specs.Told.{Tells};
-ghost use Rattle.cvss_base.specs.Version.{version_piece};
-ghost use Rattle.cvss_base.specs.private.Pieces.{pieces_left};
+ghost use Rattle.cvss_grammar.specs.Text.{pieces};
+ghost use Rattle.cvss_name.specs.Told.{Tells};
+ghost use Rattle.cvss_grammar.specs.Version.{version_piece};
+ghost use Rattle.cvss_text.specs.private.Pieces.{pieces_left};
 ghost use Rattle.cvss.specs.Bytes.{IsRefusedAs};
 ghost use Rattle.cvss.specs.Dispatch.{ToV20, ToV30, ToV31, ToV40, cvss_reason, route_of};
 ghost use Rattle.cvss.specs.private.Steps.{IsRead, IsTellableFault, reason_read};
@@ -15,10 +15,11 @@ use crate::bytes_error::BytesError;
 use crate::route::{self, Route, route_of_text};
 use crate::vector::Cvss;
 use crate::{v2, v3, v4};
-use cvss_base::front::{Fronted, read_started};
-use cvss_base::pieces::Pieces;
-use cvss_base::walk::{Fault, read_vector};
-use cvss_base::{Error, refusing};
+use cvss_text::front::{Fronted, read_started};
+use cvss_text::pieces::Pieces;
+use cvss_text::walk::{Fault, read_vector};
+use cvss_base::refusing;
+use cvss_name::Error;
 use std::alloc::Global;
 
 /// Why a text denotes no vector, as the version found by whose rules it was read.

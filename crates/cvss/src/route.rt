@@ -2,17 +2,18 @@
 
 ghost use Rattle.std.specs.Prelude.{◌≡◌, ◌∷◌, ◌++◌, IfOk, IfSome, Some, codes, true, false};
 ghost use Rattle.std.specs.Str.{IsUtf8};
-ghost use Rattle.cvss_base.specs.Told.{Tells, reason_told};
-ghost use Rattle.cvss_base.specs.Text.{component, dot, has, pieces, slash};
-ghost use Rattle.cvss_base.specs.Version.{version_piece};
-ghost use Rattle.cvss_base.specs.private.Pieces.{pieces_left};
+ghost use Rattle.cvss_name.specs.Told.{Tells, reason_told};
+ghost use Rattle.cvss_grammar.specs.Text.{component, dot, has, pieces, slash};
+ghost use Rattle.cvss_grammar.specs.Version.{version_piece};
+ghost use Rattle.cvss_text.specs.private.Pieces.{pieces_left};
 ghost use Rattle.cvss.specs.Dispatch.{route_of, route_of_parts, cvss_reason};
 ghost use Rattle.cvss.specs.private.Steps.{as_route, IsBehindVersion, IsTellable, IsTellableRoute, reason_of};
 
-use cvss_base::pieces::{Pieces, front_of, parts_of, pieces_of};
-use cvss_base::sight::behind_five;
-use cvss_base::text::copied_text;
-use cvss_base::{Error, PREFIX};
+use cvss_text::pieces::{Pieces, front_of, parts_of, pieces_of};
+use cvss_text::sight::behind_five;
+use cvss_text::text::copied_text;
+use cvss_grammar::PREFIX;
+use cvss_name::Error;
 use std::alloc::{AllocError, Global};
 
 /// By the rules of which version a text is read.

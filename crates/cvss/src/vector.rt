@@ -8,8 +8,9 @@ use crate::metrics::Metrics;
 use crate::published::{Bounds, Published};
 use crate::reading::{bytes_error_of, error_of, read};
 use crate::{v2, v3, v4};
-use cvss_base::tenths::text_of as text_of_tenths;
-use cvss_base::{Error, Severity, severity_of_score};
+use cvss_number::tenths::text_of as text_of_tenths;
+use cvss_base::severity_of_score;
+use cvss_name::{Error, Severity};
 use std::alloc::Global;
 use std::fmt;
 
@@ -28,9 +29,9 @@ pub enum Cvss {
 
 impl Cvss {
     ghost use Rattle.std.specs.Str.{IsUtf8};
-    ghost use Rattle.cvss_base.specs.Refusal.{Refusal};
-    ghost use Rattle.cvss_base.specs.Tenths.{IsInTenths, IsFromZeroToTen};
-    ghost use Rattle.cvss_base.specs.Told.{Tells, TellsFirst};
+    ghost use Rattle.cvss_grammar.specs.Refusal.{Refusal};
+    ghost use Rattle.cvss_number.specs.Tenths.{IsInTenths, IsFromZeroToTen};
+    ghost use Rattle.cvss_name.specs.Told.{Tells, TellsFirst};
     ghost use Rattle.cvss.specs.Answers.{HasScore, IsScoreOf, IsScoreText, score_of_tenths, rating_by, metrics_of};
     ghost use Rattle.cvss.specs.Bytes.{IsRefusedAs, TellsWhyNot};
     ghost use Rattle.cvss.specs.Dispatch.{DenotesCvss, IsFirstRefusalCvss, cvss_reason};

@@ -4,7 +4,7 @@ use Rattle.std.specs.Prelude.{ℕ, List, [], ◌∷◌, ◌++◌, codes, map, if
 use Rattle.std.specs.List.{filter_map}
 use Rattle.cvss.specs.Answers.{rating_by, score_of_tenths, text_of}
 use Rattle.cvss.specs.MetricTypeV3.{MetricType}
-use Rattle.cvss_base.specs.declared.v3.MetricType.TheVariants.{A, AC, AV, C, I, PR, S, UI}
+use Rattle.cvss_name.specs.declared.v3.MetricType.TheVariants.{A, AC, AV, C, I, PR, S, UI}
 use Rattle.cvss.specs.NomenclatureV4.{nomenclature_of, text_of as nomenclature_text}
 use Rattle.cvss.specs.SeverityText.{text_of as severity_text}
 use Rattle.cvss.specs.TypesV3.{name_of}

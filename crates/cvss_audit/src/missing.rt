@@ -8,7 +8,7 @@ ghost use Rattle.serde_json.specs.View.{members_view, view};
 
 use crate::told::put_list;
 use cvss::{Cvss, v3};
-use cvss_base::print::Printed;
+use cvss_text::print::Printed;
 use serde_json::{Map, Value};
 use std::alloc::{AllocError, Global};
 

@@ -9,7 +9,7 @@ ghost use Rattle.serde_json.specs.View.{members_view, view};
 
 use crate::missing::put_missing;
 use cvss::{Cvss, v4};
-use cvss_base::TENTH;
+use cvss_number::TENTH;
 use cvss_record::{Difference, Place, Scores, score_value};
 use serde_json::{Map, Value, put};
 use std::alloc::{AllocError, Global};

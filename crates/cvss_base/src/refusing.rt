@@ -2,16 +2,16 @@
 
 ghost use Rattle.std.specs.Prelude.{◌≡◌, true, Some, IfOk, IfErr, OnErr, IsErrAnd, IsSomeAnd, Contains, Ok, Option, [], string_bytes};
 ghost use Rattle.std.specs.Str.{IsUtf8};
-ghost use Rattle.cvss_base.specs.declared.error.Error.{Error};
-ghost use Rattle.cvss_base.specs.Refusal.{Refusal, BadValue, Repeated, Missing, carries_text, IsFirstRefusal, IsFirstRefusalBehind};
-ghost use Rattle.cvss_base.specs.Told.{Tells, TellsFirst, reason_told};
-ghost use Rattle.cvss_base.specs.Version.{read, Denotes, IsComplete, IsWellFormed};
-ghost use Rattle.cvss_base.specs.private.Walk.{IsEmpty, IsTellable, reason_of};
+ghost use Rattle.cvss_name.specs.declared.error.Error.{Error};
+ghost use Rattle.cvss_grammar.specs.Refusal.{Refusal, BadValue, Repeated, Missing, carries_text, IsFirstRefusal, IsFirstRefusalBehind};
+ghost use Rattle.cvss_name.specs.Told.{Tells, TellsFirst, reason_told};
+ghost use Rattle.cvss_grammar.specs.Version.{read, Denotes, IsComplete, IsWellFormed};
+ghost use Rattle.cvss_text.specs.private.Walk.{IsEmpty, IsTellable, reason_of};
 
-use crate::error::Error;
-use crate::front::{Fronted, read_behind};
-use crate::text::copied_text;
-use crate::walk::{Components, Fault, read_vector};
+use cvss_name::Error;
+use cvss_text::front::{Fronted, read_behind};
+use cvss_text::text::copied_text;
+use cvss_text::walk::{Components, Fault, read_vector};
 use std::alloc::{AllocError, Global};
 
 /// A vector of some version, whose refusals errors tell.

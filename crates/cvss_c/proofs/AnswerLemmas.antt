@@ -2,7 +2,7 @@
 use Rattle.std.proofs.Common.{◌≡◌, ℕ, ◌++◌, codes, sym, ap, ◌∙◌, append_assoc}
 use Rattle.cvss.specs.Answers.{text_of, IsScoreOf, rating_by, rating_text, score_of_tenths}
 use Rattle.cvss.specs.declared.vector.Cvss.{Cvss}
-use Rattle.cvss_base.specs.declared.severity.Severity.{Severity}
+use Rattle.cvss_name.specs.declared.severity.Severity.{Severity}
 use Rattle.cvss_c.specs.Answers.{IsAnswerOf}
 use Rattle.cvss_c.specs.private.Steps.{rating_behind}
 

@@ -1,8 +1,8 @@
 -- A buffer, as one text after another is written into it.
 use Rattle.std.proofs.Common.{◌≡◌, ℕ, ◌+◌, ◌<◌, ◌≤◌, List, [], length, get_or, take, Some, unwrap_or, refl, sym, ap, subst}
 use Rattle.std.proofs.lemmas.List.Folds.{length-flat_map-take}
-use Rattle.cvss_base.specs.private.Printing.{slashed, slashed_text, slashed_texts}
-use Rattle.cvss_base.specs.Version.{Version, component_of}
+use Rattle.cvss_text.specs.private.Printing.{slashed, slashed_text, slashed_texts}
+use Rattle.cvss_grammar.specs.Version.{Version, component_of}
 use Rattle.std.proofs.lemmas.Bool.{le-leb, lt-leb}
 use Rattle.cvss_c.specs.Buffer.{HasPut, IsWritten}
 

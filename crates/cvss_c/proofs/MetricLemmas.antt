@@ -4,9 +4,9 @@ use Rattle.std.proofs.Math.Seq.{drop-append_seam}
 use Rattle.std.proofs.lemmas.List.{drop-drop}
 use Rattle.std.proofs.lemmas.List.Folds.{length-flat_map-take}
 use Rattle.std.specs.Option.{option_map, option_to_list}
-use Rattle.cvss_base.specs.private.Printing.{slashed}
-use Rattle.cvss_base.specs.Text.{colon, slash, component}
-use Rattle.cvss_base.specs.Version.{Version, held}
+use Rattle.cvss_text.specs.private.Printing.{slashed}
+use Rattle.cvss_grammar.specs.Text.{colon, slash, component}
+use Rattle.cvss_grammar.specs.Version.{Version, held}
 use Rattle.cvss_c.specs.Metrics.{metric_at, metric_of, metrics_at}
 
 -- a printed component is a slash, the name, a colon and the spelling

@@ -18,7 +18,7 @@ use Rattle.cvss.specs.TypesV4.{name_of}
 use Rattle.cvss.specs.VectorTypeV4.{Vector}
 use Rattle.cvss.specs.VectorV4.{v4}
 use Rattle.cvss.specs.Version.{component_of, components_of, read, reading}
-use Rattle.cvss_base.proofs.LawLemmas.{names_differ}
+use Rattle.cvss_text.proofs.LawLemmas.{names_differ}
 use Rattle.cvss_v4.specs.private.VectorLaws.{v4_is_lawful}
 
 -- whether two metrics have one name

@@ -14,8 +14,8 @@ use Rattle.cvss.specs.VectorV4.{v4}
 use Rattle.cvss.specs.Version.{Version, canonical_text, component_of, version_piece}
 use Rattle.cvss.specs.declared.vector.Cvss.{Cvss}
 use Rattle.cvss.specs.declared.vector.Cvss.TheVariants.{CvssV40}
-use Rattle.cvss_base.specs.Version.{numeral}
-use Rattle.cvss_base.specs.private.Printing.{slashed, slashed_text, slashed_texts}
+use Rattle.cvss_grammar.specs.Version.{numeral}
+use Rattle.cvss_text.specs.private.Printing.{slashed, slashed_text, slashed_texts}
 use Rattle.cvss_c.specs.Overriding.{IsWithOverrides, overrides_in}
 use Rattle.cvss_c.specs.private.Overridden.{IsPrintable}
 use Rattle.cvss_c.proofs.CanonicalLemmas.{front_v40, text_from_front}

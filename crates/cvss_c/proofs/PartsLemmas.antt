@@ -1,9 +1,9 @@
 -- For each vector there is one with its defined metrics and no others.
 use Rattle.std.proofs.Common.{◌≡◌, ℕ, Bool, true, false, List, codes, Option, Some, None, bytes_eq, if◌then◌else◌, refl}
 use Rattle.std.specs.Option.{option_map, option_and_then}
-use Rattle.cvss_base.specs.declared.v2.MetricType.TheVariants as of_v2
-use Rattle.cvss_base.specs.declared.v3.MetricType.TheVariants as of_v3
-use Rattle.cvss_base.specs.declared.v4.MetricType.TheVariants as of_v4
+use Rattle.cvss_name.specs.declared.v2.MetricType.TheVariants as of_v2
+use Rattle.cvss_name.specs.declared.v3.MetricType.TheVariants as of_v3
+use Rattle.cvss_name.specs.declared.v4.MetricType.TheVariants as of_v4
 use Rattle.cvss.specs.VectorTypeV2 as vector_v2
 use Rattle.cvss.specs.VectorTypeV3 as vector_v3
 use Rattle.cvss.specs.VectorTypeV4 as vector_v4

@@ -3,8 +3,8 @@ use Rattle.std.proofs.Common.{◌≡◌, ℕ, ◌<◌, ◌≤◌, length, ap, ar
 use Rattle.std.specs.Fmt.{decimal}
 use Rattle.std.proofs.lemmas.Fmt.{decimal_digit}
 use Rattle.cvss.specs.SeverityText.{text_of as severity_text}
-use Rattle.cvss_base.specs.declared.severity.Severity.{Severity}
-use Rattle.cvss_base.specs.declared.severity.Severity.TheVariants.{None, Low, Medium, High, Critical}
+use Rattle.cvss_name.specs.declared.severity.Severity.{Severity}
+use Rattle.cvss_name.specs.declared.severity.Severity.TheVariants.{None, Low, Medium, High, Critical}
 
 -- a digit
 pub length-digit : (n : ℕ) → n < 10 → length (decimal n) ≡ 1

@@ -1,11 +1,11 @@
 //! Texts in a buffer of the caller, and items in an array, without memory.
 
 ghost use Rattle.std.specs.Prelude.{◌≡◌, ◌≤◌, ◌+◌, ◌++◌, length};
-ghost use Rattle.cvss_base.specs.private.Printing.{slashed_texts};
+ghost use Rattle.cvss_text.specs.private.Printing.{slashed_texts};
 ghost use Rattle.cvss_c.specs.Buffer.{HasPut, IsWritten};
 ghost use Rattle.cvss_c.specs.private.Steps.{Puts};
 
-use cvss_base::print::Printed;
+use cvss_text::print::Printed;
 
 /// Writes a text, or items, from a place in a buffer on, and tells the place behind it.
 pub(crate) fn put<T: Copy>(text: &[T], buffer: &mut [T], place: usize) -> usize

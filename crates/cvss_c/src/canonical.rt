@@ -10,7 +10,7 @@ ghost use Rattle.cvss_c.specs.private.Steps.{IsRead};
 use crate::buffer::put_behind;
 use cvss::v2::Metric;
 use cvss::{Cvss, v2, v3, v4};
-use cvss_base::walk::Components;
+use cvss_text::walk::Components;
 
 /// Writes the canonical text at the beginning of a buffer, and tells the place behind it.
 pub(crate) fn put_canonical(cvss: &Cvss, buffer: &mut [u8]) -> usize

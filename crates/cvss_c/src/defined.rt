@@ -5,8 +5,8 @@ ghost use Rattle.std.specs.Option.{option_copied};
 ghost use Rattle.cvss.specs.Version.{IsComplete};
 ghost use Rattle.cvss.specs.VectorV2.{v2};
 ghost use Rattle.cvss.specs.Dispatch.{DenotesCvss};
-ghost use Rattle.cvss_base.specs.private.Printing.{slashed, slashed_texts};
-ghost use Rattle.cvss_base.specs.Version.{canonical_text};
+ghost use Rattle.cvss_text.specs.private.Printing.{slashed, slashed_texts};
+ghost use Rattle.cvss_grammar.specs.Version.{canonical_text};
 ghost use Rattle.cvss_c.specs.Buffer.{IsWritten};
 ghost use Rattle.cvss_c.specs.Defined.{defined_component, text_less, text_without_undefined};
 ghost use Rattle.cvss_c.specs.private.Steps.{Puts, defined_texts};
@@ -15,8 +15,8 @@ use crate::buffer::{put, put_behind};
 use crate::metrics::spelled;
 use cvss::v2::Metric;
 use cvss::{Cvss, v2};
-use cvss_base::print::Printed;
-use cvss_base::walk::Components;
+use cvss_text::print::Printed;
+use cvss_text::walk::Components;
 
 /// How a metric of CVSS v2 is spelled that is not defined.
 const NOT_DEFINED_V2: [u8; 2] = *b"ND";

@@ -10,12 +10,12 @@ ghost use Rattle.cvss.specs.VectorV3.{v3};
 ghost use Rattle.cvss.specs.VectorV4.{v4};
 ghost use Rattle.cvss.specs.WeightsV2 as weights_v2;
 ghost use Rattle.cvss.specs.WeightsV3 as weights_v3;
-ghost use Rattle.cvss_base.specs.laws.Equality.{ClonesByValue};
+ghost use Rattle.cvss_grammar.specs.laws.Equality.{ClonesByValue};
 ghost use Rattle.cvss_c.specs.laws.DefinedParts.{HasDefinedOf, IsPrintedAsLess};
 
 use crate::{CvssMetric, CvssScores};
 use cvss::{v2, v3, v4};
-use cvss_base::walk::Components;
+use cvss_text::walk::Components;
 
 /// For each vector there is one that has its defined metrics, and no others.
 pub fn vectors_have_defined_parts()

@@ -2,13 +2,13 @@
 
 ghost use Rattle.std.specs.Prelude.{◌≡◌, length};
 ghost use Rattle.std.specs.Option.{option_copied};
-ghost use Rattle.cvss_base.specs.Version.{held};
+ghost use Rattle.cvss_grammar.specs.Version.{held};
 ghost use Rattle.cvss_c.specs.Buffer.{IsWritten};
 ghost use Rattle.cvss_c.specs.Metrics.{metric_of, metrics_at, metrics_in_order, padded as padded_text};
 
 use crate::buffer::put;
 use cvss::Cvss;
-use cvss_base::print::Printed;
+use cvss_text::print::Printed;
 
 /// A metric of a vector. Each text stands in eight bytes, with bytes 0 behind it.
 #[derive(Clone, Copy)]

@@ -14,10 +14,10 @@ use Rattle.cvss.specs.WeightsV2 as weights_v2
 use Rattle.cvss.specs.WeightsV3 as weights_v3
 use Rattle.cvss.specs.declared.vector.Cvss.{Cvss}
 use Rattle.cvss.specs.declared.vector.Cvss.TheVariants.{CvssV20, CvssV30, CvssV31, CvssV40}
-use Rattle.cvss_base.specs.declared.v2.MetricType as kind_v2
-use Rattle.cvss_base.specs.declared.v2.MetricType.TheVariants as metric_v2
-use Rattle.cvss_base.specs.declared.v3.MetricType as kind_v3
-use Rattle.cvss_base.specs.declared.v3.MetricType.TheVariants as metric_v3
+use Rattle.cvss_name.specs.declared.v2.MetricType as kind_v2
+use Rattle.cvss_name.specs.declared.v2.MetricType.TheVariants as metric_v2
+use Rattle.cvss_name.specs.declared.v3.MetricType as kind_v3
+use Rattle.cvss_name.specs.declared.v3.MetricType.TheVariants as metric_v3
 use Rattle.cvss_record.specs.declared.group.Group.{Group}
 use Rattle.cvss_record.specs.declared.group.Group.TheVariants.{Base, Temporal, Environmental}
 use Rattle.cvss_record.specs.declared.score.Scores.{Scores}

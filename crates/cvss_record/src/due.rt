@@ -14,7 +14,7 @@ use crate::member::{member, word};
 use crate::record::{is_rated, score_value, version};
 use crate::score::{Scores, rating, score_number};
 use cvss::{Cvss, v2, v3, v4};
-use cvss_base::metrics::Listed;
+use cvss_text::metrics::Listed;
 use cvss_words::NOT_DEFINED;
 use serde_json::Value;
 use std::alloc::{AllocError, Global};

@@ -3,12 +3,12 @@
 use Rattle.std.specs.List.{list_all}
 use Rattle.std.proofs.Common.{◌≡◌, ◌≢◌, ℕ, ◌<◌, Bool, true, ◌&&◌, ◌||◌, eqb, not, inl, inr, refl}
 use Rattle.std.proofs.lemmas.Bool.{and_parts, or_cases, eqb-true, eqb-false, not-true}
-use Rattle.cvss_base.specs.Exact.{Exact, ◌over◌, whole, thousandths, tenths, ◌⊗◌, smaller}
-use Rattle.cvss_base.specs.declared.v2.MetricType.TheVariants.{A, AC, AV, Au, C, I, E, RL, RC, CDP, TD, CR, IR, AR}
+use Rattle.cvss_number.specs.Exact.{Exact, ◌over◌, whole, thousandths, tenths, ◌⊗◌, smaller}
+use Rattle.cvss_name.specs.declared.v2.MetricType.TheVariants.{A, AC, AV, Au, C, I, E, RL, RC, CDP, TD, CR, IR, AR}
 use Rattle.cvss_v2.specs.Scores.{impact_of, impact, adjusted_impact, exploitability, base_number, temporal_number, environmental_number}
 use Rattle.cvss_v2.specs.declared.vector.Vector.{Vector}
 use Rattle.cvss_v2.specs.Weights.{weights_of}
-use Rattle.cvss_base.proofs.TestLemmas.{passes, passes_three, all_below, below_passes}
+use Rattle.cvss_number.proofs.TestLemmas.{passes, passes_three, all_below, below_passes}
 use Rattle.cvss_v2.proofs.PlainLemmas.{above_least, place, place_of, rounds_alike, is_published_alike, IsAlike, IsPublishedAlike, alike_if, published_alike_if}
 use Rattle.cvss_v2.proofs.TableLemmas.{weights, weight_listed, weighted_impacts, weighted_listed}
 

@@ -3,10 +3,10 @@ use Rattle.std.proofs.Common.{◌≡◌, ℕ, ◌+◌, ◌-◌, ◌*◌, ◌^◌
 use Rattle.std.proofs.lemmas.Int.{ints}
 use Rattle.std.proofs.Math.Nat.{mul-le-mul, mul-le-mul_right}
 use borrow.Author.Differences.{up, down}
-use Rattle.cvss_base.specs.Exact.{ratio, ◌over◌, of_count, thousandths, tenths, ◌⊕◌, ◌⊖◌, ◌⊗◌, ◌≈◌}
-use Rattle.cvss_base.specs.Rounding.{IsRoundedV2}
-use Rattle.cvss_base.proofs.ExactLemmas.{times_times, times_sum, times_difference}
-use Rattle.cvss_base.proofs.RoundingLemmas.{v2-equal}
+use Rattle.cvss_number.specs.Exact.{ratio, ◌over◌, of_count, thousandths, tenths, ◌⊕◌, ◌⊖◌, ◌⊗◌, ◌≈◌}
+use Rattle.cvss_number.specs.Rounding.{IsRoundedV2}
+use Rattle.cvss_number.proofs.ExactLemmas.{times_times, times_sum, times_difference}
+use Rattle.cvss_number.proofs.RoundingLemmas.{v2-equal}
 use Rattle.cvss_v2.specs.Scores.{rest, impact_of, f_thousandths, base_number, temporal_number, environmental_number}
 
 -- three factors that are known

@@ -3,10 +3,10 @@ use Rattle.std.specs.Prelude.{◌↔◌}
 use Rattle.std.specs.Int.{int_max}
 use Rattle.std.proofs.Common.{◌^◌, ℤ, pos, ◌*ℤ◌, ◌≤ℤ◌, ap, arith, refl, subst, lit<}
 use Rattle.std.proofs.lemmas.Int.{ints}
-use Rattle.cvss_base.specs.Exact.{Exact, whole, ◌⊏◌}
-use Rattle.cvss_base.specs.Rounding.{half_below, half_above, IsNearestAway}
-use Rattle.cvss_base.specs.laws.Rounding.{IsOneCount}
-use Rattle.cvss_base.proofs.ExactLemmas.{by_below, at_most_below, below_at_most}
+use Rattle.cvss_number.specs.Exact.{Exact, whole, ◌⊏◌}
+use Rattle.cvss_number.specs.Rounding.{half_below, half_above, IsNearestAway}
+use Rattle.cvss_number.specs.laws.Rounding.{IsOneCount}
+use Rattle.cvss_number.proofs.ExactLemmas.{by_below, at_most_below, below_at_most}
 use Rattle.cvss_v2.specs.declared.vector.Vector.{Vector}
 use Rattle.cvss_v2.specs.Scores.{impact, adjusted_impact, exploitability, base_number, IsBaseScore, IsTemporalScore, IsEnvironmentalScore, IsBaseScoreBy, IsTemporalScoreBy, IsEnvironmentalScoreBy}
 use Rattle.cvss_v2.specs.Weights.{weights_of}

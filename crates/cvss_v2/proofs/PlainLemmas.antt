@@ -3,9 +3,9 @@ use Rattle.std.specs.Int.{int_max}
 use Rattle.std.proofs.Common.{◌≡◌, ℕ, ◌+◌, ◌-◌, ◌*◌, ◌/◌, ◌<◌, ℤ, pos, negsuc, ◌-ℤ◌, Bool, true, ◌&&◌, ◌||◌, inl, inr, ltb, eqb, arith}
 use Rattle.std.proofs.lemmas.Int.{ints, int_max_is}
 use Rattle.std.proofs.lemmas.Bool.{and_parts, or_cases, ltb-true, eqb-true}
-use Rattle.cvss_base.specs.Exact.{Exact, ◌over◌, whole, ◌⊕◌, ◌⊏◌, ◌⊑◌}
-use Rattle.cvss_base.specs.Rounding.{half_below, half_above, IsNearestAway, IsRoundedV2}
-use Rattle.cvss_base.proofs.TestLemmas.{is_below, is_at_most, below_if, at_most_if}
+use Rattle.cvss_number.specs.Exact.{Exact, ◌over◌, whole, ◌⊕◌, ◌⊏◌, ◌⊑◌}
+use Rattle.cvss_number.specs.Rounding.{half_below, half_above, IsNearestAway, IsRoundedV2}
+use Rattle.cvss_number.proofs.TestLemmas.{is_below, is_at_most, below_if, at_most_if}
 
 -- whether r tenths are nearest to x, and of two equally near the one farther from zero
 abbrev is_nearest_away : Exact → ℤ → Bool

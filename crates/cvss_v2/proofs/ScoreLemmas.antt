@@ -1,10 +1,10 @@
 -- The equations give the same numbers for equal sub-scores and weights.
 use Rattle.std.proofs.Common.{◌≡◌, ℕ, ◌^◌, ◌<◌, ℤ, pos, ◌*ℤ◌, arith, refl, ap, lit<, zero, suc, negsuc, subst, sym}
 use Rattle.std.proofs.lemmas.Int.{ints}
-use Rattle.cvss_base.specs.Exact.{Exact, ratio, ◌over◌, of_count, ◌≈◌}
-use Rattle.cvss_base.specs.Rounding.{IsRoundedV2}
-use Rattle.cvss_base.proofs.ExactLemmas.{equal_refl, sum_equal, difference_equal, product_equal}
-use Rattle.cvss_base.proofs.RoundingLemmas.{v2-equal}
+use Rattle.cvss_number.specs.Exact.{Exact, ratio, ◌over◌, of_count, ◌≈◌}
+use Rattle.cvss_number.specs.Rounding.{IsRoundedV2}
+use Rattle.cvss_number.proofs.ExactLemmas.{equal_refl, sum_equal, difference_equal, product_equal}
+use Rattle.cvss_number.proofs.RoundingLemmas.{v2-equal}
 use Rattle.cvss_v2.specs.declared.weights.Weights.{Weights}
 use Rattle.cvss_v2.specs.Scores.{f_thousandths, f, base_number, impact, exploitability, IsBase, IsTemporal}
 

@@ -1,7 +1,7 @@
 -- The three examples of the CVSS v2 guide, 3.3, so that a wrong equation does not check, and one that is not in the guide.
 use Rattle.std.proofs.Common.{pos, negsuc, refl, rules}
-use Rattle.cvss_base.specs.Exact.{◌over◌, ◌≈◌}
-use Rattle.cvss_base.specs.Rounding.{IsNearestAway}
+use Rattle.cvss_number.specs.Exact.{◌over◌, ◌≈◌}
+use Rattle.cvss_number.specs.Rounding.{IsNearestAway}
 use Rattle.cvss_v2.specs.declared.weights.Weights.{Weights}
 use Rattle.cvss_v2.specs.Scores.{impact, exploitability, adjusted_impact, IsBase, IsTemporal, IsEnvironmental, IsEnvironmentalBy}
 

@@ -1,14 +1,14 @@
 -- A text denotes at most one vector, and a canonical text denotes its own.
 use Rattle.std.proofs.Common.{◌≡◌, ℕ, List, [], ◌∷◌, ◌++◌, drop, Option, Some, None, IsSome, option_map, unwrap_or, refl, sym, ap, ◌∙◌, lit<}
-use Rattle.cvss_base.specs.private.Printing.{slashed, slashed_texts}
-use Rattle.cvss_base.specs.Text.{slash, component}
-use Rattle.cvss_base.specs.V2Types.{name_of}
-use Rattle.cvss_base.specs.declared.v2.MetricType.TheVariants.{AV}
-use Rattle.cvss_base.proofs.PrintLemmas.{joined-slashed}
+use Rattle.cvss_text.specs.private.Printing.{slashed, slashed_texts}
+use Rattle.cvss_grammar.specs.Text.{slash, component}
+use Rattle.cvss_name.specs.V2Types.{name_of}
+use Rattle.cvss_name.specs.declared.v2.MetricType.TheVariants.{AV}
+use Rattle.cvss_text.proofs.PrintLemmas.{joined-slashed}
 use Rattle.cvss_v2.specs.declared.metric.base.access.AccessVector.{AccessVector}
 use Rattle.cvss_v2.specs.Table.{metric_component, spelling_of, printed}
-use Rattle.cvss_base.specs.Version.{canonical_text, Denotes, IsComplete}
-use Rattle.cvss_base.proofs.CanonicalLemmas.{canonical_text-denotes, denoted_once}
+use Rattle.cvss_grammar.specs.Version.{canonical_text, Denotes, IsComplete}
+use Rattle.cvss_text.proofs.CanonicalLemmas.{canonical_text-denotes, denoted_once}
 use Rattle.cvss_v2.specs.declared.vector.Vector.{Vector}
 use Rattle.cvss_v2.specs.Vector.{v2}
 use Rattle.cvss_v2.specs.private.VectorLaws.{v2_is_lawful}

@@ -1,15 +1,15 @@
 -- A vector has one score of each kind, by each rounding that gives a number one tenth.
 use Rattle.std.proofs.Common.{◌<◌, ℤ, pos, ap, ◌∙◌, sym, subst, arith, lit<, ◌*ℤ◌, ◌^◌}
 use Rattle.std.specs.Int.{int_max}
-use Rattle.cvss_base.specs.Exact.{Exact, of_count, thousandths, tenths}
-use Rattle.cvss_base.specs.Rounding.{IsRoundedV2}
-use Rattle.cvss_base.proofs.ExactLemmas.{equal_refl}
-use Rattle.cvss_base.proofs.RoundingLemmas.{v2-unique}
-use Rattle.cvss_base.proofs.TenthsLemmas.{in_tenths_once}
+use Rattle.cvss_number.specs.Exact.{Exact, of_count, thousandths, tenths}
+use Rattle.cvss_number.specs.Rounding.{IsRoundedV2}
+use Rattle.cvss_number.proofs.ExactLemmas.{equal_refl}
+use Rattle.cvss_number.proofs.RoundingLemmas.{v2-unique}
+use Rattle.cvss_number.proofs.TenthsLemmas.{in_tenths_once}
 use Rattle.cvss_v2.specs.declared.weights.Weights.{Weights}
 use Rattle.cvss_v2.specs.Scores.{impact, adjusted_impact, temporal_number, environmental_number, IsTemporal, IsBaseBy, IsTemporalBy, IsEnvironmentalBy, IsPublished, IsBaseScore, IsTemporalScore, IsEnvironmentalScore, IsBaseScoreBy, IsTemporalScoreBy, IsEnvironmentalScoreBy}
-use Rattle.cvss_base.specs.Tenths.{IsInTenths}
-use Rattle.cvss_base.specs.laws.Rounding.{IsOneCount}
+use Rattle.cvss_number.specs.Tenths.{IsInTenths}
+use Rattle.cvss_number.specs.laws.Rounding.{IsOneCount}
 
 -- a number has at most one rounding
 abbrev pub RoundsOnce : (Exact → ℤ → Type 0) → Type 0

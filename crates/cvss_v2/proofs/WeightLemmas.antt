@@ -1,7 +1,7 @@
 -- A metric that is not defined weighs as much as one that is absent, so vectors that define the same have the same weights.
 use Rattle.std.specs.Prelude.{codes, option_map, unwrap_or, IfSome}
 use Rattle.std.proofs.Common.{◌≡◌, inl, inr, Option, Some, None, refl, sym, ap, ◌∙◌}
-use Rattle.cvss_base.specs.declared.v2.MetricType.{MetricType}
+use Rattle.cvss_name.specs.declared.v2.MetricType.{MetricType}
 use Rattle.cvss_v2.specs.declared.vector.Vector.{Vector}
 use Rattle.cvss_v2.specs.laws.NotDefined.{DefineTheSame}
 use Rattle.cvss_v2.specs.Table.{Value, spelling_of, weight_of, absent_weight}

@@ -1,8 +1,8 @@
 -- The equations of the CVSS v2 guide: base (3.2.1), temporal (3.2.2) and environmental (3.2.3).
 use Rattle.std.specs.Prelude.{◌≡◌, ◌^◌, ℕ, zero, ℤ, pos, ◌*ℤ◌}
 use Rattle.std.specs.Int.{int_max}
-use Rattle.cvss_base.specs.Exact.{Exact, ◌over◌, whole, thousandths, tenths, ◌⊕◌, ◌⊖◌, ◌⊗◌, smaller}
-use Rattle.cvss_base.specs.Rounding.{IsRoundedV2}
+use Rattle.cvss_number.specs.Exact.{Exact, ◌over◌, whole, thousandths, tenths, ◌⊕◌, ◌⊖◌, ◌⊗◌, smaller}
+use Rattle.cvss_number.specs.Rounding.{IsRoundedV2}
 use Rattle.cvss_v2.specs.declared.weights.Weights.{Weights}
 
 -- 1 less a weight

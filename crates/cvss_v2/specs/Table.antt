@@ -3,10 +3,10 @@
 use Rattle.std.specs.Prelude.{ℕ, List, [], ◌∷◌, codes, slice_get, unwrap_or, find}
 use Rattle.std.specs.Option.{option_map_or}
 use Rattle.std.specs.Str.{bytes_eq}
-use Rattle.cvss_base.specs.Text.{component}
-use Rattle.cvss_base.specs.V2Types.{name_of}
-use Rattle.cvss_base.specs.declared.v2.MetricType.{MetricType}
-use Rattle.cvss_base.specs.declared.v2.MetricType.TheVariants.{A, AC, AV, Au, C, I, E, RL, RC, CDP, TD, CR, IR, AR}
+use Rattle.cvss_grammar.specs.Text.{component}
+use Rattle.cvss_name.specs.V2Types.{name_of}
+use Rattle.cvss_name.specs.declared.v2.MetricType.{MetricType}
+use Rattle.cvss_name.specs.declared.v2.MetricType.TheVariants.{A, AC, AV, Au, C, I, E, RL, RC, CDP, TD, CR, IR, AR}
 use Rattle.cvss_v2.specs.declared.metric.base.access.AccessVector.{AccessVector}
 use Rattle.cvss_v2.specs.declared.metric.base.access.AccessVector.TheVariants as access_vector
 use Rattle.cvss_v2.specs.declared.metric.base.access.AccessComplexity.{AccessComplexity}

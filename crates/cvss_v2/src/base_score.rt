@@ -1,7 +1,7 @@
 //! The base score of a vector's own impact, in numbers of 64 bits. `equations` has it of any impact.
 ghost use Rattle.std.specs.Prelude.{◌≡◌, ◌*◌, ◌^◌, ◌≤◌, ◌≤ℤ◌, pos, neg_ℤ};
-ghost use Rattle.cvss_base.specs.Exact.{ratio, whole, thousandths, ◌⊗◌, ◌≈◌};
-ghost use Rattle.cvss_base.specs.Rounding.{IsRoundedV2};
+ghost use Rattle.cvss_number.specs.Exact.{ratio, whole, thousandths, ◌⊗◌, ◌≈◌};
+ghost use Rattle.cvss_number.specs.Rounding.{IsRoundedV2};
 ghost use Rattle.cvss_v2.specs.Scores.{impact_of, base_number};
 ghost use Rattle.cvss_v2.specs.private.Bounds.{IsOnScale};
 

@@ -1,11 +1,11 @@
 //! The equations of the guide in whole numbers, exact but for one rounding at the end of each score.
 ghost use Rattle.std.specs.Prelude.{◌≡◌, ◌*◌, ◌^◌, ◌≤◌, ◌≤ℤ◌, ◌*ℤ◌, ◌/◌, ◌<◌, pos, neg_ℤ};
-ghost use Rattle.cvss_base.specs.Exact.{ratio, ◌over◌, whole, thousandths, tenths, of_count, ◌⊗◌, ◌≈◌, smaller, IsWithinLimit};
-ghost use Rattle.cvss_base.specs.Rounding.{IsRoundedV2};
+ghost use Rattle.cvss_number.specs.Exact.{ratio, ◌over◌, whole, thousandths, tenths, of_count, ◌⊗◌, ◌≈◌, smaller, IsWithinLimit};
+ghost use Rattle.cvss_number.specs.Rounding.{IsRoundedV2};
 ghost use Rattle.cvss_v2.specs.Scores.{impact_of, base_number, temporal_number, environmental_number};
 ghost use Rattle.cvss_v2.specs.private.Bounds.{IsImpactCount, IsOnScale};
 
-use cvss_base::ONE;
+use cvss_number::ONE;
 
 /// Impact in 10^-24, of three weights in millionths.
 fn impact_count(c: u64, i: u64, a: u64) -> i128

@@ -3,15 +3,15 @@
 
 ghost use Rattle.std.specs.Prelude.{◌≡◌, ◌↔◌, ℕ, ℤ, pos, List, Some, None};
 ghost use Rattle.std.specs.Ordering.{int_cmp};
-ghost use Rattle.cvss_base.specs.laws.Equality.{EqualsByValue, ClonesByValue};
-ghost use Rattle.cvss_base.specs.Exact.{of_count};
-ghost use Rattle.cvss_base.specs.Version.{canonical_text, Denotes};
+ghost use Rattle.cvss_grammar.specs.laws.Equality.{EqualsByValue, ClonesByValue};
+ghost use Rattle.cvss_number.specs.Exact.{of_count};
+ghost use Rattle.cvss_grammar.specs.Version.{canonical_text, Denotes};
 ghost use Rattle.cvss_v2.specs.laws.NotDefined.{DefineTheSame};
-ghost use Rattle.cvss_base.specs.laws.Rounding.{IsOneCount};
+ghost use Rattle.cvss_number.specs.laws.Rounding.{IsOneCount};
 ghost use Rattle.cvss_v2.specs.Scores.{IsTemporal, IsBaseScore, IsTemporalScore, IsEnvironmentalScore, IsBaseScoreBy, IsTemporalScoreBy, IsEnvironmentalScoreBy};
-ghost use Rattle.cvss_base.specs.Rounding.{IsNearestAway};
-ghost use Rattle.cvss_base.specs.Tenths.{IsInTenths};
-ghost use Rattle.cvss_base.specs.declared.v2.MetricType.{MetricType};
+ghost use Rattle.cvss_number.specs.Rounding.{IsNearestAway};
+ghost use Rattle.cvss_number.specs.Tenths.{IsInTenths};
+ghost use Rattle.cvss_name.specs.declared.v2.MetricType.{MetricType};
 ghost use Rattle.cvss_v2.specs.Vector.{v2, value_at};
 ghost use Rattle.cvss_v2.specs.Weights.{weights_of};
 ghost use Rattle.cvss_v2.specs.declared.weights.Weights.{Weights};

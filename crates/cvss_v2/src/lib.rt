@@ -9,7 +9,7 @@ mod score;
 mod vector;
 mod weights;
 
-pub use cvss_base::v2::MetricType;
+pub use cvss_name::v2::MetricType;
 pub use metric::Metric;
 pub use score::Score;
 pub use vector::{Metrics, Vector};

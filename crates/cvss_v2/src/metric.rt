@@ -1,22 +1,22 @@
 //! The metrics of CVSS v2, each an enum of its values.
 
 ghost use Rattle.std.specs.Prelude.{◌≡◌, ◌∷◌, ◌*◌, ◌^◌, pos, IfSome, IfOk, IfErr, Some};
-ghost use Rattle.cvss_base.specs.Refusal.{BadValue};
-ghost use Rattle.cvss_base.specs.Told.{Tells};
-ghost use Rattle.cvss_base.specs.V2Types.{v2_reason, name_of};
-ghost use Rattle.cvss_base.specs.declared.v2.MetricType.{MetricType};
+ghost use Rattle.cvss_grammar.specs.Refusal.{BadValue};
+ghost use Rattle.cvss_name.specs.Told.{Tells};
+ghost use Rattle.cvss_name.specs.V2Types.{v2_reason, name_of};
+ghost use Rattle.cvss_name.specs.declared.v2.MetricType.{MetricType};
 ghost use Rattle.cvss_v2.specs.Table.{Value, spelling_of, weight_of, metric_component, rank_of};
-ghost use Rattle.cvss_base.specs.Text.{slash};
+ghost use Rattle.cvss_grammar.specs.Text.{slash};
 ghost use Rattle.std.specs.Ordering.{nat_cmp};
-ghost use Rattle.cvss_base.specs.Exact.{IsWithinLimit};
-ghost use Rattle.cvss_base.specs.laws.Equality.{EqualsByValue, ClonesByValue};
+ghost use Rattle.cvss_number.specs.Exact.{IsWithinLimit};
+ghost use Rattle.cvss_grammar.specs.laws.Equality.{EqualsByValue, ClonesByValue};
 
 pub mod base;
 pub mod environmental;
 pub mod temporal;
 
-use cvss_base::Error;
-pub use cvss_base::v2::MetricType;
+use cvss_name::Error;
+pub use cvss_name::v2::MetricType;
 use std::alloc::Global;
 use std::fmt;
 

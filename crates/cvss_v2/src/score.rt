@@ -2,14 +2,15 @@
 
 ghost use Rattle.std.specs.Prelude.{◌≡◌, ◌≤ℤ◌, ◌*ℤ◌, ◌^◌, ℤ, pos, neg_ℤ, Some};
 ghost use Rattle.std.specs.Int.{int_max};
-ghost use Rattle.cvss_base.specs.Exact.{of_count, IsWithinLimit};
-ghost use Rattle.cvss_base.specs.Rounding.{IsRoundedV2};
-ghost use Rattle.cvss_base.specs.Tenths.{score_text, IsInTenths, IsFromZeroToTen};
+ghost use Rattle.cvss_number.specs.Exact.{of_count, IsWithinLimit};
+ghost use Rattle.cvss_number.specs.Rounding.{IsRoundedV2};
+ghost use Rattle.cvss_number.specs.Tenths.{score_text, IsInTenths, IsFromZeroToTen};
 ghost use Rattle.cvss_v2.specs.Rating.{rating_of};
 ghost use Rattle.cvss_v2.specs.private.Bounds.{IsOnScale};
 
 use crate::equations;
-use cvss_base::{ONE, OneDecimal, Severity, TENTH};
+use cvss_name::Severity;
+use cvss_number::{ONE, OneDecimal, TENTH};
 use std::fmt;
 use std::marker::Model;
 

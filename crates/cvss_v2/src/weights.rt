@@ -1,8 +1,8 @@
 //! The scores of the guide over the weights of a vector's metrics.
 ghost use Rattle.std.specs.Prelude.{◌≡◌, ◌^◌, ◌≤◌, ◌≤ℤ◌, ◌*ℤ◌, pos, neg_ℤ};
-ghost use Rattle.cvss_base.specs.Exact.{of_count, ◌≈◌, IsWithinLimit};
+ghost use Rattle.cvss_number.specs.Exact.{of_count, ◌≈◌, IsWithinLimit};
 ghost use Rattle.cvss_v2.specs.Scores.{impact, adjusted_impact, exploitability, IsBase, IsTemporal, IsBaseScore, IsTemporalScore, IsEnvironmentalScore};
-ghost use Rattle.cvss_base.specs.Tenths.{IsInTenths, IsFromZeroToTen};
+ghost use Rattle.cvss_number.specs.Tenths.{IsInTenths, IsFromZeroToTen};
 ghost use Rattle.cvss_v2.specs.private.Bounds.{IsFromTable, IsImpactCount, IsOnScale};
 
 use crate::{Score, base_score, equations};

@@ -4,8 +4,8 @@ use Rattle.std.proofs.lemmas.Int.{ints}
 use Rattle.std.proofs.Math.Nat.{mul-le-mul_right}
 use lib.Signed.{lt_z}
 use borrow.Author.Differences.{up, down, lt-true, lt-false}
-use Rattle.cvss_base.specs.Exact.{Exact, ratio, ◌over◌, whole, ◌≈◌, ◌⊑◌, smaller}
-use Rattle.cvss_base.proofs.ExactLemmas.{equal_at_most, equal_from_at_most, equal_sym, at_most_trans, times_times}
+use Rattle.cvss_number.specs.Exact.{Exact, ratio, ◌over◌, whole, ◌≈◌, ◌⊑◌, smaller}
+use Rattle.cvss_number.proofs.ExactLemmas.{equal_at_most, equal_from_at_most, equal_sym, at_most_trans, times_times}
 
 -- at most 10
 abbrev pub capped : Exact → Exact

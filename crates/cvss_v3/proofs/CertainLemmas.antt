@@ -4,8 +4,8 @@ use Rattle.std.specs.List.{Contains}
 use Rattle.std.proofs.Common.{◌≡◌, ℕ, zero, suc, ◌^◌, ◌<◌, ℤ, pos, negsuc, ◌-ℤ◌, Bool, true, false, ◌⊎◌, inl, inr, arith, refl, sym, subst, lit<}
 use Rattle.std.proofs.lemmas.Int.{ints}
 use Rattle.std.proofs.lemmas.Bool.{lt-ltb}
-use Rattle.cvss_base.specs.Exact.{Exact, ratio, ◌over◌, whole, tenths, ◌⊕◌, ◌≈◌, ◌⊏◌}
-use Rattle.cvss_base.proofs.ExactLemmas.{equal_refl, equal_at_most, at_most_trans}
+use Rattle.cvss_number.specs.Exact.{Exact, ratio, ◌over◌, whole, tenths, ◌⊕◌, ◌≈◌, ◌⊏◌}
+use Rattle.cvss_number.proofs.ExactLemmas.{equal_refl, equal_at_most, at_most_trans}
 use Rattle.cvss_v3.proofs.SubScoreLemmas.{exploitabilities, exploitability_listed, iss_listed}
 use Rattle.cvss_v3.proofs.CountLemmas.{iss_is, miss_is, miss_is_listed}
 use Rattle.cvss_v3.proofs.CutLemmas.{cut_is}

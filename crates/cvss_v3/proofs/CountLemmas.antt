@@ -4,8 +4,8 @@ use Rattle.std.proofs.Common.{◌≡◌, ℕ, ◌-◌, ◌*◌, ◌^◌, ◌+◌
 use Rattle.std.proofs.lemmas.Int.{ints}
 use borrow.Author.Differences.{up, down}
 use Rattle.std.proofs.Math.Nat.{mul-le-mul, lt_of_mul-lt-mul_right, le_of_mul-le-mul_right}
-use Rattle.cvss_base.specs.Exact.{Exact, ratio, ◌over◌, whole, tenths, ◌⊗◌, ◌≈◌, smaller}
-use Rattle.cvss_base.proofs.ExactLemmas.{equal_refl, equal_trans, difference_equal, product_equal, times_times}
+use Rattle.cvss_number.specs.Exact.{Exact, ratio, ◌over◌, whole, tenths, ◌⊗◌, ◌≈◌, smaller}
+use Rattle.cvss_number.proofs.ExactLemmas.{equal_refl, equal_trans, difference_equal, product_equal, times_times}
 use Rattle.cvss_v3.proofs.CapLemmas.{by_smaller}
 use Rattle.cvss_v3.specs.declared.weights.Weights.{Weights}
 use Rattle.cvss_v3.specs.Scores.{hundredths, rest, sub_score_of, exploitability_of, iss, miss}

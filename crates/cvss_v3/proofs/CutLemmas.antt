@@ -3,15 +3,15 @@ use Rattle.std.specs.List.{list_all}
 use Rattle.std.proofs.Common.{◌≡◌, ℕ, ◌*◌, ◌^◌, ◌%◌, ◌<◌, ◌≤◌, ℤ, pos, negsuc, ◌-ℤ◌, ◌+ℤ◌, ◌*ℤ◌, Bool, true, ◌||◌, leb, ltb, ◌⊎◌, inl, inr, arith, refl, lit<}
 use Rattle.std.proofs.lemmas.Int.{ints}
 use Rattle.std.proofs.lemmas.Bool.{or_cases, leb-true, ltb-true}
-use Rattle.cvss_base.specs.Exact.{Exact, ratio, ◌over◌, whole, tenths, ◌⊕◌, ◌⊗◌, ◌⊑◌}
-use Rattle.cvss_base.specs.Rounding.{IsRoundedV31}
-use Rattle.cvss_base.proofs.ExactLemmas.{at_most_trans, at_most_below, scaled_at_most, times_sum, times_times}
+use Rattle.cvss_number.specs.Exact.{Exact, ratio, ◌over◌, whole, tenths, ◌⊕◌, ◌⊗◌, ◌⊑◌}
+use Rattle.cvss_number.specs.Rounding.{IsRoundedV31}
+use Rattle.cvss_number.proofs.ExactLemmas.{at_most_trans, at_most_below, scaled_at_most, times_sum, times_times}
 use Rattle.cvss_v3.specs.laws.FifthDecimals.{IsRoundedCut, IsSameWhenCut}
 use Rattle.cvss_v3.specs.Scores.{temporal_number}
 use Rattle.cvss_v3.specs.private.Weights.{IsFromTable, exploit_code_maturities, remediation_levels, report_confidences}
 use Rattle.cvss_v3.specs.declared.weights.Weights.{Weights}
 use Rattle.cvss_v3.proofs.RoundLemmas.{between_jumps}
-use Rattle.cvss_base.proofs.TestLemmas.{passes, all_below, below_passes}
+use Rattle.cvss_number.proofs.TestLemmas.{passes, all_below, below_passes}
 
 -- x is at most a half above x
 half_above_itself : (x : Exact) → x ⊑ x ⊕ 1 over 2

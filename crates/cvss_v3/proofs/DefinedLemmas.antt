@@ -1,8 +1,8 @@
 -- A metric that is X and one that is absent give the same weights.
 use Rattle.std.proofs.Common.{◌≡◌, false, ◌⊎◌, inl, inr, codes, Option, Some, None, IfSome, refl, sym, ap, ◌∙◌}
-use Rattle.cvss_base.specs.Text.{raised}
-use Rattle.cvss_base.specs.declared.v3.MetricType.{MetricType}
-use Rattle.cvss_base.specs.declared.v3.MetricType.TheVariants.{A, AC, AV, C, I, PR, S, UI, E, RL, RC, CR, IR, AR, MAV, MAC, MPR, MUI, MS, MC, MI, MA}
+use Rattle.cvss_grammar.specs.Text.{raised}
+use Rattle.cvss_name.specs.declared.v3.MetricType.{MetricType}
+use Rattle.cvss_name.specs.declared.v3.MetricType.TheVariants.{A, AC, AV, C, I, PR, S, UI, E, RL, RC, CR, IR, AR, MAV, MAC, MPR, MUI, MS, MC, MI, MA}
 use Rattle.cvss_v3_metric.specs.Table.{Value, spelling_of}
 use Rattle.cvss_v3_metric.specs.private.TableLaws.{has_undefined, none_undefined, one_value}
 use Rattle.cvss_v3_metric.specs.declared.temporal.ExploitCodeMaturity.TheVariants as exploit_code_maturity

@@ -4,10 +4,10 @@ use Rattle.std.proofs.Common.{◌≡◌, ℕ, zero, suc, ◌*◌, ◌<◌, ℤ, 
 use Rattle.std.proofs.Math.Nat.{mul-pos}
 use Rattle.std.proofs.lemmas.Int.{ints}
 use Rattle.std.proofs.lemmas.Bool.{lt-ltb}
-use Rattle.cvss_base.specs.Exact.{Exact, ratio, ◌over◌, whole, tenths, ◌⊕◌, ◌⊗◌, ◌≈◌}
-use Rattle.cvss_base.specs.Rounding.{IsRoundedV30, IsRoundedV31}
-use Rattle.cvss_base.proofs.ExactLemmas.{equal_refl, equal_sym, equal_at_most, sum_equal, difference_equal, product_equal, at_most_trans, at_most_below, below_at_most}
-use Rattle.cvss_base.proofs.RoundingLemmas.{v30-unique, v31-unique}
+use Rattle.cvss_number.specs.Exact.{Exact, ratio, ◌over◌, whole, tenths, ◌⊕◌, ◌⊗◌, ◌≈◌}
+use Rattle.cvss_number.specs.Rounding.{IsRoundedV30, IsRoundedV31}
+use Rattle.cvss_number.proofs.ExactLemmas.{equal_refl, equal_sym, equal_at_most, sum_equal, difference_equal, product_equal, at_most_trans, at_most_below, below_at_most}
+use Rattle.cvss_number.proofs.RoundingLemmas.{v30-unique, v31-unique}
 use Rattle.cvss_v3.proofs.CapLemmas.{capped, capped_equal}
 use Rattle.cvss_v3.specs.private.Near.{RoundsAs}
 use Rattle.cvss_v3.specs.Scores.{power, changed_impact, changed_modified_impact, total_of, first_number, IsRounded}

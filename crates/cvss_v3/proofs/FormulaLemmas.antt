@@ -2,8 +2,8 @@
 use Rattle.std.specs.Prelude.{int_lt}
 use Rattle.std.specs.List.{Contains}
 use Rattle.std.proofs.Common.{◌≡◌, ℕ, ◌<◌, pos, Bool, true, false, arith, refl}
-use Rattle.cvss_base.specs.Exact.{Exact, ◌over◌, ◌≈◌}
-use Rattle.cvss_base.proofs.ExactLemmas.{equal_refl, product_equal}
+use Rattle.cvss_number.specs.Exact.{Exact, ◌over◌, ◌≈◌}
+use Rattle.cvss_number.proofs.ExactLemmas.{equal_refl, product_equal}
 use Rattle.cvss_v3.proofs.SubScoreLemmas.{exploitabilities}
 use Rattle.cvss_v3.specs.Scores.{power, unchanged_impact, changed_impact, changed_modified_impact}
 use Rattle.cvss_v3.specs.private.SubScores.{IsSubScore}

@@ -1,8 +1,8 @@
 -- The rounding of the first numbers, by minor version and scope.
 use Rattle.std.specs.List.{Contains}
 use Rattle.std.proofs.Common.{◌≡◌, ◌≢◌, ℕ, zero, suc, ◌^◌, ◌<◌, ◌≤◌, Bool, true, false, arith, refl, lit<}
-use Rattle.cvss_base.specs.Exact.{Exact, ◌over◌, ◌≈◌}
-use Rattle.cvss_base.proofs.ExactLemmas.{equal_refl, product_equal}
+use Rattle.cvss_number.specs.Exact.{Exact, ◌over◌, ◌≈◌}
+use Rattle.cvss_number.proofs.ExactLemmas.{equal_refl, product_equal}
 use Rattle.cvss_v3.proofs.SubScoreLemmas.{exploitabilities}
 use Rattle.cvss_v3.proofs.FormulaLemmas.{IsSettledFormula, changed_formula, changed_modified_formula}
 use Rattle.cvss_v3.proofs.NumberLemmas.{no_impact, unchanged_rounds, settled_rounds}

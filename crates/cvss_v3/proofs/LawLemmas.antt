@@ -3,10 +3,10 @@ use Rattle.std.specs.Prelude.{int_lt, if◌then◌else◌}
 use Rattle.std.proofs.Common.{◌≡◌, ℕ, zero, suc, ◌*◌, ◌^◌, ◌<◌, ◌≤◌, ℤ, pos, negsuc, ◌≤ℤ◌, Bool, true, false, arith, subst, lit<}
 use Rattle.std.proofs.lemmas.Int.{ints}
 use Rattle.std.proofs.Math.Nat.{mul-le-mul, le_refl}
-use Rattle.cvss_base.specs.Exact.{Exact, ratio, ◌over◌, whole, ◌⊑◌}
-use Rattle.cvss_base.specs.laws.Rounding.{IsOneCount}
-use Rattle.cvss_base.proofs.RoundingLemmas.{least_tenth-ordered, v31-ordered}
-use Rattle.cvss_base.proofs.TenthsLemmas.{in_tenths_once}
+use Rattle.cvss_number.specs.Exact.{Exact, ratio, ◌over◌, whole, ◌⊑◌}
+use Rattle.cvss_number.specs.laws.Rounding.{IsOneCount}
+use Rattle.cvss_number.proofs.RoundingLemmas.{least_tenth-ordered, v31-ordered}
+use Rattle.cvss_number.proofs.TenthsLemmas.{in_tenths_once}
 use Rattle.cvss_v3.specs.Scores.{impact, impact_of, modified_impact_of, iss, miss, exploitability, modified_exploitability, total_of, first_number, base_number, environmental_number, temporal_number, IsRounded, IsBase, IsTemporal, IsEnvironmental, IsBaseScore, IsTemporalScore, IsEnvironmentalScore}
 use Rattle.cvss_v3.specs.private.Weights.{IsFromTable}
 use Rattle.cvss_v3.specs.declared.weights.Weights.{Weights}

@@ -3,8 +3,8 @@ use Rattle.std.specs.Prelude.{int_lt, if◌then◌else◌}
 use Rattle.std.proofs.Common.{◌≡◌, ℕ, ◌*◌, ◌<◌, ◌^◌, ℤ, pos, negsuc, ◌*ℤ◌, Bool, true, false, arith, subst, sym, ap, lit<}
 use Rattle.std.proofs.lemmas.Int.{ints}
 use Rattle.std.proofs.lemmas.Bool.{lt-ltb, ltb-true}
-use Rattle.cvss_base.specs.Exact.{Exact, ratio, ◌over◌, whole, ◌⊕◌, ◌⊖◌, ◌⊑◌}
-use Rattle.cvss_base.proofs.ExactLemmas.{at_most_trans, sum_at_most, times_difference, times_times, times_sum}
+use Rattle.cvss_number.specs.Exact.{Exact, ratio, ◌over◌, whole, ◌⊕◌, ◌⊖◌, ◌⊑◌}
+use Rattle.cvss_number.proofs.ExactLemmas.{at_most_trans, sum_at_most, times_difference, times_times, times_sum}
 use Rattle.cvss_v3.proofs.CapLemmas.{capped, by_smaller, capped_down, capped_to_ten}
 use Rattle.cvss_v3.proofs.EqualLemmas.{total_bottom}
 use Rattle.cvss_v3.specs.private.Near.{IsNear}

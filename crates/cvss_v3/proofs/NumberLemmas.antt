@@ -2,8 +2,8 @@
 use Rattle.std.specs.Prelude.{int_lt, if◌then◌else◌}
 use Rattle.std.proofs.Common.{◌≡◌, ℕ, ◌^◌, ◌<◌, ◌≤◌, ℤ, pos, ◌-ℤ◌, Bool, false, arith, refl, sym, subst, ap, lit<}
 use Rattle.std.proofs.lemmas.Int.{ints}
-use Rattle.cvss_base.specs.Exact.{Exact, ◌over◌, whole, tenths, ◌⊕◌, ◌≈◌, ◌⊑◌}
-use Rattle.cvss_base.proofs.ExactLemmas.{equal_refl, equal_sym, equal_trans, equal_at_most, sum_at_most, at_most_trans, product_equal}
+use Rattle.cvss_number.specs.Exact.{Exact, ◌over◌, whole, tenths, ◌⊕◌, ◌≈◌, ◌⊑◌}
+use Rattle.cvss_number.proofs.ExactLemmas.{equal_refl, equal_sym, equal_trans, equal_at_most, sum_at_most, at_most_trans, product_equal}
 use Rattle.cvss_v3.proofs.CapLemmas.{capped, capped_to_ten}
 use Rattle.cvss_v3.proofs.CutLemmas.{cut_is}
 use Rattle.cvss_v3.proofs.EqualLemmas.{above_zero, first_equal, first_bottom, rounds_equal, rounded_once}

@@ -2,11 +2,11 @@
 use Rattle.std.specs.List.{list_all}
 use Rattle.std.proofs.Common.{◌≡◌, ℕ, ◌-◌, ◌*◌, ◌/◌, ◌^◌, Bool, true, ◌&&◌, refl, sym, subst}
 use Rattle.std.proofs.lemmas.Bool.{and_parts}
-use Rattle.cvss_base.specs.Exact.{Exact, ◌over◌, ◌⊕◌}
+use Rattle.cvss_number.specs.Exact.{Exact, ◌over◌, ◌⊕◌}
 use Rattle.cvss_v3.specs.private.Near.{IsNear}
 use Rattle.cvss_v3.specs.Scores.{power, changed_impact, changed_modified_impact}
 use Rattle.cvss_v3.specs.private.SubScores.{sub_scores, IsSubScore}
-use Rattle.cvss_base.proofs.TestLemmas.{is_at_most, at_most_if, passes}
+use Rattle.cvss_number.proofs.TestLemmas.{is_at_most, at_most_if, passes}
 
 -- the product of two numbers in nine decimals, cut to nine decimals
 abbrev cut : ℕ → ℕ → ℕ

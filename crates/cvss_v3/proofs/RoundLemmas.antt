@@ -4,8 +4,8 @@ use Rattle.std.proofs.lemmas.Int.{ints}
 use Rattle.std.proofs.lemmas.Bool.{leb-true}
 use Rattle.std.proofs.Math.Nat.{lt_of_mul-lt-mul_right}
 use lib.Signed.{le_z}
-use Rattle.cvss_base.specs.Exact.{Exact, ◌over◌, tenths, of_count, ◌⊕◌, ◌⊑◌, ◌⊏◌}
-use Rattle.cvss_base.specs.Rounding.{IsRoundedV30, IsRoundedV31}
+use Rattle.cvss_number.specs.Exact.{Exact, ◌over◌, tenths, of_count, ◌⊕◌, ◌⊑◌, ◌⊏◌}
+use Rattle.cvss_number.specs.Rounding.{IsRoundedV30, IsRoundedV31}
 use Rattle.cvss_v3.specs.Scores.{IsRounded}
 
 -- the number next to r tenths at which the v3.1 rounding jumps

@@ -4,15 +4,15 @@ use Rattle.std.specs.List.{list_all, Contains}
 use Rattle.std.proofs.Common.{◌≡◌, ℕ, zero, suc, ◌+◌, ◌-◌, ◌*◌, ◌/◌, ◌^◌, ◌<◌, ℤ, pos, negsuc, ◌-ℤ◌, ◌*ℤ◌, Bool, true, false, ◌&&◌, ◌||◌, ◌⊎◌, inl, inr, arith, refl, lit<}
 use Rattle.std.proofs.lemmas.Int.{ints}
 use Rattle.std.proofs.lemmas.Bool.{and_parts, or_cases}
-use Rattle.cvss_base.specs.Exact.{Exact, ratio, ◌over◌, whole, tenths, ◌⊕◌, ◌⊑◌, ◌⊏◌}
-use Rattle.cvss_base.proofs.ExactLemmas.{at_most_trans, at_most_below, below_at_most, times_sum, times_times}
+use Rattle.cvss_number.specs.Exact.{Exact, ratio, ◌over◌, whole, tenths, ◌⊕◌, ◌⊑◌, ◌⊏◌}
+use Rattle.cvss_number.proofs.ExactLemmas.{at_most_trans, at_most_below, below_at_most, times_sum, times_times}
 use Rattle.cvss_v3.proofs.SubScoreLemmas.{exploitabilities}
 use Rattle.cvss_v3.specs.Scores.{power, unchanged_impact, changed_impact, changed_modified_impact, first_number, IsRounded}
 use Rattle.cvss_v3.specs.private.SubScores.{sub_scores, IsSubScore}
 use Rattle.cvss_v3.proofs.EqualLemmas.{changed_bottom, changed_modified_bottom, first_bottom}
 use Rattle.cvss_v3.proofs.NearLemmas.{error}
 use Rattle.cvss_v3.proofs.RoundLemmas.{jump, between_jumps}
-use Rattle.cvss_base.proofs.TestLemmas.{is_below, is_at_most, below_if, at_most_if, passes}
+use Rattle.cvss_number.proofs.TestLemmas.{is_below, is_at_most, below_if, at_most_if, passes}
 
 -- whether what lies within an error of n and is at most 10 is rounded to r tenths by v3.0, and by v3.1 to s, and n lies a
 -- fifth decimal or more above the tenth before s

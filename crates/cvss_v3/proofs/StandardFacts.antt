@@ -2,14 +2,14 @@
 use Rattle.std.proofs.Common.{◌≡◌, ℕ, zero, suc, ◌^◌, pos, ◌-ℤ◌, Bool, true, false, ◌&&◌, leb, refl, negsuc, ◌*◌, arith, rules}
 use Rattle.std.proofs.lemmas.Int.{ints}
 use Rattle.std.proofs.lemmas.Bool.{and_parts, leb-true}
-use Rattle.cvss_base.specs.Exact.{ratio, ◌over◌, tenths, ◌⊕◌, ◌≈◌}
+use Rattle.cvss_number.specs.Exact.{ratio, ◌over◌, tenths, ◌⊕◌, ◌≈◌}
 use Rattle.cvss_base.specs.Rating.{rating_of_score}
-use Rattle.cvss_base.specs.declared.severity.Severity.TheVariants.{None, Low, Medium, High, Critical}
+use Rattle.cvss_name.specs.declared.severity.Severity.TheVariants.{None, Low, Medium, High, Critical}
 use Rattle.cvss_v3.specs.laws.FifthDecimals.{IsRoundedCut}
 use Rattle.cvss_v3.specs.Scores.{power, changed_impact, changed_modified_impact, base_number, environmental_number, temporal_number, miss, IsRounded, IsBase, IsTemporal, IsEnvironmental}
 use Rattle.cvss_v3.specs.declared.weights.Weights.{Weights}
 use Rattle.cvss_v3.proofs.RoundLemmas.{jump, between_jumps}
-use Rattle.cvss_base.proofs.TestLemmas.{is_below, is_at_most, below_if, at_most_if}
+use Rattle.cvss_number.proofs.TestLemmas.{is_below, is_at_most, below_if, at_most_if}
 
 -- whether t/q is rounded to r tenths
 abbrev is_rounded : ℕ → ℕ → ℕ → ℕ → Bool

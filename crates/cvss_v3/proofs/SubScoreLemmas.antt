@@ -4,7 +4,7 @@ use Rattle.std.proofs.Common.{◌≡◌, ℕ, ◌-◌, ◌*◌, ◌/◌, ◌≤�
 use Rattle.std.proofs.lemmas.Bool.{leb-true, eqb-true, or_cases}
 use Rattle.cvss_v3.specs.private.SubScores.{sub_scores, weighted_impacts, IsSubScore}
 use Rattle.cvss_v3.specs.private.Weights.{attack_vectors, attack_complexities, privileges_required, user_interactions, impacts, requirements}
-use Rattle.cvss_base.proofs.TestLemmas.{passes, passes_three, is_listed, listed_if}
+use Rattle.cvss_number.proofs.TestLemmas.{passes, passes_three, is_listed, listed_if}
 
 -- Exploitability by whether the scope is changed, in 10^-10, absent metrics included
 abbrev pub exploitabilities : Bool → List ℕ

@@ -2,8 +2,8 @@
 use Rattle.std.proofs.Common.{ℕ, zero, suc, ◌<◌, List, [], ◌∷◌, length, map, Bool, true, false, Option, Some, None, unwrap_or, arith, refl, lit<}
 use Rattle.std.specs.Prelude.{slice_get}
 use Rattle.std.specs.List.{Contains}
-use Rattle.cvss_base.specs.declared.v3.MetricType.{MetricType}
-use Rattle.cvss_base.specs.declared.v3.MetricType.TheVariants.{A, AC, AV, C, I, PR, UI, E, RL, RC, CR, IR, AR}
+use Rattle.cvss_name.specs.declared.v3.MetricType.{MetricType}
+use Rattle.cvss_name.specs.declared.v3.MetricType.TheVariants.{A, AC, AV, C, I, PR, UI, E, RL, RC, CR, IR, AR}
 use Rattle.cvss_v3_metric.specs.Modified.{weight_or}
 use Rattle.cvss_v3_metric.specs.Table.{Value, rows_of, rank_of, weight_of, changed_privileges}
 use Rattle.cvss_v3_metric.specs.private.TableLaws.{ranked}

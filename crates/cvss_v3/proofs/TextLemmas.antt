@@ -1,11 +1,11 @@
 -- A text denotes at most one vector, and a canonical text denotes its own.
 use Rattle.std.proofs.Common.{◌≡◌, ◌≢◌, ◌↔◌, ℕ, IsTrue, nat_eq, List, ◌++◌, codes, Option, Some, None, IfSome, subst, sym, ap, ◌∙◌}
 use Rattle.std.proofs.lemmas.Bool.Decides.{Decides-eqb}
-use Rattle.cvss_base.specs.Version.{numeral, canonical_text, version_piece, Denotes}
-use Rattle.cvss_base.specs.private.Printing.{slashed_texts}
-use Rattle.cvss_base.proofs.CanonicalLemmas.{canonical_text-denotes}
-use Rattle.cvss_base.proofs.FrontLemmas.{denoted_once_behind, fronts_same}
-use Rattle.cvss_base.proofs.PrintLemmas.{joined-slashed}
+use Rattle.cvss_grammar.specs.Version.{numeral, canonical_text, version_piece, Denotes}
+use Rattle.cvss_text.specs.private.Printing.{slashed_texts}
+use Rattle.cvss_text.proofs.CanonicalLemmas.{canonical_text-denotes}
+use Rattle.cvss_text.proofs.FrontLemmas.{denoted_once_behind, fronts_same}
+use Rattle.cvss_text.proofs.PrintLemmas.{joined-slashed}
 use Rattle.cvss_v3_metric.specs.Table.{printed}
 use Rattle.cvss_v3.specs.declared.vector.Vector.{Vector}
 use Rattle.cvss_v3.specs.Vector.{v3}

@@ -3,7 +3,7 @@
 -- The number of the temporal score can lie on a jump: that of CVSS:3.0/AV:N/AC:L/PR:N/UI:N/S:C/C:H/I:H/A:H/E:H/RL:U/RC:U
 -- is exactly 9.2, and with a millionth added its rounding is 9.3.
 use Rattle.std.specs.Prelude.{ℕ, ◌<◌, ℤ}
-use Rattle.cvss_base.specs.Exact.{Exact, ◌over◌, whole, ◌⊕◌, ◌⊖◌, ◌⊑◌}
+use Rattle.cvss_number.specs.Exact.{Exact, ◌over◌, whole, ◌⊕◌, ◌⊖◌, ◌⊑◌}
 use Rattle.cvss_v3.specs.Scores.{IsRounded}
 
 -- each number from n - 10^-6 to n + 10^-6 that is not above 10 has the rounding of n

@@ -1,9 +1,9 @@
 -- The equations of the v3.0 specification, section 8, and of the v3.1 specification, section 7: base (8.1; 7.1),
 -- temporal (8.2; 7.2) and environmental (8.3; 7.3). A minor version 0 takes those of v3.0, any other those of v3.1.
 use Rattle.std.specs.Prelude.{ℕ, zero, suc, ℤ, pos, Bool, true, false, int_lt, if◌then◌else◌}
-use Rattle.cvss_base.specs.Exact.{Exact, ◌over◌, whole, tenths, ◌⊕◌, ◌⊖◌, ◌⊗◌, smaller}
-use Rattle.cvss_base.specs.Rounding.{IsRoundedV30, IsRoundedV31}
-use Rattle.cvss_base.specs.Tenths.{IsInTenths}
+use Rattle.cvss_number.specs.Exact.{Exact, ◌over◌, whole, tenths, ◌⊕◌, ◌⊖◌, ◌⊗◌, smaller}
+use Rattle.cvss_number.specs.Rounding.{IsRoundedV30, IsRoundedV31}
+use Rattle.cvss_number.specs.Tenths.{IsInTenths}
 use Rattle.cvss_v3.specs.declared.weights.Weights.{Weights}
 
 -- a weight of so many hundredths

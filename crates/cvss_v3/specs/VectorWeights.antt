@@ -1,8 +1,8 @@
 -- The weights of a vector: v3.1 specification, sections 2.1 to 4.2 (a metric that is Not Defined is
 -- skipped by the equations, a modified metric replaces its base metric) and 7.4.
 use Rattle.std.specs.Prelude.{ℕ, Bool, true, false, Option, Some, None}
-use Rattle.cvss_base.specs.declared.v3.MetricType.{MetricType}
-use Rattle.cvss_base.specs.declared.v3.MetricType.TheVariants.{A, AC, AV, C, I, UI, E, RL, RC, CR, IR, AR}
+use Rattle.cvss_name.specs.declared.v3.MetricType.{MetricType}
+use Rattle.cvss_name.specs.declared.v3.MetricType.TheVariants.{A, AC, AV, C, I, UI, E, RL, RC, CR, IR, AR}
 use Rattle.cvss_v3_metric.specs.Modified.{replaced, weight_or}
 use Rattle.cvss_v3_metric.specs.Table.{Value, weight_of, absent_weight, scoped_weight}
 use Rattle.cvss_v3_metric.specs.declared.base.privileges.PrivilegesRequired.{PrivilegesRequired}

@@ -2,7 +2,7 @@
 
 ghost use Rattle.std.specs.Prelude.{◌≡◌, ◌≤◌, ◌<◌, ◌*◌, ◌^◌};
 ghost use Rattle.std.specs.List.{Contains};
-ghost use Rattle.cvss_base.specs.Exact.{◌over◌, ◌⊗◌, ◌≈◌};
+ghost use Rattle.cvss_number.specs.Exact.{◌over◌, ◌⊗◌, ◌≈◌};
 ghost use Rattle.cvss_v3.specs.Scores.{hundredths, sub_score_of, unchanged_impact, exploitability_of, first_number};
 ghost use Rattle.cvss_v3.specs.private.SubScores.{weighted_impacts};
 ghost use Rattle.cvss_v3.specs.private.Weights.{impacts, requirements};

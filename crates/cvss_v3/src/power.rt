@@ -2,7 +2,7 @@
 //! jumps so near to an exact number that this shows.
 
 ghost use Rattle.std.specs.Prelude.{◌≡◌, ◌≤◌, ◌<◌, ◌*◌, ◌/◌, ◌^◌};
-ghost use Rattle.cvss_base.specs.Exact.{◌over◌};
+ghost use Rattle.cvss_number.specs.Exact.{◌over◌};
 ghost use Rattle.cvss_v3.specs.private.Near.{IsNear};
 ghost use Rattle.cvss_v3.specs.Scores.{changed_impact, changed_modified_impact};
 ghost use Rattle.cvss_v3.specs.private.SubScores.{IsSubScore};

@@ -1,10 +1,10 @@
 //! The roundings of v3.0 (section 8.1) and v3.1 (Appendix A) to tenths.
 
 ghost use Rattle.std.specs.Prelude.{◌≤◌, ◌*◌, ◌^◌, pos, neg_ℤ, ◌≤ℤ◌};
-ghost use Rattle.cvss_base.specs.Exact.{◌over◌, of_count, IsWithinLimit};
+ghost use Rattle.cvss_number.specs.Exact.{◌over◌, of_count, IsWithinLimit};
 ghost use Rattle.cvss_v3.specs.Scores.{IsRounded};
 
-use cvss_base::TENTH;
+use cvss_number::TENTH;
 
 /// The rounding of a number of 10^-13 that is at most 10.
 pub fn round_tenths(number: u64, minor_version: usize) -> u64

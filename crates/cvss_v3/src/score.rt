@@ -1,13 +1,15 @@
 //! A score of CVSS v3.
 
 ghost use Rattle.std.specs.Prelude.{◌≡◌, ◌≤◌, ◌*ℤ◌, ◌^◌, ℤ, pos, Some};
-ghost use Rattle.cvss_base.specs.Exact.{of_count, IsWithinLimit};
+ghost use Rattle.cvss_number.specs.Exact.{of_count, IsWithinLimit};
 ghost use Rattle.cvss_base.specs.Rating.{rating_of_score};
-ghost use Rattle.cvss_base.specs.Tenths.{score_text, IsInTenths, IsFromZeroToTen};
+ghost use Rattle.cvss_number.specs.Tenths.{score_text, IsInTenths, IsFromZeroToTen};
 ghost use Rattle.cvss_v3.specs.Scores.{IsRounded};
 
 use crate::rounding;
-use cvss_base::{OneDecimal, Severity, TENTH, severity_of_score};
+use cvss_base::severity_of_score;
+use cvss_name::Severity;
+use cvss_number::{OneDecimal, TENTH};
 use std::fmt;
 use std::marker::Model;
 

@@ -18,9 +18,9 @@ use crate::metric::environmental::{
     ModifiedScope,
 };
 use crate::metric::temporal::{ExploitCodeMaturity, RemediationLevel, ReportConfidence};
-use cvss_base::Error;
-use cvss_base::front::read_behind;
-use cvss_base::print::same_components;
+use cvss_name::Error;
+use cvss_text::front::read_behind;
+use cvss_text::print::same_components;
 use cvss_base::refusing::vector_behind;
 pub use listing::Metrics;
 use std::alloc::Global;
@@ -57,11 +57,11 @@ pub struct Vector {
 
 impl Vector {
     ghost use Rattle.std.specs.Str.{IsUtf8};
-    ghost use Rattle.cvss_base.specs.Refusal.{Refusal, IsFirstRefusalBehind};
-    ghost use Rattle.cvss_base.specs.Told.{Tells, TellsFirst};
-    ghost use Rattle.cvss_base.specs.V3Types.{v3_reason};
-    ghost use Rattle.cvss_base.specs.Version.{canonical_text, Denotes, IsWellFormed};
-    ghost use Rattle.cvss_base.specs.declared.v3.MetricType.{MetricType};
+    ghost use Rattle.cvss_grammar.specs.Refusal.{Refusal, IsFirstRefusalBehind};
+    ghost use Rattle.cvss_name.specs.Told.{Tells, TellsFirst};
+    ghost use Rattle.cvss_name.specs.V3Types.{v3_reason};
+    ghost use Rattle.cvss_grammar.specs.Version.{canonical_text, Denotes, IsWellFormed};
+    ghost use Rattle.cvss_name.specs.declared.v3.MetricType.{MetricType};
     ghost use Rattle.cvss_v3.specs.Vector.{v3};
 
     /// The vector that a text denotes: `CVSS:3.0` or `CVSS:3.1` and then, each behind a slash, its

@@ -1,8 +1,8 @@
 //! The scores of the specifications over the weights of a vector's metrics.
 
 ghost use Rattle.std.specs.Prelude.{◌≡◌, ◌⊎◌, ◌≤◌, ◌^◌, ℕ, pos};
-ghost use Rattle.cvss_base.specs.Exact.{of_count, ◌over◌, ◌≈◌, IsWithinLimit};
-ghost use Rattle.cvss_base.specs.Tenths.{IsInTenths, IsFromZeroToTen};
+ghost use Rattle.cvss_number.specs.Exact.{of_count, ◌over◌, ◌≈◌, IsWithinLimit};
+ghost use Rattle.cvss_number.specs.Tenths.{IsInTenths, IsFromZeroToTen};
 ghost use Rattle.cvss_v3.specs.private.Near.{RoundsAs};
 ghost use Rattle.cvss_v3.specs.Scores.{iss, miss, exploitability, base_number, environmental_number, temporal_number, IsRounded, IsBase, IsBaseScore, IsTemporalScore, IsEnvironmentalScore};
 ghost use Rattle.cvss_v3.specs.private.SubScores.{IsSubScore};

@@ -2,7 +2,7 @@
 use Rattle.std.specs.Prelude.{◌≡◌, ◌≢◌, codes, IsSome, Some}
 use Rattle.std.specs.Ordering.{nat_cmp}
 use Rattle.std.specs.declared.cmp.Ordering.{Ordering}
-use Rattle.cvss_base.specs.declared.v3.MetricType.{MetricType}
+use Rattle.cvss_name.specs.declared.v3.MetricType.{MetricType}
 use Rattle.cvss_v3_metric.specs.declared.environmental.modified.Modified.{Modified}
 use Rattle.cvss_v3_metric.specs.declared.environmental.modified.Modified.TheVariants.{NotDefined, Modified as Set}
 use Rattle.cvss_v3_metric.specs.Modified.{modified_rank}

@@ -2,10 +2,10 @@
 -- (temporal) and 4 (environmental) for the values and their spellings, section 7.4 for their weights.
 use Rattle.std.specs.Prelude.{ℕ, ◌+◌, Bool, true, false, List, [], ◌∷◌, codes, Option, Some, None, unwrap_or, slice_get, find, bytes_eq}
 use Rattle.std.specs.Option.{option_map_or}
-use Rattle.cvss_base.specs.Text.{component}
-use Rattle.cvss_base.specs.V3Types.{name_of}
-use Rattle.cvss_base.specs.declared.v3.MetricType.{MetricType}
-use Rattle.cvss_base.specs.declared.v3.MetricType.TheVariants.{A, AC, AV, C, I, PR, S, UI, E, RL, RC, CR, IR, AR, MAV, MAC, MPR, MUI, MS, MC, MI, MA}
+use Rattle.cvss_grammar.specs.Text.{component}
+use Rattle.cvss_name.specs.V3Types.{name_of}
+use Rattle.cvss_name.specs.declared.v3.MetricType.{MetricType}
+use Rattle.cvss_name.specs.declared.v3.MetricType.TheVariants.{A, AC, AV, C, I, PR, S, UI, E, RL, RC, CR, IR, AR, MAV, MAC, MPR, MUI, MS, MC, MI, MA}
 use Rattle.cvss_v3_metric.specs.declared.base.attack.AttackVector.{AttackVector}
 use Rattle.cvss_v3_metric.specs.declared.base.attack.AttackVector.TheVariants as attack_vector
 use Rattle.cvss_v3_metric.specs.declared.base.attack.AttackComplexity.{AttackComplexity}

@@ -1,18 +1,18 @@
 //! What all metrics of CVSS v3 have in common.
 
 ghost use Rattle.std.specs.Prelude.{◌≡◌, [], ◌∷◌, ◌*◌, ◌^◌, ◌↔◌, pos, IsTrue, IsSome, IfSome, IfOk, IfErr, Some, unwrap_or};
-ghost use Rattle.cvss_base.specs.Refusal.{BadValue};
-ghost use Rattle.cvss_base.specs.Told.{Tells};
-ghost use Rattle.cvss_base.specs.V3Types.{v3_reason, name_of};
-ghost use Rattle.cvss_base.specs.laws.Equality.{EqualsByValue, ClonesByValue};
-ghost use Rattle.cvss_base.specs.Exact.{IsWithinLimit};
-ghost use Rattle.cvss_base.specs.declared.v3.MetricType.{MetricType};
-ghost use Rattle.cvss_base.specs.Text.{slash, raised};
+ghost use Rattle.cvss_grammar.specs.Refusal.{BadValue};
+ghost use Rattle.cvss_name.specs.Told.{Tells};
+ghost use Rattle.cvss_name.specs.V3Types.{v3_reason, name_of};
+ghost use Rattle.cvss_grammar.specs.laws.Equality.{EqualsByValue, ClonesByValue};
+ghost use Rattle.cvss_number.specs.Exact.{IsWithinLimit};
+ghost use Rattle.cvss_name.specs.declared.v3.MetricType.{MetricType};
+ghost use Rattle.cvss_grammar.specs.Text.{slash, raised};
 ghost use Rattle.cvss_v3_metric.specs.Table.{Value, spelling_of, weight_of, metric_component};
 ghost use Rattle.cvss_v3_metric.specs.Metrics.{IsMetric};
 
-use cvss_base::Error;
-pub use cvss_base::v3::MetricType;
+use cvss_name::Error;
+pub use cvss_name::v3::MetricType;
 use std::alloc::Global;
 use std::fmt;
 

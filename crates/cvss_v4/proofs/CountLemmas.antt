@@ -1,9 +1,9 @@
 -- What holds of scores in tenths, of their counts of 10^-24.
 use Rattle.std.proofs.Common.{arith, ℤ, ◌≤ℤ◌}
 use Rattle.std.proofs.lemmas.Int.{ints}
-use Rattle.cvss_base.specs.Exact.{◌over◌, ◌⊕◌}
-use Rattle.cvss_base.specs.Rounding.{IsRoundedV4}
-use Rattle.cvss_base.specs.Tenths.{IsInTenths}
+use Rattle.cvss_number.specs.Exact.{◌over◌, ◌⊕◌}
+use Rattle.cvss_number.specs.Rounding.{IsRoundedV4}
+use Rattle.cvss_number.specs.Tenths.{IsInTenths}
 use Rattle.cvss_v4.specs.laws.ScoreLaws.{IsAsSevere}
 use Rattle.cvss_v4.specs.Scores.{number, IsScore}
 use Rattle.cvss_v4.specs.declared.scoring.effective.Effective.{Effective}

@@ -5,9 +5,9 @@ use Rattle.std.specs.List.{list_all, slice_get}
 use Rattle.std.specs.declared.cmp.Ordering.{Ordering}
 use Rattle.std.proofs.lemmas.Bool.{eqb-true}
 use Rattle.std.proofs.lemmas.Option.{slice_get-map}
-use Rattle.cvss_base.specs.Text.{raised}
-use Rattle.cvss_base.specs.declared.v4.MetricType.{MetricType}
-use Rattle.cvss_base.specs.declared.v4.MetricType.TheVariants.{AC}
+use Rattle.cvss_grammar.specs.Text.{raised}
+use Rattle.cvss_name.specs.declared.v4.MetricType.{MetricType}
+use Rattle.cvss_name.specs.declared.v4.MetricType.TheVariants.{AC}
 use Rattle.cvss_v4_metric.specs.laws.Metrics.{IsMetric}
 use Rattle.cvss_v4_metric.specs.Table.{spellings_of, spelling_at}
 use Rattle.cvss_v4.proofs.TestLemmas.{at_place}

@@ -3,8 +3,8 @@ use Rattle.std.proofs.Common.{◌≡◌, ℕ, zero, suc, ◌+◌, ◌-◌, ◌*�
 use Rattle.std.specs.List.{cons_option, filter_map}
 use Rattle.std.proofs.Math.Nat.{mul-pos}
 use Rattle.std.proofs.lemmas.Int.{ints}
-use Rattle.cvss_base.specs.Exact.{Exact, ratio, ◌over◌, tenths, ◌⊕◌, ◌⊖◌, ◌⊗◌, ◌≈◌}
-use Rattle.cvss_base.proofs.ExactLemmas.{equal_refl, equal_trans, sum_equal, difference_equal, product_equal}
+use Rattle.cvss_number.specs.Exact.{Exact, ratio, ◌over◌, tenths, ◌⊕◌, ◌⊖◌, ◌⊗◌, ◌≈◌}
+use Rattle.cvss_number.proofs.ExactLemmas.{equal_refl, equal_trans, sum_equal, difference_equal, product_equal}
 use Rattle.cvss_v4.specs.Gap.{Group}
 use Rattle.cvss_v4.specs.Scores.{proportion, total, mean}
 use Rattle.cvss_v4.specs.private.Shares.{taken, counted}

@@ -1,9 +1,9 @@
 -- Vectors of which the law on modified metrics speaks, so that its premise is not an empty one.
 use Rattle.std.proofs.Common.{◌≡◌, ◌⊎◌, inl, inr, ◌++◌, false, true, codes, Some, None, bytes_eq, take, drop, refl, sym, ◌∙◌, subst, ap}
-use Rattle.cvss_base.specs.V4Types.{name_of}
-use Rattle.cvss_base.specs.declared.v4.MetricType.{MetricType}
-use Rattle.cvss_base.specs.declared.v4.MetricType.TheVariants.{AC, AV, MAV}
-use Rattle.cvss_base.proofs.LawLemmas.{names_differ}
+use Rattle.cvss_name.specs.V4Types.{name_of}
+use Rattle.cvss_name.specs.declared.v4.MetricType.{MetricType}
+use Rattle.cvss_name.specs.declared.v4.MetricType.TheVariants.{AC, AV, MAV}
+use Rattle.cvss_text.proofs.LawLemmas.{names_differ}
 use Rattle.cvss_v4_metric.specs.declared.base.attack.AttackVector.TheVariants as attack_vector
 use Rattle.cvss_v4_env.specs.declared.attack.ModifiedAttackVector.TheVariants as modified_attack_vector
 use Rattle.cvss_v4.specs.Merging.{letter_at}

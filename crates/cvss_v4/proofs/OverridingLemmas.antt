@@ -6,19 +6,19 @@ use Rattle.std.proofs.lemmas.List.{get_or-map}
 use Rattle.std.proofs.lemmas.List.Elements.{Contains-append_right}
 use Rattle.std.proofs.lemmas.Map.Views.{Contains-from_any}
 use Rattle.std.proofs.lemmas.Slice.Eq.{bytes_eq-Decides}
-use Rattle.cvss_base.specs.Refusal.{Refusal, BadComponent, WrongPrefix, WrongVersion, UnknownName, BadValue, Repeated, Missing, piece_at, name_at, FaultAt}
-use Rattle.cvss_base.specs.Text.{IsComponent, name_part}
-use Rattle.cvss_base.specs.V4Types.{name_of}
-use Rattle.cvss_base.specs.Version.{numeral, read, version_piece, IsComplete}
-use Rattle.cvss_base.specs.private.Walk.{HasNoValue, IsFaultOf}
-use Rattle.cvss_base.specs.declared.v4.MetricType.{MetricType}
-use Rattle.cvss_base.specs.declared.v4.MetricType.TheVariants.{AC}
-use Rattle.cvss_base.proofs.ComponentLemmas.{piece_held}
-use Rattle.cvss_base.proofs.DenotesLemmas.{no_fault_held, vectors_same}
-use Rattle.cvss_base.proofs.JoinLemmas.{piece_is_component}
-use Rattle.cvss_base.proofs.LawLemmas.{names_differ}
-use Rattle.cvss_base.proofs.RefusalLemmas.{same_place, faults_same}
-use Rattle.cvss_base.proofs.WalkLemmas.{fault_at, name_from, AreComponentsOf-all, HasRead-none, HasRead-more}
+use Rattle.cvss_grammar.specs.Refusal.{Refusal, BadComponent, WrongPrefix, WrongVersion, UnknownName, BadValue, Repeated, Missing, piece_at, name_at, FaultAt}
+use Rattle.cvss_grammar.specs.Text.{IsComponent, name_part}
+use Rattle.cvss_name.specs.V4Types.{name_of}
+use Rattle.cvss_grammar.specs.Version.{numeral, read, version_piece, IsComplete}
+use Rattle.cvss_text.specs.private.Walk.{HasNoValue, IsFaultOf}
+use Rattle.cvss_name.specs.declared.v4.MetricType.{MetricType}
+use Rattle.cvss_name.specs.declared.v4.MetricType.TheVariants.{AC}
+use Rattle.cvss_text.proofs.ComponentLemmas.{piece_held}
+use Rattle.cvss_text.proofs.DenotesLemmas.{no_fault_held, vectors_same}
+use Rattle.cvss_text.proofs.JoinLemmas.{piece_is_component}
+use Rattle.cvss_text.proofs.LawLemmas.{names_differ}
+use Rattle.cvss_text.proofs.RefusalLemmas.{same_place, faults_same}
+use Rattle.cvss_text.proofs.WalkLemmas.{fault_at, name_from, AreComponentsOf-all, HasRead-none, HasRead-more}
 use Rattle.cvss_v4.proofs.CompleteLemmas.{none_is_none}
 use Rattle.cvss_v4_metric.specs.Table.{environmental, mandatory}
 use Rattle.cvss_v4.specs.Overriding.{AreOverrides, IsOverridden, NamesOther, Objection, OfOtherGroup, OfText, ObjectionAt, IsFirstObjection}

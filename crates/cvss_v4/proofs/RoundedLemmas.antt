@@ -1,8 +1,8 @@
 -- The bound of the mean, and the rounding of equal numbers.
 use Rattle.std.proofs.Common.{ℕ, zero, suc, ◌*◌, ◌/◌, ◌<◌, ◌≤◌, max, arith, ℤ}
-use Rattle.cvss_base.specs.Exact.{Exact, ◌≈◌}
-use Rattle.cvss_base.specs.Rounding.{half_below, half_above, IsRoundedV4}
-use Rattle.cvss_base.proofs.ExactLemmas.{equal_at_most, equal_sym, at_most_trans, at_most_below}
+use Rattle.cvss_number.specs.Exact.{Exact, ◌≈◌}
+use Rattle.cvss_number.specs.Rounding.{half_below, half_above, IsRoundedV4}
+use Rattle.cvss_number.proofs.ExactLemmas.{equal_at_most, equal_sym, at_most_trans, at_most_below}
 
 -- the mean of parts up to a gap is at most the gap
 pub mean_bound : (gap taken counted : ℕ) → counted ≤ 5 → taken ≤ 840 * gap * counted

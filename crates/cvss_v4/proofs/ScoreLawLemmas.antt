@@ -3,10 +3,10 @@ use Rattle.std.proofs.Common.{◌≡◌, ◌↔◌, ℕ, zero, suc, ◌-◌, ◌
 use Rattle.std.specs.List.{All}
 use Rattle.std.proofs.Math.Nat.{mul-pos}
 use Rattle.std.proofs.lemmas.Int.{ints}
-use Rattle.cvss_base.specs.Exact.{◌over◌, whole, ◌⊕◌, ◌≈◌, ◌⊑◌}
-use Rattle.cvss_base.specs.Rounding.{IsRoundedV4}
-use Rattle.cvss_base.proofs.ExactLemmas.{equal_refl, equal_sym, equal_at_most, at_most_trans, sum_equal}
-use Rattle.cvss_base.proofs.RoundingLemmas.{v4-unique}
+use Rattle.cvss_number.specs.Exact.{◌over◌, whole, ◌⊕◌, ◌≈◌, ◌⊑◌}
+use Rattle.cvss_number.specs.Rounding.{IsRoundedV4}
+use Rattle.cvss_number.proofs.ExactLemmas.{equal_refl, equal_sym, equal_at_most, at_most_trans, sum_equal}
+use Rattle.cvss_number.proofs.RoundingLemmas.{v4-unique}
 use Rattle.cvss_v4.specs.Gap.{Group, groups}
 use Rattle.cvss_v4.specs.laws.ScoreLaws.{IsFromTenthToTen}
 use Rattle.cvss_v4.specs.Scores.{has_impact, number, IsScore}

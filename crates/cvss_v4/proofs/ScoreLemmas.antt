@@ -1,8 +1,8 @@
 -- The number of a score in 504000ths of a point, and its rounding.
 use Rattle.std.proofs.Common.{◌≡◌, ℕ, ◌-◌, ◌*◌, ◌/◌, ◌<◌, ◌≤◌, max, true, false, filter_map, refl, arith, rules, ℤ, pos, sym, subst, lit<}
-use Rattle.cvss_base.specs.Exact.{◌over◌, whole, ◌≈◌}
-use Rattle.cvss_base.specs.Rounding.{IsRoundedV4}
-use Rattle.cvss_base.proofs.ExactLemmas.{equal_sym}
+use Rattle.cvss_number.specs.Exact.{◌over◌, whole, ◌≈◌}
+use Rattle.cvss_number.specs.Rounding.{IsRoundedV4}
+use Rattle.cvss_number.proofs.ExactLemmas.{equal_sym}
 use Rattle.cvss_v4.specs.Classes.{macro_vector}
 use Rattle.cvss_v4.specs.Gap.{groups}
 use Rattle.cvss_v4.specs.Scores.{has_impact, number, proportion}

@@ -2,9 +2,9 @@
 use Rattle.std.proofs.Common.{◌≡◌, ℕ, ◌+◌, ◌-◌, ◌*◌, ◌/◌, ◌≤◌, max, Bool, true, false, ◌||◌, Option, Some, None, option_map, unwrap_or, refl, arith, ℤ, pos, ◌-ℤ◌, ◌≤ℤ◌, ap, subst, lit<}
 use Rattle.std.proofs.Math.Nat.{mul-le-mul_left, mul-le-mul_right}
 use Rattle.std.proofs.lemmas.Int.{ints}
-use Rattle.cvss_base.specs.Exact.{◌over◌, whole, ◌⊑◌}
-use Rattle.cvss_base.proofs.ExactLemmas.{equal_at_most, equal_sym, at_most_trans}
-use Rattle.cvss_base.proofs.RoundingLemmas.{v4-ordered}
+use Rattle.cvss_number.specs.Exact.{◌over◌, whole, ◌⊑◌}
+use Rattle.cvss_number.proofs.ExactLemmas.{equal_at_most, equal_sym, at_most_trans}
+use Rattle.cvss_number.proofs.RoundingLemmas.{v4-ordered}
 use Rattle.cvss_v4.specs.Distance.{eq1_least, eq2_least, eq3_eq6_least, eq4_least}
 use Rattle.cvss_v4.specs.Gap.{Group, eq1_group, eq2_group, eq3_eq6_group, eq4_group, eq5_group, eq1_next, eq2_next, eq3_eq6_next, eq4_next, eq5_next, eq1_depth, eq2_depth, eq3_eq6_depth, eq4_depth, groups}
 use Rattle.cvss_v4.specs.Levels.{vulnerable_level, subsequent_level, safety_level}

@@ -1,13 +1,13 @@
 -- A text denotes at most one vector, and a canonical text denotes its own.
 use Rattle.std.proofs.Common.{◌≡◌, ◌≢◌, ◌↔◌, ℕ, IsTrue, nat_eq, List, [], ◌∷◌, ◌++◌, codes, Option, Some, None, IfSome, refl, sym, ap, ◌∙◌, lit<, subst}
 use Rattle.std.proofs.lemmas.Bool.Decides.{Decides-eqb}
-use Rattle.cvss_base.specs.Version.{numeral, canonical_text, version_piece, Denotes, IsSupported, IsWellFormed}
-use Rattle.cvss_base.specs.private.Printing.{slashed_texts}
-use Rattle.cvss_base.specs.private.Walk.{first_missing}
-use Rattle.cvss_base.proofs.CanonicalLemmas.{canonical_text-denotes}
-use Rattle.cvss_base.proofs.FrontLemmas.{denoted_once_behind, fronts_same}
-use Rattle.cvss_base.proofs.MissingLemmas.{IsComplete-from}
-use Rattle.cvss_base.proofs.PrintLemmas.{joined-slashed}
+use Rattle.cvss_grammar.specs.Version.{numeral, canonical_text, version_piece, Denotes, IsSupported, IsWellFormed}
+use Rattle.cvss_text.specs.private.Printing.{slashed_texts}
+use Rattle.cvss_text.specs.private.Walk.{first_missing}
+use Rattle.cvss_text.proofs.CanonicalLemmas.{canonical_text-denotes}
+use Rattle.cvss_text.proofs.FrontLemmas.{denoted_once_behind, fronts_same}
+use Rattle.cvss_text.proofs.MissingLemmas.{IsComplete-from}
+use Rattle.cvss_text.proofs.PrintLemmas.{joined-slashed}
 use Rattle.cvss_v4_metric.specs.Table.{printed}
 use Rattle.cvss_v4.specs.declared.vector.Vector.{Vector}
 use Rattle.cvss_v4.specs.Vector.{v4}

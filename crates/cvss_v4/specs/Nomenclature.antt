@@ -1,11 +1,11 @@
 -- Which groups of metrics a score rests on: CVSS v4.0 specification, section 1.3.
 use Rattle.std.specs.Prelude.{◌≡◌, ℕ, Bool, true, false, ℤ, List, ◌++◌, codes, is_some}
 use Rattle.std.specs.List.{list_any}
-use Rattle.cvss_base.specs.Tenths.{score_text}
+use Rattle.cvss_number.specs.Tenths.{score_text}
 use Rattle.std.specs.String.{string_bytes}
-use Rattle.cvss_base.specs.declared.error.Error.{Error}
-use Rattle.cvss_base.specs.declared.error.Error.TheVariants.{InvalidNomenclatureV4, OutOfMemory}
-use Rattle.cvss_base.specs.declared.v4.MetricType.{MetricType}
+use Rattle.cvss_name.specs.declared.error.Error.{Error}
+use Rattle.cvss_name.specs.declared.error.Error.TheVariants.{InvalidNomenclatureV4, OutOfMemory}
+use Rattle.cvss_name.specs.declared.v4.MetricType.{MetricType}
 use Rattle.cvss_v4_metric.specs.Table.{threat, environmental}
 use Rattle.cvss_v4.specs.Table.{value_at}
 use Rattle.cvss_v4.specs.declared.nomenclature.Nomenclature.{Nomenclature}

@@ -1,7 +1,7 @@
 -- The score of effective values: CVSS v4.0 specification, section 8.2.
 use Rattle.std.specs.Prelude.{ℕ, Bool, true, false, ◌||◌, if◌then◌else◌, List, [], ◌∷◌, Option, option_map, filter_map, length, ℤ, pos, ◌-ℤ◌}
-use Rattle.cvss_base.specs.Exact.{Exact, ratio, ◌over◌, whole, tenths, ◌⊕◌, ◌⊖◌, ◌⊗◌}
-use Rattle.cvss_base.specs.Rounding.{IsRoundedV4}
+use Rattle.cvss_number.specs.Exact.{Exact, ratio, ◌over◌, whole, tenths, ◌⊕◌, ◌⊖◌, ◌⊗◌}
+use Rattle.cvss_number.specs.Rounding.{IsRoundedV4}
 use Rattle.cvss_v4.specs.Gap.{Group, groups}
 use Rattle.cvss_v4.specs.Values.{table_value}
 use Rattle.cvss_v4.specs.declared.scoring.effective.Effective.{Effective}

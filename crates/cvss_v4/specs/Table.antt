@@ -1,8 +1,8 @@
 -- The metrics of CVSS v4.0 with the types of their values: v4.0 specification, sections 2 (base), 3
 -- (threat), 4 (environmental) and 5 (supplemental).
 use Rattle.std.specs.Prelude.{ℕ, List, Option}
-use Rattle.cvss_base.specs.declared.v4.MetricType.{MetricType}
-use Rattle.cvss_base.specs.declared.v4.MetricType.TheVariants.{AC, AT, AV, PR, SA, SC, SI, UI, VA, VC, VI, E, AR, CR, IR, MAC, MAT, MAV, MPR, MSA, MSC, MSI, MUI, MVA, MVC, MVI, AU, R, RE, S, U, V}
+use Rattle.cvss_name.specs.declared.v4.MetricType.{MetricType}
+use Rattle.cvss_name.specs.declared.v4.MetricType.TheVariants.{AC, AT, AV, PR, SA, SC, SI, UI, VA, VC, VI, E, AR, CR, IR, MAC, MAT, MAV, MPR, MSA, MSC, MSI, MUI, MVA, MVC, MVI, AU, R, RE, S, U, V}
 use Rattle.cvss_v4_metric.specs.Ranks.{attack_vector_rank, attack_complexity_rank, attack_requirements_rank, privileges_required_rank, user_interaction_rank, confidentiality_impact_to_the_vulnerable_system_rank, integrity_impact_to_the_vulnerable_system_rank, availability_impact_to_the_vulnerable_system_rank, confidentiality_impact_to_the_subsequent_system_rank, integrity_impact_to_the_subsequent_system_rank, availability_impact_to_the_subsequent_system_rank, exploit_maturity_rank, safety_rank, automatable_rank, recovery_rank, value_density_rank, vulnerability_response_effort_rank, provider_urgency_rank}
 use Rattle.cvss_v4_metric.specs.Table.{spelling_at}
 use Rattle.cvss_v4_env.specs.Ranks.{confidentiality_requirements_rank, integrity_requirements_rank, availability_requirements_rank, modified_attack_vector_rank, modified_attack_complexity_rank, modified_attack_requirements_rank, modified_privileges_required_rank, modified_user_interaction_rank, modified_confidentiality_impact_to_the_vulnerable_system_rank, modified_integrity_impact_to_the_vulnerable_system_rank, modified_availability_impact_to_the_vulnerable_system_rank, modified_confidentiality_impact_to_the_subsequent_system_rank, modified_integrity_impact_to_the_subsequent_system_rank, modified_availability_impact_to_the_subsequent_system_rank}

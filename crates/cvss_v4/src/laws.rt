@@ -3,13 +3,13 @@
 
 ghost use Rattle.std.specs.List.{All};
 ghost use Rattle.std.specs.Prelude.{◌≡◌, ℕ, ℤ, List, [], ◌∷◌, ◌≤◌, ◌↔◌, ◌≤ℤ◌, IfSome, IsTrue, None};
-ghost use Rattle.cvss_base.specs.laws.Equality.{EqualsByValue, ClonesByValue};
-ghost use Rattle.cvss_base.specs.Exact.{of_count, ◌over◌, ◌⊕◌};
-ghost use Rattle.cvss_base.specs.Rounding.{IsRoundedV4};
-ghost use Rattle.cvss_base.specs.laws.Rounding.{IsNearestEven, printed_tenths};
-ghost use Rattle.cvss_base.specs.Version.{canonical_text, Denotes};
-ghost use Rattle.cvss_base.specs.declared.v4.MetricType.{MetricType};
-ghost use Rattle.cvss_base.specs.declared.v4.MetricType.TheVariants.{AC, AT, AV, PR, SA, SC, SI, UI, VA, VC, VI, E, AR, CR, IR, MAC, MAT, MAV, MPR, MSA, MSC, MSI, MUI, MVA, MVC, MVI};
+ghost use Rattle.cvss_grammar.specs.laws.Equality.{EqualsByValue, ClonesByValue};
+ghost use Rattle.cvss_number.specs.Exact.{of_count, ◌over◌, ◌⊕◌};
+ghost use Rattle.cvss_number.specs.Rounding.{IsRoundedV4};
+ghost use Rattle.cvss_number.specs.laws.Rounding.{IsNearestEven, printed_tenths};
+ghost use Rattle.cvss_grammar.specs.Version.{canonical_text, Denotes};
+ghost use Rattle.cvss_name.specs.declared.v4.MetricType.{MetricType};
+ghost use Rattle.cvss_name.specs.declared.v4.MetricType.TheVariants.{AC, AT, AV, PR, SA, SC, SI, UI, VA, VC, VI, E, AR, CR, IR, MAC, MAT, MAV, MPR, MSA, MSC, MSI, MUI, MVA, MVC, MVI};
 ghost use Rattle.cvss_v4.specs.laws.ClassLaws.{IsDominated, HaveLeastSum, IsDepth};
 ghost use Rattle.cvss_v4.specs.Classes.{eq1, eq2, eq3, eq4, eq6, macro_vector};
 ghost use Rattle.cvss_v4.specs.Distance.{eq1_sum, eq1_least, eq1_distance, eq2_sum, eq2_least, eq2_distance, eq3_eq6_sum, eq3_eq6_least, eq3_eq6_distance, eq4_sum, eq4_least, eq4_distance};
@@ -44,7 +44,7 @@ pub fn equality_is_that_of_values()
     ensures override_error { (x y : OverrideError) → IsTrue (⟦<OverrideError as PartialEq>⟧.eq x y)
         ↔ AreAlike x y }
 {
-    cvss_base::laws::equality_is_that_of_values();
+    cvss_name::laws::equality_is_that_of_values();
 }
 
 /// A clone of a vector, a score or a nomenclature is that value, and a clone of an error of overrides
@@ -57,7 +57,7 @@ pub fn clones_are_equal()
         → ⟦<OverrideError as Clone>⟧.is_clone x clone
         → AreAlike x clone }
 {
-    cvss_base::laws::clones_are_equal();
+    cvss_name::laws::clones_are_equal();
 }
 
 /// To clone a vector, a score or a nomenclature takes no memory, so it is never refused.

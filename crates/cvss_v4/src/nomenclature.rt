@@ -5,7 +5,7 @@ ghost use Rattle.cvss_v4.specs.Nomenclature.{TellsNoNomenclature};
 ghost use Rattle.cvss_v4.specs.Nomenclature.{text_of, nomenclature_of};
 
 use crate::vector::Vector;
-use cvss_base::Error;
+use cvss_name::Error;
 use std::alloc::Global;
 use std::fmt;
 

@@ -2,11 +2,13 @@
 
 ghost use Rattle.std.specs.Prelude.{◌≡◌, ◌≤◌, ◌*ℤ◌, ◌≤ℤ◌, ◌^◌, pos, Some};
 ghost use Rattle.cvss_base.specs.Rating.{rating_of_score};
-ghost use Rattle.cvss_base.specs.Tenths.{IsInTenths, IsFromZeroToTen};
+ghost use Rattle.cvss_number.specs.Tenths.{IsInTenths, IsFromZeroToTen};
 ghost use Rattle.cvss_v4.specs.Nomenclature.{named_score_text};
 
 use crate::nomenclature::Nomenclature;
-use cvss_base::{OneDecimal, Severity, TENTH, severity_of_score};
+use cvss_base::severity_of_score;
+use cvss_name::Severity;
+use cvss_number::{OneDecimal, TENTH};
 use std::fmt;
 use std::marker::Model;
 

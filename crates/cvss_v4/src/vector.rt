@@ -32,11 +32,11 @@ use crate::metric::supplemental::{
     Automatable, ProviderUrgency, Recovery, Safety, ValueDensity, VulnerabilityResponseEffort,
 };
 use crate::metric::threat::ExploitMaturity;
-use cvss_base::Error;
-use cvss_base::front::read_behind;
-use cvss_base::print::same_components;
+use cvss_name::Error;
+use cvss_text::front::read_behind;
+use cvss_text::print::same_components;
 use cvss_base::refusing::vector_behind;
-use cvss_base::walk::Components;
+use cvss_text::walk::Components;
 pub use listing::Metrics;
 pub use overriding::OverrideError;
 use std::alloc::Global;
@@ -83,11 +83,11 @@ pub struct Vector {
 
 impl Vector {
     ghost use Rattle.std.specs.Str.{IsUtf8};
-    ghost use Rattle.cvss_base.specs.Refusal.{Refusal, IsFirstRefusalBehind};
-    ghost use Rattle.cvss_base.specs.Told.{Tells, TellsFirst};
-    ghost use Rattle.cvss_base.specs.V4Types.{v4_reason};
-    ghost use Rattle.cvss_base.specs.Version.{canonical_text, Denotes, IsComplete, IsWellFormed};
-    ghost use Rattle.cvss_base.specs.declared.v4.MetricType.{MetricType};
+    ghost use Rattle.cvss_grammar.specs.Refusal.{Refusal, IsFirstRefusalBehind};
+    ghost use Rattle.cvss_name.specs.Told.{Tells, TellsFirst};
+    ghost use Rattle.cvss_name.specs.V4Types.{v4_reason};
+    ghost use Rattle.cvss_grammar.specs.Version.{canonical_text, Denotes, IsComplete, IsWellFormed};
+    ghost use Rattle.cvss_name.specs.declared.v4.MetricType.{MetricType};
     ghost use Rattle.cvss_v4.specs.Vector.{v4};
 
     /// The vector that a text denotes: `CVSS:4.0` and then, each behind a slash, its components,

@@ -3,13 +3,13 @@
 
 ghost use Rattle.std.specs.Prelude.{Some, [], ◌∷◌};
 ghost use Rattle.std.proofs.Common.{rules};
-ghost use Rattle.cvss_base.specs.declared.v4.MetricType.TheVariants.{MPR, MUI};
+ghost use Rattle.cvss_name.specs.declared.v4.MetricType.TheVariants.{MPR, MUI};
 ghost use Rattle.cvss_v4_env.specs.Ranks.{modified_privileges_required_rank, modified_user_interaction_rank};
 ghost use Rattle.cvss_v4_metric.specs.Table.{metric_component};
 ghost use Rattle.cvss_v4_env.specs.declared.access.ModifiedPrivilegesRequired.TheVariants as modified_privileges_required;
 ghost use Rattle.cvss_v4_env.specs.declared.access.ModifiedUserInteraction.TheVariants as modified_user_interaction;
 
-use cvss_base::print::write_component;
+use cvss_text::print::write_component;
 use cvss_v4_metric::{Metric, MetricType};
 use std::fmt;
 

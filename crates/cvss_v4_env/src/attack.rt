@@ -3,14 +3,14 @@
 
 ghost use Rattle.std.specs.Prelude.{Some, [], ◌∷◌};
 ghost use Rattle.std.proofs.Common.{rules};
-ghost use Rattle.cvss_base.specs.declared.v4.MetricType.TheVariants.{MAV, MAC, MAT};
+ghost use Rattle.cvss_name.specs.declared.v4.MetricType.TheVariants.{MAV, MAC, MAT};
 ghost use Rattle.cvss_v4_env.specs.Ranks.{modified_attack_vector_rank, modified_attack_complexity_rank, modified_attack_requirements_rank};
 ghost use Rattle.cvss_v4_metric.specs.Table.{metric_component};
 ghost use Rattle.cvss_v4_env.specs.declared.attack.ModifiedAttackVector.TheVariants as modified_attack_vector;
 ghost use Rattle.cvss_v4_env.specs.declared.attack.ModifiedAttackComplexity.TheVariants as modified_attack_complexity;
 ghost use Rattle.cvss_v4_env.specs.declared.attack.ModifiedAttackRequirements.TheVariants as modified_attack_requirements;
 
-use cvss_base::print::write_component;
+use cvss_text::print::write_component;
 use cvss_v4_metric::{Metric, MetricType};
 use std::fmt;
 

@@ -3,14 +3,14 @@
 
 ghost use Rattle.std.specs.Prelude.{Some, [], ◌∷◌};
 ghost use Rattle.std.proofs.Common.{rules};
-ghost use Rattle.cvss_base.specs.declared.v4.MetricType.TheVariants.{CR, IR, AR};
+ghost use Rattle.cvss_name.specs.declared.v4.MetricType.TheVariants.{CR, IR, AR};
 ghost use Rattle.cvss_v4_env.specs.Ranks.{confidentiality_requirements_rank, integrity_requirements_rank, availability_requirements_rank};
 ghost use Rattle.cvss_v4_metric.specs.Table.{metric_component};
 ghost use Rattle.cvss_v4_env.specs.declared.requirement.ConfidentialityRequirements.TheVariants as confidentiality_requirements;
 ghost use Rattle.cvss_v4_env.specs.declared.requirement.IntegrityRequirements.TheVariants as integrity_requirements;
 ghost use Rattle.cvss_v4_env.specs.declared.requirement.AvailabilityRequirements.TheVariants as availability_requirements;
 
-use cvss_base::print::write_component;
+use cvss_text::print::write_component;
 use cvss_v4_metric::{Metric, MetricType};
 use std::fmt;
 

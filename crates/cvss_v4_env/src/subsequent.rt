@@ -3,14 +3,14 @@
 
 ghost use Rattle.std.specs.Prelude.{Some, [], ◌∷◌};
 ghost use Rattle.std.proofs.Common.{rules};
-ghost use Rattle.cvss_base.specs.declared.v4.MetricType.TheVariants.{MSC, MSI, MSA};
+ghost use Rattle.cvss_name.specs.declared.v4.MetricType.TheVariants.{MSC, MSI, MSA};
 ghost use Rattle.cvss_v4_env.specs.Ranks.{modified_confidentiality_impact_to_the_subsequent_system_rank, modified_integrity_impact_to_the_subsequent_system_rank, modified_availability_impact_to_the_subsequent_system_rank};
 ghost use Rattle.cvss_v4_metric.specs.Table.{metric_component};
 ghost use Rattle.cvss_v4_env.specs.declared.subsequent.ModifiedConfidentialityImpactToTheSubsequentSystem.TheVariants as modified_confidentiality_impact_to_the_subsequent_system;
 ghost use Rattle.cvss_v4_env.specs.declared.subsequent.ModifiedIntegrityImpactToTheSubsequentSystem.TheVariants as modified_integrity_impact_to_the_subsequent_system;
 ghost use Rattle.cvss_v4_env.specs.declared.subsequent.ModifiedAvailabilityImpactToTheSubsequentSystem.TheVariants as modified_availability_impact_to_the_subsequent_system;
 
-use cvss_base::print::write_component;
+use cvss_text::print::write_component;
 use cvss_v4_metric::{Metric, MetricType};
 use std::fmt;
 

@@ -2,7 +2,7 @@
 use Rattle.std.proofs.Common.{◌≡◌, ◌∷◌, [], ℕ, List, inl, inr, refl, ap, sym, ◌∙◌, arith}
 use Rattle.std.proofs.lemmas.Bool.Decides.{nat_tests}
 use Rattle.std.specs.Char.{to_ascii_uppercase}
-use Rattle.cvss_base.specs.Text.{raised}
+use Rattle.cvss_grammar.specs.Text.{raised}
 use Rattle.cvss_v4_metric.specs.Reading.{IsReading}
 
 letter_raised_twice : (byte : ℕ) → to_ascii_uppercase (to_ascii_uppercase byte) ≡ to_ascii_uppercase byte

@@ -1,10 +1,10 @@
 -- The metrics of CVSS v4.0 with the spellings of their values, as they are compared, the least first: v4.0
 -- specification, sections 2 (base), 3 (threat), 4 (environmental) and 5 (supplemental).
 use Rattle.std.specs.Prelude.{ℕ, List, [], ◌∷◌, ◌++◌, codes, slice_get, unwrap_or}
-use Rattle.cvss_base.specs.Text.{component}
-use Rattle.cvss_base.specs.V4Types.{name_of}
-use Rattle.cvss_base.specs.declared.v4.MetricType.{MetricType}
-use Rattle.cvss_base.specs.declared.v4.MetricType.TheVariants.{AC, AT, AV, PR, SA, SC, SI, UI, VA, VC, VI, E, AR, CR, IR, MAC, MAT, MAV, MPR, MSA, MSC, MSI, MUI, MVA, MVC, MVI, AU, R, RE, S, U, V}
+use Rattle.cvss_grammar.specs.Text.{component}
+use Rattle.cvss_name.specs.V4Types.{name_of}
+use Rattle.cvss_name.specs.declared.v4.MetricType.{MetricType}
+use Rattle.cvss_name.specs.declared.v4.MetricType.TheVariants.{AC, AT, AV, PR, SA, SC, SI, UI, VA, VC, VI, E, AR, CR, IR, MAC, MAT, MAV, MPR, MSA, MSC, MSI, MUI, MVA, MVC, MVI, AU, R, RE, S, U, V}
 
 -- how the values of an impact are spelled
 abbrev impacts : List (List ℕ)

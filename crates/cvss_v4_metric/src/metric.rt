@@ -1,18 +1,18 @@
 //! What all metrics of CVSS v4.0 have in common.
 
 ghost use Rattle.std.specs.Prelude.{◌≡◌, ◌↔◌, ◌∷◌, ℕ, List, IsTrue, IfSome, IfOk, IfErr, Some};
-ghost use Rattle.cvss_base.specs.Refusal.{BadValue};
-ghost use Rattle.cvss_base.specs.Text.{slash, raised};
-ghost use Rattle.cvss_base.specs.Told.{Tells};
-ghost use Rattle.cvss_base.specs.V4Types.{v4_reason, name_of};
-ghost use Rattle.cvss_base.specs.declared.v4.MetricType.{MetricType};
+ghost use Rattle.cvss_grammar.specs.Refusal.{BadValue};
+ghost use Rattle.cvss_grammar.specs.Text.{slash, raised};
+ghost use Rattle.cvss_name.specs.Told.{Tells};
+ghost use Rattle.cvss_name.specs.V4Types.{v4_reason, name_of};
+ghost use Rattle.cvss_name.specs.declared.v4.MetricType.{MetricType};
 ghost use Rattle.cvss_v4_metric.specs.laws.Metrics.{IsMetric};
 ghost use Rattle.cvss_v4_metric.specs.Reading.{IsReading};
 ghost use Rattle.cvss_v4_metric.specs.Table.{spelling_at, metric_component};
 
-use cvss_base::Error;
-pub use cvss_base::v4::MetricType;
-use cvss_base::walk::is_raised_as;
+use cvss_name::Error;
+pub use cvss_name::v4::MetricType;
+use cvss_text::walk::is_raised_as;
 use std::alloc::Global;
 use std::fmt;
 

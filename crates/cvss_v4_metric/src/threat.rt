@@ -2,13 +2,13 @@
 
 ghost use Rattle.std.specs.Prelude.{Some, [], ◌∷◌};
 ghost use Rattle.std.proofs.Common.{rules};
-ghost use Rattle.cvss_base.specs.declared.v4.MetricType.TheVariants.{E};
+ghost use Rattle.cvss_name.specs.declared.v4.MetricType.TheVariants.{E};
 ghost use Rattle.cvss_v4_metric.specs.Ranks.{exploit_maturity_rank};
 ghost use Rattle.cvss_v4_metric.specs.Table.{metric_component};
 ghost use Rattle.cvss_v4_metric.specs.declared.threat.ExploitMaturity.TheVariants as exploit_maturity;
 
 use crate::metric::{Metric, MetricType};
-use cvss_base::print::write_component;
+use cvss_text::print::write_component;
 use std::fmt;
 
 /// How far attacks or code to exploit are known (v4.0 specification, section 3.1).

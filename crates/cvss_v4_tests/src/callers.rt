@@ -1,8 +1,8 @@
 //! Callers that are proved from the contracts of the score and of the laws alone.
 
 ghost use Rattle.std.specs.Prelude.{◌≡◌, ◌≤◌, pos};
-ghost use Rattle.cvss_base.specs.Exact.{◌over◌, ◌⊕◌};
-ghost use Rattle.cvss_base.specs.Rounding.{IsRoundedV4};
+ghost use Rattle.cvss_number.specs.Exact.{◌over◌, ◌⊕◌};
+ghost use Rattle.cvss_number.specs.Rounding.{IsRoundedV4};
 ghost use Rattle.cvss_v4.specs.laws.ScoreLaws.{IsAsSevere};
 ghost use Rattle.cvss_v4.specs.Scores.{number};
 

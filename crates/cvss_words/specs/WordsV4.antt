@@ -1,8 +1,8 @@
 -- The members and words of FIRST's JSON schema of CVSS v4.0, metric by metric in the order of the v4.0
 -- specification, sections 2 to 5.
 use Rattle.std.specs.Prelude.{ℕ, List, [], ◌∷◌, ◌++◌, codes}
-use Rattle.cvss_base.specs.declared.v4.MetricType.{MetricType}
-use Rattle.cvss_base.specs.declared.v4.MetricType.TheVariants.{AV, AC, AT, PR, UI, VC, VI, VA, SC, SI, SA, E, CR, IR, AR, MAV, MAC, MAT, MPR, MUI, MVC, MVI, MVA, MSC, MSI, MSA, S, AU, R, V, RE, U}
+use Rattle.cvss_name.specs.declared.v4.MetricType.{MetricType}
+use Rattle.cvss_name.specs.declared.v4.MetricType.TheVariants.{AV, AC, AT, PR, UI, VC, VI, VA, SC, SI, SA, E, CR, IR, AR, MAV, MAC, MAT, MPR, MUI, MVC, MVI, MVA, MSC, MSI, MSA, S, AU, R, V, RE, U}
 use Rattle.cvss_words.specs.Words.{Row, not_defined}
 
 -- the name of the member that holds the metric's value

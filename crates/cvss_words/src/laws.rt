@@ -1,9 +1,9 @@
 //! Laws of the tables, each the contract of a function that does nothing.
 
 ghost use Rattle.std.specs.Prelude.{map};
-ghost use Rattle.cvss_base.specs.declared.v2.MetricType as kind_v2;
-ghost use Rattle.cvss_base.specs.declared.v3.MetricType as kind_v3;
-ghost use Rattle.cvss_base.specs.declared.v4.MetricType as kind_v4;
+ghost use Rattle.cvss_name.specs.declared.v2.MetricType as kind_v2;
+ghost use Rattle.cvss_name.specs.declared.v3.MetricType as kind_v3;
+ghost use Rattle.cvss_name.specs.declared.v4.MetricType as kind_v4;
 ghost use Rattle.cvss_v2.specs.Table as table_v2;
 ghost use Rattle.cvss_v3_metric.specs.Table as table_v3;
 ghost use Rattle.cvss_v4_metric.specs.Table as table_v4;

@@ -6,7 +6,7 @@ ghost use Rattle.cvss_words.specs.WordsV2.{member_of, words_of};
 
 use crate::NOT_DEFINED;
 use crate::rows::{Row, word_in};
-use cvss_base::v2::MetricType;
+use cvss_name::v2::MetricType;
 
 /// The name of the member that holds the metric's value.
 pub fn member(kind: MetricType) -> &'static str

@@ -1,10 +1,10 @@
 -- What the private code of the front door does.
 use Rattle.std.specs.Prelude.{◌≡◌, ℕ, List, ◌∷◌, codes, ⊤, Result, Ok, OnOk, IfOk, IfErr, IsErrAnd}
 use Rattle.std.specs.Str.{IsUtf8}
-use Rattle.cvss_base.specs.Version.{version_piece}
-use Rattle.cvss_base.specs.private.Pieces.{pieces_left}
-use Rattle.cvss_base.specs.private.Walk as walk
-use Rattle.cvss_base.specs.Refusal.{Refusal, BadComponent, WrongPrefix, WrongVersion}
+use Rattle.cvss_grammar.specs.Version.{version_piece}
+use Rattle.cvss_text.specs.private.Pieces.{pieces_left}
+use Rattle.cvss_text.specs.private.Walk as walk
+use Rattle.cvss_grammar.specs.Refusal.{Refusal, BadComponent, WrongPrefix, WrongVersion}
 use Rattle.cvss.specs.Dispatch as spec
 use Rattle.cvss.specs.declared.metric_type.MetricType.{MetricType}
 use Rattle.cvss.specs.declared.route.Fault.{Fault}

@@ -1,6 +1,6 @@
 -- Metrics that are Not Defined: guide, sections 2.2 and 2.3 (the equations skip such a metric).
 use Rattle.std.specs.Prelude.{◌≡◌, ◌⊎◌, IfSome, codes}
-use Rattle.cvss_base.specs.declared.v2.MetricType.{MetricType}
+use Rattle.cvss_name.specs.declared.v2.MetricType.{MetricType}
 use Rattle.cvss_v2.specs.declared.vector.Vector.{Vector}
 use Rattle.cvss_v2.specs.Table.{spelling_of}
 use Rattle.cvss_v2.specs.Vector.{value_at}

@@ -1,7 +1,7 @@
 -- Bounds of weights and scores, within which the arithmetic neither wraps nor overflows.
 use Rattle.std.specs.Prelude.{ℕ, ◌*◌, ◌^◌, ◌≤◌, ◌≤ℤ◌, ℤ, pos, negsuc, max, map}
 use Rattle.std.specs.List.{fold}
-use Rattle.cvss_base.specs.declared.v2.MetricType.{MetricType}
+use Rattle.cvss_name.specs.declared.v2.MetricType.{MetricType}
 use Rattle.cvss_v2.specs.declared.weights.Weights.{Weights}
 use Rattle.cvss_v2.specs.Table.{rows_of}
 use Rattle.cvss_v2.specs.Weights.{weights_by}

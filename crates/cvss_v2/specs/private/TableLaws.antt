@@ -1,10 +1,10 @@
 -- What holds of each value in the table of CVSS v2, checked value by value.
 use Rattle.std.specs.Prelude.{◌≡◌, false, codes}
 use Rattle.std.proofs.Common.{rules}
-use Rattle.cvss_base.specs.Text.{has, dot}
-use Rattle.cvss_base.specs.private.Walk.{foreign_bytes}
-use Rattle.cvss_base.specs.declared.v2.MetricType.{MetricType}
-use Rattle.cvss_base.specs.declared.v2.MetricType.TheVariants.{A}
+use Rattle.cvss_grammar.specs.Text.{has, dot}
+use Rattle.cvss_text.specs.private.Walk.{foreign_bytes}
+use Rattle.cvss_name.specs.declared.v2.MetricType.{MetricType}
+use Rattle.cvss_name.specs.declared.v2.MetricType.TheVariants.{A}
 use Rattle.cvss_v2.specs.Table.{Value, spelling_of, weight_of, absent_weight}
 
 -- no spelling has a slash or a colon

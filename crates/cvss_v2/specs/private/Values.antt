@@ -1,7 +1,7 @@
 -- The values of each metric as a list.
 use Rattle.std.specs.Prelude.{List, [], ◌∷◌}
-use Rattle.cvss_base.specs.declared.v2.MetricType.{MetricType}
-use Rattle.cvss_base.specs.declared.v2.MetricType.TheVariants.{A, AC, AV, Au, C, I, E, RL, RC, CDP, TD, CR, IR, AR}
+use Rattle.cvss_name.specs.declared.v2.MetricType.{MetricType}
+use Rattle.cvss_name.specs.declared.v2.MetricType.TheVariants.{A, AC, AV, Au, C, I, E, RL, RC, CDP, TD, CR, IR, AR}
 use Rattle.cvss_v2.specs.declared.metric.base.access.AccessVector.TheVariants as access_vector
 use Rattle.cvss_v2.specs.declared.metric.base.access.AccessComplexity.TheVariants as access_complexity
 use Rattle.cvss_v2.specs.declared.metric.base.access.Authentication.TheVariants as authentication

@@ -1,9 +1,9 @@
 -- What the walk over a text needs to know of CVSS v2.
 use Rattle.std.specs.Prelude.{◌≡◌, refl}
 use Rattle.std.proofs.Common.{lit<}
-use Rattle.cvss_base.specs.private.Walk.{IsLawful}
-use Rattle.cvss_base.specs.declared.v2.MetricType.{MetricType}
-use Rattle.cvss_base.specs.declared.v2.MetricType.TheVariants.{A, AC, AV, Au, C, I, E, RL, RC, CDP, TD, CR, IR, AR}
+use Rattle.cvss_text.specs.private.Walk.{IsLawful}
+use Rattle.cvss_name.specs.declared.v2.MetricType.{MetricType}
+use Rattle.cvss_name.specs.declared.v2.MetricType.TheVariants.{A, AC, AV, Au, C, I, E, RL, RC, CDP, TD, CR, IR, AR}
 use Rattle.cvss_v2.specs.declared.vector.Vector.{Vector}
 use Rattle.cvss_v2.specs.Vector.{v2, value_at}
 use Rattle.cvss_v2.specs.private.TableLaws.{plain_spelling, one_value}

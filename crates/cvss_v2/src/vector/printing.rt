@@ -3,19 +3,19 @@
 ghost use Rattle.std.specs.Prelude.{◌≡◌, Some, [], ◌∷◌, drop, option_map, unwrap_or};
 ghost use Rattle.std.specs.Fmt.{WritesOnOk};
 ghost use Rattle.std.specs.Option.{option_copied};
-ghost use Rattle.cvss_base.specs.Listing.{listed_metrics, metrics_left};
-ghost use Rattle.cvss_base.specs.private.Printing.{slashed, slashed_texts};
-ghost use Rattle.cvss_base.specs.Text.{component};
-ghost use Rattle.cvss_base.specs.V2Types.{name_of};
-ghost use Rattle.cvss_base.specs.Version.{canonical_text};
-ghost use Rattle.cvss_base.specs.declared.v2.MetricType.TheVariants.{A, AC, Au, C, I, E, RL, RC, CDP, TD, CR, IR, AR};
+ghost use Rattle.cvss_text.specs.Listing.{listed_metrics, metrics_left};
+ghost use Rattle.cvss_text.specs.private.Printing.{slashed, slashed_texts};
+ghost use Rattle.cvss_grammar.specs.Text.{component};
+ghost use Rattle.cvss_name.specs.V2Types.{name_of};
+ghost use Rattle.cvss_grammar.specs.Version.{canonical_text};
+ghost use Rattle.cvss_name.specs.declared.v2.MetricType.TheVariants.{A, AC, Au, C, I, E, RL, RC, CDP, TD, CR, IR, AR};
 ghost use Rattle.cvss_v2.specs.Table.{spelling_of, printed, listed};
 ghost use Rattle.cvss_v2.specs.Vector.{v2};
 
 use crate::metric::{Metric, MetricType};
 use crate::vector::Vector;
-use cvss_base::metrics::{self, Listed};
-use cvss_base::print::{Printed, write_component, write_components, write_slashed};
+use cvss_text::metrics::{self, Listed};
+use cvss_text::print::{Printed, write_component, write_components, write_slashed};
 use std::fmt;
 
 impl Printed for Vector {

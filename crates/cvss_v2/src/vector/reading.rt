@@ -1,16 +1,16 @@
 //! How a vector is filled from its components.
 
 ghost use Rattle.std.specs.Prelude.{◌≡◌, ◌∷◌, ◌++◌, IfSome};
-ghost use Rattle.cvss_base.specs.Text.{colon};
-ghost use Rattle.cvss_base.specs.V2Types.{name_of};
-ghost use Rattle.cvss_base.specs.private.Walk.{IsFilled};
+ghost use Rattle.cvss_grammar.specs.Text.{colon};
+ghost use Rattle.cvss_name.specs.V2Types.{name_of};
+ghost use Rattle.cvss_text.specs.private.Walk.{IsFilled};
 ghost use Rattle.cvss_v2.specs.Table.{spelling_of};
 ghost use Rattle.cvss_v2.specs.Vector.{v2};
 ghost use Rattle.cvss_v2.specs.private.VectorLaws.{v2_is_lawful};
 
 use crate::metric::{Metric, MetricType};
 use crate::vector::Vector;
-use cvss_base::walk::{Components, Slip};
+use cvss_text::walk::{Components, Slip};
 
 /// The metrics in printing order (guide, section 2.4).
 const PRINTED: [MetricType; 14] = [

@@ -1,10 +1,10 @@
 //! The errors that tell why a text is no vector.
 
-ghost use Rattle.cvss_base.specs.V2Types.{v2_reason};
+ghost use Rattle.cvss_name.specs.V2Types.{v2_reason};
 
 use crate::metric::MetricType;
 use crate::vector::Vector;
-use cvss_base::Error;
+use cvss_name::Error;
 use cvss_base::refusing::Refused;
 
 impl Refused for Vector {

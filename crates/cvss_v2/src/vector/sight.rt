@@ -3,12 +3,12 @@
 //! way, by components in any order, is `reading`.
 
 ghost use Rattle.std.specs.Prelude.{◌≡◌, IfSome, None, [], ◌∷◌, ◌++◌, option_map, unwrap_or};
-ghost use Rattle.cvss_base.specs.private.Printing.{slashed, slashed_texts};
-ghost use Rattle.cvss_base.specs.private.Walk.{first_missing};
-ghost use Rattle.cvss_base.specs.Text.{slash, colon, component};
-ghost use Rattle.cvss_base.specs.V2Types.{name_of};
-ghost use Rattle.cvss_base.specs.Version.{canonical_text, IsComplete};
-ghost use Rattle.cvss_base.specs.declared.v2.MetricType.TheVariants.{A, AC, AV, Au, C, I, E, RL, RC, CDP, TD, CR, IR, AR};
+ghost use Rattle.cvss_text.specs.private.Printing.{slashed, slashed_texts};
+ghost use Rattle.cvss_text.specs.private.Walk.{first_missing};
+ghost use Rattle.cvss_grammar.specs.Text.{slash, colon, component};
+ghost use Rattle.cvss_name.specs.V2Types.{name_of};
+ghost use Rattle.cvss_grammar.specs.Version.{canonical_text, IsComplete};
+ghost use Rattle.cvss_name.specs.declared.v2.MetricType.TheVariants.{A, AC, AV, Au, C, I, E, RL, RC, CDP, TD, CR, IR, AR};
 ghost use Rattle.cvss_v2.specs.Table.{spelling_of, metric_component, printed};
 ghost use Rattle.cvss_v2.specs.Vector.{v2};
 
@@ -18,7 +18,7 @@ use crate::metric::base::{
 };
 use crate::metric::{Metric, MetricType};
 use crate::vector::Vector;
-use cvss_base::sight::{behind_five, behind_four, put_read};
+use cvss_text::sight::{behind_five, behind_four, put_read};
 
 impl Vector {
     /// The vector whose canonical text this is, where that is seen at once: `None` tells nothing of

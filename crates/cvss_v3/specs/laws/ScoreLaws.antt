@@ -1,7 +1,7 @@
 -- What the laws of the scores speak of: v3.1 specification, sections 3 and 4 (the value Not Defined
 -- has no effect on the score, and a modified metric overrides its base metric).
 use Rattle.std.specs.Prelude.{◌≡◌, ◌⊎◌, IfSome, None, codes}
-use Rattle.cvss_base.specs.declared.v3.MetricType.{MetricType}
+use Rattle.cvss_name.specs.declared.v3.MetricType.{MetricType}
 use Rattle.cvss_v3_metric.specs.Table.{spelling_of}
 use Rattle.cvss_v3.specs.declared.vector.Vector.{Vector}
 use Rattle.cvss_v3.specs.Vector.{value_at}

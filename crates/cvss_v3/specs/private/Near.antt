@@ -1,7 +1,7 @@
 -- A number that may stand for an exact one: v3.1 specification, Appendix A, on numbers that are computed in floating
 -- point. The contracts of private functions alone cite these.
 use Rattle.std.specs.Prelude.{ℕ, ℤ}
-use Rattle.cvss_base.specs.Exact.{Exact, ◌over◌, ◌⊕◌, ◌⊑◌}
+use Rattle.cvss_number.specs.Exact.{Exact, ◌over◌, ◌⊕◌, ◌⊑◌}
 use Rattle.cvss_v3.specs.Scores.{IsRounded}
 
 -- x and y are at most 10^-7 apart

@@ -1,8 +1,8 @@
 -- The weights that the metrics of a vector can have, in hundredths.
 use Rattle.std.specs.Prelude.{ℕ, Bool, true, false, List, ◌∷◌, map, unwrap_or}
 use Rattle.std.specs.List.{Contains}
-use Rattle.cvss_base.specs.declared.v3.MetricType.{MetricType}
-use Rattle.cvss_base.specs.declared.v3.MetricType.TheVariants.{AC, AV, C, PR, UI, E, RL, RC, CR}
+use Rattle.cvss_name.specs.declared.v3.MetricType.{MetricType}
+use Rattle.cvss_name.specs.declared.v3.MetricType.TheVariants.{AC, AV, C, PR, UI, E, RL, RC, CR}
 use Rattle.cvss_v3_metric.specs.Table.{rows_of, changed_privileges}
 use Rattle.cvss_v3.specs.declared.weights.Weights.{Weights}
 

@@ -1,7 +1,7 @@
 //! The certainty of the environmental score's first rounding.
 
 ghost use Rattle.std.specs.Prelude.{IsTrue};
-ghost use Rattle.cvss_base.specs.Exact.{whole, ◌⊏◌};
+ghost use Rattle.cvss_number.specs.Exact.{whole, ◌⊏◌};
 ghost use Rattle.cvss_v3.specs.Certainty.{IsCertain};
 ghost use Rattle.cvss_v3.specs.Scores.{modified_impact, environmental_number};
 ghost use Rattle.cvss_v3.specs.private.Weights.{IsFromTable};

@@ -1,14 +1,14 @@
 //! The metrics of a vector, as a list.
 
 ghost use Rattle.std.specs.Prelude.{◌≡◌};
-ghost use Rattle.cvss_base.specs.Listing.{listed_metrics, metrics_left};
+ghost use Rattle.cvss_text.specs.Listing.{listed_metrics, metrics_left};
 ghost use Rattle.cvss_v3_metric.specs.Table.{listed};
 ghost use Rattle.cvss_v3.specs.Vector.{v3};
 
 use crate::metric::MetricType;
 use crate::vector::Vector;
 use MetricType::*;
-use cvss_base::metrics::{self, Listed};
+use cvss_text::metrics::{self, Listed};
 
 /// The metrics that a vector has, each with the spelling of its value; at most 22.
 pub type Metrics = metrics::Metrics<Vector>;

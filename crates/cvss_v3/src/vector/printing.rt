@@ -3,17 +3,17 @@
 ghost use Rattle.std.specs.Prelude.{◌≡◌, Some, [], ◌∷◌, ◌++◌, codes, option_map, unwrap_or};
 ghost use Rattle.std.specs.Fmt.{WritesOnOk};
 ghost use Rattle.std.specs.Option.{option_copied};
-ghost use Rattle.cvss_base.specs.Version.{numeral, canonical_text, version_piece};
-ghost use Rattle.cvss_base.specs.private.Printing.{slashed, slashed_texts};
-ghost use Rattle.cvss_base.specs.Text.{component};
-ghost use Rattle.cvss_base.specs.V3Types.{name_of};
-ghost use Rattle.cvss_base.specs.declared.v3.MetricType.TheVariants.{A, AC, AV, C, I, PR, S, UI, E, RL, RC, CR, IR, AR, MAV, MAC, MPR, MUI, MS, MC, MI, MA};
+ghost use Rattle.cvss_grammar.specs.Version.{numeral, canonical_text, version_piece};
+ghost use Rattle.cvss_text.specs.private.Printing.{slashed, slashed_texts};
+ghost use Rattle.cvss_grammar.specs.Text.{component};
+ghost use Rattle.cvss_name.specs.V3Types.{name_of};
+ghost use Rattle.cvss_name.specs.declared.v3.MetricType.TheVariants.{A, AC, AV, C, I, PR, S, UI, E, RL, RC, CR, IR, AR, MAV, MAC, MPR, MUI, MS, MC, MI, MA};
 ghost use Rattle.cvss_v3_metric.specs.Table.{spelling_of, printed};
 ghost use Rattle.cvss_v3.specs.Vector.{v3};
 
 use crate::metric::{Metric, MetricType};
 use crate::vector::Vector;
-use cvss_base::print::{Printed, write_slashed};
+use cvss_text::print::{Printed, write_slashed};
 use std::fmt;
 
 impl Printed for Vector {
@@ -66,7 +66,7 @@ fn write_value<M: Metric, W: fmt::Write>(value: Option<M>, f: &mut fmt::Formatte
 }
 
 /// Writes the piece that tells the version.
-#[tactic(auto, using(cvss_base::proofs::NumeralLemmas::decimal_numeral))]
+#[tactic(auto, using(cvss_text::proofs::NumeralLemmas::decimal_numeral))]
 fn write_version<W: fmt::Write>(minor_version: usize, f: &mut fmt::Formatter<W>) -> fmt::Result
     ensures { WritesOnOk W.write_str_gives f.old result
         (version_piece (codes "3." ++ numeral minor_version)) f.new }

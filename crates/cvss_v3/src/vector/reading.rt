@@ -1,9 +1,9 @@
 //! How a vector is filled from its components.
 
 ghost use Rattle.std.specs.Prelude.{◌≡◌, ◌∷◌, ◌++◌, IfSome, length, take};
-ghost use Rattle.cvss_base.specs.Text.{colon, raised};
-ghost use Rattle.cvss_base.specs.V3Types.{name_of};
-ghost use Rattle.cvss_base.specs.private.Walk.{HasNoValue, IsFilled};
+ghost use Rattle.cvss_grammar.specs.Text.{colon, raised};
+ghost use Rattle.cvss_name.specs.V3Types.{name_of};
+ghost use Rattle.cvss_text.specs.private.Walk.{HasNoValue, IsFilled};
 ghost use Rattle.cvss_v3_metric.specs.Table.{spelling_of};
 ghost use Rattle.cvss_v3.specs.Vector.{v3};
 ghost use Rattle.cvss_v3.specs.private.VectorLaws.{v3_is_lawful, v3_fronts_are_lawful};
@@ -11,8 +11,8 @@ ghost use Rattle.cvss_v3.specs.private.VectorLaws.{v3_is_lawful, v3_fronts_are_l
 use crate::metric::{Metric, MetricType};
 use crate::vector::Vector;
 use MetricType::*;
-use cvss_base::front::Fronted;
-use cvss_base::walk::{Components, Slip};
+use cvss_text::front::Fronted;
+use cvss_text::walk::{Components, Slip};
 
 /// The metrics in printing order (v3.1 specification, section 6).
 const PRINTED: [MetricType; 22] = [

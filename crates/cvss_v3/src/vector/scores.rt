@@ -1,8 +1,8 @@
 //! The scores of a vector.
 
 ghost use Rattle.std.specs.Prelude.{◌≡◌, ◌≤◌, ◌*ℤ◌, ◌^◌, ℤ, pos, Some, IsTrue};
-ghost use Rattle.cvss_base.specs.Exact.{of_count, whole, ◌≈◌, ◌⊏◌, IsWithinLimit};
-ghost use Rattle.cvss_base.specs.Tenths.{IsInTenths, IsFromZeroToTen};
+ghost use Rattle.cvss_number.specs.Exact.{of_count, whole, ◌≈◌, ◌⊏◌, IsWithinLimit};
+ghost use Rattle.cvss_number.specs.Tenths.{IsInTenths, IsFromZeroToTen};
 ghost use Rattle.cvss_v3_metric.specs.Modified.{weight_or};
 ghost use Rattle.cvss_v3_metric.specs.Table.{weight_of};
 ghost use Rattle.cvss_v3.specs.Certainty.{IsCertain};
@@ -17,7 +17,7 @@ use crate::metric::environmental::{BaseMetric, Modified, ModifiedScope};
 use crate::score::Score;
 use crate::vector::Vector;
 use crate::weights::Weights;
-use cvss_base::Severity;
+use cvss_name::Severity;
 
 impl Vector {
     #[inline(always)]

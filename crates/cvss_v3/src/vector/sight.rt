@@ -3,10 +3,10 @@
 //! way, by components in any order and any case, is `reading`.
 
 ghost use Rattle.std.specs.Prelude.{◌≡◌, IfSome, Contains, [], ◌∷◌, ◌++◌, codes, option_map, unwrap_or};
-ghost use Rattle.cvss_base.specs.Version.{numeral, canonical_text, version_piece, IsWellFormed};
-ghost use Rattle.cvss_base.specs.private.Printing.{slashed, slashed_texts};
-ghost use Rattle.cvss_base.specs.Text.{slash, colon, component};
-ghost use Rattle.cvss_base.specs.V3Types.{name_of};
+ghost use Rattle.cvss_grammar.specs.Version.{numeral, canonical_text, version_piece, IsWellFormed};
+ghost use Rattle.cvss_text.specs.private.Printing.{slashed, slashed_texts};
+ghost use Rattle.cvss_grammar.specs.Text.{slash, colon, component};
+ghost use Rattle.cvss_name.specs.V3Types.{name_of};
 ghost use Rattle.cvss_v3_metric.specs.Table.{spelling_of, metric_component, printed};
 ghost use Rattle.cvss_v3.specs.Vector.{v3};
 
@@ -16,7 +16,7 @@ mod optional;
 use crate::metric::{Metric, MetricType};
 use crate::vector::Vector;
 use base::base_at_sight;
-use cvss_base::sight::{behind_five, behind_four, put_read};
+use cvss_text::sight::{behind_five, behind_four, put_read};
 use optional::others_at_sight;
 
 impl Vector {

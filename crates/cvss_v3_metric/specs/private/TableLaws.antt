@@ -3,10 +3,10 @@ use Rattle.std.specs.Prelude.{◌≡◌, ◌≢◌, ◌<◌, ◌&&◌, ℕ, Bool
 use Rattle.std.specs.List.{list_any}
 use Rattle.std.proofs.Common.{ap, sym, ltb, ◌∙◌, rules}
 use Rattle.std.proofs.lemmas.Bool.{ltb-true}
-use Rattle.cvss_base.specs.Text.{raised}
-use Rattle.cvss_base.specs.private.Walk.{foreign_bytes}
-use Rattle.cvss_base.specs.declared.v3.MetricType.{MetricType}
-use Rattle.cvss_base.specs.declared.v3.MetricType.TheVariants.{A}
+use Rattle.cvss_grammar.specs.Text.{raised}
+use Rattle.cvss_text.specs.private.Walk.{foreign_bytes}
+use Rattle.cvss_name.specs.declared.v3.MetricType.{MetricType}
+use Rattle.cvss_name.specs.declared.v3.MetricType.TheVariants.{A}
 use Rattle.cvss_v3_metric.specs.Table.{Value, rows_of, rank_of, spelling_of}
 use Rattle.cvss_v3_metric.specs.private.Values.{values_of}
 

@@ -1,7 +1,7 @@
 -- The values of each metric of CVSS v3, in the order of its rows.
 use Rattle.std.specs.Prelude.{List, [], ◌∷◌, map}
-use Rattle.cvss_base.specs.declared.v3.MetricType.{MetricType}
-use Rattle.cvss_base.specs.declared.v3.MetricType.TheVariants.{A, AC, AV, C, I, PR, S, UI, E, RL, RC, CR, IR, AR, MAV, MAC, MPR, MUI, MS, MC, MI, MA}
+use Rattle.cvss_name.specs.declared.v3.MetricType.{MetricType}
+use Rattle.cvss_name.specs.declared.v3.MetricType.TheVariants.{A, AC, AV, C, I, PR, S, UI, E, RL, RC, CR, IR, AR, MAV, MAC, MPR, MUI, MS, MC, MI, MA}
 use Rattle.cvss_v3_metric.specs.declared.base.attack.AttackVector.TheVariants as attack_vector
 use Rattle.cvss_v3_metric.specs.declared.base.attack.AttackComplexity.TheVariants as attack_complexity
 use Rattle.cvss_v3_metric.specs.declared.base.privileges.PrivilegesRequired.TheVariants as privileges_required

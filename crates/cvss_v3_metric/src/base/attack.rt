@@ -2,14 +2,14 @@
 
 ghost use Rattle.std.specs.Prelude.{◌∷◌, ◌≡◌, Some, refl};
 ghost use Rattle.std.proofs.Common.{rules};
-ghost use Rattle.cvss_base.specs.declared.v3.MetricType.TheVariants.{AV, AC, MAV, MAC};
+ghost use Rattle.cvss_name.specs.declared.v3.MetricType.TheVariants.{AV, AC, MAV, MAC};
 ghost use Rattle.cvss_v3_metric.specs.declared.base.attack.AttackComplexity.TheVariants as attack_complexity;
-ghost use Rattle.cvss_base.specs.Text.{slash};
+ghost use Rattle.cvss_grammar.specs.Text.{slash};
 ghost use Rattle.cvss_v3_metric.specs.Table.{metric_component};
 
 use crate::environmental::{BaseMetric, Modified};
 use crate::metric::{Metric, MetricType};
-use cvss_base::print::write_component;
+use cvss_text::print::write_component;
 use std::fmt;
 
 /// How near to the vulnerable component the attacker has to be (v3.1 specification, section 2.1.1).

@@ -2,13 +2,13 @@
 
 ghost use Rattle.std.specs.Prelude.{◌≡◌, ◌∷◌, Some, refl};
 ghost use Rattle.std.proofs.Common.{rules};
-ghost use Rattle.cvss_base.specs.declared.v3.MetricType.TheVariants.{C, I, A, MC, MI, MA};
-ghost use Rattle.cvss_base.specs.Text.{slash};
+ghost use Rattle.cvss_name.specs.declared.v3.MetricType.TheVariants.{C, I, A, MC, MI, MA};
+ghost use Rattle.cvss_grammar.specs.Text.{slash};
 ghost use Rattle.cvss_v3_metric.specs.Table.{metric_component};
 
 use crate::environmental::{BaseMetric, Modified};
 use crate::metric::{Metric, MetricType};
-use cvss_base::print::write_component;
+use cvss_text::print::write_component;
 use std::fmt;
 
 /// What becomes known to those who may not know it (v3.1 specification, section 2.3.1).

@@ -2,13 +2,13 @@
 
 ghost use Rattle.std.specs.Prelude.{◌≡◌, ◌∷◌, Some, refl};
 ghost use Rattle.std.proofs.Common.{rules};
-ghost use Rattle.cvss_base.specs.declared.v3.MetricType.TheVariants.{UI, MUI};
-ghost use Rattle.cvss_base.specs.Text.{slash};
+ghost use Rattle.cvss_name.specs.declared.v3.MetricType.TheVariants.{UI, MUI};
+ghost use Rattle.cvss_grammar.specs.Text.{slash};
 ghost use Rattle.cvss_v3_metric.specs.Table.{metric_component};
 
 use crate::environmental::{BaseMetric, Modified};
 use crate::metric::{Metric, MetricType};
-use cvss_base::print::write_component;
+use cvss_text::print::write_component;
 use std::fmt;
 
 /// Whether a person other than the attacker has to take part (v3.1 specification, section 2.1.4).

@@ -2,14 +2,14 @@
 
 ghost use Rattle.std.specs.Prelude.{◌∷◌, ◌≡◌, ◌*◌, ◌^◌, pos, Some, refl};
 ghost use Rattle.std.proofs.Common.{rules};
-ghost use Rattle.cvss_base.specs.Exact.{IsWithinLimit};
-ghost use Rattle.cvss_base.specs.declared.v3.MetricType.TheVariants.{PR, MPR};
-ghost use Rattle.cvss_base.specs.Text.{slash};
+ghost use Rattle.cvss_number.specs.Exact.{IsWithinLimit};
+ghost use Rattle.cvss_name.specs.declared.v3.MetricType.TheVariants.{PR, MPR};
+ghost use Rattle.cvss_grammar.specs.Text.{slash};
 ghost use Rattle.cvss_v3_metric.specs.Table.{scoped_weight, metric_component};
 
 use crate::environmental::{BaseMetric, Modified};
 use crate::metric::{HUNDREDTH, Metric, MetricType};
-use cvss_base::print::write_component;
+use cvss_text::print::write_component;
 use std::fmt;
 
 /// The privileges that the attacker has to have before the attack (v3.1 specification, section

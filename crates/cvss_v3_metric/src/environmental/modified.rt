@@ -1,16 +1,16 @@
 //! The modified base metrics (v3.1 specification, section 4.2).
 
 ghost use Rattle.std.specs.Prelude.{◌≡◌, ◌∷◌, ◌*◌, ◌^◌, pos, Some, refl};
-ghost use Rattle.cvss_base.specs.Exact.{IsWithinLimit};
-ghost use Rattle.cvss_base.specs.Text.{slash};
-ghost use Rattle.cvss_base.specs.declared.v3.MetricType.{MetricType};
+ghost use Rattle.cvss_number.specs.Exact.{IsWithinLimit};
+ghost use Rattle.cvss_grammar.specs.Text.{slash};
+ghost use Rattle.cvss_name.specs.declared.v3.MetricType.{MetricType};
 ghost use Rattle.cvss_v3_metric.specs.Table.{scoped_weight, Value, weight_of, metric_component};
 ghost use Rattle.cvss_v3_metric.specs.Metrics.{IsBaseMetric};
 ghost use Rattle.cvss_v3_metric.specs.Modified.{replaced, weight_or};
 
 use crate::base::PrivilegesRequired;
 use crate::metric::{HUNDREDTH, Metric, MetricType};
-use cvss_base::print::write_component;
+use cvss_text::print::write_component;
 use std::fmt;
 
 /// A value that replaces that of the base metric, if one is set. It has no weight of its own.

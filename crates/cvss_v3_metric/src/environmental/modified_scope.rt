@@ -2,12 +2,12 @@
 
 ghost use Rattle.std.specs.Prelude.{Some, refl};
 ghost use Rattle.std.proofs.Common.{rules};
-ghost use Rattle.cvss_base.specs.declared.v3.MetricType.TheVariants.{S, MS};
+ghost use Rattle.cvss_name.specs.declared.v3.MetricType.TheVariants.{S, MS};
 ghost use Rattle.cvss_v3_metric.specs.Table.{metric_component};
 
 use crate::base::Scope;
 use crate::metric::{Metric, MetricType};
-use cvss_base::print::write_component;
+use cvss_text::print::write_component;
 use std::fmt;
 
 /// A scope that replaces that of the base metrics, if one is set.

@@ -1,7 +1,7 @@
 -- Which spellings have an effective value of their own: CVSS v4.0 specification, sections 2 to 4.
 use Rattle.std.specs.Prelude.{ℕ, List, Bool, IsTrue, ◌||◌, codes, bytes_eq}
 use Rattle.std.specs.List.{list_any, list_all}
-use Rattle.cvss_base.specs.declared.v4.MetricType.{MetricType}
+use Rattle.cvss_name.specs.declared.v4.MetricType.{MetricType}
 use Rattle.cvss_v4_metric.specs.Table.{spellings_of}
 use Rattle.cvss_v4.specs.Effective.{Letters}
 

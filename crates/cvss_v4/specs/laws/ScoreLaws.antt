@@ -1,6 +1,6 @@
 -- What the laws of v4 scores speak of.
 use Rattle.std.specs.Prelude.{◌≡◌, ℕ, ◌≤◌, List, [], ◌∷◌, Option, Some}
-use Rattle.cvss_base.specs.Exact.{Exact, ◌over◌, whole, ◌⊑◌}
+use Rattle.cvss_number.specs.Exact.{Exact, ◌over◌, whole, ◌⊑◌}
 use Rattle.cvss_v4.specs.Classes.{macro_vector}
 use Rattle.cvss_v4.specs.Levels.{attack_vector_level, privileges_level, interaction_level, complexity_level, requirements_level, vulnerable_level, subsequent_level, safety_level, requirement_level}
 use Rattle.cvss_v4.specs.laws.Maximal.{IsAtMost}

@@ -1,10 +1,10 @@
 -- What the walk over a text needs to know of CVSS v4.0.
 use Rattle.std.specs.Prelude.{◌≡◌, ◌++◌, codes, refl}
-use Rattle.cvss_base.specs.private.Walk.{IsLawful, IsLawfulFront}
-use Rattle.cvss_base.specs.Version.{numeral}
-use Rattle.cvss_base.specs.declared.v4.MetricType.{MetricType}
-use Rattle.cvss_base.specs.declared.v4.MetricType.TheVariants.{AC, AT, AV, PR, SA, SC, SI, UI, VA, VC, VI, E, AR, CR, IR, MAC, MAT, MAV, MPR, MSA, MSC, MSI, MUI, MVA, MVC, MVI, AU, R, RE, S, U, V}
-use Rattle.cvss_base.proofs.NumeralLemmas.{numeral-injective, numeral-plain}
+use Rattle.cvss_text.specs.private.Walk.{IsLawful, IsLawfulFront}
+use Rattle.cvss_grammar.specs.Version.{numeral}
+use Rattle.cvss_name.specs.declared.v4.MetricType.{MetricType}
+use Rattle.cvss_name.specs.declared.v4.MetricType.TheVariants.{AC, AT, AV, PR, SA, SC, SI, UI, VA, VC, VI, E, AR, CR, IR, MAC, MAT, MAV, MPR, MSA, MSC, MSI, MUI, MVA, MVC, MVI, AU, R, RE, S, U, V}
+use Rattle.cvss_text.proofs.NumeralLemmas.{numeral-injective, numeral-plain}
 use Rattle.cvss_v4.specs.private.TableLaws.{plain_spelling, one_value}
 use Rattle.cvss_v4.specs.declared.vector.Vector.{Vector}
 use Rattle.cvss_v4.specs.Table.{value_at}

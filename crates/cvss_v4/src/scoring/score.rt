@@ -1,8 +1,8 @@
 //! The score of effective values (v4.0 specification, section 8.2).
 
 ghost use Rattle.std.specs.Prelude.{◌≡◌, ◌+◌, ◌-◌, ◌*◌, ◌/◌, ◌≤◌, pos, max, Some, IsTrue};
-ghost use Rattle.cvss_base.specs.Exact.{◌over◌};
-ghost use Rattle.cvss_base.specs.Rounding.{IsRoundedV4};
+ghost use Rattle.cvss_number.specs.Exact.{◌over◌};
+ghost use Rattle.cvss_number.specs.Rounding.{IsRoundedV4};
 ghost use Rattle.cvss_v4.specs.Classes.{macro_vector};
 ghost use Rattle.cvss_v4.specs.Scores.{has_impact, number, IsScore};
 ghost use Rattle.cvss_v4.specs.Values.{listed_value};

@@ -1,7 +1,7 @@
 //! The effective values of a vector (v4.0 specification, sections 4.2 and 8.2).
 
 ghost use Rattle.std.specs.Prelude.{◌≡◌};
-ghost use Rattle.cvss_base.specs.declared.v4.MetricType.TheVariants.{AR, CR, E, IR};
+ghost use Rattle.cvss_name.specs.declared.v4.MetricType.TheVariants.{AR, CR, E, IR};
 ghost use Rattle.cvss_v4.specs.Effective.{meaning, requirements, exploit_maturities};
 ghost use Rattle.cvss_v4.specs.Merging.{letter_of, effective_of};
 

@@ -3,8 +3,8 @@
 
 ghost use Rattle.std.specs.Prelude.{◌≡◌, ◌↔◌, IsTrue, Some, Contains, IfOk, IfErr, OnOk, IsOk, IsErrAnd, Ok, ℕ, length, map};
 ghost use Rattle.std.specs.Str.{IsUtf8};
-ghost use Rattle.cvss_base.specs.Text.{IsComponent};
-ghost use Rattle.cvss_base.specs.Version.{IsComplete};
+ghost use Rattle.cvss_grammar.specs.Text.{IsComponent};
+ghost use Rattle.cvss_grammar.specs.Version.{IsComplete};
 ghost use Rattle.cvss_v4_metric.specs.Table.{environmental};
 ghost use Rattle.cvss_v4.specs.Overriding.{AreOverrides, IsOverridden, Objection, HasNoObjectionBefore, IsFirstObjection, TellsObjection, TellsFirstObjection, override_error_text};
 ghost use Rattle.cvss_v4.specs.private.OverridingSteps.{AddsOverride, IsObjectionTo, IsTellableFault, objection_of};
@@ -13,10 +13,10 @@ ghost use Rattle.cvss_v4.specs.declared.vector.overriding.OverrideFault.TheVaria
 
 use crate::metric::MetricType;
 use crate::vector::Vector;
-use cvss_base::Error;
-use cvss_base::pieces::is_component;
+use cvss_name::Error;
+use cvss_text::pieces::is_component;
 use cvss_base::refusing::error_of;
-use cvss_base::walk::{Fault, cut_component, read_component};
+use cvss_text::walk::{Fault, cut_component, read_component};
 use std::alloc::Global;
 use std::fmt;
 

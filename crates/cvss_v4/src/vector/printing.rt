@@ -3,17 +3,17 @@
 ghost use Rattle.std.specs.Prelude.{◌≡◌, Some, [], ◌∷◌, ◌++◌, codes, option_map, unwrap_or};
 ghost use Rattle.std.specs.Fmt.{WritesOnOk};
 ghost use Rattle.std.specs.Option.{option_copied};
-ghost use Rattle.cvss_base.specs.Version.{numeral, canonical_text, version_piece};
-ghost use Rattle.cvss_base.specs.private.Printing.{slashed, slashed_texts};
-ghost use Rattle.cvss_base.specs.Text.{component};
-ghost use Rattle.cvss_base.specs.V4Types.{name_of};
-ghost use Rattle.cvss_base.specs.declared.v4.MetricType.TheVariants.{AC, AT, AV, PR, SA, SC, SI, UI, VA, VC, VI, E, AR, CR, IR, MAC, MAT, MAV, MPR, MSA, MSC, MSI, MUI, MVA, MVC, MVI, AU, R, RE, S, U, V};
+ghost use Rattle.cvss_grammar.specs.Version.{numeral, canonical_text, version_piece};
+ghost use Rattle.cvss_text.specs.private.Printing.{slashed, slashed_texts};
+ghost use Rattle.cvss_grammar.specs.Text.{component};
+ghost use Rattle.cvss_name.specs.V4Types.{name_of};
+ghost use Rattle.cvss_name.specs.declared.v4.MetricType.TheVariants.{AC, AT, AV, PR, SA, SC, SI, UI, VA, VC, VI, E, AR, CR, IR, MAC, MAT, MAV, MPR, MSA, MSC, MSI, MUI, MVA, MVC, MVI, AU, R, RE, S, U, V};
 ghost use Rattle.cvss_v4_metric.specs.Table.{printed, spelling_at};
 ghost use Rattle.cvss_v4.specs.Vector.{v4};
 
 use crate::metric::{Metric, MetricType};
 use crate::vector::Vector;
-use cvss_base::print::{Printed, write_slashed};
+use cvss_text::print::{Printed, write_slashed};
 use std::fmt;
 
 impl Printed for Vector {
@@ -75,7 +75,7 @@ fn write_value<M: Metric, W: fmt::Write>(value: Option<M>, f: &mut fmt::Formatte
 }
 
 /// Writes the piece that tells the version.
-#[tactic(auto, using(cvss_base::proofs::NumeralLemmas::decimal_numeral))]
+#[tactic(auto, using(cvss_text::proofs::NumeralLemmas::decimal_numeral))]
 fn write_version<W: fmt::Write>(minor_version: usize, f: &mut fmt::Formatter<W>) -> fmt::Result
     ensures { WritesOnOk W.write_str_gives f.old result
         (version_piece (codes "4." ++ numeral minor_version)) f.new }

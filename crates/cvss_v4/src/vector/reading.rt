@@ -1,9 +1,9 @@
 //! How a vector is filled from its components.
 
 ghost use Rattle.std.specs.Prelude.{◌≡◌, IfSome, [], ◌∷◌, ◌++◌, codes};
-ghost use Rattle.cvss_base.specs.Text.{raised};
-ghost use Rattle.cvss_base.specs.V4Types.{name_of};
-ghost use Rattle.cvss_base.specs.private.Walk.{HasNoValue, IsFilled};
+ghost use Rattle.cvss_grammar.specs.Text.{raised};
+ghost use Rattle.cvss_name.specs.V4Types.{name_of};
+ghost use Rattle.cvss_text.specs.private.Walk.{HasNoValue, IsFilled};
 ghost use Rattle.cvss_v4_metric.specs.Table.{spelling_at};
 ghost use Rattle.cvss_v4.specs.Vector.{v4};
 ghost use Rattle.cvss_v4.specs.private.VectorLaws.{v4_is_lawful, v4_fronts_are_lawful};
@@ -12,9 +12,9 @@ use crate::laws::default_vectors_have_no_metric;
 use crate::metric::{Metric, MetricType};
 use crate::vector::Vector;
 use MetricType::*;
-use cvss_base::front::Fronted;
-use cvss_base::pieces::cut_early;
-use cvss_base::walk::{Components, Slip};
+use cvss_text::front::Fronted;
+use cvss_text::pieces::cut_early;
+use cvss_text::walk::{Components, Slip};
 
 /// The metrics in printing order (v4.0 specification, section 7).
 const PRINTED: [MetricType; 32] = [

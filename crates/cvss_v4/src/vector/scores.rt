@@ -1,10 +1,10 @@
 //! The score of a vector.
 
 ghost use Rattle.std.specs.Prelude.{◌≡◌, ◌≤◌, ◌^◌, ◌*ℤ◌, ◌≤ℤ◌, ℤ, pos, IsTrue};
-ghost use Rattle.cvss_base.specs.Exact.{◌over◌, ◌⊕◌};
-ghost use Rattle.cvss_base.specs.Rounding.{IsRoundedV4};
-ghost use Rattle.cvss_base.specs.Tenths.{IsInTenths, IsFromZeroToTen};
-ghost use Rattle.cvss_base.specs.Version.{IsComplete};
+ghost use Rattle.cvss_number.specs.Exact.{◌over◌, ◌⊕◌};
+ghost use Rattle.cvss_number.specs.Rounding.{IsRoundedV4};
+ghost use Rattle.cvss_number.specs.Tenths.{IsInTenths, IsFromZeroToTen};
+ghost use Rattle.cvss_grammar.specs.Version.{IsComplete};
 ghost use Rattle.cvss_v4.specs.Merging.{effective_of};
 ghost use Rattle.cvss_v4.specs.Nomenclature.{nomenclature_of};
 ghost use Rattle.cvss_v4.specs.laws.ScoreLaws.{IsAsSevere};

@@ -3,12 +3,12 @@
 //! way, by components in any order and any case, is `reading`.
 
 ghost use Rattle.std.specs.Prelude.{◌≡◌, IfSome, None, [], ◌∷◌, ◌++◌, codes, option_map, unwrap_or};
-ghost use Rattle.cvss_base.specs.private.Printing.{slashed, slashed_texts};
-ghost use Rattle.cvss_base.specs.private.Walk.{first_missing};
-ghost use Rattle.cvss_base.specs.Text.{slash, colon, component};
-ghost use Rattle.cvss_base.specs.V4Types.{name_of};
-ghost use Rattle.cvss_base.specs.Version.{canonical_text, version_piece, IsWellFormed};
-ghost use Rattle.cvss_base.specs.declared.v4.MetricType.TheVariants.{AC, AT, AV, PR, SA, SC, SI, U, UI, VA, VC, VI};
+ghost use Rattle.cvss_text.specs.private.Printing.{slashed, slashed_texts};
+ghost use Rattle.cvss_text.specs.private.Walk.{first_missing};
+ghost use Rattle.cvss_grammar.specs.Text.{slash, colon, component};
+ghost use Rattle.cvss_name.specs.V4Types.{name_of};
+ghost use Rattle.cvss_grammar.specs.Version.{canonical_text, version_piece, IsWellFormed};
+ghost use Rattle.cvss_name.specs.declared.v4.MetricType.TheVariants.{AC, AT, AV, PR, SA, SC, SI, U, UI, VA, VC, VI};
 ghost use Rattle.cvss_v4_metric.specs.Table.{printed, spelling_at, metric_component};
 ghost use Rattle.cvss_v4.specs.Table.{spelling_of};
 ghost use Rattle.cvss_v4.specs.Vector.{v4};
@@ -20,7 +20,7 @@ use crate::metric::supplemental::ProviderUrgency;
 use crate::metric::{Metric, MetricType};
 use crate::vector::Vector;
 use base::base_at_sight;
-use cvss_base::sight::put_read;
+use cvss_text::sight::{behind_five, behind_four, put_read};
 use optional::others_at_sight;
 
 impl Vector {
@@ -146,25 +146,25 @@ fn behind_name(kind: MetricType, text: &[u8]) -> Option<&[u8]>
 {
     match (kind, text) {
         (MetricType::E, [b'/', b'E', b':', value @ ..]) => Some(value),
-        (MetricType::CR, [b'/', b'C', b'R', b':', value @ ..]) => Some(value),
-        (MetricType::IR, [b'/', b'I', b'R', b':', value @ ..]) => Some(value),
-        (MetricType::AR, [b'/', b'A', b'R', b':', value @ ..]) => Some(value),
-        (MetricType::MAV, [b'/', b'M', b'A', b'V', b':', value @ ..]) => Some(value),
-        (MetricType::MAC, [b'/', b'M', b'A', b'C', b':', value @ ..]) => Some(value),
-        (MetricType::MAT, [b'/', b'M', b'A', b'T', b':', value @ ..]) => Some(value),
-        (MetricType::MPR, [b'/', b'M', b'P', b'R', b':', value @ ..]) => Some(value),
-        (MetricType::MUI, [b'/', b'M', b'U', b'I', b':', value @ ..]) => Some(value),
-        (MetricType::MVC, [b'/', b'M', b'V', b'C', b':', value @ ..]) => Some(value),
-        (MetricType::MVI, [b'/', b'M', b'V', b'I', b':', value @ ..]) => Some(value),
-        (MetricType::MVA, [b'/', b'M', b'V', b'A', b':', value @ ..]) => Some(value),
-        (MetricType::MSC, [b'/', b'M', b'S', b'C', b':', value @ ..]) => Some(value),
-        (MetricType::MSI, [b'/', b'M', b'S', b'I', b':', value @ ..]) => Some(value),
-        (MetricType::MSA, [b'/', b'M', b'S', b'A', b':', value @ ..]) => Some(value),
+        (MetricType::CR, _) => behind_four(text, *b"/CR:"),
+        (MetricType::IR, _) => behind_four(text, *b"/IR:"),
+        (MetricType::AR, _) => behind_four(text, *b"/AR:"),
+        (MetricType::MAV, _) => behind_five(text, *b"/MAV:"),
+        (MetricType::MAC, _) => behind_five(text, *b"/MAC:"),
+        (MetricType::MAT, _) => behind_five(text, *b"/MAT:"),
+        (MetricType::MPR, _) => behind_five(text, *b"/MPR:"),
+        (MetricType::MUI, _) => behind_five(text, *b"/MUI:"),
+        (MetricType::MVC, _) => behind_five(text, *b"/MVC:"),
+        (MetricType::MVI, _) => behind_five(text, *b"/MVI:"),
+        (MetricType::MVA, _) => behind_five(text, *b"/MVA:"),
+        (MetricType::MSC, _) => behind_five(text, *b"/MSC:"),
+        (MetricType::MSI, _) => behind_five(text, *b"/MSI:"),
+        (MetricType::MSA, _) => behind_five(text, *b"/MSA:"),
         (MetricType::S, [b'/', b'S', b':', value @ ..]) => Some(value),
-        (MetricType::AU, [b'/', b'A', b'U', b':', value @ ..]) => Some(value),
+        (MetricType::AU, _) => behind_four(text, *b"/AU:"),
         (MetricType::R, [b'/', b'R', b':', value @ ..]) => Some(value),
         (MetricType::V, [b'/', b'V', b':', value @ ..]) => Some(value),
-        (MetricType::RE, [b'/', b'R', b'E', b':', value @ ..]) => Some(value),
+        (MetricType::RE, _) => behind_four(text, *b"/RE:"),
         _ => None,
     }
 }

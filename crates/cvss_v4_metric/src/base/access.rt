@@ -3,14 +3,14 @@
 
 ghost use Rattle.std.specs.Prelude.{Some, [], ◌∷◌};
 ghost use Rattle.std.proofs.Common.{rules};
-ghost use Rattle.cvss_base.specs.declared.v4.MetricType.TheVariants.{PR, UI};
+ghost use Rattle.cvss_name.specs.declared.v4.MetricType.TheVariants.{PR, UI};
 ghost use Rattle.cvss_v4_metric.specs.Ranks.{privileges_required_rank, user_interaction_rank};
 ghost use Rattle.cvss_v4_metric.specs.Table.{metric_component};
 ghost use Rattle.cvss_v4_metric.specs.declared.base.access.PrivilegesRequired.TheVariants as privileges_required;
 ghost use Rattle.cvss_v4_metric.specs.declared.base.access.UserInteraction.TheVariants as user_interaction;
 
 use crate::metric::{Metric, MetricType};
-use cvss_base::print::write_component;
+use cvss_text::print::write_component;
 use std::fmt;
 
 /// Which privileges the attacker needs before the attack (v4.0 specification, section 2.1.4).

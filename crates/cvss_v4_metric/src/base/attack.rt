@@ -3,7 +3,7 @@
 
 ghost use Rattle.std.specs.Prelude.{Some, [], ◌∷◌};
 ghost use Rattle.std.proofs.Common.{rules};
-ghost use Rattle.cvss_base.specs.declared.v4.MetricType.TheVariants.{AV, AC, AT};
+ghost use Rattle.cvss_name.specs.declared.v4.MetricType.TheVariants.{AV, AC, AT};
 ghost use Rattle.cvss_v4_metric.specs.Ranks.{attack_vector_rank, attack_complexity_rank, attack_requirements_rank};
 ghost use Rattle.cvss_v4_metric.specs.Table.{metric_component};
 ghost use Rattle.cvss_v4_metric.specs.declared.base.attack.AttackVector.TheVariants as attack_vector;
@@ -11,7 +11,7 @@ ghost use Rattle.cvss_v4_metric.specs.declared.base.attack.AttackComplexity.TheV
 ghost use Rattle.cvss_v4_metric.specs.declared.base.attack.AttackRequirements.TheVariants as attack_requirements;
 
 use crate::metric::{Metric, MetricType};
-use cvss_base::print::write_component;
+use cvss_text::print::write_component;
 use std::fmt;
 
 /// How near to the vulnerable system the attacker has to be (v4.0 specification, section 2.1.1).

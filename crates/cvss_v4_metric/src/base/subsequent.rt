@@ -2,7 +2,7 @@
 
 ghost use Rattle.std.specs.Prelude.{Some, [], ◌∷◌};
 ghost use Rattle.std.proofs.Common.{rules};
-ghost use Rattle.cvss_base.specs.declared.v4.MetricType.TheVariants.{SC, SI, SA};
+ghost use Rattle.cvss_name.specs.declared.v4.MetricType.TheVariants.{SC, SI, SA};
 ghost use Rattle.cvss_v4_metric.specs.Ranks.{confidentiality_impact_to_the_subsequent_system_rank, integrity_impact_to_the_subsequent_system_rank, availability_impact_to_the_subsequent_system_rank};
 ghost use Rattle.cvss_v4_metric.specs.Table.{metric_component};
 ghost use Rattle.cvss_v4_metric.specs.declared.base.subsequent.ConfidentialityImpactToTheSubsequentSystem.TheVariants as confidentiality_impact_to_the_subsequent_system;
@@ -10,7 +10,7 @@ ghost use Rattle.cvss_v4_metric.specs.declared.base.subsequent.IntegrityImpactTo
 ghost use Rattle.cvss_v4_metric.specs.declared.base.subsequent.AvailabilityImpactToTheSubsequentSystem.TheVariants as availability_impact_to_the_subsequent_system;
 
 use crate::metric::{Metric, MetricType};
-use cvss_base::print::write_component;
+use cvss_text::print::write_component;
 use std::fmt;
 
 /// How much confidentiality systems behind the vulnerable one lose (v4.0 specification, section

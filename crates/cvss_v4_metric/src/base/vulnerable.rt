@@ -2,7 +2,7 @@
 
 ghost use Rattle.std.specs.Prelude.{Some, [], ◌∷◌};
 ghost use Rattle.std.proofs.Common.{rules};
-ghost use Rattle.cvss_base.specs.declared.v4.MetricType.TheVariants.{VC, VI, VA};
+ghost use Rattle.cvss_name.specs.declared.v4.MetricType.TheVariants.{VC, VI, VA};
 ghost use Rattle.cvss_v4_metric.specs.Ranks.{confidentiality_impact_to_the_vulnerable_system_rank, integrity_impact_to_the_vulnerable_system_rank, availability_impact_to_the_vulnerable_system_rank};
 ghost use Rattle.cvss_v4_metric.specs.Table.{metric_component};
 ghost use Rattle.cvss_v4_metric.specs.declared.base.vulnerable.ConfidentialityImpactToTheVulnerableSystem.TheVariants as confidentiality_impact_to_the_vulnerable_system;
@@ -10,7 +10,7 @@ ghost use Rattle.cvss_v4_metric.specs.declared.base.vulnerable.IntegrityImpactTo
 ghost use Rattle.cvss_v4_metric.specs.declared.base.vulnerable.AvailabilityImpactToTheVulnerableSystem.TheVariants as availability_impact_to_the_vulnerable_system;
 
 use crate::metric::{Metric, MetricType};
-use cvss_base::print::write_component;
+use cvss_text::print::write_component;
 use std::fmt;
 
 /// How much confidentiality the vulnerable system loses (v4.0 specification, section 2.2.1).

@@ -2,14 +2,14 @@
 
 ghost use Rattle.std.specs.Prelude.{Some, [], ◌∷◌};
 ghost use Rattle.std.proofs.Common.{rules};
-ghost use Rattle.cvss_base.specs.declared.v4.MetricType.TheVariants.{AU, V};
+ghost use Rattle.cvss_name.specs.declared.v4.MetricType.TheVariants.{AU, V};
 ghost use Rattle.cvss_v4_metric.specs.Ranks.{automatable_rank, value_density_rank};
 ghost use Rattle.cvss_v4_metric.specs.Table.{metric_component};
 ghost use Rattle.cvss_v4_metric.specs.declared.supplemental.attack.Automatable.TheVariants as automatable;
 ghost use Rattle.cvss_v4_metric.specs.declared.supplemental.attack.ValueDensity.TheVariants as value_density;
 
 use crate::metric::{Metric, MetricType};
-use cvss_base::print::write_component;
+use cvss_text::print::write_component;
 use std::fmt;
 
 /// Whether attacks on many targets can be automated (v4.0 specification, section 5.2).

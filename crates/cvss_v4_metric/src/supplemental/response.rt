@@ -2,15 +2,15 @@
 
 ghost use Rattle.std.specs.Prelude.{Some, [], ◌∷◌};
 ghost use Rattle.std.proofs.Common.{rules};
-ghost use Rattle.cvss_base.specs.declared.v4.MetricType.TheVariants.{RE, U};
+ghost use Rattle.cvss_name.specs.declared.v4.MetricType.TheVariants.{RE, U};
 ghost use Rattle.cvss_v4_metric.specs.Ranks.{vulnerability_response_effort_rank, provider_urgency_rank};
 ghost use Rattle.cvss_v4_metric.specs.Table.{metric_component};
 ghost use Rattle.cvss_v4_metric.specs.declared.supplemental.response.VulnerabilityResponseEffort.TheVariants as vulnerability_response_effort;
 ghost use Rattle.cvss_v4_metric.specs.declared.supplemental.response.ProviderUrgency.TheVariants as provider_urgency;
 
 use crate::metric::{Metric, MetricType};
-use cvss_base::print::write_component;
-use cvss_base::walk::is_raised_as;
+use cvss_text::print::write_component;
+use cvss_text::walk::is_raised_as;
 use std::fmt;
 
 /// How hard it is to respond to the vulnerability (v4.0 specification, section 5.6).

@@ -1,7 +1,7 @@
 use Rattle.std.proofs.Common.{refl, rules}
-use Rattle.cvss_base.specs.declared.v2.MetricType.TheVariants.{A}
-use Rattle.cvss_base.specs.Refusal.{IsFirstRefusal}
-use Rattle.cvss_base.specs.private.Walk.{reason_of}
+use Rattle.cvss_name.specs.declared.v2.MetricType.TheVariants.{A}
+use Rattle.cvss_grammar.specs.Refusal.{IsFirstRefusal}
+use Rattle.cvss_text.specs.private.Walk.{reason_of}
 use Rattle.cvss_v2.specs.Vector.{v2}
 use Rattle.cvss.specs.Dispatch.{ToV20}
 use Rattle.cvss.specs.declared.metric_type.MetricType.TheVariants.{V2}

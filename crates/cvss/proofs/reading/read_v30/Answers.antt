@@ -1,5 +1,5 @@
-use Rattle.cvss_base.specs.Refusal.{IsFirstRefusalBehind}
-use Rattle.cvss_base.specs.private.Walk.{reason_of}
+use Rattle.cvss_grammar.specs.Refusal.{IsFirstRefusalBehind}
+use Rattle.cvss_text.specs.private.Walk.{reason_of}
 use Rattle.cvss_v3.specs.Vector.{v3}
 use Rattle.cvss.specs.Dispatch.{ToV30}
 use Rattle.cvss.specs.declared.metric_type.MetricType.TheVariants.{V3}

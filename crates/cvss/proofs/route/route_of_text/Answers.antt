@@ -1,5 +1,5 @@
 use Rattle.std.proofs.Common.{subst, sym, ◌∙◌}
-use Rattle.cvss_base.proofs.Utf8Lemmas.{IsUtf8-value}
+use Rattle.cvss_text.proofs.Utf8Lemmas.{IsUtf8-value}
 use Rattle.cvss.specs.private.Steps.{IsBehindVersion}
 use Rattle.cvss.proofs.RouteLemmas.{cut_routed, first_utf8, some_piece, version_first, version_parts}
 use Rattle.cvss.proofs.route.route_of_text.Goals as goal

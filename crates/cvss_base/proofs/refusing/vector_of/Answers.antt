@@ -1,6 +1,6 @@
 use Rattle.std.proofs.Common.{subst, sym}
-use Rattle.cvss_base.specs.Refusal.{IsFirstRefusal}
-use Rattle.cvss_base.specs.Told.{Tells}
+use Rattle.cvss_grammar.specs.Refusal.{IsFirstRefusal}
+use Rattle.cvss_name.specs.Told.{Tells}
 use Rattle.cvss_base.proofs.refusing.vector_of.Goals as goal
 
 pub returns-in-Ok-clause-refuses : goal.returns-in-Ok-clause-refuses

@@ -1,5 +1,5 @@
 use Rattle.std.proofs.Common.{◌+◌, length, ◌≡◌, take}
-use Rattle.cvss_base.specs.private.Printing.{slashed_texts}
+use Rattle.cvss_text.specs.private.Printing.{slashed_texts}
 use Rattle.cvss_c.specs.private.Steps.{Puts}
 use Rattle.cvss_c.proofs.buffer.put_components.Given as goal
 

@@ -1,5 +1,5 @@
 use Rattle.std.proofs.Common.{◌∷◌, [], length, refl, ap, arith}
-use Rattle.cvss_base.specs.Version.{canonical_text}
+use Rattle.cvss_grammar.specs.Version.{canonical_text}
 use Rattle.cvss_c.proofs.BufferLemmas.{IsWritten-left, IsWritten-put}
 use Rattle.cvss_c.proofs.CanonicalLemmas.{text_from_front}
 use Rattle.cvss_c.proofs.DefinedLemmas.{defined_texts-within, text_less-none, text_less-some}

@@ -1,7 +1,7 @@
 use Rattle.std.proofs.Common.{length, refl, ap, ◌∙◌, arith, rules, length-append, take, drop, ◌-◌, codes}
-use Rattle.cvss_base.specs.declared.v2.MetricType.TheVariants.{AV}
+use Rattle.cvss_name.specs.declared.v2.MetricType.TheVariants.{AV}
 use Rattle.cvss.specs.VectorV2.{v2}
-use Rattle.cvss_base.specs.private.Printing.{slashed_texts}
+use Rattle.cvss_text.specs.private.Printing.{slashed_texts}
 use Rattle.cvss_c.proofs.CanonicalLemmas.{text_from_first}
 use Rattle.cvss_c.proofs.DefinedLemmas.{defined_texts-short, text_less_from_first}
 use Rattle.cvss_c.proofs.defined.put_v2.Goals as goal

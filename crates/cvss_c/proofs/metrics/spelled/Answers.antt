@@ -1,6 +1,6 @@
 use Rattle.std.proofs.Common.{◌+◌, Some, drop, length, ap, ◌∙◌}
 use Rattle.std.proofs.lemmas.List.{take_rest}
-use Rattle.cvss_base.specs.Version.{held}
+use Rattle.cvss_grammar.specs.Version.{held}
 use Rattle.cvss_c.proofs.MetricLemmas.{spelled_behind}
 use Rattle.cvss_c.proofs.metrics.spelled.Goals as goal
 

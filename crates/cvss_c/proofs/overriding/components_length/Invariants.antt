@@ -1,5 +1,5 @@
 use Rattle.std.proofs.Common.{length, ◌≡◌, take}
-use Rattle.cvss_base.specs.private.Printing.{slashed_texts}
+use Rattle.cvss_text.specs.private.Printing.{slashed_texts}
 use Rattle.cvss_c.proofs.overriding.components_length.Given as goal
 
 abbrev pub invariant-loop-kind : goal.invariant-loop-kind

@@ -1,7 +1,7 @@
 use Rattle.std.specs.Prelude.{◌≡◌, ◌↔◌, refl}
 use Rattle.std.proofs.Common.{rules}
-use Rattle.cvss_base.specs.declared.v2.MetricType.TheVariants.{A}
-use Rattle.cvss_base.proofs.EqualityLemmas.{both, options_by_value, through}
+use Rattle.cvss_name.specs.declared.v2.MetricType.TheVariants.{A}
+use Rattle.cvss_grammar.proofs.EqualityLemmas.{both, options_by_value, through}
 use Rattle.cvss_v2.specs.contracts.metric.base.access.AccessVectorMetric.TheImpl.Laws as access_vector
 use Rattle.cvss_v2.specs.contracts.metric.base.access.AccessComplexityMetric.TheImpl.Laws as access_complexity
 use Rattle.cvss_v2.specs.contracts.metric.base.access.AuthenticationMetric.TheImpl.Laws as authentication

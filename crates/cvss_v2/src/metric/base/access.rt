@@ -2,11 +2,11 @@
 
 ghost use Rattle.std.specs.Prelude.{Some, refl};
 ghost use Rattle.std.proofs.Common.{rules};
-ghost use Rattle.cvss_base.specs.declared.v2.MetricType.TheVariants.{AV, AC, Au};
+ghost use Rattle.cvss_name.specs.declared.v2.MetricType.TheVariants.{AV, AC, Au};
 ghost use Rattle.cvss_v2.specs.Table.{metric_component};
 
 use crate::metric::{Metric, MetricType};
-use cvss_base::print::write_component;
+use cvss_text::print::write_component;
 use std::fmt;
 
 /// How near to the component the attacker has to be (guide, section 2.1.1).

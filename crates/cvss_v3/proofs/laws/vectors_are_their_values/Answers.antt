@@ -1,8 +1,8 @@
 use Rattle.std.specs.Prelude.{◌≡◌, ◌↔◌, refl}
 use Rattle.std.proofs.Common.{rules}
-use Rattle.cvss_base.specs.declared.v3.MetricType.{MetricType}
-use Rattle.cvss_base.specs.declared.v3.MetricType.TheVariants.{A}
-use Rattle.cvss_base.proofs.EqualityLemmas.{both, options_by_value, through}
+use Rattle.cvss_name.specs.declared.v3.MetricType.{MetricType}
+use Rattle.cvss_name.specs.declared.v3.MetricType.TheVariants.{A}
+use Rattle.cvss_grammar.proofs.EqualityLemmas.{both, options_by_value, through}
 use Rattle.cvss_v3_metric.specs.private.ModifiedLaws.{modified_equality}
 use Rattle.cvss_v3_metric.specs.contracts.base.attack.AttackVectorMetric.TheImpl.Laws as attack_vector
 use Rattle.cvss_v3_metric.specs.contracts.base.attack.AttackComplexityMetric.TheImpl.Laws as attack_complexity

@@ -1,8 +1,8 @@
 //! The base metrics of a text that is recognised.
 
 ghost use Rattle.std.specs.Prelude.{◌≡◌, IfSome, Some, [], ◌∷◌, ◌++◌};
-ghost use Rattle.cvss_base.specs.private.Printing.{slashed_texts};
-ghost use Rattle.cvss_base.specs.declared.v3.MetricType.TheVariants.{A, AC, AV, C, I, PR, S, UI};
+ghost use Rattle.cvss_text.specs.private.Printing.{slashed_texts};
+ghost use Rattle.cvss_name.specs.declared.v3.MetricType.TheVariants.{A, AC, AV, C, I, PR, S, UI};
 ghost use Rattle.cvss_v3.specs.Vector.{v3};
 
 use super::component_at_sight;

@@ -1,8 +1,8 @@
 //! The optional metrics of a text that is recognised.
 
 ghost use Rattle.std.specs.Prelude.{◌≡◌, [], ◌∷◌, ◌++◌};
-ghost use Rattle.cvss_base.specs.private.Printing.{slashed_texts};
-ghost use Rattle.cvss_base.specs.declared.v3.MetricType.TheVariants.{E, RL, RC, CR, IR, AR, MAV, MAC, MPR, MUI, MS, MC, MI, MA};
+ghost use Rattle.cvss_text.specs.private.Printing.{slashed_texts};
+ghost use Rattle.cvss_name.specs.declared.v3.MetricType.TheVariants.{E, RL, RC, CR, IR, AR, MAV, MAC, MPR, MUI, MS, MC, MI, MA};
 ghost use Rattle.cvss_v3.specs.Vector.{v3};
 
 use super::put_at_sight;

@@ -1,7 +1,7 @@
 //! The effective values of the metrics of the attack (v4.0 specification, sections 2.1 and 4.2).
 
 ghost use Rattle.std.specs.Prelude.{◌≡◌};
-ghost use Rattle.cvss_base.specs.declared.v4.MetricType.TheVariants.{AC, AT, AV, MAC, MAT, MAV, MPR, MUI, PR, UI};
+ghost use Rattle.cvss_name.specs.declared.v4.MetricType.TheVariants.{AC, AT, AV, MAC, MAT, MAV, MPR, MUI, PR, UI};
 ghost use Rattle.cvss_v4.specs.Effective.{meaning, attack_vectors, privileges, user_interactions, attack_complexities, all_attack_requirements};
 ghost use Rattle.cvss_v4.specs.Merging.{letter_of, replaced};
 

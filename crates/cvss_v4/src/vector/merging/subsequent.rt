@@ -3,7 +3,7 @@
 //! A modified impact may be Negligible, which is None, and those on integrity and availability Safety.
 
 ghost use Rattle.std.specs.Prelude.{◌≡◌};
-ghost use Rattle.cvss_base.specs.declared.v4.MetricType.TheVariants.{MSA, MSC, MSI, SA, SC, SI};
+ghost use Rattle.cvss_name.specs.declared.v4.MetricType.TheVariants.{MSA, MSC, MSI, SA, SC, SI};
 ghost use Rattle.cvss_v4.specs.Effective.{meaning, subsequent_impacts, safety_impacts};
 ghost use Rattle.cvss_v4.specs.Merging.{letter_of, replaced};
 

@@ -1,7 +1,7 @@
 //! The effective values of the impacts on the vulnerable system (v4.0 specification, sections 2.2 and 4.2).
 
 ghost use Rattle.std.specs.Prelude.{◌≡◌};
-ghost use Rattle.cvss_base.specs.declared.v4.MetricType.TheVariants.{MVA, MVC, MVI, VA, VC, VI};
+ghost use Rattle.cvss_name.specs.declared.v4.MetricType.TheVariants.{MVA, MVC, MVI, VA, VC, VI};
 ghost use Rattle.cvss_v4.specs.Effective.{meaning, vulnerable_impacts};
 ghost use Rattle.cvss_v4.specs.Merging.{letter_of, replaced};
 

@@ -1,10 +1,10 @@
 //! The base metrics of a text that is recognised. They stand at fixed places.
 
 ghost use Rattle.std.specs.Prelude.{◌≡◌, IfSome, None, [], ◌∷◌, ◌++◌, drop};
-ghost use Rattle.cvss_base.specs.private.Printing.{slashed_texts};
-ghost use Rattle.cvss_base.specs.private.Walk.{first_missing};
-ghost use Rattle.cvss_base.specs.Text.{slash};
-ghost use Rattle.cvss_base.specs.declared.v4.MetricType.TheVariants.{AC, AT, AV, PR, SA, SC, SI, UI, VA, VC, VI};
+ghost use Rattle.cvss_text.specs.private.Printing.{slashed_texts};
+ghost use Rattle.cvss_text.specs.private.Walk.{first_missing};
+ghost use Rattle.cvss_grammar.specs.Text.{slash};
+ghost use Rattle.cvss_name.specs.declared.v4.MetricType.TheVariants.{AC, AT, AV, PR, SA, SC, SI, UI, VA, VC, VI};
 ghost use Rattle.cvss_v4_metric.specs.Table.{metric_component, printed};
 ghost use Rattle.cvss_v4.specs.Table.{rank_of};
 ghost use Rattle.cvss_v4.specs.Vector.{v4};

@@ -1,8 +1,8 @@
 //! The optional metrics of a text that is recognised.
 
 ghost use Rattle.std.specs.Prelude.{◌≡◌, [], ◌∷◌, ◌++◌};
-ghost use Rattle.cvss_base.specs.private.Printing.{slashed_texts};
-ghost use Rattle.cvss_base.specs.declared.v4.MetricType.TheVariants.{E, AR, CR, IR, MAC, MAT, MAV, MPR, MSA, MSC, MSI, MUI, MVA, MVC, MVI, AU, R, RE, S, V};
+ghost use Rattle.cvss_text.specs.private.Printing.{slashed_texts};
+ghost use Rattle.cvss_name.specs.declared.v4.MetricType.TheVariants.{E, AR, CR, IR, MAC, MAT, MAV, MPR, MSA, MSC, MSI, MUI, MVA, MVC, MVI, AU, R, RE, S, V};
 ghost use Rattle.cvss_v4.specs.Vector.{v4};
 
 use super::put_at_sight;

@@ -1,5 +1,5 @@
 use Rattle.std.proofs.Common.{ap, ◌∙◌}
-use Rattle.cvss_base.proofs.PieceLemmas.{MakesProgress-first}
+use Rattle.cvss_text.proofs.PieceLemmas.{MakesProgress-first}
 use Rattle.cvss.specs.Answers.{listed_as}
 use Rattle.cvss.specs.MetricsLeft.{metrics_left}
 use Rattle.cvss.specs.declared.metric_type.MetricType.TheVariants.{V2, V3}

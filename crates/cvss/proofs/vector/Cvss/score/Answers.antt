@@ -1,7 +1,7 @@
 use Rattle.std.proofs.Common.{rules, sym, subst}
 use Rattle.std.specs.Int.{w128}
 use Rattle.std.proofs.lemmas.Int.{to_z-of_z}
-use Rattle.cvss_base.specs.Tenths.{IsInTenths}
+use Rattle.cvss_number.specs.Tenths.{IsInTenths}
 use Rattle.cvss_v4.specs.Merging.{effective_of}
 use Rattle.cvss_v4.specs.Scores.{IsScore}
 use Rattle.cvss.specs.Answers.{IsScoreOf}

@@ -1,9 +1,9 @@
 use Rattle.std.proofs.Common.{◌≡◌, ℕ, List, ◌∷◌, Option, Some, None, IfSome, ◌∙◌}
-use Rattle.cvss_base.specs.private.Printing.{slashed_texts}
-use Rattle.cvss_base.specs.private.Walk.{first_missing}
-use Rattle.cvss_base.specs.Text.{slash}
-use Rattle.cvss_base.specs.Version.{canonical_text, IsComplete}
-use Rattle.cvss_base.proofs.MissingLemmas.{IsComplete-from}
+use Rattle.cvss_text.specs.private.Printing.{slashed_texts}
+use Rattle.cvss_text.specs.private.Walk.{first_missing}
+use Rattle.cvss_grammar.specs.Text.{slash}
+use Rattle.cvss_grammar.specs.Version.{canonical_text, IsComplete}
+use Rattle.cvss_text.proofs.MissingLemmas.{IsComplete-from}
 use Rattle.cvss_v2.specs.declared.vector.Vector.{Vector}
 use Rattle.cvss_v2.specs.Table.{printed}
 use Rattle.cvss_v2.specs.Vector.{v2}

@@ -1,5 +1,5 @@
 use Rattle.std.proofs.Common.{◌≡◌, ap, sym, subst, ◌∙◌}
-use Rattle.cvss_base.specs.declared.v3.MetricType.TheVariants.{A, AC, AV, C, I, UI}
+use Rattle.cvss_name.specs.declared.v3.MetricType.TheVariants.{A, AC, AV, C, I, UI}
 use Rattle.cvss_v3.specs.VectorWeights.{weight_at, privileges_weight, effective_scope, is_changed}
 use Rattle.cvss_v3.specs.private.Weights.{IsFromTable}
 use Rattle.cvss_v3.proofs.TableLemmas.{from_table}

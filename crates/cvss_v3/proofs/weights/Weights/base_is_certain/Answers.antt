@@ -1,5 +1,5 @@
 use Rattle.std.proofs.Common.{refl, lit<}
-use Rattle.cvss_base.proofs.ExactLemmas.{equal_refl}
+use Rattle.cvss_number.proofs.ExactLemmas.{equal_refl}
 use Rattle.cvss_v3.proofs.CertainLemmas.{base_certain}
 use Rattle.cvss_v3.proofs.CountLemmas.{iss_is}
 use Rattle.cvss_v3.proofs.SubScoreLemmas.{iss_listed, exploitability_listed}

@@ -1,5 +1,5 @@
 use Rattle.std.proofs.Common.{arith, lit<, subst}
-use Rattle.cvss_base.specs.Exact.{◌over◌, ◌≈◌}
+use Rattle.cvss_number.specs.Exact.{◌over◌, ◌≈◌}
 use Rattle.cvss_v3.specs.Scores.{iss}
 use Rattle.cvss_v3.proofs.CountLemmas.{exploitability_alone}
 use Rattle.cvss_v3.proofs.ImpactLemmas.{none_rounds, unchanged_number, changed_base_number}

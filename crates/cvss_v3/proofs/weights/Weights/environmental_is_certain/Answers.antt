@@ -1,5 +1,5 @@
 use Rattle.std.proofs.Common.{refl, lit<}
-use Rattle.cvss_base.proofs.ExactLemmas.{equal_refl}
+use Rattle.cvss_number.proofs.ExactLemmas.{equal_refl}
 use Rattle.cvss_v3.proofs.CertainLemmas.{environmental_certain}
 use Rattle.cvss_v3.proofs.CountLemmas.{miss_is, miss_is_listed}
 use Rattle.cvss_v3.proofs.SubScoreLemmas.{exploitability_listed}

@@ -1,5 +1,5 @@
 use Rattle.std.proofs.Common.{arith, refl, lit<, subst}
-use Rattle.cvss_base.specs.Exact.{◌over◌, ◌≈◌}
+use Rattle.cvss_number.specs.Exact.{◌over◌, ◌≈◌}
 use Rattle.cvss_v3.specs.Scores.{miss}
 use Rattle.cvss_v3.specs.private.Weights.{attack_vectors, attack_complexities, user_interactions}
 use Rattle.cvss_v3.proofs.CountLemmas.{exploitability_alone}

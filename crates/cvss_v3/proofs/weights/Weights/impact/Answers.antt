@@ -1,7 +1,7 @@
 use Rattle.std.proofs.Common.{◌≤◌, inl, inr, arith, lit<}
 use Rattle.std.proofs.lemmas.Int.{ints}
-use Rattle.cvss_base.specs.Exact.{◌over◌, of_count, ◌≈◌}
-use Rattle.cvss_base.proofs.ExactLemmas.{equal_trans}
+use Rattle.cvss_number.specs.Exact.{◌over◌, of_count, ◌≈◌}
+use Rattle.cvss_number.proofs.ExactLemmas.{equal_trans}
 use Rattle.cvss_v3.proofs.SubScoreLemmas.{sub_score_high}
 use Rattle.cvss_v3.proofs.weights.Weights.impact.Goals as goal
 

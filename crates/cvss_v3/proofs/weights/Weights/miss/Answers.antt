@@ -1,6 +1,6 @@
 use Rattle.std.proofs.Common.{refl, sym, subst, ap, min, ◌∙◌, ◌≡◌, ◌⊎◌, lit<}
-use Rattle.cvss_base.specs.Exact.{◌over◌, ◌≈◌}
-use Rattle.cvss_base.proofs.ExactLemmas.{equal_trans}
+use Rattle.cvss_number.specs.Exact.{◌over◌, ◌≈◌}
+use Rattle.cvss_number.proofs.ExactLemmas.{equal_trans}
 use Rattle.cvss_v3.proofs.CountLemmas.{millionths_alone, capped_millionths, miss_parts}
 use Rattle.cvss_v3.proofs.SubScoreLemmas.{weight_bound, miss_listed}
 use Rattle.cvss_v3.specs.Scores.{miss}

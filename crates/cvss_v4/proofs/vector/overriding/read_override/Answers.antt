@@ -1,7 +1,7 @@
 use Rattle.std.proofs.Common.{sym, ◌∙◌, subst}
 use Rattle.std.proofs.lemmas.Result.{err_from_is_err_and}
-use Rattle.cvss_base.specs.private.Walk.{reason_of}
-use Rattle.cvss_base.proofs.LawLemmas.{names_differ}
+use Rattle.cvss_text.specs.private.Walk.{reason_of}
+use Rattle.cvss_text.proofs.LawLemmas.{names_differ}
 use Rattle.std.specs.List.{Contains}
 use Rattle.cvss_v4_metric.specs.Table.{environmental}
 use Rattle.cvss_v4.proofs.OverridingLemmas.{names_no_other, component_objection}

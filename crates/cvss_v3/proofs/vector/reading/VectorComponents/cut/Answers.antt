@@ -1,6 +1,6 @@
 use Rattle.std.proofs.Common.{length, take}
-use Rattle.cvss_base.proofs.LawLemmas.{IsCut_named}
-use Rattle.cvss_base.specs.V3Types.{name_of}
+use Rattle.cvss_text.proofs.LawLemmas.{IsCut_named}
+use Rattle.cvss_name.specs.V3Types.{name_of}
 use Rattle.cvss_v3.specs.Vector.{v3}
 use Rattle.cvss_v3.specs.private.VectorLaws.{v3_is_lawful}
 use Rattle.cvss_v3.proofs.vector.reading.VectorComponents.cut.Goals as goal

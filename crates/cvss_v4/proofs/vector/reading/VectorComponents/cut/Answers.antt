@@ -1,4 +1,4 @@
-use Rattle.cvss_base.proofs.LawLemmas.{IsCut_named}
+use Rattle.cvss_text.proofs.LawLemmas.{IsCut_named}
 use Rattle.cvss_v4.specs.Vector.{v4}
 use Rattle.cvss_v4.specs.private.VectorLaws.{v4_is_lawful}
 use Rattle.cvss_v4.proofs.vector.reading.VectorComponents.cut.Goals as goal

@@ -1,4 +1,0 @@
-pub mod Pieces
-pub mod Printing
-pub mod Unknown
-pub mod Walk

@@ -1,0 +1,2 @@
+pub mod EqualityLemmas
+pub mod FindLemmas

@@ -1,0 +1,4 @@
+pub mod Refusal
+pub mod Text
+pub mod Version
+pub mod laws

@@ -1,0 +1,49 @@
+//! Laws, each the contract of a function that does nothing.
+
+ghost use Rattle.std.specs.Prelude.{◌≡◌, ◌↔◌, IsTrue};
+ghost use Rattle.cvss_grammar.specs.laws.Equality.{EqualsByValue, ClonesByValue};
+ghost use Rattle.cvss_grammar.specs.laws.Order.{ComparesAs};
+ghost use Rattle.cvss_name.specs.laws.Errors.{TellTheSame};
+ghost use Rattle.cvss_name.specs.laws.Severities.{severities};
+ghost use Rattle.cvss_name.specs.SeverityText as severity;
+ghost use Rattle.cvss_name.specs.V2Types as v2_types;
+ghost use Rattle.cvss_name.specs.V3Types as v3_types;
+ghost use Rattle.cvss_name.specs.V4Types as v4_types;
+
+use crate::error::Error;
+use crate::severity::Severity;
+use crate::{v2, v3, v4};
+use std::hash::Hash;
+
+/// Severities and metric types compare as they are declared in the tables.
+pub fn orders_are_declared()
+    ensures severity { ComparesAs severity.text_of severities ⟦<Severity as Ord>⟧.cmp }
+    ensures v2 { ComparesAs v2_types.name_of v2_types.declared ⟦<v2::MetricType as Ord>⟧.cmp }
+    ensures v3 { ComparesAs v3_types.name_of v3_types.declared ⟦<v3::MetricType as Ord>⟧.cmp }
+    ensures v4 { ComparesAs v4_types.name_of v4_types.declared ⟦<v4::MetricType as Ord>⟧.cmp }
+{}
+
+/// Two severities or metric types are equal exactly if they are one value, and two errors exactly if
+/// they tell the same.
+pub fn equality_is_that_of_values()
+    ensures severity { EqualsByValue ⟦<Severity as PartialEq>⟧.eq }
+    ensures v2 { EqualsByValue ⟦<v2::MetricType as PartialEq>⟧.eq }
+    ensures v3 { EqualsByValue ⟦<v3::MetricType as PartialEq>⟧.eq }
+    ensures v4 { EqualsByValue ⟦<v4::MetricType as PartialEq>⟧.eq }
+    ensures error { (x y : Error) → IsTrue (⟦<Error as PartialEq>⟧.eq x y) ↔ TellTheSame x y }
+{}
+
+/// A clone of a severity or a metric type is that value, and a clone of an error tells the same.
+pub fn clones_are_equal()
+    ensures severity { ClonesByValue ⟦<Severity as Clone>⟧.is_clone }
+    ensures v2 { ClonesByValue ⟦<v2::MetricType as Clone>⟧.is_clone }
+    ensures v3 { ClonesByValue ⟦<v3::MetricType as Clone>⟧.is_clone }
+    ensures v4 { ClonesByValue ⟦<v4::MetricType as Clone>⟧.is_clone }
+    ensures error { (x clone : Error) → ⟦<Error as Clone>⟧.is_clone x clone → TellTheSame x clone }
+{}
+
+/// What a severity gives to a hasher tells it from the others.
+pub fn severities_hash_by_value()
+    ensures { (x y : Severity) → ⟦<Severity as Hash>⟧.hash_input x
+        ≡ ⟦<Severity as Hash>⟧.hash_input y → x ≡ y }
+{}

@@ -1,0 +1,108 @@
+-- The components of a vector, and the pieces that stand for them.
+use Rattle.std.proofs.Common.{◌≡◌, ◌≢◌, ◌⊎◌, inl, inr, ℕ, ◌<◌, List, [], ◌∷◌, ◌++◌, length, get_or, map, Option, Some, None, refl, sym, ap, ◌∙◌, subst, arith}
+use Rattle.std.specs.List.{All, Contains, filter_map, cons_option}
+use Rattle.std.specs.List.Sorted.{IsPermutation}
+use Rattle.std.specs.Option.{option_map}
+use Rattle.std.proofs.lemmas.List.{map-append, length-map, get_or-map}
+use Rattle.std.proofs.lemmas.List.Elements.{All-nil, All-cons, All-head, All-tail, All-map, All-get_or, Contains-append_right, filter_map-append}
+use Rattle.std.proofs.lemmas.List.Sorted.{IsPermutation-middle, IsPermutation-cons, IsPermutation-to_front, IsPermutation-sym, IsPermutation-trans, All-permutation, Contains-permutation}
+use Rattle.cvss_grammar.specs.Text.{IsComponent, name_part, value_part, component}
+use Rattle.cvss_grammar.specs.Version.{Version, read, component_of, components_of, AreComponentsOf}
+use Rattle.cvss_grammar.specs.Refusal.{piece_at}
+use Rattle.cvss_text.specs.private.Walk.{IsLawful, Adds}
+use Rattle.cvss_text.proofs.TextLemmas.{read-component, component-parts}
+use Rattle.cvss_text.proofs.LawLemmas.{IsCutAt, component_read, printed_once}
+
+-- what holds unless something else does
+unless : {A B : Type 0} → A ⊎ B → (A → ⊥) → B
+unless (inl is) not = absurd (not is)
+unless (inr is) not = is
+
+-- maps that agree at each element give one list
+pub filter_map-agree : {X Y : Type 0} (f g : X → Option Y) (xs : List X) → All (λ x. f x ≡ g x) xs → filter_map f xs ≡ filter_map g xs
+filter_map-agree f g [] all = refl
+filter_map-agree f g (x ∷ xs) all = cc (All-head (λ x. f x ≡ g x) x xs all, filter_map-agree f g xs (All-tail (λ x. f x ≡ g x) x xs all))
+
+-- an element more in the middle of one list, and at the end of the other
+IsPermutation-insert_push : {X : Type 0} (xs ys zs : List X) (x : X) → IsPermutation (xs ++ ys) zs → IsPermutation (xs ++ x ∷ ys) (zs ++ x ∷ [])
+IsPermutation-insert_push xs ys zs x same =
+    IsPermutation-trans _ (x ∷ (xs ++ ys)) _ (IsPermutation-middle xs x ys)
+    (IsPermutation-trans _ (x ∷ zs) _ (IsPermutation-cons x (xs ++ ys) zs same)
+    (IsPermutation-sym _ _ (IsPermutation-to_front zs x)))
+
+IsPermutation-along : {X : Type 0} {xs ys us vs : List X} → xs ≡ us → ys ≡ vs → IsPermutation us vs → IsPermutation xs ys
+IsPermutation-along left right same = rw (left, right) same
+
+-- a component, as it is read, is its name, the colon and its value, as they are read
+pub piece_read : {V K : Type 0} (version : Version V K) (piece : List ℕ) → IsComponent piece → read version piece ≡ component (read version (name_part piece)) (read version (value_part piece))
+piece_read version piece is = ap (read version) (component-parts piece is) ∙ read-component version.any_case (name_part piece) (value_part piece)
+
+-- the text is the component of one of the vector's values, as it is read
+pub record IsHeldAs {V K : Type 0} (version : Version V K) (v : V) (text : List ℕ) : Type 0 where
+  pub kind : K
+  pub value : version.Value kind
+  pub held : version.value_of v kind ≡ Some value
+  pub is : text ≡ component (version.name kind) (read version (version.spelling kind value))
+
+-- the piece at a place stands for this value
+pub record StandsAt {V K : Type 0} (version : Version V K) (parts : List (List ℕ)) (kind : K) (value : version.Value kind) : Type 0 where
+  pub place : ℕ
+  pub within : place < length parts
+  pub is : read version (piece_at parts place) ≡ component (version.name kind) (read version (version.spelling kind value))
+
+module _ {V K : Type 0} (version : Version V K) (lawful : IsLawful version) where
+  -- the components, cut at one metric
+  pub components_cut : (v : V) (kind : K) (cut : IsCutAt version.printed kind) → components_of version v ≡ filter_map (component_of version v) cut.before ++ cons_option (component_of version v kind) (filter_map (component_of version v) cut.after)
+  components_cut v kind cut = ap (filter_map (component_of version v)) cut.is ∙ filter_map-append (component_of version v) cut.before (kind ∷ cut.after)
+
+  -- the components, as they are read, cut at a metric that has a value
+  components_with : (v : V) (kind : K) (value : version.Value kind) (cut : IsCutAt version.printed kind) → version.value_of v kind ≡ Some value → map (read version) (components_of version v) ≡ map (read version) (filter_map (component_of version v) cut.before) ++ component (version.name kind) (read version (version.spelling kind value)) ∷ map (read version) (filter_map (component_of version v) cut.after)
+  components_with v kind value cut held =
+      ap (map (read version)) (components_cut v kind cut) ∙ rw held (map-append (read version) (filter_map (component_of version v) cut.before) (component (version.name kind) (version.spelling kind value) ∷ filter_map (component_of version v) cut.after) ∙ rw (component_read version lawful kind (version.spelling kind value)))
+
+  components_without : (v : V) (kind : K) (cut : IsCutAt version.printed kind) → version.value_of v kind ≡ None → map (read version) (components_of version v) ≡ map (read version) (filter_map (component_of version v) cut.before) ++ map (read version) (filter_map (component_of version v) cut.after)
+  components_without v kind cut empty =
+      ap (map (read version)) (components_cut v kind cut) ∙ rw empty (map-append (read version) _ _)
+
+  -- the vector after a component has one component more
+  pub adds_component : (old new : V) (parts : List (List ℕ)) (piece : List ℕ) → Adds version old piece new → IsComponent piece → AreComponentsOf version parts old → AreComponentsOf version (parts ++ piece ∷ []) new
+  adds_component old new parts piece adds is components =
+      let kind = adds.kind in
+      let cut = printed_once version lawful kind in
+      let kept : (list : List K) → All (λ other. other ≢ kind) list → filter_map (component_of version new) list ≡ filter_map (component_of version old) list =
+      λ list others. filter_map-agree (component_of version new) (component_of version old) list (λ k d inside. ap (λ held. option_map (component (version.name (get_or list k d))) (option_map (version.spelling (get_or list k d)) held)) (unless (adds.puts.others (get_or list k d)) (others k d inside))) in
+      let before = map (read version) (filter_map (component_of version old) cut.before) in
+      let after = map (read version) (filter_map (component_of version old) cut.after) in
+      let added = component (version.name kind) (read version (version.spelling kind adds.puts.fills.value)) in
+      let new_is : map (read version) (components_of version new) ≡ before ++ added ∷ after =
+      components_with new kind adds.puts.fills.value cut adds.puts.fills.filled ∙ rw (kept cut.before cut.not_before, kept cut.after cut.not_after) in
+      let piece_is : read version piece ≡ added =
+      piece_read version piece is ∙ rw (adds.named, adds.puts.fills.spelled) in
+      let parts_are : map (read version) (parts ++ piece ∷ []) ≡ map (read version) parts ++ added ∷ [] =
+      map-append (read version) parts (piece ∷ []) ∙ rw piece_is in
+      record { each_once = IsPermutation-along new_is parts_are (IsPermutation-insert_push before after (map (read version) parts) added (IsPermutation-along (sym (components_without old kind cut adds.puts.fills.was_empty)) refl components.each_once)) }
+
+  -- a value of the vector stands among the pieces
+  pub held_stands : (v : V) (parts : List (List ℕ)) (kind : K) (value : version.Value kind) → AreComponentsOf version parts v → version.value_of v kind ≡ Some value → StandsAt version parts kind value
+  held_stands v parts kind value components held =
+      let cut = printed_once version lawful kind in
+      let text = component (version.name kind) (read version (version.spelling kind value)) in
+      let among : Contains (map (read version) (components_of version v)) text =
+      subst (λ list. Contains list text) (sym (components_with v kind value cut held)) (Contains-append_right (map (read version) (filter_map (component_of version v) cut.before)) (text ∷ map (read version) (filter_map (component_of version v) cut.after)) text (0, omega arith, refl)) in
+      let found = Contains-permutation _ _ text components.each_once among in
+      let within : found.0 < length parts = omega (arith, length-map parts (read version), found.1) in
+      record { place = found.0; within = within; is = sym (get_or-map (read version) parts found.0 [] text within) ∙ found.2 }
+
+  all_held_cons : (v : V) (kind : K) (rest : List (List ℕ)) (value : Option (version.Value kind)) → version.value_of v kind ≡ value → All (λ text. IsHeldAs version v (read version text)) rest → All (λ text. IsHeldAs version v (read version text)) (cons_option (option_map (component (version.name kind)) (option_map (version.spelling kind) value)) rest)
+  all_held_cons v kind rest None held all = all
+  all_held_cons v kind rest (Some value) held all = All-cons (λ text. IsHeldAs version v (read version text)) (component (version.name kind) (version.spelling kind value)) rest (record { kind = kind; value = value; held = held; is = component_read version lawful kind (version.spelling kind value) }) all
+
+  all_held : (v : V) (kinds : List K) → All (λ text. IsHeldAs version v (read version text)) (filter_map (component_of version v) kinds)
+  all_held v [] = All-nil (λ text. IsHeldAs version v (read version text))
+  all_held v (kind ∷ kinds) = all_held_cons v kind (filter_map (component_of version v) kinds) (version.value_of v kind) refl (all_held v kinds)
+
+  -- each piece stands for a value of the vector
+  pub piece_held : (v : V) (parts : List (List ℕ)) (place : ℕ) → AreComponentsOf version parts v → place < length parts → IsHeldAs version v (read version (piece_at parts place))
+  piece_held v parts place components within =
+      let all = All-permutation (IsHeldAs version v) _ _ components.each_once (All-map (IsHeldAs version v) (read version) (components_of version v) (all_held v version.printed)) in
+      subst (IsHeldAs version v) (get_or-map (read version) parts place [] (read version []) within) (All-get_or (IsHeldAs version v) (map (read version) parts) place (read version []) (omega (arith, length-map parts (read version))) all)

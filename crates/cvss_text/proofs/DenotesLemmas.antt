@@ -1,0 +1,81 @@
+-- A text denotes at most one vector, and has no refusal where that vector is complete.
+use Rattle.std.proofs.Common.{◌≡◌, ℕ, ◌<◌, List, [], length, Option, Some, None, refl, sym, ap, ◌∙◌, subst, arith}
+use Rattle.std.proofs.lemmas.List.{take_all}
+use Rattle.std.proofs.lemmas.Option.{slice_get_within, get_or_from_slice_get}
+use Rattle.cvss_grammar.specs.Text.{pieces, joined, name_part, value_part, component}
+use Rattle.cvss_grammar.specs.Version.{Version, read, AreComponentsOf, Denotes, IsComplete, reading}
+use Rattle.cvss_grammar.specs.Refusal.{Refusal, BadComponent, WrongPrefix, WrongVersion, UnknownName, BadValue, Repeated, Missing, Spells, piece_at, FaultAt, IsFirstReason}
+use Rattle.cvss_text.specs.private.Walk.{IsLawful}
+use Rattle.cvss_text.proofs.TextLemmas.{name_part-component, value_part-component}
+use Rattle.cvss_text.proofs.LawLemmas.{name_plain, names_differ}
+use Rattle.cvss_text.proofs.ComponentLemmas.{IsHeldAs, held_stands, piece_held}
+use Rattle.cvss_text.proofs.JoinLemmas.{pieces_are}
+use Rattle.cvss_text.proofs.OnceLemmas.{names_apart}
+use Rattle.cvss_text.proofs.WalkLemmas.{value_from, name_from, value_from_piece, held_is_named}
+
+-- options that have the same values
+same_options : {A : Type 0} (one other : Option A) → ((value : A) → one ≡ Some value → other ≡ Some value) → ((value : A) → other ≡ Some value → one ≡ Some value) → one ≡ other
+same_options (Some value) other there back = sym (there value refl)
+same_options None None there back = refl
+same_options None (Some value) there back = back value refl
+
+module _ {V K : Type 0} (version : Version V K) (lawful : IsLawful version) where
+  -- a text is the component of one value
+  same_held : (v : V) (text : List ℕ) (held : IsHeldAs version v text) (value : version.Value held.kind) → text ≡ component (version.name held.kind) (read version (version.spelling held.kind value)) → version.value_of v held.kind ≡ Some value
+  same_held v text held value is =
+      let plain = name_plain version lawful held.kind in
+      let spelled : read version (version.spelling held.kind held.value) ≡ read version (version.spelling held.kind value) =
+      sym (value_part-component (version.name held.kind) _ plain) ∙ (ap value_part (sym held.is ∙ is) ∙ value_part-component (version.name held.kind) _ plain) in
+      held.held ∙ ap Some (lawful.one_value held.kind held.value value spelled)
+
+  held_as : (v : V) (text : List ℕ) (held : IsHeldAs version v text) (kind : K) (value : version.Value kind) → text ≡ component (version.name kind) (read version (version.spelling kind value)) → version.value_of v kind ≡ Some value
+  held_as v text held kind =
+      let named : (each : K) (spelled : List ℕ) → text ≡ component (version.name each) spelled → name_part text ≡ version.name each = λ each spelled is. ap name_part is ∙ name_part-component (version.name each) spelled (name_plain version lawful each) in
+      λ value is. subst (λ each. (x : version.Value each) → text ≡ component (version.name each) (read version (version.spelling each x)) → version.value_of v each ≡ Some x) (names_differ version lawful held.kind kind (sym (named held.kind _ held.is) ∙ named kind _ is)) (same_held v text held) value is
+
+  -- a value of one vector is a value of the other, where the same pieces are the components of both
+  value_shared : (v w : V) (parts : List (List ℕ)) → AreComponentsOf version parts v → AreComponentsOf version parts w → (kind : K) (value : version.Value kind) → version.value_of v kind ≡ Some value → version.value_of w kind ≡ Some value
+  value_shared v w parts of_v of_w kind value held =
+      let stands = held_stands version lawful v parts kind value of_v held in
+      held_as w _ (piece_held version lawful w parts stands.place of_w stands.within) kind value stands.is
+
+  pub vectors_same : (v w : V) (parts : List (List ℕ)) → version.front v ≡ version.front w → AreComponentsOf version parts v → AreComponentsOf version parts w → v ≡ w
+  vectors_same v w parts front of_v of_w =
+      lawful.one_vector v w front (λ kind. same_options _ _ (value_shared v w parts of_v of_w kind) (value_shared w v parts of_w of_v kind))
+
+  -- the pieces of a vector's components have no fault
+  pub no_fault_held : (v : V) (parts : List (List ℕ)) (place : ℕ) → AreComponentsOf version parts v → place < length parts → (reason : Refusal K) → FaultAt version parts place reason → ⊥
+  no_fault_held v parts place components within (BadComponent piece) none = none
+  no_fault_held v parts place components within (WrongPrefix prefix) none = none
+  no_fault_held v parts place components within (WrongVersion told) none = none
+  no_fault_held v parts place components within (Missing kind) none = none
+  no_fault_held v parts place components within (UnknownName name) (is, unknown) =
+      let held = piece_held version lawful v parts place components within in
+      unknown held.kind (sym (name_from version lawful (piece_at parts place) held.kind _ held.is) ∙ sym is)
+  no_fault_held v parts place components within (BadValue blamed value) (kind, _, named, is, no_spelling) =
+      let held = piece_held version lawful v parts place components within in
+      let one : held.kind ≡ kind = names_differ version lawful held.kind kind (sym (name_from version lawful (piece_at parts place) held.kind _ held.is) ∙ sym named) in
+      no_spelling (subst (λ each. Spells (reading version each) value) one (record { value = held.value; spelled = sym (value_from_piece version lawful (piece_at parts place) held.kind _ held.is) ∙ sym is }))
+  no_fault_held v parts place components within (Repeated kind) (named, _, before) =
+      names_apart version lawful v kind parts before.earlier place components before.is_before within before.same_name (sym named)
+
+  -- pieces that are the components of a complete vector have no reason to be refused
+  pub no_reason : (v : V) (parts : List (List ℕ)) → AreComponentsOf version parts v → IsComplete version v → (reason : Refusal K) → IsFirstReason version parts reason → ⊥
+  no_reason v parts components complete (BadComponent piece) is = is.fault
+  no_reason v parts components complete (WrongPrefix prefix) is = is.fault
+  no_reason v parts components complete (WrongVersion told) is = is.fault
+  no_reason v parts components complete (UnknownName name) is = no_fault_held v parts is.place components is.within (UnknownName name) is.fault
+  no_reason v parts components complete (BadValue kind value) is = no_fault_held v parts is.place components is.within (BadValue kind value) is.fault
+  no_reason v parts components complete (Repeated kind) is = no_fault_held v parts is.place components is.within (Repeated kind) is.fault
+  no_reason v parts components complete (Missing kind) missing =
+      let held = complete.present kind (missing.place, slice_get_within version.mandatory missing.place kind missing.is, get_or_from_slice_get version.mandatory missing.place kind kind missing.is) in
+      missing.absent (held_is_named version lawful v parts (length parts) (omega arith) (rw (take_all (length parts) parts (omega arith)) components) kind held)
+
+  -- the pieces of a text that denotes a complete vector are the vector's components
+  pub pieces_denoted : (v : V) (text : List ℕ) → version.front v ≡ [] → Denotes version text v → IsComplete version v → AreComponentsOf version (pieces text) v
+  pieces_denoted v text frontless denotes complete =
+      let mandatory = lawful.some_piece v frontless in
+      let value = value_from (version.value_of v mandatory.0) (complete.present mandatory.0 mandatory.1) in
+      let stands = held_stands version lawful v denotes.parts mandatory.0 value.0 denotes.components value.1 in
+      let joined_is : text ≡ joined denotes.parts = rw frontless at denotes.text_is in
+      subst (λ parts. AreComponentsOf version parts v) (sym (ap pieces joined_is ∙ pieces_are version lawful v denotes.parts denotes.components (omega (arith, stands.within)))) denotes.components

@@ -1,0 +1,42 @@
+-- The first mandatory metric that a vector lacks, by its place.
+use Rattle.std.proofs.Common.{◌≡◌, true, false, Option, Some, None, IsSome, Contains, is_none, refl, subst}
+use Rattle.std.proofs.lemmas.Option.{slice_get_within, get_or_from_slice_get}
+use Rattle.cvss_grammar.specs.Version.{Version, IsComplete}
+use Rattle.cvss_text.specs.private.Walk.{first_missing, LacksFirst}
+use Rattle.cvss_grammar.proofs.FindLemmas.{found_first, not_found}
+
+is_none_true : {X : Type 0} (o : Option X) → is_none o ≡ true → o ≡ None
+is_none_true None is = refl
+is_none_true (Some x) is = absurd cc
+
+is_none_false : {X : Type 0} (o : Option X) → is_none o ≡ false → IsSome o
+is_none_false None is = absurd cc
+is_none_false (Some x) is = refl
+
+module _ {V K : Type 0} (version : Version V K) (v : V) where
+  pub LacksFirst-from : (kind : K) → first_missing version v ≡ Some kind → LacksFirst version v kind
+  LacksFirst-from kind found =
+      let first = found_first (λ other. is_none (version.value_of v other)) version.mandatory kind found in
+      record {
+        place = first.place;
+        is = first.is;
+        absent = is_none_true (version.value_of v kind) first.passes;
+        earlier = λ before other below is. is_none_false (version.value_of v other) (first.earlier before other below is);
+      }
+
+  pub IsComplete-from : first_missing version v ≡ None → IsComplete version v
+  IsComplete-from none = record {
+    present = λ kind (place, within, is).
+        is_none_false (version.value_of v kind)
+        (subst (λ other. is_none (version.value_of v other) ≡ false) is
+        (not_found (λ other. is_none (version.value_of v other)) version.mandatory place kind none within));
+  }
+
+  -- the metric that is missing is a mandatory one
+  pub Contains-missing : (kind : K) → first_missing version v ≡ Some kind → Contains version.mandatory kind
+  Contains-missing kind found =
+      let lacks = LacksFirst-from kind found in (
+        lacks.place,
+        slice_get_within version.mandatory lacks.place kind lacks.is,
+        get_or_from_slice_get version.mandatory lacks.place kind kind lacks.is,
+      )

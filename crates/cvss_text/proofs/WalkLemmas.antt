@@ -1,0 +1,237 @@
+-- The steps of the walk over the components.
+use Rattle.std.proofs.Common.{◌≡◌, ℕ, ◌+◌, ◌-◌, ◌<◌, ◌≤◌, List, [], ◌∷◌, length, ◌++◌, take, drop, false, Option, Some, None, IsSome, below_more, inl, inr, refl, sym, ap, ◌∙◌, subst, arith}
+use Rattle.std.specs.List.{All, filter_map, onto_first}
+use Rattle.std.proofs.lemmas.Bool.{cases_lt}
+use Rattle.std.proofs.lemmas.List.{get_or-take, take_more, take_all, length-take-le, length-drop, drop_more, get_or-drop}
+use Rattle.std.proofs.lemmas.List.Elements.{All-head, All-tail, All-drop}
+use Rattle.std.proofs.lemmas.List.Splits.{join_with_byte-slice_split, length-slice_split, slice_split-cons_no}
+use Rattle.std.proofs.lemmas.Option.{none-some}
+use Rattle.std.proofs.lemmas.List.Sorted.{IsPermutation-refl}
+use Rattle.std.specs.Str.{IsUtf8}
+use Rattle.cvss_grammar.specs.Text.{slash, colon, pieces, IsComponent, name_part, value_part, component}
+use Rattle.cvss_text.specs.private.Pieces.{AreParts}
+use Rattle.cvss_grammar.specs.Version.{Version, read, component_of, AreComponentsOf, Denotes, reading}
+use Rattle.cvss_grammar.specs.Refusal.{Refusal, AreComponentsBefore, BadComponent, WrongPrefix, WrongVersion, UnknownName, BadValue, Repeated, Missing, Spells, piece_at, FaultAt, IsNamedBefore, IsFirstBadPiece, IsFirstFault, IsFirstMissing}
+use Rattle.cvss_text.specs.private.Walk.{IsLawful, IsCut, IsCutFirst, IsReadFirst, IsFirstOfPieces, foreign_bytes, HasNoValue, Puts, Adds, HasRead, IsFaultOf, LacksFirst}
+use Rattle.cvss_text.proofs.TextLemmas.{name_part-read, value_part-read, name_part-component, value_part-component, foreign_bytes-read, slashes-le, IsComponent-component}
+use Rattle.cvss_text.proofs.JoinLemmas.{All-from_count}
+use Rattle.cvss_text.proofs.LawLemmas.{name_plain, names_differ}
+use Rattle.cvss_text.proofs.PieceLemmas.{is_slash}
+use Rattle.cvss_text.proofs.ComponentLemmas.{adds_component, held_stands, piece_held}
+
+-- the value that is there
+pub value_from : {A : Type 0} (option : Option A) → IsSome option → (value : A) × (option ≡ Some value)
+value_from None is = cc
+value_from (Some value) is = (value, refl)
+
+none_absent : {A : Type 0} (option : Option A) → option ≡ None → IsSome option → ⊥
+none_absent option none is = let value = value_from option is in none-some value.0 (sym none ∙ value.1)
+
+-- pieces that begin with bytes that are no slash
+onto_first_piece : (front rest first : List ℕ) (behind : List (List ℕ)) → All (λ byte. is_slash byte ≡ false) front → pieces rest ≡ first ∷ behind → pieces (front ++ rest) ≡ (front ++ first) ∷ behind
+onto_first_piece [] rest first behind none found = found
+onto_first_piece (byte ∷ front) rest first behind none found =
+    slice_split-cons_no is_slash byte (front ++ rest) (All-head (λ each. is_slash each ≡ false) byte front none)
+    ∙ ap (onto_first byte) (onto_first_piece front rest first behind (All-tail (λ each. is_slash each ≡ false) byte front none) found)
+
+pieces-behind : (name rest value : List ℕ) (behind : List (List ℕ)) → foreign_bytes name ≡ 0 → pieces rest ≡ value ∷ behind → pieces (component name rest) ≡ component name value ∷ behind
+pieces-behind name rest value behind plain found =
+    onto_first_piece name (colon ∷ rest) (colon ∷ value) behind (All-from_count is_slash name (omega (arith, slashes-le name, plain)))
+    (slice_split-cons_no is_slash colon rest refl ∙ ap (onto_first colon) found)
+
+-- a piece that is cut behind a metric's name is cut at its first colon
+pub AreParts-cut : {V K : Type 0} (version : Version V K) {piece value : List ℕ} {kind : K} → IsCut version piece kind value → AreParts piece (name_part piece) value
+AreParts-cut version is = record { cut = is.cut; name_is = refl; value_is = is.value_is }
+
+-- the vector holds the components before those that are left, none of which has a fault
+pub record HasReadTo {V K : Type 0} (version : Version V K) (parts left : List (List ℕ)) (v : V) : Type 0 where
+  pub place : ℕ
+  pub within : place ≤ length parts
+  pub left_is : left ≡ drop place parts
+  pub components : AreComponentsBefore parts place
+  pub read : HasRead version parts place v
+
+module _ {V K : Type 0} (version : Version V K) (lawful : IsLawful version) where
+  -- the name and the value of a piece that stands for a component
+  pub name_from : (piece : List ℕ) (kind : K) (text : List ℕ) → read version piece ≡ component (version.name kind) text → read version (name_part piece) ≡ version.name kind
+  name_from piece kind text is =
+      sym (name_part-read version.any_case piece) ∙ (ap name_part is ∙ name_part-component (version.name kind) text (name_plain version lawful kind))
+
+  pub value_from_piece : (piece : List ℕ) (kind : K) (text : List ℕ) → read version piece ≡ component (version.name kind) text → read version (value_part piece) ≡ text
+  value_from_piece piece kind text is =
+      sym (value_part-read version.any_case piece) ∙ (ap value_part is ∙ value_part-component (version.name kind) text (name_plain version lawful kind))
+
+  -- where the vector holds the components before a place, its values are the metrics named there
+  module _ (v : V) (parts : List (List ℕ)) (place : ℕ) (within : place ≤ length parts) (components : AreComponentsOf version (take place parts) v) where
+    pub named_is_held : (kind : K) → IsNamedBefore version parts place kind → IsSome (version.value_of v kind)
+    named_is_held kind named =
+        let taken = length-take-le place parts within in
+        let held = piece_held version lawful v (take place parts) named.earlier components (omega (arith, taken, named.is_before)) in
+        let here = get_or-take place parts named.earlier [] named.is_before in
+        let is_kind : held.kind ≡ kind = names_differ version lawful held.kind kind (sym (name_from (piece_at parts named.earlier) held.kind _ (ap (read version) (sym here) ∙ held.is)) ∙ named.same_name) in
+        subst (λ each. IsSome (version.value_of v each)) is_kind (rw held.held)
+
+    pub held_is_named : (kind : K) → IsSome (version.value_of v kind) → IsNamedBefore version parts place kind
+    held_is_named kind held =
+        let value = value_from (version.value_of v kind) held in
+        let stands = held_stands version lawful v (take place parts) kind value.0 components value.1 in
+        let before : stands.place < place = omega (arith, length-take-le place parts within, stands.within) in
+        record { earlier = stands.place; is_before = before; same_name = name_from (piece_at parts stands.place) kind _ (ap (read version) (sym (get_or-take place parts stands.place [] before)) ∙ stands.is) }
+
+    -- a component that is no fault of the vector is none at its place
+    pub fault_at : (reason : Refusal K) → IsFaultOf version v (piece_at parts place) reason → FaultAt version parts place reason
+    fault_at (BadComponent piece) fault = fault
+    fault_at (UnknownName name) fault = fault
+    fault_at (BadValue kind value) fault = fault
+    fault_at (Repeated kind) (named, spelling, held) = (named, spelling, held_is_named kind held)
+    fault_at (WrongPrefix prefix) fault = fault
+    fault_at (WrongVersion told) fault = fault
+    fault_at (Missing kind) fault = fault
+
+    -- a component that goes into the vector has no fault
+    pub no_fault_at : (new : V) → Adds version v (piece_at parts place) new → (reason : Refusal K) → FaultAt version parts place reason → ⊥
+    no_fault_at new adds (BadComponent piece) fault = fault
+    no_fault_at new adds (UnknownName name) (is, unknown) = unknown adds.kind (adds.named ∙ sym is)
+    no_fault_at new adds (BadValue blamed value) (kind, _, named, is, no_spelling) =
+        let is_kind : adds.kind ≡ kind = names_differ version lawful adds.kind kind (adds.named ∙ sym named) in
+        no_spelling (subst (λ each. Spells (reading version each) value) is_kind (record { value = adds.puts.fills.value; spelled = adds.puts.fills.spelled ∙ sym is }))
+    no_fault_at new adds (Repeated kind) (named, _, earlier) =
+        let is_kind : adds.kind ≡ kind = names_differ version lawful adds.kind kind (adds.named ∙ sym named) in
+        none_absent (version.value_of v kind) (subst (λ each. version.value_of v each ≡ None) is_kind adds.puts.fills.was_empty) (named_is_held kind earlier)
+    no_fault_at new adds (WrongPrefix prefix) fault = fault
+    no_fault_at new adds (WrongVersion told) fault = fault
+    no_fault_at new adds (Missing kind) fault = fault
+
+  -- a text that begins with a metric's name and a colon: no slash stands before the value
+  pub IsCutFirst-behind : (text rest value : List ℕ) (kind : K) (behind : List (List ℕ)) → IsCut version text kind rest → pieces rest ≡ value ∷ behind → IsCutFirst version text kind value behind
+  IsCutFirst-behind text rest value kind behind is found =
+      let name = name_part text in
+      let plain : foreign_bytes name ≡ 0 = sym (foreign_bytes-read version.any_case name) ∙ (ap foreign_bytes (sym is.named) ∙ name_plain version lawful kind) in
+      let same_name : name_part (component name value) ≡ name = name_part-component name value plain in
+      record {
+        piece = component name value;
+        first = ap pieces is.cut ∙ pieces-behind name rest value behind plain found;
+        is = record {
+          named = is.named ∙ ap (read version) (sym same_name);
+          value_is = sym (value_part-component name value plain);
+          cut = ap (λ each. component each value) (sym same_name);
+        };
+      }
+
+  -- a piece that was read has one colon, since no name and no value has one
+  pub IsComponent-read : (old new : V) (piece name value : List ℕ) (kind : K) → AreParts piece name value → version.name kind ≡ read version name → Puts version old kind (read version value) new → IsComponent piece
+  IsComponent-read old new piece name value kind parts named puts =
+      let spelling = version.spelling kind puts.fills.value in
+      rw parts.cut (IsComponent-component name value
+      (sym (foreign_bytes-read version.any_case name) ∙ (ap foreign_bytes (sym named) ∙ name_plain version lawful kind))
+      (sym (foreign_bytes-read version.any_case value) ∙ (ap foreign_bytes (sym puts.fills.spelled) ∙ (foreign_bytes-read version.any_case spelling ∙ lawful.spelling_plain kind puts.fills.value))))
+
+  -- the start, a step and the end of the walk
+  components_none : (v : V) → HasNoValue version v → (kinds : List K) → filter_map (component_of version v) kinds ≡ []
+  components_none v empty [] = refl
+  components_none v empty (kind ∷ kinds) = rw (empty.none kind) (components_none v empty kinds)
+
+  pub HasRead-none : (parts : List (List ℕ)) (v : V) → HasNoValue version v → HasRead version parts 0 v
+  HasRead-none parts v empty = record { components = record { each_once = rw (components_none v empty version.printed) (IsPermutation-refl []) }; faultless = record { none = λ earlier reason below. absurd (omega arith) } }
+
+  module _ (parts : List (List ℕ)) (place : ℕ) (within : place < length parts) (piece : List ℕ) (here : piece ≡ piece_at parts place) where
+    pub HasRead-more : (old new : V) → IsComponent piece → Adds version old piece new → HasRead version parts place old → HasRead version parts (place + 1) new
+    HasRead-more old new is adds before =
+        let added = subst (λ text. Adds version old text new) here adds in
+        record {
+          components = rw (take_more parts place [] within) (adds_component version lawful old new (take place parts) (piece_at parts place) added (rw here at is) before.components);
+          faultless = record { none = λ earlier reason below. below_more (λ each. (fault : Refusal K) → FaultAt version parts each fault → ⊥) place (λ each inside fault. before.faultless.none each fault inside) (no_fault_at old parts place (omega arith) before.components new added) earlier below reason };
+        }
+
+    pub IsFirstFault-at : (v : V) (reason : Refusal K) → IsFaultOf version v piece reason → HasRead version parts place v → IsFirstFault version parts reason
+    IsFirstFault-at v reason fault before = record { place = place; within = within; fault = fault_at v parts place (omega arith) before.components reason (subst (λ text. IsFaultOf version v text reason) here fault); earlier = before.faultless }
+
+  of_fault : (parts : List (List ℕ)) (reason : Refusal K) → AreComponentsBefore parts (length parts) → IsFirstFault version parts reason → IsFirstOfPieces version parts reason
+  of_fault parts (BadComponent piece) components first = absurd first.fault
+  of_fault parts (Missing kind) components first = absurd first.fault
+  of_fault parts (WrongPrefix prefix) components first = (components, first)
+  of_fault parts (WrongVersion told) components first = (components, first)
+  of_fault parts (UnknownName name) components first = (components, first)
+  of_fault parts (BadValue kind value) components first = (components, first)
+  of_fault parts (Repeated kind) components first = (components, first)
+
+  pub HasReadTo-start : (parts : List (List ℕ)) (v : V) → HasNoValue version v → HasReadTo version parts parts v
+  HasReadTo-start parts v empty = record { place = 0; within = omega arith; left_is = refl; components = record { each = λ earlier below. absurd (omega arith) }; read = HasRead-none parts v empty }
+
+  module _ (parts left : List (List ℕ)) (v : V) (none : left ≡ []) (to : HasReadTo version parts left v) where
+    to_end : to.place ≡ length parts
+    to_end = omega (arith, to.within, ap length (sym to.left_is ∙ none), length-drop to.place parts)
+
+    pub HasReadTo-all : HasRead version parts (length parts) v
+    HasReadTo-all = subst (λ place. HasRead version parts place v) to_end to.read
+
+    pub HasReadTo-components : AreComponentsBefore parts (length parts)
+    HasReadTo-components = subst (AreComponentsBefore parts) to_end to.components
+
+  -- the first piece of what is left stands at the place up to which is read
+  module _ (parts left : List (List ℕ)) (text : List ℕ) (v : V) (cut : left ≡ pieces text) (to : HasReadTo version parts left v) where
+    pub place_within : to.place < length parts
+    place_within = omega (arith, ap length (sym to.left_is ∙ cut), length-slice_split is_slash text, length-drop to.place parts)
+
+    here_at : (k : ℕ) → piece_at (pieces text) k ≡ piece_at parts (to.place + k)
+    here_at k = ap (λ list. piece_at list k) (sym cut ∙ to.left_is) ∙ get_or-drop to.place parts k []
+
+    pub first_at_place : piece_at (pieces text) 0 ≡ piece_at parts to.place
+    first_at_place = here_at 0 ∙ ap (piece_at parts) (omega arith)
+
+    length_here : to.place + length (pieces text) ≡ length parts
+    length_here = omega (arith, to.within, ap length (sym to.left_is ∙ cut), length-drop to.place parts)
+
+    components_to : (n : ℕ) → AreComponentsBefore (pieces text) n → AreComponentsBefore parts (to.place + n)
+    components_to n here = record {
+      each = λ k below. elim (cases_lt k to.place) [
+        | inl before ↦ to.components.each k before
+        | inr back ↦ subst IsComponent (here_at (k - to.place) ∙ ap (piece_at parts) (omega arith)) (here.each (k - to.place) (omega arith))
+      ];
+    }
+
+    pub IsFirstBadPiece-to : (piece : List ℕ) → IsFirstBadPiece (pieces text) piece → IsFirstBadPiece parts piece
+    IsFirstBadPiece-to piece bad = record {
+      place = to.place + bad.place;
+      within = omega (arith, bad.within, length_here);
+      is = bad.is ∙ here_at bad.place;
+      bad = bad.bad;
+      earlier = components_to bad.place bad.earlier;
+    }
+
+    pub first_utf8 : All IsUtf8 parts → All IsUtf8 (pieces text)
+    first_utf8 all = subst (All IsUtf8) (sym to.left_is ∙ cut) (All-drop IsUtf8 to.place parts all)
+
+    pub HasReadTo-more : (new : V) (behind : List (List ℕ)) → IsReadFirst version text v new behind → HasReadTo version parts behind new
+    HasReadTo-more new behind first =
+        let here : first.piece ≡ piece_at parts to.place = ap (λ list. piece_at list 0) (sym first.first) ∙ first_at_place in
+        let both : first.piece ∷ behind ≡ piece_at parts to.place ∷ drop (to.place + 1) parts = sym first.first ∙ (sym cut ∙ (to.left_is ∙ drop_more parts to.place [] place_within)) in
+        let rest : behind ≡ drop (to.place + 1) parts = cc in
+        record { place = to.place + 1; within = omega (arith, place_within); left_is = rest; components = record { each = λ k below. below_more (λ each. IsComponent (piece_at parts each)) to.place to.components.each (subst IsComponent here first.component) k below }; read = HasRead-more parts to.place place_within first.piece here v new first.component first.adds to.read }
+
+    -- the fault of a component is the first reason, where all that are left are components
+    pub IsFirstOfPieces-fault : (reason : Refusal K) → (IsComponent (piece_at (pieces text) 0) → IsFaultOf version v (piece_at (pieces text) 0) reason) → AreComponentsBefore (pieces text) (length (pieces text)) → IsFirstOfPieces version parts reason
+    IsFirstOfPieces-fault reason fault components =
+        let all = subst (AreComponentsBefore parts) length_here (components_to (length (pieces text)) components) in
+        of_fault parts reason all (IsFirstFault-at parts to.place place_within (piece_at (pieces text) 0) first_at_place v reason (fault (rw first_at_place (all.each to.place place_within))) to.read)
+
+  pub AreComponentsOf-all : (parts : List (List ℕ)) (v : V) → HasRead version parts (length parts) v → AreComponentsOf version parts v
+  AreComponentsOf-all parts v all = rw (take_all (length parts) parts (omega arith)) at all.components
+
+  -- the first mandatory metric that the vector lacks is the first that no component names
+  pub IsFirstMissing-from : (parts : List (List ℕ)) (v : V) (kind : K) → HasRead version parts (length parts) v → LacksFirst version v kind → IsFirstMissing version parts kind
+  IsFirstMissing-from parts v kind all lacks = record {
+    faultless = all.faultless;
+    place = lacks.place;
+    is = lacks.is;
+    absent = λ named. none_absent (version.value_of v kind) lacks.absent (named_is_held v parts (length parts) (omega arith) all.components kind named);
+    earlier = λ before other below is. held_is_named v parts (length parts) (omega arith) all.components other (lacks.earlier before other below is);
+  }
+
+  -- a text without a front, all of whose components were read, denotes the vector
+  pub Denotes-from : (text : List ℕ) (v : V) → version.front v ≡ [] → HasRead version (pieces text) (length (pieces text)) v → Denotes version text v
+  Denotes-from text v frontless all = record {
+    parts = pieces text;
+    text_is = rw frontless (sym (join_with_byte-slice_split slash text));
+    components = AreComponentsOf-all (pieces text) v all;
+  }

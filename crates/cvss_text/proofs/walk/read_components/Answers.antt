@@ -1,0 +1,38 @@
+use Rattle.std.proofs.Common.{[], refl, ◌∙◌}
+use Rattle.cvss_text.specs.private.Pieces.{pieces_left}
+use Rattle.cvss_text.specs.private.Walk.{reason_of}
+use Rattle.cvss_text.proofs.WalkLemmas.{HasReadTo-start, HasReadTo-all, HasReadTo-components, HasReadTo-more, IsFirstBadPiece-to, IsFirstOfPieces-fault, first_utf8}
+use Rattle.cvss_text.proofs.walk.read_components.Goals as goal
+
+pub loop-text-init : goal.loop-text-init
+loop-text-init g c = (HasReadTo-start g.V.Components.version g.met.V.Components.lawful (pieces_left c.args.left) c.args.vector.now c.requires, refl)
+
+pub loop-text-preserved : goal.loop-text-preserved
+loop-text-preserved g c =
+    let first = c.in-Ok.ensures.read in
+    (HasReadTo-more g.V.Components.version g.met.V.Components.lawful (pieces_left c.args.left) _ c.in-Some.text.now c.loop-text.vector c.in-Some.ensures c.loop-text.invariant.0 c.read_first.new.vector _ first, first.adds.puts.front ∙ c.loop-text.invariant.1)
+
+pub returns-in-Some-first_bad_piece-clause-refused : goal.returns-in-Some-first_bad_piece-clause-refused
+returns-in-Some-first_bad_piece-clause-refused g c =
+    IsFirstBadPiece-to g.V.Components.version g.met.V.Components.lawful (pieces_left c.args.left) _ c.in-Some.text.now c.loop-text.vector c.in-Some.ensures c.loop-text.invariant.0 c.in-Some-first_bad_piece.piece.now c.in-Some-first_bad_piece.ensures
+
+pub returns-in-Some-first_bad_piece-clause-tellable : goal.returns-in-Some-first_bad_piece-clause-tellable
+returns-in-Some-first_bad_piece-clause-tellable g c = λ is.
+    let bad = c.in-Some-first_bad_piece.ensures in
+    rw bad.is (first_utf8 g.V.Components.version g.met.V.Components.lawful (pieces_left c.args.left) _ c.in-Some.text.now c.loop-text.vector c.in-Some.ensures c.loop-text.invariant.0 is bad.place [] bad.within)
+
+pub returns-in-None-clause-refused : goal.returns-in-None-clause-refused
+returns-in-None-clause-refused g c =
+    IsFirstOfPieces-fault g.V.Components.version g.met.V.Components.lawful (pieces_left c.args.left) _ c.in-Some.text.now c.loop-text.vector c.in-Some.ensures c.loop-text.invariant.0 (reason_of g.V.Components.version c.in-Err.fault) c.in-Err.ensures.refused c.in-None.ensures
+
+pub returns-in-None-clause-tellable : goal.returns-in-None-clause-tellable
+returns-in-None-clause-tellable g c = λ is.
+    c.in-Err.ensures.tellable (first_utf8 g.V.Components.version g.met.V.Components.lawful (pieces_left c.args.left) _ c.in-Some.text.now c.loop-text.vector c.in-Some.ensures c.loop-text.invariant.0 is)
+
+pub returns-clause-read : goal.returns-clause-read
+returns-clause-read g c =
+    HasReadTo-all g.V.Components.version g.met.V.Components.lawful (pieces_left c.args.left) _ c.loop-text.vector c.in_default.ensures c.loop-text.invariant.0
+
+pub returns-clause-components : goal.returns-clause-components
+returns-clause-components g c =
+    HasReadTo-components g.V.Components.version g.met.V.Components.lawful (pieces_left c.args.left) _ c.loop-text.vector c.in_default.ensures c.loop-text.invariant.0

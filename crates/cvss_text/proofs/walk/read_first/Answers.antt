@@ -1,0 +1,39 @@
+use Rattle.std.proofs.Common.{subst}
+use Rattle.std.specs.List.{All}
+use Rattle.std.specs.Str.{IsUtf8}
+use Rattle.std.proofs.lemmas.List.Elements.{All-head}
+use Rattle.std.proofs.lemmas.Result.{err_from_is_err_and}
+use Rattle.cvss_grammar.specs.Text.{name_part}
+use Rattle.cvss_grammar.specs.Version.{read}
+use Rattle.cvss_text.specs.private.Walk.{Puts}
+use Rattle.cvss_text.proofs.Utf8Lemmas.{IsUtf8-value}
+use Rattle.cvss_text.proofs.WalkLemmas.{AreParts-cut, IsComponent-read}
+use Rattle.cvss_text.proofs.walk.read_first.Goals as goal
+
+pub returns-in_err-kind-clause-refused : goal.returns-in_err-kind-clause-refused
+returns-in_err-kind-clause-refused g c =
+    let exit = err_from_is_err_and c.from_residual.result c.from_residual.ensures.1 in
+    rw (exit.1, exit.2) (c.in_err-kind.ensures.refused c.args.vector.now)
+
+pub returns-in_err-put_component-clause-tellable : goal.returns-in_err-put_component-clause-tellable
+returns-in_err-put_component-clause-tellable g c = λ is.
+    let exit = err_from_is_err_and c.from_residual-in_err-put_component.result c.from_residual-in_err-put_component.ensures.1 in
+    let cut = c.in_ok-kind.ensures.cut in
+    let piece = All-head IsUtf8 _ _ (subst (All IsUtf8) cut.first is) in
+    rw (exit.1, exit.2) (c.in_err-put_component.ensures.tellable (IsUtf8-value cut.piece (name_part cut.piece) c.in_ok-kind.value.now (AreParts-cut g.V.Components.version cut.is) piece))
+
+pub returns-clause-read : goal.returns-clause-read
+returns-clause-read g c =
+    let version = g.V.Components.version in
+    let cut = c.in_ok-kind.ensures.cut in
+    let puts = c.in_ok-put_component.ensures.put in
+    record {
+      piece = cut.piece;
+      first = cut.first;
+      component = IsComponent-read version g.met.V.Components.lawful c.args.vector.now c.put_component.new.vector cut.piece (name_part cut.piece) c.in_ok-kind.value.now c.in_ok-kind.kind (AreParts-cut version cut.is) cut.is.named puts;
+      adds = record {
+        kind = c.in_ok-kind.kind;
+        named = cut.is.named;
+        puts = subst (λ value. Puts version c.args.vector.now c.in_ok-kind.kind (read version value) c.put_component.new.vector) cut.is.value_is puts;
+      };
+    }

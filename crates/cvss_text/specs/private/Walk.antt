@@ -1,0 +1,223 @@
+-- What the private walk over the components does at each step. What callers rely on stands in
+-- Version and Refusal.
+use Rattle.std.specs.Prelude.{◌≡◌, ◌≢◌, ℕ, Bool, nat_lt, ◌||◌, ◌⊎◌, List, [], ◌∷◌, length, map, take, Option, Some, None, IsSome, Result, Ok, IfOk, OnOk, IfErr, OnErr, IsErrAnd, Contains, slice_get, find, is_none, ◌<◌, count_by, ◌==◌, ⊤}
+use Rattle.std.specs.List.{range_with_len}
+use Rattle.std.specs.Borrow.{Bor}
+use Rattle.std.specs.Str.{IsUtf8}
+use Rattle.cvss_text.specs.declared.walk.Slip.{Slip}
+use Rattle.cvss_text.specs.declared.walk.Slip.TheVariants.{Invalid, Repeated as Twice}
+use Rattle.cvss_text.specs.declared.walk.Fault.{Fault}
+use Rattle.cvss_text.specs.declared.walk.Fault.TheVariants.{InvalidComponent, InvalidPrefix, UnsupportedVersion, UnknownMetric, InvalidMetric, DuplicateMetric, MissingMandatoryMetric}
+use Rattle.cvss_grammar.specs.laws.Order.{place_in}
+use Rattle.cvss_grammar.specs.Text.{slash, colon, pieces, IsComponent, name_part, value_part, component}
+use Rattle.cvss_grammar.specs.Version.{Version, read, reading, version_piece, AreComponentsOf, Denotes, IsComplete, IsWellFormed}
+use Rattle.cvss_grammar.specs.Refusal.{Refusal, BadComponent, WrongPrefix, WrongVersion, UnknownName, BadValue, Repeated, Missing, Spells, HasNoFaultBefore, IsFirstReason, BadPiecesFirst, IsFirstRefusalBehind, IsWrongPrefix, IsWrongVersion}
+
+-- a byte that no name and no spelling has: it divides, or is not ASCII
+abbrev pub is_foreign : ℕ → Bool
+is_foreign byte = byte == slash || byte == colon || nat_lt 127 byte
+
+-- how many bytes of the text are such
+abbrev pub foreign_bytes : List ℕ → ℕ
+foreign_bytes text = count_by is_foreign text
+
+-- the place of a metric in the printing order, which its name tells
+abbrev pub place_of : {V K : Type 0} → Version V K → K → ℕ
+place_of version kind = place_in version.name version.printed kind
+
+-- what the walk needs to know of a version
+pub record IsLawful {V K : Type 0} (version : Version V K) : Type 0 where
+  -- each metric is printed at one place, which its name tells
+  pub placed : (kind : K) → slice_get version.printed (place_of version kind) ≡ Some kind
+  pub in_order : map (place_of version) version.printed ≡ range_with_len 0 (length version.printed)
+  -- names are read as they are, and have no foreign byte
+  pub names_read : map (λ kind. read version (version.name kind)) version.printed ≡ map version.name version.printed
+  pub names_plain : map (λ kind. foreign_bytes (version.name kind)) version.printed ≡ map (λ _. 0) version.printed
+  -- the spellings of a metric differ, as they are read, and have no foreign byte
+  pub spelling_plain : (kind : K) (value : version.Value kind) → foreign_bytes (version.spelling kind value) ≡ 0
+  pub one_value : (kind : K) (x y : version.Value kind) → read version (version.spelling kind x) ≡ read version (version.spelling kind y) → x ≡ y
+  -- a vector is its front and its values
+  pub one_vector : (v w : V) → version.front v ≡ version.front w → ((kind : K) → version.value_of v kind ≡ version.value_of w kind) → v ≡ w
+  -- a vector without a front has a mandatory metric, so that its text is not empty
+  pub some_piece : (v : V) → version.front v ≡ [] → (kind : K) × Contains version.mandatory kind
+
+-- the vector has no value
+pub record HasNoValue {V K : Type 0} (version : Version V K) (v : V) : Type 0 where
+  pub none : (kind : K) → version.value_of v kind ≡ None
+
+-- the vector has no value, and no piece that tells its version
+pub record IsEmpty {V K : Type 0} (version : Version V K) (v : V) : Type 0 where
+  pub frontless : version.front v ≡ []
+  pub valueless : HasNoValue version v
+
+-- an empty place gains the value with this spelling
+pub record Fills {X : Type 0} (spelling : X → List ℕ) (old : Option X) (text : List ℕ) (new : Option X) : Type 0 where
+  pub was_empty : old ≡ None
+  pub value : X
+  pub spelled : spelling value ≡ text
+  pub filled : new ≡ Some value
+
+-- why no value goes into a place
+abbrev pub IsSlip : {X : Type 0} → (X → List ℕ) → Option X → List ℕ → Slip → Type 0
+IsSlip spelling place text Invalid = ¬ (Spells spelling text)
+IsSlip spelling place text Twice = Spells spelling text × IsSome place
+
+-- what filling a place with the value that has this spelling answers
+pub record IsFilled {X : Type 0} (spelling : X → List ℕ) (old : Option X) (text : List ℕ) (answer : Result (Unit {0}) Slip) (new : Option X) : Type 0 where
+  pub filled : OnOk answer (Fills spelling old text new)
+  pub slip : IfErr answer (IsSlip spelling old text)
+
+-- the vector gains the value with this spelling, and keeps all else
+pub record Puts {V K : Type 0} (version : Version V K) (old : V) (kind : K) (text : List ℕ) (new : V) : Type 0 where
+  pub fills : Fills (reading version kind) (version.value_of old kind) text (version.value_of new kind)
+  pub others : (other : K) → (other ≡ kind) ⊎ (version.value_of new other ≡ version.value_of old other)
+  pub front : version.front new ≡ version.front old
+
+-- what putting a value into a vector answers
+pub record IsPut {V K : Type 0} (version : Version V K) (old : V) (kind : K) (text : List ℕ) (answer : Result (Unit {0}) Slip) (new : V) : Type 0 where
+  pub put : OnOk answer (Puts version old kind text new)
+  pub slip : IfErr answer (IsSlip (reading version kind) (version.value_of old kind) text)
+
+-- the piece is a component of this metric, and the value is what stands behind its first colon
+pub record IsCut {V K : Type 0} (version : Version V K) (piece : List ℕ) (kind : K) (value : List ℕ) : Type 0 where
+  pub named : version.name kind ≡ read version (name_part piece)
+  pub value_is : value ≡ value_part piece
+  pub cut : piece ≡ component (name_part piece) value
+
+-- the first piece of the text is such a component, and these pieces stand behind it
+pub record IsCutFirst {V K : Type 0} (version : Version V K) (text : List ℕ) (kind : K) (value : List ℕ) (behind : List (List ℕ)) : Type 0 where
+  pub piece : List ℕ
+  pub first : pieces text ≡ piece ∷ behind
+  pub is : IsCut version piece kind value
+
+-- why a piece starts no vector
+abbrev pub IsFrontFault : {V K : Type 0} → Version V K → List ℕ → Refusal K → Type 0
+IsFrontFault version piece (WrongPrefix prefix) = IsWrongPrefix piece prefix
+IsFrontFault version piece (WrongVersion told) = IsWrongVersion version piece told
+IsFrontFault version piece _ = ⊥
+
+-- a vector without values, whose piece tells this version
+pub record Starts {V K : Type 0} (version : Version V K) (told : List ℕ) (v : V) : Type 0 where
+  pub front_is : version.front v ≡ version_piece told ∷ []
+  pub valueless : HasNoValue version v
+  pub supported : Contains version.supported told
+
+-- the piece is a version piece, and the vector is the one that it starts
+pub record StartsWith {V K : Type 0} (version : Version V K) (piece : List ℕ) (v : V) : Type 0 where
+  pub is : piece ≡ version_piece (value_part piece)
+  pub starts : Starts version (value_part piece) v
+
+-- the first piece of the text starts the vector, and these pieces stand behind it
+pub record IsStarted {V K : Type 0} (version : Version V K) (text : List ℕ) (behind : List (List ℕ)) (v : V) : Type 0 where
+  pub piece : List ℕ
+  pub cut : pieces text ≡ piece ∷ behind
+  pub starts : StartsWith version piece v
+
+-- the vector's front is a version piece without a foreign byte
+pub record HasVersionPiece {V K : Type 0} (version : Version V K) (v : V) : Type 0 where
+  pub told : List ℕ
+  pub front_is : version.front v ≡ version_piece told ∷ []
+  pub plain : foreign_bytes told ≡ 0
+
+-- what the walk needs to know of version pieces: no byte of them is foreign
+pub record IsLawfulFront {V K : Type 0} (version : Version V K) : Type 0 where
+  pub fronts : (v : V) → HasVersionPiece version v
+  pub plain : map foreign_bytes version.supported ≡ map (λ _. 0) version.supported
+
+-- the vector lacks this mandatory metric, and none that stands before it
+pub record LacksFirst {V K : Type 0} (version : Version V K) (v : V) (kind : K) : Type 0 where
+  pub place : ℕ
+  pub is : slice_get version.mandatory place ≡ Some kind
+  pub absent : version.value_of v kind ≡ None
+  pub earlier : (before : ℕ) (other : K) → before < place → slice_get version.mandatory before ≡ Some other → IsSome (version.value_of v other)
+
+-- the first reason why the pieces are refused
+abbrev pub IsFirstOfPieces : {V K : Type 0} → Version V K → List (List ℕ) → Refusal K → Type 0
+IsFirstOfPieces version parts = BadPiecesFirst (IsFirstReason version parts) parts
+
+-- the first mandatory metric that the vector lacks
+abbrev pub first_missing : {V K : Type 0} → Version V K → V → Option K
+first_missing version v = find (λ kind. is_none (version.value_of v kind)) version.mandatory
+
+-- the component at a piece goes into the vector
+pub record Adds {V K : Type 0} (version : Version V K) (old : V) (piece : List ℕ) (new : V) : Type 0 where
+  pub kind : K
+  pub named : version.name kind ≡ read version (name_part piece)
+  pub puts : Puts version old kind (read version (value_part piece)) new
+
+-- the first piece of the text is a component, which goes into the vector, and these pieces stand behind it
+pub record IsReadFirst {V K : Type 0} (version : Version V K) (text : List ℕ) (old new : V) (behind : List (List ℕ)) : Type 0 where
+  pub piece : List ℕ
+  pub first : pieces text ≡ piece ∷ behind
+  pub component : IsComponent piece
+  pub adds : Adds version old piece new
+
+-- the vector holds the components before this place, none of which has a fault
+pub record HasRead {V K : Type 0} (version : Version V K) (parts : List (List ℕ)) (place : ℕ) (v : V) : Type 0 where
+  pub components : AreComponentsOf version (take place parts) v
+  pub faultless : HasNoFaultBefore version parts place
+
+-- the reason that a fault stands for, with its text as it is read
+abbrev pub reason_of : {V K : Type 0} → Version V K → Fault K → Refusal K
+reason_of version (InvalidComponent piece) = BadComponent piece.now
+reason_of version (InvalidPrefix prefix) = WrongPrefix prefix.now
+reason_of version (UnsupportedVersion told) = WrongVersion told.now
+reason_of version (UnknownMetric name) = UnknownName (read version name.now)
+reason_of version (InvalidMetric kind value) = BadValue kind (read version value.now)
+reason_of version (DuplicateMetric kind) = Repeated kind
+reason_of version (MissingMandatoryMetric kind) = Missing kind
+
+-- the fault can be told: its text is UTF-8, and the metric that is missing is a mandatory one
+abbrev pub IsTellable : {V K : Type 0} → Version V K → Fault K → Type 0
+IsTellable version (InvalidComponent piece) = IsUtf8 piece.now
+IsTellable version (InvalidPrefix prefix) = IsUtf8 prefix.now
+IsTellable version (UnsupportedVersion told) = IsUtf8 told.now
+IsTellable version (UnknownMetric name) = IsUtf8 name.now
+IsTellable version (InvalidMetric kind value) = IsUtf8 value.now
+IsTellable version (DuplicateMetric kind) = ⊤
+IsTellable version (MissingMandatoryMetric kind) = Contains version.mandatory kind
+
+-- the fault of a component, where the vector holds those before it
+abbrev pub IsFaultOf : {V K : Type 0} → Version V K → V → List ℕ → Refusal K → Type 0
+IsFaultOf {V} {K} version v piece (UnknownName name) =
+    (name ≡ read version (name_part piece)) × ((kind : K) → version.name kind ≢ name)
+IsFaultOf {V} {K} version v piece (BadValue blamed value) =
+    (kind : K) × (blamed ≡ version.blamed kind) × (version.name kind ≡ read version (name_part piece))
+    × (value ≡ read version (value_part piece)) × ¬ (Spells (reading version kind) value)
+IsFaultOf version v piece (Repeated kind) =
+    (version.name kind ≡ read version (name_part piece))
+    × Spells (reading version kind) (read version (value_part piece))
+    × IsSome (version.value_of v kind)
+IsFaultOf version v piece (BadComponent _) = ⊥
+IsFaultOf version v piece (WrongPrefix _) = ⊥
+IsFaultOf version v piece (WrongVersion _) = ⊥
+IsFaultOf version v piece (Missing _) = ⊥
+
+-- what cutting a piece answers: its metric and value, or that it is no component, or of no metric
+pub record IsCutAnswer {V K : Type 0} (version : Version V K) (piece : List ℕ) (answer : Result (K × Bor (List ℕ)) (Fault K)) : Type 0 where
+  pub cut : IfOk answer (λ cut. IsCut version piece cut.0 cut.1.now)
+  pub refused : IfErr answer (λ fault. (v : V) → IsComponent piece → IsFaultOf version v piece (reason_of version fault))
+  pub unnamed : OnErr answer (IsComponent piece → (kind : K) → version.name kind ≢ read version (name_part piece))
+  pub tellable : IsUtf8 piece → IfErr answer (IsTellable version)
+
+-- the text is a version piece and components, which the complete vector holds
+pub record IsReadBehind {V K : Type 0} (version : Version V K) (text : List ℕ) (v : V) : Type 0 where
+  pub told : List ℕ
+  pub parts : List (List ℕ)
+  pub cut : pieces text ≡ version_piece told ∷ parts
+  pub front_is : version.front v ≡ version_piece told ∷ []
+  pub supported : Contains version.supported told
+  pub all : HasRead version parts (length parts) v
+  pub complete : IsComplete version v
+
+-- what reading a text that begins with a version piece answers
+pub record IsAnswerBehind {V K : Type 0} (version : Version V K) (text : List ℕ) (answer : Result V (Fault K)) : Type 0 where
+  -- accepted: what is given is what the text denotes, and each such vector is given
+  pub denoted : IfOk answer (λ v. Denotes version text v)
+  pub well_formed : IfOk answer (λ v. IsWellFormed version v)
+  pub accepts : (v : V) → Denotes version text v → IsWellFormed version v → answer ≡ Ok v
+  pub utf8 : OnOk answer (IsUtf8 text)
+  -- refused: for the first reason, and wherever there is one, which can be told
+  pub refused : IfErr answer (λ fault. IsFirstRefusalBehind version text (reason_of version fault))
+  pub refuses : (reason : Refusal K) → IsFirstRefusalBehind version text reason → IsErrAnd answer (λ fault. reason_of version fault ≡ reason)
+  pub tellable : IsUtf8 text → IfErr answer (IsTellable version)

@@ -1,0 +1,68 @@
+//! Texts that begin with a piece that tells their version, once for all versions that have one.
+
+ghost use Rattle.std.specs.Prelude.{IfSome, IfNone, IfOk, IfErr, Contains};
+ghost use Rattle.std.specs.Str.{IsUtf8};
+ghost use Rattle.cvss_grammar.specs.Text.{IsComponent};
+ghost use Rattle.cvss_text.specs.private.Pieces.{pieces_left};
+ghost use Rattle.cvss_text.specs.private.Walk.{Starts, StartsWith, IsStarted, IsAnswerBehind, IsFrontFault, IsTellable, IsLawfulFront, reason_of};
+
+use crate::pieces::{Pieces, first_bad_piece, front_of, parts_of};
+use crate::walk::{Components, Fault, read_complete};
+use cvss_grammar::PREFIX;
+
+/// A vector of some version, whose text begins with the piece that tells the version.
+pub trait Fronted: Components {
+    /// A vector without values, of the version that is told exactly so, if that is supported.
+    fn start(told: &[u8]) -> Option<Self>
+        ensures started { IfSome result (Starts Self.version told.now) }
+        ensures unsupported { IfNone result (¬ (Contains Self.version.supported told.now)) };
+
+    ghost plain: { IsLawfulFront Self.version };
+}
+
+/// Reads a text that begins with a version piece, or finds the first reason why it is refused.
+pub fn read_behind<'a, V: Fronted>(text: &'a [u8]) -> Result<V, Fault<'a, V::Kind>>
+    ensures { IsAnswerBehind V.version text.now result }
+{
+    let (front, left) = front_of(text);
+    match start(front) {
+        Ok(empty) => read_started(text, left, empty),
+        Err(fault) => match first_bad_piece(text) {
+            Some(piece) => Err(Fault::InvalidComponent(piece)),
+            None => Err(fault),
+        },
+    }
+}
+
+/// The same of a text whose version piece is read already, with the pieces behind that and the
+/// vector that it starts.
+#[inline(always)]
+pub fn read_started<'a, V: Fronted>(
+    text: &'a [u8],
+    left: Pieces<'a>,
+    empty: V,
+) -> Result<V, Fault<'a, V::Kind>>
+    requires { IsStarted V.version text.now (pieces_left left) empty }
+    ensures { IsAnswerBehind V.version text.now result }
+{
+    read_complete(left, empty)
+}
+
+/// The vector without values that a version piece starts.
+fn start<'a, V: Fronted>(front: &'a [u8]) -> Result<V, Fault<'a, V::Kind>>
+    ensures started { IfOk result (StartsWith V.version front.now) }
+    ensures refused { IfErr result (λ fault.
+        IsComponent front.now → IsFrontFault V.version front.now (reason_of V.version fault)) }
+    ensures tellable { IsUtf8 front.now → IfErr result (IsTellable V.version) }
+{
+    let Some((name, told)) = parts_of(front) else {
+        return Err(Fault::InvalidComponent(front));
+    };
+    if name != PREFIX.as_bytes() {
+        return Err(Fault::InvalidPrefix(name));
+    }
+    match V::start(told) {
+        Some(empty) => Ok(empty),
+        None => Err(Fault::UnsupportedVersion(told)),
+    }
+}

@@ -1,0 +1,118 @@
+//! How the text of a vector is cut into pieces, and a component into its name and its value.
+
+ghost use Rattle.std.specs.Prelude.{◌≡◌, ◌↔◌, ◌∷◌, [], IsTrue, IfSome, MatchOption, Some, length, ◌==◌};
+ghost use Rattle.std.specs.Iterator.{YieldsFirstRef, item_count};
+ghost use Rattle.std.specs.List.{position};
+ghost use Rattle.cvss_grammar.specs.Text.{IsComponent, component, pieces};
+ghost use Rattle.cvss_text.specs.private.Pieces.{pieces_left, AreParts, IsWithoutColon};
+ghost use Rattle.cvss_grammar.specs.Refusal.{AreComponentsBefore, IsFirstBadPiece};
+
+/// The pieces of a text, cut at each slash.
+#[derive(Clone, Copy, Debug)]
+pub struct Pieces<'a> {
+    rest: Option<&'a [u8]>,
+}
+
+impl<'a> Pieces<'a> {
+    /// The text that the pieces left are cut from, if there are some.
+    #[inline(always)]
+    pub(crate) fn text(&self) -> Option<&'a [u8]>
+        ensures { MatchOption result (pieces_left self.now ≡ [])
+            (λ text. pieces_left self.now ≡ pieces text.now) }
+    {
+        self.rest
+    }
+
+    /// Whether no piece is left.
+    pub fn is_empty(&self) -> bool
+        ensures { IsTrue result ↔ (pieces_left self.now ≡ []) }
+    {
+        self.rest.is_none()
+    }
+}
+
+impl<'a> Iterator for Pieces<'a> {
+    type Item = &'a [u8];
+
+    ghost next_gives = { YieldsFirstRef pieces_left };
+
+    ghost remaining = { item_count pieces_left };
+
+    fn next(&mut self) -> Option<&'a [u8]> {
+        let (piece, left) = front_of(self.rest?);
+        *self = left;
+        Some(piece)
+    }
+}
+
+/// The first piece of a text, and those behind it.
+pub fn front_of(text: &[u8]) -> (&[u8], Pieces<'_>)
+    ensures { pieces text.now ≡ result.0.now ∷ pieces_left result.1 }
+{
+    let end = first_place(text, b'/').unwrap_or(text.len());
+    let rest = text.get(end + 1..);
+    (&text[..end], Pieces { rest })
+}
+
+/// The pieces of a text.
+pub fn pieces_of(text: &[u8]) -> Pieces<'_>
+    ensures { pieces_left result ≡ pieces text.now }
+{
+    Pieces { rest: Some(text) }
+}
+
+/// The place of the first byte with this value.
+fn first_place(text: &[u8], value: u8) -> Option<usize>
+    ensures { result ≡ position (λ byte. byte == value) text.now }
+{
+    text.iter().position(|byte| *byte == value)
+}
+
+/// Whether the piece has exactly one colon.
+pub fn is_component(piece: &[u8]) -> bool
+    ensures { IsTrue result ↔ IsComponent piece.now }
+{
+    piece.iter().filter(|byte| **byte == b':').count() == 1
+}
+
+/// The first piece of a text that is no component.
+pub fn first_bad_piece(text: &[u8]) -> Option<&[u8]>
+    ensures { MatchOption result
+        (AreComponentsBefore (pieces text.now) (length (pieces text.now)))
+        (λ piece. IsFirstBadPiece (pieces text.now) piece.now) }
+{
+    pieces_of(text).find(|piece| !is_component(piece))
+}
+
+/// The texts before and after the first colon of a piece.
+pub fn parts_of(piece: &[u8]) -> Option<(&[u8], &[u8])>
+    ensures { MatchOption result (IsWithoutColon piece.now)
+        (λ parts. AreParts piece.now parts.0.now parts.1.now) }
+{
+    let at = first_place(piece, b':')?;
+    Some((&piece[..at], &piece[at + 1..]))
+}
+
+/// The texts before and after a colon that stands behind one to three bytes.
+pub fn cut_early(piece: &[u8]) -> Option<(&[u8], &[u8])>
+    ensures { IfSome result (λ parts. piece.now ≡ component parts.0.now parts.1.now) }
+{
+    match cut_at(piece, 2) {
+        Some(parts) => Some(parts),
+        None => match cut_at(piece, 1) {
+            Some(parts) => Some(parts),
+            None => cut_at(piece, 3),
+        },
+    }
+}
+
+/// The texts before and after a colon at this place.
+#[inline(always)]
+fn cut_at(piece: &[u8], at: usize) -> Option<(&[u8], &[u8])>
+    ensures { IfSome result (λ parts. piece.now ≡ component parts.0.now parts.1.now) }
+{
+    match piece.get(at) {
+        Some(b':') => Some((&piece[..at], &piece[at + 1..])),
+        _ => None,
+    }
+}

@@ -1,0 +1,288 @@
+//! The walk over a vector's components, once for all versions. It takes no memory: a fault borrows
+//! the part of the text that it names.
+
+ghost use Rattle.std.specs.Prelude.{◌≡◌, ◌↔◌, ℕ, List, IsTrue, bytes_eq, find, IfSome, IfOk, IfErr, OnOk, IsErrAnd, Ok, [], length};
+ghost use Rattle.std.specs.List.{All};
+ghost use Rattle.std.specs.Str.{IsUtf8};
+ghost use Rattle.cvss_text.specs.private.Pieces.{pieces_left};
+ghost use Rattle.cvss_grammar.specs.Text.{IsComponent, pieces, raised, read_as};
+ghost use Rattle.cvss_grammar.specs.Version.{Version, read, Denotes, IsComplete};
+ghost use Rattle.cvss_grammar.specs.Refusal.{AreComponentsBefore, Refusal, piece_at, IsFirstRefusal};
+ghost use Rattle.cvss_text.specs.private.Walk.{HasNoValue, IsEmpty, IsPut, IsCut, IsCutAnswer, IsCutFirst, IsReadFirst, IsLawful, Puts, Adds, HasRead, IsFaultOf, IsFirstOfPieces, first_missing, IsTellable, reason_of};
+
+use crate::pieces::{Pieces, first_bad_piece, front_of, parts_of, pieces_of};
+
+/// Why a value does not go into a vector.
+#[derive(Clone, Copy)]
+pub enum Slip {
+    /// The metric has no such value.
+    Invalid,
+    /// The vector has a value of this metric.
+    Repeated,
+}
+
+/// Why a text is refused, with the part of the text that is at fault.
+#[derive(Clone, Copy)]
+pub enum Fault<'a, K> {
+    /// A piece of the text has no colon, or more than one.
+    InvalidComponent(&'a [u8]),
+    /// The text does not begin with `CVSS`.
+    InvalidPrefix(&'a [u8]),
+    /// The version that the text begins with is not supported.
+    UnsupportedVersion(&'a [u8]),
+    /// No metric has this name.
+    UnknownMetric(&'a [u8]),
+    /// The metric has no such value.
+    InvalidMetric(K, &'a [u8]),
+    /// The metric stands twice in the text.
+    DuplicateMetric(K),
+    /// A metric that every vector has is missing.
+    MissingMandatoryMetric(K),
+}
+
+/// A vector of some version, as the walk over its text fills it.
+pub trait Components: Copy {
+    type Kind: Copy + 'static;
+
+    ghost version: { Version Self Self.Kind };
+
+    /// Whether names and values are read in any ASCII case.
+    fn any_case() -> bool
+        ensures { result ≡ version.any_case };
+
+    /// The metrics in printing order.
+    fn printed() -> &'static [Self::Kind]
+        ensures { result.now ≡ version.printed };
+
+    /// The metric's name.
+    fn name(kind: Self::Kind) -> &'static str
+        ensures { result.now ≡ version.name kind };
+
+    /// The metric that a piece begins with, and what stands behind the colon after its name. It may
+    /// be `None` for any piece, which is then cut the longer way.
+    fn cut(piece: &[u8]) -> Option<(Self::Kind, &[u8])>
+        ensures { IfSome result (λ cut. IsCut version piece.now cut.0 cut.1.now) };
+
+    /// The metric that a refused value is reported under.
+    fn blamed(kind: Self::Kind) -> Self::Kind
+        ensures { result ≡ version.blamed kind };
+
+    /// Puts a value into its place, which has to be empty.
+    fn put(&mut self, kind: Self::Kind, value: &[u8]) -> Result<(), Slip>
+        ensures { IsPut version self.old kind (read version value.now) result self.new };
+
+    /// The first metric that every vector has and this one lacks.
+    fn first_missing(&self) -> Option<Self::Kind>
+        ensures { result ≡ first_missing version self.now };
+
+    ghost lawful: { IsLawful version };
+}
+
+/// The metric with this name.
+fn kind_named<V: Components>(name: &[u8]) -> Option<V::Kind>
+    ensures { result ≡ find (λ kind. bytes_eq (read V.version name.now) (V.version.name kind))
+        V.version.printed }
+{
+    V::printed().iter().copied().find(|kind| is_read_as(
+        V::any_case(),
+        name,
+        V::name(*kind).as_bytes(),
+    ))
+}
+
+/// The metric that a piece names, and the value behind its colon.
+pub fn cut_component<'a, V: Components>(
+    piece: &'a [u8],
+) -> Result<(V::Kind, &'a [u8]), Fault<'a, V::Kind>>
+    ensures { IsCutAnswer V.version piece.now result }
+{
+    match V::cut(piece) {
+        Some(cut) => Ok(cut),
+        None => cut_at_colon::<V>(piece),
+    }
+}
+
+/// The same, the longer way.
+fn cut_at_colon<'a, V: Components>(
+    piece: &'a [u8],
+) -> Result<(V::Kind, &'a [u8]), Fault<'a, V::Kind>>
+    ensures { IsCutAnswer V.version piece.now result }
+{
+    let Some((name, value)) = parts_of(piece) else {
+        return Err(Fault::InvalidComponent(piece));
+    };
+    match kind_named::<V>(name) {
+        Some(kind) => Ok((kind, value)),
+        None => Err(Fault::UnknownMetric(name)),
+    }
+}
+
+/// Reads one component into the vector.
+pub fn read_component<'a, V: Components>(
+    piece: &'a [u8],
+    vector: &mut V,
+) -> Result<(), Fault<'a, V::Kind>>
+    ensures component { OnOk result (IsComponent piece.now) }
+    ensures read { OnOk result (Adds V.version vector.old piece.now vector.new) }
+    ensures refused { IfErr result (λ fault. IsComponent piece.now
+        → IsFaultOf V.version vector.old piece.now (reason_of V.version fault)) }
+    ensures tellable { IsUtf8 piece.now → IfErr result (IsTellable V.version) }
+{
+    let (kind, value) = cut_component::<V>(piece)?;
+    put_component(kind, value, vector)
+}
+
+/// Puts a component, which is cut, into the vector.
+fn put_component<'a, V: Components>(
+    kind: V::Kind,
+    value: &'a [u8],
+    vector: &mut V,
+) -> Result<(), Fault<'a, V::Kind>>
+    ensures put { OnOk result
+        (Puts V.version vector.old kind (read V.version value.now) vector.new) }
+    ensures refused { IfErr result (λ fault. (piece : List ℕ) → IsCut V.version piece kind value.now
+        → IsFaultOf V.version vector.old piece (reason_of V.version fault)) }
+    ensures tellable { IsUtf8 value.now → IfErr result (IsTellable V.version) }
+{
+    match vector.put(kind, value) {
+        Ok(()) => Ok(()),
+        Err(Slip::Invalid) => Err(Fault::InvalidMetric(V::blamed(kind), value)),
+        Err(Slip::Repeated) => Err(Fault::DuplicateMetric(kind)),
+    }
+}
+
+/// The metric that the first piece of a text names, the value behind its colon, and the pieces behind
+/// that. The end of the piece is sought behind the colon, since no name has a slash.
+#[inline(always)]
+fn cut_first<'a, V: Components>(
+    text: &'a [u8],
+) -> Result<(V::Kind, &'a [u8], Pieces<'a>), Fault<'a, V::Kind>>
+    ensures cut { IfOk result (λ cut.
+        IsCutFirst V.version text.now cut.0 cut.1.now (pieces_left cut.2)) }
+    ensures refused { IfErr result (λ fault. (v : V) → IsComponent (piece_at (pieces text.now) 0)
+        → IsFaultOf V.version v (piece_at (pieces text.now) 0) (reason_of V.version fault)) }
+    ensures tellable { All IsUtf8 (pieces text.now) → IfErr result (IsTellable V.version) }
+{
+    if let Some(cut) = V::cut(text) {
+        let (value, left) = front_of(cut.1);
+        return Ok((cut.0, value, left));
+    }
+    let (piece, left) = front_of(text);
+    let (kind, value) = cut_at_colon::<V>(piece)?;
+    Ok((kind, value, left))
+}
+
+/// Reads the first component of a text into the vector, and gives the pieces behind it.
+#[inline(always)]
+fn read_first<'a, V: Components>(
+    text: &'a [u8],
+    vector: &mut V,
+) -> Result<Pieces<'a>, Fault<'a, V::Kind>>
+    ensures read { IfOk result (λ left.
+        IsReadFirst V.version text.now vector.old vector.new (pieces_left left)) }
+    ensures refused { IfErr result (λ fault. IsComponent (piece_at (pieces text.now) 0)
+        → IsFaultOf V.version vector.old (piece_at (pieces text.now) 0)
+        (reason_of V.version fault)) }
+    ensures tellable { All IsUtf8 (pieces text.now) → IfErr result (IsTellable V.version) }
+{
+    let (kind, value, left) = cut_first::<V>(text)?;
+    put_component(kind, value, vector)?;
+    Ok(left)
+}
+
+/// Reads the components that are left of a text into the vector.
+// A call of its own keeps the vector in memory, which is faster than a local for each field.
+#[inline(never)]
+fn read_components<'a, V: Components>(
+    left: Pieces<'a>,
+    vector: &mut V,
+) -> Result<(), Fault<'a, V::Kind>>
+    requires { HasNoValue V.version vector.old }
+    ensures read { OnOk result (HasRead V.version (pieces_left left.entry)
+        (length (pieces_left left.entry)) vector.new) }
+    ensures components { OnOk result
+        (AreComponentsBefore (pieces_left left.entry) (length (pieces_left left.entry))) }
+    ensures front { OnOk result (V.version.front vector.new ≡ V.version.front vector.old) }
+    ensures refused { IfErr result (λ fault.
+        IsFirstOfPieces V.version (pieces_left left.entry) (reason_of V.version fault)) }
+    ensures tellable { All IsUtf8 (pieces_left left.entry) → IfErr result (IsTellable V.version) }
+{
+    let mut rest = left;
+    while let Some(text) = rest.text() {
+        match read_first(text, vector) {
+            Ok(behind) => rest = behind,
+            // The pieces before are components, so the first that is none is sought from here on.
+            Err(fault) => match first_bad_piece(text) {
+                Some(piece) => return Err(Fault::InvalidComponent(piece)),
+                None => return Err(fault),
+            },
+        }
+    }
+    Ok(())
+}
+
+/// Reads the components that are left of a text into a vector without values, which then has to be
+/// complete. A piece that is no component goes before each other fault.
+pub(crate) fn read_complete<'a, V: Components>(
+    left: Pieces<'a>,
+    empty: V,
+) -> Result<V, Fault<'a, V::Kind>>
+    requires { HasNoValue V.version empty }
+    ensures read { IfOk result (λ v. HasRead V.version (pieces_left left.entry)
+        (length (pieces_left left.entry)) v) }
+    ensures front { IfOk result (λ v. V.version.front v ≡ V.version.front empty) }
+    ensures complete { IfOk result (λ v. IsComplete V.version v) }
+    ensures refused { IfErr result (λ fault.
+        IsFirstOfPieces V.version (pieces_left left.entry) (reason_of V.version fault)) }
+    ensures tellable { All IsUtf8 (pieces_left left.entry) → IfErr result (IsTellable V.version) }
+{
+    let mut vector = empty;
+    read_components(left, &mut vector)?;
+    match vector.first_missing() {
+        Some(kind) => Err(Fault::MissingMandatoryMetric(kind)),
+        None => Ok(vector),
+    }
+}
+
+/// Reads a text of components into an empty vector, or finds the first reason why it is refused.
+pub fn read_vector<'a, V: Components>(text: &'a [u8], empty: V) -> Result<V, Fault<'a, V::Kind>>
+    requires { IsEmpty V.version empty }
+    // Accepted: what is given is what the text denotes, and each such vector is given.
+    ensures denoted { IfOk result (λ v. Denotes V.version text.now v) }
+    ensures complete { IfOk result (λ v. IsComplete V.version v) }
+    ensures accepts { (v : V) → V.version.front v ≡ [] → Denotes V.version text.now v
+        → IsComplete V.version v → result ≡ Ok v }
+    ensures utf8 { OnOk result (IsUtf8 text.now) }
+    // Refused: for the first reason, and wherever there is one.
+    ensures refused { IfErr result
+        (λ fault. IsFirstRefusal V.version text.now (reason_of V.version fault)) }
+    ensures refuses { (reason : Refusal V.Kind) → IsFirstRefusal V.version text.now reason
+        → IsErrAnd result (λ fault. reason_of V.version fault ≡ reason) }
+    // A refusal can be told.
+    ensures tellable { IsUtf8 text.now → IfErr result (IsTellable V.version) }
+{
+    read_complete(pieces_of(text), empty)
+}
+
+/// Whether a text is read as this name.
+#[tactic(auto, using(crate::proofs::TextLemmas::bytes_eq_when))]
+fn is_read_as(any_case: bool, text: &[u8], name: &[u8]) -> bool
+    ensures { result ≡ bytes_eq (read_as any_case text.now) name.now }
+{
+    if any_case {
+        is_raised_as(text, name)
+    } else {
+        text == name
+    }
+}
+
+/// Whether a text is this name once its ASCII letters are raised.
+pub fn is_raised_as(text: &[u8], name: &[u8]) -> bool
+    ensures { IsTrue result ↔ (raised text.now ≡ name.now) }
+{
+    text.len() == name.len()
+        && text
+            .iter()
+            .zip(name)
+            .all(|(byte, letter)| byte.to_ascii_uppercase() == *letter)
+}
