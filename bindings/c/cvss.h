@@ -17,8 +17,8 @@
  * Threads. The functions keep no state: any number of threads may call them at once, each with its own
  * buffer or struct.
  *
- * Memory. cvss_version, cvss_scores, cvss_canonical, cvss_metrics and cvss_without_undefined take none, and but for
- * cvss_record no function takes any for a text that is accepted. To tell why a text is refused, and to make a record,
+ * Memory. cvss_version, cvss_scores, cvss_canonical, cvss_read, cvss_metrics and cvss_without_undefined take none, and
+ * but for cvss_record no function takes any for a text that is accepted. To tell why a text is refused, and to make a record,
  * the others call malloc, realloc and free, and free what they took before they return; where malloc refuses, a record
  * and a reason that carries a part of the text are told as "out of memory", and that of an override as
  * "override 0: out of memory". So these must not be called from a signal handler, or in a child that was forked from a
@@ -93,6 +93,13 @@ bool cvss_scores(const void *text, size_t length, CvssScores *scores);
  * or CVSS:4.0 of those versions: each piece is a name, a colon and a value, which cvss_metrics tells as pairs.
  */
 size_t cvss_canonical(const void *text, size_t length, void *buffer, size_t size);
+
+/*
+ * What cvss_scores and cvss_canonical answer, in one call that reads the text once: returns the length of the
+ * canonical text, which is `length`, and writes the scores. Returns 0, and leaves the scores and the buffer as they
+ * were, where the text denotes no vector.
+ */
+size_t cvss_read(const void *text, size_t length, CvssScores *scores, void *buffer, size_t size);
 
 /*
  * A metric of a vector: its abbreviation, as "MSI", and how its value is spelled, as "S". Bytes 0 fill each field, so

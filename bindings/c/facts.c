@@ -69,6 +69,26 @@ static bool is_without_undefined(const char *shorter, const char *canonical, siz
     return strcmp(shorter, has_version ? expected : expected + 9) == 0;
 }
 
+/* Whether one call answers what two others do, also where the buffer is too small or the text is refused. */
+static bool is_read_alike(const char *text, size_t length)
+{
+    CvssScores scores, read, unfit;
+    memset(&scores, 0x5a, sizeof scores);
+    memcpy(&read, &scores, sizeof read);
+    memcpy(&unfit, &scores, sizeof unfit);
+    size_t told = cvss_canonical(text, length, NULL, 0);
+    char *canonical = malloc(told + 1), *buffer = malloc(told + 1);
+    if (canonical == NULL || buffer == NULL)
+        exit(3);
+    bool is_alike = cvss_scores(text, length, &scores) == (told > 0) && cvss_canonical(text, length, canonical, told) == told
+        && cvss_read(text, length, &read, buffer, told) == told && cvss_read(text, length, &unfit, NULL, 0) == told
+        && memcmp(canonical, buffer, told) == 0 && memcmp(&scores, &read, sizeof read) == 0
+        && memcmp(&scores, &unfit, sizeof unfit) == 0;
+    free(canonical);
+    free(buffer);
+    return is_alike;
+}
+
 static void print_vector(const char *text, size_t length, const CvssScores *scores)
 {
     size_t told;
@@ -114,6 +134,8 @@ int main(void)
         CvssScores scores;
         memset(&scores, 0x5a, sizeof scores);
         CvssScores before = scores;
+        if (!is_read_alike(line, length))
+            exit(3);
         if (cvss_scores(line, length, &scores))
             print_vector(line, length, &scores);
         else if (memcmp(&scores, &before, sizeof scores) == 0)

@@ -16,6 +16,7 @@ int main(void)
     int right = told == sizeof empty - 1 && memcmp(buffer, empty, told) == 0;
     right &= cvss_version(NULL, 0) == CVSS_NOTHING && !cvss_scores(NULL, 0, &scores);
     right &= cvss_canonical(NULL, 0, NULL, 0) == 0 && cvss_canonical(text, length, NULL, 0) == length;
+    right &= cvss_read(NULL, 0, &scores, NULL, 0) == 0 && cvss_read(text, length, &scores, NULL, 0) == length;
     right &= cvss_metrics(NULL, 0, NULL, 0) == 0 && cvss_metrics(text, length, NULL, 0) == 6;
     right &= cvss_metrics(text, length, metrics, 5) == 6 && metrics[0].name[0] == '\0';
     right &= cvss_metrics(text, length, metrics, 6) == 6 && strcmp(metrics[5].value, "C") == 0;

@@ -6,29 +6,29 @@ ghost use Rattle.cvss.specs.Dispatch.{DenotesCvss};
 ghost use Rattle.cvss.specs.VectorV4.{v4};
 ghost use Rattle.cvss.specs.Version.{canonical_text};
 ghost use Rattle.cvss.specs.declared.vector.Cvss.{Cvss};
-ghost use Rattle.cvss_c.specs.Answers.{Answers, IsAnswer, IsReason};
-ghost use Rattle.cvss_c.specs.Buffer.{IsLeft, IsWritten};
-ghost use Rattle.cvss_c.specs.Defined.{text_without_undefined};
-ghost use Rattle.cvss_c.specs.Lines.{AnswersLines};
-ghost use Rattle.cvss_c.specs.Metrics.{metrics_in_order};
-ghost use Rattle.cvss_c.specs.Overriding.{AnswersOverridden, IsOverrideReason};
-ghost use Rattle.cvss_c.specs.Records.{IsRecordTold};
-ghost use Rattle.cvss_c.specs.Refusals.{IsBlamed, IsKind};
-ghost use Rattle.cvss_c.specs.Scores.{AreScoresOf, nothing, version_number as number_of_version};
+ghost use Rattle.cvss_bytes.specs.Answers.{Answers, IsAnswer, IsReason};
+ghost use Rattle.cvss_bytes.specs.Buffer.{IsLeft, IsWritten};
+ghost use Rattle.cvss_bytes.specs.Defined.{text_without_undefined};
+ghost use Rattle.cvss_bytes.specs.Lines.{AnswersLines};
+ghost use Rattle.cvss_bytes.specs.Metrics.{metrics_in_order};
+ghost use Rattle.cvss_bytes.specs.Overriding.{AnswersOverridden, IsOverrideReason};
+ghost use Rattle.cvss_bytes.specs.Records.{IsRecordTold};
+ghost use Rattle.cvss_bytes.specs.Refusals.{IsBlamed, IsKind};
+ghost use Rattle.cvss_bytes.specs.Scores.{AreScoresOf, nothing, version_number as number_of_version};
 
-use crate::answer::put_answer;
-use crate::buffer::put_both;
-use crate::canonical::put_canonical;
-use crate::defined::put_without_undefined;
-use crate::lines::put_answers;
-use crate::metrics::put_metrics;
-use crate::numbers::{NOTHING, version_number};
-use crate::overriding::{put_overridden, put_override_reason};
-use crate::reason::put_reason;
-use crate::record::put_record;
-use crate::refusal::{ACCEPTED, blamed_by, kind_of};
-use crate::{CvssMetric, CvssScores};
 use cvss::Cvss;
+use cvss_bytes::answer::put_answer;
+use cvss_bytes::buffer::put_both;
+use cvss_bytes::canonical::put_canonical_of;
+use cvss_bytes::defined::put_without_undefined;
+use cvss_bytes::lines::put_answers;
+use cvss_bytes::metrics::put_metrics;
+use cvss_bytes::numbers::{NOTHING, version_number};
+use cvss_bytes::overriding::{put_overridden, put_override_reason};
+use cvss_bytes::reason::put_reason;
+use cvss_bytes::record::put_record;
+use cvss_bytes::refusal::{ACCEPTED, blamed_by, kind_of};
+use cvss_bytes::{CvssMetric, CvssScores};
 use std::alloc::Global;
 
 /// The version of the vector that a text denotes, as 20, 30, 31 or 40; -1 where it denotes none.
@@ -69,13 +69,32 @@ pub extern "C" fn cvss_canonical(text: &[u8], buffer: &mut [u8]) -> usize
         (IsLeft buffer.old buffer.new result) }
     ensures length { (cvss : Cvss) → DenotesCvss text.now cvss → result ≡ length text.now }
 {
-    let Some(cvss) = Cvss::read_bytes(text) else {
-        return 0;
-    };
-    if text.len() <= buffer.len() {
-        put_canonical(&cvss, buffer);
+    match Cvss::read_bytes(text) {
+        Some(cvss) => put_canonical_of(&cvss, text, buffer),
+        None => 0,
     }
-    text.len()
+}
+
+/// What `cvss_scores` and `cvss_canonical` answer, in one call: the length of the canonical text of
+/// the vector that a text denotes, which is written into the buffer where it fits, and the vector's
+/// scores. 0 where the text denotes none, and then the scores are left as they were. It takes no
+/// memory.
+#[unsafe(no_mangle)]
+pub extern "C" fn cvss_read(text: &[u8], scores: &mut CvssScores, buffer: &mut [u8]) -> usize
+    ensures scores { Answers text.now (λ cvss. AreScoresOf cvss scores.new)
+        (scores.new ≡ scores.old) }
+    ensures canonical { Answers text.now
+        (λ cvss. IsWritten (text_of cvss) buffer.old buffer.new result)
+        (IsLeft buffer.old buffer.new result) }
+    ensures length { (cvss : Cvss) → DenotesCvss text.now cvss → result ≡ length text.now }
+{
+    match Cvss::read_bytes(text) {
+        Some(cvss) => {
+            *scores = CvssScores::of(&cvss);
+            put_canonical_of(&cvss, text, buffer)
+        }
+        None => 0,
+    }
 }
 
 /// How many metrics the vector has that a text denotes; they are written into the array, in the order

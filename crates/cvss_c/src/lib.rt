@@ -5,25 +5,11 @@
 //! why a text is refused does.
 #![tactic(auto)]
 
-mod answer;
-mod buffer;
 mod calls;
-mod canonical;
-mod defined;
-pub mod laws;
-mod lines;
-mod metrics;
-mod numbers;
-mod overriding;
-mod reason;
-mod record;
-mod refusal;
-mod scores;
 
 pub use calls::{
     cvss_answer, cvss_answers, cvss_canonical, cvss_metrics, cvss_overridden, cvss_override_reason,
-    cvss_reason, cvss_record, cvss_refusal_kind, cvss_refusal_metric, cvss_scores, cvss_version,
-    cvss_without_undefined,
+    cvss_read, cvss_reason, cvss_record, cvss_refusal_kind, cvss_refusal_metric, cvss_scores,
+    cvss_version, cvss_without_undefined,
 };
-pub use metrics::CvssMetric;
-pub use scores::CvssScores;
+pub use cvss_bytes::{CvssMetric, CvssScores};

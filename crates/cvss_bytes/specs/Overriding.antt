@@ -1,0 +1,46 @@
+-- An organisation's own environmental metrics in place of a vector's, as one text: CVSS v4.0 specification,
+-- sections 4 and 7.
+use Rattle.std.specs.Prelude.{◌≡◌, ◌⊎◌, ℕ, List, [], ◌∷◌, codes}
+use Rattle.std.specs.Str.{IsUtf8}
+use Rattle.cvss.specs.OverrideErrorTypeV4.{OverrideError}
+use Rattle.cvss.specs.OverridingV4.{AreOverrides, IsOverridden, TellsFirstObjection, override_error_text}
+use Rattle.cvss.specs.Text.{pieces}
+use Rattle.cvss.specs.VectorTypeV4.{Vector}
+use Rattle.cvss.specs.declared.vector.Cvss.{Cvss}
+use Rattle.cvss.specs.declared.vector.Cvss.TheVariants.{CvssV40}
+use Rattle.cvss_bytes.specs.Answers.{IsNoText}
+
+-- the overrides that a text has: its pieces, and none where it is empty
+abbrev pub overrides_in : List ℕ → List (List ℕ)
+overrides_in [] = []
+overrides_in (byte ∷ bytes) = pieces (byte ∷ bytes)
+
+-- the vector of CVSS v4.0 with the text's overrides in place
+pub record IsWithOverrides (cvss : Cvss) (text : List ℕ) (new : Vector) : Type 0 where
+  pub vector : Vector
+  pub is_v4 : cvss ≡ CvssV40 vector
+  pub utf8 : IsUtf8 text
+  pub overrides : Vector
+  pub are_overrides : AreOverrides (overrides_in text) overrides
+  pub overridden : IsOverridden vector overrides new
+
+-- the text's overrides can be put into no such vector
+pub record IsWithoutOverrides (cvss : Cvss) (text : List ℕ) : Type 0 where
+  pub none : (new : Vector) → ¬ (IsWithOverrides cvss text new)
+
+-- the one holds of the vector with the overrides in place, or there is none and the other holds
+abbrev pub AnswersOverridden : Cvss → List ℕ → (Vector → Type 0) → Type 0 → Type 0
+AnswersOverridden cvss text IsOf Otherwise =
+    ((new : Vector) × IsWithOverrides cvss text new × IsOf new) ⊎ (IsWithoutOverrides cvss text × Otherwise)
+
+-- the reason tells the first override with which something is wrong, and what
+pub record IsObjectionTold (text reason : List ℕ) : Type 0 where
+  pub utf8 : IsUtf8 text
+  pub error : OverrideError
+  pub first : TellsFirstObjection (overrides_in text) error
+  pub is : reason ≡ override_error_text error
+
+-- why the overrides cannot be put into the vector: it is of another version, or they are refused
+abbrev pub IsOverrideReason : Cvss → List ℕ → List ℕ → Type 0
+IsOverrideReason (CvssV40 vector) text reason = IsNoText text reason ⊎ IsObjectionTold text reason
+IsOverrideReason cvss text reason = reason ≡ codes "no CVSSv4 vector"

@@ -1,0 +1,71 @@
+//! The canonical text of a vector that was read.
+
+ghost use Rattle.std.specs.Prelude.{◌≡◌, ◌≤◌, length};
+ghost use Rattle.cvss.specs.Answers.{text_of};
+ghost use Rattle.cvss.specs.Dispatch.{DenotesCvss};
+ghost use Rattle.cvss.specs.Version.{canonical_text, IsComplete};
+ghost use Rattle.cvss.specs.VectorV2.{v2};
+ghost use Rattle.cvss_bytes.specs.Buffer.{HasPut, IsWritten};
+ghost use Rattle.cvss_bytes.specs.private.Steps.{IsRead};
+
+use crate::buffer::put_behind;
+use cvss::v2::Metric;
+use cvss::{Cvss, v2, v3, v4};
+use cvss_text::walk::Components;
+
+/// Writes the canonical text of the vector that a text denotes at the beginning of a buffer where it
+/// fits, and tells its length, which is that of the text.
+pub fn put_canonical_of(cvss: &Cvss, text: &[u8], buffer: &mut [u8]) -> usize
+    requires { DenotesCvss text.now cvss.now }
+    ensures written { IsWritten (text_of cvss.now) buffer.old buffer.new result }
+    ensures length { result ≡ length text.now }
+{
+    if text.len() <= buffer.len() {
+        put_canonical(cvss, buffer);
+    }
+    text.len()
+}
+
+/// Writes the canonical text at the beginning of a buffer, and tells the place behind it.
+pub(crate) fn put_canonical(cvss: &Cvss, buffer: &mut [u8]) -> usize
+    requires read { IsRead cvss.now }
+    requires room { length (text_of cvss.now) ≤ length buffer.old }
+    ensures { HasPut buffer.old (text_of cvss.now) buffer.new result }
+{
+    match cvss {
+        Cvss::CvssV20(vector) => put_v2(vector, buffer),
+        Cvss::CvssV30(vector) => put_behind(
+            "CVSS:3.0".as_bytes(),
+            vector,
+            v3::Vector::printed(),
+            buffer,
+        ),
+        Cvss::CvssV31(vector) => put_behind(
+            "CVSS:3.1".as_bytes(),
+            vector,
+            v3::Vector::printed(),
+            buffer,
+        ),
+        Cvss::CvssV40(vector) => put_behind(
+            "CVSS:4.0".as_bytes(),
+            vector,
+            v4::Vector::printed(),
+            buffer,
+        ),
+    }
+}
+
+/// The same of CVSS v2, where no slash stands before the first component.
+fn put_v2(vector: &v2::Vector, buffer: &mut [u8]) -> usize
+    requires complete { IsComplete v2 vector.now }
+    requires room { length (canonical_text v2 vector.now) ≤ length buffer.old }
+    ensures { HasPut buffer.old (canonical_text v2 vector.now) buffer.new result }
+{
+    let Some(av) = vector.av else { unreachable!() };
+    put_behind(
+        &av.slashed().as_bytes()[1..],
+        vector,
+        &v2::Vector::printed()[1..],
+        buffer,
+    )
+}

@@ -1,0 +1,22 @@
+//! What is told of a text, as bytes in a buffer of the caller and as plain numbers.
+//!
+//! A result goes into a buffer, which is left as it was where it is too small. Accepting, scoring and
+//! printing take no memory; telling why a text is refused does.
+#![tactic(auto)]
+
+pub mod answer;
+pub mod buffer;
+pub mod canonical;
+pub mod defined;
+pub mod laws;
+pub mod lines;
+pub mod metrics;
+pub mod numbers;
+pub mod overriding;
+pub mod reason;
+pub mod record;
+pub mod refusal;
+pub mod scores;
+
+pub use metrics::CvssMetric;
+pub use scores::CvssScores;

@@ -1,0 +1,208 @@
+//! An organisation's own environmental metrics in place of those of a vector of CVSS v4.0.
+
+ghost use Rattle.std.specs.Prelude.{◌≡◌, ◌<◌, ◌≤◌, ◌+◌, ◌∷◌, [], ℕ, List, IfOk, IfErr, IsOk, codes, length, map, take};
+ghost use Rattle.cvss.specs.OverridingV4.{AreOverrides, TellsFirstObjection};
+ghost use Rattle.cvss.specs.VectorTypeV4.{Vector};
+ghost use Rattle.cvss.specs.VectorV4.{v4};
+ghost use Rattle.cvss.specs.Version.{canonical_text};
+ghost use Rattle.cvss_text.specs.private.Printing.{slashed_texts};
+ghost use Rattle.cvss.specs.Dispatch.{DenotesCvss};
+ghost use Rattle.cvss_bytes.specs.Buffer.{IsLeft, IsWritten};
+ghost use Rattle.cvss_bytes.specs.Overriding.{AnswersOverridden, IsOverrideReason, IsWithOverrides, overrides_in};
+ghost use Rattle.cvss_bytes.specs.private.Overridden.{IsEarly, IsPrintable, IsUnfit, index_of};
+ghost use Rattle.cvss_bytes.specs.private.Reasons.{IsOverrideErrorTold, override_words};
+
+use crate::buffer::{put_behind, put_both};
+use crate::reason::put_error;
+use cvss::v4::OverrideError;
+use cvss::{Cvss, v4};
+use cvss_text::print::Printed;
+use cvss_text::walk::Components;
+use std::alloc::Global;
+
+/// One override more than a vector has environmental metrics is too many.
+const TOO_MANY: usize = 15;
+
+/// Why overrides cannot be put into a vector.
+#[derive(Drop)]
+enum Unfit {
+    /// The vector is not of CVSS v4.0.
+    OtherVersion,
+    /// The overrides are not UTF-8.
+    NotUtf8,
+    /// One of the overrides is refused.
+    Override(OverrideError),
+}
+
+/// Writes the canonical text of a vector with overrides in place at the beginning of a buffer where
+/// it fits, and tells its length; 0 where they cannot be put into it. The text that denotes the
+/// vector is given.
+pub fn put_overridden(
+    alloc: Global,
+    cvss: &Cvss,
+    text: &[u8],
+    overrides: &[u8],
+    buffer: &mut [u8],
+) -> usize
+    requires { DenotesCvss text.now cvss.now }
+    ensures { AnswersOverridden cvss.now overrides.now
+        (λ new. IsWritten (canonical_text v4 new) buffer.old buffer.new result)
+        (IsLeft buffer.old buffer.new result) }
+{
+    let Ok(vector) = overridden(alloc, cvss, text, overrides) else {
+        return 0;
+    };
+    put_vector(&vector, text.len() + overrides.len() + 1, buffer)
+}
+
+/// Writes why overrides cannot be put into a vector at the beginning of a buffer where it fits, and
+/// tells its length; 0 where they can.
+pub fn put_override_reason(
+    alloc: Global,
+    cvss: &Cvss,
+    text: &[u8],
+    overrides: &[u8],
+    buffer: &mut [u8],
+) -> usize
+    requires { DenotesCvss text.now cvss.now }
+    ensures { AnswersOverridden cvss.now overrides.now (λ _. IsLeft buffer.old buffer.new result)
+        ((reason : List ℕ) × IsOverrideReason cvss.now overrides.now reason
+        × IsWritten reason buffer.old buffer.new result) }
+{
+    match overridden(alloc, cvss, text, overrides) {
+        Ok(_) => 0,
+        Err(Unfit::OtherVersion) => put_both(&[], "no CVSSv4 vector".as_bytes(), buffer),
+        Err(Unfit::NotUtf8) => put_both(&[], "not UTF-8".as_bytes(), buffer),
+        Err(Unfit::Override(error)) => put_objection(alloc, &error, buffer),
+    }
+}
+
+/// Writes what is wrong with an override at the beginning of a buffer where it fits, and tells its
+/// length. Where memory is refused for an error that carries text, the error told is that.
+fn put_objection(alloc: Global, error: &OverrideError, buffer: &mut [u8]) -> usize
+    requires { index_of error.now < 15 }
+    ensures { (reason : List ℕ) × IsOverrideErrorTold error.now reason
+        × IsWritten reason buffer.old buffer.new result }
+{
+    match error {
+        OverrideError::NotEnvironmental { index } => {
+            let words = override_words(*index);
+            let reason = "no environmental CVSSv4 metric";
+            put_both(words.as_bytes(), reason.as_bytes(), buffer)
+        }
+        OverrideError::Refused { index, error } => {
+            let words = override_words(*index);
+            put_error(alloc, words.as_bytes(), error, buffer)
+        }
+    }
+}
+
+/// The words that name the override at a place.
+fn override_words(index: usize) -> &'static str
+    requires { index < 15 }
+    ensures { result.now ≡ override_words index }
+{
+    match index {
+        0 => "override 0: ",
+        1 => "override 1: ",
+        2 => "override 2: ",
+        3 => "override 3: ",
+        4 => "override 4: ",
+        5 => "override 5: ",
+        6 => "override 6: ",
+        7 => "override 7: ",
+        8 => "override 8: ",
+        9 => "override 9: ",
+        10 => "override 10: ",
+        11 => "override 11: ",
+        12 => "override 12: ",
+        13 => "override 13: ",
+        _ => "override 14: ",
+    }
+}
+
+/// The vector with overrides in place. The text that denotes the vector is given.
+fn overridden(
+    alloc: Global,
+    cvss: &Cvss,
+    text: &[u8],
+    overrides: &[u8],
+) -> Result<v4::Vector, Unfit>
+    requires { DenotesCvss text.now cvss.now }
+    ensures is { IfOk result (IsWithOverrides cvss.now overrides.now) }
+    ensures printable { IfOk result (IsPrintable text.now overrides.now) }
+    ensures accepts { (new : Vector) → IsWithOverrides cvss.now overrides.now new → IsOk result }
+    ensures unfit { IfErr result (IsUnfit cvss.now overrides.now) }
+    ensures early { IfErr result IsEarly }
+{
+    let Cvss::CvssV40(vector) = cvss else {
+        return Err(Unfit::OtherVersion);
+    };
+    let Ok(overrides) = str::from_utf8(overrides) else {
+        return Err(Unfit::NotUtf8);
+    };
+    match read_overrides(alloc, overrides) {
+        Ok(overrides) => Ok(vector.overridden_by(&overrides)),
+        Err(error) => Err(Unfit::Override(error)),
+    }
+}
+
+/// The overrides that a text has.
+fn read_overrides(alloc: Global, text: &str) -> Result<v4::Vector, OverrideError>
+    ensures accepted { IfOk result (AreOverrides (overrides_in text.now)) }
+    ensures accepts { (overrides : Vector) → AreOverrides (overrides_in text.now) overrides
+        → IsOk result }
+    ensures refused { IfErr result (TellsFirstObjection (overrides_in text.now)) }
+    ensures early { IfErr result (λ error. index_of error < 15) }
+{
+    let (pieces, count) = first_pieces(text);
+    v4::Vector::from_overrides(alloc, &pieces[..count])
+}
+
+/// The first pieces of a text, no more than `TOO_MANY`, and how many they are; none of an empty text.
+fn first_pieces(text: &str) -> ([&str; TOO_MANY], usize)
+    ensures pieces { map (λ piece. piece.now) (take result.1 result.0)
+        ≡ take 15 (overrides_in text.now) }
+    ensures count { result.1 ≤ 15 }
+{
+    let mut pieces = [""; TOO_MANY];
+    let mut count = 0;
+    if !text.is_empty() {
+        for piece in text.split('/').take(TOO_MANY) {
+            pieces[count] = piece;
+            count += 1;
+        }
+    }
+    (pieces, count)
+}
+
+/// Writes the canonical text of a vector at the beginning of a buffer where it fits, and tells its
+/// length, which is bounded.
+fn put_vector(vector: &v4::Vector, bound: usize, buffer: &mut [u8]) -> usize
+    requires front { v4.front vector.now ≡ codes "CVSS:4.0" ∷ [] }
+    requires bound { length (canonical_text v4 vector.now) ≤ bound }
+    ensures { IsWritten (canonical_text v4 vector.now) buffer.old buffer.new result }
+{
+    let piece = "CVSS:4.0".as_bytes();
+    let kinds = v4::Vector::printed();
+    let length = piece.len() + components_length(vector, kinds, bound);
+    if length <= buffer.len() {
+        put_behind(piece, vector, kinds, buffer);
+    }
+    length
+}
+
+/// How long the components are that a vector has for these metrics, each with a slash before it. It
+/// is bounded.
+fn components_length<V: Printed>(vector: &V, kinds: &[V::Kind], bound: usize) -> usize
+    requires { length (slashed_texts V.version vector.now kinds.now) ≤ bound }
+    ensures { result ≡ length (slashed_texts V.version vector.now kinds.now) }
+{
+    let mut length = 0;
+    for kind in kinds {
+        if let Some(text) = vector.slashed(*kind) {
+            length += text.len();
+        }
+    }
+    length
+}

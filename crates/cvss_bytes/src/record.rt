@@ -1,0 +1,33 @@
+//! The record of a vector, as JSON.
+
+ghost use Rattle.std.specs.Prelude.{ℕ, List, IfOk};
+ghost use Rattle.cvss.specs.Answers.{HasScore};
+ghost use Rattle.cvss_bytes.specs.Buffer.{IsWritten};
+ghost use Rattle.cvss_bytes.specs.Records.{IsRecordText, IsRecordTold};
+
+use crate::buffer::put_both;
+use cvss::Cvss;
+use cvss_record::record_of;
+use std::alloc::{AllocError, Global};
+
+/// Writes the record of a vector at the beginning of a buffer where it fits, and tells its length.
+/// Where memory is refused, what is written is that.
+pub fn put_record(alloc: Global, cvss: &Cvss, buffer: &mut [u8]) -> usize
+    requires { HasScore cvss.now }
+    ensures { (text : List ℕ) × IsRecordTold cvss.now text
+        × IsWritten text buffer.old buffer.new result }
+{
+    match record_text(alloc, cvss) {
+        Ok(text) => put_both(&[], &text, buffer),
+        Err(_) => put_both(&[], "out of memory".as_bytes(), buffer),
+    }
+}
+
+/// The record of a vector that has a score, without spaces.
+fn record_text(alloc: Global, cvss: &Cvss) -> Result<Vec<u8>, AllocError>
+    requires { HasScore cvss.now }
+    ensures { IfOk result (λ text. IsRecordText cvss.now text.items) }
+{
+    let text = record_of(alloc, cvss)?.to_vec(alloc)?;
+    Ok(text)
+}

@@ -1,0 +1,160 @@
+//! The scores of a vector, as C sees them.
+
+ghost use Rattle.std.specs.Prelude.{◌≡◌, ◌↔◌, IsTrue};
+ghost use Rattle.cvss.specs.Tenths.{IsInTenths, IsFromZeroToTen};
+ghost use Rattle.cvss.specs.Version.{IsComplete};
+ghost use Rattle.cvss.specs.VectorV2.{v2};
+ghost use Rattle.cvss.specs.VectorV4.{v4};
+ghost use Rattle.cvss_bytes.specs.Scores.{AreScoresOf, AreScoresV2, AreScoresV3, AreScoresV4, HasBaseMetrics, IsFlag, count_of};
+ghost use Rattle.cvss_bytes.specs.private.Steps.{IsRead};
+
+use crate::numbers::{NOTHING, nomenclature_number, severity_number};
+use cvss::tenths::tenths_of;
+use cvss::{Cvss, v2, v3, v4};
+
+/// The version, the scores and the ratings of a vector. Scores are in tenths, from 0 to 100; ratings
+/// are 0 for none, 1 low, 2 medium, 3 high, 4 critical.
+#[derive(Clone, Copy)]
+#[repr(C)]
+pub struct CvssScores {
+    /// 20, 30, 31 or 40.
+    pub version: i32,
+    /// The base score; of CVSS v4.0 the score.
+    pub base: i32,
+    /// The temporal score; of CVSS v4.0 -1.
+    pub temporal: i32,
+    /// The environmental score; of CVSS v4.0 -1.
+    pub environmental: i32,
+    /// The rating of `base`.
+    pub severity: i32,
+    /// The rating of `temporal`; of CVSS v4.0 -1.
+    pub temporal_severity: i32,
+    /// The rating of `environmental`; of CVSS v4.0 -1.
+    pub environmental_severity: i32,
+    /// Of CVSS v4.0 0 for CVSS-B, 1 CVSS-BE, 2 CVSS-BT, 3 CVSS-BTE; of other versions -1.
+    pub nomenclature: i32,
+    /// 1 where all base metrics are there, else 0. In CVSS v2 and v4.0 they always are.
+    pub is_complete: i32,
+    /// Room for what is told later; 0 until then.
+    pub reserved: [i32; 7],
+}
+
+impl CvssScores {
+    /// The scores of a vector that was read.
+    pub fn of(cvss: &Cvss) -> CvssScores
+        requires { IsRead cvss.now }
+        ensures { AreScoresOf cvss.now result }
+    {
+        match cvss {
+            Cvss::CvssV20(vector) => CvssScores::of_v2(vector),
+            Cvss::CvssV30(vector) => CvssScores::of_v3(30, vector),
+            Cvss::CvssV31(vector) => CvssScores::of_v3(31, vector),
+            Cvss::CvssV40(vector) => CvssScores::of_v4(vector),
+        }
+    }
+
+    fn of_v2(vector: &v2::Vector) -> CvssScores
+        requires { IsComplete v2 vector.now }
+        ensures { AreScoresV2 vector.now result }
+    {
+        let base = vector.score();
+        let temporal = vector.temporal_score();
+        let environmental = vector.environmental_score();
+        CvssScores {
+            version: 20,
+            base: tenths_v2(base),
+            temporal: tenths_v2(temporal),
+            environmental: tenths_v2(environmental),
+            severity: severity_number(base.severity()),
+            temporal_severity: severity_number(temporal.severity()),
+            environmental_severity: severity_number(environmental.severity()),
+            nomenclature: NOTHING,
+            is_complete: 1,
+            reserved: [0; 7],
+        }
+    }
+
+    fn of_v3(version: i32, vector: &v3::Vector) -> CvssScores
+        ensures { AreScoresV3 version vector.now result }
+    {
+        let base_score = vector.base_score();
+        let temporal = vector.temporal_score();
+        let environmental = vector.environmental_score();
+        CvssScores {
+            version,
+            base: tenths_v3(base_score),
+            temporal: tenths_v3(temporal),
+            environmental: tenths_v3(environmental),
+            severity: severity_number(base_score.severity()),
+            temporal_severity: severity_number(temporal.severity()),
+            environmental_severity: severity_number(environmental.severity()),
+            nomenclature: NOTHING,
+            is_complete: completeness(vector),
+            reserved: [0; 7],
+        }
+    }
+
+    fn of_v4(vector: &v4::Vector) -> CvssScores
+        requires { IsComplete v4 vector.now }
+        ensures { AreScoresV4 vector.now result }
+    {
+        let score = vector.score();
+        CvssScores {
+            version: 40,
+            base: signed_tenths(score.value()),
+            temporal: NOTHING,
+            environmental: NOTHING,
+            severity: severity_number(score.severity()),
+            temporal_severity: NOTHING,
+            environmental_severity: NOTHING,
+            nomenclature: nomenclature_number(vector.nomenclature()),
+            is_complete: 1,
+            reserved: [0; 7],
+        }
+    }
+}
+
+/// 1 where a vector of CVSS v3 has all base metrics, else 0.
+fn completeness(vector: &v3::Vector) -> i32
+    ensures { IsFlag result (HasBaseMetrics vector.now) }
+{
+    if has_base_metrics(vector) { 1 } else { 0 }
+}
+
+fn has_base_metrics(vector: &v3::Vector) -> bool
+    ensures { IsTrue result ↔ HasBaseMetrics vector.now }
+{
+    vector.av.is_some()
+        && vector.ac.is_some()
+        && vector.pr.is_some()
+        && vector.ui.is_some()
+        && vector.s.is_some()
+        && vector.c.is_some()
+        && vector.i.is_some()
+        && vector.a.is_some()
+}
+
+fn tenths_v2(score: v2::Score) -> i32
+    requires { IsInTenths IsFromZeroToTen score }
+    ensures count { score ≡ count_of result }
+    ensures range { IsFromZeroToTen result }
+{
+    signed_tenths(score.value())
+}
+
+fn tenths_v3(score: v3::Score) -> i32
+    requires { IsInTenths IsFromZeroToTen score }
+    ensures count { score ≡ count_of result }
+    ensures range { IsFromZeroToTen result }
+{
+    signed_tenths(score.value())
+}
+
+/// The tenths of a published score, of which it is the count of 10^-24.
+fn signed_tenths(count: i128) -> i32
+    requires { IsInTenths IsFromZeroToTen count }
+    ensures count { count ≡ count_of result }
+    ensures range { IsFromZeroToTen result }
+{
+    i32::from(tenths_of(count))
+}
