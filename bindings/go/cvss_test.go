@@ -184,7 +184,8 @@ func TestOverridesAreReadInAnyCase(t *testing.T) {
 		if _, err := vector.WithOverrides(twice); !errors.As(err, &refused) {
 			t.Errorf("%s: %v", row.text, err)
 		}
-		if _, err := vector.WithOverrides([]cvss.Metric{{Name: "M\u017f", Value: "U"}}); !errors.Is(err, cvss.ErrNotEnvironmental) {
+		longS := []cvss.Metric{{Name: "M\u017f", Value: "U"}}
+		if _, err := vector.WithOverrides(longS); !errors.Is(err, cvss.ErrNotEnvironmental) {
 			t.Errorf("%v", err)
 		}
 	}

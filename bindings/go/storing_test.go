@@ -102,7 +102,8 @@ func TestVectorsAreJSONStrings(t *testing.T) {
 		}
 	}
 	var back advisory
-	if err := json.Unmarshal([]byte(`{"Vector":"CVSS:3.1/a:h/av:n"}`), &back); err != nil || back.Vector.String() != "CVSS:3.1/AV:N/A:H" {
+	err := json.Unmarshal([]byte(`{"Vector":"CVSS:3.1/a:h/av:n"}`), &back)
+	if err != nil || back.Vector.String() != "CVSS:3.1/AV:N/A:H" {
 		t.Errorf("%v, %v", back, err)
 	}
 	var refused *cvss.RefusedError

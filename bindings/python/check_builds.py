@@ -1,6 +1,6 @@
 """Tries what build_wheel.py makes: a wheel and a source archive, each with the licences and the library.
 
-Usage: check_builds.py ROOT FOLDER. ROOT is the folder of the checkout; the two files are put into FOLDER and stay there.
+Usage: check_builds.py ROOT FOLDER. ROOT is the folder of the checkout; the two files are put into FOLDER, and stay.
 """
 
 import base64
@@ -9,6 +9,7 @@ import email
 import hashlib
 import io
 import os
+import re
 import subprocess
 import sys
 import tarfile
@@ -23,8 +24,8 @@ BUILD = "import sys, build_wheel as b; print(getattr(b, sys.argv[1])(sys.argv[2]
 
 def built(sources: Path, call: str, folder: Path) -> Path:
     """The file that a call of build_wheel.py makes, run as an installer runs it."""
-    told = subprocess.run([sys.executable, "-B", "-c", BUILD, call, str(folder)], cwd=sources, stdout=subprocess.PIPE, check=True)
-    return folder / told.stdout.decode().strip()
+    command = [sys.executable, "-B", "-c", BUILD, call, str(folder)]
+    return folder / subprocess.run(command, cwd=sources, stdout=subprocess.PIPE, check=True).stdout.decode().strip()
 
 
 def wheel_files(wheel: Path) -> Dict[str, bytes]:
@@ -36,7 +37,10 @@ def check_metadata(text: bytes, root: Path, files: Dict[str, bytes], folder: str
     metadata = email.message_from_bytes(text)
     assert (metadata["Name"], metadata["Version"]) == ("cvss-proved", (root / "VERSION").read_text().strip())
     assert metadata["License"] == LICENSE
-    assert f'license = {{ text = "{LICENSE}" }}' in (root / "bindings/python/pyproject.toml").read_text()
+    project = (root / "bindings/python/pyproject.toml").read_text()
+    assert f'license = {{ text = "{LICENSE}" }}' in project
+    assert f'description = "{metadata["Summary"]}"' in project
+    assert re.findall('^    "(.*)",$', project, re.M) == metadata.get_all("Classifier", [])
     assert sorted(metadata.get_all("License-File", [])) == sorted(LICENSES)
     for name in LICENSES:
         assert files[f"{folder}/{name}"] == (root / name).read_bytes(), name

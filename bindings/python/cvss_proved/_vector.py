@@ -267,7 +267,8 @@ def answers(texts: Iterable[Text]) -> List[str]:
     ['AV:N/AC:L/Au:N/C:N/I:N/A:C 7.8 high', 'error: invalid CVSS metric group component: `AV:N`']
     """
     if isinstance(texts, (str, bytes, bytearray, memoryview)):
-        raise TypeError(f"texts are a list or another iterable of texts, and not one {type(texts).__name__}: call answer")
+        told = type(texts).__name__
+        raise TypeError(f"texts are a list or another iterable of texts, and not one {told}: for one call answer")
     given = list(texts)
     lines = _lines_of(given)
     # a text with a newline, or with a carriage return at its end, would be read as another
