@@ -86,7 +86,18 @@ def try_c():
     block = blocks(PAGE, "c")[0]
     (FOLDER / "program.c").write_text(block)
     run(["cc", "-I", ROOT / "bindings/c", "program.c", OUT / "libcvss.a", "-o", "program"])
-    check(run(["./program"]), re.findall(r"/\* (.*?) \*/", block)[0] + "\n", block)
+    wanted = re.findall(r"/\* (.*?) \*/", block)[0] + "\n"
+    check(run(["./program"]), wanted, block)
+    if has("pkg-config", "what it tells is not tried"):
+        (FOLDER / "bindings").symlink_to(ROOT / "bindings")
+        install = block_with("bindings/install")
+        home = {**os.environ, "HOME": str(FOLDER / "home")}
+        run(install, shell=True, env=home)
+        check(run(["./a.out"]), wanted, install)
+        blank = {**os.environ, "HOME": str(FOLDER / "a home")}
+        run([ROOT / "bindings/install", FOLDER / "a home/.local"])
+        run(block_with('eval "cc'), shell=True, env=blank)
+        check(run(["./a.out"]), wanted, install)
 
 
 def try_rust():
