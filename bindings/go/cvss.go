@@ -40,8 +40,10 @@ type Metric struct {
 	Value string
 }
 
-// A Vector is the vector that a text denotes. Two vectors are equal if their canonical texts are. The zero Vector is
-// none.
+// A Vector is the vector that a text denotes. Two vectors are equal if their canonical texts are.
+//
+// The zero Vector is none, as Parse returns it beside an error: it has no text, no version and no metrics, and a score
+// of 0.0. IsZero tells it.
 type Vector struct {
 	text          string
 	version       Version
@@ -54,8 +56,11 @@ type Vector struct {
 	isComplete    bool
 }
 
-// A pointer to the bytes of a text. The text may not be empty.
+// A pointer to the bytes of a text, or nil where it has none.
 func pointer(text []byte) unsafe.Pointer {
+	if len(text) == 0 {
+		return nil
+	}
 	return unsafe.Pointer(&text[0])
 }
 
@@ -68,14 +73,12 @@ func bytesOf(text string) ([]byte, C.size_t) {
 // piece by those of v2. The error is a *RefusedError.
 func Parse(text string) (Vector, error) {
 	code, length := bytesOf(text)
-	var scores C.CvssScores
-	if !bool(C.cvss_scores(pointer(code), length, &scores)) {
+	scores, canonical, ok := read(code, length)
+	if !ok {
 		return Vector{}, refusal(code, length)
 	}
-	canonical := make([]byte, len(code))
-	C.cvss_canonical(pointer(code), length, pointer(canonical), length)
 	vector := Vector{
-		text:       string(canonical[:length]),
+		text:       canonical,
 		version:    versions[scores.version],
 		score:      Score(scores.base),
 		severities: [3]Severity{Severity(scores.severity)},
@@ -92,6 +95,20 @@ func Parse(text string) (Vector, error) {
 	vector.severities[2] = Severity(scores.environmental_severity)
 	return vector, nil
 }
+
+// read tells the scores and the canonical text of the vector that a text denotes, if it denotes one.
+func read(code []byte, length C.size_t) (scores C.CvssScores, canonical string, ok bool) {
+	if !bool(C.cvss_scores(pointer(code), length, &scores)) {
+		return scores, "", false
+	}
+	canonical = written(int(length), func(buffer unsafe.Pointer, size C.size_t) C.size_t {
+		return C.cvss_canonical(pointer(code), length, buffer, size)
+	})
+	return scores, canonical, true
+}
+
+// IsZero tells whether this is the zero Vector, which is none.
+func (v Vector) IsZero() bool { return v.text == "" }
 
 // String is the vector's one canonical text.
 func (v Vector) String() string { return v.text }
@@ -159,18 +176,19 @@ func (v Vector) Record() []byte {
 	}))
 }
 
-// WithOverrides is the vector with an organisation's environmental metrics in place of its own, or beside them. Into a
-// vector of v4.0 the library puts them, into others this package. The error is ErrNotEnvironmental, or else a
-// *RefusedError of the vector with these metrics.
+// WithOverrides is the vector with an organisation's environmental metrics, in any ASCII case, in place of its own or
+// beside them. Into a vector of v4.0 the library puts them, into others this package. The error is
+// ErrNotEnvironmental, or else a *RefusedError of the vector with these metrics.
 func (v Vector) WithOverrides(overrides []Metric) (Vector, error) {
 	own := make(map[string]bool)
 	var added []string
 	for _, metric := range overrides {
-		if strings.ContainsAny(metric.Name+metric.Value, " /:") || !strings.Contains(environmental, " "+metric.Name+" ") {
+		name, value := raised(metric.Name), raised(metric.Value)
+		if strings.ContainsAny(name+value, " /:") || !strings.Contains(environmental, " "+name+" ") {
 			return Vector{}, ErrNotEnvironmental
 		}
-		own[metric.Name] = true
-		added = append(added, metric.Name+":"+metric.Value)
+		own[name] = true
+		added = append(added, name+":"+value)
 	}
 	if v.version == V40 {
 		if scored, err := Parse(v.overridden(strings.Join(added, "/"))); err == nil {
@@ -184,6 +202,17 @@ func (v Vector) WithOverrides(overrides []Metric) (Vector, error) {
 		}
 	}
 	return Parse(strings.Join(append(pieces, added...), "/"))
+}
+
+// raised is a text with its ASCII letters in capitals.
+func raised(text string) string {
+	bytes := []byte(text)
+	for i, letter := range bytes {
+		if 'a' <= letter && letter <= 'z' {
+			bytes[i] = letter - 'a' + 'A'
+		}
+	}
+	return string(bytes)
 }
 
 // overridden is the canonical text of a vector of v4.0 with overrides in place, or nothing.

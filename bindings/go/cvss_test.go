@@ -157,3 +157,36 @@ func TestOtherMetricsAreNoOverrides(t *testing.T) {
 		t.Errorf("%v", err)
 	}
 }
+
+func TestOverridesAreReadInAnyCase(t *testing.T) {
+	for _, row := range []struct {
+		text, own string
+		override  cvss.Metric
+	}{
+		{"AV:N/AC:L/Au:N/C:N/I:N/A:C/TD:L", "/TD:H", cvss.Metric{Name: "td", Value: "h"}},
+		{"CVSS:3.0/AV:N/MAV:L", "/MAV:P", cvss.Metric{Name: "mav", Value: "p"}},
+		{"CVSS:3.1/AV:N/CR:L", "/CR:H", cvss.Metric{Name: "Cr", Value: "h"}},
+		{
+			"CVSS:4.0/AV:N/AC:L/AT:N/PR:N/UI:N/VC:L/VI:L/VA:L/SC:N/SI:N/SA:N/MSI:L", "/MSI:S",
+			cvss.Metric{Name: "msi", Value: "s"},
+		},
+	} {
+		vector, err := cvss.Parse(row.text)
+		if err != nil {
+			t.Fatal(err)
+		}
+		own, err := vector.WithOverrides([]cvss.Metric{row.override})
+		if err != nil || own.String() != row.text[:strings.LastIndex(row.text, "/")]+row.own {
+			t.Errorf("%s: %v, %v", row.text, own, err)
+		}
+		twice := []cvss.Metric{row.override, {Name: strings.Split(row.own[1:], ":")[0], Value: "X"}}
+		var refused *cvss.RefusedError
+		if _, err := vector.WithOverrides(twice); !errors.As(err, &refused) {
+			t.Errorf("%s: %v", row.text, err)
+		}
+		longS := []cvss.Metric{{Name: "M\u017f", Value: "U"}}
+		if _, err := vector.WithOverrides(longS); !errors.Is(err, cvss.ErrNotEnvironmental) {
+			t.Errorf("%v", err)
+		}
+	}
+}

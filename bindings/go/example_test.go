@@ -1,6 +1,7 @@
 package cvss_test
 
 import (
+	"encoding/json"
 	"errors"
 	"fmt"
 
@@ -22,4 +23,16 @@ func Example() {
 	// Output:
 	// CVSS:3.1/AV:N/AC:L/PR:N/UI:N/S:U/C:H/I:H/A:H 9.8 critical
 	// AV invalid CVSSv3 AV (Attack Vector) metric: `Q`
+}
+
+func ExampleVector_MarshalText() {
+	vector, err := cvss.Parse("CVSS:3.1/AV:N/AC:L/PR:N/UI:N/S:U/C:H/I:H/A:H")
+	if err != nil {
+		fmt.Println(err)
+		return
+	}
+	text, err := json.Marshal(map[string]cvss.Vector{"cvss": vector})
+	fmt.Println(string(text), err)
+	// Output:
+	// {"cvss":"CVSS:3.1/AV:N/AC:L/PR:N/UI:N/S:U/C:H/I:H/A:H"} <nil>
 }

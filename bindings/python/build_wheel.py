@@ -1,12 +1,15 @@
-"""Makes a wheel of the package and the library, by the standard library alone (PEP 517).
+"""Makes a wheel and a source archive of the package and the library, by the standard library alone (PEP 517).
 
-The library is the file that the variable CVSS_LIBRARY names, or the one that bindings/build has made.
+The library is the file that the variable CVSS_LIBRARY names, or the one that a source archive has, or the one that
+bindings/build has made. It is in both: to build it, the whole repository is needed.
 """
 
 import base64
 import hashlib
+import io
 import os
 import re
+import tarfile
 import zipfile
 from pathlib import Path
 from typing import Dict, Optional
@@ -16,6 +19,27 @@ _PACKAGE = _HERE / "cvss_proved"
 _FILE = "libcvss.so.1"
 # The library is linked to the C library of the machine that it is built on, and to no Python.
 _TAG = "py3-none-linux_x86_64"
+# They stand at the root of a checkout, of a source archive, and beside the installed sources.
+_LICENSES = ("LICENSE-APACHE", "LICENSE-MIT", "NOTICE")
+_ROOTS = (_HERE, _HERE.parent, _HERE.parent.parent)
+_HEAD = """\
+Metadata-Version: 2.1
+Name: cvss-proved
+Version: {version}
+Summary: CVSS vectors of v2, v3.0, v3.1 and v4.0: read, printed and scored by a library whose answers are proved
+License: Apache-2.0 OR MIT
+License-File: LICENSE-APACHE
+License-File: LICENSE-MIT
+License-File: NOTICE
+Classifier: License :: OSI Approved :: Apache Software License
+Classifier: License :: OSI Approved :: MIT License
+Classifier: Operating System :: POSIX :: Linux
+Classifier: Programming Language :: Python :: 3
+Classifier: Typing :: Typed
+Requires-Python: >=3.8
+Description-Content-Type: text/markdown
+
+"""
 
 
 def _version() -> str:
@@ -26,32 +50,43 @@ def _version() -> str:
 
 
 def _library() -> bytes:
-    place = Path(os.environ.get("CVSS_LIBRARY", str(_HERE.parent / "out" / _FILE)))
+    own = _PACKAGE / _FILE
+    built = own if own.is_file() else _HERE.parent / "out" / _FILE
+    place = Path(os.environ.get("CVSS_LIBRARY", str(built)))
     if not place.is_file():
         raise SystemExit(f"{place} is missing: run bindings/build, or name the library by the variable CVSS_LIBRARY")
     return place.read_bytes()
 
 
-def _metadata(version: str) -> str:
-    head = (
-        "Metadata-Version: 2.1\nName: cvss-proved\nVersion: "
-        f"{version}\nSummary: CVSS vectors, read, printed and scored by a library whose answers are proved\n"
-        "Requires-Python: >=3.8\nDescription-Content-Type: text/markdown\n\n"
-    )
-    return head + (_HERE / "README.md").read_text()
+def _licenses() -> Dict[str, bytes]:
+    root = next((root for root in _ROOTS if all((root / name).is_file() for name in _LICENSES)), None)
+    if root is None:
+        looked = " nor ".join(str(root) for root in _ROOTS)
+        raise SystemExit(f"{', '.join(_LICENSES)} are neither in {looked}: put the files of the repository there")
+    return {name: (root / name).read_bytes() for name in _LICENSES}
 
 
-def _files(version: str) -> Dict[str, bytes]:
+def _metadata(version: str) -> bytes:
+    return (_HEAD.format(version=version) + (_HERE / "README.md").read_text()).encode()
+
+
+def _package() -> Dict[str, bytes]:
     files = {
         f"cvss_proved/{source.name}": source.read_bytes()
         for source in sorted(_PACKAGE.iterdir())
         if source.suffix in (".py", ".typed")
     }
     files[f"cvss_proved/{_FILE}"] = _library()
+    return files
+
+
+def _files(version: str) -> Dict[str, bytes]:
+    files = _package()
     info = f"cvss_proved-{version}.dist-info"
-    files[f"{info}/METADATA"] = _metadata(version).encode()
+    files[f"{info}/METADATA"] = _metadata(version)
     wheel = f"Wheel-Version: 1.0\nGenerator: build_wheel\nRoot-Is-Purelib: false\nTag: {_TAG}\n"
     files[f"{info}/WHEEL"] = wheel.encode()
+    files.update({f"{info}/{name}": text for name, text in _licenses().items()})
     files[f"{info}/RECORD"] = _record(files, info).encode()
     return files
 
@@ -79,5 +114,16 @@ def build_wheel(
 
 
 def build_sdist(sdist_directory: str, config_settings: Optional[Dict[str, str]] = None) -> str:
-    """There is none: the library is built from the whole repository."""
-    raise SystemExit("this package is built from a checkout of its repository alone")
+    """Writes the source archive into a folder, and tells its name."""
+    version = _version()
+    folder = f"cvss_proved-{version}"
+    files = {name: (_HERE / name).read_bytes() for name in ("README.md", "build_wheel.py", "pyproject.toml")}
+    files.update(_package())
+    files.update(_licenses())
+    files["PKG-INFO"] = _metadata(version)
+    with tarfile.open(Path(sdist_directory) / f"{folder}.tar.gz", "w:gz", format=tarfile.PAX_FORMAT) as archive:
+        for path, content in files.items():
+            member = tarfile.TarInfo(f"{folder}/{path}")
+            member.size = len(content)
+            archive.addfile(member, io.BytesIO(content))
+    return f"{folder}.tar.gz"

@@ -23,6 +23,7 @@ KINDS = (
     "missing metric",
 )
 TEXT = "AV:N/AC:L/Au:N/C:N/I:N/A:C"
+V4 = "CVSS:4.0/AV:N/AC:L/AT:N/PR:N/UI:N/VC:H/VI:H/VA:H/SC:H/SI:H/SA:H"
 
 
 def scored(score: Optional[float], severity: Optional[str]) -> str:
@@ -66,8 +67,8 @@ def check_stored_lines(root: Path) -> None:
 def raises(error: Type[Exception], call: Callable[[], object]) -> bool:
     try:
         call()
-    except error:
-        return True
+    except Exception as raised:
+        return isinstance(raised, error)
     return False
 
 
@@ -98,6 +99,14 @@ def check_many_texts() -> None:
     )
     for texts in rows:
         assert answers(texts) == [answer(text) for text in texts], texts
+        assert answers(iter(texts)) == answers(tuple(texts)), texts
+    code = TEXT.encode()
+    one_text: Tuple[Any, ...] = (TEXT, "", code, b"", bytearray(code), memoryview(code))
+    for other in one_text:
+        assert raises(TypeError, lambda: answers(other)), other
+    no_texts: Tuple[Any, ...] = (None, 5, [5], [TEXT, None])
+    for other in no_texts:
+        assert raises(TypeError, lambda: answers(other)), other
 
 
 def check_changes(root: Path) -> None:
@@ -113,11 +122,46 @@ def check_changes(root: Path) -> None:
         assert shorter.metrics == defined or (not defined and shorter == vector), line
         assert vector.with_overrides({}) == vector
         assert vector.with_overrides({"IR": "H"}).metrics == {**vector.metrics, "IR": "H"}, line
+
+
+def check_overrides() -> None:
+    """They are read in any ASCII case, as the C library does, and each wrong type is a TypeError."""
     vector = Vector(TEXT)
-    assert raises(ValueError, lambda: vector.with_overrides({"AV": "L"}))
-    assert raises(ValueError, lambda: vector.with_overrides({"CR": "H/E:U"}))
-    for unknown in ({"MAV": "L"}, {"CR": "Q"}):
+    for no_name in ({"AV": "L"}, {"CR": "H/E:U"}, {"CR": ""}, {"": "H"}, {"M\u017f": "U"}, {"CR": "\u210d"}):
+        assert raises(ValueError, lambda: vector.with_overrides(no_name)), no_name
+        assert not raises(CvssError, lambda: vector.with_overrides(no_name)), no_name
+    for unknown in ({"MAV": "L"}, {"CR": "Q"}, {"CR": "H", "cr": "L"}):
         assert raises(CvssError, lambda: vector.with_overrides(unknown)), unknown
+    no_overrides: Tuple[Any, ...] = (None, "MSI:S", b"MSI:S", 5, ["CR"], [("CR", "H")], {"CR"})
+    for other in no_overrides:
+        assert raises(TypeError, lambda: vector.with_overrides(other)), other
+    no_pairs: Tuple[Any, ...] = ({"CR": None}, {"CR": 5}, {"CR": b"H"}, {5: "H"}, {b"CR": "H"}, {None: "H"})
+    for other in no_pairs:
+        assert raises(TypeError, lambda: vector.with_overrides(other)), other
+    rows = (
+        (TEXT + "/TD:L", {"td": "h"}, TEXT + "/TD:H"),
+        ("CVSS:3.0/AV:N/MAV:L", {"mav": "p"}, "CVSS:3.0/AV:N/MAV:P"),
+        ("CVSS:3.1/AV:N/CR:L", {"Cr": "h"}, "CVSS:3.1/AV:N/CR:H"),
+        (V4, {"msi": "s", "CR": "l"}, V4 + "/CR:L/MSI:S"),
+    )
+    for text, overrides, expected in rows:
+        assert str(Vector(text).with_overrides(overrides)) == expected, text
+
+
+class Own(Vector):
+    """A vector that an organisation gives a method more."""
+
+    def is_urgent(self) -> bool:
+        return self.tenths >= 70
+
+
+def check_subclasses() -> None:
+    """A subclass stays its class."""
+    for text in (TEXT + "/E:ND", "CVSS:3.1/AV:N/E:X", V4 + "/E:X"):
+        own = Own(text)
+        for made in (own, own.without_undefined(), own.with_overrides({"CR": "H"}), pickle.loads(pickle.dumps(own))):
+            assert type(made) is Own and made.is_urgent() == (made.score >= 7), made
+        assert own == Vector(text) and hash(own) == hash(Vector(text))
 
 
 def check_records(root: Path) -> None:
@@ -159,5 +203,7 @@ if __name__ == "__main__":
     check_texts()
     check_many_texts()
     check_changes(Path(sys.argv[1]))
+    check_overrides()
+    check_subclasses()
     check_records(Path(sys.argv[1]))
     check_values()

@@ -111,16 +111,12 @@ def _written(call: Callable[..., int], text: bytes, size: int) -> str:
         size = length
 
 
-def scores(text: bytes) -> Optional[Scores]:
-    """The scores of the vector that a text denotes."""
+def read(text: bytes) -> Optional[Tuple[Scores, str]]:
+    """The scores and the canonical text of the vector that a text denotes."""
     numbers = Scores()
-    accepted = _library.cvss_scores(text, len(text), ctypes.byref(numbers))
-    return numbers if accepted else None
-
-
-def canonical(text: bytes) -> str:
-    """The canonical text of the vector that a text denotes, or nothing."""
-    return _written(_library.cvss_canonical, text, len(text) + 1)
+    if not _library.cvss_scores(text, len(text), ctypes.byref(numbers)):
+        return None
+    return numbers, _written(_library.cvss_canonical, text, len(text) + 1)
 
 
 def metrics(text: bytes) -> List[Tuple[str, str]]:

@@ -3,8 +3,9 @@
 from __future__ import annotations
 
 import json
+from collections import abc
 from functools import total_ordering
-from typing import Any, Dict, Iterable, List, Mapping, NamedTuple, Optional, Tuple, Type
+from typing import Any, Dict, Iterable, List, Mapping, NamedTuple, Optional, Tuple, Type, TypeVar
 
 from . import _library
 from ._error import CvssError
@@ -16,6 +17,8 @@ _NOMENCLATURES = ("CVSS-B", "CVSS-BE", "CVSS-BT", "CVSS-BTE")
 _ENVIRONMENTAL = frozenset(
     "CDP TD CR IR AR MAV MAC MAT MPR MUI MS MC MI MA MVC MVI MVA MSC MSI MSA".split()
 )
+
+_Own = TypeVar("_Own", bound="Vector")
 
 
 class Scores(NamedTuple):
@@ -55,7 +58,7 @@ class Vector:
     """The vector that a text denotes.
 
     Two vectors are equal if their canonical texts are. They are ordered by their scores, and those of one
-    score by their texts.
+    score by their texts. The vectors that a subclass makes of its own are of this subclass.
 
     >>> vector = Vector("CVSS:4.0/AV:N/AC:L/AT:N/PR:N/UI:N/VC:H/VI:H/VA:H/SC:H/SI:H/SA:H")
     >>> vector.version, vector.tenths, vector.nomenclature
@@ -72,11 +75,10 @@ class Vector:
     def __init__(self, text: Text) -> None:
         """Reads a text. One that denotes no vector is refused by `CvssError`."""
         given = _library.bytes_of(text)
-        numbers = _library.scores(given)
-        if numbers is None:
+        told = _library.read(given)
+        if told is None:
             raise CvssError.of(given)
-        self._numbers = numbers
-        self._text = _library.canonical(given)
+        self._numbers, self._text = told
 
     @property
     def text(self) -> str:
@@ -143,7 +145,7 @@ class Vector:
         """
         return dict(_library.metrics(self._text.encode()))
 
-    def without_undefined(self) -> Vector:
+    def without_undefined(self: _Own) -> _Own:
         """The vector without the metrics that are not defined (`X`, in v2 `ND`): it has the same scores.
 
         A vector of v3 that has no others is given as it is. The nomenclature of v4.0 may become another, since it
@@ -152,7 +154,7 @@ class Vector:
         >>> str(Vector("AV:N/AC:L/Au:N/C:N/I:N/A:C/E:ND/TD:H").without_undefined())
         'AV:N/AC:L/Au:N/C:N/I:N/A:C/TD:H'
         """
-        return Vector(_library.without_undefined(self._text.encode()))
+        return type(self)(_library.without_undefined(self._text.encode()))
 
     def record(self) -> Dict[str, Any]:
         """The JSON object of FIRST's schema of the version: the text, the metrics, the scores and their ratings.
@@ -169,29 +171,28 @@ class Vector:
         record: Dict[str, Any] = json.loads(told)
         return record
 
-    def with_overrides(self, overrides: Mapping[str, str]) -> Vector:
+    def with_overrides(self: _Own, overrides: Mapping[str, str]) -> _Own:
         """The vector with an organisation's environmental metrics in place of its own, or beside them.
 
-        Into a vector of v4.0 the library puts them, into others this package.
+        The names and values may be in any ASCII case. Into a vector of v4.0 the library puts them, into others this
+        package.
 
-        A name that is no environmental metric is a `ValueError`; one that the version does not have, or a value
-        that the metric does not have, is refused by `CvssError`.
+        What is no mapping of `str` to `str` is a `TypeError`, and a name that is no environmental metric a
+        `ValueError`; one that the version does not have, or a value that the metric does not have, is refused by
+        `CvssError`.
 
         >>> vector = Vector("CVSS:3.1/AV:N/AC:L/PR:N/UI:N/S:U/C:H/I:H/A:H/CR:H")
-        >>> str(vector.with_overrides({"CR": "L", "MAV": "P"}))
+        >>> str(vector.with_overrides({"CR": "L", "mav": "p"}))
         'CVSS:3.1/AV:N/AC:L/PR:N/UI:N/S:U/C:H/I:H/A:H/CR:L/MAV:P'
         """
-        for name, value in overrides.items():
-            if name not in _ENVIRONMENTAL or not value.isalnum():
-                raise ValueError(f"{name}:{value} is no environmental metric")
-        own = [f"{name}:{value}" for name, value in overrides.items()]
+        own = _components_of(overrides)
         if self.version == "4.0":
             scored = _library.overridden(self._text.encode(), "/".join(own).encode())
             if scored:
-                return Vector(scored)
-        front = [piece for piece in self._text.split("/") if piece.startswith("CVSS:")]
-        metrics = {**self.metrics, **overrides}
-        return Vector("/".join(front + [f"{name}:{value}" for name, value in metrics.items()]))
+                return type(self)(scored)
+        names = {_name_of(component) for component in own}
+        kept = [piece for piece in self._text.split("/") if _name_of(piece) not in names]
+        return type(self)("/".join(kept + own))
 
     def __str__(self) -> str:
         return self._text
@@ -219,6 +220,25 @@ class Vector:
         return (self.tenths, self._text) < (other.tenths, other._text)
 
 
+def _name_of(component: str) -> str:
+    return component.split(":")[0]
+
+
+def _components_of(overrides: Mapping[str, str]) -> List[str]:
+    """The components of environmental metrics, in capitals."""
+    if not isinstance(overrides, abc.Mapping):
+        told = type(overrides).__name__
+        raise TypeError(f'overrides are a mapping of names to values, as {{"MSI": "S"}}, and not {told}')
+    for name, value in overrides.items():
+        if not (isinstance(name, str) and isinstance(value, str)):
+            raise TypeError(f"the name and the value of an override are str, and not {name!r} and {value!r}")
+        # capitals of other letters may be letters of the names, as that of \u017f is S
+        is_word = name.isascii() and value.isascii() and value.isalnum()
+        if not is_word or name.upper() not in _ENVIRONMENTAL:
+            raise ValueError(f"{name}:{value} is no environmental metric")
+    return [f"{name}:{value}".upper() for name, value in overrides.items()]
+
+
 def answer(text: Text) -> str:
     """The line that the program cvss_tool answers to a text, without the newline.
 
@@ -241,9 +261,14 @@ def _lines_of(texts: List[Text]) -> bytes:
 def answers(texts: Iterable[Text]) -> List[str]:
     """The answer to each text, by one call of the library: faster than `answer` for each.
 
+    One text by itself is a `TypeError`: `answer` answers it.
+
     >>> answers(["AV:N/AC:L/Au:N/C:N/I:N/A:C", "AV:N"])
     ['AV:N/AC:L/Au:N/C:N/I:N/A:C 7.8 high', 'error: invalid CVSS metric group component: `AV:N`']
     """
+    if isinstance(texts, (str, bytes, bytearray, memoryview)):
+        told = type(texts).__name__
+        raise TypeError(f"texts are a list or another iterable of texts, and not one {told}: for one call answer")
     given = list(texts)
     lines = _lines_of(given)
     # a text with a newline, or with a carriage return at its end, would be read as another

@@ -67,16 +67,16 @@ extern "C" {
     ) -> usize;
 }
 
-/// The scores of the vector that a text denotes.
-pub(crate) fn scores(text: &[u8]) -> Option<CvssScores> {
+/// The scores and the canonical text of the vector that a text denotes.
+pub(crate) fn read(text: &[u8]) -> Option<(CvssScores, Vec<u8>)> {
     let mut scores = CvssScores::default();
     // SAFETY: the pointers are those of a slice and of a struct that live through the call.
     let accepted = unsafe { cvss_scores(text.as_ptr(), text.len(), &mut scores) };
-    accepted.then_some(scores)
+    accepted.then(|| (scores, canonical(text)))
 }
 
 /// The canonical text of the vector that a text denotes, or nothing.
-pub(crate) fn canonical(text: &[u8]) -> Vec<u8> {
+fn canonical(text: &[u8]) -> Vec<u8> {
     written(text.len(), |buffer| {
         // SAFETY: the pointers are those of slices that live through the call and do not overlap.
         unsafe { cvss_canonical(text.as_ptr(), text.len(), buffer.as_mut_ptr(), buffer.len()) }

@@ -16,11 +16,16 @@
 //! assert_eq!((refused.kind(), refused.metric()), (RefusedKind::InvalidValue, Some("AC")));
 //! # Ok::<(), cvss_proved::Refused>(())
 //! ```
+//!
+//! With the feature `serde`, which needs the crate of this name, [`Cvss`], [`Severity`], [`Version`] and
+//! [`Nomenclature`] are `Serialize` and `Deserialize`, as texts.
 #![deny(missing_docs)]
 
 mod calls;
 mod numbers;
 mod refused;
+#[cfg(feature = "serde")]
+mod serialized;
 mod vector;
 
 pub use numbers::{Nomenclature, Score, Severity, UnknownName, Version};

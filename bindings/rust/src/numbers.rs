@@ -15,9 +15,10 @@ impl fmt::Display for UnknownName {
 
 impl std::error::Error for UnknownName {}
 
-/// The texts of an enum's values: they are printed, and read back exactly as they are printed.
+/// The texts of an enum's values: they are printed, and read back where a text is the same by a
+/// comparison.
 macro_rules! named {
-    ($(#[$doc:meta])* $type:ident: $($value:ident => $text:literal),+) => {
+    ($(#[$doc:meta])* $type:ident by $is_same:path: $($value:ident => $text:literal),+) => {
         impl $type {
             /// The value's text.
             #[must_use]
@@ -45,10 +46,10 @@ macro_rules! named {
             type Err = UnknownName;
 
             fn from_str(text: &str) -> Result<$type, UnknownName> {
-                match text {
-                    $($text => Ok($type::$value),)+
-                    _ => Err(UnknownName),
-                }
+                [$($type::$value),+]
+                    .into_iter()
+                    .find(|value| $is_same(value.as_str(), text))
+                    .ok_or(UnknownName)
             }
         }
 
@@ -88,7 +89,7 @@ impl Version {
 
 named! {
     /// Reads `2.0`, `3.0`, `3.1` or `4.0`.
-    Version: V20 => "2.0", V30 => "3.0", V31 => "3.1", V40 => "4.0"
+    Version by str::eq: V20 => "2.0", V30 => "3.0", V31 => "3.1", V40 => "4.0"
 }
 
 /// A score, a whole number of tenths from 0 to 100.
@@ -187,9 +188,9 @@ impl Severity {
 }
 
 named! {
-    /// Reads a rating in lower case.
-    Severity: None => "none", Low => "low", Medium => "medium", High => "high",
-        Critical => "critical"
+    /// Reads a rating in any ASCII case.
+    Severity by str::eq_ignore_ascii_case: None => "none", Low => "low", Medium => "medium",
+        High => "high", Critical => "critical"
 }
 
 /// Which groups of metrics a score of v4.0 rests on: base, threat, environmental.
@@ -219,5 +220,5 @@ impl Nomenclature {
 
 named! {
     /// Reads `CVSS-B`, `CVSS-BE`, `CVSS-BT` or `CVSS-BTE`.
-    Nomenclature: B => "CVSS-B", BE => "CVSS-BE", BT => "CVSS-BT", BTE => "CVSS-BTE"
+    Nomenclature by str::eq: B => "CVSS-B", BE => "CVSS-BE", BT => "CVSS-BT", BTE => "CVSS-BTE"
 }

@@ -78,8 +78,8 @@ impl Cvss {
     ///
     /// The first reason why the text denotes no vector.
     pub fn parse_bytes(text: &[u8]) -> Result<Cvss, Refused> {
-        let scores = calls::scores(text).ok_or_else(|| Refused::of(text))?;
-        Ok(Cvss::of(calls::text_of(calls::canonical(text)), &scores))
+        let (scores, canonical) = calls::read(text).ok_or_else(|| Refused::of(text))?;
+        Ok(Cvss::of(calls::text_of(canonical), &scores))
     }
 
     fn of(text: String, scores: &CvssScores) -> Cvss {
@@ -199,9 +199,9 @@ impl Cvss {
         calls::text_of(calls::record(self.text.as_bytes()))
     }
 
-    /// The vector with an organisation's environmental metrics, as pairs of name and value, in
-    /// place of its own or beside them. Into a vector of v4.0 the library puts them, into others
-    /// this crate.
+    /// The vector with an organisation's environmental metrics, as pairs of name and value in any
+    /// ASCII case, in place of its own or beside them. Into a vector of v4.0 the library puts them,
+    /// into others this crate.
     ///
     /// # Errors
     ///
@@ -211,7 +211,7 @@ impl Cvss {
     ///
     /// ```
     /// let cvss = cvss_proved::Cvss::parse("CVSS:3.1/AV:N/S:U/CR:H")?;
-    /// let own = cvss.with_overrides(&[("CR", "L"), ("MAV", "P")])?;
+    /// let own = cvss.with_overrides(&[("CR", "L"), ("mav", "p")])?;
     /// assert_eq!(own.as_str(), "CVSS:3.1/AV:N/S:U/CR:L/MAV:P");
     /// assert!(cvss.with_overrides(&[("AV", "P")]).is_err());
     /// # Ok::<(), Box<dyn std::error::Error>>(())
@@ -226,7 +226,9 @@ impl Cvss {
         }
         let is_kept = |piece: &&str| {
             let name = piece.split(':').next().unwrap_or_default();
-            overrides.iter().all(|(own, _)| *own != name)
+            overrides
+                .iter()
+                .all(|(own, _)| !own.eq_ignore_ascii_case(name))
         };
         let kept = self.text.split('/').filter(is_kept).map(String::from);
         let pieces: Vec<String> = kept.chain(added).collect();
@@ -234,13 +236,15 @@ impl Cvss {
     }
 }
 
-/// The components of environmental metrics, each of which has a name and a word for its value.
+/// The components of environmental metrics in capitals, each of which has a name and a word for its
+/// value.
 fn components_of(overrides: &[(&str, &str)]) -> Result<Vec<String>, OverrideError> {
     let is_word = |value: &str| value.bytes().all(|byte| byte.is_ascii_alphanumeric());
     let component = |(name, value): &(&str, &str)| {
+        let is_name = |own: &&str| own.eq_ignore_ascii_case(name);
         let component = format!("{name}:{value}");
-        if ENVIRONMENTAL.contains(name) && is_word(value) {
-            Ok(component)
+        if ENVIRONMENTAL.iter().any(is_name) && is_word(value) {
+            Ok(component.to_ascii_uppercase())
         } else {
             Err(OverrideError::NotEnvironmental(component))
         }

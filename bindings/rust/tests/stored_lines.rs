@@ -153,6 +153,28 @@ fn metrics_that_are_not_environmental_are_no_overrides() {
 }
 
 #[test]
+fn overrides_are_read_in_any_case() {
+    for (text, own, expected) in [
+        ("AV:N/AC:L/Au:N/C:N/I:N/A:C/TD:L", ("td", "h"), "/TD:H"),
+        ("CVSS:3.0/AV:N/MAV:L", ("mav", "p"), "/MAV:P"),
+        ("CVSS:3.1/AV:N/CR:L", ("Cr", "h"), "/CR:H"),
+        (
+            "CVSS:4.0/AV:N/AC:L/AT:N/PR:N/UI:N/VC:L/VI:L/VA:L/SC:N/SI:N/SA:N/MSI:L",
+            ("msi", "s"),
+            "/MSI:S",
+        ),
+    ] {
+        let cvss = Cvss::parse(text).unwrap();
+        let front = &text[..text.rfind('/').unwrap()];
+        let told = cvss.with_overrides(&[own]).unwrap();
+        assert_eq!(told.as_str(), format!("{front}{expected}"));
+        let twice = cvss.with_overrides(&[own, (expected[1..].split(':').next().unwrap(), "X")]);
+        assert!(matches!(twice, Err(OverrideError::Refused(_))), "{text}");
+        assert!(cvss.with_overrides(&[("\u{17f}i", "h")]).is_err());
+    }
+}
+
+#[test]
 fn overrides_of_v4_are_put_in_place() {
     let text = "CVSS:4.0/AV:N/AC:L/AT:N/PR:N/UI:N/VC:L/VI:L/VA:L/SC:N/SI:N/SA:N/CR:H/S:P";
     let cvss = Cvss::parse(text).unwrap();
@@ -178,7 +200,25 @@ fn each_text_that_is_printed_is_read_back() {
     assert_eq!("critical".parse(), Ok(Severity::Critical));
     assert_eq!("3.1".parse(), Ok(Version::V31));
     assert_eq!(Nomenclature::try_from("CVSS-BT"), Ok(Nomenclature::BT));
-    assert!("Critical".parse::<Severity>().is_err());
+    assert!("cvss-bt".parse::<Nomenclature>().is_err());
+}
+
+/// FIRST's JSON schemas print ratings in capitals.
+#[test]
+fn ratings_are_read_in_any_case() {
+    for (text, severity) in [
+        ("NONE", Severity::None),
+        ("Low", Severity::Low),
+        ("mEDIUM", Severity::Medium),
+        ("HIGH", Severity::High),
+        ("Critical", Severity::Critical),
+    ] {
+        assert_eq!(text.parse(), Ok(severity));
+        assert_eq!(Severity::try_from(text), Ok(severity));
+    }
+    for text in ["", "HIGH ", "H\u{131}GH", "severe"] {
+        assert!(text.parse::<Severity>().is_err(), "{text}");
+    }
 }
 
 #[test]

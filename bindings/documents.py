@@ -1,0 +1,220 @@
+#!/usr/bin/env python3
+"""Runs the examples and recipes of docs/BINDINGS.md as they stand there, and of README.md those of Python and Rust.
+
+Usage: documents.py ROOT FOLDER. ROOT is the folder of the checkout, in which bindings/build has made the library; files
+are made in FOLDER alone. An example tells in comments what it prints. What is not on the machine is said, and left out.
+"""
+import os
+import re
+import shutil
+import subprocess
+import sys
+from pathlib import Path
+
+ROOT, FOLDER = (Path(argument).resolve() for argument in sys.argv[1:3])
+OUT = ROOT / "bindings/out"
+PAGE = (ROOT / "docs/BINDINGS.md").read_text()
+# each accepted, refused and no UTF-8, and ended in each way that the program knows of
+EDGES = [
+    b"\xff", b"AV:N/AC:L/Au:N/C:N/I:N/A:C/\xe9", b"AV:N\rAC:L", b"\rAV:N", b"AV:N/AC:L/Au:N/C:N/I:N/A:C\r",
+    b"AV:N/AC:L/Au:N/C:N/I:N/A:C\r\r", b"", b"\r", b"\r\r", b"a\x0bb", b"a\x0cb", b"a\x1cb", b"a\xc2\x85b",
+    b"a\xe2\x80\xa8b", b"\xef\xbb\xbfAV:N", b"\xed\xa0\x80", b"\xed\xb2\x80", b"\xf0\x9f\x98\x80", b"a\x00b",
+]
+
+
+def blocks(text, language):
+    """The blocks of a document that are of a language; of none if it is empty."""
+    return [block for told, block in re.findall(r"^```(\w*)\n(.*?)^```$", text, re.M | re.S) if told == language]
+
+
+def block_with(words, language=""):
+    found = [block for block in blocks(PAGE, language) if words in block]
+    assert len(found) == 1, f"{len(found)} blocks have `{words}`"
+    return found[0]
+
+
+def expected(block, mark):
+    lines = [line[len(mark):] for line in block.splitlines() if line.startswith(mark)]
+    assert lines, f"no answer is told:\n{block}"
+    return "".join(f"{line}\n" for line in lines)
+
+
+def has(command, what):
+    if shutil.which(command) is None:
+        print(f"{command} is not on this machine: {what}")
+        return False
+    return True
+
+
+def run(command, **options):
+    options.setdefault("cwd", FOLDER)
+    done = subprocess.run(command, stdout=subprocess.PIPE, stderr=subprocess.PIPE, **options)
+    assert done.returncode == 0, f"{command}: status {done.returncode}\n{done.stderr.decode()}"
+    return done.stdout
+
+
+def check(told, wanted, block):
+    assert told.decode() == wanted, f"{told.decode()!r}, and not {wanted!r}:\n{block}"
+
+
+def interpreter(module):
+    """A Python that has a module: the one that runs this, or the machine's own."""
+    for python in (sys.executable, "/usr/bin/python3"):
+        command = [python, "-c", f"import {module}"]
+        if Path(python).exists() and subprocess.run(command, stderr=subprocess.DEVNULL).returncode == 0:
+            return python
+    print(f"python3-{module} is not on this machine: its recipe is not tried")
+    return None
+
+
+def python_environment():
+    return {**os.environ, "PYTHONPATH": str(ROOT / "bindings/python"), "PYTHONDONTWRITEBYTECODE": "1"}
+
+
+def try_python():
+    pages = (PAGE, (ROOT / "README.md").read_text(), (ROOT / "bindings/python/README.md").read_text())
+    for block in (block for page in pages for block in blocks(page, "python")):
+        module = (re.findall(r"^(?:import|from) (pandas|dask)", block) or ["cvss_proved"])[0]
+        if module == "dask":
+            continue
+        python = sys.executable if module == "cvss_proved" else interpreter(module)
+        if python:
+            check(run([python, "-c", block], env=python_environment()), expected(block, "# "), block)
+
+
+def try_c():
+    block = blocks(PAGE, "c")[0]
+    (FOLDER / "program.c").write_text(block)
+    run(["cc", "-I", ROOT / "bindings/c", "program.c", OUT / "libcvss.a", "-o", "program"])
+    wanted = re.findall(r"/\* (.*?) \*/", block)[0] + "\n"
+    check(run(["./program"]), wanted, block)
+    if has("pkg-config", "what it tells is not tried"):
+        (FOLDER / "bindings").symlink_to(ROOT / "bindings")
+        install = block_with("bindings/install")
+        home = {**os.environ, "HOME": str(FOLDER / "home")}
+        run(install, shell=True, env=home)
+        check(run(["./a.out"]), wanted, install)
+        blank = {**os.environ, "HOME": str(FOLDER / "a home")}
+        run([ROOT / "bindings/install", FOLDER / "a home/.local"])
+        run(block_with('eval "cc'), shell=True, env=blank)
+        check(run(["./a.out"]), wanted, install)
+
+
+def try_rust():
+    """In a crate of its own, for which cargo knows no registry."""
+    crate = FOLDER / "rust_example"
+    (crate / "src").mkdir(parents=True)
+    head = '[package]\nname = "example"\nversion = "1.0.0"\nedition = "2021"\n\n[dependencies]\n'
+    (crate / "Cargo.toml").write_text(f'{head}cvss_proved = {{ path = "{ROOT}/bindings/rust" }}\n')
+    home = {**os.environ, "CARGO_HOME": str(FOLDER / "no_registry"), "CARGO_TARGET_DIR": str(crate / "target")}
+    pages = (PAGE, (ROOT / "README.md").read_text())
+    for block in (block for page in pages for block in blocks(page, "rust") if "cvss_proved" in block):
+        body = f"fn main() -> Result<(), Box<dyn std::error::Error>> {{\n{block}\nOk(())\n}}\n"
+        (crate / "src/main.rs").write_text(body)
+        check(run(["cargo", "run", "--quiet", "--offline"], cwd=crate, env=home), expected(block, "// "), block)
+
+
+def try_go():
+    module = FOLDER / "go_example"
+    module.mkdir()
+    block = blocks(PAGE, "go")[0]
+    path = ROOT / "bindings/go"
+    (module / "go.mod").write_text(f"module example\n\ngo 1.19\n\nrequire cvss v0.0.0\n\nreplace cvss => {path}\n")
+    body = f'package main\n\nimport (\n"cvss"\n"errors"\n"fmt"\n)\n\nfunc main() {{\n{block}}}\n'
+    (module / "main.go").write_text(body)
+    check(run(["go", "run", "."], cwd=module), expected(block, "// "), block)
+
+
+def write_list():
+    """The list `vectors` of the recipes: more than two blocks of four million bytes, and its answers."""
+    stored = (ROOT / "crates/cvss_vectors/stdin").read_bytes().splitlines()
+    million = 1_000_000 * b"x"
+    pieces = []
+    for _ in range(9):
+        pieces += [*stored, million, *EDGES]
+    # the last line is ended by nothing
+    (FOLDER / "vectors").write_bytes(b"\n".join(pieces) + b"\nAV:N")
+    program = ROOT / "crates/cvss_tool/out/cvss_tool"
+    command = program if program.exists() else OUT / "lines"
+    with open(FOLDER / "vectors", "rb") as lines:
+        done = subprocess.run([command], stdin=lines, stdout=subprocess.PIPE)
+    assert done.returncode in (0, 1), done.returncode
+    return done.stdout
+
+
+def try_dask(answers):
+    python = interpreter("dask")
+    if python is None:
+        return
+    (FOLDER / "recipe.py").write_text(block_with("from dask", "python"))
+    told = run([python, "recipe.py"], env=python_environment())
+    assert told == answers, "the answers of the dask bag are others than the program's"
+    print("dask: the answers are those of the program alone")
+
+
+def try_parallel(answers):
+    program = ROOT / "crates/cvss_tool/out"
+    if not (program / "cvss_tool").exists():
+        print("cvss_tool is not built: the recipe of GNU parallel is not tried")
+        return
+    if not has("parallel", "its recipe is not tried"):
+        return
+    recipe = block_with("parallel --pipe").strip()
+    assert recipe.count("cvss_tool < vectors > answers") == 1, recipe
+    environment = {**os.environ, "PATH": f"{program}:{os.environ['PATH']}"}
+    done = subprocess.run(recipe, shell=True, cwd=FOLDER, env=environment)
+    assert (FOLDER / "answers").read_bytes() == answers, "the answers of GNU parallel are others than the program's"
+    count = recipe.replace("cvss_tool < vectors > answers", "'cat > /dev/null; echo' < vectors")
+    number = len(run(count, shell=True).splitlines())
+    assert number > 2 and done.returncode == number, f"{number} blocks, and status {done.returncode}"
+    print(f"GNU parallel: the answers are those of the program alone, and the status that of {number} blocks")
+
+
+def try_removal():
+    """What is installed is taken away by the words of the page, which name each program that ./install builds."""
+    home = FOLDER / "home"
+    run(["bindings/install", home / ".local"], cwd=ROOT)
+    block = block_with("rm -f")
+    for program in re.findall(r"^for program in (.*); do$", (ROOT / "install").read_text(), re.M)[0].split():
+        assert f"bin/{program} " in block, f"{program} is not taken away"
+    removal = "\n".join(line for line in block.splitlines() if not line.startswith("pip "))
+    run(removal, shell=True, env={**os.environ, "HOME": str(home)})
+    left = [path for path in home.rglob("*") if not path.is_dir() or path.is_symlink()]
+    assert not left, left
+
+
+def check_names():
+    """The table for those who come from the crate has each public name of it, and names what there is."""
+    table = PAGE.split("### From the crate `cvss` 3.0.0", 1)[1].split("\n## ", 1)[0]
+    rows = [row.split("|") for row in table.splitlines() if row.startswith("| ")][1:]
+
+    def words(column):
+        told = " ".join(re.findall(r"`(.*?)`", " ".join(row[column] for row in rows)))
+        return set(re.findall(r"\w+", told))
+
+    names = (ROOT / "bindings/stored/crate_names").read_text().split()
+    missing = [name for name in names if name not in words(1)]
+    assert names and not missing, f"docs/BINDINGS.md names not what stands for {missing}"
+    sources = "".join(path.read_text() for path in (ROOT / "bindings/rust/src").glob("*.rs"))
+    unknown = [name for name in words(2) - {"serde", "format", "N"} if not re.search(rf"\b{name}\b", sources)]
+    assert not unknown, f"cvss_proved has no {unknown}"
+
+
+def main():
+    check_names()
+    try_python()
+    if has("cc", "the example of C is not tried"):
+        try_c()
+        try_removal()
+    if has("cargo", "the example of Rust is not tried"):
+        try_rust()
+    if has("go", "the example of Go is not tried"):
+        try_go()
+    answers = write_list()
+    try_dask(answers)
+    try_parallel(answers)
+    print("Documents: the examples print what they tell")
+
+
+if __name__ == "__main__":
+    main()

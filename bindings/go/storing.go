@@ -1,0 +1,47 @@
+package cvss
+
+import (
+	"database/sql/driver"
+	"fmt"
+)
+
+// MarshalText is the vector's canonical text, and empty for the zero Vector: so vectors are strings in JSON, and in
+// whatever else knows of texts.
+func (v Vector) MarshalText() ([]byte, error) { return []byte(v.text), nil }
+
+// UnmarshalText reads a vector as Parse does; an empty text is the zero Vector. Where the text is refused, by a
+// *RefusedError, the vector stays what it was.
+func (v *Vector) UnmarshalText(text []byte) error {
+	if len(text) == 0 {
+		*v = Vector{}
+		return nil
+	}
+	vector, err := Parse(string(text))
+	if err != nil {
+		return err
+	}
+	*v = vector
+	return nil
+}
+
+// Value is what a database keeps of the vector: its canonical text, and NULL for the zero Vector.
+func (v Vector) Value() (driver.Value, error) {
+	if v.IsZero() {
+		return nil, nil
+	}
+	return v.text, nil
+}
+
+// Scan reads what a database has kept: a text as UnmarshalText does, and NULL as the zero Vector.
+func (v *Vector) Scan(stored any) error {
+	switch stored := stored.(type) {
+	case nil:
+		*v = Vector{}
+		return nil
+	case string:
+		return v.UnmarshalText([]byte(stored))
+	case []byte:
+		return v.UnmarshalText(stored)
+	}
+	return fmt.Errorf("a vector is stored as a text, and this is of the type %T: scan a column of texts", stored)
+}

@@ -1,0 +1,162 @@
+package cvss_test
+
+import (
+	"database/sql"
+	"database/sql/driver"
+	"encoding"
+	"encoding/json"
+	"errors"
+	"flag"
+	"io"
+	"strings"
+	"testing"
+	"time"
+
+	"cvss"
+)
+
+var (
+	_ encoding.TextMarshaler   = cvss.Vector{}
+	_ encoding.TextUnmarshaler = (*cvss.Vector)(nil)
+	_ driver.Valuer            = cvss.Vector{}
+	_ sql.Scanner              = (*cvss.Vector)(nil)
+)
+
+const stored = "CVSS:3.1/AV:N/AC:L/PR:N/UI:N/S:U/C:H/I:H/A:H"
+
+func parsed(t *testing.T, text string) cvss.Vector {
+	t.Helper()
+	vector, err := cvss.Parse(text)
+	if err != nil {
+		t.Fatal(err)
+	}
+	return vector
+}
+
+// Parse returns the zero Vector beside an error.
+func TestEveryMethodOfTheZeroVectorAnswers(t *testing.T) {
+	var zero cvss.Vector
+	if !zero.IsZero() || parsed(t, stored).IsZero() {
+		t.Error("IsZero")
+	}
+	if zero.String() != "" || zero.Version() != "" || zero.Nomenclature() != "" || zero.IsComplete() {
+		t.Errorf("%q %q %q", zero.String(), zero.Version(), zero.Nomenclature())
+	}
+	if zero.Score() != 0 || zero.Severity() != cvss.None {
+		t.Errorf("%v %v", zero.Score(), zero.Severity())
+	}
+	if _, _, ok := zero.Temporal(); ok {
+		t.Error("a temporal score")
+	}
+	if _, _, ok := zero.Environmental(); ok {
+		t.Error("an environmental score")
+	}
+	if len(zero.Metrics()) != 0 || len(zero.Record()) != 0 || zero.WithoutUndefined() != zero {
+		t.Errorf("%v %s %v", zero.Metrics(), zero.Record(), zero.WithoutUndefined())
+	}
+	for _, overrides := range [][]cvss.Metric{nil, {{Name: "CR", Value: "H"}}} {
+		var refused *cvss.RefusedError
+		if own, err := zero.WithOverrides(overrides); !errors.As(err, &refused) || own != zero {
+			t.Errorf("%v: %v, %v", overrides, own, err)
+		}
+	}
+	if text, err := zero.MarshalText(); len(text) != 0 || err != nil {
+		t.Errorf("%q, %v", text, err)
+	}
+	if value, err := zero.Value(); value != nil || err != nil {
+		t.Errorf("%v, %v", value, err)
+	}
+}
+
+type advisory struct {
+	ID      string
+	Vector  cvss.Vector
+	Vectors map[cvss.Vector]int `json:",omitempty"`
+	Other   *cvss.Vector        `json:",omitempty"`
+}
+
+func TestVectorsAreJSONStrings(t *testing.T) {
+	vector := parsed(t, stored)
+	other := parsed(t, "AV:N/AC:L/Au:N/C:N/I:N/A:C")
+	for _, row := range []struct {
+		value advisory
+		text  string
+	}{
+		{advisory{ID: "X-1", Vector: vector}, `{"ID":"X-1","Vector":"` + stored + `"}`},
+		{advisory{ID: "X-2"}, `{"ID":"X-2","Vector":""}`},
+		{
+			advisory{Vector: vector, Vectors: map[cvss.Vector]int{other: 1}, Other: &other},
+			`{"ID":"","Vector":"` + stored + `","Vectors":{"` + other.String() + `":1},"Other":"` + other.String() + `"}`,
+		},
+	} {
+		text, err := json.Marshal(row.value)
+		if err != nil || string(text) != row.text {
+			t.Errorf("%s, and not %s: %v", text, row.text, err)
+		}
+		var back advisory
+		if err := json.Unmarshal([]byte(row.text), &back); err != nil || back.Vector != row.value.Vector {
+			t.Errorf("%s: %v, %v", row.text, back, err)
+		}
+		if len(back.Vectors) != len(row.value.Vectors) || row.value.Other != nil && *back.Other != *row.value.Other {
+			t.Errorf("%s: %v", row.text, back)
+		}
+	}
+	var back advisory
+	err := json.Unmarshal([]byte(`{"Vector":"CVSS:3.1/a:h/av:n"}`), &back)
+	if err != nil || back.Vector.String() != "CVSS:3.1/AV:N/A:H" {
+		t.Errorf("%v, %v", back, err)
+	}
+	var refused *cvss.RefusedError
+	if err := json.Unmarshal([]byte(`{"Vector":"AV:Q"}`), &back); !errors.As(err, &refused) || back.Vector.IsZero() {
+		t.Errorf("%v, %v", back, err)
+	}
+}
+
+func TestVectorsAreFlags(t *testing.T) {
+	flags := flag.NewFlagSet("", flag.ContinueOnError)
+	flags.SetOutput(io.Discard)
+	var vector cvss.Vector
+	flags.TextVar(&vector, "vector", cvss.Vector{}, "")
+	if err := flags.Parse([]string{"-vector", stored}); err != nil || vector != parsed(t, stored) {
+		t.Errorf("%v, %v", vector, err)
+	}
+	if err := flags.Parse([]string{"-vector", "AV:N"}); err == nil {
+		t.Error("AV:N is accepted")
+	}
+}
+
+func TestVectorsAreStored(t *testing.T) {
+	for _, vector := range []cvss.Vector{{}, parsed(t, stored), parsed(t, "AV:N/AC:L/Au:N/C:N/I:N/A:C")} {
+		value, err := vector.Value()
+		if err != nil || !driver.IsValue(value) {
+			t.Fatalf("%v, %v", value, err)
+		}
+		columns := []any{value}
+		if text, ok := value.(string); ok {
+			columns = append(columns, []byte(text))
+		}
+		for _, column := range columns {
+			back := parsed(t, "CVSS:3.0/AV:P")
+			if err := back.Scan(column); err != nil || back != vector {
+				t.Errorf("%v: %v, %v", column, back, err)
+			}
+		}
+	}
+}
+
+func TestWhatIsNoTextIsNotScanned(t *testing.T) {
+	vector := parsed(t, stored)
+	for _, column := range []any{int64(5), 1.5, true, time.Time{}, vector, []string{stored}} {
+		err := vector.Scan(column)
+		if err == nil || !strings.Contains(err.Error(), "scan a column of texts") {
+			t.Errorf("%v: %v", column, err)
+		}
+	}
+	var refused *cvss.RefusedError
+	if err := vector.Scan("AV:Q"); !errors.As(err, &refused) {
+		t.Errorf("%v", err)
+	}
+	if vector != parsed(t, stored) {
+		t.Errorf("%v", vector)
+	}
+}

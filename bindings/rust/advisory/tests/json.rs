@@ -1,0 +1,98 @@
+//! Each vector and each name is the same JSON string both ways.
+
+use advisory::Advisory;
+use cvss_proved::{Cvss, Nomenclature, Severity, Version};
+use serde::de::DeserializeOwned;
+use serde::Serialize;
+use std::fmt::Debug;
+
+const JSON: &str = concat!(
+    r#"{"id":"X-1","cvss":"CVSS:4.0/AV:N/AC:L/AT:N/PR:N/UI:N/VC:H/VI:H/VA:H/SC:H/SI:H/SA:H","#,
+    r#""severity":"critical","version":"4.0","nomenclature":"CVSS-B"}"#
+);
+
+#[test]
+fn an_advisory_is_read_and_written() {
+    let advisory: Advisory = serde_json::from_str(JSON).unwrap();
+    let cvss = advisory.cvss.as_ref().unwrap();
+    assert_eq!(
+        (cvss.score().tenths(), cvss.severity()),
+        (100, advisory.severity)
+    );
+    assert_eq!(cvss.nomenclature(), advisory.nomenclature);
+    assert_eq!(serde_json::to_string(&advisory).unwrap(), JSON);
+}
+
+#[test]
+fn an_advisory_may_have_no_vector() {
+    let json = r#"{"id":"X-2","cvss":null,"severity":"HIGH","version":"3.1","nomenclature":null}"#;
+    let advisory: Advisory = serde_json::from_str(json).unwrap();
+    assert_eq!((advisory.cvss, advisory.severity), (None, Severity::High));
+}
+
+fn is_read_and_written<T: Serialize + DeserializeOwned + PartialEq + Debug>(value: &T, text: &str) {
+    let json = serde_json::to_string(value).unwrap();
+    assert_eq!(json, format!("\"{text}\""));
+    assert_eq!(&serde_json::from_str::<T>(&json).unwrap(), value);
+    assert_eq!(
+        &serde_json::from_slice::<T>(json.as_bytes()).unwrap(),
+        value
+    );
+    assert_eq!(
+        &serde_json::from_reader::<_, T>(json.as_bytes()).unwrap(),
+        value
+    );
+    let held = serde_json::to_value(value).unwrap();
+    assert_eq!(&serde_json::from_value::<T>(held).unwrap(), value);
+}
+
+#[test]
+fn each_name_is_read_and_written() {
+    let severities = [
+        (Severity::None, "none"),
+        (Severity::Low, "low"),
+        (Severity::Medium, "medium"),
+        (Severity::High, "high"),
+        (Severity::Critical, "critical"),
+    ];
+    for (value, text) in severities {
+        is_read_and_written(&value, text);
+    }
+    let versions = [
+        (Version::V20, "2.0"),
+        (Version::V30, "3.0"),
+        (Version::V31, "3.1"),
+        (Version::V40, "4.0"),
+    ];
+    for (value, text) in versions {
+        is_read_and_written(&value, text);
+    }
+    let nomenclatures = [
+        (Nomenclature::B, "CVSS-B"),
+        (Nomenclature::BE, "CVSS-BE"),
+        (Nomenclature::BT, "CVSS-BT"),
+        (Nomenclature::BTE, "CVSS-BTE"),
+    ];
+    for (value, text) in nomenclatures {
+        is_read_and_written(&value, text);
+    }
+}
+
+#[test]
+fn a_vector_is_written_as_its_canonical_text() {
+    let cvss: Cvss = serde_json::from_str(r#""CVSS:3.1/s:u/av:n""#).unwrap();
+    is_read_and_written(&cvss, "CVSS:3.1/AV:N/S:U");
+}
+
+#[test]
+fn a_refusal_says_what_is_expected() {
+    let refused = serde_json::from_str::<Cvss>(r#""CVSS:3.1/AV:Q""#).unwrap_err();
+    let reason = "invalid CVSSv3 AV (Attack Vector) metric: `Q`";
+    assert!(refused.to_string().starts_with(reason), "{refused}");
+    let refused = serde_json::from_str::<Severity>(r#""hgh""#).unwrap_err();
+    let expected = "`hgh` is not one of none, low, medium, high and critical";
+    assert!(refused.to_string().contains(expected), "{refused}");
+    let refused = serde_json::from_str::<Version>("3.1").unwrap_err();
+    let expected = "expected one of 2.0, 3.0, 3.1 and 4.0";
+    assert!(refused.to_string().contains(expected), "{refused}");
+}

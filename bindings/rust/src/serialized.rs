@@ -1,0 +1,65 @@
+//! Vectors and names as texts in any format of serde.
+
+use crate::{Cvss, Nomenclature, Severity, Version};
+use serde::de::{Deserialize, Deserializer, Error, Visitor};
+use serde::ser::{Serialize, Serializer};
+use std::fmt::{self, Display, Formatter};
+use std::marker::PhantomData;
+use std::str::FromStr;
+
+/// Reads a text, and says what is expected where it is refused.
+struct Text<T> {
+    expected: &'static str,
+    read: PhantomData<T>,
+}
+
+impl<T> Visitor<'_> for Text<T>
+where
+    T: FromStr,
+    T::Err: Display,
+{
+    type Value = T;
+
+    fn expecting(&self, f: &mut Formatter<'_>) -> fmt::Result {
+        f.write_str(self.expected)
+    }
+
+    fn visit_str<E: Error>(self, text: &str) -> Result<T, E> {
+        let refused = |error| E::custom(format_args!("{error}: `{text}` is not {}", self.expected));
+        text.parse().map_err(refused)
+    }
+}
+
+macro_rules! serialized {
+    ($($(#[$doc:meta])* $type:ident: $expected:literal),+) => {
+        $(
+            $(#[$doc])*
+            impl Serialize for $type {
+                fn serialize<S: Serializer>(&self, serializer: S) -> Result<S::Ok, S::Error> {
+                    serializer.serialize_str(self.as_ref())
+                }
+            }
+
+            $(#[$doc])*
+            impl<'de> Deserialize<'de> for $type {
+                fn deserialize<D: Deserializer<'de>>(deserializer: D) -> Result<$type, D::Error> {
+                    deserializer.deserialize_str(Text {
+                        expected: $expected,
+                        read: PhantomData,
+                    })
+                }
+            }
+        )+
+    };
+}
+
+serialized! {
+    /// As its canonical text; with the feature `serde`.
+    Cvss: "a CVSS vector of v2, v3.0, v3.1 or v4.0",
+    /// As its text, which is read in any ASCII case; with the feature `serde`.
+    Severity: "one of none, low, medium, high and critical",
+    /// As its text; with the feature `serde`.
+    Version: "one of 2.0, 3.0, 3.1 and 4.0",
+    /// As its text; with the feature `serde`.
+    Nomenclature: "one of CVSS-B, CVSS-BE, CVSS-BT and CVSS-BTE"
+}
