@@ -1,11 +1,11 @@
 #!/usr/bin/env python3
 """Writes texts, with what the functions of SQL have to answer to them, by the second implementation in bench/.
 
-usage: expected.py kit|COUNT [no-zero] [utf-8]
+usage: expected.py kit|COUNT
 
-The texts are those of the conformance kit, or COUNT hostile ones, drawn at random and always the same; `no-zero` leaves
-out those with a byte 0, and `utf-8` those that are not UTF-8. The columns of COLUMNS are separated by tabs, as COPY of
-PostgreSQL reads them: NULL is \\N, and a byte that is no visible ASCII character stands as \\x and two digits.
+The texts are those of the conformance kit, or COUNT hostile ones, drawn at random and always the same. The columns of
+COLUMNS are separated by tabs, as COPY of PostgreSQL reads them: NULL is \\N, and a byte that is no visible ASCII
+character stands as \\x and two digits.
 """
 import random
 import sys
@@ -107,26 +107,13 @@ def hostile(draw):
     return line if kind < 5 else spoilt(draw, line)
 
 
-def texts(words):
-    if words[0] == "kit":
+def rows(texts):
+    if texts == "kit":
         return kit()
     draw = random.Random(39)
-    return ([text, *answers(text)] for text in (hostile(draw) for _ in range(int(words[0]))))
-
-
-def is_utf8(text):
-    try:
-        return text.decode("utf-8") is not None
-    except UnicodeDecodeError:
-        return False
-
-
-def main(words):
-    for told in texts(words):
-        if ("no-zero" in words and b"\0" in told[0]) or ("utf-8" in words and not is_utf8(told[0])):
-            continue
-        print("\t".join(map(escaped, told)))
+    return ([text, *answers(text)] for text in (hostile(draw) for _ in range(int(texts))))
 
 
 if __name__ == "__main__":
-    main(sys.argv[1:])
+    for told in rows(sys.argv[1]):
+        print("\t".join(map(escaped, told)))

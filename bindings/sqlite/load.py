@@ -14,7 +14,14 @@ ROOT = Path(__file__).resolve().parents[2]
 sys.dont_write_bytecode = True  # leaves nothing in the tree
 sys.path.insert(0, str(ROOT / "bindings" / "sql"))
 
-from expected import COLUMNS, is_utf8, text_of
+from expected import COLUMNS, text_of
+
+
+def is_utf8(text):
+    try:
+        return text.decode("utf-8") is not None
+    except UnicodeDecodeError:
+        return False
 
 
 def rows(is_utf16):
