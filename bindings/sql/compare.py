@@ -52,8 +52,8 @@ ASKED["cvss_metric of other names"] = (
 def main(database):
     for name, (asked, answer) in ASKED.items():
         expected = answer + "::jsonb" if (name, database) == ("cvss_record", "postgresql") else answer
-        print(f"SELECT '{name}', count(*), coalesce(sum(CASE WHEN {asked} IS DISTINCT FROM ({expected}) THEN 1 END), 0)\n"
-              "FROM expected;")
+        is_wrong = f"{asked} IS DISTINCT FROM ({expected})"
+        print(f"SELECT '{name}', count(*), coalesce(sum(CASE WHEN {is_wrong} THEN 1 END), 0) FROM expected;")
 
 
 if __name__ == "__main__":

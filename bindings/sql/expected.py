@@ -78,9 +78,9 @@ def kit():
 
 
 BYTES = [bytes([code]) for code in b"/:.CVSS:AVNHLPUXacegix0349 \t\n\r\"'\\`{}()-\x00\x01\x7f\x80\xc3\xa9\xff"]
-PIECES = [b"CVSS:3.1", b"CVSS:4.0", b"CVSS:3.0", b"cvss:3.1", b"/", b"//", b":", b"::", b"AV:N", b"av:n", b"Au:N", b"AU:N",
-          b"E:X", b"RL:ND", b"MSI:S", b"S:", b":N", b"CVSS:", b"CVSS:9.9", b"CVSS:\xc4\xb1.0", "ſ:Ｎ".encode(), b"\\N",
-          "Á".encode(), b"\xed\xa0\x80", b"%s%n", b"'; --", b"\xef\xbb\xbf"]
+PIECES = [b"CVSS:3.1", b"CVSS:4.0", b"CVSS:3.0", b"cvss:3.1", b"/", b"//", b":", b"::", b"AV:N", b"av:n", b"Au:N",
+          b"AU:N", b"E:X", b"RL:ND", b"MSI:S", b"S:", b":N", b"CVSS:", b"CVSS:9.9", b"CVSS:\xc4\xb1.0", b"\\N", b"%s%n",
+          b"'; --", b"\xef\xbb\xbf", b"\xed\xa0\x80", "ſ:Ｎ".encode(), "Á".encode()]
 
 
 def spoilt(draw, text):
@@ -88,7 +88,8 @@ def spoilt(draw, text):
     for _ in range(draw.randrange(1, 4)):
         start = draw.randrange(len(text) + 1)
         end = min(len(text), start + draw.choice((0, 0, 1, 1, 2, 5, 30)))
-        put = draw.choice((b"", draw.choice(BYTES), draw.choice(PIECES), text[start:end] * 2, text[start:end].swapcase()))
+        cut = text[start:end]
+        put = draw.choice((b"", draw.choice(BYTES), draw.choice(PIECES), cut * 2, cut.swapcase()))
         text = text[:start] + put + text[end:]
     return text
 

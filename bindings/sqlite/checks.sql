@@ -38,7 +38,8 @@ CREATE VIEW told AS SELECT cvss_canonical(vector) AS vector, cvss_reason(vector)
 INSERT INTO kept SELECT v2 FROM known UNION ALL SELECT v3 FROM known UNION ALL SELECT v4 FROM known;
 INSERT OR IGNORE INTO kept SELECT refused FROM known;
 PRAGMA trusted_schema = OFF;
-SELECT 'a constraint and columns', group_concat(score || ' ' || severity) = '7.8 high,9.8 critical,6.9 medium' FROM kept;
+SELECT 'a constraint and columns', group_concat(score || ' ' || severity) = '7.8 high,9.8 critical,6.9 medium'
+    FROM kept;
 SELECT 'a view', count(vector) = 3, count(reason) = 0 FROM told;
 SELECT 'an index', count(*) = 1 FROM kept INDEXED BY kept_score WHERE cvss_score(vector) > 9.0;
 SELECT 'a partial index', count(*) = 1 FROM kept INDEXED BY kept_high WHERE cvss_severity(vector) = 'high';

@@ -20,14 +20,14 @@ enum { JSON_SUBTYPE = 'J' };
 
 typedef struct Function {
     const char *name;
-    int arguments;
     void (*call)(sqlite3_context *, int, sqlite3_value **);
     TextAnswer text;
     ScoreAnswer score;
+    int arguments;
     bool is_json;
 } Function;
 
-/* The bytes of an argument. False where it is NULL, or its bytes are not to be had for want of memory, which is told. */
+/* The bytes of an argument. False where it is NULL, or there is no memory for its bytes, which is told. */
 static bool read_argument(sqlite3_context *context, sqlite3_value *value, Text *text)
 {
     int type = sqlite3_value_type(value);
@@ -102,19 +102,19 @@ static void answer_is_valid(sqlite3_context *context, int count, sqlite3_value *
 }
 
 static const Function functions[] = {
-    {"cvss_is_valid", 1, answer_is_valid, NULL, NULL, false},
-    {"cvss_canonical", 1, answer_text, put_canonical, NULL, false},
-    {"cvss_version", 1, answer_text, put_version, NULL, false},
-    {"cvss_score", 1, answer_score, NULL, base_score, false},
-    {"cvss_temporal_score", 1, answer_score, NULL, temporal_score, false},
-    {"cvss_environmental_score", 1, answer_score, NULL, environmental_score, false},
-    {"cvss_severity", 1, answer_text, put_severity, NULL, false},
-    {"cvss_nomenclature", 1, answer_text, put_nomenclature, NULL, false},
-    {"cvss_metric", 2, answer_text, put_metric, NULL, false},
-    {"cvss_with", 2, answer_text, put_overridden, NULL, false},
-    {"cvss_record", 1, answer_text, put_record, NULL, true},
-    {"cvss_reason", 1, answer_text, put_reason, NULL, false},
-    {"cvss_reason", 2, answer_text, put_override_reason, NULL, false},
+    {"cvss_is_valid", answer_is_valid, NULL, NULL, 1, false},
+    {"cvss_canonical", answer_text, put_canonical, NULL, 1, false},
+    {"cvss_version", answer_text, put_version, NULL, 1, false},
+    {"cvss_score", answer_score, NULL, base_score, 1, false},
+    {"cvss_temporal_score", answer_score, NULL, temporal_score, 1, false},
+    {"cvss_environmental_score", answer_score, NULL, environmental_score, 1, false},
+    {"cvss_severity", answer_text, put_severity, NULL, 1, false},
+    {"cvss_nomenclature", answer_text, put_nomenclature, NULL, 1, false},
+    {"cvss_metric", answer_text, put_metric, NULL, 2, false},
+    {"cvss_with", answer_text, put_overridden, NULL, 2, false},
+    {"cvss_record", answer_text, put_record, NULL, 1, true},
+    {"cvss_reason", answer_text, put_reason, NULL, 1, false},
+    {"cvss_reason", answer_text, put_override_reason, NULL, 2, false},
 };
 
 __attribute__((visibility("default"))) int sqlite3_cvss_init(sqlite3 *database, char **message,
