@@ -48,8 +48,19 @@ ASKED["cvss_metric"] = (METRICS, "CASE version WHEN '2.0' THEN '/' ELSE '' END |
 ASKED["cvss_metric of other names"] = (
     " || ".join(f"coalesce(cvss_metric(text, '{name}'), '')" for name in ("", "av", "AV:", "XX", "CVSS", "MAU")), "''")
 
+# In PostgreSQL, what an error tells.
+REFUSAL_OF = """CREATE OR REPLACE FUNCTION refusal_of(given text) RETURNS text LANGUAGE plpgsql AS $$
+BEGIN
+    RETURN CASE cvss_check(given) WHEN true THEN NULL ELSE 'no answer' END;
+EXCEPTION
+    WHEN check_violation THEN RETURN SQLERRM;
+END $$;"""
+
 
 def main(database):
+    if database == "postgresql":
+        print(REFUSAL_OF)
+        ASKED["cvss_check"] = ("refusal_of(text)", "'no CVSS vector: ' || reason")
     for name, (asked, answer) in ASKED.items():
         expected = answer + "::jsonb" if (name, database) == ("cvss_record", "postgresql") else answer
         is_wrong = f"{asked} IS DISTINCT FROM ({expected})"
