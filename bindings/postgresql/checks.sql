@@ -1,0 +1,74 @@
+-- Of the functions as they are registered: each line tells what is tried, and then t where it is as it must be.
+CREATE TABLE known (v2 text, v3 text, v4 text, refused text);
+INSERT INTO known VALUES ('AV:N/AC:L/Au:N/C:N/I:N/A:C', 'CVSS:3.1/AV:N/AC:L/PR:N/UI:N/S:U/C:H/I:H/A:H',
+    'CVSS:4.0/AV:N/AC:L/AT:N/PR:N/UI:N/VC:L/VI:L/VA:L/SC:N/SI:N/SA:N', 'CVSS:3.1/AV:Q');
+
+SELECT 'NULL gives NULL', coalesce(cvss_is_valid(NULL), cvss_check(NULL)) IS NULL,
+    coalesce(cvss_canonical(NULL), cvss_version(NULL), cvss_severity(NULL), cvss_nomenclature(NULL),
+        cvss_metric(NULL, 'AV'), cvss_metric(v3, NULL), cvss_with(NULL, 'CR:H'), cvss_with(v4, NULL),
+        cvss_record(NULL)::text, cvss_reason(NULL), cvss_reason(NULL, 'CR:H'), cvss_reason(v4, NULL)) IS NULL,
+    coalesce(cvss_score(NULL), cvss_temporal_score(NULL), cvss_environmental_score(NULL)) IS NULL FROM known;
+SELECT 'scores have one decimal', cvss_score('CVSS:3.1/AV:N/AC:L/PR:N/UI:N/S:C/C:H/I:H/A:H')::text = '10.0',
+    cvss_score('CVSS:3.1/C:N')::text = '0.0', pg_typeof(cvss_score(v3)) = 'numeric'::regtype FROM known;
+SELECT 'no reason is cut', cvss_reason(repeat('x', 200000))
+    = 'invalid CVSS metric group component: `' || repeat('x', 200000) || '`';
+SELECT 'overrides', cvss_with(v4, '') = v4, cvss_with(v4, 'msi:s/cr:h') = v4 || '/CR:H/MSI:S',
+    cvss_with(v3, 'CR:H') IS NULL FROM known;
+SELECT 'overrides that are refused', cvss_with(v4, 'CR:H/AV:N') IS NULL,
+    cvss_reason(v4, 'CR:H/AV:N') = 'override 1: no environmental CVSSv4 metric', cvss_reason(v4, 'CR:H') IS NULL,
+    cvss_reason(v3, 'CR:H') = 'no CVSSv4 vector', cvss_reason(refused, 'CR:H') = cvss_reason(refused) FROM known;
+SELECT 'a record is JSON', cvss_record(v3) -> 'baseScore' = '9.8', cvss_record(v3) ->> 'scope' = 'UNCHANGED' FROM known;
+SELECT 'all are immutable, strict and parallel safe', bool_and(provolatile = 'i' AND proisstrict AND proparallel = 's'),
+    count(*) = 14 FROM pg_proc WHERE proname LIKE 'cvss\_%';
+
+CREATE TABLE kept (
+    vector cvss_vector,
+    score numeric(3,1) GENERATED ALWAYS AS (cvss_score(vector)) STORED
+);
+INSERT INTO kept SELECT v2 FROM known UNION ALL SELECT v3 FROM known UNION ALL SELECT NULL;
+SELECT 'a domain and a column', string_agg(score::text, ',' ORDER BY score) = '7.8,9.8', count(*) = 3 FROM kept;
+
+-- A row that is refused says why, and where it stands.
+\set ON_ERROR_STOP off
+INSERT INTO kept SELECT refused FROM known;
+\echo :LAST_ERROR_SQLSTATE :LAST_ERROR_MESSAGE
+COPY kept (vector) FROM STDIN;
+AV:N/AC:L/Au:N/C:N/I:N/A:C
+CVSS:3.1/XX:N
+\.
+\echo :LAST_ERROR_SQLSTATE :LAST_ERROR_MESSAGE
+SELECT 'not a vector'::cvss_vector;
+\echo :LAST_ERROR_SQLSTATE :LAST_ERROR_MESSAGE
+\set ON_ERROR_STOP on
+SELECT 'nothing of a refused COPY is kept', count(*) = 3 FROM kept;
+
+-- What the planner chooses, asked of its own account.
+CREATE FUNCTION plan_of(query text) RETURNS text LANGUAGE plpgsql AS $$
+DECLARE
+    line text;
+    told text := '';
+BEGIN
+    FOR line IN EXECUTE 'EXPLAIN (COSTS OFF) ' || query LOOP
+        told := told || line || E'\n';
+    END LOOP;
+    RETURN told;
+END $$;
+CREATE TABLE many AS
+SELECT 'CVSS:3.1/AV:N/AC:L/PR:N/UI:N/S:U/C:' || (ARRAY['N', 'L', 'H'])[place % 3 + 1] || '/I:N/A:N' AS vector
+FROM generate_series(1, 30000) AS place;
+INSERT INTO many VALUES ('CVSS:3.1/AV:N/AC:L/PR:N/UI:N/S:U/C:H/I:H/A:H'), ('n/a');
+CREATE INDEX many_score ON many (cvss_score(vector));
+ANALYZE many;
+SELECT 'the index is used', plan_of('SELECT * FROM many WHERE cvss_score(vector) > 9') LIKE '%many_score%',
+    (SELECT count(*) FROM many WHERE cvss_score(vector) > 9) = 1;
+SET parallel_setup_cost = 0;
+SET parallel_tuple_cost = 0;
+SET min_parallel_table_scan_size = 0;
+SET max_parallel_workers_per_gather = 4;
+SELECT 'a scan is parallel', plan_of('SELECT sum(cvss_score(vector)) FROM many') LIKE '%Parallel Seq Scan%',
+    (SELECT sum(cvss_score(vector)) FROM many) = 10000 * (0.0 + 5.3 + 7.5) + 9.8;
+SET jit_above_cost = 0;
+SET jit_inline_above_cost = 0;
+SET jit_optimize_above_cost = 0;
+SET max_parallel_workers_per_gather = 0;
+SELECT 'compiled queries', (SELECT sum(cvss_score(vector)) FROM many) = 10000 * (0.0 + 5.3 + 7.5) + 9.8;

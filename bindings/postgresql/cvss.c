@@ -1,0 +1,221 @@
+/*
+ * CVSS in SQL: the functions of the extension cvss of PostgreSQL. docs/SQL.md says what each answers, and
+ * bindings/sql/answers.h how.
+ *
+ * A text is asked by its bytes, in whatever encoding the database has. The library keeps no memory beyond a call, and
+ * no error of the server is raised within one.
+ */
+#include "postgres.h"
+
+#include "fmgr.h"
+#include "utils/builtins.h"
+#include "utils/jsonb.h"
+#include "utils/numeric.h"
+#if PG_VERSION_NUM >= 160000
+#include "varatt.h"
+#endif
+
+#include "answers.h"
+
+PG_MODULE_MAGIC;
+
+/* Most answers have room in fewer bytes. */
+#define FIRST_SIZE 2000
+
+static Text
+text_of(FunctionCallInfo fcinfo, int argument)
+{
+	text	   *value = PG_GETARG_TEXT_PP(argument);
+	Text		bytes;
+
+	bytes.bytes = VARDATA_ANY(value);
+	bytes.length = VARSIZE_ANY_EXHDR(value);
+	return bytes;
+}
+
+static Question
+question_of(FunctionCallInfo fcinfo)
+{
+	Question	question = {{"", 0}, {"", 0}};
+
+	question.text = text_of(fcinfo, 0);
+	if (PG_NARGS() > 1)
+		question.second = text_of(fcinfo, 1);
+	return question;
+}
+
+static void
+raise_out_of_memory(void)
+{
+	ereport(ERROR, (errcode(ERRCODE_OUT_OF_MEMORY), errmsg("out of memory"),
+					errdetail("The CVSS library was refused memory.")));
+}
+
+/*
+ * The answer, which a byte 0 ends: in the first buffer where it has room there, else in memory of the server. NULL
+ * where the answer is NULL.
+ */
+static char *
+answer_of(FunctionCallInfo fcinfo, TextAnswer answer, char first[FIRST_SIZE], size_t *length)
+{
+	Question	question = question_of(fcinfo);
+	char	   *result = first;
+	size_t		size = FIRST_SIZE - 1;
+
+	*length = answer(&question, result, size);
+	if (*length == 0)
+		return NULL;
+	if (*length > size)
+	{
+		size = *length;
+		result = palloc(size + 1);
+		*length = answer(&question, result, size);
+	}
+	if (*length > size || lacked_memory(result, *length))
+		raise_out_of_memory();
+	result[*length] = '\0';
+	return result;
+}
+
+static Datum
+answer_text(FunctionCallInfo fcinfo, TextAnswer answer)
+{
+	char		first[FIRST_SIZE];
+	size_t		length;
+	char	   *result = answer_of(fcinfo, answer, first, &length);
+
+	if (result == NULL)
+		PG_RETURN_NULL();
+	PG_RETURN_TEXT_P(cstring_to_text_with_len(result, length));
+}
+
+static Datum
+answer_jsonb(FunctionCallInfo fcinfo, TextAnswer answer)
+{
+	char		first[FIRST_SIZE];
+	size_t		length;
+	char	   *result = answer_of(fcinfo, answer, first, &length);
+
+	if (result == NULL)
+		PG_RETURN_NULL();
+	return DirectFunctionCall1(jsonb_in, CStringGetDatum(result));
+}
+
+static Datum
+answer_score(FunctionCallInfo fcinfo, ScoreAnswer answer)
+{
+	int32		tenths = answer(text_of(fcinfo, 0));
+
+	if (tenths == CVSS_NOTHING)
+		PG_RETURN_NULL();
+	PG_RETURN_NUMERIC(int64_div_fast_to_numeric(tenths, 1));
+}
+
+/* The names differ from those of the library, which this module holds too. */
+
+PG_FUNCTION_INFO_V1(sql_cvss_is_valid);
+Datum
+sql_cvss_is_valid(PG_FUNCTION_ARGS)
+{
+	Text		text = text_of(fcinfo, 0);
+
+	PG_RETURN_BOOL(cvss_version(text.bytes, text.length) != CVSS_NOTHING);
+}
+
+PG_FUNCTION_INFO_V1(sql_cvss_canonical);
+Datum
+sql_cvss_canonical(PG_FUNCTION_ARGS)
+{
+	return answer_text(fcinfo, put_canonical);
+}
+
+PG_FUNCTION_INFO_V1(sql_cvss_version);
+Datum
+sql_cvss_version(PG_FUNCTION_ARGS)
+{
+	return answer_text(fcinfo, put_version);
+}
+
+PG_FUNCTION_INFO_V1(sql_cvss_score);
+Datum
+sql_cvss_score(PG_FUNCTION_ARGS)
+{
+	return answer_score(fcinfo, base_score);
+}
+
+PG_FUNCTION_INFO_V1(sql_cvss_temporal_score);
+Datum
+sql_cvss_temporal_score(PG_FUNCTION_ARGS)
+{
+	return answer_score(fcinfo, temporal_score);
+}
+
+PG_FUNCTION_INFO_V1(sql_cvss_environmental_score);
+Datum
+sql_cvss_environmental_score(PG_FUNCTION_ARGS)
+{
+	return answer_score(fcinfo, environmental_score);
+}
+
+PG_FUNCTION_INFO_V1(sql_cvss_severity);
+Datum
+sql_cvss_severity(PG_FUNCTION_ARGS)
+{
+	return answer_text(fcinfo, put_severity);
+}
+
+PG_FUNCTION_INFO_V1(sql_cvss_nomenclature);
+Datum
+sql_cvss_nomenclature(PG_FUNCTION_ARGS)
+{
+	return answer_text(fcinfo, put_nomenclature);
+}
+
+PG_FUNCTION_INFO_V1(sql_cvss_metric);
+Datum
+sql_cvss_metric(PG_FUNCTION_ARGS)
+{
+	return answer_text(fcinfo, put_metric);
+}
+
+PG_FUNCTION_INFO_V1(sql_cvss_with);
+Datum
+sql_cvss_with(PG_FUNCTION_ARGS)
+{
+	return answer_text(fcinfo, put_overridden);
+}
+
+PG_FUNCTION_INFO_V1(sql_cvss_record);
+Datum
+sql_cvss_record(PG_FUNCTION_ARGS)
+{
+	return answer_jsonb(fcinfo, put_record);
+}
+
+PG_FUNCTION_INFO_V1(sql_cvss_reason);
+Datum
+sql_cvss_reason(PG_FUNCTION_ARGS)
+{
+	return answer_text(fcinfo, put_reason);
+}
+
+PG_FUNCTION_INFO_V1(sql_cvss_override_reason);
+Datum
+sql_cvss_override_reason(PG_FUNCTION_ARGS)
+{
+	return answer_text(fcinfo, put_override_reason);
+}
+
+/* Refuses by an error that tells the reason, which a CHECK that is false cannot. */
+PG_FUNCTION_INFO_V1(sql_cvss_check);
+Datum
+sql_cvss_check(PG_FUNCTION_ARGS)
+{
+	char		first[FIRST_SIZE];
+	size_t		length;
+	char	   *reason = answer_of(fcinfo, put_reason, first, &length);
+
+	if (reason != NULL)
+		ereport(ERROR, (errcode(ERRCODE_CHECK_VIOLATION), errmsg("no CVSS vector: %s", reason)));
+	PG_RETURN_BOOL(true);
+}

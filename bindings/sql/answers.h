@@ -1,0 +1,154 @@
+/*
+ * What the functions of SQL answer to a text, said once for SQLite and PostgreSQL over the functions of cvss.h.
+ * docs/SQL.md says what each means.
+ */
+#ifndef CVSS_SQL_ANSWERS_H
+#define CVSS_SQL_ANSWERS_H
+
+#include "cvss.h"
+
+#include <string.h>
+
+typedef struct Text {
+    const char *bytes;
+    size_t length;
+} Text;
+
+/* What a function is asked: its first argument, and its second where it has one, which else is empty. */
+typedef struct Question {
+    Text text;
+    Text second;
+} Question;
+
+/*
+ * A function whose answer is a text. Writes it where the buffer has room for all of it, and returns its length either
+ * way; 0 is the answer NULL.
+ */
+typedef size_t (*TextAnswer)(const Question *question, void *buffer, size_t size);
+
+/* A function whose answer is a score. Returns its tenths; CVSS_NOTHING is the answer NULL. */
+typedef int32_t (*ScoreAnswer)(Text text);
+
+static inline size_t put_word(const char *word, void *buffer, size_t size)
+{
+    size_t length = strlen(word);
+
+    if (length <= size)
+        memcpy(buffer, word, length);
+    return length;
+}
+
+static inline size_t put_version(const Question *question, void *buffer, size_t size)
+{
+    switch (cvss_version(question->text.bytes, question->text.length)) {
+    case 20:
+        return put_word("2.0", buffer, size);
+    case 30:
+        return put_word("3.0", buffer, size);
+    case 31:
+        return put_word("3.1", buffer, size);
+    case 40:
+        return put_word("4.0", buffer, size);
+    default:
+        return 0;
+    }
+}
+
+static inline size_t put_severity(const Question *question, void *buffer, size_t size)
+{
+    static const char *const words[] = {"none", "low", "medium", "high", "critical"};
+    CvssScores scores;
+
+    if (!cvss_scores(question->text.bytes, question->text.length, &scores))
+        return 0;
+    return put_word(words[scores.severity], buffer, size);
+}
+
+static inline size_t put_nomenclature(const Question *question, void *buffer, size_t size)
+{
+    static const char *const words[] = {"CVSS-B", "CVSS-BE", "CVSS-BT", "CVSS-BTE"};
+    CvssScores scores;
+
+    if (!cvss_scores(question->text.bytes, question->text.length, &scores) || scores.nomenclature == CVSS_NOTHING)
+        return 0;
+    return put_word(words[scores.nomenclature], buffer, size);
+}
+
+/* The value of the metric whose name is the second argument, as the canonical text prints it. */
+static inline size_t put_metric(const Question *question, void *buffer, size_t size)
+{
+    const Text *name = &question->second;
+    CvssMetric metrics[CVSS_MOST_METRICS];
+    size_t count = cvss_metrics(question->text.bytes, question->text.length, metrics, CVSS_MOST_METRICS);
+    size_t i;
+
+    for (i = 0; i < count; i++) {
+        if (strlen(metrics[i].name) == name->length && memcmp(metrics[i].name, name->bytes, name->length) == 0)
+            return put_word(metrics[i].value, buffer, size);
+    }
+    return 0;
+}
+
+static inline size_t put_canonical(const Question *question, void *buffer, size_t size)
+{
+    return cvss_canonical(question->text.bytes, question->text.length, buffer, size);
+}
+
+static inline size_t put_overridden(const Question *question, void *buffer, size_t size)
+{
+    return cvss_overridden(question->text.bytes, question->text.length, question->second.bytes,
+                           question->second.length, buffer, size);
+}
+
+static inline size_t put_override_reason(const Question *question, void *buffer, size_t size)
+{
+    return cvss_override_reason(question->text.bytes, question->text.length, question->second.bytes,
+                                question->second.length, buffer, size);
+}
+
+static inline size_t put_reason(const Question *question, void *buffer, size_t size)
+{
+    return cvss_reason(question->text.bytes, question->text.length, buffer, size);
+}
+
+static inline size_t put_record(const Question *question, void *buffer, size_t size)
+{
+    return cvss_record(question->text.bytes, question->text.length, buffer, size);
+}
+
+static inline int32_t base_score(Text text)
+{
+    CvssScores scores;
+
+    return cvss_scores(text.bytes, text.length, &scores) ? scores.base : CVSS_NOTHING;
+}
+
+static inline int32_t temporal_score(Text text)
+{
+    CvssScores scores;
+
+    return cvss_scores(text.bytes, text.length, &scores) ? scores.temporal : CVSS_NOTHING;
+}
+
+static inline int32_t environmental_score(Text text)
+{
+    CvssScores scores;
+
+    return cvss_scores(text.bytes, text.length, &scores) ? scores.environmental : CVSS_NOTHING;
+}
+
+/*
+ * Whether the library tells in place of an answer that there was no memory for it: by these words alone, of an
+ * override behind its number. No other answer ends so and begins with one of these words.
+ */
+static inline bool lacked_memory(const char *answer, size_t length)
+{
+    static const char words[] = "out of memory", override[] = "override ";
+    size_t tail = sizeof words - 1;
+
+    if (length < tail || memcmp(answer + length - tail, words, tail) != 0)
+        return false;
+    return length == tail || (length > tail + sizeof override && memcmp(answer, override, sizeof override - 1) == 0);
+}
+
+#endif

@@ -1,0 +1,120 @@
+#!/usr/bin/env python3
+"""Writes texts, with what the functions of SQL have to answer to them, by the second implementation in bench/.
+
+usage: expected.py kit|COUNT
+
+The texts are those of the conformance kit, or COUNT hostile ones, drawn at random and always the same. The columns of
+COLUMNS are separated by tabs, as COPY of PostgreSQL reads them: NULL is \\N, and a byte that is no visible ASCII
+character stands as \\x and two digits.
+"""
+import random
+import sys
+from pathlib import Path
+
+ROOT = Path(__file__).resolve().parents[2]
+sys.dont_write_bytecode = True  # leaves nothing in the tree
+sys.path[:0] = [str(ROOT / "bench"), str(ROOT / "conformance"), str(ROOT / "bindings" / "stored")]
+
+import facts
+import lines
+import records
+import reference
+import v4
+from run import read_table, text_of
+
+COLUMNS = ("text", "canonical", "version", "score", "temporal", "environmental", "severity", "nomenclature",
+           "overridden", "record", "reason", "override_reason")
+# An organisation's metrics, in the order in which v4.0 prints them.
+OVERRIDES = {"CR": "H", "MSI": "S"}
+
+
+def scored(text):
+    """The scores of a text that is accepted, by the names of the kit's columns."""
+    names = ("canonical", "version", "nomenclature", "complete", "score", "rating", "temporal", "temporal_rating",
+             "environmental", "environmental_rating")
+    return dict(zip(names, facts.facts(text).split()))
+
+
+def accepted(row):
+    """What is answered to a text that has these scores."""
+    canonical, version = row["canonical"], row["version"]
+    pieces = canonical.split("/")[0 if version == "2.0" else 1:]
+    metrics = dict(piece.split(":") for piece in pieces)
+    told = [canonical, version, row["score"], row["temporal"], row["environmental"], row["rating"], row["nomenclature"]]
+    told = [None if column == "-" else column for column in told]
+    overridden, refusal = None, "no CVSSv4 vector"
+    if version == "4.0":
+        overridden, refusal = reference.canonical(["CVSS:4.0"], v4.METRICS, {**metrics, **OVERRIDES}), None
+    return [*told, overridden, records.record(row, metrics), None, refusal]
+
+
+def answers(text, row=None):
+    """What is answered to a text, of which the scores may be known."""
+    try:
+        return accepted(row or scored(text.decode("utf-8")))
+    except UnicodeDecodeError:
+        reason = "not UTF-8"
+    except reference.Refused as refused:
+        reason = str(refused)
+    return [None] * (len(COLUMNS) - 3) + [reason, reason]
+
+
+def escaped(column):
+    """A column as it stands in a file."""
+    if column is None:
+        return "\\N"
+    code = column if isinstance(column, bytes) else column.encode("utf-8")
+    if code.isalnum():
+        return code.decode()
+    return "".join(chr(byte) if 33 <= byte < 127 and byte != 92 else f"\\x{byte:02x}" for byte in code)
+
+
+def kit():
+    """The texts of the kit, with the scores that are stored there."""
+    for name in ("scores.tsv", "refused.tsv"):
+        for row in read_table(ROOT / "conformance" / name):
+            text = text_of(row["text"])
+            yield [text, *answers(text, row if "canonical" in row else None)]
+
+
+BYTES = [bytes([code]) for code in b"/:.CVSS:AVNHLPUXacegix0349 \t\n\r\"'\\`{}()-\x00\x01\x7f\x80\xc3\xa9\xff"]
+PIECES = [b"CVSS:3.1", b"CVSS:4.0", b"CVSS:3.0", b"cvss:3.1", b"/", b"//", b":", b"::", b"AV:N", b"av:n", b"Au:N",
+          b"AU:N", b"E:X", b"RL:ND", b"MSI:S", b"S:", b":N", b"CVSS:", b"CVSS:9.9", b"CVSS:\xc4\xb1.0", b"\\N", b"%s%n",
+          b"'; --", b"\xef\xbb\xbf", b"\xed\xa0\x80", "ſ:Ｎ".encode(), "Á".encode()]
+
+
+def spoilt(draw, text):
+    """A text with some bytes put in, taken away or repeated."""
+    for _ in range(draw.randrange(1, 4)):
+        start = draw.randrange(len(text) + 1)
+        end = min(len(text), start + draw.choice((0, 0, 1, 1, 2, 5, 30)))
+        cut = text[start:end]
+        put = draw.choice((b"", draw.choice(BYTES), draw.choice(PIECES), cut * 2, cut.swapcase()))
+        text = text[:start] + put + text[end:]
+    return text
+
+
+def hostile(draw):
+    """A text of one of some kinds."""
+    kind = draw.randrange(20)
+    if kind == 0:
+        return bytes(draw.randrange(256) for _ in range(draw.randrange(40)))
+    if kind == 1:
+        return b"/".join(draw.choices(PIECES, k=draw.randrange(12)))
+    if kind == 2:
+        most = 100_000 if draw.random() < 0.001 else 300
+        return draw.choice(PIECES) * draw.randrange(most // 4)
+    line = lines.line(draw, "all", draw.choice(("base", "full", "any"))).encode()
+    return line if kind < 5 else spoilt(draw, line)
+
+
+def rows(texts):
+    if texts == "kit":
+        return kit()
+    draw = random.Random(39)
+    return ([text, *answers(text)] for text in (hostile(draw) for _ in range(int(texts))))
+
+
+if __name__ == "__main__":
+    for told in rows(sys.argv[1]):
+        print("\t".join(map(escaped, told)))

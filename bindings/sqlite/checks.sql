@@ -1,0 +1,46 @@
+-- Of the functions as they are registered: each line tells what is tried, and then 1 where it is as it must be.
+CREATE TABLE known (v2 TEXT, v3 TEXT, v4 TEXT, refused TEXT);
+INSERT INTO known VALUES ('AV:N/AC:L/Au:N/C:N/I:N/A:C', 'CVSS:3.1/AV:N/AC:L/PR:N/UI:N/S:U/C:H/I:H/A:H',
+    'CVSS:4.0/AV:N/AC:L/AT:N/PR:N/UI:N/VC:L/VI:L/VA:L/SC:N/SI:N/SA:N', 'CVSS:3.1/AV:Q');
+
+SELECT 'NULL gives NULL', coalesce(cvss_is_valid(NULL), cvss_canonical(NULL), cvss_version(NULL), cvss_score(NULL),
+    cvss_temporal_score(NULL), cvss_environmental_score(NULL), cvss_severity(NULL), cvss_nomenclature(NULL),
+    cvss_metric(NULL, 'AV'), cvss_metric(v3, NULL), cvss_with(NULL, 'CR:H'), cvss_with(v4, NULL), cvss_record(NULL),
+    cvss_reason(NULL), cvss_reason(NULL, 'CR:H'), cvss_reason(v4, NULL)) IS NULL FROM known;
+SELECT 'types', typeof(cvss_is_valid(v3)) || typeof(cvss_score(v3)) || typeof(cvss_severity(v3)) = 'integerrealtext'
+    FROM known;
+SELECT 'a blob', cvss_score(CAST(v3 AS BLOB)) = 9.8, cvss_is_valid(x'') = 0, cvss_is_valid(zeroblob(9)) = 0 FROM known;
+SELECT 'a number', cvss_reason(9.8) = 'invalid CVSS metric group component: `9.8`',
+    cvss_reason(-5) = 'invalid CVSS metric group component: `-5`';
+SELECT 'a byte 0', cvss_is_valid(v2 || char(0)) = 0, cvss_is_valid(v2 || char(0) || '/E:U') = 0,
+    cvss_is_valid(CAST(v2 || char(0) AS BLOB)) = 0,
+    hex(cvss_reason('CVSS:3.1/AV:N' || char(0)))
+        = hex('invalid CVSSv3 AV (Attack Vector) metric: `N' || char(0) || '`') FROM known;
+SELECT 'bytes that are no text', cvss_reason(x'41563A80') = 'not UTF-8', cvss_reason(CAST(x'FF' AS TEXT)) = 'not UTF-8';
+SELECT 'no reason is cut', cvss_reason(hex(zeroblob(100000)))
+    = 'invalid CVSS metric group component: `' || hex(zeroblob(100000)) || '`';
+SELECT 'overrides', cvss_with(v4, '') = v4, cvss_with(v4, 'msi:s/cr:h') = v4 || '/CR:H/MSI:S',
+    cvss_with(v4, CAST('CR:H' AS BLOB)) = v4 || '/CR:H', cvss_with(v3, 'CR:H') IS NULL FROM known;
+SELECT 'overrides that are refused', cvss_with(v4, 'CR:H/AV:N') IS NULL,
+    cvss_reason(v4, 'CR:H/AV:N') = 'override 1: no environmental CVSSv4 metric', cvss_reason(v4, 'CR:H') IS NULL,
+    cvss_reason(v3, 'CR:H') = 'no CVSSv4 vector', cvss_reason(refused, 'CR:H') = cvss_reason(refused) FROM known;
+SELECT 'a record is JSON', json_extract(cvss_record(v3), '$.baseScore') = 9.8,
+    json_type(json_object('cvss', cvss_record(v3)), '$.cvss') = 'object' FROM known;
+
+CREATE TABLE kept (
+    vector TEXT CHECK (cvss_is_valid(vector)),
+    score REAL AS (cvss_score(vector)) STORED,
+    severity TEXT AS (cvss_severity(vector)) VIRTUAL
+) STRICT;
+CREATE INDEX kept_score ON kept (cvss_score(vector));
+CREATE INDEX kept_high ON kept (vector) WHERE cvss_severity(vector) = 'high';
+CREATE VIEW told AS SELECT cvss_canonical(vector) AS vector, cvss_reason(vector) AS reason FROM kept;
+INSERT INTO kept SELECT v2 FROM known UNION ALL SELECT v3 FROM known UNION ALL SELECT v4 FROM known;
+INSERT OR IGNORE INTO kept SELECT refused FROM known;
+PRAGMA trusted_schema = OFF;
+SELECT 'a constraint and columns', group_concat(score || ' ' || severity) = '7.8 high,9.8 critical,6.9 medium'
+    FROM kept;
+SELECT 'a view', count(vector) = 3, count(reason) = 0 FROM told;
+SELECT 'an index', count(*) = 1 FROM kept INDEXED BY kept_score WHERE cvss_score(vector) > 9.0;
+SELECT 'a partial index', count(*) = 1 FROM kept INDEXED BY kept_high WHERE cvss_severity(vector) = 'high';
+PRAGMA integrity_check;

@@ -1,0 +1,136 @@
+/*
+ * CVSS in SQL: an extension that SQLite loads, `.load ./cvss`. docs/SQL.md says what each function answers, and
+ * bindings/sql/answers.h how.
+ *
+ * A text is what its bytes are, and so is a blob; a number is asked as it is printed. NULL is answered by NULL. The
+ * functions keep nothing between calls, so that any number of threads may use them, each with its own connection.
+ */
+#include "answers.h"
+
+#include <sqlite3ext.h>
+SQLITE_EXTENSION_INIT1
+
+/* Newer releases want to be told that a function marks its texts as JSON. */
+#ifndef SQLITE_RESULT_SUBTYPE
+#define SQLITE_RESULT_SUBTYPE 0
+#endif
+
+/* The mark of texts that the JSON functions of SQLite take for JSON, and not for strings. */
+enum { JSON_SUBTYPE = 'J' };
+
+typedef struct Function {
+    const char *name;
+    void (*call)(sqlite3_context *, int, sqlite3_value **);
+    TextAnswer text;
+    ScoreAnswer score;
+    int arguments;
+    bool is_json;
+} Function;
+
+/* The bytes of an argument. False where it is NULL, or there is no memory for its bytes, which is told. */
+static bool read_argument(sqlite3_context *context, sqlite3_value *value, Text *text)
+{
+    int type = sqlite3_value_type(value);
+    if (type == SQLITE_NULL)
+        return false;
+    text->bytes = type == SQLITE_BLOB ? sqlite3_value_blob(value) : (const void *)sqlite3_value_text(value);
+    text->length = (size_t)sqlite3_value_bytes(value);
+    if (text->bytes != NULL)
+        return true;
+    /* an empty blob has no bytes */
+    if (type == SQLITE_BLOB && text->length == 0) {
+        text->bytes = "";
+        return true;
+    }
+    sqlite3_result_error_nomem(context);
+    return false;
+}
+
+static bool read_question(sqlite3_context *context, int count, sqlite3_value **values, Question *question)
+{
+    question->second = (Text){"", 0};
+    return read_argument(context, values[0], &question->text)
+           && (count == 1 || read_argument(context, values[1], &question->second));
+}
+
+/* Answers by a text. Most have room in the first buffer. */
+static void answer_text(sqlite3_context *context, int count, sqlite3_value **values)
+{
+    const Function *function = sqlite3_user_data(context);
+    Question question;
+    if (!read_question(context, count, values, &question))
+        return;
+    char first[2000];
+    char *text = first;
+    size_t size = sizeof first;
+    size_t length = function->text(&question, first, size);
+    if (length > size) {
+        size = length;
+        text = sqlite3_malloc64(size);
+        if (text == NULL) {
+            sqlite3_result_error_nomem(context);
+            return;
+        }
+        length = function->text(&question, text, size);
+    }
+    if (length > size || lacked_memory(text, length))
+        sqlite3_result_error_nomem(context);
+    else if (length > 0)
+        sqlite3_result_text64(context, text, length, SQLITE_TRANSIENT, SQLITE_UTF8);
+    if (length > 0 && function->is_json)
+        sqlite3_result_subtype(context, JSON_SUBTYPE);
+    if (text != first)
+        sqlite3_free(text);
+}
+
+static void answer_score(sqlite3_context *context, int count, sqlite3_value **values)
+{
+    const Function *function = sqlite3_user_data(context);
+    Question question;
+    if (!read_question(context, count, values, &question))
+        return;
+    int32_t tenths = function->score(question.text);
+    if (tenths != CVSS_NOTHING)
+        sqlite3_result_double(context, tenths / 10.0);
+}
+
+static void answer_is_valid(sqlite3_context *context, int count, sqlite3_value **values)
+{
+    Question question;
+    if (read_question(context, count, values, &question))
+        sqlite3_result_int(context, cvss_version(question.text.bytes, question.text.length) != CVSS_NOTHING);
+}
+
+static const Function functions[] = {
+    {"cvss_is_valid", answer_is_valid, NULL, NULL, 1, false},
+    {"cvss_canonical", answer_text, put_canonical, NULL, 1, false},
+    {"cvss_version", answer_text, put_version, NULL, 1, false},
+    {"cvss_score", answer_score, NULL, base_score, 1, false},
+    {"cvss_temporal_score", answer_score, NULL, temporal_score, 1, false},
+    {"cvss_environmental_score", answer_score, NULL, environmental_score, 1, false},
+    {"cvss_severity", answer_text, put_severity, NULL, 1, false},
+    {"cvss_nomenclature", answer_text, put_nomenclature, NULL, 1, false},
+    {"cvss_metric", answer_text, put_metric, NULL, 2, false},
+    {"cvss_with", answer_text, put_overridden, NULL, 2, false},
+    {"cvss_record", answer_text, put_record, NULL, 1, true},
+    {"cvss_reason", answer_text, put_reason, NULL, 1, false},
+    {"cvss_reason", answer_text, put_override_reason, NULL, 2, false},
+};
+
+__attribute__((visibility("default"))) int sqlite3_cvss_init(sqlite3 *database, char **message,
+                                                             const sqlite3_api_routines *api);
+
+int sqlite3_cvss_init(sqlite3 *database, char **message, const sqlite3_api_routines *api)
+{
+    const int flags = SQLITE_UTF8 | SQLITE_DETERMINISTIC | SQLITE_INNOCUOUS;
+    int status = SQLITE_OK;
+    (void)message;
+    SQLITE_EXTENSION_INIT2(api)
+    for (size_t i = 0; status == SQLITE_OK && i < sizeof functions / sizeof *functions; i++) {
+        const Function *function = &functions[i];
+        int own = function->is_json ? SQLITE_RESULT_SUBTYPE : 0;
+        status = sqlite3_create_function_v2(database, function->name, function->arguments, flags | own,
+                                            (void *)function, function->call, NULL, NULL, NULL);
+    }
+    return status;
+}
