@@ -23,7 +23,7 @@ use cvss_name::Error;
 use std::alloc::Global;
 
 /// Why a text denotes no vector, as the version found by whose rules it was read.
-#[derive(Clone, Copy, Debug)]
+#[derive(Clone, Copy)]
 pub(crate) enum ReadFault<'a> {
     V2(Fault<'a, v2::MetricType>),
     V3(Fault<'a, v3::MetricType>),

@@ -17,7 +17,7 @@ use cvss_name::Error;
 use std::alloc::{AllocError, Global};
 
 /// By the rules of which version a text is read.
-#[derive(Clone, Copy, Debug)]
+#[derive(Clone, Copy)]
 pub(crate) enum Route<'a> {
     V20,
     /// Each of these with the pieces behind the one that tells the version.
@@ -28,7 +28,7 @@ pub(crate) enum Route<'a> {
 }
 
 /// Why a text is read by no rules, with the part of the text that is at fault.
-#[derive(Clone, Copy, Debug)]
+#[derive(Clone, Copy)]
 pub(crate) enum Fault<'a> {
     /// The text has one piece, or its first piece has no colon.
     InvalidComponent(&'a [u8]),
