@@ -1,8 +1,6 @@
 -- How overrides are read and put into a vector.
-use Rattle.std.specs.Prelude.{◌≡◌, ◌<◌, ◌≤◌, ◌+◌, ℕ, List, [], ◌∷◌, ⊤, codes, length}
+use Rattle.std.specs.Prelude.{◌≡◌, ◌≤◌, ◌+◌, ℕ, List, [], ◌∷◌, ⊤, codes, length}
 use Rattle.std.specs.Str.{IsUtf8}
-use Rattle.cvss.specs.OverrideErrorTypeV4.{OverrideError}
-use Rattle.cvss.specs.OverrideErrorTypeV4.TheVariants.{NotEnvironmental, Refused}
 use Rattle.cvss.specs.OverridingV4.{TellsFirstObjection}
 use Rattle.cvss.specs.VectorTypeV4.{Vector}
 use Rattle.cvss.specs.VectorV4.{v4}
@@ -25,13 +23,3 @@ IsUnfit (CvssV40 vector) text (Override error) = IsUtf8 text × TellsFirstObject
 IsUnfit (CvssV40 vector) text OtherVersion = ⊥
 IsUnfit cvss text OtherVersion = ⊤
 IsUnfit cvss text unfit = ⊥
-
--- the place of the override that the error is about
-abbrev pub index_of : OverrideError → ℕ
-index_of (NotEnvironmental index) = index
-index_of (Refused index error) = index
-
--- an override that is refused is one of the first fifteen
-abbrev pub IsEarly : Unfit → Type 0
-IsEarly (Override error) = index_of error < 15
-IsEarly unfit = ⊤
