@@ -75,7 +75,7 @@ ssize_t write(int fd, const void *bytes, size_t count)
 }
 """
 
-# Each error of the system, but for those of interrupted and of lacking memory, which programs tell apart.
+# Each error of the system, but for an interruption and want of memory, which programs tell apart.
 FAULTS = sorted(set(errno.errorcode) - {errno.EINTR, errno.ENOMEM})
 
 EMPTY = "error: invalid CVSS metric group component: ``\n"

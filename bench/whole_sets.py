@@ -72,8 +72,7 @@ def answers(program, lines):
 
 def checksum(tenths):
     """What scores come to, to be compared with a row from outside."""
-    total = Counter(0 if each == 0 else 1 if each < 40 else 2 if each < 70 else 3 if each < 90 else 4
-                    for each in tenths)
+    total = Counter(sum(each >= bound for bound in (1, 40, 70, 90)) for each in tenths)
     seen = 0
     for each in tenths:
         seen = (seen * 101 + each) % 2_147_483_647

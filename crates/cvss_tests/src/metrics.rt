@@ -1,5 +1,5 @@
-//! Tests of the metrics' types: which variant is which value, defaults, orders, and values in place of
-//! others.
+//! Tests of the metrics' types: which variant is which value, defaults, orders, and values in place
+//! of others.
 
 use cvss::v3::metric::environmental::{BaseMetric, Modified, ModifiedScope};
 use cvss::v4::metric::base::IntegrityImpactToTheVulnerableSystem;

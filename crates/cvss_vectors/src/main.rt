@@ -1,29 +1,35 @@
-//! Answers lines, to be compared with answers from outside: those of the Rust crate, of tables, and
-//! of an implementation on fractions.
+//! Answers lines, to be compared with answers from outside: those of the Rust crate, of tables,
+//! and of an implementation on fractions.
 //!
-//! A line is a vector's text of any version, answered by the canonical text, the score and the rating
-//! or by why it is refused. Or it is a mark, and behind a blank what is asked:
+//! A line is a vector's text of any version, answered by the canonical text, the score and the
+//! rating or by why it is refused. Or it is a mark, a blank, and what is asked, where counts are
+//! of 10^-24:
 //!
-//! | line | what is answered |
-//! |---|---|
-//! | `v2 TEXT`, `v3 TEXT`, `v4 TEXT` | the same, by the rules of that version alone |
-//! | `fault TEXT` | the kind of the error, and the part or the metric that it holds |
-//! | `scores TEXT` | the base, temporal and environmental score of v2, of v3 (and whether they are certain), the score of v4, in counts of 10^-24 |
-//! | `parts TEXT` | impact, exploitability and adjusted impact of v2, rounded; impact and exploitability of v3; in counts |
-//! | `metrics TEXT` | the metrics, as they are listed |
-//! | `sight TEXT` | what is known of a canonical text without a walk over its components |
-//! | `same TEXT TEXT` | whether the vectors are equal, and whether their texts are |
-//! | `kind 2 NAME` | a metric's name, and what it stands for |
-//! | `value 2 AV TEXT` | a metric's value with its spelling and its weight, in counts |
-//! | `each .. WORD ..` | of the words that are read as a `vector`, `kind 2` or `value 2 AV`, as a `rating` or a `nomenclature`, or as the `error` of a refused text: the value, how many it equals, and how many not |
-//! | `score 2 COUNT`, `round 2 COUNT` | a score as it is printed, with its rating; the score to which it is rounded; `score any` has no rating, `round 3.0` a minor version |
-//! | `temporal COUNT` | the temporal score of v2 of this impact, in tenths |
-//! | `tenths NUMBER` | the text of a number of tenths |
-//! | `rank +OVERRIDE .. =TEXT ..` | triage: rows, or the first refusal |
-//! | `overrides OVERRIDE ..` | the vector of v4 of these components alone |
-//! | `record TEXT` | the record, a JSON object |
-//! | `differ TEXT OBJECT` | the members that say otherwise than the vector |
-//! | `places DOCUMENT` | where vectors stand in it, and the members there that say otherwise |
+//! - `v2 TEXT`, `v3 TEXT`, `v4 TEXT`: the same by the rules of that version alone.
+//! - `fault TEXT`: the kind of the error, and the part or the metric that it holds.
+//! - `scores TEXT`: counts of the base, temporal and environmental score of v2 or v3, those of v3
+//!   with whether they are certain; of the score of v4.
+//! - `parts TEXT`: counts of impact, exploitability and, for v2 (where they are rounded), adjusted
+//!   impact.
+//! - `metrics TEXT`: the metrics, as they are listed.
+//! - `sight TEXT`: what is known of a canonical text without a walk over its components.
+//! - `same TEXT TEXT`: whether two vectors of a version are equal, and whether their texts are.
+//! - `kind 2 NAME`: a metric's name, and what it stands for.
+//! - `value 2 AV TEXT`: a metric's value, its metric and its spelling, and the count of its
+//!   weight.
+//! - `each TYPE WORD ..`: of the words that are read as a `vector` (of any version; `v2`, `v3` or
+//!   `v4`), a `kind 2`, a `value 2 AV`, a `rating`, a `nomenclature`, or as refused texts with an
+//!   `error`: the value, how many of them it equals, and how many not.
+//! - `score 2 COUNT`: a score as it is printed, and its rating; of `score any` the first alone.
+//! - `round 2 COUNT`, `round 3 COUNT`, `round 3.0 COUNT`: the count of the score to which it is
+//!   rounded.
+//! - `temporal COUNT`: the count of the temporal score of v2 of this impact.
+//! - `tenths NUMBER`: the text of a number of tenths.
+//! - `rank +OVERRIDE .. =TEXT ..`: triage, its rows or the first refusal.
+//! - `overrides OVERRIDE ..`: the vector of v4 of these components alone.
+//! - `record TEXT`: the record, a JSON object.
+//! - `differ TEXT OBJECT`: the members of an object that say otherwise than the vector.
+//! - `places DOCUMENT`: where vectors stand in it, and the members there that say otherwise.
 #![tactic(auto)]
 
 mod faults;
