@@ -22,6 +22,17 @@ func lines(t *testing.T, path string) []string {
 	return strings.Split(strings.TrimSuffix(string(text), "\n"), "\n")
 }
 
+// The stored lines without a mark or their answers, which stand first, as many as there are facts.
+func storedLines(t *testing.T, name string) []string {
+	t.Helper()
+	stored := lines(t, "crates/cvss_vectors/"+name)
+	count := len(lines(t, "bindings/stored/facts"))
+	if len(stored) < count {
+		t.Fatalf("%d lines in %s, and %d facts", len(stored), name, count)
+	}
+	return stored[:count]
+}
+
 func scored(score cvss.Score, severity cvss.Severity, ok bool) string {
 	if !ok {
 		return "- -"
@@ -58,11 +69,8 @@ func facts(text string) string {
 
 func TestStoredLines(t *testing.T) {
 	expected := lines(t, "bindings/stored/facts")
-	answers := lines(t, "crates/cvss_vectors/stdout")
-	given := lines(t, "crates/cvss_vectors/stdin")
-	if len(expected) != len(given) || len(answers) != len(given) {
-		t.Fatalf("%d lines, %d facts and %d answers", len(given), len(expected), len(answers))
-	}
+	answers := storedLines(t, "stdout")
+	given := storedLines(t, "stdin")
 	told := string(cvss.AnswerLines([]byte(strings.Join(given, "\n") + "\n")))
 	if told != strings.Join(answers, "\n")+"\n" {
 		t.Error("the answers to all lines in one call are others")
@@ -118,7 +126,7 @@ func TestRecords(t *testing.T) {
 
 // What is not defined scores as what is absent (CVSS v2 guide, section 2.2; v3.1, section 3; v4.0, section 3).
 func TestWhatIsNotDefinedScoresAsAbsent(t *testing.T) {
-	for _, text := range lines(t, "crates/cvss_vectors/stdin") {
+	for _, text := range storedLines(t, "stdin") {
 		vector, err := cvss.Parse(text)
 		if err != nil {
 			continue

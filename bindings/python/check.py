@@ -50,17 +50,22 @@ def lines_of(path: Path) -> List[bytes]:
     return lines
 
 
+def stored_lines(root: Path, name: str) -> List[bytes]:
+    """The stored lines without a mark or their answers, which stand first, as many as there are facts."""
+    count = len(lines_of(root / "bindings" / "stored" / "facts"))
+    return (root / "crates" / "cvss_vectors" / name).read_bytes().split(b"\n")[:count]
+
+
 def check_stored_lines(root: Path) -> None:
-    stored = root / "crates" / "cvss_vectors"
-    lines = lines_of(stored / "stdin")
+    lines = stored_lines(root, "stdin")
     for call, expected in (
         (facts, lines_of(root / "bindings" / "stored" / "facts")),
-        (answer, lines_of(stored / "stdout")),
+        (answer, stored_lines(root, "stdout")),
     ):
         assert len(lines) == len(expected)
         for line, told in zip(lines, expected):
             assert call(line) == told.decode(), line
-    assert answers(lines) == [told.decode() for told in lines_of(stored / "stdout")]
+    assert answers(lines) == [told.decode() for told in stored_lines(root, "stdout")]
     print(f"Python: {len(lines)} lines, 0 wrong answers")
 
 
@@ -111,7 +116,7 @@ def check_many_texts() -> None:
 
 def check_changes(root: Path) -> None:
     """What is not defined scores as what is absent (CVSS v2 guide, section 2.2; v3.1, section 3; v4.0, section 3)."""
-    for line in lines_of(root / "crates" / "cvss_vectors" / "stdin"):
+    for line in stored_lines(root, "stdin"):
         try:
             vector = Vector(line)
         except CvssError:
@@ -169,7 +174,7 @@ def check_records(root: Path) -> None:
     for line in lines_of(root / "bindings" / "stored" / "records"):
         record = json.loads(line)
         assert Vector(record["vectorString"]).record() == record, line
-    for line in lines_of(root / "crates" / "cvss_vectors" / "stdin"):
+    for line in stored_lines(root, "stdin"):
         try:
             vector = Vector(line)
         except CvssError:

@@ -1,7 +1,7 @@
 #!/usr/bin/env python3
 """Tells what is known of each line of standard input, by the second implementation in bench/ alone.
 
-Its answers, for the lines of crates/cvss_vectors/stdin, are kept in the file facts beside it. The programs of all
+Its answers, for the first lines of crates/cvss_vectors/stdin, are kept in the file facts beside it. The programs of all
 languages have to answer the same. Of an accepted line the answer is: its canonical text, the version, the
 nomenclature, whether all base metrics are there, three scores with their ratings, and the metrics. Of a refused
 one: the number of the kind, the metric that is blamed, and the reason. What there is not is told as `-`.

@@ -7,11 +7,20 @@ use cvss_proved::{
 use std::fs;
 use std::path::Path;
 
+/// The stored lines without a mark or their answers, which stand first, as many as there are facts.
+fn stored_lines(name: &str) -> String {
+    let root = Path::new(env!("CARGO_MANIFEST_DIR")).join("../..");
+    let facts = fs::read_to_string(root.join("bindings/stored/facts")).unwrap();
+    let stored = fs::read(root.join("crates/cvss_vectors").join(name)).unwrap();
+    let lines = stored.split_inclusive(|byte| *byte == b'\n');
+    let first = lines.take(facts.lines().count()).flatten().copied();
+    String::from_utf8(first.collect()).unwrap()
+}
+
 #[test]
 fn stored_lines_have_their_answers() {
-    let stored = Path::new(env!("CARGO_MANIFEST_DIR")).join("../../crates/cvss_vectors");
-    let lines = fs::read_to_string(stored.join("stdin")).unwrap();
-    let answers = fs::read_to_string(stored.join("stdout")).unwrap();
+    let lines = stored_lines("stdin");
+    let answers = stored_lines("stdout");
     assert!(!lines.is_empty());
     assert_eq!(answer_lines(lines.as_bytes()), answers);
     assert_eq!(lines.lines().count(), answers.lines().count());
@@ -76,7 +85,7 @@ fn refusal_facts(refused: &Refused) -> String {
 #[test]
 fn stored_lines_have_their_facts() {
     let root = Path::new(env!("CARGO_MANIFEST_DIR")).join("../..");
-    let lines = fs::read_to_string(root.join("crates/cvss_vectors/stdin")).unwrap();
+    let lines = stored_lines("stdin");
     let facts = fs::read_to_string(root.join("bindings/stored/facts")).unwrap();
     assert!(!lines.is_empty());
     assert_eq!(lines.lines().count(), facts.lines().count());
@@ -106,8 +115,7 @@ fn vectors_have_their_records() {
 /// section 3).
 #[test]
 fn what_is_not_defined_scores_as_absent() {
-    let stored = Path::new(env!("CARGO_MANIFEST_DIR")).join("../../crates/cvss_vectors/stdin");
-    let lines = fs::read_to_string(stored).unwrap();
+    let lines = stored_lines("stdin");
     for cvss in lines.lines().filter_map(|line| Cvss::parse(line).ok()) {
         let shorter = cvss.without_undefined();
         assert_eq!(shorter.score(), cvss.score(), "{cvss}");

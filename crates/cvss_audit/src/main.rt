@@ -10,8 +10,6 @@ mod missing;
 mod place;
 mod program;
 mod run;
-#[cfg(test)]
-mod tests;
 mod told;
 mod write;
 

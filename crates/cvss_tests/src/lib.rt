@@ -1,21 +1,24 @@
-//! Tests of the public calls, with values from outside.
+//! Tests of what no stored line shows: types and their traits, values that no text denotes, JSON
+//! values that are no strings, and callers. Texts, scores and refusals are lines of `cvss_vectors`.
 #![tactic(auto)]
 
 #[cfg(test)]
-mod any;
-#[cfg(test)]
-mod checksum;
+mod equality;
 #[cfg(test)]
 mod errors;
 #[cfg(test)]
+mod examples;
+#[cfg(test)]
 mod json;
+#[cfg(test)]
+mod metrics;
+#[cfg(test)]
+mod paths;
+#[cfg(test)]
+mod scores;
 #[cfg(test)]
 mod triage;
 #[cfg(test)]
-mod v2;
-#[cfg(test)]
-mod v3;
-#[cfg(test)]
-mod v4;
-#[cfg(test)]
 mod values;
+#[cfg(test)]
+mod vectors;

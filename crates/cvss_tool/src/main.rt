@@ -5,8 +5,6 @@ mod answer;
 mod fault;
 mod run;
 mod score_line;
-#[cfg(test)]
-mod tests;
 
 pub use cvss_lines::{RunFault, Summary, exit_status, laws};
 pub use cvss_ranking as triage;

@@ -11,8 +11,6 @@ mod lines;
 mod program;
 mod rows;
 mod run;
-#[cfg(test)]
-mod tests;
 mod write;
 
 use cvss_lines::arguments;

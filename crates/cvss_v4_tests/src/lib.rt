@@ -7,5 +7,3 @@ mod callers;
 mod samples;
 #[cfg(test)]
 mod scores;
-#[cfg(test)]
-mod sums;

@@ -1,25 +1,86 @@
-//! Answers lines of vectors of all versions, to be compared with the answers that the Rust crate
-//! gives.
+//! Answers lines, to be compared with answers from outside: those of the Rust crate, of tables,
+//! and of an implementation on fractions.
+//!
+//! A line is a vector's text of any version, answered by the canonical text, the score and the
+//! rating or by why it is refused. Or it is a mark, a blank, and what is asked, where counts are
+//! of 10^-24:
+//!
+//! - `v2 TEXT`, `v3 TEXT`, `v4 TEXT`: the same by the rules of that version alone.
+//! - `fault TEXT`: the kind of the error, and the part or the metric that it holds.
+//! - `scores TEXT`: counts of the base, temporal and environmental score of v2 or v3, those of v3
+//!   with whether they are certain; of the score of v4.
+//! - `parts TEXT`: counts of impact, exploitability and, for v2 (where they are rounded), adjusted
+//!   impact.
+//! - `metrics TEXT`: the metrics, as they are listed.
+//! - `sight TEXT`: what is known of a canonical text without a walk over its components.
+//! - `same TEXT TEXT`: whether two vectors of a version are equal, and whether their texts are.
+//! - `kind 2 NAME`: a metric's name, and what it stands for.
+//! - `value 2 AV TEXT`: a metric's value, its metric and its spelling, and the count of its
+//!   weight.
+//! - `each TYPE WORD ..`: of the words that are read as a `vector` (of any version; `v2`, `v3` or
+//!   `v4`), a `kind 2`, a `value 2 AV`, a `rating`, a `nomenclature`, or as refused texts with an
+//!   `error`: the value, how many of them it equals, and how many not.
+//! - `score 2 COUNT`: a score as it is printed, and its rating; of `score any` the first alone.
+//! - `round 2 COUNT`, `round 3 COUNT`, `round 3.0 COUNT`: the count of the score to which it is
+//!   rounded.
+//! - `temporal COUNT`: the count of the temporal score of v2 of this impact.
+//! - `tenths NUMBER`: the text of a number of tenths.
+//! - `rank +OVERRIDE .. =TEXT ..`: triage, its rows or the first refusal.
+//! - `overrides OVERRIDE ..`: the vector of v4 of these components alone.
+//! - `record TEXT`: the record, a JSON object.
+//! - `differ TEXT OBJECT`: the members of an object that say otherwise than the vector.
+//! - `places DOCUMENT`: where vectors stand in it, and the members there that say otherwise.
 #![tactic(auto)]
 
-use cvss::{Cvss, ONE};
+mod faults;
+mod kinds;
+mod numbers;
+mod ranking;
+mod records;
+mod scores;
+mod shown;
+mod values2;
+mod values3;
+mod values4;
+mod vectors;
+
 use std::io;
 use std::io::{BufRead, BufReader};
 
 fn main(rt: HostRuntime) -> io::Result<()> {
-    for line in BufReader::new(rt.alloc(), rt.reader())?.lines(rt.alloc()) {
-        answer(&rt, line?.as_str())?;
+    for line in BufReader::new(rt.alloc(), rt.reader())?.split(rt.alloc(), b'\n') {
+        answer(&rt, &line?)?;
     }
     Ok(())
 }
 
-fn answer(rt: &(impl Print + AllocGlobal), line: &str) -> io::Result<()> {
-    match Cvss::from_str(rt.alloc(), line) {
-        Ok(vector) => {
-            let tenths = vector.score() / (ONE / 10);
-            let severity = vector.severity();
-            println!(rt; "{vector} {}.{} {severity}", tenths / 10, tenths % 10)
-        }
-        Err(error) => println!(rt; "error: {error}"),
+/// What a mark and a blank ask for.
+fn answer(rt: &(impl Print + AllocGlobal), line: &[u8]) -> io::Result<()> {
+    match str::from_utf8(line)
+        .ok()
+        .and_then(|text| text.split_once(' '))
+    {
+        Some(("v2", text)) => vectors::of_v2(rt, text),
+        Some(("v3", text)) => vectors::of_v3(rt, text),
+        Some(("v4", text)) => vectors::of_v4(rt, text),
+        Some(("fault", text)) => faults::fault(rt, text),
+        Some(("scores", text)) => scores::scores(rt, text),
+        Some(("parts", text)) => scores::parts(rt, text),
+        Some(("metrics", text)) => vectors::metrics(rt, text),
+        Some(("sight", text)) => vectors::at_sight(rt, text),
+        Some(("same", texts)) => vectors::same(rt, texts),
+        Some(("kind", asked)) => kinds::kind(rt, asked),
+        Some(("value", asked)) => kinds::value(rt, asked),
+        Some(("each", asked)) => shown::each(rt, asked),
+        Some(("score", asked)) => numbers::score(rt, asked),
+        Some(("round", asked)) => numbers::round(rt, asked),
+        Some(("temporal", count)) => numbers::temporal(rt, count),
+        Some(("tenths", number)) => numbers::tenths(rt, number),
+        Some(("rank", asked)) => ranking::rank(rt, asked),
+        Some(("overrides", asked)) => ranking::overrides(rt, asked),
+        Some(("record", text)) => records::record(rt, text),
+        Some(("differ", asked)) => records::differ(rt, asked),
+        Some(("places", document)) => records::places(rt, document),
+        _ => vectors::of_any(rt, line),
     }
 }

@@ -1,0 +1,172 @@
+#!/usr/bin/env python3
+"""Compares what the built programs answer over whole sets of vectors with sums from outside.
+
+The figures are those of two scorers that know nothing of each other or of this library: how many
+scores there are, their sum in tenths, a checksum that sees their order, and how many are 0, below
+4.0, below 7.0, below 9.0, and above. Metrics stand in printing order, the first changing slowest.
+
+usage: bench/whole_sets.py
+"""
+import json
+import os
+import re
+import subprocess
+import sys
+import threading
+from collections import Counter
+from itertools import product
+
+import v2
+import v3
+import v4
+
+HERE = os.path.dirname(os.path.abspath(__file__))
+TENTH = 10 ** 23
+
+# What the scores come to: count, sum, checksum, and the counts of the classes.
+BASE_OF_V2 = (729, 38_007, 688_688_529, [27, 134, 441, 112, 15])
+BASE_OF_V3 = (2_592, 142_706, 1_911_220_615, [96, 416, 1_464, 555, 61])
+BASE_OF_V4 = (104_976, 5_964_883, 491_664_413, [144, 15_438, 57_559, 29_278, 2_557])
+REQUIRED = {
+    "CVSS:3.0": (165_888, 9_038_187, 1_883_020_783, [6_144, 33_331, 82_526, 38_593, 5_294]),
+    "CVSS:3.1": (165_888, 9_047_048, 672_834_917, [6_144, 33_331, 82_046, 39_127, 5_240]),
+}
+# All combinations of effective values of v4.0: their count, and the sum of their scores in tenths.
+EFFECTIVE = (15_116_544, 657_475_441)
+
+
+def pieces(metrics, names):
+    """The components that each of these metrics can have."""
+    return [[f"{name}:{value}" for value in metrics[name][1]] for name in names]
+
+
+def base_of_v2():
+    return ["/".join(chosen) for chosen in product(*pieces(v2.METRICS, v2.MANDATORY))]
+
+
+def base_of_v3(version):
+    return ["/".join(chosen) for chosen in product([version], *pieces(v3.BASE, v3.BASE))]
+
+
+def base_of_v4():
+    """The values are declared from the least severe one up, where the table has them downwards."""
+    rising = [list(reversed(choices)) for choices in pieces(v4.BASE, v4.BASE)]
+    return ["/".join(chosen) for chosen in product(["CVSS:4.0"], *rising)]
+
+
+def with_requirements(texts):
+    requirements = pieces(v3.METRICS, ("CR", "IR", "AR"))
+    return ["/".join((text, *chosen)) for text in texts for chosen in product(*requirements)]
+
+
+def answers(program, lines):
+    """What a built program answers to lines that it accepts."""
+    path = os.path.join(HERE, f"../crates/{program}/out/{program}")
+    given = "".join(f"{line}\n" for line in lines)
+    done = subprocess.run([path], input=given, capture_output=True, text=True, check=True)
+    told = done.stdout.splitlines()
+    if len(told) != len(lines):
+        sys.exit(f"{program} answers {len(told)} of {len(lines)} lines")
+    return told
+
+
+def checksum(tenths):
+    """What scores come to, to be compared with a row from outside."""
+    total = Counter(sum(each >= bound for bound in (1, 40, 70, 90)) for each in tenths)
+    seen = 0
+    for each in tenths:
+        seen = (seen * 101 + each) % 2_147_483_647
+    return len(tenths), sum(tenths), seen, [total[place] for place in range(5)]
+
+
+def compare(name, told, expected):
+    if told != expected:
+        sys.exit(f"{name}: {told}, and not {expected}")
+    print(f"{name}: {told[0]} vectors, the sum of the scores is that from outside")
+
+
+def published(texts):
+    """The tenths of the scores that `cvss_tool` publishes; each text is canonical."""
+    found = []
+    for text, answer in zip(texts, answers("cvss_tool", texts)):
+        canonical, score, _ = answer.split(" ")
+        if canonical != text:
+            sys.exit(f"{text} is printed {canonical}")
+        found.append(int(score.replace(".", "")))
+    return found
+
+
+def environmental(texts):
+    """The tenths of the environmental scores, of vectors whose scores are certain."""
+    found = []
+    for text, answer in zip(texts, answers("cvss_vectors", [f"scores {text}" for text in texts])):
+        *counts, certain = answer.split(" ")
+        if certain != "certain" or int(counts[2]) % TENTH:
+            sys.exit(f"{text}: {answer}")
+        found.append(int(counts[2]) // TENTH)
+    return found
+
+
+def compare_effective():
+    """The sum over all effective values, a million vectors at a time."""
+    *fronts, subsequent, integrity, availability = [
+        [f"/{piece}" for piece in choices] for choices in pieces(v4.BASE, v4.BASE)]
+    # S is the value of a modified metric alone
+    chosen = product(
+        subsequent, [*((piece, "") for piece in integrity), ("/SI:N", "/MSI:S")],
+        [*((piece, "") for piece in availability), ("/SA:N", "/MSA:S")],
+        *([f"/{name}:{value}" for value in v4.METRICS[name][1] if value != "X"]
+          for name in ("E", "CR", "IR", "AR")))
+    behind = [f"{sc}{si}{sa}{''.join(rest)}{msi}{msa}".encode()
+              for sc, (si, msi), (sa, msa), *rest in chosen]
+    tool = subprocess.Popen([os.path.join(HERE, "../crates/cvss_tool/out/cvss_tool")],
+                            stdin=subprocess.PIPE, stdout=subprocess.PIPE)
+
+    def feed():
+        for chosen_front in product(["CVSS:4.0"], *fronts):
+            front = "".join(chosen_front).encode()
+            tool.stdin.write(front + (b"\n" + front).join(behind) + b"\n")
+        tool.stdin.close()
+
+    threading.Thread(target=feed, daemon=True).start()
+    scores = Counter()
+    cut = b""
+    while chunk := tool.stdout.read1(1 << 22):
+        whole, end, behind_it = (cut + chunk).rpartition(b"\n")
+        scores.update(re.findall(rb" (\d+\.\d) ", whole + end))
+        cut = behind_it
+    told = (sum(scores.values()),
+            sum(int(score.replace(b".", b"")) * count for score, count in scores.items()))
+    if tool.wait() != 0:
+        sys.exit(f"status {tool.returncode} over all effective values")
+    compare("v4.0, all effective values", told, EFFECTIVE)
+
+
+def compare_records(name, texts):
+    """A vector's record has its text, and nothing in it differs from the vector."""
+    for text, answer in zip(texts, answers("cvss_vectors", [f"record {text}" for text in texts])):
+        try:
+            record = json.loads(answer)
+        except ValueError:
+            sys.exit(f"{text}: {answer}")
+        if record["vectorString"] != text:
+            sys.exit(f"{text} has the record of {record['vectorString']}")
+    print(f"{name}: {len(texts)} records, in which nothing differs")
+
+
+def main():
+    compare("v2, base", checksum(published(base_of_v2())), BASE_OF_V2)
+    for version, expected in REQUIRED.items():
+        texts = base_of_v3(version)
+        compare(f"{version}, base", checksum(published(texts)), BASE_OF_V3)
+        environmental(texts)
+        required = environmental(with_requirements(texts))
+        compare(f"{version}, with requirements", checksum(required), expected)
+    compare("v4.0, base", checksum(published(base_of_v4())), BASE_OF_V4)
+    compare_effective()
+    compare_records("v2", base_of_v2())
+    compare_records("v3.1", base_of_v3("CVSS:3.1"))
+
+
+if __name__ == "__main__":
+    main()

@@ -1,0 +1,128 @@
+//! Tests that two values are equal exactly where all of their parts are.
+
+use crate::values::{Tried, are_copied, are_printed, are_told_apart};
+use cvss::{Cvss, MetricType, ONE, v2, v3, v4};
+use cvss_ranking::Row;
+use std::alloc::{AllocError, Global};
+
+#[test]
+fn vectors_of_any_version_differ_by_what_they_hold(rt: HostRuntime) -> Tried {
+    let old = v3::Vector::default();
+    let new = v3::Vector {
+        minor_version: 1,
+        ..old
+    };
+    let rows = [
+        ("3.0 of 0", Cvss::CvssV30(old)),
+        ("3.0 of 1", Cvss::CvssV30(new)),
+        ("3.1 of 0", Cvss::CvssV31(old)),
+        ("3.1 of 1", Cvss::CvssV31(new)),
+        ("2", Cvss::CvssV20(v2::Vector::default())),
+        ("4", Cvss::CvssV40(v4::Vector::default())),
+    ];
+    are_copied(&rt, &rows)
+}
+
+/// The vector of v3 without metrics and with this minor version.
+fn empty_v3(minor_version: usize) -> v3::Vector {
+    v3::Vector {
+        minor_version,
+        ..v3::Vector::default()
+    }
+}
+
+/// The vector of v4 without metrics and with this minor version.
+fn empty_v4(minor_version: usize) -> v4::Vector {
+    let mut vector = v4::Vector::default();
+    vector.minor_version = minor_version;
+    vector
+}
+
+#[test]
+fn vectors_of_v3_print_any_minor_version(rt: HostRuntime) -> Tried {
+    let rows = [
+        ("CVSS:3.0", empty_v3(0)),
+        ("CVSS:3.1", empty_v3(1)),
+        ("CVSS:3.7", empty_v3(7)),
+        ("CVSS:3.10", empty_v3(10)),
+        ("CVSS:3.18446744073709551615", empty_v3(usize::MAX)),
+    ];
+    are_printed(&rt, rt.alloc(), &rows)?;
+    let of_any = rows.map(|(text, vector)| (text, Cvss::CvssV31(vector)));
+    are_printed(&rt, rt.alloc(), &of_any)
+}
+
+#[test]
+fn vectors_of_v4_print_any_minor_version(rt: HostRuntime) -> Tried {
+    let rows = [
+        ("CVSS:4.0", empty_v4(0)),
+        ("CVSS:4.1", empty_v4(1)),
+        ("CVSS:4.7", empty_v4(7)),
+        ("CVSS:4.10", empty_v4(10)),
+        ("CVSS:4.18446744073709551615", empty_v4(usize::MAX)),
+    ];
+    are_printed(&rt, rt.alloc(), &rows)
+}
+
+#[test]
+fn metric_types_differ_by_version(rt: HostRuntime) -> Tried {
+    let rows = [
+        ("v2 AV", MetricType::V2(v2::MetricType::AV)),
+        ("v2 AC", MetricType::V2(v2::MetricType::AC)),
+        ("v3 AV", MetricType::V3(v3::MetricType::AV)),
+        ("v3 AC", MetricType::V3(v3::MetricType::AC)),
+        ("v4 AV", MetricType::V4(v4::MetricType::AV)),
+        ("v4 AC", MetricType::V4(v4::MetricType::AC)),
+    ];
+    are_copied(&rt, &rows)
+}
+
+/// Counts of scores.
+const COUNTS: [(&str, i128); 4] = [("0", 0), ("1", 1), ("-1", -1), ("2^127 - 1", i128::MAX)];
+
+#[test]
+fn scores_of_v2_and_v3_differ_by_count(rt: HostRuntime) -> Tried {
+    are_copied(
+        &rt,
+        &COUNTS.map(|(text, count)| (text, v2::Score::new(count))),
+    )?;
+    are_copied(
+        &rt,
+        &COUNTS.map(|(text, count)| (text, v3::Score::new(count))),
+    )
+}
+
+#[test]
+fn scores_of_v4_differ_by_count_and_nomenclature(rt: HostRuntime) -> Tried {
+    use cvss::v4::Nomenclature::{CvssB, CvssBT, CvssBTE};
+    let rows = [
+        ("0.1 (CVSS-B)", v4::Score::new(ONE / 10, CvssB)),
+        ("0.2 (CVSS-B)", v4::Score::new(ONE / 5, CvssB)),
+        ("-0.1 (CVSS-B)", v4::Score::new(-ONE / 10, CvssB)),
+        ("0.1 (CVSS-BT)", v4::Score::new(ONE / 10, CvssBT)),
+        ("0.1 (CVSS-BTE)", v4::Score::new(ONE / 10, CvssBTE)),
+    ];
+    are_printed(&rt, rt.alloc(), &rows)
+}
+
+/// A row of triage.
+fn row_of(alloc: Global, text: &str, scored: &str, score: i128) -> Result<Row, AllocError> {
+    Ok(Row {
+        text: String::from_str(alloc, text)?,
+        scored: String::from_str(alloc, scored)?,
+        score,
+    })
+}
+
+#[test]
+fn rows_differ_by_each_part(rt: HostRuntime) -> Tried {
+    let alloc = rt.alloc();
+    let rows = [
+        ("all", row_of(alloc, "text", "scored", 1)?),
+        ("another text", row_of(alloc, "texts", "scored", 1)?),
+        ("another scored text", row_of(alloc, "text", "scores", 1)?),
+        ("another score", row_of(alloc, "text", "scored", -1)?),
+    ];
+    are_told_apart(&rt, &rows);
+    Ok(())
+}

@@ -1,8 +1,0 @@
-//! Tests of CVSS v2.
-
-mod base_vectors;
-mod metrics;
-mod names;
-mod scores;
-mod texts;
-mod vectors;

@@ -1,0 +1,86 @@
+//! Tests of vectors that no text denotes, and of which variant a text's vector is.
+
+use crate::values::{Tried, prints};
+use cvss::{Cvss, v2, v3, v4};
+
+#[test]
+fn a_text_is_a_vector_of_the_version_that_it_tells(rt: HostRuntime) -> Tried {
+    let alloc = rt.alloc();
+    let cvss = Cvss::from_str(alloc, "AV:N/AC:L/Au:N/C:N/I:N/A:C")?;
+    assert!(rt; matches!(cvss, Cvss::CvssV20(_)));
+    let cvss = Cvss::from_str(alloc, "CVSS:3.0/AV:N/AC:L/PR:N/UI:R/S:C/C:H/I:H/A:H")?;
+    assert!(rt; matches!(cvss, Cvss::CvssV30(_)));
+    let cvss = Cvss::from_str(alloc, "CVSS:3.1/AV:N/AC:L/PR:N/UI:N/S:U/C:H/I:H/A:H")?;
+    assert!(rt; matches!(cvss, Cvss::CvssV31(_)));
+    let text = "CVSS:4.0/AV:N/AC:L/AT:N/PR:N/UI:N/VC:L/VI:H/VA:N/SC:N/SI:N/SA:N/E:P";
+    assert!(rt; matches!(Cvss::from_str(alloc, text)?, Cvss::CvssV40(_)));
+    Ok(())
+}
+
+#[test]
+fn an_incomplete_vector_of_v4_has_no_score(rt: HostRuntime) {
+    assert!(rt; !v4::Vector::default().is_complete());
+    assert!(rt; !Cvss::CvssV40(v4::Vector::default()).has_score());
+    assert!(rt; Cvss::CvssV20(v2::Vector::default()).has_score());
+    assert!(rt; Cvss::CvssV31(v3::Vector::default()).has_score());
+}
+
+#[test]
+fn prints_vectors_of_v2_that_no_text_denotes(rt: HostRuntime) -> Tried {
+    let empty = v2::Vector::default();
+    prints(&rt, rt.alloc(), &empty, "")?;
+    let vector = v2::Vector {
+        a: Some(v2::metric::base::AvailabilityImpact::Partial),
+        rl: Some(v2::metric::temporal::RemediationLevel::NotDefined),
+        ..empty
+    };
+    prints(&rt, rt.alloc(), &vector, "A:P/RL:ND")?;
+    assert!(rt; !vector.same_text(&empty) && vector != empty);
+    assert_eq!(rt; vector.metrics().count(), 2);
+    Ok(())
+}
+
+#[test]
+fn prints_vectors_of_v3_that_no_text_denotes(rt: HostRuntime) -> Tried {
+    use cvss::v3::metric::base::AttackVector;
+    use cvss::v3::metric::environmental::{Modified, ModifiedScope};
+    let empty = v3::Vector::default();
+    let vector = v3::Vector {
+        minor_version: 1_234_567_890,
+        av: Some(AttackVector::Physical),
+        mav: Some(Modified::Modified(AttackVector::Adjacent)),
+        ms: Some(ModifiedScope::NotDefined),
+        ..empty
+    };
+    let printed = "CVSS:3.1234567890/AV:P/MAV:A/MS:X";
+    prints(&rt, rt.alloc(), &vector, printed)?;
+    assert!(rt; !vector.same_text(&empty) && vector != empty);
+    Ok(())
+}
+
+#[test]
+fn vectors_of_v4_differ_by_their_minor_version(rt: HostRuntime) -> Tried {
+    let empty = v4::Vector::default();
+    let mut later = empty;
+    later.minor_version = 12;
+    prints(&rt, rt.alloc(), &later, "CVSS:4.12")?;
+    assert!(rt; !later.same_text(&empty) && later != empty);
+    Ok(())
+}
+
+#[test]
+fn a_vector_of_another_minor_version_is_read_back_as_of_that(rt: HostRuntime) -> Tried {
+    let vector = v3::Vector {
+        minor_version: 1,
+        ..v3::Vector::default()
+    };
+    prints(&rt, rt.alloc(), &Cvss::CvssV30(vector), "CVSS:3.1")?;
+    let vector = v3::Vector {
+        av: Some(v3::metric::base::AttackVector::Network),
+        ..vector
+    };
+    let text = "CVSS:3.1/AV:N";
+    prints(&rt, rt.alloc(), &Cvss::CvssV30(vector), text)?;
+    assert!(rt; Cvss::read_bytes(text.as_bytes()) == Some(Cvss::CvssV31(vector)));
+    Ok(())
+}

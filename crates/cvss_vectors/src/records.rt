@@ -1,0 +1,80 @@
+//! Records, what an object says otherwise, and where vectors stand.
+
+use cvss::Cvss;
+use cvss_record::{Difference, Form, Place, differences, differences_at, record_of, vectors_in};
+use serde_json::Value;
+use std::io;
+
+/// The record of a vector, and its members that say otherwise than the vector, which are none.
+pub(crate) fn record(rt: &(impl Print + AllocGlobal), text: &str) -> io::Result<()> {
+    match Cvss::from_str(rt.alloc(), text) {
+        Ok(vector) => print_record(rt, &vector, &record_of(rt.alloc(), &vector)?),
+        Err(error) => println!(rt; "error: {error}"),
+    }
+}
+
+fn print_record(rt: &(impl Print + AllocGlobal), vector: &Cvss, record: &Value) -> io::Result<()> {
+    print!(rt; "{record}")?;
+    match record {
+        Value::Object(members) => print_members(rt, &differences(rt.alloc(), vector, members)?),
+        _ => println!(rt; " is no object"),
+    }
+}
+
+/// The members of an object that say otherwise than the vector of the text before it.
+pub(crate) fn differ(rt: &(impl Print + AllocGlobal), asked: &str) -> io::Result<()> {
+    match asked.split_once(' ') {
+        Some((text, object)) => differ_from(rt, text, object),
+        None => println!(rt; "no object"),
+    }
+}
+
+fn differ_from(rt: &(impl Print + AllocGlobal), text: &str, object: &str) -> io::Result<()> {
+    match (
+        Cvss::read_bytes(text.as_bytes()),
+        Value::from_str(rt.alloc(), object),
+    ) {
+        (Some(vector), Ok(Value::Object(members))) => {
+            print_members(rt, &differences(rt.alloc(), &vector, &members)?)
+        }
+        _ => println!(rt; "no object"),
+    }
+}
+
+fn print_members(rt: &impl Print, found: &[Difference]) -> io::Result<()> {
+    for difference in found {
+        print!(rt; "{};", difference.member)?;
+    }
+    println!(rt; "")
+}
+
+/// Where vectors stand in a document.
+pub(crate) fn places(rt: &(impl Print + AllocGlobal), document: &str) -> io::Result<()> {
+    match Value::from_str(rt.alloc(), document) {
+        Ok(document) => {
+            for place in &vectors_in(rt.alloc(), &document)? {
+                print_place(rt, place)?;
+            }
+            println!(rt; "")
+        }
+        Err(_) => println!(rt; "no JSON"),
+    }
+}
+
+fn print_place(rt: &(impl Print + AllocGlobal), place: &Place<'_>) -> io::Result<()> {
+    print!(rt; "{}={} {}", place.at, form_text(place.form), place.text)?;
+    if let Some(vector) = Cvss::read_bytes(place.text.as_bytes()) {
+        for difference in &differences_at(rt.alloc(), &vector, place)? {
+            print!(rt; " {}", difference.member)?;
+        }
+    }
+    print!(rt; ";")
+}
+
+fn form_text(form: Form) -> &'static str {
+    match form {
+        Form::Record => "record",
+        Form::GitHub => "github",
+        Form::Osv => "osv",
+    }
+}

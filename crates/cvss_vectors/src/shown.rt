@@ -1,0 +1,60 @@
+//! Values beside each other: how each is printed, copied and told from the others.
+
+use crate::kinds::{each_kind, each_value};
+use cvss::v4::Nomenclature;
+use cvss::{Cvss, Severity, v2, v3, v4};
+use std::{fmt, io};
+
+/// Of the words that are read, the values.
+pub(crate) fn each(rt: &(impl Print + AllocGlobal), asked: &str) -> io::Result<()> {
+    match asked.split_once(' ') {
+        Some(("kind", asked)) => each_kind(rt, asked),
+        Some(("value", asked)) => each_value(rt, asked),
+        Some(("vector", words)) => show(rt, words, |word| Cvss::read_bytes(word.as_bytes())),
+        Some(("v2", words)) => show(rt, words, |word| v2::Vector::read_bytes(word.as_bytes())),
+        Some(("v3", words)) => show(rt, words, |word| v3::Vector::read_bytes(word.as_bytes())),
+        Some(("v4", words)) => show(rt, words, |word| v4::Vector::read_bytes(word.as_bytes())),
+        Some(("rating", words)) => show(
+            rt,
+            words,
+            |word| Severity::from_str(rt.alloc(), word).ok(),
+        ),
+        Some(("nomenclature", words)) => {
+            show(
+                rt,
+                words,
+                |word| Nomenclature::from_str(rt.alloc(), word).ok(),
+            )
+        }
+        Some(("error", words)) => show(rt, words, |word| Cvss::from_str(rt.alloc(), word).err()),
+        _ => println!(rt; "no such type"),
+    }
+}
+
+/// Of the words that are read, a copy of each value, how many of them it equals, and how many not.
+pub(crate) fn show<T, F>(rt: &(impl Print + AllocGlobal), words: &str, read: F) -> io::Result<()>
+where
+    T: fmt::Display + Clone + PartialEq + Drop,
+    F: Fn(&str) -> Option<T>,
+    requires { F.IsAlwaysCallable read }
+{
+    let mut values = Vec::new(rt.alloc());
+    for word in words.split(' ') {
+        if let Some(value) = read(word) {
+            values.push(value)?;
+        }
+    }
+    print_each(rt, &values)
+}
+
+fn print_each<T>(rt: &impl Print, values: &[T]) -> io::Result<()>
+where
+    T: fmt::Display + Clone + PartialEq,
+{
+    for value in values {
+        let same = values.iter().filter(|other| **other == *value).count();
+        let others = values.iter().filter(|other| **other != *value).count();
+        print!(rt; "{} {same} {others};", value.clone()?)?;
+    }
+    println!(rt; "")
+}

@@ -1,0 +1,143 @@
+//! Vectors: their texts, scores, ratings and metrics.
+
+use cvss::{Bounds, Cvss, MetricType, v2, v3, v4};
+use std::io;
+
+const OTHERWISE: &str = "read_bytes says otherwise";
+
+/// A vector of any version.
+pub(crate) fn of_any(rt: &(impl Print + AllocGlobal), line: &[u8]) -> io::Result<()> {
+    match (Cvss::from_bytes(rt.alloc(), line), Cvss::read_bytes(line)) {
+        (Ok(vector), Some(read)) if read == vector => {
+            let severity = vector.severity();
+            println!(rt; "{vector} {} {severity}", vector.score_text())
+        }
+        (Err(error), None) => println!(rt; "error: {error}"),
+        _ => println!(rt; "{OTHERWISE}"),
+    }
+}
+
+/// A vector by the rules of v2.
+pub(crate) fn of_v2(rt: &(impl Print + AllocGlobal), text: &str) -> io::Result<()> {
+    match (
+        v2::Vector::from_str(rt.alloc(), text),
+        v2::Vector::read_bytes(text.as_bytes()),
+    ) {
+        (Ok(vector), Some(read)) if read == vector => {
+            let score = vector.score();
+            println!(rt; "{vector} {score} {}", score.severity())
+        }
+        (Err(error), None) => println!(rt; "error: {error}"),
+        _ => println!(rt; "{OTHERWISE}"),
+    }
+}
+
+/// A vector by the rules of v3.
+pub(crate) fn of_v3(rt: &(impl Print + AllocGlobal), text: &str) -> io::Result<()> {
+    match (
+        v3::Vector::from_str(rt.alloc(), text),
+        v3::Vector::read_bytes(text.as_bytes()),
+    ) {
+        (Ok(vector), Some(read)) if read == vector => {
+            println!(rt; "{vector} {} {}", vector.score(), vector.severity())
+        }
+        (Err(error), None) => println!(rt; "error: {error}"),
+        _ => println!(rt; "{OTHERWISE}"),
+    }
+}
+
+/// A vector by the rules of v4, whose score tells the nomenclature.
+pub(crate) fn of_v4(rt: &(impl Print + AllocGlobal), text: &str) -> io::Result<()> {
+    match (
+        v4::Vector::from_str(rt.alloc(), text),
+        v4::Vector::read_bytes(text.as_bytes()),
+    ) {
+        (Ok(vector), Some(read)) if read == vector => {
+            let score = vector.score();
+            println!(rt; "{vector} {score} {}", score.severity())
+        }
+        (Err(error), None) => println!(rt; "error: {error}"),
+        _ => println!(rt; "{OTHERWISE}"),
+    }
+}
+
+/// The metrics with their versions, in the order in which they are listed.
+pub(crate) fn metrics(rt: &(impl Print + AllocGlobal), text: &str) -> io::Result<()> {
+    if let Some(vector) = Cvss::read_bytes(text.as_bytes()) {
+        for (kind, spelling) in vector.metrics() {
+            print!(rt; "{} {}:{spelling};", version_of(kind), kind.name())?;
+        }
+    }
+    println!(rt; "")
+}
+
+fn version_of(kind: MetricType) -> &'static str {
+    match kind {
+        MetricType::V2(_) => "v2",
+        MetricType::V3(_) => "v3",
+        MetricType::V4(_) => "v4",
+    }
+}
+
+/// What is known of a canonical text at sight: its vector, the tenths of the score, and how it is
+/// rated.
+pub(crate) fn at_sight(rt: &impl Print, text: &str) -> io::Result<()> {
+    match seen(text.as_bytes()).zip(Cvss::published_at_sight(text.as_bytes())) {
+        Some((vector, published)) => {
+            println!(rt;
+                "{vector} {} {}",
+                published.tenths,
+                bounds_text(published.bounds)
+            )
+        }
+        None => println!(rt; "not at sight"),
+    }
+}
+
+/// The vector that each call gives that may decline a text.
+fn seen(text: &[u8]) -> Option<Cvss> {
+    let vector = Cvss::read_canonical(text)?;
+    let by_version = match vector {
+        Cvss::CvssV20(_) => Cvss::CvssV20(v2::Vector::read_canonical(text)?),
+        Cvss::CvssV30(_) => Cvss::CvssV30(v3::Vector::read_canonical(text)?),
+        Cvss::CvssV31(_) => Cvss::CvssV31(v3::Vector::read_canonical(text)?),
+        Cvss::CvssV40(_) => Cvss::CvssV40(v4::Vector::read_canonical(text)?),
+    };
+    let in_any_order = Cvss::read_in_any_order(text)?;
+    (by_version == vector && in_any_order == vector).then_some(vector)
+}
+
+fn bounds_text(bounds: Bounds) -> &'static str {
+    match bounds {
+        Bounds::OfV2 => "v2",
+        Bounds::OfV3 => "v3",
+    }
+}
+
+/// Whether two vectors are equal, and whether their texts are.
+pub(crate) fn same(rt: &impl Print, texts: &str) -> io::Result<()> {
+    match texts
+        .split_once(' ')
+        .and_then(|(one, other)| both(one, other))
+    {
+        Some((equal, same_text)) => println!(rt; "{} {}", word(equal), word(same_text)),
+        None => println!(rt; "no two vectors of a version"),
+    }
+}
+
+fn word(yes: bool) -> &'static str {
+    if yes { "same" } else { "other" }
+}
+
+fn both(one: &str, other: &str) -> Option<(bool, bool)> {
+    match (
+        Cvss::read_bytes(one.as_bytes())?,
+        Cvss::read_bytes(other.as_bytes())?,
+    ) {
+        (Cvss::CvssV20(one), Cvss::CvssV20(other)) => Some((one == other, one.same_text(&other))),
+        (Cvss::CvssV30(one) | Cvss::CvssV31(one), Cvss::CvssV30(other) | Cvss::CvssV31(other)) =>
+            Some((one == other, one.same_text(&other))),
+        (Cvss::CvssV40(one), Cvss::CvssV40(other)) => Some((one == other, one.same_text(&other))),
+        _ => None,
+    }
+}
