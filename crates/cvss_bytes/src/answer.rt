@@ -3,18 +3,31 @@
 ghost use Rattle.std.specs.Prelude.{◌≡◌, ◌≤◌, ◌+◌, ℕ, List, length};
 ghost use Rattle.cvss.specs.Answers.{HasScore, IsScoreOf, rating_by, score_of_tenths};
 ghost use Rattle.cvss.specs.Dispatch.{DenotesCvss};
-ghost use Rattle.cvss_bytes.specs.Answers.{IsAnswerOf};
+ghost use Rattle.cvss_bytes.specs.Answers.{IsAnswer, IsAnswerOf};
 ghost use Rattle.cvss_bytes.specs.Buffer.{IsWritten};
 ghost use Rattle.cvss_bytes.specs.private.Steps.{Puts, rating_behind};
 
 use crate::buffer::put;
 use crate::canonical::put_canonical;
+use crate::reason::put_reason;
 use cvss::tenths::{digits, tenths_of};
 use cvss::{Cvss, Severity};
+use std::alloc::Global;
+
+/// Writes the answer to a text at the beginning of a buffer where it fits, and tells its length.
+pub fn put_answer_to(alloc: Global, text: &[u8], buffer: &mut [u8]) -> usize
+    ensures { (answer : List ℕ) × IsAnswer text.now answer
+        × IsWritten answer buffer.old buffer.new result }
+{
+    match Cvss::read_bytes(text) {
+        Some(cvss) => put_answer(&cvss, text, buffer),
+        None => put_reason(alloc, "error: ".as_bytes(), text, buffer),
+    }
+}
 
 /// Writes the answer to a text that denotes a vector at the beginning of a buffer where it fits, and
 /// tells its length.
-pub fn put_answer(cvss: &Cvss, text: &[u8], buffer: &mut [u8]) -> usize
+fn put_answer(cvss: &Cvss, text: &[u8], buffer: &mut [u8]) -> usize
     requires { DenotesCvss text.now cvss.now }
     ensures { (answer : List ℕ) × IsAnswerOf answer cvss.now
         × IsWritten answer buffer.old buffer.new result }

@@ -5,8 +5,8 @@ ghost use Rattle.cvss_bytes.specs.Answers.{IsAnswer};
 ghost use Rattle.cvss_bytes.specs.Lines.{AnswersLines, HasNoEnd, ended, text_of_line};
 ghost use Rattle.cvss_bytes.specs.private.Steps.{IsFirstEnd, Puts};
 
+use crate::answer::put_answer_to;
 use crate::buffer::put;
-use crate::calls::cvss_answer;
 use std::alloc::Global;
 
 /// Writes the answers to the first lines at the beginning of a buffer, as far as they have room, and
@@ -55,7 +55,7 @@ fn put_answer_before_end(alloc: Global, text: &[u8], buffer: &mut [u8], place: u
     } else {
         place
     };
-    cvss_answer(alloc, text, &mut buffer[place..end])
+    put_answer_to(alloc, text, &mut buffer[place..end])
 }
 
 /// The bytes before and after the first byte 10.

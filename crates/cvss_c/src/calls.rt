@@ -17,7 +17,7 @@ ghost use Rattle.cvss_bytes.specs.Refusals.{IsBlamed, IsKind};
 ghost use Rattle.cvss_bytes.specs.Scores.{AreScoresOf, nothing, version_number as number_of_version};
 
 use cvss::Cvss;
-use cvss_bytes::answer::put_answer;
+use cvss_bytes::answer::put_answer_to;
 use cvss_bytes::buffer::put_both;
 use cvss_bytes::canonical::put_canonical_of;
 use cvss_bytes::defined::put_without_undefined;
@@ -238,10 +238,7 @@ pub extern "C" fn cvss_answer(alloc: Global, text: &[u8], buffer: &mut [u8]) -> 
     ensures { (answer : List ℕ) × IsAnswer text.now answer
         × IsWritten answer buffer.old buffer.new result }
 {
-    match Cvss::read_bytes(text) {
-        Some(cvss) => put_answer(&cvss, text, buffer),
-        None => put_reason(alloc, "error: ".as_bytes(), text, buffer),
-    }
+    put_answer_to(alloc, text, buffer)
 }
 
 /// The answers to many texts, each ended by a byte 10, which one byte 13 may precede. Each answer is

@@ -8,7 +8,7 @@ returns c =
     let buffer = c.args.buffer.now in
     let place = c.args.place in
     let size = c.if-place-buffer.end - place in
-    let written = c.cvss_answer.ensures in
+    let written = c.put_answer_to.ensures in
     let answer = written.0 in
     let within : place + size ≤ length buffer = elim c.if-place-buffer.branch [
       | then-place-buffer w ↦ omega (arith, w.if-place-buffer, w.end-is)
