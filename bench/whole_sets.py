@@ -100,10 +100,10 @@ def environmental(texts):
     """The tenths of the environmental scores, of vectors whose scores are certain."""
     found = []
     for text, answer in zip(texts, answers("cvss_vectors", [f"scores {text}" for text in texts])):
-        *counts, certain = answer.split(" ")
-        if certain != "certain" or int(counts[2]) % TENTH:
+        *_, count, certain = answer.split(" ")
+        if certain != "certain" or int(count) % TENTH:
             sys.exit(f"{text}: {answer}")
-        found.append(int(counts[2]) // TENTH)
+        found.append(int(count) // TENTH)
     return found
 
 

@@ -7,8 +7,8 @@
 //!
 //! - `v2 TEXT`, `v3 TEXT`, `v4 TEXT`: the same by the rules of that version alone.
 //! - `fault TEXT`: the kind of the error, and the part or the metric that it holds.
-//! - `scores TEXT`: counts of the base, temporal and environmental score of v2 or v3, those of v3
-//!   with whether they are certain; of the score of v4.
+//! - `scores TEXT`: the score as it is written, and its count; for v2 and v3 also those of the
+//!   temporal and environmental scores, and for v3 whether scores are certain.
 //! - `parts TEXT`: counts of impact, exploitability and, for v2 (where they are rounded), adjusted
 //!   impact.
 //! - `metrics TEXT`: the metrics, as they are listed.

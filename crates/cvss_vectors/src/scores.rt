@@ -4,30 +4,31 @@ use crate::numbers::rounded;
 use cvss::{Cvss, v2, v3};
 use std::io;
 
-/// All scores of a vector.
+/// The score of a vector as it is written, and all of its scores.
 pub(crate) fn scores(rt: &(impl Print + AllocGlobal), text: &str) -> io::Result<()> {
     match Cvss::from_str(rt.alloc(), text) {
-        Ok(Cvss::CvssV20(vector)) => scores_of_v2(rt, &vector),
-        Ok(Cvss::CvssV30(vector) | Cvss::CvssV31(vector)) => scores_of_v3(rt, &vector),
-        Ok(Cvss::CvssV40(vector)) => println!(rt; "{}", vector.score().value()),
+        Ok(vector) => {
+            print!(rt; "{} {}", vector.score_text(), vector.score())?;
+            print_others(rt, &vector)
+        }
         Err(error) => println!(rt; "error: {error}"),
     }
 }
 
-fn scores_of_v2(rt: &impl Print, vector: &v2::Vector) -> io::Result<()> {
-    let base = vector.score().value();
-    let temporal = vector.temporal_score().value();
-    println!(rt;
-        "{base} {temporal} {}",
-        vector.environmental_score().value()
-    )
-}
-
-fn scores_of_v3(rt: &impl Print, vector: &v3::Vector) -> io::Result<()> {
-    let base = vector.base_score().value();
-    let temporal = vector.temporal_score().value();
-    let environmental = vector.environmental_score().value();
-    println!(rt; "{base} {temporal} {environmental} {}", certainty(vector))
+/// The scores behind the one that is published.
+fn print_others(rt: &impl Print, vector: &Cvss) -> io::Result<()> {
+    match vector {
+        Cvss::CvssV20(vector) => {
+            let temporal = vector.temporal_score().value();
+            println!(rt; " {temporal} {}", vector.environmental_score().value())
+        }
+        Cvss::CvssV30(vector) | Cvss::CvssV31(vector) => {
+            let temporal = vector.temporal_score().value();
+            let environmental = vector.environmental_score().value();
+            println!(rt; " {temporal} {environmental} {}", certainty(vector))
+        }
+        Cvss::CvssV40(_) => println!(rt; ""),
+    }
 }
 
 fn certainty(vector: &v3::Vector) -> &'static str {
