@@ -17,8 +17,8 @@ DOCUMENTS = [*(ROOT / f"{name}.md" for name in ("README", "CONTRIBUTING", "SECUR
              *sorted((ROOT / "docs").glob("*.md"))]
 # not in a checkout: what builds make, and the crate that another repository is shown to add
 ELSEWHERE = re.compile(r"(^|/)(out|target)(/|$)|^crates/gate(/|$)")
-# callers that are proved from the contracts, of which the library promises nothing
-WITHOUT_PROMISES = {"cvss_examples"}
+# callers that are proved from the contracts, and tests, of which the library promises nothing
+WITHOUT_PROMISES = {"cvss_examples", "cvss_lines_tests"}
 
 LINK = re.compile(r"\]\((?!https?:|#)([^)#]+)")
 PATH = re.compile(r"(?<![\w/.$<-])(?:crates|bench|bindings|conformance|docs|examples)/(?:[\w./{},-]|\*(?!\*))*[\w/}*]")
