@@ -8,11 +8,16 @@ package cvss
 // #cgo CFLAGS: -I${SRCDIR}/../c
 // #cgo LDFLAGS: ${SRCDIR}/../out/libcvss.a
 // #include "cvss.h"
+// static size_t read_text(_GoString_ text, CvssScores *scores, void *buffer, size_t size)
+// {
+//     return cvss_read(_GoStringPtr(text), _GoStringLen(text), scores, buffer, size);
+// }
 import "C"
 
 import (
 	"bytes"
 	"strings"
+	"sync"
 	"unsafe"
 )
 
@@ -72,10 +77,9 @@ func bytesOf(text string) ([]byte, C.size_t) {
 // Parse reads the vector that a text denotes, by the rules of the version that its first piece tells; without such a
 // piece by those of v2. The error is a *RefusedError.
 func Parse(text string) (Vector, error) {
-	code, length := bytesOf(text)
-	scores, canonical, ok := read(code, length)
-	if !ok {
-		return Vector{}, refusal(code, length)
+	scores, canonical := read(text)
+	if canonical == "" {
+		return Vector{}, refusal(bytesOf(text))
 	}
 	vector := Vector{
 		text:       canonical,
@@ -96,15 +100,27 @@ func Parse(text string) (Vector, error) {
 	return vector, nil
 }
 
-// read tells the scores and the canonical text of the vector that a text denotes, if it denotes one.
-func read(code []byte, length C.size_t) (scores C.CvssScores, canonical string, ok bool) {
-	if !bool(C.cvss_scores(pointer(code), length, &scores)) {
-		return scores, "", false
+// A room is what a call of read writes into.
+type room struct {
+	scores    C.CvssScores
+	canonical [512]byte
+}
+
+// rooms are those that no call uses.
+var rooms = sync.Pool{New: func() any { return new(room) }}
+
+// read tells the scores and the canonical text of the vector that a text denotes; the text is empty where it denotes
+// none.
+func read(text string) (scores C.CvssScores, canonical string) {
+	own := rooms.Get().(*room)
+	defer rooms.Put(own)
+	buffer := own.canonical[:]
+	length := int(C.read_text(text, &own.scores, pointer(buffer), C.size_t(len(buffer))))
+	if length > len(buffer) {
+		buffer = make([]byte, length)
+		C.read_text(text, &own.scores, pointer(buffer), C.size_t(length))
 	}
-	canonical = written(int(length), func(buffer unsafe.Pointer, size C.size_t) C.size_t {
-		return C.cvss_canonical(pointer(code), length, buffer, size)
-	})
-	return scores, canonical, true
+	return own.scores, string(buffer[:length])
 }
 
 // IsZero tells whether this is the zero Vector, which is none.

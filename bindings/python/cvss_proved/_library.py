@@ -8,30 +8,26 @@ from __future__ import annotations
 
 import ctypes
 import os
+import struct
 from pathlib import Path
-from typing import Callable, List, Optional, Tuple, Union
+from typing import Any, Callable, List, Optional, Tuple, Union
 
 Text = Union[str, bytes, bytearray, memoryview]
 
 NOTHING = -1
 _FILE = "libcvss.so.1"
 
-
-class Scores(ctypes.Structure):
-    """The struct CvssScores of cvss.h."""
-
-    _fields_ = [
-        ("version", ctypes.c_int32),
-        ("base", ctypes.c_int32),
-        ("temporal", ctypes.c_int32),
-        ("environmental", ctypes.c_int32),
-        ("severity", ctypes.c_int32),
-        ("temporal_severity", ctypes.c_int32),
-        ("environmental_severity", ctypes.c_int32),
-        ("nomenclature", ctypes.c_int32),
-        ("is_complete", ctypes.c_int32),
-        ("reserved", ctypes.c_int32 * 7),
-    ]
+# The struct CvssScores of cvss.h, whose last 28 bytes are reserved, and the places of its numbers.
+_SCORES = struct.Struct("9i28x")
+VERSION = 0
+BASE = 1
+TEMPORAL = 2
+ENVIRONMENTAL = 3
+SEVERITY = 4
+TEMPORAL_SEVERITY = 5
+ENVIRONMENTAL_SEVERITY = 6
+NOMENCLATURE = 7
+IS_COMPLETE = 8
 
 
 class Metric(ctypes.Structure):
@@ -65,8 +61,9 @@ def _loaded() -> ctypes.CDLL:
 
 def _declared(library: ctypes.CDLL) -> ctypes.CDLL:
     text = [ctypes.c_char_p, ctypes.c_size_t]
-    library.cvss_scores.argtypes = text + [ctypes.POINTER(Scores)]
-    library.cvss_scores.restype = ctypes.c_bool
+    # the others are given as pointers and a size_t, which need no conversion
+    library.cvss_read.argtypes = text
+    library.cvss_read.restype = ctypes.c_size_t
     library.cvss_refusal_kind.argtypes = text
     library.cvss_refusal_kind.restype = ctypes.c_int32
     for call in (
@@ -90,12 +87,18 @@ def _declared(library: ctypes.CDLL) -> ctypes.CDLL:
 
 
 _library = _declared(_loaded())
+_read = _library.cvss_read
+_numbers_in = _SCORES.unpack_from
+_CANONICAL = _SCORES.size
 
 
 def bytes_of(text: Text) -> bytes:
     """The bytes of a text. What is no Unicode, as a lone surrogate, becomes bytes that are no UTF-8."""
     if isinstance(text, str):
-        return text.encode("utf-8", "surrogatepass")
+        try:
+            return text.encode()
+        except UnicodeEncodeError:
+            return text.encode("utf-8", "surrogatepass")
     if isinstance(text, (bytes, bytearray, memoryview)):
         return bytes(text)
     raise TypeError(f"a text is str, bytes, bytearray or memoryview, and not {type(text).__name__}")
@@ -111,12 +114,35 @@ def _written(call: Callable[..., int], text: bytes, size: int) -> str:
         size = length
 
 
-def read(text: bytes) -> Optional[Tuple[Scores, str]]:
-    """The scores and the canonical text of the vector that a text denotes."""
-    numbers = Scores()
-    if not _library.cvss_scores(text, len(text), ctypes.byref(numbers)):
-        return None
-    return numbers, _written(_library.cvss_canonical, text, len(text) + 1)
+# What a call of cvss_read writes into: a struct with a text behind it, and the last three arguments, which tell them.
+_Room = Tuple[Any, Any, Any, ctypes.c_size_t]
+
+
+def _room(size: int) -> _Room:
+    room = ctypes.create_string_buffer(_SCORES.size + size)
+    return room, ctypes.byref(room), ctypes.byref(room, _SCORES.size), ctypes.c_size_t(size)
+
+
+_ROOM_FOR_TEXT = 512
+# The rooms that no call uses. A call takes one out, so that no other thread, and no handler of a signal in the midst of
+# the call, writes into it.
+_rooms: List[_Room] = []
+
+
+def read(text: bytes) -> Optional[Tuple[Tuple[int, ...], bytes]]:
+    """The numbers of the scores and the canonical text of the vector that a text denotes."""
+    try:
+        own = _rooms.pop()
+    except IndexError:
+        own = _room(_ROOM_FOR_TEXT)
+    room, scores, buffer, size = own
+    length = _read(text, len(text), scores, buffer, size)
+    if length > _ROOM_FOR_TEXT:
+        room, scores, buffer, size = _room(length)
+        _read(text, len(text), scores, buffer, size)
+    told = (_numbers_in(room), room[_CANONICAL : _CANONICAL + length]) if length else None
+    _rooms.append(own)
+    return told
 
 
 def metrics(text: bytes) -> List[Tuple[str, str]]:

@@ -67,10 +67,11 @@ class Vector:
     True
     """
 
-    __slots__ = ("_text", "_numbers")
+    __slots__ = ("_code", "_decoded", "_numbers")
 
-    _text: str
-    _numbers: _library.Scores
+    _code: bytes
+    _decoded: Optional[str]
+    _numbers: Tuple[int, ...]
 
     def __init__(self, text: Text) -> None:
         """Reads a text. One that denotes no vector is refused by `CvssError`."""
@@ -78,7 +79,16 @@ class Vector:
         told = _library.read(given)
         if told is None:
             raise CvssError.of(given)
-        self._numbers, self._text = told
+        self._numbers, self._code = told
+        self._decoded = None
+
+    @property
+    def _text(self) -> str:
+        """The canonical text, which is made at its first use."""
+        text = self._decoded
+        if text is None:
+            text = self._decoded = self._code.decode()
+        return text
 
     @property
     def text(self) -> str:
@@ -88,12 +98,12 @@ class Vector:
     @property
     def version(self) -> str:
         """The version of the standard: 2.0, 3.0, 3.1 or 4.0."""
-        return _VERSIONS[self._numbers.version]
+        return _VERSIONS[self._numbers[_library.VERSION]]
 
     @property
     def tenths(self) -> int:
         """The score in tenths, which is exact."""
-        return int(self._numbers.base)
+        return self._numbers[_library.BASE]
 
     @property
     def score(self) -> float:
@@ -103,13 +113,13 @@ class Vector:
     @property
     def severity(self) -> str:
         """The rating of the score: none, low, medium, high or critical."""
-        return _SEVERITIES[self._numbers.severity]
+        return _SEVERITIES[self._numbers[_library.SEVERITY]]
 
     @property
     def scores(self) -> Scores:
         """The base, the temporal and the environmental score."""
         numbers = self._numbers
-        return Scores(self.score, _score(numbers.temporal), _score(numbers.environmental))
+        return Scores(self.score, _score(numbers[_library.TEMPORAL]), _score(numbers[_library.ENVIRONMENTAL]))
 
     @property
     def severities(self) -> Severities:
@@ -117,14 +127,14 @@ class Vector:
         numbers = self._numbers
         return Severities(
             self.severity,
-            _severity(numbers.temporal_severity),
-            _severity(numbers.environmental_severity),
+            _severity(numbers[_library.TEMPORAL_SEVERITY]),
+            _severity(numbers[_library.ENVIRONMENTAL_SEVERITY]),
         )
 
     @property
     def nomenclature(self) -> Optional[str]:
         """Which groups of metrics a score of v4.0 rests on; None in v2 and v3."""
-        number = self._numbers.nomenclature
+        number = self._numbers[_library.NOMENCLATURE]
         return None if number == NOTHING else _NOMENCLATURES[number]
 
     @property
@@ -134,7 +144,7 @@ class Vector:
         >>> Vector("CVSS:3.1/AV:N/S:C").is_complete
         False
         """
-        return bool(self._numbers.is_complete)
+        return bool(self._numbers[_library.IS_COMPLETE])
 
     @property
     def metrics(self) -> Dict[str, str]:
@@ -143,7 +153,7 @@ class Vector:
         >>> Vector("AV:N/AC:L/Au:N/C:N/I:N/A:C").metrics
         {'AV': 'N', 'AC': 'L', 'Au': 'N', 'C': 'N', 'I': 'N', 'A': 'C'}
         """
-        return dict(_library.metrics(self._text.encode()))
+        return dict(_library.metrics(self._code))
 
     def without_undefined(self: _Own) -> _Own:
         """The vector without the metrics that are not defined (`X`, in v2 `ND`): it has the same scores.
@@ -154,7 +164,7 @@ class Vector:
         >>> str(Vector("AV:N/AC:L/Au:N/C:N/I:N/A:C/E:ND/TD:H").without_undefined())
         'AV:N/AC:L/Au:N/C:N/I:N/A:C/TD:H'
         """
-        return type(self)(_library.without_undefined(self._text.encode()))
+        return type(self)(_library.without_undefined(self._code))
 
     def record(self) -> Dict[str, Any]:
         """The JSON object of FIRST's schema of the version: the text, the metrics, the scores and their ratings.
@@ -165,7 +175,7 @@ class Vector:
         >>> record["version"], record["accessVector"], record["baseScore"]
         ('2.0', 'NETWORK', 7.8)
         """
-        told = _library.record(self._text.encode())
+        told = _library.record(self._code)
         if not told.startswith("{"):
             raise MemoryError(told)
         record: Dict[str, Any] = json.loads(told)
@@ -187,7 +197,7 @@ class Vector:
         """
         own = _components_of(overrides)
         if self.version == "4.0":
-            scored = _library.overridden(self._text.encode(), "/".join(own).encode())
+            scored = _library.overridden(self._code, "/".join(own).encode())
             if scored:
                 return type(self)(scored)
         names = {_name_of(component) for component in own}

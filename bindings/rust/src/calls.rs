@@ -31,8 +31,13 @@ pub(crate) struct CvssMetric {
 const MOST_METRICS: usize = 32;
 
 extern "C" {
-    fn cvss_scores(text: *const u8, length: usize, scores: *mut CvssScores) -> bool;
-    fn cvss_canonical(text: *const u8, length: usize, buffer: *mut u8, size: usize) -> usize;
+    fn cvss_read(
+        text: *const u8,
+        length: usize,
+        scores: *mut CvssScores,
+        buffer: *mut u8,
+        size: usize,
+    ) -> usize;
     fn cvss_metrics(
         text: *const u8,
         length: usize,
@@ -70,17 +75,20 @@ extern "C" {
 /// The scores and the canonical text of the vector that a text denotes.
 pub(crate) fn read(text: &[u8]) -> Option<(CvssScores, Vec<u8>)> {
     let mut scores = CvssScores::default();
-    // SAFETY: the pointers are those of a slice and of a struct that live through the call.
-    let accepted = unsafe { cvss_scores(text.as_ptr(), text.len(), &mut scores) };
-    accepted.then(|| (scores, canonical(text)))
-}
-
-/// The canonical text of the vector that a text denotes, or nothing.
-fn canonical(text: &[u8]) -> Vec<u8> {
-    written(text.len(), |buffer| {
-        // SAFETY: the pointers are those of slices that live through the call and do not overlap.
-        unsafe { cvss_canonical(text.as_ptr(), text.len(), buffer.as_mut_ptr(), buffer.len()) }
-    })
+    let canonical = written(text.len(), |buffer| {
+        // SAFETY: the pointers are those of slices and of a struct that live through the call and
+        // do not overlap.
+        unsafe {
+            cvss_read(
+                text.as_ptr(),
+                text.len(),
+                &mut scores,
+                buffer.as_mut_ptr(),
+                buffer.len(),
+            )
+        }
+    });
+    (!canonical.is_empty()).then_some((scores, canonical))
 }
 
 /// The metrics of the vector that a text denotes, or none.
@@ -192,7 +200,7 @@ pub(crate) fn answers(texts: &[u8]) -> Vec<u8> {
 }
 
 /// What a call writes into a buffer that is large enough; tried first with one of this size.
-fn written(size: usize, call: impl Fn(&mut [u8]) -> usize) -> Vec<u8> {
+fn written(size: usize, mut call: impl FnMut(&mut [u8]) -> usize) -> Vec<u8> {
     let mut buffer = vec![0; size];
     let mut length = call(&mut buffer);
     while length > buffer.len() {
