@@ -6,6 +6,7 @@ Usage: check.py ROOT, the folder of the checkout. The package is the one that Py
 import json
 import pickle
 import sys
+from concurrent.futures import ThreadPoolExecutor
 from pathlib import Path
 from typing import Any, Callable, List, Optional, Tuple, Type
 
@@ -129,6 +130,23 @@ def check_changes(root: Path) -> None:
         assert vector.with_overrides({"IR": "H"}).metrics == {**vector.metrics, "IR": "H"}, line
 
 
+def check_threads(root: Path) -> None:
+    """What a text is told in one of many threads at once is what it is told alone."""
+    lines = [line for line in lines_of(root / "crates" / "cvss_vectors" / "stdin") if not answer(line).startswith("error: ")]
+
+    def told(line: bytes) -> Tuple[str, float]:
+        vector = Vector(line)
+        return vector.text, vector.score
+
+    alone = [told(line) for line in lines]
+    switching = sys.getswitchinterval()
+    sys.setswitchinterval(1e-6)
+    with ThreadPoolExecutor(8) as pool:
+        for together in pool.map(lambda _: [told(line) for line in lines], range(16)):
+            assert together == alone
+    sys.setswitchinterval(switching)
+
+
 def check_overrides() -> None:
     """They are read in any ASCII case, as the C library does, and each wrong type is a TypeError."""
     vector = Vector(TEXT)
@@ -208,6 +226,7 @@ if __name__ == "__main__":
     check_texts()
     check_many_texts()
     check_changes(Path(sys.argv[1]))
+    check_threads(Path(sys.argv[1]))
     check_overrides()
     check_subclasses()
     check_records(Path(sys.argv[1]))
