@@ -15,11 +15,11 @@ use crate::bytes_error::BytesError;
 use crate::route::{self, Route, route_of_text};
 use crate::vector::Cvss;
 use crate::{v2, v3, v4};
+use cvss_base::refusing;
+use cvss_name::Error;
 use cvss_text::front::{Fronted, read_started};
 use cvss_text::pieces::Pieces;
 use cvss_text::walk::{Fault, read_vector};
-use cvss_base::refusing;
-use cvss_name::Error;
 use std::alloc::Global;
 
 /// Why a text denotes no vector, as the version found by whose rules it was read.

@@ -9,11 +9,11 @@ ghost use Rattle.cvss_text.specs.private.Pieces.{pieces_left};
 ghost use Rattle.cvss.specs.Dispatch.{route_of, route_of_parts, cvss_reason};
 ghost use Rattle.cvss.specs.private.Steps.{as_route, IsBehindVersion, IsTellable, IsTellableRoute, reason_of};
 
+use cvss_grammar::PREFIX;
+use cvss_name::Error;
 use cvss_text::pieces::{Pieces, front_of, parts_of, pieces_of};
 use cvss_text::sight::behind_five;
 use cvss_text::text::copied_text;
-use cvss_grammar::PREFIX;
-use cvss_name::Error;
 use std::alloc::{AllocError, Global};
 
 /// By the rules of which version a text is read.

@@ -8,9 +8,9 @@ use crate::metrics::Metrics;
 use crate::published::{Bounds, Published};
 use crate::reading::{bytes_error_of, error_of, read};
 use crate::{v2, v3, v4};
-use cvss_number::tenths::text_of as text_of_tenths;
 use cvss_base::severity_of_score;
 use cvss_name::{Error, Severity};
+use cvss_number::tenths::text_of as text_of_tenths;
 use std::alloc::Global;
 use std::fmt;
 

@@ -17,9 +17,9 @@ use crate::metric::environmental::{
     IntegrityRequirement, TargetDistribution,
 };
 use crate::metric::temporal::{Exploitability, RemediationLevel, ReportConfidence};
+use cvss_base::refusing::vector_of;
 use cvss_name::Error;
 use cvss_text::print::same_components;
-use cvss_base::refusing::vector_of;
 use cvss_text::walk::read_vector;
 pub use printing::Metrics;
 use std::alloc::Global;

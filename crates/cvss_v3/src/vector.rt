@@ -18,10 +18,10 @@ use crate::metric::environmental::{
     ModifiedScope,
 };
 use crate::metric::temporal::{ExploitCodeMaturity, RemediationLevel, ReportConfidence};
+use cvss_base::refusing::vector_behind;
 use cvss_name::Error;
 use cvss_text::front::read_behind;
 use cvss_text::print::same_components;
-use cvss_base::refusing::vector_behind;
 pub use listing::Metrics;
 use std::alloc::Global;
 

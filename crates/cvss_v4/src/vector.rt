@@ -32,10 +32,10 @@ use crate::metric::supplemental::{
     Automatable, ProviderUrgency, Recovery, Safety, ValueDensity, VulnerabilityResponseEffort,
 };
 use crate::metric::threat::ExploitMaturity;
+use cvss_base::refusing::vector_behind;
 use cvss_name::Error;
 use cvss_text::front::read_behind;
 use cvss_text::print::same_components;
-use cvss_base::refusing::vector_behind;
 use cvss_text::walk::Components;
 pub use listing::Metrics;
 pub use overriding::OverrideError;

@@ -13,9 +13,9 @@ ghost use Rattle.cvss_v4.specs.declared.vector.overriding.OverrideFault.TheVaria
 
 use crate::metric::MetricType;
 use crate::vector::Vector;
+use cvss_base::refusing::error_of;
 use cvss_name::Error;
 use cvss_text::pieces::is_component;
-use cvss_base::refusing::error_of;
 use cvss_text::walk::{Fault, cut_component, read_component};
 use std::alloc::Global;
 use std::fmt;
