@@ -1,5 +1,7 @@
 //! Records, what an object says otherwise, and where vectors stand.
 
+ghost use Rattle.cvss.specs.Answers.{HasScore};
+
 use cvss::Cvss;
 use cvss_record::{Difference, Form, Place, differences, differences_at, record_of, vectors_in};
 use serde_json::Value;
@@ -13,7 +15,9 @@ pub(crate) fn record(rt: &(impl Print + AllocGlobal), text: &str) -> io::Result<
     }
 }
 
-fn print_record(rt: &(impl Print + AllocGlobal), vector: &Cvss, record: &Value) -> io::Result<()> {
+fn print_record(rt: &(impl Print + AllocGlobal), vector: &Cvss, record: &Value) -> io::Result<()>
+    requires { HasScore vector.now }
+{
     print!(rt; "{record}")?;
     match record {
         Value::Object(members) => print_members(rt, &differences(rt.alloc(), vector, members)?),
