@@ -7,57 +7,80 @@ const OTHERWISE: &str = "read_bytes says otherwise";
 
 /// A vector of any version.
 pub(crate) fn of_any(rt: &(impl Print + AllocGlobal), line: &[u8]) -> io::Result<()> {
-    match (Cvss::from_bytes(rt.alloc(), line), Cvss::read_bytes(line)) {
-        (Ok(vector), Some(read)) if read == vector => {
+    let read = Cvss::read_bytes(line);
+    match Cvss::from_bytes(rt.alloc(), line) {
+        Ok(vector) => {
+            if read != Some(vector) {
+                return println!(rt; "{OTHERWISE}");
+            }
             let severity = vector.severity();
             println!(rt; "{vector} {} {severity}", vector.score_text())
         }
-        (Err(error), None) => println!(rt; "error: {error}"),
-        _ => println!(rt; "{OTHERWISE}"),
+        Err(error) => {
+            if read.is_some() {
+                return println!(rt; "{OTHERWISE}");
+            }
+            println!(rt; "error: {error}")
+        }
     }
 }
 
 /// A vector by the rules of v2.
 pub(crate) fn of_v2(rt: &(impl Print + AllocGlobal), text: &str) -> io::Result<()> {
-    match (
-        v2::Vector::from_str(rt.alloc(), text),
-        v2::Vector::read_bytes(text.as_bytes()),
-    ) {
-        (Ok(vector), Some(read)) if read == vector => {
+    let read = v2::Vector::read_bytes(text.as_bytes());
+    match v2::Vector::from_str(rt.alloc(), text) {
+        Ok(vector) => {
+            if read != Some(vector) {
+                return println!(rt; "{OTHERWISE}");
+            }
             let score = vector.score();
             println!(rt; "{vector} {score} {}", score.severity())
         }
-        (Err(error), None) => println!(rt; "error: {error}"),
-        _ => println!(rt; "{OTHERWISE}"),
+        Err(error) => {
+            if read.is_some() {
+                return println!(rt; "{OTHERWISE}");
+            }
+            println!(rt; "error: {error}")
+        }
     }
 }
 
 /// A vector by the rules of v3.
 pub(crate) fn of_v3(rt: &(impl Print + AllocGlobal), text: &str) -> io::Result<()> {
-    match (
-        v3::Vector::from_str(rt.alloc(), text),
-        v3::Vector::read_bytes(text.as_bytes()),
-    ) {
-        (Ok(vector), Some(read)) if read == vector => {
+    let read = v3::Vector::read_bytes(text.as_bytes());
+    match v3::Vector::from_str(rt.alloc(), text) {
+        Ok(vector) => {
+            if read != Some(vector) {
+                return println!(rt; "{OTHERWISE}");
+            }
             println!(rt; "{vector} {} {}", vector.score(), vector.severity())
         }
-        (Err(error), None) => println!(rt; "error: {error}"),
-        _ => println!(rt; "{OTHERWISE}"),
+        Err(error) => {
+            if read.is_some() {
+                return println!(rt; "{OTHERWISE}");
+            }
+            println!(rt; "error: {error}")
+        }
     }
 }
 
 /// A vector by the rules of v4, whose score tells the nomenclature.
 pub(crate) fn of_v4(rt: &(impl Print + AllocGlobal), text: &str) -> io::Result<()> {
-    match (
-        v4::Vector::from_str(rt.alloc(), text),
-        v4::Vector::read_bytes(text.as_bytes()),
-    ) {
-        (Ok(vector), Some(read)) if read == vector => {
+    let read = v4::Vector::read_bytes(text.as_bytes());
+    match v4::Vector::from_str(rt.alloc(), text) {
+        Ok(vector) => {
+            if read != Some(vector) {
+                return println!(rt; "{OTHERWISE}");
+            }
             let score = vector.score();
             println!(rt; "{vector} {score} {}", score.severity())
         }
-        (Err(error), None) => println!(rt; "error: {error}"),
-        _ => println!(rt; "{OTHERWISE}"),
+        Err(error) => {
+            if read.is_some() {
+                return println!(rt; "{OTHERWISE}");
+            }
+            println!(rt; "error: {error}")
+        }
     }
 }
 
