@@ -24,7 +24,7 @@ def mentions(text):
     """
     for run in RUN.finditer(text):
         place = run.start()
-        for part in FRONT.split(run.group()):
+        for part in filter(None, FRONT.split(run.group())):
             yield place, part.rstrip(b".:/")
             place += len(part)
 
