@@ -4,14 +4,15 @@ v3.py and v4.py.
 
 Reads lines on standard input and writes a JSON object for each on standard output: the numbers on
 the way to the score of a vector, or why the line is refused. A number with more than seven decimals
-is cut behind the seventh. It shares no code with the crates: its answers are expected values for
-them.
+is rounded to so many, halves up. It shares no code with the crates: its answers are expected values
+for them.
 
 usage: bench/accounts.py < LINES
 """
 import json
 import sys
 from fractions import Fraction
+from math import floor
 
 import reference
 import v2
@@ -156,13 +157,13 @@ def answer(number, line):
         return {"line": number, "given": text, "refused": str(reason)}
 
 
-def cut(number):
-    """The number as it is written: without what is behind its seventh decimal."""
-    return int(number * 10_000_000) / 10_000_000
+def rounded(number):
+    """The number as it is written, with seven decimals at most."""
+    return floor(number * 10_000_000 + Fraction(1, 2)) / 10_000_000
 
 
 def written(told):
-    return json.dumps(told, default=cut, sort_keys=True, separators=(",", ":"), ensure_ascii=False)
+    return json.dumps(told, default=rounded, sort_keys=True, separators=(",", ":"), ensure_ascii=False)
 
 
 def main():
