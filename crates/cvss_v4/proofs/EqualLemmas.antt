@@ -1,7 +1,7 @@
 -- Vectors that are found equal have the same values.
 use Rattle.std.proofs.Common.{◌≡◌, Bool, ◌&&◌, Option, IsTrue}
 use Rattle.std.specs.Option.{option_eq}
-use Rattle.cvss_grammar.specs.laws.Equality.{EqualsByValue}
+use Rattle.cvss_grammar.specs.Equality.{EqualsByValue}
 use Rattle.cvss_grammar.proofs.EqualityLemmas.{options_by_value}
 use Rattle.cvss_v4.proofs.TestLemmas.{both}
 

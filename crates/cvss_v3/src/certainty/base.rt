@@ -9,8 +9,8 @@ ghost use Rattle.cvss_v3.specs.private.Weights.{IsFromTable};
 use crate::weights::Weights;
 
 impl Weights {
-    /// Whether an error of 10^-6 in the number that the base score is the rounding of, with impact,
-    /// leaves the score as it is: it always does.
+    /// Whether, with impact, an error of 10^-6 in the number that the base score is the rounding of
+    /// leaves the score as it is, as long as the number stays at most 10: it always does.
     pub fn base_is_certain(&self, minor_version: usize) -> bool
         requires { IsFromTable self.now }
         ensures always { IsTrue result }

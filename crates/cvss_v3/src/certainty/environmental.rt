@@ -9,8 +9,9 @@ ghost use Rattle.cvss_v3.specs.private.Weights.{IsFromTable};
 use crate::weights::Weights;
 
 impl Weights {
-    /// Whether an error of 10^-6 in the number that the environmental score is first the rounding
-    /// of, with impact, leaves that rounding as it is: it always does.
+    /// Whether, with modified impact, an error of 10^-6 in the number that the environmental score
+    /// is first the rounding of leaves that rounding as it is, as long as the number stays at most
+    /// 10: it always does.
     pub fn environmental_is_certain(&self, minor_version: usize) -> bool
         requires { IsFromTable self.now }
         ensures always { IsTrue result }

@@ -121,8 +121,8 @@ impl Vector {
         self.base_score().severity()
     }
 
-    /// Whether an error of 10^-6 in the number that the base score is the rounding of, with impact,
-    /// leaves the score as it is: it always does.
+    /// Whether, with impact, an error of 10^-6 in the number that the base score is the rounding of
+    /// leaves the score as it is, as long as the number stays at most 10: it always does.
     pub fn base_is_certain(&self) -> bool
         ensures always { IsTrue result }
         ensures certain { IsTrue result
@@ -132,8 +132,9 @@ impl Vector {
         self.weights().base_is_certain(self.minor_version)
     }
 
-    /// The same of the number that the environmental score is first the rounding of. Of the product
-    /// with E, RL and RC, which is rounded then, nothing is said, as of the temporal score.
+    /// The same of the number that the environmental score is first the rounding of, with modified
+    /// impact. Of the product with E, RL and RC, which is rounded then, nothing is said, as of the
+    /// temporal score.
     pub fn environmental_is_certain(&self) -> bool
         ensures always { IsTrue result }
         ensures certain { IsTrue result
