@@ -1,7 +1,8 @@
 #!/usr/bin/env python3
 """Counts the lines of the pages that docs/DEFINITIONS.md lists in its reading order, `use` lines left
 out, and writes them there. Each page of the crates of the versions that public promises are stated in
-is to be listed once: the files right in `specs/`, and none of `specs/laws/` and `specs/private/`.
+is to be listed once: the files right in `specs/`, and none of `specs/laws/` and `specs/private/`. The check refuses
+a public clause that cites a page of these two (check_shelves.py).
 
 usage: docs/count_definitions.py          writes the counts
        docs/count_definitions.py --check  says whether they are up to date; status 1 if they are not
@@ -9,6 +10,8 @@ usage: docs/count_definitions.py          writes the counts
 import re
 import sys
 from pathlib import Path
+
+from check_shelves import wrong_clauses
 
 ROOT = Path(__file__).resolve().parent.parent
 PAGE = ROOT / "docs" / "DEFINITIONS.md"
@@ -54,6 +57,8 @@ def main():
         PAGE.write_text(counted(text), encoding="utf-8")
     elif text != counted(text):
         sys.exit(f"{PAGE.name} is not up to date: run docs/count_definitions.py")
+    else:
+        sys.exit("\n".join(wrong_clauses()) or None)
 
 
 if __name__ == "__main__":

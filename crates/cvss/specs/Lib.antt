@@ -7,6 +7,7 @@ pub mod MetricsLeft
 pub mod Published
 pub mod laws
 pub mod private
+pub use Rattle.cvss_grammar.specs.Equality
 pub use Rattle.cvss_name.specs.ErrorText
 pub use Rattle.cvss_number.specs.Exact
 pub use Rattle.cvss_text.specs.Listing
@@ -27,7 +28,6 @@ pub use Rattle.cvss_name.specs.declared.v2.MetricType as MetricTypeV2
 pub use Rattle.cvss_name.specs.declared.v3.MetricType as MetricTypeV3
 pub use Rattle.cvss_name.specs.declared.v4.MetricType as MetricTypeV4
 pub use Rattle.cvss_v2.specs.Rating as RatingV2
-pub use Rattle.cvss_v2.specs.laws.NotDefined as ScoreLawsV2
 pub use Rattle.cvss_v2.specs.Scores as ScoresV2
 pub use Rattle.cvss_v2.specs.Table as TableV2
 pub use Rattle.cvss_v2.specs.Vector as VectorV2
@@ -39,28 +39,23 @@ pub use Rattle.cvss_v3_metric.specs.Modified as ModifiedV3
 pub use Rattle.cvss_v3_metric.specs.Table as TableV3
 pub use Rattle.cvss_v3_metric.specs.declared.environmental.modified.Modified as ModifiedTypeV3
 pub use Rattle.cvss_v3.specs.Certainty as CertaintyV3
-pub use Rattle.cvss_v3.specs.laws.ScoreLaws as ScoreLawsV3
 pub use Rattle.cvss_v3.specs.Scores as ScoresV3
 pub use Rattle.cvss_v3.specs.Vector as VectorV3
 pub use Rattle.cvss_v3.specs.VectorWeights as WeightsV3
 pub use Rattle.cvss_v3.specs.declared.vector.Vector as VectorTypeV3
 pub use Rattle.cvss_v3.specs.declared.weights.Weights as WeightsTypeV3
-pub use Rattle.cvss_v4_metric.specs.laws.Metrics as MetricsV4
+pub use Rattle.cvss_v4_metric.specs.Metrics as MetricsV4
 pub use Rattle.cvss_v4_metric.specs.Reading as ReadingV4
 pub use Rattle.cvss_v4_metric.specs.Ranks as RanksV4
 pub use Rattle.cvss_v4_metric.specs.Table as TableV4
 pub use Rattle.cvss_v4_env.specs.Ranks as EnvironmentalRanksV4
-pub use Rattle.cvss_v4.specs.laws.ClassLaws as ClassLawsV4
+pub use Rattle.cvss_v4.specs.AsSevere as AsSevereV4
 pub use Rattle.cvss_v4.specs.Classes as ClassesV4
 pub use Rattle.cvss_v4.specs.Distance as DistanceV4
 pub use Rattle.cvss_v4.specs.Gap as GapV4
-pub use Rattle.cvss_v4.specs.laws.Maximal as MaximalV4
 pub use Rattle.cvss_v4.specs.Merging as MergingV4
-pub use Rattle.cvss_v4.specs.laws.MergingLaws as MergingLawsV4
 pub use Rattle.cvss_v4.specs.Nomenclature as NomenclatureV4
 pub use Rattle.cvss_v4.specs.Overriding as OverridingV4
-pub use Rattle.cvss_v4.specs.laws.OverridingLaws as OverridingLawsV4
-pub use Rattle.cvss_v4.specs.laws.ScoreLaws as ScoreLawsV4
 pub use Rattle.cvss_v4.specs.Scores as ScoresV4
 pub use Rattle.cvss_v4.specs.Values as ValuesV4
 pub use Rattle.cvss_v4.specs.Vector as VectorV4

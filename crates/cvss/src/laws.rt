@@ -3,7 +3,7 @@
 
 ghost use Rattle.std.specs.Prelude.{◌≡◌, ◌↔◌, ℕ, List, IsTrue};
 ghost use Rattle.cvss_name.specs.laws.Errors as same;
-ghost use Rattle.cvss_grammar.specs.laws.Equality.{EqualsByValue, ClonesByValue};
+ghost use Rattle.cvss_grammar.specs.Equality.{EqualsByValue, ClonesByValue, ClonesAlways};
 ghost use Rattle.cvss_number.specs.laws.Rounding.{IsOneCount};
 ghost use Rattle.cvss.specs.Answers.{text_of, IsScoreOf};
 ghost use Rattle.cvss.specs.Dispatch.{DenotesCvss};
@@ -12,7 +12,7 @@ ghost use Rattle.cvss.specs.laws.GivenBack.{IsGivenBack};
 ghost use Rattle.cvss.specs.laws.JsonErrors.{TellTheSame};
 
 use crate::json::JsonError;
-use crate::{BytesError, Cvss, Error, MetricType, v2, v3, v4};
+use crate::{Bounds, BytesError, Cvss, Error, MetricType, OneDecimal, Published, v2, v3, v4};
 
 /// A text denotes at most one vector, and the text that is printed of a vector denotes that vector
 /// exactly where it is well formed and, in CVSS v3, has a metric and the minor version of its
@@ -28,11 +28,14 @@ pub fn scores_are_unique()
     ensures { (cvss : Cvss) → IsOneCount (IsScoreOf cvss) }
 {}
 
-/// Two vectors of any version, or two metrics, are equal exactly if they are one value, and two
-/// errors exactly if they tell the same.
+/// Two vectors of any version, two metrics, what is published of two vectors, or two counts to be
+/// printed, are equal exactly if they are one value, and two errors exactly if they tell the same.
 pub fn equality_is_that_of_values()
     ensures vector { EqualsByValue ⟦<Cvss as PartialEq>⟧.eq }
     ensures metric { EqualsByValue ⟦<MetricType as PartialEq>⟧.eq }
+    ensures published { EqualsByValue ⟦<Published as PartialEq>⟧.eq }
+    ensures bounds { EqualsByValue ⟦<Bounds as PartialEq>⟧.eq }
+    ensures decimal { EqualsByValue ⟦<OneDecimal as PartialEq>⟧.eq }
     ensures json { (x y : JsonError) → IsTrue (⟦<JsonError as PartialEq>⟧.eq x y)
         ↔ TellTheSame x y }
     ensures bytes { (x y : BytesError) → IsTrue (⟦<BytesError as PartialEq>⟧.eq x y)
@@ -45,10 +48,14 @@ pub fn equality_is_that_of_values()
     v4::laws::equality_is_that_of_values();
 }
 
-/// A clone of a vector or a metric is that value, and a clone of an error tells the same.
+/// A clone of a vector, a metric, what is published or a count is that value, and a clone of an error
+/// tells the same.
 pub fn clones_are_equal()
     ensures vector { ClonesByValue ⟦<Cvss as Clone>⟧.is_clone }
     ensures metric { ClonesByValue ⟦<MetricType as Clone>⟧.is_clone }
+    ensures published { ClonesByValue ⟦<Published as Clone>⟧.is_clone }
+    ensures bounds { ClonesByValue ⟦<Bounds as Clone>⟧.is_clone }
+    ensures decimal { ClonesByValue ⟦<OneDecimal as Clone>⟧.is_clone }
     ensures json { (x clone : JsonError) → ⟦<JsonError as Clone>⟧.is_clone x clone
         → TellTheSame x clone }
     ensures bytes { (x clone : BytesError) → ⟦<BytesError as Clone>⟧.is_clone x clone
@@ -58,3 +65,12 @@ pub fn clones_are_equal()
 {
     cvss_name::laws::clones_are_equal();
 }
+
+/// To clone a vector, a metric, what is published or a count takes no memory, so it is never refused.
+pub fn values_are_cloned_without_memory()
+    ensures vector { ClonesAlways ⟦<Cvss as Clone>⟧.is_infallible }
+    ensures metric { ClonesAlways ⟦<MetricType as Clone>⟧.is_infallible }
+    ensures published { ClonesAlways ⟦<Published as Clone>⟧.is_infallible }
+    ensures bounds { ClonesAlways ⟦<Bounds as Clone>⟧.is_infallible }
+    ensures decimal { ClonesAlways ⟦<OneDecimal as Clone>⟧.is_infallible }
+{}

@@ -10,7 +10,7 @@ ghost use Rattle.cvss.specs.VectorV3.{v3};
 ghost use Rattle.cvss.specs.VectorV4.{v4};
 ghost use Rattle.cvss.specs.WeightsV2 as weights_v2;
 ghost use Rattle.cvss.specs.WeightsV3 as weights_v3;
-ghost use Rattle.cvss_grammar.specs.laws.Equality.{ClonesByValue};
+ghost use Rattle.cvss_grammar.specs.Equality.{ClonesAlways, ClonesByValue};
 ghost use Rattle.cvss_bytes.specs.laws.DefinedParts.{HasDefinedOf, IsPrintedAsLess};
 
 use crate::{CvssMetric, CvssScores};
@@ -55,6 +55,12 @@ pub fn undefined_metrics_change_no_score()
 pub fn clones_are_equal()
     ensures scores { ClonesByValue ⟦<CvssScores as Clone>⟧.is_clone }
     ensures metric { ClonesByValue ⟦<CvssMetric as Clone>⟧.is_clone }
+{}
+
+/// To clone scores or a metric takes no memory, so it is never refused.
+pub fn values_are_cloned_without_memory()
+    ensures scores { ClonesAlways ⟦<CvssScores as Clone>⟧.is_infallible }
+    ensures metric { ClonesAlways ⟦<CvssMetric as Clone>⟧.is_infallible }
 {}
 
 /// Values of one metric that are spelled alike are one.

@@ -4,7 +4,7 @@ ghost use Rattle.std.specs.Prelude.{◌≡◌, ◌⊎◌, IfOk, IfErr, IsTrue, O
 ghost use Rattle.cvss.specs.ErrorType.TheVariants.{OutOfMemory};
 ghost use Rattle.cvss.specs.Exact.{IsWithinLimit};
 ghost use Rattle.cvss.specs.Refusal.{IsFirstRefusal};
-ghost use Rattle.cvss.specs.ScoreLawsV2.{DefineTheSame};
+ghost use Rattle.cvss.specs.laws.ScoreLawsV2.{DefineTheSame};
 ghost use Rattle.cvss.specs.ScoresV2.{IsBaseScore, IsTemporalScore, IsEnvironmentalScore};
 ghost use Rattle.cvss.specs.TypesV2.{v2_reason};
 ghost use Rattle.cvss.specs.VectorTypeV2.{Vector};

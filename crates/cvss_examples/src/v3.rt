@@ -3,7 +3,7 @@
 ghost use Rattle.std.specs.Prelude.{◌≡◌, ◌⊎◌, IfOk, IfErr, IsTrue, Ok, Err, string_bytes};
 ghost use Rattle.cvss.specs.ErrorType.TheVariants.{OutOfMemory};
 ghost use Rattle.cvss.specs.Refusal.{IsFirstRefusalBehind};
-ghost use Rattle.cvss.specs.ScoreLawsV3.{DefineTheSame, with_modified_as_base};
+ghost use Rattle.cvss.specs.laws.ScoreLawsV3.{DefineTheSame, with_modified_as_base};
 ghost use Rattle.cvss.specs.ScoresV3.{IsBaseScore, IsTemporalScore, IsEnvironmentalScore};
 ghost use Rattle.cvss.specs.TypesV3.{v3_reason};
 ghost use Rattle.cvss.specs.VectorTypeV3.{Vector};

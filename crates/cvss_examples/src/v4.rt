@@ -3,7 +3,7 @@
 ghost use Rattle.std.specs.Prelude.{◌≡◌, ◌⊎◌, IfOk, IfErr, IsTrue, Ok, Err, string_bytes};
 ghost use Rattle.cvss.specs.ErrorType.TheVariants.{OutOfMemory};
 ghost use Rattle.cvss.specs.Refusal.{IsFirstRefusalBehind};
-ghost use Rattle.cvss.specs.MergingLawsV4.{HasModifiedAsBase, without_supplemental};
+ghost use Rattle.cvss.specs.laws.MergingLawsV4.{HasModifiedAsBase, without_supplemental};
 ghost use Rattle.cvss.specs.MergingV4.{effective_of, letter_at};
 ghost use Rattle.cvss.specs.MetricTypeV4.{MetricType};
 ghost use Rattle.cvss.specs.NomenclatureV4.{nomenclature_of};

@@ -2,7 +2,7 @@
 use Rattle.std.specs.Prelude.{◌↔◌, Bool, true, false, ◌&&◌, IsTrue, Some, None, refl}
 use Rattle.std.specs.Option.{option_eq}
 use Rattle.std.proofs.Common.{ap}
-use Rattle.cvss_grammar.specs.laws.Equality.{EqualsByValue}
+use Rattle.cvss_grammar.specs.Equality.{EqualsByValue}
 
 pub both : {P Q : Type 0} {a b : Bool} → IsTrue a ↔ P → IsTrue b ↔ Q → IsTrue (a && b) ↔ (P × Q)
 both {a = true} left right = (λ e. (left.0 refl, right.0 e), λ h. right.1 h.1)

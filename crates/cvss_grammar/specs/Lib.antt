@@ -1,3 +1,4 @@
+pub mod Equality
 pub mod Refusal
 pub mod Text
 pub mod Version

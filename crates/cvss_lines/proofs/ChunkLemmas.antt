@@ -3,7 +3,7 @@ use Rattle.std.proofs.Common.{◌≡◌, ◌≢◌, ℕ, List, [], ◌∷◌, �
 use Rattle.std.proofs.lemmas.List.Elements.{All-append, All-nil}
 use Rattle.cvss_lines.specs.Answers.{Rule}
 use Rattle.cvss_lines.specs.Lines.{ended_lines, unended_piece, line_text}
-use Rattle.cvss_lines.specs.Steps.{Gathers, NoLineEnd}
+use Rattle.cvss_lines.specs.private.Steps.{Gathers, NoLineEnd}
 use Rattle.cvss_lines.specs.declared.pending.Pending.{Pending}
 use Rattle.cvss_lines.proofs.LinesLemmas.{ended_lines-line, ended_lines-none, unended_piece-line, unended_piece-none}
 use Rattle.cvss_lines.proofs.StepsLemmas.{Gathers-nil, Gathers-append, Gathers-kept}

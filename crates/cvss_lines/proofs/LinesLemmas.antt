@@ -6,7 +6,7 @@ use Rattle.std.proofs.lemmas.List.Elements.{All-push, All-nil}
 use Rattle.std.proofs.lemmas.List.Splits.{slice_split_none, slice_split_at, length-slice_split}
 use Rattle.std.proofs.lemmas.Bool.Decides.{eqb_tells}
 use Rattle.cvss_lines.specs.Lines.{is_line_end, line_text, all_but_last, last_piece, ended_lines, unended_piece, last_line, lines}
-use Rattle.cvss_lines.specs.Steps.{NoLineEnd}
+use Rattle.cvss_lines.specs.private.Steps.{NoLineEnd}
 
 -- no byte passes the test where no line ends
 none_pass : (bytes : List ℕ) → NoLineEnd bytes → All (λ byte. is_line_end byte ≡ false) bytes

@@ -7,7 +7,7 @@ use Rattle.std.specs.Prelude.{IsErrAnd}
 use Rattle.cvss_lines.specs.Answers.{Answer, IsAnswers, Rule, written_answers}
 use Rattle.cvss_lines.specs.Lines.{ended_lines, unended_piece, lines}
 use Rattle.cvss_lines.specs.Runs.{AnswersAll, AnswersEnded, AnswersFirst, AnswersCut, Ends}
-use Rattle.cvss_lines.specs.Steps.{Counts, Writes, WritesBeginning, no_lines, number_behind}
+use Rattle.cvss_lines.specs.private.Steps.{Counts, Writes, WritesBeginning, no_lines, number_behind}
 use Rattle.cvss_lines.specs.declared.fault.RunFault.{RunFault}
 use Rattle.cvss_lines.specs.declared.fault.RunFault.TheVariants.{Read, Write, Memory}
 use Rattle.cvss_lines.specs.declared.pending.Pending.{Pending}

@@ -4,7 +4,7 @@ use Rattle.std.specs.Io.KnownBytes.{Appends}
 use Rattle.std.proofs.KnownBytes.{Appends-nil}
 use Rattle.cvss_lines.specs.Answers.{Answer, IsAnswers, Rule, next_number, written_answer, written_answers}
 use Rattle.cvss_lines.specs.Lines.{line_text, lines}
-use Rattle.cvss_lines.specs.Steps.{Counts, Gathers, NoLineEnd, Writes, StopsAt, number_behind}
+use Rattle.cvss_lines.specs.private.Steps.{Counts, Gathers, NoLineEnd, Writes, StopsAt, number_behind}
 use Rattle.cvss_lines.specs.declared.fault.RunFault.{RunFault}
 use Rattle.cvss_lines.specs.declared.fault.RunFault.TheVariants.{Write}
 use Rattle.cvss_lines.specs.declared.pending.Pending.{Pending}

@@ -3,4 +3,4 @@ pub mod Exit
 pub mod Lines
 pub mod Requests
 pub mod Runs
-pub mod Steps
+pub mod private

@@ -17,3 +17,9 @@ pub fn clones_are_equal()
     ensures summary { (x clone : Summary) → ⟦<Summary as Clone>⟧.is_clone x clone → clone ≡ x }
     ensures fault { (x clone : RunFault) → ⟦<RunFault as Clone>⟧.is_clone x clone → clone ≡ x }
 {}
+
+/// To clone a summary or a fault takes no memory, so it is never refused.
+pub fn values_are_cloned_without_memory()
+    ensures summary { (x : Summary) → ⟦<Summary as Clone>⟧.is_infallible x }
+    ensures fault { (x : RunFault) → ⟦<RunFault as Clone>⟧.is_infallible x }
+{}

@@ -1,6 +1,6 @@
 ghost use Rattle.std.specs.Prelude.{◌≡◌, ◌++◌, ◌∷◌, [], OnOk, IfErr};
 ghost use Rattle.cvss_lines.specs.Lines.{line_text, ended_lines, lines, unended_piece};
-ghost use Rattle.cvss_lines.specs.Steps.{Gathers, NoLineEnd, StopsAt, Writes, no_lines};
+ghost use Rattle.cvss_lines.specs.private.Steps.{Gathers, NoLineEnd, StopsAt, Writes, no_lines};
 
 use crate::gathered::Gathered;
 use crate::lines::{cut_at_line_end, line_text};

@@ -1,7 +1,7 @@
 //! The search for the byte that ends a line.
 ghost use Rattle.std.specs.Prelude.{◌≡◌, ◌≢◌, ℕ, ◌+◌, ◌<◌, ◌≤◌, ◌==◌, if◌then◌else◌, length, slice_index};
 ghost use Rattle.std.specs.Int.{trailing_zeros, w64};
-ghost use Rattle.cvss_lines.specs.Steps.{IsFirstLineEnd};
+ghost use Rattle.cvss_lines.specs.private.Steps.{IsFirstLineEnd};
 
 use std::simd::prelude::*;
 

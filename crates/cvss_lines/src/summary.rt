@@ -1,6 +1,6 @@
 ghost use Rattle.std.specs.Prelude.{◌≡◌, [], ◌∷◌};
 ghost use Rattle.cvss_lines.specs.Answers.{Answer, is_accepted};
-ghost use Rattle.cvss_lines.specs.Steps.{Counts, no_lines};
+ghost use Rattle.cvss_lines.specs.private.Steps.{Counts, no_lines};
 
 /// How many lines a run accepted and refused. Each count stops at `u64::MAX`.
 #[derive(Clone, Copy, Debug, PartialEq, Eq)]

@@ -1,7 +1,7 @@
 //! Laws, each the contract of a function that does nothing.
 
 ghost use Rattle.std.specs.Prelude.{◌≡◌, ◌↔◌, IsTrue};
-ghost use Rattle.cvss_grammar.specs.laws.Equality.{EqualsByValue, ClonesByValue};
+ghost use Rattle.cvss_grammar.specs.Equality.{EqualsByValue, ClonesByValue, ClonesAlways};
 ghost use Rattle.cvss_grammar.specs.laws.Order.{ComparesAs};
 ghost use Rattle.cvss_name.specs.laws.Errors.{TellTheSame};
 ghost use Rattle.cvss_name.specs.laws.Severities.{severities};
@@ -40,6 +40,14 @@ pub fn clones_are_equal()
     ensures v3 { ClonesByValue ⟦<v3::MetricType as Clone>⟧.is_clone }
     ensures v4 { ClonesByValue ⟦<v4::MetricType as Clone>⟧.is_clone }
     ensures error { (x clone : Error) → ⟦<Error as Clone>⟧.is_clone x clone → TellTheSame x clone }
+{}
+
+/// To clone a severity or a metric type takes no memory, so it is never refused.
+pub fn values_are_cloned_without_memory()
+    ensures severity { ClonesAlways ⟦<Severity as Clone>⟧.is_infallible }
+    ensures v2 { ClonesAlways ⟦<v2::MetricType as Clone>⟧.is_infallible }
+    ensures v3 { ClonesAlways ⟦<v3::MetricType as Clone>⟧.is_infallible }
+    ensures v4 { ClonesAlways ⟦<v4::MetricType as Clone>⟧.is_infallible }
 {}
 
 /// What a severity gives to a hasher tells it from the others.

@@ -4,7 +4,7 @@
 ghost use Rattle.std.specs.Prelude.{◌≡◌, All};
 ghost use Rattle.cvss.specs.laws.GivenBack.{IsGivenBack};
 ghost use Rattle.cvss.specs.declared.vector.Cvss.{Cvss};
-ghost use Rattle.cvss_grammar.specs.laws.Equality.{ClonesByValue, EqualsByValue};
+ghost use Rattle.cvss_grammar.specs.Equality.{ClonesAlways, ClonesByValue, EqualsByValue};
 ghost use Rattle.cvss_record.specs.Places.{places_in};
 ghost use Rattle.cvss_record.specs.Record.{IsRecordOf};
 ghost use Rattle.cvss_record.specs.laws.Pointers.{HasNamesOnce, LeadsTo};
@@ -41,4 +41,11 @@ pub fn clones_are_equal()
     ensures form { ClonesByValue ⟦<Form as Clone>⟧.is_clone }
     ensures group { ClonesByValue ⟦<Group as Clone>⟧.is_clone }
     ensures scores { ClonesByValue ⟦<Scores as Clone>⟧.is_clone }
+{}
+
+/// To clone a form, a group or scores takes no memory, so it is never refused.
+pub fn values_are_cloned_without_memory()
+    ensures form { ClonesAlways ⟦<Form as Clone>⟧.is_infallible }
+    ensures group { ClonesAlways ⟦<Group as Clone>⟧.is_infallible }
+    ensures scores { ClonesAlways ⟦<Scores as Clone>⟧.is_infallible }
 {}

@@ -9,7 +9,7 @@ ghost use Rattle.cvss_v2.specs.Table.{Value, spelling_of, weight_of, metric_comp
 ghost use Rattle.cvss_grammar.specs.Text.{slash};
 ghost use Rattle.std.specs.Ordering.{nat_cmp};
 ghost use Rattle.cvss_number.specs.Exact.{IsWithinLimit};
-ghost use Rattle.cvss_grammar.specs.laws.Equality.{EqualsByValue, ClonesByValue};
+ghost use Rattle.cvss_grammar.specs.Equality.{EqualsByValue, ClonesByValue, ClonesAlways};
 
 pub mod base;
 pub mod environmental;
@@ -107,7 +107,8 @@ pub trait Metric: Copy + Clone + fmt::Debug + fmt::Display + Eq + Ord {
     ghost ordered: { (x y : Self) → ⟦<Self as Ord>⟧.cmp x y
         ≡ nat_cmp (rank_of TYPE (value x)) (rank_of TYPE (value y)) };
 
-    // Two are equal exactly if they are one value, and a clone is that value.
+    // Two are equal exactly if they are one value, and a clone is that value and never refused.
     ghost by_value: { EqualsByValue ⟦<Self as PartialEq>⟧.eq
-        × ClonesByValue ⟦<Self as Clone>⟧.is_clone };
+        × ClonesByValue ⟦<Self as Clone>⟧.is_clone
+        × ClonesAlways ⟦<Self as Clone>⟧.is_infallible };
 }

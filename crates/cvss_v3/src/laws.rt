@@ -3,7 +3,7 @@
 
 ghost use Rattle.std.specs.Prelude.{◌≡◌, ℕ, List, ℤ, pos, ◌≤◌, ◌≤ℤ◌, Some, None};
 ghost use Rattle.std.specs.Ordering.{int_cmp};
-ghost use Rattle.cvss_grammar.specs.laws.Equality.{EqualsByValue, ClonesByValue};
+ghost use Rattle.cvss_grammar.specs.Equality.{EqualsByValue, ClonesByValue, ClonesAlways};
 ghost use Rattle.cvss_number.specs.laws.Rounding.{IsOneCount};
 ghost use Rattle.cvss_grammar.specs.Version.{canonical_text, Denotes};
 ghost use Rattle.cvss_v3.specs.laws.FifthDecimals.{IsSameWhenCut};
@@ -36,6 +36,12 @@ pub fn vectors_are_their_values()
         → vector.minor_version ≡ 0 }
     ensures default { (vector : Vector) → ⟦<Vector as Default>⟧.is_default vector
         → (kind : MetricType) → value_at vector kind ≡ None }
+{}
+
+/// To clone a vector or a score takes no memory, so it is never refused.
+pub fn values_are_cloned_without_memory()
+    ensures vector { ClonesAlways ⟦<Vector as Clone>⟧.is_infallible }
+    ensures score { ClonesAlways ⟦<Score as Clone>⟧.is_infallible }
 {}
 
 /// A canonical text denotes its vector, and a text denotes at most one vector. So what is printed

@@ -1,5 +1,5 @@
-//! The impact with the scope changed, whose power is cut to nine decimals. No rounding of a score
-//! jumps so near to an exact number that this shows.
+//! The impact with the scope changed, where there is some; its power is cut to nine decimals. Of a
+//! number with impact, cut to 10, no rounding jumps so near that this shows in a score.
 
 ghost use Rattle.std.specs.Prelude.{◌≡◌, ◌≤◌, ◌<◌, ◌*◌, ◌/◌, ◌^◌};
 ghost use Rattle.cvss_number.specs.Exact.{◌over◌};

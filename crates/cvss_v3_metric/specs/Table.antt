@@ -95,6 +95,10 @@ rows_of MI = modified_rows (own_rows I)
 rows_of MA = modified_rows (own_rows A)
 rows_of kind = own_rows kind
 
+-- the value that Attack Complexity has by default, as in the Rust crate; no other metric has one
+abbrev pub default_complexity : AttackComplexity
+default_complexity = attack_complexity.High
+
 -- the weights of Privileges Required in hundredths, in the order of its rows, where the scope is changed
 abbrev pub changed_privileges : List ℕ
 changed_privileges = 50 ∷ 68 ∷ 85 ∷ []

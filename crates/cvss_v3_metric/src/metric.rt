@@ -4,7 +4,7 @@ ghost use Rattle.std.specs.Prelude.{◌≡◌, [], ◌∷◌, ◌*◌, ◌^◌, 
 ghost use Rattle.cvss_grammar.specs.Refusal.{BadValue};
 ghost use Rattle.cvss_name.specs.Told.{Tells};
 ghost use Rattle.cvss_name.specs.V3Types.{v3_reason, name_of};
-ghost use Rattle.cvss_grammar.specs.laws.Equality.{EqualsByValue, ClonesByValue};
+ghost use Rattle.cvss_grammar.specs.Equality.{EqualsByValue, ClonesByValue, ClonesAlways};
 ghost use Rattle.cvss_number.specs.Exact.{IsWithinLimit};
 ghost use Rattle.cvss_name.specs.declared.v3.MetricType.{MetricType};
 ghost use Rattle.cvss_grammar.specs.Text.{slash, raised};
@@ -153,7 +153,8 @@ pub trait Metric: Copy + Clone + fmt::Debug + fmt::Display + Eq + Ord + 'static 
 
     ghost law: { IsMetric TYPE FAULT_TYPE value ⟦<Self as Ord>⟧.cmp };
 
-    // Two are equal exactly if they are one value, and a clone is that value.
+    // Two are equal exactly if they are one value, and a clone is that value and never refused.
     ghost by_value: { EqualsByValue ⟦<Self as PartialEq>⟧.eq
-        × ClonesByValue ⟦<Self as Clone>⟧.is_clone };
+        × ClonesByValue ⟦<Self as Clone>⟧.is_clone
+        × ClonesAlways ⟦<Self as Clone>⟧.is_infallible };
 }

@@ -7,7 +7,8 @@ use Rattle.std.proofs.lemmas.List.Sums.{AllPass-from_list_all}
 use Rattle.cvss_v4.specs.laws.ClassLaws.{IsDominated, HaveLeastSum}
 use Rattle.cvss_v4.specs.Classes.{eq1, eq2, eq3, eq4, eq6}
 use Rattle.cvss_v4.specs.Distance.{eq1_sum, eq1_least, eq2_sum, eq2_least, eq3_eq6_sum, eq3_eq6_least, eq4_sum, eq4_least}
-use Rattle.cvss_v4.specs.laws.Maximal.{IsAtMost, Eq1Values, eq1_levels, eq1_maximal, Eq2Values, eq2_levels, eq2_maximal, Eq3Eq6Values, eq3_eq6_levels, eq3_eq6_maximal, Eq4Values, eq4_levels, eq4_maximal}
+use Rattle.cvss_v4.specs.AsSevere.{IsAtMost}
+use Rattle.cvss_v4.specs.laws.Maximal.{Eq1Values, eq1_levels, eq1_maximal, Eq2Values, eq2_levels, eq2_maximal, Eq3Eq6Values, eq3_eq6_levels, eq3_eq6_maximal, Eq4Values, eq4_levels, eq4_maximal}
 use Rattle.cvss_v4.specs.laws.ScoreLaws.{IsPair}
 use Rattle.cvss_v4.proofs.TestLemmas.{both, each_eq1, each_eq2, each_eq3_eq6, each_eq4}
 

@@ -1,7 +1,6 @@
 -- The six numbers of effective values are those of a class.
 use Rattle.std.proofs.Common.{◌≡◌, ◌≤◌, lit≤, sym, subst}
-use Rattle.cvss_v4.specs.Classes.{eq5, macro_vector}
-use Rattle.cvss_v4.specs.laws.ScoreLaws.{IsMacroVector}
+use Rattle.cvss_v4.specs.Classes.{eq5, macro_vector, IsMacroVector}
 use Rattle.cvss_v4.specs.declared.scoring.classes.MacroVector.{MacroVector}
 use Rattle.cvss_v4.specs.declared.scoring.effective.Effective.{Effective}
 use Rattle.cvss_v4.specs.declared.scoring.effective.ExploitMaturity.{ExploitMaturity}

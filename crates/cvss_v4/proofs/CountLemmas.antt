@@ -4,7 +4,7 @@ use Rattle.std.proofs.lemmas.Int.{ints}
 use Rattle.cvss_number.specs.Exact.{◌over◌, ◌⊕◌}
 use Rattle.cvss_number.specs.Rounding.{IsRoundedV4}
 use Rattle.cvss_number.specs.Tenths.{IsInTenths}
-use Rattle.cvss_v4.specs.laws.ScoreLaws.{IsAsSevere}
+use Rattle.cvss_v4.specs.AsSevere.{IsAsSevere}
 use Rattle.cvss_v4.specs.Scores.{number, IsScore}
 use Rattle.cvss_v4.specs.declared.scoring.effective.Effective.{Effective}
 use Rattle.cvss_v4.proofs.ScoreLawLemmas.{lifted_score}

@@ -8,7 +8,7 @@ use Rattle.std.proofs.lemmas.Option.{slice_get-map}
 use Rattle.cvss_grammar.specs.Text.{raised}
 use Rattle.cvss_name.specs.declared.v4.MetricType.{MetricType}
 use Rattle.cvss_name.specs.declared.v4.MetricType.TheVariants.{AC}
-use Rattle.cvss_v4_metric.specs.laws.Metrics.{IsMetric}
+use Rattle.cvss_v4_metric.specs.Metrics.{IsMetric}
 use Rattle.cvss_v4_metric.specs.Table.{spellings_of, spelling_at}
 use Rattle.cvss_v4.proofs.TestLemmas.{at_place}
 

@@ -4,7 +4,6 @@ mod CompleteLemmas
 mod CountLemmas
 mod DepthLemmas
 mod DistanceLemmas
-mod EqualLemmas
 mod FitLemmas
 mod GroupLemmas
 mod LeastLemmas

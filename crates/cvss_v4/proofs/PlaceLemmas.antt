@@ -4,7 +4,8 @@ use Rattle.std.proofs.Math.Nat.{min-le_right}
 use Rattle.std.proofs.lemmas.Bool.{lt-ltb}
 use Rattle.cvss_v4.specs.Gap.{next_of, eq1_next, eq2_next, eq3_eq6_next, eq4_next, eq5_next, larger, next_of_pair}
 use Rattle.cvss_v4.specs.Values.{listed_value}
-use Rattle.cvss_v4.specs.laws.ScoreLaws.{IsMacroVector, IsListed}
+use Rattle.cvss_v4.specs.Classes.{IsMacroVector}
+use Rattle.cvss_v4.specs.laws.ScoreLaws.{IsListed}
 use Rattle.cvss_v4.specs.private.Places.{place_of}
 use Rattle.cvss_v4.specs.declared.scoring.classes.MacroVector.{MacroVector}
 use Rattle.cvss_v4.specs.declared.scoring.values.TheConstants.{VALUES}

@@ -9,7 +9,7 @@ use Rattle.cvss_v4.specs.Distance.{eq1_least, eq2_least, eq3_eq6_least, eq4_leas
 use Rattle.cvss_v4.specs.Gap.{Group, eq1_group, eq2_group, eq3_eq6_group, eq4_group, eq5_group, eq1_next, eq2_next, eq3_eq6_next, eq4_next, eq5_next, eq1_depth, eq2_depth, eq3_eq6_depth, eq4_depth, groups}
 use Rattle.cvss_v4.specs.Levels.{vulnerable_level, subsequent_level, safety_level}
 use Rattle.cvss_v4.specs.Scores.{has_impact, is_vulnerable_impact, is_subsequent_impact, is_safety_impact, number, IsScore}
-use Rattle.cvss_v4.specs.laws.ScoreLaws.{IsAsSevere}
+use Rattle.cvss_v4.specs.AsSevere.{IsAsSevere}
 use Rattle.cvss_v4.specs.private.Shares.{taken, counted}
 use Rattle.cvss_v4.specs.Values.{listed_value, table_value}
 use Rattle.cvss_v4.specs.declared.scoring.effective.Effective.{Effective}

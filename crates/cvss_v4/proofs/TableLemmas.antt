@@ -1,7 +1,8 @@
 -- The values of the code are those of the table, and no class has a smaller value than its next lower ones.
 use Rattle.std.proofs.Common.{◌≡◌, ℕ, ◌≤◌, Bool, true, false, ◌&&◌, ◌||◌, ◌==◌, leb, slice_index, Option, Some, None, refl, arith, ap}
 use Rattle.std.proofs.lemmas.Bool.Decides.{nat_tests}
-use Rattle.cvss_v4.specs.laws.ScoreLaws.{IsMacroVector, IsListed}
+use Rattle.cvss_v4.specs.Classes.{IsMacroVector}
+use Rattle.cvss_v4.specs.laws.ScoreLaws.{IsListed}
 use Rattle.cvss_v4.specs.Gap.{eq1_next, eq2_next, eq3_eq6_next, eq4_next, eq5_next}
 use Rattle.cvss_v4.specs.private.Places.{place_of}
 use Rattle.cvss_v4.specs.Values.{rows, listed_value}

@@ -1,5 +1,5 @@
 -- The equivalence classes EQ1 to EQ6 of effective values: CVSS v4.0 specification, section 8.2 (MacroVectors).
-use Rattle.std.specs.Prelude.{ℕ, Bool, true, false, ◌&&◌, ◌||◌, not, if◌then◌else◌}
+use Rattle.std.specs.Prelude.{◌≡◌, ◌≤◌, ℕ, Bool, true, false, ◌&&◌, ◌||◌, not, if◌then◌else◌}
 use Rattle.cvss_v4.specs.declared.scoring.classes.MacroVector.{MacroVector}
 use Rattle.cvss_v4.specs.declared.scoring.effective.Effective.{Effective}
 use Rattle.cvss_v4.specs.declared.scoring.effective.AttackVector.{AttackVector}
@@ -104,3 +104,13 @@ macro_vector v = record {
   eq5 = eq5 v.e;
   eq6 = eq6 v.vc v.vi v.va v.cr v.ir v.ar;
 }
+
+-- there is a class with these six numbers; EQ3 = 2 with EQ6 = 0 can't arise
+pub record IsMacroVector (m : MacroVector) : Type 0 where
+  pub eq1 : m.eq1 ≤ 2
+  pub eq2 : m.eq2 ≤ 1
+  pub eq3 : m.eq3 ≤ 2
+  pub eq4 : m.eq4 ≤ 2
+  pub eq5 : m.eq5 ≤ 2
+  pub eq6 : m.eq6 ≤ 1
+  pub eq3_eq6 : m.eq3 ≡ 2 → m.eq6 ≡ 1

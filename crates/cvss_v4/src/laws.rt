@@ -3,13 +3,14 @@
 
 ghost use Rattle.std.specs.List.{All};
 ghost use Rattle.std.specs.Prelude.{◌≡◌, ℕ, ℤ, List, [], ◌∷◌, ◌≤◌, ◌↔◌, ◌≤ℤ◌, IfSome, IsTrue, None};
-ghost use Rattle.cvss_grammar.specs.laws.Equality.{EqualsByValue, ClonesByValue};
+ghost use Rattle.cvss_grammar.specs.Equality.{EqualsByValue, ClonesByValue, ClonesAlways};
 ghost use Rattle.cvss_number.specs.Exact.{of_count, ◌over◌, ◌⊕◌};
 ghost use Rattle.cvss_number.specs.Rounding.{IsRoundedV4};
 ghost use Rattle.cvss_number.specs.laws.Rounding.{IsNearestEven, printed_tenths};
 ghost use Rattle.cvss_grammar.specs.Version.{canonical_text, Denotes};
 ghost use Rattle.cvss_name.specs.declared.v4.MetricType.{MetricType};
 ghost use Rattle.cvss_name.specs.declared.v4.MetricType.TheVariants.{AC, AT, AV, PR, SA, SC, SI, UI, VA, VC, VI, E, AR, CR, IR, MAC, MAT, MAV, MPR, MSA, MSC, MSI, MUI, MVA, MVC, MVI};
+ghost use Rattle.cvss_v4.specs.AsSevere.{IsAsSevere};
 ghost use Rattle.cvss_v4.specs.laws.ClassLaws.{IsDominated, HaveLeastSum, IsDepth};
 ghost use Rattle.cvss_v4.specs.Classes.{eq1, eq2, eq3, eq4, eq6, macro_vector};
 ghost use Rattle.cvss_v4.specs.Distance.{eq1_sum, eq1_least, eq1_distance, eq2_sum, eq2_least, eq2_distance, eq3_eq6_sum, eq3_eq6_least, eq3_eq6_distance, eq4_sum, eq4_least, eq4_distance};
@@ -21,12 +22,11 @@ ghost use Rattle.cvss_v4.specs.Merging.{letter_at, effective_of};
 ghost use Rattle.cvss_v4.specs.laws.MergingLaws.{HasModifiedAsBase, without_supplemental};
 ghost use Rattle.cvss_v4.specs.Nomenclature.{nomenclature_of};
 ghost use Rattle.cvss_v4.specs.laws.OverridingLaws.{AreAlike};
-ghost use Rattle.cvss_v4.specs.laws.ScoreLaws.{IsListed, IsPair, IsAsSevere, IsFromTenthToTen};
+ghost use Rattle.cvss_v4.specs.laws.ScoreLaws.{IsListed, IsPair, IsFromTenthToTen};
 ghost use Rattle.cvss_v4.specs.Scores.{has_impact, number, IsScore};
 ghost use Rattle.cvss_v4.specs.Values.{listed_value, table_value};
 ghost use Rattle.cvss_v4.specs.Table.{value_at};
 ghost use Rattle.cvss_v4.specs.Vector.{v4};
-ghost use Rattle.cvss_v4.specs.declared.nomenclature.Nomenclature.{Nomenclature};
 ghost use Rattle.cvss_v4.specs.declared.scoring.effective.Effective.{Effective};
 ghost use Rattle.cvss_v4.specs.declared.vector.Vector.{Vector};
 ghost use Rattle.cvss_v4.specs.declared.vector.overriding.OverrideError.{OverrideError};
@@ -62,9 +62,9 @@ pub fn clones_are_equal()
 
 /// To clone a vector, a score or a nomenclature takes no memory, so it is never refused.
 pub fn values_are_cloned_without_memory()
-    ensures vector { (v : Vector) → ⟦<Vector as Clone>⟧.is_infallible v }
-    ensures score { (x : ℤ × Nomenclature) → ⟦<Score as Clone>⟧.is_infallible x }
-    ensures nomenclature { (x : Nomenclature) → ⟦<Nomenclature as Clone>⟧.is_infallible x }
+    ensures vector { ClonesAlways ⟦<Vector as Clone>⟧.is_infallible }
+    ensures score { ClonesAlways ⟦<Score as Clone>⟧.is_infallible }
+    ensures nomenclature { ClonesAlways ⟦<Nomenclature as Clone>⟧.is_infallible }
 {}
 
 /// The default vector has minor version 0 and no metric.

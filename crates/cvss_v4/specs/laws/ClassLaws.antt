@@ -1,7 +1,7 @@
 -- What the laws of the classes of CVSS v4 say: v4.0 specification, section 8.2.
 use Rattle.std.specs.Prelude.{◌≡◌, ℕ, List, ℤ, pos, ◌+ℤ◌, ◌<ℤ◌}
 use Rattle.std.specs.List.{All, Any}
-use Rattle.cvss_v4.specs.laws.Maximal.{IsAtMost}
+use Rattle.cvss_v4.specs.AsSevere.{IsAtMost}
 use Rattle.cvss_v4.specs.declared.scoring.effective.Effective.{Effective}
 
 -- some listed values have no level above that of these

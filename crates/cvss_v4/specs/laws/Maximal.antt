@@ -1,6 +1,6 @@
--- The most severe effective values of each class, which the specification calls its highest severity vectors, and
--- what makes values more severe: CVSS v4.0 specification, section 8.2.
-use Rattle.std.specs.Prelude.{ℕ, zero, suc, ◌≤◌, List, [], ◌∷◌}
+-- The most severe effective values of each class, which the specification calls its highest severity vectors: CVSS
+-- v4.0 specification, section 8.2.
+use Rattle.std.specs.Prelude.{ℕ, zero, suc, List, [], ◌∷◌}
 use Rattle.cvss_v4.specs.Levels.{attack_vector_level, privileges_level, interaction_level, complexity_level, requirements_level, vulnerable_level, subsequent_level, safety_level, requirement_level}
 use Rattle.cvss_v4.specs.declared.scoring.effective.AttackVector.{AttackVector}
 use Rattle.cvss_v4.specs.declared.scoring.effective.AttackVector.TheVariants.{Network, Adjacent, Physical}
@@ -20,13 +20,6 @@ use Rattle.cvss_v4.specs.declared.scoring.effective.SafetyImpact.{SafetyImpact}
 use Rattle.cvss_v4.specs.declared.scoring.effective.SafetyImpact.TheVariants as safety
 use Rattle.cvss_v4.specs.declared.scoring.effective.Requirement.{Requirement}
 use Rattle.cvss_v4.specs.declared.scoring.effective.Requirement.TheVariants as requirement
-
--- as many levels, and none above that of the same place
-abbrev pub IsAtMost : List ℕ → List ℕ → Type 0
-IsAtMost [] [] = Unit {0}
-IsAtMost [] (other ∷ others) = ⊥
-IsAtMost (level ∷ rest) [] = ⊥
-IsAtMost (level ∷ rest) (other ∷ others) = (level ≤ other) × IsAtMost rest others
 
 -- values of AV, PR and UI
 abbrev pub Eq1Values : Type 0

@@ -1,8 +1,7 @@
 //! The classes of effective values: EQ1 to EQ6 (v4.0 specification, section 8.2).
 
 ghost use Rattle.std.specs.Prelude.{◌≡◌, ◌&&◌};
-ghost use Rattle.cvss_v4.specs.Classes.{eq1, eq2, eq3, eq4, eq5, eq6, is_requirement_high, is_vulnerable_high, macro_vector};
-ghost use Rattle.cvss_v4.specs.laws.ScoreLaws.{IsMacroVector};
+ghost use Rattle.cvss_v4.specs.Classes.{eq1, eq2, eq3, eq4, eq5, eq6, is_requirement_high, is_vulnerable_high, macro_vector, IsMacroVector};
 
 use crate::scoring::effective::{
     AttackComplexity, AttackRequirements, AttackVector, Effective, ExploitMaturity,

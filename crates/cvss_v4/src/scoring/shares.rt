@@ -2,10 +2,10 @@
 //! the proportion of the distance to the depth (v4.0 specification, section 8.2).
 
 ghost use Rattle.std.specs.Prelude.{◌≡◌, ◌+◌, ◌-◌, ◌*◌, ◌<◌, ◌≤◌, slice_index};
-ghost use Rattle.cvss_v4.specs.Classes.{macro_vector};
+ghost use Rattle.cvss_v4.specs.Classes.{macro_vector, IsMacroVector};
 ghost use Rattle.cvss_v4.specs.Gap.{eq1_group, eq2_group, eq3_eq6_group, eq4_group, eq5_group, eq3_eq6_next};
 ghost use Rattle.cvss_v4.specs.Values.{listed_value};
-ghost use Rattle.cvss_v4.specs.laws.ScoreLaws.{IsMacroVector, IsListed};
+ghost use Rattle.cvss_v4.specs.laws.ScoreLaws.{IsListed};
 ghost use Rattle.cvss_v4.specs.private.Places.{place_of};
 ghost use Rattle.cvss_v4.specs.private.Shares.{IsPart, IsShare};
 

@@ -1,7 +1,8 @@
 //! The values of the classes (v4.0 specification, section 8.2).
 
 ghost use Rattle.std.specs.Prelude.{◌≡◌, ◌<◌, slice_index};
-ghost use Rattle.cvss_v4.specs.laws.ScoreLaws.{IsMacroVector, IsListed};
+ghost use Rattle.cvss_v4.specs.Classes.{IsMacroVector};
+ghost use Rattle.cvss_v4.specs.laws.ScoreLaws.{IsListed};
 ghost use Rattle.cvss_v4.specs.Values.{listed_value};
 ghost use Rattle.cvss_v4.specs.private.Places.{place_of};
 ghost use Rattle.cvss_v4.specs.declared.scoring.values.TheConstants.{VALUES};

@@ -7,7 +7,7 @@ ghost use Rattle.cvss_number.specs.Tenths.{IsInTenths, IsFromZeroToTen};
 ghost use Rattle.cvss_grammar.specs.Version.{IsComplete};
 ghost use Rattle.cvss_v4.specs.Merging.{effective_of};
 ghost use Rattle.cvss_v4.specs.Nomenclature.{nomenclature_of};
-ghost use Rattle.cvss_v4.specs.laws.ScoreLaws.{IsAsSevere};
+ghost use Rattle.cvss_v4.specs.AsSevere.{IsAsSevere};
 ghost use Rattle.cvss_v4.specs.Scores.{has_impact, number, IsScore};
 ghost use Rattle.cvss_v4.specs.Vector.{v4};
 ghost use Rattle.cvss_v4.specs.declared.scoring.effective.Effective.{Effective};

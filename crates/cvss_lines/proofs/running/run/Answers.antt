@@ -2,7 +2,7 @@ use Rattle.std.proofs.Common.{take, arith, subst, refl, sym, ◌∙◌}
 use Rattle.std.specs.Io.KnownBytes.{Consumes}
 use Rattle.std.proofs.lemmas.List.{take_at}
 use Rattle.std.proofs.KnownBytes.{Keeps-refl}
-use Rattle.cvss_lines.specs.Steps.{NoLineEnd}
+use Rattle.cvss_lines.specs.private.Steps.{NoLineEnd}
 use Rattle.cvss_lines.specs.declared.fault.RunFault.TheVariants.{Read, Memory}
 use Rattle.cvss_lines.proofs.LinesLemmas.{NoLineEnd-unended_piece}
 use Rattle.cvss_lines.proofs.RunLemmas.{AnswersAll-end, AnswersCut-chunk, AnswersCut-end, AnswersEnded-failed, AnswersFirst-read, AnswersFirst-start, AwaitsMore-chunk, AwaitsMore-start, Ends-fault, Ends-well, read_end}

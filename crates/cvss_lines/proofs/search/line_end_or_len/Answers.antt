@@ -1,7 +1,7 @@
 use Rattle.std.proofs.Common.{◌≡◌, ◌≢◌, ℕ, ◌+◌, ◌-◌, ◌<◌, ◌≤◌, List, length, drop, get_or, ap, ◌∙◌, sym, subst, arith, inl, inr, length-drop}
 use Rattle.std.proofs.lemmas.Bool.{cases_lt}
 use Rattle.std.proofs.lemmas.List.{get_or-drop, take_rest}
-use Rattle.cvss_lines.specs.Steps.{IsFirstLineEnd}
+use Rattle.cvss_lines.specs.private.Steps.{IsFirstLineEnd}
 use Rattle.cvss_lines.proofs.search.line_end_or_len.Goals as goal
 
 -- the first byte 10 behind bytes that have none

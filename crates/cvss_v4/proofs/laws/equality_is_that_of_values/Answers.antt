@@ -1,6 +1,6 @@
 use Rattle.std.proofs.Common.{rules}
 use Rattle.std.proofs.lemmas.Bool.Decides.{Decides-eqb}
-use Rattle.cvss_v4.proofs.EqualLemmas.{same_option, then_same}
+use Rattle.cvss_base.proofs.EqualLemmas.{same_option, then_same}
 use Rattle.cvss_v4.proofs.TestLemmas.{both}
 use Rattle.cvss_v4.specs.contracts.vector.VectorEq.TheImpl.Laws.{laws-law}
 use Rattle.cvss_v4.proofs.laws.equality_is_that_of_values.Goals as goal

@@ -3,7 +3,7 @@ use Rattle.std.proofs.lemmas.Bool.Decides.{nat_tests}
 use Rattle.std.proofs.lemmas.List.{nil_from_length}
 use Rattle.std.proofs.lemmas.Result.{on_ok_weaker, MatchResult-weaker}
 use Rattle.cvss_lines.specs.Lines.{lines}
-use Rattle.cvss_lines.specs.Steps.{Writes}
+use Rattle.cvss_lines.specs.private.Steps.{Writes}
 use Rattle.cvss_lines.proofs.StepsLemmas.{Gathers-end, Writes-gathered, StopsAt-gathered, Writes-none}
 use Rattle.cvss_lines.proofs.pending.Pending.answer_end.Goals as goal
 

@@ -3,7 +3,7 @@ use Rattle.std.proofs.lemmas.Bool.Decides.{nat_tests}
 use Rattle.std.proofs.lemmas.List.{nil_from_length}
 use Rattle.cvss_lines.specs.Answers.{next_number}
 use Rattle.cvss_lines.specs.Lines.{line_text}
-use Rattle.cvss_lines.specs.Steps.{Counts}
+use Rattle.cvss_lines.specs.private.Steps.{Counts}
 use Rattle.cvss_lines.proofs.StepsLemmas.{Gathers-one}
 use Rattle.cvss_lines.proofs.pending.Pending.end_line.Goals as goal
 use Rattle.cvss_lines.proofs.pending.Pending.end_line.Goals.{then-is_empty+in_ok-accepted, else-is_empty+in_ok-extend_from_slice+in_ok-accepted-2}

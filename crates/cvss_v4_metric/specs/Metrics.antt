@@ -1,26 +1,10 @@
 -- What holds of each enum of metric values.
-use Rattle.std.specs.Prelude.{◌≡◌, ℕ, Bool, List, map, codes, Some, slice_get}
+use Rattle.std.specs.Prelude.{◌≡◌, ℕ, Bool, List, map, Some, slice_get}
 use Rattle.std.specs.Ordering.{nat_cmp}
 use Rattle.std.specs.declared.cmp.Ordering.{Ordering}
-use Rattle.cvss_grammar.specs.laws.Equality.{EqualsByValue, ClonesByValue}
+use Rattle.cvss_grammar.specs.Equality.{EqualsByValue, ClonesByValue}
 use Rattle.cvss_name.specs.declared.v4.MetricType.{MetricType}
-use Rattle.cvss_name.specs.declared.v4.MetricType.TheVariants.{AC, AT, AV, PR, SA, SC, SI, UI, VA, VC, VI}
-use Rattle.cvss_v4_metric.specs.Table.{spellings_of, spelling_at}
-
--- how the value is spelled that a metric has by default
-abbrev pub default_of : MetricType → List ℕ
-default_of AV = codes "N"
-default_of AC = codes "L"
-default_of AT = codes "N"
-default_of PR = codes "N"
-default_of UI = codes "N"
-default_of VC = codes "H"
-default_of VI = codes "H"
-default_of VA = codes "H"
-default_of SC = codes "H"
-default_of SI = codes "H"
-default_of SA = codes "H"
-default_of _ = codes "X"
+use Rattle.cvss_v4_metric.specs.Table.{spellings_of, spelling_at, default_of}
 
 -- the enum has the values of the metric in the table
 pub record IsMetric {A : Type 0} (kind : MetricType) (rank : A → ℕ) (values : List A) (is_default : A → Type 0) (compared : A → A → Ordering) (same : A → A → Bool) (is_clone : A → A → Type 0) (is_infallible : A → Type 0) : Type 0 where

@@ -8,3 +8,7 @@ EqualsByValue {X} equals = (x y : X) → IsTrue (equals x y) ↔ (x ≡ y)
 -- a clone is the value itself
 abbrev pub ClonesByValue : {X : Type 0} → (X → X → Type 0) → Type 0
 ClonesByValue {X} is_clone = (x clone : X) → is_clone x clone → clone ≡ x
+
+-- no clone is refused: none takes memory
+abbrev pub ClonesAlways : {X : Type 0} → (X → Type 0) → Type 0
+ClonesAlways {X} is_infallible = (x : X) → is_infallible x

@@ -1,4 +1,4 @@
--- What the private code of a run does between two reads. No public clause cites it.
+-- What the private code of a run does between two reads.
 use Rattle.std.specs.Prelude.{◌≡◌, ℕ, ◌+◌, ◌-◌, ◌^◌, ◌<◌, ◌≤◌, ◌≢◌, min, All, Bool, List, length, slice_index, [], ◌∷◌, ◌++◌, take, Option, if◌then◌else◌}
 use Rattle.std.specs.Io.KnownBytes.{Appends, Keeps}
 use Rattle.cvss_lines.specs.Answers.{Answer, IsAnswers, Rule, next_number, is_accepted, is_refused, written_answers}

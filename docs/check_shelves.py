@@ -1,0 +1,95 @@
+#!/usr/bin/env python3
+"""Checks on which shelf the words of public clauses stand: those of a public call or trait right in `specs/`, and those of
+a law (the module `laws` of a crate) there or in `specs/laws/`. No page right in `specs/` stands on another shelf.
+
+Public is a call or trait that a public module has or that a `pub use` names, and a method of such a type.
+
+usage: docs/check_shelves.py    tells each clause that cites another shelf; status 1 if there are some
+"""
+import re
+import sys
+from pathlib import Path
+
+ROOT = Path(__file__).resolve().parent.parent
+# parts of versions and of the calls for C, which have no path in `cvss`, and callers that are proved from laws too
+WITHOUT_PROMISES = {"cvss_text", "cvss_base", "cvss_bytes", "cvss_examples"}
+
+USE = re.compile(r"^ *(?:pub |ghost )?use Rattle\.([\w.]+?)(?:\.\{([^}]*)\})?(?: as (\w+))?;?$", re.M)
+MODULE = re.compile(r"^(pub )?mod (\w+);", re.M)
+EXPORT = re.compile(r"^pub use [^;]+;", re.M)
+ITEM = re.compile(r"^(?:(?:pub )?(?:trait|impl|struct|enum)|pub (?:extern \"C\" )?fn)\b(?:[^\n]*(?:;|{})$|.*?^(?:}|{}))",
+                  re.M | re.S)
+METHOD = re.compile(r"^    (?:pub |final )?fn \w+.*?(?=^    [{}]|;$|{$)|^    ghost [^;]*;", re.M | re.S)
+
+
+def aliases():
+    """Which page each page stands for that a crate gives again under a name of its own."""
+    given = {}
+    for path in ROOT.glob("crates/*/specs/*.antt"):
+        folder = f"{path.parts[-3]}.specs" + ("" if path.stem == "Lib" else f".{path.stem}")
+        for page, _, name in USE.findall(path.read_text(encoding="utf-8")):
+            given[f"{folder}.{name or page.rsplit('.', 1)[1]}"] = page
+    return given
+
+
+def words(text, given):
+    """The words that a file takes from the shelves of laws and of private code, each with its page."""
+    for page, names, alias in USE.findall(text):
+        page = given.get(page, page)
+        if ".specs.laws." in page or ".specs.private." in page:
+            for name in re.findall(r"[^,{}\n]+", names) or [alias or page.rsplit(".", 1)[1]]:
+                yield name.split(" as ")[-1].strip(), page
+
+
+def modules(path, is_public):
+    """The files of a module and of those in it, and whether each is public; those of a program are."""
+    text = path.read_text(encoding="utf-8")
+    yield path, is_public
+    folder = path.parent if path.stem in ("lib", "main") else path.with_suffix("")
+    for is_open, name in MODULE.findall(text):
+        yield from modules(folder / f"{name}.rt", is_public and (bool(is_open) or path.stem == "main"))
+
+
+def signatures(text, is_public, exported):
+    """The signatures of the public calls and traits of a file, with their clauses."""
+    for item in ITEM.findall(text):
+        head = item.split("{")[0].split("\n")[0]
+        kind, name = re.match(r"(?:pub )?(?:extern \"C\" )?(\w+)(?:<[^>]*>)? (?:[\w:]+(?:<.*>)? for )?(\w+)", head).groups()
+        if kind in ("struct", "enum") or not (is_public or name in exported):
+            continue
+        if kind == "fn":
+            yield name, re.split(r"^{", item, flags=re.M)[0]
+        elif kind == "trait":
+            yield name, item
+        elif " for " not in head:
+            for method in METHOD.findall(item):
+                if method.startswith("    pub fn"):
+                    called = re.search(r"fn (\w+)", method)[1]
+                    yield f"{name}::{called}", method
+
+
+def wrong_clauses():
+    """Each public clause that cites a word of another shelf."""
+    given = aliases()
+    for crate in sorted(path.name for path in (ROOT / "crates").iterdir()):
+        if crate in WITHOUT_PROMISES:
+            continue
+        source = ROOT / "crates" / crate / "src"
+        root = next(path for path in (source / "lib.rt", source / "main.rt") if path.exists())
+        files = [(path, is_public, path.read_text(encoding="utf-8")) for path, is_public in modules(root, True)]
+        exported = {name for _, _, text in files for use in EXPORT.findall(text) for name in re.findall(r"\w+", use)}
+        for path, is_public, text in files:
+            foreign = {word: page for word, page in words(text, given)
+                       if path.stem != "laws" or ".specs.private." in page}
+            for name, signature in signatures(text, is_public, exported):
+                for word, page in sorted(foreign.items()):
+                    if re.search(rf"(?<!\w){re.escape(word)}(?!\w)", signature):
+                        yield f"{path.relative_to(ROOT)}: {name} cites {word} of {page}"
+    for path in sorted(ROOT.glob("crates/*/specs/[A-Z]*.antt")):
+        if path.stem != "Lib":
+            for word, page in words(path.read_text(encoding="utf-8"), given):
+                yield f"{path.relative_to(ROOT)} stands on {page}"
+
+
+if __name__ == "__main__":
+    sys.exit("\n".join(wrong_clauses()) or None)
