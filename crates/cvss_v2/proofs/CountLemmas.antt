@@ -59,30 +59,14 @@ base_rounded impact exploitability {number} some is_number same rounded =
     (sym (f_with_impact impact some)) is_product in
     v2-equal (lit< tt) (lit< tt) is_base same rounded
 
--- the base score of an impact in 10^-11 and an exploitability in 10^-9, rounded in 10^-15
-pub own_base_rounded : (impact exploitability : ℕ) {number r s : ℤ} → impact ≢ 0
-    → number ≡ (pos (6 * impact + 400 * exploitability) -ℤ pos 1_500_000_000_000) *ℤ pos 1176 → r ≡ s
-    → IsRoundedV2 (ratio number (10 ^ 15)) r
-    → IsRoundedV2 (base_number (ratio (pos impact) (10 ^ 11)) (ratio (pos exploitability) (10 ^ 9))) s
-own_base_rounded impact exploitability {number} some is_number same rounded =
-    let sum = 6 over 10 ⊗ ratio (pos impact) (10 ^ 11) ⊕ 4 over 10 ⊗ ratio (pos exploitability) (10 ^ 9) ⊖ 15 over 10 in
-    let is_product : ratio number (10 ^ 15) ≈ sum ⊗ thousandths 1176 = record { equal = omega (arith, ints) } in
-    let is_base = subst (λ (n : ℕ). ratio number (10 ^ 15) ≈ sum ⊗ thousandths n)
-    (sym (f_with_impact (pos impact) (λ zero. some (omega (arith, ints, zero))))) is_product in
-    v2-equal (lit< tt) (lit< tt) is_base same rounded
-
--- the temporal score of a base score, rounded in 10^-28
-pub temporal_rounded : (base : ℤ) (e rl rc : ℕ) {product number r s : ℤ} {weights : ℕ}
-    → weights ≡ e * rl * rc → product ≡ base *ℤ pos weights → number ≡ product *ℤ pos (10 ^ 18) → r ≡ s
-    → IsRoundedV2 (ratio number (10 ^ 28)) r
-    → IsRoundedV2 (temporal_number (tenths base) (thousandths e) (thousandths rl) (thousandths rc)) s
-temporal_rounded base e rl rc {number = number} are_weights is_product is_number same rounded =
+-- what the temporal score is the rounding of, in 10^-10
+pub temporal_is : (base : ℤ) (e rl rc : ℕ) {product number : ℤ} {weights : ℕ}
+    → weights ≡ e * rl * rc → product ≡ base *ℤ pos weights → number ≡ product
+    → ratio number (10 ^ 10) ≈ temporal_number (tenths base) (thousandths e) (thousandths rl) (thousandths rc)
+temporal_is base e rl rc are_weights is_product is_number =
     let grouped = ap (λ z. z *ℤ pos rc) (times_times base (pos e) rl) ∙ times_times base (pos (e * rl)) rc in
     let is_weighted = is_product ∙ ap (λ n. base *ℤ pos n) are_weights ∙ sym grouped in
-    let is_temporal : ratio number (10 ^ 28)
-    ≈ temporal_number (tenths base) (thousandths e) (thousandths rl) (thousandths rc) =
-    record { equal = omega (arith, ints, is_weighted) } in
-    v2-equal (lit< tt) (lit< tt) is_temporal same rounded
+    record { equal = omega (arith, ints, is_weighted) }
 
 -- what damage leaves of a temporal score and what it adds, in 10^-4
 damage_parted : (temporal : ℤ) (cdp left : ℕ) → cdp + left ≡ 1000
@@ -98,22 +82,18 @@ damage_parted temporal cdp left whole =
       ap (λ n. down temporal * n) whole,
     )
 
--- the environmental score of an adjusted temporal score, rounded in 10^-28
-pub environmental_rounded : (temporal : ℤ) (cdp td : ℕ) {undamaged number r s : ℤ} {left damaged : ℕ}
+-- what the environmental score is the rounding of, in 10^-7
+pub environmental_is : (temporal : ℤ) (cdp td : ℕ) {undamaged number : ℤ} {left damaged : ℕ}
     → cdp ≤ 1000 → left ≡ (1000 - cdp) * td * 1 → damaged ≡ 100 * cdp * td → undamaged ≡ temporal *ℤ pos left
-    → number ≡ (undamaged +ℤ pos damaged) *ℤ pos (10 ^ 21) → r ≡ s
-    → IsRoundedV2 (ratio number (10 ^ 28)) r
-    → IsRoundedV2 (environmental_number (tenths temporal) (thousandths cdp) (thousandths td)) s
-environmental_rounded temporal cdp td {number = number} small is_left is_damaged is_undamaged is_number same rounded =
+    → number ≡ undamaged +ℤ pos damaged
+    → ratio number (10 ^ 7) ≈ environmental_number (tenths temporal) (thousandths cdp) (thousandths td)
+environmental_is temporal cdp td small is_left is_damaged is_undamaged is_number =
     let rate = 1000 - cdp in
     let is_product = is_undamaged ∙ ap (λ n. temporal *ℤ pos n) is_left in
     let parted = ap (λ z. z *ℤ pos td) (damage_parted temporal cdp rate (omega arith)) in
     let parts = times_sum (temporal *ℤ pos (10 * rate)) (pos (1000 * cdp)) td in
     let grouped = times_times temporal (pos (10 * rate)) td in
-    let is_environmental : ratio number (10 ^ 28)
-    ≈ environmental_number (tenths temporal) (thousandths cdp) (thousandths td) =
-    record { equal = omega (arith, ints, is_product, parted, parts, grouped) } in
-    v2-equal (lit< tt) (lit< tt) is_environmental same rounded
+    record { equal = omega (arith, ints, is_product, parted, parts, grouped) }
 
 -- a count, rounded in 10^-28
 pub count_rounded : (count : ℤ) {number r : ℤ} → number ≡ count *ℤ pos 10_000

@@ -26,7 +26,7 @@ f_equal {x} {x'} some_x some_x' same =
     let same_f = f_thousandths_equal x.top x'.top x.bottom x'.bottom some_x some_x' same.equal in
     record { equal = ap (λ n. pos n *ℤ pos 1000) same_f }
 
-base_number_equal : {x x' y y' : Exact} → 0 < x.bottom → 0 < x'.bottom → x ≈ x' → y ≈ y'
+pub base_number_equal : {x x' y y' : Exact} → 0 < x.bottom → 0 < x'.bottom → x ≈ x' → y ≈ y'
     → base_number x y ≈ base_number x' y'
 base_number_equal some_x some_x' same_x same_y =
     let impacts = product_equal (equal_refl (6 over 10)) same_x in

@@ -7,7 +7,7 @@ use Rattle.cvss_number.proofs.ExactLemmas.{equal_refl}
 use Rattle.cvss_number.proofs.RoundingLemmas.{v2-unique}
 use Rattle.cvss_number.proofs.TenthsLemmas.{in_tenths_once}
 use Rattle.cvss_v2.specs.declared.weights.Weights.{Weights}
-use Rattle.cvss_v2.specs.Scores.{impact, adjusted_impact, temporal_number, environmental_number, IsTemporal, IsBaseBy, IsTemporalBy, IsEnvironmentalBy, IsPublished, IsBaseScore, IsTemporalScore, IsEnvironmentalScore, IsBaseScoreBy, IsTemporalScoreBy, IsEnvironmentalScoreBy}
+use Rattle.cvss_v2.specs.Scores.{impact, adjusted_impact, temporal_number, environmental_number, IsBase, IsTemporal, IsBaseBy, IsTemporalBy, IsEnvironmentalBy, IsPublished, IsBaseScore, IsTemporalScore, IsEnvironmentalScore, IsBaseScoreBy, IsTemporalScoreBy, IsEnvironmentalScoreBy}
 use Rattle.cvss_number.specs.Tenths.{IsInTenths}
 use Rattle.cvss_number.specs.laws.Rounding.{IsOneCount}
 
@@ -63,3 +63,10 @@ pub internal_once : (w : Weights) (count : ℤ) → IsOneCount (IsInTenths (IsTe
 internal_once w count =
     in_tenths_once (IsTemporal w (of_count count))
     (temporal_once IsRoundedV2 v2_once w (of_count count) (lit< tt))
+
+-- a vector has one base score with an impact, and one temporal score
+pub base_alone : (w : Weights) (x : Exact) → 0 < x.bottom → IsOneCount (IsBase w x)
+base_alone = base_once IsRoundedV2 v2_once
+
+pub temporal_alone : (w : Weights) (x : Exact) → 0 < x.bottom → IsOneCount (IsTemporal w x)
+temporal_alone = temporal_once IsRoundedV2 v2_once

@@ -2,8 +2,8 @@
 ghost use Rattle.std.specs.Prelude.{◌≡◌, ◌*◌, ◌^◌, ◌≤◌, ◌≤ℤ◌, pos, neg_ℤ};
 ghost use Rattle.cvss_number.specs.Exact.{ratio, whole, thousandths, ◌⊗◌, ◌≈◌};
 ghost use Rattle.cvss_number.specs.Rounding.{IsRoundedV2};
-ghost use Rattle.cvss_v2.specs.Scores.{impact_of, base_number};
-ghost use Rattle.cvss_v2.specs.private.Bounds.{IsOnScale};
+ghost use Rattle.cvss_v2.specs.Scores.{f_thousandths, impact_of, base_number};
+ghost use Rattle.cvss_v2.specs.private.Bounds.{IsOnScale, IsOnScaleOf};
 
 /// Impact in 10^-11, of three weights in thousandths.
 pub fn impact(c: u64, i: u64, a: u64) -> u64
@@ -29,6 +29,34 @@ pub fn exploitability(av: u64, ac: u64, au: u64) -> u64
     av * ac * au * 20
 }
 
+/// f(Impact) in thousandths, where Impact is not 0.
+const FACTOR: u64 = 1176;
+
+/// f(Impact) in thousandths.
+pub fn factor(impact: u64) -> u64
+    ensures value { result ≡ f_thousandths (pos impact) }
+    ensures bound { result ≤ 1176 }
+{
+    if impact == 0 { 0 } else { FACTOR }
+}
+
+/// What the base score is the rounding of in 10^-15, of an impact in 10^-11 and an exploitability
+/// in 10^-9.
+#[inline(always)]
+pub fn number(impact: u64, exploitability: u64) -> i64
+    requires impact { impact ≤ 10_001 * 10 ^ 8 }
+    requires exploitability { exploitability ≤ 10 ^ 10 }
+    ensures value { ratio result (10 ^ 15) ≈ base_number (ratio (pos impact) (10 ^ 11))
+        (ratio (pos exploitability) (10 ^ 9)) }
+    ensures on_scale { IsOnScaleOf (10 ^ 14) result }
+{
+    if impact == 0 {
+        return 0;
+    }
+    let sum = (6 * impact + 400 * exploitability) as i64;
+    (sum - 1_500_000_000_000) * FACTOR as i64
+}
+
 /// The base score in tenths, of an impact in 10^-11 and an exploitability in 10^-9.
 pub fn tenths(impact: u64, exploitability: u64) -> i64
     requires impact { impact ≤ 10_001 * 10 ^ 8 }
@@ -37,11 +65,7 @@ pub fn tenths(impact: u64, exploitability: u64) -> i64
         (ratio (pos exploitability) (10 ^ 9))) result }
     ensures on_scale { IsOnScale result }
 {
-    if impact == 0 {
-        return 0;
-    }
-    let sum = (6 * impact + 400 * exploitability) as i64;
-    rounded((sum - 1_500_000_000_000) * 1176)
+    rounded(number(impact, exploitability))
 }
 
 /// The v2 rounding to tenths, of a number of 10^-15.

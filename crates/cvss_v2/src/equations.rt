@@ -3,7 +3,7 @@ ghost use Rattle.std.specs.Prelude.{◌≡◌, ◌*◌, ◌^◌, ◌≤◌, ◌�
 ghost use Rattle.cvss_number.specs.Exact.{ratio, ◌over◌, whole, thousandths, tenths, of_count, ◌⊗◌, ◌≈◌, smaller, IsWithinLimit};
 ghost use Rattle.cvss_number.specs.Rounding.{IsRoundedV2};
 ghost use Rattle.cvss_v2.specs.Scores.{impact_of, base_number, temporal_number, environmental_number};
-ghost use Rattle.cvss_v2.specs.private.Bounds.{IsImpactCount, IsOnScale};
+ghost use Rattle.cvss_v2.specs.private.Bounds.{IsImpactCount, IsOnScale, IsOnScaleOf};
 
 use cvss_number::ONE;
 
@@ -47,6 +47,23 @@ pub fn base_tenths(impact: i128, exploitability: i128) -> i128
     round_tenths((6 * impact + 4 * exploitability - 15 * ONE) * 1176)
 }
 
+/// What the temporal score is the rounding of in 10^-10, of a base score in tenths.
+#[inline(always)]
+pub fn temporal_number(base: i128, e: u64, rl: u64, rc: u64) -> i128
+    requires low { neg_ℤ (pos (10 ^ 7)) ≤ℤ base }
+    requires high { base ≤ℤ pos (10 ^ 7) }
+    requires e { e ≤ 1000 }
+    requires rl { rl ≤ 1000 }
+    requires rc { rc ≤ 1000 }
+    ensures value { ratio result (10 ^ 10)
+        ≈ temporal_number (tenths base) (thousandths e) (thousandths rl) (thousandths rc) }
+    ensures low { neg_ℤ (pos (10 ^ 16)) ≤ℤ result }
+    ensures high { result ≤ℤ pos (10 ^ 16) }
+    ensures on_scale { IsOnScale base → IsOnScaleOf (10 ^ 9) result }
+{
+    weighted(base, product(e, rl, rc))
+}
+
 /// The temporal score in tenths, of a base score in tenths.
 pub fn temporal_tenths(base: i128, e: u64, rl: u64, rc: u64) -> i128
     requires low { neg_ℤ (pos (10 ^ 7)) ≤ℤ base }
@@ -60,7 +77,23 @@ pub fn temporal_tenths(base: i128, e: u64, rl: u64, rc: u64) -> i128
     ensures high { result ≤ℤ pos (10 ^ 7) }
     ensures on_scale { IsOnScale base → IsOnScale result }
 {
-    round_tenths(weighted(base, product(e, rl, rc)) * 1_000_000_000_000_000_000)
+    round_tenths(temporal_number(base, e, rl, rc) * 1_000_000_000_000_000_000)
+}
+
+/// What the environmental score is the rounding of in 10^-7, of an adjusted temporal score in
+/// tenths.
+#[inline(always)]
+pub fn environmental_number(temporal: i128, cdp: u64, td: u64) -> i128
+    requires temporal { IsOnScale temporal }
+    requires cdp { cdp ≤ 1000 }
+    requires td { td ≤ 1000 }
+    ensures value { ratio result (10 ^ 7)
+        ≈ environmental_number (tenths temporal) (thousandths cdp) (thousandths td) }
+    ensures on_scale { IsOnScaleOf (10 ^ 6) result }
+{
+    let undamaged = weighted(temporal, product(1000 - cdp, td, 1));
+    let damaged = product(100, cdp, td) as i128;
+    undamaged + damaged
 }
 
 /// The environmental score in tenths, of an adjusted temporal score in tenths.
@@ -72,9 +105,7 @@ pub fn environmental_tenths(temporal: i128, cdp: u64, td: u64) -> i128
         (environmental_number (tenths temporal) (thousandths cdp) (thousandths td)) result }
     ensures on_scale { IsOnScale result }
 {
-    let undamaged = weighted(temporal, product(1000 - cdp, td, 1));
-    let damaged = product(100, cdp, td) as i128;
-    round_tenths((undamaged + damaged) * 1_000_000_000_000_000_000_000)
+    round_tenths(environmental_number(temporal, cdp, td) * 1_000_000_000_000_000_000_000)
 }
 
 /// The product of three weights.

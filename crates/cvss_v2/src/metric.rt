@@ -21,7 +21,7 @@ use std::alloc::Global;
 use std::fmt;
 
 /// A thousandth, in counts of 10^-24.
-const THOUSANDTH: i128 = 1_000_000_000_000_000_000_000;
+pub(crate) const THOUSANDTH: i128 = 1_000_000_000_000_000_000_000;
 
 /// A metric: an enum of the values that the guide gives for its type.
 pub trait Metric: Copy + Clone + fmt::Debug + fmt::Display + Eq + Ord {

@@ -62,7 +62,7 @@ impl Weights {
     }
 
     /// The base score of an impact, in tenths.
-    fn base(&self, impact: Score) -> i128
+    pub fn base(&self, impact: Score) -> i128
         requires table { IsFromTable self.now }
         requires limit { IsWithinLimit impact }
         ensures value { IsBase self.now (of_count impact) result }
@@ -74,7 +74,7 @@ impl Weights {
     }
 
     /// The temporal score of an impact, in tenths.
-    fn temporal(&self, impact: Score) -> i128
+    pub fn temporal(&self, impact: Score) -> i128
         requires table { IsFromTable self.now }
         requires limit { IsWithinLimit impact }
         ensures value { IsTemporal self.now (of_count impact) result }

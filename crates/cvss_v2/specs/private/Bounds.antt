@@ -1,5 +1,5 @@
 -- Bounds of weights and scores, within which the arithmetic neither wraps nor overflows.
-use Rattle.std.specs.Prelude.{ℕ, ◌*◌, ◌^◌, ◌≤◌, ◌≤ℤ◌, ℤ, pos, negsuc, max, map}
+use Rattle.std.specs.Prelude.{ℕ, ◌*◌, ◌^◌, ◌≤◌, ◌≤ℤ◌, ℤ, pos, negsuc, neg_ℤ, max, map}
 use Rattle.std.specs.List.{fold}
 use Rattle.cvss_name.specs.declared.v2.MetricType.{MetricType}
 use Rattle.cvss_v2.specs.declared.weights.Weights.{Weights}
@@ -35,6 +35,11 @@ pub record IsFromTable (w : Weights) : Type 0 where
 pub record IsOnScale (r : ℤ) : Type 0 where
   pub low : negsuc 17 ≤ℤ r
   pub high : r ≤ℤ pos 100
+
+-- so many parts of a tenth, from -1.8 to 10
+pub record IsOnScaleOf (parts : ℕ) (n : ℤ) : Type 0 where
+  pub low : neg_ℤ (pos (18 * parts)) ≤ℤ n
+  pub high : n ≤ℤ pos (100 * parts)
 
 -- a count from 0 to 10.001, as each Impact is
 pub record IsImpactCount (count : ℤ) : Type 0 where

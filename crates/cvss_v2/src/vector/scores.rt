@@ -15,7 +15,7 @@ use crate::weights::Weights;
 
 impl Vector {
     #[inline(always)]
-    fn weights(&self) -> Weights
+    pub(crate) fn weights(&self) -> Weights
         ensures weights { result ≡ weights_of self.now }
         ensures table { IsFromTable result }
     {

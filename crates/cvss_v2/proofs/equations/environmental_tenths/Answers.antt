@@ -1,34 +1,21 @@
-use Rattle.std.proofs.Common.{arith}
 use Rattle.std.specs.Int.{w128}
+use Rattle.std.proofs.Common.{arith, lit<}
 use Rattle.std.proofs.lemmas.Int.{ints, to_z-of_z}
-use Rattle.cvss_v2.proofs.CountLemmas.{environmental_rounded, weights_add, rounded_low, rounded_high, product_low, product_high}
+use Rattle.cvss_number.proofs.ExactLemmas.{equal_trans}
+use Rattle.cvss_number.proofs.RoundingLemmas.{v2-equal}
+use Rattle.cvss_v2.proofs.CountLemmas.{rounded_low, rounded_high}
 use Rattle.cvss_v2.proofs.equations.environmental_tenths.Goals as goal
-
-pub round_tenths-requires-clause-low : goal.round_tenths-requires-clause-low
-round_tenths-requires-clause-low c =
-    let is_weighted = simp (to_z-of_z w128 c.args.temporal c.ranges.temporal) at c.weighted-undamaged.ensures.value in
-    let low = product_low c.args.temporal 18 c.product.result c.requires.temporal.low in
-    omega (arith, ints)
-
-pub round_tenths-requires-clause-high : goal.round_tenths-requires-clause-high
-round_tenths-requires-clause-high c =
-    let is_weighted = simp (to_z-of_z w128 c.args.temporal c.ranges.temporal) at c.weighted-undamaged.ensures.value in
-    let high = product_high c.args.temporal 100 c.product.result c.requires.temporal.high in
-    omega (arith, ints)
 
 pub returns-clause-value : goal.returns-clause-value
 returns-clause-value c =
-    environmental_rounded c.args.temporal c.args.cdp c.args.td c.requires.cdp c.product.ensures.value c.product-damaged.ensures.value
-    (simp (to_z-of_z w128 c.args.temporal c.ranges.temporal) at c.weighted-undamaged.ensures.value)
-    (omega (arith, ints)) (omega (arith, ints)) c.round_tenths.ensures
+    let is_number = simp (to_z-of_z w128 c.args.temporal c.ranges.temporal) at c.environmental_number.ensures.value in
+    v2-equal (lit< tt) (lit< tt) (equal_trans (lit< tt) (record { equal = omega (arith, ints) }) is_number)
+    (omega (arith, ints)) c.round_tenths.ensures
 
 pub returns-clause-on_scale : goal.returns-clause-on_scale
 returns-clause-on_scale c =
-    let is_weighted = simp (to_z-of_z w128 c.args.temporal c.ranges.temporal) at c.weighted-undamaged.ensures.value in
-    let low = product_low c.args.temporal 18 c.product.result c.requires.temporal.low in
-    let high = product_high c.args.temporal 100 c.product.result c.requires.temporal.high in
-    let whole = weights_add c.args.cdp c.args.td c.requires.cdp in
+    let number = c.environmental_number.ensures.on_scale in
     record {
-      low = rounded_low 18 (omega (arith, ints)) (omega (arith, ints)) c.round_tenths.ensures;
-      high = rounded_high 100 (omega (arith, ints)) (omega (arith, ints)) c.round_tenths.ensures;
+      low = rounded_low 18 (omega (arith, ints, number.low)) (omega (arith, ints)) c.round_tenths.ensures;
+      high = rounded_high 100 (omega (arith, ints, number.high)) (omega (arith, ints)) c.round_tenths.ensures;
     }

@@ -1,21 +1,27 @@
-use Rattle.std.proofs.Common.{arith}
 use Rattle.std.specs.Int.{w128}
+use Rattle.std.proofs.Common.{◌^◌, arith, lit<}
 use Rattle.std.proofs.lemmas.Int.{ints, to_z-of_z}
-use Rattle.cvss_v2.proofs.CountLemmas.{temporal_rounded, rounded_low, rounded_high, product_low, product_high}
+use Rattle.cvss_number.proofs.ExactLemmas.{equal_trans}
+use Rattle.cvss_number.proofs.RoundingLemmas.{v2-equal}
+use Rattle.cvss_v2.proofs.CountLemmas.{rounded_low, rounded_high}
 use Rattle.cvss_v2.proofs.equations.temporal_tenths.Goals as goal
 
 pub returns-clause-value : goal.returns-clause-value
 returns-clause-value c =
-    temporal_rounded c.args.base c.args.e c.args.rl c.args.rc c.product.ensures.value
-    (simp (to_z-of_z w128 c.args.base c.ranges.base) at c.weighted.ensures.value)
-    (omega (arith, ints)) (omega (arith, ints)) c.round_tenths.ensures
+    let is_number = simp (to_z-of_z w128 c.args.base c.ranges.base) at c.temporal_number.ensures.value in
+    v2-equal (lit< tt) (lit< tt) (equal_trans (lit< tt) (record { equal = omega (arith, ints) }) is_number)
+    (omega (arith, ints)) c.round_tenths.ensures
+
+pub returns-clause-low : goal.returns-clause-low
+returns-clause-low c = rounded_low (10 ^ 7) (omega (arith, ints)) (omega (arith, ints)) c.round_tenths.ensures
+
+pub returns-clause-high : goal.returns-clause-high
+returns-clause-high c = rounded_high (10 ^ 7) (omega (arith, ints)) (omega (arith, ints)) c.round_tenths.ensures
 
 pub returns-clause-on_scale : goal.returns-clause-on_scale
 returns-clause-on_scale c = λ on_scale.
-    let is_weighted = simp (to_z-of_z w128 c.args.base c.ranges.base) at c.weighted.ensures.value in
-    let low = product_low c.args.base 18 c.product.result on_scale.low in
-    let high = product_high c.args.base 100 c.product.result on_scale.high in
+    let number = (simp (to_z-of_z w128 c.args.base c.ranges.base) at c.temporal_number.ensures.on_scale) on_scale in
     record {
-      low = rounded_low 18 (omega (arith, ints)) (omega (arith, ints)) c.round_tenths.ensures;
-      high = rounded_high 100 (omega (arith, ints)) (omega (arith, ints)) c.round_tenths.ensures;
+      low = rounded_low 18 (omega (arith, ints, number.low)) (omega (arith, ints)) c.round_tenths.ensures;
+      high = rounded_high 100 (omega (arith, ints, number.high)) (omega (arith, ints)) c.round_tenths.ensures;
     }
