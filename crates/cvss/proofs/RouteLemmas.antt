@@ -105,19 +105,7 @@ v40_routed text vector denotes =
 held_routed : (kind : type_v2.MetricType) (spelling next : List ℕ) (more : List (List ℕ)) → has dot spelling ≡ false → route_of_pieces (component (name_of kind) spelling ∷ next ∷ more) ≡ ToV20
 held_routed kind spelling next more undotted = elim kind as (λ each. route_of_pieces (component (name_of each) spelling ∷ next ∷ more) ≡ ToV20) [
   | kind_v2.A ↦ rw undotted refl
-  | kind_v2.AC ↦ rw undotted refl
-  | kind_v2.AV ↦ rw undotted refl
-  | kind_v2.Au ↦ rw undotted refl
-  | kind_v2.C ↦ rw undotted refl
-  | kind_v2.I ↦ rw undotted refl
-  | kind_v2.E ↦ rw undotted refl
-  | kind_v2.RL ↦ rw undotted refl
-  | kind_v2.RC ↦ rw undotted refl
-  | kind_v2.CDP ↦ rw undotted refl
-  | kind_v2.TD ↦ rw undotted refl
-  | kind_v2.CR ↦ rw undotted refl
-  | kind_v2.IR ↦ rw undotted refl
-  | kind_v2.AR ↦ rw undotted refl
+  | _ ↦ rw undotted refl
 ]
 
 first_held_routed : (parts : List (List ℕ)) (kind : type_v2.MetricType) (spelling : List ℕ) → 1 < length parts → has dot spelling ≡ false → piece_at parts 0 ≡ component (name_of kind) spelling → route_of_pieces parts ≡ ToV20

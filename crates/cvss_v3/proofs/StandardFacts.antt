@@ -64,18 +64,7 @@ worst_unchanged = of_base 85 77 85 85 false 56 56 56
 pub worst_unchanged_base : (base_number worst_unchanged ≈ 9_760_161_495 over (10 ^ 9)) × IsBase 1 worst_unchanged (pos 98)
 worst_unchanged_base = (record { equal = refl }, rounded_if 1 _ _ 98 refl)
 
--- the same with CR:L/IR:L/AR:L
-abbrev low_requirements : Weights
-low_requirements = record worst_unchanged { cr = 50; ir = 50; ar = 50 }
-
-pub low_requirements_environmental : (environmental_number 1 low_requirements ≈ 7_910_790_615 over (10 ^ 9))
-    × IsEnvironmental 1 low_requirements (pos 80)
-low_requirements_environmental = (
-  record { equal = refl },
-  record { first = pos 80; is_first = rounded_if 1 _ _ 80 refl; is_rounded = rounded_if 1 _ _ 80 refl },
-)
-
--- the same with CR:H/IR:H/AR:H, where MISS is 0.915
+-- AV:N/AC:L/PR:N/UI:N/S:U/C:H/I:H/A:H/CR:H/IR:H/AR:H, where MISS is 0.915
 abbrev high_requirements : Weights
 high_requirements = record worst_unchanged { cr = 150; ir = 150; ar = 150 }
 
@@ -87,7 +76,7 @@ high_requirements_environmental = (
   record { first = pos 98; is_first = rounded_if 1 _ _ 98 refl; is_rounded = rounded_if 1 _ _ 98 refl },
 )
 
--- the same with MC:N/MI:N/MA:N
+-- AV:N/AC:L/PR:N/UI:N/S:U/C:H/I:H/A:H/MC:N/MI:N/MA:N
 abbrev no_modified_impact : Weights
 no_modified_impact = record worst_unchanged { mc = 0; mi = 0; ma = 0 }
 
@@ -99,10 +88,6 @@ no_modified_impact_environmental =
 abbrev worst_changed : Weights
 worst_changed = of_base 85 77 85 62 true 56 56 56
 
-pub worst_changed_base : IsBase 0 worst_changed (pos 96) × IsBase 1 worst_changed (pos 96)
-unfolding changed_impact power
-worst_changed_base = (rounded_if 0 _ _ 96 refl, rounded_if 1 _ _ 96 refl)
-
 pub worst_changed_environmental : IsEnvironmental 0 worst_changed (pos 96) × IsEnvironmental 1 worst_changed (pos 97)
 unfolding changed_impact changed_modified_impact power
 worst_changed_environmental = (
@@ -110,27 +95,10 @@ worst_changed_environmental = (
   record { first = pos 97; is_first = rounded_if 1 _ _ 97 refl; is_rounded = rounded_if 1 _ _ 97 refl },
 )
 
--- AV:P/AC:H/PR:H/UI:R/S:C/C:N/I:N/A:L
-abbrev least_changed : Weights
-least_changed = of_base 20 44 50 62 true 0 0 22
-
-pub least_changed_base : (base_number least_changed ≈ 179_340_652_788_498_432 over (10 ^ 17)) × IsBase 1 least_changed (pos 18)
-unfolding changed_impact power
-least_changed_base = (record { equal = refl }, rounded_if 1 _ _ 18 refl)
-
--- AV:N/AC:L/PR:N/UI:R/S:C/C:L/I:L/A:N and AV:A/AC:L/PR:N/UI:N/S:C/C:H/I:N/A:H
-pub changed_bases : IsBase 1 (of_base 85 77 85 62 true 22 22 0) (pos 61) × IsBase 1 (of_base 62 77 85 85 true 56 0 56) (pos 93)
-unfolding changed_impact power
-changed_bases = (rounded_if 1 _ _ 61 refl, rounded_if 1 _ _ 93 refl)
-
 -- AV:N/AC:L/PR:N/UI:N/S:C/C:N/I:N/A:N
 pub harmless_base : IsBase 1 (of_base 85 77 85 85 true 0 0 0) (pos 0)
 unfolding changed_impact power
 harmless_base = rounded_if 1 _ _ 0 refl
-
--- AV:N/AC:H/PR:N/UI:R/S:U/C:L/I:N/A:N and AV:P/AC:L/PR:N/UI:N/S:U/C:N/I:H/A:N
-pub unchanged_bases : IsBase 1 (of_base 85 44 85 62 false 22 0 0) (pos 31) × IsBase 1 (of_base 20 77 85 85 false 0 56 0) (pos 46)
-unchanged_bases = (rounded_if 1 _ _ 31 refl, rounded_if 1 _ _ 46 refl)
 
 -- AV:N/AC:L/PR:L/UI:N/S:C/C:H/I:H/A:H/MS:U, whose privileges weigh by each scope
 abbrev scope_modified : Weights
@@ -144,33 +112,6 @@ scope_modified_scores = (
   record { equal = refl },
   record { first = pos 88; is_first = rounded_if 1 _ _ 88 refl; is_rounded = rounded_if 1 _ _ 88 refl },
 )
-
--- AV:A/AC:H/PR:L/UI:N/S:U/C:L/I:L/A:N/E:P/RL:T/RC:R/AR:H/MAC:H/MUI:R/MS:C/MC:L/MA:N
-abbrev all_groups : Weights
-all_groups = record (of_base 62 44 62 85 false 22 22 0) {
-  e = 94;
-  rl = 96;
-  rc = 96;
-  ar = 150;
-  mpr = 68;
-  mui = 62;
-  modified_changed = true;
-}
-
-pub all_groups_scores : IsBase 1 all_groups (pos 37) × IsTemporal 1 all_groups (pos 33) × IsEnvironmental 1 all_groups (pos 35)
-unfolding changed_modified_impact power
-all_groups_scores = (
-  rounded_if 1 _ _ 37 refl,
-  record { base = pos 37; is_base = rounded_if 1 _ _ 37 refl; is_rounded = rounded_if 1 _ _ 33 refl },
-  record { first = pos 40; is_first = rounded_if 1 _ _ 40 refl; is_rounded = rounded_if 1 _ _ 35 refl },
-)
-
--- AV:P/AC:H/PR:L/UI:R/S:U/C:L/I:L/A:H/E:H/RL:U/RC:U by v3.0, whose temporal score is an exact tenth before it is rounded
-abbrev exact_tenth : Weights
-exact_tenth = record (of_base 20 44 62 62 false 22 22 56) { rc = 92 }
-
-pub exact_tenth_temporal : IsTemporal 0 exact_tenth (pos 46)
-exact_tenth_temporal = record { base = pos 50; is_base = rounded_if 0 _ _ 50 refl; is_rounded = rounded_if 0 _ _ 46 refl }
 
 -- AV:N/AC:L/PR:N/UI:N/S:C/C:H/I:H/A:H/E:H/RL:U/RC:U by v3.0, whose temporal number is exactly 9.2: of a millionth more the
 -- rounding is 9.3

@@ -56,10 +56,6 @@ unsafe_availability = record harmless {
   e = exploit.Unreported;
 }
 
--- AV:N/AC:L/AT:N/PR:L/UI:N/VC:H/VI:H/VA:H
-abbrev privileged : Effective
-privileged = record harmless { pr = privileges.Low; vc = impact.High; vi = impact.High; va = impact.High }
-
 -- AV:A/AC:H/AT:N/PR:N/UI:N/VC:H/VI:H/VA:N/E:U/CR:H/IR:L/AR:L
 abbrev adjacent : Effective
 adjacent = record harmless {
@@ -106,15 +102,6 @@ most_severe = record harmless {
 pub integrity_class : macro_vector integrity ≡ record { eq1 = 0; eq2 = 0; eq3 = 1; eq4 = 2; eq5 = 1; eq6 = 0 }
 integrity_class = refl
 
-pub unsafe_availability_class : macro_vector unsafe_availability ≡ record { eq1 = 1; eq2 = 1; eq3 = 1; eq4 = 0; eq5 = 2; eq6 = 1 }
-unsafe_availability_class = refl
-
-pub privileged_class : macro_vector privileged ≡ record { eq1 = 1; eq2 = 0; eq3 = 0; eq4 = 2; eq5 = 0; eq6 = 0 }
-privileged_class = refl
-
-pub adjacent_class : macro_vector adjacent ≡ record { eq1 = 1; eq2 = 1; eq3 = 0; eq4 = 2; eq5 = 2; eq6 = 0 }
-adjacent_class = refl
-
 -- the first and the last value of the table, one between them, and none for EQ3 = 2 with EQ6 = 0
 pub table_values : (listed_value (record { eq1 = 0; eq2 = 0; eq3 = 0; eq4 = 0; eq5 = 0; eq6 = 0 }) ≡ Some 100)
     × (listed_value (record { eq1 = 1; eq2 = 0; eq3 = 1; eq4 = 2; eq5 = 1; eq6 = 1 }) ≡ Some 52)
@@ -133,17 +120,9 @@ pub integrity_score : IsScore integrity (pos 77)
 unfolding number rows listed_value eq1_least eq2_least eq3_eq6_least eq4_least
 integrity_score = search rules
 
-pub low_confidentiality_score : IsScore (record integrity { vc = impact.Low }) (pos 78)
-unfolding number rows listed_value eq1_least eq2_least eq3_eq6_least eq4_least
-low_confidentiality_score = search rules
-
 pub unsafe_availability_score : IsScore unsafe_availability (pos 42)
 unfolding number rows listed_value eq1_least eq2_least eq3_eq6_least eq4_least
 unsafe_availability_score = search rules
-
-pub least_severe_score : IsScore least_severe (pos 1)
-unfolding number rows listed_value eq1_least eq2_least eq3_eq6_least eq4_least
-least_severe_score = search rules
 
 pub harmless_score : IsScore harmless (pos 0)
 unfolding number rows listed_value eq1_least eq2_least eq3_eq6_least eq4_least
@@ -152,10 +131,6 @@ harmless_score = search rules
 pub most_severe_score : IsScore most_severe (pos 100)
 unfolding number rows listed_value eq1_least eq2_least eq3_eq6_least eq4_least
 most_severe_score = search rules
-
-pub privileged_score : IsScore privileged (pos 87)
-unfolding number rows listed_value eq1_least eq2_least eq3_eq6_least eq4_least
-privileged_score = search rules
 
 pub adjacent_score : IsScore adjacent (pos 43)
 unfolding number rows listed_value eq1_least eq2_least eq3_eq6_least eq4_least
