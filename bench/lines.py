@@ -1,10 +1,10 @@
 #!/usr/bin/env python3
 """Writes lines of CVSS vectors, drawn at random from the tables of a version.
 
-usage: lines.py v2|v3.0|v3.1|v4|all base|full|any|refused|mixed COUNT [SEED]
+usage: lines.py v2|v3.0|v3.1|v4|all base|full|every|any|refused|mixed COUNT [SEED]
 
-`base` lines have all base metrics, `full` lines also each other metric with an even chance, both in
-printing order. `any` lines are full lines with the components in any order and, but for v2, in any
+`base` lines have all base metrics, `full` lines also each other metric with an even chance, `every`
+lines have them all, each in printing order. `any` lines are full lines with the components in any order and, but for v2, in any
 case. `refused` lines are full lines with one fault: a component without its colon, a name or a value
 that there is not, a component twice, or the first component dropped, which only v3 accepts. Of 100
 `mixed` lines 90 are full, 8 any and 2 refused. `all` draws the version of each line. The same seed
@@ -25,9 +25,9 @@ VERSIONS = {
 }
 
 
-def components(draw, version, full):
+def components(draw, version, chance):
     front, base, metrics = VERSIONS[version]
-    names = [name for name in metrics if name in base or (full and draw.random() < 0.5)]
+    names = [name for name in metrics if name in base or (chance and draw.random() < chance)]
     return front, [f"{name}:{draw.choice(list(metrics[name][1]))}" for name in names]
 
 
@@ -50,7 +50,7 @@ def line(draw, version, kind):
         version = draw.choice(list(VERSIONS))
     if kind == "mixed":
         kind = draw.choices(("full", "any", "refused"), (90, 8, 2))[0]
-    front, parts = components(draw, version, kind != "base")
+    front, parts = components(draw, version, {"base": 0, "every": 1}.get(kind, 0.5))
     if kind == "any":
         draw.shuffle(parts)
         if version != "v2":

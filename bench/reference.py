@@ -116,12 +116,16 @@ def answer(line):
     return f"{canonical_text} {score // 10}.{score % 10} {severity}"
 
 
-def main():
-    lines = sys.stdin.buffer.read().split(b"\n")
+def lines_of(data):
+    """The lines of bytes, each without its end, which is a line feed or a carriage return and one."""
+    lines = data.split(b"\n")
     if lines[-1] == b"":
         lines.pop()
-    for line in lines:
-        line = line[:-1] if line.endswith(b"\r") else line
+    return [line.removesuffix(b"\r") for line in lines]
+
+
+def main():
+    for line in lines_of(sys.stdin.buffer.read()):
         sys.stdout.buffer.write(answer(line).encode("utf-8") + b"\n")
 
 

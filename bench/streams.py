@@ -10,6 +10,7 @@ It needs cc beside the toolchain and python3.
 usage: bench/streams.py
 """
 import errno
+import json
 import os
 import subprocess
 import sys
@@ -118,6 +119,13 @@ def audited(says="7", line=1):
             f'"severity":"high","vector":"{V2}"}}\n')
 
 
+def agreed():
+    """What it answers to a document that says the vector's score."""
+    answer = json.loads(audited())
+    del answer["differs"]
+    return json.dumps(answer, separators=(",", ":")) + "\n"
+
+
 def no_json(line):
     return f'{{"line":{line},"refused":"not JSON"}}\n'
 
@@ -144,6 +152,14 @@ DOCUMENTS = [
      '{"at":"","given":"CVSS:3.1/A:N/AV:N/AC:L/PR:N/UI:R/S:C/C:L/I:L","line":1,'
      '"scores":{"base":6.1,"environmental":6.1,"temporal":6.1},"severity":"medium",'
      '"vector":"CVSS:3.1/AV:N/AC:L/PR:N/UI:R/S:C/C:L/I:L/A:N"}\n', 0),
+    # A number beyond the doubles, half of a pair of escapes, and scores that are read as doubles.
+    (b'{"vectorString":"AV:N","says":1e400}', no_json(1), 1),
+    (b'{"vectorString":"AV:N","says":"\\ud83d"}', no_json(1), 1),
+    (DOCUMENT.replace(":7}", ":7.8000000000000000001}").encode(), agreed(), 0),
+    (DOCUMENT.replace(":7}", ":7.0000000000000000001}").encode(), audited("7.0"), 1),
+    # A repeated member counts by its last.
+    (DOCUMENT.replace("}", ',"baseScore":7.8}').encode(), agreed(), 0),
+    (DOCUMENT.replace("{", '{"baseScore":7.8,').encode(), audited(), 1),
     # A document that nests 127 deep is read, and one that nests deeper is not.
     (f'{{"vectorString":"CVSS:2","says":{nested(126)}}}'.encode(),
      '{"at":"","given":"CVSS:2","line":1,'

@@ -58,11 +58,19 @@ def adjusted_impact(vector):
     return min(Fraction(10), impact(vector, ["CR", "IR", "AR"]))
 
 
+def exploitability(vector):
+    return 20 * weight(vector, "AV") * weight(vector, "AC") * weight(vector, "Au")
+
+
+def f(impact):
+    """The factor f(Impact) of the base equation."""
+    return Fraction("1.176") if impact else Fraction(0)
+
+
 def base_number(vector, impact):
     """The number of which the base score is the rounding."""
-    exploitability = 20 * weight(vector, "AV") * weight(vector, "AC") * weight(vector, "Au")
-    f = Fraction("1.176") if impact else 0
-    return (Fraction("0.6") * impact + Fraction("0.4") * exploitability - Fraction("1.5")) * f
+    weighed_impact = Fraction("0.6") * impact + Fraction("0.4") * exploitability(vector)
+    return (weighed_impact - Fraction("1.5")) * f(impact)
 
 
 def base(vector, impact):

@@ -39,7 +39,7 @@ def weight(vector, name):
     """The weight of a metric, where an absent base metric weighs nothing."""
     if name not in vector:
         return Fraction(0 if name in BASE else 1)
-    changed = name == "PR" and vector.get("S") == "C"
+    changed = name == "PR" and is_changed(vector)
     return Fraction((CHANGED_PRIVILEGES if changed else METRICS[name][1])[vector[name]])
 
 
@@ -58,24 +58,40 @@ def sub_score(vector, requirements):
     return 1 - rests
 
 
-def unrounded(vector, sub_score, power):
-    """The number of which a score is the rounding."""
-    exploitability = Fraction("8.22")
+def is_changed(vector):
+    return vector.get("S") == "C"
+
+
+def exploitability(vector):
+    product = Fraction("8.22")
     for name in ("AV", "AC", "PR", "UI"):
-        exploitability *= weight(vector, name)
-    changed = vector.get("S") == "C"
-    impact = Fraction("6.42") * sub_score
-    if changed:
-        impact = Fraction("7.52") * (sub_score - Fraction("0.029")) - Fraction("3.25") * power
-    if impact <= 0:
+        product *= weight(vector, name)
+    return product
+
+
+def impact(vector, sub_score, power):
+    """The impact by the scope, below 0 where the scope is changed and nothing is hit."""
+    if is_changed(vector):
+        return Fraction("7.52") * (sub_score - Fraction("0.029")) - Fraction("3.25") * power
+    return Fraction("6.42") * sub_score
+
+
+def unrounded(vector, reached):
+    """The number of which a score is the rounding, by the impact that is reached."""
+    if reached <= 0:
         return Fraction(0)
-    return min(Fraction(10), (impact + exploitability) * (Fraction("1.08") if changed else 1))
+    factor = Fraction("1.08") if is_changed(vector) else 1
+    return min(Fraction(10), (reached + exploitability(vector)) * factor)
+
+
+def base_impact(vector):
+    own = sub_score(vector, [1, 1, 1])
+    return impact(vector, own, (own - Fraction("0.02")) ** 15)
 
 
 def base_number(vector):
     """The number of which the base score is the rounding."""
-    own = sub_score(vector, [1, 1, 1])
-    return unrounded(vector, own, (own - Fraction("0.02")) ** 15)
+    return unrounded(vector, base_impact(vector))
 
 
 def base(minor, vector):
@@ -89,19 +105,27 @@ def modified(vector):
     return {name: value for name, value in own.items() if value}
 
 
-def modified_unrounded(minor, own, reached):
-    """The number that these values give with the sub-score of the impacts that is reached."""
+def modified_sub_score(vector):
+    """The sub-score of the modified impacts (MISS)."""
+    requirements = [weight(vector, name) for name in ("CR", "IR", "AR")]
+    return min(Fraction("0.915"), sub_score(modified(vector), requirements))
+
+
+def modified_impact(minor, own, reached):
+    """The impact that these values give with the sub-score of the impacts that is reached."""
     power = ((reached * Fraction("0.9731") - Fraction("0.02")) ** 13 if minor == 1
              else (reached - Fraction("0.02")) ** 15)
-    return unrounded(own, reached, power)
+    return impact(own, reached, power)
+
+
+def modified_unrounded(minor, own, reached):
+    """The number that these values give with the sub-score of the impacts that is reached."""
+    return unrounded(own, modified_impact(minor, own, reached))
 
 
 def modified_number(minor, vector):
     """The number that the environmental score rounds first, before its temporal metrics weigh."""
-    own = modified(vector)
-    reached = min(Fraction("0.915"),
-                  sub_score(own, [weight(vector, name) for name in ("CR", "IR", "AR")]))
-    return modified_unrounded(minor, own, reached)
+    return modified_unrounded(minor, modified(vector), modified_sub_score(vector))
 
 
 def temporal_weight(vector):

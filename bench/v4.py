@@ -134,37 +134,61 @@ def level_sums(group):
     return sums
 
 
-def proportion(group, own):
-    """How far the values lie below the worst of their class, by the depth of the class."""
+def distance(group, own):
+    """The steps of severity that the values lie below the worst of their class, and the depth of
+    the class."""
     values = [own[name.removeprefix("M")] for name in GROUPS[group]]
     sums = level_sums(group)[group(*values)]
     level = sum(METRICS[name][1][value] for name, value in zip(GROUPS[group], values))
-    return Fraction(level - min(sums), max(sums) - min(sums) + 1)
+    return level - min(sums), max(sums) - min(sums) + 1
+
+
+def proportion(group, own):
+    """How far the values lie below the worst of their class, by the depth of the class."""
+    return Fraction(*distance(group, own))
+
+
+def macro_vector(own):
+    """The classes of the effective values, EQ1 to EQ6."""
+    eq1, eq2, (eq3, eq6), eq4 = (group(*(own[name.removeprefix("M")] for name in names))
+                                 for group, names in GROUPS.items())
+    return eq1, eq2, eq3, eq4, "APU".index(own["E"]), eq6
+
+
+# Where in the macro vector the classes of a group stand; the last group has E alone.
+PLACES = {access: [0], complexity: [1], vulnerable: [5, 2], subsequent: [3], None: [4]}
+
+
+def lower_classes(macro):
+    """By group the next lower macro vector, where there is one.
+
+    Of the two that follow EQ3 and EQ6 it is the one that scores more, of equal ones that with the
+    next EQ6."""
+    found = {}
+    for group, places in PLACES.items():
+        below = [(*macro[:place], macro[place] + 1, *macro[place + 1:]) for place in places]
+        listed = [each for each in below if value_of(*each) is not None]
+        if listed:
+            found[group] = max(listed, key=lambda each: value_of(*each))
+    return found
 
 
 def class_values(own):
     """What the class of the effective values scores, and by group the next lower class, where there
     is one."""
-    eq1, eq2, (eq3, eq6), eq4 = (group(*(own[name.removeprefix("M")] for name in names))
-                                 for group, names in GROUPS.items())
-    eq5 = "APU".index(own["E"])
-    below = {
-        access: [value_of(eq1 + 1, eq2, eq3, eq4, eq5, eq6)],
-        complexity: [value_of(eq1, eq2 + 1, eq3, eq4, eq5, eq6)],
-        vulnerable: [value_of(eq1, eq2, eq3 + 1, eq4, eq5, eq6),
-                     value_of(eq1, eq2, eq3, eq4, eq5, eq6 + 1)],
-        subsequent: [value_of(eq1, eq2, eq3, eq4 + 1, eq5, eq6)],
-        None: [value_of(eq1, eq2, eq3, eq4, eq5 + 1, eq6)],
-    }
-    return value_of(eq1, eq2, eq3, eq4, eq5, eq6), {
-        group: max(v for v in found if v is not None)
-        for group, found in below.items() if found != [None] * len(found)}
+    macro = macro_vector(own)
+    lower = {group: value_of(*below) for group, below in lower_classes(macro).items()}
+    return value_of(*macro), lower
+
+
+def has_impact(own):
+    return any(own[name] != "N" for name in ("VC", "VI", "VA", "SC", "SI", "SA"))
 
 
 def number(vector):
     """The number of tenths of which the score is the rounding."""
     own = effective(vector)
-    if all(own[name] == "N" for name in ("VC", "VI", "VA", "SC", "SI", "SA")):
+    if not has_impact(own):
         return Fraction(0)
     value, lower = class_values(own)
     mean = sum((value - below) * proportion(group, own) for group, below in lower.items() if group)

@@ -1,9 +1,11 @@
 #!/usr/bin/env python3
-"""Runs the examples and recipes of docs/BINDINGS.md as they stand there, and of README.md those of Python and Rust.
+"""Runs the examples and recipes of docs/BINDINGS.md as they stand there, of docs/PROGRAMS.md those of jobs, and of
+README.md the first command and those of Python and Rust. Says where docs/PERFORMANCE.md lacks a figure.
 
 Usage: documents.py ROOT FOLDER. ROOT is the folder of the checkout, in which bindings/build has made the library; files
 are made in FOLDER alone. An example tells in comments what it prints. What is not on the machine is said, and left out.
 """
+import json
 import os
 import re
 import shutil
@@ -14,6 +16,8 @@ from pathlib import Path
 ROOT, FOLDER = (Path(argument).resolve() for argument in sys.argv[1:3])
 OUT = ROOT / "bindings/out"
 PAGE = (ROOT / "docs/BINDINGS.md").read_text()
+PROGRAMS = (ROOT / "docs/PROGRAMS.md").read_text()
+PERFORMANCE = (ROOT / "docs/PERFORMANCE.md").read_text()
 # each accepted, refused and no UTF-8, and ended in each way that the program knows of
 EDGES = [
     b"\xff", b"AV:N/AC:L/Au:N/C:N/I:N/A:C/\xe9", b"AV:N\rAC:L", b"\rAV:N", b"AV:N/AC:L/Au:N/C:N/I:N/A:C\r",
@@ -27,8 +31,8 @@ def blocks(text, language):
     return [block for told, block in re.findall(r"^```(\w*)\n(.*?)^```$", text, re.M | re.S) if told == language]
 
 
-def block_with(words, language=""):
-    found = [block for block in blocks(PAGE, language) if words in block]
+def block_with(words, language="", page=PAGE):
+    found = [block for block in blocks(page, language) if words in block]
     assert len(found) == 1, f"{len(found)} blocks have `{words}`"
     return found[0]
 
@@ -170,6 +174,74 @@ def try_parallel(answers):
     print(f"GNU parallel: the answers are those of the program alone, and the status that of {number} blocks")
 
 
+def try_first_command():
+    """The first command of README.md: it answers as the second implementation does, and ends as the page says."""
+    readme = (ROOT / "README.md").read_text()
+    block = block_with("rt try", page=readme)
+    done = subprocess.run(block, shell=True, cwd=ROOT, stdout=subprocess.PIPE, stderr=subprocess.PIPE)
+    with open(ROOT / "examples/vectors", "rb") as vectors:
+        wanted = run([sys.executable, "-B", ROOT / "bench/reference.py"], stdin=vectors)
+    check(done.stdout, wanted.decode(), block)
+    last = done.stderr.decode().splitlines()[-1]
+    begins, ends = re.findall(r"last line begins with `(.*?)` and ends with `(.*?)`", readme)[0]
+    assert last.startswith(begins) and last.endswith(ends), f"the last line of `rt try` is {last!r}"
+
+
+# vectors with their scores by the scale of the standard
+AGREEING = '{"vectorString":"CVSS:3.1/AV:N/AC:L/PR:N/UI:N/S:U/C:H/I:H/A:H","baseScore":9.8}'
+DIFFERING = '{"vectorString":"CVSS:3.1/AV:N/AC:L/PR:N/UI:N/S:U/C:H/I:H/A:N","baseScore":9.1,"baseSeverity":"HIGH"}'
+V4 = "CVSS:4.0/AV:N/AC:L/AT:N/PR:N/UI:N/VC:N/VI:N/VA:N/SC:N/SI:N/SA:N"
+
+
+def audit_environment():
+    """That of a shell that finds cvss_audit and jq; none where these are not on the machine."""
+    program = ROOT / "crates/cvss_audit/out"
+    if not (program / "cvss_audit").exists():
+        print("cvss_audit is not built: its recipes are not tried")
+        return None
+    if not has("jq", "the recipes of cvss_audit are not tried"):
+        return None
+    return {**os.environ, "PATH": f"{program}:{os.environ['PATH']}"}
+
+
+def try_job(environment):
+    """The recipe of a job, with a document that differs, one that is refused and one that is well."""
+    block = block_with("> findings", page=PROGRAMS)
+    recipe = block.splitlines()[0].removeprefix("$ ")
+    for score, status, wanted in (
+        (DIFFERING, 1, "".join(block.splitlines(keepends=True)[1:])),
+        ('{"vectorString":"AV:N"}', 1, None),
+        (AGREEING, 0, ""),
+    ):
+        (FOLDER / "csaf.json").write_text(f'{{"vulnerabilities":[{{}},\n{{"scores":[{{"cvss_v3":{score}}}]}}]}}')
+        done = subprocess.run(["bash", "-c", recipe], cwd=FOLDER, env=environment, stdout=subprocess.PIPE)
+        assert done.returncode == status, f"status {done.returncode}, and not {status}, over {score}: {recipe}"
+        if wanted is None:
+            assert b'"refused":' in done.stdout, f"{done.stdout} tells no refusal: {recipe}"
+        else:
+            check(done.stdout, wanted, recipe)
+
+
+def try_base_scores(environment):
+    """The recipe that leaves out a score of the base metrics beside a vector of v4.0 that has others."""
+    block = block_with("del(", page=PROGRAMS)
+    with_threat = {"vectorString": f"{V4}/E:U/MVC:H", "baseScore": 0.0}
+    for record, status in ((with_threat, 0), ({"vectorString": f"{V4}/E:X/R:U/RE:L", "baseScore": 5.0}, 1)):
+        (FOLDER / "record.json").write_text(json.dumps({"metrics": [record, {"vectorString": f"{V4}/MSI:S"}]}))
+        done = subprocess.run(block, shell=True, cwd=FOLDER, env=environment, stdout=subprocess.PIPE)
+        assert done.returncode == status, f"status {done.returncode}, and not {status}, over {record}: {block}"
+        given = json.dumps(record).encode()
+        alone = subprocess.run(["cvss_audit"], input=given, stdout=subprocess.PIPE, env=environment)
+        assert alone.returncode == 1, f"{record} does not differ"
+
+
+def check_figures():
+    """Each line of the table of instructions has a figure of the crate."""
+    lines = PERFORMANCE.split("## Instructions a line\n")[1].split("\n## ")[0]
+    rows = [line for line in lines.splitlines() if line.startswith("| ")]
+    assert len(rows) > 8 and not [row for row in rows if row.endswith("| |")], "a line has no figure of the crate"
+
+
 def try_removal():
     """What is installed is taken away by the words of the page, which name each program that ./install builds."""
     home = FOLDER / "home"
@@ -202,6 +274,13 @@ def check_names():
 
 def main():
     check_names()
+    check_figures()
+    if has("rt", "the first command of README.md is not tried"):
+        try_first_command()
+    environment = audit_environment()
+    if environment:
+        try_job(environment)
+        try_base_scores(environment)
     try_python()
     if has("cc", "the example of C is not tried"):
         try_c()

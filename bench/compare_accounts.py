@@ -1,0 +1,105 @@
+#!/usr/bin/env python3
+"""Compares the accounts that the built `cvss_why` writes with accounts.py.
+
+The lines are drawn: vectors that have each metric, vectors in any order and case, and refused ones;
+with `whole` also all vectors of base metrics alone, of each version. A number of an account has at
+most seven decimals and is the exact one where that has no more, else less than 10^-6 away from it.
+
+usage: bench/compare_accounts.py [whole] [COUNT [SEED]]
+"""
+import json
+import os
+import random
+import subprocess
+import sys
+from fractions import Fraction
+
+import accounts
+import lines
+import whole_sets
+
+HERE = os.path.dirname(os.path.abspath(__file__))
+PROGRAM = os.path.join(HERE, "../crates/cvss_why/out/cvss_why")
+CLOSE = Fraction(1, 1_000_000)
+AT_ONCE = 20_000
+
+
+def has_seven_decimals(number):
+    return (number * 10_000_000).denominator == 1
+
+
+def is_number(told, exact):
+    """Whether a number that is told stands for the exact one."""
+    if isinstance(told, bool) or not isinstance(told, (int, Fraction)):
+        return False
+    if not has_seven_decimals(told):
+        return False
+    return told == exact if has_seven_decimals(exact) else abs(told - exact) < CLOSE
+
+
+def difference(told, expected, at=""):
+    """Where what is told differs from what is expected, and how, if it does."""
+    if isinstance(expected, dict):
+        if not isinstance(told, dict) or told.keys() != expected.keys():
+            return f"{at}: {told}, and not {expected}"
+        pairs = [(told[name], expected[name], f"{at}/{name}") for name in expected]
+    elif isinstance(expected, list):
+        if not isinstance(told, list) or len(told) != len(expected):
+            return f"{at}: {told}, and not {expected}"
+        pairs = [(*pair, f"{at}/{place}") for place, pair in enumerate(zip(told, expected))]
+    else:
+        agrees = (is_number(told, expected) if isinstance(expected, Fraction)
+                  else type(told) is type(expected) and told == expected)
+        return None if agrees else f"{at}: {told}, and not {expected}"
+    return next(filter(None, (difference(*pair) for pair in pairs)), None)
+
+
+def is_as_written(line):
+    """Whether the members stand by their names and nothing stands between them."""
+    again = json.dumps(json.loads(line), sort_keys=True, separators=(",", ":"), ensure_ascii=False)
+    return again == line
+
+
+def compare(given):
+    """Ends where the program tells otherwise, or has another status."""
+    data = "".join(f"{line}\n" for line in given).encode("utf-8")
+    done = subprocess.run([PROGRAM], input=data, capture_output=True, check=False)
+    told = done.stdout.decode("utf-8").splitlines()
+    if len(told) != len(given):
+        sys.exit(f"cvss_why tells {len(told)} of {len(given)} lines")
+    refused = False
+    for number, (line, text) in enumerate(zip(told, given), 1):
+        expected = accounts.answer(number, text.encode("utf-8"))
+        refused = refused or "refused" in expected
+        found = difference(json.loads(line, parse_float=Fraction), expected)
+        if found or not is_as_written(line):
+            sys.exit(f"{text}: {found or line}")
+    if (done.returncode, done.stderr) != (int(refused), b""):
+        sys.exit(f"cvss_why: status {done.returncode}, told {done.stderr!r}")
+
+
+def compare_all(name, given):
+    for start in range(0, len(given), AT_ONCE):
+        compare(given[start:start + AT_ONCE])
+    print(f"cvss_why: {len(given)} {name}, the accounts are those of accounts.py")
+
+
+def main():
+    arguments = sys.argv[1:]
+    if arguments[:1] == ["whole"]:
+        arguments.pop(0)
+        compare_all("v2 base vectors", whole_sets.base_of_v2())
+        for version in ("CVSS:3.0", "CVSS:3.1"):
+            compare_all(f"{version} base vectors", whole_sets.base_of_v3(version))
+        compare_all("v4.0 base vectors", whole_sets.base_of_v4())
+    count = int(arguments[0]) if arguments else 2_000
+    draw = random.Random(int(arguments[1]) if len(arguments) > 1 else 2)
+    compare_all("drawn vectors with each metric",
+                [lines.line(draw, "all", "every") for _ in range(count)])
+    compare_all("drawn lines, some refused",
+                [lines.line(draw, "all", draw.choice(("full", "any", "refused", "mixed")))
+                 for _ in range(count // 5)])
+
+
+if __name__ == "__main__":
+    main()
