@@ -57,12 +57,15 @@ ssize_t read(int fd, void *room, size_t count)
 ssize_t write(int fd, const void *bytes, size_t count)
 {
     static ssize_t (*next)(int, const void *, size_t);
-    static long taken, turn;
+    static long taken, turn, failed;
     if (!next) next = (ssize_t (*)(int, const void *, size_t))dlsym(RTLD_NEXT, "write");
     if (fd != 1)
         return next(fd, bytes, count);
     long left = told("WRITE_ROOM", 1 << 30) - taken, fault = told("WRITE_FAULT", 0);
+    if (failed && told("FAULT_ONCE", 0))
+        left = 1 << 30;
     if (left <= 0) {
+        failed = 1;
         errno = (int)fault;
         return fault ? -1 : 0;
     }

@@ -50,6 +50,15 @@ def modules(path, is_public):
         yield from modules(folder / f"{name}.rt", is_public and (bool(is_open) or path.stem == "main"))
 
 
+def sources(crate):
+    """The files of a crate, each with whether it is public and its text, and the names that a `pub use` gives."""
+    folder = ROOT / "crates" / crate / "src"
+    root = next(path for path in (folder / "lib.rt", folder / "main.rt") if path.exists())
+    files = [(path, is_public, path.read_text(encoding="utf-8")) for path, is_public in modules(root, True)]
+    uses = [use for _, _, text in files for use in EXPORT.findall(text)]
+    return files, {name for use in uses for name in re.findall(r"\w+", re.sub(r"\w+::", "", use))}
+
+
 def signatures(text, is_public, exported):
     """The signatures of the public calls and traits of a file, with their clauses."""
     for item in ITEM.findall(text):
@@ -74,10 +83,7 @@ def wrong_clauses():
     for crate in sorted(path.name for path in (ROOT / "crates").iterdir()):
         if crate in WITHOUT_PROMISES:
             continue
-        source = ROOT / "crates" / crate / "src"
-        root = next(path for path in (source / "lib.rt", source / "main.rt") if path.exists())
-        files = [(path, is_public, path.read_text(encoding="utf-8")) for path, is_public in modules(root, True)]
-        exported = {name for _, _, text in files for use in EXPORT.findall(text) for name in re.findall(r"\w+", use)}
+        files, exported = sources(crate)
         for path, is_public, text in files:
             foreign = {word: page for word, page in words(text, given)
                        if path.stem != "laws" or ".specs.private." in page}

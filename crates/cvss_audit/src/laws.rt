@@ -18,3 +18,10 @@ pub fn clones_are_equal()
 {
     cvss_lines::laws::clones_are_equal();
 }
+
+/// To clone a fault takes no memory, so it is never refused.
+pub fn values_are_cloned_without_memory()
+    ensures { (x : Fault) → ⟦<Fault as Clone>⟧.is_infallible x }
+{
+    cvss_lines::laws::values_are_cloned_without_memory();
+}

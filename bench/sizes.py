@@ -1,0 +1,257 @@
+#!/usr/bin/env python3
+"""Runs the built programs over much input, long parts of texts and many arguments, where a bound that
+no contract tells would show.
+
+Each refusal that carries a part of the text is tried with parts of a byte to a million, of each
+version and of a text of any version, in lines, arguments and JSON strings; what is expected comes
+from `reference.py`. A text that is accepted makes no request for memory: `cvss_vectors` makes as many
+for it as for a number of the same length.
+
+It needs cc beside the toolchain and python3.
+
+usage: bench/sizes.py
+"""
+import errno
+import os
+import subprocess
+import sys
+import tempfile
+
+import reference
+import v2
+import v3
+import v4
+from streams import FIRST, LOW, SHIM, Runs
+
+SIZES = (1, 100, 70_000, 1_000_000)
+# An argument of a program has room for 128 KiB.
+ARGUMENT_SIZES = (1, 255, 256, 257, 300, 70_000)
+LINE = FIRST.split()[0].encode() + b"\n"
+# The bytes of a long line and of a long input, and of an input that is read byte by byte; and rows.
+LONG = (2 << 20, 20 << 20)
+ALL = 200 << 20
+ONE_BY_ONE = 1_100_000
+ROWS = 20_000
+
+# Tells each request for memory by a byte.
+COUNTED = r"""
+#define _GNU_SOURCE
+#include <dlfcn.h>
+#include <stdlib.h>
+#include <unistd.h>
+
+static void tell(void)
+{
+    (void)!write(atoi(getenv("TOLD")), "x", 1);
+}
+
+void *malloc(size_t size)
+{
+    static void *(*next)(size_t);
+    if (!next) next = (void *(*)(size_t))dlsym(RTLD_NEXT, "malloc");
+    tell();
+    return next(size);
+}
+
+void *realloc(void *old, size_t size)
+{
+    static void *(*next)(void *, size_t);
+    if (!next) next = (void *(*)(void *, size_t))dlsym(RTLD_NEXT, "realloc");
+    tell();
+    return next(old, size);
+}
+"""
+
+
+def reason(read, text):
+    """Why a text is refused."""
+    try:
+        sys.exit(f"{read(text)[0][:200]!r} is accepted")
+    except reference.Refused as refused:
+        return str(refused)
+
+
+def whole(front, metrics):
+    """The longest text of a version: each metric with its longest spelling."""
+    return "/".join(front + [f"{name}:{max(spellings, key=len)}"
+                             for name, (_, spellings) in metrics.items()])
+
+
+WHOLE = {"v2": whole([], v2.METRICS), "v3": whole(["CVSS:3.1"], v3.METRICS),
+         "v4": whole(["CVSS:4.0"], v4.METRICS)}
+READ = {"v2": reference.read_v2, "v3": reference.read_v3, "v4": reference.read_v4,
+        "cvss": reference.read}
+
+
+def refused():
+    """Texts with a part `q` for which they are refused, by whose rules they are read."""
+    for version, front in (("v2", "AV:N/"), ("v3", "CVSS:3.0/AV:N/"), ("v4", "CVSS:4.0/AV:N/")):
+        for text in ("q", "q:N", "AC:q"):
+            yield version, front + text
+            yield "cvss", front + text
+    for version in ("v3", "v4", "cvss"):
+        yield from ((version, text) for text in ("q:4.0/AV:N", "CVSS:q.0/AV:N", "q"))
+
+
+def lengthened(text, size):
+    """The text with a part of so many bytes in place of `q`, and of `Q` where it is told in capitals."""
+    return text.replace("q", "q" * size).replace("Q", "Q" * size)
+
+
+def try_refusals(runs):
+    """Each refusal with a long part: by the rules of each version, and as a JSON string."""
+    short = [(version, text, reason(READ[version], text)) for version, text in refused()]
+    for size in SIZES:
+        told = [(version, lengthened(text, size), lengthened(words, size))
+                for version, text, words in short]
+        given = "".join(f"{'' if version == 'cvss' else version + ' '}{text}\n"
+                        for version, text, _ in told)
+        runs.expect("cvss_vectors", given.encode(),
+                    (0, "".join(f"error: {words}\n" for _, _, words in told).encode(), ""))
+        given = "".join(f"{version} {text}\n" for version, text, _ in told)
+        runs.expect("cvss_json", given.encode(),
+                    (0, "".join(f"from_value: {words}\n" for _, _, words in told).encode(), ""))
+        lines = [(text, words) for version, text, words in told if version == "cvss"]
+        runs.expect("cvss_tool", "".join(f"{text}\n" for text, _ in lines).encode(),
+                    (1, "".join(f"error: {words}\n" for _, words in lines).encode(), ""))
+        for version, text, words in told:
+            if version == "v4":
+                runs.expect("cvss_triage", f"{LOW}\n{text}".encode(),
+                            (1, b"", f"cvss_triage: line 2: {words}\n"))
+        try_unknown(runs, "q" * size)
+    for word in ("unknown", "Nonee", "non", ""):
+        try_unknown(runs, word)
+
+
+def try_unknown(runs, word):
+    """A word that is no rating, and no nomenclature."""
+    told = (f"from_value: invalid CVSS Qualitative Severity Rating: `{word}`\n"
+            f"from_value: invalid CVSSv4 nomenclature: `{word}`\n")
+    runs.expect("cvss_json", f"severity {word}\nnomenclature {word}\n".encode(),
+                (0, told.encode(), ""))
+
+
+def try_whole(runs):
+    """The longest text of each version, read, written, ranked and as a JSON string."""
+    for version, text in WHOLE.items():
+        answer = f"{reference.answer(text.encode())}\n"
+        runs.expect("cvss_vectors", f"{text}\n".encode(), (0, answer.encode(), ""))
+        for mark in (version, "cvss"):
+            runs.expect("cvss_json", f"{mark} {text}\n".encode(), (0, f"{text}\n".encode(), ""))
+    runs.expect("cvss_triage", WHOLE["v4"].encode(), (0, row(WHOLE["v4"], []), ""))
+
+
+def row(text, overrides):
+    """The row of a text that has none of the metrics of these overrides."""
+    scored, score, severity = reference.read_v4("/".join([text, *overrides]))
+    return f"{score // 10}.{score % 10} {severity} {scored} {text}\n".encode()
+
+
+def try_arguments(runs):
+    """As many arguments as there are environmental metrics, one more, and long ones."""
+    overrides = [f"{name}:{next(iter(spellings))}" for name, (_, spellings) in v4.METRICS.items()
+                 if name in ("CR", "IR", "AR") or name[0] == "M"]
+    for count in range(len(overrides) + 1):
+        runs.expect("cvss_triage", LOW.encode(), (0, row(LOW, overrides[:count]), ""),
+                    overrides[:count])
+    for more, told in (("cr:l", "duplicate CVSSv4 CR (Confidentiality Requirements) metric"),
+                       ("E:P", "no environmental CVSSv4 metric"),
+                       ("x", "invalid CVSS metric group component: `x`")):
+        runs.expect("cvss_triage", LOW.encode(), (1, b"", f"cvss_triage: argument 15: {told}\n"),
+                    [*overrides, more])
+    for size in ARGUMENT_SIZES:
+        part = "q" * size
+        for argument, told in (
+                (part, f"invalid CVSS metric group component: `{part}`"),
+                (f"{part}:N", f"unknown CVSS metric name: `{part.upper()}`"),
+                (f"MAV:{part}",
+                 f"invalid CVSSv4 MAV (Modified Attack Vector) metric: `{part.upper()}`"),
+                (f"E:{part}", "no environmental CVSSv4 metric")):
+            runs.expect("cvss_triage", LOW.encode(), (1, b"", f"cvss_triage: argument 1: {told}\n"),
+                        [argument])
+        for program in ("cvss_tool", "cvss_audit"):
+            runs.expect(program, b"", (0, b"", ""), [part] * 20)
+
+
+def try_much(runs):
+    """Long lines, many lines, more than a million reads and writes, and bytes 0."""
+    for length in LONG:
+        part = "q" * length
+        told = f"invalid CVSS metric group component: `{part}`"
+        runs.expect("cvss_tool", part.encode() + b"\n" + LINE,
+                    (1, f"error: {told}\n{FIRST}".encode(), ""))
+        runs.expect("cvss_triage", part.encode(), (1, b"", f"cvss_triage: line 1: {told}\n"))
+        runs.expect("cvss_audit", f'{{"vectorString":"{part}"}}'.encode(),
+                    (1, f'{{"at":"","given":"{part}","line":1,"refused":"{told}"}}\n'.encode(), ""))
+    count = ALL // len(LINE)
+    runs.expect("cvss_tool", LINE * count, (0, FIRST.encode() * count, ""))
+    count = ONE_BY_ONE // len(LINE)
+    runs.expect("cvss_tool", LINE * count, (0, FIRST.encode() * count, ""), READ_STEP=1)
+    runs.expect("cvss_triage", f"{LOW}\n".encode() * ROWS, (0, row(LOW, []) * ROWS, ""),
+                WRITE_SLOWLY=1)
+    told = b"error: invalid CVSS metric group component: `\0`\n"
+    runs.expect("cvss_tool", b"\0\n" + LINE + b"\0\n", (1, told + FIRST.encode() + told, ""))
+    runs.expect("cvss_tool", LINE + b"\0\n", (1, FIRST.encode() + told, ""), READ_STEP=len(LINE))
+    runs.expect("cvss_audit", b"\0", (1, b'{"line":1,"refused":"not JSON"}\n', ""))
+
+
+def try_faults_once(runs):
+    """A write that fails once: rows are written behind an interruption, and behind nothing else."""
+    rows = row(LOW, [])
+    for room in (0, 7):
+        runs.expect("cvss_triage", LOW.encode(), (0, rows, ""), WRITE_ROOM=room, FAULT_ONCE=1,
+                    WRITE_FAULT=errno.EINTR)
+        for fault in (errno.EPIPE, errno.EAGAIN, errno.EIO):
+            for program, given, written in (("cvss_triage", LOW.encode(), rows),
+                                            ("cvss_tool", LINE, FIRST.encode())):
+                runs.expect_fault(program, given, written[:room], "write failed", WRITE_ROOM=room,
+                                  FAULT_ONCE=1, WRITE_FAULT=fault)
+
+
+def requests(shim, line):
+    """How many requests for memory `cvss_vectors` makes for a line, fifty times."""
+    with tempfile.TemporaryFile() as told:
+        env = dict(os.environ, LD_PRELOAD=shim, TOLD=str(told.fileno()))
+        subprocess.run([os.path.join(os.path.dirname(os.path.abspath(__file__)),
+                                     "../crates/cvss_vectors/out/cvss_vectors")],
+                       input=f"{line}\n".encode() * 50, stdout=subprocess.DEVNULL, env=env,
+                       pass_fds=[told.fileno()], check=True)
+        return os.fstat(told.fileno()).st_size
+
+
+def try_memory(shim):
+    """Each call for reading takes no memory for what it accepts, canonical or not."""
+    tried = 0
+    for version, text in WHOLE.items():
+        front, *components = text.split("/")
+        other = "/".join([*components[::-1], front] if version == "v2" else [front, *components[::-1]])
+        for line in (f"{mark}{each}" for mark in ("", f"{version} ") for each in (text, other)):
+            number = "tenths " + "0" * (len(line) - len("tenths "))
+            if requests(shim, line) != requests(shim, number):
+                sys.exit(f"cvss_vectors takes memory for {line}")
+            tried += 1
+    return tried
+
+
+def built(room, name, source):
+    """A library to be preloaded."""
+    path = os.path.join(room, name)
+    with open(f"{path}.c", "w", encoding="utf-8") as file:
+        file.write(source)
+    subprocess.run(["cc", "-shared", "-fPIC", "-O1", "-o", f"{path}.so", f"{path}.c", "-ldl"],
+                   check=True)
+    return f"{path}.so"
+
+
+def main():
+    with tempfile.TemporaryDirectory() as room:
+        runs = Runs(built(room, "streams", SHIM))
+        for tried in (try_arguments, try_refusals, try_whole, try_much, try_faults_once):
+            tried(runs)
+        texts = try_memory(built(room, "counted", COUNTED))
+    print(f"{runs.count} runs over much input, long parts and many arguments ended as they should; "
+          f"{texts} texts were accepted without memory")
+
+
+if __name__ == "__main__":
+    main()

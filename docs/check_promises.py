@@ -1,0 +1,76 @@
+#!/usr/bin/env python3
+"""Checks two lists that go stale by themselves.
+
+Each public type that derives PartialEq or Clone has a law of it: that two values are equal exactly if they are one, or
+tell the same, and that a clone is that value; and of one that is Copy, that no clone is refused. A law is a clause of a
+module `laws` that names the type's impl, or the law of the trait `Metric`.
+
+docs/CONTRACTS.md lists exactly the public calls that ask for something, by the last part of their names.
+
+usage: docs/check_promises.py    tells each type that lacks a law and each call; status 1 if there are some
+"""
+import re
+import sys
+
+from check_shelves import ROOT, WITHOUT_PROMISES, signatures, sources
+
+# effective values and classes of v4, which have a path for a test alone
+SCORING = "cvss_v4/src/scoring"
+
+DERIVED = re.compile(r"^#\[derive\(([^)]*)\)\]\n(?:#\[[^\n]*\n)*pub (?:struct|enum) (\w+)", re.M)
+LAW = re.compile(r"⟦<(?:\w+::)?(\w+) as (?:PartialEq|Clone)>⟧\.(eq|is_clone|is_infallible)")
+CALL = re.compile(r"^    (?:final )?fn (\w+)(.*?)(?=^    [{}]|;$|{$)", re.M | re.S)
+
+
+def crates():
+    """The crates of which something is promised; of those for C, the types that C sees are."""
+    return sorted({path.name for path in (ROOT / "crates").iterdir()} - WITHOUT_PROMISES)
+
+
+def laws_of(crate):
+    """Which words of which types the laws of a crate cite."""
+    path = ROOT / "crates" / crate / "src" / "laws.rt"
+    return set(LAW.findall(path.read_text(encoding="utf-8"))) if path.exists() else set()
+
+
+def without_law():
+    """Each public type of which a law is lacking."""
+    for crate in [*crates(), "cvss_bytes"]:
+        files, exported = sources(crate)
+        found = laws_of(crate) | laws_of("cvss")
+        for path, is_public, text in files:
+            metrics = re.findall(r"^impl(?:<[^>]*>)? Metric for (\w+)", text, re.M)
+            for traits, name in DERIVED.findall(text):
+                if SCORING in str(path) or name in metrics or not (is_public or name in exported):
+                    continue
+                for trait, word in (("PartialEq", "eq"), ("Clone", "is_clone"), ("Copy", "is_infallible")):
+                    if trait in traits.split(", ") and (name, word) not in found:
+                        yield f"{path.relative_to(ROOT)}: no law says {word} of {name}"
+
+
+def asking():
+    """The public calls that ask for something."""
+    for crate in crates():
+        files, exported = sources(crate)
+        for _, is_public, text in files:
+            for name, signature in signatures(text, is_public, exported):
+                calls = CALL.findall(signature) if signature.startswith("pub trait") else [(name, signature)]
+                yield from (call.split("::")[-1] for call, said in calls if re.search(r"\brequires\b", said))
+
+
+def listed():
+    """The calls that docs/CONTRACTS.md lists as asking for something."""
+    text = (ROOT / "docs" / "CONTRACTS.md").read_text(encoding="utf-8")
+    rows = re.findall(r"^\| (`.*) \| ", text.split("## What calls ask for")[1].split("## ")[0], re.M)
+    return {call.split("::")[-1] for row in rows for call in re.findall(r"`([\w:]+)`", row)} - {"cvss_record"}
+
+
+def main():
+    wrong = list(without_law())
+    wrong += [f"CONTRACTS.md does not say what {call} asks for" for call in sorted({*asking()} - listed())]
+    wrong += [f"CONTRACTS.md says that {call} asks for something" for call in sorted(listed() - {*asking()})]
+    sys.exit("\n".join(wrong) or None)
+
+
+if __name__ == "__main__":
+    main()
