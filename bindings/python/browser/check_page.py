@@ -251,14 +251,16 @@ def check_why(page: Page) -> None:
     for text in (f"{V4}/E:P/CR:L/MSI:S", f"{V3.replace('S:U', 'S:C')}/E:U/MAV:P", f"{V2}/E:U/TD:L/CDP:H"):
         page.open(f"#{text}")
         account = getattr(Vector(text), "account", None)
-        shown = page.driver.execute_script("return document.getElementById('why').innerText")
+        script = "const why = document.getElementById('why'); return why.hidden ? '' : why.innerText"
+        shown = page.driver.execute_script(script)
         assert bool(account) == bool(shown), shown
         if account is None:
             continue
         numbers = {float(word.strip(",.")) for word in re.findall(r"-?\b\d[\d.]*", shown)}
         told = account()
         assert not set(leaves(told)) - numbers, (text, set(leaves(told)) - numbers)
-        boxes = page.driver.execute_script("return ['rect', '.gone'].map((what) => document.querySelectorAll(`#why ${what}`).length)")
+        count = "return ['rect', '.gone'].map((what) => document.querySelectorAll(`#why ${what}`).length)"
+        boxes = page.driver.execute_script(count)
         groups = told.get("groups", [])
         assert boxes == [sum(group[name] for group in groups) for name in ("depth", "distance")], (text, boxes)
 
@@ -324,7 +326,7 @@ def main(root: Path, folder: Path) -> None:
         assert told == [], told
     finally:
         page.close()
-    print("Page: links, history, copies, keyboard, hostile texts, names, contrast and print as they must be; the console is silent")
+    print("Page: links, history, copies, keyboard, hostile texts, names, contrast and print are as they must be")
 
 
 if __name__ == "__main__":

@@ -61,8 +61,8 @@ def check_names(page: Page) -> None:
     assert len(radios) > 30 and len(radios) - len(described) == 4, (len(radios), len(described))
     names = {_told(node, "name") for node in nodes}
     assert names & {"Attack Vector AV", "Access Vector AV"} and {"Version", "Network N", "4.0"} <= names, names
-    live = page.driver.execute_script("return document.querySelectorAll('[aria-live], [role=status], [role=alert]').length")
-    assert live == 4, live
+    live = "return document.querySelectorAll('[aria-live], [role=status], [role=alert]').length"
+    assert page.driver.execute_script(live) == 4
 
 
 def check_contrast(page: Page) -> None:
