@@ -11,8 +11,9 @@ import statistics
 import sys
 import time
 from pathlib import Path
-from typing import Any, Dict, List
+from typing import Any, Dict, Iterator, List
 
+import reading
 from driving import Page
 from selenium.webdriver.common.keys import Keys
 
@@ -233,6 +234,48 @@ def check_hostile(page: Page) -> None:
     assert len(table) == 1_000 and page.paste(V3)["vector"] == V3
 
 
+def leaves(told: Any) -> Iterator[float]:
+    """The numbers of an account, but for those of the next lower class, which the page leaves out."""
+    if isinstance(told, dict):
+        for name, value in told.items():
+            yield from leaves(None if name == "nextValue" else value)
+    elif isinstance(told, list):
+        for value in told:
+            yield from leaves(value)
+    elif isinstance(told, (int, float)):
+        yield told
+
+
+def check_why(page: Page) -> None:
+    """Where the library gives an account, each number of it stands on the page, and the drawing has its steps."""
+    for text in (f"{V4}/E:P/CR:L/MSI:S", f"{V3.replace('S:U', 'S:C')}/E:U/MAV:P", f"{V2}/E:U/TD:L/CDP:H"):
+        page.open(f"#{text}")
+        account = getattr(Vector(text), "account", None)
+        script = "const why = document.getElementById('why'); return why.hidden ? '' : why.innerText"
+        shown = page.driver.execute_script(script)
+        assert bool(account) == bool(shown), shown
+        if account is None:
+            continue
+        numbers = {float(word.strip(",.")) for word in re.findall(r"-?\b\d[\d.]*", shown)}
+        told = account()
+        assert not set(leaves(told)) - numbers, (text, set(leaves(told)) - numbers)
+        count = "return ['rect', '.gone'].map((what) => document.querySelectorAll(`#why ${what}`).length)"
+        boxes = page.driver.execute_script(count)
+        groups = told.get("groups", [])
+        assert boxes == [sum(group[name] for group in groups) for name in ("depth", "distance")], (text, boxes)
+
+
+def check_reading(page: Page) -> None:
+    """The names and the contrast of a page on which everything is open: groups, sentences, a table and a refusal."""
+    for text in (f"{V4}/E:P/CR:H/MAV:N/MVC:H/MSI:S/U:Red", f"{V3}/E:U/CR:H/MAV:P/MC:L", f"{V2}/E:U/TD:L"):
+        page.open(f"#{text}")
+        page.paste(f"{V2}, {V3}, {V4}, CVSS:3.1/AV:N and CVSS:3.1/AV:Q")
+        page.paste("CVSS:3.1/AV:Q", "insertText")
+        page.click("#explain")
+        reading.check_names(page)
+        reading.check_contrast(page)
+
+
 def check_printed(page: Page) -> None:
     """Each version is printed on one page, with all its metrics defined."""
     whole = {
@@ -275,13 +318,15 @@ def main(root: Path, folder: Path) -> None:
         check_copies(page, folder)
         check_keyboard(page)
         check_hostile(page)
+        check_why(page)
+        check_reading(page)
         check_printed(page)
         report_times(page)
         told = page.console()
         assert told == [], told
     finally:
         page.close()
-    print("Page: links, history, copies, keyboard, hostile texts and print as they must be; the console is silent")
+    print("Page: links, history, copies, keyboard, hostile texts, names, contrast and print are as they must be")
 
 
 if __name__ == "__main__":

@@ -86,7 +86,7 @@ function vectorText() {
 function drawValue(metric, [letter, title, sentence]) {
   const id = `${metric.name}-${letter}`;
   const input = make("input", { type: "radio", name: metric.name, value: letter, "aria-describedby": id });
-  const label = make("label", {}, input, title, make("b", {}, letter));
+  const label = make("label", {}, input, `${title} `, make("b", {}, letter));
   const words = make("p", { className: "sentence", id, hidden: true }, make("b", {}, `${title}: `), sentence);
   input.addEventListener("change", () => tick(metric.name, letter));
   label.addEventListener("mouseenter", () => explain(metric, letter));
@@ -96,7 +96,7 @@ function drawValue(metric, [letter, title, sentence]) {
 
 function drawMetric(metric) {
   const values = metric.values.map((value) => drawValue(metric, value));
-  const legend = make("legend", {}, metric.title, make("abbr", { title: metric.title }, metric.name));
+  const legend = make("legend", {}, `${metric.title} `, make("abbr", { title: metric.title }, metric.name));
   const ask = make("p", { className: "sentence ask" }, metric.ask);
   const labels = make("div", { className: "values" }, ...values.map(({ label }) => label));
   const words = values.map((value) => value.words);
@@ -107,7 +107,7 @@ function drawGroup(group) {
   const cards = make("div", { className: "cards" }, ...group.metrics.map(drawMetric));
   if (group.base) return make("section", { className: "group" }, make("h2", {}, group.title), cards);
   const summary = make("summary", {}, group.title, " ", make("span", { className: "count" }));
-  return make("details", { className: "group" }, summary, cards);
+  return make("details", { className: "group", "aria-label": group.title }, summary, cards);
 }
 
 function draw() {
@@ -194,11 +194,114 @@ function show(answer) {
   bar.style.setProperty("--score", answer ? score : "0");
   at("note").textContent = note();
   showScores(answer ?? { scores: [] });
+  showWhy(answer?.account);
   at("vector").textContent = text ?? (vectorText() || "–");
   at("record").hidden = !answer;
   if (answer) at("record").href = `/record?${query(text)}`;
   at("said").textContent = "";
   document.title = answer ? `${score} ${severity} · CVSS calculator` : "CVSS calculator";
+}
+
+// ---- Why: the account that the library gives
+
+// The numbers of an account, in the order in which they come about; those of SCORES have one decimal.
+const NUMBERS = {
+  iss: "Impact sub-score",
+  impact: "Impact",
+  exploitability: "Exploitability",
+  f: "f(Impact)",
+  miss: "Modified impact sub-score",
+  modifiedImpact: "Modified impact",
+  modifiedExploitability: "Modified exploitability",
+  adjustedImpact: "Adjusted impact",
+  adjustedBase: "Adjusted base score",
+  adjustedTemporal: "Adjusted temporal score",
+  firstNumber: "Before the first rounding",
+  firstScore: "First rounding",
+  number: "Before the rounding",
+  score: "Score",
+};
+const SCORES = ["adjustedBase", "adjustedTemporal", "firstScore", "score"];
+
+const decimal = (number) => number.toFixed(7).replace(/\.?0+$/, "");
+const tenth = (number) => (number === null ? "–" : number.toFixed(1));
+
+function cells(texts) {
+  return make("tr", {}, ...texts.map((text) => make("td", {}, text)));
+}
+
+function headCells(texts) {
+  return make("tr", {}, ...texts.map((text) => make("th", { scope: "col" }, text)));
+}
+
+function drawn(tag, attributes, ...children) {
+  const element = document.createElementNS("http://www.w3.org/2000/svg", tag);
+  for (const [name, value] of Object.entries(attributes)) element.setAttribute(name, value);
+  element.append(...children);
+  return element;
+}
+
+// A group as a row of boxes, one for each step of its depth, of which those of the distance are filled.
+function drawSteps({ group, distance, depth, next }, row) {
+  const top = 20 * row;
+  const boxes = Array.from({ length: depth }, (_, step) =>
+    drawn("rect", { x: 70 + 16 * step, y: top + 2, width: 13, height: 13, class: step < distance ? "gone" : "" }));
+  const label = drawn("text", { x: 0, y: top + 13 }, group);
+  const told = drawn("text", { x: 74 + 16 * depth, y: top + 13 }, `${distance} of ${depth}`);
+  return drawn("g", { class: next === null ? "last" : "" }, label, ...boxes, told);
+}
+
+function drawDistances(groups) {
+  const words = groups.map(({ group, distance, depth }) => `${group} ${distance} of ${depth}`).join(", ");
+  const title = drawn("title", {}, `Distances from the most severe values of the classes, in steps: ${words}`);
+  const frame = { viewBox: `0 0 290 ${20 * groups.length}`, role: "img" };
+  return drawn("svg", frame, title, ...groups.map(drawSteps));
+}
+
+function sumOf(account) {
+  const { groups, macroVector, value, mean, number, score } = account;
+  if (!groups) return `The number of the base score, ${decimal(account.base.number)}, is rounded to ${tenth(score)}.`;
+  if (groups.length === 0) return `Nothing is harmed, so the score is ${tenth(score)}.`;
+  return `The classes ${macroVector} are listed with ${tenth(value)}. By the distances ${decimal(mean)} is taken of it, `
+    + `the mean over the groups. What is left, ${decimal(number)}, is rounded to ${tenth(score)}.`;
+}
+
+function groupRow({ group, class: own, distance, depth, gap, taken }) {
+  return cells([group, own, `${distance} of ${depth}`, tenth(gap), taken === null ? "–" : decimal(taken)]);
+}
+
+function numberRows(account) {
+  return ["base", "temporal", "environmental"].flatMap((part) => {
+    const names = Object.keys(NUMBERS).filter((name) => name in account[part]);
+    const told = (name) => (SCORES.includes(name) ? tenth : decimal)(account[part][name]);
+    const head = make("tr", {}, make("th", { colSpan: 2, scope: "rowgroup" }, part));
+    return [head, ...names.map((name) => cells([NUMBERS[name], told(name)]))];
+  });
+}
+
+// What each metric weighs, or in v4.0 which letter of it counts, in the order of the standard.
+function metricPairs({ weights, effective }) {
+  const told = weights ?? effective;
+  const names = table().flatMap((group) => group.metrics.map(({ name }) => name)).filter((name) => name in told);
+  return names.map((name) => {
+    const value = weights ? decimal(told[name]) : told[name];
+    return make("div", {}, make("dt", {}, name), make("dd", {}, value));
+  });
+}
+
+function showWhy(account) {
+  at("why").hidden = !account;
+  if (!account) return;
+  const { groups } = account;
+  const head = groups ? ["Group", "Class", "Distance", "Gap", "Taken"] : ["Number", "Value"];
+  const rows = groups ? groups.map(groupRow) : numberRows(account);
+  at("why-sum").textContent = sumOf(account);
+  at("why-drawing").replaceChildren(...(groups?.length ? [drawDistances(groups)] : []));
+  at("why-numbers").tHead.replaceChildren(headCells(head));
+  at("why-numbers").tBodies[0].replaceChildren(...rows);
+  at("why-numbers").hidden = rows.length === 0;
+  at("why-metrics-title").textContent = groups ? "The values that count" : "What each metric weighs";
+  at("why-metrics").replaceChildren(...metricPairs(account));
 }
 
 // ---- Several vectors

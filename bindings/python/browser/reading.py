@@ -1,0 +1,77 @@
+"""What those meet who do not see the page as it was drawn: names, descriptions and contrast."""
+
+from typing import Any, Dict, List
+
+from driving import Page
+
+_CONTROLS = ("radio", "checkbox", "button", "link", "textbox", "DisclosureTriangle", "group", "region", "table")
+# The texts that stand out from what is behind them by less than the Web Content Accessibility Guidelines ask for in
+# section 1.4.3.
+_FAINT = """
+const numbers = (color) => color.match(/[\\d.]+/g).map(Number);
+const light = (color) => {
+  const [red, green, blue] = numbers(color).map((part) => {
+    const share = part / 255;
+    return share <= 0.04045 ? share / 12.92 : ((share + 0.055) / 1.055) ** 2.4;
+  });
+  return 0.2126 * red + 0.7152 * green + 0.0722 * blue;
+};
+const behind = (element) => {
+  for (let own = element; own; own = own.parentElement) {
+    const color = getComputedStyle(own).backgroundColor;
+    if ((numbers(color)[3] ?? 1) > 0) return color;
+  }
+  return "rgb(255, 255, 255)";
+};
+const faint = [];
+const walker = document.createTreeWalker(document.body, NodeFilter.SHOW_TEXT);
+while (walker.nextNode()) {
+  const element = walker.currentNode.parentElement;
+  if (!walker.currentNode.textContent.trim() || !element.checkVisibility() || element.closest("svg, script")) continue;
+  const style = getComputedStyle(element);
+  const [less, more] = [light(style.color), light(behind(element))].sort((a, b) => a - b);
+  const size = parseFloat(style.fontSize);
+  const least = size >= 24 || (size >= 18.66 && Number(style.fontWeight) >= 700) ? 3 : 4.5;
+  const ratio = (more + 0.05) / (less + 0.05);
+  if (ratio < least) faint.push(`${ratio.toFixed(2)}: ${walker.currentNode.textContent.trim().slice(0, 60)}`);
+}
+return faint;
+"""
+
+
+def _nodes(page: Page) -> List[Dict[str, Any]]:
+    page.driver.execute_cdp_cmd("Accessibility.enable", {})
+    tree = page.driver.execute_cdp_cmd("Accessibility.getFullAXTree", {})
+    return [node for node in tree["nodes"] if not node["ignored"]]
+
+
+def _told(node: Dict[str, Any], member: str) -> str:
+    return str(node.get(member, {}).get("value", ""))
+
+
+def check_names(page: Page) -> None:
+    """Each control, group and table has a name in the tree that the browser gives to a screen reader."""
+    nodes = _nodes(page)
+    for node in nodes:
+        if _told(node, "role") in _CONTROLS:
+            assert _told(node, "name") or _told(node, "role") == "table", node
+    radios = [node for node in nodes if _told(node, "role") == "radio"]
+    described = [node for node in radios if _told(node, "description")]
+    # the four of the switch need no sentence
+    assert len(radios) > 30 and len(radios) - len(described) == 4, (len(radios), len(described))
+    names = {_told(node, "name") for node in nodes}
+    assert names & {"Attack Vector AV", "Access Vector AV"} and {"Version", "Network N", "4.0"} <= names, names
+    live = "return document.querySelectorAll('[aria-live], [role=status], [role=alert]').length"
+    assert page.driver.execute_script(live) == 4
+
+
+def check_contrast(page: Page) -> None:
+    """In light and in dark, each text can be told from what is behind it."""
+    for scheme in ("light", "dark"):
+        for width in (1280, 390):
+            page.emulate(scheme, width)
+            faint = page.driver.execute_script(_FAINT)
+            assert faint == [], (scheme, width, faint)
+            wide = page.driver.execute_script("return document.documentElement.scrollWidth")
+            assert wide <= width, (scheme, width, wide)
+    page.emulate("light", 1280)
