@@ -67,7 +67,7 @@ fn told_at_sight(text: &[u8]) -> Option<(&[u8], &[u8])>
     }
 }
 
-/// The same, where the end of the first piece has to be sought.
+/// By the rules of which version a text is read, where the end of its first piece has to be sought.
 fn route_by_front(text: &[u8]) -> Route<'_>
     ensures route { as_route result ≡ route_of text.now }
     ensures behind { IsBehindVersion (pieces text.now) result }
@@ -98,7 +98,8 @@ fn route_by<'a>(prefix: &'a [u8], told: &'a [u8], behind: Pieces<'a>) -> Route<'
     route_by_version(told, behind)
 }
 
-/// The same where the prefix is `CVSS`, and a dot stands in what is told.
+/// By which rules a text is read whose first piece has the prefix `CVSS` and tells this version, in
+/// which a dot stands.
 #[inline(always)]
 fn route_by_version<'a>(told: &'a [u8], behind: Pieces<'a>) -> Route<'a>
     requires { has dot told.now ≡ true }

@@ -68,8 +68,9 @@ impl Cvss {
         }
     }
 
-    /// The same of bytes, which are read once: whether they are UTF-8 is asked only where they are
-    /// refused, since a text that is accepted is ASCII.
+    /// The vector that bytes denote, by the rules of the version that they tell. They are read once:
+    /// whether they are UTF-8 is asked only where they are refused, since a text that is accepted is
+    /// ASCII.
     ///
     /// # Errors
     ///
@@ -107,8 +108,8 @@ impl Cvss {
         }
     }
 
-    /// The same, without looking first whether the text is a canonical one, for a text of which
-    /// `read_canonical` told nothing.
+    /// The vector that a text denotes, if there is one, without looking first whether the text is a
+    /// canonical one: for a text of which `read_canonical` told nothing. It takes no memory.
     pub fn read_in_any_order(text: &[u8]) -> Option<Cvss>
         ensures denoted { IfSome result (λ cvss. DenotesCvss text.now cvss) }
         ensures accepts { (cvss : Cvss) → DenotesCvss text.now cvss → result ≡ Some cvss }

@@ -37,29 +37,29 @@ module _ {V K : Type 0} (version : Version V K) (undefined : List ℕ) where
   }
 
 part_v2 : vector_v2.Vector → vector_v2.Vector
-part_v2 v = let is = kept v2 (codes "ND") in record {
-  av = is of_v2.AV v.av; ac = is of_v2.AC v.ac; au = is of_v2.Au v.au; c = is of_v2.C v.c; i = is of_v2.I v.i; a = is of_v2.A v.a;
-  e = is of_v2.E v.e; rl = is of_v2.RL v.rl; rc = is of_v2.RC v.rc;
-  cdp = is of_v2.CDP v.cdp; td = is of_v2.TD v.td; cr = is of_v2.CR v.cr; ir = is of_v2.IR v.ir; ar = is of_v2.AR v.ar;
-}
+part_v2 v =
+    let is = kept v2 (codes "ND") in
+    let base = record v { av = is of_v2.AV v.av; ac = is of_v2.AC v.ac; au = is of_v2.Au v.au; c = is of_v2.C v.c; i = is of_v2.I v.i; a = is of_v2.A v.a } in
+    let temporal = record base { e = is of_v2.E v.e; rl = is of_v2.RL v.rl; rc = is of_v2.RC v.rc } in
+    record temporal { cdp = is of_v2.CDP v.cdp; td = is of_v2.TD v.td; cr = is of_v2.CR v.cr; ir = is of_v2.IR v.ir; ar = is of_v2.AR v.ar }
 
 part_v3 : vector_v3.Vector → vector_v3.Vector
-part_v3 v = let is = kept v3 (codes "X") in record v {
-  av = is of_v3.AV v.av; ac = is of_v3.AC v.ac; pr = is of_v3.PR v.pr; ui = is of_v3.UI v.ui; s = is of_v3.S v.s; c = is of_v3.C v.c; i = is of_v3.I v.i; a = is of_v3.A v.a;
-  e = is of_v3.E v.e; rl = is of_v3.RL v.rl; rc = is of_v3.RC v.rc;
-  cr = is of_v3.CR v.cr; ir = is of_v3.IR v.ir; ar = is of_v3.AR v.ar;
-  mav = is of_v3.MAV v.mav; mac = is of_v3.MAC v.mac; mpr = is of_v3.MPR v.mpr; mui = is of_v3.MUI v.mui; ms = is of_v3.MS v.ms; mc = is of_v3.MC v.mc; mi = is of_v3.MI v.mi; ma = is of_v3.MA v.ma;
-}
+part_v3 v =
+    let is = kept v3 (codes "X") in
+    let base = record v { av = is of_v3.AV v.av; ac = is of_v3.AC v.ac; pr = is of_v3.PR v.pr; ui = is of_v3.UI v.ui; s = is of_v3.S v.s; c = is of_v3.C v.c; i = is of_v3.I v.i; a = is of_v3.A v.a } in
+    let temporal = record base { e = is of_v3.E v.e; rl = is of_v3.RL v.rl; rc = is of_v3.RC v.rc } in
+    let required = record temporal { cr = is of_v3.CR v.cr; ir = is of_v3.IR v.ir; ar = is of_v3.AR v.ar } in
+    record required { mav = is of_v3.MAV v.mav; mac = is of_v3.MAC v.mac; mpr = is of_v3.MPR v.mpr; mui = is of_v3.MUI v.mui; ms = is of_v3.MS v.ms; mc = is of_v3.MC v.mc; mi = is of_v3.MI v.mi; ma = is of_v3.MA v.ma }
 
 part_v4 : vector_v4.Vector → vector_v4.Vector
-part_v4 v = let is = kept v4 (codes "X") in record v {
-  av = is of_v4.AV v.av; ac = is of_v4.AC v.ac; at = is of_v4.AT v.at; pr = is of_v4.PR v.pr; ui = is of_v4.UI v.ui;
-  vc = is of_v4.VC v.vc; vi = is of_v4.VI v.vi; va = is of_v4.VA v.va; sc = is of_v4.SC v.sc; si = is of_v4.SI v.si; sa = is of_v4.SA v.sa;
-  e = is of_v4.E v.e; cr = is of_v4.CR v.cr; ir = is of_v4.IR v.ir; ar = is of_v4.AR v.ar;
-  mav = is of_v4.MAV v.mav; mac = is of_v4.MAC v.mac; mat = is of_v4.MAT v.mat; mpr = is of_v4.MPR v.mpr; mui = is of_v4.MUI v.mui;
-  mvc = is of_v4.MVC v.mvc; mvi = is of_v4.MVI v.mvi; mva = is of_v4.MVA v.mva; msc = is of_v4.MSC v.msc; msi = is of_v4.MSI v.msi; msa = is of_v4.MSA v.msa;
-  s = is of_v4.S v.s; au = is of_v4.AU v.au; r = is of_v4.R v.r; v = is of_v4.V v.v; re = is of_v4.RE v.re; u = is of_v4.U v.u;
-}
+part_v4 v =
+    let is = kept v4 (codes "X") in
+    let exploitable = record v { av = is of_v4.AV v.av; ac = is of_v4.AC v.ac; at = is of_v4.AT v.at; pr = is of_v4.PR v.pr; ui = is of_v4.UI v.ui } in
+    let base = record exploitable { vc = is of_v4.VC v.vc; vi = is of_v4.VI v.vi; va = is of_v4.VA v.va; sc = is of_v4.SC v.sc; si = is of_v4.SI v.si; sa = is of_v4.SA v.sa } in
+    let required = record base { e = is of_v4.E v.e; cr = is of_v4.CR v.cr; ir = is of_v4.IR v.ir; ar = is of_v4.AR v.ar } in
+    let modified = record required { mav = is of_v4.MAV v.mav; mac = is of_v4.MAC v.mac; mat = is of_v4.MAT v.mat; mpr = is of_v4.MPR v.mpr; mui = is of_v4.MUI v.mui } in
+    let environmental = record modified { mvc = is of_v4.MVC v.mvc; mvi = is of_v4.MVI v.mvi; mva = is of_v4.MVA v.mva; msc = is of_v4.MSC v.msc; msi = is of_v4.MSI v.msi; msa = is of_v4.MSA v.msa } in
+    record environmental { s = is of_v4.S v.s; au = is of_v4.AU v.au; r = is of_v4.R v.r; v = is of_v4.V v.v; re = is of_v4.RE v.re; u = is of_v4.U v.u }
 
 pub defined_part_v2 : (v : vector_v2.Vector) → (w : vector_v2.Vector) × HasDefinedOf v2 (codes "ND") v w
 unfolding part_v2

@@ -55,7 +55,7 @@ pub(crate) fn put_canonical(cvss: &Cvss, buffer: &mut [u8]) -> usize
     }
 }
 
-/// The same of CVSS v2, where no slash stands before the first component.
+/// Puts the canonical text of a vector of CVSS v2, where no slash stands before the first component.
 fn put_v2(vector: &v2::Vector, buffer: &mut [u8]) -> usize
     requires complete { IsComplete v2 vector.now }
     requires room { length (canonical_text v2 vector.now) ≤ length buffer.old }

@@ -21,7 +21,7 @@ use cvss_text::walk::Components;
 /// How a metric of CVSS v2 is spelled that is not defined.
 const NOT_DEFINED_V2: [u8; 2] = *b"ND";
 
-/// The same of CVSS v3 and v4.0.
+/// How a metric of CVSS v3 and v4.0 is spelled that is not defined.
 const NOT_DEFINED: [u8; 1] = *b"X";
 
 /// Writes the text of a vector without its undefined metrics at the beginning of a buffer where it
@@ -39,7 +39,8 @@ pub fn put_without_undefined(cvss: &Cvss, text: &[u8], buffer: &mut [u8]) -> usi
     }
 }
 
-/// The same of CVSS v2, where no slash stands before the first component.
+/// Writes the text of a vector of CVSS v2 without its undefined metrics, where no slash stands before
+/// the first component.
 fn put_v2(vector: &v2::Vector, whole: usize, buffer: &mut [u8]) -> usize
     requires complete { IsComplete v2 vector.now }
     requires whole { whole ≡ length (canonical_text v2 vector.now) }
@@ -56,7 +57,8 @@ fn put_v2(vector: &v2::Vector, whole: usize, buffer: &mut [u8]) -> usize
     )
 }
 
-/// The same behind the piece that tells the version. All metrics are kept where none is defined.
+/// Writes the text of a vector without its undefined metrics behind the piece that tells the version.
+/// All metrics are kept where none is defined.
 fn put_less<V: Printed>(piece: &[u8], vector: &V, whole: usize, buffer: &mut [u8]) -> usize
     requires front { V.version.front vector.now ≡ piece.now ∷ [] }
     requires whole { whole ≡ length (canonical_text V.version vector.now) }

@@ -54,7 +54,8 @@ pub fn put_metrics(cvss: &Cvss, metrics: &mut [CvssMetric]) -> usize
     }
 }
 
-/// The same of a vector of some version.
+/// Writes the metrics that a vector of some version has, in printing order, at the beginning of an
+/// array where they fit, and tells how many they are.
 fn put_metrics_of<V: Printed>(vector: &V, metrics: &mut [CvssMetric]) -> usize
     ensures { IsWritten (metrics_at V.version vector.now V.version.printed) metrics.old metrics.new
         result }

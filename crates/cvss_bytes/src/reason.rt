@@ -27,7 +27,8 @@ pub fn put_reason(alloc: Global, first: &[u8], text: &[u8], buffer: &mut [u8]) -
     }
 }
 
-/// The same of an error.
+/// Writes a first text and the reason that an error tells behind it at the beginning of a buffer where
+/// both fit, and tells their length. Where memory is refused, the reason is that.
 pub(crate) fn put_error(alloc: Global, first: &[u8], error: &Error, buffer: &mut [u8]) -> usize
     requires { length first.now ≤ 32 }
     ensures { (reason : List ℕ) × IsErrorTold error.now reason

@@ -23,7 +23,7 @@ pub(crate) fn line_end_or_len(bytes: &[u8]) -> usize
     at + line_end_by_one(&bytes[at..])
 }
 
-/// The same, byte by byte.
+/// The place of the first byte 10, or the length where there is none, sought byte by byte.
 fn line_end_by_one(bytes: &[u8]) -> usize
     ensures { IsFirstLineEnd bytes.now result }
 {

@@ -34,8 +34,8 @@ pub fn read_behind<'a, V: Fronted>(text: &'a [u8]) -> Result<V, Fault<'a, V::Kin
     }
 }
 
-/// The same of a text whose version piece is read already, with the pieces behind that and the
-/// vector that it starts.
+/// Reads a text whose version piece is read already, from the pieces behind that and the vector that
+/// it starts, or finds the first reason why it is refused.
 #[inline(always)]
 pub fn read_started<'a, V: Fronted>(
     text: &'a [u8],

@@ -102,7 +102,7 @@ pub fn cut_component<'a, V: Components>(
     }
 }
 
-/// The same, the longer way.
+/// The metric that a piece names, and the value behind its colon, by a search for the colon.
 fn cut_at_colon<'a, V: Components>(
     piece: &'a [u8],
 ) -> Result<(V::Kind, &'a [u8]), Fault<'a, V::Kind>>
