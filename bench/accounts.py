@@ -148,13 +148,10 @@ def account(text):
 def answer(number, line):
     """What is told of a line, its decimals exact."""
     try:
-        text = line.decode("utf-8")
-    except UnicodeDecodeError:
-        return {"line": number, "refused": "not UTF-8"}
-    try:
-        return {"line": number, **account(text)}
+        return {"line": number, **account(reference.text_of(line))}
     except reference.Refused as reason:
-        return {"line": number, "given": text, "refused": str(reason)}
+        given = {} if reason.kind == "encoding" else {"given": line.decode("utf-8")}
+        return {"line": number, **given, "refused": str(reason)}
 
 
 def rounded(number):

@@ -12,8 +12,17 @@ import v3
 import v4
 
 
+# The kinds of refusal, in the order of the numbers that the C header gives them, from 1.
+KINDS = ("component", "prefix", "version", "name", "value", "repeat", "missing", "encoding")
+
+
 class Refused(Exception):
-    pass
+    """The first reason why a text is refused, its kind, and the metric that it blames, if it does."""
+
+    def __init__(self, kind, reason, metric=None):
+        super().__init__(reason)
+        self.kind = kind
+        self.metric = metric
 
 
 def raised(text):
@@ -33,26 +42,33 @@ def read_components(version, metrics, mandatory, pieces, any_case=True):
     for piece in pieces:
         name, value = (raised(piece) if any_case else piece).split(":")
         if name not in metrics:
-            raise Refused(f"unknown CVSS metric name: `{name}`")
+            raise Refused("name", f"unknown CVSS metric name: `{name}`")
         spelling = spelled(metrics, name, value, any_case)
         if spelling is None:
             # A modified metric of v3 is told by the name of its base metric.
             blamed = name.removeprefix("M") if version == "v3" else name
-            raise Refused(f"invalid CVSS{version} {blamed} ({metrics[blamed][0]}) metric: `{value}`")
+            words = f"invalid CVSS{version} {blamed} ({metrics[blamed][0]}) metric: `{value}`"
+            raise Refused("value", words, blamed)
         if name in vector:
-            raise Refused(f"duplicate CVSS{version} {name} ({metrics[name][0]}) metric")
+            words = f"duplicate CVSS{version} {name} ({metrics[name][0]}) metric"
+            raise Refused("repeat", words, name)
         vector[name] = spelling
     for name in mandatory:
         if name not in vector:
-            raise Refused(f"missing mandatory CVSS{version} {name} ({metrics[name][0]}) metric")
+            words = f"missing mandatory CVSS{version} {name} ({metrics[name][0]}) metric"
+            raise Refused("missing", words, name)
     return vector
+
+
+def no_component(piece):
+    return Refused("component", f"invalid CVSS metric group component: `{piece}`")
 
 
 def cut(text):
     pieces = text.split("/")
     for piece in pieces:
         if piece.count(":") != 1:
-            raise Refused(f"invalid CVSS metric group component: `{piece}`")
+            raise no_component(piece)
     return pieces
 
 
@@ -64,9 +80,9 @@ def version_told(pieces, versions):
     """The version that the first piece tells, which has to be one of these."""
     prefix, version = pieces[0].split(":", 1)
     if prefix != "CVSS":
-        raise Refused(f"invalid CVSS string prefix: `{prefix}`")
+        raise Refused("prefix", f"invalid CVSS string prefix: `{prefix}`")
     if version not in versions:
-        raise Refused(f"unsupported CVSS version: {version}")
+        raise Refused("version", f"unsupported CVSS version: {version}")
     return version
 
 
@@ -99,18 +115,24 @@ def read(text):
     """The same of the version that the text tells, which is v2 where it tells none."""
     pieces = text.split("/")
     if len(pieces) == 1 or ":" not in pieces[0]:
-        raise Refused(f"invalid CVSS metric group component: `{pieces[0]}`")
+        raise no_component(pieces[0])
     if "." not in pieces[0].split(":", 1)[1]:
         return read_v2(text)
     version = version_told(pieces, ("3.0", "3.1", "4.0"))
     return read_v4(text) if version == "4.0" else read_v3(text)
 
 
+def text_of(line):
+    """The text that these bytes are."""
+    try:
+        return line.decode("utf-8")
+    except UnicodeDecodeError:
+        raise Refused("encoding", "not UTF-8") from None
+
+
 def answer(line):
     try:
-        canonical_text, score, severity = read(line.decode("utf-8"))
-    except UnicodeDecodeError:
-        return "error: not UTF-8"
+        canonical_text, score, severity = read(text_of(line))
     except Refused as reason:
         return f"error: {reason}"
     return f"{canonical_text} {score // 10}.{score % 10} {severity}"

@@ -102,13 +102,13 @@ NOMENCLATURES = ["CVSS-B", "CVSS-BE", "CVSS-BT", "CVSS-BTE"]
 
 def rating(text):
     if text.lower() not in RATINGS:
-        raise reference.Refused(f"invalid CVSS Qualitative Severity Rating: `{text}`")
+        raise reference.Refused("value", f"invalid CVSS Qualitative Severity Rating: `{text}`")
     return [text.lower()]
 
 
 def nomenclature(text):
     if text not in NOMENCLATURES:
-        raise reference.Refused(f"invalid CVSSv4 nomenclature: `{text}`")
+        raise reference.Refused("value", f"invalid CVSSv4 nomenclature: `{text}`")
     return [text]
 
 

@@ -17,6 +17,8 @@ from typing import Dict, Optional
 _HERE = Path(__file__).resolve().parent
 _PACKAGE = _HERE / "cvss_proved"
 _FILE = "libcvss.so.1"
+# The package's own files, those of the calculator's page among them.
+_SUFFIXES = (".py", ".typed", ".html", ".css", ".js", ".json")
 # The library is linked to the C library of the machine that it is built on, and to no Python.
 _TAG = "py3-none-linux_x86_64"
 # They stand at the root of a checkout, of a source archive, and beside the installed sources.
@@ -40,6 +42,8 @@ Requires-Python: >=3.8
 Description-Content-Type: text/markdown
 
 """
+# What pyproject.toml has as scripts.
+_SCRIPTS = "[console_scripts]\ncvss-calculator = cvss_proved.calculator.__main__:main\n"
 
 
 def _version() -> str:
@@ -72,9 +76,9 @@ def _metadata(version: str) -> bytes:
 
 def _package() -> Dict[str, bytes]:
     files = {
-        f"cvss_proved/{source.name}": source.read_bytes()
-        for source in sorted(_PACKAGE.iterdir())
-        if source.suffix in (".py", ".typed")
+        f"cvss_proved/{source.relative_to(_PACKAGE)}": source.read_bytes()
+        for source in sorted(_PACKAGE.rglob("*"))
+        if source.suffix in _SUFFIXES
     }
     files[f"cvss_proved/{_FILE}"] = _library()
     return files
@@ -86,6 +90,7 @@ def _files(version: str) -> Dict[str, bytes]:
     files[f"{info}/METADATA"] = _metadata(version)
     wheel = f"Wheel-Version: 1.0\nGenerator: build_wheel\nRoot-Is-Purelib: false\nTag: {_TAG}\n"
     files[f"{info}/WHEEL"] = wheel.encode()
+    files[f"{info}/entry_points.txt"] = _SCRIPTS.encode()
     files.update({f"{info}/{name}": text for name, text in _licenses().items()})
     files[f"{info}/RECORD"] = _record(files, info).encode()
     return files

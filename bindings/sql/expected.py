@@ -51,9 +51,7 @@ def accepted(row):
 def answers(text, row=None):
     """What is answered to a text, of which the scores may be known."""
     try:
-        return accepted(row or scored(text.decode("utf-8")))
-    except UnicodeDecodeError:
-        reason = "not UTF-8"
+        return accepted(row or scored(reference.text_of(text)))
     except reference.Refused as refused:
         reason = str(refused)
     return [None] * (len(COLUMNS) - 3) + [reason, reason]

@@ -16,32 +16,6 @@ import v2
 import v3
 import v4
 
-KINDS = [
-    ("invalid CVSS metric group component", 1),
-    ("invalid CVSS string prefix", 2),
-    ("unsupported CVSS version", 3),
-    ("unknown CVSS metric name", 4),
-    ("invalid CVSSv", 5),
-    ("duplicate CVSSv", 6),
-    ("missing mandatory CVSSv", 7),
-    ("not UTF-8", 8),
-]
-
-
-def refused(reason):
-    """The kind is told by the first words of the reason, and the metric by the first word behind the version."""
-    kind = next(number for words, number in KINDS if reason.startswith(words))
-    metric = "-"
-    if kind in (5, 6, 7):
-        metric = reason.split("CVSSv", 1)[1].split()[1]
-    return f"{kind} {metric} {reason}"
-
-
-def nomenclature(vector):
-    """Specification of v4.0, section 1.3: which groups have a metric in the vector."""
-    environmental = any(name in ("CR", "IR", "AR") or name.startswith("M") for name in vector)
-    return "CVSS-B" + ("T" if "E" in vector else "") + ("E" if environmental else "")
-
 
 def scored(tenths, severity):
     return f"{tenths // 10}.{tenths % 10} {severity(tenths)}"
@@ -58,7 +32,7 @@ def facts(text):
         scores = [scored(tenths, v2.severity) for tenths in v2.scores(vector)]
     elif version == "4.0":
         scores = [scored(v4.score(vector), v3.severity), "- -", "- -"]
-        nomenclature_told = nomenclature(vector)
+        nomenclature_told = v4.nomenclature(vector)
     else:
         scores = [scored(tenths, v3.severity) for tenths in v3.scores(int(version[2:]), vector)]
         complete = all(name in vector for name in v3.BASE)
@@ -69,11 +43,9 @@ def facts(text):
 
 def answer(line):
     try:
-        return facts(line.decode("utf-8"))
-    except UnicodeDecodeError:
-        return refused("not UTF-8")
+        return facts(reference.text_of(line))
     except reference.Refused as reason:
-        return refused(str(reason))
+        return f"{reference.KINDS.index(reason.kind) + 1} {reason.metric or '-'} {reason}"
 
 
 def main():

@@ -13,7 +13,6 @@ import reference
 import v2
 import v3
 import v4
-from kinds import kind_of
 
 # Of each version: the version piece, the table of metrics, the base metrics, and how "not defined"
 # is spelled.
@@ -97,10 +96,11 @@ def accepted(reason, version, vector, text=None):
 
 def refused(reason, text):
     """The row of a text that is refused, with the kind of the first reason why."""
-    told = reference.answer(text)
-    if not told.startswith("error: "):
-        raise AssertionError(f"{text} is accepted")
-    return [text, kind_of(told.removeprefix("error: ")), reason]
+    try:
+        reference.read(reference.text_of(text))
+    except reference.Refused as refusal:
+        return [text, refusal.kind, reason]
+    raise AssertionError(f"{text} is accepted")
 
 
 def written(column):

@@ -1,0 +1,212 @@
+"""Tries the server of the calculator's page without a browser: what it answers, and what it refuses.
+
+Usage: check_calculator.py ROOT, the folder of the checkout. The package is the one that Python finds.
+"""
+
+import http.client
+import json
+import socket
+import subprocess
+import sys
+import threading
+import time
+from contextlib import contextmanager
+from pathlib import Path
+from string import ascii_uppercase
+from typing import Any, Dict, Iterator, List, Set, Tuple
+from urllib.parse import quote_from_bytes
+
+from cvss_proved import CvssError, Text, Vector
+from cvss_proved.calculator._server import MOST_BYTES, Server, own_names
+
+COMMAND = [sys.executable, "-m", "cvss_proved.calculator", "--no-browser"]
+V2 = "AV:N/AC:L/Au:N/C:N/I:N/A:C"
+V3 = "CVSS:3.1/AV:N/AC:L/PR:N/UI:N/S:U/C:H/I:H/A:H"
+V4 = "CVSS:4.0/AV:N/AC:L/AT:N/PR:N/UI:N/VC:H/VI:H/VA:H/SC:H/SI:H/SA:H"
+Answer = Tuple[int, Dict[str, str], bytes]
+
+
+@contextmanager
+def serving() -> Iterator[int]:
+    """The port of a server that serves meanwhile."""
+    with Server("127.0.0.1", 0) as server:
+        thread = threading.Thread(target=server.serve_forever)
+        thread.start()
+        yield server.server_port
+        server.shutdown()
+        thread.join()
+
+
+def asked(port: int, path: str, method: str = "GET", body: Any = None, **headers: str) -> Answer:
+    connection = http.client.HTTPConnection("127.0.0.1", port, timeout=20)
+    connection.request(method, path, body, headers)
+    answer = connection.getresponse()
+    told = answer.status, {name.lower(): value for name, value in answer.getheaders()}, answer.read()
+    connection.close()
+    return told
+
+
+def read(port: int, text: bytes) -> List[Dict[str, Any]]:
+    status, _, content = asked(port, f"/read?text={quote_from_bytes(text, safe='/:')}")
+    assert status == 200, (status, text)
+    told: List[Dict[str, Any]] = json.loads(content)
+    return told
+
+
+def check_headers(port: int) -> None:
+    """Each answer, also a refusal, has the strict headers, and none sets a cookie."""
+    paths = ("/", "/page.css", "/page.js", "/metrics.json", "/icon.svg", "/read?text=x", f"/record?text={V3}")
+    wrong = {"/no": 404, "/read": 404, "/record?text=x": 400, "/../_server.py": 404}
+    for path, status in {**dict.fromkeys(paths, 200), **wrong}.items():
+        told, headers, content = asked(port, path)
+        policy = headers["content-security-policy"]
+        assert told == status and content, (path, told)
+        assert policy.startswith("default-src 'self';") and "unsafe" not in policy, path
+        assert (headers["x-content-type-options"], headers["cache-control"]) == ("nosniff", "no-store"), path
+        assert "set-cookie" not in headers and "access-control-allow-origin" not in headers, path
+    page = asked(port, "/")[2].decode()
+    assert "<script>" not in page and "style=" not in page and " on" not in page.split("<body>")[0]
+
+
+def check_refused_requests(port: int) -> None:
+    for method in ("POST", "HEAD", "PUT", "DELETE", "OPTIONS", "PATCH"):
+        status, headers, _ = asked(port, "/", method, b"x" if method == "POST" else None)
+        assert (status, headers["allow"], headers["x-content-type-options"]) == (405, "GET", "nosniff"), method
+    evil = ("evil.example", f"evil.example:{port}", f"127.0.0.1:{port}.evil.example")
+    for host in (*evil, "127.0.0.1", f"127.0.0.1:{port + 1}", ""):
+        assert asked(port, "/", Host=host)[0] == 403, host
+    for host in (f"127.0.0.1:{port}", f"localhost:{port}", f"LOCALHOST:{port}"):
+        assert asked(port, "/", Host=host)[0] == 200, host
+    room = MOST_BYTES - len("GET /read?text= HTTP/1.1")
+    for size, status in ((room, 200), (room + 1, 413), (70_000, 413), (1_000_000, 413), (5_000_000, 413)):
+        told, _, content = asked(port, "/read?text=" + "x" * size)
+        assert told == status and (status == 200 or content.startswith(b"This is too large")), (size, told, content)
+    assert asked(port, "/", X="x" * 17_000)[0] == asked(port, "/", X="x" * 70_000)[0] == 413
+    assert asked(port, "/", body=b"x")[0] == 413
+    two_hosts = f"GET / HTTP/1.1\r\nHost: 127.0.0.1:{port}\r\nHost: a\r\n\r\n"
+    for request in ("GET / HTTP/1.1\r\n\r\n", "GET / HTTP/1.0\r\n\r\n", two_hosts):
+        with socket.create_connection(("127.0.0.1", port), 20) as connection:
+            connection.sendall(request.encode())
+            assert connection.recv(100).split()[1] == b"403", request
+
+
+def is_accepted(text: Text) -> bool:
+    try:
+        Vector(text)
+    except CvssError:
+        return False
+    return True
+
+
+def check_answers(port: int, root: Path) -> None:
+    """What is told of a text is what the library tells of it."""
+    lines = (root / "crates" / "cvss_vectors" / "stdin").read_bytes().splitlines()[:1320]
+    for line in lines:
+        try:
+            vector = Vector(line)
+        except CvssError:
+            continue
+        (told,) = read(port, line)
+        scores = [(score["score"], score["severity"]) for score in told["scores"]]
+        pairs = zip(vector.scores, vector.severities)
+        expected = [(f"{score:.1f}", severity) for score, severity in pairs if score is not None]
+        assert (told["text"], told["version"], scores) == (vector.text, vector.version, expected), line
+        assert (told["score"], told["severity"]) == expected[0] and told["metrics"] == vector.metrics, line
+        assert told["nomenclature"] == vector.nomenclature, line
+    for refused in (b"AV:N/AC:L", b"", b"\xff", b"CVSS:3.1", b"hello", b"CVSS:3.1/AV:Q", "\u202e/AV:N".encode()):
+        (told,) = read(port, refused)
+        assert not is_accepted(refused)
+        error = CvssError.of(refused)
+        assert (told["reason"], told["metric"]) == (error.reason, error.metric), refused
+    status, headers, content = asked(port, f"/record?text={V4}")
+    assert status == 200 and json.loads(content) == Vector(V4).record()
+    assert "attachment" in headers["content-disposition"]
+
+
+def check_texts(port: int) -> None:
+    """Where vectors stand in a text."""
+    rows = (
+        (f"score 9.8 ({V3}).", [V3]),
+        (f"9.8/{V3}", [V3]),
+        (f"https://www.first.org/cvss/calculator/3.1#{V3}", [V3]),
+        (f"({V2})", [V2]),
+        (f"{V3}/CVSS:4.0/AV:N", [V3, "CVSS:4.0/AV:N"]),
+        (f"{V4}, {V2};{V3}IGH\n{V2}", [V4, V2, f"{V3}IGH", V2]),
+        (f"see CVSS:3.1 and AV:N/AC:L and {V2}", [V2]),
+    )
+    for text, found in rows:
+        told = read(port, text.encode())
+        assert [entry.get("text", entry.get("given")) for entry in told] == found, (text, told)
+
+
+def values_of(groups: Any) -> Dict[str, Set[str]]:
+    """The values of each metric of a version, as the page makes them of its table."""
+    values: Dict[str, Set[str]] = {}
+    for metric in (metric for group in groups for metric in group["metrics"]):
+        own = {value[0] for value in metric.get("values", []) + metric.get("others", [])}
+        values[metric["name"]] = own | values[metric["of"]] | {"X"} if "of" in metric else own
+    return values
+
+
+def check_metrics(root: Path) -> None:
+    """The page has each metric of the stored lines; each value of it is read, and no other word of two letters."""
+    table = json.loads((root / "bindings/python/cvss_proved/calculator/metrics.json").read_text())
+    named = set()
+    words = [first + second for first in ["", *ascii_uppercase] for second in ascii_uppercase]
+    for text in (V2, V3, V4):
+        values = values_of(table[Vector(text).version])
+        for name, own in values.items():
+            others = "/".join(piece for piece in text.split("/") if not piece.startswith(f"{name}:"))
+            for word in {*words, *own}:
+                assert is_accepted(f"{others}/{name}:{word}") == (word in own), (text, name, word)
+        named |= set(values)
+    stored = (root / "bindings" / "stored" / "facts").read_text()
+    assert {word.partition("=")[0] for word in stored.split() if "=" in word} == named, named
+
+
+def started(*arguments: str) -> "subprocess.Popen[str]":
+    return subprocess.Popen([*COMMAND, *arguments], stdout=subprocess.PIPE, stderr=subprocess.PIPE, text=True)
+
+
+def check_command() -> None:
+    """It tells its address, writes nothing of what it is asked, and says what it cannot do."""
+    start = time.monotonic()
+    process = started()
+    assert process.stdout is not None
+    url = process.stdout.readline().split()[0]
+    port = int(url.rstrip("/").rpartition(":")[2])
+    assert url == f"http://127.0.0.1:{port}/" and read(port, V3.encode())[0]["score"] == "9.8"
+    print(f"Python: the calculator's first answer {time.monotonic() - start:.2f} s behind the command")
+    taken = subprocess.run([*COMMAND, "--port", str(port)], stdout=subprocess.PIPE, stderr=subprocess.PIPE)
+    assert taken.returncode == 2 and b"cannot be served at" in taken.stderr, taken
+    process.send_signal(2)
+    assert process.communicate() == ("", "") and process.returncode == 0
+    for wrong in (["--port", "70000"], ["--bind", "no address"]):
+        assert subprocess.run([*COMMAND, *wrong], stdout=subprocess.PIPE, stderr=subprocess.PIPE).returncode == 2, wrong
+    process = started("--bind", "0.0.0.0", "--log")
+    assert process.stdout is not None
+    port = int(process.stdout.readline().split()[0].rstrip("/").rpartition(":")[2])
+    assert read(port, V3.encode())
+    process.send_signal(2)
+    faults = process.communicate()[1]
+    assert faults.startswith("warning: whoever reaches 0.0.0.0") and V3 in faults, faults
+
+
+def check_names() -> None:
+    assert own_names("127.0.0.1", 8000) == ["127.0.0.1:8000", "localhost:8000"]
+    assert own_names("::1", 80) == ["[::1]:80", "localhost:80", "[::1]", "localhost"]
+    assert own_names("::ffff:192.0.2.1", 8000) == ["192.0.2.1:8000"] == own_names("192.0.2.1", 8000)
+    assert own_names("fe80::1%eth0", 8000) == ["[fe80::1]:8000"]
+
+
+if __name__ == "__main__":
+    folder = Path(sys.argv[1])
+    with serving() as served:
+        check_headers(served)
+        check_refused_requests(served)
+        check_answers(served, folder)
+        check_texts(served)
+    check_metrics(folder)
+    check_command()
+    check_names()
+    print("Python: the calculator answers what the library does, and refuses what it must")
