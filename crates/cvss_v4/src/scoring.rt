@@ -1,8 +1,11 @@
 //! The scoring of effective values (v4.0 specification, section 8.2).
 
+pub mod account;
 pub mod classes;
+mod depths;
 mod distances;
 pub mod effective;
+pub mod next;
 mod score;
 mod shares;
 mod values;
