@@ -1,5 +1,5 @@
 -- The distances of the code are those of the specification, and lie below the depths.
-use Rattle.std.proofs.Common.{◌≡◌, ℕ, zero, suc, ◌+◌, ◌-◌, ◌*◌, ◌/◌, ◌<◌, ◌≤◌, [], ◌∷◌, slice_index, refl, arith, pos}
+use Rattle.std.proofs.Common.{◌≡◌, ℕ, zero, suc, ◌-◌, ◌*◌, ◌/◌, ◌≤◌, slice_index, refl, arith, pos}
 use Rattle.std.proofs.lemmas.Int.{ints}
 use Rattle.cvss_v4.specs.Classes.{eq1, eq2, eq3, eq4, eq6}
 use Rattle.cvss_v4.specs.Distance.{eq1_sum, eq2_sum, eq3_eq6_sum, eq4_sum, eq1_distance, eq2_distance, eq3_eq6_distance, eq4_distance}
@@ -66,28 +66,18 @@ eq3_eq6_divides zero (suc _) = refl
 eq3_eq6_divides (suc zero) _ = refl
 eq3_eq6_divides (suc (suc _)) _ = refl
 
--- the parts of the code are 840 divided by the depths
-pub eq1_part : (class : ℕ) → class ≤ 2 → slice_index (840 ∷ 210 ∷ 168 ∷ []) class ≡ 840 / eq1_depth class
-eq1_part zero h = refl
-eq1_part (suc zero) h = refl
-eq1_part (suc (suc zero)) h = refl
-eq1_part (suc (suc (suc rest))) h = absurd (omega arith)
+-- the depth is 840 divided by its part
+pub eq1_depth_is : (class : ℕ) → 840 / (840 / eq1_depth class) ≡ eq1_depth class
+eq1_depth_is = elim [ zero ↦ refl | suc zero ↦ refl | suc (suc _) ↦ refl ]
 
-pub eq2_part : (class : ℕ) → class ≤ 1 → slice_index (840 ∷ 420 ∷ []) class ≡ 840 / eq2_depth class
-eq2_part zero h = refl
-eq2_part (suc zero) h = refl
-eq2_part (suc (suc rest)) h = absurd (omega arith)
+pub eq2_depth_is : (class : ℕ) → 840 / (840 / eq2_depth class) ≡ eq2_depth class
+eq2_depth_is = elim [ zero ↦ refl | suc _ ↦ refl ]
 
-pub eq4_part : (class : ℕ) → class ≤ 2 → slice_index (140 ∷ 168 ∷ 210 ∷ []) class ≡ 840 / eq4_depth class
-eq4_part zero h = refl
-eq4_part (suc zero) h = refl
-eq4_part (suc (suc zero)) h = refl
-eq4_part (suc (suc (suc rest))) h = absurd (omega arith)
+pub eq4_depth_is : (class : ℕ) → 840 / (840 / eq4_depth class) ≡ eq4_depth class
+eq4_depth_is = elim [ zero ↦ refl | suc zero ↦ refl | suc (suc _) ↦ refl ]
 
-pub eq3_eq6_part : (class3 class6 : ℕ) → class3 < 2 → class6 ≤ 1
-    → slice_index (120 ∷ 140 ∷ 105 ∷ 105 ∷ []) (2 * class3 + class6) ≡ 840 / eq3_eq6_depth class3 class6
-eq3_eq6_part zero zero h k = refl
-eq3_eq6_part zero (suc zero) h k = refl
-eq3_eq6_part (suc zero) zero h k = refl
-eq3_eq6_part (suc zero) (suc zero) h k = refl
-eq3_eq6_part class3 class6 h k = absurd (omega arith)
+pub eq3_eq6_depth_is : (class3 class6 : ℕ) → 840 / (840 / eq3_eq6_depth class3 class6) ≡ eq3_eq6_depth class3 class6
+eq3_eq6_depth_is zero zero = refl
+eq3_eq6_depth_is zero (suc _) = refl
+eq3_eq6_depth_is (suc zero) _ = refl
+eq3_eq6_depth_is (suc (suc _)) _ = refl

@@ -1,3 +1,4 @@
+mod AccountLemmas
 mod ClassLawLemmas
 mod ClassLemmas
 mod CompleteLemmas
@@ -11,6 +12,7 @@ mod LetterLemmas
 mod MeanLemmas
 mod MergingFacts
 mod MergingLemmas
+mod NextLemmas
 mod OverridingLemmas
 mod PlaceLemmas
 mod RoundedLemmas

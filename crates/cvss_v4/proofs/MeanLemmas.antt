@@ -5,7 +5,7 @@ use Rattle.std.proofs.Math.Nat.{mul-pos}
 use Rattle.std.proofs.lemmas.Int.{ints}
 use Rattle.cvss_number.specs.Exact.{Exact, ratio, ◌over◌, tenths, ◌⊕◌, ◌⊖◌, ◌⊗◌, ◌≈◌}
 use Rattle.cvss_number.proofs.ExactLemmas.{equal_refl, equal_trans, sum_equal, difference_equal, product_equal}
-use Rattle.cvss_v4.specs.Gap.{Group}
+use Rattle.cvss_v4.specs.Gap.{Group, next_lower}
 use Rattle.cvss_v4.specs.Scores.{proportion, total, mean}
 use Rattle.cvss_v4.specs.private.Shares.{taken, counted}
 use Rattle.cvss_v4.proofs.TableLemmas.{Falls}
@@ -24,7 +24,7 @@ pub record IsSound (value : ℕ) (group : Group) : Type 0 where
   pub is_distance : group.distance ≡ pos distance
   pub below : distance < group.depth
   pub divides : group.depth * (840 / group.depth) ≡ 840
-  pub falls : (lower : ℕ) → group.next_lower ≡ Some lower → Falls value lower
+  pub falls : (lower : ℕ) → next_lower group ≡ Some lower → Falls value lower
 
 -- so many numbers have this sum in 8400ths of a point
 pub record IsTotal (xs : List Exact) (sum count : ℕ) : Type 0 where
@@ -67,20 +67,23 @@ abbrev pub all_counted : List Group → ℕ
 all_counted [] = 0
 all_counted (group ∷ rest) = counted group + all_counted rest
 
+-- the part of a gap to a next lower value
+pub part_of : (value : ℕ) (group : Group) → IsSound value group → (lower : ℕ) → next_lower group ≡ Some lower
+    → tenths (pos value -ℤ pos lower) ⊗ ratio group.distance group.depth
+    ≈ ((value - lower) * unsigned_abs group.distance * (840 / group.depth)) over 8400
+part_of value group sound lower is_next =
+    let gap : pos value -ℤ pos lower ≡ pos (value - lower) = omega (arith, ints, (sound.falls lower is_next).to_value) in
+    rw (gap, sound.is_distance) (part_is (value - lower) sound.distance group.depth (840 / group.depth) sound.divides)
+
 pub total_is : (value : ℕ) (groups : List Group) → AreSound value groups
     → IsTotal (filter_map (proportion value) groups) (all_taken value groups) (all_counted groups)
 total_is value [] are_sound = record { is_sum = record { equal = refl }; is_count = refl; some = lit< tt }
 total_is value (group ∷ rest) are_sound =
-    let distance = are_sound.0.distance in
     let depth = group.depth in
-    one_more group.next_lower (λ lower. tenths (pos value -ℤ pos lower) ⊗ ratio group.distance depth)
+    one_more (next_lower group) (λ lower. tenths (pos value -ℤ pos lower) ⊗ ratio group.distance depth)
     (λ lower. (value - lower) * unsigned_abs group.distance * (840 / depth)) (filter_map (proportion value) rest)
     (all_taken value rest) (all_counted rest)
-    (λ lower is_next.
-    let gap : pos value -ℤ pos lower ≡ pos (value - lower) = omega (arith, ints, (are_sound.0.falls lower is_next).to_value) in (
-      rw (gap, are_sound.0.is_distance) (part_is (value - lower) distance depth (840 / depth) are_sound.0.divides),
-      mul-pos (lit< tt) (omega (arith, are_sound.0.below)),
-    ))
+    (λ lower is_next. (part_of value group are_sound.0 lower is_next, mul-pos (lit< tt) (omega (arith, are_sound.0.below))))
     (total_is value rest are_sound.1)
 
 -- a sum divided by so many, in 504000ths

@@ -7,7 +7,7 @@ use Rattle.cvss_number.specs.Exact.{◌over◌, whole, ◌⊕◌, ◌≈◌, ◌
 use Rattle.cvss_number.specs.Rounding.{IsRoundedV4}
 use Rattle.cvss_number.proofs.ExactLemmas.{equal_refl, equal_sym, equal_at_most, at_most_trans, sum_equal}
 use Rattle.cvss_number.proofs.RoundingLemmas.{v4-unique}
-use Rattle.cvss_v4.specs.Gap.{Group, groups}
+use Rattle.cvss_v4.specs.Gap.{Group, groups, next_lower}
 use Rattle.cvss_v4.specs.laws.ScoreLaws.{IsFromTenthToTen}
 use Rattle.cvss_v4.specs.Scores.{has_impact, number, IsScore}
 use Rattle.cvss_v4.specs.private.Shares.{taken, counted}
@@ -27,10 +27,10 @@ if_there P (Some lower) each = each lower refl
 
 -- no next lower value of sound groups is above the value
 pub sound_fall : (value : ℕ) (groups : List Group) → AreSound value groups
-    → All (λ group. IfSome group.next_lower (λ lower. lower ≤ value)) groups
+    → All (λ group. IfSome (next_lower group) (λ lower. lower ≤ value)) groups
 sound_fall value [] are_sound k d in_list = absurd (omega arith)
 sound_fall value (group ∷ rest) are_sound zero d in_list =
-    if_there (λ lower. lower ≤ value) group.next_lower (λ lower next. (are_sound.0.falls lower next).to_value)
+    if_there (λ lower. lower ≤ value) (next_lower group) (λ lower next. (are_sound.0.falls lower next).to_value)
 sound_fall value (group ∷ rest) are_sound (suc k) d in_list = sound_fall value rest are_sound.1 k d (omega arith)
 
 -- what is taken of a gap is no more than the gap to 1
@@ -44,7 +44,7 @@ part_at_most value distance depth (Some lower) below divides falls =
 
 taken_at_most : (value : ℕ) (group : Group) → IsSound value group → taken value group ≤ 840 * (value - 1) * counted group
 taken_at_most value group sound =
-    rw sound.is_distance (part_at_most value sound.distance group.depth group.next_lower sound.below sound.divides sound.falls)
+    rw sound.is_distance (part_at_most value sound.distance group.depth (next_lower group) sound.below sound.divides sound.falls)
 
 all_at_most : (value : ℕ) (groups : List Group) → AreSound value groups
     → all_taken value groups ≤ 840 * (value - 1) * all_counted groups

@@ -1,12 +1,13 @@
 -- Values with no higher level score no less.
 use Rattle.std.proofs.Common.{◌≡◌, ℕ, ◌+◌, ◌-◌, ◌*◌, ◌/◌, ◌≤◌, max, Bool, true, false, ◌||◌, Option, Some, None, option_map, unwrap_or, refl, arith, ℤ, pos, ◌-ℤ◌, ◌≤ℤ◌, ap, subst, lit<}
+use Rattle.std.specs.Option.{option_and_then}
 use Rattle.std.proofs.Math.Nat.{mul-le-mul_left, mul-le-mul_right}
 use Rattle.std.proofs.lemmas.Int.{ints}
 use Rattle.cvss_number.specs.Exact.{◌over◌, whole, ◌⊑◌}
 use Rattle.cvss_number.proofs.ExactLemmas.{equal_at_most, equal_sym, at_most_trans}
 use Rattle.cvss_number.proofs.RoundingLemmas.{v4-ordered}
 use Rattle.cvss_v4.specs.Distance.{eq1_least, eq2_least, eq3_eq6_least, eq4_least}
-use Rattle.cvss_v4.specs.Gap.{Group, eq1_group, eq2_group, eq3_eq6_group, eq4_group, eq5_group, eq1_next, eq2_next, eq3_eq6_next, eq4_next, eq5_next, eq1_depth, eq2_depth, eq3_eq6_depth, eq4_depth, groups}
+use Rattle.cvss_v4.specs.Gap.{Group, eq1_group, eq2_group, eq3_eq6_group, eq4_group, eq5_group, eq1_next, eq2_next, eq3_eq6_next, eq4_next, eq5_next, eq1_depth, eq2_depth, eq3_eq6_depth, eq4_depth, groups, next_lower}
 use Rattle.cvss_v4.specs.Levels.{vulnerable_level, subsequent_level, safety_level}
 use Rattle.cvss_v4.specs.Scores.{has_impact, is_vulnerable_impact, is_subsequent_impact, is_safety_impact, number, IsScore}
 use Rattle.cvss_v4.specs.AsSevere.{IsAsSevere}
@@ -39,22 +40,22 @@ record IsFarther (near far : Group) : Type 0 where
   is_near : near.distance ≡ pos near_distance
   is_far : far.distance ≡ pos far_distance
   order : near_distance ≤ far_distance
-  one_next : near.next_lower ≡ far.next_lower
+  one_next : near.next ≡ far.next
   one_depth : near.depth ≡ far.depth
 
 taken_ordered : (value : ℕ) (near far : Group) → IsFarther near far → taken value near ≤ taken value far
 taken_ordered value near far farther =
     rw (farther.one_next, farther.one_depth, farther.is_near, farther.is_far)
-    (part_ordered value farther.near_distance farther.far_distance far.depth far.next_lower farther.order)
+    (part_ordered value farther.near_distance farther.far_distance far.depth (next_lower far) farther.order)
 
 counted_alike : (near far : Group) → IsFarther near far → counted near ≡ counted far
-counted_alike near far farther = ap (λ next. unwrap_or (option_map (λ _. 1) next) 0) farther.one_next
+counted_alike near far farther = ap (λ next. unwrap_or (option_map (λ _. 1) (option_and_then listed_value next)) 0) farther.one_next
 
 -- so it is where the level sums of both are in order
 farther : (near far : Group) (near_sum far_sum near_least far_least : ℕ)
     → near.distance ≡ pos near_sum -ℤ pos near_least → far.distance ≡ pos far_sum -ℤ pos far_least
     → near_least ≤ near_sum → far_least ≤ far_sum → near_least ≡ far_least → near_sum ≤ far_sum
-    → near.next_lower ≡ far.next_lower → near.depth ≡ far.depth → IsFarther near far
+    → near.next ≡ far.next → near.depth ≡ far.depth → IsFarther near far
 farther near far near_sum far_sum near_least far_least is_near is_far near_low far_low one_least order one_next one_depth =
     record {
       near_distance = near_sum - near_least;

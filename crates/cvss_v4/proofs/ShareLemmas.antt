@@ -3,7 +3,7 @@ use Rattle.std.proofs.Common.{◌≡◌, ℕ, ◌-◌, ◌*◌, ◌/◌, ◌<◌
 use Rattle.std.proofs.Math.Nat.{mul-le-mul, mul-le-mul_right}
 use Rattle.std.proofs.lemmas.Int.{ints}
 use Rattle.cvss_v4.specs.Classes.{macro_vector}
-use Rattle.cvss_v4.specs.Gap.{Group}
+use Rattle.cvss_v4.specs.Gap.{Group, next_lower}
 use Rattle.cvss_v4.specs.Values.{listed_value, table_value}
 use Rattle.cvss_v4.specs.laws.ScoreLaws.{IsListed}
 use Rattle.cvss_v4.specs.private.Shares.{IsPart, IsShare}
@@ -13,7 +13,7 @@ use Rattle.cvss_v4.specs.declared.scoring.shares.Share.{Share}
 use Rattle.cvss_v4.proofs.MeanLemmas.{IsSound}
 
 -- nothing without a next lower value
-pub no_share : (value : ℕ) (group : Group) → group.next_lower ≡ None
+pub no_share : (value : ℕ) (group : Group) → next_lower group ≡ None
     → IsShare value group (record { taken = 0; counted = 0 })
 no_share value group none = record {
   taken = rw none refl;
@@ -24,13 +24,13 @@ no_share value group none = record {
 
 -- and else the part of the gap
 pub record Fits (value : ℕ) (group : Group) (lower distance part : ℕ) : Type 0 where
-  pub is_lower : group.next_lower ≡ Some lower
+  pub is_lower : next_lower group ≡ Some lower
   pub is_distance : group.distance ≡ pos distance
   pub is_part : part ≡ 840 / group.depth
   pub takes : IsPart value lower distance part
 
 pub fits : (v : Effective) (m : MacroVector) (value : ℕ) (group : Group) (lower distance part : ℕ) → m ≡ macro_vector v
-    → IsListed (listed_value m) value → IsSound (table_value v) group → group.next_lower ≡ Some lower
+    → IsListed (listed_value m) value → IsSound (table_value v) group → next_lower group ≡ Some lower
     → pos distance ≡ group.distance → part ≡ 840 / group.depth → Fits value group lower distance part
 fits v m value group lower distance part is_class listed sound is_lower is_distance is_part =
     let is_value = (subst (λ n. IsListed (listed_value n) value) is_class listed).is_value in

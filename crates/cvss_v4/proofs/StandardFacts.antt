@@ -2,7 +2,7 @@
 use Rattle.std.proofs.Common.{◌≡◌, Some, None, pos, refl, rules}
 use Rattle.cvss_v4.specs.Classes.{macro_vector}
 use Rattle.cvss_v4.specs.Distance.{eq1_least, eq2_least, eq3_eq6_least, eq4_least}
-use Rattle.cvss_v4.specs.Gap.{eq3_eq6_next}
+use Rattle.cvss_v4.specs.Gap.{eq3_eq6_group, eq3_eq6_next, next_lower}
 use Rattle.cvss_v4.specs.Scores.{number, IsScore}
 use Rattle.cvss_v4.specs.Values.{rows, listed_value}
 use Rattle.cvss_v4.specs.declared.scoring.effective.Effective.{Effective}
@@ -110,11 +110,13 @@ pub table_values : (listed_value (record { eq1 = 0; eq2 = 0; eq3 = 0; eq4 = 0; e
 unfolding rows listed_value
 table_values = (refl, refl, refl, refl)
 
--- of 3.0 and 2.4 the larger is the next lower value, and the least severe class has none
-pub next_lower_values : (eq3_eq6_next (macro_vector adjacent) ≡ Some 30)
+-- of the classes with the values 3.0 and 2.4 that with the larger is the next lower one, and the least severe class has
+-- none
+pub next_lower_classes : (eq3_eq6_next (macro_vector adjacent) ≡ Some (record { eq1 = 1; eq2 = 1; eq3 = 0; eq4 = 2; eq5 = 2; eq6 = 1 }))
+    × (next_lower (eq3_eq6_group adjacent) ≡ Some 30)
     × (eq3_eq6_next (macro_vector least_severe) ≡ None)
 unfolding rows listed_value
-next_lower_values = (refl, refl)
+next_lower_classes = (refl, refl, refl)
 
 pub integrity_score : IsScore integrity (pos 77)
 unfolding number rows listed_value eq1_least eq2_least eq3_eq6_least eq4_least

@@ -1,5 +1,6 @@
 -- The values of the code are those of the table, and no class has a smaller value than its next lower ones.
 use Rattle.std.proofs.Common.{◌≡◌, ℕ, ◌≤◌, Bool, true, false, ◌&&◌, ◌||◌, ◌==◌, leb, slice_index, Option, Some, None, refl, arith, ap}
+use Rattle.std.specs.Option.{option_and_then}
 use Rattle.std.proofs.lemmas.Bool.Decides.{nat_tests}
 use Rattle.cvss_v4.specs.Classes.{IsMacroVector}
 use Rattle.cvss_v4.specs.laws.ScoreLaws.{IsListed}
@@ -96,20 +97,20 @@ falling (Some v) (Some l) value lower h is_value is_lower =
     record { from_one = grind (arith, nat_tests); to_value = grind (arith, nat_tests) }
 
 -- a next lower value falls from that of each class
-module _ (next : MacroVector → Option ℕ) where
+module _ (next : MacroVector → Option MacroVector) where
   abbrev falls_from : MacroVector → Bool
-  falls_from m = falls (listed_value m) (next m)
+  falls_from m = falls (listed_value m) (option_and_then listed_value (next m))
 
   falls_of : all_classes falls_from ≡ true → (m : MacroVector) → IsMacroVector m → (value lower : ℕ)
-      → listed_value m ≡ Some value → next m ≡ Some lower → Falls value lower
-  falls_of down m is_class value lower = falling (listed_value m) (next m) value lower (each_class falls_from down m is_class)
+      → listed_value m ≡ Some value → option_and_then listed_value (next m) ≡ Some lower → Falls value lower
+  falls_of down m is_class value lower = falling (listed_value m) (option_and_then listed_value (next m)) value lower (each_class falls_from down m is_class)
 
 eq1_down : all_classes (falls_from eq1_next) ≡ true
 unfolding rows listed_value
 eq1_down = refl
 
 pub eq1_falls : (m : MacroVector) → IsMacroVector m → (value lower : ℕ) → listed_value m ≡ Some value
-    → eq1_next m ≡ Some lower → Falls value lower
+    → option_and_then listed_value (eq1_next m) ≡ Some lower → Falls value lower
 eq1_falls = falls_of eq1_next eq1_down
 
 eq2_down : all_classes (falls_from eq2_next) ≡ true
@@ -117,7 +118,7 @@ unfolding rows listed_value
 eq2_down = refl
 
 pub eq2_falls : (m : MacroVector) → IsMacroVector m → (value lower : ℕ) → listed_value m ≡ Some value
-    → eq2_next m ≡ Some lower → Falls value lower
+    → option_and_then listed_value (eq2_next m) ≡ Some lower → Falls value lower
 eq2_falls = falls_of eq2_next eq2_down
 
 eq3_eq6_down : all_classes (falls_from eq3_eq6_next) ≡ true
@@ -125,7 +126,7 @@ unfolding rows listed_value
 eq3_eq6_down = refl
 
 pub eq3_eq6_falls : (m : MacroVector) → IsMacroVector m → (value lower : ℕ) → listed_value m ≡ Some value
-    → eq3_eq6_next m ≡ Some lower → Falls value lower
+    → option_and_then listed_value (eq3_eq6_next m) ≡ Some lower → Falls value lower
 eq3_eq6_falls = falls_of eq3_eq6_next eq3_eq6_down
 
 eq4_down : all_classes (falls_from eq4_next) ≡ true
@@ -133,7 +134,7 @@ unfolding rows listed_value
 eq4_down = refl
 
 pub eq4_falls : (m : MacroVector) → IsMacroVector m → (value lower : ℕ) → listed_value m ≡ Some value
-    → eq4_next m ≡ Some lower → Falls value lower
+    → option_and_then listed_value (eq4_next m) ≡ Some lower → Falls value lower
 eq4_falls = falls_of eq4_next eq4_down
 
 eq5_down : all_classes (falls_from eq5_next) ≡ true
@@ -141,5 +142,5 @@ unfolding rows listed_value
 eq5_down = refl
 
 pub eq5_falls : (m : MacroVector) → IsMacroVector m → (value lower : ℕ) → listed_value m ≡ Some value
-    → eq5_next m ≡ Some lower → Falls value lower
+    → option_and_then listed_value (eq5_next m) ≡ Some lower → Falls value lower
 eq5_falls = falls_of eq5_next eq5_down

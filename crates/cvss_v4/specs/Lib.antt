@@ -1,3 +1,4 @@
+pub mod Account
 pub mod AsSevere
 pub mod Classes
 pub mod Distance

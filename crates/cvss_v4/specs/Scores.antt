@@ -2,7 +2,7 @@
 use Rattle.std.specs.Prelude.{ℕ, Bool, true, false, ◌||◌, if◌then◌else◌, List, [], ◌∷◌, Option, option_map, filter_map, length, ℤ, pos, ◌-ℤ◌}
 use Rattle.cvss_number.specs.Exact.{Exact, ratio, ◌over◌, whole, tenths, ◌⊕◌, ◌⊖◌, ◌⊗◌}
 use Rattle.cvss_number.specs.Rounding.{IsRoundedV4}
-use Rattle.cvss_v4.specs.Gap.{Group, groups}
+use Rattle.cvss_v4.specs.Gap.{Group, groups, next_lower}
 use Rattle.cvss_v4.specs.Values.{table_value}
 use Rattle.cvss_v4.specs.declared.scoring.effective.Effective.{Effective}
 use Rattle.cvss_v4.specs.declared.scoring.effective.VulnerableImpact.{VulnerableImpact}
@@ -31,7 +31,11 @@ has_impact v =
 -- gap * distance / depth of a group that has a next lower value; the gap is the value less the next lower one
 abbrev pub proportion : ℕ → Group → Option Exact
 proportion value group =
-    option_map (λ lower. tenths (pos value -ℤ pos lower) ⊗ ratio group.distance group.depth) group.next_lower
+    option_map (λ lower. tenths (pos value -ℤ pos lower) ⊗ ratio group.distance group.depth) (next_lower group)
+
+-- the proportions of the groups that have a next lower value
+abbrev pub proportions : Effective → List Exact
+proportions v = filter_map (proportion (table_value v)) (groups v)
 
 -- the sum of exact numbers
 abbrev pub total : List Exact → Exact
@@ -47,7 +51,7 @@ mean (x ∷ rest) = total (x ∷ rest) ⊗ 1 over length (x ∷ rest)
 unfoldable pub number : Effective → Exact
 number v =
     if has_impact v
-    then tenths (pos (table_value v)) ⊖ mean (filter_map (proportion (table_value v)) (groups v))
+    then tenths (pos (table_value v)) ⊖ mean (proportions v)
     else whole 0
 
 -- so many tenths are the score: the number rounded, half up

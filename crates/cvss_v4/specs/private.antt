@@ -1,3 +1,4 @@
+pub mod Next
 pub mod OverridingSteps
 pub mod Places
 pub mod Shares

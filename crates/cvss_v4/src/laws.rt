@@ -14,7 +14,7 @@ ghost use Rattle.cvss_v4.specs.AsSevere.{IsAsSevere};
 ghost use Rattle.cvss_v4.specs.laws.ClassLaws.{IsDominated, HaveLeastSum, IsDepth};
 ghost use Rattle.cvss_v4.specs.Classes.{eq1, eq2, eq3, eq4, eq6, macro_vector};
 ghost use Rattle.cvss_v4.specs.Distance.{eq1_sum, eq1_least, eq1_distance, eq2_sum, eq2_least, eq2_distance, eq3_eq6_sum, eq3_eq6_least, eq3_eq6_distance, eq4_sum, eq4_least, eq4_distance};
-ghost use Rattle.cvss_v4.specs.Gap.{eq1_depth, eq2_depth, eq3_eq6_depth, eq4_depth, groups};
+ghost use Rattle.cvss_v4.specs.Gap.{eq1_depth, eq2_depth, eq3_eq6_depth, eq4_depth, groups, next_lower};
 ghost use Rattle.cvss_v4.specs.Effective.{attack_vectors, privileges, user_interactions, attack_complexities, all_attack_requirements, vulnerable_impacts, subsequent_impacts, safety_impacts, requirements, exploit_maturities};
 ghost use Rattle.cvss_v4.specs.laws.LetterLaws.{AreLettersOf};
 ghost use Rattle.cvss_v4.specs.laws.Maximal.{Eq1Values, eq1_levels, eq1_maximal, Eq2Values, eq2_levels, eq2_maximal, Eq3Eq6Values, eq3_eq6_levels, eq3_eq6_maximal, Eq4Values, eq4_levels, eq4_maximal};
@@ -140,7 +140,7 @@ pub fn depths_are_greatest_distances_and_one()
 /// negative.
 pub fn gaps_are_not_negative()
     ensures listed { (v : Effective) → IsListed (listed_value (macro_vector v)) (table_value v) }
-    ensures lower { (v : Effective) → All (λ group. IfSome group.next_lower
+    ensures lower { (v : Effective) → All (λ group. IfSome (next_lower group)
         (λ lower. lower ≤ table_value v)) (groups v) }
 {}
 

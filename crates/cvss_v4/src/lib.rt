@@ -11,4 +11,5 @@ mod vector;
 pub use metric::MetricType;
 pub use nomenclature::Nomenclature;
 pub use score::Score;
+pub use scoring::account::Account;
 pub use vector::{Metrics, OverrideError, Vector};

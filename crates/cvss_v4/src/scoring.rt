@@ -1,10 +1,14 @@
 //! The scoring of effective values (v4.0 specification, section 8.2).
 
+pub mod account;
 pub mod classes;
+mod depths;
 mod distances;
 pub mod effective;
+mod next;
 mod score;
 mod shares;
 mod values;
 
+pub use next::NextClass;
 pub use score::score_tenths;

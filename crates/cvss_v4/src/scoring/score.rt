@@ -1,11 +1,13 @@
 //! The score of effective values (v4.0 specification, section 8.2).
 
-ghost use Rattle.std.specs.Prelude.{◌≡◌, ◌+◌, ◌-◌, ◌*◌, ◌/◌, ◌≤◌, pos, max, Some, IsTrue};
-ghost use Rattle.cvss_number.specs.Exact.{◌over◌};
+ghost use Rattle.std.specs.Prelude.{◌≡◌, ◌-◌, ◌*◌, ◌/◌, ◌≤◌, pos, max, IsTrue};
+ghost use Rattle.cvss_number.specs.Exact.{◌over◌, ◌≈◌};
 ghost use Rattle.cvss_number.specs.Rounding.{IsRoundedV4};
 ghost use Rattle.cvss_v4.specs.Classes.{macro_vector};
-ghost use Rattle.cvss_v4.specs.Scores.{has_impact, number, IsScore};
+ghost use Rattle.cvss_v4.specs.Scores.{has_impact, mean, proportions, IsScore};
 ghost use Rattle.cvss_v4.specs.Values.{listed_value};
+ghost use Rattle.cvss_v4.specs.laws.ScoreLaws.{IsListed};
+ghost use Rattle.cvss_v4.specs.private.Places.{place_of};
 
 use crate::scoring::classes::MacroVector;
 use crate::scoring::effective::{Effective, SafetyImpact, SubsequentImpact, VulnerableImpact};
@@ -25,29 +27,52 @@ pub fn score_tenths(effective: &Effective) -> u8
     let class = MacroVector::of(effective);
     let place = place_of(&class);
     let value = value_of(&class, place);
-    let eq1 = eq1_share(effective, &class, place, value);
-    let eq2 = eq2_share(effective, &class, place, value);
-    let eq3_eq6 = eq3_eq6_share(effective, &class, place, value);
-    let eq4 = eq4_share(effective, &class, place, value);
-    let eq5 = eq5_share(effective, &class, value);
-    let taken = eq1.taken + eq2.taken + eq3_eq6.taken + eq4.taken + eq5.taken;
-    let counted = eq1.counted + eq2.counted + eq3_eq6.counted + eq4.counted + eq5.counted;
-    rounded(value, taken, counted)
+    let mean = mean_taken(effective, &class, place, value);
+    rounded(less_mean(value, mean))
 }
 
-/// A value less the mean of what is taken in 8400ths of a point, rounded to tenths.
+/// The mean of what the groups with a next lower class take, in 504000ths of a point.
 #[inline(always)]
-fn rounded(value: u8, taken: u32, counted: u32) -> u8
+pub(super) fn mean_taken(effective: &Effective, class: &MacroVector, place: usize, value: u8) -> u32
+    requires class { class.now ≡ macro_vector effective.now }
+    requires place { place ≡ place_of class.now }
+    requires value { IsListed (listed_value class.now) value }
+    ensures value { result over 504_000 ≈ mean (proportions effective.now) }
+    ensures bound { result ≤ 50_400 * (value - 1) }
+{
+    let eq1 = eq1_share(effective, class, place, value);
+    let eq2 = eq2_share(effective, class, place, value);
+    let eq3_eq6 = eq3_eq6_share(effective, class, place, value);
+    let eq4 = eq4_share(effective, class, place, value);
+    let eq5 = eq5_share(effective, class, place, value);
+    let taken = eq1.taken + eq2.taken + eq3_eq6.taken + eq4.taken + eq5.taken;
+    let counted = eq1.counted + eq2.counted + eq3_eq6.counted + eq4.counted + eq5.counted;
+    taken * sixty_by(counted)
+}
+
+/// A value in tenths less a mean, in 504000ths of a point.
+#[inline(always)]
+pub(super) fn less_mean(value: u8, mean: u32) -> u32
     requires some { 1 ≤ value }
     requires value { value ≤ 100 }
-    requires counted { counted ≤ 5 }
-    requires taken { taken ≤ 840 * (value - 1) * counted }
-    ensures value { IsRoundedV4 ((value * 50400 - taken * (60 / max counted 1)) over 504000) (pos result) }
+    requires mean { mean ≤ 50_400 * (value - 1) }
+    ensures value { result ≡ 50_400 * value - mean }
+    ensures some { 50_400 ≤ result }
+    ensures range { result ≤ 5_040_000 }
+{
+    value as u32 * 50_400 - mean
+}
+
+/// A number of 504000ths of a point, rounded to tenths.
+#[inline(always)]
+fn rounded(number: u32) -> u8
+    requires some { 50_400 ≤ number }
+    requires range { number ≤ 5_040_000 }
+    ensures value { IsRoundedV4 (number over 504_000) (pos result) }
     ensures range { result ≤ 100 }
     ensures some { 1 ≤ result }
 {
-    let mean = taken * sixty_by(counted);
-    ((value as u32 * 50_400 - mean + 25_200) / 50_400) as u8
+    ((number + 25_200) / 50_400) as u8
 }
 
 /// 60 divided by how many groups count, where one does.
@@ -67,7 +92,7 @@ fn sixty_by(counted: u32) -> u32
 
 /// Whether one of the six impacts is not None.
 #[inline(always)]
-fn has_impact(effective: &Effective) -> bool
+pub(super) fn has_impact(effective: &Effective) -> bool
     ensures { result ≡ has_impact effective.now }
 {
     !matches!(effective.vc, VulnerableImpact::None)

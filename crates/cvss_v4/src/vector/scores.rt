@@ -5,6 +5,7 @@ ghost use Rattle.cvss_number.specs.Exact.{◌over◌, ◌⊕◌};
 ghost use Rattle.cvss_number.specs.Rounding.{IsRoundedV4};
 ghost use Rattle.cvss_number.specs.Tenths.{IsInTenths, IsFromZeroToTen};
 ghost use Rattle.cvss_grammar.specs.Version.{IsComplete};
+ghost use Rattle.cvss_v4.specs.Account.{AreInRange, IsAccount};
 ghost use Rattle.cvss_v4.specs.Merging.{effective_of};
 ghost use Rattle.cvss_v4.specs.Nomenclature.{nomenclature_of};
 ghost use Rattle.cvss_v4.specs.AsSevere.{IsAsSevere};
@@ -13,6 +14,7 @@ ghost use Rattle.cvss_v4.specs.Vector.{v4};
 ghost use Rattle.cvss_v4.specs.declared.scoring.effective.Effective.{Effective};
 
 use crate::score::Score;
+use crate::scoring::account::Account;
 use crate::scoring::score_tenths;
 use crate::vector::Vector;
 
@@ -46,5 +48,16 @@ impl Vector {
         ensures with_impact { IsTrue (has_impact (effective_of self.now)) → 1 ≤ result }
     {
         score_tenths(&self.effective())
+    }
+
+    /// Why a complete vector has its score: its effective values, their class, the value listed for
+    /// it, what each group of metrics takes from the value, and the number before the rounding
+    /// (v4.0 specification, section 8.2).
+    pub fn account(&self) -> Account
+        requires complete { IsComplete v4 self.now }
+        ensures account { IsAccount (effective_of self.now) result }
+        ensures range { AreInRange result }
+    {
+        Account::of(&self.effective())
     }
 }

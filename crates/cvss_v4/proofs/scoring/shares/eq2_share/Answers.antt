@@ -1,34 +1,21 @@
-use Rattle.std.proofs.Common.{◌≡◌, None, arith, refl, subst}
-use Rattle.cvss_v4.specs.Gap.{eq2_next, eq2_group}
+use Rattle.std.proofs.Common.{◌≡◌, ◌/◌, Some, option_map, subst}
+use Rattle.cvss_v4.specs.Account.{with_value}
+use Rattle.cvss_v4.specs.Gap.{eq2_next, eq2_depth, eq2_group}
 use Rattle.cvss_v4.proofs.ClassLemmas.{class_is}
-use Rattle.cvss_v4.proofs.FitLemmas.{eq2_fits}
-use Rattle.cvss_v4.proofs.PlaceLemmas.{eq2_lower}
-use Rattle.cvss_v4.proofs.ShareLemmas.{no_share, share_is}
+use Rattle.cvss_v4.proofs.FitLemmas.{next_fits}
+use Rattle.cvss_v4.proofs.GroupLemmas.{eq2_sound}
 use Rattle.cvss_v4.proofs.scoring.shares.eq2_share.Goals as goal
 
-pub returns-then-class-eq1 : goal.returns-then-class-eq1
-returns-then-class-eq1 c =
-    let none : eq2_next c.args.class.now ≡ None = rw c.if-class-eq1.true refl in
-    no_share c.args.value (eq2_group c.args.effective.now) (subst (λ m. eq2_next m ≡ None) c.requires.class none)
+pub eq2_next-requires-clause-class : goal.eq2_next-requires-clause-class
+eq2_next-requires-clause-class c = class_is c.args.class.now c.args.effective.now c.requires.class
 
-pub value_at-lower-requires : goal.value_at-lower-requires
-value_at-lower-requires c =
-    let class = class_is c.args.class.now c.args.effective.now c.requires.class in
-    let there = eq2_lower c.args.class.now class (omega arith) in
-    omega (arith, there.within)
+pub eq2_part-requires : goal.eq2_part-requires
+eq2_part-requires c = class_is c.args.class.now c.args.effective.now c.requires.class
 
 pub of-requires-clause-part : goal.of-requires-clause-part
 of-requires-clause-part c =
-    let class = class_is c.args.class.now c.args.effective.now c.requires.class in
-    (eq2_fits c.args.effective.now c.args.class.now c.args.place c.args.value c.value_at-lower.result
-    c.eq2_distance-distance.result c.requires.class c.requires.place c.requires.value (omega arith) c.value_at-lower.ensures
-    c.eq2_distance-distance.ensures).takes
-
-pub returns : goal.returns
-returns c =
-    let class = class_is c.args.class.now c.args.effective.now c.requires.class in
-    let fits = eq2_fits c.args.effective.now c.args.class.now c.args.place c.args.value c.value_at-lower.result
-    c.eq2_distance-distance.result c.requires.class c.requires.place c.requires.value (omega arith) c.value_at-lower.ensures
-    c.eq2_distance-distance.ensures in
-    share_is c.args.value (eq2_group c.args.effective.now) c.value_at-lower.result c.eq2_distance-distance.result _
-    c.of.result fits c.of.ensures.taken c.of.ensures.counted c.of.ensures.bound
+    let v = c.args.effective.now in
+    let is_next = subst (λ m. Some c.in-Some.next ≡ option_map with_value (eq2_next m)) c.requires.class c.in-Some.ensures.next in
+    let is_part = subst (λ m. c.eq2_part.result ≡ 840 / eq2_depth m.eq2) c.requires.class c.eq2_part.ensures.value in
+    (next_fits v c.args.class.now c.args.value (eq2_group v) c.in-Some.next c.eq2_distance.result c.eq2_part.result
+    c.requires.class c.requires.value (eq2_sound v) is_next c.in-Some.ensures.listed c.eq2_distance.ensures is_part).takes

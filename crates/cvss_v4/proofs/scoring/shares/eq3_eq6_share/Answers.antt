@@ -1,42 +1,38 @@
-use Rattle.std.proofs.Common.{◌≡◌, None, arith, refl, subst}
-use Rattle.cvss_v4.specs.Gap.{eq3_eq6_next, eq3_eq6_group}
+use Rattle.std.proofs.Common.{◌≡◌, ◌/◌, Some, None, option_map, subst}
+use Rattle.cvss_v4.specs.Account.{with_value}
+use Rattle.cvss_v4.specs.Gap.{eq3_eq6_next, eq3_eq6_depth, eq3_eq6_group}
 use Rattle.cvss_v4.proofs.ClassLemmas.{class_is}
-use Rattle.cvss_v4.proofs.FitLemmas.{eq3_eq6_fits}
+use Rattle.cvss_v4.proofs.FitLemmas.{next_fits}
+use Rattle.cvss_v4.proofs.GroupLemmas.{eq3_eq6_sound}
+use Rattle.cvss_v4.proofs.NextLemmas.{no_lower}
 use Rattle.cvss_v4.proofs.ShareLemmas.{no_share, share_is}
 use Rattle.cvss_v4.proofs.scoring.shares.eq3_eq6_share.Goals as goal
 
-pub returns-then-class-eq2 : goal.returns-then-class-eq2
-returns-then-class-eq2 c =
-    let none : eq3_eq6_next c.args.class.now ≡ None = rw c.if-class-eq2.true refl in
-    no_share c.args.value (eq3_eq6_group c.args.effective.now) (subst (λ m. eq3_eq6_next m ≡ None) c.requires.class none)
+pub eq3_eq6_next-requires-clause-class : goal.eq3_eq6_next-requires-clause-class
+eq3_eq6_next-requires-clause-class c = class_is c.args.class.now c.args.effective.now c.requires.class
 
-pub eq3_eq6_lower-lower-requires-clause-class : goal.eq3_eq6_lower-lower-requires-clause-class
-eq3_eq6_lower-lower-requires-clause-class c = class_is c.args.class.now c.args.effective.now c.requires.class
-
-pub eq3_eq6_lower-lower-requires-clause-lower : goal.eq3_eq6_lower-lower-requires-clause-lower
-eq3_eq6_lower-lower-requires-clause-lower c = let class = class_is c.args.class.now c.args.effective.now c.requires.class in omega arith
-
-pub overflow_mul-pair : goal.overflow_mul-pair
-overflow_mul-pair c = let class = class_is c.args.class.now c.args.effective.now c.requires.class in omega arith
-
-pub overflow_add-pair : goal.overflow_add-pair
-overflow_add-pair c = let class = class_is c.args.class.now c.args.effective.now c.requires.class in omega arith
-
-pub bounds-pair : goal.bounds-pair
-bounds-pair c = let class = class_is c.args.class.now c.args.effective.now c.requires.class in omega arith
+pub eq3_eq6_part-requires : goal.eq3_eq6_part-requires
+eq3_eq6_part-requires c = class_is c.args.class.now c.args.effective.now c.requires.class
 
 pub of-requires-clause-part : goal.of-requires-clause-part
 of-requires-clause-part c =
-    let class = class_is c.args.class.now c.args.effective.now c.requires.class in
-    (eq3_eq6_fits c.args.effective.now c.args.class.now c.args.value c.eq3_eq6_lower-lower.result
-    c.eq3_eq6_distance-distance.result c.requires.class c.requires.value (omega arith) c.eq3_eq6_lower-lower.ensures
-    c.eq3_eq6_distance-distance.ensures).takes
+    let v = c.args.effective.now in
+    let is_next = subst (λ m. Some c.in-Some.next ≡ option_map with_value (eq3_eq6_next m)) c.requires.class c.in-Some.ensures.next in
+    let is_part = subst (λ m. c.eq3_eq6_part.result ≡ 840 / eq3_eq6_depth m.eq3 m.eq6) c.requires.class c.eq3_eq6_part.ensures.value in
+    (next_fits v c.args.class.now c.args.value (eq3_eq6_group v) c.in-Some.next c.eq3_eq6_distance.result c.eq3_eq6_part.result
+    c.requires.class c.requires.value (eq3_eq6_sound v) is_next c.in-Some.ensures.listed c.eq3_eq6_distance.ensures is_part).takes
 
-pub returns : goal.returns
-returns c =
-    let class = class_is c.args.class.now c.args.effective.now c.requires.class in
-    let fits = eq3_eq6_fits c.args.effective.now c.args.class.now c.args.value c.eq3_eq6_lower-lower.result
-    c.eq3_eq6_distance-distance.result c.requires.class c.requires.value (omega arith) c.eq3_eq6_lower-lower.ensures
-    c.eq3_eq6_distance-distance.ensures in
-    share_is c.args.value (eq3_eq6_group c.args.effective.now) c.eq3_eq6_lower-lower.result c.eq3_eq6_distance-distance.result _
-    c.of.result fits c.of.ensures.taken c.of.ensures.counted c.of.ensures.bound
+pub returns-in-Some : goal.returns-in-Some
+returns-in-Some c =
+    let v = c.args.effective.now in
+    let is_next = subst (λ m. Some c.in-Some.next ≡ option_map with_value (eq3_eq6_next m)) c.requires.class c.in-Some.ensures.next in
+    let is_part = subst (λ m. c.eq3_eq6_part.result ≡ 840 / eq3_eq6_depth m.eq3 m.eq6) c.requires.class c.eq3_eq6_part.ensures.value in
+    let fits = next_fits v c.args.class.now c.args.value (eq3_eq6_group v) c.in-Some.next c.eq3_eq6_distance.result c.eq3_eq6_part.result
+    c.requires.class c.requires.value (eq3_eq6_sound v) is_next c.in-Some.ensures.listed c.eq3_eq6_distance.ensures is_part in
+    share_is c.args.value (eq3_eq6_group v) c.in-Some.next.value c.eq3_eq6_distance.result c.eq3_eq6_part.result c.of.result fits
+    c.of.ensures.taken c.of.ensures.counted c.of.ensures.bound
+
+pub returns-in-None : goal.returns-in-None
+returns-in-None c =
+    let none = subst (λ m. None ≡ option_map with_value (eq3_eq6_next m)) c.requires.class c.in-None.ensures.next in
+    no_share c.args.value (eq3_eq6_group c.args.effective.now) (no_lower (eq3_eq6_group c.args.effective.now).next none)

@@ -1,0 +1,35 @@
+use Rattle.std.proofs.Common.{refl, ◌≡◌, ◌/◌, ap, option_map, subst, ◌∙◌}
+use Rattle.cvss_v4.specs.Account.{with_value}
+use Rattle.cvss_v4.specs.Classes.{macro_vector}
+use Rattle.cvss_v4.specs.Gap.{eq4_next, eq4_depth, eq4_group}
+use Rattle.cvss_v4.specs.Values.{listed_value}
+use Rattle.cvss_v4.specs.laws.ScoreLaws.{IsListed}
+use Rattle.cvss_v4.proofs.AccountLemmas.{is_group, is_in_range}
+use Rattle.cvss_v4.proofs.ClassLemmas.{class_is}
+use Rattle.cvss_v4.proofs.DistanceLemmas.{eq4_depth_is}
+use Rattle.cvss_v4.proofs.GroupLemmas.{eq4_sound}
+use Rattle.cvss_v4.proofs.scoring.account.eq4_account.Goals as goal
+
+pub eq4_next-requires-clause-class : goal.eq4_next-requires-clause-class
+eq4_next-requires-clause-class c = class_is c.args.class.now c.args.effective.now c.requires.class
+
+pub eq4_part-requires : goal.eq4_part-requires
+eq4_part-requires c = class_is c.args.class.now c.args.effective.now c.requires.class
+
+pub returns-clause-value : goal.returns-clause-value
+returns-clause-value c =
+    let v = c.args.effective.now in
+    let listed = subst (λ m. IsListed (listed_value m) c.args.value) c.requires.class c.requires.value in
+    let is_next = subst (λ m. c.eq4_next.result ≡ option_map with_value (eq4_next m)) c.requires.class c.eq4_next.ensures.next in
+    let is_part = subst (λ m. c.eq4_part.result ≡ 840 / eq4_depth m.eq4) c.requires.class c.eq4_part.ensures.value in
+    let is_depth = c.depth_of.ensures ∙ ap (λ part. 840 / part) is_part ∙ eq4_depth_is (macro_vector v).eq4 in
+    is_group v c.args.value (eq4_group v) c.eq4_share.result _ listed (eq4_sound v) c.eq4_share.ensures is_next
+    c.eq4_next.ensures.listed refl c.eq4_distance.ensures is_depth
+
+pub returns-clause-range : goal.returns-clause-range
+returns-clause-range c =
+    let v = c.args.effective.now in
+    let listed = subst (λ m. IsListed (listed_value m) c.args.value) c.requires.class c.requires.value in
+    let is_next = subst (λ m. c.eq4_next.result ≡ option_map with_value (eq4_next m)) c.requires.class c.eq4_next.ensures.next in
+    is_in_range v c.args.value (eq4_group v) c.eq4_share.result _ listed (eq4_sound v) c.eq4_share.ensures is_next
+    c.eq4_next.ensures.listed refl
