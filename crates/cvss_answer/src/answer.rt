@@ -1,0 +1,94 @@
+//! The answer to one line.
+
+ghost use Rattle.std.specs.Prelude.{◌≡◌, ℕ, ◌++◌, [], ◌∷◌, ◌≤◌, codes, IfOk, OnOk};
+ghost use Rattle.cvss.specs.Answers.{HasScore, text_of};
+ghost use Rattle.cvss.specs.Bytes.{bytes_error_text};
+ghost use Rattle.cvss_lines.specs.Answers.{WritesAnswer};
+ghost use Rattle.cvss_answer.specs.Answers.{IsAnswer, WritesVector, score_line};
+
+use crate::score_line::score_line;
+use cvss::{BytesError, Cvss, Published};
+use cvss_lines::{Answering, Gathered};
+use std::alloc::{AllocError, Global};
+use std::fmt::{self, Write};
+
+/// Lines that are texts of vectors, each answered by the vector or by why there is none.
+pub struct Vectors {}
+
+impl Answering for Vectors {
+    ghost rule = { IsAnswer };
+
+    fn answer_line(
+        alloc: Global,
+        _number: u64,
+        line: &[u8],
+        answers: &mut Gathered,
+    ) -> Result<bool, AllocError> {
+        if let Some(published) = Cvss::published_at_sight(line) {
+            write_canonical(line, published, answers)?;
+            return Ok(true);
+        }
+        match answer_other_line(alloc, line, answers) {
+            Ok(accepted) => Ok(accepted),
+            Err(_) => Err(AllocError),
+        }
+    }
+}
+
+/// The answer to a line that is not seen at once to be canonical.
+fn answer_other_line(alloc: Global, line: &[u8], answers: &mut Gathered) -> Result<bool, fmt::Error>
+    ensures { (number : ℕ) → IfOk result (WritesAnswer IsAnswer number line.now
+        answers.old.bytes.items answers.new.bytes.items) }
+{
+    match Cvss::from_bytes(alloc, line) {
+        Ok(vector) => {
+            write_vector(&vector, answers)?;
+            Ok(true)
+        }
+        Err(error) => {
+            write_error(&error, answers)?;
+            Ok(false)
+        }
+    }
+}
+
+/// Writes why a line is no vector, and a byte 10.
+fn write_error(error: &BytesError, answers: &mut Gathered) -> fmt::Result
+    ensures { OnOk result (answers.new.bytes.items ≡ answers.old.bytes.items
+        ++ (codes "error: " ++ (bytes_error_text error.now ++ 10 ∷ []))) }
+{
+    writeln!(answers, "error: {error}")
+}
+
+/// Writes a canonical line with what is published of its vector, and a byte 10.
+fn write_canonical(
+    line: &[u8],
+    published: Published,
+    answers: &mut Gathered,
+) -> Result<(), AllocError>
+    requires { published.tenths ≤ 100 }
+    ensures { OnOk result (answers.new.bytes.items
+        ≡ answers.old.bytes.items ++ (line.now ++ score_line published)) }
+{
+    answers.push(line)?;
+    answers.push(score_line(published).as_bytes())
+}
+
+/// Writes the answer of a vector, and a byte 10.
+fn write_vector(vector: &Cvss, answers: &mut Gathered) -> fmt::Result
+    requires { HasScore vector.now }
+    ensures { OnOk result
+        (WritesVector vector.now answers.old.bytes.items answers.new.bytes.items) }
+{
+    write_text(vector, answers)?;
+    answers.push(score_line(vector.published()).as_bytes())?;
+    Ok(())
+}
+
+/// Writes a vector's text.
+fn write_text(vector: &Cvss, answers: &mut Gathered) -> fmt::Result
+    ensures { OnOk result
+        (answers.new.bytes.items ≡ answers.old.bytes.items ++ text_of vector.now) }
+{
+    write!(answers, "{vector}")
+}
