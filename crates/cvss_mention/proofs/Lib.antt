@@ -1,0 +1,4 @@
+mod NextLemmas
+mod PlaceLemmas
+mod SlashLemmas
+mod WholeLemmas

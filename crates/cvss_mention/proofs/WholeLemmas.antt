@@ -1,0 +1,136 @@
+-- Texts that are mentions as a whole, wherever they stand.
+use Rattle.std.proofs.Common.{◌≡◌, ◌≢◌, ℕ, suc, ◌+◌, ◌<◌, ◌≤◌, Bool, true, false, cond, not, eqb, ◌||◌, ◌&&◌, List, [], ◌∷◌, ◌++◌, codes, length, get_or, take, drop, refl, sym, ap, ap₂, ◌∙◌, subst, append_assoc, append-nil, arith}
+use Rattle.std.specs.Cmp.Lexicographic.{pointwise}
+use Rattle.std.specs.List.{Contains, list_all, starts_with}
+use Rattle.std.proofs.lemmas.Bool.{and_parts, or_parts, eqb-true}
+use Rattle.std.proofs.lemmas.List.{length-append}
+use Rattle.std.proofs.lemmas.List.Elements.{Contains-append_right}
+use Rattle.cvss_parts.specs.Parts.{begins_part, begins_with_prefix, is_vector_byte, less_dividers, onto_first, parts_of}
+use Rattle.cvss_mention.specs.Mentions.{Placed, mentions_of, placed_from}
+use Rattle.cvss_mention.specs.laws.Whole.{IsMentionedBetween, IsWhole, has_second_prefix, is_other, last_byte}
+use Rattle.cvss_mention.proofs.PlaceLemmas.{joined, joined-parts}
+
+-- a byte with which no vector is written is none of those with which they are
+differ : (a b : ℕ) → is_vector_byte a ≡ true → not (is_vector_byte b) ≡ true → (same : Bool) → eqb a b ≡ same → same ≡ false
+differ a b written other false is = refl
+differ a b written other true is =
+    let one : a ≡ b = eqb-true a b is in
+    let no : not (is_vector_byte a) ≡ true = subst (λ byte. not (is_vector_byte byte) ≡ true) (sym one) other in
+    absurd (let both : not true ≡ true = subst (λ w. not w ≡ true) written no in cc)
+
+-- whether a text begins with bytes of vectors is not told by what stands behind another byte
+starts_before : (needle text : List ℕ) (other : ℕ) (rest : List ℕ) → list_all is_vector_byte needle ≡ true → not (is_vector_byte other) ≡ true
+    → starts_with eqb (text ++ other ∷ rest) needle ≡ starts_with eqb text needle
+starts_before [] text other rest written is = refl
+starts_before (byte ∷ needle) [] other rest written is =
+    ap (λ same. same && pointwise eqb needle (take (length needle) rest)) (differ byte other (and_parts _ _ written).0 is (eqb byte other) refl)
+starts_before (byte ∷ needle) (first ∷ text) other rest written is =
+    ap (λ same. eqb byte first && same) (starts_before needle text other rest (and_parts _ _ written).1 is)
+
+begins_before : (text : List ℕ) (other : ℕ) (rest : List ℕ) → not (is_vector_byte other) ≡ true → begins_with_prefix (text ++ other ∷ rest) ≡ begins_with_prefix text
+begins_before text other rest is = starts_before (codes "CVSS:") text other rest refl is
+
+begins_behind : (text behind : List ℕ) → is_other behind ≡ true → begins_with_prefix (text ++ behind) ≡ begins_with_prefix text
+begins_behind text [] is = ap begins_with_prefix (append-nil text)
+begins_behind text (other ∷ rest) is = begins_before text other rest is
+
+-- the first part ends before such a byte
+last_of_part : (byte : ℕ) (behind : List ℕ) → is_other behind ≡ true
+    → cond (begins_part behind) ((byte ∷ []) ∷ parts_of behind) (onto_first byte (parts_of behind)) ≡ (byte ∷ []) ∷ parts_of behind
+last_of_part byte [] is = refl
+last_of_part byte (other ∷ rest) is =
+    ap (λ cut. cond (cut || begins_with_prefix (other ∷ rest)) ((byte ∷ []) ∷ parts_of (other ∷ rest)) (onto_first byte (parts_of (other ∷ rest)))) is
+
+whole_first : (text behind : List ℕ) → text ≢ [] → list_all is_vector_byte text ≡ true → has_second_prefix text ≡ false → is_other behind ≡ true
+    → parts_of (text ++ behind) ≡ text ∷ parts_of behind
+whole_first [] behind some written once is = absurd (some refl)
+whole_first (byte ∷ []) behind some written once is =
+    ap (λ in_vectors. cond (not in_vectors || begins_part behind) ((byte ∷ []) ∷ parts_of behind) (onto_first byte (parts_of behind))) (and_parts _ _ written).0
+    ∙ last_of_part byte behind is
+whole_first (byte ∷ next ∷ text) behind some written once is =
+    let bytes = and_parts (is_vector_byte byte) _ written in
+    let inside = or_parts (begins_with_prefix (next ∷ text)) _ once in
+    let rest = next ∷ (text ++ behind) in
+    let uncut : begins_part rest ≡ false =
+    ap₂ (λ (in_vectors : Bool) (prefix : Bool). not in_vectors || prefix) (and_parts (is_vector_byte next) _ bytes.1).0
+    (begins_behind (next ∷ text) behind is ∙ inside.0) in
+    ap₂ (λ (in_vectors : Bool) (cut : Bool). cond (not in_vectors || cut) ((byte ∷ []) ∷ parts_of rest) (onto_first byte (parts_of rest))) bytes.0 uncut
+    ∙ ap (onto_first byte) (whole_first (next ∷ text) behind (λ none. cc none) bytes.1 inside.1 is)
+
+-- a text that ends with such a byte
+record EndsOther (text : List ℕ) : Type 0 where
+  front : List ℕ
+  other : ℕ
+  is : text ≡ front ++ other ∷ []
+  is_not : not (is_vector_byte other) ≡ true
+
+ends_other : (byte : ℕ) (text : List ℕ) → is_other (last_byte (byte ∷ text)) ≡ true → EndsOther (byte ∷ text)
+ends_other byte [] is = record { front = []; other = byte; is = refl; is_not = is }
+ends_other byte (next ∷ text) is =
+    let ends = ends_other next text is in
+    record { front = byte ∷ ends.front; other = ends.other; is = ap (λ rest. byte ∷ rest) ends.is; is_not = ends.is_not }
+
+begins_ended : (byte : ℕ) (text rest : List ℕ) → is_other (last_byte (byte ∷ text)) ≡ true → begins_with_prefix ((byte ∷ text) ++ rest) ≡ begins_with_prefix (byte ∷ text)
+begins_ended byte text rest is =
+    let ends = ends_other byte text is in
+    ap (λ front. begins_with_prefix (front ++ rest)) ends.is
+    ∙ ap begins_with_prefix (append_assoc ends.front (ends.other ∷ []) rest)
+    ∙ begins_before ends.front ends.other rest ends.is_not
+    ∙ sym (begins_before ends.front ends.other [] ends.is_not)
+    ∙ sym (ap begins_with_prefix ends.is)
+
+onto_both : (byte : ℕ) (parts behind : List (List ℕ)) → 1 ≤ length parts → onto_first byte (parts ++ behind) ≡ onto_first byte parts ++ behind
+onto_both byte [] behind some = absurd (omega (arith, some))
+onto_both byte (part ∷ parts) behind some = refl
+
+either_both : (cut : Bool) (byte : ℕ) (parts behind : List (List ℕ)) → 1 ≤ length parts
+    → cond cut ((byte ∷ []) ∷ (parts ++ behind)) (onto_first byte (parts ++ behind)) ≡ cond cut ((byte ∷ []) ∷ parts) (onto_first byte parts) ++ behind
+either_both true byte parts behind some = refl
+either_both false byte parts behind some = onto_both byte parts behind some
+
+onto_some : (byte : ℕ) (parts : List (List ℕ)) → 1 ≤ length (onto_first byte parts)
+onto_some byte [] = omega arith
+onto_some byte (part ∷ parts) = omega arith
+
+either_some : (cut : Bool) (byte : ℕ) (parts : List (List ℕ)) → 1 ≤ length (cond cut ((byte ∷ []) ∷ parts) (onto_first byte parts))
+either_some true byte parts = omega arith
+either_some false byte parts = onto_some byte parts
+
+parts_some : (byte : ℕ) (rest : List ℕ) → 1 ≤ length (parts_of (byte ∷ rest))
+parts_some byte rest = either_some (not (is_vector_byte byte) || begins_part rest) byte (parts_of rest)
+
+-- behind such a byte the parts are those of what stands there
+parts_behind : (before rest : List ℕ) → is_other (last_byte before) ≡ true → parts_of (before ++ rest) ≡ parts_of before ++ parts_of rest
+parts_behind [] rest is = refl
+parts_behind (byte ∷ []) rest is =
+    ap (λ other. cond (other || begins_part rest) ((byte ∷ []) ∷ parts_of rest) (onto_first byte (parts_of rest))) is
+    ∙ sym (ap (λ other. cond (other || false) ((byte ∷ []) ∷ []) ((byte ∷ []) ∷ []) ++ parts_of rest) is)
+parts_behind (byte ∷ next ∷ before) rest is =
+    let cut_is : begins_part (next ∷ (before ++ rest)) ≡ begins_part (next ∷ before) =
+    ap (λ prefix. not (is_vector_byte next) || prefix) (begins_ended next before rest is) in
+    ap₂ (λ (cut : Bool) (parts : List (List ℕ)). cond (not (is_vector_byte byte) || cut) ((byte ∷ []) ∷ parts) (onto_first byte parts)) cut_is (parts_behind (next ∷ before) rest is)
+    ∙ either_both (not (is_vector_byte byte) || begins_part (next ∷ before)) byte (parts_of (next ∷ before)) (parts_of rest) (parts_some next before)
+
+placed_behind : (place : ℕ) (parts behind : List (List ℕ)) → placed_from place (parts ++ behind) ≡ placed_from place parts ++ placed_from (place + length (joined parts)) behind
+placed_behind place [] behind = ap (λ at. placed_from at behind) (omega arith)
+placed_behind place (part ∷ parts) behind =
+    ap (λ more. record { place = place; text = less_dividers part } ∷ more)
+    (placed_behind (place + length part) parts behind
+    ∙ ap (λ at. placed_from (place + length part) parts ++ placed_from at behind) (omega (arith, length-append part (joined parts))))
+
+pub mentioned_between : (before text behind : List ℕ) → IsWhole text → IsMentionedBetween before text behind
+mentioned_between before text behind whole is_before is_behind =
+    let parts : parts_of (before ++ (text ++ behind)) ≡ parts_of before ++ (text ∷ parts_of behind) =
+    parts_behind before (text ++ behind) is_before
+    ∙ ap (λ rest. parts_of before ++ rest) (whole_first text behind whole.some whole.written whole.once is_behind) in
+    let mention : Placed = record { place = length before; text = text } in
+    let first : placed_from (0 + length (joined (parts_of before))) (text ∷ parts_of behind) ≡ mention ∷ placed_from (length before + length text) (parts_of behind) =
+    ap₂ (λ (at : ℕ) (less : List ℕ). record { place = at; text = less } ∷ placed_from (at + length text) (parts_of behind)) (omega (arith, ap length (joined-parts before))) whole.ended in
+    subst (λ mentions. Contains mentions mention)
+    (sym (ap (placed_from 0) parts ∙ placed_behind 0 (parts_of before) (text ∷ parts_of behind) ∙ ap (λ rest. placed_from 0 (parts_of before) ++ rest) first))
+    (Contains-append_right (placed_from 0 (parts_of before)) (mention ∷ placed_from (length before + length text) (parts_of behind)) mention (0, omega arith, refl))
+
+pub mentioned_alone : (text : List ℕ) → IsWhole text → mentions_of text ≡ record { place = 0; text = text } ∷ []
+mentioned_alone text whole =
+    ap (placed_from 0) (ap parts_of (sym (append-nil text)) ∙ whole_first text [] whole.some whole.written whole.once refl)
+    ∙ ap (λ less. record { place = 0; text = less } ∷ []) whole.ended

@@ -1,0 +1,3 @@
+pub mod Mentions
+pub mod MentionsLeft
+pub mod laws

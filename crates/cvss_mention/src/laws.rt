@@ -1,0 +1,23 @@
+//! Laws, each the contract of a function that does nothing.
+
+ghost use Rattle.std.specs.Prelude.{◌≡◌, ℕ, List, [], ◌∷◌, All};
+ghost use Rattle.cvss_mention.specs.Mentions.{mentions_of};
+ghost use Rattle.cvss_mention.specs.laws.Places.{AreInOrder, StandsIn};
+ghost use Rattle.cvss_mention.specs.laws.Whole.{IsMentionedBetween, IsWhole};
+
+/// Each mention stands at its place in the text. Mentions come in order, and do not overlap.
+#[tactic(auto, using(crate::proofs::PlaceLemmas::mentions_stand, crate::proofs::PlaceLemmas::mentions_ordered))]
+pub fn mentions_stand_at_their_places()
+    ensures stand { (text : List ℕ) → All (StandsIn text) (mentions_of text) }
+    ensures ordered { (text : List ℕ) → AreInOrder (mentions_of text) }
+{}
+
+/// A text that is one mention stands as one wherever it has on either side the end, or a byte with
+/// which no vector is written.
+#[tactic(auto, using(crate::proofs::WholeLemmas::mentioned_between, crate::proofs::WholeLemmas::mentioned_alone))]
+pub fn whole_texts_are_mentions()
+    ensures between { (before text behind : List ℕ) → IsWhole text
+        → IsMentionedBetween before text behind }
+    ensures alone { (text : List ℕ) → IsWhole text
+        → mentions_of text ≡ record { place = 0; text = text } ∷ [] }
+{}

@@ -1,0 +1,9 @@
+//! Where vectors are mentioned in a text of any bytes: in a sentence, in parentheses, in a link.
+#![tactic(auto)]
+
+pub mod laws;
+mod mention;
+mod mentions;
+
+pub use mention::Mention;
+pub use mentions::Mentions;

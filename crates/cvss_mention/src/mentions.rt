@@ -1,0 +1,69 @@
+//! The mentions of a text.
+
+ghost use Rattle.std.specs.Iterator.{item_count};
+ghost use Rattle.std.specs.Prelude.{◌≡◌, [], ◌∷◌, MatchOption};
+ghost use Rattle.cvss_mention.specs.Mentions.{mentions_of};
+ghost use Rattle.cvss_mention.specs.MentionsLeft.{IsNext, as_placed, mentions_behind, mentions_left};
+
+use crate::mention::{Mention, is_found};
+use cvss_parts::{first_part, less_dividers};
+
+/// The mentions of a text that are found, in order. It takes no memory, and looks at each byte a
+/// bounded number of times.
+#[derive(Clone, Copy, Debug)]
+pub struct Mentions<'a> {
+    text: &'a [u8],
+    /// Where the part begins that is looked at next.
+    place: usize,
+}
+
+impl<'a> Mentions<'a> {
+    /// Those of the whole text.
+    pub fn of(text: &'a [u8]) -> Mentions<'a>
+        ensures { mentions_left result ≡ mentions_of text.now }
+    {
+        Mentions { text, place: 0 }
+    }
+
+    /// Those of what stands at a place of the text and behind it, with their places in the text.
+    pub fn behind(text: &'a [u8], place: usize) -> Mentions<'a>
+        ensures { mentions_left result ≡ mentions_behind text.now place }
+    {
+        Mentions { text, place }
+    }
+
+    /// The mention of the next part, found or not.
+    fn cut_next(&mut self) -> Option<Mention<'a>>
+        ensures { MatchOption result (mentions_left self.old ≡ [])
+            (λ mention. mentions_left self.old ≡ as_placed mention ∷ mentions_left self.new) }
+    {
+        let rest = self.text.get(self.place..)?;
+        if rest.is_empty() {
+            return None;
+        }
+        let place = self.place;
+        let length = first_part(rest);
+        self.place += length;
+        Some(Mention {
+            place,
+            text: less_dividers(&rest[..length]),
+        })
+    }
+}
+
+impl<'a> Iterator for Mentions<'a> {
+    type Item = Mention<'a>;
+
+    ghost next_gives = { IsNext };
+
+    ghost remaining = { item_count mentions_left };
+
+    fn next(&mut self) -> Option<Mention<'a>> {
+        while let Some(mention) = self.cut_next() {
+            if is_found(mention.text) {
+                return Some(mention);
+            }
+        }
+        None
+    }
+}

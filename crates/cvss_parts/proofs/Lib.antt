@@ -1,0 +1,2 @@
+mod EndLemmas
+mod PartLemmas

@@ -1,0 +1,111 @@
+-- How the first part of a text is found byte by byte.
+use Rattle.std.proofs.Common.{◌≡◌, ℕ, ◌<◌, ◌≤◌, ◌-◌, get_or, Bool, true, false, not, cond, ◌||◌, if◌then◌else◌, List, [], ◌∷◌, ◌++◌, length, take, drop, refl, sym, ap, ◌∙◌, subst, append_assoc, arith}
+use Rattle.std.proofs.lemmas.Bool.{or_parts}
+use Rattle.std.proofs.lemmas.List.{length-append, take_at, drop_at, take_rest}
+use Rattle.cvss_parts.specs.Parts.{begins_part, begins_with_prefix, is_vector_byte, onto_first, parts_of}
+
+-- bytes at the front of the first part
+abbrev pub joined_onto : List ℕ → List (List ℕ) → List (List ℕ)
+joined_onto front [] = front ∷ []
+joined_onto front (part ∷ parts) = (front ++ part) ∷ parts
+
+-- the parts of a text that begins with bytes of one part, and goes on with what is left
+abbrev pub parts_under : List ℕ → List ℕ → List (List ℕ)
+parts_under front left = if begins_part left then front ∷ parts_of left else joined_onto front (parts_of left)
+
+-- the bytes before what is left are of one part
+pub record IsWithinFirst (text left : List ℕ) : Type 0 where
+  pub front : List ℕ
+  pub some : 0 < length front
+  pub is : text ≡ front ++ left
+  pub parts : parts_of text ≡ parts_under front left
+
+one_byte : (b : Bool) (byte : ℕ) (parts : List (List ℕ)) → cond b ((byte ∷ []) ∷ parts) (onto_first byte parts) ≡ cond b ((byte ∷ []) ∷ parts) (joined_onto (byte ∷ []) parts)
+one_byte true byte parts = refl
+one_byte false byte [] = refl
+one_byte false byte (part ∷ parts) = refl
+
+byte_more : (b : Bool) (front : List ℕ) (byte : ℕ) (parts : List (List ℕ)) → joined_onto front (cond b ((byte ∷ []) ∷ parts) (onto_first byte parts)) ≡ cond b ((front ++ byte ∷ []) ∷ parts) (joined_onto (front ++ byte ∷ []) parts)
+byte_more true front byte parts = refl
+byte_more false front byte [] = refl
+byte_more false front byte (part ∷ parts) = ap (λ first. first ∷ parts) (sym (append_assoc front (byte ∷ []) part))
+
+-- the parts of a text that begins with a byte of vectors
+within_run : (byte : ℕ) (rest : List ℕ) → is_vector_byte byte ≡ true
+    → parts_of (byte ∷ rest) ≡ cond (begins_part rest) ((byte ∷ []) ∷ parts_of rest) (onto_first byte (parts_of rest))
+within_run byte rest vector = ap (λ is. cond (not is || begins_part rest) ((byte ∷ []) ∷ parts_of rest) (onto_first byte (parts_of rest))) vector
+
+-- a text is not cut before a byte of vectors alone
+vector_byte : (is : Bool) → not is ≡ false → is ≡ true
+vector_byte true none = refl
+vector_byte false none = cc
+
+-- behind its first byte
+pub IsWithinFirst-start : (text : List ℕ) (byte : ℕ) (rest : List ℕ) → text ≡ byte ∷ rest → is_vector_byte byte ≡ true → IsWithinFirst text rest
+IsWithinFirst-start text byte rest is vector = record {
+  front = byte ∷ [];
+  some = omega arith;
+  is = is;
+  parts = ap parts_of is ∙ within_run byte rest vector ∙ one_byte (begins_part rest) byte (parts_of rest);
+}
+
+-- behind one byte more, before which the text is not cut
+pub IsWithinFirst-byte : (text : List ℕ) (byte : ℕ) (behind : List ℕ) → IsWithinFirst text (byte ∷ behind) → begins_part (byte ∷ behind) ≡ false → IsWithinFirst text behind
+IsWithinFirst-byte text byte behind so_far uncut =
+    let vector = vector_byte (is_vector_byte byte) (or_parts (not (is_vector_byte byte)) (begins_with_prefix (byte ∷ behind)) uncut).0 in
+    record {
+      front = so_far.front ++ byte ∷ [];
+      some = omega (arith, so_far.some, length-append so_far.front (byte ∷ []));
+      is = so_far.is ∙ sym (append_assoc so_far.front (byte ∷ []) behind);
+      parts = so_far.parts
+          ∙ ap (λ cut. cond cut (so_far.front ∷ parts_of (byte ∷ behind)) (joined_onto so_far.front (parts_of (byte ∷ behind)))) uncut
+          ∙ ap (joined_onto so_far.front) (within_run byte behind vector)
+          ∙ byte_more (begins_part behind) so_far.front byte (parts_of behind);
+    }
+
+-- what a part is cut as
+pub record IsFirstPart (text : List ℕ) (end : ℕ) : Type 0 where
+  pub some : 0 < end
+  pub cut : parts_of text ≡ take end text ∷ parts_of (drop end text)
+
+ended : (text front left : List ℕ) (end : ℕ) → 0 < length front → text ≡ front ++ left → end ≡ length front → parts_of text ≡ front ∷ parts_of left → IsFirstPart text end
+ended text front left end some is end_is parts = record {
+  some = rw end_is some;
+  cut = parts
+      ∙ ap (λ first. first ∷ parts_of left) (sym (ap (take end) is ∙ take_at front left end (sym end_is)))
+      ∙ ap (λ rest. take end text ∷ parts_of rest) (sym (ap (drop end) is ∙ drop_at front left end (sym end_is)));
+}
+
+end_is : (text left : List ℕ) (within : IsWithinFirst text left) → length text - length left ≡ length within.front
+end_is text left within = omega (arith, ap length within.is, length-append within.front left)
+
+-- at the end of the text, and before bytes that begin a part
+pub IsFirstPart-whole : (text left : List ℕ) → IsWithinFirst text left → left ≡ [] → IsFirstPart text (length text - length left)
+IsFirstPart-whole text left within none =
+    ended text within.front left (length text - length left) within.some within.is (end_is text left within)
+    (within.parts ∙ ap (λ rest. parts_under within.front rest) none ∙ ap (λ rest. within.front ∷ parts_of rest) (sym none))
+
+pub IsFirstPart-cut : (text left : List ℕ) → IsWithinFirst text left → begins_part left ≡ true → IsFirstPart text (length text - length left)
+IsFirstPart-cut text left within cut =
+    ended text within.front left (length text - length left) within.some within.is (end_is text left within)
+    (within.parts ∙ ap (λ is. cond is (within.front ∷ parts_of left) (joined_onto within.front (parts_of left))) cut)
+
+-- a byte of no vector is a part
+pub IsFirstPart-byte : (byte : ℕ) (rest : List ℕ) → is_vector_byte byte ≡ false → IsFirstPart (byte ∷ rest) 1
+IsFirstPart-byte byte rest other = record {
+  some = omega arith;
+  cut = ap (λ is. cond (not is || begins_part rest) ((byte ∷ []) ∷ parts_of rest) (onto_first byte (parts_of rest))) other;
+}
+
+-- a text with bytes is its first byte and the rest
+pub first_and_rest : (text : List ℕ) → 1 ≤ length text → text ≡ get_or text 0 0 ∷ take (length text - 1) (drop 1 text)
+first_and_rest [] some = absurd (omega (arith, some))
+first_and_rest (byte ∷ rest) some = ap (λ more. byte ∷ more) (sym (take_rest (byte ∷ rest) 1))
+
+pub IsWithinFirst-first : (text : List ℕ) → 1 ≤ length text → is_vector_byte (get_or text 0 0) ≡ true → IsWithinFirst text (take (length text - 1) (drop 1 text))
+IsWithinFirst-first text some vector = IsWithinFirst-start text (get_or text 0 0) _ (first_and_rest text some) vector
+
+pub IsWithinFirst-next : (text left : List ℕ) → IsWithinFirst text left → 1 ≤ length left → begins_part left ≡ false → IsWithinFirst text (take (length left - 1) (drop 1 left))
+IsWithinFirst-next text left within some uncut =
+    let is = first_and_rest left some in
+    IsWithinFirst-byte text (get_or left 0 0) _ (subst (IsWithinFirst text) is within) (sym (ap begins_part is) ∙ uncut)
