@@ -1,10 +1,8 @@
 //! Reads CVSS vectors from standard input, one a line, and answers each with one line.
 #![tactic(auto)]
 
-mod answer;
 mod fault;
 mod run;
-mod score_line;
 
 pub use cvss_lines::{RunFault, Summary, exit_status, laws};
 pub use cvss_ranking as triage;

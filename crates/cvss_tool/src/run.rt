@@ -1,8 +1,8 @@
 ghost use Rattle.cvss_lines.specs.Runs.{Ends};
-ghost use Rattle.cvss_tool.specs.Answers.{IsAnswer};
+ghost use Rattle.cvss_answer.specs.Answers.{IsAnswer};
 
-use crate::answer::Vectors;
 use crate::{RunFault, Summary};
+use cvss_answer::Vectors;
 use std::alloc::Global;
 use std::io::{Read, Write};
 

@@ -1,10 +1,10 @@
 use Rattle.std.proofs.Common.{[], ◌∷◌, ◌++◌, refl, ap, ◌∙◌}
 use Rattle.cvss.specs.Answers.{vector_answer}
 use Rattle.cvss_lines.specs.Answers.{Accepted}
-use Rattle.cvss_tool.specs.Answers.{IsAnswer}
+use Rattle.cvss_answer.specs.Answers.{IsAnswer}
 use Rattle.cvss_lines.proofs.TextsLemmas.{one_text}
-use Rattle.cvss_tool.proofs.ScoreLemmas.{canonical_answer}
-use Rattle.cvss_tool.proofs.answer.VectorsAnswering.answer_line.Goals as goal
+use Rattle.cvss_answer.proofs.ScoreLemmas.{canonical_answer}
+use Rattle.cvss_answer.proofs.answer.VectorsAnswering.answer_line.Goals as goal
 
 pub returns-in-Some : goal.returns-in-Some
 unfolding IsAnswer

@@ -2,7 +2,7 @@
 
 ghost use Rattle.std.specs.Prelude.{◌≡◌, ◌≤◌};
 ghost use Rattle.cvss.specs.declared.published.Bounds.TheVariants.{OfV2, OfV3};
-ghost use Rattle.cvss_tool.specs.Answers.{rated_line, score_line};
+ghost use Rattle.cvss_answer.specs.Answers.{rated_line, score_line};
 
 use cvss::{Bounds, Published};
 

@@ -15,7 +15,7 @@ use Rattle.cvss.specs.declared.published.Published.{Published}
 use Rattle.cvss.specs.declared.published.Bounds.{Bounds}
 use Rattle.cvss.specs.declared.published.Bounds.TheVariants.{OfV2, OfV3}
 use Rattle.cvss_lines.specs.Answers.{written_text}
-use Rattle.cvss_tool.specs.Answers.{rated_line, score_line}
+use Rattle.cvss_answer.specs.Answers.{rated_line, score_line}
 
 -- below 10, a digit for the units and a digit for the tenths
 two_digits : (t : ℕ) → t < 100 → (48 + t / 10) ∷ 46 ∷ (48 + t % 10) ∷ [] ≡ tenths_text t

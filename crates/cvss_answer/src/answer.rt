@@ -4,7 +4,7 @@ ghost use Rattle.std.specs.Prelude.{◌≡◌, ℕ, ◌++◌, [], ◌∷◌, ◌
 ghost use Rattle.cvss.specs.Answers.{HasScore, text_of};
 ghost use Rattle.cvss.specs.Bytes.{bytes_error_text};
 ghost use Rattle.cvss_lines.specs.Answers.{WritesAnswer};
-ghost use Rattle.cvss_tool.specs.Answers.{IsAnswer, WritesVector, score_line};
+ghost use Rattle.cvss_answer.specs.Answers.{IsAnswer, WritesVector, score_line};
 
 use crate::score_line::score_line;
 use cvss::{BytesError, Cvss, Published};
@@ -13,7 +13,7 @@ use std::alloc::{AllocError, Global};
 use std::fmt::{self, Write};
 
 /// Lines that are texts of vectors, each answered by the vector or by why there is none.
-pub(crate) struct Vectors {}
+pub struct Vectors {}
 
 impl Answering for Vectors {
     ghost rule = { IsAnswer };

@@ -3,7 +3,7 @@ use Rattle.std.proofs.Common.{◌++◌, ◌⊎◌, inl, inr, List, ℕ, codes, r
 use Rattle.cvss.specs.Bytes.{TellsWhyNot, bytes_error_text}
 use Rattle.cvss.specs.declared.bytes_error.BytesError.{BytesError}
 use Rattle.cvss.specs.declared.bytes_error.BytesError.TheVariants.{NotUtf8, Invalid}
-use Rattle.cvss_tool.specs.Answers.{IsRefusal, IsNoText}
+use Rattle.cvss_answer.specs.Answers.{IsRefusal, IsNoText}
 
 pub refusal_told : (line : List ℕ) (error : BytesError) → TellsWhyNot line error → IsRefusal line (codes "error: " ++ bytes_error_text error) ⊎ IsNoText line (codes "error: " ++ bytes_error_text error)
 refusal_told line NotUtf8 no_text = inr (record { not_utf8 = no_text; is = refl })

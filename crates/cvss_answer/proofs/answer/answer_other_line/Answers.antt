@@ -2,10 +2,10 @@ use Rattle.std.proofs.Common.{[], ◌∷◌, ◌++◌, codes, refl}
 use Rattle.cvss.specs.Answers.{vector_answer}
 use Rattle.cvss.specs.Bytes.{bytes_error_text}
 use Rattle.cvss_lines.specs.Answers.{Accepted, Refused}
-use Rattle.cvss_tool.specs.Answers.{IsAnswer}
+use Rattle.cvss_answer.specs.Answers.{IsAnswer}
 use Rattle.cvss_lines.proofs.TextsLemmas.{one_text}
-use Rattle.cvss_tool.proofs.RefusalLemmas.{refusal_told}
-use Rattle.cvss_tool.proofs.answer.answer_other_line.Goals as goal
+use Rattle.cvss_answer.proofs.RefusalLemmas.{refusal_told}
+use Rattle.cvss_answer.proofs.answer.answer_other_line.Goals as goal
 
 pub returns-in_ok-write_vector-in-Ok : goal.returns-in_ok-write_vector-in-Ok
 unfolding IsAnswer

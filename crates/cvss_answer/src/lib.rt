@@ -1,0 +1,8 @@
+//! The answer to a text: the canonical text of the vector that it denotes, its score and its rating,
+//! or the first reason why it denotes none.
+#![tactic(auto)]
+
+mod answer;
+mod score_line;
+
+pub use answer::Vectors;
