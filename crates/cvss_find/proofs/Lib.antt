@@ -1,0 +1,3 @@
+mod AloneLemmas
+mod FoundLemmas
+mod TellingLemmas

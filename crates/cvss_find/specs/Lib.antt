@@ -1,0 +1,4 @@
+pub mod Answers
+pub mod Program
+pub mod laws
+pub mod private

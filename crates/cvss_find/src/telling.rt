@@ -1,0 +1,57 @@
+//! The answer to a line: what is told of the mentions in it.
+
+ghost use Rattle.std.specs.Prelude.{◌≡◌, ◌++◌, IfOk, OnOk};
+ghost use Rattle.cvss_find.specs.Answers.{IsAnswer, place_text};
+ghost use Rattle.cvss_find.specs.private.Telling.{WritesTold};
+ghost use Rattle.cvss_mention.specs.MentionsLeft.{as_placed};
+
+use cvss_answer::Vectors;
+use cvss_lines::{Answering, Gathered};
+use cvss_mention::{Mention, Mentions};
+use std::alloc::{AllocError, Global};
+use std::fmt::{self, Write};
+
+/// Lines of any bytes, each answered by what the mentions of vectors in it are.
+pub(crate) struct Texts {}
+
+impl Answering for Texts {
+    ghost rule = { IsAnswer };
+
+    fn answer_line(
+        alloc: Global,
+        number: u64,
+        line: &[u8],
+        answers: &mut Gathered,
+    ) -> Result<bool, AllocError> {
+        let mut mentions = Mentions::of(line);
+        let mut accepted = true;
+        while let Some(mention) = mentions.next() {
+            accepted &= answer_mention(alloc, number, mention, answers)?;
+        }
+        Ok(accepted)
+    }
+}
+
+/// Writes where a mention stands and what it is. Tells whether it is accepted.
+fn answer_mention(
+    alloc: Global,
+    number: u64,
+    mention: Mention<'_>,
+    answers: &mut Gathered,
+) -> Result<bool, AllocError>
+    ensures { IfOk result (WritesTold number (as_placed mention.entry)
+        answers.old.bytes.items answers.new.bytes.items) }
+{
+    match write_place(number, mention.place, answers) {
+        Ok(()) => Vectors::answer_line(alloc, number, mention.text, answers),
+        Err(_) => Err(AllocError),
+    }
+}
+
+/// Writes the number of a line, a colon, the place of a mention in it, counted from 1, and a blank.
+fn write_place(number: u64, place: usize, answers: &mut Gathered) -> fmt::Result
+    ensures { OnOk result (answers.new.bytes.items
+        ≡ answers.old.bytes.items ++ place_text number place) }
+{
+    write!(answers, "{number}:{} ", place as u128 + 1)
+}
