@@ -1,9 +1,10 @@
 #!/usr/bin/env python3
-"""Measures how the built program's work grows with hostile input: each input at two sizes.
+"""Measures how the work of built programs grows with hostile input: each input at two sizes.
 
 It counts instructions by valgrind's callgrind, less those of a run over no line, and the time of a
 run without it, and checks the answers. It ends with status 1 if the larger of two inputs takes more
-instructions a byte than the smaller by more than a tenth.
+instructions a byte than the smaller by more than a tenth, or `cvss_find` more than 12 over prose, or
+30 over what looks like the beginning of a vector again and again.
 
 usage: bench/growth.py [SMALL LARGE]
 """
@@ -14,10 +15,10 @@ import sys
 import tempfile
 import time
 
+import finding
 from reference import answer
 
 HERE = os.path.dirname(os.path.abspath(__file__))
-PROGRAM = os.path.join(HERE, "../crates/cvss_tool/out/cvss_tool")
 
 # Each input by its size: what is written on the left has that many bytes, pieces or lines.
 INPUTS = {
@@ -35,6 +36,18 @@ INPUTS = {
     "lines of a carriage return": lambda size: b"\r\n" * size,
 }
 
+PROSE = (b"The service parses the header of a request before its length is known, so a client that "
+         b"sends more than 4,096 bytes writes behind the buffer; versions 2.3.1 and/or later are fixed.\n")
+
+# The same for `cvss_find`, each with the instructions a byte that it may take.
+TEXTS = {
+    "prose without a vector": (lambda size: (PROSE * (size // len(PROSE) + 1))[:size], 12),
+    "`CVSS:` again and again": (lambda size: b"CVSS:" * size, 30),
+    "`CVSS:/` again and again": (lambda size: b"CVSS:/" * size, 30),
+    "colons": (lambda size: b":" * size, 30),
+    "slashes": (lambda size: b"/" * size, 30),
+}
+
 
 def expected(data):
     """The answers, where equal lines that follow each other are answered once."""
@@ -45,43 +58,52 @@ def expected(data):
     return b"".join(known[line] for line in lines)
 
 
-def run(data, prefix=()):
+def run(program, data, prefix=()):
     """The answers, what was written on standard error, and the seconds taken."""
     with tempfile.TemporaryFile() as given, tempfile.TemporaryFile() as written:
         given.write(data)
         given.seek(0)
         began = time.monotonic()
-        done = subprocess.run([*prefix, PROGRAM], stdin=given, stdout=written,
+        path = os.path.join(HERE, f"../crates/{program}/out/{program}")
+        done = subprocess.run([*prefix, path], stdin=given, stdout=written,
                               stderr=subprocess.PIPE, check=False)
         seconds = time.monotonic() - began
         written.seek(0)
         return written.read(), done.stderr.decode(), seconds
 
 
-def instructions(data):
+def instructions(program, data):
     callgrind = ("valgrind", "--tool=callgrind", "--callgrind-out-file=/dev/null")
-    _, log, _ = run(data, callgrind)
+    _, log, _ = run(program, data, callgrind)
     return int(re.search(r"Collected : (\d+)", log).group(1))
+
+
+def measure(program, inputs, answers, sizes):
+    """Prints a row for each input and size, and tells whether the work grows faster than the input."""
+    start, failed = instructions(program, b""), False
+    print(f"\n| input of `{program}` | size | bytes | instructions | a byte | milliseconds |")
+    print("|---|---|---|---|---|---|")
+    for name, (make, limit) in inputs.items():
+        rates = []
+        for size in sizes:
+            data = make(size)
+            written, _, seconds = run(program, data)
+            if written != answers(data):
+                sys.exit(f"{name}, {size}: the answer is wrong")
+            count = instructions(program, data) - start
+            rates.append(count / len(data))
+            print(f"| {name} | {size:,} | {len(data):,} | {count:,} | {rates[-1]:.1f} "
+                  f"| {seconds * 1000:.0f} |", flush=True)
+        failed |= rates[-1] > min(1.1 * rates[0], limit)
+    return failed
 
 
 def main():
     sizes = [int(size) for size in sys.argv[1:3]] or [100_000, 1_000_000]
-    start, failed = instructions(b""), False
-    print("| input | size | bytes | instructions | a byte | milliseconds |")
-    print("|---|---|---|---|---|---|")
-    for name, make in INPUTS.items():
-        rates = []
-        for size in sizes:
-            data = make(size)
-            written, _, seconds = run(data)
-            if written != expected(data):
-                sys.exit(f"{name}, {size}: the answer is wrong")
-            count = instructions(data) - start
-            rates.append(count / len(data))
-            print(f"| {name} | {size:,} | {len(data):,} | {count:,} | {rates[-1]:.1f} "
-                  f"| {seconds * 1000:.0f} |", flush=True)
-        failed |= rates[-1] > 1.1 * rates[0]
-    sys.exit("the work grows faster than the input" if failed else 0)
+    lines = {name: (make, float("inf")) for name, make in INPUTS.items()}
+    failed = measure("cvss_tool", lines, expected, sizes)
+    failed |= measure("cvss_find", TEXTS, lambda data: "".join(finding.answers(data)).encode(), sizes)
+    sys.exit("the work grows faster than the input, or takes more than it may" if failed else 0)
 
 
 if __name__ == "__main__":

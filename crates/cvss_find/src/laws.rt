@@ -24,6 +24,13 @@ pub fn clones_are_equal()
     cvss_lines::laws::clones_are_equal();
 }
 
+/// To clone a fault takes no memory, so it is never refused.
+pub fn values_are_cloned_without_memory()
+    ensures { (x : Fault) → ⟦<Fault as Clone>⟧.is_infallible x }
+{
+    cvss_lines::laws::values_are_cloned_without_memory();
+}
+
 /// A line that is one vector and nothing else is answered by what `cvss_tool` answers to it, behind
 /// its number and its place.
 pub fn vectors_alone_are_told_of_as_they_are()

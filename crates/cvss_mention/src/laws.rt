@@ -2,8 +2,13 @@
 
 ghost use Rattle.std.specs.Prelude.{◌≡◌, ℕ, List, [], ◌∷◌, All};
 ghost use Rattle.cvss_mention.specs.Mentions.{mentions_of};
+ghost use Rattle.cvss_mention.specs.declared.mention.Mention.{Mention};
+ghost use Rattle.cvss_mention.specs.declared.mentions.Mentions.{Mentions};
 ghost use Rattle.cvss_mention.specs.laws.Places.{AreInOrder, StandsIn};
 ghost use Rattle.cvss_mention.specs.laws.Whole.{IsMentionedBetween, IsWhole};
+
+use crate::mention::Mention;
+use crate::mentions::Mentions;
 
 /// Each mention stands at its place in the text. Mentions come in order, and do not overlap.
 #[tactic(auto, using(crate::proofs::PlaceLemmas::mentions_stand, crate::proofs::PlaceLemmas::mentions_ordered))]
@@ -20,4 +25,16 @@ pub fn whole_texts_are_mentions()
         → IsMentionedBetween before text behind }
     ensures alone { (text : List ℕ) → IsWhole text
         → mentions_of text ≡ record { place = 0; text = text } ∷ [] }
+{}
+
+/// A clone of a mention, or of the mentions that are left, is that value.
+pub fn clones_are_equal()
+    ensures mention { (x clone : Mention) → ⟦<Mention as Clone>⟧.is_clone x clone → clone ≡ x }
+    ensures mentions { (x clone : Mentions) → ⟦<Mentions as Clone>⟧.is_clone x clone → clone ≡ x }
+{}
+
+/// To clone them takes no memory, so it is never refused.
+pub fn values_are_cloned_without_memory()
+    ensures mention { (x : Mention) → ⟦<Mention as Clone>⟧.is_infallible x }
+    ensures mentions { (x : Mentions) → ⟦<Mentions as Clone>⟧.is_infallible x }
 {}
