@@ -100,7 +100,7 @@ def is_accepted(text: Text) -> bool:
 
 def check_answers(port: int, root: Path) -> None:
     """What is told of a text is what the library tells of it."""
-    lines = (root / "crates" / "cvss_vectors" / "stdin").read_bytes().splitlines()[:1320]
+    lines = (root / "crates" / "cvss_vectors" / "stdin").read_bytes().splitlines()[:1320:4]
     for line in lines:
         try:
             vector = Vector(line)

@@ -74,8 +74,7 @@ def check_kit(page: Page, root: Path) -> None:
         ticked, pasted = spread(written), spread(own)
         assert {row["class"] for row in pasted} == {row["class"] for row in own} and len(ticked) >= MOST
         for row in ticked:
-            page.tick(version, metrics_of(row))
-            check_shown(page.state(), row)
+            check_shown(page.tick(version, metrics_of(row)), row)
         for row in pasted:
             check_shown(page.paste(row["text"]), row)
         print(f"Page: of v{version} {len(ticked)} rows ticked and {len(pasted)} pasted, 0 wrong answers")
@@ -91,8 +90,7 @@ def reason_of(text: str) -> str:
 
 def check_refused(page: Page, root: Path) -> None:
     """The reason stands beside the field, and nothing that was ticked is lost."""
-    page.tick("3.1", Vector(V3).metrics)
-    before = page.state()
+    before = page.tick("3.1", Vector(V3).metrics)
     kept = ("ticked", "number", "rating", "vector", "version", "scores", "note")
     whole = re.compile(r"(CVSS:)?(?!.*CVSS:)[A-Za-z0-9:/.]*[A-Za-z0-9]")
     rows = [row for row in rows_of(root / "conformance" / "refused.tsv") if whole.fullmatch(row["text"])]
@@ -294,7 +292,10 @@ def check_printed(page: Page) -> None:
 def report_times(page: Page) -> None:
     """Says how long a tick takes up to its answer; it asserts nothing of it."""
     page.open(f"#{V4}")
-    taken = [page.tick_one("AV", "NALP"[turn % 4]) for turn in range(1, 101)]
+    taken = []
+    for turn in range(1, 101):
+        page.tick_one("AV", "NALP"[turn % 4])
+        taken.append(page.taken)
     middle = statistics.median(taken)
     print(f"Page: a tick is answered within {middle:.0f} ms (median of 100, the longest {max(taken):.0f})")
 

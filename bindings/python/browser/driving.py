@@ -27,14 +27,15 @@ return {
   ticked: Object.fromEntries(chosen.map((input) => [input.name, input.value])),
 };
 """
-# Does something, and ends when the page has shown the answer. Told is for how many milliseconds.
+# Does something, and ends when the page has shown the answer. Told is after how many milliseconds, and what is shown.
 _WAITING = """
 const done = arguments[arguments.length - 1];
 const start = performance.now();
 const act = () => { %s };
+const read = () => { %s };
 const look = () => {
-  if (document.getElementById("score").getAttribute("aria-busy") !== "true") done(performance.now() - start);
-  else setTimeout(look, 1);
+  if (document.getElementById("score").getAttribute("aria-busy") === "true") setTimeout(look, 1);
+  else done([performance.now() - start, read()]);
 };
 if (%s) addEventListener("popstate", () => setTimeout(look, 0), { once: true });
 act();
@@ -65,6 +66,8 @@ class Page:
         assert self.server.stdout is not None
         self.url = self.server.stdout.readline().split()[0]
         self.driver = _driver(folder)
+        # the milliseconds from what was done last up to its answer
+        self.taken = 0.0
 
     def close(self) -> None:
         """Ends both; the server has written nothing of what it was asked."""
@@ -80,38 +83,35 @@ class Page:
         self._wait("")
 
     def state(self) -> Dict[str, Any]:
-        state: Dict[str, Any] = self.driver.execute_script(_STATE)
-        return state
+        return self._wait("")
 
-    def _wait(self, action: str, *given: Any, moves: bool = False) -> float:
+    def _wait(self, action: str, *given: Any, moves: bool = False) -> Dict[str, Any]:
         """Does something that moves through the history or not, and waits until the page has shown the answer."""
         is_move = "true" if moves else "false"
-        script = f"const outer = arguments; {_WAITING % (action, is_move, is_move)}"
-        return float(self.driver.execute_async_script(script, *given))
+        script = f"const outer = arguments; {_WAITING % (action, _STATE, is_move, is_move)}"
+        state: Dict[str, Any]
+        self.taken, state = self.driver.execute_async_script(script, *given)
+        return state
 
-    def tick(self, version: str, metrics: Dict[str, str]) -> float:
-        """Ticks these metrics and no others; told are the milliseconds up to the answer."""
+    def tick(self, version: str, metrics: Dict[str, str]) -> Dict[str, Any]:
+        """Ticks these metrics and no others."""
         return self._wait(_TICK, version, list(metrics.items()))
 
-    def tick_one(self, name: str, value: str) -> float:
+    def tick_one(self, name: str, value: str) -> Dict[str, Any]:
         return self._wait(f"document.querySelector('input[name=\"{name}\"][value=\"{value}\"]').click();")
 
     def paste(self, text: str, kind: str = "insertFromPaste") -> Dict[str, Any]:
-        self._wait(_PASTE, json.dumps(text), kind)
-        return self.state()
+        return self._wait(_PASTE, json.dumps(text), kind)
 
     def click(self, selector: str, moves: bool = False) -> Dict[str, Any]:
-        self._wait("document.querySelector(outer[0]).click();", selector, moves=moves)
-        return self.state()
+        return self._wait("document.querySelector(outer[0]).click();", selector, moves=moves)
 
     def go(self, script: str) -> Dict[str, Any]:
         """Walks through the history."""
-        self._wait(script, moves=True)
-        return self.state()
+        return self._wait(script, moves=True)
 
     def reload(self) -> Dict[str, Any]:
         self.driver.refresh()
-        self._wait("")
         return self.state()
 
     def press(self, *keys: str) -> None:
