@@ -18,7 +18,7 @@ from check_shelves import ROOT, WITHOUT_PROMISES, signatures, sources
 SCORING = "cvss_v4/src/scoring"
 
 DERIVED = re.compile(r"^#\[derive\(([^)]*)\)\]\n(?:#\[[^\n]*\n)*pub (?:struct|enum) (\w+)", re.M)
-LAW = re.compile(r"⟦<(?:\w+::)?(\w+) as (?:PartialEq|Clone)>⟧\.(eq|is_clone|is_infallible)")
+LAW = re.compile(r"⟦<(?:\w+::)?(\w+)(?:<'static>)? as (?:PartialEq|Clone)>⟧\.(eq|is_clone|is_infallible)")
 CALL = re.compile(r"^    (?:final )?fn (\w+)(.*?)(?=^    [{}]|;$|{$)", re.M | re.S)
 
 

@@ -29,12 +29,12 @@ pub fn whole_texts_are_mentions()
 
 /// A clone of a mention, or of the mentions that are left, is that value.
 pub fn clones_are_equal()
-    ensures mention { (x clone : Mention) → ⟦<Mention as Clone>⟧.is_clone x clone → clone ≡ x }
-    ensures mentions { (x clone : Mentions) → ⟦<Mentions as Clone>⟧.is_clone x clone → clone ≡ x }
+    ensures mention { (x clone : Mention) → ⟦<Mention<'static> as Clone>⟧.is_clone x clone → clone ≡ x }
+    ensures mentions { (x clone : Mentions) → ⟦<Mentions<'static> as Clone>⟧.is_clone x clone → clone ≡ x }
 {}
 
 /// To clone them takes no memory, so it is never refused.
 pub fn values_are_cloned_without_memory()
-    ensures mention { (x : Mention) → ⟦<Mention as Clone>⟧.is_infallible x }
-    ensures mentions { (x : Mentions) → ⟦<Mentions as Clone>⟧.is_infallible x }
+    ensures mention { (x : Mention) → ⟦<Mention<'static> as Clone>⟧.is_infallible x }
+    ensures mentions { (x : Mentions) → ⟦<Mentions<'static> as Clone>⟧.is_infallible x }
 {}
