@@ -32,9 +32,11 @@ def serving() -> Iterator[int]:
     with Server("127.0.0.1", 0) as server:
         thread = threading.Thread(target=server.serve_forever)
         thread.start()
-        yield server.server_port
-        server.shutdown()
-        thread.join()
+        try:
+            yield server.server_port
+        finally:
+            server.shutdown()
+            thread.join()
 
 
 def asked(port: int, path: str, method: str = "GET", body: Any = None, **headers: str) -> Answer:

@@ -106,6 +106,8 @@ class _Handler(BaseHTTPRequestHandler):
             kind, content, name = self._answer()
         except _Refused as refused:
             self._refuse(refused)
+        except MemoryError:
+            self._refuse(_Refused(HTTPStatus.INTERNAL_SERVER_ERROR, "There is no memory for the answer."))
         else:
             self._send(HTTPStatus.OK, kind, content, name)
 
