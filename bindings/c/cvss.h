@@ -17,8 +17,8 @@
  * Threads. The functions keep no state: any number of threads may call them at once, each with its own
  * buffer or struct.
  *
- * Memory. cvss_version, cvss_scores, cvss_canonical, cvss_read, cvss_metrics and cvss_without_undefined take none, and
- * but for cvss_record no function takes any for a text that is accepted. To tell why a text is refused, and to make a record,
+ * Memory. cvss_version, cvss_scores, cvss_canonical, cvss_read, cvss_metrics, cvss_without_undefined and cvss_find take
+ * none, and but for cvss_record no function takes any for a text that is accepted. To tell why a text is refused, and to make a record,
  * the others call malloc, realloc and free, and free what they took before they return; where malloc refuses, a record
  * and a reason that carries a part of the text are told as "out of memory", and that of an override as
  * "override 0: out of memory". So these must not be called from a signal handler, or in a child that was forked from a
@@ -185,6 +185,19 @@ size_t cvss_answer(const void *text, size_t length, void *buffer, size_t size);
  * answer needs a larger buffer. What stands behind the last newline is not read.
  */
 size_t cvss_answers(const void *texts, size_t length, void *buffer, size_t size, size_t *read);
+
+/*
+ * Vectors in any text: in a sentence, in parentheses, in a link, whatever its other bytes are. Each longest run of
+ * ASCII letters and digits, ':', '/' and '.' is cut before each "CVSS:" in it; a part, without the ':', '/' and '.' at
+ * its end, is a mention. It is found where it denotes a vector, and where it begins with "CVSS:" and has a '/': it was
+ * meant as a vector, and cvss_reason tells why it is none.
+ *
+ * Returns whether a mention is found in the text from its byte `from` on; then writes where the first of them begins,
+ * which like `from` is counted from 0 in the whole text, and its length. Where none is, `*start` and `*found_length`
+ * are left as they were. The next one is asked for from `*start + *found_length` on. The bytes before `from` are not
+ * looked at: a run that it cuts begins there.
+ */
+bool cvss_find(const void *text, size_t length, size_t from, size_t *start, size_t *found_length);
 
 #ifdef __cplusplus
 }

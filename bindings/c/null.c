@@ -35,5 +35,10 @@ int main(void)
     size_t read = 1;
     right &= cvss_answers(NULL, 0, NULL, 0, &read) == 0 && read == 0;
     right &= cvss_answers("x\n", 2, NULL, 0, &read) == 0 && read == 0;
+    size_t start = 1, found = 1;
+    right &= !cvss_find(NULL, 0, 0, &start, &found) && !cvss_find(NULL, 0, 1, &start, &found);
+    right &= !cvss_find(text, length, length, &start, &found) && !cvss_find(text, length, SIZE_MAX, &start, &found);
+    right &= start == 1 && found == 1;
+    right &= cvss_find(text, length, 0, &start, &found) && start == 0 && found == length;
     return right ? 0 : 1;
 }

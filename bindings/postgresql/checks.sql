@@ -18,8 +18,18 @@ SELECT 'overrides that are refused', cvss_with(v4, 'CR:H/AV:N') IS NULL,
     cvss_reason(v4, 'CR:H/AV:N') = 'override 1: no environmental CVSSv4 metric', cvss_reason(v4, 'CR:H') IS NULL,
     cvss_reason(v3, 'CR:H') = 'no CVSSv4 vector', cvss_reason(refused, 'CR:H') = cvss_reason(refused) FROM known;
 SELECT 'a record is JSON', cvss_record(v3) -> 'baseScore' = '9.8', cvss_record(v3) ->> 'scope' = 'UNCHANGED' FROM known;
+SELECT 'vectors in a text', string_agg(concat_ws('|', place, given, vector), ' ') = '4|' || v2 || '|' || v2 || ' '
+    || 4 + length(v2) || '|' || refused || ' ' || 6 + length(v2 || refused) || '|CVSS:3.1/s:c|CVSS:3.1/S:C',
+    bool_and(substr(told, place, length(given)) = given)
+    FROM (SELECT 'é (' || v2 || refused || '; CVSS:3.1/s:c.' AS told, v2, refused FROM known) AS texts, cvss_find(told)
+    GROUP BY v2, refused;
+SELECT 'no vector in a text', (SELECT count(*) FROM cvss_find('see CVSS:3.1 and AV:N/AC:L')) = 0,
+    (SELECT count(*) FROM cvss_find('')) = 0, (SELECT count(*) FROM cvss_find(NULL)) = 0;
+SELECT 'a long text', count(*) = 20000, count(vector) = 20000, max(place) = 1 + 19999 * (length(v2) + 2)
+    FROM known, cvss_find(repeat(v2 || ', ', 20000)) GROUP BY v2;
+SELECT 'rows that are not all asked for', given = v2 FROM known, cvss_find(repeat(v2 || ' ', 5)) LIMIT 1;
 SELECT 'all are immutable, strict and parallel safe', bool_and(provolatile = 'i' AND proisstrict AND proparallel = 's'),
-    count(*) = 14 FROM pg_proc WHERE proname LIKE 'cvss\_%';
+    count(*) = 15 FROM pg_proc WHERE proname LIKE 'cvss\_%';
 
 CREATE TABLE kept (
     vector cvss_vector,

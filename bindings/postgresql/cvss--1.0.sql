@@ -53,6 +53,10 @@ CREATE FUNCTION cvss_reason(text, metrics text) RETURNS text
 AS 'MODULE_PATHNAME', 'sql_cvss_override_reason' LANGUAGE C IMMUTABLE STRICT PARALLEL SAFE;
 COMMENT ON FUNCTION cvss_reason(text, text) IS 'why cvss_with answers NULL to the same; NULL where it answers';
 
+CREATE FUNCTION cvss_find(text, OUT place integer, OUT given text, OUT vector text) RETURNS SETOF record
+AS 'MODULE_PATHNAME', 'sql_cvss_find' LANGUAGE C IMMUTABLE STRICT PARALLEL SAFE ROWS 2;
+COMMENT ON FUNCTION cvss_find(text) IS 'the CVSS vectors that are mentioned in a text: place, text as given, canonical text';
+
 CREATE FUNCTION cvss_check(text) RETURNS boolean
 AS 'MODULE_PATHNAME', 'sql_cvss_check' LANGUAGE C IMMUTABLE STRICT PARALLEL SAFE;
 COMMENT ON FUNCTION cvss_check(text) IS 'true where the text denotes a CVSS vector; else an error that tells the reason';

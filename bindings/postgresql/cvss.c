@@ -7,7 +7,10 @@
  */
 #include "postgres.h"
 
+#include "access/htup_details.h"
 #include "fmgr.h"
+#include "funcapi.h"
+#include "mb/pg_wchar.h"
 #include "utils/builtins.h"
 #include "utils/jsonb.h"
 #include "utils/numeric.h"
@@ -218,4 +221,68 @@ sql_cvss_check(PG_FUNCTION_ARGS)
 	if (reason != NULL)
 		ereport(ERROR, (errcode(ERRCODE_CHECK_VIOLATION), errmsg("no CVSS vector: %s", reason)));
 	PG_RETURN_BOOL(true);
+}
+
+/* How far a text has been searched: behind the last mention, whose next byte is the character of this place. */
+typedef struct Search
+{
+	Text		text;
+	size_t		end;
+	int			place;
+} Search;
+
+/* The next mention as a row: its place, the text of it, and the canonical text of its vector. */
+static Datum
+mention_row(TupleDesc columns, Search *search, size_t start, size_t length)
+{
+	const char *given = search->text.bytes + start;
+	char	   *canonical = palloc(length);
+	Datum		values[3];
+	bool		nulls[3] = {false, false, false};
+
+	search->place += pg_mbstrlen_with_len(search->text.bytes + search->end, (int) (start - search->end));
+	values[0] = Int32GetDatum(search->place);
+	values[1] = PointerGetDatum(cstring_to_text_with_len(given, (int) length));
+	nulls[2] = cvss_canonical(given, length, canonical, length) == 0;
+	values[2] = nulls[2] ? (Datum) 0 : PointerGetDatum(cstring_to_text_with_len(canonical, (int) length));
+	/* a mention is ASCII */
+	search->place += (int) length;
+	search->end = start + length;
+	return HeapTupleGetDatum(heap_form_tuple(columns, values, nulls));
+}
+
+/* The vectors that are mentioned in a text, in order; a row for each call. */
+PG_FUNCTION_INFO_V1(sql_cvss_find);
+Datum
+sql_cvss_find(PG_FUNCTION_ARGS)
+{
+	FuncCallContext *call;
+	Search	   *search;
+	size_t		start,
+				length;
+
+	if (SRF_IS_FIRSTCALL())
+	{
+		MemoryContext own;
+		text	   *value;
+
+		call = SRF_FIRSTCALL_INIT();
+		own = MemoryContextSwitchTo(call->multi_call_memory_ctx);
+		if (get_call_result_type(fcinfo, NULL, &call->tuple_desc) != TYPEFUNC_COMPOSITE)
+			elog(ERROR, "cvss_find returns rows");
+		call->tuple_desc = BlessTupleDesc(call->tuple_desc);
+		value = PG_GETARG_TEXT_P_COPY(0);
+		search = palloc(sizeof *search);
+		search->text.bytes = VARDATA(value);
+		search->text.length = VARSIZE(value) - VARHDRSZ;
+		search->end = 0;
+		search->place = 1;
+		call->user_fctx = search;
+		MemoryContextSwitchTo(own);
+	}
+	call = SRF_PERCALL_SETUP();
+	search = call->user_fctx;
+	if (!cvss_find(search->text.bytes, search->text.length, search->end, &start, &length))
+		SRF_RETURN_DONE(call);
+	SRF_RETURN_NEXT(call, mention_row(call->tuple_desc, search, start, length));
 }

@@ -11,7 +11,7 @@ from pathlib import Path
 from typing import Any, Callable, List, Optional, Tuple, Type
 
 import cvss_proved
-from cvss_proved import CvssError, Text, Vector, answer, answers
+from cvss_proved import CvssError, Found, Text, Vector, answer, answers, find
 
 KINDS = (
     "",
@@ -206,6 +206,36 @@ def check_records(root: Path) -> None:
         assert len([name for name in record if not name.endswith(names)]) == len(vector.metrics), line
 
 
+def told(found: Found) -> str:
+    """What cvss_tool answers of a mention."""
+    return f"error: {found}" if isinstance(found, CvssError) else f"{found} {found.score:.1f} {found.severity}"
+
+
+def check_finding(root: Path) -> None:
+    """The mentions of the stored texts are those that the second implementation tells, by bytes and by characters."""
+    texts = (root / "bindings/stored/texts").read_bytes().split(b"\n")[:-1]
+    by_bytes: List[str] = []
+    by_characters: List[str] = []
+    for number, line in enumerate(texts, 1):
+        for place, mention, found in find(line):
+            assert line[place : place + len(mention)] == mention
+            by_bytes.append(f"{number}:{place + 1} {told(found)}")
+        for other in (bytearray(line), memoryview(line)):
+            assert list(map(repr, find(other))) == list(map(repr, find(line)))
+        # each byte that is no UTF-8 is one lone surrogate
+        text = line.decode("utf-8", "surrogateescape")
+        for place, part, found in find(text):
+            assert text[place : place + len(part)] == part
+            start = len(text[:place].encode("utf-8", "surrogateescape"))
+            by_characters.append(f"{number}:{start + 1} {told(found)}")
+    expected = lines_of(root / "bindings/stored/found")
+    assert by_bytes == by_characters == [answer.decode() for answer in expected]
+    no_texts: Tuple[Any, ...] = (None, 5, [TEXT])
+    for no_text in no_texts:
+        assert raises(TypeError, lambda: find(no_text)), no_text
+    print(f"Python: {len(texts)} texts, {len(expected)} mentions, 0 wrong answers")
+
+
 def check_values() -> None:
     """The two vectors have the base scores 7.8 and 10.0 (CVSS v2 guide, sections 3.3.1 and 3.3.2)."""
     lower, higher = Vector(TEXT), Vector("AV:N/AC:L/Au:N/C:C/I:C/A:C")
@@ -230,4 +260,5 @@ if __name__ == "__main__":
     check_overrides()
     check_subclasses()
     check_records(Path(sys.argv[1]))
+    check_finding(Path(sys.argv[1]))
     check_values()

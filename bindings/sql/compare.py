@@ -2,7 +2,9 @@
 """Writes the queries that compare the functions with the table `expected`, which has the columns of expected.py.
 
 Each query tells a function, the rows that it was asked for, and how many of its answers are wrong. The same queries
-are run by SQLite and by PostgreSQL. usage: compare.py postgresql|sqlite
+are run by SQLite and by PostgreSQL. usage: compare.py postgresql|sqlite characters|bytes
+
+The last word says how places in the texts are counted.
 """
 import sys
 from pathlib import Path
@@ -57,7 +59,11 @@ EXCEPTION
 END $$;"""
 
 
-def main(database):
+def main(database, unit):
+    joined_rows = "string_agg" if database == "postgresql" else "group_concat"
+    row = "place || ' ' || given || ' ' || coalesce(vector, '-')"
+    ASKED["cvss_find"] = (f"(SELECT {joined_rows}({row}, ';') FROM cvss_find(expected.text))",
+                          "found" if unit == "characters" else "found_bytes")
     if database == "postgresql":
         print(REFUSAL_OF)
         ASKED["cvss_check"] = ("refusal_of(text)", "'no CVSS vector: ' || reason")
@@ -68,4 +74,4 @@ def main(database):
 
 
 if __name__ == "__main__":
-    main(sys.argv[1])
+    main(*sys.argv[1:])

@@ -8,6 +8,7 @@ COLUMNS are separated by tabs, as COPY of PostgreSQL reads them: NULL is \\N, an
 character stands as \\x and two digits.
 """
 import random
+import re
 import sys
 from pathlib import Path
 
@@ -16,6 +17,7 @@ sys.dont_write_bytecode = True  # leaves nothing in the tree
 sys.path[:0] = [str(ROOT / "bench"), str(ROOT / "conformance"), str(ROOT / "bindings" / "stored")]
 
 import facts
+import finding
 import lines
 import records
 import reference
@@ -23,7 +25,7 @@ import v4
 from run import read_table, text_of
 
 COLUMNS = ("text", "canonical", "version", "score", "temporal", "environmental", "severity", "nomenclature",
-           "overridden", "record", "reason", "override_reason")
+           "overridden", "record", "reason", "override_reason", "found", "found_bytes")
 # An organisation's metrics, in the order in which v4.0 prints them.
 OVERRIDES = {"CR": "H", "MSI": "S"}
 
@@ -48,13 +50,33 @@ def accepted(row):
     return [*told, overridden, records.record(row, metrics), None, refusal]
 
 
+# A character, as SQLite counts them also in what is not UTF-8.
+CHARACTER = re.compile(rb"[\xc0-\xff][\x80-\xbf]*|.", re.S)
+
+
+def found(text):
+    """The vectors that are mentioned in a text, with their places in characters and in bytes."""
+    by_characters, by_bytes = [], []
+    for place, mention, answer in finding.found(text):
+        vector = "-" if answer.startswith("error: ") else answer.split(" ")[0]
+        told = f"{mention.decode()} {vector}"
+        by_characters.append(f"{len(CHARACTER.findall(text[:place])) + 1} {told}")
+        by_bytes.append(f"{place + 1} {told}")
+    return [";".join(by_characters) or None, ";".join(by_bytes) or None]
+
+
 def answers(text, row=None):
     """What is answered to a text, of which the scores may be known."""
+    return answers_to_all(text, row) + found(text)
+
+
+def answers_to_all(text, row):
+    """What the functions of the whole text answer."""
     try:
         return accepted(row or scored(reference.text_of(text)))
     except reference.Refused as refused:
         reason = str(refused)
-    return [None] * (len(COLUMNS) - 3) + [reason, reason]
+    return [None] * (len(COLUMNS) - 5) + [reason, reason]
 
 
 def escaped(column):

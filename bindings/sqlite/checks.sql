@@ -27,6 +27,23 @@ SELECT 'overrides that are refused', cvss_with(v4, 'CR:H/AV:N') IS NULL,
 SELECT 'a record is JSON', json_extract(cvss_record(v3), '$.baseScore') = 9.8,
     json_type(json_object('cvss', cvss_record(v3)), '$.cvss') = 'object' FROM known;
 
+CREATE TABLE notes AS SELECT 'é (' || v2 || refused || '; CVSS:3.1/s:c.' AS told FROM known;
+SELECT 'vectors in a text', group_concat(place || '|' || given || '|' || coalesce(vector, ''), ' ') = '4|' || v2 || '|'
+    || v2 || ' ' || (4 + length(v2)) || '|' || refused || '| ' || (6 + length(v2 || refused)) || '|CVSS:3.1/s:c|CVSS:3.1/S:C',
+    min(substr(told, place, length(given)) = given), min(cvss_text = told) FROM known, notes, cvss_find(told);
+SELECT 'a blob is counted by bytes', group_concat(place) = '5,' || (5 + length(v2)) || ',' || (7 + length(v2 || refused))
+    FROM known, notes, cvss_find(CAST(told AS BLOB));
+SELECT 'no vector in a text', (SELECT count(*) FROM cvss_find('see CVSS:3.1 and AV:N/AC:L')) = 0,
+    (SELECT count(*) FROM cvss_find('')) = 0, (SELECT count(*) FROM cvss_find(NULL)) = 0,
+    (SELECT count(*) FROM cvss_find(x'')) = 0, (SELECT count(*) FROM cvss_find(9.8)) = 0,
+    (SELECT count(*) FROM cvss_find) = 0;
+SELECT 'places in what is no text', group_concat(place || given) = '3' || v2 || ',31' || v2 FROM known,
+    cvss_find(CAST(x'FF' || CAST(char(0) || v2 || char(0, 10) || v2 AS BLOB) AS TEXT));
+SELECT 'a long text', count(*) = 20000, count(vector) = 20000, max(place) = 1 + 19999 * (length(v2) + 2)
+    FROM known, cvss_find(replace(hex(zeroblob(10000)), '0', v2 || ', '));
+SELECT 'rows that are not all asked for', given = v2 FROM known, cvss_find(v2 || ' ' || v2) LIMIT 1;
+CREATE VIEW mentioned AS SELECT given FROM notes, cvss_find(told);
+
 CREATE TABLE kept (
     vector TEXT CHECK (cvss_is_valid(vector)),
     score REAL AS (cvss_score(vector)) STORED,
@@ -41,6 +58,7 @@ PRAGMA trusted_schema = OFF;
 SELECT 'a constraint and columns', group_concat(score || ' ' || severity) = '7.8 high,9.8 critical,6.9 medium'
     FROM kept;
 SELECT 'a view', count(vector) = 3, count(reason) = 0 FROM told;
+SELECT 'a view of mentions', count(*) = 3 FROM mentioned;
 SELECT 'an index', count(*) = 1 FROM kept INDEXED BY kept_score WHERE cvss_score(vector) > 9.0;
 SELECT 'a partial index', count(*) = 1 FROM kept INDEXED BY kept_high WHERE cvss_severity(vector) = 'high';
 PRAGMA integrity_check;

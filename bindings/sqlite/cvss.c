@@ -5,9 +5,8 @@
  * A text is what its bytes are, and so is a blob; a number is asked as it is printed. NULL is answered by NULL. The
  * functions keep nothing between calls, so that any number of threads may use them, each with its own connection.
  */
-#include "answers.h"
+#include "argument.h"
 
-#include <sqlite3ext.h>
 SQLITE_EXTENSION_INIT1
 
 /* Newer releases want to be told that a function marks its texts as JSON. */
@@ -27,23 +26,29 @@ typedef struct Function {
     bool is_json;
 } Function;
 
-/* The bytes of an argument. False where it is NULL, or there is no memory for its bytes, which is told. */
-static bool read_argument(sqlite3_context *context, sqlite3_value *value, Text *text)
+int cvss_read_value(sqlite3_value *value, Text *text)
 {
     int type = sqlite3_value_type(value);
     if (type == SQLITE_NULL)
-        return false;
+        return SQLITE_EMPTY;
     text->bytes = type == SQLITE_BLOB ? sqlite3_value_blob(value) : (const void *)sqlite3_value_text(value);
     text->length = (size_t)sqlite3_value_bytes(value);
     if (text->bytes != NULL)
-        return true;
+        return SQLITE_OK;
+    if (type != SQLITE_BLOB || text->length != 0)
+        return SQLITE_NOMEM;
     /* an empty blob has no bytes */
-    if (type == SQLITE_BLOB && text->length == 0) {
-        text->bytes = "";
-        return true;
-    }
-    sqlite3_result_error_nomem(context);
-    return false;
+    text->bytes = "";
+    return SQLITE_OK;
+}
+
+/* The bytes of an argument. False where it is NULL, or there is no memory for its bytes, which is told. */
+static bool read_argument(sqlite3_context *context, sqlite3_value *value, Text *text)
+{
+    int status = cvss_read_value(value, text);
+    if (status == SQLITE_NOMEM)
+        sqlite3_result_error_nomem(context);
+    return status == SQLITE_OK;
 }
 
 static bool read_question(sqlite3_context *context, int count, sqlite3_value **values, Question *question)
@@ -132,5 +137,7 @@ int sqlite3_cvss_init(sqlite3 *database, char **message, const sqlite3_api_routi
         status = sqlite3_create_function_v2(database, function->name, function->arguments, flags | own,
                                             (void *)function, function->call, NULL, NULL, NULL);
     }
+    if (status == SQLITE_OK)
+        status = sqlite3_create_module_v2(database, "cvss_find", &cvss_find_module, NULL, NULL);
     return status;
 }

@@ -20,9 +20,10 @@ cvss_proved.CvssError: invalid CVSSv2 AC (Access Complexity) metric: `q`
 """
 
 from ._error import CvssError
+from ._find import Found, find
 from ._library import Text
 from ._vector import Scores, Severities, Vector, answer, answers
 
 __version__ = "1.0.0"
 
-__all__ = ["CvssError", "Scores", "Severities", "Text", "Vector", "answer", "answers", "__version__"]
+__all__ = ["CvssError", "Found", "Scores", "Severities", "Text", "Vector", "answer", "answers", "find", "__version__"]

@@ -10,7 +10,7 @@ import ctypes
 import os
 import struct
 from pathlib import Path
-from typing import Any, Callable, List, Optional, Tuple, Union
+from typing import Any, Callable, Iterator, List, Optional, Tuple, Union
 
 Text = Union[str, bytes, bytearray, memoryview]
 
@@ -83,6 +83,9 @@ def _declared(library: ctypes.CDLL) -> ctypes.CDLL:
     many = text + [ctypes.c_char_p, ctypes.c_size_t]
     library.cvss_answers.argtypes = many + [ctypes.POINTER(ctypes.c_size_t)]
     library.cvss_answers.restype = ctypes.c_size_t
+    number = ctypes.POINTER(ctypes.c_size_t)
+    library.cvss_find.argtypes = text + [ctypes.c_size_t, number, number]
+    library.cvss_find.restype = ctypes.c_bool
     return library
 
 
@@ -202,3 +205,13 @@ def answers(lines: bytes) -> bytes:
         if read.value == len(lines):
             return ctypes.string_at(buffer, written)
         size *= 2
+
+
+def find(text: bytes) -> Iterator[Tuple[int, int]]:
+    """Where each vector that is mentioned in a text begins, and where it ends."""
+    start, length = ctypes.c_size_t(), ctypes.c_size_t()
+    own_start, own_length = ctypes.byref(start), ctypes.byref(length)
+    end = 0
+    while _library.cvss_find(text, len(text), end, own_start, own_length):
+        begin, end = start.value, start.value + length.value
+        yield begin, end

@@ -70,6 +70,13 @@ extern "C" {
         size: usize,
         read: *mut usize,
     ) -> usize;
+    fn cvss_find(
+        text: *const u8,
+        length: usize,
+        from: usize,
+        start: *mut usize,
+        found_length: *mut usize,
+    ) -> bool;
 }
 
 /// The scores and the canonical text of the vector that a text denotes.
@@ -197,6 +204,15 @@ pub(crate) fn answers(texts: &[u8]) -> Vec<u8> {
         }
     }
     all
+}
+
+/// Where the first vector begins that is mentioned in a text from a byte on, and how long it is.
+pub(crate) fn find(text: &[u8], from: usize) -> Option<(usize, usize)> {
+    let (mut start, mut length) = (0, 0);
+    // SAFETY: the pointers are those of a slice and of two numbers that live through the call and
+    // do not overlap.
+    let is_found = unsafe { cvss_find(text.as_ptr(), text.len(), from, &mut start, &mut length) };
+    is_found.then_some((start, length))
 }
 
 /// What a call writes into a buffer that is large enough; tried first with one of this size.

@@ -22,12 +22,14 @@
 #![deny(missing_docs)]
 
 mod calls;
+mod find;
 mod numbers;
 mod refused;
 #[cfg(feature = "serde")]
 mod serialized;
 mod vector;
 
+pub use find::{find, Mention, Mentions};
 pub use numbers::{Nomenclature, Score, Severity, UnknownName, Version};
 pub use refused::{OverrideError, Refused, RefusedKind};
 pub use vector::{Cvss, Metric};

@@ -1,8 +1,8 @@
 //! The vectors that are kept in the repository, with their answers.
 
 use cvss_proved::{
-    answer, answer_lines, Cvss, Metric, Nomenclature, OverrideError, Refused, RefusedKind, Score,
-    Severity, Version,
+    answer, answer_lines, find, Cvss, Mention, Metric, Nomenclature, OverrideError, Refused,
+    RefusedKind, Score, Severity, Version,
 };
 use std::fs;
 use std::path::Path;
@@ -96,6 +96,29 @@ fn stored_lines_have_their_facts() {
         };
         assert_eq!(told, expected, "{line}");
     }
+}
+
+fn told(mention: &Mention) -> String {
+    match &mention.found {
+        Ok(cvss) => format!("{cvss} {} {}", cvss.score(), cvss.severity()),
+        Err(refused) => format!("error: {refused}"),
+    }
+}
+
+/// The mentions are those that the second implementation in `bench/` tells.
+#[test]
+fn stored_texts_have_their_mentions() {
+    let root = Path::new(env!("CARGO_MANIFEST_DIR")).join("../../bindings/stored");
+    let texts = fs::read(root.join("texts")).unwrap();
+    let mut lines = String::new();
+    for (number, text) in texts.split(|byte| *byte == b'\n').enumerate() {
+        for mention in find(text) {
+            let end = mention.place + mention.text.len();
+            assert_eq!(&text[mention.place..end], mention.text.as_bytes());
+            lines += &format!("{}:{} {}\n", number + 1, mention.place + 1, told(&mention));
+        }
+    }
+    assert_eq!(lines, fs::read_to_string(root.join("found")).unwrap());
 }
 
 /// The records were written by hand from FIRST's JSON schemas.

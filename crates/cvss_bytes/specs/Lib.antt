@@ -2,6 +2,7 @@ pub mod Answers
 pub mod Buffer
 pub mod Defined
 pub mod Lines
+pub mod Mentioned
 pub mod Metrics
 pub mod Overriding
 pub mod Records

@@ -10,6 +10,7 @@ pub mod canonical;
 pub mod defined;
 pub mod laws;
 pub mod lines;
+pub mod mentioned;
 pub mod metrics;
 pub mod numbers;
 pub mod overriding;

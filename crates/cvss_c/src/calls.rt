@@ -10,6 +10,7 @@ ghost use Rattle.cvss_bytes.specs.Answers.{Answers, IsAnswer, IsReason};
 ghost use Rattle.cvss_bytes.specs.Buffer.{IsLeft, IsWritten};
 ghost use Rattle.cvss_bytes.specs.Defined.{text_without_undefined};
 ghost use Rattle.cvss_bytes.specs.Lines.{AnswersLines};
+ghost use Rattle.cvss_bytes.specs.Mentioned.{AnswersMention};
 ghost use Rattle.cvss_bytes.specs.Metrics.{metrics_in_order};
 ghost use Rattle.cvss_bytes.specs.Overriding.{AnswersOverridden, IsOverrideReason};
 ghost use Rattle.cvss_bytes.specs.Records.{IsRecordTold};
@@ -22,6 +23,7 @@ use cvss_bytes::buffer::put_both;
 use cvss_bytes::canonical::put_canonical_of;
 use cvss_bytes::defined::put_without_undefined;
 use cvss_bytes::lines::put_answers;
+use cvss_bytes::mentioned::put_mention;
 use cvss_bytes::metrics::put_metrics;
 use cvss_bytes::numbers::{NOTHING, version_number};
 use cvss_bytes::overriding::{put_overridden, put_override_reason};
@@ -257,4 +259,21 @@ pub extern "C" fn cvss_answers(
     let (written, bytes) = put_answers(alloc, texts, buffer);
     *read = bytes;
     written
+}
+
+/// Whether a vector is mentioned in any text from a byte on; then where the first mention begins,
+/// counted from 0 in the whole text, and its length. A mention denotes a vector, or begins with
+/// `CVSS:`, has a slash and is refused. Where there is none, the numbers are left as they were. It
+/// takes no memory.
+#[unsafe(no_mangle)]
+pub extern "C" fn cvss_find(
+    text: &[u8],
+    from: usize,
+    start: &mut usize,
+    found_length: &mut usize,
+) -> bool
+    ensures { AnswersMention text.now from start.old found_length.old start.new found_length.new
+        result }
+{
+    put_mention(text, from, start, found_length)
 }
