@@ -21,7 +21,7 @@ use cvss_name::Severity;
 
 impl Vector {
     #[inline(always)]
-    fn weights(&self) -> Weights
+    pub(crate) fn weights(&self) -> Weights
         ensures weights { result ≡ weights_of self.now }
         ensures table { IsFromTable result }
     {
