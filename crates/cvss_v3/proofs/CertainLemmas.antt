@@ -70,7 +70,7 @@ formula_same_when_cut changed Formula formula s e S E some_S some_E is_S is_E li
     let from_zero = equal_at_most (whole 0) n
     (no_number changed none (Formula S) E some_none (formula.bottom S some_S) some_E same formula.none) in
     let is_zero_rounded : IsRounded 1 n (pos 0) =
-    no_impact 1 changed none (Formula S) E some_none (formula.bottom S some_S) some_E same formula.none (pos 0) (rounded_v31 0) in
+    (no_impact 1 changed none (Formula S) E some_none (formula.bottom S some_S) some_E same formula.none).rounds (pos 0) (rounded_v31 0) in
     let before = tenths (pos 0 -ℤ pos 1) ⊕ 1 over 100_000 in
     let above = at_most_trans before (whole 0) n (lit< tt) (record { at_most = omega (arith, ints) }) from_zero in
     subst (λ (z : ℤ). IsRounded 1 n z)

@@ -85,9 +85,9 @@ temporal_bound w table =
     mul-le-mul (mul-le-mul (weight_bound exploit_code_maturities w.e 100 refl table.e)
     (weight_bound remediation_levels w.rl 100 refl table.rl)) (weight_bound report_confidences w.rc 100 refl table.rc)
 
--- so many tenths times it, in 10^-13
+-- so many tenths times it, in 10^-7
 pub temporal_is : (r e rl rc : ℕ)
-    → (r * (e * rl * rc) * 1_000_000) over (10 ^ 13) ≈ tenths (pos r) ⊗ hundredths e ⊗ hundredths rl ⊗ hundredths rc
+    → (r * (e * rl * rc)) over (10 ^ 7) ≈ tenths (pos r) ⊗ hundredths e ⊗ hundredths rl ⊗ hundredths rc
 temporal_is r e rl rc = record { equal = omega (arith, ints) }
 
 -- MISS in millionths

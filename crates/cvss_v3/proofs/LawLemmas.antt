@@ -27,7 +27,7 @@ modified_impact_bottom (suc minor) true S some = changed_modified_bottom S some
 base_bottom : (w : Weights) → 0 < (base_number w).bottom
 base_bottom w = first_bottom w.changed (impact w) (exploitability w) (impact_bottom w.changed (iss w) (lit< tt)) (lit< tt)
 
-base_once : (minor : ℕ) (w : Weights) → IsOneCount (IsBase minor w)
+pub base_once : (minor : ℕ) (w : Weights) → IsOneCount (IsBase minor w)
 base_once minor w r s is_r is_s = rounded_once minor (base_number w) r s (base_bottom w) is_r is_s
 
 -- of equal tenths the products with E, RL and RC have one rounding
@@ -41,11 +41,15 @@ temporal_once minor w r s is_r is_s =
     product_once minor w is_r.base is_s.base r s (base_once minor w is_r.base is_s.base is_r.is_base is_s.is_base)
     is_r.is_rounded is_s.is_rounded
 
-environmental_once : (minor : ℕ) (w : Weights) → IsOneCount (IsEnvironmental minor w)
-environmental_once minor w r s is_r is_s =
+pub first_once : (minor : ℕ) (w : Weights) → IsOneCount (IsRounded minor (environmental_number minor w))
+first_once minor w r s is_r is_s =
     let some = first_bottom w.modified_changed (modified_impact_of minor w.modified_changed (miss w)) (modified_exploitability w)
     (modified_impact_bottom minor w.modified_changed (miss w) (lit< tt)) (lit< tt) in
-    let first = rounded_once minor (environmental_number minor w) is_r.first is_s.first some is_r.is_first is_s.is_first in
+    rounded_once minor (environmental_number minor w) r s some is_r is_s
+
+environmental_once : (minor : ℕ) (w : Weights) → IsOneCount (IsEnvironmental minor w)
+environmental_once minor w r s is_r is_s =
+    let first = first_once minor w is_r.first is_s.first is_r.is_first is_s.is_first in
     product_once minor w is_r.first is_s.first r s first is_r.is_rounded is_s.is_rounded
 
 pub base_score_once : (minor : ℕ) (w : Weights) → IsOneCount (IsBaseScore minor w)

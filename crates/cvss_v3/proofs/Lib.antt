@@ -1,5 +1,6 @@
 mod CapLemmas
 mod CertainLemmas
+mod CloseLemmas
 mod CountLemmas
 mod CutLemmas
 mod DefinedLemmas

@@ -1,17 +1,19 @@
 -- The whole number of the code has the rounding of the first number of the equations.
 use Rattle.std.specs.Prelude.{int_lt, if◌then◌else◌}
-use Rattle.std.proofs.Common.{◌≡◌, ℕ, ◌^◌, ◌<◌, ◌≤◌, ℤ, pos, ◌-ℤ◌, Bool, false, arith, refl, sym, subst, ap, lit<}
+use Rattle.std.proofs.Common.{◌≡◌, ℕ, ◌^◌, ◌<◌, ◌≤◌, ℤ, pos, ◌-ℤ◌, Bool, true, false, arith, refl, sym, subst, ap, lit<}
 use Rattle.std.proofs.lemmas.Int.{ints}
 use Rattle.cvss_number.specs.Exact.{Exact, ◌over◌, whole, tenths, ◌⊕◌, ◌≈◌, ◌⊑◌}
 use Rattle.cvss_number.proofs.ExactLemmas.{equal_refl, equal_sym, equal_trans, equal_at_most, sum_at_most, at_most_trans, product_equal}
 use Rattle.cvss_v3.proofs.CapLemmas.{capped, capped_to_ten}
+use Rattle.cvss_v3.proofs.CloseLemmas.{count_close, number_close, equal_stands}
 use Rattle.cvss_v3.proofs.CutLemmas.{cut_is}
 use Rattle.cvss_v3.proofs.EqualLemmas.{above_zero, first_equal, first_bottom, rounds_equal, rounded_once}
-use Rattle.cvss_v3.proofs.NearLemmas.{error, error_moved, above_itself, first_is, first_near}
+use Rattle.cvss_v3.proofs.NearLemmas.{error, error_moved, above_itself, first_is, first_close, first_near}
 use Rattle.cvss_v3.proofs.SettledLemmas.{IsWithinError, SettlesWith}
 use Rattle.cvss_v3.specs.Certainty.{IsCertain}
+use Rattle.cvss_v3.specs.Closeness.{IsCloseTo}
 use Rattle.cvss_v3.specs.laws.FifthDecimals.{IsSameWhenCut}
-use Rattle.cvss_v3.specs.private.Near.{IsNear, RoundsAs}
+use Rattle.cvss_v3.specs.private.Near.{IsNear, RoundsAs, StandsFor}
 use Rattle.cvss_v3.specs.Scores.{unchanged_impact, total_of, first_number, IsRounded}
 
 -- without impact the number is 0
@@ -23,21 +25,21 @@ no_number changed I I' E some some' some_E same none =
     subst (λ z. z ≈ first_number changed I' E) is_zero (first_equal changed some some' some_E some_E same (equal_refl E))
 
 pub no_impact : (minor : ℕ) (changed : Bool) (I I' E : Exact) → 0 < I.bottom → 0 < I'.bottom → 0 < E.bottom → I ≈ I'
-    → int_lt (pos 0) I.top ≡ false → RoundsAs minor (0 over (10 ^ 13)) (first_number changed I' E)
+    → int_lt (pos 0) I.top ≡ false → StandsFor minor changed (0 over (10 ^ 13)) (first_number changed I' E)
 no_impact minor changed I I' E some some' some_E same none =
     let zeros : 0 over (10 ^ 13) ≈ whole 0 = record { equal = refl } in
-    rounds_equal minor (lit< tt) (first_bottom changed I' E some' some_E)
+    equal_stands minor changed (lit< tt) (first_bottom changed I' E some' some_E)
     (equal_trans (lit< tt) zeros (no_number changed I I' E some some' some_E same none))
 
 -- with the scope unchanged the number is exact
-pub unchanged_rounds : (minor n i s e : ℕ) (S E : Exact) → 0 < S.bottom → 0 < E.bottom → s over 1_000_000 ≈ S → e over (10 ^ 10) ≈ E
+pub unchanged_stands : (minor n i s e : ℕ) (S E : Exact) → 0 < S.bottom → 0 < E.bottom → s over 1_000_000 ≈ S → e over (10 ^ 10) ≈ E
     → i over (10 ^ 11) ≈ unchanged_impact (s over 1_000_000)
     → n over (10 ^ 13) ≈ first_number false (i over (10 ^ 11)) (e over (10 ^ 10))
-    → RoundsAs minor (n over (10 ^ 13)) (first_number false (unchanged_impact S) E)
-unchanged_rounds minor n i s e S E some_S some_E is_S is_E is_i is_n =
+    → StandsFor minor false (n over (10 ^ 13)) (first_number false (unchanged_impact S) E)
+unchanged_stands minor n i s e S E some_S some_E is_S is_E is_i is_n =
     let is_impact = equal_trans (lit< tt) is_i (product_equal (equal_refl (642 over 100)) is_S) in
     let is_first = first_equal false (lit< tt) (omega arith) (lit< tt) some_E is_impact is_E in
-    rounds_equal minor (lit< tt) (first_bottom false (unchanged_impact S) E (omega arith) some_E)
+    equal_stands minor false (lit< tt) (first_bottom false (unchanged_impact S) E (omega arith) some_E)
     (equal_trans (first_bottom false (i over (10 ^ 11)) (e over (10 ^ 10)) (lit< tt) (lit< tt)) is_n is_first)
 
 -- of an impact J that is exact for the listed sub-score, and equal to the equations' I
@@ -68,7 +70,7 @@ module _ (minor e : ℕ) (changed : Bool) (J I E : Exact) (some_J : 0 < J.bottom
       rounds_equal minor settled_bottom (first_bottom changed I E some_I some_E) same_first (settles.settled.tenths_by minor)
       (settles.settled.rounding minor n settled_bottom itself)
 
-  pub settled_rounds : (n i : ℕ) → 0 < i → n ≤ 10 ^ 14 → IsNear (i over (10 ^ 11)) J
+  settled_rounds : (n i : ℕ) → 0 < i → n ≤ 10 ^ 14 → IsNear (i over (10 ^ 11)) J
       → n over (10 ^ 13) ≈ first_number changed (i over (10 ^ 11)) (e over (10 ^ 10))
       → RoundsAs minor (n over (10 ^ 13)) (first_number changed I E)
   unfolding settled_first
@@ -87,6 +89,25 @@ module _ (minor e : ℕ) (changed : Bool) (J I E : Exact) (some_J : 0 < J.bottom
       let x_rounded = settles.settled.rounding minor x (lit< tt) within in
       subst (λ z. IsRounded minor (first_number changed I E) z)
       (rounded_once minor x (settles.settled.tenths_by minor) r (lit< tt) x_rounded rounded) first_rounded
+
+  settled_close : (n i : ℕ) → 0 < i → IsNear (i over (10 ^ 11)) J
+      → n over (10 ^ 13) ≈ first_number changed (i over (10 ^ 11)) (e over (10 ^ 10))
+      → IsCloseTo (first_number changed I E) (n over (10 ^ 13))
+  unfolding settled_first
+  settled_close n i some_i near is_n =
+      let code = first_number changed (i over (10 ^ 11)) (e over (10 ^ 10)) in
+      let some_code : 0 < code.bottom = first_bottom changed (i over (10 ^ 11)) (e over (10 ^ 10)) (lit< tt) (lit< tt) in
+      let close = first_close changed i e J.top J.bottom some_i some_J settles.above_zero near in
+      number_close settled_bottom same_first (count_close some_code is_n (record { not_above = close.0; not_below = close.1 }))
+
+  pub settled_stands : changed ≡ true → (n i : ℕ) → 0 < i → n ≤ 10 ^ 14 → IsNear (i over (10 ^ 11)) J
+      → n over (10 ^ 13) ≈ first_number changed (i over (10 ^ 11)) (e over (10 ^ 10))
+      → StandsFor minor changed (n over (10 ^ 13)) (first_number changed I E)
+  settled_stands is_changed n i some_i to_ten near is_n = record {
+    rounds = settled_rounds n i some_i to_ten near is_n;
+    close = settled_close n i some_i near is_n;
+    exact = λ is_unchanged. absurd (cc);
+  }
 
   pub settled_certain : IsCertain minor (first_number changed I E)
   unfolding settled_first

@@ -1,6 +1,6 @@
 -- The values of the equations' parts over the weights of the tables, by trying all.
 use Rattle.std.specs.List.{list_all, Contains}
-use Rattle.std.proofs.Common.{◌≡◌, ℕ, ◌-◌, ◌*◌, ◌/◌, ◌≤◌, min, List, [], ◌∷◌, Bool, true, false, leb, eqb, ◌||◌, ◌⊎◌, inl, inr, refl, subst, sym}
+use Rattle.std.proofs.Common.{◌≡◌, ℕ, ◌-◌, ◌*◌, ◌/◌, ◌≤◌, min, List, [], ◌∷◌, Bool, true, false, leb, eqb, ◌||◌, ◌⊎◌, inl, inr, arith, refl, subst, sym}
 use Rattle.std.proofs.lemmas.Bool.{leb-true, eqb-true, or_cases}
 use Rattle.cvss_v3.specs.private.SubScores.{sub_scores, weighted_impacts, IsSubScore}
 use Rattle.cvss_v3.specs.private.Weights.{attack_vectors, attack_complexities, privileges_required, user_interactions, impacts, requirements}
@@ -66,6 +66,11 @@ sub_score_if s holds = elim (or_cases (eqb s 0) (is_listed sub_scores s) holds) 
 pub some_sub_score : (s : ℕ) → (s ≡ 0) ⊎ IsSubScore s → ¬ (s ≡ 0) → IsSubScore s
 some_sub_score s (inl is_zero) some = absurd (some is_zero)
 some_sub_score s (inr sub_score) some = sub_score
+
+-- and one that is 0 too is at most the greatest
+pub sub_score_bound : (s : ℕ) → (s ≡ 0) ⊎ IsSubScore s → s ≤ 915_000
+sub_score_bound s (inl is_zero) = omega arith
+sub_score_bound s (inr sub_score) = sub_score_high s sub_score
 
 pub iss_listed : (c i a : ℕ) → Contains impacts c → Contains impacts i → Contains impacts a
     → (millionths_of c i a ≡ 0) ⊎ IsSubScore (millionths_of c i a)

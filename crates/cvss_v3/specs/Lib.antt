@@ -1,4 +1,5 @@
 pub mod Certainty
+pub mod Closeness
 pub mod Scores
 pub mod Vector
 pub mod VectorWeights

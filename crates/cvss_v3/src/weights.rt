@@ -3,7 +3,7 @@
 ghost use Rattle.std.specs.Prelude.{◌≡◌, ◌⊎◌, ◌≤◌, ◌^◌, ℕ, pos};
 ghost use Rattle.cvss_number.specs.Exact.{of_count, ◌over◌, ◌≈◌, IsWithinLimit};
 ghost use Rattle.cvss_number.specs.Tenths.{IsInTenths, IsFromZeroToTen};
-ghost use Rattle.cvss_v3.specs.private.Near.{RoundsAs};
+ghost use Rattle.cvss_v3.specs.private.Near.{StandsFor};
 ghost use Rattle.cvss_v3.specs.Scores.{iss, miss, exploitability, base_number, environmental_number, temporal_number, IsRounded, IsBase, IsBaseScore, IsTemporalScore, IsEnvironmentalScore};
 ghost use Rattle.cvss_v3.specs.private.SubScores.{IsSubScore};
 ghost use Rattle.cvss_v3.specs.private.Weights.{IsFromTable};
@@ -49,7 +49,7 @@ pub struct Weights {
 
 impl Weights {
     /// ISS, the impact sub-score, in millionths.
-    fn iss(&self) -> u64
+    pub fn iss(&self) -> u64
         requires { IsFromTable self.now }
         ensures value { result over 1_000_000 ≈ iss self.now }
         ensures listed { (result ≡ 0) ⊎ IsSubScore result }
@@ -58,7 +58,7 @@ impl Weights {
     }
 
     /// MISS, the modified impact sub-score, in millionths.
-    fn miss(&self) -> u64
+    pub fn miss(&self) -> u64
         requires { IsFromTable self.now }
         ensures value { result over 1_000_000 ≈ miss self.now }
         ensures listed { (result ≡ 0) ⊎ IsSubScore result }
@@ -69,11 +69,12 @@ impl Weights {
         equations::sub_score(c, i, a).min(915_000)
     }
 
-    /// A number of 10^-13 that has the rounding of the first number of the base score.
+    /// A number of 10^-13 that stands for the first number of the base score.
     #[inline(always)]
-    fn base_number(&self) -> u64
+    pub fn base_number(&self) -> u64
         requires { IsFromTable self.now }
-        ensures value { (minor : ℕ) → RoundsAs minor (result over (10 ^ 13)) (base_number self.now) }
+        ensures value { (minor : ℕ)
+            → StandsFor minor self.now.changed (result over (10 ^ 13)) (base_number self.now) }
         ensures to_ten { result ≤ 10 ^ 14 }
     {
         let iss = self.iss();
@@ -88,10 +89,10 @@ impl Weights {
         equations::first_number(power::changed_impact(iss), exploitability, true)
     }
 
-    /// A number of 10^-13 that has the rounding of the first number of the environmental score.
-    fn environmental_number(&self, minor_version: usize) -> u64
+    /// A number of 10^-13 that stands for the first number of the environmental score.
+    pub fn environmental_number(&self, minor_version: usize) -> u64
         requires { IsFromTable self.now }
-        ensures value { RoundsAs minor_version (result over (10 ^ 13))
+        ensures value { StandsFor minor_version self.now.modified_changed (result over (10 ^ 13))
             (environmental_number minor_version self.now) }
         ensures to_ten { result ≤ 10 ^ 14 }
     {
@@ -120,6 +121,17 @@ impl Weights {
         round_tenths(self.base_number(), minor_version)
     }
 
+    /// So many tenths times E, RL and RC, in 10^-7.
+    #[inline(always)]
+    pub fn temporal_product(&self, tenths: u64) -> u64
+        requires table { IsFromTable self.now }
+        requires to_ten { tenths ≤ 100 }
+        ensures value { result over (10 ^ 7) ≈ temporal_number (pos tenths) self.now }
+        ensures to_ten { result ≤ 10 ^ 8 }
+    {
+        tenths * (self.e * self.rl * self.rc)
+    }
+
     /// So many tenths times E, RL and RC, rounded to tenths.
     fn temporal_tenths(&self, tenths: u64, minor_version: usize) -> u64
         requires table { IsFromTable self.now }
@@ -127,10 +139,7 @@ impl Weights {
         ensures value { IsRounded minor_version (temporal_number (pos tenths) self.now) (pos result) }
         ensures to_ten { result ≤ 100 }
     {
-        round_tenths(
-            tenths * (self.e * self.rl * self.rc) * 1_000_000,
-            minor_version,
-        )
+        round_tenths(self.temporal_product(tenths) * 1_000_000, minor_version)
     }
 
     /// ISS, the impact sub-score of the base metrics, which is exact (v3.1 specification, section

@@ -24,7 +24,7 @@ const FAR_FROM_A_JUMP: bool = true;
 
 impl Vector {
     #[inline(always)]
-    fn weights(&self) -> Weights
+    pub(crate) fn weights(&self) -> Weights
         ensures weights { result ≡ weights_of self.now }
         ensures table { IsFromTable result }
     {

@@ -6,7 +6,7 @@ returns-clause-value c = record {
   number = pos c.temporal_tenths.result;
   is_number = record {
     first = pos c.round_tenths-first.result;
-    is_first = c.environmental_number.ensures.value _ c.round_tenths-first.ensures.value;
+    is_first = c.environmental_number.ensures.value.rounds _ c.round_tenths-first.ensures.value;
     is_rounded = c.temporal_tenths.ensures.value;
   };
   is_count = c.of_tenths.ensures.value;

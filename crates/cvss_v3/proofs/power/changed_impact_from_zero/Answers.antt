@@ -1,0 +1,10 @@
+use Rattle.std.proofs.Common.{subst, sym}
+use Rattle.cvss_number.specs.Exact.{◌over◌}
+use Rattle.cvss_v3.specs.Closeness.{IsCloseTo}
+use Rattle.cvss_v3.specs.Scores.{changed_impact}
+use Rattle.cvss_v3.proofs.CloseLemmas.{without_impact, no_changed_close}
+use Rattle.cvss_v3.proofs.power.changed_impact_from_zero.Goals as goal
+
+pub returns-then-iss-eq0-clause-close : goal.returns-then-iss-eq0-clause-close
+returns-then-iss-eq0-clause-close c =
+    subst (λ n. IsCloseTo (changed_impact (n over 1_000_000)) without_impact) (sym c.if-iss-eq0.true) no_changed_close

@@ -1,0 +1,148 @@
+//! The numbers on the way to the scores of a vector.
+
+ghost use Rattle.std.specs.Prelude.{◌≡◌, ◌*◌, ◌^◌, ℤ, pos, false, option_map};
+ghost use Rattle.cvss_number.specs.Exact.{of_count, ◌≈◌, IsWithinLimit};
+ghost use Rattle.cvss_number.specs.Tenths.{IsInTenths, IsFromZeroToTen};
+ghost use Rattle.cvss_v3.specs.Closeness.{IsCloseTo};
+ghost use Rattle.cvss_v3.specs.Scores.{impact, miss, modified_impact, modified_exploitability, base_number, environmental_number, temporal_number, IsRounded, IsBase};
+ghost use Rattle.cvss_v3.specs.VectorWeights.{weights_of, weight_in};
+
+use crate::metric::MetricType;
+use crate::score::Score;
+use crate::vector::Vector;
+
+/// A hundredth, in counts of 10^-24.
+const HUNDREDTH: i128 = 10_000_000_000_000_000_000_000;
+
+impl Vector {
+    /// What a metric weighs in the equations, in counts of 10^-24 (v3.1 specification, section 7.4;
+    /// v3.0 specification, section 8.4): a modified metric that is absent or `X` as its base metric,
+    /// PR by the scope and MPR by the modified scope, an absent base metric 0. `S` and `MS` weigh
+    /// nothing.
+    pub fn weight(&self, metric: MetricType) -> Option<i128>
+        ensures { result ≡ option_map (λ hundredths. pos (hundredths * 10 ^ 22))
+            (weight_in (weights_of self.now) metric) }
+    {
+        match self.weights().hundredths(metric) {
+            Some(hundredths) => Some(i128::from(hundredths) * HUNDREDTH),
+            None => None,
+        }
+    }
+
+    /// Whether the scope is changed, by which the base score is computed.
+    pub fn is_scope_changed(&self) -> bool
+        ensures { result ≡ (weights_of self.now).changed }
+    {
+        self.weights().changed
+    }
+
+    /// Whether the modified scope is changed, by which the environmental score is computed. Where it
+    /// is absent or `X` it is the scope.
+    pub fn is_modified_scope_changed(&self) -> bool
+        ensures { result ≡ (weights_of self.now).modified_changed }
+    {
+        self.weights().modified_changed
+    }
+
+    /// Impact by the scope (v3.1 specification, section 7.1; v3.0 specification, section 8.1). It is
+    /// exact with the scope unchanged, and else at most half a millionth from the exact number,
+    /// which is below 0 where ISS is 0.
+    pub fn scoped_impact(&self) -> Score
+        ensures close { IsCloseTo (impact (weights_of self.now)) (of_count result) }
+        ensures exact { (weights_of self.now).changed ≡ false
+            → of_count result ≈ impact (weights_of self.now) }
+        ensures limit { IsWithinLimit result }
+    {
+        self.weights().scoped_impact()
+    }
+
+    /// What the base score is the rounding of (v3.1 specification, section 7.1; v3.0 specification,
+    /// section 8.1), at most 10. It is exact with the scope unchanged, and else at most half a
+    /// millionth from the exact number.
+    pub fn base_number(&self) -> Score
+        ensures close { IsCloseTo (base_number (weights_of self.now)) (of_count result) }
+        ensures exact { (weights_of self.now).changed ≡ false
+            → of_count result ≈ base_number (weights_of self.now) }
+        ensures limit { IsWithinLimit result }
+    {
+        self.weights().first_base_number()
+    }
+
+    /// What the temporal score is the rounding of (v3.1 specification, section 7.2; v3.0
+    /// specification, section 8.2), which is exact: the base score times E, RL and RC.
+    pub fn temporal_number(&self) -> Score
+        ensures value { (base : ℤ)
+            → IsBase self.now.minor_version (weights_of self.now) base
+            → of_count result ≈ temporal_number base (weights_of self.now) }
+        ensures limit { IsWithinLimit result }
+    {
+        self.weights().temporal_number(self.minor_version)
+    }
+
+    /// MISS, the modified impact sub-score, which is exact (v3.1 specification, section 7.3; in
+    /// v3.0, section 8.3, ISCModified).
+    pub fn miss(&self) -> Score
+        ensures value { of_count result ≈ miss (weights_of self.now) }
+        ensures limit { IsWithinLimit result }
+    {
+        self.weights().miss_score()
+    }
+
+    /// Modified Impact by the modified scope (v3.1 specification, section 7.3; v3.0 specification,
+    /// section 8.3). It is exact with the modified scope unchanged, and else at most half a millionth
+    /// from the exact number, which is below 0 where MISS is 0.
+    pub fn modified_impact(&self) -> Score
+        ensures close { IsCloseTo (modified_impact self.now.minor_version (weights_of self.now))
+            (of_count result) }
+        ensures exact { (weights_of self.now).modified_changed ≡ false
+            → of_count result ≈ modified_impact self.now.minor_version (weights_of self.now) }
+        ensures limit { IsWithinLimit result }
+    {
+        self.weights().modified_impact(self.minor_version)
+    }
+
+    /// Modified Exploitability, which is exact (v3.1 specification, section 7.3; v3.0 specification,
+    /// section 8.3).
+    pub fn modified_exploitability(&self) -> Score
+        ensures value { of_count result ≈ modified_exploitability (weights_of self.now) }
+        ensures limit { IsWithinLimit result }
+    {
+        self.weights().modified_exploitability()
+    }
+
+    /// What the environmental score is first the rounding of (v3.1 specification, section 7.3; v3.0
+    /// specification, section 8.3), at most 10. It is exact with the modified scope unchanged, and
+    /// else at most half a millionth from the exact number.
+    pub fn environmental_first_number(&self) -> Score
+        ensures close { IsCloseTo
+            (environmental_number self.now.minor_version (weights_of self.now)) (of_count result) }
+        ensures exact { (weights_of self.now).modified_changed ≡ false → of_count result
+            ≈ environmental_number self.now.minor_version (weights_of self.now) }
+        ensures limit { IsWithinLimit result }
+    {
+        self.weights()
+            .first_environmental_number(self.minor_version)
+    }
+
+    /// The inner rounding of the environmental score (v3.1 specification, section 7.3; v3.0
+    /// specification, section 8.3).
+    pub fn environmental_first_score(&self) -> Score
+        ensures value { IsInTenths (IsRounded self.now.minor_version
+            (environmental_number self.now.minor_version (weights_of self.now))) result }
+        ensures range { IsInTenths IsFromZeroToTen result }
+    {
+        self.weights().first_environmental_score(self.minor_version)
+    }
+
+    /// What the environmental score is the rounding of (v3.1 specification, section 7.3; v3.0
+    /// specification, section 8.3), which is exact: its inner rounding times E, RL and RC.
+    pub fn environmental_number(&self) -> Score
+        ensures value { (first : ℤ) → IsRounded self.now.minor_version
+            (environmental_number self.now.minor_version (weights_of self.now)) first
+            → of_count result ≈ temporal_number first (weights_of self.now) }
+        ensures limit { IsWithinLimit result }
+    {
+        self.weights()
+            .second_environmental_number(self.minor_version)
+    }
+}
