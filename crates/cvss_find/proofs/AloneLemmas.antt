@@ -1,9 +1,8 @@
 -- What answers a line that is one vector and nothing else.
-use Rattle.std.proofs.Common.{◌≡◌, ℕ, List, [], ◌∷◌, inl, inr, refl, sym, subst}
+use Rattle.std.proofs.Common.{◌≡◌, ℕ, List, [], ◌∷◌, inl, inr, refl, subst}
 use Rattle.cvss_lines.specs.Answers.{Answer}
 use Rattle.cvss_mention.specs.Mentions.{AreFound, IsAccepted, Placed, mentions_of}
-use Rattle.cvss_mention.specs.laws.Whole.{IsWhole}
-use Rattle.cvss_find.specs.Answers.{AreTold, IsAnswer, IsTold, Told, answer_of}
+use Rattle.cvss_find.specs.Answers.{AreTold, IsAnswer, Told, answer_of}
 use Rattle.cvss_find.specs.laws.Alone.{TellsOfAll}
 
 told_alone : (number : ℕ) (line : List ℕ) (told : List Told) (answer : Answer) → AreTold number (record { place = 0; text = line } ∷ []) told → answer ≡ answer_of told

@@ -1,5 +1,5 @@
 -- Which mentions of a list are found, from what is found one after another.
-use Rattle.std.proofs.Common.{◌≡◌, ℕ, List, [], ◌∷◌, ◌++◌, refl, sym, ap, subst, inl, inr, append-nil}
+use Rattle.std.proofs.Common.{List, [], ◌∷◌, ◌++◌, refl, sym, subst, inl, inr, append-nil}
 use Rattle.std.proofs.lemmas.List.Elements.{All-head, All-tail}
 use Rattle.cvss_mention.specs.Mentions.{AreFound, IsFound, Placed}
 use Rattle.cvss_mention.specs.MentionsLeft.{IsFirstFound, NoneFound}

@@ -1,11 +1,8 @@
 -- How mentions are looked at one after another.
-use Rattle.std.proofs.Common.{◌≡◌, ℕ, ◌+◌, ◌-◌, ◌<◌, ◌≤◌, List, [], ◌∷◌, ◌++◌, length, take, drop, refl, sym, ap, ◌∙◌, append_assoc, append-nil, arith}
-use Rattle.std.specs.List.{All}
-use Rattle.std.proofs.lemmas.List.{drop-drop, length-take, take_rest}
+use Rattle.std.proofs.Common.{◌≡◌, List, [], ◌∷◌, ◌++◌, refl, sym, ap, ◌∙◌, append_assoc, append-nil}
 use Rattle.std.proofs.lemmas.List.Elements.{All-nil, All-push}
-use Rattle.cvss_parts.specs.Parts.{less_dividers, parts_of}
-use Rattle.cvss_mention.specs.Mentions.{IsFound, Placed, placed_from}
-use Rattle.cvss_mention.specs.MentionsLeft.{IsFirstFound, NoneFound, mentions_behind}
+use Rattle.cvss_mention.specs.Mentions.{IsFound, Placed}
+use Rattle.cvss_mention.specs.MentionsLeft.{IsFirstFound, NoneFound}
 
 -- behind some mentions, none of which is found
 pub record Passes (mentions left : List Placed) : Type 0 where

@@ -1,10 +1,10 @@
 -- Where the mentions of a text stand.
-use Rattle.std.proofs.Common.{◌≡◌, ℕ, ◌+◌, ◌≤◌, Bool, true, false, cond, not, ◌||◌, List, [], ◌∷◌, ◌++◌, length, take, drop, flat_map, refl, sym, ap, ◌∙◌, subst, append_assoc, append-nil, arith}
+use Rattle.std.proofs.Common.{◌≡◌, ℕ, ◌+◌, ◌≤◌, Bool, true, false, cond, not, ◌||◌, List, [], ◌∷◌, ◌++◌, length, take, drop, refl, sym, ap, ◌∙◌, append_assoc, arith}
 use Rattle.std.specs.List.{All, list_all}
 use Rattle.std.proofs.lemmas.List.{length-append, take_at, drop_at}
 use Rattle.std.proofs.lemmas.List.Elements.{All-nil, All-cons}
 use Rattle.cvss_parts.specs.Parts.{begins_part, is_divider, is_vector_byte, less_dividers, onto_first, parts_of}
-use Rattle.cvss_mention.specs.Mentions.{Placed, mentions_of, placed_from}
+use Rattle.cvss_mention.specs.Mentions.{mentions_of, placed_from}
 use Rattle.cvss_mention.specs.laws.Places.{AreInOrder, StandsIn}
 
 -- the parts of a text, joined

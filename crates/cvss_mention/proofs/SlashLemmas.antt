@@ -1,5 +1,5 @@
 -- What is found has a slash.
-use Rattle.std.proofs.Common.{◌≡◌, ◌≢◌, ℕ, ◌≤◌, ◌<◌, ◌||◌, Bool, true, inl, inr, List, [], ◌∷◌, ◌++◌, codes, length, get_or, eqb, refl, sym, ap, ◌∙◌, arith, lit<}
+use Rattle.std.proofs.Common.{◌≡◌, ◌≢◌, ℕ, ◌≤◌, true, inl, inr, List, [], ◌∷◌, ◌++◌, codes, length, get_or, eqb, refl, sym, ap, ◌∙◌, arith, lit<}
 use Rattle.std.proofs.Math.Bool.{or-true}
 use Rattle.std.proofs.lemmas.Bool.{cases_order}
 use Rattle.std.proofs.lemmas.List.{length-append}

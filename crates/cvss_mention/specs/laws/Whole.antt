@@ -1,7 +1,7 @@
 -- Texts that are mentions as a whole, wherever they stand.
 use Rattle.std.specs.Prelude.{◌≡◌, ◌≢◌, ℕ, ◌||◌, Bool, true, false, List, [], ◌∷◌, ◌++◌, length, not, Contains}
 use Rattle.std.specs.List.{list_all}
-use Rattle.cvss_mention.specs.Mentions.{Placed, mentions_of}
+use Rattle.cvss_mention.specs.Mentions.{mentions_of}
 use Rattle.cvss_parts.specs.Parts.{begins_with_prefix, is_vector_byte, less_dividers}
 
 -- `CVSS:` stands in the text, behind its first byte

@@ -1,4 +1,3 @@
-use Rattle.std.proofs.Common.{inl, inr}
 use Rattle.cvss_mention.proofs.SlashLemmas.{found_slashed}
 use Rattle.cvss_mention.proofs.mention.is_found.Goals as goal
 
