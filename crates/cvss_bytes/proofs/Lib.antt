@@ -13,3 +13,4 @@ pub mod RatingLemmas
 pub mod ReasonLemmas
 pub mod RecordLemmas
 pub mod UndefinedLemmas
+pub mod WordLemmas

@@ -10,7 +10,7 @@ use Rattle.std.proofs.lemmas.Map.Views.{Contains-from_any}
 use Rattle.std.proofs.lemmas.Slice.Eq.{bytes_eq-Decides}
 use Rattle.cvss.specs.MetricTypeV4.{MetricType}
 use Rattle.cvss.specs.OverrideErrorTypeV4.{OverrideError}
-use Rattle.cvss.specs.OverridingV4.{AreOverrides, Objection, NamesOther, ObjectionAt, OfOtherGroup, OfText, TellsFirstObjection}
+use Rattle.cvss.specs.OverridingV4.{AreOverrides, Objection, NamesOther, ObjectionAt, OfOtherGroup, OfText, TellsFirstObjection, TellsObjection}
 use Rattle.cvss.specs.Refusal.{BadComponent, BadValue, FaultAt, IsNamedBefore, Spells, Missing, Refusal, Repeated, UnknownName, WrongPrefix, WrongVersion, name_at, piece_at, value_at}
 use Rattle.cvss.specs.TableV4.{environmental}
 use Rattle.cvss.specs.Text.{IsComponent, name_part, value_part}
@@ -18,6 +18,7 @@ use Rattle.cvss.specs.TypesV4.{name_of}
 use Rattle.cvss.specs.VectorTypeV4.{Vector}
 use Rattle.cvss.specs.VectorV4.{v4}
 use Rattle.cvss.specs.Version.{component_of, components_of, read, reading}
+use Rattle.cvss_bytes.specs.private.Overridden.{place_of}
 use Rattle.cvss_text.proofs.LawLemmas.{names_differ}
 use Rattle.cvss_v4.specs.private.VectorLaws.{v4_is_lawful}
 
@@ -117,6 +118,11 @@ module _ (xs ys : List (List ℕ)) (place : ℕ) (same : (k : ℕ) → k ≤ pla
   objection_same (OfText (WrongVersion told)) (is, none, fault) = absurd fault
   objection_same (OfText (Missing kind)) (is, none, fault) = absurd fault
 
+-- the place that an error tells is that of the objection
+place_told : (place : ℕ) (objection : Objection) (error : OverrideError) → TellsObjection place objection error → place_of error ≡ place
+place_told place OfOtherGroup error is = ap place_of is
+place_told place (OfText reason) error (own, is, tells) = ap place_of is
+
 module _ (texts : List (List ℕ)) where
   first_same : (k : ℕ) → k < 15 → piece_at (take 15 texts) k ≡ piece_at texts k
   first_same k within = get_or-take 15 texts k [] within
@@ -139,6 +145,11 @@ module _ (texts : List (List ℕ)) where
         };
         tells = told.tells;
       }
+
+  -- the error tells one of the first overrides
+  pub first_place : (error : OverrideError) → TellsFirstObjection (take 15 texts) error → place_of error ≤ 14
+  first_place error told =
+      omega (arith, place_told told.place told.objection error told.tells, told.first.within, length-take 15 texts)
 
   -- overrides are no more than the first ones
   pub first_overrides : (v : Vector) → AreOverrides (take 15 texts) v → AreOverrides texts v

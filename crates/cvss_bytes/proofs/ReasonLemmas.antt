@@ -1,5 +1,5 @@
 -- How a reason that was found is told: by its error, or as want of memory where it carries a part of the text.
-use Rattle.std.proofs.Common.{◌≡◌, ℕ, List, ◌++◌, codes, true, Option, IfSome, inl, inr, refl, sym, ap, ◌∙◌, subst, append_assoc, true≢false}
+use Rattle.std.proofs.Common.{◌≡◌, ◌≤◌, ℕ, List, ◌++◌, codes, true, Option, IfSome, inl, inr, refl, sym, ap, ◌∙◌, subst, append_assoc, true≢false}
 use Rattle.std.specs.Fmt.{decimal}
 use Rattle.cvss.specs.Dispatch.{cvss_reason}
 use Rattle.cvss.specs.ErrorType.{Error}
@@ -17,7 +17,7 @@ use Rattle.cvss.specs.declared.vector.Cvss.{Cvss}
 use Rattle.cvss.specs.declared.vector.Cvss.TheVariants.{CvssV20, CvssV30, CvssV31, CvssV40}
 use Rattle.cvss_bytes.specs.Overriding.{IsOverrideReason}
 use Rattle.cvss_bytes.specs.declared.overriding.Unfit.TheVariants.{Override}
-use Rattle.cvss_bytes.specs.private.Overridden.{IsUnfit}
+use Rattle.cvss_bytes.specs.private.Overridden.{IsUnfit, place_of}
 use Rattle.cvss_bytes.specs.private.Reasons.{CarriesText, IsOverrideErrorTold, IsToldAs, override_words}
 
 module _ {K : Type 0} (own : Error → Option (Refusal K)) (error told : Error) (reason : Refusal K) where
@@ -52,6 +52,13 @@ objection_same place index (OfText reason) error told same (own, refused, tells)
     let at : index ≡ place = cc in
     let one : own ≡ error = cc in
     (told, ap (λ each. Refused each told) at, tells_same v4_reason error told reason (carried_v4 error reason) same (subst (Tells v4_reason reason) one tells))
+
+-- an override that is refused is one of the first fifteen
+pub unfit_place : (cvss : Cvss) (text : List ℕ) (error : OverrideError) → IsUnfit cvss text (Override error) → place_of error ≤ 14
+unfit_place (CvssV20 vector) text error unfit = absurd unfit
+unfit_place (CvssV30 vector) text error unfit = absurd unfit
+unfit_place (CvssV31 vector) text error unfit = absurd unfit
+unfit_place (CvssV40 vector) text error unfit = unfit.2
 
 -- why an override is refused, as it is told
 pub objection_told : (cvss : Cvss) (text : List ℕ) (error : OverrideError) (reason : List ℕ) → IsUnfit cvss text (Override error) → IsOverrideErrorTold error reason → IsOverrideReason cvss text reason

@@ -9,17 +9,15 @@ ghost use Rattle.cvss_text.specs.private.Printing.{slashed_texts};
 ghost use Rattle.cvss.specs.Dispatch.{DenotesCvss};
 ghost use Rattle.cvss_bytes.specs.Buffer.{IsLeft, IsWritten};
 ghost use Rattle.cvss_bytes.specs.Overriding.{AnswersOverridden, IsOverrideReason, IsWithOverrides, overrides_in};
-ghost use Rattle.cvss_bytes.specs.private.Overridden.{IsPrintable, IsUnfit};
+ghost use Rattle.cvss_bytes.specs.private.Overridden.{IsPrintable, IsUnfit, place_of};
 ghost use Rattle.cvss_bytes.specs.private.Reasons.{IsOverrideErrorTold, override_words};
 
 use crate::buffer::{put_behind, put_both};
 use crate::reason::put_error;
-use arrayvec::{ArrayString, ArrayVec};
 use cvss::v4::OverrideError;
 use cvss::{Cvss, v4};
 use cvss_text::print::Printed;
 use cvss_text::walk::Components;
-use itoa::Buffer;
 use std::alloc::Global;
 
 /// One override more than a vector has environmental metrics is too many.
@@ -82,6 +80,7 @@ pub fn put_override_reason(
 /// Writes what is wrong with an override at the beginning of a buffer where it fits, and tells its
 /// length. Where memory is refused for an error that carries text, the error told is that.
 fn put_objection(alloc: Global, error: &OverrideError, buffer: &mut [u8]) -> usize
+    requires { place_of error.now ≤ 14 }
     ensures { (reason : List ℕ) × IsOverrideErrorTold error.now reason
         × IsWritten reason buffer.old buffer.new result }
 {
@@ -89,25 +88,39 @@ fn put_objection(alloc: Global, error: &OverrideError, buffer: &mut [u8]) -> usi
         OverrideError::NotEnvironmental { index } => {
             let words = override_words(*index);
             let reason = "no environmental CVSSv4 metric";
-            put_both(words.as_str().as_bytes(), reason.as_bytes(), buffer)
+            put_both(words.as_bytes(), reason.as_bytes(), buffer)
         }
         OverrideError::Refused { index, error } => {
             let words = override_words(*index);
-            put_error(alloc, words.as_str().as_bytes(), error, buffer)
+            put_error(alloc, words.as_bytes(), error, buffer)
         }
     }
 }
 
-/// The words that name the override at a place.
-fn override_words(index: usize) -> ArrayString<31>
-    ensures { result.bytes ≡ override_words index }
+/// The words that name the override at a place, which is one of the first `TOO_MANY`.
+#[tactic(auto, using(crate::proofs::WordLemmas::below_ten, crate::proofs::WordLemmas::ten, crate::proofs::WordLemmas::eleven, crate::proofs::WordLemmas::twelve, crate::proofs::WordLemmas::thirteen, crate::proofs::WordLemmas::fourteen))]
+fn override_words(index: usize) -> &'static str
+    requires { index ≤ 14 }
+    ensures words { result.now ≡ override_words index }
+    ensures bound { length result.now ≤ 32 }
 {
-    let mut words = ArrayString::new();
-    let mut digits = Buffer::new();
-    words.push_str("override ");
-    words.push_str(digits.format(index));
-    words.push_str(": ");
-    words
+    match index {
+        0 => "override 0: ",
+        1 => "override 1: ",
+        2 => "override 2: ",
+        3 => "override 3: ",
+        4 => "override 4: ",
+        5 => "override 5: ",
+        6 => "override 6: ",
+        7 => "override 7: ",
+        8 => "override 8: ",
+        9 => "override 9: ",
+        10 => "override 10: ",
+        11 => "override 11: ",
+        12 => "override 12: ",
+        13 => "override 13: ",
+        _ => "override 14: ",
+    }
 }
 
 /// The vector with overrides in place. The text that denotes the vector is given.
@@ -141,21 +154,28 @@ fn read_overrides(alloc: Global, text: &str) -> Result<v4::Vector, OverrideError
     ensures accepts { (overrides : Vector) → AreOverrides (overrides_in text.now) overrides
         → IsOk result }
     ensures refused { IfErr result (TellsFirstObjection (overrides_in text.now)) }
+    ensures place { IfErr result (λ error. place_of error ≤ 14) }
 {
-    v4::Vector::from_overrides(alloc, first_pieces(text).as_slice())
+    let (pieces, count) = first_pieces(text);
+    v4::Vector::from_overrides(alloc, &pieces[..count])
 }
 
-/// The first pieces of a text, no more than `TOO_MANY`; none of an empty text.
-fn first_pieces(text: &str) -> ArrayVec<&str, TOO_MANY>
-    ensures { map (λ piece. piece.now) result.items ≡ take 15 (overrides_in text.now) }
+/// The first pieces of a text, no more than `TOO_MANY`, and how many they are; none of an empty text.
+fn first_pieces(text: &str) -> ([&str; TOO_MANY], usize)
+    ensures pieces { map (λ piece. piece.now) (take result.1 result.0)
+        ≡ take 15 (overrides_in text.now) }
+    ensures room { result.1 ≤ 15 }
 {
-    let mut pieces = ArrayVec::new();
-    if !text.is_empty() {
-        for piece in text.split('/').take(TOO_MANY) {
-            pieces.push(piece);
-        }
+    let mut pieces = [""; TOO_MANY];
+    let mut count = 0;
+    if text.is_empty() {
+        return (pieces, count);
     }
-    pieces
+    for piece in text.split('/').take(TOO_MANY) {
+        pieces[count] = piece;
+        count += 1;
+    }
+    (pieces, count)
 }
 
 /// Writes the canonical text of a vector at the beginning of a buffer where it fits, and tells its

@@ -1,6 +1,8 @@
 -- How overrides are read and put into a vector.
 use Rattle.std.specs.Prelude.{◌≡◌, ◌≤◌, ◌+◌, ℕ, List, [], ◌∷◌, ⊤, codes, length}
 use Rattle.std.specs.Str.{IsUtf8}
+use Rattle.cvss.specs.OverrideErrorTypeV4.{OverrideError}
+use Rattle.cvss.specs.OverrideErrorTypeV4.TheVariants.{NotEnvironmental, Refused}
 use Rattle.cvss.specs.OverridingV4.{TellsFirstObjection}
 use Rattle.cvss.specs.VectorTypeV4.{Vector}
 use Rattle.cvss.specs.VectorV4.{v4}
@@ -16,10 +18,15 @@ pub record IsPrintable (text overrides : List ℕ) (new : Vector) : Type 0 where
   pub front : v4.front new ≡ codes "CVSS:4.0" ∷ []
   pub bound : length (canonical_text v4 new) ≤ length text + length overrides + 1
 
+-- the place of the override that an error tells
+abbrev pub place_of : OverrideError → ℕ
+place_of (NotEnvironmental index) = index
+place_of (Refused index error) = index
+
 -- this is why the overrides do not fit the vector
 abbrev pub IsUnfit : Cvss → List ℕ → Unfit → Type 0
 IsUnfit (CvssV40 vector) text NotUtf8 = ¬ (IsUtf8 text)
-IsUnfit (CvssV40 vector) text (Override error) = IsUtf8 text × TellsFirstObjection (overrides_in text) error
+IsUnfit (CvssV40 vector) text (Override error) = IsUtf8 text × TellsFirstObjection (overrides_in text) error × (place_of error ≤ 14)
 IsUnfit (CvssV40 vector) text OtherVersion = ⊥
 IsUnfit cvss text OtherVersion = ⊤
 IsUnfit cvss text unfit = ⊥

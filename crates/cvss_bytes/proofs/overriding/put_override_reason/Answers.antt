@@ -1,8 +1,13 @@
 use Rattle.std.proofs.Common.{inr}
 use Rattle.cvss_bytes.specs.declared.overriding.Unfit.TheVariants.{Override}
 use Rattle.cvss_bytes.specs.private.Overridden.{IsUnfit}
-use Rattle.cvss_bytes.proofs.ReasonLemmas.{objection_told}
+use Rattle.cvss_bytes.proofs.ReasonLemmas.{objection_told, unfit_place}
 use Rattle.cvss_bytes.proofs.overriding.put_override_reason.Goals as goal
+
+pub put_objection-requires : goal.put_objection-requires
+put_objection-requires c =
+    let unfit : IsUnfit c.args.cvss.now c.args.overrides.now (Override c.in-Err-Override.error) = rw c.in-Err-Override.field-0-is at c.in-Err-Override.ensures.unfit in
+    unfit_place c.args.cvss.now c.args.overrides.now c.in-Err-Override.error unfit
 
 pub returns-in-Err-Override : goal.returns-in-Err-Override
 returns-in-Err-Override c =
