@@ -180,7 +180,7 @@ def try_first_command():
     block = block_with("rt try", page=readme)
     done = subprocess.run(block, shell=True, cwd=ROOT, stdout=subprocess.PIPE, stderr=subprocess.PIPE)
     with open(ROOT / "examples/vectors", "rb") as vectors:
-        wanted = run([sys.executable, "-B", ROOT / "bench/reference.py"], stdin=vectors)
+        wanted = run([sys.executable, "-B", ROOT / "reference/reference.py"], stdin=vectors)
     check(done.stdout, wanted.decode(), block)
     last = done.stderr.decode().splitlines()[-1]
     begins, ends = re.findall(r"last line begins with `(.*?)` and ends with `(.*?)`", readme)[0]

@@ -1,7 +1,7 @@
 #!/usr/bin/env python3
 """Draws the kit anew: scores.tsv and refused.tsv, always the same bytes.
 
-Every answer comes from bench/reference.py, which computes on fractions. This file also holds a
+Every answer comes from reference/reference.py, which computes on fractions. This file also holds a
 simulation of calculators that compute in doubles: it finds the rows at which they go astray, and
 gives no answer.
 

@@ -21,7 +21,7 @@ ELSEWHERE = re.compile(r"(^|/)(out|target)(/|$)|^crates/gate(/|$)")
 WITHOUT_PROMISES = {"cvss_examples", "cvss_lines_tests"}
 
 LINK = re.compile(r"\]\((?!https?:|#)([^)#]+)")
-PATH = re.compile(r"(?<![\w/.$<-])(?:crates|bench|bindings|conformance|docs|examples)/(?:[\w./{},-]|\*(?!\*))*[\w/}*]")
+PATH = re.compile(r"(?<![\w/.$<-])(?:crates|reference|bench|bindings|conformance|docs|examples)/(?:[\w./{},-]|\*(?!\*))*[\w/}*]")
 FILE = re.compile(r"`((?:[\w*.-]+/)*[\w*-]+\.(?:antt|rt|py|sh|md|svg|txt|tsv|rs|h|c|go|edit))`")
 PAGE = r"(?:(?:laws|private)/)?[A-Z]\w*"
 PAGES = rf"({PAGE}(?:\.antt)?(?:(?:,| and) {PAGE})*)"

@@ -9,7 +9,7 @@ import (
 	"cvss"
 )
 
-// The mentions of the stored texts are those that the second implementation in bench/ tells.
+// The mentions of the stored texts are those that the second implementation in reference/ tells.
 func TestStoredTextsHaveTheirMentions(t *testing.T) {
 	var told []string
 	for i, text := range lines(t, "bindings/stored/texts") {

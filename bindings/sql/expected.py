@@ -1,5 +1,5 @@
 #!/usr/bin/env python3
-"""Writes texts, with what the functions of SQL have to answer to them, by the second implementation in bench/.
+"""Writes texts, with what the functions of SQL have to answer to them, by the second implementation in reference/.
 
 usage: expected.py kit|COUNT
 
@@ -14,7 +14,7 @@ from pathlib import Path
 
 ROOT = Path(__file__).resolve().parents[2]
 sys.dont_write_bytecode = True  # leaves nothing in the tree
-sys.path[:0] = [str(ROOT / "bench"), str(ROOT / "conformance"), str(ROOT / "bindings" / "stored")]
+sys.path[:0] = [str(ROOT / folder) for folder in ("reference", "bench/inputs", "conformance", "bindings/stored")]
 
 import facts
 import finding

@@ -1,5 +1,5 @@
 #!/usr/bin/env python3
-"""Tells what is known of each line of standard input, by the second implementation in bench/ alone.
+"""Tells what is known of each line of standard input, by the second implementation in reference/ alone.
 
 Its answers, for the first lines of crates/cvss_vectors/stdin, are kept in the file facts beside it. The programs of all
 languages have to answer the same. Of an accepted line the answer is: its canonical text, the version, the
@@ -9,7 +9,7 @@ one: the number of the kind, the metric that is blamed, and the reason. What the
 import sys
 from pathlib import Path
 
-sys.path.insert(0, str(Path(__file__).resolve().parents[2] / "bench"))
+sys.path.insert(0, str(Path(__file__).resolve().parents[2] / "reference"))
 
 import reference
 import v2

@@ -1,13 +1,13 @@
 """Rows of the kit: how a vector and a text become a line of a table.
 
-A vector is a dictionary from metrics to spellings, as in bench/reference.py, whose fractions give
+A vector is a dictionary from metrics to spellings, as in reference/reference.py, whose fractions give
 every answer here.
 """
 import sys
 from functools import lru_cache
 from pathlib import Path
 
-sys.path.insert(0, str(Path(__file__).resolve().parents[2] / "bench"))
+sys.path.insert(0, str(Path(__file__).resolve().parents[2] / "reference"))
 
 import reference
 import v2

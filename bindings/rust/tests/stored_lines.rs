@@ -81,7 +81,7 @@ fn refusal_facts(refused: &Refused) -> String {
     format!("{number} {} {refused}", refused.metric().unwrap_or("-"))
 }
 
-/// The facts are those that the second implementation in `bench/` tells.
+/// The facts are those that the second implementation in `reference/` tells.
 #[test]
 fn stored_lines_have_their_facts() {
     let root = Path::new(env!("CARGO_MANIFEST_DIR")).join("../..");
@@ -105,7 +105,7 @@ fn told(mention: &Mention) -> String {
     }
 }
 
-/// The mentions are those that the second implementation in `bench/` tells.
+/// The mentions are those that the second implementation in `reference/` tells.
 #[test]
 fn stored_texts_have_their_mentions() {
     let root = Path::new(env!("CARGO_MANIFEST_DIR")).join("../../bindings/stored");

@@ -3,11 +3,14 @@
 
 What a document says of its vector is right; with `differing` its score and its rating are drawn at
 random, and with `nameless` the vector's member has another name, so that no vector is found.
-usage: documents.py COUNT [differing|nameless]
+usage: bench/inputs/documents.py COUNT [differing|nameless]
 """
 import json
 import random
 import sys
+from pathlib import Path
+
+sys.path.insert(0, str(Path(__file__).resolve().parents[2] / "reference"))
 
 import reference
 

@@ -5,7 +5,7 @@ Reads lines on standard input, and writes on standard output for each mention th
 line's number, the place of its first byte, both from 1, and what is answered to it. It shares no
 code with the crates: its answers are expected values for them.
 
-usage: bench/finding.py < TEXT
+usage: reference/finding.py < TEXT
 """
 import re
 import sys

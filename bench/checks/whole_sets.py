@@ -5,22 +5,24 @@ The figures are those of two scorers that know nothing of each other or of this 
 scores there are, their sum in tenths, a checksum that sees their order, and how many are 0, below
 4.0, below 7.0, below 9.0, and above. Metrics stand in printing order, the first changing slowest.
 
-usage: bench/whole_sets.py
+usage: bench/checks/whole_sets.py
 """
 import json
-import os
 import re
 import subprocess
 import sys
 import threading
 from collections import Counter
 from itertools import product
+from pathlib import Path
+
+ROOT = Path(__file__).resolve().parents[2]
+sys.path.insert(0, str(ROOT / "reference"))
 
 import v2
 import v3
 import v4
 
-HERE = os.path.dirname(os.path.abspath(__file__))
 TENTH = 10 ** 23
 
 # What the scores come to: count, sum, checksum, and the counts of the classes.
@@ -61,7 +63,7 @@ def with_requirements(texts):
 
 def answers(program, lines):
     """What a built program answers to lines that it accepts."""
-    path = os.path.join(HERE, f"../crates/{program}/out/{program}")
+    path = ROOT / f"crates/{program}/out/{program}"
     given = "".join(f"{line}\n" for line in lines)
     done = subprocess.run([path], input=given, capture_output=True, text=True, check=True)
     told = done.stdout.splitlines()
@@ -119,7 +121,7 @@ def compare_effective():
           for name in ("E", "CR", "IR", "AR")))
     behind = [f"{sc}{si}{sa}{''.join(rest)}{msi}{msa}".encode()
               for sc, (si, msi), (sa, msa), *rest in chosen]
-    tool = subprocess.Popen([os.path.join(HERE, "../crates/cvss_tool/out/cvss_tool")],
+    tool = subprocess.Popen([ROOT / "crates/cvss_tool/out/cvss_tool"],
                             stdin=subprocess.PIPE, stdout=subprocess.PIPE)
 
     def feed():

@@ -3,9 +3,13 @@
 
 The last metric changes fastest, values stand as in the specification's tables.
 
-usage: changed_scopes.py
+usage: bench/inputs/changed_scopes.py
 """
 import itertools
+import sys
+from pathlib import Path
+
+sys.path.insert(0, str(Path(__file__).resolve().parents[2] / "reference"))
 
 import v3
 

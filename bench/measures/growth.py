@@ -6,19 +6,20 @@ run without it, and checks the answers. It ends with status 1 if the larger of t
 instructions a byte than the smaller by more than a tenth, or `cvss_find` more than 12 over prose, or
 30 over what looks like the beginning of a vector again and again.
 
-usage: bench/growth.py [SMALL LARGE]
+usage: bench/measures/growth.py [SMALL LARGE]
 """
-import os
 import re
 import subprocess
 import sys
 import tempfile
 import time
+from pathlib import Path
+
+ROOT = Path(__file__).resolve().parents[2]
+sys.path.insert(0, str(ROOT / "reference"))
 
 import finding
 from reference import answer
-
-HERE = os.path.dirname(os.path.abspath(__file__))
 
 # Each input by its size: what is written on the left has that many bytes, pieces or lines.
 INPUTS = {
@@ -64,7 +65,7 @@ def run(program, data, prefix=()):
         given.write(data)
         given.seek(0)
         began = time.monotonic()
-        path = os.path.join(HERE, f"../crates/{program}/out/{program}")
+        path = ROOT / f"crates/{program}/out/{program}"
         done = subprocess.run([*prefix, path], stdin=given, stdout=written,
                               stderr=subprocess.PIPE, check=False)
         seconds = time.monotonic() - began

@@ -1,17 +1,19 @@
 #!/usr/bin/env python3
 """Compares what the built `cvss_find` writes with finding.py, over texts drawn at random.
 
-usage: bench/compare_found.py [COUNT [SEED]]
+usage: bench/checks/compare_found.py [COUNT [SEED]]
 """
-import os
 import subprocess
 import sys
+from pathlib import Path
+
+ROOT = Path(__file__).resolve().parents[2]
+sys.path[:0] = [str(ROOT / "reference"), str(ROOT / "bench/inputs")]
 
 import finding
 import texts
 
-HERE = os.path.dirname(os.path.abspath(__file__))
-PROGRAM = os.path.join(HERE, "../crates/cvss_find/out/cvss_find")
+PROGRAM = ROOT / "crates/cvss_find/out/cvss_find"
 
 
 def compare(given):

@@ -3,11 +3,11 @@
 # a run over the lines, less those of a run over no line, divided by the number of lines. Prints a
 # row of a table for each version and kind of line: the kind, the bytes of a line, the instructions.
 # With PROFILE=1 it also prints where the instructions go.
-# usage: bench/instructions.sh [COUNT [VERSION KIND]]
+# usage: bench/measures/instructions.sh [COUNT [VERSION KIND]]
 set -eu
-cd "$(dirname "$0")"
+cd "$(dirname "$0")/../.."
 count=${1:-2000}
-program=../crates/cvss_tool/out/cvss_tool
+program=crates/cvss_tool/out/cvss_tool
 [ -x "$program" ] || { echo "build it first: cd crates/cvss_tool && rt run < stdin" >&2; exit 2; }
 room=$(mktemp -d)
 trap 'rm -rf "$room"' EXIT
@@ -20,8 +20,8 @@ instructions() {
 }
 
 row() {
-    python3 -B lines.py "$1" "$2" "$count" > "$room/lines"
-    python3 -B reference.py < "$room/lines" > "$room/expected"
+    python3 -B bench/inputs/lines.py "$1" "$2" "$count" > "$room/lines"
+    python3 -B reference/reference.py < "$room/lines" > "$room/expected"
     all=$(instructions "$room/lines")
     cmp "$room/answers" "$room/expected" || { echo "$1 $2: the answers are wrong" >&2; exit 1; }
     bytes=$(wc -c < "$room/lines")

@@ -7,7 +7,7 @@ changed scope are answered too, each compared with what `reference.py` or a form
 
 It needs cc beside the toolchain and python3.
 
-usage: bench/streams.py
+usage: bench/checks/streams.py
 """
 import errno
 import json
@@ -15,11 +15,13 @@ import os
 import subprocess
 import sys
 import tempfile
+from pathlib import Path
+
+ROOT = Path(__file__).resolve().parents[2]
+sys.path[:0] = [str(ROOT / "reference"), str(ROOT / "bench/inputs")]
 
 import changed_scopes
 import reference
-
-HERE = os.path.dirname(os.path.abspath(__file__))
 
 SHIM = r"""
 #define _GNU_SOURCE
@@ -182,7 +184,7 @@ class Runs:
     def expect(self, program, given, wanted, arguments=(), **streams):
         """Compares the status, what is written, and what stands on standard error."""
         env = dict(os.environ, LD_PRELOAD=self.shim, **{key: str(streams[key]) for key in streams})
-        path = os.path.join(HERE, f"../crates/{program}/out/{program}")
+        path = ROOT / f"crates/{program}/out/{program}"
         with tempfile.TemporaryFile() as file:
             file.write(given)
             file.seek(0)

@@ -7,7 +7,7 @@ the way to the score of a vector, or why the line is refused. A number with more
 is rounded to so many, halves up. It shares no code with the crates: its answers are expected values
 for them.
 
-usage: bench/accounts.py < LINES
+usage: reference/accounts.py < LINES
 """
 import json
 import sys

@@ -7,7 +7,7 @@ memory of a short run is refused in turn: nothing may be written then, and the s
 standard error says `out of memory`, or 1 and it tells the refusal.
 It needs cc and python3, and for the counts valgrind.
 
-usage: bench/triage.py [COUNT]
+usage: bench/measures/triage.py [COUNT]
 """
 import os
 import random
@@ -16,11 +16,14 @@ import shutil
 import subprocess
 import sys
 import tempfile
+from pathlib import Path
+
+ROOT = Path(__file__).resolve().parents[2]
+sys.path.insert(0, str(ROOT / "bench/checks"))
 
 import refused_memory
 
-HERE = os.path.dirname(os.path.abspath(__file__))
-PROGRAM = os.path.join(HERE, "../crates/cvss_triage/out/cvss_triage")
+PROGRAM = ROOT / "crates/cvss_triage/out/cvss_triage"
 OVERRIDES = ["MSI:S", "cr:h"]
 BASE = {"AV": "NALP", "AC": "LH", "AT": "NP", "PR": "NLH", "UI": "NPA", "VC": "HLN", "VI": "HLN",
         "VA": "HLN", "SC": "HLN", "SI": "HLN", "SA": "HLN"}

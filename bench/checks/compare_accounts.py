@@ -5,21 +5,23 @@ The lines are drawn: vectors that have each metric, vectors in any order and cas
 with `whole` also all vectors of base metrics alone, of each version. A number of an account has at
 most seven decimals and is the exact one where that has no more, else less than 10^-6 away from it.
 
-usage: bench/compare_accounts.py [whole] [COUNT [SEED]]
+usage: bench/checks/compare_accounts.py [whole] [COUNT [SEED]]
 """
 import json
-import os
 import random
 import subprocess
 import sys
 from fractions import Fraction
+from pathlib import Path
+
+ROOT = Path(__file__).resolve().parents[2]
+sys.path[:0] = [str(ROOT / "reference"), str(ROOT / "bench/inputs")]
 
 import accounts
 import lines
 import whole_sets
 
-HERE = os.path.dirname(os.path.abspath(__file__))
-PROGRAM = os.path.join(HERE, "../crates/cvss_why/out/cvss_why")
+PROGRAM = ROOT / "crates/cvss_why/out/cvss_why"
 CLOSE = Fraction(1, 1_000_000)
 AT_ONCE = 20_000
 

@@ -9,13 +9,16 @@ for it as for a number of the same length.
 
 It needs cc beside the toolchain and python3.
 
-usage: bench/sizes.py
+usage: bench/checks/sizes.py
 """
 import errno
 import os
 import subprocess
 import sys
 import tempfile
+from pathlib import Path
+
+sys.path.insert(0, str(Path(__file__).resolve().parents[2] / "reference"))
 
 import reference
 import v2

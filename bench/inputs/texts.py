@@ -7,7 +7,7 @@ and the bytes of vectors in any order. Pieces are joined by a blank, by nothing,
 those that stand around vectors. One text in eight is of the bytes of vectors alone. The same seed
 gives the same texts.
 
-usage: bench/texts.py COUNT [SEED]
+usage: bench/inputs/texts.py COUNT [SEED]
 """
 import random
 import sys

@@ -16,17 +16,19 @@ compares.
 
 It needs cc beside the toolchain and python3.
 
-usage: bench/refused_memory.py
+usage: bench/checks/refused_memory.py
 """
 import json
 import os
 import subprocess
 import sys
 import tempfile
+from pathlib import Path
+
+ROOT = Path(__file__).resolve().parents[2]
+sys.path.insert(0, str(ROOT / "reference"))
 
 import reference
-
-HERE = os.path.dirname(os.path.abspath(__file__))
 
 SHIM = r"""
 #define _GNU_SOURCE
@@ -153,7 +155,7 @@ def run(shim, program, given, turn):
     with tempfile.TemporaryFile() as out:
         # The shim tells on the descriptor TOLD that it refused.
         env = dict(os.environ, LD_PRELOAD=shim, REFUSED=str(turn), TOLD=str(write_end))
-        done = subprocess.run([os.path.join(HERE, f"../crates/{program}/out/{program}")],
+        done = subprocess.run([ROOT / f"crates/{program}/out/{program}"],
                               input=given, stdout=out, stderr=subprocess.PIPE,
                               pass_fds=[write_end], env=env, check=False)
         os.close(write_end)
@@ -194,10 +196,10 @@ def refuse_in_turn(shim, program, given, expected, whole_status, fault_status):
 
 def refuse_in_turn_over_documents(shim):
     """The same over `cvss_audit`, whose lines have any number of answers."""
-    folder = os.path.join(HERE, "../crates/cvss_audit")
-    with open(os.path.join(folder, "stdin"), "rb") as file:
+    folder = ROOT / "crates/cvss_audit"
+    with open(folder / "stdin", "rb") as file:
         given = file.read()
-    with open(os.path.join(folder, "stdout"), "rb") as file:
+    with open(folder / "stdout", "rb") as file:
         whole = file.read()
     # Where the answers of a line end: behind the last answer that tells its number, or none.
     numbers = [json.loads(line)["line"] for line in whole.splitlines()]

@@ -1,7 +1,7 @@
 #!/usr/bin/env python3
 """Writes lines of CVSS vectors, drawn at random from the tables of a version.
 
-usage: lines.py v2|v3.0|v3.1|v4|all base|full|every|any|refused|mixed COUNT [SEED]
+usage: bench/inputs/lines.py v2|v3.0|v3.1|v4|all base|full|every|any|refused|mixed COUNT [SEED]
 
 `base` lines have all base metrics, `full` lines also each other metric with an even chance, `every`
 lines have them all, each in printing order. `any` lines are full lines with the components in any order and, but for v2, in any
@@ -12,6 +12,9 @@ gives the same lines.
 """
 import random
 import sys
+from pathlib import Path
+
+sys.path.insert(0, str(Path(__file__).resolve().parents[2] / "reference"))
 
 import v2
 import v3
