@@ -18,7 +18,8 @@ import sys
 import tempfile
 from pathlib import Path
 
-sys.path.insert(0, str(Path(__file__).resolve().parents[2] / "reference"))
+ROOT = Path(__file__).resolve().parents[2]
+sys.path.insert(0, str(ROOT / "reference"))
 
 import reference
 import v2
@@ -215,8 +216,7 @@ def requests(shim, line):
     """How many requests for memory `cvss_vectors` makes for a line, fifty times."""
     with tempfile.TemporaryFile() as told:
         env = dict(os.environ, LD_PRELOAD=shim, TOLD=str(told.fileno()))
-        subprocess.run([os.path.join(os.path.dirname(os.path.abspath(__file__)),
-                                     "../crates/cvss_vectors/out/cvss_vectors")],
+        subprocess.run([ROOT / "crates/cvss_vectors/out/cvss_vectors"],
                        input=f"{line}\n".encode() * 50, stdout=subprocess.DEVNULL, env=env,
                        pass_fds=[told.fileno()], check=True)
         return os.fstat(told.fileno()).st_size
