@@ -1,5 +1,5 @@
 -- The answers that the program writes to the lines of its input, each of which is a JSON document.
-use Rattle.std.specs.Prelude.{◌≡◌, ◌≢◌, ℕ, ◌==◌, ◌||◌, ◌⊎◌, Bool, true, false, List, [], ◌∷◌, ◌++◌, codes, map, if◌then◌else◌, Some, None, ⊤}
+use Rattle.std.specs.Prelude.{◌≡◌, ◌≢◌, ℕ, ◌==◌, ◌||◌, ◌⊎◌, Bool, true, false, List, [], ◌∷◌, ◌++◌, codes, map, if◌then◌else◌, Option, Some, None, ⊤}
 use Rattle.std.specs.List.{list_all}
 use Rattle.std.specs.Str.{IsUtf8}
 use Rattle.cvss.specs.Dispatch.{DenotesCvss, IsFirstRefusalCvss, cvss_reason}
@@ -17,6 +17,7 @@ use Rattle.cvss_record.specs.declared.score.Scores.{Scores}
 use Rattle.serde_json.specs.Data.{Data}
 use Rattle.serde_json.specs.Read.{read}
 use Rattle.cvss_audit.specs.Objects.{accepted_members, place_members, refusal_member, refusal_value}
+use Rattle.cvss_audit.specs.Sources.{Source, id_of}
 use Rattle.cvss_audit.specs.Texts.{IsTextOf}
 
 -- nothing differs
@@ -24,23 +25,28 @@ abbrev pub nothing_differs : List Difference → Bool
 nothing_differs [] = true
 nothing_differs (difference ∷ differences) = false
 
--- the text at the place denotes a vector, and the object tells what it is and where the document says otherwise
-pub record IsAcceptedPlace (line : ℕ) (place : Place) (value : Data) (agrees : Bool) : Type 0 where
+-- the text denotes a vector, and the object tells what it is and where the document says otherwise
+pub record IsAcceptedPlace (source : Source) (place : Place) (text : List ℕ) (value : Data) (agrees : Bool) : Type 0 where
   pub cvss : Cvss
   pub scores : Scores
   pub differences : List Difference
-  pub denoted : DenotesCvss place.2 cvss
+  pub denoted : DenotesCvss text cvss
   pub are_scores : AreScoresOf cvss scores
-  pub are_differences : AreDifferencesAt cvss place.1 place.3 differences
-  pub is : value ≡ object_of (place_members line place ++ accepted_members cvss scores differences)
+  pub are_differences : AreDifferencesAt cvss place differences
+  pub is : value ≡ object_of (place_members source place ++ accepted_members cvss scores differences)
   pub told : agrees ≡ nothing_differs differences
 
--- the text at the place is no vector, and the object tells the first reason
-pub record IsRefusedPlace (line : ℕ) (place : Place) (value : Data) (agrees : Bool) : Type 0 where
+-- the text denotes no vector, and the object tells the first reason
+pub record IsRefusedPlace (source : Source) (place : Place) (text : List ℕ) (value : Data) (agrees : Bool) : Type 0 where
   pub error : Error
-  pub first : TellsFirst cvss_reason (IsFirstRefusalCvss place.2) error
+  pub first : TellsFirst cvss_reason (IsFirstRefusalCvss text) error
   pub no_want : error ≢ OutOfMemory
-  pub is : value ≡ object_of (place_members line place ++ refusal_member (error_text error) ∷ [])
+  pub is : value ≡ object_of (place_members source place ++ refusal_member (error_text error) ∷ [])
+  pub told : agrees ≡ false
+
+-- where a vector should stand there is no string, and the object tells so
+pub record IsNoString (source : Source) (place : Place) (value : Data) (agrees : Bool) : Type 0 where
+  pub is : value ≡ object_of (place_members source place ++ refusal_member (codes "not a string") ∷ [])
   pub told : agrees ≡ false
 
 -- what is written for a place, and whether its vector is accepted and nothing differs
@@ -48,22 +54,32 @@ pub record Found : Type 0 where
   pub text : List ℕ
   pub agrees : Bool
 
+-- the object tells of the text at the place
+abbrev pub IsTextObject : Source → Place → List ℕ → Data → Bool → Type 0
+IsTextObject source place text value agrees =
+    IsAcceptedPlace source place text value agrees ⊎ IsRefusedPlace source place text value agrees
+
+-- the object tells of what stands at the place
+abbrev pub IsObjectOf : Source → Place → Option (List ℕ) → Data → Bool → Type 0
+IsObjectOf source place (Some text) value agrees = IsTextObject source place text value agrees
+IsObjectOf source place None value agrees = IsNoString source place value agrees
+
 -- the object tells of the place
-abbrev pub IsPlaceObject : ℕ → Place → Data → Bool → Type 0
-IsPlaceObject line place value agrees = IsAcceptedPlace line place value agrees ⊎ IsRefusedPlace line place value agrees
+abbrev pub IsPlaceObject : Source → Place → Data → Bool → Type 0
+IsPlaceObject source place value agrees = IsObjectOf source place place.2 value agrees
 
 -- this is found at the place
-pub record IsFound (line : ℕ) (place : Place) (found : Found) : Type 0 where
+pub record IsFound (source : Source) (place : Place) (found : Found) : Type 0 where
   pub value : Data
-  pub is_object : IsPlaceObject line place value found.agrees
+  pub is_object : IsPlaceObject source place value found.agrees
   pub is_text : IsTextOf value found.text
 
 -- these are found at the places, in their order
-abbrev pub AreFound : ℕ → List Place → List Found → Type 0
-AreFound line [] [] = ⊤
-AreFound line [] (found ∷ more) = ⊥
-AreFound line (place ∷ places) [] = ⊥
-AreFound line (place ∷ places) (found ∷ more) = IsFound line place found × AreFound line places more
+abbrev pub AreFound : Source → List Place → List Found → Type 0
+AreFound source [] [] = ⊤
+AreFound source [] (found ∷ more) = ⊥
+AreFound source (place ∷ places) [] = ⊥
+AreFound source (place ∷ places) (found ∷ more) = IsFound source place found × AreFound source places more
 
 -- all vectors are accepted, and nothing differs
 abbrev pub all_agree : List Found → Bool
@@ -114,7 +130,7 @@ pub record IsDocument (number : ℕ) (line : List ℕ) (answer : Answer) : Type 
   pub document : Data
   pub reads : read line ≡ Some document
   pub found : List Found
-  pub are_found : AreFound number (places_in document) found
+  pub are_found : AreFound (number, id_of document) (places_in document) found
   pub is : answer ≡ answer_of found
 
 -- this is an answer to the line of this number

@@ -1,5 +1,6 @@
 pub mod Answers
 pub mod Objects
 pub mod Program
+pub mod Sources
 pub mod Texts
 pub mod private

@@ -20,6 +20,7 @@ use Rattle.cvss_record.specs.Record.{score_value}
 use Rattle.cvss_record.specs.declared.score.Scores.{Scores}
 use Rattle.serde_json.specs.Data.{Data, unsigned, number, string, array}
 use Rattle.serde_json.specs.View.{items_of}
+use Rattle.cvss_audit.specs.Sources.{Source}
 
 -- the number of the line
 abbrev pub line_member : ℕ → Member
@@ -33,9 +34,17 @@ refusal_member reason = (codes "refused", string reason)
 abbrev pub refusal_value : ℕ → List ℕ → Data
 refusal_value line reason = object_of (line_member line ∷ refusal_member reason ∷ [])
 
--- where a vector stands, and its text as it stands there
-abbrev pub place_members : ℕ → Place → List Member
-place_members line place = (codes "at", string place.0) ∷ line_member line ∷ (codes "given", string place.2) ∷ []
+-- a member for a text, if there is one
+abbrev pub text_member : List ℕ → Option (List ℕ) → List Member
+text_member name None = []
+text_member name (Some text) = (name, string text) ∷ []
+
+-- where a vector stands, in which document, and its text as it stands there
+abbrev pub place_members : Source → Place → List Member
+place_members source place =
+    (codes "at", string place.0)
+    ∷ line_member source.0
+    ∷ (text_member (codes "id") source.1 ++ text_member (codes "given") place.2)
 
 -- a member for a score, if there is one
 abbrev pub optional_member : List ℕ → Option ℕ → List Member

@@ -6,7 +6,7 @@ use Rattle.cvss_lines.specs.declared.fault.RunFault.{RunFault}
 use Rattle.cvss_lines.specs.declared.summary.Summary.{Summary}
 use Rattle.cvss_audit.specs.Answers.{IsAnswer}
 use Rattle.cvss_audit.specs.declared.fault.Fault.{Fault}
-use Rattle.cvss_audit.specs.declared.fault.Fault.TheVariants.{UnknownOption, Run}
+use Rattle.cvss_audit.specs.declared.fault.Fault.TheVariants.{Arguments, Run}
 
 -- what the program tells of how a run has ended
 abbrev pub told_of : Result Summary RunFault → Result Summary Fault
@@ -19,13 +19,12 @@ pub record RunsOver (unread unread' written written' : Option (List ℕ)) (resul
   pub ends : Ends IsAnswer unread unread' written written' outcome
   pub told : result ≡ told_of outcome
 
--- that of the run; 1 where the first argument is no option
+-- 0 where nothing is refused and nothing differs, 1 where something is or does, 2 after a fault
 abbrev pub exit_status : Result Summary Fault → ℕ
 exit_status (Ok summary) = lines.exit_status (Ok summary)
-exit_status (Err (Run fault)) = lines.exit_status (Err fault)
-exit_status (Err UnknownOption) = 1
+exit_status (Err fault) = 2
 
 -- the words on standard error
 abbrev pub fault_text : Fault → List ℕ
-fault_text UnknownOption = codes "argument 1: no option, see `cvss_audit --help`"
+fault_text Arguments = codes "no argument is known but `--help`"
 fault_text (Run fault) = lines.fault_text fault

@@ -3,11 +3,13 @@
 ghost use Rattle.std.specs.Prelude.{◌≡◌, IfOk, OnOk};
 ghost use Rattle.cvss_audit.specs.Answers.{IsAnswer, is_passed_over};
 ghost use Rattle.cvss_audit.specs.Objects.{refusal_value};
+ghost use Rattle.cvss_audit.specs.Sources.{id_of};
 ghost use Rattle.cvss_audit.specs.private.Writing.{WritesFound, WritesObject};
 ghost use Rattle.cvss_record.specs.Places.{places_in};
 ghost use Rattle.serde_json.specs.View.{view};
 
 use crate::place::answer_place;
+use crate::source::Source;
 use crate::told::{put_line, put_refusal};
 use crate::write::write_object;
 use cvss_lines::{Answering, Gathered};
@@ -77,12 +79,13 @@ fn answer_document(
     document: &Value,
     answers: &mut Gathered,
 ) -> Result<bool, AllocError>
-    ensures { IfOk result (WritesFound number (places_in (view document.now))
+    ensures { IfOk result (WritesFound (number, id_of (view document.now)) (places_in (view document.now))
         answers.old.bytes.items answers.new.bytes.items) }
 {
+    let source = Source::of(number, document);
     let mut agree = true;
     for place in &vectors_in(alloc, document)? {
-        agree &= answer_place(alloc, number, place, answers)?;
+        agree &= answer_place(alloc, source, place, answers)?;
     }
     Ok(agree)
 }

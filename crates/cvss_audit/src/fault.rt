@@ -12,8 +12,8 @@ use std::fmt;
 /// Why the program ends before it has answered all of its input.
 #[derive(Clone, Copy, Debug, PartialEq, Eq)]
 pub enum Fault {
-    /// The first argument begins with `-` and is not `--help`.
-    UnknownOption,
+    /// There are arguments other than `--help` alone.
+    Arguments,
     /// The run has ended early.
     Run(RunFault),
 }
@@ -32,22 +32,20 @@ impl fmt::Display for Fault {
 
     fn fmt<W: fmt::Write>(&self, f: &mut fmt::Formatter<W>) -> fmt::Result {
         match self {
-            Fault::UnknownOption => {
-                f.write_str("argument 1: no option, see `cvss_audit --help`")
-            }
+            Fault::Arguments => f.write_str("no argument is known but `--help`"),
             Fault::Run(fault) => write!(f, "{fault}"),
         }
     }
 }
 
 /// The exit status of the program: 0 if all agree or the usage is written, 1 if something was refused
-/// or differs or an option is unknown, 2 after another fault.
+/// or differs, 2 after a fault.
 pub fn exit_status(outcome: &Result<Summary, Fault>) -> u8
     ensures { result ≡ status_of outcome.now }
 {
     match outcome {
         Ok(summary) if summary.refused == 0 => 0,
-        Ok(_) | Err(Fault::UnknownOption) => 1,
-        Err(Fault::Run(_)) => 2,
+        Ok(_) => 1,
+        Err(_) => 2,
     }
 }

@@ -10,6 +10,7 @@ mod missing;
 mod place;
 mod program;
 mod run;
+mod source;
 mod told;
 mod write;
 
@@ -24,6 +25,9 @@ fn main(rt: HostRuntime) -> ExitCode {
     let result = audit(&rt);
     if let Err(fault) = &result {
         let _ = eprintln!(rt; "cvss_audit: {fault}");
+        if *fault == Fault::Arguments {
+            let _ = eprint!(rt; "{USAGE}");
+        }
     }
     ExitCode::from(exit_status(&result))
 }

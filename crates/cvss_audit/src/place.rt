@@ -1,12 +1,14 @@
 //! The answer to one place where a vector stands.
 
 ghost use Rattle.std.specs.Prelude.{IfOk};
-ghost use Rattle.cvss_audit.specs.Answers.{IsPlaceObject};
+ghost use Rattle.cvss_audit.specs.Answers.{IsNoString, IsPlaceObject, IsTextObject};
+ghost use Rattle.cvss_audit.specs.Sources.{source_view};
 ghost use Rattle.cvss_audit.specs.private.Writing.{WritesPlace};
 ghost use Rattle.cvss_record.specs.Places.{place_view};
 ghost use Rattle.serde_json.specs.Data.{object};
 ghost use Rattle.serde_json.specs.View.{members_view};
 
+use crate::source::Source;
 use crate::told::{put_accepted, put_place, put_refusal};
 use crate::write::write_object;
 use cvss::{Cvss, Error};
@@ -18,14 +20,14 @@ use std::alloc::{AllocError, Global};
 /// Writes the object of a place. Tells whether its vector is accepted and nothing differs.
 pub(crate) fn answer_place(
     alloc: Global,
-    number: u64,
+    source: Source<'_>,
     place: &Place<'_>,
     answers: &mut Gathered,
 ) -> Result<bool, AllocError>
-    ensures { IfOk result (WritesPlace number (place_view place.now)
+    ensures { IfOk result (WritesPlace (source_view source.entry) (place_view place.now)
         answers.old.bytes.items answers.new.bytes.items) }
 {
-    let (members, agrees) = place_object(alloc, number, place)?;
+    let (members, agrees) = place_object(alloc, source, place)?;
     write_object(alloc, members, answers)?;
     Ok(agrees)
 }
@@ -33,15 +35,31 @@ pub(crate) fn answer_place(
 /// The object of a place, and whether its vector is accepted and nothing differs.
 fn place_object(
     alloc: Global,
-    number: u64,
+    source: Source<'_>,
     place: &Place<'_>,
 ) -> Result<(Map<String, Value>, bool), AllocError>
-    ensures { IfOk result (λ told. IsPlaceObject number (place_view place.now)
+    ensures { IfOk result (λ told. IsPlaceObject (source_view source.entry) (place_view place.now)
         (object (members_view told.0.entries)) told.1) }
 {
+    match place.text {
+        Some(text) => text_object(alloc, source, place, text),
+        None => no_string_object(alloc, source, place),
+    }
+}
+
+/// The object of a place where a text stands.
+fn text_object(
+    alloc: Global,
+    source: Source<'_>,
+    place: &Place<'_>,
+    text: &str,
+) -> Result<(Map<String, Value>, bool), AllocError>
+    ensures { IfOk result (λ told. IsTextObject (source_view source.entry) (place_view place.now)
+        text.now (object (members_view told.0.entries)) told.1) }
+{
     let mut members = Map::new(alloc);
-    put_place(&mut members, alloc, number, place)?;
-    match Cvss::from_str(alloc, place.text) {
+    put_place(&mut members, alloc, source, place)?;
+    match Cvss::from_str(alloc, text) {
         Ok(cvss) => {
             let differences = differences_at(alloc, &cvss, place)?;
             let agrees = differences.is_empty();
@@ -55,4 +73,19 @@ fn place_object(
             Ok((members, false))
         }
     }
+}
+
+/// The object of a place where no string stands.
+fn no_string_object(
+    alloc: Global,
+    source: Source<'_>,
+    place: &Place<'_>,
+) -> Result<(Map<String, Value>, bool), AllocError>
+    ensures { IfOk result (λ told. IsNoString (source_view source.entry) (place_view place.now)
+        (object (members_view told.0.entries)) told.1) }
+{
+    let mut members = Map::new(alloc);
+    put_place(&mut members, alloc, source, place)?;
+    put_refusal(&mut members, alloc, "not a string")?;
+    Ok((members, false))
 }

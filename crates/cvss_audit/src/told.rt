@@ -1,13 +1,15 @@
 //! The members of the objects that are written.
 
-ghost use Rattle.std.specs.Prelude.{◌≡◌, ◌∷◌, [], IfOk, OnOk, map, string_bytes};
-ghost use Rattle.cvss_audit.specs.Objects.{accepted_members, difference_value, differs_members, line_member, list_member, optional_member, place_members, refusal_member, score_members, scores_value, told_members, v4_members};
+ghost use Rattle.std.specs.Prelude.{◌≡◌, ◌∷◌, [], IfOk, OnOk, map, option_map, string_bytes};
+ghost use Rattle.cvss_audit.specs.Objects.{accepted_members, difference_value, differs_members, line_member, list_member, optional_member, place_members, refusal_member, score_members, scores_value, text_member, told_members, v4_members};
+ghost use Rattle.cvss_audit.specs.Sources.{source_view};
 ghost use Rattle.cvss_record.specs.Differences.{difference_view};
 ghost use Rattle.cvss_record.specs.Objects.{object_of, with_members};
 ghost use Rattle.cvss_record.specs.Places.{place_view};
 ghost use Rattle.serde_json.specs.View.{members_view, view};
 
 use crate::missing::put_missing;
+use crate::source::Source;
 use cvss::{Cvss, v4};
 use cvss_number::TENTH;
 use cvss_record::{Difference, Place, Scores, score_value};
@@ -43,15 +45,15 @@ pub(crate) fn put_refusal(
     )
 }
 
-/// Puts where a vector stands, and its text as it stands there.
+/// Puts where a vector stands, in which document, and its text as it stands there.
 pub(crate) fn put_place(
     members: &mut Map<String, Value>,
     alloc: Global,
-    number: u64,
+    source: Source<'_>,
     place: &Place<'_>,
 ) -> Result<(), AllocError>
     ensures { OnOk result (members_view members.new.entries
-        ≡ with_members (place_members number (place_view place.now))
+        ≡ with_members (place_members (source_view source.entry) (place_view place.now))
         (members_view members.old.entries)) }
 {
     put(
@@ -60,13 +62,26 @@ pub(crate) fn put_place(
         "at",
         Value::try_from_str(alloc, place.at.as_str())?,
     )?;
-    put_line(members, alloc, number)?;
-    put(
-        members,
-        alloc,
-        "given",
-        Value::try_from_str(alloc, place.text)?,
-    )
+    put_line(members, alloc, source.number)?;
+    put_text(members, alloc, "id", source.id)?;
+    put_text(members, alloc, "given", place.text)
+}
+
+/// Puts a text under a name, if there is one.
+fn put_text(
+    members: &mut Map<String, Value>,
+    alloc: Global,
+    name: &str,
+    text: Option<&str>,
+) -> Result<(), AllocError>
+    ensures { OnOk result (members_view members.new.entries
+        ≡ with_members (text_member name.now (option_map (λ text. text.now) text.entry))
+        (members_view members.old.entries)) }
+{
+    match text {
+        Some(text) => put(members, alloc, name, Value::try_from_str(alloc, text)?),
+        None => Ok(()),
+    }
 }
 
 /// Puts what an accepted vector is, and where the document says otherwise.

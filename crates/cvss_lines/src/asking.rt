@@ -1,7 +1,7 @@
-//! The program's arguments, and what the first of them asks for.
+//! The program's arguments, and what they ask for.
 
-ghost use Rattle.std.specs.Prelude.{◌≡◌};
-ghost use Rattle.cvss_lines.specs.Requests.{asked as asked_of, asked_by as asked_first};
+ghost use Rattle.std.specs.Prelude.{◌≡◌, bytes_eq, codes};
+ghost use Rattle.cvss_lines.specs.Requests.{asked as asked_of, asked_alone as asked_of_all, asked_by as asked_first};
 
 use std::alloc::{AllocError, Global};
 use std::env::{Env, FillError};
@@ -14,13 +14,14 @@ const ROOM: usize = 256;
 pub enum Request {
     /// The usage, by `--help`.
     Usage,
-    /// Something that there is not: the first argument begins with `-`.
+    /// Something that there is not.
     Unknown,
     /// A run.
     Run,
 }
 
-/// What the first of the arguments asks for.
+/// What the first of the arguments asks for: for what there is not if it begins with `-` and is not
+/// `--help`.
 pub fn asked(arguments: &[Vec<u8>]) -> Request
     ensures { result ≡ asked_of arguments.now }
 {
@@ -39,6 +40,24 @@ fn asked_by(first: &[u8]) -> Request
         [b'-', ..] => Request::Unknown,
         _ => Request::Run,
     }
+}
+
+/// What arguments ask for that are to be none or `--help` alone: for what there is not if they are
+/// anything else.
+pub fn asked_alone(arguments: &[Vec<u8>]) -> Request
+    ensures { result ≡ asked_of_all arguments.now }
+{
+    match arguments {
+        [] => Request::Run,
+        [only] if is_help(only) => Request::Usage,
+        _ => Request::Unknown,
+    }
+}
+
+fn is_help(argument: &[u8]) -> bool
+    ensures { result ≡ bytes_eq argument.now (codes "--help") }
+{
+    argument == b"--help".as_slice()
 }
 
 /// The bytes of each argument behind the program's name.

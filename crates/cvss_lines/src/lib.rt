@@ -16,7 +16,7 @@ mod summary;
 mod write;
 
 pub use answering::Answering;
-pub use asking::{Request, arguments, asked};
+pub use asking::{Request, arguments, asked, asked_alone};
 pub use exit::exit_status;
 pub use fault::RunFault;
 pub use gathered::Gathered;

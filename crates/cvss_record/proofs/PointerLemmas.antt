@@ -10,7 +10,7 @@ use Rattle.std.specs.Option.{option_to_list}
 use Rattle.std.specs.Ordering.{match_ordering}
 use Rattle.serde_json.specs.Data.{Data, null, boolean, number, string, array, object, Items, no_items, item, Members, no_members, member}
 use Rattle.serde_json.specs.Find.{get_item, get_member}
-use Rattle.cvss_record.specs.Places.{Place, below, escaped, place_of, places_in, places_in_items, places_in_members, vector_in}
+use Rattle.cvss_record.specs.Places.{Around, Place, below, escaped, place_of, places_in, places_in_items, places_in_members, places_within, vector_in}
 use Rattle.cvss_record.specs.laws.Pointers.{LeadsTo, here, by_item, by_member, HasNamesOnce, ItemsHaveNamesOnce, MembersHaveNamesOnce}
 use Rattle.cvss_record.specs.declared.place.Form.{Form}
 
@@ -29,24 +29,24 @@ found_at Equal name sought value found rest ordered once is =
 first_found : (name : List ℕ) (value : Data) (rest : Members) → get_member name (member name value rest) ≡ Some value
 first_found name value rest = rw (tied_itself nat_list_cmp_total name) refl
 
-own_place : (own : Members) (found : Option (Form × List ℕ)) (Q : Place → Type 0)
-    → ((form : Form) (text : List ℕ) → Q ([], form, text, own))
-    → All Q (option_to_list (option_map (λ found. ([], found.0, found.1, own)) found))
-own_place own None Q each = All-nil Q
-own_place own (Some found) Q each = All-cons Q _ [] (each found.0 found.1) (All-nil Q)
+own_place : (around : Option Around) (own : Members) (found : Option (Form × Option (List ℕ))) (Q : Place → Type 0)
+    → ((form : Form) (text : Option (List ℕ)) → Q ([], form, text, own, around))
+    → All Q (option_to_list (option_map (λ found. ([], found.0, found.1, own, around)) found))
+own_place around own None Q each = All-nil Q
+own_place around own (Some found) Q each = All-cons Q _ [] (each found.0 found.1) (All-nil Q)
 
 -- what holds wherever a pointer leads to an object holds of each place
 mutual
-  in_data : (value : Data) → HasNamesOnce value → (Q : Place → Type 0)
-      → ((place : Place) → LeadsTo place.0 value (object place.3) → Q place) → All Q (places_in value)
-  in_data null once Q each = All-nil Q
-  in_data (boolean _) once Q each = All-nil Q
-  in_data (number _) once Q each = All-nil Q
-  in_data (string _) once Q each = All-nil Q
-  in_data (array items) once Q each = in_items items items 0 (λ index found is. ap (λ sought. get_item sought items) (zero-add index) ∙ is) once Q each
-  in_data (object members) once Q each =
-      All-append Q (place_of members) (places_in_members members)
-      (own_place members (vector_in members) Q (λ form text. each ([], form, text, members) (here (object members))))
+  in_data : (around : Option Around) (value : Data) → HasNamesOnce value → (Q : Place → Type 0)
+      → ((place : Place) → LeadsTo place.0 value (object place.3) → Q place) → All Q (places_within around value)
+  in_data around null once Q each = All-nil Q
+  in_data around (boolean _) once Q each = All-nil Q
+  in_data around (number _) once Q each = All-nil Q
+  in_data around (string _) once Q each = All-nil Q
+  in_data around (array items) once Q each = in_items items items 0 (λ index found is. ap (λ sought. get_item sought items) (zero-add index) ∙ is) once Q each
+  in_data around (object members) once Q each =
+      All-append Q (place_of around members) (places_in_members members members)
+      (own_place around members (vector_in members) Q (λ form text. each ([], form, text, members, around) (here (object members))))
       (in_members members members (λ name found is. is) once Q each)
 
   in_items : (all rest : Items) (start : ℕ)
@@ -57,8 +57,8 @@ mutual
   in_items all (item value rest) start held once Q each =
       let at_start : get_item start all ≡ Some value = ap (λ index. get_item index all) (omega arith) ∙ held 0 value refl in
       All-append Q _ (places_in_items (start + 1) rest)
-      (All-map Q (below (decimal start)) (places_in value)
-      (in_data value once.0 (λ place. Q (below (decimal start) place))
+      (All-map Q (below (decimal start)) (places_within None value)
+      (in_data None value once.0 (λ place. Q (below (decimal start) place))
       (λ place leads. each (below (decimal start) place) (by_item start all value (object place.3) place.0 at_start leads))))
       (in_items all rest (start + 1)
       (λ index found is. ap (λ index. get_item index all) (omega arith) ∙ held (suc index) found is) once.1 Q each)
@@ -66,12 +66,12 @@ mutual
   in_members : (all rest : Members)
       → ((name : List ℕ) (found : Data) → get_member name rest ≡ Some found → get_member name all ≡ Some found)
       → MembersHaveNamesOnce rest → (Q : Place → Type 0)
-      → ((place : Place) → LeadsTo place.0 (object all) (object place.3) → Q place) → All Q (places_in_members rest)
+      → ((place : Place) → LeadsTo place.0 (object all) (object place.3) → Q place) → All Q (places_in_members all rest)
   in_members all no_members held once Q each = All-nil Q
   in_members all (member name value rest) held once Q each =
-      All-append Q _ (places_in_members rest)
-      (All-map Q (below (escaped name)) (places_in value)
-      (in_data value once.1.0 (λ place. Q (below (escaped name) place))
+      All-append Q _ (places_in_members all rest)
+      (All-map Q (below (escaped name)) (places_within (Some (name, all)) value)
+      (in_data (Some (name, all)) value once.1.0 (λ place. Q (below (escaped name) place))
       (λ place leads. each (below (escaped name) place)
       (by_member name all value (object place.3) place.0 (held name value (first_found name value rest)) leads))))
       (in_members all rest
@@ -79,4 +79,4 @@ mutual
       once.1.1 Q each)
 
 pub pointers_lead : (document : Data) → HasNamesOnce document → All (λ place. LeadsTo place.0 document (object place.3)) (places_in document)
-pointers_lead document once = in_data document once (λ place. LeadsTo place.0 document (object place.3)) (λ place leads. leads)
+pointers_lead document once = in_data None document once (λ place. LeadsTo place.0 document (object place.3)) (λ place leads. leads)

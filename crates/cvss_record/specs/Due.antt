@@ -65,12 +65,16 @@ metric_due cvss name =
     option_or (option_map text (word_at cvss name))
     (if is_metric_member cvss name then Some nothing else None)
 
+-- what a member for the rating of a score of so many tenths should say
+abbrev pub rating_due : Cvss → ℕ → Due
+rating_due cvss tenths = text (rating_word (rating_by cvss (score_of_tenths tenths)))
+
 -- what the member of this name should say of a group's score
 abbrev pub group_due : Cvss → Scores → List ℕ → Group → Option Due
 group_due cvss scores name group =
     if bytes_eq (score_member group) name then option_map score (tenths_at scores group)
     else (if is_rated cvss && bytes_eq (severity_member group) name
-    then option_map (λ tenths. text (rating_word (rating_by cvss (score_of_tenths tenths)))) (tenths_at scores group)
+    then option_map (rating_due cvss) (tenths_at scores group)
     else None)
 
 -- what the member of this name should say of the version

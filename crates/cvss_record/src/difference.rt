@@ -1,15 +1,17 @@
 //! Where an object says otherwise than the vector's record.
 
-ghost use Rattle.std.specs.Prelude.{◌≡◌, IfOk, map, option_map};
+ghost use Rattle.std.specs.Prelude.{◌≡◌, ◌++◌, IfOk, OnOk, map, option_map};
 ghost use Rattle.std.specs.Option.{option_to_list};
 ghost use Rattle.cvss.specs.Answers.{HasScore};
-ghost use Rattle.cvss_record.specs.Differences.{AreDifferences, AreDifferencesAt, difference_at, difference_from, difference_view, differences_of, github_difference, osv_type, score_differences, type_differences};
+ghost use Rattle.cvss_record.specs.Differences.{AreDifferences, AreDifferencesAt, difference_at, difference_from, difference_view, github_difference, is_among, member_differences, name_differences, names_of, osv_type, rating_differences, record_differences, score_differences, severity_differences, type_differences, version_names};
+ghost use Rattle.cvss_record.specs.Places.{around_view, place_view};
 ghost use Rattle.cvss_record.specs.private.Views.{due_view};
 ghost use Rattle.serde_json.specs.View.{members_view, view};
 
 use crate::due::{Due, due_at};
-use crate::place::{Form, Place, member};
-use crate::score::Scores;
+use crate::place::{Around, Form, Place, member};
+use crate::record::{is_rated, version};
+use crate::score::{Scores, rating};
 use cvss::Cvss;
 use serde_json::{Map, Value};
 use std::alloc::{AllocError, Global};
@@ -26,8 +28,9 @@ pub struct Difference {
 }
 
 /// The members of an object that say otherwise than the record of a vector, in the order of their
-/// names. A member that the version's records don't have says nothing, and neither does the text of
-/// the vector; a score of a group is that of the equations even where the vector lacks the group.
+/// names. A member that the version's records don't have says nothing, but for a number at `score`,
+/// which is to be the vector's score; and neither does the text of the vector. A score of a group is
+/// that of the equations even where the vector lacks the group.
 ///
 /// # Errors
 ///
@@ -51,7 +54,7 @@ fn record_differences(
     object: &Map<String, Value>,
 ) -> Result<Vec<Difference>, AllocError>
     ensures { IfOk result (λ found. map difference_view found.items
-        ≡ differences_of cvss.now scores.now Form.Record (members_view object.now.entries)) }
+        ≡ record_differences cvss.now scores.now (members_view object.now.entries)) }
 {
     let mut found = Vec::new(alloc);
     for (name, said) in object.iter() {
@@ -63,8 +66,10 @@ fn record_differences(
     Ok(found)
 }
 
-/// Where the object at a place says otherwise than the vector whose text it holds: a record by its
-/// members, GitHub's advisory by a number at `score`, and OSV's record by its `type`.
+/// Where the document says otherwise at a place than the vector whose text stands there. First the
+/// members of the object that holds it: of a record all, of GitHub's advisory a number at `score`, of
+/// OSV's record its `type`. Then what is around the object: the version that the name of a member
+/// tells which the object is, and the rating that NVD tells of a vector of CVSS v2 beside `cvssData`.
 ///
 /// # Errors
 ///
@@ -75,13 +80,34 @@ pub fn differences_at(
     place: &Place<'_>,
 ) -> Result<Vec<Difference>, AllocError>
     requires { HasScore cvss.now }
-    ensures { IfOk result (λ found. AreDifferencesAt cvss.now place.now.form
-        (members_view place.now.object.now.entries) (map difference_view found.items)) }
+    ensures { IfOk result (λ found. AreDifferencesAt cvss.now (place_view place.now)
+        (map difference_view found.items)) }
 {
     let scores = Scores::of(cvss);
+    let mut found = member_differences(alloc, cvss, &scores, place)?;
+    if let Some(around) = place.around {
+        push_if_some(&mut found, name_difference(alloc, cvss, around.name)?)?;
+        push_if_some(
+            &mut found,
+            rating_difference(alloc, cvss, scores.base, around)?,
+        )?;
+    }
+    Ok(found)
+}
+
+fn member_differences(
+    alloc: Global,
+    cvss: &Cvss,
+    scores: &Scores,
+    place: &Place<'_>,
+) -> Result<Vec<Difference>, AllocError>
+    ensures { IfOk result (λ found. map difference_view found.items
+        ≡ member_differences cvss.now scores.now place.now.form
+        (members_view place.now.object.now.entries)) }
+{
     match place.form {
-        Form::Record => record_differences(alloc, cvss, &scores, place.object),
-        Form::GitHub => score_differences(alloc, &scores, place.object),
+        Form::Record => record_differences(alloc, cvss, scores, place.object),
+        Form::GitHub => score_differences(alloc, scores, place.object),
         Form::Osv => type_differences(alloc, cvss, place.object),
     }
 }
@@ -128,6 +154,7 @@ fn osv_type(cvss: &Cvss) -> &'static str
     }
 }
 
+/// The difference of a number at `score`, as GitHub has it.
 fn score_difference(
     alloc: Global,
     tenths: u8,
@@ -143,18 +170,104 @@ fn score_difference(
     }
 }
 
+/// The difference of the name of a member, if it tells another version than the vector's.
+fn name_difference(alloc: Global, cvss: &Cvss, name: &str) -> Result<Option<Difference>, AllocError>
+    ensures { IfOk result (λ found. option_to_list (option_map difference_view found)
+        ≡ name_differences cvss.now name.now) }
+{
+    if tells_version(name) && !tells_version_of(cvss, name) {
+        return Ok(Some(Difference {
+            member: String::from_str(alloc, name)?,
+            says: Value::try_from_str(alloc, name)?,
+            is: Value::try_from_str(alloc, version(cvss))?,
+        }));
+    }
+    Ok(None)
+}
+
+/// Whether a member of this name tells the version of what it holds.
+fn tells_version(name: &str) -> bool
+    ensures { result ≡ is_among name.now version_names }
+{
+    name == "cvssV2_0"
+        || name == "cvssV3_0"
+        || name == "cvssV3_1"
+        || name == "cvssV4_0"
+        || name == "cvss_v2"
+        || name == "cvss_v3"
+        || name == "cvss_v4"
+}
+
+/// Whether a member of this name tells the vector's version.
+fn tells_version_of(cvss: &Cvss, name: &str) -> bool
+    ensures { result ≡ is_among name.now (names_of cvss.now) }
+{
+    match cvss {
+        Cvss::CvssV20(_) => name == "cvssV2_0" || name == "cvss_v2",
+        Cvss::CvssV30(_) => name == "cvssV3_0" || name == "cvss_v3",
+        Cvss::CvssV31(_) => name == "cvssV3_1" || name == "cvss_v3",
+        Cvss::CvssV40(_) => name == "cvssV4_0" || name == "cvss_v4",
+    }
+}
+
+/// The difference of the rating that NVD tells of a vector of CVSS v2 beside its record.
+fn rating_difference(
+    alloc: Global,
+    cvss: &Cvss,
+    tenths: u8,
+    around: Around<'_>,
+) -> Result<Option<Difference>, AllocError>
+    ensures { IfOk result (λ found. option_to_list (option_map difference_view found)
+        ≡ rating_differences cvss.now tenths (around_view around.entry)) }
+{
+    if !is_rated(cvss) && around.name == "cvssData" {
+        return severity_difference(alloc, cvss, tenths, around.object);
+    }
+    Ok(None)
+}
+
+/// The difference of `baseSeverity`, if it is another rating than that of so many tenths.
+fn severity_difference(
+    alloc: Global,
+    cvss: &Cvss,
+    tenths: u8,
+    object: &Map<String, Value>,
+) -> Result<Option<Difference>, AllocError>
+    ensures { IfOk result (λ found. option_to_list (option_map difference_view found)
+        ≡ severity_differences cvss.now tenths (members_view object.now.entries)) }
+{
+    match member(object, "baseSeverity") {
+        Some(said) => {
+            let due = Due::Text(rating(cvss, tenths));
+            difference_from(alloc, "baseSeverity", said, due)
+        }
+        None => Ok(None),
+    }
+}
+
+fn push_if_some(
+    found: &mut Vec<Difference>,
+    difference: Option<Difference>,
+) -> Result<(), AllocError>
+    ensures { OnOk result (map difference_view found.new.items ≡ map difference_view found.old.items
+        ++ option_to_list (option_map difference_view difference)) }
+{
+    if let Some(difference) = difference {
+        found.push(difference)?;
+    }
+    Ok(())
+}
+
 fn listed(alloc: Global, difference: Option<Difference>) -> Result<Vec<Difference>, AllocError>
     ensures { IfOk result (λ found. map difference_view found.items
         ≡ option_to_list (option_map difference_view difference)) }
 {
     let mut found = Vec::new(alloc);
-    if let Some(difference) = difference {
-        found.push(difference)?;
-    }
+    push_if_some(&mut found, difference)?;
     Ok(found)
 }
 
-/// The difference of a member, if it says otherwise than the vector's record.
+/// The difference of a member, if it says otherwise than the vector's record or score.
 fn difference_at(
     alloc: Global,
     cvss: &Cvss,
@@ -165,6 +278,9 @@ fn difference_at(
     ensures { IfOk result (λ found. option_map difference_view found
         ≡ difference_at cvss.now scores.now (name.now, view said.now)) }
 {
+    if name == "score" {
+        return score_difference(alloc, scores.base, said);
+    }
     match due_at(cvss, scores, name) {
         Some(due) => difference_from(alloc, name, said, due),
         None => Ok(None),

@@ -10,7 +10,7 @@ ghost use Rattle.cvss_record.specs.Record.{IsRecordOf};
 ghost use Rattle.cvss_record.specs.laws.Pointers.{HasNamesOnce, LeadsTo};
 ghost use Rattle.serde_json.specs.Data.{Data, object};
 
-use crate::{Form, Group, Scores};
+use crate::{Around, Form, Group, Scores};
 use cvss::laws::texts_denote_one_vector;
 
 /// A record tells its vector: two vectors that their own texts give back, as each vector is that was
@@ -36,15 +36,17 @@ pub fn equality_is_that_of_values()
     ensures scores { EqualsByValue ⟦<Scores as PartialEq>⟧.eq }
 {}
 
-/// A clone of a form, a group or scores is that value.
+/// A clone of a form, a group, scores or what is around a place is that value.
 pub fn clones_are_equal()
+    ensures around { ClonesByValue ⟦<Around<'static> as Clone>⟧.is_clone }
     ensures form { ClonesByValue ⟦<Form as Clone>⟧.is_clone }
     ensures group { ClonesByValue ⟦<Group as Clone>⟧.is_clone }
     ensures scores { ClonesByValue ⟦<Scores as Clone>⟧.is_clone }
 {}
 
-/// To clone a form, a group or scores takes no memory, so it is never refused.
+/// To clone a form, a group, scores or what is around a place takes no memory, so it is never refused.
 pub fn values_are_cloned_without_memory()
+    ensures around { ClonesAlways ⟦<Around<'static> as Clone>⟧.is_infallible }
     ensures form { ClonesAlways ⟦<Form as Clone>⟧.is_infallible }
     ensures group { ClonesAlways ⟦<Group as Clone>⟧.is_infallible }
     ensures scores { ClonesAlways ⟦<Scores as Clone>⟧.is_infallible }

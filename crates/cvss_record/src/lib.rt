@@ -16,6 +16,6 @@ mod score;
 
 pub use difference::{Difference, differences, differences_at};
 pub use group::Group;
-pub use place::{Form, Place, vectors_in};
+pub use place::{Around, Form, Place, vectors_in};
 pub use record::{record_of, score_value};
 pub use score::{Scores, score_number};

@@ -1,7 +1,7 @@
 //! Where vectors stand in a document, as JSON Pointers (RFC 6901).
 
 ghost use Rattle.std.specs.Prelude.{◌≡◌, ◌++◌, ◌+◌, codes, flat_map, map, option_map, string_bytes, IfOk, OnOk, length};
-ghost use Rattle.cvss_record.specs.Places.{below, escaped, is_osv_type, places_in, places_in_items, place_of, place_view, places_in_members, text_at, vector_in};
+ghost use Rattle.cvss_record.specs.Places.{around_view, below, escaped, given_at, is_osv_type, osv_score, place_of, place_view, places_in, places_in_items, places_in_members, places_within, text_at, vector_in};
 ghost use Rattle.cvss_record.specs.private.Views.{step_text};
 ghost use Rattle.serde_json.specs.Find.{get_member};
 ghost use Rattle.serde_json.specs.View.{items_view, members_view, view};
@@ -27,9 +27,20 @@ pub struct Place<'a> {
     pub at: String,
     /// How the object holds it.
     pub form: Form,
-    /// The vector's text, as it stands.
-    pub text: &'a str,
+    /// The vector's text, as it stands; none where a vector should stand and there is no string.
+    pub text: Option<&'a str>,
     /// The object.
+    pub object: &'a Map<String, Value>,
+    /// What the object is a member of, if it is one.
+    pub around: Option<Around<'a>>,
+}
+
+/// An object that has another one as a member.
+#[derive(Clone, Copy)]
+pub struct Around<'a> {
+    /// The name of the member.
+    pub name: &'a str,
+    /// The object that has it.
     pub object: &'a Map<String, Value>,
 }
 
@@ -49,17 +60,22 @@ enum Step<'a> {
 pub fn vectors_in<'a>(alloc: Global, document: &'a Value) -> Result<Vec<Place<'a>>, AllocError>
     ensures { IfOk result (λ found. map place_view found.items ≡ places_in (view document.now)) }
 {
-    find(alloc, document)
+    find(alloc, document, None)
 }
 
 #[cycle(find)]
-fn find<'a>(alloc: Global, value: &'a Value) -> Result<Vec<Place<'a>>, AllocError>
-    ensures { IfOk result (λ found. map place_view found.items ≡ places_in (view value.now)) }
+fn find<'a>(
+    alloc: Global,
+    value: &'a Value,
+    around: Option<Around<'a>>,
+) -> Result<Vec<Place<'a>>, AllocError>
+    ensures { IfOk result (λ found. map place_view found.items
+        ≡ places_within (option_map around_view around.entry) (view value.now)) }
 {
     match value {
         Value::Array(items) => find_in_items(alloc, items),
         Value::Object(members) => {
-            let mut found = own_place(alloc, members)?;
+            let mut found = own_place(alloc, members, around)?;
             find_in_members(alloc, members, &mut found)?;
             Ok(found)
         }
@@ -75,7 +91,7 @@ fn find_in_items<'a>(alloc: Global, items: &'a Vec<Value>) -> Result<Vec<Place<'
     let mut found = Vec::new(alloc);
     let mut index = 0;
     for item in items {
-        let inner = find(alloc, item)?;
+        let inner = find(alloc, item, None)?;
         add_below(&mut found, alloc, Step::Item(index), inner)?;
         index += 1;
     }
@@ -89,10 +105,14 @@ fn find_in_members<'a>(
     found: &mut Vec<Place<'a>>,
 ) -> Result<(), AllocError>
     ensures { OnOk result (map place_view found.new.items ≡ map place_view found.old.items
-        ++ places_in_members (members_view members.now.entries)) }
+        ++ places_in_members (members_view members.now.entries) (members_view members.now.entries)) }
 {
     for (name, value) in members.iter() {
-        let inner = find(alloc, value)?;
+        let around = Around {
+            name: name.as_str(),
+            object: members,
+        };
+        let inner = find(alloc, value, Some(around))?;
         add_below(found, alloc, Step::Member(name.as_str()), inner)?;
     }
     Ok(())
@@ -102,9 +122,10 @@ fn find_in_members<'a>(
 fn own_place<'a>(
     alloc: Global,
     members: &'a Map<String, Value>,
+    around: Option<Around<'a>>,
 ) -> Result<Vec<Place<'a>>, AllocError>
     ensures { IfOk result (λ found. map place_view found.items
-        ≡ place_of (members_view members.now.entries)) }
+        ≡ place_of (option_map around_view around.entry) (members_view members.now.entries)) }
 {
     let mut found = Vec::new(alloc);
     if let Some((form, text)) = vector_in(members) {
@@ -113,28 +134,37 @@ fn own_place<'a>(
             form,
             text,
             object: members,
+            around,
         })?;
     }
     Ok(found)
 }
 
-/// The form and the text of the vector that an object holds.
-fn vector_in(members: &Map<String, Value>) -> Option<(Form, &str)>
-    ensures { option_map (λ found. (found.0, found.1.now)) result
+/// The form of the vector that an object holds, and its text, if it is a string.
+fn vector_in(members: &Map<String, Value>) -> Option<(Form, Option<&str>)>
+    ensures { option_map (λ found. (found.0, option_map (λ text. text.now) found.1)) result
         ≡ vector_in (members_view members.now.entries) }
 {
-    if let Some(text) = text_at(members, "vectorString") {
-        return Some((Form::Record, text));
+    if let Some(value) = given_at(members, "vectorString") {
+        return Some((Form::Record, value.as_str()));
     }
     if let Some(text) = text_at(members, "vector_string") {
-        return Some((Form::GitHub, text));
+        return Some((Form::GitHub, Some(text)));
     }
+    let value = osv_score(members)?;
+    Some((Form::Osv, value.as_str()))
+}
+
+/// The score whose type is one of CVSS, as OSV has it.
+fn osv_score(members: &Map<String, Value>) -> Option<&Value>
+    ensures { option_map (λ value. view value.now) result
+        ≡ osv_score (members_view members.now.entries) }
+{
     let told = text_at(members, "type")?;
     if !is_osv_type(told) {
         return None;
     }
-    let text = text_at(members, "score")?;
-    Some((Form::Osv, text))
+    given_at(members, "score")
 }
 
 fn is_osv_type(told: &str) -> bool
@@ -152,6 +182,18 @@ fn text_at<'a>(members: &'a Map<String, Value>, name: &str) -> Option<&'a str>
         Some(value) => value.as_str(),
         None => None,
     }
+}
+
+/// The value of the member with this name, unless it is null.
+fn given_at<'a>(members: &'a Map<String, Value>, name: &str) -> Option<&'a Value>
+    ensures { option_map (λ value. view value.now) result
+        ≡ given_at name.now (members_view members.now.entries) }
+{
+    let value = member(members, name)?;
+    if value.is_null() {
+        return None;
+    }
+    Some(value)
 }
 
 /// The value of the member with this name.
@@ -179,6 +221,7 @@ fn add_below<'a>(
             form: place.form,
             text: place.text,
             object: place.object,
+            around: place.around,
         })?;
     }
     Ok(())

@@ -66,10 +66,13 @@ pub(crate) fn places(rt: &(impl Print + AllocGlobal), document: &str) -> io::Res
 }
 
 fn print_place(rt: &(impl Print + AllocGlobal), place: &Place<'_>) -> io::Result<()> {
-    print!(rt; "{}={} {}", place.at, form_text(place.form), place.text)?;
-    if let Some(vector) = Cvss::read_bytes(place.text.as_bytes()) {
-        for difference in &differences_at(rt.alloc(), &vector, place)? {
-            print!(rt; " {}", difference.member)?;
+    print!(rt; "{}={}", place.at, form_text(place.form))?;
+    if let Some(text) = place.text {
+        print!(rt; " {text}")?;
+        if let Some(vector) = Cvss::read_bytes(text.as_bytes()) {
+            for difference in &differences_at(rt.alloc(), &vector, place)? {
+                print!(rt; " {}", difference.member)?;
+            }
         }
     }
     print!(rt; ";")

@@ -11,5 +11,5 @@ invariant-find_in_items-loop-item l = record {
 
 abbrev pub invariant-find_in_members-loop-name : goal.invariant-find_in_members-loop-name
 invariant-find_in_members-loop-name l =
-    map place_view l.found.items ++ places_in_members (members_view l.name-iterator)
-    ≡ map place_view l.fn.found.items ++ places_in_members (members_view l.members.entries)
+    map place_view l.found.items ++ places_in_members (members_view l.members.entries) (members_view l.name-iterator)
+    ≡ map place_view l.fn.found.items ++ places_in_members (members_view l.members.entries) (members_view l.members.entries)
