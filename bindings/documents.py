@@ -213,13 +213,21 @@ def try_job(environment):
         ('{"vectorString":"AV:N"}', 1, None),
         (AGREEING, 0, ""),
     ):
-        (FOLDER / "csaf.json").write_text(f'{{"vulnerabilities":[{{}},\n{{"scores":[{{"cvss_v3":{score}}}]}}]}}')
+        (FOLDER / "csaf.json").write_text(f'{{"vulnerabilities":[{{}},\n{{"cve":"CVE-2024-0002","scores":[{{"cvss_v3":{score}}}]}}]}}')
         done = subprocess.run(["bash", "-c", recipe], cwd=FOLDER, env=environment, stdout=subprocess.PIPE)
         assert done.returncode == status, f"status {done.returncode}, and not {status}, over {score}: {recipe}"
         if wanted is None:
             assert b'"refused":' in done.stdout, f"{done.stdout} tells no refusal: {recipe}"
         else:
             check(done.stdout, wanted, recipe)
+
+
+def try_nulls(environment):
+    """A vector of null, as GitHub's GraphQL has it where there is none, is passed over; another value is not."""
+    for score, status in (('{"score":0,"vectorString":null}', 0), ('{"score":0,"vectorString":7}', 1), (AGREEING, 0)):
+        given = f'{{"nodes":[{{"cvss":{score}}},{{"cvss":{AGREEING}}}]}}'.encode()
+        done = subprocess.run(["cvss_audit"], input=given, stdout=subprocess.PIPE, env=environment)
+        assert done.returncode == status, f"status {done.returncode}, and not {status}, over {score}"
 
 
 def try_base_scores(environment):
@@ -281,6 +289,7 @@ def main():
     if environment:
         try_job(environment)
         try_base_scores(environment)
+        try_nulls(environment)
     try_python()
     if has("cc", "the example of C is not tried"):
         try_c()
