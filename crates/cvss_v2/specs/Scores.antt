@@ -28,7 +28,7 @@ adjusted_impact w =
 abbrev pub exploitability : Weights → Exact
 exploitability w = whole 20 ⊗ thousandths w.av ⊗ thousandths w.ac ⊗ thousandths w.au
 
--- f in thousandths, by the top of the Impact
+-- f in thousandths, by the top of the Impact: a fraction is 0 where its top is 0, since no bottom is
 abbrev pub f_thousandths : ℤ → ℕ
 f_thousandths (pos zero) = 0
 f_thousandths _ = 1176

@@ -53,7 +53,7 @@ eq3_eq6_sum vc vi va cr ir ar =
     vulnerable_level vc + vulnerable_level vi + vulnerable_level va
     + requirement_level cr + requirement_level ir + requirement_level ar
 
--- the least sum of a class of EQ3 with a class of EQ6
+-- the least sum of a class of EQ3 with a class of EQ6: of all values of the six metrics, those in both classes count
 unfoldable pub eq3_eq6_least : ℕ → ℕ → ℕ
 eq3_eq6_least class3 class6 =
     least (flat_map (λ vc. flat_map (λ vi. flat_map (λ va. flat_map (λ cr. flat_map (λ ir. flat_map (λ ar.

@@ -22,7 +22,8 @@ use Rattle.cvss_v4.specs.declared.scoring.effective.Requirement.TheVariants as r
 use Rattle.cvss_v4.specs.declared.scoring.effective.ExploitMaturity.{ExploitMaturity}
 use Rattle.cvss_v4.specs.declared.scoring.effective.ExploitMaturity.TheVariants as exploit_maturity
 
--- what counts where nothing is defined, and letters, each with the effective value that it stands for
+-- what counts where nothing is defined, and letters, each with the effective value that it stands for; a complete vector
+-- defines each base metric, so of these the first is never reached
 pub record Letters (E : Type 0) : Type 0 where
   pub undefined : E
   pub rows : List (List ℕ × E)
