@@ -1,2 +1,1 @@
 mod FoundLemmas
-mod OneLineLemmas

@@ -9,6 +9,7 @@ use Rattle.cvss_name.specs.declared.error.Error.TheVariants.{OutOfMemory}
 use Rattle.cvss.specs.Told.{TellsFirst}
 use Rattle.cvss.specs.declared.vector.Cvss.{Cvss}
 use Rattle.cvss_lines.specs.Answers.{Answer, Accepted, Refused}
+use Rattle.cvss_object.specs.Texts.{IsTextOf}
 use Rattle.cvss_record.specs.Differences.{AreDifferencesAt, Difference}
 use Rattle.cvss_record.specs.Groups.{AreScoresOf}
 use Rattle.cvss_record.specs.Objects.{object_of}
@@ -18,7 +19,6 @@ use Rattle.serde_json.specs.Data.{Data}
 use Rattle.serde_json.specs.Read.{read}
 use Rattle.cvss_audit.specs.Objects.{accepted_members, place_members, refusal_member, refusal_value}
 use Rattle.cvss_audit.specs.Sources.{Source, id_of}
-use Rattle.cvss_audit.specs.Texts.{IsTextOf}
 
 -- nothing differs
 abbrev pub nothing_differs : List Difference → Bool

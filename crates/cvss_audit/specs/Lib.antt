@@ -2,5 +2,4 @@ pub mod Answers
 pub mod Objects
 pub mod Program
 pub mod Sources
-pub mod Texts
 pub mod private

@@ -4,15 +4,16 @@ ghost use Rattle.std.specs.Prelude.{◌≡◌, IfOk, OnOk};
 ghost use Rattle.cvss_audit.specs.Answers.{IsAnswer, is_passed_over};
 ghost use Rattle.cvss_audit.specs.Objects.{refusal_value};
 ghost use Rattle.cvss_audit.specs.Sources.{id_of};
-ghost use Rattle.cvss_audit.specs.private.Writing.{WritesFound, WritesObject};
+ghost use Rattle.cvss_audit.specs.private.Writing.{WritesFound};
+ghost use Rattle.cvss_object.specs.Texts.{WritesObject};
 ghost use Rattle.cvss_record.specs.Places.{places_in};
 ghost use Rattle.serde_json.specs.View.{view};
 
 use crate::place::answer_place;
 use crate::source::Source;
 use crate::told::{put_line, put_refusal};
-use crate::write::write_object;
 use cvss_lines::{Answering, Gathered};
+use cvss_object::write_object;
 use cvss_record::vectors_in;
 use serde_json::{Map, Value};
 use std::alloc::{AllocError, Global};

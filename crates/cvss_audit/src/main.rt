@@ -12,7 +12,6 @@ mod program;
 mod run;
 mod source;
 mod told;
-mod write;
 
 use cvss_lines::arguments;
 pub use cvss_lines::{RunFault, Summary};

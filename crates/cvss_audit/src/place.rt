@@ -10,9 +10,9 @@ ghost use Rattle.serde_json.specs.View.{members_view};
 
 use crate::source::Source;
 use crate::told::{put_accepted, put_place, put_refusal};
-use crate::write::write_object;
 use cvss::{Cvss, Error};
 use cvss_lines::Gathered;
+use cvss_object::write_object;
 use cvss_record::{Place, Scores, differences_at};
 use serde_json::{Map, Value};
 use std::alloc::{AllocError, Global};

@@ -1,17 +1,9 @@
--- What is written for an object, a place and a document, behind the earlier answers.
+-- What is written for a place and a document, behind the earlier answers.
 use Rattle.std.specs.Prelude.{◌≡◌, ℕ, Bool, List, ◌++◌, flat_map}
 use Rattle.cvss_lines.specs.Answers.{written_text}
 use Rattle.cvss_record.specs.Places.{Place}
-use Rattle.serde_json.specs.Data.{Data}
 use Rattle.cvss_audit.specs.Answers.{AreFound, Found, IsFound, all_agree, texts_of}
 use Rattle.cvss_audit.specs.Sources.{Source}
-use Rattle.cvss_audit.specs.Texts.{IsTextOf}
-
--- the value's text and a byte 10 are written behind the earlier answers
-pub record WritesObject (value : Data) (old new : List ℕ) : Type 0 where
-  pub text : List ℕ
-  pub is_text : IsTextOf value text
-  pub written : new ≡ old ++ written_text text
 
 -- what is found at the place and a byte 10 are written behind the earlier answers
 pub record WritesPlace (source : Source) (place : Place) (old new : List ℕ) (agrees : Bool) : Type 0 where

@@ -1,5 +1,6 @@
 -- The texts that are written for JSON objects: RFC 8259.
-use Rattle.std.specs.Prelude.{◌≡◌, ◌≢◌, ◌≤◌, ℕ, List, All, Some}
+use Rattle.std.specs.Prelude.{◌≡◌, ◌≢◌, ◌≤◌, ℕ, List, ◌++◌, All, Some}
+use Rattle.cvss_lines.specs.Answers.{written_text}
 use Rattle.json.specs.Lex.{tokens}
 use Rattle.json.specs.Print.{print}
 use Rattle.serde_json.specs.Data.{Data, depth}
@@ -13,3 +14,9 @@ pub record IsTextOf (value : Data) (text : List ℕ) : Type 0 where
   pub in_order : IsInOrder text value
   pub compact : text ≡ print (tokens text)
   pub one_line : All (λ byte. byte ≢ 10) text
+
+-- the value's text and a byte 10 are written behind the earlier answers
+pub record WritesObject (value : Data) (old new : List ℕ) : Type 0 where
+  pub text : List ℕ
+  pub is_text : IsTextOf value text
+  pub written : new ≡ old ++ written_text text

@@ -1,9 +1,9 @@
 use Rattle.std.proofs.Common.{[], ◌∷◌, ◌++◌, ap, ◌∙◌, subst, append_assoc}
 use Rattle.std.proofs.lemmas.Result.{on_ok_weaker}
 use Rattle.serde_json.proofs.Views.{view-Object}
-use Rattle.cvss_audit.specs.Texts.{IsTextOf}
-use Rattle.cvss_audit.proofs.OneLineLemmas.{one_line}
-use Rattle.cvss_audit.proofs.write.write_object.Goals as goal
+use Rattle.cvss_object.specs.Texts.{IsTextOf}
+use Rattle.cvss_object.proofs.OneLineLemmas.{one_line}
+use Rattle.cvss_object.proofs.write.write_object.Goals as goal
 
 pub returns : goal.returns
 returns c =

@@ -1,0 +1,28 @@
+//! How objects are written.
+
+ghost use Rattle.std.specs.Prelude.{OnOk};
+ghost use Rattle.cvss_object.specs.Texts.{WritesObject};
+ghost use Rattle.serde_json.specs.Data.{object};
+ghost use Rattle.serde_json.specs.View.{members_view};
+
+use cvss_lines::Gathered;
+use serde_json::{Map, Value};
+use std::alloc::{AllocError, Global};
+
+/// Writes an object as JSON without spaces, and a byte 10.
+///
+/// # Errors
+///
+/// Want of memory alone.
+pub fn write_object(
+    alloc: Global,
+    members: Map<String, Value>,
+    answers: &mut Gathered,
+) -> Result<(), AllocError>
+    ensures { OnOk result (WritesObject (object (members_view members.entries))
+        answers.old.bytes.items answers.new.bytes.items) }
+{
+    let text = Value::Object(members).to_vec(alloc)?;
+    answers.push(&text)?;
+    answers.push(b"\n")
+}
