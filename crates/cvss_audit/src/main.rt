@@ -4,8 +4,6 @@
 #![tactic(auto)]
 
 mod documents;
-mod fault;
-pub mod laws;
 mod missing;
 mod place;
 mod program;
@@ -14,8 +12,7 @@ mod source;
 mod told;
 
 use cvss_lines::arguments;
-pub use cvss_lines::{RunFault, Summary};
-pub use fault::{Fault, exit_status};
+pub use cvss_lines::{Fault, RunFault, Summary, program_status};
 pub use program::{USAGE, run_program};
 pub use run::run;
 use std::process::ExitCode;
@@ -28,7 +25,7 @@ fn main(rt: HostRuntime) -> ExitCode {
             let _ = eprint!(rt; "{USAGE}");
         }
     }
-    ExitCode::from(exit_status(&result))
+    ExitCode::from(program_status(&result))
 }
 
 /// Runs over standard input and output, with the program's arguments.

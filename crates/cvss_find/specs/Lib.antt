@@ -1,4 +1,3 @@
 pub mod Answers
-pub mod Program
 pub mod laws
 pub mod private

@@ -2,15 +2,13 @@
 //! one line: where it stands, and what it is. `--help` prints how it is used.
 #![tactic(auto)]
 
-mod fault;
 pub mod laws;
 mod program;
 mod run;
 mod telling;
 
 use cvss_lines::arguments;
-pub use cvss_lines::{RunFault, Summary};
-pub use fault::{Fault, exit_status};
+pub use cvss_lines::{Fault, RunFault, Summary, program_status};
 pub use program::{USAGE, run_program};
 pub use run::run;
 use std::process::ExitCode;
@@ -19,8 +17,11 @@ fn main(rt: HostRuntime) -> ExitCode {
     let result = find(&rt);
     if let Err(fault) = &result {
         let _ = eprintln!(rt; "cvss_find: {fault}");
+        if *fault == Fault::Arguments {
+            let _ = eprint!(rt; "{USAGE}");
+        }
     }
-    ExitCode::from(exit_status(&result))
+    ExitCode::from(program_status(&result))
 }
 
 /// Runs over standard input and output, with the program's arguments.

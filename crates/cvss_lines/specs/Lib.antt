@@ -1,6 +1,7 @@
 pub mod Answers
 pub mod Exit
 pub mod Lines
+pub mod Program
 pub mod Requests
 pub mod Runs
 pub mod private

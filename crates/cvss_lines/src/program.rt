@@ -1,0 +1,92 @@
+//! A whole program that answers lines and knows no argument but `--help`.
+
+ghost use Rattle.std.specs.Prelude.{◌≡◌, ◌≢◌, ℕ, [], take, Some, IfErr, IfOk};
+ghost use Rattle.std.specs.Io.KnownBytes.{Appends};
+ghost use Rattle.cvss_lines.specs.Program.{Performs, fault_text, program_status as status_of};
+ghost use Rattle.cvss_lines.specs.Requests.{asked_alone as asked_of};
+ghost use Rattle.cvss_lines.specs.Runs.{summary_of};
+ghost use Rattle.cvss_lines.specs.declared.fault.RunFault.TheVariants.{Memory, Write as WriteFault};
+ghost use Rattle.cvss_lines.specs.declared.program.Fault.TheVariants.{Run as RunEnded};
+
+use crate::{Answering, Request, RunFault, Summary, asked_alone, run, write_whole};
+use std::alloc::{AllocError, Global};
+use std::fmt;
+use std::io::{Read, Write};
+
+/// Why a program ends before it has answered all of its input.
+#[derive(Clone, Copy, Debug, PartialEq, Eq)]
+pub enum Fault {
+    /// There are arguments other than `--help` alone.
+    Arguments,
+    /// The run has ended early.
+    Run(RunFault),
+}
+
+impl From<AllocError> for Fault {
+    ghost from_gives = { λ _ fault. fault ≡ RunEnded Memory };
+
+    fn from(_: AllocError) -> Fault {
+        Fault::Run(RunFault::Memory)
+    }
+}
+
+/// The words for the fault, without the program's name.
+impl fmt::Display for Fault {
+    ghost output = { λ fault. Some (fault_text fault) };
+
+    fn fmt<W: fmt::Write>(&self, f: &mut fmt::Formatter<W>) -> fmt::Result {
+        match self {
+            Fault::Arguments => f.write_str("no argument is known but `--help`"),
+            Fault::Run(fault) => write!(f, "{fault}"),
+        }
+    }
+}
+
+/// Writes the usage for `--help` alone, and answers lines as [`run`] does for no argument.
+///
+/// # Errors
+///
+/// A failure of the writer, after which a beginning of the usage may be written; any other argument,
+/// whereupon nothing is read or written; and those of `run`.
+pub fn run_program<A: Answering, R: Read, W: Write>(
+    alloc: Global,
+    usage: &str,
+    arguments: &[Vec<u8>],
+    reader: &mut R,
+    writer: &mut W,
+) -> Result<Summary, Fault>
+    ensures { Performs A.rule usage.now (asked_of arguments.now)
+        (R.remaining reader.old) (R.remaining reader.new)
+        (W.contents writer.old) (W.contents writer.new) result }
+{
+    match asked_alone(arguments) {
+        Request::Usage => write_usage(usage, writer),
+        Request::Unknown => Err(Fault::Arguments),
+        Request::Run => run::<A, R, W>(alloc, reader, writer).map_err(Fault::Run),
+    }
+}
+
+/// Writes the usage. No line is counted.
+fn write_usage<W: Write>(usage: &str, writer: &mut W) -> Result<Summary, Fault>
+    ensures whole { IfOk result (λ summary. (summary ≡ summary_of [])
+        × Appends (W.contents writer.old) (W.contents writer.new) usage.now) }
+    ensures cut { IfErr result (λ fault. (fault ≡ RunEnded WriteFault) × ((count : ℕ)
+        × Appends (W.contents writer.old) (W.contents writer.new) (take count usage.now))) }
+{
+    match write_whole(writer, usage.as_bytes()) {
+        Ok(()) => Ok(Summary::new()),
+        Err(fault) => Err(Fault::Run(fault)),
+    }
+}
+
+/// The exit status of a program: 0 if no line was refused or the usage is written, 1 if some were
+/// refused, 2 after a fault.
+pub fn program_status(outcome: &Result<Summary, Fault>) -> u8
+    ensures { result ≡ status_of outcome.now }
+{
+    match outcome {
+        Ok(summary) if summary.refused == 0 => 0,
+        Ok(_) => 1,
+        Err(_) => 2,
+    }
+}
