@@ -77,6 +77,7 @@ def python_environment():
 
 def try_python():
     pages = (PAGE, (ROOT / "README.md").read_text(), (ROOT / "bindings/python/README.md").read_text())
+    assert all(blocks(page, "python") for page in pages), "a page has no example of Python"
     for block in (block for page in pages for block in blocks(page, "python")):
         module = (re.findall(r"^(?:import|from) (pandas|dask)", block) or ["cvss_proved"])[0]
         if module == "dask":
@@ -112,6 +113,7 @@ def try_rust():
     (crate / "Cargo.toml").write_text(f'{head}cvss_proved = {{ path = "{ROOT}/bindings/rust" }}\n')
     home = {**os.environ, "CARGO_HOME": str(FOLDER / "no_registry"), "CARGO_TARGET_DIR": str(crate / "target")}
     pages = (PAGE, (ROOT / "README.md").read_text())
+    assert all("use cvss_proved" in page for page in pages), "a page has no example of Rust"
     for block in (block for page in pages for block in blocks(page, "rust") if "cvss_proved" in block):
         body = f"fn main() -> Result<(), Box<dyn std::error::Error>> {{\n{block}\nOk(())\n}}\n"
         (crate / "src/main.rs").write_text(body)
@@ -251,12 +253,16 @@ def check_figures():
 
 
 def try_removal():
-    """What is installed is taken away by the words of the page, which name each program that ./install builds."""
+    """What is installed is taken away by the words of the page, which name what ./install puts there besides."""
     home = FOLDER / "home"
     run(["bindings/install", home / ".local"], cwd=ROOT)
     block = block_with("rm -f")
-    for program in re.findall(r"^for program in (.*); do$", (ROOT / "install").read_text(), re.M)[0].split():
-        assert f"bin/{program} " in block, f"{program} is not taken away"
+    script = (ROOT / "install").read_text()
+    programs = re.findall(r"^for program in (.*); do$", script, re.M)[0].split()
+    libraries = re.findall(r'bindings/out/(\S+) "\$prefix/lib/"', script)
+    assert programs and libraries
+    for name in (*(f"bin/{program}" for program in programs), *(f"lib/{library}" for library in libraries)):
+        assert f"{name} " in block, f"{name} is not taken away"
     removal = "\n".join(line for line in block.splitlines() if not line.startswith("pip "))
     run(removal, shell=True, env={**os.environ, "HOME": str(home)})
     left = [path for path in home.rglob("*") if not path.is_dir() or path.is_symlink()]
