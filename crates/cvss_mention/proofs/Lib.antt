@@ -1,4 +1,5 @@
 mod NextLemmas
+mod PassLemmas
 mod PlaceLemmas
 mod SlashLemmas
 mod WholeLemmas

@@ -100,7 +100,7 @@ parts_some : (byte : ℕ) (rest : List ℕ) → 1 ≤ length (parts_of (byte ∷
 parts_some byte rest = either_some (not (is_vector_byte byte) || begins_part rest) byte (parts_of rest)
 
 -- behind such a byte the parts are those of what stands there
-parts_behind : (before rest : List ℕ) → is_other (last_byte before) ≡ true → parts_of (before ++ rest) ≡ parts_of before ++ parts_of rest
+pub parts_behind : (before rest : List ℕ) → is_other (last_byte before) ≡ true → parts_of (before ++ rest) ≡ parts_of before ++ parts_of rest
 parts_behind [] rest is = refl
 parts_behind (byte ∷ []) rest is =
     ap (λ other. cond (other || begins_part rest) ((byte ∷ []) ∷ parts_of rest) (onto_first byte (parts_of rest))) is
@@ -111,7 +111,7 @@ parts_behind (byte ∷ next ∷ before) rest is =
     ap₂ (λ (cut : Bool) (parts : List (List ℕ)). cond (not (is_vector_byte byte) || cut) ((byte ∷ []) ∷ parts) (onto_first byte parts)) cut_is (parts_behind (next ∷ before) rest is)
     ∙ either_both (not (is_vector_byte byte) || begins_part (next ∷ before)) byte (parts_of (next ∷ before)) (parts_of rest) (parts_some next before)
 
-placed_behind : (place : ℕ) (parts behind : List (List ℕ)) → placed_from place (parts ++ behind) ≡ placed_from place parts ++ placed_from (place + length (joined parts)) behind
+pub placed_behind : (place : ℕ) (parts behind : List (List ℕ)) → placed_from place (parts ++ behind) ≡ placed_from place parts ++ placed_from (place + length (joined parts)) behind
 placed_behind place [] behind = ap (λ at. placed_from at behind) (omega arith)
 placed_behind place (part ∷ parts) behind =
     ap (λ more. record { place = place; text = less_dividers part } ∷ more)
