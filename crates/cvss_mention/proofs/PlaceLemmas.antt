@@ -27,16 +27,16 @@ joined-parts (byte ∷ rest) =
     joined_either (not (is_vector_byte byte) || begins_part rest) byte (parts_of rest) ∙ ap (λ more. byte ∷ more) (joined-parts rest)
 
 -- a part begins with its mention
-record Begins (part : List ℕ) : Type 0 where
-  taken_off : List ℕ
-  is : part ≡ less_dividers part ++ taken_off
+pub record Begins (part : List ℕ) : Type 0 where
+  pub taken_off : List ℕ
+  pub is : part ≡ less_dividers part ++ taken_off
 
 begins_either : (all : Bool) (byte : ℕ) (rest less : List ℕ) (taken_off : List ℕ) → rest ≡ less ++ taken_off
     → (off : List ℕ) × (byte ∷ rest ≡ cond all [] (byte ∷ less) ++ off)
 begins_either true byte rest less taken_off is = (byte ∷ rest, refl)
 begins_either false byte rest less taken_off is = (taken_off, ap (λ more. byte ∷ more) is)
 
-begins : (part : List ℕ) → Begins part
+pub begins : (part : List ℕ) → Begins part
 begins [] = record { taken_off = []; is = refl }
 begins (byte ∷ rest) =
     let behind = begins rest in

@@ -32,7 +32,7 @@ joined_slashed text (piece ∷ next ∷ more) is two =
     ap (has slash) is ∙ list_any-append (λ each. eqb each slash) piece (slash ∷ joined (next ∷ more)) ∙ or-true (has slash piece)
 
 -- a list that is not empty
-some_parts : (parts : List (List ℕ)) → parts ≢ [] → 1 ≤ length parts
+pub some_parts : (parts : List (List ℕ)) → parts ≢ [] → 1 ≤ length parts
 some_parts [] some = absurd (some refl)
 some_parts (part ∷ parts) some = omega arith
 

@@ -5,6 +5,7 @@ use Rattle.std.specs.List.{Contains, list_all, starts_with}
 use Rattle.std.proofs.lemmas.Bool.{and_parts, or_parts, eqb-true}
 use Rattle.std.proofs.lemmas.List.{length-append}
 use Rattle.std.proofs.lemmas.List.Elements.{Contains-append_right}
+use Rattle.cvss.specs.Text.{has}
 use Rattle.cvss_parts.specs.Parts.{begins_part, begins_with_prefix, is_vector_byte, less_dividers, onto_first, parts_of}
 use Rattle.cvss_mention.specs.Mentions.{Placed, mentions_of, placed_from}
 use Rattle.cvss_mention.specs.laws.Whole.{IsMentionedBetween, IsWhole, has_second_prefix, is_other, last_byte}
@@ -18,17 +19,22 @@ differ a b written other true is =
     let no : not (is_vector_byte a) ≡ true = subst (λ byte. not (is_vector_byte byte) ≡ true) (sym one) other in
     absurd (let both : not true ≡ true = subst (λ w. not w ≡ true) written no in cc)
 
--- whether a text begins with bytes of vectors is not told by what stands behind another byte
-starts_before : (needle text : List ℕ) (other : ℕ) (rest : List ℕ) → list_all is_vector_byte needle ≡ true → not (is_vector_byte other) ≡ true
+-- whether a text begins with some bytes is not told by what stands behind a byte that is none of them
+pub starts_before : (needle text : List ℕ) (other : ℕ) (rest : List ℕ) → has other needle ≡ false
     → starts_with eqb (text ++ other ∷ rest) needle ≡ starts_with eqb text needle
-starts_before [] text other rest written is = refl
-starts_before (byte ∷ needle) [] other rest written is =
-    ap (λ same. same && pointwise eqb needle (take (length needle) rest)) (differ byte other (and_parts _ _ written).0 is (eqb byte other) refl)
-starts_before (byte ∷ needle) (first ∷ text) other rest written is =
-    ap (λ same. eqb byte first && same) (starts_before needle text other rest (and_parts _ _ written).1 is)
+starts_before [] text other rest none = refl
+starts_before (byte ∷ needle) [] other rest none =
+    ap (λ same. same && pointwise eqb needle (take (length needle) rest)) (or_parts (eqb byte other) (has other needle) none).0
+starts_before (byte ∷ needle) (first ∷ text) other rest none =
+    ap (λ same. eqb byte first && same) (starts_before needle text other rest (or_parts (eqb byte other) (has other needle) none).1)
+
+none_of : (needle : List ℕ) (other : ℕ) → list_all is_vector_byte needle ≡ true → not (is_vector_byte other) ≡ true → has other needle ≡ false
+none_of [] other written is = refl
+none_of (byte ∷ needle) other written is =
+    ap₂ (λ (a b : Bool). a || b) (differ byte other (and_parts _ _ written).0 is (eqb byte other) refl) (none_of needle other (and_parts _ _ written).1 is)
 
 begins_before : (text : List ℕ) (other : ℕ) (rest : List ℕ) → not (is_vector_byte other) ≡ true → begins_with_prefix (text ++ other ∷ rest) ≡ begins_with_prefix text
-begins_before text other rest is = starts_before (codes "CVSS:") text other rest refl is
+begins_before text other rest is = starts_before (codes "CVSS:") text other rest (none_of (codes "CVSS:") other refl is)
 
 begins_behind : (text behind : List ℕ) → is_other behind ≡ true → begins_with_prefix (text ++ behind) ≡ begins_with_prefix text
 begins_behind text [] is = ap begins_with_prefix (append-nil text)
@@ -100,7 +106,7 @@ parts_some : (byte : ℕ) (rest : List ℕ) → 1 ≤ length (parts_of (byte ∷
 parts_some byte rest = either_some (not (is_vector_byte byte) || begins_part rest) byte (parts_of rest)
 
 -- behind such a byte the parts are those of what stands there
-parts_behind : (before rest : List ℕ) → is_other (last_byte before) ≡ true → parts_of (before ++ rest) ≡ parts_of before ++ parts_of rest
+pub parts_behind : (before rest : List ℕ) → is_other (last_byte before) ≡ true → parts_of (before ++ rest) ≡ parts_of before ++ parts_of rest
 parts_behind [] rest is = refl
 parts_behind (byte ∷ []) rest is =
     ap (λ other. cond (other || begins_part rest) ((byte ∷ []) ∷ parts_of rest) (onto_first byte (parts_of rest))) is
@@ -111,7 +117,7 @@ parts_behind (byte ∷ next ∷ before) rest is =
     ap₂ (λ (cut : Bool) (parts : List (List ℕ)). cond (not (is_vector_byte byte) || cut) ((byte ∷ []) ∷ parts) (onto_first byte parts)) cut_is (parts_behind (next ∷ before) rest is)
     ∙ either_both (not (is_vector_byte byte) || begins_part (next ∷ before)) byte (parts_of (next ∷ before)) (parts_of rest) (parts_some next before)
 
-placed_behind : (place : ℕ) (parts behind : List (List ℕ)) → placed_from place (parts ++ behind) ≡ placed_from place parts ++ placed_from (place + length (joined parts)) behind
+pub placed_behind : (place : ℕ) (parts behind : List (List ℕ)) → placed_from place (parts ++ behind) ≡ placed_from place parts ++ placed_from (place + length (joined parts)) behind
 placed_behind place [] behind = ap (λ at. placed_from at behind) (omega arith)
 placed_behind place (part ∷ parts) behind =
     ap (λ more. record { place = place; text = less_dividers part } ∷ more)

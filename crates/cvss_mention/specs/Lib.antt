@@ -1,3 +1,4 @@
 pub mod Mentions
 pub mod MentionsLeft
 pub mod laws
+pub mod private

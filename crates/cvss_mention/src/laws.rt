@@ -1,7 +1,7 @@
 //! Laws, each the contract of a function that does nothing.
 
 ghost use Rattle.std.specs.Prelude.{◌≡◌, ℕ, List, [], ◌∷◌, All};
-ghost use Rattle.cvss_mention.specs.Mentions.{mentions_of};
+ghost use Rattle.cvss_mention.specs.Mentions.{IsAccepted, mentions_of};
 ghost use Rattle.cvss_mention.specs.declared.mention.Mention.{Mention};
 ghost use Rattle.cvss_mention.specs.declared.mentions.Mentions.{Mentions};
 ghost use Rattle.cvss_mention.specs.laws.Places.{AreInOrder, StandsIn};
@@ -24,6 +24,15 @@ pub fn whole_texts_are_mentions()
     ensures between { (before text behind : List ℕ) → IsWhole text
         → IsMentionedBetween before text behind }
     ensures alone { (text : List ℕ) → IsWhole text
+        → mentions_of text ≡ record { place = 0; text = text } ∷ [] }
+{}
+
+/// A text that is accepted as a vector is one mention as a whole.
+pub fn accepted_texts_are_mentions()
+    ensures whole { (text : List ℕ) → IsAccepted text → IsWhole text }
+    ensures between { (before text behind : List ℕ) → IsAccepted text
+        → IsMentionedBetween before text behind }
+    ensures alone { (text : List ℕ) → IsAccepted text
         → mentions_of text ≡ record { place = 0; text = text } ∷ [] }
 {}
 

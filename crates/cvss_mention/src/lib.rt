@@ -4,6 +4,7 @@
 pub mod laws;
 mod mention;
 mod mentions;
+mod passing;
 
 pub use mention::Mention;
 pub use mentions::Mentions;

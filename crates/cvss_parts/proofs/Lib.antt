@@ -1,2 +1,2 @@
-mod EndLemmas
+pub mod EndLemmas
 mod PartLemmas

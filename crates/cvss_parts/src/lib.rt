@@ -3,4 +3,4 @@
 
 mod part;
 
-pub use part::{begins_with_prefix, first_part, less_dividers};
+pub use part::{begins_with_prefix, first_part, is_vector_byte, less_dividers};

@@ -47,7 +47,7 @@ pub fn begins_with_prefix(text: &[u8]) -> bool
 
 /// Whether vectors are written with a byte: an ASCII letter or digit, `.`, `/` or `:`.
 #[inline(always)]
-fn is_vector_byte(byte: u8) -> bool
+pub fn is_vector_byte(byte: u8) -> bool
     ensures { result ≡ is_vector_byte byte }
 {
     matches!(byte, b'a'..=b'z' | b'A'..=b'Z' | b'.'..=b':')

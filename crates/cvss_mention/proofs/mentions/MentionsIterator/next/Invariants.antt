@@ -1,6 +1,6 @@
 use Rattle.std.proofs.Common.{length}
-use Rattle.cvss_mention.proofs.NextLemmas.{Passes}
 use Rattle.cvss_mention.specs.MentionsLeft.{mentions_left}
+use Rattle.cvss_mention.specs.private.Passing.{Passes}
 use Rattle.cvss_mention.proofs.mentions.MentionsIterator.next.Given as goal
 
 abbrev pub invariant-loop-mention : goal.invariant-loop-mention

@@ -1,0 +1,120 @@
+-- What is accepted as a vector is whole.
+use Rattle.std.proofs.Common.{◌≡◌, ◌≢◌, ℕ, zero, suc, ◌≤◌, true, rules, List, [], ◌∷◌, ◌++◌, codes, length, refl, sym, ap, ◌∙◌, subst, arith, lit<}
+use Rattle.std.specs.List.{All, Contains}
+use Rattle.std.proofs.lemmas.List.Elements.{All-from_get_or}
+use Rattle.cvss.specs.Dispatch.{DenotesCvss, DenotesV2, DenotesV3, DenotesV4}
+use Rattle.cvss.specs.Text.{component, joined, slash}
+use Rattle.cvss.specs.Version.{AreComponentsOf, Version, numeral, read, version_piece}
+use Rattle.cvss.specs.declared.vector.Cvss.{Cvss}
+use Rattle.cvss.specs.declared.vector.Cvss.TheVariants.{CvssV20, CvssV30, CvssV31, CvssV40}
+use Rattle.cvss_grammar.specs.Refusal.{piece_at}
+use Rattle.cvss_name.specs.declared.v2.MetricType.{MetricType as KindV2}
+use Rattle.cvss_name.specs.declared.v2.MetricType.TheVariants as kind_v2
+use Rattle.cvss_name.specs.declared.v3.MetricType.{MetricType as KindV3}
+use Rattle.cvss_name.specs.declared.v3.MetricType.TheVariants as kind_v3
+use Rattle.cvss_name.specs.declared.v4.MetricType.{MetricType as KindV4}
+use Rattle.cvss_name.specs.declared.v4.MetricType.TheVariants as kind_v4
+use Rattle.cvss_text.proofs.ComponentLemmas.{held_stands, piece_held}
+use Rattle.cvss_text.proofs.WalkLemmas.{value_from}
+use Rattle.cvss_text.specs.private.Walk.{IsLawful}
+use Rattle.cvss_v2.specs.Vector.{v2}
+use Rattle.cvss_v2.specs.private.VectorLaws.{v2_is_lawful}
+use Rattle.cvss_v2.specs.declared.vector.Vector as vector_v2
+use Rattle.cvss_v3.specs.Vector.{v3}
+use Rattle.cvss_v3.specs.private.VectorLaws.{v3_is_lawful}
+use Rattle.cvss_v3.specs.declared.vector.Vector as vector_v3
+use Rattle.cvss_v4.specs.Vector.{v4}
+use Rattle.cvss_v4.specs.private.VectorLaws.{v4_is_lawful}
+use Rattle.cvss_v4.specs.declared.vector.Vector as vector_v4
+use Rattle.cvss_mention.specs.Mentions.{IsAccepted, mentions_of}
+use Rattle.cvss_mention.specs.laws.Whole.{IsMentionedBetween, IsWhole}
+use Rattle.cvss_mention.proofs.PlainLemmas.{IsPlain, IsPlain-from, IsPlain-joined, IsPlain-read, IsWhole-behind, IsWhole-plain, is_plain}
+use Rattle.cvss_mention.proofs.SlashLemmas.{some_parts}
+use Rattle.cvss_mention.proofs.WholeLemmas.{mentioned_alone, mentioned_between}
+
+-- the component of a value, as it is read
+abbrev component_read : {V K : Type 0} → (version : Version V K) → (kind : K) → version.Value kind → List ℕ
+component_read version kind value = component (version.name kind) (read version (version.spelling kind value))
+
+plain_v2 : (kind : KindV2) (value : v2.Value kind) → is_plain (component_read v2 kind value) ≡ true
+plain_v2 kind_v2.A = search rules
+plain_v2 _ = search rules
+
+plain_v3 : (kind : KindV3) (value : v3.Value kind) → is_plain (component_read v3 kind value) ≡ true
+plain_v3 kind_v3.A = search rules
+plain_v3 _ = search rules
+
+plain_v4 : (kind : KindV4) (value : v4.Value kind) → is_plain (component_read v4 kind value) ≡ true
+plain_v4 kind_v4.AC = search rules
+plain_v4 _ = search rules
+
+plain_joined : (parts : List (List ℕ)) → 1 ≤ length parts → All IsPlain parts → IsPlain (joined parts)
+plain_joined [] some all = absurd (omega (arith, some))
+plain_joined (part ∷ parts) some all = IsPlain-joined part parts all
+
+-- the components of a vector, joined
+plain_parts : {V K : Type 0} (version : Version V K) → IsLawful version → ((kind : K) (value : version.Value kind) → is_plain (component_read version kind value) ≡ true)
+    → (v : V) (parts : List (List ℕ)) → AreComponentsOf version parts v → 1 ≤ length parts → IsPlain (joined parts)
+plain_parts version lawful plain v parts components some =
+    plain_joined parts some (All-from_get_or IsPlain parts [] (λ place within.
+    let held = piece_held version lawful v parts place components within in
+    IsPlain-read version.any_case (piece_at parts place) (subst IsPlain (sym held.is) (IsPlain-from (component_read version held.kind held.value) (plain held.kind held.value)))))
+
+whole_v2 : (text : List ℕ) (vector : vector_v2.Vector) → DenotesV2 text vector → IsWhole text
+whole_v2 text vector denotes =
+    let parts = denotes.denoted.parts in
+    let av = value_from (v2.value_of vector kind_v2.AV) (denotes.complete.present kind_v2.AV (0, lit< tt, refl)) in
+    let stands = held_stands v2 v2_is_lawful vector parts kind_v2.AV av.0 denotes.denoted.components av.1 in
+    subst IsWhole (sym denotes.denoted.text_is)
+    (IsWhole-plain (joined parts) (plain_parts v2 v2_is_lawful plain_v2 vector parts denotes.denoted.components (omega (arith, stands.within))))
+
+-- a piece before others
+joined_first : (piece : List ℕ) (parts : List (List ℕ)) → 1 ≤ length parts → joined (piece ∷ parts) ≡ piece ++ slash ∷ joined parts
+joined_first piece [] some = absurd (omega (arith, some))
+joined_first piece (next ∷ parts) some = refl
+
+-- behind a piece that tells a version
+whole_behind : (text piece : List ℕ) (front parts : List (List ℕ)) → ((rest : List ℕ) → IsPlain rest → IsWhole (piece ++ slash ∷ rest))
+    → text ≡ joined (front ++ parts) → front ≡ piece ∷ [] → 1 ≤ length parts → IsPlain (joined parts) → IsWhole text
+whole_behind text piece front parts whole is front_is some plain =
+    subst IsWhole (sym (is ∙ ap (λ first. joined (first ++ parts)) front_is ∙ joined_first piece parts some)) (whole (joined parts) plain)
+
+whole_v3 : (text piece : List ℕ) (minor : ℕ) (vector : vector_v3.Vector) → DenotesV3 text piece minor vector → piece ≡ version_piece (codes "3." ++ numeral minor)
+    → ((rest : List ℕ) → IsPlain rest → IsWhole (piece ++ slash ∷ rest)) → IsWhole text
+whole_v3 text piece minor vector denotes piece_is whole =
+    let parts = denotes.denoted.parts in
+    let front : v3.front vector ≡ piece ∷ [] = ap (λ n. version_piece (codes "3." ++ numeral n) ∷ []) denotes.version ∙ ap (λ first. first ∷ []) (sym piece_is) in
+    let none : parts ≢ [] = λ none. denotes.more (denotes.denoted.text_is ∙ rw (none, denotes.version) (sym piece_is)) in
+    let some = some_parts parts none in
+    whole_behind text piece (v3.front vector) parts whole denotes.denoted.text_is front some
+    (plain_parts v3 v3_is_lawful plain_v3 vector parts denotes.denoted.components some)
+
+told_v4 : (told : List ℕ) → Contains v4.supported told → told ≡ codes "4.0"
+told_v4 told (zero, within, is) = sym is
+told_v4 told (suc place, within, is) = absurd (omega (arith, within))
+
+whole_v4 : (text : List ℕ) (vector : vector_v4.Vector) → DenotesV4 text vector → IsWhole text
+whole_v4 text vector denotes =
+    let parts = denotes.denoted.parts in
+    let supported = denotes.well_formed.supported in
+    let value = value_from (v4.value_of vector kind_v4.AC) (denotes.well_formed.complete.present kind_v4.AC (0, lit< tt, refl)) in
+    let stands = held_stands v4 v4_is_lawful vector parts kind_v4.AC value.0 denotes.denoted.components value.1 in
+    let some : 1 ≤ length parts = omega (arith, stands.within) in
+    whole_behind text (codes "CVSS:4.0") (v4.front vector) parts (λ rest plain. IsWhole-behind 67 (codes "VSS:4.0") rest refl refl plain)
+    denotes.denoted.text_is (supported.front_is ∙ ap (λ told. version_piece told ∷ []) (told_v4 supported.told supported.supported)) some
+    (plain_parts v4 v4_is_lawful plain_v4 vector parts denotes.denoted.components some)
+
+denoted_whole : (text : List ℕ) (cvss : Cvss) → DenotesCvss text cvss → IsWhole text
+denoted_whole text (CvssV20 vector) denotes = whole_v2 text vector denotes
+denoted_whole text (CvssV30 vector) denotes = whole_v3 text (codes "CVSS:3.0") 0 vector denotes refl (λ rest plain. IsWhole-behind 67 (codes "VSS:3.0") rest refl refl plain)
+denoted_whole text (CvssV31 vector) denotes = whole_v3 text (codes "CVSS:3.1") 1 vector denotes refl (λ rest plain. IsWhole-behind 67 (codes "VSS:3.1") rest refl refl plain)
+denoted_whole text (CvssV40 vector) denotes = whole_v4 text vector denotes
+
+pub accepted_whole : (text : List ℕ) → IsAccepted text → IsWhole text
+accepted_whole text accepted = denoted_whole text accepted.cvss accepted.denoted
+
+pub accepted_between : (before text behind : List ℕ) → IsAccepted text → IsMentionedBetween before text behind
+accepted_between before text behind accepted = mentioned_between before text behind (accepted_whole text accepted)
+
+pub accepted_alone : (text : List ℕ) → IsAccepted text → mentions_of text ≡ record { place = 0; text = text } ∷ []
+accepted_alone text accepted = mentioned_alone text (accepted_whole text accepted)

@@ -1,0 +1,151 @@
+-- Texts of vector bytes in which `CVSS:` stands nowhere, and that do not end with a divider.
+use Rattle.std.proofs.Common.{◌≡◌, ℕ, Bool, true, false, cond, not, eqb, ◌||◌, ◌&&◌, List, [], ◌∷◌, ◌++◌, codes, refl, sym, ap, ap₂, ◌∙◌, arith}
+use Rattle.std.specs.Char.{to_ascii_uppercase}
+use Rattle.std.specs.List.{All, list_all, starts_with}
+use Rattle.std.proofs.lemmas.Bool.{and_parts, or_parts, eqb-true, eq-eqb}
+use Rattle.std.proofs.lemmas.Bool.Decides.{nat_tests}
+use Rattle.std.proofs.lemmas.List.Elements.{All-head, All-tail}
+use Rattle.std.proofs.lemmas.List.Folds.{list_all-append}
+use Rattle.cvss.specs.Text.{joined, raised, read_as, slash}
+use Rattle.cvss_parts.specs.Parts.{begins_with_prefix, is_divider, is_vector_byte, less_dividers}
+use Rattle.cvss_mention.specs.laws.Whole.{IsWhole, has_second_prefix}
+use Rattle.cvss_mention.proofs.WholeLemmas.{starts_before}
+
+-- `CVSS:` stands in the text
+abbrev pub has_prefix : List ℕ → Bool
+has_prefix [] = false
+has_prefix (byte ∷ rest) = begins_with_prefix (byte ∷ rest) || has_prefix rest
+
+-- the text has bytes, and its last byte is no divider
+abbrev pub ends_whole : List ℕ → Bool
+ends_whole [] = false
+ends_whole (byte ∷ []) = not (is_divider byte)
+ends_whole (byte ∷ next ∷ rest) = ends_whole (next ∷ rest)
+
+abbrev pub is_plain : List ℕ → Bool
+is_plain text = list_all is_vector_byte text && (not (has_prefix text) && ends_whole text)
+
+pub record IsPlain (text : List ℕ) : Type 0 where
+  pub written : list_all is_vector_byte text ≡ true
+  pub free : has_prefix text ≡ false
+  pub ended : ends_whole text ≡ true
+
+not_true : (b : Bool) → not b ≡ true → b ≡ false
+not_true true is = cc
+not_true false is = refl
+
+pub IsPlain-from : (text : List ℕ) → is_plain text ≡ true → IsPlain text
+IsPlain-from text is =
+    let both = and_parts (list_all is_vector_byte text) (not (has_prefix text) && ends_whole text) is in
+    let rest = and_parts (not (has_prefix text)) (ends_whole text) both.1 in
+    record { written = both.0; free = not_true (has_prefix text) rest.0; ended = rest.1 }
+
+-- with a slash between them
+written_slashed : (front rest : List ℕ) → list_all is_vector_byte front ≡ true → list_all is_vector_byte rest ≡ true → list_all is_vector_byte (front ++ slash ∷ rest) ≡ true
+written_slashed front rest first then = list_all-append is_vector_byte front (slash ∷ rest) ∙ ap₂ (λ (a b : Bool). a && b) first then
+
+free_slashed : (front rest : List ℕ) → has_prefix front ≡ false → has_prefix rest ≡ false → has_prefix (front ++ slash ∷ rest) ≡ false
+free_slashed [] rest first then = then
+free_slashed (byte ∷ front) rest first then =
+    let parts = or_parts (begins_with_prefix (byte ∷ front)) (has_prefix front) first in
+    ap₂ (λ (a b : Bool). a || b) (starts_before (codes "CVSS:") (byte ∷ front) slash rest refl ∙ parts.0) (free_slashed front rest parts.1 then)
+
+ends_behind : (front rest : List ℕ) → ends_whole rest ≡ true → ends_whole (front ++ slash ∷ rest) ≡ true
+ends_behind [] [] is = is
+ends_behind [] (byte ∷ rest) is = is
+ends_behind (byte ∷ []) [] is = is
+ends_behind (byte ∷ []) (first ∷ rest) is = is
+ends_behind (byte ∷ next ∷ front) rest is = ends_behind (next ∷ front) rest is
+
+pub IsPlain-joined : (part : List ℕ) (parts : List (List ℕ)) → All IsPlain (part ∷ parts) → IsPlain (joined (part ∷ parts))
+IsPlain-joined part [] all = All-head IsPlain part [] all
+IsPlain-joined part (next ∷ parts) all =
+    let first = All-head IsPlain part (next ∷ parts) all in
+    let then = IsPlain-joined next parts (All-tail IsPlain part (next ∷ parts) all) in
+    record {
+      written = written_slashed part (joined (next ∷ parts)) first.written then.written;
+      free = free_slashed part (joined (next ∷ parts)) first.free then.free;
+      ended = ends_behind part (joined (next ∷ parts)) then.ended;
+    }
+
+-- read in any ASCII case
+raised_vector_byte : (byte : ℕ) → is_vector_byte (to_ascii_uppercase byte) ≡ is_vector_byte byte
+raised_vector_byte byte = grind (arith, nat_tests)
+
+raised_divider : (byte : ℕ) → is_divider (to_ascii_uppercase byte) ≡ is_divider byte
+raised_divider byte = grind (arith, nat_tests)
+
+written_raised : (text : List ℕ) → list_all is_vector_byte (raised text) ≡ list_all is_vector_byte text
+written_raised [] = refl
+written_raised (byte ∷ text) = ap₂ (λ (a b : Bool). a && b) (raised_vector_byte byte) (written_raised text)
+
+ends_raised : (text : List ℕ) → ends_whole (raised text) ≡ ends_whole text
+ends_raised [] = refl
+ends_raised (byte ∷ []) = ap not (raised_divider byte)
+ends_raised (byte ∷ next ∷ text) = ends_raised (next ∷ text)
+
+-- a capital that is not there when raised is not there
+raised_same : (capital byte : ℕ) → eqb (to_ascii_uppercase capital) capital ≡ true → eqb capital byte ≡ true → eqb capital (to_ascii_uppercase byte) ≡ true
+raised_same capital byte kept same =
+    eq-eqb capital (to_ascii_uppercase byte) (sym (eqb-true (to_ascii_uppercase capital) capital kept) ∙ ap to_ascii_uppercase (eqb-true capital byte same))
+
+and_fails : (a a' b b' : Bool) → (a ≡ true → a' ≡ true) → (b' ≡ false → b ≡ false) → (a' && b') ≡ false → (a && b) ≡ false
+and_fails false a' b b' first then none = refl
+and_fails true a' b b' first then none = then (sym (ap (λ each. each && b') (first refl)) ∙ none)
+
+raised_starts : (needle text : List ℕ) → list_all (λ byte. eqb (to_ascii_uppercase byte) byte) needle ≡ true → starts_with eqb (raised text) needle ≡ false → starts_with eqb text needle ≡ false
+raised_starts [] text kept none = none
+raised_starts (byte ∷ needle) [] kept none = refl
+raised_starts (byte ∷ needle) (first ∷ text) kept none =
+    let both = and_parts (eqb (to_ascii_uppercase byte) byte) (list_all (λ each. eqb (to_ascii_uppercase each) each) needle) kept in
+    and_fails (eqb byte first) (eqb byte (to_ascii_uppercase first)) (starts_with eqb text needle) (starts_with eqb (raised text) needle)
+    (raised_same byte first both.0) (raised_starts needle text both.1) none
+
+free_raised : (text : List ℕ) → has_prefix (raised text) ≡ false → has_prefix text ≡ false
+free_raised [] none = refl
+free_raised (byte ∷ text) none =
+    let parts = or_parts (begins_with_prefix (raised (byte ∷ text))) (has_prefix (raised text)) none in
+    ap₂ (λ (a b : Bool). a || b) (raised_starts (codes "CVSS:") (byte ∷ text) refl parts.0) (free_raised text parts.1)
+
+pub IsPlain-read : (any_case : Bool) (text : List ℕ) → IsPlain (read_as any_case text) → IsPlain text
+IsPlain-read true text is = record { written = sym (written_raised text) ∙ is.written; free = free_raised text is.free; ended = sym (ends_raised text) ∙ is.ended }
+IsPlain-read false text is = is
+
+-- such a text is whole
+second_prefix : (byte : ℕ) (rest : List ℕ) → has_second_prefix (byte ∷ rest) ≡ has_prefix rest
+second_prefix byte [] = refl
+second_prefix byte (next ∷ rest) = ap (λ more. begins_with_prefix (next ∷ rest) || more) (second_prefix next rest)
+
+and_false : (b : Bool) → (b && false) ≡ false
+and_false true = refl
+and_false false = refl
+
+not_dividers : (text : List ℕ) → ends_whole text ≡ true → list_all is_divider text ≡ false
+not_dividers [] ends = cc
+not_dividers (byte ∷ []) ends = ap (λ divides. divides && true) (not_true (is_divider byte) ends)
+not_dividers (byte ∷ next ∷ rest) ends = ap (λ all. is_divider byte && all) (not_dividers (next ∷ rest) ends) ∙ and_false (is_divider byte)
+
+less_nothing : (text : List ℕ) → ends_whole text ≡ true → less_dividers text ≡ text
+less_nothing [] ends = refl
+less_nothing (byte ∷ []) ends = ap (λ all. cond all [] (byte ∷ [])) (not_dividers (byte ∷ []) ends)
+less_nothing (byte ∷ next ∷ rest) ends =
+    ap (λ all. cond all [] (byte ∷ less_dividers (next ∷ rest))) (not_dividers (byte ∷ next ∷ rest) ends)
+    ∙ ap (λ more. byte ∷ more) (less_nothing (next ∷ rest) ends)
+
+pub IsWhole-plain : (text : List ℕ) → IsPlain text → IsWhole text
+IsWhole-plain [] plain = absurd (let ends : false ≡ true = plain.ended in cc)
+IsWhole-plain (byte ∷ rest) plain = record {
+  written = plain.written;
+  once = second_prefix byte rest ∙ (or_parts (begins_with_prefix (byte ∷ rest)) (has_prefix rest) plain.free).1;
+  ended = less_nothing (byte ∷ rest) plain.ended;
+  some = λ none. cc none;
+}
+
+-- and it is behind a piece that tells a version
+pub IsWhole-behind : (byte : ℕ) (front rest : List ℕ) → list_all is_vector_byte (byte ∷ front) ≡ true → has_prefix front ≡ false → IsPlain rest → IsWhole ((byte ∷ front) ++ slash ∷ rest)
+IsWhole-behind byte front rest written free plain = record {
+  written = written_slashed (byte ∷ front) rest written plain.written;
+  once = second_prefix byte (front ++ slash ∷ rest) ∙ free_slashed front rest free plain.free;
+  ended = less_nothing ((byte ∷ front) ++ slash ∷ rest) (ends_behind (byte ∷ front) rest plain.ended);
+  some = λ none. cc none;
+}
