@@ -85,11 +85,16 @@ def check_refused_requests(port: int) -> None:
         assert told == status and (status == 200 or content.startswith(b"This is too large")), (size, told, content)
     assert asked(port, "/", X="x" * 17_000)[0] == asked(port, "/", X="x" * 70_000)[0] == 413
     assert asked(port, "/", body=b"x")[0] == 413
-    two_hosts = f"GET / HTTP/1.1\r\nHost: 127.0.0.1:{port}\r\nHost: a\r\n\r\n"
-    for request in ("GET / HTTP/1.1\r\n\r\n", "GET / HTTP/1.0\r\n\r\n", two_hosts):
+    own = f"GET / HTTP/1.1\r\nHost: 127.0.0.1:{port}\r\n"
+    requests = {
+        "GET / HTTP/1.1\r\n\r\n": 403, "GET / HTTP/1.0\r\n\r\n": 403, f"{own}Host: a\r\n\r\n": 403,
+        f"{own}Content-Length: 0\r\nContent-Length: 5\r\n\r\nhello": 413, f"{own}\r\n": 200,
+        f"{own}Transfer-Encoding: chunked\r\n\r\n0\r\n\r\n": 413,
+    }
+    for request, status in requests.items():
         with socket.create_connection(("127.0.0.1", port), 20) as connection:
             connection.sendall(request.encode())
-            assert connection.recv(100).split()[1] == b"403", request
+            assert int(connection.recv(100).split()[1]) == status, request
 
 
 def is_accepted(text: Text) -> bool:
@@ -114,12 +119,12 @@ def check_answers(port: int, root: Path) -> None:
         expected = [(f"{score:.1f}", severity) for score, severity in pairs if score is not None]
         assert (told["text"], told["version"], scores) == (vector.text, vector.version, expected), line
         assert (told["score"], told["severity"]) == expected[0] and told["metrics"] == vector.metrics, line
-        assert told["nomenclature"] == vector.nomenclature, line
+        assert told["nomenclature"] == vector.nomenclature and told["account"] == vector.account(), line
     for refused in (b"AV:N/AC:L", b"", b"\xff", b"CVSS:3.1", b"hello", b"CVSS:3.1/AV:Q", "\u202e/AV:N".encode()):
         (told,) = read(port, refused)
         assert not is_accepted(refused)
         error = CvssError.of(refused)
-        assert (told["reason"], told["metric"]) == (error.reason, error.metric), refused
+        assert (told["reason"], told["metric"]) == (error.reason, error.metric) and "account" not in told, refused
     status, headers, content = asked(port, f"/record?text={V4}")
     assert status == 200 and json.loads(content) == Vector(V4).record()
     assert "attachment" in headers["content-disposition"]
@@ -166,6 +171,13 @@ def check_metrics(root: Path) -> None:
     assert {word.partition("=")[0] for word in stored.split() if "=" in word} == named, named
 
 
+def check_size(root: Path) -> None:
+    """The page is small enough to be read."""
+    folder = root / "bindings" / "python" / "cvss_proved" / "calculator"
+    counts = {end: len((folder / f"page.{end}").read_text().splitlines()) for end in ("html", "css", "js")}
+    assert 0 < sum(counts.values()) <= 1_200, counts
+
+
 def started(*arguments: str) -> "subprocess.Popen[str]":
     return subprocess.Popen([*COMMAND, *arguments], stdout=subprocess.PIPE, stderr=subprocess.PIPE, text=True)
 
@@ -209,6 +221,7 @@ if __name__ == "__main__":
         check_answers(served, folder)
         check_texts(served)
     check_metrics(folder)
+    check_size(folder)
     check_command()
     check_names()
     print("Python: the calculator answers what the library does, and refuses what it must")
