@@ -48,7 +48,9 @@ pub(crate) fn prints<T: fmt::Display>(
     text: &str,
 ) -> Tried {
     assert_eq!(rt; value.to_string(alloc)?.as_str(), text);
-    let styled = format!(in alloc; "{value:>200}\n{value:<12}\n{value:*^9.3}\n{value:#}\n{value:+}")?;
+    let styled = format!(in alloc;
+        "{value:>200}\n{value:<12}\n{value:*^9.3}\n{value:#}\n{value:+}"
+    )?;
     for each in styled.split('\n') {
         assert_eq!(rt; each, text);
     }
