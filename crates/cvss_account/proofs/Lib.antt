@@ -1,0 +1,2 @@
+mod DecimalLemmas
+mod NearLemmas
