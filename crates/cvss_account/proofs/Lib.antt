@@ -1,2 +1,3 @@
+mod CloseLemmas
 mod DecimalLemmas
 mod NearLemmas

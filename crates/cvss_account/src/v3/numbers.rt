@@ -1,6 +1,10 @@
 //! The numbers on the way to the scores of CVSS v3.
 
-ghost use Rattle.cvss_account.specs.NumbersV3.{AreBaseNumbers, AreEnvironmentalNumbers, AreTemporalNumbers};
+ghost use Rattle.std.specs.Prelude.{ℤ};
+ghost use Rattle.cvss_account.specs.Near.{IsNear, count_of};
+ghost use Rattle.cvss_account.specs.NumbersV3.{AreBaseNumbers, AreEnvironmentalNumbers, AreTemporalNumbers, IsFirst, IsNearBy};
+ghost use Rattle.cvss_number.specs.Tenths.{IsInTenths};
+ghost use Rattle.cvss_v3.specs.Scores.{base_number, environmental_number, temporal_number, IsBaseScore, IsEnvironmentalScore};
 ghost use Rattle.cvss_v3.specs.VectorWeights.{weights_of};
 
 use crate::near::ten_millionths;
@@ -61,7 +65,12 @@ impl EnvironmentalNumbers {
 }
 
 impl Scored {
-    fn base(vector: &Vector) -> Scored {
+    fn base(vector: &Vector) -> Scored
+        ensures number { IsNearBy (weights_of vector.now).changed (base_number (weights_of vector.now))
+            result.number }
+        ensures score { IsBaseScore vector.now.minor_version (weights_of vector.now)
+            (count_of result.score) }
+    {
         Scored {
             number: ten_millionths(vector.base_number().value()),
             score: tenths_of(vector.base_score().value()),
@@ -77,14 +86,24 @@ impl Scored {
         }
     }
 
-    fn first_environmental(vector: &Vector) -> Scored {
+    fn first_environmental(vector: &Vector) -> Scored
+        ensures number { IsNearBy (weights_of vector.now).modified_changed
+            (environmental_number vector.now.minor_version (weights_of vector.now)) result.number }
+        ensures score { IsInTenths (IsFirst vector.now.minor_version (weights_of vector.now))
+            (count_of result.score) }
+    {
         Scored {
             number: ten_millionths(vector.environmental_first_number().value()),
             score: tenths_of(vector.environmental_first_score().value()),
         }
     }
 
-    fn environmental(vector: &Vector) -> Scored {
+    fn environmental(vector: &Vector) -> Scored
+        ensures number { (first : ℤ) → IsFirst vector.now.minor_version (weights_of vector.now) first
+            → IsNear (temporal_number first (weights_of vector.now)) result.number }
+        ensures score { IsEnvironmentalScore vector.now.minor_version (weights_of vector.now)
+            (count_of result.score) }
+    {
         Scored {
             number: ten_millionths(vector.environmental_number().value()),
             score: tenths_of(vector.environmental_score().value()),
