@@ -1,6 +1,6 @@
 -- The nearest ten millionths of a count that is close to a number are near to the number.
 use Rattle.std.specs.Prelude.{int_lt, if◌then◌else◌}
-use Rattle.std.proofs.Common.{◌≡◌, ℕ, zero, suc, ◌+◌, ◌*◌, ◌^◌, ◌<◌, ◌≤◌, ℤ, pos, Bool, true, false, arith, lit<, subst, sym, ◌∙◌}
+use Rattle.std.proofs.Common.{◌≡◌, ℕ, zero, suc, ◌+◌, ◌*◌, ◌^◌, ◌<◌, ◌≤◌, ℤ, pos, Bool, true, false, arith, lit<, subst}
 use Rattle.std.proofs.Math.Nat.{mul-le-mul_right, mul-pos}
 use Rattle.std.proofs.lemmas.Int.{ints}
 use borrow.Author.Differences.{up, down}
@@ -10,7 +10,7 @@ use Rattle.cvss_number.specs.Tenths.{IsInTenths}
 use Rattle.cvss_v3.specs.Closeness.{IsCloseTo}
 use Rattle.cvss_v3.specs.Scores.{base_number, changed_impact, changed_modified_impact, environmental_number, exploitability, first_number, impact, impact_of, iss, miss, modified_exploitability, modified_impact, modified_impact_of, power, total_of}
 use Rattle.cvss_v3.specs.declared.weights.Weights.{Weights}
-use Rattle.cvss_account.proofs.NearLemmas.{near_value}
+use Rattle.cvss_account.proofs.NearLemmas.{count_told, near_value}
 use Rattle.cvss_account.specs.Near.{AreNearest, IsWithinMillionth, count_of, ten_millionths}
 use Rattle.cvss_account.specs.NumbersV3.{IsNearBy}
 
@@ -33,7 +33,7 @@ near_by changed n c v k some close exact is nearest = record {
 
 -- a score's tenths are its count
 pub score_told : (IsNumber : ℤ → Type 0) (c v : ℤ) (t : ℕ) → IsInTenths IsNumber c → v ≡ c → v ≡ count_of t → IsInTenths IsNumber (count_of t)
-score_told IsNumber c v t is same count = subst (IsInTenths IsNumber) (sym same ∙ count) is
+score_told IsNumber c v t is same count = count_told (IsInTenths IsNumber) c v t is same count
 
 impact_above : (changed : Bool) (w : Weights) → 0 < (impact_of changed (iss w)).bottom
 unfolding power changed_impact

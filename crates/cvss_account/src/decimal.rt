@@ -5,6 +5,7 @@ ghost use Rattle.cvss_account.specs.Decimal.{decimal_number, decimal_value, near
 ghost use Rattle.serde_json.specs.View.{view};
 
 use serde_json::Value;
+use std::num::nearest_i64_to_f64;
 
 /// The value of so many ten millionths: that of the double that is nearest to them.
 pub fn decimal_value(count: i64) -> Value
@@ -17,7 +18,7 @@ pub fn decimal_value(count: i64) -> Value
 fn decimal_number(count: i64) -> f64
     ensures { result ≡ decimal_number count }
 {
-    count as f64 / 10_000_000.0
+    nearest_i64_to_f64(count) / 10_000_000.0
 }
 
 /// The value of so many 504000ths of a point, to the nearest ten millionth.

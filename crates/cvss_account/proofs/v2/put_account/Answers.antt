@@ -7,14 +7,14 @@ pub returns : goal.returns
 returns c =
     on_ok_weaker c.put_values.result
     (λ put. record {
-      members = account_members c.args.vector.now c.of.result c.of-2.result c.of-3.result;
+      members = account_members c.args.vector.now c.of-base.result c.of-temporal.result c.of-environmental.result;
       are = record {
-        base = c.of.result;
-        temporal = c.of-2.result;
-        environmental = c.of-3.result;
-        are_base = c.of.ensures;
-        are_temporal = c.of-2.ensures;
-        are_environmental = c.of-3.ensures;
+        base = c.of-base.result;
+        temporal = c.of-temporal.result;
+        environmental = c.of-environmental.result;
+        are_base = c.of-base.ensures;
+        are_temporal = c.of-temporal.ensures;
+        are_environmental = c.of-environmental.ensures;
         are = refl;
       };
       put = put;
