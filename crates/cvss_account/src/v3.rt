@@ -1,8 +1,9 @@
 //! The accounts of the scores of CVSS v3 (v3.1 specification, section 7; v3.0 specification, section 8).
 
-ghost use Rattle.std.specs.Prelude.{◌≡◌, IfOk, OnOk};
+ghost use Rattle.std.specs.Prelude.{◌≡◌, IfOk, OnOk, option_map};
+ghost use Rattle.cvss.specs.TypesV3.{name_of};
 ghost use Rattle.cvss.specs.WeightsV3.{weights_of};
-ghost use Rattle.cvss_account.specs.V3.{AreAccountMembers, account_members, base_value, environmental_value, scope_letter, scope_members, scored_members, temporal_value, weights_value};
+ghost use Rattle.cvss_account.specs.V3.{AreAccountMembers, account_members, base_value, environmental_value, scope_letter, scope_members, scored_members, temporal_value, weight_member, weights_value};
 ghost use Rattle.cvss_account.specs.private.Puts.{PutsNumbers};
 ghost use Rattle.cvss_record.specs.Objects.{with_members};
 ghost use Rattle.serde_json.specs.View.{members_view, view};
@@ -11,7 +12,7 @@ mod numbers;
 
 use crate::decimal::decimal_value;
 use crate::near::ten_millionths;
-use cvss::v3::{Score, Vector};
+use cvss::v3::{MetricType, Score, Vector};
 use cvss_number::TENTH;
 use cvss_record::score_value;
 use cvss_text::metrics::Listed;
@@ -63,7 +64,10 @@ fn put_scopes(
     members: &mut Map<String, Value>,
     alloc: Global,
     vector: &Vector,
-) -> Result<(), AllocError> {
+) -> Result<(), AllocError>
+    ensures { OnOk result (members_view members.new.entries
+        ≡ with_members (scope_members (weights_of vector.now)) (members_view members.old.entries)) }
+{
     let scope = Value::try_from_str(alloc, scope_letter(vector.is_scope_changed()))?;
     put(members, alloc, "scope", scope)?;
     let modified = Value::try_from_str(alloc, scope_letter(vector.is_modified_scope_changed()))?;
@@ -82,16 +86,22 @@ fn weights_value(alloc: Global, vector: &Vector) -> Result<Value, AllocError>
 {
     let mut members = Map::new(alloc);
     for kind in Vector::listed() {
-        if let Some(weight) = vector.weight(*kind) {
-            put(
-                &mut members,
-                alloc,
-                kind.name(),
-                decimal_value(ten_millionths(weight)),
-            )?;
+        if let Some(weight) = weight_value(vector, *kind) {
+            put(&mut members, alloc, kind.name(), weight)?;
         }
     }
     Ok(Value::Object(members))
+}
+
+/// What a metric weighs, if it does.
+fn weight_value(vector: &Vector, kind: MetricType) -> Option<Value>
+    ensures { option_map (λ value. (name_of kind, view value)) result
+        ≡ weight_member (weights_of vector.now) kind }
+{
+    match vector.weight(kind) {
+        Some(weight) => Some(decimal_value(ten_millionths(weight))),
+        None => None,
+    }
 }
 
 /// The object of the base score.
