@@ -1,0 +1,4 @@
+mod CloseLemmas
+mod DecimalLemmas
+mod NearLemmas
+mod PutLemmas

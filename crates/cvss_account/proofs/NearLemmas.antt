@@ -1,0 +1,43 @@
+-- The nearest ten millionths are near.
+use Rattle.std.proofs.Common.{◌≡◌, ℕ, subst, sym, ◌∙◌, ◌<◌, arith, ℤ}
+use Rattle.std.proofs.lemmas.Int.{ints}
+use Rattle.cvss_number.proofs.ExactLemmas.{at_most_below, below_at_most, equal_at_most, equal_sym, equal_trans, sum_at_most}
+use Rattle.cvss_number.specs.Exact.{Exact, of_count, ◌over◌, ◌⊕◌, ◌≈◌}
+use Rattle.cvss_account.specs.Near.{AreNearest, IsNear, IsTenth, IsWithinMillionth, count_of, ten_millionths}
+use Rattle.cvss_number.specs.Tenths.{IsInTenths}
+
+-- the ten millionths of the only count that is so many of them
+settled : (c k m : ℤ) → AreNearest c k → of_count c ≈ ten_millionths m → k ≡ m
+settled c k m nearest same = omega (arith, ints, nearest.not_above, nearest.not_below, same.equal)
+
+-- those nearest to a count that equals a number are near to the number
+pub near_equal : (n : Exact) (c k : ℤ) → 0 < n.bottom → of_count c ≈ n → AreNearest c k → IsNear n k
+near_equal n c k some same nearest =
+    let millionth = 1 over 1_000_000 in
+    let count_at_most = equal_at_most (of_count c) n same in
+    record {
+      within = record {
+        not_above = at_most_below n (of_count c) (ten_millionths k ⊕ millionth) some (equal_at_most n (of_count c) (equal_sym same))
+            (record { below = omega (arith, ints, nearest.not_below) });
+        not_below = below_at_most (ten_millionths k) (of_count c ⊕ millionth) (n ⊕ millionth) (omega arith)
+            (record { below = omega (arith, ints, nearest.not_above) })
+            (sum_at_most (of_count c) n millionth millionth count_at_most (record { at_most = omega (arith, ints) }));
+      };
+      exact = λ m is. settled c k m nearest (equal_trans some same is);
+    }
+
+-- the same of the value of a score
+pub near_value : (n : Exact) (c v k : ℤ) → 0 < n.bottom → of_count c ≈ n → v ≡ c → AreNearest v k → IsNear n k
+near_value n c v k some same is nearest = near_equal n c k some same (subst (λ count. AreNearest count k) is nearest)
+
+-- a count of tenths is told as these tenths
+pub tenth_told : (IsNumber : ℤ → Type 0) (c v k : ℤ) → IsInTenths IsNumber c → v ≡ c → AreNearest v k → IsTenth IsNumber k
+tenth_told IsNumber c v k told is nearest = record {
+  tenths = told.number;
+  is_number = told.is_number;
+  is = omega (arith, ints, nearest.not_above, nearest.not_below, is, told.is_count);
+}
+
+-- what is said of a count is said of the tenths that it is told in
+pub count_told : (Is : ℤ → Type 0) (c v : ℤ) (t : ℕ) → Is c → v ≡ c → v ≡ count_of t → Is (count_of t)
+count_told Is c v t is same count = subst Is (sym same ∙ count) is

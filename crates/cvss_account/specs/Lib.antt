@@ -1,0 +1,10 @@
+pub mod Account
+pub mod Decimal
+pub mod LettersV4
+pub mod Near
+pub mod NumbersV2
+pub mod NumbersV3
+pub mod V2
+pub mod V3
+pub mod V4
+pub mod private

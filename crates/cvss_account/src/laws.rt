@@ -1,0 +1,13 @@
+//! Laws of accounts, each the contract of a function that does nothing.
+
+ghost use Rattle.std.specs.Prelude.{ℕ, pos};
+ghost use Rattle.cvss_number.specs.Exact.{◌over◌};
+ghost use Rattle.cvss_account.specs.Decimal.{nearest_to};
+ghost use Rattle.cvss_account.specs.Near.{IsNear};
+
+/// A decimal is less than a millionth from the exact number, and is that number where it has no more
+/// than seven places.
+pub fn decimals_are_near()
+    ensures of_504000ths { (n : ℕ) → IsNear (n over 504_000) (pos (nearest_to n 504_000)) }
+    ensures of_8400ths { (n : ℕ) → IsNear (n over 8400) (pos (nearest_to n 8400)) }
+{}

@@ -1,0 +1,135 @@
+//! The accounts of the scores of CVSS v2 (guide, section 3.2).
+
+ghost use Rattle.std.specs.Prelude.{◌≡◌, IfOk, OnOk};
+ghost use Rattle.cvss_account.specs.V2.{AreAccountMembers, account_members, base_value, environmental_value, temporal_value, weight_value, weights_value};
+ghost use Rattle.cvss_account.specs.private.Puts.{PutsNumbers};
+ghost use Rattle.cvss_record.specs.Objects.{with_members};
+ghost use Rattle.serde_json.specs.View.{members_view, view};
+
+mod numbers;
+
+use crate::decimal::decimal_value;
+use crate::near::ten_millionths;
+use cvss::v2::{MetricType, Vector};
+use cvss_record::score_value;
+use cvss_text::metrics::Listed;
+use numbers::{BaseNumbers, EnvironmentalNumbers, TemporalNumbers};
+use serde_json::{Map, Value, put};
+use std::alloc::{AllocError, Global};
+
+/// Puts the weights and the numbers on the way to the scores.
+pub(crate) fn put_account(
+    members: &mut Map<String, Value>,
+    alloc: Global,
+    vector: &Vector,
+) -> Result<(), AllocError>
+    ensures { OnOk result (PutsNumbers (AreAccountMembers vector.now)
+        (members_view members.old.entries) (members_view members.new.entries)) }
+{
+    let base = BaseNumbers::of(vector);
+    let temporal = TemporalNumbers::of(vector);
+    let environmental = EnvironmentalNumbers::of(vector);
+    put_values(members, alloc, vector, &base, &temporal, &environmental)
+}
+
+/// Puts the weights and these numbers.
+fn put_values(
+    members: &mut Map<String, Value>,
+    alloc: Global,
+    vector: &Vector,
+    base: &BaseNumbers,
+    temporal: &TemporalNumbers,
+    environmental: &EnvironmentalNumbers,
+) -> Result<(), AllocError>
+    ensures { OnOk result (members_view members.new.entries
+        ≡ with_members (account_members vector.now base.now temporal.now environmental.now)
+        (members_view members.old.entries)) }
+{
+    let weights = weights_value(alloc, vector)?;
+    put(members, alloc, "weights", weights)?;
+    let base = base_value(alloc, base)?;
+    put(members, alloc, "base", base)?;
+    let temporal = temporal_value(alloc, temporal)?;
+    put(members, alloc, "temporal", temporal)?;
+    let environmental = environmental_value(alloc, environmental)?;
+    put(members, alloc, "environmental", environmental)
+}
+
+/// What each metric weighs.
+fn weights_value(alloc: Global, vector: &Vector) -> Result<Value, AllocError>
+    ensures { IfOk result (λ value. view value ≡ weights_value vector.now) }
+{
+    let mut members = Map::new(alloc);
+    for kind in Vector::listed() {
+        put(
+            &mut members,
+            alloc,
+            kind.name(),
+            weight_value(vector, *kind),
+        )?;
+    }
+    Ok(Value::Object(members))
+}
+
+/// What a metric weighs.
+fn weight_value(vector: &Vector, kind: MetricType) -> Value
+    ensures { view result ≡ weight_value vector.now kind }
+{
+    decimal_value(ten_millionths(vector.weight(kind)))
+}
+
+/// The object of the base score.
+fn base_value(alloc: Global, numbers: &BaseNumbers) -> Result<Value, AllocError>
+    ensures { IfOk result (λ value. view value ≡ base_value numbers.now) }
+{
+    let mut members = Map::new(alloc);
+    put(&mut members, alloc, "impact", decimal_value(numbers.impact))?;
+    put(
+        &mut members,
+        alloc,
+        "exploitability",
+        decimal_value(numbers.exploitability),
+    )?;
+    put(&mut members, alloc, "f", decimal_value(numbers.f))?;
+    put(&mut members, alloc, "number", decimal_value(numbers.number))?;
+    put(&mut members, alloc, "score", score_value(numbers.score))?;
+    Ok(Value::Object(members))
+}
+
+/// The object of the temporal score.
+fn temporal_value(alloc: Global, numbers: &TemporalNumbers) -> Result<Value, AllocError>
+    ensures { IfOk result (λ value. view value ≡ temporal_value numbers.now) }
+{
+    let mut members = Map::new(alloc);
+    put(&mut members, alloc, "number", decimal_value(numbers.number))?;
+    put(&mut members, alloc, "score", score_value(numbers.score))?;
+    Ok(Value::Object(members))
+}
+
+/// The object of the environmental score.
+fn environmental_value(alloc: Global, numbers: &EnvironmentalNumbers) -> Result<Value, AllocError>
+    ensures { IfOk result (λ value. view value ≡ environmental_value numbers.now) }
+{
+    let mut members = Map::new(alloc);
+    put(
+        &mut members,
+        alloc,
+        "adjustedImpact",
+        decimal_value(numbers.adjusted_impact),
+    )?;
+    put(
+        &mut members,
+        alloc,
+        "adjustedBase",
+        decimal_value(numbers.adjusted_base),
+    )?;
+    put(
+        &mut members,
+        alloc,
+        "adjustedTemporal",
+        decimal_value(numbers.adjusted_temporal),
+    )?;
+    put(&mut members, alloc, "number", decimal_value(numbers.number))?;
+    put(&mut members, alloc, "score", score_value(numbers.score))?;
+    Ok(Value::Object(members))
+}

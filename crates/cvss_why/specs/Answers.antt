@@ -1,0 +1,54 @@
+-- The answers that the program writes to the lines of its input, each of which is the text of a vector.
+use Rattle.std.specs.Prelude.{◌≡◌, ℕ, List, [], ◌∷◌, ◌++◌, codes}
+use Rattle.std.specs.Str.{IsUtf8}
+use Rattle.cvss.specs.Bytes.{TellsWhyNot, bytes_error_text}
+use Rattle.cvss.specs.Dispatch.{DenotesCvss}
+use Rattle.cvss.specs.declared.bytes_error.BytesError.{BytesError}
+use Rattle.cvss.specs.declared.bytes_error.BytesError.TheVariants.{NotUtf8, Invalid}
+use Rattle.cvss.specs.declared.vector.Cvss.{Cvss}
+use Rattle.cvss_account.specs.Account.{AreMembersOf}
+use Rattle.cvss_lines.specs.Answers.{Answer, Accepted, Refused}
+use Rattle.cvss_object.specs.Texts.{IsTextOf}
+use Rattle.cvss_record.specs.Objects.{Member, object_of}
+use Rattle.serde_json.specs.Data.{Data, number, string, unsigned}
+
+-- the number of the line
+abbrev pub line_member : ℕ → Member
+line_member line = (codes "line", number (unsigned line))
+
+-- the line as it is given, where it is a text
+abbrev pub given_members : List ℕ → BytesError → List Member
+given_members line NotUtf8 = []
+given_members line (Invalid _) = (codes "given", string line) ∷ []
+
+-- the object for a line that is no vector: the line, its number, and why it is refused
+abbrev pub refusal_value : ℕ → List ℕ → BytesError → Data
+refusal_value number line error =
+    object_of (given_members line error ++ (line_member number ∷ (codes "refused", string (bytes_error_text error)) ∷ []))
+
+-- the object tells the line's number and the account of the vector
+pub record IsAccountObject (number : ℕ) (cvss : Cvss) (value : Data) : Type 0 where
+  pub members : List Member
+  pub are : AreMembersOf cvss members
+  pub is : value ≡ object_of (members ++ line_member number ∷ [])
+
+-- the line is a text that denotes a vector, and one text answers it, the object of its account
+pub record IsAcceptance (number : ℕ) (line text : List ℕ) : Type 0 where
+  pub utf8 : IsUtf8 line
+  pub cvss : Cvss
+  pub denoted : DenotesCvss line cvss
+  pub value : Data
+  pub is_account : IsAccountObject number cvss value
+  pub is_text : IsTextOf value text
+
+-- the line is no text, or a text that is no vector, and the object tells the first reason
+pub record IsRefusal (number : ℕ) (line text : List ℕ) : Type 0 where
+  pub error : BytesError
+  pub told : TellsWhyNot line error
+  pub is_text : IsTextOf (refusal_value number line error) text
+
+-- this is an answer to the line of this number: one text
+unfoldable pub IsAnswer : ℕ → List ℕ → Answer → Type 0
+IsAnswer number line (Accepted (text ∷ [])) = IsAcceptance number line text
+IsAnswer number line (Refused (text ∷ [])) = IsRefusal number line text
+IsAnswer number line answer = ⊥

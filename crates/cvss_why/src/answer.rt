@@ -1,0 +1,83 @@
+//! The answer to one line.
+
+ghost use Rattle.std.specs.Prelude.{OnOk};
+ghost use Rattle.cvss.specs.Answers.{HasScore};
+ghost use Rattle.cvss.specs.Bytes.{TellsWhyNot};
+ghost use Rattle.cvss_object.specs.Texts.{WritesObject};
+ghost use Rattle.cvss_why.specs.Answers.{IsAnswer, refusal_value};
+ghost use Rattle.cvss_why.specs.private.Writing.{WritesAccount};
+
+use cvss::{BytesError, Cvss};
+use cvss_account::account_of;
+use cvss_lines::{Answering, Gathered};
+use cvss_object::write_object;
+use serde_json::{Map, Value, put};
+use std::alloc::{AllocError, Global};
+
+/// Lines that are texts of vectors, each answered by the account of its score or by why there is none.
+pub(crate) struct Vectors {}
+
+impl Answering for Vectors {
+    ghost rule = { IsAnswer };
+
+    fn answer_line(
+        alloc: Global,
+        number: u64,
+        line: &[u8],
+        answers: &mut Gathered,
+    ) -> Result<bool, AllocError> {
+        match Cvss::from_bytes(alloc, line) {
+            Ok(vector) => {
+                write_account(alloc, number, &vector, answers)?;
+                Ok(true)
+            }
+            Err(error) => {
+                write_refusal(alloc, number, line, &error, answers)?;
+                Ok(false)
+            }
+        }
+    }
+}
+
+/// Writes the account of a vector's score, and a byte 10.
+fn write_account(
+    alloc: Global,
+    number: u64,
+    vector: &Cvss,
+    answers: &mut Gathered,
+) -> Result<(), AllocError>
+    requires { HasScore vector.now }
+    ensures { OnOk result (WritesAccount number vector.now
+        answers.old.bytes.items answers.new.bytes.items) }
+{
+    let mut members = account_of(alloc, vector)?;
+    put(&mut members, alloc, "line", Value::from(number))?;
+    write_object(alloc, members, answers)
+}
+
+/// Writes why a line is no vector, and a byte 10.
+fn write_refusal(
+    alloc: Global,
+    number: u64,
+    line: &[u8],
+    error: &BytesError,
+    answers: &mut Gathered,
+) -> Result<(), AllocError>
+    requires { TellsWhyNot line.now error.now }
+    ensures { OnOk result (WritesObject (refusal_value number line.now error.now)
+        answers.old.bytes.items answers.new.bytes.items) }
+{
+    let mut members = Map::new(alloc);
+    if let Ok(text) = str::from_utf8(line) {
+        put(
+            &mut members,
+            alloc,
+            "given",
+            Value::try_from_str(alloc, text)?,
+        )?;
+    }
+    put(&mut members, alloc, "line", Value::from(number))?;
+    let reason = error.to_string(alloc)?;
+    put(&mut members, alloc, "refused", Value::String(reason))?;
+    write_object(alloc, members, answers)
+}

@@ -1,0 +1,27 @@
+//! Laws, each the contract of a function that does nothing.
+
+ghost use Rattle.std.specs.Prelude.{◌≡◌, ◌↔◌, IsTrue};
+ghost use Rattle.cvss_why.specs.declared.fault.Fault.{Fault};
+
+use crate::fault::Fault;
+
+/// Two faults are equal exactly if they are one value.
+pub fn equality_is_that_of_values()
+    ensures { (x y : Fault) → IsTrue (⟦<Fault as PartialEq>⟧.eq x y) ↔ (x ≡ y) }
+{
+    cvss_lines::laws::equality_is_that_of_values();
+}
+
+/// A clone of a fault is that value.
+pub fn clones_are_equal()
+    ensures { (x clone : Fault) → ⟦<Fault as Clone>⟧.is_clone x clone → clone ≡ x }
+{
+    cvss_lines::laws::clones_are_equal();
+}
+
+/// To clone a fault takes no memory, so it is never refused.
+pub fn values_are_cloned_without_memory()
+    ensures { (x : Fault) → ⟦<Fault as Clone>⟧.is_infallible x }
+{
+    cvss_lines::laws::values_are_cloned_without_memory();
+}

@@ -1,0 +1,30 @@
+//! Reads CVSS vectors from standard input, one a line, and answers each by one JSON object that says
+//! why it has its score. `--help` prints how it is used.
+#![tactic(auto)]
+
+mod answer;
+mod fault;
+pub mod laws;
+mod program;
+mod run;
+
+use cvss_lines::arguments;
+pub use cvss_lines::{RunFault, Summary};
+pub use fault::{Fault, exit_status};
+pub use program::{USAGE, run_program};
+pub use run::run;
+use std::process::ExitCode;
+
+fn main(rt: HostRuntime) -> ExitCode {
+    let result = why(&rt);
+    if let Err(fault) = &result {
+        let _ = eprintln!(rt; "cvss_why: {fault}");
+    }
+    ExitCode::from(exit_status(&result))
+}
+
+/// Runs over standard input and output, with the program's arguments.
+fn why(rt: &HostRuntime) -> Result<Summary, Fault> {
+    let arguments = arguments(rt.alloc(), rt)?;
+    run_program(rt.alloc(), &arguments, &mut rt.stdin(), &mut rt.stdout())
+}

@@ -1,0 +1,20 @@
+ghost use Rattle.cvss_lines.specs.Runs.{Ends};
+ghost use Rattle.cvss_why.specs.Answers.{IsAnswer};
+
+use crate::answer::Vectors;
+use crate::{RunFault, Summary};
+use std::alloc::Global;
+use std::io::{Read, Write};
+
+/// Answers each line that the reader gives by one line to the writer, the account of the vector's
+/// score or why there is none. What a line is stands at [`cvss_lines::run`].
+pub fn run<R: Read, W: Write>(
+    alloc: Global,
+    reader: &mut R,
+    writer: &mut W,
+) -> Result<Summary, RunFault>
+    ensures { Ends IsAnswer (R.remaining reader.old) (R.remaining reader.new)
+        (W.contents writer.old) (W.contents writer.new) result }
+{
+    cvss_lines::run::<Vectors, R, W>(alloc, reader, writer)
+}
