@@ -3,14 +3,11 @@
 #![tactic(auto)]
 
 mod answer;
-mod fault;
-pub mod laws;
 mod program;
 mod run;
 
 use cvss_lines::arguments;
-pub use cvss_lines::{RunFault, Summary};
-pub use fault::{Fault, exit_status};
+pub use cvss_lines::{Fault, RunFault, Summary, program_status};
 pub use program::{USAGE, run_program};
 pub use run::run;
 use std::process::ExitCode;
@@ -19,8 +16,11 @@ fn main(rt: HostRuntime) -> ExitCode {
     let result = why(&rt);
     if let Err(fault) = &result {
         let _ = eprintln!(rt; "cvss_why: {fault}");
+        if *fault == Fault::Arguments {
+            let _ = eprint!(rt; "{USAGE}");
+        }
     }
-    ExitCode::from(exit_status(&result))
+    ExitCode::from(program_status(&result))
 }
 
 /// Runs over standard input and output, with the program's arguments.
