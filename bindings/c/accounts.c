@@ -1,0 +1,36 @@
+/*
+ * Prints the account of each line of standard input, and nothing for a line that is refused; a buffer that is too small
+ * must be left as it was.
+ */
+#define _POSIX_C_SOURCE 200809L
+#include "cvss.h"
+
+#include <stdio.h>
+#include <stdlib.h>
+#include <sys/types.h>
+
+int main(void)
+{
+    char *line = NULL;
+    size_t room = 0;
+    ssize_t count;
+    while ((count = getline(&line, &room, stdin)) >= 0) {
+        size_t length = (size_t)count;
+        if (length > 0 && line[length - 1] == '\n')
+            length--;
+        char small[1] = {'#'};
+        size_t told = cvss_account(line, length, small, 1);
+        if (small[0] != '#')
+            return 3;
+        if (told == 0)
+            continue;
+        char *account = malloc(told);
+        if (account == NULL || cvss_account(line, length, account, told) != told)
+            return 3;
+        fwrite(account, 1, told, stdout);
+        putchar('\n');
+        free(account);
+    }
+    free(line);
+    return ferror(stdin) || fflush(stdout) != 0 ? 2 : 0;
+}
