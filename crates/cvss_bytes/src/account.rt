@@ -29,6 +29,7 @@ fn account_text(alloc: Global, cvss: &Cvss) -> Result<Vec<u8>, AllocError>
     requires { HasScore cvss.now }
     ensures { IfOk result (λ text. IsAccountText cvss.now text.items) }
 {
-    let account = Value::Object(account_of(alloc, cvss)?);
-    account.to_vec(alloc)
+    let members = account_of(alloc, cvss)?;
+    let text = Value::Object(members).to_vec(alloc)?;
+    Ok(text)
 }
