@@ -251,12 +251,14 @@ def check_figures():
 
 
 def try_removal():
-    """What is installed is taken away by the words of the page, which name each program that ./install builds."""
+    """What is installed is taken away by the words of the page, also what ./install adds: programs, and what SQLite loads."""
     home = FOLDER / "home"
     run(["bindings/install", home / ".local"], cwd=ROOT)
     block = block_with("rm -f")
+    (home / ".local/bin").mkdir()
     for program in re.findall(r"^for program in (.*); do$", (ROOT / "install").read_text(), re.M)[0].split():
-        assert f"bin/{program} " in block, f"{program} is not taken away"
+        (home / ".local/bin" / program).touch()
+    (home / ".local/lib/cvss.so").touch()
     removal = "\n".join(line for line in block.splitlines() if not line.startswith("pip "))
     run(removal, shell=True, env={**os.environ, "HOME": str(home)})
     left = [path for path in home.rglob("*") if not path.is_dir() or path.is_symlink()]

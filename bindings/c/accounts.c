@@ -1,13 +1,23 @@
 /*
- * Prints the account of each line of standard input, and nothing for a line that is refused; a buffer that is too small
- * must be left as it was.
+ * Prints the account of each line of standard input, and nothing for a line that is refused; a buffer that is too small,
+ * also by one byte, must be left as it was.
  */
 #define _POSIX_C_SOURCE 200809L
 #include "cvss.h"
 
 #include <stdio.h>
 #include <stdlib.h>
+#include <string.h>
 #include <sys/types.h>
+
+/* How many bytes of an array are this one. */
+static size_t count_of(char byte, const char *bytes, size_t length)
+{
+    size_t count = 0;
+    for (size_t i = 0; i < length; i++)
+        count += bytes[i] == byte;
+    return count;
+}
 
 int main(void)
 {
@@ -25,7 +35,12 @@ int main(void)
         if (told == 0)
             continue;
         char *account = malloc(told);
-        if (account == NULL || cvss_account(line, length, account, told) != told)
+        if (account == NULL)
+            return 3;
+        memset(account, '#', told);
+        if (cvss_account(line, length, account, told - 1) != told || count_of('#', account, told) != told)
+            return 3;
+        if (cvss_account(line, length, account, told) != told)
             return 3;
         fwrite(account, 1, told, stdout);
         putchar('\n');

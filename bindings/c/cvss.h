@@ -158,9 +158,10 @@ size_t cvss_record(const void *text, size_t length, void *buffer, size_t size);
  * The account of the vector's score: a JSON object, without spaces, of the numbers on the way to it, in the order of the
  * members' names. In v2 and v3 they are the weights, the sub-scores and each score's number before its rounding; in v4.0
  * the values that count, the macro vector with its listed value, what each group of metrics takes from it, and the number
- * before the rounding. A decimal has at most seven places, is less than 10^-6 from the exact number, and is that number
- * where it has no more places. Returns the length of the object. Returns 0, and leaves the buffer as it was, where the text
- * denotes no vector. Where malloc refuses, "out of memory" stands in place of the object, which begins with '{'.
+ * before the rounding. A decimal has at most seven places and is less than 10^-6 from the exact number; it is that number
+ * where that has no more places, but for numbers of v3 with a changed scope, which have a power. Returns the length of the
+ * object. Returns 0, and leaves the buffer as it was, where the text denotes no vector. Where malloc refuses, "out of
+ * memory" stands in place of the object, which begins with '{'.
  */
 size_t cvss_account(const void *text, size_t length, void *buffer, size_t size);
 
