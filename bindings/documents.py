@@ -263,6 +263,8 @@ def try_removal():
     assert programs and libraries
     for name in (*(f"bin/{program}" for program in programs), *(f"lib/{library}" for library in libraries)):
         assert f"{name} " in block, f"{name} is not taken away"
+        (home / ".local" / name).parent.mkdir(parents=True, exist_ok=True)
+        (home / ".local" / name).touch()
     removal = "\n".join(line for line in block.splitlines() if not line.startswith("pip "))
     run(removal, shell=True, env={**os.environ, "HOME": str(home)})
     left = [path for path in home.rglob("*") if not path.is_dir() or path.is_symlink()]

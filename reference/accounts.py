@@ -154,6 +154,15 @@ def answer(number, line):
         return {"line": number, **given, "refused": str(reason)}
 
 
+def is_exact(told):
+    """Whether no decimal that is told has more than seven places, so that each is the number itself."""
+    if isinstance(told, dict):
+        return all(map(is_exact, told.values()))
+    if isinstance(told, list):
+        return all(map(is_exact, told))
+    return not isinstance(told, Fraction) or (told * 10_000_000).denominator == 1
+
+
 def rounded(number):
     """The number as it is written, with seven decimals at most."""
     return floor(number * 10_000_000 + Fraction(1, 2)) / 10_000_000

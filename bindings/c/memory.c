@@ -56,14 +56,14 @@ static void tell(const char *text, bool without, char told[256])
     snprintf(told, 256, "%d %s %zu %s", kind, metric, size, answer);
 }
 
-/* Whether the record of a vector is told with memory, and without it that there is none. */
-static bool is_record_told(void)
+/* Whether an object of a vector is told with memory, and without it that there is none. */
+static bool is_object_told(size_t call(const void *, size_t, void *, size_t), const char *text)
 {
-    char with[1024] = "", without[1024] = "";
-    size_t length = strlen(texts[0]);
-    size_t size = cvss_record(texts[0], length, with, sizeof with);
+    char with[2048] = "", without[2048] = "";
+    size_t length = strlen(text);
+    size_t size = call(text, length, with, sizeof with);
     refuses = true;
-    cvss_record(texts[0], length, without, sizeof without);
+    call(text, length, without, sizeof without);
     refuses = false;
     return with[0] == '{' && with[size - 1] == '}' && strcmp(without, "out of memory") == 0;
 }
@@ -91,7 +91,10 @@ static bool is_objection_told(const char *own, const char *expected)
 
 int main(void)
 {
-    int wrong = is_record_told() ? 0 : 1;
+    bool is_told = true;
+    for (size_t i = 0; i < 3; i++)
+        is_told &= is_object_told(cvss_record, texts[i]) && is_object_told(cvss_account, texts[i]);
+    int wrong = is_told ? 0 : 1;
     for (size_t i = 0; i < sizeof overrides / sizeof *overrides; i++) {
         if (!is_objection_told(overrides[i][0], overrides[i][1])) {
             printf("%s is told otherwise\n", overrides[i][0]);

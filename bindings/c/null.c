@@ -27,6 +27,7 @@ int main(void)
     right &= cvss_overridden(v4, sizeof v4 - 1, NULL, 0, NULL, 0) == sizeof v4 - 1;
     right &= cvss_override_reason(v4, sizeof v4 - 1, NULL, 0, NULL, 0) == 0;
     right &= cvss_record(NULL, 0, NULL, 0) == 0 && cvss_record(text, length, NULL, 0) > sizeof buffer;
+    right &= cvss_account(NULL, 0, NULL, 0) == 0 && cvss_account(text, length, NULL, 0) > sizeof buffer;
     right &= cvss_reason(NULL, 0, NULL, 0) == told && cvss_reason(text, length, NULL, 0) == 0;
     right &= cvss_refusal_kind(NULL, 0) == CVSS_INVALID_COMPONENT;
     right &= cvss_refusal_metric(NULL, 0, NULL, 0) == 0 && cvss_refusal_metric("AV:N/AC:q", 9, NULL, 0) == 2;

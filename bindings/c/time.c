@@ -57,6 +57,11 @@ static size_t record(const char *text, size_t length)
     return cvss_record(text, length, buffer, sizeof buffer);
 }
 
+static size_t account(const char *text, size_t length)
+{
+    return cvss_account(text, length, buffer, sizeof buffer);
+}
+
 static size_t answer(const char *text, size_t length)
 {
     return cvss_answer(text, length, buffer, sizeof buffer);
@@ -117,6 +122,7 @@ int main(void)
     print_time("cvss_overridden", overridden);
     print_time("cvss_override_reason", override_reason);
     print_time("cvss_record", record);
+    print_time("cvss_account", account);
     print_time("cvss_answer", answer);
     print_time("cvss_answers", many);
     return 0;

@@ -192,6 +192,18 @@ func (v Vector) Record() []byte {
 	}))
 }
 
+// Account tells why the score is what it is: a JSON object, without spaces, of the numbers on the way to it. In v2 and
+// v3 they are the weights, the sub-scores and each score's number before its rounding; in v4.0 the values that count, the
+// macro vector with its listed value, what each group of metrics takes from it, and the number before the rounding. A
+// number is less than 10^-6 from the exact one; it is that one where that has no more than seven decimals, but for those
+// of v3 with a changed scope, which have a power. Where there was no memory for it, it is the text "out of memory".
+func (v Vector) Account() []byte {
+	code, length := bytesOf(v.text)
+	return []byte(written(1<<11, func(buffer unsafe.Pointer, size C.size_t) C.size_t {
+		return C.cvss_account(pointer(code), length, buffer, size)
+	}))
+}
+
 // WithOverrides is the vector with an organisation's environmental metrics, in any ASCII case, in place of its own or
 // beside them. Into a vector of v4.0 the library puts them, into others this package. The error is
 // ErrNotEnvironmental, or else a *RefusedError of the vector with these metrics.

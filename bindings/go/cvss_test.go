@@ -124,6 +124,20 @@ func TestRecords(t *testing.T) {
 	}
 }
 
+// The accounts are those that the second implementation in reference/ tells, where no number has more than seven decimals.
+func TestAccounts(t *testing.T) {
+	for _, account := range lines(t, "bindings/stored/accounts") {
+		var members struct{ Vector string }
+		if err := json.Unmarshal([]byte(account), &members); err != nil {
+			t.Fatal(err)
+		}
+		vector, err := cvss.Parse(members.Vector)
+		if err != nil || string(vector.Account()) != account {
+			t.Errorf("%s: %s, %v", account, vector.Account(), err)
+		}
+	}
+}
+
 // What is not defined scores as what is absent (CVSS v2 guide, section 2.2; v3.1, section 3; v4.0, section 3).
 func TestWhatIsNotDefinedScoresAsAbsent(t *testing.T) {
 	for _, text := range storedLines(t, "stdin") {

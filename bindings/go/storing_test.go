@@ -51,7 +51,7 @@ func TestEveryMethodOfTheZeroVectorAnswers(t *testing.T) {
 	if _, _, ok := zero.Environmental(); ok {
 		t.Error("an environmental score")
 	}
-	if len(zero.Metrics()) != 0 || len(zero.Record()) != 0 || zero.WithoutUndefined() != zero {
+	if len(zero.Metrics()) != 0 || len(zero.Record()) != 0 || len(zero.Account()) != 0 || zero.WithoutUndefined() != zero {
 		t.Errorf("%v %s %v", zero.Metrics(), zero.Record(), zero.WithoutUndefined())
 	}
 	for _, overrides := range [][]cvss.Metric{nil, {{Name: "CR", Value: "H"}}} {

@@ -65,6 +65,10 @@ func BenchmarkRecord(b *testing.B) {
 	timeVectors(b, func(v cvss.Vector) { v.Record() })
 }
 
+func BenchmarkAccount(b *testing.B) {
+	timeVectors(b, func(v cvss.Vector) { v.Account() })
+}
+
 func BenchmarkAnswer(b *testing.B) {
 	lines, _ := timed(b)
 	b.ResetTimer()

@@ -6,7 +6,7 @@ INSERT INTO known VALUES ('AV:N/AC:L/Au:N/C:N/I:N/A:C', 'CVSS:3.1/AV:N/AC:L/PR:N
 SELECT 'NULL gives NULL', coalesce(cvss_is_valid(NULL), cvss_check(NULL)) IS NULL,
     coalesce(cvss_canonical(NULL), cvss_version(NULL), cvss_severity(NULL), cvss_nomenclature(NULL),
         cvss_metric(NULL, 'AV'), cvss_metric(v3, NULL), cvss_with(NULL, 'CR:H'), cvss_with(v4, NULL),
-        cvss_record(NULL)::text, cvss_reason(NULL), cvss_reason(NULL, 'CR:H'), cvss_reason(v4, NULL)) IS NULL,
+        cvss_record(NULL)::text, cvss_account(NULL)::text, cvss_reason(NULL), cvss_reason(NULL, 'CR:H'), cvss_reason(v4, NULL)) IS NULL,
     coalesce(cvss_score(NULL), cvss_temporal_score(NULL), cvss_environmental_score(NULL)) IS NULL FROM known;
 SELECT 'scores have one decimal', cvss_score('CVSS:3.1/AV:N/AC:L/PR:N/UI:N/S:C/C:H/I:H/A:H')::text = '10.0',
     cvss_score('CVSS:3.1/C:N')::text = '0.0', pg_typeof(cvss_score(v3)) = 'numeric'::regtype FROM known;
@@ -18,6 +18,9 @@ SELECT 'overrides that are refused', cvss_with(v4, 'CR:H/AV:N') IS NULL,
     cvss_reason(v4, 'CR:H/AV:N') = 'override 1: no environmental CVSSv4 metric', cvss_reason(v4, 'CR:H') IS NULL,
     cvss_reason(v3, 'CR:H') = 'no CVSSv4 vector', cvss_reason(refused, 'CR:H') = cvss_reason(refused) FROM known;
 SELECT 'a record is JSON', cvss_record(v3) -> 'baseScore' = '9.8', cvss_record(v3) ->> 'scope' = 'UNCHANGED' FROM known;
+SELECT 'an account is JSON', abs((cvss_account(v3) -> 'base' ->> 'number')::numeric - 9.760161495) < 0.000001,
+    cvss_account(v4) ->> 'macroVector' = '002201',
+    cvss_account(refused) IS NULL FROM known;
 SELECT 'vectors in a text', string_agg(concat_ws('|', place, given, vector), ' ') = '4|' || v2 || '|' || v2 || ' '
     || 4 + length(v2) || '|' || refused || ' ' || 6 + length(v2 || refused) || '|CVSS:3.1/s:c|CVSS:3.1/S:C',
     bool_and(substr(told, place, length(given)) = given)
@@ -29,7 +32,7 @@ SELECT 'a long text', count(*) = 20000, count(vector) = 20000, max(place) = 1 + 
     FROM known, cvss_find(repeat(v2 || ', ', 20000)) GROUP BY v2;
 SELECT 'rows that are not all asked for', given = v2 FROM known, cvss_find(repeat(v2 || ' ', 5)) LIMIT 1;
 SELECT 'all are immutable, strict and parallel safe', bool_and(provolatile = 'i' AND proisstrict AND proparallel = 's'),
-    count(*) = 15 FROM pg_proc WHERE proname LIKE 'cvss\_%';
+    count(*) = 16 FROM pg_proc WHERE proname LIKE 'cvss\_%';
 
 CREATE TABLE kept (
     vector cvss_vector,

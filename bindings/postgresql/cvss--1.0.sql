@@ -45,6 +45,10 @@ CREATE FUNCTION cvss_record(text) RETURNS jsonb
 AS 'MODULE_PATHNAME', 'sql_cvss_record' LANGUAGE C IMMUTABLE STRICT PARALLEL SAFE;
 COMMENT ON FUNCTION cvss_record(text) IS 'the CVSS vector as the JSON object of FIRST''s schema';
 
+CREATE FUNCTION cvss_account(text) RETURNS jsonb
+AS 'MODULE_PATHNAME', 'sql_cvss_account' LANGUAGE C IMMUTABLE STRICT PARALLEL SAFE;
+COMMENT ON FUNCTION cvss_account(text) IS 'the numbers on the way to the score of the CVSS vector';
+
 CREATE FUNCTION cvss_reason(text) RETURNS text
 AS 'MODULE_PATHNAME', 'sql_cvss_reason' LANGUAGE C IMMUTABLE STRICT PARALLEL SAFE;
 COMMENT ON FUNCTION cvss_reason(text) IS 'why the text denotes no CVSS vector; NULL where it denotes one';

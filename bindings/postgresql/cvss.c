@@ -195,6 +195,13 @@ sql_cvss_record(PG_FUNCTION_ARGS)
 	return answer_jsonb(fcinfo, put_record);
 }
 
+PG_FUNCTION_INFO_V1(sql_cvss_account);
+Datum
+sql_cvss_account(PG_FUNCTION_ARGS)
+{
+	return answer_jsonb(fcinfo, put_account);
+}
+
 PG_FUNCTION_INFO_V1(sql_cvss_reason);
 Datum
 sql_cvss_reason(PG_FUNCTION_ARGS)

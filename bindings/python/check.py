@@ -215,6 +215,23 @@ def check_records(root: Path) -> None:
         assert len([name for name in record if not name.endswith(names)]) == len(vector.metrics), line
 
 
+def check_accounts(root: Path) -> None:
+    """The accounts are those that the second implementation tells, where no number has more than seven decimals."""
+    accounts = lines_of(root / "bindings" / "stored" / "accounts")
+    for line in accounts:
+        account = json.loads(line)
+        assert Vector(account["vector"]).account() == account, line
+    for line in stored_lines(root, "stdin"):
+        try:
+            vector = Vector(line)
+        except CvssError:
+            continue
+        told = vector.account()
+        assert (told["vector"], told["version"]) == (vector.text, vector.version), line
+        assert (told["score"], told["severity"]) == (vector.score, vector.severity), line
+    print(f"Python: {len(accounts)} accounts, 0 wrong numbers")
+
+
 def told(found: Found) -> str:
     """What cvss_tool answers of a mention."""
     return f"error: {found}" if isinstance(found, CvssError) else f"{found} {found.score:.1f} {found.severity}"
@@ -270,5 +287,6 @@ if __name__ == "__main__":
     check_overrides()
     check_subclasses()
     check_records(Path(sys.argv[1]))
+    check_accounts(Path(sys.argv[1]))
     check_finding(Path(sys.argv[1]))
     check_values()

@@ -32,5 +32,6 @@ if __name__ == "__main__":
     own = {"CR": "H", "AR": "L"}
     print_time("with_overrides", vectors, lambda vectors: [vector.with_overrides(own) for vector in vectors])
     print_time("record", vectors, lambda vectors: [vector.record() for vector in vectors])
+    print_time("account", vectors, lambda vectors: [vector.account() for vector in vectors])
     print_time("answer", accepted, lambda lines: [answer(line) for line in lines])
     print_time("answers", accepted, answers)

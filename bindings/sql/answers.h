@@ -116,6 +116,11 @@ static inline size_t put_record(const Question *question, void *buffer, size_t s
     return cvss_record(question->text.bytes, question->text.length, buffer, size);
 }
 
+static inline size_t put_account(const Question *question, void *buffer, size_t size)
+{
+    return cvss_account(question->text.bytes, question->text.length, buffer, size);
+}
+
 static inline int32_t base_score(Text text)
 {
     CvssScores scores;

@@ -30,6 +30,9 @@ ASKED = {
     "cvss_nomenclature": ("cvss_nomenclature(text)", "nomenclature"),
     "cvss_with": (f"cvss_with(text, '{OWN}')", "overridden"),
     "cvss_record": ("cvss_record(text)", "record"),
+    "cvss_account": ("CASE WHEN account IS NULL AND reason IS NULL THEN NULL ELSE cvss_account(text) END", "account"),
+    "the vector of cvss_account": ("cvss_account(text) ->> 'vector'", "canonical"),
+    "the score of cvss_account": ("CAST(cvss_account(text) ->> 'score' AS numeric)", "score"),
     "cvss_reason": ("cvss_reason(text)", "reason"),
     "cvss_reason of overrides": (f"cvss_reason(text, '{OWN}')", "override_reason"),
 }
@@ -68,7 +71,8 @@ def main(database, unit):
         print(REFUSAL_OF)
         ASKED["cvss_check"] = ("refusal_of(text)", "'no CVSS vector: ' || reason")
     for name, (asked, answer) in ASKED.items():
-        expected = answer + "::jsonb" if (name, database) == ("cvss_record", "postgresql") else answer
+        is_json = database == "postgresql" and name in ("cvss_record", "cvss_account")
+        expected = f"{answer}::jsonb" if is_json else answer
         is_wrong = f"{asked} IS DISTINCT FROM ({expected})"
         print(f"SELECT '{name}', count(*), coalesce(sum(CASE WHEN {is_wrong} THEN 1 END), 0) FROM expected;")
 

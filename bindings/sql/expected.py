@@ -16,6 +16,7 @@ ROOT = Path(__file__).resolve().parents[2]
 sys.dont_write_bytecode = True  # leaves nothing in the tree
 sys.path[:0] = [str(ROOT / folder) for folder in ("reference", "bench/inputs", "conformance", "bindings/stored")]
 
+import accounts
 import facts
 import finding
 import lines
@@ -25,7 +26,7 @@ import v4
 from run import read_table, text_of
 
 COLUMNS = ("text", "canonical", "version", "score", "temporal", "environmental", "severity", "nomenclature",
-           "overridden", "record", "reason", "override_reason", "found", "found_bytes")
+           "overridden", "record", "account", "reason", "override_reason", "found", "found_bytes")
 # An organisation's metrics, in the order in which v4.0 prints them.
 OVERRIDES = {"CR": "H", "MSI": "S"}
 
@@ -35,6 +36,12 @@ def scored(text):
     names = ("canonical", "version", "nomenclature", "complete", "score", "rating", "temporal", "temporal_rating",
              "environmental", "environmental_rating")
     return dict(zip(names, facts.facts(text).split()))
+
+
+def account(canonical):
+    """The account of a vector; none where a number has more than seven decimals, and may so be told in other ways."""
+    told = accounts.account(canonical)
+    return accounts.written(told) if accounts.is_exact(told) else None
 
 
 def accepted(row):
@@ -47,7 +54,7 @@ def accepted(row):
     overridden, refusal = None, "no CVSSv4 vector"
     if version == "4.0":
         overridden, refusal = reference.canonical(["CVSS:4.0"], v4.METRICS, {**metrics, **OVERRIDES}), None
-    return [*told, overridden, records.record(row, metrics), None, refusal]
+    return [*told, overridden, records.record(row, metrics), account(canonical), None, refusal]
 
 
 # A character, as SQLite counts them also in what is not UTF-8.

@@ -6,7 +6,7 @@ INSERT INTO known VALUES ('AV:N/AC:L/Au:N/C:N/I:N/A:C', 'CVSS:3.1/AV:N/AC:L/PR:N
 SELECT 'NULL gives NULL', coalesce(cvss_is_valid(NULL), cvss_canonical(NULL), cvss_version(NULL), cvss_score(NULL),
     cvss_temporal_score(NULL), cvss_environmental_score(NULL), cvss_severity(NULL), cvss_nomenclature(NULL),
     cvss_metric(NULL, 'AV'), cvss_metric(v3, NULL), cvss_with(NULL, 'CR:H'), cvss_with(v4, NULL), cvss_record(NULL),
-    cvss_reason(NULL), cvss_reason(NULL, 'CR:H'), cvss_reason(v4, NULL)) IS NULL FROM known;
+    cvss_account(NULL), cvss_reason(NULL), cvss_reason(NULL, 'CR:H'), cvss_reason(v4, NULL)) IS NULL FROM known;
 SELECT 'types', typeof(cvss_is_valid(v3)) || typeof(cvss_score(v3)) || typeof(cvss_severity(v3)) = 'integerrealtext'
     FROM known;
 SELECT 'a blob', cvss_score(CAST(v3 AS BLOB)) = 9.8, cvss_is_valid(x'') = 0, cvss_is_valid(zeroblob(9)) = 0 FROM known;
@@ -26,6 +26,8 @@ SELECT 'overrides that are refused', cvss_with(v4, 'CR:H/AV:N') IS NULL,
     cvss_reason(v3, 'CR:H') = 'no CVSSv4 vector', cvss_reason(refused, 'CR:H') = cvss_reason(refused) FROM known;
 SELECT 'a record is JSON', json_extract(cvss_record(v3), '$.baseScore') = 9.8,
     json_type(json_object('cvss', cvss_record(v3)), '$.cvss') = 'object' FROM known;
+SELECT 'an account is JSON', abs(json_extract(cvss_account(v3), '$.base.number') - 9.760161495) < 0.000001,
+    json_type(json_array(cvss_account(v4)), '$[0].groups') = 'array', cvss_account(refused) IS NULL FROM known;
 
 CREATE TABLE notes AS SELECT 'é (' || v2 || refused || '; CVSS:3.1/s:c.' AS told FROM known;
 SELECT 'vectors in a text', group_concat(place || '|' || given || '|' || coalesce(vector, ''), ' ') = '4|' || v2 || '|'

@@ -118,6 +118,7 @@ static const Function functions[] = {
     {"cvss_metric", answer_text, put_metric, NULL, 2, false},
     {"cvss_with", answer_text, put_overridden, NULL, 2, false},
     {"cvss_record", answer_text, put_record, NULL, 1, true},
+    {"cvss_account", answer_text, put_account, NULL, 1, true},
     {"cvss_reason", answer_text, put_reason, NULL, 1, false},
     {"cvss_reason", answer_text, put_override_reason, NULL, 2, false},
 };

@@ -70,6 +70,7 @@ def _declared(library: ctypes.CDLL) -> ctypes.CDLL:
         library.cvss_canonical,
         library.cvss_without_undefined,
         library.cvss_record,
+        library.cvss_account,
         library.cvss_reason,
         library.cvss_refusal_metric,
         library.cvss_answer,
@@ -173,6 +174,11 @@ def overridden(text: bytes, overrides: bytes) -> str:
 def record(text: bytes) -> str:
     """The record of the vector that a text denotes, or nothing."""
     return _written(_library.cvss_record, text, 2048)
+
+
+def account(text: bytes) -> str:
+    """The account of the vector that a text denotes, or nothing."""
+    return _written(_library.cvss_account, text, 2048)
 
 
 def reason(text: bytes) -> str:

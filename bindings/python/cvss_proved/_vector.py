@@ -175,11 +175,22 @@ class Vector:
         >>> record["version"], record["accessVector"], record["baseScore"]
         ('2.0', 'NETWORK', 7.8)
         """
-        told = _library.record(self._code)
-        if not told.startswith("{"):
-            raise MemoryError(told)
-        record: Dict[str, Any] = json.loads(told)
-        return record
+        return _object(_library.record(self._code))
+
+    def account(self) -> Dict[str, Any]:
+        """Why the score is what it is: the numbers on the way to it.
+
+        In v2 and v3 they are the weights, the sub-scores and each score's number before its rounding; in v4.0 the
+        values that count, the macro vector with its listed value, what each group of metrics takes from it, and the
+        number before the rounding. A number is less than 10^-6 from the exact one; it is that one where that has no
+        more than seven decimals, but for those of v3 with a changed scope, which have a power. Where there is no
+        memory for it, this is a `MemoryError`.
+
+        >>> account = Vector("CVSS:4.0/AV:N/AC:L/AT:N/PR:N/UI:N/VC:L/VI:H/VA:N/SC:N/SI:N/SA:N/E:P").account()
+        >>> account["macroVector"], account["value"], account["mean"], account["number"], account["score"]
+        ('001210', 7.8, 0.05, 7.75, 7.8)
+        """
+        return _object(_library.account(self._code))
 
     def with_overrides(self: _Own, overrides: Mapping[str, str]) -> _Own:
         """The vector with an organisation's environmental metrics in place of its own, or beside them.
@@ -228,6 +239,14 @@ class Vector:
         if not isinstance(other, Vector):
             return NotImplemented
         return (self.tenths, self._text) < (other.tenths, other._text)
+
+
+def _object(told: str) -> Dict[str, Any]:
+    """The JSON object that the library tells, or that there was no memory for it."""
+    if not told.startswith("{"):
+        raise MemoryError(told)
+    members: Dict[str, Any] = json.loads(told)
+    return members
 
 
 def _name_of(component: str) -> str:

@@ -59,6 +59,7 @@ extern "C" {
         size: usize,
     ) -> usize;
     fn cvss_record(text: *const u8, length: usize, buffer: *mut u8, size: usize) -> usize;
+    fn cvss_account(text: *const u8, length: usize, buffer: *mut u8, size: usize) -> usize;
     fn cvss_reason(text: *const u8, length: usize, buffer: *mut u8, size: usize) -> usize;
     fn cvss_refusal_kind(text: *const u8, length: usize) -> i32;
     fn cvss_refusal_metric(text: *const u8, length: usize, buffer: *mut u8, size: usize) -> usize;
@@ -146,6 +147,14 @@ pub(crate) fn record(text: &[u8]) -> Vec<u8> {
     written(1 << 11, |buffer| {
         // SAFETY: as above.
         unsafe { cvss_record(text.as_ptr(), text.len(), buffer.as_mut_ptr(), buffer.len()) }
+    })
+}
+
+/// The account of the vector that a text denotes, or nothing.
+pub(crate) fn account(text: &[u8]) -> Vec<u8> {
+    written(1 << 11, |buffer| {
+        // SAFETY: as above.
+        unsafe { cvss_account(text.as_ptr(), text.len(), buffer.as_mut_ptr(), buffer.len()) }
     })
 }
 

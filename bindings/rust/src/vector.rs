@@ -199,6 +199,26 @@ impl Cvss {
         calls::text_of(calls::record(self.text.as_bytes()))
     }
 
+    /// The account of the score, a JSON object without spaces: the numbers on the way to it.
+    ///
+    /// In v2 and v3 they are the weights, the sub-scores and each score's number before its
+    /// rounding; in v4.0 the values that count, the macro vector with its listed value, what each
+    /// group of metrics takes from it, and the number before the rounding. A number is less than
+    /// 10^-6 from the exact one; it is that one where that has no more than seven decimals, but for
+    /// those of v3 with a changed scope, which have a power. Where there was no memory for it, it
+    /// is the text `out of memory`.
+    ///
+    /// ```
+    /// let text = "CVSS:4.0/AV:N/AC:L/AT:N/PR:N/UI:N/VC:L/VI:H/VA:N/SC:N/SI:N/SA:N/E:P";
+    /// let account = cvss_proved::Cvss::parse(text)?.account();
+    /// assert!(account.contains(r#""mean":0.05,"nomenclature":"CVSS-BT","number":7.75,"score":7.8"#));
+    /// # Ok::<(), cvss_proved::Refused>(())
+    /// ```
+    #[must_use]
+    pub fn account(&self) -> String {
+        calls::text_of(calls::account(self.text.as_bytes()))
+    }
+
     /// The vector with an organisation's environmental metrics, as pairs of name and value in any
     /// ASCII case, in place of its own or beside them. Into a vector of v4.0 the library puts them,
     /// into others this crate.

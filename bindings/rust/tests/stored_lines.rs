@@ -98,6 +98,20 @@ fn stored_lines_have_their_facts() {
     }
 }
 
+/// The accounts are those that the second implementation in `reference/` tells, where no number has more
+/// than seven decimals.
+#[test]
+fn vectors_have_their_accounts() {
+    let root = Path::new(env!("CARGO_MANIFEST_DIR")).join("../..");
+    let accounts = fs::read_to_string(root.join("bindings/stored/accounts")).unwrap();
+    assert!(!accounts.is_empty());
+    for account in accounts.lines() {
+        let text = account.split(r#""vector":""#).nth(1).unwrap();
+        let text = text.split('"').next().unwrap();
+        assert_eq!(Cvss::parse(text).unwrap().account(), account);
+    }
+}
+
 fn told(mention: &Mention) -> String {
     match &mention.found {
         Ok(cvss) => format!("{cvss} {} {}", cvss.score(), cvss.severity()),

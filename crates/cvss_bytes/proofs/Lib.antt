@@ -1,7 +1,9 @@
+pub mod AccountLemmas
 pub mod AnswerLemmas
 pub mod BufferLemmas
 pub mod CanonicalLemmas
 pub mod DefinedLemmas
+pub mod DepthLemmas
 pub mod LengthLemmas
 pub mod LinesLemmas
 pub mod MetricLemmas

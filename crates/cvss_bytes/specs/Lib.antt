@@ -1,3 +1,4 @@
+pub mod Accounts
 pub mod Answers
 pub mod Buffer
 pub mod Defined

@@ -4,6 +4,7 @@
 //! printing take no memory; telling why a text is refused does.
 #![tactic(auto)]
 
+pub mod account;
 pub mod answer;
 pub mod buffer;
 pub mod canonical;

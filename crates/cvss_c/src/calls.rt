@@ -6,6 +6,7 @@ ghost use Rattle.cvss.specs.Dispatch.{DenotesCvss};
 ghost use Rattle.cvss.specs.VectorV4.{v4};
 ghost use Rattle.cvss.specs.Version.{canonical_text};
 ghost use Rattle.cvss.specs.declared.vector.Cvss.{Cvss};
+ghost use Rattle.cvss_bytes.specs.Accounts.{IsAccountTold};
 ghost use Rattle.cvss_bytes.specs.Answers.{Answers, IsAnswer, IsReason};
 ghost use Rattle.cvss_bytes.specs.Buffer.{IsLeft, IsWritten};
 ghost use Rattle.cvss_bytes.specs.Defined.{text_without_undefined};
@@ -18,6 +19,7 @@ ghost use Rattle.cvss_bytes.specs.Refusals.{IsBlamed, IsKind};
 ghost use Rattle.cvss_bytes.specs.Scores.{AreScoresOf, nothing, version_number as number_of_version};
 
 use cvss::Cvss;
+use cvss_bytes::account::put_account;
 use cvss_bytes::answer::put_answer_to;
 use cvss_bytes::buffer::put_both;
 use cvss_bytes::canonical::put_canonical_of;
@@ -186,6 +188,22 @@ pub extern "C" fn cvss_record(alloc: Global, text: &[u8], buffer: &mut [u8]) -> 
 {
     match Cvss::read_bytes(text) {
         Some(cvss) => put_record(alloc, &cvss, buffer),
+        None => 0,
+    }
+}
+
+/// The length of the account of the score of the vector that a text denotes, a JSON object, which is
+/// written into the buffer where it fits; 0 where the text denotes none. Where there was no memory for
+/// it, `out of memory` is written in its place.
+#[unsafe(no_mangle)]
+pub extern "C" fn cvss_account(alloc: Global, text: &[u8], buffer: &mut [u8]) -> usize
+    ensures { Answers text.now
+        (λ cvss. (told : List ℕ) × IsAccountTold cvss told
+        × IsWritten told buffer.old buffer.new result)
+        (IsLeft buffer.old buffer.new result) }
+{
+    match Cvss::read_bytes(text) {
+        Some(cvss) => put_account(alloc, &cvss, buffer),
         None => 0,
     }
 }

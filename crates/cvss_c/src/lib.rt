@@ -8,8 +8,8 @@
 mod calls;
 
 pub use calls::{
-    cvss_answer, cvss_answers, cvss_canonical, cvss_find, cvss_metrics, cvss_overridden,
-    cvss_override_reason, cvss_read, cvss_reason, cvss_record, cvss_refusal_kind,
+    cvss_account, cvss_answer, cvss_answers, cvss_canonical, cvss_find, cvss_metrics,
+    cvss_overridden, cvss_override_reason, cvss_read, cvss_reason, cvss_record, cvss_refusal_kind,
     cvss_refusal_metric, cvss_scores, cvss_version, cvss_without_undefined,
 };
 pub use cvss_bytes::{CvssMetric, CvssScores};

@@ -1,0 +1,29 @@
+/*
+ * Prints why the vector that is given as an argument has its score: the numbers on the way to it, as a JSON object. The
+ * status is 1 where the text is refused, and 2 where there is no memory or the output fails.
+ */
+#include "cvss.h"
+
+#include <stdbool.h>
+#include <stdio.h>
+#include <stdlib.h>
+#include <string.h>
+
+int main(int count, char **texts)
+{
+    const char *text = count > 1 ? texts[1] : "";
+    size_t length = strlen(text);
+    size_t size = cvss_account(text, length, NULL, 0);
+    if (size == 0)
+        return 1;
+    char *account = malloc(size);
+    if (account == NULL)
+        return 2;
+    size_t told = cvss_account(text, length, account, size);
+    /* else it is "out of memory" */
+    bool is_told = told == size && account[0] == '{';
+    if (is_told)
+        printf("%.*s\n", (int)told, account);
+    free(account);
+    return is_told && fflush(stdout) == 0 ? 0 : 2;
+}
