@@ -1,4 +1,4 @@
-use Rattle.std.proofs.Common.{refl}
+use Rattle.std.proofs.Common.{◌++◌, refl}
 use Rattle.std.proofs.lemmas.Result.{on_ok_weaker}
 use Rattle.cvss_account.specs.V4.{account_members, class_members, metric_members, number_members}
 use Rattle.cvss_record.proofs.ObjectLemmas.{put_next}
@@ -14,7 +14,7 @@ returns c =
     (λ put. record {
       members = account_members c.args.vector.now account;
       are = record { account = account; is_account = c.account-account.ensures.account; are = refl };
-      put = put_next metrics _ (members_view c.args.members.now.entries) of_metrics _ c.in_ok-put_metrics.ensures
+      put = put_next metrics (class_members account ++ number_members account) (members_view c.args.members.now.entries) of_metrics _ c.in_ok-put_metrics.ensures
           (put_next (class_members account) (number_members account) of_metrics _ _ c.in_ok-put_class.ensures put);
     })
     c.put_numbers.ensures
