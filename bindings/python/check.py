@@ -3,6 +3,7 @@
 Usage: check.py ROOT, the folder of the checkout. The package is the one that Python finds.
 """
 
+import ast
 import json
 import pickle
 import sys
@@ -68,6 +69,14 @@ def check_stored_lines(root: Path) -> None:
             assert call(line) == told.decode(), line
     assert answers(lines) == [told.decode() for told in stored_lines(root, "stdout")]
     print(f"Python: {len(lines)} lines, 0 wrong answers")
+
+
+def check_syntax() -> None:
+    """Each file of the package can be read by the oldest Python that it is for."""
+    files = list(Path(cvss_proved.__file__).parent.rglob("*.py"))
+    assert len(files) > 5, files
+    for path in files:
+        ast.parse(path.read_text("utf-8"), str(path), feature_version=(3, 8))
 
 
 def raises(error: Type[Exception], call: Callable[[], object]) -> bool:
@@ -252,6 +261,7 @@ def check_values() -> None:
 
 
 if __name__ == "__main__":
+    check_syntax()
     check_stored_lines(Path(sys.argv[1]))
     check_texts()
     check_many_texts()

@@ -114,12 +114,12 @@ def check_answers(port: int, root: Path) -> None:
         expected = [(f"{score:.1f}", severity) for score, severity in pairs if score is not None]
         assert (told["text"], told["version"], scores) == (vector.text, vector.version, expected), line
         assert (told["score"], told["severity"]) == expected[0] and told["metrics"] == vector.metrics, line
-        assert told["nomenclature"] == vector.nomenclature, line
+        assert told["nomenclature"] == vector.nomenclature and told["account"] == vector.account(), line
     for refused in (b"AV:N/AC:L", b"", b"\xff", b"CVSS:3.1", b"hello", b"CVSS:3.1/AV:Q", "\u202e/AV:N".encode()):
         (told,) = read(port, refused)
         assert not is_accepted(refused)
         error = CvssError.of(refused)
-        assert (told["reason"], told["metric"]) == (error.reason, error.metric), refused
+        assert (told["reason"], told["metric"]) == (error.reason, error.metric) and "account" not in told, refused
     status, headers, content = asked(port, f"/record?text={V4}")
     assert status == 200 and json.loads(content) == Vector(V4).record()
     assert "attachment" in headers["content-disposition"]
@@ -166,6 +166,13 @@ def check_metrics(root: Path) -> None:
     assert {word.partition("=")[0] for word in stored.split() if "=" in word} == named, named
 
 
+def check_size(root: Path) -> None:
+    """The page is small enough to be read."""
+    folder = root / "bindings" / "python" / "cvss_proved" / "calculator"
+    counts = {end: len((folder / f"page.{end}").read_text().splitlines()) for end in ("html", "css", "js")}
+    assert 0 < sum(counts.values()) <= 1_200, counts
+
+
 def started(*arguments: str) -> "subprocess.Popen[str]":
     return subprocess.Popen([*COMMAND, *arguments], stdout=subprocess.PIPE, stderr=subprocess.PIPE, text=True)
 
@@ -209,6 +216,7 @@ if __name__ == "__main__":
         check_answers(served, folder)
         check_texts(served)
     check_metrics(folder)
+    check_size(folder)
     check_command()
     check_names()
     print("Python: the calculator answers what the library does, and refuses what it must")

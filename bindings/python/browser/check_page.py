@@ -11,8 +11,9 @@ import statistics
 import sys
 import time
 from pathlib import Path
-from typing import Any, Dict, Iterator, List
+from typing import Any, Dict, List
 
+import explaining
 import reading
 from driving import Page
 from selenium.webdriver.common.keys import Keys
@@ -232,35 +233,23 @@ def check_hostile(page: Page) -> None:
     assert len(table) == 1_000 and page.paste(V3)["vector"] == V3
 
 
-def leaves(told: Any) -> Iterator[float]:
-    """The numbers of an account, but for those of the next lower class, which the page leaves out."""
-    if isinstance(told, dict):
-        for name, value in told.items():
-            yield from leaves(None if name == "nextValue" else value)
-    elif isinstance(told, list):
-        for value in told:
-            yield from leaves(value)
-    elif isinstance(told, (int, float)):
-        yield told
-
-
-def check_why(page: Page) -> None:
-    """Where the library gives an account, each number of it stands on the page, and the drawing has its steps."""
-    for text in (f"{V4}/E:P/CR:L/MSI:S", f"{V3.replace('S:U', 'S:C')}/E:U/MAV:P", f"{V2}/E:U/TD:L/CDP:H"):
-        page.open(f"#{text}")
-        account = getattr(Vector(text), "account", None)
-        script = "const why = document.getElementById('why'); return why.hidden ? '' : why.innerText"
-        shown = page.driver.execute_script(script)
-        assert bool(account) == bool(shown), shown
-        if account is None:
-            continue
-        numbers = {float(word.strip(",.")) for word in re.findall(r"-?\b\d[\d.]*", shown)}
-        told = account()
-        assert not set(leaves(told)) - numbers, (text, set(leaves(told)) - numbers)
-        count = "return ['rect', '.gone'].map((what) => document.querySelectorAll(`#why ${what}`).length)"
-        boxes = page.driver.execute_script(count)
-        groups = told.get("groups", [])
-        assert boxes == [sum(group[name] for group in groups) for name in ("depth", "distance")], (text, boxes)
+def check_why(page: Page, root: Path) -> None:
+    """Why a score is what it is: of a dozen vectors of each version, and of some that are like no others."""
+    rows = rows_of(root / "conformance" / "scores.tsv")
+    texts = []
+    for version in VERSIONS:
+        own = dict.fromkeys(row["canonical"] for row in spread([row for row in rows if row["version"] == version]))
+        texts += list(own)[::6][:12]
+    assert len(texts) == 12 * len(VERSIONS)
+    texts += (
+        f"{V4}/E:P/CR:L/IR:M/MSI:S/MVC:L", "CVSS:4.0/AV:P/AC:H/AT:P/PR:H/UI:A/VC:N/VI:N/VA:N/SC:N/SI:N/SA:N/E:U/AR:H",
+        "CVSS:4.0/AV:P/AC:H/AT:P/PR:H/UI:A/VC:L/VI:N/VA:N/SC:N/SI:N/SA:N/E:U/CR:L", f"{V4}/MAV:X/E:X",
+        f"{V3.replace('S:U', 'S:C')}/E:U/MAV:P", "CVSS:3.0/AV:N/AC:L/PR:L/UI:N/S:C/C:N/I:N/A:N", "CVSS:3.1/AV:N",
+        f"{V2}/E:U/TD:L/CDP:H", "AV:L/AC:H/Au:M/C:N/I:N/A:P/CR:H/AR:L", "AV:L/AC:H/Au:M/C:N/I:N/A:N/TD:N",
+    )
+    explaining.check_accounts(page, root, texts)
+    explaining.check_none(page, V4)
+    print(f"Page: why the scores of {len(texts)} vectors are what they are, 0 wrong numbers")
 
 
 def check_reading(page: Page) -> None:
@@ -319,7 +308,7 @@ def main(root: Path, folder: Path) -> None:
         check_copies(page, folder)
         check_keyboard(page)
         check_hostile(page)
-        check_why(page)
+        check_why(page, root)
         check_reading(page)
         check_printed(page)
         report_times(page)

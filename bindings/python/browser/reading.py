@@ -54,7 +54,7 @@ def check_names(page: Page) -> None:
     nodes = _nodes(page)
     for node in nodes:
         if _told(node, "role") in _CONTROLS:
-            assert _told(node, "name") or _told(node, "role") == "table", node
+            assert _told(node, "name"), node
     radios = [node for node in nodes if _told(node, "role") == "radio"]
     described = [node for node in radios if _told(node, "description")]
     # the four of the switch need no sentence

@@ -31,10 +31,7 @@ def _whole(given: bytes, read: Found) -> Dict[str, Any]:
             for name, score, severity in zip(read.scores._fields, read.scores, read.severities)
             if score is not None
         ]
-        # why the score is what it is, where the package tells it
-        account = getattr(read, "account", None)
-        if account is not None:
-            told["account"] = account()
+        told["account"] = read.account()
     return told
 
 

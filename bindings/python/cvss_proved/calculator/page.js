@@ -194,7 +194,7 @@ function show(answer) {
   bar.style.setProperty("--score", answer ? score : "0");
   at("note").textContent = note();
   showScores(answer ?? { scores: [] });
-  showWhy(answer?.account);
+  showWhy(answer);
   at("vector").textContent = text ?? (vectorText() || "–");
   at("record").hidden = !answer;
   if (answer) at("record").href = `/record?${query(text)}`;
@@ -204,35 +204,55 @@ function show(answer) {
 
 // ---- Why: the account that the library gives
 
-// The numbers of an account, in the order in which they come about; those of SCORES have one decimal.
+// The numbers of v2 and v3 in the order in which they come about, each with what it says; those of SCORES have one
+// decimal.
 const NUMBERS = {
-  iss: "Impact sub-score",
-  impact: "Impact",
-  exploitability: "Exploitability",
-  f: "f(Impact)",
-  miss: "Modified impact sub-score",
-  modifiedImpact: "Modified impact",
-  modifiedExploitability: "Modified exploitability",
-  adjustedImpact: "Adjusted impact",
-  adjustedBase: "Adjusted base score",
-  adjustedTemporal: "Adjusted temporal score",
-  firstNumber: "Before the first rounding",
-  firstScore: "First rounding",
-  number: "Before the rounding",
-  score: "Score",
+  iss: ["Impact sub-score", "the harm of C, I and A together, from 0 to 1"],
+  miss: ["Modified impact sub-score", "the harm of MC, MI and MA together, by CR, IR and AR"],
+  impact: ["Impact", "the harm on the scale of the score"],
+  modifiedImpact: ["Modified impact", "the same on the scale of the score"],
+  adjustedImpact: ["Adjusted impact", "the harm of C, I and A, by CR, IR and AR"],
+  exploitability: ["Exploitability", "how easy the attack is"],
+  modifiedExploitability: ["Modified exploitability", "how easy the attack is, by MAV, MAC, MPR and MUI"],
+  f: ["Factor f(Impact)", "0 where nothing is harmed, and else 1.176"],
+  adjustedBase: ["Adjusted base score", "the base score by the adjusted impact"],
+  adjustedTemporal: ["Adjusted temporal score", "the adjusted base score by E, RL and RC"],
+  firstNumber: ["Before the first rounding", "both together: 0 without impact, 10 at most"],
+  firstScore: ["First rounding", "as the standard has it, before E, RL and RC"],
+  number: ["Before the rounding"],
+  score: ["Score"],
 };
 const SCORES = ["adjustedBase", "adjustedTemporal", "firstScore", "score"];
+// Of what the number before the rounding comes, by the part of the account.
+const BY_TIME = "the base score by E, RL and RC";
+const SOURCES_OF_V3 = {
+  base: "both together: 0 without impact, 10 at most",
+  temporal: BY_TIME,
+  environmental: "the first rounding by E, RL and RC",
+};
+const SOURCES_OF_V2 = {
+  base: "both together, by f(Impact)",
+  temporal: BY_TIME,
+  environmental: "the one above by CDP, and then by TD",
+};
+const SCOPES = { U: "unchanged", C: "changed" };
+// The groups of v4.0, and the metrics of each.
+const GROUPS = {
+  EQ1: ["Exploitability", "AV PR UI"],
+  EQ2: ["Complexity", "AC AT"],
+  "EQ3+EQ6": ["Vulnerable system", "VC VI VA CR IR AR"],
+  EQ4: ["Subsequent systems", "SC SI SA"],
+  EQ5: ["Exploitation", "E"],
+};
 
 const decimal = (number) => number.toFixed(7).replace(/\.?0+$/, "");
-const tenth = (number) => (number === null ? "–" : number.toFixed(1));
-
-function cells(texts) {
-  return make("tr", {}, ...texts.map((text) => make("td", {}, text)));
-}
-
-function headCells(texts) {
-  return make("tr", {}, ...texts.map((text) => make("th", { scope: "col" }, text)));
-}
+const tenth = (number) => number.toFixed(1);
+const orNone = (number, told) => (number === null ? "–" : told(number));
+const listed = (words) => [words.slice(0, -1).join(", "), ...words.slice(-1)].filter(Boolean).join(" and ");
+const row = (...cells) => make("tr", {}, ...cells);
+const head = (scope, colSpan, ...words) => make("th", { scope, colSpan }, ...words);
+const cells = (texts) => texts.map((text) => make("td", {}, text));
+const quiet = (words) => make("small", {}, words);
 
 function drawn(tag, attributes, ...children) {
   const element = document.createElementNS("http://www.w3.org/2000/svg", tag);
@@ -242,66 +262,136 @@ function drawn(tag, attributes, ...children) {
 }
 
 // A group as a row of boxes, one for each step of its depth, of which those of the distance are filled.
-function drawSteps({ group, distance, depth, next }, row) {
-  const top = 20 * row;
+function drawSteps({ group, distance, depth, next }, place) {
+  const top = 20 * place;
   const boxes = Array.from({ length: depth }, (_, step) =>
-    drawn("rect", { x: 70 + 16 * step, y: top + 2, width: 13, height: 13, class: step < distance ? "gone" : "" }));
-  const label = drawn("text", { x: 0, y: top + 13 }, group);
-  const told = drawn("text", { x: 74 + 16 * depth, y: top + 13 }, `${distance} of ${depth}`);
+    drawn("rect", { x: 134 + 14 * step, y: top + 3, width: 11, height: 12, class: step < distance ? "gone" : "" }));
+  const label = drawn("text", { x: 0, y: top + 13 }, GROUPS[group][0]);
+  const told = drawn("text", { x: 138 + 14 * depth, y: top + 13 }, `${distance} of ${depth}`);
   return drawn("g", { class: next === null ? "last" : "" }, label, ...boxes, told);
 }
 
 function drawDistances(groups) {
-  const words = groups.map(({ group, distance, depth }) => `${group} ${distance} of ${depth}`).join(", ");
-  const title = drawn("title", {}, `Distances from the most severe values of the classes, in steps: ${words}`);
-  const frame = { viewBox: `0 0 290 ${20 * groups.length}`, role: "img" };
+  const words = groups.map(({ group, distance, depth }) => `${GROUPS[group][0]} ${distance} of ${depth}`).join(", ");
+  const title = drawn("title", {}, `Steps below the most severe values of the class: ${words}`);
+  const frame = { viewBox: `0 0 330 ${20 * groups.length}`, role: "img" };
   return drawn("svg", frame, title, ...groups.map(drawSteps));
 }
 
-function sumOf(account) {
-  const { groups, macroVector, value, mean, number, score } = account;
-  if (!groups) return `The number of the base score, ${decimal(account.base.number)}, is rounded to ${tenth(score)}.`;
-  if (groups.length === 0) return `Nothing is harmed, so the score is ${tenth(score)}.`;
-  return `The classes ${macroVector} are listed with ${tenth(value)}. By the distances ${decimal(mean)} is taken of it, `
-    + `the mean over the groups. What is left, ${decimal(number)}, is rounded to ${tenth(score)}.`;
+// The metrics of a group of v4.0 with the letters that count: a modified one in place of its base metric, and a star
+// behind what is assumed.
+function lettersOf(group, { effective }, metrics) {
+  return GROUPS[group][1].split(" ").map((name) => {
+    const own = isAbsent(metrics[`M${name}`]) ? name : `M${name}`;
+    return `${own}:${effective[name]}${isAbsent(metrics[own]) ? "*" : ""}`;
+  }).join(" ");
 }
 
-function groupRow({ group, class: own, distance, depth, gap, taken }) {
-  return cells([group, own, `${distance} of ${depth}`, tenth(gap), taken === null ? "–" : decimal(taken)]);
+function groupPart(told, account, metrics) {
+  const { group, class: own, distance, depth, nextValue, gap, taken } = told;
+  const letters = make("code", {}, lettersOf(group, account, metrics));
+  const title = head("rowgroup", 5, make("b", {}, GROUPS[group][0]), ` ${group} `, letters);
+  const listedThere = [orNone(nextValue, tenth), orNone(gap, tenth), orNone(taken, decimal)];
+  return make("tbody", {}, row(title), row(...cells([own, `${distance} of ${depth}`, ...listedThere])));
 }
 
-function numberRows(account) {
-  return ["base", "temporal", "environmental"].flatMap((part) => {
-    const names = Object.keys(NUMBERS).filter((name) => name in account[part]);
-    const told = (name) => (SCORES.includes(name) ? tenth : decimal)(account[part][name]);
-    const head = make("tr", {}, make("th", { colSpan: 2, scope: "rowgroup" }, part));
-    return [head, ...names.map((name) => cells([NUMBERS[name], told(name)]))];
+function sumPart({ groups, macroVector, value, mean, number, score }) {
+  const taken = groups.flatMap((group) => group.taken ?? []).map(decimal);
+  const sums = [
+    [`Listed for the classes ${macroVector}`, tenth(value)],
+    [taken.length ? `Taken: the mean of ${listed(taken)}` : "Taken", decimal(mean)],
+    ["Before the rounding", decimal(number)],
+    ["Score", tenth(score)],
+  ];
+  const rows = sums.map(([words, told]) => row(head("row", 4, words), ...cells([told])));
+  return make("tbody", { className: "sum" }, ...rows);
+}
+
+function sumOfGroups({ groups, macroVector, value, mean, number, score }) {
+  const front = groups.length === 0
+    ? "Nothing is harmed, and then the score is 0, whatever else is said."
+    : `For the classes ${macroVector} the standard lists ${tenth(value)}, of which the groups take ${decimal(mean)}.`;
+  return `${front} The number before the rounding is ${decimal(number)}, and to the nearest tenth ${tenth(score)}.`;
+}
+
+function footOfGroups(account, metrics) {
+  const isAssumed = account.groups.some(({ group }) => lettersOf(group, account, metrics).includes("*"));
+  return [
+    account.groups.length && "Class 0 is the most severe of a group. Drawn above is how many steps the values of a "
+      + "group are milder than the most severe of its class: that share of the gap to the next lower class is taken, "
+      + "and of all shares the mean.",
+    account.groups.some(({ next }) => next === null) && "A dashed group has no lower class, and does not count.",
+    isAssumed && "* Not defined, and so counted as the most severe value.",
+  ].filter(Boolean).join(" ");
+}
+
+function whyOfGroups(account, metrics) {
+  const names = ["Class", "Steps", "Next lower", "Gap", "Taken"];
+  return {
+    sum: sumOfGroups(account),
+    drawing: account.groups.length ? [drawDistances(account.groups)] : [],
+    head: account.groups.length ? [row(...names.map((name) => head("col", 1, name)))] : [],
+    parts: [...account.groups.map((group) => groupPart(group, account, metrics)), sumPart(account)],
+    title: "",
+    pairs: [],
+    foot: footOfGroups(account, metrics),
+  };
+}
+
+function numberPart(part, account) {
+  const told = account[part];
+  const sources = account.version === "2.0" ? SOURCES_OF_V2 : SOURCES_OF_V3;
+  const rows = Object.keys(NUMBERS).filter((name) => name in told).map((name) => {
+    const [title, words] = NUMBERS[name];
+    const source = name === "number" ? sources[part] : words ?? "";
+    return row(head("row", 1, title, quiet(source)), ...cells([(SCORES.includes(name) ? tenth : decimal)(told[name])]));
   });
+  return make("tbody", {}, row(head("rowgroup", 2, make("b", { className: "part" }, part))), ...rows);
 }
 
-// What each metric weighs, or in v4.0 which letter of it counts, in the order of the standard.
-function metricPairs({ weights, effective }) {
-  const told = weights ?? effective;
+// What each metric weighs, in the order of the standard; of the scope, how it counts.
+function weightPairs({ weights, scope, modifiedScope }, metrics) {
+  const told = { ...weights, ...(scope && { S: scope, MS: modifiedScope }) };
   const names = table().flatMap((group) => group.metrics.map(({ name }) => name)).filter((name) => name in told);
   return names.map((name) => {
-    const value = weights ? decimal(told[name]) : told[name];
-    return make("div", {}, make("dt", {}, name), make("dd", {}, value));
+    const value = SCOPES[told[name]] ?? decimal(told[name]);
+    const letter = isAbsent(metrics[name]) ? name : `${name}:${metrics[name]}`;
+    return make("div", {}, make("dt", {}, letter), make("dd", {}, value));
   });
 }
 
-function showWhy(account) {
+function sumOfWeights({ version, base, temporal, environmental }) {
+  const rounding = version === "2.0" ? "to the nearest tenth, and 0 at least" : "up to a tenth, as the standard says";
+  const [first, second, third] = [base, temporal, environmental].map(({ number }) => decimal(number));
+  return `The number before the rounding is ${first} for the base score, ${second} for the temporal and ${third} for `
+    + `the environmental one. Each is rounded ${rounding}.`;
+}
+
+function whyOfWeights(account, metrics) {
+  return {
+    sum: sumOfWeights(account),
+    drawing: [],
+    head: [],
+    parts: ["base", "temporal", "environmental"].map((part) => numberPart(part, account)),
+    title: "What each metric weighs",
+    pairs: weightPairs(account, metrics),
+    foot: "Impact is the harm, and exploitability how easy the attack is. Both come from what the metrics weigh.",
+  };
+}
+
+function showWhy(answer) {
+  const account = answer?.account;
   at("why").hidden = !account;
   if (!account) return;
-  const { groups } = account;
-  const head = groups ? ["Group", "Class", "Distance", "Gap", "Taken"] : ["Number", "Value"];
-  const rows = groups ? groups.map(groupRow) : numberRows(account);
-  at("why-sum").textContent = sumOf(account);
-  at("why-drawing").replaceChildren(...(groups?.length ? [drawDistances(groups)] : []));
-  at("why-numbers").tHead.replaceChildren(headCells(head));
-  at("why-numbers").tBodies[0].replaceChildren(...rows);
-  at("why-numbers").hidden = rows.length === 0;
-  at("why-metrics-title").textContent = groups ? "The values that count" : "What each metric weighs";
-  at("why-metrics").replaceChildren(...metricPairs(account));
+  const why = (account.groups ? whyOfGroups : whyOfWeights)(account, answer.metrics);
+  at("why-sum").textContent = why.sum;
+  at("why-drawing").replaceChildren(...why.drawing);
+  at("why-numbers").tHead.replaceChildren(...why.head);
+  for (const part of [...at("why-numbers").tBodies]) part.remove();
+  at("why-numbers").append(...why.parts);
+  at("why-foot").textContent = why.foot;
+  at("why-metrics-title").textContent = why.title;
+  at("why-metrics").replaceChildren(...why.pairs);
 }
 
 // ---- Several vectors
