@@ -85,11 +85,16 @@ def check_refused_requests(port: int) -> None:
         assert told == status and (status == 200 or content.startswith(b"This is too large")), (size, told, content)
     assert asked(port, "/", X="x" * 17_000)[0] == asked(port, "/", X="x" * 70_000)[0] == 413
     assert asked(port, "/", body=b"x")[0] == 413
-    two_hosts = f"GET / HTTP/1.1\r\nHost: 127.0.0.1:{port}\r\nHost: a\r\n\r\n"
-    for request in ("GET / HTTP/1.1\r\n\r\n", "GET / HTTP/1.0\r\n\r\n", two_hosts):
+    own = f"GET / HTTP/1.1\r\nHost: 127.0.0.1:{port}\r\n"
+    requests = {
+        "GET / HTTP/1.1\r\n\r\n": 403, "GET / HTTP/1.0\r\n\r\n": 403, f"{own}Host: a\r\n\r\n": 403,
+        f"{own}Content-Length: 0\r\nContent-Length: 5\r\n\r\nhello": 413, f"{own}\r\n": 200,
+        f"{own}Transfer-Encoding: chunked\r\n\r\n0\r\n\r\n": 413,
+    }
+    for request, status in requests.items():
         with socket.create_connection(("127.0.0.1", port), 20) as connection:
             connection.sendall(request.encode())
-            assert connection.recv(100).split()[1] == b"403", request
+            assert int(connection.recv(100).split()[1]) == status, request
 
 
 def is_accepted(text: Text) -> bool:

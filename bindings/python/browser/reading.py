@@ -61,14 +61,15 @@ def check_names(page: Page) -> None:
     assert len(radios) > 30 and len(radios) - len(described) == 4, (len(radios), len(described))
     names = {_told(node, "name") for node in nodes}
     assert names & {"Attack Vector AV", "Access Vector AV"} and {"Version", "Network N", "4.0"} <= names, names
-    live = "return document.querySelectorAll('[aria-live], [role=status], [role=alert]').length"
+    # an output is such a region by itself, and would be read aloud twice within another one
+    live = "return document.querySelectorAll('[aria-live], [role=status], [role=alert], output').length"
     assert page.driver.execute_script(live) == 4
 
 
 def check_contrast(page: Page) -> None:
-    """In light and in dark, each text can be told from what is behind it."""
+    """In light and in dark, each text can be told from what is behind it, and no window is too narrow for the page."""
     for scheme in ("light", "dark"):
-        for width in (1280, 390):
+        for width in (1280, 390, 320):
             page.emulate(scheme, width)
             faint = page.driver.execute_script(_FAINT)
             assert faint == [], (scheme, width, faint)

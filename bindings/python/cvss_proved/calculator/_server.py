@@ -118,7 +118,8 @@ class _Handler(BaseHTTPRequestHandler):
         if len(hosts) != 1 or hosts[0].lower() not in own_names(address, port):
             raise _Refused(HTTPStatus.FORBIDDEN, "Ask for this page by the address that it is served at.")
         size = sum(len(name) + len(value) for name, value in self.headers.items())
-        has_body = "Transfer-Encoding" in self.headers or self.headers.get("Content-Length", "0") != "0"
+        lengths: List[str] = self.headers.get_all("Content-Length", [])
+        has_body = "Transfer-Encoding" in self.headers or any(length != "0" for length in lengths)
         if len(self.requestline) > MOST_BYTES or size > _MOST_HEADER_BYTES or has_body:
             raise _Refused(HTTPStatus.REQUEST_ENTITY_TOO_LARGE, _TOO_LARGE)
 
