@@ -261,6 +261,8 @@ def check_reading(page: Page) -> None:
         page.click("#explain")
         reading.check_names(page)
         reading.check_contrast(page)
+    page.open(f"#{V4}")
+    reading.check_focus(page)
 
 
 def check_printed(page: Page) -> None:

@@ -317,12 +317,12 @@ function sumOfGroups({ groups, macroVector, value, mean, number, score }) {
 function footOfGroups(account, metrics) {
   const isAssumed = account.groups.some(({ group }) => lettersOf(group, account, metrics).includes("*"));
   return [
-    account.groups.length && "Class 0 is the most severe of a group. Drawn above is how many steps the values of a "
-      + "group are milder than the most severe of its class: that share of the gap to the next lower class is taken, "
-      + "and of all shares the mean.",
+    account.groups.length && "Class 0 is the most severe. Each filled box is a step by which a group is milder than "
+      + "the worst of its class: the filled share of the boxes is the share of the gap to the next lower class that is "
+      + "taken. The mean of what is taken comes off the listed value.",
     account.groups.some(({ next }) => next === null) && "A dashed group has no lower class, and does not count.",
     isAssumed && "* Not defined, and so counted as the most severe value.",
-  ].filter(Boolean).join(" ");
+  ].filter(Boolean).join("\n");
 }
 
 function whyOfGroups(account, metrics) {
