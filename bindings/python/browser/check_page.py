@@ -101,6 +101,9 @@ def check_refused(page: Page, root: Path) -> None:
         whole_reason = reason if len(reason) <= 400 else f"{reason[:400]}… ({len(reason)} characters)"
         assert (state["refusal"], state["isInvalid"]) == (whole_reason, True), (state, row)
         assert all(state[name] == before[name] for name in kept), (state, row)
+    # of more than the mention, it is told which part was read
+    state = page.paste("Scored (CVSS:3.1/AV:Q) by us.")
+    assert state["refusal"] == f"CVSS:3.1/AV:Q: {reason_of('CVSS:3.1/AV:Q')}", state
     state = page.paste("")
     assert not state["isInvalid"] and state["refusal"] == "" and state["ticked"] == before["ticked"]
     print(f"Page: {len(spread(rows))} refused texts, and nothing lost")
@@ -261,6 +264,8 @@ def check_reading(page: Page) -> None:
         page.click("#explain")
         reading.check_names(page)
         reading.check_contrast(page)
+    page.open(f"#{V4}")
+    reading.check_focus(page)
 
 
 def check_printed(page: Page) -> None:

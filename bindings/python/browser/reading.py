@@ -1,8 +1,9 @@
-"""What those meet who do not see the page as it was drawn: names, descriptions and contrast."""
+"""What those meet who do not see the page as it was drawn: names, descriptions, contrast, and where the focus is."""
 
 from typing import Any, Dict, List
 
 from driving import Page
+from selenium.webdriver.common.keys import Keys
 
 _CONTROLS = ("radio", "checkbox", "button", "link", "textbox", "DisclosureTriangle", "group", "region", "table")
 # The texts that stand out from what is behind them by less than the Web Content Accessibility Guidelines ask for in
@@ -36,6 +37,14 @@ while (walker.nextNode()) {
   if (ratio < least) faint.push(`${ratio.toFixed(2)}: ${walker.currentNode.textContent.trim().slice(0, 60)}`);
 }
 return faint;
+"""
+# Whether the score, which is held at the top, hides what has the focus, and the last of the form to begin with.
+_LAST = "[...document.querySelectorAll('#metrics summary, #metrics input')].at(-1).focus()"
+_IS_HIDDEN = """
+const own = document.activeElement;
+const place = (own.closest("label") ?? own).getBoundingClientRect();
+const score = document.getElementById("score").getBoundingClientRect();
+return place.top < score.bottom && place.bottom > score.top;
 """
 
 
@@ -75,4 +84,17 @@ def check_contrast(page: Page) -> None:
             assert faint == [], (scheme, width, faint)
             wide = page.driver.execute_script("return document.documentElement.scrollWidth")
             assert wide <= width, (scheme, width, wide)
+    page.emulate("light", 1280)
+
+
+def check_focus(page: Page) -> None:
+    """In a narrow window the score hides nothing that is reached by the keyboard (section 2.4.11)."""
+    page.emulate("light", 390, 700)
+    page.driver.execute_script(_LAST)
+    seen: List[Any] = []
+    while len(seen) < 40 and "AV" not in seen:
+        page.hold(Keys.SHIFT, Keys.TAB)
+        seen.append(page.focused()["name"])
+        assert not page.driver.execute_script(_IS_HIDDEN), page.focused()
+    assert len(seen) > 15 and seen[-1] == "AV", seen
     page.emulate("light", 1280)

@@ -202,7 +202,8 @@ class Server(ThreadingHTTPServer):
 
     def handle_error(self, request: Any, client_address: Any) -> None:
         """A browser that goes away in the midst of an answer is no fault."""
-        if not isinstance(sys.exc_info()[1], (ConnectionError, TimeoutError)):
+        # before Python 3.10 the time that is out on a socket is no TimeoutError
+        if not isinstance(sys.exc_info()[1], (ConnectionError, TimeoutError, socket.timeout)):
             super().handle_error(request, client_address)
 
     @property

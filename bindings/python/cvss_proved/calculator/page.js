@@ -317,12 +317,12 @@ function sumOfGroups({ groups, macroVector, value, mean, number, score }) {
 function footOfGroups(account, metrics) {
   const isAssumed = account.groups.some(({ group }) => lettersOf(group, account, metrics).includes("*"));
   return [
-    account.groups.length && "Class 0 is the most severe of a group. Drawn above is how many steps the values of a "
-      + "group are milder than the most severe of its class: that share of the gap to the next lower class is taken, "
-      + "and of all shares the mean.",
+    account.groups.length && "Class 0 is the most severe. Each filled box is a step by which a group is milder than "
+      + "the worst of its class: the filled share of the boxes is the share of the gap to the next lower class that is "
+      + "taken. The mean of what is taken comes off the listed value.",
     account.groups.some(({ next }) => next === null) && "A dashed group has no lower class, and does not count.",
     isAssumed && "* Not defined, and so counted as the most severe value.",
-  ].filter(Boolean).join(" ");
+  ].filter(Boolean).join("\n");
 }
 
 function whyOfGroups(account, metrics) {
@@ -438,6 +438,12 @@ function refuse(words) {
   at("text").setAttribute("aria-invalid", words ? "true" : "false");
 }
 
+// Why a text is refused; where a part of it was meant as a vector, which part.
+function refusalOf({ given, reason }, text) {
+  const isPart = given && given !== text.trim() && given.length <= MOST_SHOWN / 2;
+  return visible(isPart ? `${given}: ${reason}` : reason);
+}
+
 // Gives up what was asked before, of which no answer is waited for any more.
 function begin(isBusy) {
   running.abort();
@@ -457,7 +463,7 @@ async function ask(text) {
   }
   try {
     const response = await fetch(`/read?${request}`, { signal: running.signal });
-    const told = response.ok ? await response.json() : [{ given: text, reason: await response.text() }];
+    const told = response.ok ? await response.json() : [{ reason: await response.text() }];
     if (mine !== asked) return null;
     at("score").setAttribute("aria-busy", false);
     return told;
@@ -492,7 +498,7 @@ async function read(text, keepsFound) {
   const answers = await ask(text);
   if (answers === null) return false;
   const [first] = answers;
-  refuse(answers.length === 1 && first.reason !== undefined ? visible(first.reason) : "");
+  refuse(answers.length === 1 && first.reason !== undefined ? refusalOf(first, text) : "");
   if (answers.length > 1) showFound(answers);
   if (answers.length > 1 || first.reason !== undefined) return false;
   adopt(first);
