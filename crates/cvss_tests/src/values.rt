@@ -40,7 +40,7 @@ where
     Ok(())
 }
 
-/// Compares what a value prints.
+/// Compares what a value prints, also under options of a formatter, which change nothing.
 pub(crate) fn prints<T: fmt::Display>(
     rt: &impl Abort,
     alloc: Global,
@@ -48,6 +48,12 @@ pub(crate) fn prints<T: fmt::Display>(
     text: &str,
 ) -> Tried {
     assert_eq!(rt; value.to_string(alloc)?.as_str(), text);
+    let styled = format!(in alloc;
+        "{value:>200}\n{value:<12}\n{value:*^9.3}\n{value:#}\n{value:+}"
+    )?;
+    for each in styled.split('\n') {
+        assert_eq!(rt; each, text);
+    }
     Ok(())
 }
 

@@ -19,7 +19,8 @@
 //!   weight.
 //! - `each TYPE WORD ..`: of the words that are read as a `vector` (of any version; `v2`, `v3` or
 //!   `v4`), a `kind 2`, a `value 2 AV`, a `rating`, a `nomenclature`, or as refused texts with an
-//!   `error`: the value, how many of them it equals, and how many not.
+//!   `error`: the value, how many of them it equals, and how many not. The value is printed under
+//!   options of a formatter too, which are to change nothing; so is a `score`.
 //! - `score 2 COUNT`: a score as it is printed, and its rating; of `score any` the first alone.
 //! - `round 2 COUNT`, `round 3 COUNT`, `round 3.0 COUNT`: the count of the score to which it is
 //!   rounded.

@@ -1,5 +1,6 @@
 //! Scores by themselves: how they are printed, rated and rounded.
 
+use crate::shown::print_alike;
 use cvss::v4::Nomenclature;
 use cvss::{LIMIT, OneDecimal, tenths, v2, v3, v4};
 use std::io;
@@ -13,21 +14,27 @@ fn numbered(asked: &str) -> Option<(&str, i128)> {
 }
 
 /// A score as it is printed, and its rating.
-pub(crate) fn score(rt: &impl Print, asked: &str) -> io::Result<()> {
+pub(crate) fn score(rt: &(impl Print + AllocGlobal), asked: &str) -> io::Result<()> {
     match numbered(asked) {
         Some(("2", count)) => {
             let score = v2::Score::from(count);
-            println!(rt; "{score} {}", score.severity())
+            print_alike(rt, &score)?;
+            println!(rt; " {}", score.severity())
         }
         Some(("3", count)) => {
             let score = v3::Score::from(count);
-            println!(rt; "{score} {}", score.severity())
+            print_alike(rt, &score)?;
+            println!(rt; " {}", score.severity())
         }
         Some(("4", count)) => {
             let score = v4::Score::new(count, Nomenclature::CvssB);
-            println!(rt; "{score} {}", score.severity())
+            print_alike(rt, &score)?;
+            println!(rt; " {}", score.severity())
         }
-        Some(("any", count)) => println!(rt; "{}", OneDecimal { count }),
+        Some(("any", count)) => {
+            print_alike(rt, &OneDecimal { count })?;
+            println!(rt; "")
+        }
         _ => println!(rt; "{NO_NUMBER}"),
     }
 }

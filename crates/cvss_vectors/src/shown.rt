@@ -47,14 +47,32 @@ where
     print_each(rt, &values)
 }
 
-fn print_each<T>(rt: &impl Print, values: &[T]) -> io::Result<()>
+fn print_each<T>(rt: &(impl Print + AllocGlobal), values: &[T]) -> io::Result<()>
 where
-    T: fmt::Display + Clone + PartialEq,
+    T: fmt::Display + Clone + PartialEq + Drop,
 {
     for value in values {
         let same = values.iter().filter(|other| **other == *value).count();
         let others = values.iter().filter(|other| **other != *value).count();
-        print!(rt; "{} {same} {others};", value.clone()?)?;
+        print_alike(rt, &value.clone()?)?;
+        print!(rt; " {same} {others};")?;
     }
     println!(rt; "")
+}
+
+/// Prints a value; or that it is another text under some option of a formatter, be it a width, a
+/// fill, a precision, a sign or `#`.
+pub(crate) fn print_alike<T>(rt: &(impl Print + AllocGlobal), value: &T) -> io::Result<()>
+where
+    T: fmt::Display,
+{
+    let plain = value.to_string(rt.alloc())?;
+    let styled = format!(in rt.alloc();
+        "{value:>200}\n{value:<12}\n{value:^9}\n{value:*>8.3}\n{value:.1}\n{value:#}\n{value:+}\n{value:012}"
+    )?;
+    if styled.split('\n').all(|text| text == plain.as_str()) {
+        print!(rt; "{value}")
+    } else {
+        print!(rt; "options change the text")
+    }
 }
