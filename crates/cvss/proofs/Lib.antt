@@ -1,6 +1,7 @@
 mod AnswerLemmas
 mod JsonLemmas
 mod LawLemmas
+mod OneRefusalLemmas
 mod ReadLemmas
 mod RouteLemmas
 mod SightLemmas

@@ -2,11 +2,18 @@
 //! needs a law calls it.
 
 ghost use Rattle.std.specs.Prelude.{◌≡◌, ◌↔◌, ℕ, List, IsTrue};
+ghost use Rattle.cvss_name.specs.declared.v2.MetricType as type_v2;
+ghost use Rattle.cvss_name.specs.declared.v3.MetricType as type_v3;
+ghost use Rattle.cvss_name.specs.declared.v4.MetricType as type_v4;
 ghost use Rattle.cvss_name.specs.laws.Errors as same;
 ghost use Rattle.cvss_grammar.specs.Equality.{EqualsByValue, ClonesByValue, ClonesAlways};
+ghost use Rattle.cvss_grammar.specs.Refusal.{Refusal, IsFirstRefusal, IsFirstRefusalBehind};
 ghost use Rattle.cvss_number.specs.laws.Rounding.{IsOneCount};
+ghost use Rattle.cvss_v2.specs.Vector as of_v2;
+ghost use Rattle.cvss_v3.specs.Vector as of_v3;
+ghost use Rattle.cvss_v4.specs.Vector as of_v4;
 ghost use Rattle.cvss.specs.Answers.{text_of, IsScoreOf};
-ghost use Rattle.cvss.specs.Dispatch.{DenotesCvss};
+ghost use Rattle.cvss.specs.Dispatch.{DenotesCvss, IsFirstRefusalCvss};
 ghost use Rattle.cvss.specs.laws.BytesErrors as of_bytes;
 ghost use Rattle.cvss.specs.laws.GivenBack.{IsGivenBack};
 ghost use Rattle.cvss.specs.laws.JsonErrors.{TellTheSame};
@@ -21,6 +28,20 @@ pub fn texts_denote_one_vector()
     ensures own { (cvss : Cvss) → (DenotesCvss (text_of cvss) cvss ↔ IsGivenBack cvss) }
     ensures one { (text : List ℕ) → (left right : Cvss)
         → DenotesCvss text left → DenotesCvss text right → left ≡ right }
+{}
+
+/// A text has at most one first refusal, by the rules of each version and of all.
+pub fn texts_have_one_first_refusal()
+    ensures v2 { (text : List ℕ) → (one other : Refusal type_v2.MetricType)
+        → IsFirstRefusal of_v2.v2 text one → IsFirstRefusal of_v2.v2 text other → one ≡ other }
+    ensures v3 { (text : List ℕ) → (one other : Refusal type_v3.MetricType)
+        → IsFirstRefusalBehind of_v3.v3 text one → IsFirstRefusalBehind of_v3.v3 text other
+        → one ≡ other }
+    ensures v4 { (text : List ℕ) → (one other : Refusal type_v4.MetricType)
+        → IsFirstRefusalBehind of_v4.v4 text one → IsFirstRefusalBehind of_v4.v4 text other
+        → one ≡ other }
+    ensures any { (text : List ℕ) → (one other : Refusal MetricType)
+        → IsFirstRefusalCvss text one → IsFirstRefusalCvss text other → one ≡ other }
 {}
 
 /// A vector has one score.
