@@ -77,6 +77,7 @@ def python_environment():
 
 def try_python():
     pages = (PAGE, (ROOT / "README.md").read_text(), (ROOT / "bindings/python/README.md").read_text())
+    assert all(blocks(page, "python") for page in pages), "a page has no example of Python"
     for block in (block for page in pages for block in blocks(page, "python")):
         module = (re.findall(r"^(?:import|from) (pandas|dask)", block) or ["cvss_proved"])[0]
         if module == "dask":
@@ -112,6 +113,7 @@ def try_rust():
     (crate / "Cargo.toml").write_text(f'{head}cvss_proved = {{ path = "{ROOT}/bindings/rust" }}\n')
     home = {**os.environ, "CARGO_HOME": str(FOLDER / "no_registry"), "CARGO_TARGET_DIR": str(crate / "target")}
     pages = (PAGE, (ROOT / "README.md").read_text())
+    assert all("use cvss_proved" in page for page in pages), "a page has no example of Rust"
     for block in (block for page in pages for block in blocks(page, "rust") if "cvss_proved" in block):
         body = f"fn main() -> Result<(), Box<dyn std::error::Error>> {{\n{block}\nOk(())\n}}\n"
         (crate / "src/main.rs").write_text(body)

@@ -24,6 +24,8 @@ def compare(given):
     for here, there in zip(told, expected):
         if here != there:
             sys.exit(f"cvss_find writes {here!r}, and not {there!r}")
+    if not expected:
+        sys.exit("no vector is mentioned in the drawn texts: nothing was tried")
     if len(told) != len(expected):
         sys.exit(f"cvss_find writes {len(told)} lines, and not {len(expected)}")
     refused = any(answer.split(" ", 1)[1].startswith("error: ") for answer in expected)

@@ -190,6 +190,9 @@ def refuse_in_turn(shim, program, given, expected, whole_status, fault_status):
     ample = run(shim, program, given, 0)
     if check(0, ample, expected, whole_status, fault_status) != (False, 0):
         sys.exit(f"{program}: the run with ample memory lacks memory")
+    if 0 in (turn - 1, ended, lacked):
+        sys.exit(f"{program}: {turn - 1} requests were refused, {ended} runs ended early and {lacked} "
+                 "answers lacked memory: nothing was tried")
     print(f"{program}: {turn - 1} requests refused in turn over {len(expected)} lines: "
           f"{ended} runs ended early, {lacked} answers became `out of memory`, all else stayed")
 
@@ -217,6 +220,8 @@ def refuse_in_turn_over_documents(shim):
             sys.exit(f"turn {turn}: status {status}, wrote {written[:2000]!r}")
     if run(shim, "cvss_audit", given, 0)[:2] != (1, whole):
         sys.exit("cvss_audit: the run with ample memory is not the stored one")
+    if turn == 1:
+        sys.exit("cvss_audit: no request was refused: nothing was tried")
     print(f"cvss_audit: {turn - 1} requests refused in turn over {given.count(bytes([10]))} documents: "
           "each run ended early, with the whole answers of a beginning of the lines")
 

@@ -229,8 +229,10 @@ def try_memory(shim):
         front, *components = text.split("/")
         other = "/".join([*components[::-1], front] if version == "v2" else [front, *components[::-1]])
         for line in (f"{mark}{each}" for mark in ("", f"{version} ") for each in (text, other)):
-            number = "tenths " + "0" * (len(line) - len("tenths "))
-            if requests(shim, line) != requests(shim, number):
+            number = requests(shim, "tenths " + "0" * (len(line) - len("tenths ")))
+            if number == 0:
+                sys.exit("no request of cvss_vectors was counted: nothing was tried")
+            if requests(shim, line) != number:
                 sys.exit(f"cvss_vectors takes memory for {line}")
             tried += 1
     return tried

@@ -76,6 +76,8 @@ def refuse(room):
                 sys.exit(f"turn {turn}: status {done.returncode}, wrote {done.stdout[:500]!r}, "
                          f"told {done.stderr[:500]!r}")
             total += 1
+        if turn == 1:
+            sys.exit("no request of cvss_triage was refused: nothing was tried")
     return total
 
 

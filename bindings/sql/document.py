@@ -45,6 +45,8 @@ def program():
 
 def main(database, part):
     told = program() if database == "python" else parts(database)
+    if not told[part]:
+        sys.exit(f"{DOCUMENT.name} has no {part} for {database}: nothing would be tried")
     print("\n".join(told[part]))
 
 
