@@ -253,12 +253,16 @@ def check_figures():
 
 
 def try_removal():
-    """What is installed is taken away by the words of the page, which name each program that ./install builds."""
+    """What is installed is taken away by the words of the page, which name what ./install puts there besides."""
     home = FOLDER / "home"
     run(["bindings/install", home / ".local"], cwd=ROOT)
     block = block_with("rm -f")
-    for program in re.findall(r"^for program in (.*); do$", (ROOT / "install").read_text(), re.M)[0].split():
-        assert f"bin/{program} " in block, f"{program} is not taken away"
+    script = (ROOT / "install").read_text()
+    programs = re.findall(r"^for program in (.*); do$", script, re.M)[0].split()
+    libraries = re.findall(r'bindings/out/(\S+) "\$prefix/lib/"', script)
+    assert programs and libraries
+    for name in (*(f"bin/{program}" for program in programs), *(f"lib/{library}" for library in libraries)):
+        assert f"{name} " in block, f"{name} is not taken away"
     removal = "\n".join(line for line in block.splitlines() if not line.startswith("pip "))
     run(removal, shell=True, env={**os.environ, "HOME": str(home)})
     left = [path for path in home.rglob("*") if not path.is_dir() or path.is_symlink()]
