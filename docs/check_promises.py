@@ -62,7 +62,7 @@ def listed():
     """The calls that docs/CONTRACTS.md lists as asking for something."""
     text = (ROOT / "docs" / "CONTRACTS.md").read_text(encoding="utf-8")
     rows = re.findall(r"^\| (`.*) \| ", text.split("## What calls ask for")[1].split("## ")[0], re.M)
-    return {call.split("::")[-1] for row in rows for call in re.findall(r"`([\w:]+)`", row)} - {"cvss_record"}
+    return {call.split("::")[-1] for row in rows for call in re.findall(r"`([\w:]+)`", row)} - {*crates()}
 
 
 def main():
