@@ -7,6 +7,7 @@ ghost use Rattle.cvss_mention.specs.laws.Whole.{is_other, last_byte};
 ghost use Rattle.cvss_parts.specs.Parts.{parts_of};
 
 use cvss_parts::is_vector_byte;
+use memchr::memchr;
 
 /// How many bytes stand before the run that has the first slash; all, where none has one.
 pub(crate) fn unslashed(text: &[u8]) -> usize
@@ -23,11 +24,11 @@ pub(crate) fn unslashed(text: &[u8]) -> usize
 }
 
 /// The place of the first slash, or the length where there is none.
-fn slash_or_len(text: &[u8]) -> usize
+pub(crate) fn slash_or_len(text: &[u8]) -> usize
     ensures within { result ≤ length text.now }
     ensures before { (k : ℕ) → k < result → slice_index text.now k ≢ 47 }
 {
-    match text.iter().position(|byte| *byte == b'/') {
+    match memchr(b'/', text) {
         Some(place) => place,
         None => text.len(),
     }
