@@ -6,6 +6,8 @@ carries no part of the text; a refusal that carries text is itself or `error: ou
 a buffer can't grow, the program ends with status 2, and what it has written are the whole answers
 of the first lines.
 
+`cvss_find` answers the same lines in sentences, each mention behind its place, by the same rule.
+
 `cvss_json` reads and writes JSON strings and copies errors, and tells each step apart: building the
 string, and writing one, may lack memory; reading one that is accepted may not, and reading one that
 is refused, and copying the error, may only where the refusal carries text.
@@ -28,6 +30,7 @@ from pathlib import Path
 ROOT = Path(__file__).resolve().parents[2]
 sys.path.insert(0, str(ROOT / "reference"))
 
+import finding
 import reference
 
 SHIM = r"""
@@ -139,6 +142,16 @@ def answered(line):
     return [answer] + [f"{step}: out of memory" for step in lacking(answer, ["error"], [])]
 
 
+def found(text):
+    """What `cvss_find` answers to each mention of a text, and what instead of it in want of memory."""
+    expected = []
+    for number, line in enumerate(text.split(b"\n"), 1):
+        for place, _, answer in finding.found(line):
+            steps = [f"{step}: out of memory" for step in lacking(answer, ["error"], [])]
+            expected.append([f"{number}:{place + 1} {each}" for each in [answer] + steps])
+    return expected
+
+
 def converted(read, text):
     """What `cvss_json` answers to a text, and what instead of it where it lacks memory."""
     try:
@@ -193,7 +206,7 @@ def refuse_in_turn(shim, program, given, expected, whole_status, fault_status):
     if 0 in (turn - 1, ended, lacked):
         sys.exit(f"{program}: {turn - 1} requests were refused, {ended} runs ended early and {lacked} "
                  "answers lacked memory: nothing was tried")
-    print(f"{program}: {turn - 1} requests refused in turn over {len(expected)} lines: "
+    print(f"{program}: {turn - 1} requests refused in turn over {len(expected)} texts: "
           f"{ended} runs ended early, {lacked} answers became `out of memory`, all else stayed")
 
 
@@ -235,6 +248,8 @@ def main():
         subprocess.run(["cc", "-shared", "-fPIC", "-O1", "-o", shim, source, "-ldl"], check=True)
         refuse_in_turn(shim, "cvss_tool", b"\n".join(LINES), [answered(line) for line in LINES],
                        whole_status=1, fault_status=2)
+        text = b"\n".join(b"see (" + line + b")." for line in LINES)
+        refuse_in_turn(shim, "cvss_find", text, found(text), whole_status=1, fault_status=2)
         refuse_in_turn(shim, "cvss_json",
                        "\n".join(f"{kind} {text}" for kind, text in typed).encode(),
                        [converted(TYPES[kind][0], text) for kind, text in typed],

@@ -21,6 +21,7 @@ ROOT = Path(__file__).resolve().parents[2]
 sys.path[:0] = [str(ROOT / "reference"), str(ROOT / "bench/inputs")]
 
 import changed_scopes
+import finding
 import reference
 
 SHIM = r"""
@@ -100,6 +101,15 @@ LINES = [
     (b"\r", EMPTY),
     (b"garbage\r\r\n", "error: invalid CVSS metric group component: `garbage\r`\n"),
     (b"A:C/I:N/C:N/Au:N/AC:L/AV:N\r", FIRST),
+]
+
+# Texts of `cvss_find`; the last of some lines has no end.
+TEXTS = [
+    b"",
+    b"\r\n\nsee CVSS:3.1 and AV:N/AC:L",
+    b"score 9.8 (CVSS:3.1/AV:N/AC:L/PR:N/UI:N/S:U/C:H/I:H/A:H).\r\n\xffAV:N/AC:L/Au:N/C:N/I:N/A:C\xfe",
+    b"AV:N/AC:L/Au:N/C:N/I:N/A:C\nCVSS:3.1/AV:N/CVSS:3.1/AV:q, and/or\n",
+    b"CVSS:/" * 100 + b"\n" + b"/" * 1_000 + b"\r",
 ]
 
 LOW = "CVSS:4.0/AV:N/AC:L/AT:N/PR:H/UI:N/VC:L/VI:L/VA:N/SC:N/SI:N/SA:N"
@@ -220,6 +230,24 @@ def try_tool(runs):
                               WRITE_FAULT=fault)
 
 
+def try_find(runs):
+    """Texts that reads cut; failed reads; full writers."""
+    for given in TEXTS:
+        answers = "".join(finding.answers(given))
+        status = 1 if "error: " in answers else 0
+        for step in (1, 2, 3, 100_000):
+            runs.expect("cvss_find", given, (status, answers.encode(), ""), READ_STEP=step,
+                        WRITE_SLOWLY=1)
+    given, answer = f"({V2})\n{V2}".encode(), f"1:2 {FIRST}".encode()
+    for fault in FAULTS + [errno.EINTR, errno.ENOMEM]:
+        runs.expect_fault("cvss_find", given, answer, "read failed", READ_STEP=20,
+                          READ_LIMIT=len(given), READ_FAULT=fault)
+    for fault in [0, errno.EINTR, errno.ENOMEM] + FAULTS:
+        for room in (0, 3, 10):
+            runs.expect_fault("cvss_find", given, answer[:room], "write failed", WRITE_ROOM=room,
+                              WRITE_FAULT=fault)
+
+
 def try_triage(runs):
     """Rows for a writer of little room; failed reads."""
     for arguments, lines, rows in RANKED:
@@ -297,7 +325,7 @@ def main():
             file.write(SHIM)
         subprocess.run(["cc", "-shared", "-fPIC", "-O1", "-o", shim, source, "-ldl"], check=True)
         runs = Runs(shim)
-        for tried in (try_tool, try_triage, try_audit, try_long):
+        for tried in (try_tool, try_find, try_triage, try_audit, try_long):
             tried(runs)
     print(f"{runs.count} runs over streams that give or take little, or fail, ended as they should")
 

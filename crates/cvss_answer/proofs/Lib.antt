@@ -1,2 +1,2 @@
 mod RefusalLemmas
-mod ScoreLemmas
+pub mod ScoreLemmas

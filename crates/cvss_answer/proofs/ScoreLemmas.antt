@@ -14,8 +14,9 @@ use Rattle.cvss.specs.Tenths.{tenths_text}
 use Rattle.cvss.specs.declared.published.Published.{Published}
 use Rattle.cvss.specs.declared.published.Bounds.{Bounds}
 use Rattle.cvss.specs.declared.published.Bounds.TheVariants.{OfV2, OfV3}
-use Rattle.cvss_lines.specs.Answers.{written_text}
-use Rattle.cvss_answer.specs.Answers.{rated_line, score_line}
+use Rattle.cvss_lines.specs.Answers.{Accepted, WritesAnswer, written_text}
+use Rattle.cvss_lines.proofs.TextsLemmas.{one_text}
+use Rattle.cvss_answer.specs.Answers.{IsAnswer, rated_line, score_line}
 
 -- below 10, a digit for the units and a digit for the tenths
 two_digits : (t : ℕ) → t < 100 → (48 + t / 10) ∷ 46 ∷ (48 + t % 10) ∷ [] ≡ tenths_text t
@@ -106,7 +107,7 @@ pub between_v2 : (t : ℕ) → 1 ≤ t → t < 90 → rated_line OfV3 t ≡ rate
 between_v2 t from below = ap (λ rating. codes " " ++ (rating_text t rating ++ 10 ∷ [])) (alike t from below)
 
 -- a canonical line with the line of its score is its vector's answer
-pub canonical_answer : (text : List ℕ) (published : Published) → (is : IsPublishedOf text published)
+canonical_answer : (text : List ℕ) (published : Published) → (is : IsPublishedOf text published)
     → text ++ score_line published ≡ written_text (vector_answer is.cvss published.tenths)
 canonical_answer text published is =
     let t = published.tenths in
@@ -118,3 +119,21 @@ canonical_answer text published is =
     same
     ∙ sym (append_assoc own (codes " ") (told ++ 10 ∷ []))
     ∙ sym (append_assoc (own ++ codes " ") told (10 ∷ []))
+
+-- such a line is answered once both are written
+pub canonical_written : (number : ℕ) (line : List ℕ) (published : Published) (old new : List ℕ) → IsPublishedOf line published
+    → new ≡ old ++ (line ++ score_line published) → WritesAnswer IsAnswer number line old new true
+unfolding IsAnswer
+canonical_written number line published old new of written = record {
+  answer = Accepted (vector_answer of.cvss published.tenths ∷ []);
+  answers = record {
+    utf8 = of.utf8;
+    vector = of.cvss;
+    denoted = of.denoted;
+    tenths = published.tenths;
+    scored = of.is.scored;
+    is = refl;
+  };
+  told = refl;
+  written = one_text _ _ _ (written ∙ ap (λ text. old ++ text) (canonical_answer line published of));
+}

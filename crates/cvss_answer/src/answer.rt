@@ -60,8 +60,12 @@ fn write_error(error: &BytesError, answers: &mut Gathered) -> fmt::Result
     writeln!(answers, "error: {error}")
 }
 
-/// Writes a canonical line with what is published of its vector, and a byte 10.
-fn write_canonical(
+/// Writes a canonical line with what is published of its vector, and a byte 10: the answer to it.
+///
+/// # Errors
+///
+/// If memory runs out, whereupon a beginning of the answer may be written.
+pub fn write_canonical(
     line: &[u8],
     published: Published,
     answers: &mut Gathered,

@@ -5,4 +5,4 @@
 mod answer;
 mod score_line;
 
-pub use answer::Vectors;
+pub use answer::{Vectors, write_canonical};

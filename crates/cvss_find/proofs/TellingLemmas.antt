@@ -1,14 +1,20 @@
 -- How the mentions of a line are told of one after another.
-use Rattle.std.proofs.Common.{◌≡◌, ℕ, Bool, true, false, ◌&&◌, if◌then◌else◌, List, [], ◌∷◌, ◌++◌, flat_map, refl, sym, ap, ap₂, ◌∙◌, subst, append_assoc, append-nil}
+use Rattle.std.proofs.Common.{◌≡◌, ℕ, Bool, true, false, ◌&&◌, if◌then◌else◌, List, [], ◌∷◌, ◌++◌, flat_map, inl, refl, sym, ap, ap₂, ◌∙◌, subst, append_assoc, append-nil, arith, codes}
 use Rattle.std.proofs.Math.Bool.{and-true}
+use Rattle.std.specs.Fmt.{decimal}
+use Rattle.std.proofs.lemmas.Fmt.{decimal_digit}
 use Rattle.std.proofs.lemmas.Grind.{flat_map-append}
 use Rattle.std.proofs.lemmas.List.{map-append}
+use Rattle.std.proofs.lemmas.List.Elements.{All-nil}
 use Rattle.std.proofs.lemmas.List.Folds.{list_all-append}
+use Rattle.cvss.specs.Published.{IsPublishedOf}
+use Rattle.cvss.specs.declared.published.Published.{Published}
 use Rattle.cvss_answer.specs.Answers as vectors
 use Rattle.cvss_lines.specs.Answers.{Answer, Accepted, Refused, WritesAnswer, is_accepted, texts_of, written_answer, written_text}
 use Rattle.cvss_find.specs.Answers.{AreTold, IsAnswer, IsTold, Told, all_accepted, answer_of, place_text, told_texts}
 use Rattle.cvss_find.specs.private.Telling.{Tells, WritesTold}
-use Rattle.cvss_mention.specs.Mentions.{AreFound, Placed, mentions_of}
+use Rattle.cvss_mention.proofs.AcceptedLemmas.{accepted_alone}
+use Rattle.cvss_mention.specs.Mentions.{AreFound, IsAccepted, IsFound, Placed, mentions_of}
 use Rattle.cvss_mention.specs.MentionsLeft.{IsFirstFound, NoneFound}
 use Rattle.cvss_find.proofs.FoundLemmas.{AreFound-first, AreFound-none}
 
@@ -121,3 +127,21 @@ Tells-end number line left old new all tells none = record {
   told = tells.accepts ∙ told_answer tells.told;
   written = tells.written ∙ ap (λ bytes. old ++ bytes) (written_answer_of tells.told);
 }
+
+-- the place of a line's first byte
+pub first_place : (number : ℕ) → decimal number ++ codes ":1 " ≡ place_text number 0
+first_place number = ap (λ one. decimal number ++ (codes ":" ++ (one ++ codes " "))) (sym (decimal_digit 1 (omega arith)))
+
+none_of_none : NoneFound []
+none_of_none = All-nil (λ mention. ¬ (IsFound mention.text))
+
+-- a line that is one canonical vector, once its place and its answer are written
+pub canonical_told : (number : ℕ) (line : List ℕ) (published : Published) (old middle new : List ℕ) → IsPublishedOf line published
+    → middle ≡ old ++ place_text number 0 → WritesAnswer vectors.IsAnswer number line middle new true → WritesAnswer IsAnswer number line old new true
+canonical_told number line published old middle new of placed written =
+    let mention : Placed = record { place = 0; text = line } in
+    let accepted : IsAccepted line = record { cvss = of.cvss; denoted = of.denoted } in
+    let first : IsFirstFound (mentions_of line) mention [] = record { passed = []; is = accepted_alone line accepted; none = none_of_none; found = inl accepted } in
+    Tells-end number line [] old new true
+    (Tells-next number line (mentions_of line) [] mention old old new true true (Tells-start number line old (mentions_of line) refl) first (WritesTold-answer number mention old middle new true placed written))
+    none_of_none

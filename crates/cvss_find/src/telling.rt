@@ -1,11 +1,14 @@
 //! The answer to a line: what is told of the mentions in it.
 
 ghost use Rattle.std.specs.Prelude.{◌≡◌, ◌++◌, IfOk, OnOk};
+ghost use Rattle.cvss.specs.Published.{IsPublishedOf};
 ghost use Rattle.cvss_find.specs.Answers.{IsAnswer, place_text};
 ghost use Rattle.cvss_find.specs.private.Telling.{WritesTold};
+ghost use Rattle.cvss_lines.specs.Answers.{WritesAnswer};
 ghost use Rattle.cvss_mention.specs.MentionsLeft.{as_placed};
 
-use cvss_answer::Vectors;
+use cvss::{Cvss, Published};
+use cvss_answer::{Vectors, write_canonical};
 use cvss_lines::{Answering, Gathered};
 use cvss_mention::{Mention, Mentions};
 use std::alloc::{AllocError, Global};
@@ -23,13 +26,56 @@ impl Answering for Texts {
         line: &[u8],
         answers: &mut Gathered,
     ) -> Result<bool, AllocError> {
-        let mut mentions = Mentions::of(line);
-        let mut accepted = true;
-        while let Some(mention) = mentions.next() {
-            accepted &= answer_mention(alloc, number, mention, answers)?;
+        match Cvss::published_at_sight(line) {
+            Some(published) => tell_canonical(number, line, published, answers),
+            None => tell_mentions(alloc, number, line, answers),
         }
-        Ok(accepted)
     }
+}
+
+/// The answer to a line that is seen at once to be one canonical vector, and is its only mention.
+fn tell_canonical(
+    number: u64,
+    line: &[u8],
+    published: Published,
+    answers: &mut Gathered,
+) -> Result<bool, AllocError>
+    requires { IsPublishedOf line.now published }
+    ensures { IfOk result (WritesAnswer IsAnswer number line.now
+        answers.old.bytes.items answers.new.bytes.items) }
+{
+    write_first_place(number, answers)?;
+    write_canonical(line, published, answers)?;
+    Ok(true)
+}
+
+/// Writes the number of a line, a colon, 1 for the place of its first byte, and a blank.
+fn write_first_place(number: u64, answers: &mut Gathered) -> Result<(), AllocError>
+    ensures { OnOk result (answers.new.bytes.items
+        ≡ answers.old.bytes.items ++ place_text number 0) }
+{
+    match write!(answers, "{number}:1 ") {
+        Ok(()) => Ok(()),
+        Err(_) => Err(AllocError),
+    }
+}
+
+/// The answer to a line of any bytes, mention by mention.
+fn tell_mentions(
+    alloc: Global,
+    number: u64,
+    line: &[u8],
+    answers: &mut Gathered,
+) -> Result<bool, AllocError>
+    ensures { IfOk result (WritesAnswer IsAnswer number line.now
+        answers.old.bytes.items answers.new.bytes.items) }
+{
+    let mut mentions = Mentions::of(line);
+    let mut accepted = true;
+    while let Some(mention) = mentions.next() {
+        accepted &= answer_mention(alloc, number, mention, answers)?;
+    }
+    Ok(accepted)
 }
 
 /// Writes where a mention stands and what it is. Tells whether it is accepted.

@@ -2,6 +2,7 @@
 use Rattle.std.proofs.Common.{◌≡◌, ℕ, Bool, true, false, cond, not, eqb, ◌||◌, ◌&&◌, List, [], ◌∷◌, ◌++◌, codes, refl, sym, ap, ap₂, ◌∙◌, arith}
 use Rattle.std.specs.Char.{to_ascii_uppercase}
 use Rattle.std.specs.List.{All, list_all, starts_with}
+use Rattle.std.proofs.Math.Bool.{and-false}
 use Rattle.std.proofs.lemmas.Bool.{and_parts, or_parts, eqb-true, eq-eqb}
 use Rattle.std.proofs.lemmas.Bool.Decides.{nat_tests}
 use Rattle.std.proofs.lemmas.List.Elements.{All-head, All-tail}
@@ -116,14 +117,10 @@ second_prefix : (byte : ℕ) (rest : List ℕ) → has_second_prefix (byte ∷ r
 second_prefix byte [] = refl
 second_prefix byte (next ∷ rest) = ap (λ more. begins_with_prefix (next ∷ rest) || more) (second_prefix next rest)
 
-and_false : (b : Bool) → (b && false) ≡ false
-and_false true = refl
-and_false false = refl
-
 not_dividers : (text : List ℕ) → ends_whole text ≡ true → list_all is_divider text ≡ false
 not_dividers [] ends = cc
 not_dividers (byte ∷ []) ends = ap (λ divides. divides && true) (not_true (is_divider byte) ends)
-not_dividers (byte ∷ next ∷ rest) ends = ap (λ all. is_divider byte && all) (not_dividers (next ∷ rest) ends) ∙ and_false (is_divider byte)
+not_dividers (byte ∷ next ∷ rest) ends = ap (λ all. is_divider byte && all) (not_dividers (next ∷ rest) ends) ∙ and-false (is_divider byte)
 
 less_nothing : (text : List ℕ) → ends_whole text ≡ true → less_dividers text ≡ text
 less_nothing [] ends = refl

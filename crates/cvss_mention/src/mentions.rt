@@ -7,7 +7,7 @@ ghost use Rattle.cvss_mention.specs.MentionsLeft.{IsNext, NoneFound, as_placed, 
 ghost use Rattle.cvss_mention.specs.private.Passing.{Passes};
 
 use crate::mention::{Mention, is_found};
-use crate::passing::unslashed;
+use crate::passing::{slash_or_len, unslashed};
 use cvss_parts::{first_part, is_vector_byte, less_dividers};
 
 /// The mentions of a text that are found, in order. It takes no memory, and looks at each byte a
@@ -57,7 +57,7 @@ impl<'a> Mentions<'a> {
         ensures { result ≡ false → NoneFound (mentions_left self.now) }
     {
         match self.text.get(self.place..) {
-            Some(rest) => rest.contains(&b'/'),
+            Some(rest) => slash_or_len(rest) < rest.len(),
             None => false,
         }
     }

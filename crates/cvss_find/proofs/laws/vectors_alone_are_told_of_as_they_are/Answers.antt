@@ -2,5 +2,5 @@ use Rattle.cvss_find.proofs.AloneLemmas.{answered_alone}
 use Rattle.cvss_find.proofs.laws.vectors_alone_are_told_of_as_they_are.Goals as goal
 
 pub returns : goal.returns
-returns c = λ number line answer whole accepted answers.
-    answered_alone number line answer (c.whole_texts_are_mentions.ensures.alone line whole) accepted answers
+returns c = λ number line answer accepted answers.
+    answered_alone number line answer (c.accepted_texts_are_mentions.ensures.alone line accepted) accepted answers

@@ -1,6 +1,6 @@
 use Rattle.cvss_mention.specs.MentionsLeft.{as_placed, mentions_left}
 use Rattle.cvss_find.proofs.TellingLemmas.{Tells-end, Tells-next, Tells-start}
-use Rattle.cvss_find.proofs.telling.TextsAnswering.answer_line.Goals as goal
+use Rattle.cvss_find.proofs.telling.tell_mentions.Goals as goal
 
 pub loop-mention-init : goal.loop-mention-init
 loop-mention-init c = Tells-start c.args.number c.args.line.now c.args.answers.now.bytes.items (mentions_left c.of-mentions.result) c.of-mentions.ensures

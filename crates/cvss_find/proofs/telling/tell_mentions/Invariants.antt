@@ -1,7 +1,7 @@
 use Rattle.std.proofs.Common.{length}
 use Rattle.cvss_find.specs.private.Telling.{Tells}
 use Rattle.cvss_mention.specs.MentionsLeft.{mentions_left}
-use Rattle.cvss_find.proofs.telling.TextsAnswering.answer_line.Given as goal
+use Rattle.cvss_find.proofs.telling.tell_mentions.Given as goal
 
 abbrev pub invariant-loop-mention : goal.invariant-loop-mention
 invariant-loop-mention l = Tells l.number l.line (mentions_left l.mentions) l.fn.answers.bytes.items l.answers.bytes.items l.accepted

@@ -1,0 +1,8 @@
+use Rattle.std.proofs.lemmas.Fmt.{contents_after_writes}
+use Rattle.cvss_find.specs.Answers.{place_text}
+use Rattle.cvss_lines.specs.declared.gathered.Gathered.{Gathered}
+use Rattle.cvss_find.proofs.telling.write_first_place.Goals as goal
+
+pub returns-in-Ok : goal.returns-in-Ok
+returns-in-Ok c =
+    contents_after_writes _ (λ (answers : Gathered). answers.bytes.items) (λ old bytes new is. is) c.args.answers.now (place_text c.args.number 0) c.write.new.self c.in-Ok.ensures.writes
