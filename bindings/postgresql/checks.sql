@@ -12,6 +12,9 @@ SELECT 'scores have one decimal', cvss_score('CVSS:3.1/AV:N/AC:L/PR:N/UI:N/S:C/C
     cvss_score('CVSS:3.1/C:N')::text = '0.0', pg_typeof(cvss_score(v3)) = 'numeric'::regtype FROM known;
 SELECT 'no reason is cut', cvss_reason(repeat('x', 200000))
     = 'invalid CVSS metric group component: `' || repeat('x', 200000) || '`';
+SELECT 'nor at the end of a buffer', bool_and(cvss_reason(told) = 'invalid CVSS metric group component: `' || told || '`'),
+    min(length(cvss_reason(told))) < 2000, max(length(cvss_reason(told))) > 2048
+    FROM (SELECT repeat('x', given) AS told FROM generate_series(1900, 2100) AS given) AS texts;
 SELECT 'overrides', cvss_with(v4, '') = v4, cvss_with(v4, 'msi:s/cr:h') = v4 || '/CR:H/MSI:S',
     cvss_with(v3, 'CR:H') IS NULL FROM known;
 SELECT 'overrides that are refused', cvss_with(v4, 'CR:H/AV:N') IS NULL,

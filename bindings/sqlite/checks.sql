@@ -19,6 +19,9 @@ SELECT 'a byte 0', cvss_is_valid(v2 || char(0)) = 0, cvss_is_valid(v2 || char(0)
 SELECT 'bytes that are no text', cvss_reason(x'41563A80') = 'not UTF-8', cvss_reason(CAST(x'FF' AS TEXT)) = 'not UTF-8';
 SELECT 'no reason is cut', cvss_reason(hex(zeroblob(100000)))
     = 'invalid CVSS metric group component: `' || hex(zeroblob(100000)) || '`';
+WITH RECURSIVE texts(told) AS (SELECT hex(zeroblob(950)) UNION ALL SELECT told || '0' FROM texts LIMIT 200)
+SELECT 'nor at the end of a buffer', min(cvss_reason(told) = 'invalid CVSS metric group component: `' || told || '`'),
+    min(length(cvss_reason(told))) < 2000, max(length(cvss_reason(told))) > 2048 FROM texts;
 SELECT 'overrides', cvss_with(v4, '') = v4, cvss_with(v4, 'msi:s/cr:h') = v4 || '/CR:H/MSI:S',
     cvss_with(v4, CAST('CR:H' AS BLOB)) = v4 || '/CR:H', cvss_with(v3, 'CR:H') IS NULL FROM known;
 SELECT 'overrides that are refused', cvss_with(v4, 'CR:H/AV:N') IS NULL,
