@@ -10,11 +10,11 @@ use Rattle.cvss_account.specs.Account.{AreMembersOf}
 use Rattle.cvss_lines.specs.Answers.{Answer, Accepted, Refused}
 use Rattle.cvss_object.specs.Texts.{IsTextOf}
 use Rattle.cvss_record.specs.Objects.{Member, object_of}
-use Rattle.serde_json.specs.Data.{Data, number, string, unsigned}
+use Rattle.serde_json.specs.Data.{Data, number as number_value, string, unsigned}
 
 -- the number of the line
 abbrev pub line_member : ℕ → Member
-line_member line = (codes "line", number (unsigned line))
+line_member line = (codes "line", number_value (unsigned line))
 
 -- the line as it is given, where it is a text
 abbrev pub given_members : List ℕ → BytesError → List Member

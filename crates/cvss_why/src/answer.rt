@@ -1,11 +1,13 @@
 //! The answer to one line.
 
-ghost use Rattle.std.specs.Prelude.{OnOk};
+ghost use Rattle.std.specs.Prelude.{◌≡◌, OnOk};
 ghost use Rattle.cvss.specs.Answers.{HasScore};
 ghost use Rattle.cvss.specs.Bytes.{TellsWhyNot};
 ghost use Rattle.cvss_object.specs.Texts.{WritesObject};
-ghost use Rattle.cvss_why.specs.Answers.{IsAnswer, refusal_value};
+ghost use Rattle.cvss_record.specs.Objects.{with_members};
+ghost use Rattle.cvss_why.specs.Answers.{IsAnswer, given_members, refusal_value};
 ghost use Rattle.cvss_why.specs.private.Writing.{WritesAccount};
+ghost use Rattle.serde_json.specs.View.{members_view};
 
 use cvss::{BytesError, Cvss};
 use cvss_account::account_of;
@@ -68,16 +70,26 @@ fn write_refusal(
         answers.old.bytes.items answers.new.bytes.items) }
 {
     let mut members = Map::new(alloc);
-    if let Ok(text) = str::from_utf8(line) {
-        put(
-            &mut members,
-            alloc,
-            "given",
-            Value::try_from_str(alloc, text)?,
-        )?;
-    }
+    put_given(&mut members, alloc, line, error)?;
     put(&mut members, alloc, "line", Value::from(number))?;
     let reason = error.to_string(alloc)?;
     put(&mut members, alloc, "refused", Value::String(reason))?;
     write_object(alloc, members, answers)
+}
+
+/// Puts the line as it is given, where it is a text.
+fn put_given(
+    members: &mut Map<String, Value>,
+    alloc: Global,
+    line: &[u8],
+    error: &BytesError,
+) -> Result<(), AllocError>
+    requires { TellsWhyNot line.now error.now }
+    ensures { OnOk result (members_view members.new.entries
+        ≡ with_members (given_members line.now error.now) (members_view members.old.entries)) }
+{
+    match str::from_utf8(line) {
+        Ok(text) => put(members, alloc, "given", Value::try_from_str(alloc, text)?),
+        Err(_) => Ok(()),
+    }
 }
