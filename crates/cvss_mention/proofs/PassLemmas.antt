@@ -39,10 +39,6 @@ none_found place (part ∷ parts) none =
     let both = or_parts (has slash part) (has slash (joined parts)) (sym (list_any-append (λ each. eqb each slash) part (joined parts)) ∙ none) in
     All-cons (λ mention. ¬ (IsFound mention.text)) _ _ (part_not_found part both.0) (none_found (place + length part) parts both.1)
 
--- what has no slash has no mention that is found
-pub none_unslashed : (text : List ℕ) (place : ℕ) → has slash (drop place text) ≡ false → NoneFound (placed_from place (parts_of (drop place text)))
-none_unslashed text place none = none_found place (parts_of (drop place text)) (ap (has slash) (joined-parts (drop place text)) ∙ none)
-
 -- the first bytes of a text have no slash, and the text is cut behind them
 pub record Unslashed (text : List ℕ) (count : ℕ) : Type 0 where
   pub within : count ≤ length text

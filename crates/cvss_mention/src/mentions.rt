@@ -1,13 +1,13 @@
 //! The mentions of a text.
 
 ghost use Rattle.std.specs.Iterator.{item_count};
-ghost use Rattle.std.specs.Prelude.{◌≡◌, false, [], ◌∷◌, MatchOption};
+ghost use Rattle.std.specs.Prelude.{◌≡◌, [], ◌∷◌, MatchOption};
 ghost use Rattle.cvss_mention.specs.Mentions.{mentions_of};
-ghost use Rattle.cvss_mention.specs.MentionsLeft.{IsNext, NoneFound, as_placed, mentions_behind, mentions_left};
+ghost use Rattle.cvss_mention.specs.MentionsLeft.{IsNext, as_placed, mentions_behind, mentions_left};
 ghost use Rattle.cvss_mention.specs.private.Passing.{Passes};
 
 use crate::mention::{Mention, is_found};
-use crate::passing::{slash_or_len, unslashed};
+use crate::passing::unslashed;
 use cvss_parts::{first_part, is_vector_byte, less_dividers};
 
 /// The mentions of a text that are found, in order. It takes no memory, and looks at each byte a
@@ -52,27 +52,23 @@ impl<'a> Mentions<'a> {
         })
     }
 
-    /// Whether a slash is left, without which nothing is found.
-    fn has_slash_left(&self) -> bool
-        ensures { result ≡ false → NoneFound (mentions_left self.now) }
-    {
-        match self.text.get(self.place..) {
-            Some(rest) => slash_or_len(rest) < rest.len(),
-            None => false,
-        }
-    }
-
-    /// Passes over what stands before the next run with a slash, behind the end of a run.
+    /// Passes over what stands before the next run with a slash.
     fn pass_unslashed(&mut self)
         ensures { Passes (mentions_left self.old) (mentions_left self.new) }
     {
-        let Some(rest) = self.text.get(self.place..) else {
-            return;
-        };
-        if let [first, ..] = rest
-            && !is_vector_byte(*first)
-        {
+        if let Some(rest) = self.text.get(self.place..) {
             self.place += unslashed(rest);
+        }
+    }
+
+    /// The same behind the end of a run, so that a run is passed once.
+    fn pass_behind_run(&mut self)
+        ensures { Passes (mentions_left self.old) (mentions_left self.new) }
+    {
+        if let Some(byte) = self.text.get(self.place)
+            && !is_vector_byte(*byte)
+        {
+            self.pass_unslashed();
         }
     }
 }
@@ -85,14 +81,12 @@ impl<'a> Iterator for Mentions<'a> {
     ghost remaining = { item_count mentions_left };
 
     fn next(&mut self) -> Option<Mention<'a>> {
-        if !self.has_slash_left() {
-            return None;
-        }
+        self.pass_unslashed();
         while let Some(mention) = self.cut_next() {
             if is_found(mention.text) {
                 return Some(mention);
             }
-            self.pass_unslashed();
+            self.pass_behind_run();
         }
         None
     }

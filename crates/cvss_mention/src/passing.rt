@@ -23,7 +23,7 @@ pub(crate) fn unslashed(text: &[u8]) -> usize
 }
 
 /// The place of the first slash, or the length where there is none.
-pub(crate) fn slash_or_len(text: &[u8]) -> usize
+fn slash_or_len(text: &[u8]) -> usize
     ensures within { result ≤ length text.now }
     ensures before { (k : ℕ) → k < result → slice_index text.now k ≢ 47 }
 {

@@ -3,8 +3,8 @@ use Rattle.std.proofs.lemmas.List.{take_rest}
 use Rattle.cvss_mention.proofs.PassLemmas.{Unslashed, passes_unslashed}
 use Rattle.cvss_mention.proofs.mentions.Mentions.pass_unslashed.Goals as goal
 
-pub returns-then-not-is_vector_byte : goal.returns-then-not-is_vector_byte
-returns-then-not-is_vector_byte c =
+pub returns-in-Some : goal.returns-in-Some
+returns-in-Some c =
     let text = c.args.self.now.text.now in
     let place = c.args.self.now.place in
     passes_unslashed text place c.unslashed.result

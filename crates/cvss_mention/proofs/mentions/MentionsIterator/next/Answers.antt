@@ -4,7 +4,7 @@ use Rattle.cvss_mention.proofs.mentions.MentionsIterator.next.Goals as goal
 
 pub loop-mention-preserved : goal.loop-mention-preserved
 loop-mention-preserved c =
-    Passes-trans (mentions_left c.args.self.now) (mentions_left c.cut_next.new.self) (mentions_left c.pass_unslashed.new.self)
+    Passes-trans (mentions_left c.args.self.now) (mentions_left c.cut_next.new.self) (mentions_left c.pass_behind_run.new.self)
     (Passes-one (mentions_left c.args.self.now) (mentions_left c.loop-mention.self) (mentions_left c.cut_next.new.self) (as_placed c.in-Some.mention)
     c.loop-mention.invariant c.in-Some.ensures (λ found. let yes = c.is_found.ensures.1 found in cc))
-    c.pass_unslashed.ensures
+    c.pass_behind_run.ensures
