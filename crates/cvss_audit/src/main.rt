@@ -5,6 +5,7 @@
 
 mod documents;
 mod missing;
+mod noting;
 mod place;
 mod program;
 mod run;
@@ -13,23 +14,38 @@ mod told;
 
 use cvss_lines::arguments;
 pub use cvss_lines::{Fault, RunFault, Summary, program_status};
+use noting::{Given, Note, Told};
 pub use program::{USAGE, run_program};
 pub use run::run;
+use std::io::{Read, Write};
 use std::process::ExitCode;
 
 fn main(rt: HostRuntime) -> ExitCode {
-    let result = audit(&rt);
-    if let Err(fault) = &result {
-        let _ = eprintln!(rt; "cvss_audit: {fault}");
-        if *fault == Fault::Arguments {
-            let _ = eprint!(rt; "{USAGE}");
+    let (mut stdin, mut stdout) = (rt.stdin(), rt.stdout());
+    let (mut given, mut told) = (Given::by(&mut stdin), Told::to(&mut stdout));
+    let result = audit(&rt, &mut given, &mut told);
+    match &result {
+        Ok(summary) => {
+            if let Some(note) = Note::of(summary, &given, &told) {
+                let _ = eprintln!(rt; "cvss_audit: {note}");
+            }
+        }
+        Err(fault) => {
+            let _ = eprintln!(rt; "cvss_audit: {fault}");
+            if *fault == Fault::Arguments {
+                let _ = eprint!(rt; "{USAGE}");
+            }
         }
     }
     ExitCode::from(program_status(&result))
 }
 
-/// Runs over standard input and output, with the program's arguments.
-fn audit(rt: &HostRuntime) -> Result<Summary, Fault> {
+/// Runs with the program's arguments.
+fn audit<R: Read, W: Write>(
+    rt: &HostRuntime,
+    reader: &mut R,
+    writer: &mut W,
+) -> Result<Summary, Fault> {
     let arguments = arguments(rt.alloc(), rt)?;
-    run_program(rt.alloc(), &arguments, &mut rt.stdin(), &mut rt.stdout())
+    run_program(rt.alloc(), &arguments, reader, writer)
 }
