@@ -173,8 +173,11 @@ def try_arguments(runs):
                 (f"E:{part}", "no environmental CVSSv4 metric")):
             runs.expect("cvss_triage", LOW.encode(), (1, b"", f"cvss_triage: argument 1: {told}\n"),
                         [argument])
-        for program in ("cvss_tool", "cvss_audit"):
-            runs.expect(program, b"", (0, b"", ""), [part] * 20)
+        runs.expect("cvss_tool", b"", (0, b"", ""), [part] * 20)
+        for program in ("cvss_find", "cvss_audit", "cvss_why"):
+            usage = (ROOT / "bench/checks/usages" / program).read_text()
+            told = f"{program}: no argument is known but `--help`\n{usage}"
+            runs.expect(program, b"", (2, b"", told), [part] * 20)
 
 
 def try_much(runs):

@@ -145,6 +145,16 @@ def no_json(line):
     return f'{{"line":{line},"refused":"not JSON"}}\n'
 
 
+def noted(given, answers):
+    """What it notes on standard error where it looked at nothing, or at one line of a longer document."""
+    if not answers:
+        lines = given.count(b"\n") + (given != b"" and not given.endswith(b"\n"))
+        return f"cvss_audit: no vector was found, lines read: {lines}\n"
+    if answers.startswith(no_json(1)) and given.lstrip()[:1] in (b"{", b"["):
+        return "cvss_audit: one document a line is read: `jq -c . file | cvss_audit`\n"
+    return ""
+
+
 def nested(depth, text=""):
     return "[" * depth + text + "]" * depth
 
@@ -158,6 +168,7 @@ DOCUMENTS = [
     (b"\n{\n{}\r\n{}{}", no_json(2) + no_json(4), 1),
     (b"{}\n\xff\n", '{"line":2,"refused":"not UTF-8"}\n', 1),
     (b"\xef\xbb\xbf{}", no_json(1), 1),
+    (b" \t[\n1\n]\n", no_json(1) + no_json(3), 1),
     (b'[{"vectorString":""},{"vectorString":"CVSS:3.0/S:U"}]',
      '{"at":"/0","given":"","line":1,"refused":"invalid CVSS metric group component: ``"}\n'
      '{"at":"/1","given":"CVSS:3.0/S:U","line":1,"missing":["AV","AC","PR","UI","C","I","A"],'
@@ -269,8 +280,8 @@ def try_audit(runs):
     """Documents that reads cut; failed reads."""
     for given, answers, status in DOCUMENTS:
         for step in (1, 7, 100_000):
-            runs.expect("cvss_audit", given, (status, answers.encode(), ""), READ_STEP=step,
-                        WRITE_SLOWLY=1)
+            runs.expect("cvss_audit", given, (status, answers.encode(), noted(given, answers)),
+                        READ_STEP=step, WRITE_SLOWLY=1)
     given = f"{DOCUMENT}\n{DOCUMENT}".encode()
     for fault in FAULTS + [errno.EINTR, errno.ENOMEM]:
         runs.expect_fault("cvss_audit", given, audited().encode(), "read failed", READ_STEP=50,

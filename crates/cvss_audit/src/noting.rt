@@ -7,7 +7,7 @@ use std::io::{self, Read, Write};
 /// The answer to a first line that is no JSON.
 const NOT_JSON: &[u8] = b"{\"line\":1,\"refused\":\"not JSON\"}\n";
 
-/// A reader, and whether what it gave begins as an object or an array does.
+/// A reader, and whether what it gave begins, behind blanks, as an object or an array does.
 #[derive(Drop)]
 pub(crate) struct Given<'a, R> {
     reader: &'a mut R,
@@ -28,9 +28,11 @@ impl<'a, R> Given<'a, R> {
 impl<R: Read> Read for Given<'_, R> {
     fn read(&mut self, buf: &mut [u8]) -> io::Result<usize> {
         let count = self.reader.read(buf)?;
-        if !self.begun {
+        if !self.begun
+            && let [first, ..] = buf[..count].trim_ascii_start()
+        {
             self.begun = true;
-            self.begins_document = matches!(buf[..count].trim_ascii_start(), [b'{' | b'[', ..]);
+            self.begins_document = matches!(*first, b'{' | b'[');
         }
         Ok(count)
     }
