@@ -10,7 +10,7 @@ ghost use Rattle.cvss_v4_env.specs.declared.access.ModifiedPrivilegesRequired.Th
 ghost use Rattle.cvss_v4_env.specs.declared.access.ModifiedUserInteraction.TheVariants as modified_user_interaction;
 
 use cvss_text::print::write_component;
-use cvss_v4_metric::{Metric, MetricType};
+use cvss_v4_metric::{Metric, MetricType, only_byte};
 use std::fmt;
 
 /// What Privileges Required is in the user's own environment (v4.0 specification, section 4.2).
@@ -44,11 +44,11 @@ impl Metric for ModifiedPrivilegesRequired {
     }
 
     fn read_bytes(text: &[u8]) -> Option<Self> {
-        match text {
-            b"X" | b"x" => Some(ModifiedPrivilegesRequired::NotDefined),
-            b"H" | b"h" => Some(ModifiedPrivilegesRequired::High),
-            b"L" | b"l" => Some(ModifiedPrivilegesRequired::Low),
-            b"N" | b"n" => Some(ModifiedPrivilegesRequired::None),
+        match only_byte(text)? {
+            b'X' | b'x' => Some(ModifiedPrivilegesRequired::NotDefined),
+            b'H' | b'h' => Some(ModifiedPrivilegesRequired::High),
+            b'L' | b'l' => Some(ModifiedPrivilegesRequired::Low),
+            b'N' | b'n' => Some(ModifiedPrivilegesRequired::None),
             _ => None,
         }
     }
@@ -95,11 +95,11 @@ impl Metric for ModifiedUserInteraction {
     }
 
     fn read_bytes(text: &[u8]) -> Option<Self> {
-        match text {
-            b"X" | b"x" => Some(ModifiedUserInteraction::NotDefined),
-            b"A" | b"a" => Some(ModifiedUserInteraction::Active),
-            b"P" | b"p" => Some(ModifiedUserInteraction::Passive),
-            b"N" | b"n" => Some(ModifiedUserInteraction::None),
+        match only_byte(text)? {
+            b'X' | b'x' => Some(ModifiedUserInteraction::NotDefined),
+            b'A' | b'a' => Some(ModifiedUserInteraction::Active),
+            b'P' | b'p' => Some(ModifiedUserInteraction::Passive),
+            b'N' | b'n' => Some(ModifiedUserInteraction::None),
             _ => None,
         }
     }

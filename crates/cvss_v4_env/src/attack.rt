@@ -11,7 +11,7 @@ ghost use Rattle.cvss_v4_env.specs.declared.attack.ModifiedAttackComplexity.TheV
 ghost use Rattle.cvss_v4_env.specs.declared.attack.ModifiedAttackRequirements.TheVariants as modified_attack_requirements;
 
 use cvss_text::print::write_component;
-use cvss_v4_metric::{Metric, MetricType};
+use cvss_v4_metric::{Metric, MetricType, only_byte};
 use std::fmt;
 
 /// What Attack Vector is in the user's own environment (v4.0 specification, section 4.2).
@@ -47,12 +47,12 @@ impl Metric for ModifiedAttackVector {
     }
 
     fn read_bytes(text: &[u8]) -> Option<Self> {
-        match text {
-            b"P" | b"p" => Some(ModifiedAttackVector::Physical),
-            b"L" | b"l" => Some(ModifiedAttackVector::Local),
-            b"A" | b"a" => Some(ModifiedAttackVector::Adjacent),
-            b"N" | b"n" => Some(ModifiedAttackVector::Network),
-            b"X" | b"x" => Some(ModifiedAttackVector::NotDefined),
+        match only_byte(text)? {
+            b'P' | b'p' => Some(ModifiedAttackVector::Physical),
+            b'L' | b'l' => Some(ModifiedAttackVector::Local),
+            b'A' | b'a' => Some(ModifiedAttackVector::Adjacent),
+            b'N' | b'n' => Some(ModifiedAttackVector::Network),
+            b'X' | b'x' => Some(ModifiedAttackVector::NotDefined),
             _ => None,
         }
     }
@@ -97,10 +97,10 @@ impl Metric for ModifiedAttackComplexity {
     }
 
     fn read_bytes(text: &[u8]) -> Option<Self> {
-        match text {
-            b"X" | b"x" => Some(ModifiedAttackComplexity::NotDefined),
-            b"H" | b"h" => Some(ModifiedAttackComplexity::High),
-            b"L" | b"l" => Some(ModifiedAttackComplexity::Low),
+        match only_byte(text)? {
+            b'X' | b'x' => Some(ModifiedAttackComplexity::NotDefined),
+            b'H' | b'h' => Some(ModifiedAttackComplexity::High),
+            b'L' | b'l' => Some(ModifiedAttackComplexity::Low),
             _ => None,
         }
     }
@@ -145,10 +145,10 @@ impl Metric for ModifiedAttackRequirements {
     }
 
     fn read_bytes(text: &[u8]) -> Option<Self> {
-        match text {
-            b"X" | b"x" => Some(ModifiedAttackRequirements::NotDefined),
-            b"P" | b"p" => Some(ModifiedAttackRequirements::Present),
-            b"N" | b"n" => Some(ModifiedAttackRequirements::None),
+        match only_byte(text)? {
+            b'X' | b'x' => Some(ModifiedAttackRequirements::NotDefined),
+            b'P' | b'p' => Some(ModifiedAttackRequirements::Present),
+            b'N' | b'n' => Some(ModifiedAttackRequirements::None),
             _ => None,
         }
     }

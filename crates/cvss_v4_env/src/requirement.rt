@@ -11,7 +11,7 @@ ghost use Rattle.cvss_v4_env.specs.declared.requirement.IntegrityRequirements.Th
 ghost use Rattle.cvss_v4_env.specs.declared.requirement.AvailabilityRequirements.TheVariants as availability_requirements;
 
 use cvss_text::print::write_component;
-use cvss_v4_metric::{Metric, MetricType};
+use cvss_v4_metric::{Metric, MetricType, only_byte};
 use std::fmt;
 
 /// How much confidentiality matters to the user's organisation (v4.0 specification, section 4.1).
@@ -45,11 +45,11 @@ impl Metric for ConfidentialityRequirements {
     }
 
     fn read_bytes(text: &[u8]) -> Option<Self> {
-        match text {
-            b"X" | b"x" => Some(ConfidentialityRequirements::NotDefined),
-            b"L" | b"l" => Some(ConfidentialityRequirements::Low),
-            b"M" | b"m" => Some(ConfidentialityRequirements::Medium),
-            b"H" | b"h" => Some(ConfidentialityRequirements::High),
+        match only_byte(text)? {
+            b'X' | b'x' => Some(ConfidentialityRequirements::NotDefined),
+            b'L' | b'l' => Some(ConfidentialityRequirements::Low),
+            b'M' | b'm' => Some(ConfidentialityRequirements::Medium),
+            b'H' | b'h' => Some(ConfidentialityRequirements::High),
             _ => None,
         }
     }
@@ -96,11 +96,11 @@ impl Metric for IntegrityRequirements {
     }
 
     fn read_bytes(text: &[u8]) -> Option<Self> {
-        match text {
-            b"X" | b"x" => Some(IntegrityRequirements::NotDefined),
-            b"L" | b"l" => Some(IntegrityRequirements::Low),
-            b"M" | b"m" => Some(IntegrityRequirements::Medium),
-            b"H" | b"h" => Some(IntegrityRequirements::High),
+        match only_byte(text)? {
+            b'X' | b'x' => Some(IntegrityRequirements::NotDefined),
+            b'L' | b'l' => Some(IntegrityRequirements::Low),
+            b'M' | b'm' => Some(IntegrityRequirements::Medium),
+            b'H' | b'h' => Some(IntegrityRequirements::High),
             _ => None,
         }
     }
@@ -147,11 +147,11 @@ impl Metric for AvailabilityRequirements {
     }
 
     fn read_bytes(text: &[u8]) -> Option<Self> {
-        match text {
-            b"X" | b"x" => Some(AvailabilityRequirements::NotDefined),
-            b"L" | b"l" => Some(AvailabilityRequirements::Low),
-            b"M" | b"m" => Some(AvailabilityRequirements::Medium),
-            b"H" | b"h" => Some(AvailabilityRequirements::High),
+        match only_byte(text)? {
+            b'X' | b'x' => Some(AvailabilityRequirements::NotDefined),
+            b'L' | b'l' => Some(AvailabilityRequirements::Low),
+            b'M' | b'm' => Some(AvailabilityRequirements::Medium),
+            b'H' | b'h' => Some(AvailabilityRequirements::High),
             _ => None,
         }
     }

@@ -11,7 +11,7 @@ ghost use Rattle.cvss_v4_env.specs.declared.subsequent.ModifiedIntegrityImpactTo
 ghost use Rattle.cvss_v4_env.specs.declared.subsequent.ModifiedAvailabilityImpactToTheSubsequentSystem.TheVariants as modified_availability_impact_to_the_subsequent_system;
 
 use cvss_text::print::write_component;
-use cvss_v4_metric::{Metric, MetricType};
+use cvss_v4_metric::{Metric, MetricType, only_byte};
 use std::fmt;
 
 /// What Confidentiality Impact to the Subsequent System is in the user's own environment (v4.0
@@ -46,11 +46,11 @@ impl Metric for ModifiedConfidentialityImpactToTheSubsequentSystem {
     }
 
     fn read_bytes(text: &[u8]) -> Option<Self> {
-        match text {
-            b"X" | b"x" => Some(ModifiedConfidentialityImpactToTheSubsequentSystem::NotDefined),
-            b"N" | b"n" => Some(ModifiedConfidentialityImpactToTheSubsequentSystem::Negligible),
-            b"L" | b"l" => Some(ModifiedConfidentialityImpactToTheSubsequentSystem::Low),
-            b"H" | b"h" => Some(ModifiedConfidentialityImpactToTheSubsequentSystem::High),
+        match only_byte(text)? {
+            b'X' | b'x' => Some(ModifiedConfidentialityImpactToTheSubsequentSystem::NotDefined),
+            b'N' | b'n' => Some(ModifiedConfidentialityImpactToTheSubsequentSystem::Negligible),
+            b'L' | b'l' => Some(ModifiedConfidentialityImpactToTheSubsequentSystem::Low),
+            b'H' | b'h' => Some(ModifiedConfidentialityImpactToTheSubsequentSystem::High),
             _ => None,
         }
     }
@@ -100,12 +100,12 @@ impl Metric for ModifiedIntegrityImpactToTheSubsequentSystem {
     }
 
     fn read_bytes(text: &[u8]) -> Option<Self> {
-        match text {
-            b"X" | b"x" => Some(ModifiedIntegrityImpactToTheSubsequentSystem::NotDefined),
-            b"N" | b"n" => Some(ModifiedIntegrityImpactToTheSubsequentSystem::Negligible),
-            b"L" | b"l" => Some(ModifiedIntegrityImpactToTheSubsequentSystem::Low),
-            b"H" | b"h" => Some(ModifiedIntegrityImpactToTheSubsequentSystem::High),
-            b"S" | b"s" => Some(ModifiedIntegrityImpactToTheSubsequentSystem::Safety),
+        match only_byte(text)? {
+            b'X' | b'x' => Some(ModifiedIntegrityImpactToTheSubsequentSystem::NotDefined),
+            b'N' | b'n' => Some(ModifiedIntegrityImpactToTheSubsequentSystem::Negligible),
+            b'L' | b'l' => Some(ModifiedIntegrityImpactToTheSubsequentSystem::Low),
+            b'H' | b'h' => Some(ModifiedIntegrityImpactToTheSubsequentSystem::High),
+            b'S' | b's' => Some(ModifiedIntegrityImpactToTheSubsequentSystem::Safety),
             _ => None,
         }
     }
@@ -155,12 +155,12 @@ impl Metric for ModifiedAvailabilityImpactToTheSubsequentSystem {
     }
 
     fn read_bytes(text: &[u8]) -> Option<Self> {
-        match text {
-            b"X" | b"x" => Some(ModifiedAvailabilityImpactToTheSubsequentSystem::NotDefined),
-            b"N" | b"n" => Some(ModifiedAvailabilityImpactToTheSubsequentSystem::Negligible),
-            b"L" | b"l" => Some(ModifiedAvailabilityImpactToTheSubsequentSystem::Low),
-            b"H" | b"h" => Some(ModifiedAvailabilityImpactToTheSubsequentSystem::High),
-            b"S" | b"s" => Some(ModifiedAvailabilityImpactToTheSubsequentSystem::Safety),
+        match only_byte(text)? {
+            b'X' | b'x' => Some(ModifiedAvailabilityImpactToTheSubsequentSystem::NotDefined),
+            b'N' | b'n' => Some(ModifiedAvailabilityImpactToTheSubsequentSystem::Negligible),
+            b'L' | b'l' => Some(ModifiedAvailabilityImpactToTheSubsequentSystem::Low),
+            b'H' | b'h' => Some(ModifiedAvailabilityImpactToTheSubsequentSystem::High),
+            b'S' | b's' => Some(ModifiedAvailabilityImpactToTheSubsequentSystem::Safety),
             _ => None,
         }
     }

@@ -11,7 +11,7 @@ ghost use Rattle.cvss_v4_env.specs.declared.vulnerable.ModifiedIntegrityImpactTo
 ghost use Rattle.cvss_v4_env.specs.declared.vulnerable.ModifiedAvailabilityImpactToTheVulnerableSystem.TheVariants as modified_availability_impact_to_the_vulnerable_system;
 
 use cvss_text::print::write_component;
-use cvss_v4_metric::{Metric, MetricType};
+use cvss_v4_metric::{Metric, MetricType, only_byte};
 use std::fmt;
 
 /// What Confidentiality Impact to the Vulnerable System is in the user's own environment (v4.0
@@ -46,11 +46,11 @@ impl Metric for ModifiedConfidentialityImpactToTheVulnerableSystem {
     }
 
     fn read_bytes(text: &[u8]) -> Option<Self> {
-        match text {
-            b"X" | b"x" => Some(ModifiedConfidentialityImpactToTheVulnerableSystem::NotDefined),
-            b"N" | b"n" => Some(ModifiedConfidentialityImpactToTheVulnerableSystem::None),
-            b"L" | b"l" => Some(ModifiedConfidentialityImpactToTheVulnerableSystem::Low),
-            b"H" | b"h" => Some(ModifiedConfidentialityImpactToTheVulnerableSystem::High),
+        match only_byte(text)? {
+            b'X' | b'x' => Some(ModifiedConfidentialityImpactToTheVulnerableSystem::NotDefined),
+            b'N' | b'n' => Some(ModifiedConfidentialityImpactToTheVulnerableSystem::None),
+            b'L' | b'l' => Some(ModifiedConfidentialityImpactToTheVulnerableSystem::Low),
+            b'H' | b'h' => Some(ModifiedConfidentialityImpactToTheVulnerableSystem::High),
             _ => None,
         }
     }
@@ -98,11 +98,11 @@ impl Metric for ModifiedIntegrityImpactToTheVulnerableSystem {
     }
 
     fn read_bytes(text: &[u8]) -> Option<Self> {
-        match text {
-            b"X" | b"x" => Some(ModifiedIntegrityImpactToTheVulnerableSystem::NotDefined),
-            b"N" | b"n" => Some(ModifiedIntegrityImpactToTheVulnerableSystem::None),
-            b"L" | b"l" => Some(ModifiedIntegrityImpactToTheVulnerableSystem::Low),
-            b"H" | b"h" => Some(ModifiedIntegrityImpactToTheVulnerableSystem::High),
+        match only_byte(text)? {
+            b'X' | b'x' => Some(ModifiedIntegrityImpactToTheVulnerableSystem::NotDefined),
+            b'N' | b'n' => Some(ModifiedIntegrityImpactToTheVulnerableSystem::None),
+            b'L' | b'l' => Some(ModifiedIntegrityImpactToTheVulnerableSystem::Low),
+            b'H' | b'h' => Some(ModifiedIntegrityImpactToTheVulnerableSystem::High),
             _ => None,
         }
     }
@@ -150,11 +150,11 @@ impl Metric for ModifiedAvailabilityImpactToTheVulnerableSystem {
     }
 
     fn read_bytes(text: &[u8]) -> Option<Self> {
-        match text {
-            b"X" | b"x" => Some(ModifiedAvailabilityImpactToTheVulnerableSystem::NotDefined),
-            b"N" | b"n" => Some(ModifiedAvailabilityImpactToTheVulnerableSystem::None),
-            b"L" | b"l" => Some(ModifiedAvailabilityImpactToTheVulnerableSystem::Low),
-            b"H" | b"h" => Some(ModifiedAvailabilityImpactToTheVulnerableSystem::High),
+        match only_byte(text)? {
+            b'X' | b'x' => Some(ModifiedAvailabilityImpactToTheVulnerableSystem::NotDefined),
+            b'N' | b'n' => Some(ModifiedAvailabilityImpactToTheVulnerableSystem::None),
+            b'L' | b'l' => Some(ModifiedAvailabilityImpactToTheVulnerableSystem::Low),
+            b'H' | b'h' => Some(ModifiedAvailabilityImpactToTheVulnerableSystem::High),
             _ => None,
         }
     }

@@ -1,6 +1,6 @@
 //! What all metrics of CVSS v4.0 have in common.
 
-ghost use Rattle.std.specs.Prelude.{◌≡◌, ◌↔◌, ◌∷◌, ℕ, List, IsTrue, IfSome, IfOk, IfErr, Some};
+ghost use Rattle.std.specs.Prelude.{◌≡◌, ◌↔◌, [], ◌∷◌, ℕ, List, IsTrue, IfSome, IfNone, IfOk, IfErr, Some};
 ghost use Rattle.cvss_grammar.specs.Refusal.{BadValue};
 ghost use Rattle.cvss_grammar.specs.Text.{slash, raised};
 ghost use Rattle.cvss_name.specs.Told.{Tells};
@@ -107,6 +107,18 @@ pub trait Metric: Copy + Clone + fmt::Debug + fmt::Display + Eq + Ord + Default 
     ghost law: { IsMetric TYPE rank values ⟦<Self as Default>⟧.is_default
         ⟦<Self as Ord>⟧.cmp ⟦<Self as PartialEq>⟧.eq ⟦<Self as Clone>⟧.is_clone
         ⟦<Self as Clone>⟧.is_infallible };
+}
+
+/// The byte of a text of one byte.
+#[inline(always)]
+pub fn only_byte(text: &[u8]) -> Option<u8>
+    ensures only { IfSome result (λ byte. text.now ≡ byte ∷ []) }
+    ensures other { IfNone result ((byte : ℕ) → raised text.now ≡ byte ∷ [] → ⊥) }
+{
+    match text {
+        [byte] => Some(*byte),
+        _ => None,
+    }
 }
 
 /// Whether a text is a spelling as it is printed or in upper case, given that it is so in some case.

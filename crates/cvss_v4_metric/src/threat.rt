@@ -7,7 +7,7 @@ ghost use Rattle.cvss_v4_metric.specs.Ranks.{exploit_maturity_rank};
 ghost use Rattle.cvss_v4_metric.specs.Table.{metric_component};
 ghost use Rattle.cvss_v4_metric.specs.declared.threat.ExploitMaturity.TheVariants as exploit_maturity;
 
-use crate::metric::{Metric, MetricType};
+use crate::metric::{Metric, MetricType, only_byte};
 use cvss_text::print::write_component;
 use std::fmt;
 
@@ -42,11 +42,11 @@ impl Metric for ExploitMaturity {
     }
 
     fn read_bytes(text: &[u8]) -> Option<Self> {
-        match text {
-            b"X" | b"x" => Some(ExploitMaturity::NotDefined),
-            b"U" | b"u" => Some(ExploitMaturity::Unreported),
-            b"P" | b"p" => Some(ExploitMaturity::ProofOfConcept),
-            b"A" | b"a" => Some(ExploitMaturity::Attacked),
+        match only_byte(text)? {
+            b'X' | b'x' => Some(ExploitMaturity::NotDefined),
+            b'U' | b'u' => Some(ExploitMaturity::Unreported),
+            b'P' | b'p' => Some(ExploitMaturity::ProofOfConcept),
+            b'A' | b'a' => Some(ExploitMaturity::Attacked),
             _ => None,
         }
     }

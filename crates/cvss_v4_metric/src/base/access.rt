@@ -9,7 +9,7 @@ ghost use Rattle.cvss_v4_metric.specs.Table.{metric_component};
 ghost use Rattle.cvss_v4_metric.specs.declared.base.access.PrivilegesRequired.TheVariants as privileges_required;
 ghost use Rattle.cvss_v4_metric.specs.declared.base.access.UserInteraction.TheVariants as user_interaction;
 
-use crate::metric::{Metric, MetricType};
+use crate::metric::{Metric, MetricType, only_byte};
 use cvss_text::print::write_component;
 use std::fmt;
 
@@ -42,10 +42,10 @@ impl Metric for PrivilegesRequired {
     }
 
     fn read_bytes(text: &[u8]) -> Option<Self> {
-        match text {
-            b"H" | b"h" => Some(PrivilegesRequired::High),
-            b"L" | b"l" => Some(PrivilegesRequired::Low),
-            b"N" | b"n" => Some(PrivilegesRequired::None),
+        match only_byte(text)? {
+            b'H' | b'h' => Some(PrivilegesRequired::High),
+            b'L' | b'l' => Some(PrivilegesRequired::Low),
+            b'N' | b'n' => Some(PrivilegesRequired::None),
             _ => None,
         }
     }
@@ -90,10 +90,10 @@ impl Metric for UserInteraction {
     }
 
     fn read_bytes(text: &[u8]) -> Option<Self> {
-        match text {
-            b"A" | b"a" => Some(UserInteraction::Active),
-            b"P" | b"p" => Some(UserInteraction::Passive),
-            b"N" | b"n" => Some(UserInteraction::None),
+        match only_byte(text)? {
+            b'A' | b'a' => Some(UserInteraction::Active),
+            b'P' | b'p' => Some(UserInteraction::Passive),
+            b'N' | b'n' => Some(UserInteraction::None),
             _ => None,
         }
     }

@@ -10,7 +10,7 @@ ghost use Rattle.cvss_v4_metric.specs.declared.base.attack.AttackVector.TheVaria
 ghost use Rattle.cvss_v4_metric.specs.declared.base.attack.AttackComplexity.TheVariants as attack_complexity;
 ghost use Rattle.cvss_v4_metric.specs.declared.base.attack.AttackRequirements.TheVariants as attack_requirements;
 
-use crate::metric::{Metric, MetricType};
+use crate::metric::{Metric, MetricType, only_byte};
 use cvss_text::print::write_component;
 use std::fmt;
 
@@ -45,11 +45,11 @@ impl Metric for AttackVector {
     }
 
     fn read_bytes(text: &[u8]) -> Option<Self> {
-        match text {
-            b"P" | b"p" => Some(AttackVector::Physical),
-            b"L" | b"l" => Some(AttackVector::Local),
-            b"A" | b"a" => Some(AttackVector::Adjacent),
-            b"N" | b"n" => Some(AttackVector::Network),
+        match only_byte(text)? {
+            b'P' | b'p' => Some(AttackVector::Physical),
+            b'L' | b'l' => Some(AttackVector::Local),
+            b'A' | b'a' => Some(AttackVector::Adjacent),
+            b'N' | b'n' => Some(AttackVector::Network),
             _ => None,
         }
     }
@@ -93,9 +93,9 @@ impl Metric for AttackComplexity {
     }
 
     fn read_bytes(text: &[u8]) -> Option<Self> {
-        match text {
-            b"H" | b"h" => Some(AttackComplexity::High),
-            b"L" | b"l" => Some(AttackComplexity::Low),
+        match only_byte(text)? {
+            b'H' | b'h' => Some(AttackComplexity::High),
+            b'L' | b'l' => Some(AttackComplexity::Low),
             _ => None,
         }
     }
@@ -139,9 +139,9 @@ impl Metric for AttackRequirements {
     }
 
     fn read_bytes(text: &[u8]) -> Option<Self> {
-        match text {
-            b"P" | b"p" => Some(AttackRequirements::Present),
-            b"N" | b"n" => Some(AttackRequirements::None),
+        match only_byte(text)? {
+            b'P' | b'p' => Some(AttackRequirements::Present),
+            b'N' | b'n' => Some(AttackRequirements::None),
             _ => None,
         }
     }

@@ -9,7 +9,7 @@ ghost use Rattle.cvss_v4_metric.specs.declared.base.subsequent.ConfidentialityIm
 ghost use Rattle.cvss_v4_metric.specs.declared.base.subsequent.IntegrityImpactToTheSubsequentSystem.TheVariants as integrity_impact_to_the_subsequent_system;
 ghost use Rattle.cvss_v4_metric.specs.declared.base.subsequent.AvailabilityImpactToTheSubsequentSystem.TheVariants as availability_impact_to_the_subsequent_system;
 
-use crate::metric::{Metric, MetricType};
+use crate::metric::{Metric, MetricType, only_byte};
 use cvss_text::print::write_component;
 use std::fmt;
 
@@ -43,10 +43,10 @@ impl Metric for ConfidentialityImpactToTheSubsequentSystem {
     }
 
     fn read_bytes(text: &[u8]) -> Option<Self> {
-        match text {
-            b"N" | b"n" => Some(ConfidentialityImpactToTheSubsequentSystem::None),
-            b"L" | b"l" => Some(ConfidentialityImpactToTheSubsequentSystem::Low),
-            b"H" | b"h" => Some(ConfidentialityImpactToTheSubsequentSystem::High),
+        match only_byte(text)? {
+            b'N' | b'n' => Some(ConfidentialityImpactToTheSubsequentSystem::None),
+            b'L' | b'l' => Some(ConfidentialityImpactToTheSubsequentSystem::Low),
+            b'H' | b'h' => Some(ConfidentialityImpactToTheSubsequentSystem::High),
             _ => None,
         }
     }
@@ -91,10 +91,10 @@ impl Metric for IntegrityImpactToTheSubsequentSystem {
     }
 
     fn read_bytes(text: &[u8]) -> Option<Self> {
-        match text {
-            b"N" | b"n" => Some(IntegrityImpactToTheSubsequentSystem::None),
-            b"L" | b"l" => Some(IntegrityImpactToTheSubsequentSystem::Low),
-            b"H" | b"h" => Some(IntegrityImpactToTheSubsequentSystem::High),
+        match only_byte(text)? {
+            b'N' | b'n' => Some(IntegrityImpactToTheSubsequentSystem::None),
+            b'L' | b'l' => Some(IntegrityImpactToTheSubsequentSystem::Low),
+            b'H' | b'h' => Some(IntegrityImpactToTheSubsequentSystem::High),
             _ => None,
         }
     }
@@ -140,10 +140,10 @@ impl Metric for AvailabilityImpactToTheSubsequentSystem {
     }
 
     fn read_bytes(text: &[u8]) -> Option<Self> {
-        match text {
-            b"N" | b"n" => Some(AvailabilityImpactToTheSubsequentSystem::None),
-            b"L" | b"l" => Some(AvailabilityImpactToTheSubsequentSystem::Low),
-            b"H" | b"h" => Some(AvailabilityImpactToTheSubsequentSystem::High),
+        match only_byte(text)? {
+            b'N' | b'n' => Some(AvailabilityImpactToTheSubsequentSystem::None),
+            b'L' | b'l' => Some(AvailabilityImpactToTheSubsequentSystem::Low),
+            b'H' | b'h' => Some(AvailabilityImpactToTheSubsequentSystem::High),
             _ => None,
         }
     }

@@ -9,7 +9,7 @@ ghost use Rattle.cvss_v4_metric.specs.declared.base.vulnerable.ConfidentialityIm
 ghost use Rattle.cvss_v4_metric.specs.declared.base.vulnerable.IntegrityImpactToTheVulnerableSystem.TheVariants as integrity_impact_to_the_vulnerable_system;
 ghost use Rattle.cvss_v4_metric.specs.declared.base.vulnerable.AvailabilityImpactToTheVulnerableSystem.TheVariants as availability_impact_to_the_vulnerable_system;
 
-use crate::metric::{Metric, MetricType};
+use crate::metric::{Metric, MetricType, only_byte};
 use cvss_text::print::write_component;
 use std::fmt;
 
@@ -42,10 +42,10 @@ impl Metric for ConfidentialityImpactToTheVulnerableSystem {
     }
 
     fn read_bytes(text: &[u8]) -> Option<Self> {
-        match text {
-            b"N" | b"n" => Some(ConfidentialityImpactToTheVulnerableSystem::None),
-            b"L" | b"l" => Some(ConfidentialityImpactToTheVulnerableSystem::Low),
-            b"H" | b"h" => Some(ConfidentialityImpactToTheVulnerableSystem::High),
+        match only_byte(text)? {
+            b'N' | b'n' => Some(ConfidentialityImpactToTheVulnerableSystem::None),
+            b'L' | b'l' => Some(ConfidentialityImpactToTheVulnerableSystem::Low),
+            b'H' | b'h' => Some(ConfidentialityImpactToTheVulnerableSystem::High),
             _ => None,
         }
     }
@@ -90,10 +90,10 @@ impl Metric for IntegrityImpactToTheVulnerableSystem {
     }
 
     fn read_bytes(text: &[u8]) -> Option<Self> {
-        match text {
-            b"N" | b"n" => Some(IntegrityImpactToTheVulnerableSystem::None),
-            b"L" | b"l" => Some(IntegrityImpactToTheVulnerableSystem::Low),
-            b"H" | b"h" => Some(IntegrityImpactToTheVulnerableSystem::High),
+        match only_byte(text)? {
+            b'N' | b'n' => Some(IntegrityImpactToTheVulnerableSystem::None),
+            b'L' | b'l' => Some(IntegrityImpactToTheVulnerableSystem::Low),
+            b'H' | b'h' => Some(IntegrityImpactToTheVulnerableSystem::High),
             _ => None,
         }
     }
@@ -138,10 +138,10 @@ impl Metric for AvailabilityImpactToTheVulnerableSystem {
     }
 
     fn read_bytes(text: &[u8]) -> Option<Self> {
-        match text {
-            b"N" | b"n" => Some(AvailabilityImpactToTheVulnerableSystem::None),
-            b"L" | b"l" => Some(AvailabilityImpactToTheVulnerableSystem::Low),
-            b"H" | b"h" => Some(AvailabilityImpactToTheVulnerableSystem::High),
+        match only_byte(text)? {
+            b'N' | b'n' => Some(AvailabilityImpactToTheVulnerableSystem::None),
+            b'L' | b'l' => Some(AvailabilityImpactToTheVulnerableSystem::Low),
+            b'H' | b'h' => Some(AvailabilityImpactToTheVulnerableSystem::High),
             _ => None,
         }
     }

@@ -8,7 +8,7 @@ ghost use Rattle.cvss_v4_metric.specs.Table.{metric_component};
 ghost use Rattle.cvss_v4_metric.specs.declared.supplemental.attack.Automatable.TheVariants as automatable;
 ghost use Rattle.cvss_v4_metric.specs.declared.supplemental.attack.ValueDensity.TheVariants as value_density;
 
-use crate::metric::{Metric, MetricType};
+use crate::metric::{Metric, MetricType, only_byte};
 use cvss_text::print::write_component;
 use std::fmt;
 
@@ -41,10 +41,10 @@ impl Metric for Automatable {
     }
 
     fn read_bytes(text: &[u8]) -> Option<Self> {
-        match text {
-            b"X" | b"x" => Some(Automatable::NotDefined),
-            b"Y" | b"y" => Some(Automatable::Yes),
-            b"N" | b"n" => Some(Automatable::No),
+        match only_byte(text)? {
+            b'X' | b'x' => Some(Automatable::NotDefined),
+            b'Y' | b'y' => Some(Automatable::Yes),
+            b'N' | b'n' => Some(Automatable::No),
             _ => None,
         }
     }
@@ -89,10 +89,10 @@ impl Metric for ValueDensity {
     }
 
     fn read_bytes(text: &[u8]) -> Option<Self> {
-        match text {
-            b"X" | b"x" => Some(ValueDensity::NotDefined),
-            b"D" | b"d" => Some(ValueDensity::Diffuse),
-            b"C" | b"c" => Some(ValueDensity::Concentrated),
+        match only_byte(text)? {
+            b'X' | b'x' => Some(ValueDensity::NotDefined),
+            b'D' | b'd' => Some(ValueDensity::Diffuse),
+            b'C' | b'c' => Some(ValueDensity::Concentrated),
             _ => None,
         }
     }

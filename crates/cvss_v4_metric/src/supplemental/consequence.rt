@@ -8,7 +8,7 @@ ghost use Rattle.cvss_v4_metric.specs.Table.{metric_component};
 ghost use Rattle.cvss_v4_metric.specs.declared.supplemental.consequence.Safety.TheVariants as safety;
 ghost use Rattle.cvss_v4_metric.specs.declared.supplemental.consequence.Recovery.TheVariants as recovery;
 
-use crate::metric::{Metric, MetricType};
+use crate::metric::{Metric, MetricType, only_byte};
 use cvss_text::print::write_component;
 use std::fmt;
 
@@ -41,10 +41,10 @@ impl Metric for Safety {
     }
 
     fn read_bytes(text: &[u8]) -> Option<Self> {
-        match text {
-            b"X" | b"x" => Some(Safety::NotDefined),
-            b"P" | b"p" => Some(Safety::Present),
-            b"N" | b"n" => Some(Safety::Negligible),
+        match only_byte(text)? {
+            b'X' | b'x' => Some(Safety::NotDefined),
+            b'P' | b'p' => Some(Safety::Present),
+            b'N' | b'n' => Some(Safety::Negligible),
             _ => None,
         }
     }
@@ -91,11 +91,11 @@ impl Metric for Recovery {
     }
 
     fn read_bytes(text: &[u8]) -> Option<Self> {
-        match text {
-            b"X" | b"x" => Some(Recovery::NotDefined),
-            b"A" | b"a" => Some(Recovery::Automatic),
-            b"U" | b"u" => Some(Recovery::User),
-            b"I" | b"i" => Some(Recovery::Irrecoverable),
+        match only_byte(text)? {
+            b'X' | b'x' => Some(Recovery::NotDefined),
+            b'A' | b'a' => Some(Recovery::Automatic),
+            b'U' | b'u' => Some(Recovery::User),
+            b'I' | b'i' => Some(Recovery::Irrecoverable),
             _ => None,
         }
     }

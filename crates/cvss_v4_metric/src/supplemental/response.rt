@@ -8,7 +8,7 @@ ghost use Rattle.cvss_v4_metric.specs.Table.{metric_component};
 ghost use Rattle.cvss_v4_metric.specs.declared.supplemental.response.VulnerabilityResponseEffort.TheVariants as vulnerability_response_effort;
 ghost use Rattle.cvss_v4_metric.specs.declared.supplemental.response.ProviderUrgency.TheVariants as provider_urgency;
 
-use crate::metric::{Metric, MetricType};
+use crate::metric::{Metric, MetricType, only_byte};
 use cvss_text::print::write_component;
 use cvss_text::walk::is_raised_as;
 use std::fmt;
@@ -44,11 +44,11 @@ impl Metric for VulnerabilityResponseEffort {
     }
 
     fn read_bytes(text: &[u8]) -> Option<Self> {
-        match text {
-            b"X" | b"x" => Some(VulnerabilityResponseEffort::NotDefined),
-            b"L" | b"l" => Some(VulnerabilityResponseEffort::Low),
-            b"M" | b"m" => Some(VulnerabilityResponseEffort::Moderate),
-            b"H" | b"h" => Some(VulnerabilityResponseEffort::High),
+        match only_byte(text)? {
+            b'X' | b'x' => Some(VulnerabilityResponseEffort::NotDefined),
+            b'L' | b'l' => Some(VulnerabilityResponseEffort::Low),
+            b'M' | b'm' => Some(VulnerabilityResponseEffort::Moderate),
+            b'H' | b'h' => Some(VulnerabilityResponseEffort::High),
             _ => None,
         }
     }
