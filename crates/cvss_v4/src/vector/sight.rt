@@ -2,14 +2,14 @@
 //! printed, so that the text is gone through once, with no cutting and no searching. The other
 //! way, by components in any order and any case, is `reading`.
 
-ghost use Rattle.std.specs.Prelude.{◌≡◌, IfSome, None, [], ◌∷◌, ◌++◌, codes, option_map, unwrap_or};
+ghost use Rattle.std.specs.Prelude.{◌≡◌, IfSome, IsSomeAnd, None, [], ◌∷◌, ◌++◌, codes, option_map, unwrap_or};
 ghost use Rattle.cvss_text.specs.private.Printing.{slashed, slashed_texts};
 ghost use Rattle.cvss_text.specs.private.Walk.{first_missing};
 ghost use Rattle.cvss_grammar.specs.Text.{slash, colon, component};
 ghost use Rattle.cvss_name.specs.V4Types.{name_of};
 ghost use Rattle.cvss_grammar.specs.Version.{canonical_text, version_piece, IsWellFormed};
 ghost use Rattle.cvss_name.specs.declared.v4.MetricType.TheVariants.{AC, AT, AV, PR, SA, SC, SI, U, UI, VA, VC, VI};
-ghost use Rattle.cvss_v4_metric.specs.Table.{printed, spelling_at, metric_component};
+ghost use Rattle.cvss_v4_metric.specs.Table.{printed, spelling_at};
 ghost use Rattle.cvss_v4.specs.Table.{spelling_of};
 ghost use Rattle.cvss_v4.specs.Vector.{v4};
 
@@ -20,7 +20,7 @@ use crate::metric::supplemental::ProviderUrgency;
 use crate::metric::{Metric, MetricType};
 use crate::vector::Vector;
 use base::base_at_sight;
-use cvss_text::sight::{behind_five, behind_four, put_read};
+use cvss_text::sight::put_read;
 use optional::others_at_sight;
 
 impl Vector {
@@ -95,32 +95,30 @@ fn urgency_at_sight(text: &[u8]) -> Option<Option<ProviderUrgency>>
 }
 
 /// Puts the value of a metric into its place, if a text begins with a slash and its component, and
-/// gives what stands behind that; else no value, and the text.
+/// gives what stands behind that; else no value, and the text. It is given what stands behind the
+/// slash, the name and the colon.
 #[inline(always)]
-fn put_at_sight<'a, M: Metric>(place: &mut Option<M>, text: &'a [u8]) -> &'a [u8]
+fn put_at_sight<'a, M: Metric>(
+    place: &mut Option<M>,
+    behind: Option<&'a [u8]>,
+    text: &'a [u8],
+) -> &'a [u8]
+    requires { IfSome behind
+        (λ behind. text.now ≡ slash ∷ (name_of M.TYPE ++ (colon ∷ behind.now))) }
     ensures { text.now ≡ unwrap_or (slashed (option_map (component (name_of M.TYPE))
         (option_map (λ x. spelling_at M.TYPE (M.rank x)) place.new))) [] ++ result.now }
 {
-    put_read(place, component_at_sight(text), text)
-}
-
-/// The value of a metric, where a text begins with a slash and its component, and what stands
-/// behind that.
-#[inline(always)]
-fn component_at_sight<M: Metric>(text: &[u8]) -> Option<(M, &[u8])>
-    ensures { IfSome result (λ read. text.now
-        ≡ slash ∷ (metric_component M.TYPE (M.rank read.0) ++ read.1.now)) }
-{
-    value_at_sight(behind_name(M::TYPE, text)?)
+    put_read(place, value_at_sight(behind), text)
 }
 
 /// The value of a metric, where a text begins with its spelling, and what stands behind that. A
 /// spelling of several letters is not recognised.
 #[inline(always)]
-fn value_at_sight<M: Metric>(text: &[u8]) -> Option<(M, &[u8])>
-    ensures { IfSome result (λ read. text.now ≡ spelling_at M.TYPE (M.rank read.0) ++ read.1.now) }
+fn value_at_sight<M: Metric>(text: Option<&[u8]>) -> Option<(M, &[u8])>
+    ensures { IfSome result (λ read. IsSomeAnd text.entry
+        (λ text. text.now ≡ spelling_at M.TYPE (M.rank read.0) ++ read.1.now)) }
 {
-    match text {
+    match text? {
         [letter, rest @ ..] => Some((spelled_by_letter(*letter)?, rest)),
         [] => None,
     }
@@ -138,33 +136,16 @@ fn spelled_by_letter<M: Metric>(letter: u8) -> Option<M>
     }
 }
 
-/// What stands behind a slash, the name of an optional metric and a colon.
+/// What stands behind three bytes with which a text begins.
 #[inline(always)]
-fn behind_name(kind: MetricType, text: &[u8]) -> Option<&[u8]>
-    ensures { IfSome result
-        (λ value. text.now ≡ slash ∷ (name_of kind ++ (colon ∷ value.now))) }
+fn behind_three(text: &[u8], three: [u8; 3]) -> Option<&[u8]>
+    ensures { IfSome result (λ rest. text.now ≡ three ++ rest.now) }
 {
-    match (kind, text) {
-        (MetricType::E, [b'/', b'E', b':', value @ ..]) => Some(value),
-        (MetricType::CR, _) => behind_four(text, *b"/CR:"),
-        (MetricType::IR, _) => behind_four(text, *b"/IR:"),
-        (MetricType::AR, _) => behind_four(text, *b"/AR:"),
-        (MetricType::MAV, _) => behind_five(text, *b"/MAV:"),
-        (MetricType::MAC, _) => behind_five(text, *b"/MAC:"),
-        (MetricType::MAT, _) => behind_five(text, *b"/MAT:"),
-        (MetricType::MPR, _) => behind_five(text, *b"/MPR:"),
-        (MetricType::MUI, _) => behind_five(text, *b"/MUI:"),
-        (MetricType::MVC, _) => behind_five(text, *b"/MVC:"),
-        (MetricType::MVI, _) => behind_five(text, *b"/MVI:"),
-        (MetricType::MVA, _) => behind_five(text, *b"/MVA:"),
-        (MetricType::MSC, _) => behind_five(text, *b"/MSC:"),
-        (MetricType::MSI, _) => behind_five(text, *b"/MSI:"),
-        (MetricType::MSA, _) => behind_five(text, *b"/MSA:"),
-        (MetricType::S, [b'/', b'S', b':', value @ ..]) => Some(value),
-        (MetricType::AU, _) => behind_four(text, *b"/AU:"),
-        (MetricType::R, [b'/', b'R', b':', value @ ..]) => Some(value),
-        (MetricType::V, [b'/', b'V', b':', value @ ..]) => Some(value),
-        (MetricType::RE, _) => behind_four(text, *b"/RE:"),
+    let [a, b, c] = three;
+    match text {
+        [first, second, third, rest @ ..] if *first == a && *second == b && *third == c => Some(
+            rest,
+        ),
         _ => None,
     }
 }

@@ -1,4 +1,4 @@
-//! The base metrics of a text that is recognised. They stand at fixed places.
+//! The base metrics of a text that is recognised.
 
 ghost use Rattle.std.specs.Prelude.{◌≡◌, IfSome, None, [], ◌∷◌, ◌++◌, drop};
 ghost use Rattle.cvss_text.specs.private.Printing.{slashed_texts};
@@ -9,7 +9,7 @@ ghost use Rattle.cvss_v4_metric.specs.Table.{metric_component, printed};
 ghost use Rattle.cvss_v4.specs.Table.{rank_of};
 ghost use Rattle.cvss_v4.specs.Vector.{v4};
 
-use super::spelled_by_letter;
+use super::value_at_sight;
 use crate::metric::base::{
     AttackComplexity, AttackRequirements, AttackVector, AvailabilityImpactToTheSubsequentSystem,
     AvailabilityImpactToTheVulnerableSystem, ConfidentialityImpactToTheSubsequentSystem,
@@ -17,6 +17,7 @@ use crate::metric::base::{
     IntegrityImpactToTheVulnerableSystem, PrivilegesRequired, UserInteraction,
 };
 use crate::vector::Vector;
+use cvss_text::sight::behind_four;
 
 /// The vector of the base metrics with which a text begins, if all of them do.
 #[inline(always)]
@@ -27,6 +28,10 @@ pub(super) fn base_at_sight(text: &[u8]) -> Option<(Vector, &[u8])>
     ensures present { IfSome result (λ read. first_missing v4 read.0 ≡ None) }
     ensures bare { IfSome result (λ read. slashed_texts v4 read.0 (drop 11 printed) ≡ []) }
 {
+    // No eleven base metrics are shorter, so their lengths are compared once.
+    if text.len() < 55 {
+        return None;
+    }
     let (av, ac, at, text) = attack_at_sight(text)?;
     let (pr, ui, text) = access_at_sight(text)?;
     let (vc, vi, va, text) = vulnerable_at_sight(text)?;
@@ -59,34 +64,10 @@ fn attack_at_sight(
         ++ slash ∷ metric_component AC (rank_of AC read.1)
         ++ slash ∷ metric_component AT (rank_of AT read.2) ++ read.3.now) }
 {
-    match text {
-        [
-            b'/',
-            b'A',
-            b'V',
-            b':',
-            av,
-            b'/',
-            b'A',
-            b'C',
-            b':',
-            ac,
-            b'/',
-            b'A',
-            b'T',
-            b':',
-            at,
-            rest @ ..,
-        ] => {
-            Some((
-                spelled_by_letter(*av)?,
-                spelled_by_letter(*ac)?,
-                spelled_by_letter(*at)?,
-                rest,
-            ))
-        }
-        _ => None,
-    }
+    let (av, text) = value_at_sight(behind_four(text, *b"/AV:"))?;
+    let (ac, text) = value_at_sight(behind_four(text, *b"/AC:"))?;
+    let (at, text) = value_at_sight(behind_four(text, *b"/AT:"))?;
+    Some((av, ac, at, text))
 }
 
 /// The values of PR and UI, with which a text begins, and what stands behind them.
@@ -96,22 +77,9 @@ fn access_at_sight(text: &[u8]) -> Option<(PrivilegesRequired, UserInteraction, 
         ≡ slash ∷ metric_component PR (rank_of PR read.0)
         ++ slash ∷ metric_component UI (rank_of UI read.1) ++ read.2.now) }
 {
-    match text {
-        [
-            b'/',
-            b'P',
-            b'R',
-            b':',
-            pr,
-            b'/',
-            b'U',
-            b'I',
-            b':',
-            ui,
-            rest @ ..,
-        ] => { Some((spelled_by_letter(*pr)?, spelled_by_letter(*ui)?, rest)) }
-        _ => None,
-    }
+    let (pr, text) = value_at_sight(behind_four(text, *b"/PR:"))?;
+    let (ui, text) = value_at_sight(behind_four(text, *b"/UI:"))?;
+    Some((pr, ui, text))
 }
 
 /// The values of the impacts on the vulnerable system with which a text begins, and what stands
@@ -132,34 +100,10 @@ fn vulnerable_at_sight(
         ++ slash ∷ metric_component VI (rank_of VI read.1)
         ++ slash ∷ metric_component VA (rank_of VA read.2) ++ read.3.now) }
 {
-    match text {
-        [
-            b'/',
-            b'V',
-            b'C',
-            b':',
-            vc,
-            b'/',
-            b'V',
-            b'I',
-            b':',
-            vi,
-            b'/',
-            b'V',
-            b'A',
-            b':',
-            va,
-            rest @ ..,
-        ] => {
-            Some((
-                spelled_by_letter(*vc)?,
-                spelled_by_letter(*vi)?,
-                spelled_by_letter(*va)?,
-                rest,
-            ))
-        }
-        _ => None,
-    }
+    let (vc, text) = value_at_sight(behind_four(text, *b"/VC:"))?;
+    let (vi, text) = value_at_sight(behind_four(text, *b"/VI:"))?;
+    let (va, text) = value_at_sight(behind_four(text, *b"/VA:"))?;
+    Some((vc, vi, va, text))
 }
 
 /// The values of the impacts on subsequent systems with which a text begins, and what stands
@@ -180,32 +124,8 @@ fn subsequent_at_sight(
         ++ slash ∷ metric_component SI (rank_of SI read.1)
         ++ slash ∷ metric_component SA (rank_of SA read.2) ++ read.3.now) }
 {
-    match text {
-        [
-            b'/',
-            b'S',
-            b'C',
-            b':',
-            sc,
-            b'/',
-            b'S',
-            b'I',
-            b':',
-            si,
-            b'/',
-            b'S',
-            b'A',
-            b':',
-            sa,
-            rest @ ..,
-        ] => {
-            Some((
-                spelled_by_letter(*sc)?,
-                spelled_by_letter(*si)?,
-                spelled_by_letter(*sa)?,
-                rest,
-            ))
-        }
-        _ => None,
-    }
+    let (sc, text) = value_at_sight(behind_four(text, *b"/SC:"))?;
+    let (si, text) = value_at_sight(behind_four(text, *b"/SI:"))?;
+    let (sa, text) = value_at_sight(behind_four(text, *b"/SA:"))?;
+    Some((sc, si, sa, text))
 }

@@ -5,8 +5,9 @@ ghost use Rattle.cvss_text.specs.private.Printing.{slashed_texts};
 ghost use Rattle.cvss_name.specs.declared.v4.MetricType.TheVariants.{E, AR, CR, IR, MAC, MAT, MAV, MPR, MSA, MSC, MSI, MUI, MVA, MVC, MVI, AU, R, RE, S, V};
 ghost use Rattle.cvss_v4.specs.Vector.{v4};
 
-use super::put_at_sight;
+use super::{behind_three, put_at_sight};
 use crate::vector::Vector;
+use cvss_text::sight::{behind_five, behind_four};
 
 /// Puts the optional metrics but for the last with which a text begins into the vector, and gives
 /// what stands behind them.
@@ -57,10 +58,10 @@ fn threat_at_sight<'a>(vector: &mut Vector, text: &'a [u8]) -> &'a [u8]
       ar = vector.new.ar;
     } }
 {
-    let text = put_at_sight(&mut vector.e, text);
-    let text = put_at_sight(&mut vector.cr, text);
-    let text = put_at_sight(&mut vector.ir, text);
-    put_at_sight(&mut vector.ar, text)
+    let text = put_at_sight(&mut vector.e, behind_three(text, *b"/E:"), text);
+    let text = put_at_sight(&mut vector.cr, behind_four(text, *b"/CR:"), text);
+    let text = put_at_sight(&mut vector.ir, behind_four(text, *b"/IR:"), text);
+    put_at_sight(&mut vector.ar, behind_four(text, *b"/AR:"), text)
 }
 
 /// Puts the modified metrics of how the attack is made with which a text begins into the vector,
@@ -77,11 +78,11 @@ fn modified_attack_at_sight<'a>(vector: &mut Vector, text: &'a [u8]) -> &'a [u8]
       mui = vector.new.mui;
     } }
 {
-    let text = put_at_sight(&mut vector.mav, text);
-    let text = put_at_sight(&mut vector.mac, text);
-    let text = put_at_sight(&mut vector.mat, text);
-    let text = put_at_sight(&mut vector.mpr, text);
-    put_at_sight(&mut vector.mui, text)
+    let text = put_at_sight(&mut vector.mav, behind_five(text, *b"/MAV:"), text);
+    let text = put_at_sight(&mut vector.mac, behind_five(text, *b"/MAC:"), text);
+    let text = put_at_sight(&mut vector.mat, behind_five(text, *b"/MAT:"), text);
+    let text = put_at_sight(&mut vector.mpr, behind_five(text, *b"/MPR:"), text);
+    put_at_sight(&mut vector.mui, behind_five(text, *b"/MUI:"), text)
 }
 
 /// Puts the modified impacts with which a text begins into the vector, and gives what stands behind
@@ -99,12 +100,12 @@ fn modified_impact_at_sight<'a>(vector: &mut Vector, text: &'a [u8]) -> &'a [u8]
       msa = vector.new.msa;
     } }
 {
-    let text = put_at_sight(&mut vector.mvc, text);
-    let text = put_at_sight(&mut vector.mvi, text);
-    let text = put_at_sight(&mut vector.mva, text);
-    let text = put_at_sight(&mut vector.msc, text);
-    let text = put_at_sight(&mut vector.msi, text);
-    put_at_sight(&mut vector.msa, text)
+    let text = put_at_sight(&mut vector.mvc, behind_five(text, *b"/MVC:"), text);
+    let text = put_at_sight(&mut vector.mvi, behind_five(text, *b"/MVI:"), text);
+    let text = put_at_sight(&mut vector.mva, behind_five(text, *b"/MVA:"), text);
+    let text = put_at_sight(&mut vector.msc, behind_five(text, *b"/MSC:"), text);
+    let text = put_at_sight(&mut vector.msi, behind_five(text, *b"/MSI:"), text);
+    put_at_sight(&mut vector.msa, behind_five(text, *b"/MSA:"), text)
 }
 
 /// Puts the supplemental metrics but for the last with which a text begins into the vector, and
@@ -121,9 +122,9 @@ fn supplemental_at_sight<'a>(vector: &mut Vector, text: &'a [u8]) -> &'a [u8]
       re = vector.new.re;
     } }
 {
-    let text = put_at_sight(&mut vector.s, text);
-    let text = put_at_sight(&mut vector.au, text);
-    let text = put_at_sight(&mut vector.r, text);
-    let text = put_at_sight(&mut vector.v, text);
-    put_at_sight(&mut vector.re, text)
+    let text = put_at_sight(&mut vector.s, behind_three(text, *b"/S:"), text);
+    let text = put_at_sight(&mut vector.au, behind_four(text, *b"/AU:"), text);
+    let text = put_at_sight(&mut vector.r, behind_three(text, *b"/R:"), text);
+    let text = put_at_sight(&mut vector.v, behind_three(text, *b"/V:"), text);
+    put_at_sight(&mut vector.re, behind_four(text, *b"/RE:"), text)
 }
