@@ -65,19 +65,3 @@ eq3_eq6_divides zero zero = refl
 eq3_eq6_divides zero (suc _) = refl
 eq3_eq6_divides (suc zero) _ = refl
 eq3_eq6_divides (suc (suc _)) _ = refl
-
--- the depth is 840 divided by its part
-pub eq1_depth_is : (class : ℕ) → 840 / (840 / eq1_depth class) ≡ eq1_depth class
-eq1_depth_is = elim [ zero ↦ refl | suc zero ↦ refl | suc (suc _) ↦ refl ]
-
-pub eq2_depth_is : (class : ℕ) → 840 / (840 / eq2_depth class) ≡ eq2_depth class
-eq2_depth_is = elim [ zero ↦ refl | suc _ ↦ refl ]
-
-pub eq4_depth_is : (class : ℕ) → 840 / (840 / eq4_depth class) ≡ eq4_depth class
-eq4_depth_is = elim [ zero ↦ refl | suc zero ↦ refl | suc (suc _) ↦ refl ]
-
-pub eq3_eq6_depth_is : (class3 class6 : ℕ) → 840 / (840 / eq3_eq6_depth class3 class6) ≡ eq3_eq6_depth class3 class6
-eq3_eq6_depth_is zero zero = refl
-eq3_eq6_depth_is zero (suc _) = refl
-eq3_eq6_depth_is (suc zero) _ = refl
-eq3_eq6_depth_is (suc (suc _)) _ = refl

@@ -5,7 +5,6 @@ mod CompleteLemmas
 mod CountLemmas
 mod DepthLemmas
 mod DistanceLemmas
-mod FitLemmas
 mod GroupLemmas
 mod LeastLemmas
 mod LetterLemmas

@@ -2,6 +2,7 @@
 
 pub mod account;
 pub mod classes;
+mod classified;
 mod depths;
 mod distances;
 pub mod effective;

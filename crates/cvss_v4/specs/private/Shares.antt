@@ -1,7 +1,8 @@
 -- What the private code computes of a group of metrics, in whole numbers.
-use Rattle.std.specs.Prelude.{◌≡◌, ℕ, ◌-◌, ◌*◌, ◌/◌, ◌≤◌, option_map, unwrap_or, unsigned_abs}
+use Rattle.std.specs.Prelude.{◌≡◌, ℕ, ◌-◌, ◌*◌, ◌/◌, ◌≤◌, IfSome, option_map, unwrap_or, unsigned_abs, pos}
+use Rattle.cvss_v4.specs.Account.{with_value}
 use Rattle.cvss_v4.specs.Gap.{Group, next_lower}
-use Rattle.cvss_v4.specs.declared.scoring.shares.Share.{Share}
+use Rattle.cvss_v4.specs.declared.scoring.shares.Terms.{Terms}
 
 -- gap * distance / depth in 8400ths of a point, and 0 without a next lower value; each depth divides 840
 abbrev pub taken : ℕ → Group → ℕ
@@ -19,9 +20,13 @@ pub record IsPart (value lower distance part : ℕ) : Type 0 where
   pub to_value : lower ≤ value
   pub within : distance * part ≤ 840
 
--- both numbers of a group below a value, which they leave above 0
-pub record IsShare (value : ℕ) (group : Group) (share : Share) : Type 0 where
-  pub taken : share.taken ≡ taken value group
-  pub counted : share.counted ≡ counted group
-  pub one : share.counted ≤ 1
-  pub bound : share.taken ≤ 840 * (value - 1) * share.counted
+-- the terms are those of a group below a value: the next lower class with its value, the distance, and 840 divided by
+-- the depth
+pub record AreTerms (value : ℕ) (group : Group) (terms : Terms) : Type 0 where
+  pub next : terms.next ≡ option_map with_value group.next
+  pub lower : next_lower group ≡ option_map (λ next. next.value) terms.next
+  pub distance : pos terms.distance ≡ group.distance
+  pub part : terms.part ≡ 840 / group.depth
+  pub depth : 840 / terms.part ≡ group.depth
+  pub least : 84 ≤ terms.part
+  pub takes : IfSome terms.next (λ next. IsPart value next.value terms.distance terms.part)

@@ -1,21 +1,16 @@
 //! The account of a score: the numbers on its way (v4.0 specification, section 8.2).
 
-ghost use Rattle.std.specs.Prelude.{◌≡◌};
-ghost use Rattle.cvss_v4.specs.Account.{AreGroupAccounts, AreInRange, GroupsAreInRange, IsAccount, IsGroupAccount, IsInRange};
-ghost use Rattle.cvss_v4.specs.Classes.{macro_vector};
-ghost use Rattle.cvss_v4.specs.Gap.{eq1_group, eq2_group, eq3_eq6_group, eq4_group, eq5_group};
-ghost use Rattle.cvss_v4.specs.Values.{listed_value};
-ghost use Rattle.cvss_v4.specs.laws.ScoreLaws.{IsListed};
-ghost use Rattle.cvss_v4.specs.private.Places.{place_of};
+ghost use Rattle.std.specs.Prelude.{◌≡◌, ◌-◌, ◌*◌, ◌/◌, ◌≤◌, IfSome, option_map, unwrap_or};
+ghost use Rattle.cvss_v4.specs.Account.{AreGroupAccounts, AreInRange, GroupsAreInRange, IsAccount, IsInRange};
+ghost use Rattle.cvss_v4.specs.private.Shares.{IsPart};
 
 use crate::scoring::classes::MacroVector;
-use crate::scoring::depths::{depth_of, eq1_part, eq2_part, eq3_eq6_part, eq4_part};
-use crate::scoring::distances::{eq1_distance, eq2_distance, eq3_eq6_distance, eq4_distance};
+use crate::scoring::classified::Classified;
+use crate::scoring::depths::depth_of;
 use crate::scoring::effective::Effective;
-use crate::scoring::next::{NextClass, eq1_next, eq2_next, eq3_eq6_next, eq4_next, eq5_next};
+use crate::scoring::next::NextClass;
 use crate::scoring::score::{has_impact, less_mean, mean_taken};
-use crate::scoring::shares::{eq1_share, eq2_share, eq3_eq6_share, eq4_share, eq5_share};
-use crate::scoring::values::{place_of, value_of};
+use crate::scoring::shares::{Terms, eq1_terms, eq2_terms, eq3_eq6_terms, eq4_terms, eq5_terms};
 
 /// Why effective values score what they score.
 #[derive(Clone, Copy)]
@@ -64,13 +59,11 @@ impl Account {
         ensures account { IsAccount effective.now result }
         ensures range { AreInRange result }
     {
-        let class = MacroVector::of(effective);
-        let place = place_of(&class);
-        let value = value_of(&class, place);
+        let values = Classified::of(effective);
         let harmless = Account {
             effective: *effective,
-            class,
-            value,
+            class: values.class,
+            value: values.value,
             groups: None,
             mean: 0,
             number: 0,
@@ -78,110 +71,49 @@ impl Account {
         if !has_impact(effective) {
             return harmless;
         }
-        let mean = mean_taken(effective, &class, place, value);
+        let mean = mean_taken(&values);
         Account {
-            groups: Some(GroupAccounts::of(effective, &class, place, value)),
+            groups: Some(GroupAccounts::of(&values)),
             mean,
-            number: less_mean(value, mean),
+            number: less_mean(values.value, mean),
             ..harmless
         }
     }
 }
 
 impl GroupAccounts {
-    fn of(effective: &Effective, class: &MacroVector, place: usize, value: u8) -> Self
-        requires class { class.now ≡ macro_vector effective.now }
-        requires place { place ≡ place_of class.now }
-        requires value { IsListed (listed_value class.now) value }
-        ensures value { AreGroupAccounts effective.now result }
-        ensures range { GroupsAreInRange value result }
+    fn of(values: &Classified) -> Self
+        ensures value { AreGroupAccounts values.now.effective result }
+        ensures range { GroupsAreInRange values.now.value result }
     {
         GroupAccounts {
-            eq1: eq1_account(effective, class, place, value),
-            eq2: eq2_account(effective, class, place, value),
-            eq3_eq6: eq3_eq6_account(effective, class, place, value),
-            eq4: eq4_account(effective, class, place, value),
-            eq5: eq5_account(effective, class, place, value),
+            eq1: GroupAccount::of(eq1_terms(values), values.value),
+            eq2: GroupAccount::of(eq2_terms(values), values.value),
+            eq3_eq6: GroupAccount::of(eq3_eq6_terms(values), values.value),
+            eq4: GroupAccount::of(eq4_terms(values), values.value),
+            eq5: GroupAccount::of(eq5_terms(values), values.value),
         }
     }
 }
 
-fn eq1_account(effective: &Effective, class: &MacroVector, place: usize, value: u8) -> GroupAccount
-    requires class { class.now ≡ macro_vector effective.now }
-    requires place { place ≡ place_of class.now }
-    requires value { IsListed (listed_value class.now) value }
-    ensures value { IsGroupAccount value (eq1_group effective.now) result }
-    ensures range { IsInRange value result }
-{
-    GroupAccount {
-        next: eq1_next(class, place),
-        distance: eq1_distance(effective, class),
-        depth: depth_of(eq1_part(class)),
-        taken: eq1_share(effective, class, place, value).taken,
-    }
-}
-
-fn eq2_account(effective: &Effective, class: &MacroVector, place: usize, value: u8) -> GroupAccount
-    requires class { class.now ≡ macro_vector effective.now }
-    requires place { place ≡ place_of class.now }
-    requires value { IsListed (listed_value class.now) value }
-    ensures value { IsGroupAccount value (eq2_group effective.now) result }
-    ensures range { IsInRange value result }
-{
-    GroupAccount {
-        next: eq2_next(class, place),
-        distance: eq2_distance(effective, class),
-        depth: depth_of(eq2_part(class)),
-        taken: eq2_share(effective, class, place, value).taken,
-    }
-}
-
-fn eq3_eq6_account(
-    effective: &Effective,
-    class: &MacroVector,
-    place: usize,
-    value: u8,
-) -> GroupAccount
-    requires class { class.now ≡ macro_vector effective.now }
-    requires place { place ≡ place_of class.now }
-    requires value { IsListed (listed_value class.now) value }
-    ensures value { IsGroupAccount value (eq3_eq6_group effective.now) result }
-    ensures range { IsInRange value result }
-{
-    GroupAccount {
-        next: eq3_eq6_next(class, place),
-        distance: eq3_eq6_distance(effective, class),
-        depth: depth_of(eq3_eq6_part(class)),
-        taken: eq3_eq6_share(effective, class, place, value).taken,
-    }
-}
-
-fn eq4_account(effective: &Effective, class: &MacroVector, place: usize, value: u8) -> GroupAccount
-    requires class { class.now ≡ macro_vector effective.now }
-    requires place { place ≡ place_of class.now }
-    requires value { IsListed (listed_value class.now) value }
-    ensures value { IsGroupAccount value (eq4_group effective.now) result }
-    ensures range { IsInRange value result }
-{
-    GroupAccount {
-        next: eq4_next(class, place),
-        distance: eq4_distance(effective, class),
-        depth: depth_of(eq4_part(class)),
-        taken: eq4_share(effective, class, place, value).taken,
-    }
-}
-
-fn eq5_account(effective: &Effective, class: &MacroVector, place: usize, value: u8) -> GroupAccount
-    requires class { class.now ≡ macro_vector effective.now }
-    requires place { place ≡ place_of class.now }
-    requires value { IsListed (listed_value class.now) value }
-    ensures value { IsGroupAccount value (eq5_group effective.now) result }
-    ensures range { IsInRange value result }
-{
-    GroupAccount {
-        next: eq5_next(class, place),
-        distance: 0,
-        depth: 1,
-        taken: eq5_share(effective, class, place, value).taken,
+impl GroupAccount {
+    fn of(terms: Terms, value: u8) -> Self
+        requires value { value ≤ 100 }
+        requires part { 84 ≤ terms.part }
+        requires takes { IfSome terms.next
+            (λ next. IsPart value next.value terms.distance terms.part) }
+        ensures next { result.next ≡ terms.next }
+        ensures distance { result.distance ≡ terms.distance }
+        ensures depth { result.depth ≡ 840 / terms.part }
+        ensures taken { result.taken ≡ unwrap_or (option_map
+            (λ next. (value - next.value) * terms.distance * terms.part) terms.next) 0 }
+        ensures range { IsInRange value result }
+    {
+        GroupAccount {
+            next: terms.next,
+            distance: terms.distance,
+            depth: depth_of(terms.part),
+            taken: terms.share(value).taken,
+        }
     }
 }

@@ -3,16 +3,11 @@
 ghost use Rattle.std.specs.Prelude.{◌≡◌, ◌-◌, ◌*◌, ◌/◌, ◌≤◌, pos, max, IsTrue};
 ghost use Rattle.cvss_number.specs.Exact.{◌over◌, ◌≈◌};
 ghost use Rattle.cvss_number.specs.Rounding.{IsRoundedV4};
-ghost use Rattle.cvss_v4.specs.Classes.{macro_vector};
 ghost use Rattle.cvss_v4.specs.Scores.{has_impact, mean, proportions, IsScore};
-ghost use Rattle.cvss_v4.specs.Values.{listed_value};
-ghost use Rattle.cvss_v4.specs.laws.ScoreLaws.{IsListed};
-ghost use Rattle.cvss_v4.specs.private.Places.{place_of};
 
-use crate::scoring::classes::MacroVector;
+use crate::scoring::classified::Classified;
 use crate::scoring::effective::{Effective, SafetyImpact, SubsequentImpact, VulnerableImpact};
-use crate::scoring::shares::{eq1_share, eq2_share, eq3_eq6_share, eq4_share, eq5_share};
-use crate::scoring::values::{place_of, value_of};
+use crate::scoring::shares::{eq1_terms, eq2_terms, eq3_eq6_terms, eq4_terms, eq5_terms};
 
 /// The score of effective values in tenths: the value of their class less the mean of what the
 /// groups with a next lower class take, rounded half up, and 0 without impact.
@@ -24,27 +19,21 @@ pub fn score_tenths(effective: &Effective) -> u8
     if !has_impact(effective) {
         return 0;
     }
-    let class = MacroVector::of(effective);
-    let place = place_of(&class);
-    let value = value_of(&class, place);
-    let mean = mean_taken(effective, &class, place, value);
-    rounded(less_mean(value, mean))
+    let values = Classified::of(effective);
+    rounded(less_mean(values.value, mean_taken(&values)))
 }
 
 /// The mean of what the groups with a next lower class take, in 504000ths of a point.
 #[inline(always)]
-pub(super) fn mean_taken(effective: &Effective, class: &MacroVector, place: usize, value: u8) -> u32
-    requires class { class.now ≡ macro_vector effective.now }
-    requires place { place ≡ place_of class.now }
-    requires value { IsListed (listed_value class.now) value }
-    ensures value { result over 504_000 ≈ mean (proportions effective.now) }
-    ensures bound { result ≤ 50_400 * (value - 1) }
+pub(super) fn mean_taken(values: &Classified) -> u32
+    ensures value { result over 504_000 ≈ mean (proportions values.now.effective) }
+    ensures bound { result ≤ 50_400 * (values.now.value - 1) }
 {
-    let eq1 = eq1_share(effective, class, place, value);
-    let eq2 = eq2_share(effective, class, place, value);
-    let eq3_eq6 = eq3_eq6_share(effective, class, place, value);
-    let eq4 = eq4_share(effective, class, place, value);
-    let eq5 = eq5_share(effective, class, place, value);
+    let eq1 = eq1_terms(values).share(values.value);
+    let eq2 = eq2_terms(values).share(values.value);
+    let eq3_eq6 = eq3_eq6_terms(values).share(values.value);
+    let eq4 = eq4_terms(values).share(values.value);
+    let eq5 = eq5_terms(values).share(values.value);
     let taken = eq1.taken + eq2.taken + eq3_eq6.taken + eq4.taken + eq5.taken;
     let counted = eq1.counted + eq2.counted + eq3_eq6.counted + eq4.counted + eq5.counted;
     taken * sixty_by(counted)

@@ -1,19 +1,25 @@
 //! What each group of metrics takes from the value of a class: the gap to the next lower class times
 //! the proportion of the distance to the depth (v4.0 specification, section 8.2).
 
-ghost use Rattle.std.specs.Prelude.{◌≡◌, ◌-◌, ◌*◌, ◌≤◌};
-ghost use Rattle.cvss_v4.specs.Classes.{macro_vector};
+ghost use Rattle.std.specs.Prelude.{◌≡◌, ◌-◌, ◌*◌, ◌≤◌, IfSome, option_map, unwrap_or};
 ghost use Rattle.cvss_v4.specs.Gap.{eq1_group, eq2_group, eq3_eq6_group, eq4_group, eq5_group};
-ghost use Rattle.cvss_v4.specs.Values.{listed_value};
-ghost use Rattle.cvss_v4.specs.laws.ScoreLaws.{IsListed};
-ghost use Rattle.cvss_v4.specs.private.Places.{place_of};
-ghost use Rattle.cvss_v4.specs.private.Shares.{IsPart, IsShare};
+ghost use Rattle.cvss_v4.specs.private.Shares.{AreTerms, IsPart};
 
-use crate::scoring::classes::MacroVector;
+use crate::scoring::classified::Classified;
 use crate::scoring::depths::{eq1_part, eq2_part, eq3_eq6_part, eq4_part};
 use crate::scoring::distances::{eq1_distance, eq2_distance, eq3_eq6_distance, eq4_distance};
-use crate::scoring::effective::Effective;
-use crate::scoring::next::{eq1_next, eq2_next, eq3_eq6_next, eq4_next, eq5_next};
+use crate::scoring::next::{NextClass, eq1_next, eq2_next, eq3_eq6_next, eq4_next, eq5_next};
+
+/// The terms of what a group of metrics takes.
+#[derive(Clone, Copy)]
+pub struct Terms {
+    /// The next lower class, if there is one.
+    pub next: Option<NextClass>,
+    /// The severity distance within the class, in steps of a tenth.
+    pub distance: u8,
+    /// 840 divided by the depth of the class.
+    pub part: u32,
+}
 
 /// What a group takes in 8400ths of a point, and 1 if it has a next lower class.
 #[derive(Clone, Copy)]
@@ -23,12 +29,6 @@ pub struct Share {
 }
 
 impl Share {
-    /// The share of a group without a next lower class.
-    const NONE: Share = Share {
-        taken: 0,
-        counted: 0,
-    };
-
     /// The share of a group with a next lower class.
     #[inline(always)]
     fn of(value: u8, lower: u8, distance: u8, part: u32) -> Self
@@ -45,92 +45,85 @@ impl Share {
     }
 }
 
-/// The share of EQ1.
-#[inline(always)]
-pub fn eq1_share(effective: &Effective, class: &MacroVector, place: usize, value: u8) -> Share
-    requires class { class.now ≡ macro_vector effective.now }
-    requires place { place ≡ place_of class.now }
-    requires value { IsListed (listed_value class.now) value }
-    ensures { IsShare value (eq1_group effective.now) result }
-{
-    match eq1_next(class, place) {
-        Some(next) => Share::of(
-            value,
-            next.value,
-            eq1_distance(effective, class),
-            eq1_part(class),
-        ),
-        None => Share::NONE,
+impl Terms {
+    /// What the group takes from a value.
+    #[inline(always)]
+    pub fn share(&self, value: u8) -> Share
+        requires value { value ≤ 100 }
+        requires part { IfSome self.now.next
+            (λ next. IsPart value next.value self.now.distance self.now.part) }
+        ensures taken { result.taken ≡ unwrap_or (option_map
+            (λ next. (value - next.value) * self.now.distance * self.now.part) self.now.next) 0 }
+        ensures counted { result.counted ≡ unwrap_or (option_map (λ _. 1) self.now.next) 0 }
+        ensures one { result.counted ≤ 1 }
+        ensures bound { result.taken ≤ 840 * (value - 1) * result.counted }
+    {
+        match self.next {
+            Some(next) => Share::of(value, next.value, self.distance, self.part),
+            None => Share {
+                taken: 0,
+                counted: 0,
+            },
+        }
     }
 }
 
-/// The share of EQ2.
+/// The terms of EQ1.
 #[inline(always)]
-pub fn eq2_share(effective: &Effective, class: &MacroVector, place: usize, value: u8) -> Share
-    requires class { class.now ≡ macro_vector effective.now }
-    requires place { place ≡ place_of class.now }
-    requires value { IsListed (listed_value class.now) value }
-    ensures { IsShare value (eq2_group effective.now) result }
+pub fn eq1_terms(values: &Classified) -> Terms
+    ensures { AreTerms values.now.value (eq1_group values.now.effective) result }
 {
-    match eq2_next(class, place) {
-        Some(next) => Share::of(
-            value,
-            next.value,
-            eq2_distance(effective, class),
-            eq2_part(class),
-        ),
-        None => Share::NONE,
+    Terms {
+        next: eq1_next(&values.class, values.place),
+        distance: eq1_distance(&values.effective, &values.class),
+        part: eq1_part(&values.class),
     }
 }
 
-/// The share of EQ3 with EQ6.
+/// The terms of EQ2.
 #[inline(always)]
-pub fn eq3_eq6_share(effective: &Effective, class: &MacroVector, place: usize, value: u8) -> Share
-    requires class { class.now ≡ macro_vector effective.now }
-    requires place { place ≡ place_of class.now }
-    requires value { IsListed (listed_value class.now) value }
-    ensures { IsShare value (eq3_eq6_group effective.now) result }
+pub fn eq2_terms(values: &Classified) -> Terms
+    ensures { AreTerms values.now.value (eq2_group values.now.effective) result }
 {
-    match eq3_eq6_next(class, place) {
-        Some(next) => Share::of(
-            value,
-            next.value,
-            eq3_eq6_distance(effective, class),
-            eq3_eq6_part(class),
-        ),
-        None => Share::NONE,
+    Terms {
+        next: eq2_next(&values.class, values.place),
+        distance: eq2_distance(&values.effective, &values.class),
+        part: eq2_part(&values.class),
     }
 }
 
-/// The share of EQ4.
+/// The terms of EQ3 with EQ6.
 #[inline(always)]
-pub fn eq4_share(effective: &Effective, class: &MacroVector, place: usize, value: u8) -> Share
-    requires class { class.now ≡ macro_vector effective.now }
-    requires place { place ≡ place_of class.now }
-    requires value { IsListed (listed_value class.now) value }
-    ensures { IsShare value (eq4_group effective.now) result }
+pub fn eq3_eq6_terms(values: &Classified) -> Terms
+    ensures { AreTerms values.now.value (eq3_eq6_group values.now.effective) result }
 {
-    match eq4_next(class, place) {
-        Some(next) => Share::of(
-            value,
-            next.value,
-            eq4_distance(effective, class),
-            eq4_part(class),
-        ),
-        None => Share::NONE,
+    Terms {
+        next: eq3_eq6_next(&values.class, values.place),
+        distance: eq3_eq6_distance(&values.effective, &values.class),
+        part: eq3_eq6_part(&values.class),
     }
 }
 
-/// The share of EQ5, whose classes have one value each: it takes nothing, and is counted.
+/// The terms of EQ4.
 #[inline(always)]
-pub fn eq5_share(effective: &Effective, class: &MacroVector, place: usize, value: u8) -> Share
-    requires class { class.now ≡ macro_vector effective.now }
-    requires place { place ≡ place_of class.now }
-    requires value { IsListed (listed_value class.now) value }
-    ensures { IsShare value (eq5_group effective.now) result }
+pub fn eq4_terms(values: &Classified) -> Terms
+    ensures { AreTerms values.now.value (eq4_group values.now.effective) result }
 {
-    match eq5_next(class, place) {
-        Some(next) => Share::of(value, next.value, 0, 840),
-        None => Share::NONE,
+    Terms {
+        next: eq4_next(&values.class, values.place),
+        distance: eq4_distance(&values.effective, &values.class),
+        part: eq4_part(&values.class),
+    }
+}
+
+/// The terms of EQ5, whose classes have one value each: it takes nothing, and is counted.
+#[inline(always)]
+pub fn eq5_terms(values: &Classified) -> Terms
+    ensures { AreTerms values.now.value (eq5_group values.now.effective) result }
+{
+    Terms {
+        next: eq5_next(&values.class, values.place),
+        distance: 0,
+        part: 840,
     }
 }

@@ -9,11 +9,12 @@ use Rattle.cvss_v4.proofs.scoring.score.score_tenths.Goals as goal
 pub returns-clause-value : goal.returns-clause-value
 returns-clause-value c =
     let v = c.args.effective.now in
-    let value = c.value_of-value.result in
-    let count = c.mean_taken-mean.result in
-    let listed = rw c.of-class.ensures.value at c.value_of-value.ensures in
-    let left = number_less_mean v value count (grind arith) listed c.mean_taken-mean.ensures.value c.mean_taken-mean.ensures.bound in
-    v4-equal ((50400 * value - count) over 504000) (number v) (pos c.rounded.result) (lit< tt) (in_504000ths v).2 left
+    let values = c.of-values.result in
+    let count = c.mean_taken.result in
+    let listed = rw c.of-values.ensures at values.listed in
+    let is_mean = rw c.of-values.ensures at c.mean_taken.ensures.value in
+    let left = number_less_mean v values.value count (grind arith) listed is_mean c.mean_taken.ensures.bound in
+    v4-equal ((50400 * values.value - count) over 504000) (number v) (pos c.rounded.result) (lit< tt) (in_504000ths v).2 left
     (rw c.less_mean.ensures.value at c.rounded.ensures.value)
 
 pub returns-then-not-has_impact-clause-value : goal.returns-then-not-has_impact-clause-value

@@ -1,6 +1,7 @@
-use Rattle.std.proofs.Common.{◌≡◌, true, false, refl, arith}
-use Rattle.cvss_v4.specs.Scores.{has_impact}
-use Rattle.cvss_v4.specs.Values.{table_value}
+use Rattle.std.proofs.Common.{◌≡◌, true, false, refl, arith, subst}
+use Rattle.cvss_v4.specs.Account.{AreGroupAccounts}
+use Rattle.cvss_v4.specs.Scores.{has_impact, mean, proportions}
+use Rattle.cvss_v4.specs.Values.{listed_value, table_value}
 use Rattle.cvss_v4.proofs.ScoreLemmas.{number_less_mean, number_without_impact}
 use Rattle.cvss_v4.proofs.scoring.account.Account.of.Goals as goal
 
@@ -8,12 +9,12 @@ pub returns-then-not-has_impact-clause-account : goal.returns-then-not-has_impac
 returns-then-not-has_impact-clause-account c =
     let v = c.args.effective.now in
     let none : has_impact v ≡ false = grind arith in
-    let listed = rw c.of-class.ensures.value at c.value_of-value.ensures in
-    let is_value : c.value_of-value.result ≡ table_value v = rw listed.is_value refl in
+    let values = c.of-values.result in
+    let listed = rw c.of-values.ensures at values.listed in
     record {
       effective = refl;
-      class = c.of-class.ensures.value;
-      value = is_value;
+      class = rw c.of-values.ensures at values.of_effective;
+      value = rw listed.is_value refl;
       groups = none;
       mean = rw none (record { equal = refl });
       number = rw (number_without_impact v none) (record { equal = refl });
@@ -22,17 +23,16 @@ returns-then-not-has_impact-clause-account c =
 pub returns-clause-account : goal.returns-clause-account
 returns-clause-account c =
     let v = c.args.effective.now in
-    let value = c.value_of-value.result in
-    let count = c.mean_taken-mean.result in
     let impact : has_impact v ≡ true = grind arith in
-    let listed = rw c.of-class.ensures.value at c.value_of-value.ensures in
-    let is_value : value ≡ table_value v = rw listed.is_value refl in
-    let left = number_less_mean v value count impact listed c.mean_taken-mean.ensures.value c.mean_taken-mean.ensures.bound in
+    let values = c.of-values.result in
+    let listed = rw c.of-values.ensures at values.listed in
+    let is_mean = rw c.of-values.ensures at c.mean_taken-mean.ensures.value in
+    let left = number_less_mean v values.value c.mean_taken-mean.result impact listed is_mean c.mean_taken-mean.ensures.bound in
     record {
       effective = refl;
-      class = c.of-class.ensures.value;
-      value = is_value;
-      groups = (impact, c.of.ensures.value);
-      mean = rw impact c.mean_taken-mean.ensures.value;
+      class = rw c.of-values.ensures at values.of_effective;
+      value = rw listed.is_value refl;
+      groups = (impact, rw c.of-values.ensures at c.of.ensures.value);
+      mean = rw impact is_mean;
       number = rw c.less_mean.ensures.value left;
     }
