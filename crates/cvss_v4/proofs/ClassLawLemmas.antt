@@ -10,7 +10,8 @@ use Rattle.cvss_v4.specs.Distance.{eq1_sum, eq1_least, eq2_sum, eq2_least, eq3_e
 use Rattle.cvss_v4.specs.AsSevere.{IsAtMost}
 use Rattle.cvss_v4.specs.laws.Maximal.{Eq1Values, eq1_levels, eq1_maximal, Eq2Values, eq2_levels, eq2_maximal, Eq3Eq6Values, eq3_eq6_levels, eq3_eq6_maximal, Eq4Values, eq4_levels, eq4_maximal}
 use Rattle.cvss_v4.specs.laws.ScoreLaws.{IsPair}
-use Rattle.cvss_v4.proofs.TestLemmas.{both, each_eq1, each_eq2, each_eq3_eq6, each_eq4}
+use Rattle.cvss_v4.proofs.LeastLemmas.{Scale, eq1_scale, eq2_scale, eq4_scale}
+use Rattle.cvss_v4.proofs.TestLemmas.{both, Finite, each_eq1, each_eq2, each_eq3_eq6, each_eq4}
 
 -- no level is above that of the same place of as many, as a test
 abbrev is_at_most : List ℕ → List ℕ → Bool
@@ -31,34 +32,24 @@ at_most (level ∷ rest) (other ∷ others) h =
 abbrev is_dominated : {V : Type 0} → (V → List ℕ) → List V → V → Bool
 is_dominated levels maximal v = list_any (λ m. is_at_most (levels m) (levels v)) maximal
 
-dominated : {V : Type 0} (levels : V → List ℕ) (maximal : List V) (v : V) → is_dominated levels maximal v ≡ true
-    → IsDominated levels maximal v
-dominated levels maximal v h =
-    let found = Any-from_list_any (λ m. is_at_most (levels m) (levels v)) maximal h in
+dominated : {V : Type 0} (values : Finite V) (levels : V → List ℕ) (maximal : V → List V)
+    → values.every (λ v. is_dominated levels (maximal v) v) ≡ true → (v : V) → IsDominated levels (maximal v) v
+dominated values levels maximal h v =
+    let found = Any-from_list_any (λ m. is_at_most (levels m) (levels v)) (maximal v) (values.each (λ v. is_dominated levels (maximal v) v) h v) in
     (found.0, found.1, found.2, found.3, at_most (levels found.1) (levels v) found.4)
 
 pub eq1_dominated : (v : Eq1Values) → IsDominated eq1_levels (eq1_maximal (eq1 v.0 v.1 v.2)) v
-eq1_dominated v =
-    dominated eq1_levels (eq1_maximal (eq1 v.0 v.1 v.2)) v
-    (each_eq1 (λ av pr ui. is_dominated eq1_levels (eq1_maximal (eq1 av pr ui)) (av, pr, ui)) refl v.0 v.1 v.2)
+eq1_dominated = dominated each_eq1 eq1_levels (λ v. eq1_maximal (eq1 v.0 v.1 v.2)) refl
 
 pub eq2_dominated : (v : Eq2Values) → IsDominated eq2_levels (eq2_maximal (eq2 v.0 v.1)) v
-eq2_dominated v =
-    dominated eq2_levels (eq2_maximal (eq2 v.0 v.1)) v
-    (each_eq2 (λ ac at. is_dominated eq2_levels (eq2_maximal (eq2 ac at)) (ac, at)) refl v.0 v.1)
+eq2_dominated = dominated each_eq2 eq2_levels (λ v. eq2_maximal (eq2 v.0 v.1)) refl
 
 pub eq3_eq6_dominated : (v : Eq3Eq6Values)
     → IsDominated eq3_eq6_levels (eq3_eq6_maximal (eq3 v.0 v.1 v.2) (eq6 v.0 v.1 v.2 v.3 v.4 v.5)) v
-eq3_eq6_dominated v =
-    dominated eq3_eq6_levels (eq3_eq6_maximal (eq3 v.0 v.1 v.2) (eq6 v.0 v.1 v.2 v.3 v.4 v.5)) v
-    (each_eq3_eq6 (λ vc vi va cr ir ar.
-    is_dominated eq3_eq6_levels (eq3_eq6_maximal (eq3 vc vi va) (eq6 vc vi va cr ir ar)) (vc, vi, va, cr, ir, ar))
-    refl v.0 v.1 v.2 v.3 v.4 v.5)
+eq3_eq6_dominated = dominated each_eq3_eq6 eq3_eq6_levels (λ v. eq3_eq6_maximal (eq3 v.0 v.1 v.2) (eq6 v.0 v.1 v.2 v.3 v.4 v.5)) refl
 
 pub eq4_dominated : (v : Eq4Values) → IsDominated eq4_levels (eq4_maximal (eq4 v.0 v.1 v.2)) v
-eq4_dominated v =
-    dominated eq4_levels (eq4_maximal (eq4 v.0 v.1 v.2)) v
-    (each_eq4 (λ sc si sa. is_dominated eq4_levels (eq4_maximal (eq4 sc si sa)) (sc, si, sa)) refl v.0 v.1 v.2)
+eq4_dominated = dominated each_eq4 eq4_levels (λ v. eq4_maximal (eq4 v.0 v.1 v.2)) refl
 
 -- numbers that pass a test of equality are equal
 is_equal : (a b : ℕ) → (a == b) ≡ true → a ≡ b
@@ -75,52 +66,38 @@ have_least is_of_class IsOfClass tells sum_of maximal least h =
     let parts = both (is_of_class m) (sum_of m == least) (all k d in_list) in
     (tells m parts.0, is_equal (sum_of m) least parts.1)
 
+-- so it is of a class that is one number
+module _ {V : Type 0} (scale : Scale V ℕ) (maximal : ℕ → List V) where
+  least_of : (class : ℕ) → list_all (λ m. (scale.class m == class) && (scale.sum m == scale.least class)) (maximal class) ≡ true
+      → HaveLeastSum (λ m. scale.class m ≡ class) scale.sum (maximal class) (scale.least class)
+  least_of class =
+      have_least (λ m. scale.class m == class) (λ m. scale.class m ≡ class) (λ m. is_equal (scale.class m) class) scale.sum (maximal class)
+      (scale.least class)
+
 pub eq1_maximal_least : (class : ℕ) → class ≤ 2
     → HaveLeastSum (λ m. eq1 m.0 m.1 m.2 ≡ class) (λ m. eq1_sum m.0 m.1 m.2) (eq1_maximal class) (eq1_least class)
 unfolding eq1_least
-eq1_maximal_least zero h =
-    have_least (λ m. eq1 m.0 m.1 m.2 == 0) (λ m. eq1 m.0 m.1 m.2 ≡ 0) (λ m. is_equal (eq1 m.0 m.1 m.2) 0)
-    (λ m. eq1_sum m.0 m.1 m.2) (eq1_maximal 0) (eq1_least 0) refl
-eq1_maximal_least (suc zero) h =
-    have_least (λ m. eq1 m.0 m.1 m.2 == 1) (λ m. eq1 m.0 m.1 m.2 ≡ 1) (λ m. is_equal (eq1 m.0 m.1 m.2) 1)
-    (λ m. eq1_sum m.0 m.1 m.2) (eq1_maximal 1) (eq1_least 1) refl
-eq1_maximal_least (suc (suc zero)) h =
-    have_least (λ m. eq1 m.0 m.1 m.2 == 2) (λ m. eq1 m.0 m.1 m.2 ≡ 2) (λ m. is_equal (eq1 m.0 m.1 m.2) 2)
-    (λ m. eq1_sum m.0 m.1 m.2) (eq1_maximal 2) (eq1_least 2) refl
+eq1_maximal_least zero h = least_of eq1_scale eq1_maximal 0 refl
+eq1_maximal_least (suc zero) h = least_of eq1_scale eq1_maximal 1 refl
+eq1_maximal_least (suc (suc zero)) h = least_of eq1_scale eq1_maximal 2 refl
 eq1_maximal_least (suc (suc (suc rest))) h = absurd (omega arith)
 
 pub eq2_maximal_least : (class : ℕ) → class ≤ 1
     → HaveLeastSum (λ m. eq2 m.0 m.1 ≡ class) (λ m. eq2_sum m.0 m.1) (eq2_maximal class) (eq2_least class)
 unfolding eq2_least
-eq2_maximal_least zero h =
-    have_least (λ m. eq2 m.0 m.1 == 0) (λ m. eq2 m.0 m.1 ≡ 0) (λ m. is_equal (eq2 m.0 m.1) 0)
-    (λ m. eq2_sum m.0 m.1) (eq2_maximal 0) (eq2_least 0) refl
-eq2_maximal_least (suc zero) h =
-    have_least (λ m. eq2 m.0 m.1 == 1) (λ m. eq2 m.0 m.1 ≡ 1) (λ m. is_equal (eq2 m.0 m.1) 1)
-    (λ m. eq2_sum m.0 m.1) (eq2_maximal 1) (eq2_least 1) refl
+eq2_maximal_least zero h = least_of eq2_scale eq2_maximal 0 refl
+eq2_maximal_least (suc zero) h = least_of eq2_scale eq2_maximal 1 refl
 eq2_maximal_least (suc (suc rest)) h = absurd (omega arith)
 
 pub eq4_maximal_least : (class : ℕ) → class ≤ 2
     → HaveLeastSum (λ m. eq4 m.0 m.1 m.2 ≡ class) (λ m. eq4_sum m.0 m.1 m.2) (eq4_maximal class) (eq4_least class)
 unfolding eq4_least
-eq4_maximal_least zero h =
-    have_least (λ m. eq4 m.0 m.1 m.2 == 0) (λ m. eq4 m.0 m.1 m.2 ≡ 0) (λ m. is_equal (eq4 m.0 m.1 m.2) 0)
-    (λ m. eq4_sum m.0 m.1 m.2) (eq4_maximal 0) (eq4_least 0) refl
-eq4_maximal_least (suc zero) h =
-    have_least (λ m. eq4 m.0 m.1 m.2 == 1) (λ m. eq4 m.0 m.1 m.2 ≡ 1) (λ m. is_equal (eq4 m.0 m.1 m.2) 1)
-    (λ m. eq4_sum m.0 m.1 m.2) (eq4_maximal 1) (eq4_least 1) refl
-eq4_maximal_least (suc (suc zero)) h =
-    have_least (λ m. eq4 m.0 m.1 m.2 == 2) (λ m. eq4 m.0 m.1 m.2 ≡ 2) (λ m. is_equal (eq4 m.0 m.1 m.2) 2)
-    (λ m. eq4_sum m.0 m.1 m.2) (eq4_maximal 2) (eq4_least 2) refl
+eq4_maximal_least zero h = least_of eq4_scale eq4_maximal 0 refl
+eq4_maximal_least (suc zero) h = least_of eq4_scale eq4_maximal 1 refl
+eq4_maximal_least (suc (suc zero)) h = least_of eq4_scale eq4_maximal 2 refl
 eq4_maximal_least (suc (suc (suc rest))) h = absurd (omega arith)
 
--- both numbers pass
-are_equal : (a b c d : ℕ) → ((a == b) && (c == d)) ≡ true → (a ≡ b) × (c ≡ d)
-are_equal a b c d h =
-    let parts = both (a == b) (c == d) h in
-    (is_equal a b parts.0, is_equal c d parts.1)
-
--- values of EQ3 with EQ6 are of a class, as a fact and as a test
+-- values of EQ3 with EQ6 are of a class
 abbrev IsOfClass : ℕ → ℕ → Eq3Eq6Values → Type 0
 IsOfClass class3 class6 m = (eq3 m.0 m.1 m.2 ≡ class3) × (eq6 m.0 m.1 m.2 m.3 m.4 m.5 ≡ class6)
 
@@ -128,27 +105,26 @@ abbrev is_of_class : ℕ → ℕ → Eq3Eq6Values → Bool
 is_of_class class3 class6 m = (eq3 m.0 m.1 m.2 == class3) && (eq6 m.0 m.1 m.2 m.3 m.4 m.5 == class6)
 
 of_class : (class3 class6 : ℕ) (m : Eq3Eq6Values) → is_of_class class3 class6 m ≡ true → IsOfClass class3 class6 m
-of_class class3 class6 m h = are_equal (eq3 m.0 m.1 m.2) class3 (eq6 m.0 m.1 m.2 m.3 m.4 m.5) class6 h
+of_class class3 class6 m h =
+    let parts = both (eq3 m.0 m.1 m.2 == class3) (eq6 m.0 m.1 m.2 m.3 m.4 m.5 == class6) h in
+    (is_equal (eq3 m.0 m.1 m.2) class3 parts.0, is_equal (eq6 m.0 m.1 m.2 m.3 m.4 m.5) class6 parts.1)
 
 abbrev sum_of : Eq3Eq6Values → ℕ
 sum_of m = eq3_eq6_sum m.0 m.1 m.2 m.3 m.4 m.5
 
+least_of_pair : (class3 class6 : ℕ)
+    → list_all (λ m. is_of_class class3 class6 m && (sum_of m == eq3_eq6_least class3 class6)) (eq3_eq6_maximal class3 class6) ≡ true
+    → HaveLeastSum (IsOfClass class3 class6) sum_of (eq3_eq6_maximal class3 class6) (eq3_eq6_least class3 class6)
+least_of_pair class3 class6 =
+    have_least (is_of_class class3 class6) (IsOfClass class3 class6) (of_class class3 class6) sum_of (eq3_eq6_maximal class3 class6)
+    (eq3_eq6_least class3 class6)
+
 pub eq3_eq6_maximal_least : (class3 class6 : ℕ) → IsPair class3 class6
     → HaveLeastSum (IsOfClass class3 class6) sum_of (eq3_eq6_maximal class3 class6) (eq3_eq6_least class3 class6)
 unfolding eq3_eq6_least
-eq3_eq6_maximal_least zero zero h =
-    have_least (is_of_class 0 0) (IsOfClass 0 0) (of_class 0 0) sum_of (eq3_eq6_maximal 0 0)
-    (eq3_eq6_least 0 0) refl
-eq3_eq6_maximal_least zero (suc zero) h =
-    have_least (is_of_class 0 1) (IsOfClass 0 1) (of_class 0 1) sum_of (eq3_eq6_maximal 0 1)
-    (eq3_eq6_least 0 1) refl
-eq3_eq6_maximal_least (suc zero) zero h =
-    have_least (is_of_class 1 0) (IsOfClass 1 0) (of_class 1 0) sum_of (eq3_eq6_maximal 1 0)
-    (eq3_eq6_least 1 0) refl
-eq3_eq6_maximal_least (suc zero) (suc zero) h =
-    have_least (is_of_class 1 1) (IsOfClass 1 1) (of_class 1 1) sum_of (eq3_eq6_maximal 1 1)
-    (eq3_eq6_least 1 1) refl
-eq3_eq6_maximal_least (suc (suc zero)) (suc zero) h =
-    have_least (is_of_class 2 1) (IsOfClass 2 1) (of_class 2 1) sum_of (eq3_eq6_maximal 2 1)
-    (eq3_eq6_least 2 1) refl
+eq3_eq6_maximal_least zero zero h = least_of_pair 0 0 refl
+eq3_eq6_maximal_least zero (suc zero) h = least_of_pair 0 1 refl
+eq3_eq6_maximal_least (suc zero) zero h = least_of_pair 1 0 refl
+eq3_eq6_maximal_least (suc zero) (suc zero) h = least_of_pair 1 1 refl
+eq3_eq6_maximal_least (suc (suc zero)) (suc zero) h = least_of_pair 2 1 refl
 eq3_eq6_maximal_least class3 class6 h = absurd (omega arith)

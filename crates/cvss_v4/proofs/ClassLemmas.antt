@@ -4,22 +4,20 @@ use Rattle.cvss_v4.specs.Classes.{eq5, macro_vector, IsMacroVector}
 use Rattle.cvss_v4.specs.declared.scoring.classes.MacroVector.{MacroVector}
 use Rattle.cvss_v4.specs.declared.scoring.effective.Effective.{Effective}
 use Rattle.cvss_v4.specs.declared.scoring.effective.ExploitMaturity.{ExploitMaturity}
-use Rattle.cvss_v4.specs.declared.scoring.effective.ExploitMaturity.TheVariants.{Attacked, ProofOfConcept, Unreported}
-use Rattle.cvss_v4.proofs.LeastLemmas.{eq1_within, eq2_within, eq3_eq6_within, eq4_within}
+use Rattle.cvss_v4.specs.declared.scoring.effective.ExploitMaturity.TheVariants.{Attacked}
+use Rattle.cvss_v4.proofs.LeastLemmas.{eq1_is_scale, eq2_is_scale, eq3_eq6_is_scale, eq4_is_scale}
 
 eq5_within : (e : ExploitMaturity) → eq5 e ≤ 2
-eq5_within Attacked = lit≤ tt
-eq5_within ProofOfConcept = lit≤ tt
-eq5_within Unreported = lit≤ tt
+eq5_within = elim [ Attacked ↦ lit≤ tt | _ ↦ lit≤ tt ]
 
 pub macro_vector_is : (v : Effective) → IsMacroVector (macro_vector v)
 macro_vector_is v =
-    let impact = (eq3_eq6_within v.vc v.vi v.va v.cr v.ir v.ar).0 in
+    let impact = (eq3_eq6_is_scale.within (v.vc, v.vi, v.va, v.cr, v.ir, v.ar)).is_class in
     record {
-      eq1 = (eq1_within v.av v.pr v.ui).to_limit;
-      eq2 = (eq2_within v.ac v.at).to_limit;
+      eq1 = (eq1_is_scale.within (v.av, v.pr, v.ui)).is_class;
+      eq2 = (eq2_is_scale.within (v.ac, v.at)).is_class;
       eq3 = impact.eq3;
-      eq4 = (eq4_within v.sc v.si v.sa).to_limit;
+      eq4 = (eq4_is_scale.within (v.sc, v.si, v.sa)).is_class;
       eq5 = eq5_within v.e;
       eq6 = impact.eq6;
       eq3_eq6 = impact.both;

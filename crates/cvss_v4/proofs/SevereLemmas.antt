@@ -1,16 +1,17 @@
 -- Values with no higher level score no less.
-use Rattle.std.proofs.Common.{◌≡◌, ℕ, ◌+◌, ◌-◌, ◌*◌, ◌/◌, ◌≤◌, max, Bool, true, false, ◌||◌, Option, Some, None, option_map, unwrap_or, refl, arith, ℤ, pos, ◌-ℤ◌, ◌≤ℤ◌, ap, subst, lit<}
+use Rattle.std.proofs.Common.{◌≡◌, ℕ, ◌-◌, ◌*◌, ◌/◌, ◌≤◌, max, Bool, true, false, ◌||◌, ltb, List, [], ◌∷◌, Option, Some, None, option_map, unwrap_or, refl, arith, ℤ, pos, ◌≤ℤ◌, ap, sym, ◌∙◌, subst, lit<}
 use Rattle.std.specs.Option.{option_and_then}
 use Rattle.std.proofs.Math.Nat.{mul-le-mul_left, mul-le-mul_right}
+use Rattle.std.proofs.lemmas.Bool.Decides.{nat_tests}
 use Rattle.std.proofs.lemmas.Int.{ints}
 use Rattle.cvss_number.specs.Exact.{◌over◌, whole, ◌⊑◌}
 use Rattle.cvss_number.proofs.ExactLemmas.{equal_at_most, equal_sym, at_most_trans}
 use Rattle.cvss_number.proofs.RoundingLemmas.{v4-ordered}
-use Rattle.cvss_v4.specs.Distance.{eq1_least, eq2_least, eq3_eq6_least, eq4_least}
-use Rattle.cvss_v4.specs.Gap.{Group, eq1_group, eq2_group, eq3_eq6_group, eq4_group, eq5_group, eq1_next, eq2_next, eq3_eq6_next, eq4_next, eq5_next, eq1_depth, eq2_depth, eq3_eq6_depth, eq4_depth, groups, next_lower}
+use Rattle.cvss_v4.specs.Distance.{eq1_sum, eq2_sum, eq3_eq6_sum, eq4_sum}
+use Rattle.cvss_v4.specs.Gap.{Group, eq1_group, eq2_group, eq3_eq6_group, eq4_group, eq1_next, eq2_next, eq3_eq6_next, eq4_next, eq5_next, groups, next_lower}
 use Rattle.cvss_v4.specs.Levels.{vulnerable_level, subsequent_level, safety_level}
 use Rattle.cvss_v4.specs.Scores.{has_impact, is_vulnerable_impact, is_subsequent_impact, is_safety_impact, number, IsScore}
-use Rattle.cvss_v4.specs.AsSevere.{IsAsSevere}
+use Rattle.cvss_v4.specs.AsSevere.{IsAtMost, levels, IsAsSevere}
 use Rattle.cvss_v4.specs.private.Shares.{taken, counted}
 use Rattle.cvss_v4.specs.Values.{listed_value, table_value}
 use Rattle.cvss_v4.specs.declared.scoring.effective.Effective.{Effective}
@@ -20,7 +21,8 @@ use Rattle.cvss_v4.specs.declared.scoring.effective.SubsequentImpact.{Subsequent
 use Rattle.cvss_v4.specs.declared.scoring.effective.SubsequentImpact.TheVariants as subsequent
 use Rattle.cvss_v4.specs.declared.scoring.effective.SafetyImpact.{SafetyImpact}
 use Rattle.cvss_v4.specs.declared.scoring.effective.SafetyImpact.TheVariants as safety
-use Rattle.cvss_v4.proofs.LeastLemmas.{eq1_within, eq2_within, eq3_eq6_within, eq4_within}
+use Rattle.cvss_v4.proofs.DistanceLemmas.{distance}
+use Rattle.cvss_v4.proofs.LeastLemmas.{Scale, IsScale, from_least, eq1_scale, eq1_is_scale, eq2_scale, eq2_is_scale, eq3_eq6_scale, eq3_eq6_is_scale, eq4_scale, eq4_is_scale}
 use Rattle.cvss_v4.proofs.MeanLemmas.{all_taken, all_counted}
 use Rattle.cvss_v4.proofs.ScoreLawLemmas.{count_of, count_with_impact, in_504000ths}
 use Rattle.cvss_v4.proofs.ScoreLemmas.{number_without_impact}
@@ -51,63 +53,45 @@ taken_ordered value near far farther =
 counted_alike : (near far : Group) → IsFarther near far → counted near ≡ counted far
 counted_alike near far farther = ap (λ next. unwrap_or (option_map (λ _. 1) (option_and_then listed_value next)) 0) farther.one_next
 
--- so it is where the level sums of both are in order
-farther : (near far : Group) (near_sum far_sum near_least far_least : ℕ)
-    → near.distance ≡ pos near_sum -ℤ pos near_least → far.distance ≡ pos far_sum -ℤ pos far_least
-    → near_least ≤ near_sum → far_least ≤ far_sum → near_least ≡ far_least → near_sum ≤ far_sum
-    → near.next ≡ far.next → near.depth ≡ far.depth → IsFarther near far
-farther near far near_sum far_sum near_least far_least is_near is_far near_low far_low one_least order one_next one_depth =
+-- so it is of values of one class whose level sums are in order
+farther : {V C : Type 0} (scale : Scale V C) {IsClass : C → Type 0} → IsScale scale IsClass → (v w : V) (near far : Group)
+    → near.distance ≡ distance scale v → far.distance ≡ distance scale w → near.depth ≡ scale.depth (scale.class v)
+    → far.depth ≡ scale.depth (scale.class w) → scale.class v ≡ scale.class w → scale.sum v ≤ scale.sum w
+    → near.next ≡ far.next → IsFarther near far
+farther scale is v w near far is_near is_far near_depth far_depth one_class order one_next =
+    let near_low = from_least scale is v in
+    let far_low = from_least scale is w in
+    let one_least = ap scale.least one_class in
     record {
-      near_distance = near_sum - near_least;
-      far_distance = far_sum - far_least;
-      is_near = omega (arith, ints, is_near);
-      is_far = omega (arith, ints, is_far);
-      order = omega arith;
+      near_distance = scale.sum v - scale.least (scale.class v);
+      far_distance = scale.sum w - scale.least (scale.class w);
+      is_near = is_near ∙ omega (arith, ints, near_low);
+      is_far = is_far ∙ omega (arith, ints, far_low);
+      order = omega (arith, order, one_least, near_low, far_low);
       one_next = one_next;
-      one_depth = one_depth;
+      one_depth = near_depth ∙ ap scale.depth one_class ∙ sym far_depth;
     }
 
--- an impact that is there is there at a lower level
-vulnerable_kept : (x y : VulnerableImpact) → vulnerable_level x ≤ vulnerable_level y → is_vulnerable_impact y ≡ true
-    → is_vulnerable_impact x ≡ true
-vulnerable_kept impact.High y order h = refl
-vulnerable_kept impact.Low y order h = refl
-vulnerable_kept impact.None impact.High order h = absurd (omega arith)
-vulnerable_kept impact.None impact.Low order h = absurd (omega arith)
-vulnerable_kept impact.None impact.None order h = h
+-- an impact is there where its level is below that of none
+vulnerable_is : (x : VulnerableImpact) → is_vulnerable_impact x ≡ ltb (vulnerable_level x) 2
+vulnerable_is = elim [ impact.High ↦ refl | _ ↦ refl ]
 
-subsequent_kept : (x y : SubsequentImpact) → subsequent_level x ≤ subsequent_level y → is_subsequent_impact y ≡ true
-    → is_subsequent_impact x ≡ true
-subsequent_kept subsequent.High y order h = refl
-subsequent_kept subsequent.Low y order h = refl
-subsequent_kept subsequent.None subsequent.High order h = absurd (omega arith)
-subsequent_kept subsequent.None subsequent.Low order h = absurd (omega arith)
-subsequent_kept subsequent.None subsequent.None order h = h
+subsequent_is : (x : SubsequentImpact) → is_subsequent_impact x ≡ ltb (subsequent_level x) 3
+subsequent_is = elim [ subsequent.High ↦ refl | _ ↦ refl ]
 
-safety_kept : (x y : SafetyImpact) → safety_level x ≤ safety_level y → is_safety_impact y ≡ true
-    → is_safety_impact x ≡ true
-safety_kept safety.Safety y order h = refl
-safety_kept safety.High y order h = refl
-safety_kept safety.Low y order h = refl
-safety_kept safety.None safety.Safety order h = absurd (omega arith)
-safety_kept safety.None safety.High order h = absurd (omega arith)
-safety_kept safety.None safety.Low order h = absurd (omega arith)
-safety_kept safety.None safety.None order h = h
+safety_is : (x : SafetyImpact) → is_safety_impact x ≡ ltb (safety_level x) 3
+safety_is = elim [ safety.High ↦ refl | _ ↦ refl ]
+
+-- so an impact that is there is there at a lower level
+kept : (x y : Bool) (less more none : ℕ) → x ≡ ltb less none → y ≡ ltb more none → less ≤ more → y ≡ true → x ≡ true
+kept x y less more none is_x is_y order some = grind (arith, nat_tests)
 
 either_kept : (x y a b : Bool) → (x ≡ true → a ≡ true) → (y ≡ true → b ≡ true) → (x || y) ≡ true → (a || b) ≡ true
 either_kept true y a b left right h = rw (left refl) refl
 either_kept false y true b left right h = refl
 either_kept false y false b left right h = right h
 
--- sums and differences of what is in order
-sums_ordered : (a b c d e a' b' c' d' e' : ℕ) → a ≤ a' → b ≤ b' → c ≤ c' → d ≤ d' → e ≤ e'
-    → a + (b + (c + (d + (e + 0)))) ≤ a' + (b' + (c' + (d' + (e' + 0))))
-sums_ordered a b c d e a' b' c' d' e' is_a is_b is_c is_d is_e = omega arith
-
-sums_alike : (a b c d e a' b' c' d' e' : ℕ) → a ≡ a' → b ≡ b' → c ≡ c' → d ≡ d' → e ≡ e'
-    → a + (b + (c + (d + (e + 0)))) ≡ a' + (b' + (c' + (d' + (e' + 0))))
-sums_alike a b c d e a' b' c' d' e' is_a is_b is_c is_d is_e = omega arith
-
+-- what is left of a number where more is taken
 rests_ordered : (n near far share : ℕ) → near ≤ far → n - far * share ≤ n - near * share
 rests_ordered n near far share order = omega (arith, mul-le-mul_right share order)
 
@@ -119,73 +103,81 @@ not_negative v =
     let from_zero : whole 0 ⊑ n = record { at_most = omega (arith, ints) } in
     at_most_trans (whole 0) n (number v) (lit< tt) from_zero (equal_at_most n (number v) (equal_sym found.1))
 
+-- two lists of groups of one class each, the second at no smaller distances
+abbrev AreFarther : List Group → List Group → Type 0
+AreFarther [] [] = Unit {0}
+AreFarther [] (far ∷ fars) = ⊥
+AreFarther (near ∷ nears) [] = ⊥
+AreFarther (near ∷ nears) (far ∷ fars) = IsFarther near far × AreFarther nears fars
+
+all_ordered : (value : ℕ) (nears fars : List Group) → AreFarther nears fars → all_taken value nears ≤ all_taken value fars
+all_ordered value [] [] are = omega arith
+all_ordered value [] (far ∷ fars) are = absurd are
+all_ordered value (near ∷ nears) [] are = absurd are
+all_ordered value (near ∷ nears) (far ∷ fars) are =
+    omega (arith, taken_ordered value near far are.0, all_ordered value nears fars are.1)
+
+all_alike : (nears fars : List Group) → AreFarther nears fars → all_counted nears ≡ all_counted fars
+all_alike [] [] are = refl
+all_alike [] (far ∷ fars) are = absurd are
+all_alike (near ∷ nears) [] are = absurd are
+all_alike (near ∷ nears) (far ∷ fars) are = omega (arith, counted_alike near far are.0, all_alike nears fars are.1)
+
+-- what the levels of values say that are at least as severe as others
+record AreOrdered (v w : Effective) : Type 0 where
+  eq1 : eq1_sum v.av v.pr v.ui ≤ eq1_sum w.av w.pr w.ui
+  eq2 : eq2_sum v.ac v.at ≤ eq2_sum w.ac w.at
+  eq3_eq6 : eq3_eq6_sum v.vc v.vi v.va v.cr v.ir v.ar ≤ eq3_eq6_sum w.vc w.vi w.va w.cr w.ir w.ar
+  eq4 : eq4_sum v.sc v.si v.sa ≤ eq4_sum w.sc w.si w.sa
+  impact : has_impact w ≡ true → has_impact v ≡ true
+
+are_ordered : (v w : Effective) → IsAtMost (levels v) (levels w) → AreOrdered v w
+are_ordered v w (av, (pr, (ui, (ac, (at, (vc, (vi, (va, (sc, (si, (sa, (cr, (ir, (ar, _)))))))))))))) = record {
+  eq1 = omega (arith, av, pr, ui);
+  eq2 = omega (arith, ac, at);
+  eq3_eq6 = omega (arith, vc, vi, va, cr, ir, ar);
+  eq4 = omega (arith, sc, si, sa);
+  impact =
+      either_kept _ _ _ _ (kept _ _ _ _ 2 (vulnerable_is v.vc) (vulnerable_is w.vc) vc)
+      (either_kept _ _ _ _ (kept _ _ _ _ 2 (vulnerable_is v.vi) (vulnerable_is w.vi) vi)
+      (either_kept _ _ _ _ (kept _ _ _ _ 2 (vulnerable_is v.va) (vulnerable_is w.va) va)
+      (either_kept _ _ _ _ (kept _ _ _ _ 3 (subsequent_is v.sc) (subsequent_is w.sc) sc)
+      (either_kept _ _ _ _ (kept _ _ _ _ 3 (safety_is v.si) (safety_is w.si) si) (kept _ _ _ _ 3 (safety_is v.sa) (safety_is w.sa) sa)))));
+}
+
 module _ (v w : Effective) (severe : IsAsSevere v w) where
-  eq1_farther : IsFarther (eq1_group v) (eq1_group w)
-  eq1_farther =
-      let near = eq1_within v.av v.pr v.ui in
-      let far = eq1_within w.av w.pr w.ui in
-      let levels = severe.levels in
-      farther (eq1_group v) (eq1_group w) _ _ _ _ refl refl near.from_least far.from_least
-      (ap (λ m. eq1_least m.eq1) severe.one_class)
-      (omega (arith, levels.0, levels.1.0, levels.1.1.0))
-      (ap (λ m. eq1_next m) severe.one_class) (ap (λ m. eq1_depth m.eq1) severe.one_class)
-
-  eq2_farther : IsFarther (eq2_group v) (eq2_group w)
-  eq2_farther =
-      let near = eq2_within v.ac v.at in
-      let far = eq2_within w.ac w.at in
-      let levels = severe.levels.1.1.1 in
-      farther (eq2_group v) (eq2_group w) _ _ _ _ refl refl near.from_least far.from_least
-      (ap (λ m. eq2_least m.eq2) severe.one_class)
-      (omega (arith, levels.0, levels.1.0))
-      (ap (λ m. eq2_next m) severe.one_class) (ap (λ m. eq2_depth m.eq2) severe.one_class)
-
-  eq3_eq6_farther : IsFarther (eq3_eq6_group v) (eq3_eq6_group w)
-  eq3_eq6_farther =
-      let near = (eq3_eq6_within v.vc v.vi v.va v.cr v.ir v.ar).1 in
-      let far = (eq3_eq6_within w.vc w.vi w.va w.cr w.ir w.ar).1 in
-      let levels = severe.levels.1.1.1.1.1 in
-      farther (eq3_eq6_group v) (eq3_eq6_group w) _ _ _ _ refl refl near.from_least far.from_least
-      (ap (λ m. eq3_eq6_least m.eq3 m.eq6) severe.one_class)
-      (omega (arith, levels.0, levels.1.0, levels.1.1.0, levels.1.1.1.1.1.1.0, levels.1.1.1.1.1.1.1.0, levels.1.1.1.1.1.1.1.1.0))
-      (ap (λ m. eq3_eq6_next m) severe.one_class) (ap (λ m. eq3_eq6_depth m.eq3 m.eq6) severe.one_class)
-
-  eq4_farther : IsFarther (eq4_group v) (eq4_group w)
-  eq4_farther =
-      let near = eq4_within v.sc v.si v.sa in
-      let far = eq4_within w.sc w.si w.sa in
-      let levels = severe.levels.1.1.1.1.1.1.1.1 in
-      farther (eq4_group v) (eq4_group w) _ _ _ _ refl refl near.from_least far.from_least
-      (ap (λ m. eq4_least m.eq4) severe.one_class)
-      (omega (arith, levels.0, levels.1.0, levels.1.1.0))
-      (ap (λ m. eq4_next m) severe.one_class) (ap (λ m. eq4_depth m.eq4) severe.one_class)
-
-  eq5_farther : IsFarther (eq5_group v) (eq5_group w)
-  eq5_farther = record {
-    near_distance = 0;
-    far_distance = 0;
-    is_near = refl;
-    is_far = refl;
-    order = omega arith;
-    one_next = ap (λ m. eq5_next m) severe.one_class;
-    one_depth = refl;
-  }
-
-  all_ordered : (value : ℕ) → all_taken value (groups v) ≤ all_taken value (groups w)
-  all_ordered value =
-      sums_ordered _ _ _ _ _ _ _ _ _ _ (taken_ordered value (eq1_group v) (eq1_group w) eq1_farther)
-      (taken_ordered value (eq2_group v) (eq2_group w) eq2_farther)
-      (taken_ordered value (eq3_eq6_group v) (eq3_eq6_group w) eq3_eq6_farther)
-      (taken_ordered value (eq4_group v) (eq4_group w) eq4_farther)
-      (taken_ordered value (eq5_group v) (eq5_group w) eq5_farther)
-
-  all_alike : all_counted (groups v) ≡ all_counted (groups w)
-  all_alike =
-      sums_alike _ _ _ _ _ _ _ _ _ _ (counted_alike (eq1_group v) (eq1_group w) eq1_farther)
-      (counted_alike (eq2_group v) (eq2_group w) eq2_farther)
-      (counted_alike (eq3_eq6_group v) (eq3_eq6_group w) eq3_eq6_farther)
-      (counted_alike (eq4_group v) (eq4_group w) eq4_farther)
-      (counted_alike (eq5_group v) (eq5_group w) eq5_farther)
+  all_farther : AreFarther (groups v) (groups w)
+  all_farther =
+      let ordered = are_ordered v w severe.levels in
+      let class = severe.one_class in (
+        farther eq1_scale eq1_is_scale (v.av, v.pr, v.ui) (w.av, w.pr, w.ui) (eq1_group v) (eq1_group w) refl refl refl refl
+            (ap (λ m. m.eq1) class) ordered.eq1 (ap eq1_next class),
+        (
+          farther eq2_scale eq2_is_scale (v.ac, v.at) (w.ac, w.at) (eq2_group v) (eq2_group w) refl refl refl refl
+              (ap (λ m. m.eq2) class) ordered.eq2 (ap eq2_next class),
+          (
+            farther eq3_eq6_scale eq3_eq6_is_scale (v.vc, v.vi, v.va, v.cr, v.ir, v.ar) (w.vc, w.vi, w.va, w.cr, w.ir, w.ar)
+                (eq3_eq6_group v) (eq3_eq6_group w) refl refl refl refl (ap (λ m. (m.eq3, m.eq6)) class) ordered.eq3_eq6
+                (ap eq3_eq6_next class),
+            (
+              farther eq4_scale eq4_is_scale (v.sc, v.si, v.sa) (w.sc, w.si, w.sa) (eq4_group v) (eq4_group w) refl refl refl refl
+                  (ap (λ m. m.eq4) class) ordered.eq4 (ap eq4_next class),
+              (
+                record {
+                  near_distance = 0;
+                  far_distance = 0;
+                  is_near = refl;
+                  is_far = refl;
+                  order = omega arith;
+                  one_next = ap eq5_next class;
+                  one_depth = refl;
+                },
+                tt,
+              ),
+            ),
+          ),
+        ),
+      )
 
   one_value : table_value v ≡ table_value w
   one_value = ap (λ m. unwrap_or (listed_value m) 0) severe.one_class
@@ -196,19 +188,8 @@ module _ (v w : Effective) (severe : IsAsSevere v w) where
       let far = all_taken (table_value v) (groups w) in
       let share = 60 / max (all_counted (groups v)) 1 in
       subst (λ (n : ℕ). n * 50400 - all_taken n (groups w) * (60 / max (all_counted (groups w)) 1) ≤ count_of v) one_value
-      (subst (λ (n : ℕ). table_value v * 50400 - far * (60 / max n 1) ≤ count_of v) all_alike
-      (rests_ordered (table_value v * 50400) near far share (all_ordered (table_value v))))
-
-  -- an impact of the second is one of the first
-  impact_kept : has_impact w ≡ true → has_impact v ≡ true
-  impact_kept =
-      let l5 = severe.levels.1.1.1.1.1 in
-      let l8 = l5.1.1.1 in
-      either_kept _ _ _ _ (vulnerable_kept v.vc w.vc l5.0)
-      (either_kept _ _ _ _ (vulnerable_kept v.vi w.vi l5.1.0)
-      (either_kept _ _ _ _ (vulnerable_kept v.va w.va l5.1.1.0)
-      (either_kept _ _ _ _ (subsequent_kept v.sc w.sc l8.0)
-      (either_kept _ _ _ _ (safety_kept v.si w.si l8.1.0) (safety_kept v.sa w.sa l8.1.1.0)))))
+      (subst (λ (n : ℕ). table_value v * 50400 - far * (60 / max n 1) ≤ count_of v) (all_alike (groups v) (groups w) all_farther)
+      (rests_ordered (table_value v * 50400) near far share (all_ordered (table_value v) (groups v) (groups w) all_farther)))
 
   by_impacts : (b c : Bool) → has_impact v ≡ b → has_impact w ≡ c → number w ⊑ number v
   by_impacts true true some_v some_w =
@@ -219,7 +200,7 @@ module _ (v w : Effective) (severe : IsAsSevere v w) where
       let order : lower ⊑ upper = record { at_most = omega (arith, ints, counts_ordered) } in
       let to_upper = at_most_trans (number w) lower upper (lit< tt) (equal_at_most (number w) lower of_w.0) order in
       at_most_trans (number w) upper (number v) (lit< tt) to_upper (equal_at_most upper (number v) (equal_sym of_v.0))
-  by_impacts false true none_v some_w = let some_v = impact_kept some_w in cc
+  by_impacts false true none_v some_w = let some_v = (are_ordered v w severe.levels).impact some_w in cc
   by_impacts b false is_v none_w = rw (number_without_impact w none_w) (not_negative v)
 
   number_ordered : number w ⊑ number v

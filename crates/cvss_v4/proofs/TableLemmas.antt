@@ -98,49 +98,25 @@ falling (Some v) (Some l) value lower h is_value is_lower =
 
 -- a next lower value falls from that of each class
 module _ (next : MacroVector → Option MacroVector) where
-  abbrev falls_from : MacroVector → Bool
-  falls_from m = falls (listed_value m) (option_and_then listed_value (next m))
+  abbrev falls_at : MacroVector → Bool
+  falls_at m = falls (listed_value m) (option_and_then listed_value (next m))
 
-  falls_of : all_classes falls_from ≡ true → (m : MacroVector) → IsMacroVector m → (value lower : ℕ)
+  abbrev pub Descends : Type 0
+  Descends = all_classes falls_at ≡ true
+
+  pub falls_from : Descends → (m : MacroVector) → IsMacroVector m → (value lower : ℕ)
       → listed_value m ≡ Some value → option_and_then listed_value (next m) ≡ Some lower → Falls value lower
-  falls_of down m is_class value lower = falling (listed_value m) (option_and_then listed_value (next m)) value lower (each_class falls_from down m is_class)
+  falls_from down m is_class value lower =
+      falling (listed_value m) (option_and_then listed_value (next m)) value lower (each_class falls_at down m is_class)
 
-eq1_down : all_classes (falls_from eq1_next) ≡ true
+-- so it is in each group
+pub record AllDescend : Type 0 where
+  pub eq1 : Descends eq1_next
+  pub eq2 : Descends eq2_next
+  pub eq3_eq6 : Descends eq3_eq6_next
+  pub eq4 : Descends eq4_next
+  pub eq5 : Descends eq5_next
+
+pub all_descend : AllDescend
 unfolding rows listed_value
-eq1_down = refl
-
-pub eq1_falls : (m : MacroVector) → IsMacroVector m → (value lower : ℕ) → listed_value m ≡ Some value
-    → option_and_then listed_value (eq1_next m) ≡ Some lower → Falls value lower
-eq1_falls = falls_of eq1_next eq1_down
-
-eq2_down : all_classes (falls_from eq2_next) ≡ true
-unfolding rows listed_value
-eq2_down = refl
-
-pub eq2_falls : (m : MacroVector) → IsMacroVector m → (value lower : ℕ) → listed_value m ≡ Some value
-    → option_and_then listed_value (eq2_next m) ≡ Some lower → Falls value lower
-eq2_falls = falls_of eq2_next eq2_down
-
-eq3_eq6_down : all_classes (falls_from eq3_eq6_next) ≡ true
-unfolding rows listed_value
-eq3_eq6_down = refl
-
-pub eq3_eq6_falls : (m : MacroVector) → IsMacroVector m → (value lower : ℕ) → listed_value m ≡ Some value
-    → option_and_then listed_value (eq3_eq6_next m) ≡ Some lower → Falls value lower
-eq3_eq6_falls = falls_of eq3_eq6_next eq3_eq6_down
-
-eq4_down : all_classes (falls_from eq4_next) ≡ true
-unfolding rows listed_value
-eq4_down = refl
-
-pub eq4_falls : (m : MacroVector) → IsMacroVector m → (value lower : ℕ) → listed_value m ≡ Some value
-    → option_and_then listed_value (eq4_next m) ≡ Some lower → Falls value lower
-eq4_falls = falls_of eq4_next eq4_down
-
-eq5_down : all_classes (falls_from eq5_next) ≡ true
-unfolding rows listed_value
-eq5_down = refl
-
-pub eq5_falls : (m : MacroVector) → IsMacroVector m → (value lower : ℕ) → listed_value m ≡ Some value
-    → option_and_then listed_value (eq5_next m) ≡ Some lower → Falls value lower
-eq5_falls = falls_of eq5_next eq5_down
+all_descend = record { eq1 = refl; eq2 = refl; eq3_eq6 = refl; eq4 = refl; eq5 = refl }

@@ -1,8 +1,10 @@
--- A test that computes to true for all values of a metric, or all numbers below a limit, holds of each.
-use Rattle.std.proofs.Common.{◌≡◌, ℕ, zero, suc, ◌<◌, Bool, true, false, ◌&&◌, List, [], ◌∷◌, Some, slice_get, refl, arith, ap, sym, ◌∙◌, inl, inr}
+-- A test that computes to true for all values of a type, or all numbers below a limit, holds of each.
+use Rattle.std.proofs.Common.{◌≡◌, ℕ, zero, suc, ◌-◌, ◌<◌, Bool, true, false, ◌&&◌, List, [], ◌∷◌, Some, slice_get, refl, arith, ap, sym, ◌∙◌, inl, inr}
 use Rattle.std.specs.List.{list_all}
 use Rattle.std.proofs.lemmas.Bool.{cases_eq}
 use Rattle.cvss_v4.specs.Effective.{attack_vectors, privileges, user_interactions, attack_complexities, all_attack_requirements, vulnerable_impacts, subsequent_impacts, safety_impacts, requirements, values}
+use Rattle.cvss_v4.specs.Levels.{attack_vector_level, privileges_level, interaction_level, complexity_level, requirements_level, vulnerable_level, subsequent_level, safety_level, requirement_level}
+use Rattle.cvss_v4.specs.laws.Maximal.{Eq1Values, Eq2Values, Eq3Eq6Values, Eq4Values}
 use Rattle.cvss_v4.specs.declared.scoring.effective.AttackVector.{AttackVector}
 use Rattle.cvss_v4.specs.declared.scoring.effective.AttackVector.TheVariants as attack_vector
 use Rattle.cvss_v4.specs.declared.scoring.effective.PrivilegesRequired.{PrivilegesRequired}
@@ -36,126 +38,77 @@ at_place p [] x (suc k) all here = cc
 at_place p (y ∷ ys) x zero all here = let same : y ≡ x = cc in ap p (sym same) ∙ (both (p y) (list_all p ys) all).0
 at_place p (y ∷ ys) x (suc k) all here = at_place p ys x k (both (p y) (list_all p ys) all).1 here
 
-each_attack_vector : (p : AttackVector → Bool) → list_all p (values attack_vectors) ≡ true → (x : AttackVector) → p x ≡ true
-each_attack_vector p h attack_vector.Network = at_place p (values attack_vectors) attack_vector.Network 0 h refl
-each_attack_vector p h attack_vector.Adjacent = at_place p (values attack_vectors) attack_vector.Adjacent 1 h refl
-each_attack_vector p h attack_vector.Local = at_place p (values attack_vectors) attack_vector.Local 2 h refl
-each_attack_vector p h attack_vector.Physical = at_place p (values attack_vectors) attack_vector.Physical 3 h refl
+-- a type of few values: a test of all of them, and that it holds of each
+pub record Finite (A : Type 0) : Type 0 where
+  pub every : (A → Bool) → Bool
+  pub each : (p : A → Bool) → every p ≡ true → (x : A) → p x ≡ true
 
-each_privileges : (p : PrivilegesRequired → Bool) → list_all p (values privileges) ≡ true → (x : PrivilegesRequired) → p x ≡ true
-each_privileges p h privileges_required.None = at_place p (values privileges) privileges_required.None 0 h refl
-each_privileges p h privileges_required.Low = at_place p (values privileges) privileges_required.Low 1 h refl
-each_privileges p h privileges_required.High = at_place p (values privileges) privileges_required.High 2 h refl
+-- the values of a list, in which each has its place
+abbrev listed : {A : Type 0} (xs : List A) (place : A → ℕ) → ((x : A) → slice_get xs (place x) ≡ Some x) → Finite A
+listed xs place here = record {
+  every = λ p. list_all p xs;
+  each = λ p h x. at_place p xs x (place x) h (here x);
+}
 
-each_interaction : (p : UserInteraction → Bool) → list_all p (values user_interactions) ≡ true → (x : UserInteraction) → p x ≡ true
-each_interaction p h user_interaction.None = at_place p (values user_interactions) user_interaction.None 0 h refl
-each_interaction p h user_interaction.Passive = at_place p (values user_interactions) user_interaction.Passive 1 h refl
-each_interaction p h user_interaction.Active = at_place p (values user_interactions) user_interaction.Active 2 h refl
+-- two, three and six values together
+abbrev two : {A B : Type 0} → Finite A → Finite B → Finite (A × B)
+two a b = record {
+  every = λ p. a.every (λ x. b.every (λ y. p (x, y)));
+  each = λ p h v. b.each (λ y. p (v.0, y)) (a.each (λ x. b.every (λ y. p (x, y))) h v.0) v.1;
+}
 
-each_complexity : (p : AttackComplexity → Bool) → list_all p (values attack_complexities) ≡ true → (x : AttackComplexity) → p x ≡ true
-each_complexity p h attack_complexity.Low = at_place p (values attack_complexities) attack_complexity.Low 0 h refl
-each_complexity p h attack_complexity.High = at_place p (values attack_complexities) attack_complexity.High 1 h refl
+abbrev three : {A B C : Type 0} → Finite A → Finite B → Finite C → Finite (A × B × C)
+three a b c = record {
+  every = λ p. a.every (λ x. (two b c).every (λ v. p (x, v.0, v.1)));
+  each = λ p h v. (two b c).each (λ w. p (v.0, w.0, w.1)) (a.each (λ x. (two b c).every (λ w. p (x, w.0, w.1))) h v.0) (v.1, v.2);
+}
 
-each_requirements : (p : AttackRequirements → Bool) → list_all p (values all_attack_requirements) ≡ true → (x : AttackRequirements) → p x ≡ true
-each_requirements p h attack_requirements.None = at_place p (values all_attack_requirements) attack_requirements.None 0 h refl
-each_requirements p h attack_requirements.Present = at_place p (values all_attack_requirements) attack_requirements.Present 1 h refl
+abbrev six : {A B : Type 0} → Finite A → Finite B → Finite (A × A × A × B × B × B)
+six a b = record {
+  every = λ p. (three a a a).every (λ v. (three b b b).every (λ w. p (v.0, v.1, v.2, w.0, w.1, w.2)));
+  each = λ p h v. (three b b b).each (λ w. p (v.0, v.1, v.2, w.0, w.1, w.2))
+      ((three a a a).each (λ u. (three b b b).every (λ w. p (u.0, u.1, u.2, w.0, w.1, w.2))) h (v.0, v.1, v.2)) (v.3, v.4, v.5);
+}
 
-each_vulnerable : (p : VulnerableImpact → Bool) → list_all p (values vulnerable_impacts) ≡ true → (x : VulnerableImpact) → p x ≡ true
-each_vulnerable p h vulnerable_impact.High = at_place p (values vulnerable_impacts) vulnerable_impact.High 0 h refl
-each_vulnerable p h vulnerable_impact.Low = at_place p (values vulnerable_impacts) vulnerable_impact.Low 1 h refl
-each_vulnerable p h vulnerable_impact.None = at_place p (values vulnerable_impacts) vulnerable_impact.None 2 h refl
+abbrev each_attack_vector : Finite AttackVector
+each_attack_vector = listed (values attack_vectors) attack_vector_level (elim [ attack_vector.Network ↦ refl | _ ↦ refl ])
 
-each_subsequent : (p : SubsequentImpact → Bool) → list_all p (values subsequent_impacts) ≡ true → (x : SubsequentImpact) → p x ≡ true
-each_subsequent p h subsequent_impact.High = at_place p (values subsequent_impacts) subsequent_impact.High 0 h refl
-each_subsequent p h subsequent_impact.Low = at_place p (values subsequent_impacts) subsequent_impact.Low 1 h refl
-each_subsequent p h subsequent_impact.None = at_place p (values subsequent_impacts) subsequent_impact.None 2 h refl
+abbrev each_privileges_required : Finite PrivilegesRequired
+each_privileges_required = listed (values privileges) privileges_level (elim [ privileges_required.None ↦ refl | _ ↦ refl ])
 
-each_safety : (p : SafetyImpact → Bool) → list_all p (values safety_impacts) ≡ true → (x : SafetyImpact) → p x ≡ true
-each_safety p h safety_impact.Safety = at_place p (values safety_impacts) safety_impact.Safety 0 h refl
-each_safety p h safety_impact.High = at_place p (values safety_impacts) safety_impact.High 1 h refl
-each_safety p h safety_impact.Low = at_place p (values safety_impacts) safety_impact.Low 2 h refl
-each_safety p h safety_impact.None = at_place p (values safety_impacts) safety_impact.None 3 h refl
+abbrev each_user_interaction : Finite UserInteraction
+each_user_interaction = listed (values user_interactions) interaction_level (elim [ user_interaction.None ↦ refl | _ ↦ refl ])
 
-each_requirement : (p : Requirement → Bool) → list_all p (values requirements) ≡ true → (x : Requirement) → p x ≡ true
-each_requirement p h requirement.High = at_place p (values requirements) requirement.High 0 h refl
-each_requirement p h requirement.Medium = at_place p (values requirements) requirement.Medium 1 h refl
-each_requirement p h requirement.Low = at_place p (values requirements) requirement.Low 2 h refl
+abbrev each_attack_complexity : Finite AttackComplexity
+each_attack_complexity = listed (values attack_complexities) complexity_level (elim [ attack_complexity.Low ↦ refl | _ ↦ refl ])
 
--- a test that is true for all assignments to AV, PR and UI is true for each
-module _ (p : AttackVector → PrivilegesRequired → UserInteraction → Bool) where
-  abbrev eq1_from_ui : AttackVector → PrivilegesRequired → Bool
-  eq1_from_ui av pr = list_all (p av pr) (values user_interactions)
+abbrev each_attack_requirements : Finite AttackRequirements
+each_attack_requirements = listed (values all_attack_requirements) requirements_level (elim [ attack_requirements.None ↦ refl | _ ↦ refl ])
 
-  abbrev eq1_from_pr : AttackVector → Bool
-  eq1_from_pr av = list_all (eq1_from_ui av) (values privileges)
+abbrev each_vulnerable_impact : Finite VulnerableImpact
+each_vulnerable_impact = listed (values vulnerable_impacts) vulnerable_level (elim [ vulnerable_impact.High ↦ refl | _ ↦ refl ])
 
-  abbrev pub all_eq1 : Bool
-  all_eq1 = list_all eq1_from_pr (values attack_vectors)
+abbrev each_subsequent_impact : Finite SubsequentImpact
+each_subsequent_impact = listed (values subsequent_impacts) (λ x. subsequent_level x - 1) (elim [ subsequent_impact.High ↦ refl | _ ↦ refl ])
 
-  pub each_eq1 : all_eq1 ≡ true → (av : AttackVector) (pr : PrivilegesRequired) (ui : UserInteraction) → p av pr ui ≡ true
-  each_eq1 h av pr ui =
-      let on_av = each_attack_vector eq1_from_pr h av in
-      let on_pr = each_privileges (eq1_from_ui av) on_av pr in
-      each_interaction (p av pr) on_pr ui
+abbrev each_safety_impact : Finite SafetyImpact
+each_safety_impact = listed (values safety_impacts) safety_level (elim [ safety_impact.High ↦ refl | _ ↦ refl ])
 
--- a test that is true for all assignments to AC and AT is true for each
-module _ (p : AttackComplexity → AttackRequirements → Bool) where
-  abbrev eq2_from_at : AttackComplexity → Bool
-  eq2_from_at ac = list_all (p ac) (values all_attack_requirements)
+abbrev each_requirement : Finite Requirement
+each_requirement = listed (values requirements) requirement_level (elim [ requirement.High ↦ refl | _ ↦ refl ])
 
-  abbrev pub all_eq2 : Bool
-  all_eq2 = list_all eq2_from_at (values attack_complexities)
+-- the values of the metrics of each group
+abbrev pub each_eq1 : Finite Eq1Values
+each_eq1 = three each_attack_vector each_privileges_required each_user_interaction
 
-  pub each_eq2 : all_eq2 ≡ true → (ac : AttackComplexity) (at : AttackRequirements) → p ac at ≡ true
-  each_eq2 h ac at =
-      let on_ac = each_complexity eq2_from_at h ac in
-      each_requirements (p ac) on_ac at
+abbrev pub each_eq2 : Finite Eq2Values
+each_eq2 = two each_attack_complexity each_attack_requirements
 
--- a test that is true for all assignments to VC, VI, VA, CR, IR and AR is true for each
-module _ (p : VulnerableImpact → VulnerableImpact → VulnerableImpact → Requirement → Requirement → Requirement → Bool) where
-  abbrev eq3_eq6_from_ar : VulnerableImpact → VulnerableImpact → VulnerableImpact → Requirement → Requirement → Bool
-  eq3_eq6_from_ar vc vi va cr ir = list_all (p vc vi va cr ir) (values requirements)
+abbrev pub each_eq3_eq6 : Finite Eq3Eq6Values
+each_eq3_eq6 = six each_vulnerable_impact each_requirement
 
-  abbrev eq3_eq6_from_ir : VulnerableImpact → VulnerableImpact → VulnerableImpact → Requirement → Bool
-  eq3_eq6_from_ir vc vi va cr = list_all (eq3_eq6_from_ar vc vi va cr) (values requirements)
-
-  abbrev eq3_eq6_from_cr : VulnerableImpact → VulnerableImpact → VulnerableImpact → Bool
-  eq3_eq6_from_cr vc vi va = list_all (eq3_eq6_from_ir vc vi va) (values requirements)
-
-  abbrev eq3_eq6_from_va : VulnerableImpact → VulnerableImpact → Bool
-  eq3_eq6_from_va vc vi = list_all (eq3_eq6_from_cr vc vi) (values vulnerable_impacts)
-
-  abbrev eq3_eq6_from_vi : VulnerableImpact → Bool
-  eq3_eq6_from_vi vc = list_all (eq3_eq6_from_va vc) (values vulnerable_impacts)
-
-  abbrev pub all_eq3_eq6 : Bool
-  all_eq3_eq6 = list_all eq3_eq6_from_vi (values vulnerable_impacts)
-
-  pub each_eq3_eq6 : all_eq3_eq6 ≡ true → (vc vi va : VulnerableImpact) (cr ir ar : Requirement) → p vc vi va cr ir ar ≡ true
-  each_eq3_eq6 h vc vi va cr ir ar =
-      let on_vc = each_vulnerable eq3_eq6_from_vi h vc in
-      let on_vi = each_vulnerable (eq3_eq6_from_va vc) on_vc vi in
-      let on_va = each_vulnerable (eq3_eq6_from_cr vc vi) on_vi va in
-      let on_cr = each_requirement (eq3_eq6_from_ir vc vi va) on_va cr in
-      let on_ir = each_requirement (eq3_eq6_from_ar vc vi va cr) on_cr ir in
-      each_requirement (p vc vi va cr ir) on_ir ar
-
--- a test that is true for all assignments to SC, SI and SA is true for each
-module _ (p : SubsequentImpact → SafetyImpact → SafetyImpact → Bool) where
-  abbrev eq4_from_sa : SubsequentImpact → SafetyImpact → Bool
-  eq4_from_sa sc si = list_all (p sc si) (values safety_impacts)
-
-  abbrev eq4_from_si : SubsequentImpact → Bool
-  eq4_from_si sc = list_all (eq4_from_sa sc) (values safety_impacts)
-
-  abbrev pub all_eq4 : Bool
-  all_eq4 = list_all eq4_from_si (values subsequent_impacts)
-
-  pub each_eq4 : all_eq4 ≡ true → (sc : SubsequentImpact) (si sa : SafetyImpact) → p sc si sa ≡ true
-  each_eq4 h sc si sa =
-      let on_sc = each_subsequent eq4_from_si h sc in
-      let on_si = each_safety (eq4_from_sa sc) on_sc si in
-      each_safety (p sc si) on_si sa
+abbrev pub each_eq4 : Finite Eq4Values
+each_eq4 = three each_subsequent_impact each_safety_impact each_safety_impact
 
 -- each number below a limit passes
 abbrev pub below : (ℕ → Bool) → ℕ → Bool

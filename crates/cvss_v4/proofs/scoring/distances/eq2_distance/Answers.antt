@@ -1,9 +1,11 @@
 use Rattle.std.proofs.Common.{arith, ap}
 use Rattle.std.proofs.lemmas.Int.{ints}
-use Rattle.cvss_v4.proofs.DistanceLemmas.{eq2_distance_is}
+use Rattle.cvss_v4.proofs.DistanceLemmas.{distance_is}
+use Rattle.cvss_v4.proofs.LeastLemmas.{eq2_scale, eq2_is_scale}
 use Rattle.cvss_v4.proofs.scoring.distances.eq2_distance.Goals as goal
 
 pub returns : goal.returns
 returns c =
-    let same = eq2_distance_is c.args.effective.now c.args.class.now.eq2 (ap (λ m. m.eq2) c.requires) in
+    let v = c.args.effective.now in
+    let same = distance_is eq2_scale eq2_is_scale (v.ac, v.at) c.args.class.now.eq2 (ap (λ m. m.eq2) c.requires) in
     omega (arith, ints, same)

@@ -1,7 +1,8 @@
 use Rattle.std.proofs.Common.{arith, ap}
 use Rattle.std.proofs.lemmas.Int.{ints}
 use Rattle.cvss_v4.proofs.ClassLemmas.{class_is}
-use Rattle.cvss_v4.proofs.DistanceLemmas.{eq4_distance_is}
+use Rattle.cvss_v4.proofs.DistanceLemmas.{distance_is}
+use Rattle.cvss_v4.proofs.LeastLemmas.{eq4_scale, eq4_is_scale}
 use Rattle.cvss_v4.proofs.scoring.distances.eq4_distance.Goals as goal
 
 pub bounds-class : goal.bounds-class
@@ -9,5 +10,6 @@ bounds-class c = let class = class_is c.args.class.now c.args.effective.now c.re
 
 pub returns : goal.returns
 returns c =
-    let same = eq4_distance_is c.args.effective.now c.args.class.now.eq4 (ap (λ m. m.eq4) c.requires) in
+    let v = c.args.effective.now in
+    let same = distance_is eq4_scale eq4_is_scale (v.sc, v.si, v.sa) c.args.class.now.eq4 (ap (λ m. m.eq4) c.requires) in
     omega (arith, ints, same)

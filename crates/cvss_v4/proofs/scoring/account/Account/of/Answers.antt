@@ -1,7 +1,5 @@
-use Rattle.std.proofs.Common.{◌≡◌, true, false, refl, arith, subst}
-use Rattle.cvss_v4.specs.Account.{AreGroupAccounts}
-use Rattle.cvss_v4.specs.Scores.{has_impact, mean, proportions}
-use Rattle.cvss_v4.specs.Values.{listed_value, table_value}
+use Rattle.std.proofs.Common.{◌≡◌, true, false, refl, arith}
+use Rattle.cvss_v4.specs.Scores.{has_impact}
 use Rattle.cvss_v4.proofs.ScoreLemmas.{number_less_mean, number_without_impact}
 use Rattle.cvss_v4.proofs.scoring.account.Account.of.Goals as goal
 

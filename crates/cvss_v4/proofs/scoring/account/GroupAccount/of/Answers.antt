@@ -1,4 +1,4 @@
-use Rattle.std.proofs.Common.{◌≡◌, ℕ, ◌≤◌, Option, Some, None, IfSome}
+use Rattle.std.proofs.Common.{ℕ, ◌≤◌, Option, Some, None, IfSome}
 use Rattle.cvss_v4.specs.private.Shares.{IsPart}
 use Rattle.cvss_v4.specs.declared.scoring.next.NextClass.{NextClass}
 use Rattle.cvss_v4.proofs.AccountLemmas.{few_taken}
