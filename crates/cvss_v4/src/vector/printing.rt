@@ -1,6 +1,6 @@
 //! How a vector is printed.
 
-ghost use Rattle.std.specs.Prelude.{◌≡◌, Some, [], ◌∷◌, ◌++◌, codes, option_map, unwrap_or};
+ghost use Rattle.std.specs.Prelude.{◌≡◌, Some, [], ◌∷◌, ◌++◌, codes, option_map};
 ghost use Rattle.std.specs.Fmt.{WritesOnOk};
 ghost use Rattle.std.specs.Option.{option_copied};
 ghost use Rattle.cvss_grammar.specs.Version.{numeral, canonical_text, version_piece};
@@ -10,6 +10,7 @@ ghost use Rattle.cvss_name.specs.V4Types.{name_of};
 ghost use Rattle.cvss_name.specs.declared.v4.MetricType.TheVariants.{AC, AT, AV, PR, SA, SC, SI, UI, VA, VC, VI, E, AR, CR, IR, MAC, MAT, MAV, MPR, MSA, MSC, MSI, MUI, MVA, MVC, MVI, AU, R, RE, S, U, V};
 ghost use Rattle.cvss_v4_metric.specs.Table.{printed, spelling_at};
 ghost use Rattle.cvss_v4.specs.Vector.{v4};
+ghost use Rattle.cvss_v4.specs.private.Shown.{shown};
 
 use crate::metric::{Metric, MetricType};
 use crate::vector::Vector;
@@ -68,10 +69,38 @@ fn slashed_value<M: Metric>(value: Option<M>) -> Option<&'static str>
 
 /// Writes a slash and the component of a value, if there is one.
 fn write_value<M: Metric, W: fmt::Write>(value: Option<M>, f: &mut fmt::Formatter<W>) -> fmt::Result
-    ensures { WritesOnOk W.write_str_gives f.old result (unwrap_or (slashed
-        (option_map (component (name_of M.TYPE)) (option_map (λ x. spelling_at M.TYPE (M.rank x)) value))) []) f.new }
+    ensures { WritesOnOk W.write_str_gives f.old result (shown M.TYPE M.rank value) f.new }
 {
     write_slashed(slashed_value(value), f)
+}
+
+/// The same of two values.
+fn write_two<L: Metric, M: Metric, W: fmt::Write>(
+    first: Option<L>,
+    second: Option<M>,
+    f: &mut fmt::Formatter<W>,
+) -> fmt::Result
+    ensures { WritesOnOk W.write_str_gives f.old result
+        (shown L.TYPE L.rank first ++ shown M.TYPE M.rank second) f.new }
+{
+    write_value(first, f)?;
+    write_value(second, f)
+}
+
+/// The same of three values.
+fn write_three<K: Metric, L: Metric, M: Metric, W: fmt::Write>(
+    first: Option<K>,
+    second: Option<L>,
+    third: Option<M>,
+    f: &mut fmt::Formatter<W>,
+) -> fmt::Result
+    ensures { WritesOnOk W.write_str_gives f.old result
+        (shown K.TYPE K.rank first ++ shown L.TYPE L.rank second ++ shown M.TYPE M.rank third)
+        f.new }
+{
+    write_value(first, f)?;
+    write_value(second, f)?;
+    write_value(third, f)
 }
 
 /// Writes the piece that tells the version.
@@ -87,29 +116,16 @@ fn write_version<W: fmt::Write>(minor_version: usize, f: &mut fmt::Formatter<W>)
 }
 
 impl Vector {
-    /// Writes how the attack is made, each with a slash before it.
-    fn write_attack<W: fmt::Write>(&self, f: &mut fmt::Formatter<W>) -> fmt::Result
+    /// Writes the base metrics, each with a slash before it.
+    fn write_base<W: fmt::Write>(&self, f: &mut fmt::Formatter<W>) -> fmt::Result
         ensures { WritesOnOk W.write_str_gives f.old result
-            (slashed_texts v4 self.now (AV ∷ AC ∷ AT ∷ PR ∷ UI ∷ [])) f.new }
+            (slashed_texts v4 self.now
+            (AV ∷ AC ∷ AT ∷ PR ∷ UI ∷ VC ∷ VI ∷ VA ∷ SC ∷ SI ∷ SA ∷ [])) f.new }
     {
-        write_value(self.av, f)?;
-        write_value(self.ac, f)?;
-        write_value(self.at, f)?;
-        write_value(self.pr, f)?;
-        write_value(self.ui, f)
-    }
-
-    /// Writes the impacts, each with a slash before it.
-    fn write_impact<W: fmt::Write>(&self, f: &mut fmt::Formatter<W>) -> fmt::Result
-        ensures { WritesOnOk W.write_str_gives f.old result
-            (slashed_texts v4 self.now (VC ∷ VI ∷ VA ∷ SC ∷ SI ∷ SA ∷ [])) f.new }
-    {
-        write_value(self.vc, f)?;
-        write_value(self.vi, f)?;
-        write_value(self.va, f)?;
-        write_value(self.sc, f)?;
-        write_value(self.si, f)?;
-        write_value(self.sa, f)
+        write_three(self.av, self.ac, self.at, f)?;
+        write_two(self.pr, self.ui, f)?;
+        write_three(self.vc, self.vi, self.va, f)?;
+        write_three(self.sc, self.si, self.sa, f)
     }
 
     /// Writes the threat metric and the security requirements, each with a slash before it.
@@ -118,34 +134,19 @@ impl Vector {
             (slashed_texts v4 self.now (E ∷ CR ∷ IR ∷ AR ∷ [])) f.new }
     {
         write_value(self.e, f)?;
-        write_value(self.cr, f)?;
-        write_value(self.ir, f)?;
-        write_value(self.ar, f)
+        write_three(self.cr, self.ir, self.ar, f)
     }
 
-    /// Writes the modified metrics of how the attack is made, each with a slash before it.
-    fn write_modified_attack<W: fmt::Write>(&self, f: &mut fmt::Formatter<W>) -> fmt::Result
+    /// Writes the modified base metrics, each with a slash before it.
+    fn write_modified<W: fmt::Write>(&self, f: &mut fmt::Formatter<W>) -> fmt::Result
         ensures { WritesOnOk W.write_str_gives f.old result
-            (slashed_texts v4 self.now (MAV ∷ MAC ∷ MAT ∷ MPR ∷ MUI ∷ [])) f.new }
+            (slashed_texts v4 self.now
+            (MAV ∷ MAC ∷ MAT ∷ MPR ∷ MUI ∷ MVC ∷ MVI ∷ MVA ∷ MSC ∷ MSI ∷ MSA ∷ [])) f.new }
     {
-        write_value(self.mav, f)?;
-        write_value(self.mac, f)?;
-        write_value(self.mat, f)?;
-        write_value(self.mpr, f)?;
-        write_value(self.mui, f)
-    }
-
-    /// Writes the modified impacts, each with a slash before it.
-    fn write_modified_impact<W: fmt::Write>(&self, f: &mut fmt::Formatter<W>) -> fmt::Result
-        ensures { WritesOnOk W.write_str_gives f.old result
-            (slashed_texts v4 self.now (MVC ∷ MVI ∷ MVA ∷ MSC ∷ MSI ∷ MSA ∷ [])) f.new }
-    {
-        write_value(self.mvc, f)?;
-        write_value(self.mvi, f)?;
-        write_value(self.mva, f)?;
-        write_value(self.msc, f)?;
-        write_value(self.msi, f)?;
-        write_value(self.msa, f)
+        write_three(self.mav, self.mac, self.mat, f)?;
+        write_two(self.mpr, self.mui, f)?;
+        write_three(self.mvc, self.mvi, self.mva, f)?;
+        write_three(self.msc, self.msi, self.msa, f)
     }
 
     /// Writes the supplemental metrics, each with a slash before it.
@@ -153,23 +154,17 @@ impl Vector {
         ensures { WritesOnOk W.write_str_gives f.old result
             (slashed_texts v4 self.now (S ∷ AU ∷ R ∷ V ∷ RE ∷ U ∷ [])) f.new }
     {
-        write_value(self.s, f)?;
-        write_value(self.au, f)?;
-        write_value(self.r, f)?;
-        write_value(self.v, f)?;
-        write_value(self.re, f)?;
-        write_value(self.u, f)
+        write_three(self.s, self.au, self.r, f)?;
+        write_three(self.v, self.re, self.u, f)
     }
 
     /// Writes all metrics, each with a slash before it.
     fn write_metrics<W: fmt::Write>(&self, f: &mut fmt::Formatter<W>) -> fmt::Result
         ensures { WritesOnOk W.write_str_gives f.old result (slashed_texts v4 self.now printed) f.new }
     {
-        self.write_attack(f)?;
-        self.write_impact(f)?;
+        self.write_base(f)?;
         self.write_threat(f)?;
-        self.write_modified_attack(f)?;
-        self.write_modified_impact(f)?;
+        self.write_modified(f)?;
         self.write_supplemental(f)
     }
 }

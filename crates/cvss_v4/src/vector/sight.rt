@@ -12,6 +12,7 @@ ghost use Rattle.cvss_name.specs.declared.v4.MetricType.TheVariants.{AC, AT, AV,
 ghost use Rattle.cvss_v4_metric.specs.Table.{printed, spelling_at};
 ghost use Rattle.cvss_v4.specs.Table.{spelling_of};
 ghost use Rattle.cvss_v4.specs.Vector.{v4};
+ghost use Rattle.cvss_v4.specs.private.Shown.{shown};
 
 mod base;
 mod optional;
@@ -105,8 +106,7 @@ fn put_at_sight<'a, M: Metric>(
 ) -> &'a [u8]
     requires { IfSome behind
         (λ behind. text.now ≡ slash ∷ (name_of M.TYPE ++ (colon ∷ behind.now))) }
-    ensures { text.now ≡ unwrap_or (slashed (option_map (component (name_of M.TYPE))
-        (option_map (λ x. spelling_at M.TYPE (M.rank x)) place.new))) [] ++ result.now }
+    ensures { text.now ≡ shown M.TYPE M.rank place.new ++ result.now }
 {
     put_read(place, value_at_sight(behind), text)
 }
