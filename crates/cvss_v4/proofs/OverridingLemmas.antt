@@ -6,7 +6,7 @@ use Rattle.std.proofs.lemmas.List.{get_or-map}
 use Rattle.std.proofs.lemmas.List.Elements.{Contains-append_right}
 use Rattle.std.proofs.lemmas.Map.Views.{Contains-from_any}
 use Rattle.std.proofs.lemmas.Slice.Eq.{bytes_eq-Decides}
-use Rattle.cvss_grammar.specs.Refusal.{Refusal, BadComponent, WrongPrefix, WrongVersion, UnknownName, BadValue, Repeated, Missing, piece_at, name_at, FaultAt}
+use Rattle.cvss_grammar.specs.Refusal.{Refusal, BadComponent, Repeated, piece_at, name_at, FaultAt}
 use Rattle.cvss_grammar.specs.Text.{IsComponent, name_part}
 use Rattle.cvss_name.specs.V4Types.{name_of}
 use Rattle.cvss_grammar.specs.Version.{numeral, read, version_piece, IsComplete}
@@ -49,23 +49,13 @@ names_no_other kind name named is other =
 -- a component with a fault is no override
 pub component_objection : (v : Vector) (text : List ℕ) (reason : Refusal MetricType) → IsComponent text → (NamesOther (read v4 (name_part text)) → ⊥) → IsFaultOf v4 v text reason → IsObjectionTo v text (OfText reason)
 component_objection v text (BadComponent piece) is none fault = absurd fault
-component_objection v text (WrongPrefix prefix) is none fault = (is, none, fault)
-component_objection v text (WrongVersion told) is none fault = (is, none, fault)
-component_objection v text (UnknownName name) is none fault = (is, none, fault)
-component_objection v text (BadValue kind value) is none fault = (is, none, fault)
-component_objection v text (Repeated kind) is none fault = (is, none, fault)
-component_objection v text (Missing kind) is none fault = (is, none, fault)
+component_objection v text reason is none fault = (is, none, fault)
 
 -- nothing is wrong with a text whose name is that of an environmental metric, and which has no fault
 no_objection_at : (texts : List (List ℕ)) (place : ℕ) (kind : MetricType) → IsComponent (piece_at texts place) → name_of kind ≡ name_at v4 texts place → Contains environmental kind → ((reason : Refusal MetricType) → FaultAt v4 texts place reason → ⊥) → (objection : Objection) → ObjectionAt texts place objection → ⊥
-no_objection_at texts place kind is named environment none OfOtherGroup (_, other) = names_no_other kind _ named environment other
-no_objection_at texts place kind is named environment none (OfText (BadComponent piece)) (_, bad) = bad is
-no_objection_at texts place kind is named environment none (OfText (WrongPrefix prefix)) (_, _, fault) = fault
-no_objection_at texts place kind is named environment none (OfText (WrongVersion told)) (_, _, fault) = fault
-no_objection_at texts place kind is named environment none (OfText (UnknownName name)) (_, _, fault) = none (UnknownName name) fault
-no_objection_at texts place kind is named environment none (OfText (BadValue blamed value)) (_, _, fault) = none (BadValue blamed value) fault
-no_objection_at texts place kind is named environment none (OfText (Repeated other)) (_, _, fault) = none (Repeated other) fault
-no_objection_at texts place kind is named environment none (OfText (Missing other)) (_, _, fault) = fault
+no_objection_at texts place kind is named environment none OfOtherGroup at = names_no_other kind _ named environment at.1
+no_objection_at texts place kind is named environment none (OfText (BadComponent piece)) at = at.1 is
+no_objection_at texts place kind is named environment none (OfText reason) at = none reason at.2
 
 -- the start, a step and the end of the walk over overrides
 pub HasReadOverrides-none : (texts : List (List ℕ)) (v : Vector) → v.minor_version ≡ 0 → HasNoValue v4 v → HasReadOverrides texts 0 v
@@ -91,14 +81,8 @@ module _ (texts : List (List ℕ)) (place : ℕ) (within : place < length texts)
       }
 
   objection_at : (v : Vector) → HasReadOverrides texts place v → (objection : Objection) → IsObjectionTo v (piece_at texts place) objection → ObjectionAt texts place objection
-  objection_at v before OfOtherGroup is = is
-  objection_at v before (OfText (BadComponent piece)) is = is
-  objection_at v before (OfText (WrongPrefix prefix)) (_, _, fault) = absurd fault
-  objection_at v before (OfText (WrongVersion told)) (_, _, fault) = absurd fault
-  objection_at v before (OfText (UnknownName name)) is = is
-  objection_at v before (OfText (BadValue blamed value)) is = is
   objection_at v before (OfText (Repeated kind)) (is, none, fault) = (is, none, fault_at v4 v4_is_lawful v texts place (omega arith) before.read.components (Repeated kind) fault)
-  objection_at v before (OfText (Missing kind)) (_, _, fault) = absurd fault
+  objection_at v before objection is = is
 
   pub IsFirstObjection-at : (v : Vector) (objection : Objection) → IsObjectionTo v text objection → HasReadOverrides texts place v → IsFirstObjection texts place objection
   IsFirstObjection-at v objection is before = record {
@@ -134,14 +118,9 @@ module _ (texts : List (List ℕ)) where
     fault : {reason : Refusal MetricType} → IsComponent (piece_at texts place) → (NamesOther (name_at v4 texts place) → ⊥) → FaultAt v4 texts place reason → IsSort place (OfText reason)
 
   sort_of : (place : ℕ) (objection : Objection) → ObjectionAt texts place objection → IsSort place objection
-  sort_of place OfOtherGroup (is, other) = other_group is other
-  sort_of place (OfText (BadComponent piece)) (is, bad) = bad_piece is bad
-  sort_of place (OfText (WrongPrefix prefix)) (is, none, at) = fault is none at
-  sort_of place (OfText (WrongVersion told)) (is, none, at) = fault is none at
-  sort_of place (OfText (UnknownName name)) (is, none, at) = fault is none at
-  sort_of place (OfText (BadValue blamed value)) (is, none, at) = fault is none at
-  sort_of place (OfText (Repeated kind)) (is, none, at) = fault is none at
-  sort_of place (OfText (Missing kind)) (is, none, at) = fault is none at
+  sort_of place OfOtherGroup at = other_group at.0 at.1
+  sort_of place (OfText (BadComponent piece)) at = bad_piece at.0 at.1
+  sort_of place (OfText reason) at = fault at.0 at.1 at.2
 
   sorts_same : (place : ℕ) (one other : Objection) → IsSort place one → IsSort place other → one ≡ other
   sorts_same place _ _ (other_group _ _) (other_group _ _) = refl

@@ -75,6 +75,7 @@ fn write_value<M: Metric, W: fmt::Write>(value: Option<M>, f: &mut fmt::Formatte
 }
 
 /// The same of two values.
+#[inline(always)]
 fn write_two<L: Metric, M: Metric, W: fmt::Write>(
     first: Option<L>,
     second: Option<M>,
@@ -88,6 +89,7 @@ fn write_two<L: Metric, M: Metric, W: fmt::Write>(
 }
 
 /// The same of three values.
+#[inline(always)]
 fn write_three<K: Metric, L: Metric, M: Metric, W: fmt::Write>(
     first: Option<K>,
     second: Option<L>,

@@ -84,13 +84,15 @@ fn urgency_at_sight(text: &[u8]) -> Option<Option<ProviderUrgency>>
     ensures { IfSome result (λ urgency. text.now ≡ unwrap_or (slashed (option_map
         (component (name_of U)) (option_map (spelling_of U) urgency))) []) }
 {
-    match text {
-        b"" => Some(None),
-        b"/U:X" => Some(Some(ProviderUrgency::NotDefined)),
-        b"/U:Red" => Some(Some(ProviderUrgency::Red)),
-        b"/U:Amber" => Some(Some(ProviderUrgency::Amber)),
-        b"/U:Green" => Some(Some(ProviderUrgency::Green)),
-        b"/U:Clear" => Some(Some(ProviderUrgency::Clear)),
+    if text.is_empty() {
+        return Some(None);
+    }
+    match behind_three(text, *b"/U:")? {
+        b"X" => Some(Some(ProviderUrgency::NotDefined)),
+        b"Red" => Some(Some(ProviderUrgency::Red)),
+        b"Amber" => Some(Some(ProviderUrgency::Amber)),
+        b"Green" => Some(Some(ProviderUrgency::Green)),
+        b"Clear" => Some(Some(ProviderUrgency::Clear)),
         _ => None,
     }
 }
