@@ -11,7 +11,6 @@ use Rattle.cvss_v3_metric.specs.private.TableLaws.{ranked}
 use Rattle.cvss_number.proofs.TestLemmas.{passes}
 use Rattle.cvss_v3.specs.VectorWeights.{weight_at, privileges_weight}
 use Rattle.cvss_v3.specs.private.Weights.{weights_in, privileges_required, WeighsAtMost}
-use Rattle.cvss_v3.proofs.SubScoreLemmas.{weight_bound}
 
 -- behind another element
 behind : {X : Type 0} (x y : X) (xs : List X) → Contains xs y → Contains (x ∷ xs) y
@@ -55,7 +54,3 @@ pub weight_at_most : (kind : MetricType) (value : Option (Value kind)) (absent m
 weight_at_most kind None absent most all small = small
 weight_at_most kind (Some value) absent most all small =
     leb-true (unwrap_or (weight_of kind value) 0) most (passes (λ weight. leb weight most) (weights_in kind) _ all (weight_listed kind value))
-
-pub privileges_at_most : (changed : Bool) (value : Option (Value PR)) → privileges_weight changed value ≤ 100
-privileges_at_most false value = weight_bound (privileges_required false) _ 100 refl (privileges_listed false value)
-privileges_at_most true value = weight_bound (privileges_required true) _ 100 refl (privileges_listed true value)
