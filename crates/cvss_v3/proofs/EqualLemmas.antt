@@ -4,13 +4,13 @@ use Rattle.std.proofs.Common.{◌≡◌, ℕ, zero, suc, ◌*◌, ◌<◌, ℤ, 
 use Rattle.std.proofs.Math.Nat.{mul-pos}
 use Rattle.std.proofs.lemmas.Int.{ints}
 use Rattle.std.proofs.lemmas.Bool.{lt-ltb}
-use Rattle.cvss_number.specs.Exact.{Exact, ratio, ◌over◌, whole, tenths, ◌⊕◌, ◌⊗◌, ◌≈◌}
+use Rattle.cvss_number.specs.Exact.{Exact, ratio, ◌over◌, whole, tenths, ◌⊕◌, ◌⊖◌, ◌⊗◌, ◌≈◌}
 use Rattle.cvss_number.specs.Rounding.{IsRoundedV30, IsRoundedV31}
 use Rattle.cvss_number.proofs.ExactLemmas.{equal_refl, equal_sym, equal_at_most, sum_equal, difference_equal, product_equal, at_most_trans, at_most_below, below_at_most}
 use Rattle.cvss_number.proofs.RoundingLemmas.{v30-unique, v31-unique}
 use Rattle.cvss_v3.proofs.CapLemmas.{capped, capped_equal}
 use Rattle.cvss_v3.specs.private.Near.{RoundsAs}
-use Rattle.cvss_v3.specs.Scores.{power, changed_impact, changed_modified_impact, total_of, first_number, IsRounded}
+use Rattle.cvss_v3.specs.Scores.{power, changed_impact, changed_modified_impact, impact_of, modified_impact_of, total_of, first_number, IsRounded}
 
 -- a product of numbers above 0
 pub above_zero : (m n : ℕ) → 0 < m → 0 < n → 0 < m * n
@@ -26,32 +26,39 @@ unfolding power
 power_bottom x zero some = lit< tt
 power_bottom x (suc n) some = above_zero x.bottom (power x n).bottom some (power_bottom x n some)
 
-pub changed_equal : {x y : Exact} → x ≈ y → changed_impact x ≈ changed_impact y
-unfolding changed_impact
-changed_equal same =
+-- an impact with the scope changed, of a sub-score and of what is less 0.02 in its power
+abbrev powered : ℕ → Exact → Exact → Exact
+powered n x y = 752 over 100 ⊗ (x ⊖ 29 over 1000) ⊖ 325 over 100 ⊗ power (y ⊖ 2 over 100) n
+
+powered_equal : {x x' y y' : Exact} (n : ℕ) → x ≈ x' → y ≈ y' → powered n x y ≈ powered n x' y'
+powered_equal n same_x same_y =
     difference_equal
-    (product_equal (equal_refl (752 over 100)) (difference_equal same (equal_refl (29 over 1000))))
-    (product_equal (equal_refl (325 over 100)) (power_equal 15 (difference_equal same (equal_refl (2 over 100)))))
+    (product_equal (equal_refl (752 over 100)) (difference_equal same_x (equal_refl (29 over 1000))))
+    (product_equal (equal_refl (325 over 100)) (power_equal n (difference_equal same_y (equal_refl (2 over 100)))))
 
-pub changed_bottom : (x : Exact) → 0 < x.bottom → 0 < (changed_impact x).bottom
-unfolding changed_impact
-changed_bottom x some =
+powered_bottom : (x y : Exact) (n : ℕ) → 0 < x.bottom → 0 < y.bottom → 0 < (powered n x y).bottom
+powered_bottom x y n some_x some_y =
     above_zero (100 * (x.bottom * 1000)) (100 * _) (omega arith)
-    (above_zero 100 _ (lit< tt) (power_bottom _ 15 (omega arith)))
+    (above_zero 100 _ (lit< tt) (power_bottom _ n (omega arith)))
 
-pub changed_modified_equal : {x y : Exact} → x ≈ y → changed_modified_impact x ≈ changed_modified_impact y
-unfolding changed_modified_impact
-changed_modified_equal same =
-    let scaled = product_equal same (equal_refl (9731 over 10_000)) in
-    difference_equal
-    (product_equal (equal_refl (752 over 100)) (difference_equal same (equal_refl (29 over 1000))))
-    (product_equal (equal_refl (325 over 100)) (power_equal 13 (difference_equal scaled (equal_refl (2 over 100)))))
+-- equal sub-scores have equal impacts
+pub impact_equal : (minor : ℕ) (changed : Bool) {x y : Exact} → x ≈ y
+    → modified_impact_of minor changed x ≈ modified_impact_of minor changed y
+unfolding changed_impact changed_modified_impact
+impact_equal minor false same = product_equal (equal_refl (642 over 100)) same
+impact_equal zero true same = powered_equal 15 same same
+impact_equal (suc minor) true same = powered_equal 13 same (product_equal same (equal_refl (9731 over 10_000)))
 
-pub changed_modified_bottom : (x : Exact) → 0 < x.bottom → 0 < (changed_modified_impact x).bottom
-unfolding changed_modified_impact
-changed_modified_bottom x some =
-    above_zero (100 * (x.bottom * 1000)) (100 * _) (omega arith)
-    (above_zero 100 _ (lit< tt) (power_bottom _ 13 (omega arith)))
+pub impact_bottom : (minor : ℕ) (changed : Bool) (x : Exact) → 0 < x.bottom → 0 < (modified_impact_of minor changed x).bottom
+unfolding changed_impact changed_modified_impact
+impact_bottom minor false x some = omega arith
+impact_bottom zero true x some = powered_bottom x x 15 some some
+impact_bottom (suc minor) true x some = powered_bottom x (x ⊗ 9731 over 10_000) 13 some (omega arith)
+
+-- the impact is the modified impact of v3.0
+pub impact_is : (changed : Bool) (x : Exact) → modified_impact_of 0 changed x ≡ impact_of changed x
+impact_is false x = refl
+impact_is true x = refl
 
 suc_above : (m : ℕ) → int_lt (pos 0) (pos (suc m)) ≡ true
 suc_above m = lt-ltb 0 (suc m) (omega arith)

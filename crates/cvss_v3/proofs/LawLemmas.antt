@@ -7,25 +7,19 @@ use Rattle.cvss_number.specs.Exact.{Exact, ratio, ◌over◌, whole, ◌⊑◌}
 use Rattle.cvss_number.specs.laws.Rounding.{IsOneCount}
 use Rattle.cvss_number.proofs.RoundingLemmas.{least_tenth-ordered, v31-ordered}
 use Rattle.cvss_number.proofs.TenthsLemmas.{in_tenths_once}
-use Rattle.cvss_v3.specs.Scores.{impact, impact_of, modified_impact_of, iss, miss, exploitability, modified_exploitability, total_of, first_number, base_number, environmental_number, temporal_number, IsRounded, IsBase, IsTemporal, IsEnvironmental, IsBaseScore, IsTemporalScore, IsEnvironmentalScore}
-use Rattle.cvss_v3.specs.private.Weights.{IsFromTable}
+use Rattle.cvss_v3.specs.Scores.{impact, modified_impact_of, iss, miss, exploitability, modified_exploitability, total_of, first_number, base_number, environmental_number, temporal_number, IsRounded, IsBase, IsTemporal, IsEnvironmental, IsBaseScore, IsTemporalScore, IsEnvironmentalScore}
+use Rattle.cvss_v3.specs.VectorWeights.{weights_of}
+use Rattle.cvss_v3.specs.declared.vector.Vector.{Vector}
 use Rattle.cvss_v3.specs.declared.weights.Weights.{Weights}
 use Rattle.cvss_v3.proofs.CapLemmas.{capped, not_below_cap}
 use Rattle.cvss_v3.proofs.CountLemmas.{temporal_bound}
-use Rattle.cvss_v3.proofs.EqualLemmas.{changed_bottom, changed_modified_bottom, first_bottom, rounded_once}
+use Rattle.cvss_v3.proofs.EqualLemmas.{impact_is, impact_bottom, first_bottom, rounded_once}
 use Rattle.cvss_v3.proofs.RoundLemmas.{between_jumps}
 
-impact_bottom : (changed : Bool) (S : Exact) → 0 < S.bottom → 0 < (impact_of changed S).bottom
-impact_bottom false S some = omega arith
-impact_bottom true S some = changed_bottom S some
-
-modified_impact_bottom : (minor : ℕ) (changed : Bool) (S : Exact) → 0 < S.bottom → 0 < (modified_impact_of minor changed S).bottom
-modified_impact_bottom minor false S some = omega arith
-modified_impact_bottom zero true S some = changed_bottom S some
-modified_impact_bottom (suc minor) true S some = changed_modified_bottom S some
-
 base_bottom : (w : Weights) → 0 < (base_number w).bottom
-base_bottom w = first_bottom w.changed (impact w) (exploitability w) (impact_bottom w.changed (iss w) (lit< tt)) (lit< tt)
+base_bottom w =
+    subst (λ n. 0 < (first_number w.changed n (exploitability w)).bottom) (impact_is w.changed (iss w))
+    (first_bottom w.changed (modified_impact_of 0 w.changed (iss w)) (exploitability w) (impact_bottom 0 w.changed (iss w) (lit< tt)) (lit< tt))
 
 pub base_once : (minor : ℕ) (w : Weights) → IsOneCount (IsBase minor w)
 base_once minor w r s is_r is_s = rounded_once minor (base_number w) r s (base_bottom w) is_r is_s
@@ -44,7 +38,7 @@ temporal_once minor w r s is_r is_s =
 pub first_once : (minor : ℕ) (w : Weights) → IsOneCount (IsRounded minor (environmental_number minor w))
 first_once minor w r s is_r is_s =
     let some = first_bottom w.modified_changed (modified_impact_of minor w.modified_changed (miss w)) (modified_exploitability w)
-    (modified_impact_bottom minor w.modified_changed (miss w) (lit< tt)) (lit< tt) in
+    (impact_bottom minor w.modified_changed (miss w) (lit< tt)) (lit< tt) in
     rounded_once minor (environmental_number minor w) r s some is_r is_s
 
 environmental_once : (minor : ℕ) (w : Weights) → IsOneCount (IsEnvironmental minor w)
@@ -94,16 +88,18 @@ zero_rounded (suc minor) =
     between_jumps 0 1 0 (lit< tt) (record { at_most = omega (arith, ints) }) (record { below = omega (arith, ints) })
 
 -- tenths that are not negative, times E, RL and RC, are rounded to no more
-product_at_most : (minor : ℕ) (w : Weights) (m r : ℤ) → IsFromTable w → pos 0 ≤ℤ m → IsRounded minor (temporal_number m w) r → r ≤ℤ m
-product_at_most minor w (pos n) r table from_zero rounded =
-    let product : n * (w.e * w.rl * w.rc) ≤ n * 10 ^ 6 = mul-le-mul (le_refl n) (temporal_bound w table) in
+product_at_most : (minor : ℕ) (v : Vector) (m r : ℤ) → pos 0 ≤ℤ m → IsRounded minor (temporal_number m (weights_of v)) r → r ≤ℤ m
+product_at_most minor v (pos n) r from_zero rounded =
+    let w = weights_of v in
+    let product : n * (w.e * w.rl * w.rc) ≤ n * 10 ^ 6 = mul-le-mul (le_refl n) (temporal_bound v) in
     let order : temporal_number (pos n) w ⊑ n over 10 = record { at_most = omega (arith, ints) } in
     ordered minor (temporal_number (pos n) w) (n over 10) r (pos n) (lit< tt) (lit< tt) order rounded (tenths_rounded minor n)
-product_at_most minor w (negsuc n) r table from_zero rounded = absurd (omega (arith, ints))
+product_at_most minor v (negsuc n) r from_zero rounded = absurd (omega (arith, ints))
 
-pub temporal_at_most_base : (minor : ℕ) (w : Weights) → IsFromTable w → (base temporal : ℤ)
-    → IsBaseScore minor w base → IsTemporalScore minor w temporal → temporal ≤ℤ base
-temporal_at_most_base minor w table base temporal is_base is_temporal =
+pub temporal_at_most_base : (minor : ℕ) (v : Vector) (base temporal : ℤ)
+    → IsBaseScore minor (weights_of v) base → IsTemporalScore minor (weights_of v) temporal → temporal ≤ℤ base
+temporal_at_most_base minor v base temporal is_base is_temporal =
+    let w = weights_of v in
     let b = is_base.number in
     let parts = is_temporal.is_number in
     let same : parts.base ≡ b = base_once minor w parts.base b parts.is_base is_base.is_number in
@@ -112,5 +108,5 @@ temporal_at_most_base minor w table base temporal is_base is_temporal =
     (first_not_negative w.changed impact_number.top impact_number.bottom (822 * w.av * w.ac * w.pr * w.ui) (10 ^ 10))
     (zero_rounded minor) is_base.is_number in
     let rounded = subst (λ z. IsRounded minor (temporal_number z w) is_temporal.number) same parts.is_rounded in
-    let at_most = product_at_most minor w b is_temporal.number table from_zero rounded in
+    let at_most = product_at_most minor v b is_temporal.number from_zero rounded in
     omega (arith, ints, is_base.is_count, is_temporal.is_count)

@@ -1,16 +1,13 @@
 mod CapLemmas
 mod CertainLemmas
-mod CloseLemmas
 mod CountLemmas
 mod CutLemmas
 mod DefinedLemmas
 mod EqualLemmas
-mod FormulaLemmas
-mod ImpactLemmas
 pub mod LawLemmas
+mod NameLemmas
 mod NearLemmas
 mod NumberLemmas
-mod PowerLemmas
 mod RoundLemmas
 mod SettledLemmas
 mod StandardFacts

@@ -1,144 +1,189 @@
--- The whole number of the code has the rounding of the first number of the equations.
-use Rattle.std.specs.Prelude.{int_lt, if◌then◌else◌}
-use Rattle.std.proofs.Common.{◌≡◌, ℕ, ◌^◌, ◌<◌, ◌≤◌, ℤ, pos, ◌-ℤ◌, Bool, true, false, arith, refl, sym, subst, ap, lit<}
+-- The number of the code stands for the first number of the equations, which is certain where there is impact, and has
+-- the same rounding when it is cut.
+use Rattle.std.specs.List.{Contains}
+use Rattle.std.proofs.Common.{◌≡◌, ℕ, zero, suc, ◌^◌, ◌<◌, ℤ, pos, negsuc, ◌-ℤ◌, Bool, true, false, inl, inr, arith, refl, sym, subst, lit<}
 use Rattle.std.proofs.lemmas.Int.{ints}
-use Rattle.cvss_number.specs.Exact.{Exact, ◌over◌, whole, tenths, ◌⊕◌, ◌≈◌, ◌⊑◌}
-use Rattle.cvss_number.proofs.ExactLemmas.{equal_refl, equal_sym, equal_trans, equal_at_most, sum_at_most, at_most_trans, product_equal}
-use Rattle.cvss_v3.proofs.CapLemmas.{capped, capped_to_ten}
-use Rattle.cvss_v3.proofs.CloseLemmas.{count_close, number_close, equal_stands}
+use Rattle.cvss_number.specs.Exact.{Exact, ratio, ◌over◌, whole, tenths, ◌⊕◌, ◌⊖◌, ◌≈◌, ◌⊏◌, ◌⊑◌}
+use Rattle.cvss_number.proofs.ExactLemmas.{equal_refl, equal_sym, equal_trans, equal_at_most, at_most_trans, below_at_most, sum_equal, difference_equal}
+use Rattle.cvss_number.proofs.TestLemmas.{is_at_most, at_most_if}
+use Rattle.cvss_v3.proofs.CapLemmas.{not_below_cap}
+use Rattle.cvss_v3.proofs.CountLemmas.{AreParts}
 use Rattle.cvss_v3.proofs.CutLemmas.{cut_is}
-use Rattle.cvss_v3.proofs.EqualLemmas.{above_zero, first_equal, first_bottom, rounds_equal, rounded_once}
-use Rattle.cvss_v3.proofs.NearLemmas.{error, error_moved, above_itself, first_is, first_close, first_near}
-use Rattle.cvss_v3.proofs.SettledLemmas.{IsWithinError, SettlesWith}
+use Rattle.cvss_v3.proofs.EqualLemmas.{impact_equal, impact_bottom, first_equal, first_bottom, rounds_equal, rounded_once}
+use Rattle.cvss_v3.proofs.NearLemmas.{half, count_approximates, number_approximates, equal_stands, number_stands}
+use Rattle.cvss_v3.proofs.RoundLemmas.{rounded_v31}
+use Rattle.cvss_v3.proofs.SettledLemmas.{error, IsSettled, settled_tenths, settled_rounding, settles}
 use Rattle.cvss_v3.specs.Certainty.{IsCertain}
-use Rattle.cvss_v3.specs.Closeness.{IsCloseTo}
 use Rattle.cvss_v3.specs.laws.FifthDecimals.{IsSameWhenCut}
-use Rattle.cvss_v3.specs.private.Near.{IsNear, RoundsAs, StandsFor}
-use Rattle.cvss_v3.specs.Scores.{unchanged_impact, total_of, first_number, IsRounded}
+use Rattle.cvss_v3.specs.Scores.{power, changed_impact, changed_modified_impact, modified_impact_of, first_number, IsRounded}
+use Rattle.cvss_v3.specs.private.Near.{Approximates, StandsFor}
+use Rattle.cvss_v3.specs.private.SubScores.{IsSubScore, exploitabilities}
+use Rattle.cvss_v3.specs.private.Units.{impact_units, total_units}
 
--- without impact the number is 0
-pub no_number : (changed : Bool) (I I' E : Exact) → 0 < I.bottom → 0 < I'.bottom → 0 < E.bottom → I ≈ I'
-    → int_lt (pos 0) I.top ≡ false → whole 0 ≈ first_number changed I' E
-no_number changed I I' E some some' some_E same none =
-    let is_zero : first_number changed I E ≡ whole 0 =
-    ap (λ b. if b then capped (total_of changed I E) else whole 0) none in
-    subst (λ z. z ≈ first_number changed I' E) is_zero (first_equal changed some some' some_E some_E same (equal_refl E))
+-- the impacts of no sub-score
+none_impact : (k : ℕ) (changed : Bool) → modified_impact_of k changed (0 over 1_000_000) ⊑ whole 0
+unfolding power changed_impact changed_modified_impact
+none_impact k false = at_most_if _ (whole 0) refl
+none_impact zero true = at_most_if (changed_impact (0 over 1_000_000)) (whole 0) refl
+none_impact (suc k) true = at_most_if (changed_modified_impact (0 over 1_000_000)) (whole 0) refl
 
-pub no_impact : (minor : ℕ) (changed : Bool) (I I' E : Exact) → 0 < I.bottom → 0 < I'.bottom → 0 < E.bottom → I ≈ I'
-    → int_lt (pos 0) I.top ≡ false → StandsFor minor changed (0 over (10 ^ 13)) (first_number changed I' E)
-no_impact minor changed I I' E some some' some_E same none =
-    let zeros : 0 over (10 ^ 13) ≈ whole 0 = record { equal = refl } in
-    equal_stands minor changed (lit< tt) (first_bottom changed I' E some' some_E)
-    (equal_trans (lit< tt) zeros (no_number changed I I' E some some' some_E same none))
+-- what the code gives for them where the scope is changed
+abbrev pub without_impact : Exact
+without_impact = ratio (negsuc 21_807_999_999) (10 ^ 11)
 
--- with the scope unchanged the number is exact
-pub unchanged_stands : (minor n i s e : ℕ) (S E : Exact) → 0 < S.bottom → 0 < E.bottom → s over 1_000_000 ≈ S → e over (10 ^ 10) ≈ E
-    → i over (10 ^ 11) ≈ unchanged_impact (s over 1_000_000)
-    → n over (10 ^ 13) ≈ first_number false (i over (10 ^ 11)) (e over (10 ^ 10))
-    → StandsFor minor false (n over (10 ^ 13)) (first_number false (unchanged_impact S) E)
-unchanged_stands minor n i s e S E some_S some_E is_S is_E is_i is_n =
-    let is_impact = equal_trans (lit< tt) is_i (product_equal (equal_refl (642 over 100)) is_S) in
-    let is_first = first_equal false (lit< tt) (omega arith) (lit< tt) some_E is_impact is_E in
-    equal_stands minor false (lit< tt) (first_bottom false (unchanged_impact S) E (omega arith) some_E)
-    (equal_trans (first_bottom false (i over (10 ^ 11)) (e over (10 ^ 10)) (lit< tt) (lit< tt)) is_n is_first)
+close_if : (n : Exact) → is_at_most without_impact (n ⊕ half) ≡ true → is_at_most n (without_impact ⊕ half) ≡ true → Approximates true without_impact n
+close_if n above below = record {
+  close = record { not_above = at_most_if without_impact (n ⊕ half) above; not_below = at_most_if n (without_impact ⊕ half) below };
+  exact = λ is_false. absurd cc;
+}
 
--- of an impact J that is exact for the listed sub-score, and equal to the equations' I
-module _ (minor e : ℕ) (changed : Bool) (J I E : Exact) (some_J : 0 < J.bottom) (some_I : 0 < I.bottom) (some_E : 0 < E.bottom)
-    (same_I : J ≈ I) (same_E : e over (10 ^ 10) ≈ E) (settles : SettlesWith changed J e) where
-  settled_first : Exact
-  settled_first = first_number changed J (e over (10 ^ 10))
+none_close : (k : ℕ) → Approximates true without_impact (modified_impact_of k true (0 over 1_000_000))
+unfolding power changed_impact changed_modified_impact
+none_close zero = close_if (changed_impact (0 over 1_000_000)) refl refl
+none_close (suc k) = close_if (changed_modified_impact (0 over 1_000_000)) refl refl
 
-  settled_bottom : 0 < settled_first.bottom
-  unfolding settled_first
-  settled_bottom = first_bottom changed J (e over (10 ^ 10)) some_J (lit< tt)
+pub none_approximates : (k s : ℕ) (changed : Bool) → changed ≡ true → s ≡ 0
+    → Approximates changed without_impact (modified_impact_of k changed (s over 1_000_000))
+none_approximates k s changed is_changed is_zero =
+    subst (λ b. Approximates b without_impact (modified_impact_of k b (s over 1_000_000))) (sym is_changed)
+    (subst (λ n. Approximates true without_impact (modified_impact_of k true (n over 1_000_000))) (sym is_zero) (none_close k))
 
-  same_first : settled_first ≈ first_number changed I E
-  unfolding settled_first
-  same_first = first_equal changed some_J some_I (lit< tt) some_E same_I same_E
+-- and their first number
+none_number : (k : ℕ) (changed : Bool) (E : Exact) → first_number changed (modified_impact_of k changed (0 over 1_000_000)) E ≡ whole 0
+unfolding power changed_impact changed_modified_impact
+none_number k false E = refl
+none_number zero true E = refl
+none_number (suc k) true E = refl
 
-  -- the rounding of the first number
-  first_rounded : IsRounded minor (first_number changed I E) (settles.settled.tenths_by minor)
-  unfolding settled_first
-  first_rounded =
-      let n = settled_first in
-      let itself : IsWithinError n n = record {
-        low = above_itself n;
-        high = above_itself n;
-        to_ten = subst (λ z. z ⊑ whole 10) (sym (first_is changed J (e over (10 ^ 10)) settles.above_zero))
-            (capped_to_ten (total_of changed J (e over (10 ^ 10))));
-      } in
-      rounds_equal minor settled_bottom (first_bottom changed I E some_I some_E) same_first (settles.settled.tenths_by minor)
-      (settles.settled.rounding minor n settled_bottom itself)
+-- the code's number 0 stands for it
+pub none_stands : (minor k : ℕ) (changed : Bool) (s e : ℕ) → s ≡ 0
+    → StandsFor minor changed (0 over (10 ^ 13)) (first_number changed (modified_impact_of k changed (s over 1_000_000)) (e over (10 ^ 10)))
+none_stands minor k changed s e is_zero =
+    subst (λ n. StandsFor minor changed (0 over (10 ^ 13)) (first_number changed (modified_impact_of k changed (n over 1_000_000)) (e over (10 ^ 10))))
+    (sym is_zero) (subst (λ n. StandsFor minor changed (0 over (10 ^ 13)) n) (sym (none_number k changed (e over (10 ^ 10))))
+    (equal_stands minor changed (lit< tt) (lit< tt) (record { equal = refl })))
 
-  settled_rounds : (n i : ℕ) → 0 < i → n ≤ 10 ^ 14 → IsNear (i over (10 ^ 11)) J
-      → n over (10 ^ 13) ≈ first_number changed (i over (10 ^ 11)) (e over (10 ^ 10))
-      → RoundsAs minor (n over (10 ^ 13)) (first_number changed I E)
-  unfolding settled_first
-  settled_rounds n i some_i to_ten near is_n r rounded =
-      let x = n over (10 ^ 13) in
-      let code = first_number changed (i over (10 ^ 11)) (e over (10 ^ 10)) in
-      let some_code : 0 < code.bottom = first_bottom changed (i over (10 ^ 11)) (e over (10 ^ 10)) (lit< tt) (lit< tt) in
-      let first_numbers = first_near changed i e J.top J.bottom some_i some_J settles.above_zero near in
-      let same_error : error ⊑ error = record { at_most = omega (arith, ints) } in
-      let x_error = sum_at_most code x error error (equal_at_most code x (equal_sym is_n)) same_error in
-      let within : IsWithinError settled_first x = record {
-        low = at_most_trans settled_first (code ⊕ error) (x ⊕ error) (omega arith) first_numbers.1 x_error;
-        high = at_most_trans x code (settled_first ⊕ error) some_code (equal_at_most x code is_n) first_numbers.0;
-        to_ten = record { at_most = omega (arith, ints) };
-      } in
-      let x_rounded = settles.settled.rounding minor x (lit< tt) within in
-      subst (λ z. IsRounded minor (first_number changed I E) z)
-      (rounded_once minor x (settles.settled.tenths_by minor) r (lit< tt) x_rounded rounded) first_rounded
+-- with impact, its numbers are those of the listed parts
+pub some_approximates : (k s : ℕ) (changed : Bool) (top : ℤ) → IsSubScore s → top ≡ pos (impact_units k changed s)
+    → Approximates changed (ratio top (10 ^ 11)) (modified_impact_of k changed (s over 1_000_000))
+some_approximates k s changed top sub_score is =
+    subst (λ n. Approximates changed (ratio n (10 ^ 11)) (modified_impact_of k changed (s over 1_000_000))) (sym is) (settles k changed s sub_score).near
 
-  settled_close : (n i : ℕ) → 0 < i → IsNear (i over (10 ^ 11)) J
-      → n over (10 ^ 13) ≈ first_number changed (i over (10 ^ 11)) (e over (10 ^ 10))
-      → IsCloseTo (first_number changed I E) (n over (10 ^ 13))
-  unfolding settled_first
-  settled_close n i some_i near is_n =
-      let code = first_number changed (i over (10 ^ 11)) (e over (10 ^ 10)) in
-      let some_code : 0 < code.bottom = first_bottom changed (i over (10 ^ 11)) (e over (10 ^ 10)) (lit< tt) (lit< tt) in
-      let close = first_close changed i e J.top J.bottom some_i some_J settles.above_zero near in
-      number_close settled_bottom same_first (count_close some_code is_n (record { not_above = close.0; not_below = close.1 }))
+pub some_stands : (minor k n s e : ℕ) (changed : Bool) → IsSubScore s → Contains (exploitabilities changed) e
+    → n ≡ total_units changed (impact_units k changed s) e
+    → StandsFor minor changed (n over (10 ^ 13)) (first_number changed (modified_impact_of k changed (s over 1_000_000)) (e over (10 ^ 10)))
+some_stands minor k n s e changed sub_score listed is =
+    let m = first_number changed (modified_impact_of k changed (s over 1_000_000)) (e over (10 ^ 10)) in
+    let x = total_units changed (impact_units k changed s) e over (10 ^ 13) in
+    let settled = (settles k changed s sub_score).number e listed in
+    let some = first_bottom changed (modified_impact_of k changed (s over 1_000_000)) (e over (10 ^ 10)) (impact_bottom k changed (s over 1_000_000) (lit< tt)) (lit< tt) in
+    let rounded = settled_rounding minor m x.top x.bottom settled.at some (lit< tt) settled.within in
+    subst (λ y. StandsFor minor changed (y over (10 ^ 13)) m) (sym is) (record {
+      rounds = λ r is_r. subst (λ z. IsRounded minor m z) (rounded_once minor x (settled_tenths minor m) r (lit< tt) rounded is_r)
+          (settled_rounding minor m m.top m.bottom settled.at some some settled.itself);
+      near = settled.near;
+    })
 
-  pub settled_stands : changed ≡ true → (n i : ℕ) → 0 < i → n ≤ 10 ^ 14 → IsNear (i over (10 ^ 11)) J
-      → n over (10 ^ 13) ≈ first_number changed (i over (10 ^ 11)) (e over (10 ^ 10))
-      → StandsFor minor changed (n over (10 ^ 13)) (first_number changed I E)
-  settled_stands is_changed n i some_i to_ten near is_n = record {
-    rounds = settled_rounds n i some_i to_ten near is_n;
-    close = settled_close n i some_i near is_n;
-    exact = λ is_unchanged. absurd (cc);
-  }
+-- the first number of the equations equals that of the listed parts
+module _ (k : ℕ) (changed : Bool) (s : ℕ) (S : Exact) (e : ℕ) (E : Exact) (parts : AreParts changed s S e E) where
+  own_bottom : 0 < (first_number changed (modified_impact_of k changed (s over 1_000_000)) (e over (10 ^ 10))).bottom
+  own_bottom = first_bottom changed (modified_impact_of k changed (s over 1_000_000)) (e over (10 ^ 10)) (impact_bottom k changed (s over 1_000_000) (lit< tt)) (lit< tt)
 
-  pub settled_certain : IsCertain minor (first_number changed I E)
-  unfolding settled_first
-  settled_certain = record {
-    rounding = settles.settled.tenths_by minor;
-    is_rounding = first_rounded;
-    same_rounding = λ x some_x low high to_ten.
-        let n = first_number changed I E in
-        let m = settled_first in
-        let same_error : error ⊑ error = record { at_most = omega (arith, ints) } in
-        let n_error = sum_at_most n m error error (equal_at_most n m (equal_sym same_first)) same_error in
-        let some_n = first_bottom changed I E some_I some_E in
-        settles.settled.rounding minor x some_x (record {
-          low = at_most_trans m n (x ⊕ error) some_n (equal_at_most m n same_first) (error_moved n x low);
-          high = at_most_trans x (n ⊕ error) (m ⊕ error) (above_zero _ 1_000_000 some_n (lit< tt)) high n_error;
-          to_ten = to_ten;
-        });
-  }
+  pub number_bottom : 0 < (first_number changed (modified_impact_of k changed S) E).bottom
+  number_bottom = first_bottom changed (modified_impact_of k changed S) E (impact_bottom k changed S parts.some_S) parts.some_E
 
--- of such an impact, the number has the same rounding when it is cut
-pub settled_same_when_cut : (e : ℕ) (changed : Bool) (J I E : Exact) → 0 < J.bottom → 0 < I.bottom → 0 < E.bottom → J ≈ I
-    → e over (10 ^ 10) ≈ E → SettlesWith changed J e → IsSameWhenCut (first_number changed I E)
-settled_same_when_cut e changed J I E some_J some_I some_E same_I same_E settles r cut =
-    let n = first_number changed I E in
-    let m = first_number changed J (e over (10 ^ 10)) in
-    let s = settles.settled.tenths_by 1 in
-    let some_m = first_bottom changed J (e over (10 ^ 10)) some_J (lit< tt) in
-    let order = equal_at_most m n (first_equal changed some_J some_I (lit< tt) some_E same_I same_E) in
-    let is_s : IsRounded 1 n s = first_rounded 1 e changed J I E some_J some_I some_E same_I same_E settles in
-    let zero_error : whole 0 ⊑ error = record { at_most = omega (arith, ints) } in
-    let from_zero = at_most_trans (whole 0) m n some_m
-    (at_most_trans (whole 0) error m (lit< tt) zero_error settles.settled.from_error) order in
-    let above = at_most_trans (tenths (s -ℤ pos 1) ⊕ 1 over 100_000) m n some_m settles.settled.from_cut order in
-    subst (λ (z : ℤ). IsRounded 1 n z) (sym (cut_is n r s (first_bottom changed I E some_I some_E) from_zero above is_s cut)) is_s
+  pub number_equal : first_number changed (modified_impact_of k changed (s over 1_000_000)) (e over (10 ^ 10))
+      ≈ first_number changed (modified_impact_of k changed S) E
+  number_equal =
+      first_equal changed (impact_bottom k changed (s over 1_000_000) (lit< tt)) (impact_bottom k changed S parts.some_S) (lit< tt) parts.some_E
+      (impact_equal k changed parts.is_S) parts.is_E
+
+  -- of a settled one
+  module _ (sub_score : IsSubScore s) where
+    settled : IsSettled changed (first_number changed (modified_impact_of k changed (s over 1_000_000)) (e over (10 ^ 10)))
+        (total_units changed (impact_units k changed s) e over (10 ^ 13))
+    settled = (settles k changed s sub_score).number e parts.listed
+
+    some_rounded : (minor : ℕ) → IsRounded minor (first_number changed (modified_impact_of k changed S) E)
+        (settled_tenths minor (first_number changed (modified_impact_of k changed (s over 1_000_000)) (e over (10 ^ 10))))
+    some_rounded minor =
+        let n = first_number changed (modified_impact_of k changed (s over 1_000_000)) (e over (10 ^ 10)) in
+        rounds_equal minor own_bottom number_bottom number_equal _
+        (settled_rounding minor n n.top n.bottom settled.at own_bottom own_bottom settled.itself)
+
+    some_certain : (minor : ℕ) → IsCertain minor (first_number changed (modified_impact_of k changed S) E)
+    some_certain minor =
+        let n = first_number changed (modified_impact_of k changed (s over 1_000_000)) (e over (10 ^ 10)) in
+        let m = first_number changed (modified_impact_of k changed S) E in
+        record {
+          rounding = settled_tenths minor n;
+          is_rounding = some_rounded minor;
+          same_rounding = λ x some_x low high to_ten.
+              let lower = equal_at_most (n ⊖ error) (m ⊖ error) (difference_equal number_equal (equal_refl error)) in
+              let higher = equal_at_most (m ⊕ error) (n ⊕ error) (sum_equal (equal_sym number_equal) (equal_refl error)) in
+              settled_rounding minor n x.top x.bottom settled.at own_bottom some_x (record {
+                low = at_most_trans (n ⊖ error) (m ⊖ error) x (omega (arith, number_bottom)) lower low;
+                high = not_below_cap x (n ⊕ error) (at_most_trans x (m ⊕ error) (n ⊕ error) (omega (arith, number_bottom)) high higher) to_ten;
+              });
+        }
+
+    some_cut : IsSameWhenCut (first_number changed (modified_impact_of k changed S) E)
+    some_cut =
+        let n = first_number changed (modified_impact_of k changed (s over 1_000_000)) (e over (10 ^ 10)) in
+        let m = first_number changed (modified_impact_of k changed S) E in
+        let r = settled_tenths 1 n in
+        let order = equal_at_most n m number_equal in
+        cut_is m r number_bottom (at_most_trans (whole 0) n m own_bottom settled.at.not_negative order)
+        (at_most_trans (tenths (r -ℤ pos 1) ⊕ 1 over 100_000) n m own_bottom settled.at.from_cut order) (some_rounded 1)
+
+  -- without impact the number is 0
+  none_equal : s ≡ 0 → whole 0 ≈ first_number changed (modified_impact_of k changed S) E
+  none_equal is_zero =
+      subst (λ z. z ≈ first_number changed (modified_impact_of k changed S) E) (none_number k changed (e over (10 ^ 10)))
+      (subst (λ n. first_number changed (modified_impact_of k changed (n over 1_000_000)) (e over (10 ^ 10)) ≈ first_number changed (modified_impact_of k changed S) E)
+      is_zero number_equal)
+
+  pub certain : (minor : ℕ) → whole 0 ⊏ modified_impact_of k changed S → IsCertain minor (first_number changed (modified_impact_of k changed S) E)
+  certain minor above = elim parts.sub_score as (λ _. IsCertain minor (first_number changed (modified_impact_of k changed S) E)) [
+    | inl is_zero ↦
+        let impact = modified_impact_of k changed S in
+        let own = modified_impact_of k changed (0 over 1_000_000) in
+        let is_S = subst (λ n. n over 1_000_000 ≈ S) is_zero parts.is_S in
+        let low = at_most_trans impact own (whole 0) (impact_bottom k changed (0 over 1_000_000) (lit< tt))
+        (equal_at_most impact own (equal_sym (impact_equal k changed is_S))) (none_impact k changed) in
+        let below = below_at_most (whole 0) impact (whole 0) (lit< tt) above low in
+        absurd (omega (arith, ints, below.below))
+    | inr sub_score ↦ some_certain sub_score minor
+  ]
+
+  pub same_when_cut : IsSameWhenCut (first_number changed (modified_impact_of k changed S) E)
+  same_when_cut = elim parts.sub_score as (λ _. IsSameWhenCut (first_number changed (modified_impact_of k changed S) E)) [
+    | inl is_zero ↦
+        let n = first_number changed (modified_impact_of k changed S) E in
+        let from_zero = equal_at_most (whole 0) n (none_equal is_zero) in
+        let same : 0 over (10 ^ 13) ≈ n = equal_trans (lit< tt) (record { equal = refl }) (none_equal is_zero) in
+        cut_is n (pos 0) number_bottom from_zero
+        (at_most_trans (tenths (pos 0 -ℤ pos 1) ⊕ 1 over 100_000) (whole 0) n (lit< tt) (record { at_most = omega (arith, ints) }) from_zero)
+        (rounds_equal 1 (lit< tt) number_bottom same (pos 0) (rounded_v31 0))
+    | inr sub_score ↦ some_cut sub_score
+  ]
+
+-- a number that stands for the first number of the code's parts stands for that of the equations' parts
+pub stands_of : (minor k n s e : ℕ) (c d : Bool) (S E : Exact) → 0 < S.bottom → 0 < E.bottom → c ≡ d
+    → s over 1_000_000 ≈ S → e over (10 ^ 10) ≈ E
+    → StandsFor minor c (n over (10 ^ 13)) (first_number c (modified_impact_of k c (s over 1_000_000)) (e over (10 ^ 10)))
+    → StandsFor minor d (n over (10 ^ 13)) (first_number d (modified_impact_of k d S) E)
+stands_of minor k n s e c d S E some_S some_E same is_S is_E stands =
+    let own = subst (λ b. StandsFor minor b (n over (10 ^ 13)) (first_number b (modified_impact_of k b (s over 1_000_000)) (e over (10 ^ 10)))) same stands in
+    let some_s = impact_bottom k d (s over 1_000_000) (lit< tt) in
+    let some = impact_bottom k d S some_S in
+    number_stands minor d (first_bottom d (modified_impact_of k d (s over 1_000_000)) (e over (10 ^ 10)) some_s (lit< tt))
+    (first_bottom d (modified_impact_of k d S) E some some_E)
+    (first_equal d some_s some (lit< tt) some_E (impact_equal k d is_S) is_E) own
+
+-- and so an impact approximates
+pub impact_of_parts : (k s : ℕ) (c d : Bool) (S x y : Exact) → 0 < x.bottom → y ≈ x → c ≡ d → s over 1_000_000 ≈ S
+    → Approximates c x (modified_impact_of k c (s over 1_000_000)) → Approximates d y (modified_impact_of k d S)
+impact_of_parts k s c d S x y some_x is_x same is_S near =
+    let own = subst (λ b. Approximates b x (modified_impact_of k b (s over 1_000_000))) same near in
+    count_approximates d some_x is_x (number_approximates d (impact_bottom k d (s over 1_000_000) (lit< tt)) (impact_equal k d is_S) own)

@@ -1,208 +1,188 @@
--- No rounding jumps near to the first number, for each value of the sub-scores.
-use Rattle.std.specs.Prelude.{unsigned_abs, int_lt}
+-- No rounding jumps near to the first number, for each value of the sub-scores, and the code's number lies near to it.
+use Rattle.std.specs.Prelude.{unsigned_abs}
 use Rattle.std.specs.List.{list_all, Contains}
-use Rattle.std.proofs.Common.{◌≡◌, ℕ, zero, suc, ◌+◌, ◌-◌, ◌*◌, ◌/◌, ◌^◌, ◌<◌, ℤ, pos, negsuc, ◌-ℤ◌, ◌*ℤ◌, Bool, true, false, ◌&&◌, ◌||◌, ◌⊎◌, inl, inr, arith, refl, lit<}
+use Rattle.std.proofs.Common.{◌≡◌, ℕ, zero, suc, ◌+◌, ◌-◌, ◌*◌, ◌/◌, ◌^◌, ◌<◌, ℤ, pos, negsuc, ◌-ℤ◌, Bool, true, false, ◌&&◌, ◌||◌, arith, refl}
 use Rattle.std.proofs.lemmas.Int.{ints}
-use Rattle.std.proofs.lemmas.Bool.{and_parts, or_cases}
-use Rattle.cvss_number.specs.Exact.{Exact, ratio, ◌over◌, whole, tenths, ◌⊕◌, ◌⊑◌, ◌⊏◌}
-use Rattle.cvss_number.proofs.ExactLemmas.{at_most_trans, at_most_below, below_at_most, times_sum, times_times}
-use Rattle.cvss_v3.proofs.SubScoreLemmas.{exploitabilities}
-use Rattle.cvss_v3.specs.Scores.{power, unchanged_impact, changed_impact, changed_modified_impact, first_number, IsRounded}
-use Rattle.cvss_v3.specs.private.SubScores.{sub_scores, IsSubScore}
-use Rattle.cvss_v3.proofs.EqualLemmas.{changed_bottom, changed_modified_bottom, first_bottom}
-use Rattle.cvss_v3.proofs.NearLemmas.{error}
-use Rattle.cvss_v3.proofs.RoundLemmas.{jump, between_jumps}
+use Rattle.std.proofs.lemmas.Bool.{and_parts}
+use Rattle.cvss_number.specs.Exact.{Exact, ratio, ◌over◌, whole, tenths, ◌⊕◌, ◌⊖◌, ◌≈◌, ◌⊑◌, ◌⊏◌}
+use Rattle.cvss_number.proofs.ExactLemmas.{equal_from_at_most, at_most_trans, at_most_below, below_at_most}
 use Rattle.cvss_number.proofs.TestLemmas.{is_below, is_at_most, below_if, at_most_if, passes}
+use Rattle.cvss_v3.specs.Scores.{power, unchanged_impact, changed_impact, changed_modified_impact, modified_impact_of, first_number, IsRounded}
+use Rattle.cvss_v3.specs.Closeness.{IsCloseTo}
+use Rattle.cvss_v3.specs.private.Near.{Approximates}
+use Rattle.cvss_v3.specs.private.SubScores.{sub_scores, exploitabilities, IsSubScore}
+use Rattle.cvss_v3.specs.private.Units.{changed_units, changed_modified_units, impact_units, total_units}
+use Rattle.cvss_v3.proofs.CapLemmas.{capped}
+use Rattle.cvss_v3.proofs.NearLemmas.{half}
+use Rattle.cvss_v3.proofs.RoundLemmas.{jump, between_jumps}
 
--- whether what lies within an error of n and is at most 10 is rounded to r tenths by v3.0, and by v3.1 to s, and n lies a
--- fifth decimal or more above the tenth before s
-unfoldable is_settled_at : Exact → ℤ → ℤ → Bool
+-- a millionth
+abbrev pub error : Exact
+error = 1 over 1_000_000
+
+-- whether x is close to n, and n where that is asked for
+unfoldable is_near : Bool → Exact → Exact → Bool
+is_near changed x n =
+    is_at_most x (n ⊕ half) && (is_at_most n (x ⊕ half) && (changed || (is_at_most x n && is_at_most n x)))
+
+near_if : (changed : Bool) (x n : Exact) → is_near changed x n ≡ true → Approximates changed x n
+unfolding is_near
+near_if changed x n holds =
+    let parts = and_parts (is_at_most x (n ⊕ half)) _ holds in
+    let after = and_parts (is_at_most n (x ⊕ half)) _ parts.1 in
+    let close : IsCloseTo n x = record { not_above = at_most_if x (n ⊕ half) parts.0; not_below = at_most_if n (x ⊕ half) after.0 } in
+    let same : (b : Bool) → (b || (is_at_most x n && is_at_most n x)) ≡ true → b ≡ false → x ≈ n =
+    λ b. elim b as (λ v. (v || (is_at_most x n && is_at_most n x)) ≡ true → v ≡ false → x ≈ n) [
+      | true ↦ λ either is_false. absurd cc
+      | false ↦ λ both is_false.
+          let orders = and_parts (is_at_most x n) _ both in
+          equal_from_at_most x n (at_most_if x n orders.0) (at_most_if n x orders.1)
+    ] in
+    record { close = close; exact = same changed after.1 }
+
+-- whether x lies within an error of n, at most 10
+unfoldable is_within : Exact → Exact → Bool
+is_within n x = is_at_most (n ⊖ error) x && is_at_most x (capped (n ⊕ error))
+
+pub record IsWithin (n x : Exact) : Type 0 where
+  pub low : n ⊖ error ⊑ x
+  pub high : x ⊑ capped (n ⊕ error)
+
+within_if : (n x : Exact) → is_within n x ≡ true → IsWithin n x
+unfolding is_within
+within_if n x holds =
+    let parts = and_parts (is_at_most (n ⊖ error) x) _ holds in
+    record { low = at_most_if (n ⊖ error) x parts.0; high = at_most_if x (capped (n ⊕ error)) parts.1 }
+
+-- whether what lies within an error of n is rounded to r tenths by v3.0, and by v3.1 to s, and n lies a fifth decimal or
+-- more above the tenth before s
+unfoldable is_settled_at : Exact → ℕ → ℕ → Bool
 is_settled_at n r s =
-    is_at_most error n && (is_below (tenths (r -ℤ pos 1) ⊕ error) n && ((is_at_most (n ⊕ error) (tenths r) || is_at_most (whole 10) (tenths r))
-    && (is_at_most (tenths (s -ℤ pos 1) ⊕ 1 over 100_000) n && (is_below (n ⊕ error) (jump s) || is_below (whole 10) (jump s)))))
+    is_at_most (whole 0) (n ⊖ error) && (is_below (tenths (pos r -ℤ pos 1)) (n ⊖ error)
+    && (is_at_most (capped (n ⊕ error)) (tenths (pos r)) && (is_at_most (jump (pos s -ℤ pos 1)) (n ⊖ error)
+    && (is_below (capped (n ⊕ error)) (jump (pos s)) && (is_at_most (whole 0) n && is_at_most (tenths (pos s -ℤ pos 1) ⊕ 1 over 100_000) n)))))
+
+pub record IsSettledAt (n : Exact) (r s : ℕ) : Type 0 where
+  pub from_zero : whole 0 ⊑ n ⊖ error
+  pub above_tenth : tenths (pos r -ℤ pos 1) ⊏ n ⊖ error
+  pub to_tenth : capped (n ⊕ error) ⊑ tenths (pos r)
+  pub from_jump : jump (pos s -ℤ pos 1) ⊑ n ⊖ error
+  pub below_jump : capped (n ⊕ error) ⊏ jump (pos s)
+  pub not_negative : whole 0 ⊑ n
+  pub from_cut : tenths (pos s -ℤ pos 1) ⊕ 1 over 100_000 ⊑ n
+
+settled_at : (n : Exact) (r s : ℕ) → is_settled_at n r s ≡ true → IsSettledAt n r s
+unfolding is_settled_at
+settled_at n r s settled =
+    let first = and_parts (is_at_most (whole 0) (n ⊖ error)) _ settled in
+    let second = and_parts (is_below (tenths (pos r -ℤ pos 1)) (n ⊖ error)) _ first.1 in
+    let third = and_parts (is_at_most (capped (n ⊕ error)) (tenths (pos r))) _ second.1 in
+    let fourth = and_parts (is_at_most (jump (pos s -ℤ pos 1)) (n ⊖ error)) _ third.1 in
+    let fifth = and_parts (is_below (capped (n ⊕ error)) (jump (pos s))) _ fourth.1 in
+    let last = and_parts (is_at_most (whole 0) n) _ fifth.1 in
+    record {
+      from_zero = at_most_if (whole 0) (n ⊖ error) first.0;
+      above_tenth = below_if (tenths (pos r -ℤ pos 1)) (n ⊖ error) second.0;
+      to_tenth = at_most_if (capped (n ⊕ error)) (tenths (pos r)) third.0;
+      from_jump = at_most_if (jump (pos s -ℤ pos 1)) (n ⊖ error) fourth.0;
+      below_jump = below_if (capped (n ⊕ error)) (jump (pos s)) fifth.0;
+      not_negative = at_most_if (whole 0) n last.0;
+      from_cut = at_most_if (tenths (pos s -ℤ pos 1) ⊕ 1 over 100_000) n last.1;
+    }
 
 -- the least tenth that is not below n
-unfoldable tenth_above : Exact → ℕ
+unfoldable pub tenth_above : Exact → ℕ
 tenth_above n = (10 * unsigned_abs n.top + n.bottom - 1) / n.bottom
 
 -- and that on the scale of the jumps
-unfoldable jump_above : Exact → ℕ
+unfoldable pub jump_above : Exact → ℕ
 jump_above n = (1_000_000 * unsigned_abs n.top + 99_995 * n.bottom) / (100_000 * n.bottom)
 
-unfoldable is_settled : Exact → Bool
-is_settled n = is_settled_at n (pos (tenth_above n)) (pos (jump_above n))
+-- what lies within an error of n has one rounding, and x lies so and is close
+pub record IsSettled (changed : Bool) (n x : Exact) : Type 0 where
+  pub at : IsSettledAt n (tenth_above n) (jump_above n)
+  pub itself : IsWithin n n
+  pub within : IsWithin n x
+  pub near : Approximates changed x n
 
--- whether that holds with each exploitability, and there is impact
-unfoldable settles : Bool → Exact → Bool
-settles changed impact =
-    int_lt (pos 0) impact.top
-    && list_all (λ e. is_settled (first_number changed impact (e over (10 ^ 10)))) (exploitabilities changed)
+unfoldable is_settled : Bool → Exact → Exact → Bool
+is_settled changed n x =
+    is_settled_at n (tenth_above n) (jump_above n) && (is_within n n && (is_within n x && is_near changed x n))
 
--- what the test says of n
-record IsSettledAt (n : Exact) (r s : ℤ) : Type 0 where
-  from_error : error ⊑ n
-  above_tenth : tenths (r -ℤ pos 1) ⊕ error ⊏ n
-  to_tenth : (n ⊕ error ⊑ tenths r) ⊎ (whole 10 ⊑ tenths r)
-  from_cut : tenths (s -ℤ pos 1) ⊕ 1 over 100_000 ⊑ n
-  from_jump : jump (s -ℤ pos 1) ⊕ error ⊑ n
-  below_jump : (n ⊕ error ⊏ jump s) ⊎ (whole 10 ⊏ jump s)
-
-settled_at : (n : Exact) (r s : ℤ) → is_settled_at n r s ≡ true → IsSettledAt n r s
-unfolding is_settled_at
-settled_at n r s settled =
-    let after = and_parts (is_at_most error n) _ settled in
-    let after_tenth = and_parts (is_below (tenths (r -ℤ pos 1) ⊕ error) n) _ after.1 in
-    let upper = and_parts (is_at_most (n ⊕ error) (tenths r) || is_at_most (whole 10) (tenths r)) _ after_tenth.1 in
-    let before = tenths (s -ℤ pos 1) ⊕ 1 over 100_000 in
-    let jumps = and_parts (is_at_most before n) (is_below (n ⊕ error) (jump s) || is_below (whole 10) (jump s)) upper.1 in
+settled_if : (changed : Bool) (n x : Exact) → is_settled changed n x ≡ true → IsSettled changed n x
+unfolding is_settled
+settled_if changed n x settled =
+    let parts = and_parts (is_settled_at n (tenth_above n) (jump_above n)) _ settled in
+    let after = and_parts (is_within n n) _ parts.1 in
+    let last = and_parts (is_within n x) _ after.1 in
     record {
-      from_error = at_most_if error n after.0;
-      above_tenth = below_if (tenths (r -ℤ pos 1) ⊕ error) n after_tenth.0;
-      to_tenth = elim (or_cases (is_at_most (n ⊕ error) (tenths r)) (is_at_most (whole 10) (tenths r)) upper.0) [
-        | inl holds ↦ inl (at_most_if (n ⊕ error) (tenths r) holds)
-        | inr holds ↦ inr (at_most_if (whole 10) (tenths r) holds)
-      ];
-      from_cut = at_most_if before n jumps.0;
-      from_jump = at_most_trans (jump (s -ℤ pos 1) ⊕ error) before n (lit< tt) (record { at_most = omega (arith, ints) })
-          (at_most_if before n jumps.0);
-      below_jump = elim (or_cases (is_below (n ⊕ error) (jump s)) (is_below (whole 10) (jump s)) jumps.1) [
-        | inl holds ↦ inl (below_if (n ⊕ error) (jump s) holds)
-        | inr holds ↦ inr (below_if (whole 10) (jump s) holds)
-      ];
-    }
-
--- an error goes from both sides
-at_most_less : (x y : Exact) → x ⊕ error ⊑ y ⊕ error → x ⊑ y
-at_most_less x y order =
-    record {
-      at_most = omega (
-        arith,
-        ints,
-        order.at_most,
-        times_sum (x.top *ℤ pos 1_000_000) (pos 1 *ℤ pos x.bottom) (y.bottom * 1_000_000),
-        times_sum (y.top *ℤ pos 1_000_000) (pos 1 *ℤ pos y.bottom) (x.bottom * 1_000_000),
-        times_times x.top (pos 1_000_000) (y.bottom * 1_000_000),
-        times_times y.top (pos 1_000_000) (x.bottom * 1_000_000),
-      );
-    }
-
-below_less : (x y : Exact) → x ⊕ error ⊏ y ⊕ error → x ⊏ y
-below_less x y order =
-    record {
-      below = omega (
-        arith,
-        ints,
-        order.below,
-        times_sum (x.top *ℤ pos 1_000_000) (pos 1 *ℤ pos x.bottom) (y.bottom * 1_000_000),
-        times_sum (y.top *ℤ pos 1_000_000) (pos 1 *ℤ pos y.bottom) (x.bottom * 1_000_000),
-        times_times x.top (pos 1_000_000) (y.bottom * 1_000_000),
-        times_times y.top (pos 1_000_000) (x.bottom * 1_000_000),
-      );
+      at = settled_at n (tenth_above n) (jump_above n) parts.0;
+      itself = within_if n n after.0;
+      within = within_if n x last.0;
+      near = near_if changed x n last.1;
     }
 
 -- the tenths to which a settled number is rounded by a minor version
-abbrev settled_tenths : ℕ → Exact → ℤ
+abbrev pub settled_tenths : ℕ → Exact → ℤ
 settled_tenths zero n = pos (tenth_above n)
 settled_tenths (suc minor) n = pos (jump_above n)
 
--- x lies within an error of n and is at most 10
-pub record IsWithinError (n x : Exact) : Type 0 where
-  pub low : n ⊑ x ⊕ error
-  pub high : x ⊑ n ⊕ error
-  pub to_ten : x ⊑ whole 10
+pub settled_rounding : (minor : ℕ) (n : Exact) (top : ℤ) (q : ℕ) → IsSettledAt n (tenth_above n) (jump_above n) → 0 < n.bottom → 0 < q
+    → IsWithin n (ratio top q) → IsRounded minor (ratio top q) (settled_tenths minor n)
+settled_rounding zero n top q at some some_q within = record {
+  not_below = at_most_trans (ratio top q) (capped (n ⊕ error)) (tenths (pos (tenth_above n))) (omega arith) within.high at.to_tenth;
+  least = below_at_most (tenths (pos (tenth_above n) -ℤ pos 1)) (n ⊖ error) (ratio top q) (omega arith) at.above_tenth within.low;
+}
+settled_rounding (suc minor) n (pos t) q at some some_q within =
+    let s = jump_above n in
+    between_jumps t q s some_q
+    (at_most_trans (jump (pos s -ℤ pos 1)) (n ⊖ error) (t over q) (omega arith) at.from_jump within.low)
+    (at_most_below (t over q) (capped (n ⊕ error)) (jump (pos s)) (omega arith) within.high at.below_jump)
+settled_rounding (suc minor) n (negsuc t) q at some some_q within =
+    let order = at_most_trans (whole 0) (n ⊖ error) (ratio (negsuc t) q) (omega arith) at.from_zero within.low in
+    absurd (omega (arith, ints, order.at_most))
 
-not_negative : (top : ℤ) (q : ℕ) (n : Exact) → 0 < n.bottom → error ⊑ n → n ⊑ ratio top q ⊕ error → whole 0 ⊑ ratio top q
-not_negative top q n some from_error low =
-    at_most_less (whole 0) (ratio top q) (at_most_trans error n (ratio top q ⊕ error) some from_error low)
+-- whether that holds with each exploitability, and the impact is close to the exact one
+unfoldable settle : Bool → Exact → ℕ → Bool
+settle changed impact units =
+    is_near changed (units over (10 ^ 11)) impact && list_all (λ e.
+    is_settled changed (first_number changed impact (e over (10 ^ 10))) (total_units changed units e over (10 ^ 13)))
+    (exploitabilities changed)
 
-settled_rounding : (minor : ℕ) (n : Exact) (top : ℤ) (q : ℕ) → is_settled n ≡ true → 0 < n.bottom → 0 < q
-    → IsWithinError n (ratio top q) → IsRounded minor (ratio top q) (settled_tenths minor n)
-unfolding is_settled
-settled_rounding zero n top q settled some some_q within =
-    let at = settled_at n (pos (tenth_above n)) (pos (jump_above n)) settled in
-    let r = pos (tenth_above n) in
+-- what the test says
+pub record Settles (changed : Bool) (impact : Exact) (units : ℕ) : Type 0 where
+  pub near : Approximates changed (units over (10 ^ 11)) impact
+  pub number : (e : ℕ) → Contains (exploitabilities changed) e
+      → IsSettled changed (first_number changed impact (e over (10 ^ 10))) (total_units changed units e over (10 ^ 13))
+
+settles_if : (changed : Bool) (impact : Exact) (units : ℕ) → settle changed impact units ≡ true → Settles changed impact units
+unfolding settle
+settles_if changed impact units holds =
+    let parts = and_parts (is_near changed (units over (10 ^ 11)) impact) _ holds in
     record {
-      not_below = elim at.to_tenth [
-        | inl n_high ↦ at_most_trans (ratio top q) (n ⊕ error) (tenths r) (omega arith) within.high n_high
-        | inr ten_high ↦ at_most_trans (ratio top q) (whole 10) (tenths r) (lit< tt) within.to_ten ten_high
-      ];
-      least = below_less (tenths (r -ℤ pos 1)) (ratio top q)
-          (below_at_most (tenths (r -ℤ pos 1) ⊕ error) n (ratio top q ⊕ error) (omega arith) at.above_tenth within.low);
-    }
-settled_rounding (suc minor) n (pos t) q settled some some_q within =
-    let at = settled_at n (pos (tenth_above n)) (pos (jump_above n)) settled in
-    let s = pos (jump_above n) in
-    between_jumps t q (jump_above n) some_q
-    (at_most_less (jump (s -ℤ pos 1)) (t over q)
-    (at_most_trans (jump (s -ℤ pos 1) ⊕ error) n (t over q ⊕ error) some at.from_jump within.low))
-    (elim at.below_jump [
-      | inl n_high ↦ at_most_below (t over q) (n ⊕ error) (jump s) some_q within.high n_high
-      | inr ten_high ↦ at_most_below (t over q) (whole 10) (jump s) some_q within.to_ten ten_high
-    ])
-settled_rounding (suc minor) n (negsuc t) q settled some some_q within =
-    let at = settled_at n (pos (tenth_above n)) (pos (jump_above n)) settled in
-    let from_zero = not_negative (negsuc t) q n some at.from_error within.low in
-    absurd (omega (arith, ints, from_zero.at_most))
-
--- all that lies within an error of n and is at most 10 has one rounding
-pub record IsSettled (n : Exact) : Type 0 where
-  pub tenths_by : ℕ → ℤ
-  pub from_error : error ⊑ n
-  pub from_cut : tenths (tenths_by 1 -ℤ pos 1) ⊕ 1 over 100_000 ⊑ n
-  pub rounding : (minor : ℕ) (x : Exact) → 0 < x.bottom → IsWithinError n x → IsRounded minor x (tenths_by minor)
-
-settled_apart : (n : Exact) → is_settled n ≡ true → IsSettledAt n (pos (tenth_above n)) (pos (jump_above n))
-unfolding is_settled
-settled_apart n settled = settled_at n (pos (tenth_above n)) (pos (jump_above n)) settled
-
--- there is impact, and with this exploitability the first number is settled
-pub record SettlesWith (changed : Bool) (impact : Exact) (e : ℕ) : Type 0 where
-  pub above_zero : int_lt (pos 0) impact.top ≡ true
-  pub settled : IsSettled (first_number changed impact (e over (10 ^ 10)))
-
-settles_with : (changed : Bool) (impact : Exact) (e : ℕ) → 0 < impact.bottom → settles changed impact ≡ true
-    → Contains (exploitabilities changed) e → SettlesWith changed impact e
-unfolding settles
-settles_with changed impact e some settling listed =
-    let n = first_number changed impact (e over (10 ^ 10)) in
-    let parts = and_parts (int_lt (pos 0) impact.top) _ settling in
-    let settled = passes (λ e. is_settled (first_number changed impact (e over (10 ^ 10)))) (exploitabilities changed) e parts.1 listed in
-    record {
-      above_zero = parts.0;
-      settled = record {
-        tenths_by = λ minor. settled_tenths minor n;
-        from_error = (settled_apart n settled).from_error;
-        from_cut = (settled_apart n settled).from_cut;
-        rounding = λ minor x some_x within.
-            settled_rounding minor n x.top x.bottom settled (first_bottom changed impact (e over (10 ^ 10)) some (lit< tt)) some_x within;
-      };
+      near = near_if changed (units over (10 ^ 11)) impact parts.0;
+      number = λ e listed. settled_if changed _ _ (passes (λ e.
+          is_settled changed (first_number changed impact (e over (10 ^ 10))) (total_units changed units e over (10 ^ 13)))
+          (exploitabilities changed) e parts.1 listed);
     }
 
-unchanged_settle : list_all (λ s. settles false (unchanged_impact (s over 1_000_000))) sub_scores ≡ true
-unfolding is_settled_at tenth_above jump_above is_settled settles
+unchanged_settle : list_all (λ s. settle false (unchanged_impact (s over 1_000_000)) (642_000 * s)) sub_scores ≡ true
+unfolding is_near is_within is_settled_at tenth_above jump_above is_settled settle
 unchanged_settle = refl
 
-changed_settle : list_all (λ s. settles true (changed_impact (s over 1_000_000))) sub_scores ≡ true
-unfolding is_settled_at tenth_above jump_above is_settled settles power changed_impact
+changed_settle : list_all (λ s. settle true (changed_impact (s over 1_000_000)) (changed_units s)) sub_scores ≡ true
+unfolding is_near is_within is_settled_at tenth_above jump_above is_settled settle power changed_impact changed_units
 changed_settle = refl
 
-changed_modified_settle : list_all (λ s. settles true (changed_modified_impact (s over 1_000_000))) sub_scores ≡ true
-unfolding is_settled_at tenth_above jump_above is_settled settles power changed_modified_impact
+changed_modified_settle : list_all (λ s. settle true (changed_modified_impact (s over 1_000_000)) (changed_modified_units s)) sub_scores ≡ true
+unfolding is_near is_within is_settled_at tenth_above jump_above is_settled settle power changed_modified_impact changed_modified_units
 changed_modified_settle = refl
 
-pub unchanged_settles : (s e : ℕ) → IsSubScore s → Contains (exploitabilities false) e
-    → SettlesWith false (unchanged_impact (s over 1_000_000)) e
-unchanged_settles s e sub_score listed =
-    settles_with false (unchanged_impact (s over 1_000_000)) e (lit< tt)
-    (passes (λ s. settles false (unchanged_impact (s over 1_000_000))) sub_scores s unchanged_settle sub_score.listed) listed
-
-pub changed_settles : (s e : ℕ) → IsSubScore s → Contains (exploitabilities true) e → SettlesWith true (changed_impact (s over 1_000_000)) e
-changed_settles s e sub_score listed =
-    settles_with true (changed_impact (s over 1_000_000)) e (changed_bottom (s over 1_000_000) (lit< tt))
-    (passes (λ s. settles true (changed_impact (s over 1_000_000))) sub_scores s changed_settle sub_score.listed) listed
-
-pub changed_modified_settles : (s e : ℕ) → IsSubScore s → Contains (exploitabilities true) e
-    → SettlesWith true (changed_modified_impact (s over 1_000_000)) e
-changed_modified_settles s e sub_score listed =
-    settles_with true (changed_modified_impact (s over 1_000_000)) e (changed_modified_bottom (s over 1_000_000) (lit< tt))
-    (passes (λ s. settles true (changed_modified_impact (s over 1_000_000))) sub_scores s changed_modified_settle sub_score.listed) listed
+pub settles : (minor : ℕ) (changed : Bool) (s : ℕ) → IsSubScore s
+    → Settles changed (modified_impact_of minor changed (s over 1_000_000)) (impact_units minor changed s)
+settles minor false s sub_score =
+    settles_if false _ _ (passes (λ s. settle false (unchanged_impact (s over 1_000_000)) (642_000 * s)) sub_scores s unchanged_settle sub_score.listed)
+settles zero true s sub_score =
+    settles_if true _ _ (passes (λ s. settle true (changed_impact (s over 1_000_000)) (changed_units s)) sub_scores s changed_settle sub_score.listed)
+settles (suc minor) true s sub_score =
+    settles_if true _ _ (passes (λ s. settle true (changed_modified_impact (s over 1_000_000)) (changed_modified_units s)) sub_scores s changed_modified_settle sub_score.listed)

@@ -1,26 +1,11 @@
 -- The values of the equations' parts over the weights of the tables, by trying all.
 use Rattle.std.specs.List.{list_all, Contains}
-use Rattle.std.proofs.Common.{◌≡◌, ℕ, ◌-◌, ◌*◌, ◌/◌, ◌≤◌, min, List, [], ◌∷◌, Bool, true, false, leb, eqb, ◌||◌, ◌⊎◌, inl, inr, arith, refl, subst, sym}
+use Rattle.std.proofs.Common.{◌≡◌, ℕ, ◌*◌, ◌/◌, ◌≤◌, min, List, Bool, true, false, leb, eqb, ◌||◌, ◌⊎◌, inl, inr, refl}
 use Rattle.std.proofs.lemmas.Bool.{leb-true, eqb-true, or_cases}
-use Rattle.cvss_v3.specs.private.SubScores.{sub_scores, weighted_impacts, IsSubScore}
+use Rattle.cvss_v3.specs.private.SubScores.{sub_scores, weighted_impacts, exploitabilities, IsSubScore}
+use Rattle.cvss_v3.specs.private.Units.{millionths_of}
 use Rattle.cvss_v3.specs.private.Weights.{attack_vectors, attack_complexities, privileges_required, user_interactions, impacts, requirements}
 use Rattle.cvss_number.proofs.TestLemmas.{passes, passes_three, is_listed, listed_if}
-
--- Exploitability by whether the scope is changed, in 10^-10, absent metrics included
-abbrev pub exploitabilities : Bool → List ℕ
-exploitabilities false =
-    0 ∷ 1210904640 ∷ 1660111200 ∷ 2119083120 ∷ 2780595840 ∷ 2905194600 ∷ 3329987760 ∷ 3753804384 ∷ 3812107200 ∷
-    4565305800 ∷ 4866042720 ∷ 5146344720 ∷ 5226276000 ∷ 5827478580 ∷ 6569157672 ∷ 6671187600 ∷ 7055472600 ∷
-    7646638560 ∷ 7989285150 ∷ 8619847104 ∷ 9006103260 ∷ 9145983000 ∷ 10483294800 ∷ 11817532320 ∷ 12347077050 ∷
-    13381617480 ∷ 14372259000 ∷ 15084732432 ∷ 16201455600 ∷ 18345765900 ∷ 20680681560 ∷ 22211673000 ∷
-    25151453250 ∷ 28352547300 ∷ 38870427750 ∷ []
-exploitabilities true =
-    0 ∷ 2242416000 ∷ 3049685760 ∷ 3074280000 ∷ 3812107200 ∷ 3924228000 ∷ 4181020800 ∷ 5226276000 ∷
-    5336950080 ∷ 5379990000 ∷ 6166644000 ∷ 6671187600 ∷ 6951489600 ∷ 7316786400 ∷ 8386635840 ∷ 8454270000 ∷
-    9145983000 ∷ 9454025856 ∷ 9530268000 ∷ 10483294800 ∷ 10791627000 ∷ 11497807200 ∷ 11817532320 ∷
-    12165106800 ∷ 12961164480 ∷ 13065690000 ∷ 14372259000 ∷ 14676612720 ∷ 14794972500 ∷ 16201455600 ∷
-    16544545248 ∷ 16677969000 ∷ 17769338400 ∷ 18345765900 ∷ 20121162600 ∷ 20680681560 ∷ 22211673000 ∷
-    22682037840 ∷ 22864957500 ∷ 25151453250 ∷ 28352547300 ∷ 31096342200 ∷ 38870427750 ∷ []
 
 -- no listed weight is above m
 pub weight_bound : (xs : List ℕ) (x m : ℕ) → list_all (λ y. leb y m) xs ≡ true → Contains xs x → x ≤ m
@@ -49,10 +34,6 @@ weighted_whole requirement impact is_requirement is_impact =
     (passes (λ r. list_all (λ i. eqb (r * i / 100 * 100) (r * i)) impacts) requirements requirement refl is_requirement)
     is_impact)
 
--- a sub-score in millionths, of weights in hundredths
-abbrev pub millionths_of : ℕ → ℕ → ℕ → ℕ
-millionths_of c i a = 1_000_000 - (100 - c) * (100 - i) * (100 - a)
-
 abbrev is_sub_score : ℕ → Bool
 is_sub_score s = eqb s 0 || is_listed sub_scores s
 
@@ -66,11 +47,6 @@ sub_score_if s holds = elim (or_cases (eqb s 0) (is_listed sub_scores s) holds) 
 pub some_sub_score : (s : ℕ) → (s ≡ 0) ⊎ IsSubScore s → ¬ (s ≡ 0) → IsSubScore s
 some_sub_score s (inl is_zero) some = absurd (some is_zero)
 some_sub_score s (inr sub_score) some = sub_score
-
--- and one that is 0 too is at most the greatest
-pub sub_score_bound : (s : ℕ) → (s ≡ 0) ⊎ IsSubScore s → s ≤ 915_000
-sub_score_bound s (inl is_zero) = omega arith
-sub_score_bound s (inr sub_score) = sub_score_high s sub_score
 
 pub iss_listed : (c i a : ℕ) → Contains impacts c → Contains impacts i → Contains impacts a
     → (millionths_of c i a ≡ 0) ⊎ IsSubScore (millionths_of c i a)
@@ -96,29 +72,15 @@ all_listed : (changed : Bool) → are_listed changed ≡ true
 all_listed false = refl
 all_listed true = refl
 
-pub exploitability_listed : (changed : Bool) (av ac pr ui e : ℕ) → e ≡ 822 * av * ac * pr * ui
-    → Contains attack_vectors av → Contains attack_complexities ac → Contains (privileges_required changed) pr
-    → Contains user_interactions ui → Contains (exploitabilities changed) e
-exploitability_listed changed av ac pr ui e is_e is_av is_ac is_pr is_ui =
+pub exploitability_listed : (changed : Bool) (av ac pr ui : ℕ) → Contains attack_vectors av → Contains attack_complexities ac
+    → Contains (privileges_required changed) pr → Contains user_interactions ui
+    → Contains (exploitabilities changed) (822 * av * ac * pr * ui)
+exploitability_listed changed av ac pr ui is_av is_ac is_pr is_ui =
     let of_four : ℕ → ℕ → ℕ → ℕ → Bool = λ av ac pr ui. is_listed (exploitabilities changed) (822 * av * ac * pr * ui) in
     let of_three : ℕ → ℕ → ℕ → Bool = λ av ac pr. list_all (of_four av ac pr) user_interactions in
     let of_two : ℕ → ℕ → Bool = λ av ac. list_all (of_three av ac) (privileges_required changed) in
     let of_one : ℕ → Bool = λ av. list_all (of_two av) attack_complexities in
-    let listed = listed_if (exploitabilities changed) (822 * av * ac * pr * ui)
+    listed_if (exploitabilities changed) (822 * av * ac * pr * ui)
     (passes (of_four av ac pr) user_interactions ui
     (passes (of_three av ac) (privileges_required changed) pr
-    (passes (of_two av) attack_complexities ac (passes of_one attack_vectors av (all_listed changed) is_av) is_ac) is_pr) is_ui) in
-    subst (Contains (exploitabilities changed)) (sym is_e) listed
-
--- with the scope changed
-pub changed_exploitability_listed : (changed : Bool) (av ac pr ui e : ℕ) → changed ≡ true → e ≡ 822 * av * ac * pr * ui
-    → Contains attack_vectors av → Contains attack_complexities ac → Contains (privileges_required changed) pr
-    → Contains user_interactions ui → Contains (exploitabilities true) e
-changed_exploitability_listed changed av ac pr ui e is_changed is_e is_av is_ac is_pr is_ui =
-    subst (λ b. Contains (exploitabilities b) e) is_changed
-    (exploitability_listed changed av ac pr ui e is_e is_av is_ac is_pr is_ui)
-
--- whatever the scope
-pub privileges_bound : (changed : Bool) (pr : ℕ) → Contains (privileges_required changed) pr → pr ≤ 100
-privileges_bound false pr listed = weight_bound (privileges_required false) pr 100 refl listed
-privileges_bound true pr listed = weight_bound (privileges_required true) pr 100 refl listed
+    (passes (of_two av) attack_complexities ac (passes of_one attack_vectors av (all_listed changed) is_av) is_ac) is_pr) is_ui)

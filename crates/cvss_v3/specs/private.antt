@@ -1,4 +1,5 @@
 pub mod Near
 pub mod SubScores
+pub mod Units
 pub mod VectorLaws
 pub mod Weights

@@ -1,66 +1,135 @@
 //! The equations of both specifications in whole numbers of small units.
 
-ghost use Rattle.std.specs.Prelude.{◌≡◌, ◌≤◌, ◌<◌, ◌*◌, ◌^◌};
+ghost use Rattle.std.specs.Prelude.{◌≡◌, ◌⊎◌, ◌≤◌, ◌<◌, ◌*◌, ◌/◌, ◌^◌, ◌≤ℤ◌, ℕ, pos, neg_ℤ};
 ghost use Rattle.std.specs.List.{Contains};
-ghost use Rattle.cvss_number.specs.Exact.{◌over◌, ◌⊗◌, ◌≈◌};
-ghost use Rattle.cvss_v3.specs.Scores.{hundredths, sub_score_of, unchanged_impact, exploitability_of, first_number};
-ghost use Rattle.cvss_v3.specs.private.SubScores.{weighted_impacts};
-ghost use Rattle.cvss_v3.specs.private.Weights.{impacts, requirements};
+ghost use Rattle.cvss_number.specs.Exact.{ratio, ◌over◌, ◌⊗◌, ◌≈◌};
+ghost use Rattle.cvss_v3.specs.Scores.{hundredths, first_number, modified_impact_of};
+ghost use Rattle.cvss_v3.specs.private.Near.{Approximates, StandsFor};
+ghost use Rattle.cvss_v3.specs.private.SubScores.{IsSubScore, exploitabilities};
+ghost use Rattle.cvss_v3.specs.private.Units.{millionths_of, impact_units, total_units};
 
-/// An impact times its requirement.
-pub fn weighted_impact(requirement: u64, impact: u64) -> u64
-    requires requirement { Contains requirements requirement }
-    requires impact { Contains impacts impact }
-    ensures value { hundredths result ≈ hundredths requirement ⊗ hundredths impact }
-    ensures listed { Contains weighted_impacts result }
+use crate::power::{changed_impact, changed_modified_impact};
+
+/// An impact times its requirement, cut to hundredths.
+#[inline(always)]
+pub fn weighted(requirement: u64, impact: u64) -> u64
+    requires requirement { requirement ≤ 150 }
+    requires impact { impact ≤ 56 }
+    ensures value { result ≡ requirement * impact / 100 }
+    ensures bound { result ≤ 84 }
 {
     requirement * impact / 100
 }
 
 /// 1 - (1 - C) * (1 - I) * (1 - A) in millionths, of three weights in hundredths.
+#[inline(always)]
 pub fn sub_score(c: u64, i: u64, a: u64) -> u64
     requires c { c ≤ 100 }
     requires i { i ≤ 100 }
     requires a { a ≤ 100 }
-    ensures value { result over 1_000_000 ≈ sub_score_of (hundredths c) (hundredths i) (hundredths a) }
+    ensures value { result ≡ millionths_of c i a }
     ensures bound { result ≤ 1_000_000 }
 {
     1_000_000 - (100 - c) * (100 - i) * (100 - a)
 }
 
 /// Exploitability in 10^-10, of four weights in hundredths.
+#[inline(always)]
 pub fn exploitability(av: u64, ac: u64, pr: u64, ui: u64) -> u64
     requires av { av ≤ 100 }
     requires ac { ac ≤ 100 }
     requires pr { pr ≤ 100 }
     requires ui { ui ≤ 100 }
-    ensures value { result over (10 ^ 10) ≈ exploitability_of av ac pr ui }
+    ensures value { result ≡ 822 * av * ac * pr * ui }
     ensures bound { result ≤ 822 * 10 ^ 8 }
 {
     822 * av * ac * pr * ui
 }
 
-/// 6.42 * ISS in 10^-11, of an ISS or MISS in millionths.
-pub fn unchanged_impact(iss: u64) -> u64
-    requires { iss ≤ 1_000_000 }
-    ensures value { result over (10 ^ 11) ≈ unchanged_impact (iss over 1_000_000) }
-    ensures above_zero { 0 < iss → 0 < result }
-    ensures bound { result ≤ 10 ^ 12 }
+/// So many tenths times three weights in hundredths, in 10^-7.
+#[inline(always)]
+pub fn temporal(tenths: u64, e: u64, rl: u64, rc: u64) -> u64
+    requires tenths { tenths ≤ 100 }
+    requires e { e ≤ 100 }
+    requires rl { rl ≤ 100 }
+    requires rc { rc ≤ 100 }
+    ensures value { result over (10 ^ 7)
+        ≈ ratio (pos tenths) 10 ⊗ hundredths e ⊗ hundredths rl ⊗ hundredths rc }
+    ensures to_ten { result ≤ 10 ^ 8 }
 {
-    642_000 * iss
+    tenths * (e * rl * rc)
 }
 
-/// What a score is the rounding of, in 10^-13: of an impact in 10^-11, which is not 0, and an
-/// exploitability in 10^-10.
-pub fn first_number(impact: u64, exploitability: u64, changed: bool) -> u64
-    requires above_zero { 0 < impact }
+/// Impact and Modified Impact in 10^-11, of a sub-score in millionths that is not 0.
+#[inline(always)]
+fn impact(sub_score: u64, changed: bool, minor_version: usize) -> u64
+    requires { IsSubScore sub_score }
+    ensures value { result ≡ impact_units minor_version changed sub_score }
+    ensures bound { result ≤ 10 ^ 12 }
+{
+    if !changed {
+        return 642_000 * sub_score;
+    }
+    if minor_version == 0 {
+        changed_impact(sub_score)
+    } else {
+        changed_modified_impact(sub_score)
+    }
+}
+
+/// Impact and Modified Impact in 10^-11, of a sub-score in millionths. Without one they are below 0
+/// where the scope is changed.
+pub fn signed_impact(sub_score: u64, changed: bool, minor_version: usize) -> i64
+    requires { (sub_score ≡ 0) ⊎ IsSubScore sub_score }
+    ensures value { Approximates changed (ratio result (10 ^ 11))
+        (modified_impact_of minor_version changed (sub_score over 1_000_000)) }
+    ensures low { neg_ℤ (pos (10 ^ 12)) ≤ℤ result }
+    ensures high { result ≤ℤ pos (10 ^ 12) }
+{
+    if sub_score != 0 {
+        return impact(sub_score, changed, minor_version) as i64;
+    }
+    if changed { WITHOUT_IMPACT } else { 0 }
+}
+
+/// 7.52 * (0 - 0.029) in 10^-11, whose power is nearer to 0 than that.
+const WITHOUT_IMPACT: i64 = -21_808_000_000;
+
+/// What a score is the rounding of, in 10^-13: of a sub-score in millionths and an exploitability in
+/// 10^-10.
+#[inline(always)]
+pub fn first_number(sub_score: u64, exploitability: u64, changed: bool, minor_version: usize) -> u64
+    requires sub_score { (sub_score ≡ 0) ⊎ IsSubScore sub_score }
+    requires listed { Contains (exploitabilities changed) exploitability }
+    requires exploitability { exploitability ≤ 822 * 10 ^ 8 }
+    ensures value { (minor : ℕ) → StandsFor minor changed (result over (10 ^ 13))
+        (first_number changed (modified_impact_of minor_version changed (sub_score over 1_000_000))
+        (exploitability over (10 ^ 10))) }
+    ensures to_ten { result ≤ 10 ^ 14 }
+{
+    if sub_score == 0 {
+        return 0;
+    }
+    total(
+        impact(sub_score, changed, minor_version),
+        exploitability,
+        changed,
+    )
+}
+
+/// What a score is the rounding of, in 10^-13: of an impact in 10^-11 and an exploitability in
+/// 10^-10.
+#[inline(always)]
+fn total(impact: u64, exploitability: u64, changed: bool) -> u64
     requires impact { impact ≤ 10 ^ 12 }
     requires exploitability { exploitability ≤ 822 * 10 ^ 8 }
-    ensures value { result over (10 ^ 13)
-        ≈ first_number changed (impact over (10 ^ 11)) (exploitability over (10 ^ 10)) }
+    ensures value { result ≡ total_units changed impact exploitability }
     ensures to_ten { result ≤ 10 ^ 14 }
 {
     let total = impact + 10 * exploitability;
-    let number = if changed { 108 * total } else { 100 * total };
-    number.min(100_000_000_000_000)
+    if changed {
+        (108 * total).min(100_000_000_000_000)
+    } else {
+        (100 * total).min(100_000_000_000_000)
+    }
 }

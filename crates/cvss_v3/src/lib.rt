@@ -1,7 +1,6 @@
 //! CVSS v3.0 and v3.1: their vectors and scores.
 #![tactic(auto)]
 
-mod account;
 mod equations;
 pub mod laws;
 mod power;

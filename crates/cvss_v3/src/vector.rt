@@ -3,12 +3,15 @@
 ghost use Rattle.std.specs.Prelude.{◌≡◌, ◌↔◌, IsTrue, IfSome, IsSome, IfOk, IfErr, IsErrAnd, Some, Ok};
 
 mod account;
+mod cutting;
 mod listing;
 mod printing;
 mod reading;
 mod refusing;
 mod scores;
 mod sight;
+mod units;
+mod weighing;
 
 use crate::metric::base::{
     AttackComplexity, AttackVector, Availability, Confidentiality, Integrity, PrivilegesRequired,

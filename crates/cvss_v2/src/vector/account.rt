@@ -1,15 +1,16 @@
 //! The numbers on the way to the scores of a vector.
 
-ghost use Rattle.std.specs.Prelude.{◌≡◌, ◌*◌, ◌^◌, ◌≤◌, ℤ, pos};
+ghost use Rattle.std.specs.Prelude.{◌≡◌, ◌*◌, ◌^◌, ℤ, pos};
 ghost use Rattle.cvss_number.specs.Exact.{of_count, tenths, thousandths, ◌≈◌, IsWithinLimit};
 ghost use Rattle.cvss_number.specs.Tenths.{IsInTenths};
 ghost use Rattle.cvss_v2.specs.Scores.{impact, adjusted_impact, exploitability, f, base_number, temporal_number, environmental_number, IsBase, IsTemporal};
 ghost use Rattle.cvss_v2.specs.Weights.{weight_in, weights_of};
 
-use crate::MetricType;
+use super::weighing::weight;
 use crate::metric::THOUSANDTH;
 use crate::score::Score;
 use crate::vector::Vector;
+use crate::{MetricType, base_score, equations};
 
 impl Vector {
     /// What a metric weighs in this vector, in counts of 10^-24 (guide, section 3.2): an absent one
@@ -21,36 +22,13 @@ impl Vector {
         i128::from(self.thousandths(metric)) * THOUSANDTH
     }
 
-    /// What a metric weighs in this vector, in thousandths.
-    fn thousandths(&self, metric: MetricType) -> u64
-        ensures value { result ≡ weight_in self.now metric }
-        ensures bound { result ≤ 1510 }
-    {
-        let weights = self.weights();
-        match metric {
-            MetricType::AV => weights.av,
-            MetricType::AC => weights.ac,
-            MetricType::Au => weights.au,
-            MetricType::C => weights.c,
-            MetricType::I => weights.i,
-            MetricType::A => weights.a,
-            MetricType::E => weights.e,
-            MetricType::RL => weights.rl,
-            MetricType::RC => weights.rc,
-            MetricType::CDP => weights.cdp,
-            MetricType::TD => weights.td,
-            MetricType::CR => weights.cr,
-            MetricType::IR => weights.ir,
-            MetricType::AR => weights.ar,
-        }
-    }
-
     /// f(Impact), which is 0 without impact and else 1.176 (guide, section 3.2.1).
     pub fn impact_factor(&self) -> Score
         ensures value { of_count result ≈ f (impact (weights_of self.now)) }
         ensures limit { IsWithinLimit result }
     {
-        self.weights().impact_factor()
+        let factor = base_score::factor(self.impact_units());
+        Score::new(i128::from(factor) * 1_000_000_000_000_000_000_000)
     }
 
     /// What the base score is the rounding of (guide, section 3.2.1), which is exact and may be
@@ -60,7 +38,8 @@ impl Vector {
             ≈ base_number (impact (weights_of self.now)) (exploitability (weights_of self.now)) }
         ensures limit { IsWithinLimit result }
     {
-        self.weights().base_number()
+        let number = base_score::number(self.impact_units(), self.exploitability_units());
+        Score::new(i128::from(number) * 1_000_000_000)
     }
 
     /// What the temporal score is the rounding of (guide, section 3.2.2), which is exact and may be
@@ -72,7 +51,11 @@ impl Vector {
             (thousandths (weights_of self.now).rl) (thousandths (weights_of self.now).rc) }
         ensures limit { IsWithinLimit result }
     {
-        self.weights().temporal_number()
+        let base = self.base_of(self.own_impact());
+        let e = weight(self.e, 1000);
+        let rl = weight(self.rl, 1000);
+        let number = equations::temporal_number(base, e, rl, weight(self.rc, 1000));
+        Score::new(number * 100_000_000_000_000)
     }
 
     /// The base score with the adjusted impact in the place of the impact (guide, section 3.2.3),
@@ -82,7 +65,7 @@ impl Vector {
             (IsBase (weights_of self.now) (adjusted_impact (weights_of self.now))) result }
         ensures limit { IsWithinLimit result }
     {
-        self.weights().adjusted_base()
+        Score::of_tenths(self.base_of(self.required_impact()))
     }
 
     /// AdjustedTemporal, the temporal score of the adjusted base score (guide, section 3.2.3), which
@@ -92,7 +75,7 @@ impl Vector {
             (IsTemporal (weights_of self.now) (adjusted_impact (weights_of self.now))) result }
         ensures limit { IsWithinLimit result }
     {
-        self.weights().adjusted_temporal()
+        Score::of_tenths(self.temporal_of(self.required_impact()))
     }
 
     /// What the environmental score is the rounding of (guide, section 3.2.3), which is exact and
@@ -104,6 +87,9 @@ impl Vector {
             (thousandths (weights_of self.now).cdp) (thousandths (weights_of self.now).td) }
         ensures limit { IsWithinLimit result }
     {
-        self.weights().environmental_number()
+        let temporal = self.temporal_of(self.required_impact());
+        let cdp = weight(self.cdp, 0);
+        let number = equations::environmental_number(temporal, cdp, weight(self.td, 1000));
+        Score::new(number * 100_000_000_000_000_000)
     }
 }

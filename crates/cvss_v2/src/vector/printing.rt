@@ -1,20 +1,18 @@
-//! How a vector is printed, and its metrics are listed.
+//! How a vector is printed.
 
-ghost use Rattle.std.specs.Prelude.{◌≡◌, Some, [], ◌∷◌, drop, option_map, unwrap_or};
+ghost use Rattle.std.specs.Prelude.{◌≡◌, Some, [], ◌∷◌, drop, option_map, unwrap_or, flat_map};
 ghost use Rattle.std.specs.Fmt.{WritesOnOk};
 ghost use Rattle.std.specs.Option.{option_copied};
-ghost use Rattle.cvss_text.specs.Listing.{listed_metrics, metrics_left};
 ghost use Rattle.cvss_text.specs.private.Printing.{slashed, slashed_texts};
 ghost use Rattle.cvss_grammar.specs.Text.{component};
 ghost use Rattle.cvss_name.specs.V2Types.{name_of};
 ghost use Rattle.cvss_grammar.specs.Version.{canonical_text};
 ghost use Rattle.cvss_name.specs.declared.v2.MetricType.TheVariants.{A, AC, Au, C, I, E, RL, RC, CDP, TD, CR, IR, AR};
-ghost use Rattle.cvss_v2.specs.Table.{spelling_of, printed, listed};
+ghost use Rattle.cvss_v2.specs.Table.{spelling_of, printed};
 ghost use Rattle.cvss_v2.specs.Vector.{v2};
 
 use crate::metric::{Metric, MetricType};
 use crate::vector::Vector;
-use cvss_text::metrics::{self, Listed};
 use cvss_text::print::{Printed, write_component, write_components, write_slashed};
 use std::fmt;
 
@@ -47,26 +45,43 @@ fn slashed_value<M: Metric>(value: Option<M>) -> Option<&'static str>
     value.map(|metric| metric.slashed())
 }
 
-/// Writes a slash and the component of a value, if there is one.
-fn write_value<M: Metric, W: fmt::Write>(value: Option<M>, f: &mut fmt::Formatter<W>) -> fmt::Result
-    ensures { WritesOnOk W.write_str_gives f.old result (unwrap_or (slashed
-        (option_map (component (name_of M.TYPE))
-        (option_map (λ metric. spelling_of M.TYPE (M.value metric)) value))) []) f.new }
+/// Writes up to three components, each with a slash before it.
+#[inline(always)]
+fn write_three<W: fmt::Write>(
+    first: Option<&'static str>,
+    second: Option<&'static str>,
+    third: Option<&'static str>,
+    f: &mut fmt::Formatter<W>,
+) -> fmt::Result
+    ensures { WritesOnOk W.write_str_gives f.old result (flat_map
+        (λ text. unwrap_or (option_copied text) [])
+        (first.entry ∷ second.entry ∷ third.entry ∷ [])) f.new }
 {
-    write_slashed(slashed_value(value), f)
+    write_slashed(first, f)?;
+    write_slashed(second, f)?;
+    write_slashed(third, f)
 }
 
 impl Vector {
-    /// Writes the base metrics behind the first, each with a slash before it.
-    fn write_base<W: fmt::Write>(&self, f: &mut fmt::Formatter<W>) -> fmt::Result
+    /// Writes the access metrics behind the first, each with a slash before it.
+    fn write_access<W: fmt::Write>(&self, f: &mut fmt::Formatter<W>) -> fmt::Result
         ensures { WritesOnOk W.write_str_gives f.old result
-            (slashed_texts v2 self.now (AC ∷ Au ∷ C ∷ I ∷ A ∷ [])) f.new }
+            (slashed_texts v2 self.now (AC ∷ Au ∷ [])) f.new }
     {
-        write_value(self.ac, f)?;
-        write_value(self.au, f)?;
-        write_value(self.c, f)?;
-        write_value(self.i, f)?;
-        write_value(self.a, f)
+        write_three(slashed_value(self.ac), slashed_value(self.au), None, f)
+    }
+
+    /// Writes the impacts, each with a slash before it.
+    fn write_impact<W: fmt::Write>(&self, f: &mut fmt::Formatter<W>) -> fmt::Result
+        ensures { WritesOnOk W.write_str_gives f.old result
+            (slashed_texts v2 self.now (C ∷ I ∷ A ∷ [])) f.new }
+    {
+        write_three(
+            slashed_value(self.c),
+            slashed_value(self.i),
+            slashed_value(self.a),
+            f,
+        )
     }
 
     /// Writes the temporal metrics, each with a slash before it.
@@ -74,21 +89,33 @@ impl Vector {
         ensures { WritesOnOk W.write_str_gives f.old result
             (slashed_texts v2 self.now (E ∷ RL ∷ RC ∷ [])) f.new }
     {
-        write_value(self.e, f)?;
-        write_value(self.rl, f)?;
-        write_value(self.rc, f)
+        write_three(
+            slashed_value(self.e),
+            slashed_value(self.rl),
+            slashed_value(self.rc),
+            f,
+        )
     }
 
-    /// Writes the environmental metrics, each with a slash before it.
-    fn write_environmental<W: fmt::Write>(&self, f: &mut fmt::Formatter<W>) -> fmt::Result
+    /// Writes what is lost and where, each with a slash before it.
+    fn write_loss<W: fmt::Write>(&self, f: &mut fmt::Formatter<W>) -> fmt::Result
         ensures { WritesOnOk W.write_str_gives f.old result
-            (slashed_texts v2 self.now (CDP ∷ TD ∷ CR ∷ IR ∷ AR ∷ [])) f.new }
+            (slashed_texts v2 self.now (CDP ∷ TD ∷ [])) f.new }
     {
-        write_value(self.cdp, f)?;
-        write_value(self.td, f)?;
-        write_value(self.cr, f)?;
-        write_value(self.ir, f)?;
-        write_value(self.ar, f)
+        write_three(slashed_value(self.cdp), slashed_value(self.td), None, f)
+    }
+
+    /// Writes the security requirements, each with a slash before it.
+    fn write_requirements<W: fmt::Write>(&self, f: &mut fmt::Formatter<W>) -> fmt::Result
+        ensures { WritesOnOk W.write_str_gives f.old result
+            (slashed_texts v2 self.now (CR ∷ IR ∷ AR ∷ [])) f.new }
+    {
+        write_three(
+            slashed_value(self.cr),
+            slashed_value(self.ir),
+            slashed_value(self.ar),
+            f,
+        )
     }
 
     /// Writes all metrics but the first, each with a slash before it.
@@ -96,9 +123,11 @@ impl Vector {
         ensures { WritesOnOk W.write_str_gives f.old result
             (slashed_texts v2 self.now (drop 1 printed)) f.new }
     {
-        self.write_base(f)?;
+        self.write_access(f)?;
+        self.write_impact(f)?;
         self.write_temporal(f)?;
-        self.write_environmental(f)
+        self.write_loss(f)?;
+        self.write_requirements(f)
     }
 }
 
@@ -111,43 +140,5 @@ impl fmt::Display for Vector {
         };
         write_component(av.slashed(), f)?;
         self.write_others(f)
-    }
-}
-
-/// The metrics that a vector has, each with the spelling of its value; at most 14.
-pub type Metrics = metrics::Metrics<Vector>;
-
-/// The metrics in the order in which they are listed.
-const LISTED: [MetricType; 14] = [
-    MetricType::AC,
-    MetricType::Au,
-    MetricType::AV,
-    MetricType::C,
-    MetricType::I,
-    MetricType::A,
-    MetricType::CR,
-    MetricType::IR,
-    MetricType::AR,
-    MetricType::CDP,
-    MetricType::TD,
-    MetricType::E,
-    MetricType::RC,
-    MetricType::RL,
-];
-
-impl Listed for Vector {
-    ghost order = { listed };
-
-    fn listed() -> &'static [MetricType] {
-        &LISTED
-    }
-}
-
-impl Vector {
-    /// The type and the spelling of each metric that the vector has. It takes no memory.
-    pub fn metrics(&self) -> Metrics
-        ensures { metrics_left v2 listed result ≡ listed_metrics v2 self.now listed }
-    {
-        Metrics::of(self)
     }
 }

@@ -1,34 +1,18 @@
 //! How a vector is filled from its components.
 
-ghost use Rattle.std.specs.Prelude.{◌≡◌, ◌∷◌, ◌++◌, IfSome};
-ghost use Rattle.cvss_grammar.specs.Text.{colon};
-ghost use Rattle.cvss_name.specs.V2Types.{name_of};
 ghost use Rattle.cvss_text.specs.private.Walk.{IsFilled};
 ghost use Rattle.cvss_v2.specs.Table.{spelling_of};
 ghost use Rattle.cvss_v2.specs.Vector.{v2};
 ghost use Rattle.cvss_v2.specs.private.VectorLaws.{v2_is_lawful};
 
+use super::cutting::cut_named;
 use crate::metric::{Metric, MetricType};
 use crate::vector::Vector;
+use MetricType::*;
 use cvss_text::walk::{Components, Slip};
 
 /// The metrics in printing order (guide, section 2.4).
-const PRINTED: [MetricType; 14] = [
-    MetricType::AV,
-    MetricType::AC,
-    MetricType::Au,
-    MetricType::C,
-    MetricType::I,
-    MetricType::A,
-    MetricType::E,
-    MetricType::RL,
-    MetricType::RC,
-    MetricType::CDP,
-    MetricType::TD,
-    MetricType::CR,
-    MetricType::IR,
-    MetricType::AR,
-];
+const PRINTED: [MetricType; 14] = [AV, AC, Au, C, I, A, E, RL, RC, CDP, TD, CR, IR, AR];
 
 impl Components for Vector {
     type Kind = MetricType;
@@ -87,30 +71,6 @@ impl Components for Vector {
             Vector { a: None, .. } => Some(MetricType::A),
             _ => None,
         }
-    }
-}
-
-/// The metric with whose name and a colon a piece begins, and what stands behind these.
-#[inline(always)]
-fn cut_named(piece: &[u8]) -> Option<(MetricType, &[u8])>
-    ensures { IfSome result (λ cut. piece.now ≡ name_of cut.0 ++ (colon ∷ cut.1.now)) }
-{
-    match piece {
-        [b'A', b'V', b':', value @ ..] => Some((MetricType::AV, value)),
-        [b'A', b'C', b':', value @ ..] => Some((MetricType::AC, value)),
-        [b'A', b'u', b':', value @ ..] => Some((MetricType::Au, value)),
-        [b'C', b':', value @ ..] => Some((MetricType::C, value)),
-        [b'I', b':', value @ ..] => Some((MetricType::I, value)),
-        [b'A', b':', value @ ..] => Some((MetricType::A, value)),
-        [b'E', b':', value @ ..] => Some((MetricType::E, value)),
-        [b'R', b'L', b':', value @ ..] => Some((MetricType::RL, value)),
-        [b'R', b'C', b':', value @ ..] => Some((MetricType::RC, value)),
-        [b'C', b'D', b'P', b':', value @ ..] => Some((MetricType::CDP, value)),
-        [b'T', b'D', b':', value @ ..] => Some((MetricType::TD, value)),
-        [b'C', b'R', b':', value @ ..] => Some((MetricType::CR, value)),
-        [b'I', b'R', b':', value @ ..] => Some((MetricType::IR, value)),
-        [b'A', b'R', b':', value @ ..] => Some((MetricType::AR, value)),
-        _ => None,
     }
 }
 

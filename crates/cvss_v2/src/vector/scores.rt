@@ -1,48 +1,23 @@
 //! The scores of a vector.
 
-ghost use Rattle.std.specs.Prelude.{◌≡◌, ◌≤◌, ◌*ℤ◌, ◌^◌, pos, option_map, unwrap_or};
+ghost use Rattle.std.specs.Prelude.{◌≤◌, ◌*ℤ◌, ◌^◌, pos};
 ghost use Rattle.cvss_number.specs.Exact.{of_count, ◌≈◌, IsWithinLimit};
 ghost use Rattle.cvss_v2.specs.Scores.{impact, adjusted_impact, exploitability, IsTemporal, IsBaseScore, IsTemporalScore, IsEnvironmentalScore};
 ghost use Rattle.cvss_number.specs.Tenths.{IsInTenths, IsFromZeroToTen};
-ghost use Rattle.cvss_v2.specs.Table.{weight_of};
-ghost use Rattle.cvss_v2.specs.private.Bounds.{greatest_weight, IsFromTable};
 ghost use Rattle.cvss_v2.specs.Weights.{weights_of};
 
-use crate::metric::Metric;
+use super::weighing::weight;
+use crate::equations;
 use crate::score::Score;
 use crate::vector::Vector;
-use crate::weights::Weights;
 
 impl Vector {
-    #[inline(always)]
-    pub(crate) fn weights(&self) -> Weights
-        ensures weights { result ≡ weights_of self.now }
-        ensures table { IsFromTable result }
-    {
-        Weights {
-            av: weight(self.av, 0),
-            ac: weight(self.ac, 0),
-            au: weight(self.au, 0),
-            c: weight(self.c, 0),
-            i: weight(self.i, 0),
-            a: weight(self.a, 0),
-            e: weight(self.e, 1000),
-            rl: weight(self.rl, 1000),
-            rc: weight(self.rc, 1000),
-            cdp: weight(self.cdp, 0),
-            td: weight(self.td, 1000),
-            cr: weight(self.cr, 1000),
-            ir: weight(self.ir, 1000),
-            ar: weight(self.ar, 1000),
-        }
-    }
-
     /// The impact sub-score (guide, section 3.2.1), which is exact.
     pub fn impact(&self) -> Score
         ensures value { of_count result ≈ impact (weights_of self.now) }
         ensures limit { IsWithinLimit result }
     {
-        self.weights().impact()
+        self.own_impact()
     }
 
     /// The exploitability sub-score (guide, section 3.2.1), which is exact.
@@ -50,7 +25,7 @@ impl Vector {
         ensures value { of_count result ≈ exploitability (weights_of self.now) }
         ensures limit { IsWithinLimit result }
     {
-        self.weights().exploitability()
+        self.own_exploitability()
     }
 
     /// The impact sub-score with the requirements (guide, section 3.2.3), which is exact.
@@ -58,7 +33,7 @@ impl Vector {
         ensures value { of_count result ≈ adjusted_impact (weights_of self.now) }
         ensures limit { IsWithinLimit result }
     {
-        self.weights().adjusted_impact()
+        self.required_impact()
     }
 
     /// The base score (guide, section 3.2.1), not below 0.
@@ -75,7 +50,7 @@ impl Vector {
         ensures value { IsBaseScore (weights_of self.now) (pos result *ℤ pos (10 ^ 23)) }
         ensures to_ten { result ≤ 100 }
     {
-        self.weights().tenths()
+        self.own_base().max(0) as u8
     }
 
     /// The temporal score (guide, section 3.2.2), not below 0.
@@ -83,7 +58,7 @@ impl Vector {
         ensures value { IsTemporalScore (weights_of self.now) result }
         ensures range { IsInTenths IsFromZeroToTen result }
     {
-        self.weights().temporal_score()
+        Score::published(self.temporal_of(self.own_impact()))
     }
 
     /// The environmental score (guide, section 3.2.3), not below 0.
@@ -91,7 +66,10 @@ impl Vector {
         ensures value { IsEnvironmentalScore (weights_of self.now) result }
         ensures range { IsInTenths IsFromZeroToTen result }
     {
-        self.weights().environmental_score()
+        let adjusted_temporal = self.temporal_of(self.required_impact());
+        let cdp = weight(self.cdp, 0);
+        let td = weight(self.td, 1000);
+        Score::published(equations::environmental_tenths(adjusted_temporal, cdp, td))
     }
 
     /// The temporal score with another impact in the place of the vector's own, which may be
@@ -101,20 +79,6 @@ impl Vector {
         ensures value { IsInTenths (IsTemporal (weights_of self.now) (of_count impact)) result }
         ensures limit { IsWithinLimit result }
     {
-        self.weights().temporal_score_internal(impact)
-    }
-}
-
-/// The weight of a value in thousandths, or that of an absent metric.
-#[inline(always)]
-fn weight<M: Metric>(value: Option<M>, absent: u64) -> u64
-    requires { absent ≤ greatest_weight M.TYPE }
-    ensures weight { result
-        ≡ unwrap_or (option_map (λ metric. weight_of M.TYPE (M.value metric)) value) absent }
-    ensures bound { result ≤ greatest_weight M.TYPE }
-{
-    match value {
-        Some(metric) => metric.thousandths(),
-        None => absent,
+        Score::of_tenths(self.temporal_of(impact))
     }
 }

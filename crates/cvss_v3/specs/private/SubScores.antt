@@ -1,7 +1,7 @@
 -- The values that the equations' parts take over the weights of the tables (v3.0 specification, 8.4; v3.1
 -- specification, 7.4), absent base metrics included. ISS takes 10 values, which are among the 68 of MISS. The
 -- contracts of private functions alone cite these.
-use Rattle.std.specs.Prelude.{ℕ, List, [], ◌∷◌}
+use Rattle.std.specs.Prelude.{ℕ, Bool, true, false, List, [], ◌∷◌}
 use Rattle.std.specs.List.{Contains}
 
 -- an impact times its requirement, in hundredths
@@ -22,3 +22,19 @@ sub_scores =
 -- ISS or MISS can be so many millionths, and is not 0
 pub record IsSubScore (n : ℕ) : Type 0 where
   pub listed : Contains sub_scores n
+
+-- Exploitability by whether the scope is changed, in 10^-10, absent metrics included
+abbrev pub exploitabilities : Bool → List ℕ
+exploitabilities false =
+    0 ∷ 1210904640 ∷ 1660111200 ∷ 2119083120 ∷ 2780595840 ∷ 2905194600 ∷ 3329987760 ∷ 3753804384 ∷ 3812107200 ∷
+    4565305800 ∷ 4866042720 ∷ 5146344720 ∷ 5226276000 ∷ 5827478580 ∷ 6569157672 ∷ 6671187600 ∷ 7055472600 ∷
+    7646638560 ∷ 7989285150 ∷ 8619847104 ∷ 9006103260 ∷ 9145983000 ∷ 10483294800 ∷ 11817532320 ∷ 12347077050 ∷
+    13381617480 ∷ 14372259000 ∷ 15084732432 ∷ 16201455600 ∷ 18345765900 ∷ 20680681560 ∷ 22211673000 ∷
+    25151453250 ∷ 28352547300 ∷ 38870427750 ∷ []
+exploitabilities true =
+    0 ∷ 2242416000 ∷ 3049685760 ∷ 3074280000 ∷ 3812107200 ∷ 3924228000 ∷ 4181020800 ∷ 5226276000 ∷
+    5336950080 ∷ 5379990000 ∷ 6166644000 ∷ 6671187600 ∷ 6951489600 ∷ 7316786400 ∷ 8386635840 ∷ 8454270000 ∷
+    9145983000 ∷ 9454025856 ∷ 9530268000 ∷ 10483294800 ∷ 10791627000 ∷ 11497807200 ∷ 11817532320 ∷
+    12165106800 ∷ 12961164480 ∷ 13065690000 ∷ 14372259000 ∷ 14676612720 ∷ 14794972500 ∷ 16201455600 ∷
+    16544545248 ∷ 16677969000 ∷ 17769338400 ∷ 18345765900 ∷ 20121162600 ∷ 20680681560 ∷ 22211673000 ∷
+    22682037840 ∷ 22864957500 ∷ 25151453250 ∷ 28352547300 ∷ 31096342200 ∷ 38870427750 ∷ []

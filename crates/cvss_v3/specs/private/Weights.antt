@@ -1,10 +1,9 @@
 -- The weights that the metrics of a vector can have, in hundredths.
-use Rattle.std.specs.Prelude.{ℕ, Bool, true, false, List, ◌∷◌, map, unwrap_or}
-use Rattle.std.specs.List.{Contains}
+use Rattle.std.specs.Prelude.{◌≡◌, ℕ, nat_le, Bool, true, false, List, ◌∷◌, map, unwrap_or}
+use Rattle.std.specs.List.{list_all}
 use Rattle.cvss_name.specs.declared.v3.MetricType.{MetricType}
 use Rattle.cvss_name.specs.declared.v3.MetricType.TheVariants.{AC, AV, C, PR, UI, E, RL, RC, CR}
 use Rattle.cvss_v3_metric.specs.Table.{rows_of, changed_privileges}
-use Rattle.cvss_v3.specs.declared.weights.Weights.{Weights}
 
 -- the weights of a metric's values
 abbrev pub weights_in : MetricType → List ℕ
@@ -43,25 +42,6 @@ report_confidences = weights_in RC
 abbrev pub requirements : List ℕ
 requirements = weights_in CR
 
--- each weight is one of its metric's
-pub record IsFromTable (w : Weights) : Type 0 where
-  pub av : Contains attack_vectors w.av
-  pub ac : Contains attack_complexities w.ac
-  pub pr : Contains (privileges_required w.changed) w.pr
-  pub ui : Contains user_interactions w.ui
-  pub c : Contains impacts w.c
-  pub i : Contains impacts w.i
-  pub a : Contains impacts w.a
-  pub e : Contains exploit_code_maturities w.e
-  pub rl : Contains remediation_levels w.rl
-  pub rc : Contains report_confidences w.rc
-  pub cr : Contains requirements w.cr
-  pub ir : Contains requirements w.ir
-  pub ar : Contains requirements w.ar
-  pub mav : Contains attack_vectors w.mav
-  pub mac : Contains attack_complexities w.mac
-  pub mpr : Contains (privileges_required w.modified_changed) w.mpr
-  pub mui : Contains user_interactions w.mui
-  pub mc : Contains impacts w.mc
-  pub mi : Contains impacts w.mi
-  pub ma : Contains impacts w.ma
+-- none of a metric's weights is above so many hundredths
+abbrev pub WeighsAtMost : ℕ → MetricType → Type 0
+WeighsAtMost most kind = list_all (λ weight. nat_le weight most) (weights_in kind) ≡ true

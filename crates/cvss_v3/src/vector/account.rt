@@ -7,12 +7,20 @@ ghost use Rattle.cvss_v3.specs.Closeness.{IsCloseTo};
 ghost use Rattle.cvss_v3.specs.Scores.{impact, miss, modified_impact, modified_exploitability, base_number, environmental_number, temporal_number, IsRounded, IsBase};
 ghost use Rattle.cvss_v3.specs.VectorWeights.{weights_of, weight_in};
 
+use super::weighing::{effective_scope, is_changed};
+use crate::equations;
 use crate::metric::MetricType;
 use crate::score::Score;
 use crate::vector::Vector;
 
-/// A hundredth, in counts of 10^-24.
+/// 10^-2, 10^-7, 10^-11 and 10^-13 in counts of 10^-24.
 const HUNDREDTH: i128 = 10_000_000_000_000_000_000_000;
+
+const SEVENTH: i128 = 100_000_000_000_000_000;
+
+const ELEVENTH: i128 = 10_000_000_000_000;
+
+const THIRTEENTH: i128 = 100_000_000_000;
 
 impl Vector {
     /// What a metric weighs in the equations, in counts of 10^-24 (v3.1 specification, section 7.4;
@@ -23,7 +31,7 @@ impl Vector {
         ensures { result ≡ option_map (λ hundredths. pos (hundredths * 10 ^ 22))
             (weight_in (weights_of self.now) metric) }
     {
-        match self.weights().hundredths(metric) {
+        match self.hundredths(metric) {
             Some(hundredths) => Some(i128::from(hundredths) * HUNDREDTH),
             None => None,
         }
@@ -33,7 +41,7 @@ impl Vector {
     pub fn is_scope_changed(&self) -> bool
         ensures { result ≡ (weights_of self.now).changed }
     {
-        self.weights().changed
+        is_changed(self.s)
     }
 
     /// Whether the modified scope is changed, by which the environmental score is computed. Where it
@@ -41,7 +49,7 @@ impl Vector {
     pub fn is_modified_scope_changed(&self) -> bool
         ensures { result ≡ (weights_of self.now).modified_changed }
     {
-        self.weights().modified_changed
+        is_changed(effective_scope(self.ms, self.s))
     }
 
     /// Impact by the scope (v3.1 specification, section 7.1; v3.0 specification, section 8.1). It is
@@ -53,7 +61,9 @@ impl Vector {
             → of_count result ≈ impact (weights_of self.now) }
         ensures limit { IsWithinLimit result }
     {
-        self.weights().scoped_impact()
+        let changed = self.is_scope_changed();
+        let impact = equations::signed_impact(self.iss_millionths(), changed, 0);
+        Score::new(i128::from(impact) * ELEVENTH)
     }
 
     /// What the base score is the rounding of (v3.1 specification, section 7.1; v3.0 specification,
@@ -65,7 +75,7 @@ impl Vector {
             → of_count result ≈ base_number (weights_of self.now) }
         ensures limit { IsWithinLimit result }
     {
-        self.weights().first_base_number()
+        Score::new(i128::from(self.base_units()) * THIRTEENTH)
     }
 
     /// What the temporal score is the rounding of (v3.1 specification, section 7.2; v3.0
@@ -76,7 +86,8 @@ impl Vector {
             → of_count result ≈ temporal_number base (weights_of self.now) }
         ensures limit { IsWithinLimit result }
     {
-        self.weights().temporal_number(self.minor_version)
+        let product = self.temporal_units(self.base_tenths());
+        Score::new(i128::from(product) * SEVENTH)
     }
 
     /// MISS, the modified impact sub-score, which is exact (v3.1 specification, section 7.3; in
@@ -85,7 +96,7 @@ impl Vector {
         ensures value { of_count result ≈ miss (weights_of self.now) }
         ensures limit { IsWithinLimit result }
     {
-        self.weights().miss_score()
+        Score::new(i128::from(self.miss_millionths()) * 1_000_000_000_000_000_000)
     }
 
     /// Modified Impact by the modified scope (v3.1 specification, section 7.3; v3.0 specification,
@@ -98,7 +109,10 @@ impl Vector {
             → of_count result ≈ modified_impact self.now.minor_version (weights_of self.now) }
         ensures limit { IsWithinLimit result }
     {
-        self.weights().modified_impact(self.minor_version)
+        let changed = self.is_modified_scope_changed();
+        let miss = self.miss_millionths();
+        let impact = equations::signed_impact(miss, changed, self.minor_version);
+        Score::new(i128::from(impact) * ELEVENTH)
     }
 
     /// Modified Exploitability, which is exact (v3.1 specification, section 7.3; v3.0 specification,
@@ -107,7 +121,7 @@ impl Vector {
         ensures value { of_count result ≈ modified_exploitability (weights_of self.now) }
         ensures limit { IsWithinLimit result }
     {
-        self.weights().modified_exploitability()
+        Score::new(i128::from(self.modified_exploitability_units()) * 100_000_000_000_000)
     }
 
     /// What the environmental score is first the rounding of (v3.1 specification, section 7.3; v3.0
@@ -120,8 +134,7 @@ impl Vector {
             ≈ environmental_number self.now.minor_version (weights_of self.now) }
         ensures limit { IsWithinLimit result }
     {
-        self.weights()
-            .first_environmental_number(self.minor_version)
+        Score::new(i128::from(self.environmental_units()) * THIRTEENTH)
     }
 
     /// The inner rounding of the environmental score (v3.1 specification, section 7.3; v3.0
@@ -131,7 +144,7 @@ impl Vector {
             (environmental_number self.now.minor_version (weights_of self.now))) result }
         ensures range { IsInTenths IsFromZeroToTen result }
     {
-        self.weights().first_environmental_score(self.minor_version)
+        Score::of_tenths(self.first_tenths())
     }
 
     /// What the environmental score is the rounding of (v3.1 specification, section 7.3; v3.0
@@ -142,7 +155,7 @@ impl Vector {
             → of_count result ≈ temporal_number first (weights_of self.now) }
         ensures limit { IsWithinLimit result }
     {
-        self.weights()
-            .second_environmental_number(self.minor_version)
+        let product = self.temporal_units(self.first_tenths());
+        Score::new(i128::from(product) * SEVENTH)
     }
 }

@@ -8,6 +8,7 @@ ghost use Rattle.cvss_v3_metric.specs.Table.{spelling_of};
 ghost use Rattle.cvss_v3.specs.Vector.{v3};
 ghost use Rattle.cvss_v3.specs.private.VectorLaws.{v3_is_lawful, v3_fronts_are_lawful};
 
+use super::cutting::cut_named;
 use crate::metric::{Metric, MetricType};
 use crate::vector::Vector;
 use MetricType::*;
@@ -112,42 +113,6 @@ impl Vector {
             minor_version,
             ..Vector::default()
         }
-    }
-}
-
-/// The metric with whose name, in any ASCII case, and a colon a piece begins, and what stands behind
-/// these.
-#[inline(always)]
-fn cut_named(piece: &[u8]) -> Option<(MetricType, &[u8])>
-    ensures name { IfSome result
-        (λ cut. name_of cut.0 ≡ raised (take (length (name_of cut.0)) piece.now)) }
-    ensures piece { IfSome result (λ cut. piece.now
-        ≡ take (length (name_of cut.0)) piece.now ++ (colon ∷ cut.1.now)) }
-{
-    match piece {
-        [b'A' | b'a', b'V' | b'v', b':', value @ ..] => Some((MetricType::AV, value)),
-        [b'A' | b'a', b'C' | b'c', b':', value @ ..] => Some((MetricType::AC, value)),
-        [b'P' | b'p', b'R' | b'r', b':', value @ ..] => Some((MetricType::PR, value)),
-        [b'U' | b'u', b'I' | b'i', b':', value @ ..] => Some((MetricType::UI, value)),
-        [b'S' | b's', b':', value @ ..] => Some((MetricType::S, value)),
-        [b'C' | b'c', b':', value @ ..] => Some((MetricType::C, value)),
-        [b'I' | b'i', b':', value @ ..] => Some((MetricType::I, value)),
-        [b'A' | b'a', b':', value @ ..] => Some((MetricType::A, value)),
-        [b'E' | b'e', b':', value @ ..] => Some((MetricType::E, value)),
-        [b'R' | b'r', b'L' | b'l', b':', value @ ..] => Some((MetricType::RL, value)),
-        [b'R' | b'r', b'C' | b'c', b':', value @ ..] => Some((MetricType::RC, value)),
-        [b'C' | b'c', b'R' | b'r', b':', value @ ..] => Some((MetricType::CR, value)),
-        [b'I' | b'i', b'R' | b'r', b':', value @ ..] => Some((MetricType::IR, value)),
-        [b'A' | b'a', b'R' | b'r', b':', value @ ..] => Some((MetricType::AR, value)),
-        [b'M' | b'm', b'A' | b'a', b'V' | b'v', b':', value @ ..] => Some((MetricType::MAV, value)),
-        [b'M' | b'm', b'A' | b'a', b'C' | b'c', b':', value @ ..] => Some((MetricType::MAC, value)),
-        [b'M' | b'm', b'P' | b'p', b'R' | b'r', b':', value @ ..] => Some((MetricType::MPR, value)),
-        [b'M' | b'm', b'U' | b'u', b'I' | b'i', b':', value @ ..] => Some((MetricType::MUI, value)),
-        [b'M' | b'm', b'S' | b's', b':', value @ ..] => Some((MetricType::MS, value)),
-        [b'M' | b'm', b'C' | b'c', b':', value @ ..] => Some((MetricType::MC, value)),
-        [b'M' | b'm', b'I' | b'i', b':', value @ ..] => Some((MetricType::MI, value)),
-        [b'M' | b'm', b'A' | b'a', b':', value @ ..] => Some((MetricType::MA, value)),
-        _ => None,
     }
 }
 

@@ -1,6 +1,6 @@
-use Rattle.std.proofs.Common.{arith, refl}
-use Rattle.cvss_v3.proofs.PowerLemmas.{changed_near}
+use Rattle.std.proofs.Common.{arith}
 use Rattle.cvss_v3.proofs.SubScoreLemmas.{sub_score_low, sub_score_high}
+use Rattle.cvss_v3.specs.private.Units.{changed_units}
 use Rattle.cvss_v3.proofs.power.changed_impact.Goals as goal
 
 pub overflow_sub-base : goal.overflow_sub-base
@@ -21,11 +21,6 @@ overflow_sub-result c = omega (arith, sub_score_low c.args.iss c.requires)
 pub overflow_sub-result-2 : goal.overflow_sub-result-2
 overflow_sub-result-2 c = omega (arith, sub_score_low c.args.iss c.requires)
 
-pub returns-clause-near : goal.returns-clause-near
-returns-clause-near c =
-    changed_near _ _ _ _ _ _ _ _ c.requires
-    c.product.ensures.value c.product-cube.ensures.value c.product-sixth.ensures.value c.product-2.ensures.value
-    refl refl c.product-fifteenth.ensures.value
-
-pub returns-clause-above_zero : goal.returns-clause-above_zero
-returns-clause-above_zero c = omega (arith, sub_score_low c.args.iss c.requires)
+pub returns-clause-value : goal.returns-clause-value
+unfolding changed_units
+returns-clause-value c = cc

@@ -1,13 +1,13 @@
-use Rattle.std.proofs.Common.{arith, refl}
-use Rattle.cvss_v3.proofs.PowerLemmas.{changed_modified_near}
+use Rattle.std.proofs.Common.{arith}
 use Rattle.cvss_v3.proofs.SubScoreLemmas.{sub_score_low, sub_score_high}
+use Rattle.cvss_v3.specs.private.Units.{changed_modified_units}
 use Rattle.cvss_v3.proofs.power.changed_modified_impact.Goals as goal
-
-pub overflow_mul-base : goal.overflow_mul-base
-overflow_mul-base c = omega (arith, sub_score_high c.args.miss c.requires)
 
 pub overflow_sub-base : goal.overflow_sub-base
 overflow_sub-base c = omega (arith, sub_score_low c.args.miss c.requires)
+
+pub overflow_mul-base : goal.overflow_mul-base
+overflow_mul-base c = omega (arith, sub_score_high c.args.miss c.requires)
 
 pub product-requires-clause-first : goal.product-requires-clause-first
 product-requires-clause-first c = omega (arith, sub_score_high c.args.miss c.requires)
@@ -21,11 +21,6 @@ overflow_sub-result c = omega (arith, sub_score_low c.args.miss c.requires)
 pub overflow_sub-result-2 : goal.overflow_sub-result-2
 overflow_sub-result-2 c = omega (arith, sub_score_low c.args.miss c.requires)
 
-pub returns-clause-near : goal.returns-clause-near
-returns-clause-near c =
-    changed_modified_near _ _ _ _ _ _ _ _ c.requires
-    c.product.ensures.value c.product-cube.ensures.value c.product-sixth.ensures.value c.product-2.ensures.value
-    refl refl c.product-thirteenth.ensures.value
-
-pub returns-clause-above_zero : goal.returns-clause-above_zero
-returns-clause-above_zero c = omega (arith, sub_score_low c.args.miss c.requires)
+pub returns-clause-value : goal.returns-clause-value
+unfolding changed_modified_units
+returns-clause-value c = cc

@@ -6,6 +6,6 @@ use Rattle.cvss_v2.proofs.score.Score.roundup.Goals as goal
 pub returns-clause-value : goal.returns-clause-value
 returns-clause-value c = record {
   number = c.round_tenths.result;
-  is_number = count_rounded c.args.self (omega (arith, ints)) c.round_tenths.ensures;
+  is_number = count_rounded c.args.self (omega (arith, ints)) c.round_tenths.ensures.value;
   is_count = omega (arith, ints);
 }

@@ -1,0 +1,92 @@
+//! The numbers of a vector's equations in whole numbers of small units.
+
+ghost use Rattle.std.specs.Prelude.{◌≡◌, ◌*◌, ◌^◌, ◌≤◌, ◌≤ℤ◌, ℤ, pos, neg_ℤ};
+ghost use Rattle.cvss_number.specs.Exact.{ratio, of_count, ◌≈◌, IsWithinLimit};
+ghost use Rattle.cvss_v2.specs.Scores.{impact, adjusted_impact, exploitability, IsBase, IsTemporal};
+ghost use Rattle.cvss_v2.specs.Weights.{weights_of};
+ghost use Rattle.cvss_v2.specs.private.Bounds.{IsImpactCount, IsOnScale};
+
+use super::weighing::weight;
+use crate::vector::Vector;
+use crate::{Score, base_score, equations};
+
+impl Vector {
+    /// Impact in 10^-11.
+    #[inline(always)]
+    pub(super) fn impact_units(&self) -> u64
+        ensures value { ratio (pos result) (10 ^ 11) ≈ impact (weights_of self.now) }
+        ensures bound { result ≤ 10_001 * 10 ^ 8 }
+    {
+        base_score::impact(weight(self.c, 0), weight(self.i, 0), weight(self.a, 0))
+    }
+
+    /// Exploitability in 10^-9.
+    #[inline(always)]
+    pub(super) fn exploitability_units(&self) -> u64
+        ensures value { ratio (pos result) (10 ^ 9) ≈ exploitability (weights_of self.now) }
+        ensures bound { result ≤ 10 ^ 10 }
+    {
+        base_score::exploitability(weight(self.av, 0), weight(self.ac, 0), weight(self.au, 0))
+    }
+
+    /// The impact, which is exact.
+    pub(super) fn own_impact(&self) -> Score
+        ensures value { of_count result ≈ impact (weights_of self.now) }
+        ensures bound { IsImpactCount result }
+    {
+        Score::new(i128::from(self.impact_units()) * 10_000_000_000_000)
+    }
+
+    /// The impact with the requirements, which is exact and at most 10.
+    pub(super) fn required_impact(&self) -> Score
+        ensures value { of_count result ≈ adjusted_impact (weights_of self.now) }
+        ensures bound { IsImpactCount result }
+    {
+        let c = weight(self.c, 0) * weight(self.cr, 1000);
+        let i = weight(self.i, 0) * weight(self.ir, 1000);
+        let a = weight(self.a, 0) * weight(self.ar, 1000);
+        Score::new(equations::adjusted_impact_count(c, i, a))
+    }
+
+    /// The exploitability, which is exact.
+    pub(super) fn own_exploitability(&self) -> Score
+        ensures value { of_count result ≈ exploitability (weights_of self.now) }
+        ensures low { pos 0 ≤ℤ result }
+        ensures high { result ≤ℤ pos (10 ^ 25) }
+    {
+        Score::new(i128::from(self.exploitability_units()) * 1_000_000_000_000_000)
+    }
+
+    /// The base score of an impact, in tenths.
+    pub(super) fn base_of(&self, impact: Score) -> i128
+        requires { IsWithinLimit impact }
+        ensures value { IsBase (weights_of self.now) (of_count impact) result }
+        ensures low { neg_ℤ (pos (10 ^ 7)) ≤ℤ result }
+        ensures high { result ≤ℤ pos (10 ^ 7) }
+        ensures on_scale { IsImpactCount impact → IsOnScale result }
+    {
+        equations::base_tenths(impact.value(), self.own_exploitability().value())
+    }
+
+    /// The temporal score of an impact, in tenths.
+    pub(super) fn temporal_of(&self, impact: Score) -> i128
+        requires { IsWithinLimit impact }
+        ensures value { IsTemporal (weights_of self.now) (of_count impact) result }
+        ensures low { neg_ℤ (pos (10 ^ 7)) ≤ℤ result }
+        ensures high { result ≤ℤ pos (10 ^ 7) }
+        ensures on_scale { IsImpactCount impact → IsOnScale result }
+    {
+        let e = weight(self.e, 1000);
+        let rl = weight(self.rl, 1000);
+        equations::temporal_tenths(self.base_of(impact), e, rl, weight(self.rc, 1000))
+    }
+
+    /// The base score in tenths, before it is raised to 0.
+    #[inline(always)]
+    pub(super) fn own_base(&self) -> i64
+        ensures value { IsBase (weights_of self.now) (impact (weights_of self.now)) result }
+        ensures on_scale { IsOnScale result }
+    {
+        base_score::tenths(self.impact_units(), self.exploitability_units())
+    }
+}

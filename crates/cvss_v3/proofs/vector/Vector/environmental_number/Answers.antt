@@ -1,0 +1,15 @@
+use Rattle.std.proofs.Common.{ℤ, pos, arith, lit<, subst}
+use Rattle.std.proofs.lemmas.Int.{ints}
+use Rattle.cvss_number.specs.Exact.{of_count, ◌≈◌}
+use Rattle.cvss_number.proofs.ExactLemmas.{equal_trans}
+use Rattle.cvss_v3.specs.Scores.{temporal_number}
+use Rattle.cvss_v3.specs.VectorWeights.{weights_of}
+use Rattle.cvss_v3.proofs.LawLemmas.{first_once}
+use Rattle.cvss_v3.proofs.vector.Vector.environmental_number.Goals as goal
+
+pub returns-clause-value : goal.returns-clause-value
+returns-clause-value c = λ first is_first.
+    let w = weights_of c.args.self.now in
+    let own = first_once c.args.self.now.minor_version w (pos c.first_tenths.result) first c.first_tenths.ensures.value is_first in
+    subst (λ (n : ℤ). of_count c.new.result ≈ temporal_number n w) own
+    (equal_trans (lit< tt) (record { equal = omega (arith, ints) }) c.temporal_units-product.ensures.value)

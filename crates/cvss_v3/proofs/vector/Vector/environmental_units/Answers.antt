@@ -1,0 +1,14 @@
+use Rattle.std.proofs.Common.{lit<}
+use Rattle.cvss_v3.specs.Scores.{miss, modified_exploitability}
+use Rattle.cvss_v3.specs.VectorWeights.{weights_of}
+use Rattle.cvss_v3.proofs.NumberLemmas.{stands_of}
+use Rattle.cvss_v3.proofs.vector.Vector.environmental_units.Goals as goal
+
+pub returns-clause-value : goal.returns-clause-value
+returns-clause-value c = λ minor.
+    let w = weights_of c.args.self.now in
+    let s = c.miss_millionths-miss in
+    let e = c.modified_exploitability_units-exploitability in
+    let changed = c.is_modified_scope_changed-changed in
+    stands_of minor c.args.self.now.minor_version c.first_number.result s.result e.result changed.result w.modified_changed
+    (miss w) (modified_exploitability w) (lit< tt) (lit< tt) changed.ensures s.ensures.value e.ensures.value (c.first_number.ensures.value minor)
