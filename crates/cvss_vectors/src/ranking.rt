@@ -1,11 +1,12 @@
 //! Triage.
 
+use crate::shown::print_error;
 use cvss::v4::Vector;
 use cvss_ranking::{Row, apply};
 use std::io;
 
 /// The rows of the texts, which stand behind `=`, with the overrides, which stand behind `+`.
-pub(crate) fn rank(rt: &(impl Print + AllocGlobal), asked: &str) -> io::Result<()> {
+pub(crate) fn rank(rt: &HostRuntime, asked: &str) -> io::Result<()> {
     let mut texts = Vec::new(rt.alloc());
     let mut overrides = Vec::new(rt.alloc());
     for word in asked.split(' ') {
@@ -18,14 +19,14 @@ pub(crate) fn rank(rt: &(impl Print + AllocGlobal), asked: &str) -> io::Result<(
     ranked(rt, &texts, &overrides)
 }
 
-fn ranked(rt: &(impl Print + AllocGlobal), texts: &[&str], overrides: &[&str]) -> io::Result<()> {
+fn ranked(rt: &HostRuntime, texts: &[&str], overrides: &[&str]) -> io::Result<()> {
     match apply(rt.alloc(), texts, overrides) {
         Ok(rows) => print_rows(rt, &rows),
-        Err(error) => println!(rt; "error: {error}"),
+        Err(error) => print_error(rt, &error),
     }
 }
 
-fn print_rows(rt: &impl Print, rows: &[Row]) -> io::Result<()> {
+fn print_rows(rt: &HostRuntime, rows: &[Row]) -> io::Result<()> {
     for row in rows {
         print!(rt;
             "{} {} {} {};",
@@ -39,13 +40,13 @@ fn print_rows(rt: &impl Print, rows: &[Row]) -> io::Result<()> {
 }
 
 /// The vector of environmental metrics alone.
-pub(crate) fn overrides(rt: &(impl Print + AllocGlobal), asked: &str) -> io::Result<()> {
+pub(crate) fn overrides(rt: &HostRuntime, asked: &str) -> io::Result<()> {
     let mut overrides = Vec::new(rt.alloc());
     for word in asked.split(' ') {
         overrides.push(word)?;
     }
     match Vector::from_overrides(rt.alloc(), &overrides) {
         Ok(vector) => println!(rt; "{vector}"),
-        Err(error) => println!(rt; "error: {error}"),
+        Err(error) => print_error(rt, &error),
     }
 }

@@ -1,29 +1,14 @@
 //! Values of the metrics of CVSS v3.
 
 use crate::kinds::Asked;
-use crate::shown::show;
+use crate::shown::{print_error, print_value, show};
 use cvss::v3::metric::environmental::Modified;
 use cvss::v3::metric::{base, environmental, temporal};
 use cvss::v3::{Metric, MetricType};
 use std::io;
 
-/// Tells of values of the metric with this name.
-pub(crate) fn answer(
-    rt: &(impl Print + AllocGlobal),
-    name: &str,
-    asked: Asked<'_>,
-) -> io::Result<()> {
-    match MetricType::from_str(rt.alloc(), name) {
-        Ok(kind) => answer_of(rt, kind, asked),
-        Err(error) => println!(rt; "error: {error}"),
-    }
-}
-
-fn answer_of(
-    rt: &(impl Print + AllocGlobal),
-    kind: MetricType,
-    asked: Asked<'_>,
-) -> io::Result<()> {
+/// Tells of values of a metric.
+pub(crate) fn answer(rt: &HostRuntime, kind: MetricType, asked: Asked<'_>) -> io::Result<()> {
     match kind {
         MetricType::AV => told::<base::AttackVector>(rt, asked),
         MetricType::AC => told::<base::AttackComplexity>(rt, asked),
@@ -50,24 +35,25 @@ fn answer_of(
     }
 }
 
-fn told<M: Metric + Drop>(rt: &(impl Print + AllocGlobal), asked: Asked<'_>) -> io::Result<()> {
+fn told<M: Metric + Drop>(rt: &HostRuntime, asked: Asked<'_>) -> io::Result<()> {
     match asked {
         Asked::One(text) => one::<M>(rt, text),
         Asked::Each(words) => show(rt, words, |word| M::read(word)),
     }
 }
 
-fn one<M: Metric + Drop>(rt: &(impl Print + AllocGlobal), text: &str) -> io::Result<()> {
+fn one<M: Metric + Drop>(rt: &HostRuntime, text: &str) -> io::Result<()> {
     match M::from_str(rt.alloc(), text) {
-        Ok(value) if value.has_score() => {
-            println!(rt;
-                "{value} {} {} {}",
-                M::name(),
-                value.as_str(),
-                value.score()
-            )
-        }
-        Ok(value) => println!(rt; "{value} {} {} -", M::name(), value.as_str()),
-        Err(error) => println!(rt; "error: {error}"),
+        Ok(value) => print_value(rt, &value, M::name(), value.as_str(), weight_of(value)),
+        Err(error) => print_error(rt, &error),
+    }
+}
+
+/// The weight of a value, if it has one.
+fn weight_of<M: Metric + Drop>(value: M) -> Option<i128> {
+    if value.has_score() {
+        Some(value.score())
+    } else {
+        None
     }
 }

@@ -1,28 +1,13 @@
 //! Values of the metrics of CVSS v4.
 
 use crate::kinds::Asked;
-use crate::shown::show;
+use crate::shown::{print_error, show};
 use cvss::v4::MetricType;
 use cvss::v4::metric::{Metric, base, environmental, supplemental, threat};
 use std::io;
 
-/// Tells of values of the metric with this name.
-pub(crate) fn answer(
-    rt: &(impl Print + AllocGlobal),
-    name: &str,
-    asked: Asked<'_>,
-) -> io::Result<()> {
-    match MetricType::from_str(rt.alloc(), name) {
-        Ok(kind) => answer_of(rt, kind, asked),
-        Err(error) => println!(rt; "error: {error}"),
-    }
-}
-
-fn answer_of(
-    rt: &(impl Print + AllocGlobal),
-    kind: MetricType,
-    asked: Asked<'_>,
-) -> io::Result<()> {
+/// Tells of values of a metric.
+pub(crate) fn answer(rt: &HostRuntime, kind: MetricType, asked: Asked<'_>) -> io::Result<()> {
     match kind {
         MetricType::AC => told::<base::AttackComplexity>(rt, asked),
         MetricType::AT => told::<base::AttackRequirements>(rt, asked),
@@ -71,16 +56,16 @@ fn answer_of(
     }
 }
 
-fn told<M: Metric + Drop>(rt: &(impl Print + AllocGlobal), asked: Asked<'_>) -> io::Result<()> {
+fn told<M: Metric + Drop>(rt: &HostRuntime, asked: Asked<'_>) -> io::Result<()> {
     match asked {
         Asked::One(text) => one::<M>(rt, text),
         Asked::Each(words) => show(rt, words, |word| M::read(word)),
     }
 }
 
-fn one<M: Metric + Drop>(rt: &(impl Print + AllocGlobal), text: &str) -> io::Result<()> {
+fn one<M: Metric + Drop>(rt: &HostRuntime, text: &str) -> io::Result<()> {
     match M::from_str(rt.alloc(), text) {
         Ok(value) => println!(rt; "{value} {} {}", M::name(), value.as_str()),
-        Err(error) => println!(rt; "error: {error}"),
+        Err(error) => print_error(rt, &error),
     }
 }
