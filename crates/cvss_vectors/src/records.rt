@@ -56,27 +56,35 @@ fn print_members(rt: &HostRuntime, found: &[Difference]) -> io::Result<()> {
 /// Where vectors stand in a document.
 pub(crate) fn places(rt: &HostRuntime, document: &str) -> io::Result<()> {
     match Value::from_str(rt.alloc(), document) {
-        Ok(document) => {
-            for place in &vectors_in(rt.alloc(), &document)? {
-                print_place(rt, place)?;
-            }
-            println!(rt; "")
-        }
+        Ok(document) => print_places(rt, &document),
         Err(_) => println!(rt; "no JSON"),
     }
+}
+
+fn print_places(rt: &HostRuntime, document: &Value) -> io::Result<()> {
+    for place in &vectors_in(rt.alloc(), document)? {
+        print_place(rt, place)?;
+    }
+    println!(rt; "")
 }
 
 fn print_place(rt: &HostRuntime, place: &Place<'_>) -> io::Result<()> {
     print!(rt; "{}={}", place.at, form_text(place.form))?;
     if let Some(text) = place.text {
         print!(rt; " {text}")?;
-        if let Some(vector) = Cvss::read_bytes(text.as_bytes()) {
-            for difference in &differences_at(rt.alloc(), &vector, place)? {
-                print!(rt; " {}", difference.member)?;
-            }
-        }
+        print_differences(rt, place, text)?;
     }
     print!(rt; ";")
+}
+
+/// What stands at a place beside a vector's text and says otherwise than the vector.
+fn print_differences(rt: &HostRuntime, place: &Place<'_>, text: &str) -> io::Result<()> {
+    if let Some(vector) = Cvss::read_bytes(text.as_bytes()) {
+        for difference in &differences_at(rt.alloc(), &vector, place)? {
+            print!(rt; " {}", difference.member)?;
+        }
+    }
+    Ok(())
 }
 
 fn form_text(form: Form) -> &'static str {

@@ -10,16 +10,7 @@ const OTHERWISE: &str = "read_bytes says otherwise";
 pub(crate) fn of_any(rt: &HostRuntime, line: &[u8]) -> io::Result<()> {
     let read = Cvss::read_bytes(line);
     match Cvss::from_bytes(rt.alloc(), line) {
-        Ok(vector) => {
-            let is_read = read == Some(vector);
-            print_vector(
-                rt,
-                is_read,
-                &vector,
-                &vector.score_text(),
-                vector.severity(),
-            )
-        }
+        Ok(vector) => print_vector(rt, &read, vector, &vector.score_text(), vector.severity()),
         Err(error) => print_refusal(rt, read.is_none(), &error),
     }
 }
@@ -30,7 +21,7 @@ pub(crate) fn of_v2(rt: &HostRuntime, text: &str) -> io::Result<()> {
     match v2::Vector::from_str(rt.alloc(), text) {
         Ok(vector) => {
             let score = vector.score();
-            print_vector(rt, read == Some(vector), &vector, &score, score.severity())
+            print_vector(rt, &read, vector, &score, score.severity())
         }
         Err(error) => print_refusal(rt, read.is_none(), &error),
     }
@@ -40,10 +31,7 @@ pub(crate) fn of_v2(rt: &HostRuntime, text: &str) -> io::Result<()> {
 pub(crate) fn of_v3(rt: &HostRuntime, text: &str) -> io::Result<()> {
     let read = v3::Vector::read_bytes(text.as_bytes());
     match v3::Vector::from_str(rt.alloc(), text) {
-        Ok(vector) => {
-            let score = vector.score();
-            print_vector(rt, read == Some(vector), &vector, &score, vector.severity())
-        }
+        Ok(vector) => print_vector(rt, &read, vector, &vector.score(), vector.severity()),
         Err(error) => print_refusal(rt, read.is_none(), &error),
     }
 }
@@ -54,21 +42,25 @@ pub(crate) fn of_v4(rt: &HostRuntime, text: &str) -> io::Result<()> {
     match v4::Vector::from_str(rt.alloc(), text) {
         Ok(vector) => {
             let score = vector.score();
-            print_vector(rt, read == Some(vector), &vector, &score, score.severity())
+            print_vector(rt, &read, vector, &score, score.severity())
         }
         Err(error) => print_refusal(rt, read.is_none(), &error),
     }
 }
 
 /// A vector with its score and rating, if `read_bytes` reads the same.
-fn print_vector<V: fmt::Display, S: fmt::Display>(
+fn print_vector<V, S>(
     rt: &HostRuntime,
-    is_read: bool,
-    vector: &V,
+    read: &Option<V>,
+    vector: V,
     score: &S,
     rating: Severity,
-) -> io::Result<()> {
-    if is_read {
+) -> io::Result<()>
+where
+    V: fmt::Display + PartialEq + Copy + Drop,
+    S: fmt::Display,
+{
+    if *read == Some(vector) {
         println!(rt; "{vector} {score} {rating}")
     } else {
         println!(rt; "{OTHERWISE}")
@@ -88,10 +80,14 @@ fn print_refusal<E: fmt::Display>(rt: &HostRuntime, is_refused: bool, error: &E)
 pub(crate) fn metrics(rt: &HostRuntime, text: &str) -> io::Result<()> {
     if let Some(vector) = Cvss::read_bytes(text.as_bytes()) {
         for (kind, spelling) in vector.metrics() {
-            print!(rt; "{} {}:{spelling};", version_of(kind), kind.name())?;
+            print_metric(rt, kind, spelling)?;
         }
     }
     println!(rt; "")
+}
+
+fn print_metric(rt: &HostRuntime, kind: MetricType, spelling: &str) -> io::Result<()> {
+    print!(rt; "{} {}:{spelling};", version_of(kind), kind.name())
 }
 
 fn version_of(kind: MetricType) -> &'static str {
