@@ -7,9 +7,10 @@ use std::{fmt, io};
 
 const NO_VERSION: &str = "no such version";
 
-/// What is asked of a metric: of one value, or of each of some.
+/// What is asked of a metric: its name, one of its values, or each of some.
 #[derive(Clone, Copy)]
 pub(crate) enum Asked<'a> {
+    Name,
     One(&'a str),
     Each(&'a str),
 }
@@ -17,24 +18,15 @@ pub(crate) enum Asked<'a> {
 /// A metric's name, and what it stands for.
 pub(crate) fn kind(rt: &HostRuntime, asked: &str) -> io::Result<()> {
     let (version, name) = first_word(asked);
-    match version {
-        "2" => match v2::MetricType::from_str(rt.alloc(), name) {
-            Ok(kind) => print_kind(rt, &kind, kind.name(), kind.description()),
-            Err(error) => print_error(rt, &error),
-        },
-        "3" => match v3::MetricType::from_str(rt.alloc(), name) {
-            Ok(kind) => print_kind(rt, &kind, kind.name(), kind.description()),
-            Err(error) => print_error(rt, &error),
-        },
-        "4" => match v4::MetricType::from_str(rt.alloc(), name) {
-            Ok(kind) => print_kind(rt, &kind, kind.name(), kind.description()),
-            Err(error) => print_error(rt, &error),
-        },
-        _ => println!(rt; "{NO_VERSION}"),
-    }
+    told(rt, version, name, Asked::Name)
 }
 
-fn print_kind<K>(rt: &HostRuntime, kind: &K, name: &str, description: &str) -> io::Result<()>
+pub(crate) fn print_kind<K>(
+    rt: &HostRuntime,
+    kind: &K,
+    name: &str,
+    description: &str,
+) -> io::Result<()>
 where
     K: fmt::Display,
 {

@@ -37,7 +37,7 @@ fn score_by(rt: &HostRuntime, word: &str, count: i128) -> io::Result<()> {
         }
         "any" => {
             print_alike(rt, &OneDecimal { count })?;
-            println!(rt; "")
+            println!(rt)
         }
         _ => println!(rt; "{NO_NUMBER}"),
     }

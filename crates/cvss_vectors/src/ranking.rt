@@ -35,7 +35,7 @@ fn print_rows(rt: &HostRuntime, rows: &[Row]) -> io::Result<()> {
             row.text
         )?;
     }
-    println!(rt; "")
+    println!(rt)
 }
 
 /// The vector of environmental metrics alone.

@@ -50,7 +50,7 @@ fn print_members(rt: &HostRuntime, found: &[Difference]) -> io::Result<()> {
     for difference in found {
         print!(rt; "{};", difference.member)?;
     }
-    println!(rt; "")
+    println!(rt)
 }
 
 /// Where vectors stand in a document.
@@ -65,7 +65,7 @@ fn print_places(rt: &HostRuntime, document: &Value) -> io::Result<()> {
     for place in &vectors_in(rt.alloc(), document)? {
         print_place(rt, place)?;
     }
-    println!(rt; "")
+    println!(rt)
 }
 
 fn print_place(rt: &HostRuntime, place: &Place<'_>) -> io::Result<()> {

@@ -28,7 +28,7 @@ fn print_others(rt: &HostRuntime, vector: &Cvss) -> io::Result<()> {
             let environmental = vector.environmental_score().value();
             println!(rt; " {temporal} {environmental} {}", certainty(vector))
         }
-        Cvss::CvssV40(_) => println!(rt; ""),
+        Cvss::CvssV40(_) => println!(rt),
     }
 }
 

@@ -50,7 +50,7 @@ where
         print_alike(rt, &value.clone()?)?;
         print!(rt; " {same} {others};")?;
     }
-    println!(rt; "")
+    println!(rt)
 }
 
 /// Prints a value; or that it is another text under some option of a formatter, be it a width, a

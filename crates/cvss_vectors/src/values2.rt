@@ -1,6 +1,6 @@
 //! Values of the metrics of CVSS v2.
 
-use crate::kinds::Asked;
+use crate::kinds::{Asked, print_kind};
 use crate::shown::{print_error, print_value, show};
 use cvss::v2::metric::{base, environmental, temporal};
 use cvss::v2::{Metric, MetricType};
@@ -9,25 +9,26 @@ use std::io;
 /// Tells of values of a metric.
 pub(crate) fn answer(rt: &HostRuntime, kind: MetricType, asked: Asked<'_>) -> io::Result<()> {
     match kind {
-        MetricType::AV => told::<base::AccessVector>(rt, asked),
-        MetricType::AC => told::<base::AccessComplexity>(rt, asked),
-        MetricType::Au => told::<base::Authentication>(rt, asked),
-        MetricType::C => told::<base::ConfidentialityImpact>(rt, asked),
-        MetricType::I => told::<base::IntegrityImpact>(rt, asked),
-        MetricType::A => told::<base::AvailabilityImpact>(rt, asked),
-        MetricType::E => told::<temporal::Exploitability>(rt, asked),
-        MetricType::RL => told::<temporal::RemediationLevel>(rt, asked),
-        MetricType::RC => told::<temporal::ReportConfidence>(rt, asked),
-        MetricType::CDP => told::<environmental::CollateralDamagePotential>(rt, asked),
-        MetricType::TD => told::<environmental::TargetDistribution>(rt, asked),
-        MetricType::CR => told::<environmental::ConfidentialityRequirement>(rt, asked),
-        MetricType::IR => told::<environmental::IntegrityRequirement>(rt, asked),
-        MetricType::AR => told::<environmental::AvailabilityRequirement>(rt, asked),
+        MetricType::AV => told::<base::AccessVector>(rt, kind, asked),
+        MetricType::AC => told::<base::AccessComplexity>(rt, kind, asked),
+        MetricType::Au => told::<base::Authentication>(rt, kind, asked),
+        MetricType::C => told::<base::ConfidentialityImpact>(rt, kind, asked),
+        MetricType::I => told::<base::IntegrityImpact>(rt, kind, asked),
+        MetricType::A => told::<base::AvailabilityImpact>(rt, kind, asked),
+        MetricType::E => told::<temporal::Exploitability>(rt, kind, asked),
+        MetricType::RL => told::<temporal::RemediationLevel>(rt, kind, asked),
+        MetricType::RC => told::<temporal::ReportConfidence>(rt, kind, asked),
+        MetricType::CDP => told::<environmental::CollateralDamagePotential>(rt, kind, asked),
+        MetricType::TD => told::<environmental::TargetDistribution>(rt, kind, asked),
+        MetricType::CR => told::<environmental::ConfidentialityRequirement>(rt, kind, asked),
+        MetricType::IR => told::<environmental::IntegrityRequirement>(rt, kind, asked),
+        MetricType::AR => told::<environmental::AvailabilityRequirement>(rt, kind, asked),
     }
 }
 
-fn told<M: Metric + Drop>(rt: &HostRuntime, asked: Asked<'_>) -> io::Result<()> {
+fn told<M: Metric + Drop>(rt: &HostRuntime, kind: MetricType, asked: Asked<'_>) -> io::Result<()> {
     match asked {
+        Asked::Name => print_kind(rt, &kind, kind.name(), kind.description()),
         Asked::One(text) => one::<M>(rt, text),
         Asked::Each(words) => show(rt, words, |word| M::read(word)),
     }

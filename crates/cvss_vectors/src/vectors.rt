@@ -83,7 +83,7 @@ pub(crate) fn metrics(rt: &HostRuntime, text: &str) -> io::Result<()> {
             print_metric(rt, kind, spelling)?;
         }
     }
-    println!(rt; "")
+    println!(rt)
 }
 
 fn print_metric(rt: &HostRuntime, kind: MetricType, spelling: &str) -> io::Result<()> {
