@@ -46,12 +46,11 @@ fn errors_of_bytes_are_printed_and_copied(rt: HostRuntime) -> Tried {
 fn severities_are_in_order(rt: HostRuntime) {
     assert!(rt; Severity::None < Severity::Low && Severity::Low < Severity::Medium);
     assert!(rt; Severity::Medium < Severity::High && Severity::High < Severity::Critical);
-    assert_eq!(rt; Severity::Critical.as_str(), "critical");
+    assert!(rt; Severity::Critical.as_str() == "critical");
 }
 
 #[test]
 fn constants(rt: HostRuntime) {
-    assert_eq!(rt; PREFIX, "CVSS");
-    assert_eq!(rt; ONE, 10i128.pow(24));
-    assert_eq!(rt; LIMIT, 10i128.pow(30));
+    assert!(rt; PREFIX == "CVSS");
+    assert!(rt; ONE == 10i128.pow(24) && LIMIT == 10i128.pow(30));
 }

@@ -1,12 +1,12 @@
 //! Tests that run the examples.
 
+use crate::values::Tried;
 use cvss::{Cvss, Severity};
 use cvss_examples::advisory::advisory;
 use cvss_examples::audit::{Audit, count_findings};
 use cvss_examples::json::{converted_and_back, text_of, value_of, written_and_read};
 use std::alloc::Global;
 use std::process::Abort;
-use std::test::Fail;
 
 #[test]
 fn audits_texts_of_all_versions(rt: HostRuntime) {
@@ -37,7 +37,7 @@ fn audits_texts_of_all_versions(rt: HostRuntime) {
 }
 
 #[test]
-fn tells_the_vector_or_the_reason(rt: HostRuntime) -> Result<(), Fail> {
+fn tells_the_vector_or_the_reason(rt: HostRuntime) -> Tried {
     let rows = [
         (
             "A:C/I:N/C:N/Au:N/AC:L/AV:N",
@@ -54,37 +54,32 @@ fn tells_the_vector_or_the_reason(rt: HostRuntime) -> Result<(), Fail> {
         ),
     ];
     for (text, told) in rows {
-        assert_eq!(rt; advisory(rt.alloc(), text)?.as_str(), told);
+        assert!(rt; advisory(rt.alloc(), text)?.as_str() == told, "{text}");
     }
     Ok(())
 }
 
-#[test]
-fn a_json_value_gives_the_vector_back(rt: HostRuntime) -> Result<(), Fail> {
-    let texts = [
-        "A:C/I:N/C:N/Au:N/AC:L/AV:N",
-        "CVSS:3.1/MA:N/CR:H/AV:N",
-        "CVSS:4.0/u:red/sa:n/si:n/sc:n/va:n/vi:l/vc:l/ui:n/pr:h/at:n/ac:l/av:n",
-    ];
-    for text in texts {
-        let cvss = Cvss::from_str(rt.alloc(), text)?;
-        let read = written_and_read(rt.alloc(), &cvss)?;
-        assert!(rt; read == cvss, "{text}");
-    }
+/// Writes a text's vector as a JSON value, and the value as a text.
+fn passes(rt: &impl Abort, alloc: Global, text: &str, canonical: &str) -> Tried {
+    let value = value_of(alloc, text)?;
+    assert!(rt; value.as_str() == Some(canonical), "{text}");
+    assert!(rt; text_of(alloc, &value)?.as_str() == canonical, "{text}");
     Ok(())
 }
 
 /// Writes a text's vector as a JSON value and reads it back.
-fn passes(rt: &impl Abort, alloc: Global, text: &str, canonical: &str) -> Result<(), Fail> {
-    let value = value_of(alloc, text)?;
-    assert!(rt; value.as_str() == Some(canonical), "{text}");
-    assert_eq!(rt; text_of(alloc, &value)?.as_str(), canonical);
-    assert_eq!(rt; converted_and_back(alloc, text)?.as_str(), canonical);
+fn comes_back(rt: &impl Abort, alloc: Global, text: &str, canonical: &str) -> Tried {
+    assert!(rt;
+        converted_and_back(alloc, text)?.as_str() == canonical,
+        "{text}"
+    );
+    let cvss = Cvss::from_str(alloc, text)?;
+    assert!(rt; written_and_read(alloc, &cvss)? == cvss, "{text}");
     Ok(())
 }
 
 #[test]
-fn texts_pass_through_json_values(rt: HostRuntime) -> Result<(), Fail> {
+fn texts_pass_through_json_values(rt: HostRuntime) -> Tried {
     let rows = [
         ("A:C/I:N/C:N/Au:N/AC:L/AV:N", "AV:N/AC:L/Au:N/C:N/I:N/A:C"),
         ("CVSS:3.1/MA:N/CR:H/AV:N", "CVSS:3.1/AV:N/CR:H/MA:N"),
@@ -95,6 +90,7 @@ fn texts_pass_through_json_values(rt: HostRuntime) -> Result<(), Fail> {
     ];
     for (text, canonical) in rows {
         passes(&rt, rt.alloc(), text, canonical)?;
+        comes_back(&rt, rt.alloc(), text, canonical)?;
     }
     Ok(())
 }

@@ -7,12 +7,14 @@ use serde_json::{Map, Value};
 use std::alloc::Global;
 use std::process::Abort;
 
-/// Reads a value that is no string.
-fn is_no_string<T>(rt: &impl Abort, alloc: Global, value: &Value)
+/// Reads values that are no strings.
+fn are_no_strings<T>(rt: &impl Abort, alloc: Global, values: &[Value])
 where
     T: JsonText + PartialEq + Drop,
 {
-    assert!(rt; T::from_value(alloc, value) == Err(JsonError::NotAString));
+    for value in values {
+        assert!(rt; T::from_value(alloc, value) == Err(JsonError::NotAString));
+    }
 }
 
 #[test]
@@ -26,14 +28,12 @@ fn values_that_are_no_strings_stand_for_nothing(rt: HostRuntime) -> Tried {
         Value::from(vec![in alloc; low]?),
         Value::from(Map::new(alloc)),
     ];
-    for value in &values {
-        is_no_string::<Cvss>(&rt, alloc, value);
-        is_no_string::<Severity>(&rt, alloc, value);
-        is_no_string::<v4::Nomenclature>(&rt, alloc, value);
-        is_no_string::<v2::Vector>(&rt, alloc, value);
-        is_no_string::<v3::Vector>(&rt, alloc, value);
-        is_no_string::<v4::Vector>(&rt, alloc, value);
-    }
+    are_no_strings::<Cvss>(&rt, alloc, &values);
+    are_no_strings::<Severity>(&rt, alloc, &values);
+    are_no_strings::<v4::Nomenclature>(&rt, alloc, &values);
+    are_no_strings::<v2::Vector>(&rt, alloc, &values);
+    are_no_strings::<v3::Vector>(&rt, alloc, &values);
+    are_no_strings::<v4::Vector>(&rt, alloc, &values);
     Ok(())
 }
 

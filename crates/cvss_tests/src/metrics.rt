@@ -1,14 +1,17 @@
 //! Tests of the metrics' types: which variant is which value, defaults, orders, and values in place
 //! of others.
 
+use crate::values::are_equal;
 use cvss::v3::metric::environmental::{BaseMetric, Modified, ModifiedScope};
 use cvss::v4::metric::base::IntegrityImpactToTheVulnerableSystem;
 use cvss::v4::metric::environmental::ModifiedAttackVector;
 use cvss::v4::metric::supplemental::ProviderUrgency;
 use cvss::{MetricType, v2, v3, v4};
 
-/// One thousandth of a score point.
+/// One thousandth and one hundredth of a score point.
 const THOUSANDTH: i128 = 1_000_000_000_000_000_000_000;
+
+const HUNDREDTH: i128 = 10 * THOUSANDTH;
 
 #[test]
 fn weighs_values_of_v2(rt: HostRuntime) {
@@ -17,21 +20,16 @@ fn weighs_values_of_v2(rt: HostRuntime) {
     use cvss::v2::metric::environmental::{CollateralDamagePotential, IntegrityRequirement};
     use cvss::v2::metric::temporal::{Exploitability, RemediationLevel};
     let rows = [
-        (AccessVector::AdjacentNetwork.score(), 646),
-        (Authentication::None.score(), 704),
-        (IntegrityImpact::Partial.score(), 275),
-        (Exploitability::ProofOfConcept.score(), 900),
-        (RemediationLevel::OfficialFix.score(), 870),
+        (AccessVector::AdjacentNetwork.score(), 646 * THOUSANDTH),
+        (Authentication::None.score(), 704 * THOUSANDTH),
+        (IntegrityImpact::Partial.score(), 275 * THOUSANDTH),
+        (Exploitability::ProofOfConcept.score(), 900 * THOUSANDTH),
+        (RemediationLevel::OfficialFix.score(), 870 * THOUSANDTH),
         (CollateralDamagePotential::NotDefined.score(), 0),
-        (IntegrityRequirement::High.score(), 1510),
+        (IntegrityRequirement::High.score(), 1510 * THOUSANDTH),
     ];
-    for (weight, thousandths) in rows {
-        assert_eq!(rt; weight, i128::from(thousandths) * THOUSANDTH);
-    }
+    are_equal(&rt, &rows);
 }
-
-/// One hundredth of a score point.
-const HUNDREDTH: i128 = 10 * THOUSANDTH;
 
 /// A value's weight in counts of 10^-24, as the metric's bound tells it.
 fn weight_of<M: v3::Metric + Drop>(metric: M) -> Option<i128> {
@@ -49,19 +47,16 @@ fn weighs_base_values_of_v3(rt: HostRuntime) {
         PrivilegesRequired, Scope, UserInteraction,
     };
     let rows = [
-        (weight_of(AttackVector::Adjacent), Some(62)),
-        (weight_of(AttackComplexity::Low), Some(77)),
-        (weight_of(PrivilegesRequired::High), Some(27)),
-        (weight_of(UserInteraction::Required), Some(62)),
+        (weight_of(AttackVector::Adjacent), Some(62 * HUNDREDTH)),
+        (weight_of(AttackComplexity::Low), Some(77 * HUNDREDTH)),
+        (weight_of(PrivilegesRequired::High), Some(27 * HUNDREDTH)),
+        (weight_of(UserInteraction::Required), Some(62 * HUNDREDTH)),
         (weight_of(Scope::Changed), None),
-        (weight_of(Confidentiality::Low), Some(22)),
-        (weight_of(Integrity::High), Some(56)),
+        (weight_of(Confidentiality::Low), Some(22 * HUNDREDTH)),
+        (weight_of(Integrity::High), Some(56 * HUNDREDTH)),
         (weight_of(Availability::None), Some(0)),
     ];
-    for (weight, hundredths) in rows {
-        let expected = hundredths.map(|count: u8| i128::from(count) * HUNDREDTH);
-        assert!(rt; weight == expected);
-    }
+    are_equal(&rt, &rows);
 }
 
 #[test]
@@ -72,20 +67,35 @@ fn weighs_optional_values_of_v3(rt: HostRuntime) {
     };
     use cvss::v3::metric::temporal::{ExploitCodeMaturity, RemediationLevel, ReportConfidence};
     let rows = [
-        (weight_of(ExploitCodeMaturity::Unproven), Some(91)),
-        (weight_of(RemediationLevel::TemporaryFix), Some(96)),
-        (weight_of(ReportConfidence::Reasonable), Some(96)),
-        (weight_of(ConfidentialityRequirement::High), Some(150)),
-        (weight_of(IntegrityRequirement::NotDefined), Some(100)),
-        (weight_of(AvailabilityRequirement::Low), Some(50)),
+        (
+            weight_of(ExploitCodeMaturity::Unproven),
+            Some(91 * HUNDREDTH),
+        ),
+        (
+            weight_of(RemediationLevel::TemporaryFix),
+            Some(96 * HUNDREDTH),
+        ),
+        (
+            weight_of(ReportConfidence::Reasonable),
+            Some(96 * HUNDREDTH),
+        ),
+        (
+            weight_of(ConfidentialityRequirement::High),
+            Some(150 * HUNDREDTH),
+        ),
+        (
+            weight_of(IntegrityRequirement::NotDefined),
+            Some(100 * HUNDREDTH),
+        ),
+        (
+            weight_of(AvailabilityRequirement::Low),
+            Some(50 * HUNDREDTH),
+        ),
         (weight_of(Modified::Modified(Integrity::Low)), Some(0)),
         (weight_of(ModifiedScope::NotDefined), Some(0)),
         (weight_of(ModifiedScope::Modified(Scope::Unchanged)), None),
     ];
-    for (weight, hundredths) in rows {
-        let expected = hundredths.map(|count: u8| i128::from(count) * HUNDREDTH);
-        assert!(rt; weight == expected);
-    }
+    are_equal(&rt, &rows);
 }
 
 #[test]
@@ -95,15 +105,13 @@ fn modified_values_replace_base_values(rt: HostRuntime) {
     let network = Some(AttackVector::Network);
     let physical = Modified::Modified(AttackVector::Physical);
     let rows = [
-        (Modified::NotDefined.modified_score(network), 85),
+        (Modified::NotDefined.modified_score(network), 85 * HUNDREDTH),
         (Modified::<AttackVector>::NotDefined.modified_score(None), 0),
-        (physical.modified_score(network), 20),
-        (physical.modified_score(None), 20),
+        (physical.modified_score(network), 20 * HUNDREDTH),
+        (physical.modified_score(None), 20 * HUNDREDTH),
         (physical.score(), 0),
     ];
-    for (score, hundredths) in rows {
-        assert_eq!(rt; score, i128::from(hundredths) * HUNDREDTH);
-    }
+    are_equal(&rt, &rows);
 }
 
 #[test]
@@ -112,16 +120,17 @@ fn privileges_weigh_by_the_scope(rt: HostRuntime) {
     let high = PrivilegesRequired::High;
     let low = Modified::Modified(PrivilegesRequired::Low);
     let rows = [
-        (high.scoped_score(true), 50),
-        (high.scoped_score(false), 27),
-        (Modified::NotDefined.scoped_score(true, Some(high)), 50),
+        (high.scoped_score(true), 50 * HUNDREDTH),
+        (high.scoped_score(false), 27 * HUNDREDTH),
+        (
+            Modified::NotDefined.scoped_score(true, Some(high)),
+            50 * HUNDREDTH,
+        ),
         (Modified::NotDefined.scoped_score(true, None), 0),
-        (low.scoped_score(true, Some(high)), 68),
-        (low.scoped_score(false, None), 62),
+        (low.scoped_score(true, Some(high)), 68 * HUNDREDTH),
+        (low.scoped_score(false, None), 62 * HUNDREDTH),
     ];
-    for (score, hundredths) in rows {
-        assert_eq!(rt; score, i128::from(hundredths) * HUNDREDTH);
-    }
+    are_equal(&rt, &rows);
 }
 
 #[test]
@@ -157,24 +166,23 @@ fn values_are_those_of_their_spellings(rt: HostRuntime) {
     use cvss::v3::Metric as _;
     use v2::metric::base::AccessVector;
     use v3::metric::base::AttackVector;
-    let alloc = rt.alloc();
-    assert!(rt; AccessVector::from_str(alloc, "L") == Ok(AccessVector::Local));
-    assert!(rt; AttackVector::from_str(alloc, "N") == Ok(AttackVector::Network));
+    let local = AccessVector::from_str(rt.alloc(), "L").ok();
+    let network = AttackVector::from_str(rt.alloc(), "N").ok();
+    assert!(rt; local == Some(AccessVector::Local) && network == Some(AttackVector::Network));
 }
 
 #[test]
 fn names_metrics_of_each_version(rt: HostRuntime) {
+    let of_v2 = MetricType::V2(v2::MetricType::Au);
+    let of_v3 = MetricType::V3(v3::MetricType::AV);
+    let of_v4 = MetricType::V4(v4::MetricType::MAV);
     let rows = [
-        (MetricType::V2(v2::MetricType::Au), "Au", "Authentication"),
-        (MetricType::V3(v3::MetricType::AV), "AV", "Attack Vector"),
-        (
-            MetricType::V4(v4::MetricType::MAV),
-            "MAV",
-            "Modified Attack Vector",
-        ),
+        (of_v2.name(), "Au"),
+        (of_v2.description(), "Authentication"),
+        (of_v3.name(), "AV"),
+        (of_v3.description(), "Attack Vector"),
+        (of_v4.name(), "MAV"),
+        (of_v4.description(), "Modified Attack Vector"),
     ];
-    for (metric, name, description) in rows {
-        assert_eq!(rt; metric.name(), name);
-        assert_eq!(rt; metric.description(), description);
-    }
+    are_equal(&rt, &rows);
 }

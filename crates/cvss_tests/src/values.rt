@@ -5,6 +5,16 @@ use std::fmt;
 use std::process::Abort;
 use std::test::Fail;
 
+/// What a test's helper ends with.
+pub(crate) type Tried = Result<(), Fail>;
+
+/// Compares what was found with what is expected, row by row.
+pub(crate) fn are_equal<T: PartialEq>(rt: &impl Abort, rows: &[(T, T)]) {
+    for (row, (found, expected)) in rows.iter().enumerate() {
+        assert!(rt; found == expected, "row {row}");
+    }
+}
+
 /// Compares each value with each. Two are equal exactly where their texts are.
 pub(crate) fn are_told_apart<T: PartialEq>(rt: &impl Abort, rows: &[(&str, T)]) {
     for (text, one) in rows {
@@ -51,11 +61,6 @@ pub(crate) fn prints<T: fmt::Display>(
     let styled = format!(in alloc;
         "{value:>200}\n{value:<12}\n{value:*^9.3}\n{value:#}\n{value:+}"
     )?;
-    for each in styled.split('\n') {
-        assert_eq!(rt; each, text);
-    }
+    assert!(rt; styled.split('\n').all(|each| each == text), "{text}");
     Ok(())
 }
-
-/// What a test's helper ends with.
-pub(crate) type Tried = Result<(), Fail>;

@@ -3,17 +3,33 @@
 use crate::values::{Tried, prints};
 use cvss::{Cvss, v2, v3, v4};
 
+/// The version that a vector tells.
+fn version_of(vector: &Cvss) -> &'static str {
+    match vector {
+        Cvss::CvssV20(_) => "2.0",
+        Cvss::CvssV30(_) => "3.0",
+        Cvss::CvssV31(_) => "3.1",
+        Cvss::CvssV40(_) => "4.0",
+    }
+}
+
 #[test]
 fn a_text_is_a_vector_of_the_version_that_it_tells(rt: HostRuntime) -> Tried {
-    let alloc = rt.alloc();
-    let cvss = Cvss::from_str(alloc, "AV:N/AC:L/Au:N/C:N/I:N/A:C")?;
-    assert!(rt; matches!(cvss, Cvss::CvssV20(_)));
-    let cvss = Cvss::from_str(alloc, "CVSS:3.0/AV:N/AC:L/PR:N/UI:R/S:C/C:H/I:H/A:H")?;
-    assert!(rt; matches!(cvss, Cvss::CvssV30(_)));
-    let cvss = Cvss::from_str(alloc, "CVSS:3.1/AV:N/AC:L/PR:N/UI:N/S:U/C:H/I:H/A:H")?;
-    assert!(rt; matches!(cvss, Cvss::CvssV31(_)));
-    let text = "CVSS:4.0/AV:N/AC:L/AT:N/PR:N/UI:N/VC:L/VI:H/VA:N/SC:N/SI:N/SA:N/E:P";
-    assert!(rt; matches!(Cvss::from_str(alloc, text)?, Cvss::CvssV40(_)));
+    let rows = [
+        ("AV:N/AC:L/Au:N/C:N/I:N/A:C", "2.0"),
+        ("CVSS:3.0/AV:N/AC:L/PR:N/UI:R/S:C/C:H/I:H/A:H", "3.0"),
+        ("CVSS:3.1/AV:N/AC:L/PR:N/UI:N/S:U/C:H/I:H/A:H", "3.1"),
+        (
+            "CVSS:4.0/AV:N/AC:L/AT:N/PR:N/UI:N/VC:L/VI:H/VA:N/SC:N/SI:N/SA:N/E:P",
+            "4.0",
+        ),
+    ];
+    for (text, version) in rows {
+        assert!(rt;
+            version_of(&Cvss::from_str(rt.alloc(), text)?) == version,
+            "{text}"
+        );
+    }
     Ok(())
 }
 
@@ -36,7 +52,7 @@ fn prints_vectors_of_v2_that_no_text_denotes(rt: HostRuntime) -> Tried {
     };
     prints(&rt, rt.alloc(), &vector, "A:P/RL:ND")?;
     assert!(rt; !vector.same_text(&empty) && vector != empty);
-    assert_eq!(rt; vector.metrics().count(), 2);
+    assert!(rt; vector.metrics().count() == 2);
     Ok(())
 }
 

@@ -4,14 +4,14 @@ use cvss::{Cvss, Error};
 use std::io;
 
 /// The kind of a refusal, and the part of the text or the metric that it holds.
-pub(crate) fn fault(rt: &(impl Print + AllocGlobal), text: &str) -> io::Result<()> {
+pub(crate) fn fault(rt: &HostRuntime, text: &str) -> io::Result<()> {
     match Cvss::from_str(rt.alloc(), text) {
         Ok(_) => println!(rt; "none"),
         Err(error) => print_fault(rt, &error),
     }
 }
 
-fn print_fault(rt: &impl Print, error: &Error) -> io::Result<()> {
+fn print_fault(rt: &HostRuntime, error: &Error) -> io::Result<()> {
     match error {
         Error::InvalidComponent { component } => println!(rt; "component {component}"),
         Error::InvalidPrefix { prefix } => println!(rt; "prefix {prefix}"),

@@ -55,33 +55,47 @@ fn main(rt: HostRuntime) -> io::Result<()> {
     Ok(())
 }
 
+/// What a line asks for.
+fn answer(rt: &HostRuntime, line: &[u8]) -> io::Result<()> {
+    match str::from_utf8(line) {
+        Ok(text) => {
+            let (mark, asked) = first_word(text);
+            answer_marked(rt, line, mark, asked)
+        }
+        Err(_) => vectors::of_any(rt, line),
+    }
+}
+
+/// The word before a text's first blank and what stands behind that; without a blank, no word and
+/// the text.
+pub(crate) fn first_word(text: &str) -> (&str, &str) {
+    text.split_once(' ').unwrap_or(("", text))
+}
+
 /// What a mark and a blank ask for.
-fn answer(rt: &(impl Print + AllocGlobal), line: &[u8]) -> io::Result<()> {
-    match str::from_utf8(line)
-        .ok()
-        .and_then(|text| text.split_once(' '))
-    {
-        Some(("v2", text)) => vectors::of_v2(rt, text),
-        Some(("v3", text)) => vectors::of_v3(rt, text),
-        Some(("v4", text)) => vectors::of_v4(rt, text),
-        Some(("fault", text)) => faults::fault(rt, text),
-        Some(("scores", text)) => scores::scores(rt, text),
-        Some(("parts", text)) => scores::parts(rt, text),
-        Some(("metrics", text)) => vectors::metrics(rt, text),
-        Some(("sight", text)) => vectors::at_sight(rt, text),
-        Some(("same", texts)) => vectors::same(rt, texts),
-        Some(("kind", asked)) => kinds::kind(rt, asked),
-        Some(("value", asked)) => kinds::value(rt, asked),
-        Some(("each", asked)) => shown::each(rt, asked),
-        Some(("score", asked)) => numbers::score(rt, asked),
-        Some(("round", asked)) => numbers::round(rt, asked),
-        Some(("temporal", count)) => numbers::temporal(rt, count),
-        Some(("tenths", number)) => numbers::tenths(rt, number),
-        Some(("rank", asked)) => ranking::rank(rt, asked),
-        Some(("overrides", asked)) => ranking::overrides(rt, asked),
-        Some(("record", text)) => records::record(rt, text),
-        Some(("differ", asked)) => records::differ(rt, asked),
-        Some(("places", document)) => records::places(rt, document),
+fn answer_marked(rt: &HostRuntime, line: &[u8], mark: &str, asked: &str) -> io::Result<()> {
+    match mark {
+        "v2" => vectors::of_v2(rt, asked),
+        "v3" => vectors::of_v3(rt, asked),
+        "v4" => vectors::of_v4(rt, asked),
+        "fault" => faults::fault(rt, asked),
+        "scores" => scores::scores(rt, asked),
+        "parts" => scores::parts(rt, asked),
+        "metrics" => vectors::metrics(rt, asked),
+        "sight" => vectors::at_sight(rt, asked),
+        "same" => vectors::same(rt, asked),
+        "kind" => kinds::kind(rt, asked),
+        "value" => kinds::value(rt, asked),
+        "each" => shown::each(rt, asked),
+        "score" => numbers::score(rt, asked),
+        "round" => numbers::round(rt, asked),
+        "temporal" => numbers::temporal(rt, asked),
+        "tenths" => numbers::tenths(rt, asked),
+        "rank" => ranking::rank(rt, asked),
+        "overrides" => ranking::overrides(rt, asked),
+        "record" => records::record(rt, asked),
+        "differ" => records::differ(rt, asked),
+        "places" => records::places(rt, asked),
         _ => vectors::of_any(rt, line),
     }
 }

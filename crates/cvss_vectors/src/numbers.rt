@@ -2,8 +2,8 @@
 
 use crate::shown::print_alike;
 use cvss::v4::Nomenclature;
-use cvss::{LIMIT, OneDecimal, tenths, v2, v3, v4};
-use std::io;
+use cvss::{LIMIT, OneDecimal, Severity, tenths, v2, v3, v4};
+use std::{fmt, io};
 
 const NO_NUMBER: &str = "no such number";
 
@@ -14,33 +14,42 @@ fn numbered(asked: &str) -> Option<(&str, i128)> {
 }
 
 /// A score as it is printed, and its rating.
-pub(crate) fn score(rt: &(impl Print + AllocGlobal), asked: &str) -> io::Result<()> {
+pub(crate) fn score(rt: &HostRuntime, asked: &str) -> io::Result<()> {
     match numbered(asked) {
-        Some(("2", count)) => {
+        Some((word, count)) => score_by(rt, word, count),
+        None => println!(rt; "{NO_NUMBER}"),
+    }
+}
+
+fn score_by(rt: &HostRuntime, word: &str, count: i128) -> io::Result<()> {
+    match word {
+        "2" => {
             let score = v2::Score::from(count);
-            print_alike(rt, &score)?;
-            println!(rt; " {}", score.severity())
+            print_rated(rt, &score, score.severity())
         }
-        Some(("3", count)) => {
+        "3" => {
             let score = v3::Score::from(count);
-            print_alike(rt, &score)?;
-            println!(rt; " {}", score.severity())
+            print_rated(rt, &score, score.severity())
         }
-        Some(("4", count)) => {
+        "4" => {
             let score = v4::Score::new(count, Nomenclature::CvssB);
-            print_alike(rt, &score)?;
-            println!(rt; " {}", score.severity())
+            print_rated(rt, &score, score.severity())
         }
-        Some(("any", count)) => {
+        "any" => {
             print_alike(rt, &OneDecimal { count })?;
-            println!(rt; "")
+            println!(rt)
         }
         _ => println!(rt; "{NO_NUMBER}"),
     }
 }
 
+fn print_rated<S: fmt::Display>(rt: &HostRuntime, score: &S, rating: Severity) -> io::Result<()> {
+    print_alike(rt, score)?;
+    println!(rt; " {rating}")
+}
+
 /// The score to which a score is rounded.
-pub(crate) fn round(rt: &impl Print, asked: &str) -> io::Result<()> {
+pub(crate) fn round(rt: &HostRuntime, asked: &str) -> io::Result<()> {
     match numbered(asked).and_then(|(version, count)| rounded_by(version, count)) {
         Some(count) => println!(rt; "{count}"),
         None => println!(rt; "{NO_NUMBER}"),
@@ -72,7 +81,7 @@ pub(crate) fn rounded(score: v2::Score) -> v2::Score {
 }
 
 /// The temporal score of v2 of an impact, for a vector without metrics.
-pub(crate) fn temporal(rt: &impl Print, count: &str) -> io::Result<()> {
+pub(crate) fn temporal(rt: &HostRuntime, count: &str) -> io::Result<()> {
     match count.parse::<i128>() {
         Ok(count) if -LIMIT <= count && count <= LIMIT => {
             let score = v2::Vector::default().temporal_score_internal(v2::Score::new(count));
@@ -83,7 +92,7 @@ pub(crate) fn temporal(rt: &impl Print, count: &str) -> io::Result<()> {
 }
 
 /// The text of a number of tenths.
-pub(crate) fn tenths(rt: &impl Print, number: &str) -> io::Result<()> {
+pub(crate) fn tenths(rt: &HostRuntime, number: &str) -> io::Result<()> {
     match number.parse::<u8>() {
         Ok(number) if number <= 100 => println!(rt; "{}", tenths::text_of(number)),
         _ => println!(rt; "{NO_NUMBER}"),

@@ -1,31 +1,31 @@
 //! Triage.
 
+use crate::shown::print_error;
 use cvss::v4::Vector;
 use cvss_ranking::{Row, apply};
 use std::io;
 
 /// The rows of the texts, which stand behind `=`, with the overrides, which stand behind `+`.
-pub(crate) fn rank(rt: &(impl Print + AllocGlobal), asked: &str) -> io::Result<()> {
-    let mut texts = Vec::new(rt.alloc());
-    let mut overrides = Vec::new(rt.alloc());
-    for word in asked.split(' ') {
-        if let Some(text) = word.strip_prefix("=") {
-            texts.push(text)?;
-        } else if let Some(component) = word.strip_prefix("+") {
-            overrides.push(component)?;
-        }
-    }
+pub(crate) fn rank(rt: &HostRuntime, asked: &str) -> io::Result<()> {
+    let texts = behind(rt, asked, "=")?;
+    let overrides = behind(rt, asked, "+")?;
     ranked(rt, &texts, &overrides)
 }
 
-fn ranked(rt: &(impl Print + AllocGlobal), texts: &[&str], overrides: &[&str]) -> io::Result<()> {
+/// What stands behind a mark in the words that begin with it.
+fn behind<'a>(rt: &HostRuntime, asked: &'a str, mark: &str) -> io::Result<Vec<&'a str>> {
+    let words = asked.split(' ').filter_map(|word| word.strip_prefix(mark));
+    Ok(Vec::from_iter(rt.alloc(), words)?)
+}
+
+fn ranked(rt: &HostRuntime, texts: &[&str], overrides: &[&str]) -> io::Result<()> {
     match apply(rt.alloc(), texts, overrides) {
         Ok(rows) => print_rows(rt, &rows),
-        Err(error) => println!(rt; "error: {error}"),
+        Err(error) => print_error(rt, &error),
     }
 }
 
-fn print_rows(rt: &impl Print, rows: &[Row]) -> io::Result<()> {
+fn print_rows(rt: &HostRuntime, rows: &[Row]) -> io::Result<()> {
     for row in rows {
         print!(rt;
             "{} {} {} {};",
@@ -35,17 +35,14 @@ fn print_rows(rt: &impl Print, rows: &[Row]) -> io::Result<()> {
             row.text
         )?;
     }
-    println!(rt; "")
+    println!(rt)
 }
 
 /// The vector of environmental metrics alone.
-pub(crate) fn overrides(rt: &(impl Print + AllocGlobal), asked: &str) -> io::Result<()> {
-    let mut overrides = Vec::new(rt.alloc());
-    for word in asked.split(' ') {
-        overrides.push(word)?;
-    }
+pub(crate) fn overrides(rt: &HostRuntime, asked: &str) -> io::Result<()> {
+    let overrides = Vec::from_iter(rt.alloc(), asked.split(' '))?;
     match Vector::from_overrides(rt.alloc(), &overrides) {
         Ok(vector) => println!(rt; "{vector}"),
-        Err(error) => println!(rt; "error: {error}"),
+        Err(error) => print_error(rt, &error),
     }
 }

@@ -2,20 +2,21 @@
 
 ghost use Rattle.cvss.specs.Answers.{HasScore};
 
+use crate::shown::print_error;
 use cvss::Cvss;
 use cvss_record::{Difference, Form, Place, differences, differences_at, record_of, vectors_in};
 use serde_json::Value;
 use std::io;
 
 /// The record of a vector, and its members that say otherwise than the vector, which are none.
-pub(crate) fn record(rt: &(impl Print + AllocGlobal), text: &str) -> io::Result<()> {
+pub(crate) fn record(rt: &HostRuntime, text: &str) -> io::Result<()> {
     match Cvss::from_str(rt.alloc(), text) {
         Ok(vector) => print_record(rt, &vector, &record_of(rt.alloc(), &vector)?),
-        Err(error) => println!(rt; "error: {error}"),
+        Err(error) => print_error(rt, &error),
     }
 }
 
-fn print_record(rt: &(impl Print + AllocGlobal), vector: &Cvss, record: &Value) -> io::Result<()>
+fn print_record(rt: &HostRuntime, vector: &Cvss, record: &Value) -> io::Result<()>
     requires { HasScore vector.now }
 {
     print!(rt; "{record}")?;
@@ -26,14 +27,14 @@ fn print_record(rt: &(impl Print + AllocGlobal), vector: &Cvss, record: &Value) 
 }
 
 /// The members of an object that say otherwise than the vector of the text before it.
-pub(crate) fn differ(rt: &(impl Print + AllocGlobal), asked: &str) -> io::Result<()> {
+pub(crate) fn differ(rt: &HostRuntime, asked: &str) -> io::Result<()> {
     match asked.split_once(' ') {
         Some((text, object)) => differ_from(rt, text, object),
         None => println!(rt; "no object"),
     }
 }
 
-fn differ_from(rt: &(impl Print + AllocGlobal), text: &str, object: &str) -> io::Result<()> {
+fn differ_from(rt: &HostRuntime, text: &str, object: &str) -> io::Result<()> {
     match (
         Cvss::read_bytes(text.as_bytes()),
         Value::from_str(rt.alloc(), object),
@@ -45,37 +46,45 @@ fn differ_from(rt: &(impl Print + AllocGlobal), text: &str, object: &str) -> io:
     }
 }
 
-fn print_members(rt: &impl Print, found: &[Difference]) -> io::Result<()> {
+fn print_members(rt: &HostRuntime, found: &[Difference]) -> io::Result<()> {
     for difference in found {
         print!(rt; "{};", difference.member)?;
     }
-    println!(rt; "")
+    println!(rt)
 }
 
 /// Where vectors stand in a document.
-pub(crate) fn places(rt: &(impl Print + AllocGlobal), document: &str) -> io::Result<()> {
+pub(crate) fn places(rt: &HostRuntime, document: &str) -> io::Result<()> {
     match Value::from_str(rt.alloc(), document) {
-        Ok(document) => {
-            for place in &vectors_in(rt.alloc(), &document)? {
-                print_place(rt, place)?;
-            }
-            println!(rt; "")
-        }
+        Ok(document) => print_places(rt, &document),
         Err(_) => println!(rt; "no JSON"),
     }
 }
 
-fn print_place(rt: &(impl Print + AllocGlobal), place: &Place<'_>) -> io::Result<()> {
+fn print_places(rt: &HostRuntime, document: &Value) -> io::Result<()> {
+    for place in &vectors_in(rt.alloc(), document)? {
+        print_place(rt, place)?;
+    }
+    println!(rt)
+}
+
+fn print_place(rt: &HostRuntime, place: &Place<'_>) -> io::Result<()> {
     print!(rt; "{}={}", place.at, form_text(place.form))?;
     if let Some(text) = place.text {
         print!(rt; " {text}")?;
-        if let Some(vector) = Cvss::read_bytes(text.as_bytes()) {
-            for difference in &differences_at(rt.alloc(), &vector, place)? {
-                print!(rt; " {}", difference.member)?;
-            }
-        }
+        print_differences(rt, place, text)?;
     }
     print!(rt; ";")
+}
+
+/// What stands at a place beside a vector's text and says otherwise than the vector.
+fn print_differences(rt: &HostRuntime, place: &Place<'_>, text: &str) -> io::Result<()> {
+    if let Some(vector) = Cvss::read_bytes(text.as_bytes()) {
+        for difference in &differences_at(rt.alloc(), &vector, place)? {
+            print!(rt; " {}", difference.member)?;
+        }
+    }
+    Ok(())
 }
 
 fn form_text(form: Form) -> &'static str {

@@ -1,22 +1,23 @@
 //! Scores and sub-scores, in counts of 10^-24.
 
 use crate::numbers::rounded;
+use crate::shown::print_error;
 use cvss::{Cvss, v2, v3};
 use std::io;
 
 /// The score of a vector as it is written, and all of its scores.
-pub(crate) fn scores(rt: &(impl Print + AllocGlobal), text: &str) -> io::Result<()> {
+pub(crate) fn scores(rt: &HostRuntime, text: &str) -> io::Result<()> {
     match Cvss::from_str(rt.alloc(), text) {
         Ok(vector) => {
             print!(rt; "{} {}", vector.score_text(), vector.score())?;
             print_others(rt, &vector)
         }
-        Err(error) => println!(rt; "error: {error}"),
+        Err(error) => print_error(rt, &error),
     }
 }
 
 /// The scores behind the one that is published.
-fn print_others(rt: &impl Print, vector: &Cvss) -> io::Result<()> {
+fn print_others(rt: &HostRuntime, vector: &Cvss) -> io::Result<()> {
     match vector {
         Cvss::CvssV20(vector) => {
             let temporal = vector.temporal_score().value();
@@ -27,7 +28,7 @@ fn print_others(rt: &impl Print, vector: &Cvss) -> io::Result<()> {
             let environmental = vector.environmental_score().value();
             println!(rt; " {temporal} {environmental} {}", certainty(vector))
         }
-        Cvss::CvssV40(_) => println!(rt; ""),
+        Cvss::CvssV40(_) => println!(rt),
     }
 }
 
@@ -40,7 +41,7 @@ fn certainty(vector: &v3::Vector) -> &'static str {
 }
 
 /// The sub-scores of a vector of v2 or v3.
-pub(crate) fn parts(rt: &(impl Print + AllocGlobal), text: &str) -> io::Result<()> {
+pub(crate) fn parts(rt: &HostRuntime, text: &str) -> io::Result<()> {
     match Cvss::from_str(rt.alloc(), text) {
         Ok(Cvss::CvssV20(vector)) => parts_of_v2(rt, &vector),
         Ok(Cvss::CvssV30(vector) | Cvss::CvssV31(vector)) => {
@@ -48,11 +49,11 @@ pub(crate) fn parts(rt: &(impl Print + AllocGlobal), text: &str) -> io::Result<(
             println!(rt; "{impact} {}", vector.exploitability().value())
         }
         Ok(Cvss::CvssV40(_)) => println!(rt; "v4 has none"),
-        Err(error) => println!(rt; "error: {error}"),
+        Err(error) => print_error(rt, &error),
     }
 }
 
-fn parts_of_v2(rt: &impl Print, vector: &v2::Vector) -> io::Result<()> {
+fn parts_of_v2(rt: &HostRuntime, vector: &v2::Vector) -> io::Result<()> {
     let impact = rounded(vector.impact()).value();
     let exploitability = rounded(vector.exploitability()).value();
     let adjusted = rounded(vector.adjusted_impact()).value();

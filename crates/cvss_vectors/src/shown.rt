@@ -1,38 +1,31 @@
 //! Values beside each other: how each is printed, copied and told from the others.
 
+use crate::first_word;
 use crate::kinds::{each_kind, each_value};
 use cvss::v4::Nomenclature;
 use cvss::{Cvss, Severity, v2, v3, v4};
 use std::{fmt, io};
 
 /// Of the words that are read, the values.
-pub(crate) fn each(rt: &(impl Print + AllocGlobal), asked: &str) -> io::Result<()> {
-    match asked.split_once(' ') {
-        Some(("kind", asked)) => each_kind(rt, asked),
-        Some(("value", asked)) => each_value(rt, asked),
-        Some(("vector", words)) => show(rt, words, |word| Cvss::read_bytes(word.as_bytes())),
-        Some(("v2", words)) => show(rt, words, |word| v2::Vector::read_bytes(word.as_bytes())),
-        Some(("v3", words)) => show(rt, words, |word| v3::Vector::read_bytes(word.as_bytes())),
-        Some(("v4", words)) => show(rt, words, |word| v4::Vector::read_bytes(word.as_bytes())),
-        Some(("rating", words)) => show(
-            rt,
-            words,
-            |word| Severity::from_str(rt.alloc(), word).ok(),
-        ),
-        Some(("nomenclature", words)) => {
-            show(
-                rt,
-                words,
-                |word| Nomenclature::from_str(rt.alloc(), word).ok(),
-            )
-        }
-        Some(("error", words)) => show(rt, words, |word| Cvss::from_str(rt.alloc(), word).err()),
+pub(crate) fn each(rt: &HostRuntime, asked: &str) -> io::Result<()> {
+    let (kind, words) = first_word(asked);
+    let alloc = rt.alloc();
+    match kind {
+        "kind" => each_kind(rt, words),
+        "value" => each_value(rt, words),
+        "vector" => show(rt, words, |word| Cvss::read_bytes(word.as_bytes())),
+        "v2" => show(rt, words, |word| v2::Vector::read_bytes(word.as_bytes())),
+        "v3" => show(rt, words, |word| v3::Vector::read_bytes(word.as_bytes())),
+        "v4" => show(rt, words, |word| v4::Vector::read_bytes(word.as_bytes())),
+        "rating" => show(rt, words, |word| Severity::from_str(alloc, word).ok()),
+        "nomenclature" => show(rt, words, |word| Nomenclature::from_str(alloc, word).ok()),
+        "error" => show(rt, words, |word| Cvss::from_str(alloc, word).err()),
         _ => println!(rt; "no such type"),
     }
 }
 
 /// Of the words that are read, a copy of each value, how many of them it equals, and how many not.
-pub(crate) fn show<T, F>(rt: &(impl Print + AllocGlobal), words: &str, read: F) -> io::Result<()>
+pub(crate) fn show<T, F>(rt: &HostRuntime, words: &str, read: F) -> io::Result<()>
 where
     T: fmt::Display + Clone + PartialEq + Drop,
     F: Fn(&str) -> Option<T>,
@@ -47,7 +40,7 @@ where
     print_each(rt, &values)
 }
 
-fn print_each<T>(rt: &(impl Print + AllocGlobal), values: &[T]) -> io::Result<()>
+fn print_each<T>(rt: &HostRuntime, values: &[T]) -> io::Result<()>
 where
     T: fmt::Display + Clone + PartialEq + Drop,
 {
@@ -57,12 +50,12 @@ where
         print_alike(rt, &value.clone()?)?;
         print!(rt; " {same} {others};")?;
     }
-    println!(rt; "")
+    println!(rt)
 }
 
 /// Prints a value; or that it is another text under some option of a formatter, be it a width, a
 /// fill, a precision, a sign or `#`.
-pub(crate) fn print_alike<T>(rt: &(impl Print + AllocGlobal), value: &T) -> io::Result<()>
+pub(crate) fn print_alike<T>(rt: &HostRuntime, value: &T) -> io::Result<()>
 where
     T: fmt::Display,
 {
@@ -75,4 +68,29 @@ where
     } else {
         print!(rt; "options change the text")
     }
+}
+
+/// A value of a metric: the value, the metric, the spelling and the weight.
+pub(crate) fn print_value<T>(
+    rt: &HostRuntime,
+    value: &T,
+    name: &str,
+    spelling: &str,
+    weight: Option<i128>,
+) -> io::Result<()>
+where
+    T: fmt::Display,
+{
+    match weight {
+        Some(weight) => println!(rt; "{value} {name} {spelling} {weight}"),
+        None => println!(rt; "{value} {name} {spelling} -"),
+    }
+}
+
+/// Why something is refused.
+pub(crate) fn print_error<E>(rt: &HostRuntime, error: &E) -> io::Result<()>
+where
+    E: fmt::Display,
+{
+    println!(rt; "error: {error}")
 }

@@ -1,63 +1,42 @@
 //! Values of the metrics of CVSS v2.
 
-use crate::kinds::Asked;
-use crate::shown::show;
+use crate::kinds::{Asked, print_kind};
+use crate::shown::{print_error, print_value, show};
 use cvss::v2::metric::{base, environmental, temporal};
 use cvss::v2::{Metric, MetricType};
 use std::io;
 
-/// Tells of values of the metric with this name.
-pub(crate) fn answer(
-    rt: &(impl Print + AllocGlobal),
-    name: &str,
-    asked: Asked<'_>,
-) -> io::Result<()> {
-    match MetricType::from_str(rt.alloc(), name) {
-        Ok(kind) => answer_of(rt, kind, asked),
-        Err(error) => println!(rt; "error: {error}"),
-    }
-}
-
-fn answer_of(
-    rt: &(impl Print + AllocGlobal),
-    kind: MetricType,
-    asked: Asked<'_>,
-) -> io::Result<()> {
+/// Tells of values of a metric.
+pub(crate) fn answer(rt: &HostRuntime, kind: MetricType, asked: Asked<'_>) -> io::Result<()> {
     match kind {
-        MetricType::AV => told::<base::AccessVector>(rt, asked),
-        MetricType::AC => told::<base::AccessComplexity>(rt, asked),
-        MetricType::Au => told::<base::Authentication>(rt, asked),
-        MetricType::C => told::<base::ConfidentialityImpact>(rt, asked),
-        MetricType::I => told::<base::IntegrityImpact>(rt, asked),
-        MetricType::A => told::<base::AvailabilityImpact>(rt, asked),
-        MetricType::E => told::<temporal::Exploitability>(rt, asked),
-        MetricType::RL => told::<temporal::RemediationLevel>(rt, asked),
-        MetricType::RC => told::<temporal::ReportConfidence>(rt, asked),
-        MetricType::CDP => told::<environmental::CollateralDamagePotential>(rt, asked),
-        MetricType::TD => told::<environmental::TargetDistribution>(rt, asked),
-        MetricType::CR => told::<environmental::ConfidentialityRequirement>(rt, asked),
-        MetricType::IR => told::<environmental::IntegrityRequirement>(rt, asked),
-        MetricType::AR => told::<environmental::AvailabilityRequirement>(rt, asked),
+        MetricType::AV => told::<base::AccessVector>(rt, kind, asked),
+        MetricType::AC => told::<base::AccessComplexity>(rt, kind, asked),
+        MetricType::Au => told::<base::Authentication>(rt, kind, asked),
+        MetricType::C => told::<base::ConfidentialityImpact>(rt, kind, asked),
+        MetricType::I => told::<base::IntegrityImpact>(rt, kind, asked),
+        MetricType::A => told::<base::AvailabilityImpact>(rt, kind, asked),
+        MetricType::E => told::<temporal::Exploitability>(rt, kind, asked),
+        MetricType::RL => told::<temporal::RemediationLevel>(rt, kind, asked),
+        MetricType::RC => told::<temporal::ReportConfidence>(rt, kind, asked),
+        MetricType::CDP => told::<environmental::CollateralDamagePotential>(rt, kind, asked),
+        MetricType::TD => told::<environmental::TargetDistribution>(rt, kind, asked),
+        MetricType::CR => told::<environmental::ConfidentialityRequirement>(rt, kind, asked),
+        MetricType::IR => told::<environmental::IntegrityRequirement>(rt, kind, asked),
+        MetricType::AR => told::<environmental::AvailabilityRequirement>(rt, kind, asked),
     }
 }
 
-fn told<M: Metric + Drop>(rt: &(impl Print + AllocGlobal), asked: Asked<'_>) -> io::Result<()> {
+fn told<M: Metric + Drop>(rt: &HostRuntime, kind: MetricType, asked: Asked<'_>) -> io::Result<()> {
     match asked {
+        Asked::Name => print_kind(rt, &kind, kind.name(), kind.description()),
         Asked::One(text) => one::<M>(rt, text),
         Asked::Each(words) => show(rt, words, |word| M::read(word)),
     }
 }
 
-fn one<M: Metric + Drop>(rt: &(impl Print + AllocGlobal), text: &str) -> io::Result<()> {
+fn one<M: Metric + Drop>(rt: &HostRuntime, text: &str) -> io::Result<()> {
     match M::from_str(rt.alloc(), text) {
-        Ok(value) => {
-            println!(rt;
-                "{value} {} {} {}",
-                M::name(),
-                value.as_str(),
-                value.score()
-            )
-        }
-        Err(error) => println!(rt; "error: {error}"),
+        Ok(value) => print_value(rt, &value, M::name(), value.as_str(), Some(value.score())),
+        Err(error) => print_error(rt, &error),
     }
 }

@@ -1,97 +1,93 @@
 //! Vectors: their texts, scores, ratings and metrics.
 
-use cvss::{Bounds, Cvss, MetricType, v2, v3, v4};
-use std::io;
+use crate::shown::print_error;
+use cvss::{Bounds, Cvss, MetricType, Severity, v2, v3, v4};
+use std::{fmt, io};
 
 const OTHERWISE: &str = "read_bytes says otherwise";
 
 /// A vector of any version.
-pub(crate) fn of_any(rt: &(impl Print + AllocGlobal), line: &[u8]) -> io::Result<()> {
+pub(crate) fn of_any(rt: &HostRuntime, line: &[u8]) -> io::Result<()> {
     let read = Cvss::read_bytes(line);
     match Cvss::from_bytes(rt.alloc(), line) {
-        Ok(vector) => {
-            if read != Some(vector) {
-                return println!(rt; "{OTHERWISE}");
-            }
-            let severity = vector.severity();
-            println!(rt; "{vector} {} {severity}", vector.score_text())
-        }
-        Err(error) => {
-            if read.is_some() {
-                return println!(rt; "{OTHERWISE}");
-            }
-            println!(rt; "error: {error}")
-        }
+        Ok(vector) => print_vector(rt, &read, vector, &vector.score_text(), vector.severity()),
+        Err(error) => print_refusal(rt, read.is_none(), &error),
     }
 }
 
 /// A vector by the rules of v2.
-pub(crate) fn of_v2(rt: &(impl Print + AllocGlobal), text: &str) -> io::Result<()> {
+pub(crate) fn of_v2(rt: &HostRuntime, text: &str) -> io::Result<()> {
     let read = v2::Vector::read_bytes(text.as_bytes());
     match v2::Vector::from_str(rt.alloc(), text) {
         Ok(vector) => {
-            if read != Some(vector) {
-                return println!(rt; "{OTHERWISE}");
-            }
             let score = vector.score();
-            println!(rt; "{vector} {score} {}", score.severity())
+            print_vector(rt, &read, vector, &score, score.severity())
         }
-        Err(error) => {
-            if read.is_some() {
-                return println!(rt; "{OTHERWISE}");
-            }
-            println!(rt; "error: {error}")
-        }
+        Err(error) => print_refusal(rt, read.is_none(), &error),
     }
 }
 
 /// A vector by the rules of v3.
-pub(crate) fn of_v3(rt: &(impl Print + AllocGlobal), text: &str) -> io::Result<()> {
+pub(crate) fn of_v3(rt: &HostRuntime, text: &str) -> io::Result<()> {
     let read = v3::Vector::read_bytes(text.as_bytes());
     match v3::Vector::from_str(rt.alloc(), text) {
-        Ok(vector) => {
-            if read != Some(vector) {
-                return println!(rt; "{OTHERWISE}");
-            }
-            println!(rt; "{vector} {} {}", vector.score(), vector.severity())
-        }
-        Err(error) => {
-            if read.is_some() {
-                return println!(rt; "{OTHERWISE}");
-            }
-            println!(rt; "error: {error}")
-        }
+        Ok(vector) => print_vector(rt, &read, vector, &vector.score(), vector.severity()),
+        Err(error) => print_refusal(rt, read.is_none(), &error),
     }
 }
 
 /// A vector by the rules of v4, whose score tells the nomenclature.
-pub(crate) fn of_v4(rt: &(impl Print + AllocGlobal), text: &str) -> io::Result<()> {
+pub(crate) fn of_v4(rt: &HostRuntime, text: &str) -> io::Result<()> {
     let read = v4::Vector::read_bytes(text.as_bytes());
     match v4::Vector::from_str(rt.alloc(), text) {
         Ok(vector) => {
-            if read != Some(vector) {
-                return println!(rt; "{OTHERWISE}");
-            }
             let score = vector.score();
-            println!(rt; "{vector} {score} {}", score.severity())
+            print_vector(rt, &read, vector, &score, score.severity())
         }
-        Err(error) => {
-            if read.is_some() {
-                return println!(rt; "{OTHERWISE}");
-            }
-            println!(rt; "error: {error}")
-        }
+        Err(error) => print_refusal(rt, read.is_none(), &error),
+    }
+}
+
+/// A vector with its score and rating, if `read_bytes` reads the same.
+fn print_vector<V, S>(
+    rt: &HostRuntime,
+    read: &Option<V>,
+    vector: V,
+    score: &S,
+    rating: Severity,
+) -> io::Result<()>
+where
+    V: fmt::Display + PartialEq + Copy + Drop,
+    S: fmt::Display,
+{
+    if *read == Some(vector) {
+        println!(rt; "{vector} {score} {rating}")
+    } else {
+        println!(rt; "{OTHERWISE}")
+    }
+}
+
+/// Why a text is refused, if `read_bytes` refuses it too.
+fn print_refusal<E: fmt::Display>(rt: &HostRuntime, is_refused: bool, error: &E) -> io::Result<()> {
+    if is_refused {
+        print_error(rt, error)
+    } else {
+        println!(rt; "{OTHERWISE}")
     }
 }
 
 /// The metrics with their versions, in the order in which they are listed.
-pub(crate) fn metrics(rt: &(impl Print + AllocGlobal), text: &str) -> io::Result<()> {
+pub(crate) fn metrics(rt: &HostRuntime, text: &str) -> io::Result<()> {
     if let Some(vector) = Cvss::read_bytes(text.as_bytes()) {
         for (kind, spelling) in vector.metrics() {
-            print!(rt; "{} {}:{spelling};", version_of(kind), kind.name())?;
+            print_metric(rt, kind, spelling)?;
         }
     }
-    println!(rt; "")
+    println!(rt)
+}
+
+fn print_metric(rt: &HostRuntime, kind: MetricType, spelling: &str) -> io::Result<()> {
+    print!(rt; "{} {}:{spelling};", version_of(kind), kind.name())
 }
 
 fn version_of(kind: MetricType) -> &'static str {
@@ -104,7 +100,7 @@ fn version_of(kind: MetricType) -> &'static str {
 
 /// What is known of a canonical text at sight: its vector, the tenths of the score, and how it is
 /// rated.
-pub(crate) fn at_sight(rt: &impl Print, text: &str) -> io::Result<()> {
+pub(crate) fn at_sight(rt: &HostRuntime, text: &str) -> io::Result<()> {
     match seen(text.as_bytes()).zip(Cvss::published_at_sight(text.as_bytes())) {
         Some((vector, published)) => {
             println!(rt;
@@ -138,7 +134,7 @@ fn bounds_text(bounds: Bounds) -> &'static str {
 }
 
 /// Whether two vectors are equal, and whether their texts are.
-pub(crate) fn same(rt: &impl Print, texts: &str) -> io::Result<()> {
+pub(crate) fn same(rt: &HostRuntime, texts: &str) -> io::Result<()> {
     match texts
         .split_once(' ')
         .and_then(|(one, other)| both(one, other))
