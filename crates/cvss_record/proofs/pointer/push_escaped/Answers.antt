@@ -3,7 +3,7 @@ use Rattle.std.proofs.lemmas.Iterator.{YieldsList-from_chars}
 use Rattle.std.proofs.lemmas.Iterator.Consumers.{YieldsList-end}
 use Rattle.std.proofs.lemmas.List.{map-id}
 use Rattle.cvss_record.specs.Places.{escaped_char}
-use Rattle.cvss_record.proofs.place.push_escaped.Goals as goal
+use Rattle.cvss_record.proofs.pointer.push_escaped.Goals as goal
 
 pub returns : goal.returns
 returns c =
