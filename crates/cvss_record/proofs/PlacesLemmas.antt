@@ -6,8 +6,7 @@ use Rattle.serde_json.specs.Data.{array, object, item, member}
 use Rattle.serde_json.specs.View.{items_view, members_view, view}
 use Rattle.serde_json.specs.declared.value.Value.{Value}
 use Rattle.cvss_record.specs.Places.{Place, around_view, place_of, places_in, places_in_items, places_in_members, places_within}
-use Rattle.cvss_record.specs.PlacesLeft.{places_in_levels, places_in_rest, under}
-use Rattle.cvss_record.specs.private.Views.{step_text}
+use Rattle.cvss_record.specs.PlacesLeft.{places_in_levels, places_in_rest, step_text, under}
 use Rattle.cvss_record.specs.private.Walking.{Visits, level_of, pointer_to, steps_in, steps_in_items, steps_in_members, steps_left}
 use Rattle.cvss_record.specs.declared.place.Around.{Around}
 use Rattle.cvss_record.specs.declared.places.Level.{Level}

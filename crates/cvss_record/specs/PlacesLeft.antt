@@ -1,13 +1,21 @@
 -- What the walk over a document has still to give of the places where vectors stand in it.
-use Rattle.std.specs.Prelude.{◌≡◌, ℕ, List, [], ◌∷◌, ◌++◌, drop, map, Option, None, Some, option_map}
+use Rattle.std.specs.Prelude.{◌≡◌, ℕ, List, [], ◌∷◌, ◌++◌, codes, drop, map, Option, None, Some, option_map}
+use Rattle.std.specs.Fmt.{decimal}
 use Rattle.serde_json.specs.View.{items_view, members_view, view}
-use Rattle.cvss_record.specs.Places.{Place, around_view, place_view, places_in_items, places_in_members, places_within}
-use Rattle.cvss_record.specs.private.Views.{step_text}
+use Rattle.cvss_record.specs.Places.{Place, around_view, escaped, place_view, places_in_items, places_in_members, places_within}
 use Rattle.cvss_record.specs.declared.place.Place as code
 use Rattle.cvss_record.specs.declared.places.Level.{Level}
 use Rattle.cvss_record.specs.declared.places.Places.{Places}
 use Rattle.cvss_record.specs.declared.places.Rest.{Rest}
 use Rattle.cvss_record.specs.declared.places.Rest.TheVariants.{Whole, Items, Members}
+use Rattle.cvss_record.specs.declared.pointer.Step.{Step}
+use Rattle.cvss_record.specs.declared.pointer.Step.TheVariants.{Document, Member, Item}
+
+-- a step of a pointer, which is none to the document itself
+abbrev pub step_text : Step → List ℕ
+step_text Document = []
+step_text (Member name) = codes "/" ++ escaped name.now
+step_text (Item index) = codes "/" ++ decimal index
 
 -- the places in what is still to be visited in a value, seen from the value
 abbrev pub places_in_rest : Rest → List Place

@@ -2,7 +2,7 @@
 
 ghost use Rattle.std.specs.Prelude.{◌≡◌, ◌++◌, OnOk, string_bytes};
 ghost use Rattle.cvss_record.specs.Places.{escaped};
-ghost use Rattle.cvss_record.specs.private.Views.{step_text};
+ghost use Rattle.cvss_record.specs.PlacesLeft.{step_text};
 
 use std::alloc::AllocError;
 use std::fmt::Write;

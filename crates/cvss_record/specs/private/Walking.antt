@@ -3,8 +3,7 @@ use Rattle.std.specs.Prelude.{◌≡◌, ℕ, ◌+◌, ◌<◌, List, [], ◌∷
 use Rattle.serde_json.specs.Data.{Data, null, boolean, number, string, array, object, Items, no_items, item, Members, no_members, member}
 use Rattle.serde_json.specs.View.{items_view, members_view, view}
 use Rattle.cvss_record.specs.Places.{Place}
-use Rattle.cvss_record.specs.PlacesLeft.{places_in_levels}
-use Rattle.cvss_record.specs.private.Views.{step_text}
+use Rattle.cvss_record.specs.PlacesLeft.{places_in_levels, step_text}
 use Rattle.cvss_record.specs.declared.places.Level.{Level}
 use Rattle.cvss_record.specs.declared.places.Rest.{Rest}
 use Rattle.cvss_record.specs.declared.places.Rest.TheVariants as rest
