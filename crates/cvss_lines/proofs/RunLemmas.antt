@@ -1,7 +1,7 @@
 -- What a run has read and written at each of its ends.
 use Rattle.std.proofs.Common.{◌≡◌, ℕ, ◌+◌, List, [], ◌++◌, ◌⊎◌, length, take, Option, Result, Ok, Err, ◌<◌, sym, ap, ◌∙◌, subst, append-nil, inl, inr}
 use Rattle.std.specs.Io.KnownBytes.{Appends, Consumes, Keeps, IsAtEnd}
-use Rattle.std.proofs.KnownBytes.{Appends-nil, Appends-trans, Appends-kept, Consumes-nil, Consumes-trans, Consumes-kept}
+use Rattle.std.proofs.KnownBytes.{Appends-nil, Appends-trans, Consumes-nil, Consumes-trans, Consumes-kept}
 use Rattle.std.proofs.Math.Seq.{take-append_seam}
 use Rattle.std.specs.Prelude.{IsErrAnd}
 use Rattle.cvss_lines.specs.Answers.{Answer, IsAnswers, Rule, number_behind, written_answers}

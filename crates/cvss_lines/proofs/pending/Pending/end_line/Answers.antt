@@ -1,11 +1,10 @@
-use Rattle.std.proofs.Common.{◌≡◌, ◌∷◌, [], ◌++◌, ap, inl, refl, sym, subst, ◌∙◌, arith}
-use Rattle.std.proofs.KnownBytes.{Appends-nil}
+use Rattle.std.proofs.Common.{◌≡◌, ◌∷◌, [], ◌++◌, ap, refl, sym, subst, ◌∙◌, arith}
 use Rattle.std.proofs.lemmas.Bool.Decides.{nat_tests}
 use Rattle.std.proofs.lemmas.List.{nil_from_length}
 use Rattle.cvss_lines.specs.Answers.{next_number}
 use Rattle.cvss_lines.specs.Lines.{line_text}
-use Rattle.cvss_lines.specs.Streaming.{Stops, Streams}
-use Rattle.cvss_lines.specs.private.Steps.{Counts, StopsWithin}
+use Rattle.cvss_lines.specs.Streaming.{Stops}
+use Rattle.cvss_lines.specs.private.Steps.{Counts}
 use Rattle.cvss_lines.specs.declared.fault.RunFault.TheVariants.{Memory}
 use Rattle.cvss_lines.specs.declared.pending.Pending.{Pending}
 use Rattle.cvss_lines.proofs.StepsLemmas.{Gathers-nil, Gathers-one, StopsWithin-memory, StopsWithin-one, told_fault}

@@ -1,5 +1,4 @@
-use Rattle.std.proofs.Common.{◌≡◌, [], map, option_map, refl, sym, ap, ◌∙◌, append-nil, rules, flat_map}
-use Rattle.std.proofs.lemmas.Grind.{flat_map-append}
+use Rattle.std.proofs.Common.{◌≡◌, [], option_map, refl, sym, ap, ◌∙◌, append-nil, rules}
 use Rattle.std.proofs.lemmas.Result.{IfOk-weaker}
 use Rattle.serde_json.proofs.Views.{view-Array, view-Object}
 use Rattle.serde_json.specs.Data.{array}
@@ -7,7 +6,7 @@ use Rattle.serde_json.specs.View.{items_view, view}
 use Rattle.serde_json.specs.declared.value.Value.{the_lemmas}
 use Rattle.cvss_record.specs.Places.{around_view, places_within}
 use Rattle.cvss_record.specs.private.Walking.{steps_in}
-use Rattle.cvss_record.proofs.PlacesLemmas.{Visits-at, Visits-own, visits_array, visits_object, visits_scalar}
+use Rattle.cvss_record.proofs.PlacesLemmas.{Visits-at, Visits-own, visits_array, visits_scalar}
 use Rattle.cvss_record.proofs.places.Places.visit_whole.Goals as goal
 
 pub returns-in_ok-push-in-Array : goal.returns-in_ok-push-in-Array
