@@ -1,5 +1,5 @@
 -- What a step of the walk over a document does, wherever the level stands in which it is taken.
-use Rattle.std.proofs.Common.{◌≡◌, ℕ, ◌+◌, ◌<◌, List, [], ◌∷◌, ◌++◌, drop, map, Option, None, Some, option_map, Bor, BTreeMap, Global, String, string_bytes, refl, sym, ap, ap₂, ◌∙◌, subst, append_assoc, append-nil, arith}
+use Rattle.std.proofs.Common.{◌≡◌, ℕ, inl, inr, ◌+◌, ◌<◌, List, [], ◌∷◌, ◌++◌, drop, map, Option, None, Some, option_map, Bor, BTreeMap, Global, String, string_bytes, refl, sym, ap, ap₂, ◌∙◌, subst, append_assoc, append-nil, arith}
 use Rattle.std.proofs.lemmas.Grind.{flat_map-append}
 use Rattle.std.proofs.lemmas.List.{map-append, map-id}
 use Rattle.serde_json.specs.Data.{array, object, item, member}
@@ -7,7 +7,7 @@ use Rattle.serde_json.specs.View.{items_view, members_view, view}
 use Rattle.serde_json.specs.declared.value.Value.{Value}
 use Rattle.cvss_record.specs.Places.{Place, around_view, place_of, places_in, places_in_items, places_in_members, places_within}
 use Rattle.cvss_record.specs.PlacesLeft.{places_in_levels, places_in_rest, step_text, under}
-use Rattle.cvss_record.specs.private.Walking.{Visits, level_of, pointer_to, steps_in, steps_in_items, steps_in_members, steps_left}
+use Rattle.cvss_record.specs.private.Walking.{Adds, Visits, level_of, pointer_to, steps_in, steps_in_items, steps_in_members, steps_left}
 use Rattle.cvss_record.specs.declared.place.Around.{Around}
 use Rattle.cvss_record.specs.declared.places.Level.{Level}
 use Rattle.cvss_record.specs.declared.places.Rest.TheVariants.{Whole, Items, Members}
@@ -143,13 +143,24 @@ Visits-own front levels step around value holder members places is all own are =
     Visits-at front _ _ levels _ places (visits_object step around value holder members is all)
     (own ∙ ap (λ text. map (under text) given) pointer ∙ sym (under_both (pointer_to front) (step_text step) given)) are
 
+-- a step that leaves a level, and one in it without places
+Visits-one : (old level inner : Level) → Visits (old ∷ []) [] (level ∷ inner ∷ []) → places_in_rest inner.rest ≡ []
+    → Visits (old ∷ []) [] (level ∷ [])
+Visits-one old level inner visits none = record {
+  places = visits.places
+      ∙ ap (λ places. map (under (step_text level.step)) (map (under (step_text inner.step)) places ++ places_in_rest level.rest)) none;
+  fewer = omega (arith, visits.fewer);
+}
+
 -- a step that leaves a level and one in it
 pub Visits-two : (front middle levels : List Level) (old level inner : Level)
-    → Visits (old ∷ []) [] (level ∷ inner ∷ []) → middle ≡ front ++ level ∷ [] → levels ≡ middle ++ inner ∷ []
+    → Visits (old ∷ []) [] (level ∷ inner ∷ []) → middle ≡ front ++ level ∷ [] → Adds middle inner levels
     → Visits (front ++ old ∷ []) [] levels
-Visits-two front middle levels old level inner visits first second =
+Visits-two front middle levels old level inner visits first (inl second) =
     Visits-at front (old ∷ []) (level ∷ inner ∷ []) levels [] [] visits refl
     (second ∙ ap (λ before. before ++ inner ∷ []) first ∙ append_assoc front (level ∷ []) (inner ∷ []))
+Visits-two front middle levels old level inner visits first (inr none) =
+    Visits-at front (old ∷ []) (level ∷ []) levels [] [] (Visits-one old level inner visits none.1) refl (none.0 ∙ first)
 
 -- a step that leaves nothing of a level
 pub Visits-none : (front levels : List Level) (old : Level) → Visits (old ∷ []) [] [] → levels ≡ front

@@ -4,7 +4,7 @@ ghost use Rattle.std.specs.Prelude.{◌≡◌, ◌++◌, ◌∷◌, [], IfOk, On
 ghost use Rattle.std.specs.Option.{option_to_list};
 ghost use Rattle.cvss_record.specs.Places.{around_view, place_of, place_view, places_in};
 ghost use Rattle.cvss_record.specs.PlacesLeft.{IsNextPlace, places_left, under};
-ghost use Rattle.cvss_record.specs.private.Walking.{Visits, level_of, pointer_to};
+ghost use Rattle.cvss_record.specs.private.Walking.{Adds, Visits, level_of, pointer_to};
 ghost use Rattle.serde_json.specs.View.{members_view, view};
 ghost use Rattle.cvss_record.specs.declared.places.Rest.TheVariants.{Items, Members, Whole};
 
@@ -75,11 +75,7 @@ impl<'a> Places<'a> {
     }
 
     /// Visits what is next in a level that stands in all that are left.
-    fn visit(
-        &mut self,
-        alloc: Global,
-        level: Level<'a>,
-    ) -> Result<Option<Place<'a>>, AllocError>
+    fn visit(&mut self, alloc: Global, level: Level<'a>) -> Result<Option<Place<'a>>, AllocError>
         ensures { IfOk result (λ found. Visits (self.old.levels.items ++ level.entry ∷ [])
             (option_to_list (option_map place_view found)) self.new.levels.items) }
     {
@@ -135,7 +131,7 @@ impl<'a> Places<'a> {
     {
         if let Some(item) = items.get(index) {
             self.push(step, Rest::Items(items, index + 1))?;
-            self.push(Step::Item(index), Rest::Whole(item, None))?;
+            self.push_whole(Step::Item(index), item, None)?;
         }
         Ok(())
     }
@@ -156,7 +152,7 @@ impl<'a> Places<'a> {
             let name = name.as_str();
             let around = Some(Around { name, object });
             self.push(step, Rest::Members(object, members))?;
-            self.push(Step::Member(name), Rest::Whole(value, around))?;
+            self.push_whole(Step::Member(name), value, around)?;
         }
         Ok(())
     }
@@ -182,6 +178,22 @@ impl<'a> Places<'a> {
             object,
             around,
         }))
+    }
+
+    /// Adds a value to be visited, unless nothing is in it.
+    fn push_whole(
+        &mut self,
+        step: Step<'a>,
+        value: &'a Value,
+        around: Option<Around<'a>>,
+    ) -> Result<(), AllocError>
+        ensures { OnOk result (Adds self.old.levels.items
+            (level_of step.entry (Whole value.entry around.entry)) self.new.levels.items) }
+    {
+        if value.is_array() || value.is_object() {
+            self.push(step, Rest::Whole(value, around))?;
+        }
+        Ok(())
     }
 
     fn push(&mut self, step: Step<'a>, rest: Rest<'a>) -> Result<(), AllocError>

@@ -4,8 +4,8 @@ use Rattle.std.proofs.lemmas.List.{drop_more, drop_all}
 use Rattle.cvss_record.proofs.PlacesLemmas.{Visits-none, Visits-two, visits_item, visits_no_item}
 use Rattle.cvss_record.proofs.places.Places.visit_item.Goals as goal
 
-pub returns-in_ok-push-2 : goal.returns-in_ok-push-2
-returns-in_ok-push-2 c =
+pub returns-in_ok-push_whole : goal.returns-in_ok-push_whole
+returns-in_ok-push_whole c =
     let items = c.args.items in
     let index = c.args.index in
     let item = c.in-Some.item in
@@ -13,7 +13,7 @@ returns-in_ok-push-2 c =
     let is : get_or items.now index item.now ≡ item.now = search rules in
     let next = drop_more items.now index item.now within ∙ ap (λ value. value ∷ drop (index + 1) items.now) is in
     Visits-two c.args.self.now.levels.items c.push.new.self.levels.items _ _ _ _ (visits_item c.args.step items index item _ next refl)
-    c.in_ok-push.ensures c.in_ok-push-2.ensures
+    c.in_ok-push.ensures c.in_ok-push_whole.ensures
 
 pub returns-in_default : goal.returns-in_default
 returns-in_default c =
