@@ -1,15 +1,19 @@
 -- What a step of the walk over a document does, wherever the level stands in which it is taken.
-use Rattle.std.proofs.Common.{◌≡◌, ℕ, inl, inr, ◌+◌, ◌<◌, List, [], ◌∷◌, ◌++◌, drop, map, Option, None, Some, option_map, Bor, BTreeMap, Global, String, string_bytes, refl, sym, ap, ap₂, ◌∙◌, subst, append_assoc, append-nil, arith}
+use Rattle.std.proofs.Common.{◌≡◌, ℕ, ◌+◌, ◌<◌, ◌≤◌, List, [], ◌∷◌, ◌++◌, drop, map, Option, None, Some, option_map, Bor, BTreeMap, Global, String, string_bytes, refl, sym, ap, ap₂, ◌∙◌, subst, append_assoc, append-nil, arith}
 use Rattle.std.proofs.lemmas.Grind.{flat_map-append}
 use Rattle.std.proofs.lemmas.List.{map-append, map-id}
+use Rattle.serde_json.specs.Data as Json
 use Rattle.serde_json.specs.Data.{array, object, item, member}
 use Rattle.serde_json.specs.View.{items_view, members_view, view}
 use Rattle.serde_json.specs.declared.value.Value.{Value}
-use Rattle.cvss_record.specs.Places.{Place, around_view, place_of, places_in, places_in_items, places_in_members, places_within}
+use Rattle.std.specs.Fmt.{decimal}
+use Rattle.cvss_record.specs.Places as Places
+use Rattle.cvss_record.specs.Places.{Place, around_view, below, escaped, place_of, places_in, places_in_items, places_in_members, places_within}
 use Rattle.cvss_record.specs.PlacesLeft.{places_in_levels, places_in_rest, step_text, under}
-use Rattle.cvss_record.specs.private.Walking.{Adds, Visits, level_of, pointer_to, steps_in, steps_in_items, steps_in_members, steps_left}
+use Rattle.cvss_record.specs.private.Walking.{Visits, level_of, pointer_to, steps_in, steps_in_items, steps_in_members, steps_in_rest, steps_left}
 use Rattle.cvss_record.specs.declared.place.Around.{Around}
 use Rattle.cvss_record.specs.declared.places.Level.{Level}
+use Rattle.cvss_record.specs.declared.places.Rest.{Rest}
 use Rattle.cvss_record.specs.declared.places.Rest.TheVariants.{Whole, Items, Members}
 use Rattle.cvss_record.specs.declared.pointer.Step.{Step}
 use Rattle.cvss_record.specs.declared.pointer.Step.TheVariants.{Document, Member, Item}
@@ -37,6 +41,11 @@ places_behind (level ∷ front) old new given is =
 steps_behind : (front old new : List Level) → steps_left new < steps_left old → steps_left (front ++ new) < steps_left (front ++ old)
 steps_behind [] old new fewer = fewer
 steps_behind (level ∷ front) old new fewer = omega (arith, steps_behind front old new fewer)
+
+steps_over : (front : List Level) (old now : Level) → steps_in_rest now.rest ≤ steps_in_rest old.rest
+    → steps_left (front ++ now ∷ []) ≤ steps_left (front ++ old ∷ [])
+steps_over [] old now fewer = omega (arith, fewer)
+steps_over (level ∷ front) old now fewer = omega (arith, steps_over front old now fewer)
 
 -- a step in the innermost levels
 pub Visits-at : (front old new levels : List Level) (given places : List Place) → Visits old given new
@@ -128,6 +137,20 @@ module _ (step : Step) where
     fewer = omega (arith, ap (λ left. steps_in_members (members_view left)) none);
   }
 
+-- values without a place are passed over, and no step more is to come
+pub record PassesOver (places : List Place) (steps : ℕ) (left : List Place) (fewer_steps : ℕ) : Type 0 where
+  pub same : places ≡ left
+  pub fewer : fewer_steps ≤ steps
+
+-- a step behind values that are passed over
+pub Visits-over : (front levels : List Level) (step : Step) (old now : Rest)
+    → PassesOver (places_in_rest old) (steps_in_rest old) (places_in_rest now) (steps_in_rest now)
+    → Visits (front ++ level_of step now ∷ []) [] levels → Visits (front ++ level_of step old ∷ []) [] levels
+Visits-over front levels step old now over visits = record {
+  places = places_behind front (level_of step old ∷ []) (level_of step now ∷ []) [] (ap (map (under (step_text step))) over.same) ∙ visits.places;
+  fewer = omega (arith, visits.fewer, steps_over front (level_of step old) (level_of step now) over.fewer);
+}
+
 -- an object's own place, by the pointer to its members' level
 pub Visits-own : (front levels : List Level) (step : Step) (around : Option Around) (value : Bor Value)
     (holder : Bor (BTreeMap (String Global) Value)) (members : List (String Global × Value)) (places : List Place)
@@ -143,24 +166,13 @@ Visits-own front levels step around value holder members places is all own are =
     Visits-at front _ _ levels _ places (visits_object step around value holder members is all)
     (own ∙ ap (λ text. map (under text) given) pointer ∙ sym (under_both (pointer_to front) (step_text step) given)) are
 
--- a step that leaves a level, and one in it without places
-Visits-one : (old level inner : Level) → Visits (old ∷ []) [] (level ∷ inner ∷ []) → places_in_rest inner.rest ≡ []
-    → Visits (old ∷ []) [] (level ∷ [])
-Visits-one old level inner visits none = record {
-  places = visits.places
-      ∙ ap (λ places. map (under (step_text level.step)) (map (under (step_text inner.step)) places ++ places_in_rest level.rest)) none;
-  fewer = omega (arith, visits.fewer);
-}
-
 -- a step that leaves a level and one in it
 pub Visits-two : (front middle levels : List Level) (old level inner : Level)
-    → Visits (old ∷ []) [] (level ∷ inner ∷ []) → middle ≡ front ++ level ∷ [] → Adds middle inner levels
+    → Visits (old ∷ []) [] (level ∷ inner ∷ []) → middle ≡ front ++ level ∷ [] → levels ≡ middle ++ inner ∷ []
     → Visits (front ++ old ∷ []) [] levels
-Visits-two front middle levels old level inner visits first (inl second) =
+Visits-two front middle levels old level inner visits first second =
     Visits-at front (old ∷ []) (level ∷ inner ∷ []) levels [] [] visits refl
     (second ∙ ap (λ before. before ++ inner ∷ []) first ∙ append_assoc front (level ∷ []) (inner ∷ []))
-Visits-two front middle levels old level inner visits first (inr none) =
-    Visits-at front (old ∷ []) (level ∷ []) levels [] [] (Visits-one old level inner visits none.1) refl (none.0 ∙ first)
 
 -- a step that leaves nothing of a level
 pub Visits-none : (front levels : List Level) (old : Level) → Visits (old ∷ []) [] [] → levels ≡ front

@@ -1,10 +1,10 @@
 //! Where vectors stand in a document, one place after another.
 
-ghost use Rattle.std.specs.Prelude.{◌≡◌, ◌++◌, ◌∷◌, [], IfOk, OnOk, map, option_map, string_bytes};
+ghost use Rattle.std.specs.Prelude.{◌≡◌, ◌++◌, ◌∷◌, [], Option, false, IfOk, OnOk, map, option_map, string_bytes};
 ghost use Rattle.std.specs.Option.{option_to_list};
-ghost use Rattle.cvss_record.specs.Places.{around_view, place_of, place_view, places_in};
+ghost use Rattle.cvss_record.specs.Places.{Around as Surroundings, around_view, place_of, place_view, places_in, places_within};
 ghost use Rattle.cvss_record.specs.PlacesLeft.{IsNextPlace, places_left, under};
-ghost use Rattle.cvss_record.specs.private.Walking.{Adds, Visits, level_of, pointer_to};
+ghost use Rattle.cvss_record.specs.private.Walking.{Visits, level_of, pointer_to};
 ghost use Rattle.serde_json.specs.View.{members_view, view};
 ghost use Rattle.cvss_record.specs.declared.places.Rest.TheVariants.{Items, Members, Whole};
 
@@ -83,11 +83,11 @@ impl<'a> Places<'a> {
         match level.rest {
             Rest::Whole(value, around) => self.visit_whole(alloc, step, value, around),
             Rest::Items(items, index) => {
-                self.visit_item(step, items, index)?;
+                self.visit_items(step, items, index)?;
                 Ok(None)
             }
             Rest::Members(object, members) => {
-                self.visit_member(step, object, members)?;
+                self.visit_members(step, object, members)?;
                 Ok(None)
             }
         }
@@ -118,26 +118,32 @@ impl<'a> Places<'a> {
         }
     }
 
-    /// Visits the next item of an array: what is in it is visited before those behind it.
-    fn visit_item(
+    /// Visits the next item of an array that is one itself or an object: what is in it is visited
+    /// before those behind it.
+    fn visit_items(
         &mut self,
         step: Step<'a>,
         items: &'a [Value],
-        index: usize,
+        from: usize,
     ) -> Result<(), AllocError>
         ensures { OnOk result (Visits
-            (self.old.levels.items ++ level_of step.entry (Items items.entry index) ∷ [])
+            (self.old.levels.items ++ level_of step.entry (Items items.entry from) ∷ [])
             [] self.new.levels.items) }
     {
-        if let Some(item) = items.get(index) {
-            self.push(step, Rest::Items(items, index + 1))?;
-            self.push_whole(Step::Item(index), item, None)?;
+        let mut index = from;
+        while let Some(item) = items.get(index) {
+            if has_values(item) {
+                self.push(step, Rest::Items(items, index + 1))?;
+                return self.push(Step::Item(index), Rest::Whole(item, None));
+            }
+            index += 1;
         }
         Ok(())
     }
 
-    /// Visits the next member of an object: what is in it is visited before those behind it.
-    fn visit_member(
+    /// Visits the next member of an object that is one itself or an array: what is in it is visited
+    /// before those behind it.
+    fn visit_members(
         &mut self,
         step: Step<'a>,
         object: &'a Map<String, Value>,
@@ -147,12 +153,14 @@ impl<'a> Places<'a> {
             (self.old.levels.items ++ level_of step.entry (Members object.entry members.entry) ∷ [])
             [] self.new.levels.items) }
     {
-        let mut members = members;
-        if let Some((name, value)) = members.next() {
-            let name = name.as_str();
-            let around = Some(Around { name, object });
-            self.push(step, Rest::Members(object, members))?;
-            self.push_whole(Step::Member(name), value, around)?;
+        let mut rest = members;
+        while let Some((name, value)) = rest.next() {
+            if has_values(value) {
+                let name = name.as_str();
+                let around = Some(Around { name, object });
+                self.push(step, Rest::Members(object, rest))?;
+                return self.push(Step::Member(name), Rest::Whole(value, around));
+            }
         }
         Ok(())
     }
@@ -180,22 +188,6 @@ impl<'a> Places<'a> {
         }))
     }
 
-    /// Adds a value to be visited, unless nothing is in it.
-    fn push_whole(
-        &mut self,
-        step: Step<'a>,
-        value: &'a Value,
-        around: Option<Around<'a>>,
-    ) -> Result<(), AllocError>
-        ensures { OnOk result (Adds self.old.levels.items
-            (level_of step.entry (Whole value.entry around.entry)) self.new.levels.items) }
-    {
-        if value.is_array() || value.is_object() {
-            self.push(step, Rest::Whole(value, around))?;
-        }
-        Ok(())
-    }
-
     fn push(&mut self, step: Step<'a>, rest: Rest<'a>) -> Result<(), AllocError>
         ensures { OnOk result (self.new.levels.items
             ≡ self.old.levels.items ++ level_of step.entry rest.entry ∷ []) }
@@ -203,6 +195,13 @@ impl<'a> Places<'a> {
         self.levels.push(Level { step, rest })?;
         Ok(())
     }
+}
+
+/// Whether a value is an array or an object: in another one there is no place.
+fn has_values(value: &Value) -> bool
+    ensures { (around : Option Surroundings) → result ≡ false → places_within around (view value.now) ≡ [] }
+{
+    value.is_array() || value.is_object()
 }
 
 /// The JSON Pointer to the value of the last level.

@@ -1,9 +1,9 @@
 -- What a step of the walk over a document does.
-use Rattle.std.specs.Prelude.{◌≡◌, ℕ, ◌+◌, ◌<◌, ◌⊎◌, List, [], ◌∷◌, ◌++◌, drop, flat_map}
+use Rattle.std.specs.Prelude.{◌≡◌, ℕ, ◌+◌, ◌<◌, List, [], ◌∷◌, ◌++◌, drop, flat_map}
 use Rattle.serde_json.specs.Data.{Data, null, boolean, number, string, array, object, Items, no_items, item, Members, no_members, member}
 use Rattle.serde_json.specs.View.{items_view, members_view, view}
 use Rattle.cvss_record.specs.Places.{Place}
-use Rattle.cvss_record.specs.PlacesLeft.{places_in_levels, places_in_rest, step_text}
+use Rattle.cvss_record.specs.PlacesLeft.{places_in_levels, step_text}
 use Rattle.cvss_record.specs.declared.places.Level.{Level}
 use Rattle.cvss_record.specs.declared.places.Rest.{Rest}
 use Rattle.cvss_record.specs.declared.places.Rest.TheVariants as rest
@@ -12,10 +12,6 @@ use Rattle.cvss_record.specs.declared.pointer.Step.{Step}
 -- a level
 abbrev pub level_of : Step → Rest → Level
 level_of step rest = record { step = step; rest = rest }
-
--- a level stands behind these, or nothing does and it has no places
-abbrev pub Adds : List Level → Level → List Level → Type 0
-Adds old level new = (new ≡ old ++ level ∷ []) ⊎ ((new ≡ old) × (places_in_rest level.rest ≡ []))
 
 -- the pointer to the value of the last level
 abbrev pub pointer_to : List Level → List ℕ
