@@ -219,8 +219,11 @@ module _ (rule : Rule) (beginning : Beginning) (u0 u u' w0 w w' : Option (List �
   within_end bytes read end begun = record {
     input = a.input;
     consumed = consumed-none u0 u u' a.input a.consumed read;
-    begun = inr (end, begun_behind (lines now.cut.items) (lines a.input) bytes
-        (ap (λ k. ended_lines a.input ++ lines k) a.kept ∙ sym (lines-ended a.input)) begun);
+    begun = inr (
+      end,
+      begun_behind (lines now.cut.items) (lines a.input) bytes
+          (ap (λ k. ended_lines a.input ++ lines k) a.kept ∙ sym (lines-ended a.input)) begun,
+    );
   }
 
   lacking : (ls : List (List ℕ)) (chunk passed : List ℕ) → Consumes u u' chunk
