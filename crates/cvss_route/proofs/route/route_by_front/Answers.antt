@@ -1,10 +1,10 @@
 use Rattle.std.proofs.Common.{◌∷◌, ◌∙◌, ap, subst, sym}
 use Rattle.std.proofs.lemmas.Bool.{iff_false}
 use Rattle.cvss_text.specs.private.Pieces.{pieces_left}
-use Rattle.cvss.specs.private.Steps.{IsBehindVersion}
-use Rattle.cvss.proofs.RouteLemmas.{cut_routed, first_utf8}
+use Rattle.cvss_route.specs.private.Views.{IsBehindVersion}
+use Rattle.cvss_route.proofs.CutLemmas.{cut_routed, first_utf8}
 use Rattle.cvss_text.proofs.Utf8Lemmas.{IsUtf8-name, IsUtf8-value}
-use Rattle.cvss.proofs.route.route_by_front.Goals as goal
+use Rattle.cvss_route.proofs.route.route_by_front.Goals as goal
 
 pub returns-then-is_empty-clause-tellable : goal.returns-then-is_empty-clause-tellable
 returns-then-is_empty-clause-tellable c = first_utf8 c.args.text.now _ _ c.front_of.ensures

@@ -1,8 +1,8 @@
 use Rattle.std.proofs.Common.{subst, sym, ◌∙◌}
 use Rattle.cvss_text.proofs.Utf8Lemmas.{IsUtf8-value}
-use Rattle.cvss.specs.private.Steps.{IsBehindVersion}
-use Rattle.cvss.proofs.RouteLemmas.{cut_routed, first_utf8, some_piece, version_first, version_parts}
-use Rattle.cvss.proofs.route.route_of_text.Goals as goal
+use Rattle.cvss_route.specs.private.Views.{IsBehindVersion}
+use Rattle.cvss_route.proofs.CutLemmas.{cut_routed, first_utf8, some_piece, version_first, version_parts}
+use Rattle.cvss_route.proofs.route.route_of_text.Goals as goal
 
 pub returns-in-Some-clause-route : goal.returns-in-Some-clause-route
 returns-in-Some-clause-route c =

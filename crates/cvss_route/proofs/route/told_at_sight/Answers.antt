@@ -1,6 +1,6 @@
 use Rattle.std.proofs.Common.{codes, rules, ◌++◌, ◌∙◌, ap, arith}
-use Rattle.cvss.proofs.RouteLemmas.{cut_at_slash}
-use Rattle.cvss.proofs.route.told_at_sight.Goals as goal
+use Rattle.cvss_route.proofs.CutLemmas.{cut_at_slash}
+use Rattle.cvss_route.proofs.route.told_at_sight.Goals as goal
 
 pub returns-in-48-to-57-clause-text : goal.returns-in-48-to-57-clause-text
 returns-in-48-to-57-clause-text c =

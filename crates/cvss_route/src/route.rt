@@ -1,35 +1,33 @@
 //! By the rules of which version a text is read.
 
-ghost use Rattle.std.specs.Prelude.{◌≡◌, ◌∷◌, ◌++◌, IfOk, IfSome, Some, codes, true, false};
+ghost use Rattle.std.specs.Prelude.{◌≡◌, ◌∷◌, ◌++◌, IfSome, codes, true, false};
 ghost use Rattle.std.specs.Str.{IsUtf8};
-ghost use Rattle.cvss_name.specs.Told.{Tells, reason_told};
 ghost use Rattle.cvss_grammar.specs.Text.{component, dot, has, pieces, slash};
 ghost use Rattle.cvss_grammar.specs.Version.{version_piece};
 ghost use Rattle.cvss_text.specs.private.Pieces.{pieces_left};
-ghost use Rattle.cvss.specs.Dispatch.{route_of, route_of_parts, cvss_reason};
-ghost use Rattle.cvss.specs.private.Steps.{as_route, IsBehindVersion, IsTellable, IsTellableRoute, reason_of};
+ghost use Rattle.cvss_route.specs.Route.{route_of, route_of_parts};
+ghost use Rattle.cvss_route.specs.private.Views.{IsBehindVersion, IsTellableRoute, as_route};
 
 use cvss_grammar::PREFIX;
-use cvss_name::Error;
 use cvss_text::pieces::{Pieces, front_of, parts_of, pieces_of};
 use cvss_text::sight::behind_five;
-use cvss_text::text::copied_text;
-use std::alloc::{AllocError, Global};
 
 /// By the rules of which version a text is read.
 #[derive(Clone, Copy)]
-pub(crate) enum Route<'a> {
+pub enum Route<'a> {
+    /// All of the text is read.
     V20,
     /// Each of these with the pieces behind the one that tells the version.
     V30(Pieces<'a>),
     V31(Pieces<'a>),
     V40(Pieces<'a>),
-    None(Fault<'a>),
+    /// No rules apply.
+    None(NoVersion<'a>),
 }
 
 /// Why a text is read by no rules, with the part of the text that is at fault.
 #[derive(Clone, Copy)]
-pub(crate) enum Fault<'a> {
+pub enum NoVersion<'a> {
     /// The text has one piece, or its first piece has no colon.
     InvalidComponent(&'a [u8]),
     /// A version is told, but not behind `CVSS`.
@@ -38,9 +36,10 @@ pub(crate) enum Fault<'a> {
     UnsupportedVersion(&'a [u8]),
 }
 
-/// By the rules of which version a text is read.
+/// By the rules of which version a text is read: the first of its pieces tells it, and it has two at
+/// least. It takes no memory.
 #[inline(always)]
-pub(crate) fn route_of_text(text: &[u8]) -> Route<'_>
+pub fn route_of_text(text: &[u8]) -> Route<'_>
     ensures route { as_route result ≡ route_of text.now }
     ensures behind { IsBehindVersion (pieces text.now) result }
     ensures tellable { IsUtf8 text.now → IsTellableRoute result }
@@ -75,11 +74,11 @@ fn route_by_front(text: &[u8]) -> Route<'_>
 {
     let (front, behind) = front_of(text);
     if behind.is_empty() {
-        return Route::None(Fault::InvalidComponent(front));
+        return Route::None(NoVersion::InvalidComponent(front));
     }
     match parts_of(front) {
         Some((prefix, told)) => route_by(prefix, told, behind),
-        None => Route::None(Fault::InvalidComponent(front)),
+        None => Route::None(NoVersion::InvalidComponent(front)),
     }
 }
 
@@ -93,7 +92,7 @@ fn route_by<'a>(prefix: &'a [u8], told: &'a [u8], behind: Pieces<'a>) -> Route<'
         return Route::V20;
     }
     if prefix != PREFIX.as_bytes() {
-        return Route::None(Fault::InvalidPrefix(prefix));
+        return Route::None(NoVersion::InvalidPrefix(prefix));
     }
     route_by_version(told, behind)
 }
@@ -116,33 +115,5 @@ fn route_by_version<'a>(told: &'a [u8], behind: Pieces<'a>) -> Route<'a>
     if told == "3.0".as_bytes() {
         return Route::V30(behind);
     }
-    Route::None(Fault::UnsupportedVersion(told))
-}
-
-/// The error that tells a fault, or that there is no memory for the text that the fault names.
-pub(crate) fn error_of(alloc: Global, fault: Fault<'_>) -> Error
-    requires { IsTellable fault }
-    ensures { Tells cvss_reason (reason_of fault.entry) result }
-{
-    match copied_error(alloc, fault) {
-        Ok(error) => error,
-        Err(_) => Error::OutOfMemory,
-    }
-}
-
-fn copied_error(alloc: Global, fault: Fault<'_>) -> Result<Error, AllocError>
-    requires { IsTellable fault }
-    ensures { IfOk result (λ error. reason_told cvss_reason error ≡ Some (reason_of fault.entry)) }
-{
-    Ok(match fault {
-        Fault::InvalidComponent(piece) => Error::InvalidComponent {
-            component: copied_text(alloc, piece)?,
-        },
-        Fault::InvalidPrefix(prefix) => Error::InvalidPrefix {
-            prefix: copied_text(alloc, prefix)?,
-        },
-        Fault::UnsupportedVersion(version) => Error::UnsupportedVersion {
-            version: copied_text(alloc, version)?,
-        },
-    })
+    Route::None(NoVersion::UnsupportedVersion(told))
 }
