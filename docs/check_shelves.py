@@ -12,7 +12,7 @@ from pathlib import Path
 
 ROOT = Path(__file__).resolve().parent.parent
 # parts of versions and of the calls for C, which have no path in `cvss`, and callers that are proved from laws too
-WITHOUT_PROMISES = {"cvss_text", "cvss_base", "cvss_bytes", "cvss_examples"}
+WITHOUT_PROMISES = {"cvss_text", "cvss_base", "cvss_route", "cvss_bytes", "cvss_examples"}
 
 USE = re.compile(r"^ *(?:pub |ghost )?use Rattle\.([\w.]+?)(?:\.\{([^}]*)\})?(?: as (\w+))?;?$", re.M)
 MODULE = re.compile(r"^(pub )?mod (\w+);", re.M)

@@ -7,6 +7,7 @@ instructions a byte than the smaller by more than a tenth.
 
 usage: bench/measures/growth.py [SMALL LARGE]
 """
+import json
 import re
 import subprocess
 import sys
@@ -16,8 +17,10 @@ from pathlib import Path
 
 ROOT = Path(__file__).resolve().parents[2]
 sys.path.insert(0, str(ROOT / "reference"))
+sys.path.insert(0, str(ROOT / "bench/inputs"))
 
 import finding
+from deep_documents import VECTOR, document
 from reference import answer
 
 # Each input by its size: what is written on the left has that many bytes, pieces or lines.
@@ -47,6 +50,43 @@ TEXTS = {
     "colons": lambda size: b":" * size,
     "slashes": lambda size: b"/" * size,
 }
+
+# The same for `cvss_audit`, in documents of many places.
+DOCUMENTS = {
+    "vectors in an array under a name of ten letters": lambda size: ("names", 10, size // 46),
+    "the same at depth 120": lambda size: ("deep", size // 46),
+    "members that hold vectors": lambda size: ("members", size // 53),
+    "the same without a vector": lambda size: ("members", size // 53, "nameless"),
+}
+
+
+def made(told):
+    """The document of this kind, as bytes."""
+    *kind, last = told
+    nameless = last == "nameless"
+    return document(*(kind if nameless else told), nameless=nameless).encode()
+
+
+def audited(data):
+    """The answer to a document of `deep_documents.py`: one object for each of its places. Where no
+    metric of a group is given, its score is the base score."""
+    text, score, rating = answer(VECTOR.encode()).split()
+    scores = ",".join(f'"{group}":{score}' for group in ("base", "environmental", "temporal"))
+    told = (f'"given":"{VECTOR}","line":1,"scores":{{{scores}}},"severity":"{rating}",'
+            f'"vector":"{text}"}}\n')
+    return "".join(f'{{"at":"{place}",{told}' for place in places(json.loads(data), "")).encode()
+
+
+def places(value, at):
+    """Where vectors stand: an object's own place before those in it, members by their names."""
+    if isinstance(value, dict):
+        if "vectorString" in value:
+            yield at
+        for name in sorted(value):
+            yield from places(value[name], f"{at}/{name}")
+    elif isinstance(value, list):
+        for number, item in enumerate(value):
+            yield from places(item, f"{at}/{number}")
 
 
 def expected(data):
@@ -102,6 +142,8 @@ def main():
     sizes = [int(size) for size in sys.argv[1:3]] or [100_000, 1_000_000]
     failed = measure("cvss_tool", INPUTS, expected, sizes)
     failed |= measure("cvss_find", TEXTS, lambda data: "".join(finding.answers(data)).encode(), sizes)
+    documents = {name: lambda size, kind=kind: made(kind(size)) for name, kind in DOCUMENTS.items()}
+    failed |= measure("cvss_audit", documents, audited, [size // 5 for size in sizes])
     sys.exit("the work grows faster than the input" if failed else 0)
 
 

@@ -1,7 +1,8 @@
 -- What a text denotes by the rules of each version.
 use Rattle.std.proofs.Common.{◌≡◌, codes, List, ℕ, refl, sym, ◌∙◌}
 use Rattle.cvss_grammar.specs.Refusal.{Refusal}
-use Rattle.cvss.specs.Dispatch.{DenotesCvss, DenotesV2, DenotesV3, DenotesV4, ToV20, ToV30, ToV31, ToV40, ToNone, route_of}
+use Rattle.cvss_route.specs.Route.{NoVersion, ToV20, ToV30, ToV31, ToV40, ToNone, route_of}
+use Rattle.cvss.specs.Dispatch.{DenotesCvss, DenotesV2, DenotesV3, DenotesV4}
 use Rattle.cvss.specs.declared.metric_type.MetricType.{MetricType}
 use Rattle.cvss.specs.declared.vector.Cvss.{Cvss}
 use Rattle.cvss.specs.declared.vector.Cvss.TheVariants.{CvssV20, CvssV30, CvssV31, CvssV40}
@@ -39,7 +40,7 @@ module _ (text : List ℕ) where
   of_v40 route (CvssV40 vector) denotes = record { vector = vector; denoted = denotes; is = refl }
 
   -- a text that no rules read denotes nothing
-  pub of_none : (why : Refusal MetricType) → route_of text ≡ ToNone why → (cvss : Cvss) → DenotesCvss text cvss → ⊥
+  pub of_none : (why : NoVersion) → route_of text ≡ ToNone why → (cvss : Cvss) → DenotesCvss text cvss → ⊥
   of_none why route (CvssV20 vector) denotes = let no : ToNone why ≡ ToV20 = sym route ∙ denoted_routed text (CvssV20 vector) denotes in cc
   of_none why route (CvssV30 vector) denotes = let no : ToNone why ≡ ToV30 = sym route ∙ denoted_routed text (CvssV30 vector) denotes in cc
   of_none why route (CvssV31 vector) denotes = let no : ToNone why ≡ ToV31 = sym route ∙ denoted_routed text (CvssV31 vector) denotes in cc

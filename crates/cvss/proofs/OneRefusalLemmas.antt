@@ -11,7 +11,8 @@ use Rattle.cvss_v3.specs.Vector.{v3}
 use Rattle.cvss_v3.specs.private.VectorLaws.{v3_is_lawful}
 use Rattle.cvss_v4.specs.Vector.{v4}
 use Rattle.cvss_v4.specs.private.VectorLaws.{v4_is_lawful}
-use Rattle.cvss.specs.Dispatch.{wrapped, Route, ToV20, ToV30, ToV31, ToV40, ToNone, route_of, IsReasonOf, IsFirstReasonAt, IsFirstRefusalCvss}
+use Rattle.cvss_route.specs.Route.{Route, ToV20, ToV30, ToV31, ToV40, ToNone, route_of}
+use Rattle.cvss.specs.Dispatch.{wrapped, IsReasonOf, IsFirstReasonAt, IsFirstRefusalCvss}
 use Rattle.cvss.specs.declared.metric_type.MetricType.{MetricType}
 use Rattle.cvss.specs.declared.metric_type.MetricType.TheVariants.{V2, V3, V4}
 

@@ -3,7 +3,8 @@ use Rattle.std.proofs.Common.{◌≡◌, List, ℕ, Ok, Err, refl, sym, ap, ◌�
 use Rattle.std.specs.Str.{IsUtf8}
 use Rattle.cvss_grammar.specs.Refusal.{Refusal}
 use Rattle.cvss.specs.Answers.{HasScore}
-use Rattle.cvss.specs.Dispatch.{DenotesCvss, IsFirstRefusalCvss, IsFirstReasonAt, IsReasonOf, Route, route_of, wrapped}
+use Rattle.cvss_route.specs.Route.{Route, route_of}
+use Rattle.cvss.specs.Dispatch.{DenotesCvss, IsFirstRefusalCvss, IsFirstReasonAt, IsReasonOf, wrapped}
 use Rattle.cvss.specs.private.Steps.{IsRead, IsTellableFault, reason_read}
 use Rattle.cvss.specs.declared.metric_type.MetricType.{MetricType}
 use Rattle.cvss.specs.declared.reading.ReadFault.{ReadFault}

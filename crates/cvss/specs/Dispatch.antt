@@ -1,12 +1,12 @@
 -- What a text of any version denotes, and the first reason why it denotes nothing: CVSS v2 guide,
 -- section 2.4; v3.1 specification, section 6; v4.0 specification, section 7.
-use Rattle.std.specs.Prelude.{◌≡◌, ◌≢◌, ℕ, List, [], ◌∷◌, codes, Option, Some, None, if◌then◌else◌, bytes_eq}
+use Rattle.std.specs.Prelude.{◌≡◌, ◌≢◌, ℕ, List, codes, Option, Some, None}
 use Rattle.std.specs.String.{string_bytes}
 use Rattle.cvss_grammar.specs.Refusal.{Refusal, BadComponent, WrongPrefix, WrongVersion, UnknownName, BadValue, Repeated, Missing, IsFirstRefusal, IsFirstRefusalBehind}
-use Rattle.cvss_grammar.specs.Text.{pieces, name_part, value_part, has, colon, dot}
 use Rattle.cvss_grammar.specs.Version.{Denotes, IsComplete, IsWellFormed}
 use Rattle.cvss_name.specs.declared.error.Error.{Error}
 use Rattle.cvss_name.specs.declared.error.Error.TheVariants.{InvalidMetricV2, DuplicateMetricV2, MissingMandatoryMetricV2, InvalidMetricV3, DuplicateMetricV3, InvalidMetricV4, DuplicateMetricV4, MissingMandatoryMetricV4}
+use Rattle.cvss_route.specs.Route.{NoVersion, OnePiece, OtherPrefix, OtherVersion, Route, ToV20, ToV30, ToV31, ToV40, ToNone, route_of}
 use Rattle.cvss_v2.specs.Vector.{v2}
 use Rattle.cvss_v2.specs.declared.vector.Vector as vector_v2
 use Rattle.cvss_v3.specs.Vector.{v3}
@@ -52,32 +52,11 @@ wrapped wrap (BadValue kind value) = BadValue (wrap kind) value
 wrapped wrap (Repeated kind) = Repeated (wrap kind)
 wrapped wrap (Missing kind) = Missing (wrap kind)
 
--- where a text is read: by the rules of a version, or nowhere, for a reason that comes before them
-pub data Route : Type 0 where
-  ToV20 ToV30 ToV31 ToV40 : Route
-  ToNone : Refusal MetricType → Route
-
--- without a dot in what is told, no version is told, which only CVSS v2 allows
-abbrev pub route_of_parts : List ℕ → List ℕ → Route
-route_of_parts prefix told =
-    if has dot told then
-    (if bytes_eq prefix (codes "CVSS") then
-    (if bytes_eq told (codes "3.0") then ToV30
-    else (if bytes_eq told (codes "3.1") then ToV31
-    else (if bytes_eq told (codes "4.0") then ToV40 else ToNone (WrongVersion told))))
-    else ToNone (WrongPrefix prefix))
-    else ToV20
-
--- the first piece tells the version; a text has two pieces at least
-abbrev pub route_of_pieces : List (List ℕ) → Route
-route_of_pieces [] = ToNone (BadComponent [])
-route_of_pieces (piece ∷ []) = ToNone (BadComponent piece)
-route_of_pieces (piece ∷ next ∷ more) =
-    if has colon piece then route_of_parts (name_part piece) (value_part piece)
-    else ToNone (BadComponent piece)
-
-abbrev pub route_of : List ℕ → Route
-route_of text = route_of_pieces (pieces text)
+-- why no version is told, as a reason for a refusal
+abbrev pub untold : NoVersion → Refusal MetricType
+untold (OnePiece piece) = BadComponent piece
+untold (OtherPrefix prefix) = WrongPrefix prefix
+untold (OtherVersion told) = WrongVersion told
 
 -- the reason is one of a version's own
 pub record IsReasonOf {K : Type 0} (wrap : K → MetricType) (IsFirst : Refusal K → Type 0) (reason : Refusal MetricType) : Type 0 where
@@ -91,7 +70,7 @@ IsFirstReasonAt ToV20 text = IsReasonOf V2 (IsFirstRefusal v2 text)
 IsFirstReasonAt ToV30 text = IsReasonOf V3 (IsFirstRefusalBehind v3 text)
 IsFirstReasonAt ToV31 text = IsReasonOf V3 (IsFirstRefusalBehind v3 text)
 IsFirstReasonAt ToV40 text = IsReasonOf V4 (IsFirstRefusalBehind v4 text)
-IsFirstReasonAt (ToNone why) text = λ reason. reason ≡ why
+IsFirstReasonAt (ToNone why) text = λ reason. reason ≡ untold why
 
 -- the first reason why the text is refused
 abbrev pub IsFirstRefusalCvss : List ℕ → Refusal MetricType → Type 0

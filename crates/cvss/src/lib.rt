@@ -12,7 +12,6 @@ mod metric_type;
 mod metrics;
 mod published;
 mod reading;
-mod route;
 mod sight;
 mod vector;
 

@@ -1,26 +1,29 @@
 //! How a text is read by the rules of the version that it tells. It takes no memory: a fault borrows
 //! the part of the text that it names.
 
-ghost use Rattle.std.specs.Prelude.{◌≡◌, ◌∷◌, codes};
+ghost use Rattle.std.specs.Prelude.{◌≡◌, ◌∷◌, IfOk, Some, codes};
 ghost use Rattle.std.specs.Str.{IsUtf8};
 ghost use Rattle.cvss_grammar.specs.Text.{pieces};
-ghost use Rattle.cvss_name.specs.Told.{Tells};
+ghost use Rattle.cvss_name.specs.Told.{Tells, reason_told};
 ghost use Rattle.cvss_grammar.specs.Version.{version_piece};
 ghost use Rattle.cvss_text.specs.private.Pieces.{pieces_left};
 ghost use Rattle.cvss.specs.Bytes.{IsRefusedAs};
-ghost use Rattle.cvss.specs.Dispatch.{ToV20, ToV30, ToV31, ToV40, cvss_reason, route_of};
+ghost use Rattle.cvss.specs.Dispatch.{cvss_reason, untold};
 ghost use Rattle.cvss.specs.private.Steps.{IsRead, IsTellableFault, reason_read};
+ghost use Rattle.cvss_route.specs.Route.{ToV20, ToV30, ToV31, ToV40, route_of};
+ghost use Rattle.cvss_route.specs.private.Views.{IsTellable, why_of};
 
 use crate::bytes_error::BytesError;
-use crate::route::{self, Route, route_of_text};
 use crate::vector::Cvss;
 use crate::{v2, v3, v4};
 use cvss_base::refusing;
 use cvss_name::Error;
+use cvss_route::{NoVersion, Route, route_of_text};
 use cvss_text::front::{Fronted, read_started};
 use cvss_text::pieces::Pieces;
+use cvss_text::text::copied_text;
 use cvss_text::walk::{Fault, read_vector};
-use std::alloc::Global;
+use std::alloc::{AllocError, Global};
 
 /// Why a text denotes no vector, as the version found by whose rules it was read.
 #[derive(Clone, Copy)]
@@ -29,7 +32,7 @@ pub(crate) enum ReadFault<'a> {
     V3(Fault<'a, v3::MetricType>),
     V4(Fault<'a, v4::MetricType>),
     /// No rules apply.
-    None(route::Fault<'a>),
+    None(NoVersion<'a>),
 }
 
 /// The vector that a text denotes, or the first reason why there is none.
@@ -105,8 +108,36 @@ pub(crate) fn error_of(alloc: Global, fault: ReadFault<'_>) -> Error
         ReadFault::V2(fault) => refusing::error_of::<v2::Vector>(alloc, fault),
         ReadFault::V3(fault) => refusing::error_of::<v3::Vector>(alloc, fault),
         ReadFault::V4(fault) => refusing::error_of::<v4::Vector>(alloc, fault),
-        ReadFault::None(fault) => route::error_of(alloc, fault),
+        ReadFault::None(fault) => no_version_error_of(alloc, fault),
     }
+}
+
+/// The same where no version is told.
+fn no_version_error_of(alloc: Global, fault: NoVersion<'_>) -> Error
+    requires { IsTellable fault }
+    ensures { Tells cvss_reason (untold (why_of fault.entry)) result }
+{
+    match copied_error(alloc, fault) {
+        Ok(error) => error,
+        Err(_) => Error::OutOfMemory,
+    }
+}
+
+fn copied_error(alloc: Global, fault: NoVersion<'_>) -> Result<Error, AllocError>
+    requires { IsTellable fault }
+    ensures { IfOk result (λ error. reason_told cvss_reason error ≡ Some (untold (why_of fault.entry))) }
+{
+    Ok(match fault {
+        NoVersion::InvalidComponent(piece) => Error::InvalidComponent {
+            component: copied_text(alloc, piece)?,
+        },
+        NoVersion::InvalidPrefix(prefix) => Error::InvalidPrefix {
+            prefix: copied_text(alloc, prefix)?,
+        },
+        NoVersion::UnsupportedVersion(version) => Error::UnsupportedVersion {
+            version: copied_text(alloc, version)?,
+        },
+    })
 }
 
 /// The error of bytes in which a fault was found: that they are no text, or that of the fault.

@@ -1,14 +1,23 @@
 -- What is found at the places of a document, one after another.
-use Rattle.std.proofs.Common.{◌≡◌, ℕ, ◌+◌, ◌<◌, Bool, true, false, ◌&&◌, if◌then◌else◌, List, [], ◌∷◌, ◌++◌, length, get_or, take, map, flat_map, refl, sym, ap, ap₂, ◌∙◌, subst, append_assoc, append-nil}
+use Rattle.std.proofs.Common.{◌≡◌, ℕ, ◌+◌, Bool, true, false, ◌&&◌, if◌then◌else◌, List, [], ◌∷◌, ◌++◌, length, take, flat_map, Option, Some, inl, inr, refl, sym, ap, ap₂, ◌∙◌, subst, append_assoc, append-nil}
+use Rattle.std.proofs.KnownBytes.{Appends-kept, Appends-nil, Appends-trans}
 use Rattle.std.proofs.Math.Bool.{and-true}
 use Rattle.std.proofs.lemmas.Grind.{flat_map-append}
-use Rattle.std.proofs.lemmas.List.{map-append, take_more}
+use Rattle.std.proofs.lemmas.List.{map-append}
 use Rattle.std.proofs.lemmas.List.Folds.{list_all-append}
-use Rattle.cvss_lines.specs.Answers.{Accepted, Refused, is_accepted, written_answer, written_text}
-use Rattle.cvss_record.specs.Places.{Place}
-use Rattle.cvss_audit.specs.Answers.{AreFound, Found, IsFound, all_agree, answer_of, texts_of}
-use Rattle.cvss_audit.specs.Sources.{Source}
-use Rattle.cvss_audit.specs.private.Writing.{WritesFound, WritesPlace}
+use Rattle.std.specs.Io.KnownBytes.{Appends}
+use Rattle.std.specs.Str.{IsUtf8}
+use Rattle.cvss_lines.proofs.StepsLemmas.{take-past}
+use Rattle.cvss_lines.specs.Answers.{Answer, Accepted, Refused, is_accepted, written_answer, written_text}
+use Rattle.cvss_lines.specs.Streaming.{IsPassed, Stops, Streams, WritesWaiting}
+use Rattle.cvss_lines.specs.declared.fault.RunFault.{RunFault}
+use Rattle.cvss_lines.specs.declared.fault.RunFault.TheVariants.{Memory, Write}
+use Rattle.cvss_record.specs.Places.{Place, places_in}
+use Rattle.cvss_audit.specs.Answers.{AreFound, Begins, BeginsFound, Found, IsAnswer, IsFound, all_agree, answer_of, texts_of, written_found}
+use Rattle.cvss_audit.specs.Sources.{Source, id_of}
+use Rattle.cvss_audit.specs.private.Writing.{PassFound, StopsFound, StreamsFound, WritesPlace}
+use Rattle.serde_json.specs.Data.{Data}
+use Rattle.serde_json.specs.Read.{read}
 
 AreFound-push : (source : Source) (places : List Place) (found : List Found) (place : Place) (last : Found)
     → AreFound source places found → IsFound source place last → AreFound source (places ++ place ∷ []) (found ++ last ∷ [])
@@ -32,32 +41,109 @@ written-push found last old middle new before next =
     ∙ flat_map-append written_text (texts_of found) (last.text ∷ [])
     ∙ ap (λ bytes. flat_map written_text (texts_of found) ++ bytes) (append-nil (written_text last.text))))
 
--- before the first place
-pub WritesFound-none : (source : Source) (bytes : List ℕ) → WritesFound source [] bytes bytes true
-WritesFound-none source bytes = record { found = []; are_found = tt; told = refl; written = sym (append-nil bytes) }
+module _ (source : Source) (places : List Place) where
+  -- before the first place
+  pub StreamsFound-start : (left : List Place) (old : List ℕ) (w : Option (List ℕ)) → left ≡ places
+      → StreamsFound source places left old old w w true
+  StreamsFound-start left old w all = record {
+    seen = [];
+    split = sym all;
+    found = [];
+    are_found = tt;
+    told = refl;
+    passed = [];
+    pass = inl refl;
+    appended = Appends-nil w;
+    together = sym (append-nil old);
+  }
 
--- after one more place
-pub WritesFound-push : (source : Source) (places : List Place) (place : Place) (old middle new : List ℕ) (agree agrees : Bool)
-    → WritesFound source places old middle agree → WritesPlace source place middle new agrees
-    → WritesFound source (places ++ place ∷ []) old new (agree && agrees)
-WritesFound-push source places place old middle new agree agrees before next = record {
-  found = before.found ++ next.found ∷ [];
-  are_found = AreFound-push source places before.found place next.found before.are_found next.is_found;
-  told = ap₂ (λ (a b : Bool). a && b) before.told next.told ∙ sym (all_agree-push before.found next.found);
-  written = written-push before.found next.found old middle new before.written next.written;
-}
+  -- where all places are seen
+  pub StreamsFound-end : (left : List Place) (old new : List ℕ) (w w' : Option (List ℕ)) (agree : Bool) → left ≡ []
+      → StreamsFound source places left old new w w' agree → StreamsFound source places [] old new w w' agree
+  StreamsFound-end left old new w w' agree none = subst (λ each. StreamsFound source places each old new w w' agree) none
 
--- after one more of a list of places
-pub WritesFound-next : {X : Type 0} (seen : X → Place) (source : Source) (items : List X) (index : ℕ) (item : X) (old middle new : List ℕ) (agree agrees : Bool)
-    → index < length items → item ≡ get_or items index item
-    → WritesFound source (map seen (take index items)) old middle agree → WritesPlace source (seen item) middle new agrees
-    → WritesFound source (map seen (take (index + 1) items)) old new (agree && agrees)
-WritesFound-next seen source items index item old middle new agree agrees within is before next =
-    let more : map seen (take (index + 1) items) ≡ map seen (take index items) ++ seen item ∷ [] =
-    ap (map seen) (take_more items index item within ∙ ap (λ each. take index items ++ each ∷ []) (sym is))
-    ∙ map-append seen (take index items) (item ∷ []) in
-    subst (λ places. WritesFound source places old new (agree && agrees)) (sym more)
-    (WritesFound-push source (map seen (take index items)) (seen item) old middle new agree agrees before next)
+  -- the places that are seen with one more, and those that are left
+  split_more : (seen : List Place) (place : Place) (left left' : List Place) → places ≡ seen ++ left → left ≡ place ∷ left'
+      → places ≡ (seen ++ place ∷ []) ++ left'
+  split_more seen place left left' split next =
+      split ∙ ap (λ each. seen ++ each) next ∙ sym (append_assoc seen (place ∷ []) left')
+
+  -- what is found at one more place is in what was and what may be written
+  found_more : (seen : List Place) (place : Place) (left left' : List Place) (found : List Found) (last : Found)
+      → places ≡ seen ++ left → left ≡ place ∷ left' → AreFound source seen found → IsFound source place last
+      → BeginsFound source places (written_found (found ++ last ∷ []))
+  found_more seen place left left' found last split next are is = record {
+    first = seen ++ place ∷ [];
+    others = left';
+    split = split_more seen place left left' split next;
+    found = found ++ last ∷ [];
+    are_found = AreFound-push source seen found place last are is;
+    written = refl;
+  }
+
+  together_push : (passed waits old middle : List ℕ) (found : List Found) (last : Found) → passed ++ waits ≡ old ++ written_found found
+      → middle ≡ waits ++ written_text last.text → passed ++ middle ≡ old ++ written_found (found ++ last ∷ [])
+  together_push passed waits old middle found last together written =
+      ap (λ bytes. passed ++ bytes) written ∙ sym (append_assoc passed waits (written_text last.text))
+      ∙ written-push found last old (passed ++ waits) ((passed ++ waits) ++ written_text last.text) together refl
+
+  -- after one more place, of which what waited may be written
+  pub StreamsFound-next : (place : Place) (left left' : List Place) (old waits middle new : List ℕ) (w w' w'' : Option (List ℕ)) (agree agrees : Bool)
+      → left ≡ place ∷ left' → StreamsFound source places left old waits w w' agree → WritesPlace source place waits middle agrees
+      → WritesWaiting middle new w' w'' → StreamsFound source places left' old new w w'' (agree && agrees)
+  StreamsFound-next place left left' old waits middle new w w' w'' agree agrees next before wrote (inl kept) = record {
+    seen = before.seen ++ place ∷ [];
+    split = split_more before.seen place left left' before.split next;
+    found = before.found ++ wrote.found ∷ [];
+    are_found = AreFound-push source before.seen before.found place wrote.found before.are_found wrote.is_found;
+    told = ap₂ (λ (a b : Bool). a && b) before.told wrote.told ∙ sym (all_agree-push before.found wrote.found);
+    passed = before.passed;
+    pass = before.pass;
+    appended = Appends-kept w w' w'' before.passed before.appended kept.1;
+    together = ap (λ bytes. before.passed ++ bytes) kept.0
+        ∙ together_push before.passed waits old middle before.found wrote.found before.together wrote.written;
+  }
+  StreamsFound-next place left left' old waits middle new w w' w'' agree agrees next before wrote (inr flushed) =
+      let begins = found_more before.seen place left left' before.found wrote.found before.split next before.are_found wrote.is_found in
+      let all = together_push before.passed waits old middle before.found wrote.found before.together wrote.written in
+      record {
+        seen = before.seen ++ place ∷ [];
+        split = split_more before.seen place left left' before.split next;
+        found = before.found ++ wrote.found ∷ [];
+        are_found = AreFound-push source before.seen before.found place wrote.found before.are_found wrote.is_found;
+        told = ap₂ (λ (a b : Bool). a && b) before.told wrote.told ∙ sym (all_agree-push before.found wrote.found);
+        passed = before.passed ++ middle;
+        pass = inr (written_found (before.found ++ wrote.found ∷ []), begins, all);
+        appended = Appends-trans w w' w'' before.passed middle before.appended flushed.1;
+        together = ap (λ bytes. (before.passed ++ middle) ++ bytes) flushed.0 ∙ append-nil (before.passed ++ middle) ∙ all;
+      }
+
+  -- memory was refused between two places
+  pub StopsFound-memory : (left : List Place) (old waits : List ℕ) (w w' : Option (List ℕ)) (agree : Bool) (fault : RunFault)
+      → StreamsFound source places left old waits w w' agree → fault ≡ Memory → StopsFound source places old w w' fault
+  StopsFound-memory left old waits w w' agree fault before is = record {
+    no_read = λ read. absurd (cc);
+    memory = λ _. record { passed = before.passed; pass = before.pass; appended = before.appended };
+    write = λ write. absurd (cc);
+  }
+
+  -- a write failed behind one more place
+  pub StopsFound-write : (place : Place) (left left' : List Place) (old waits middle : List ℕ) (w w' w'' : Option (List ℕ)) (agree agrees : Bool) (fault : RunFault)
+      → left ≡ place ∷ left' → StreamsFound source places left old waits w w' agree → WritesPlace source place waits middle agrees
+      → (fault ≡ Write) × ((count : ℕ) × Appends w' w'' (take count middle)) → StopsFound source places old w w'' fault
+  StopsFound-write place left left' old waits middle w w' w'' agree agrees fault next before wrote stopped = record {
+    no_read = λ read. absurd (cc stopped.0);
+    memory = λ memory. absurd (cc stopped.0);
+    write = λ _. record {
+      begun = written_found (before.found ++ wrote.found ∷ []);
+      begins = found_more before.seen place left left' before.found wrote.found before.split next before.are_found wrote.is_found;
+      count = length before.passed + stopped.1.0;
+      appended = subst (Appends w w'')
+          (sym (take-past before.passed middle stopped.1.0)
+          ∙ ap (take (length before.passed + stopped.1.0)) (together_push before.passed waits old middle before.found wrote.found before.together wrote.written))
+          (Appends-trans w w' w'' before.passed (take stopped.1.0 middle) before.appended stopped.1.1);
+    };
+  }
 
 -- whether the answer to a document accepts it, and what is written for it
 pub told_answer : (found : List Found) → all_agree found ≡ is_accepted (answer_of found)
@@ -71,3 +157,66 @@ written_answer_of found = written (all_agree found) where
   written : (b : Bool) → flat_map written_text (texts_of found) ≡ written_answer (if b then Accepted (texts_of found) else Refused (texts_of found))
   written true = refl
   written false = refl
+
+-- what may be written of a document
+pass_document : (number : ℕ) (line old passed : List ℕ) (document : Data) → read line ≡ Some document
+    → PassFound (number, id_of document) (places_in document) old passed → IsPassed Begins number line old passed
+pass_document number line old passed document reads (inl none) = inl none
+pass_document number line old passed document reads (inr some) =
+    inr (some.0, record { document = document; reads = reads; begins = some.1 }, some.2)
+
+-- the answer to a document whose places are all seen
+pub Streams-document : (number : ℕ) (line old new : List ℕ) (w w' : Option (List ℕ)) (agree : Bool) (document : Data) → IsUtf8 line
+    → read line ≡ Some document → StreamsFound (number, id_of document) (places_in document) [] old new w w' agree
+    → Streams IsAnswer Begins number line old new w w' agree
+unfolding IsAnswer
+Streams-document number line old new w w' agree document utf8 reads streams = record {
+  answer = answer_of streams.found;
+  answers = inr (inr (inr (record {
+    utf8 = utf8;
+    document = document;
+    reads = reads;
+    found = streams.found;
+    are_found = subst (λ seen. AreFound (number, id_of document) seen streams.found) (sym (streams.split ∙ append-nil streams.seen)) streams.are_found;
+    is = refl;
+  })));
+  told = streams.told ∙ told_answer streams.found;
+  passed = streams.passed;
+  is_passed = pass_document number line old streams.passed document reads streams.pass;
+  appended = streams.appended;
+  together = streams.together ∙ ap (λ bytes. old ++ bytes) (written_answer_of streams.found);
+}
+
+-- a fault in the midst of a document
+pub Stops-document : (number : ℕ) (line old : List ℕ) (w w' : Option (List ℕ)) (fault : RunFault) (document : Data) → read line ≡ Some document
+    → StopsFound (number, id_of document) (places_in document) old w w' fault → Stops Begins number line old w w' fault
+Stops-document number line old w w' fault document reads stops = record {
+  no_read = stops.no_read;
+  memory = λ is.
+      let lacks = stops.memory is in
+      record { passed = lacks.passed; is_passed = pass_document number line old lacks.passed document reads lacks.pass; appended = lacks.appended };
+  write = λ is.
+      let fails = stops.write is in
+      record { begun = fails.begun; begins = record { document = document; reads = reads; begins = fails.begins }; count = fails.count; appended = fails.appended };
+}
+
+-- an answer of which nothing is written yet
+pub Streams-waiting : (number : ℕ) (line old new : List ℕ) (w : Option (List ℕ)) (accepted : Bool) (answer : Answer) → IsAnswer number line answer
+    → accepted ≡ is_accepted answer → new ≡ old ++ written_answer answer → Streams IsAnswer Begins number line old new w w accepted
+Streams-waiting number line old new w accepted answer is told written = record {
+  answer = answer;
+  answers = is;
+  told = told;
+  passed = [];
+  is_passed = inl refl;
+  appended = Appends-nil w;
+  together = written;
+}
+
+-- memory was refused before anything was written
+pub Stops-waiting : (number : ℕ) (line old : List ℕ) (w : Option (List ℕ)) → Stops Begins number line old w w Memory
+Stops-waiting number line old w = record {
+  no_read = λ read. absurd (cc);
+  memory = λ _. record { passed = []; is_passed = inl refl; appended = Appends-nil w };
+  write = λ write. absurd (cc);
+}

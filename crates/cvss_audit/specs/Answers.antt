@@ -1,5 +1,5 @@
 -- The answers that the program writes to the lines of its input, each of which is a JSON document.
-use Rattle.std.specs.Prelude.{◌≡◌, ◌≢◌, ℕ, ◌==◌, ◌||◌, ◌⊎◌, Bool, true, false, List, [], ◌∷◌, ◌++◌, codes, map, if◌then◌else◌, Option, Some, None, ⊤}
+use Rattle.std.specs.Prelude.{◌≡◌, ◌≢◌, ℕ, ◌==◌, ◌||◌, ◌⊎◌, Bool, true, false, List, [], ◌∷◌, ◌++◌, codes, flat_map, map, if◌then◌else◌, Option, Some, None, ⊤}
 use Rattle.std.specs.List.{list_all}
 use Rattle.std.specs.Str.{IsUtf8}
 use Rattle.cvss.specs.Dispatch.{DenotesCvss, IsFirstRefusalCvss, cvss_reason}
@@ -8,7 +8,7 @@ use Rattle.cvss.specs.ErrorType.{Error}
 use Rattle.cvss_name.specs.declared.error.Error.TheVariants.{OutOfMemory}
 use Rattle.cvss.specs.Told.{TellsFirst}
 use Rattle.cvss.specs.declared.vector.Cvss.{Cvss}
-use Rattle.cvss_lines.specs.Answers.{Answer, Accepted, Refused}
+use Rattle.cvss_lines.specs.Answers.{Answer, Accepted, Refused, written_text}
 use Rattle.cvss_object.specs.Texts.{IsTextOf}
 use Rattle.cvss_record.specs.Differences.{AreDifferencesAt, Difference}
 use Rattle.cvss_record.specs.Groups.{AreScoresOf}
@@ -89,6 +89,19 @@ all_agree found = list_all (λ each. each.agrees) found
 abbrev pub texts_of : List Found → List (List ℕ)
 texts_of found = map (λ each. each.text) found
 
+-- what is written for places, each text with a byte 10
+abbrev pub written_found : List Found → List ℕ
+written_found found = flat_map written_text (texts_of found)
+
+-- the bytes are what is written for the first of the places
+pub record BeginsFound (source : Source) (places : List Place) (bytes : List ℕ) : Type 0 where
+  pub first : List Place
+  pub others : List Place
+  pub split : places ≡ first ++ others
+  pub found : List Found
+  pub are_found : AreFound source first found
+  pub written : bytes ≡ written_found found
+
 -- the answer to a document: a line for each place. The document is accepted if all agree.
 abbrev pub answer_of : List Found → Answer
 answer_of found = if all_agree found then Accepted (texts_of found) else Refused (texts_of found)
@@ -132,6 +145,12 @@ pub record IsDocument (number : ℕ) (line : List ℕ) (answer : Answer) : Type 
   pub found : List Found
   pub are_found : AreFound (number, id_of document) (places_in document) found
   pub is : answer ≡ answer_of found
+
+-- whole lines of the answer to a document, which may be written before the rest of it is known
+pub record Begins (number : ℕ) (line bytes : List ℕ) : Type 0 where
+  pub document : Data
+  pub reads : read line ≡ Some document
+  pub begins : BeginsFound (number, id_of document) (places_in document) bytes
 
 -- this is an answer to the line of this number
 unfoldable pub IsAnswer : ℕ → List ℕ → Answer → Type 0

@@ -1,10 +1,10 @@
 //! The answer to a line, which is a JSON document.
 
-ghost use Rattle.std.specs.Prelude.{◌≡◌, IfOk, OnOk};
-ghost use Rattle.cvss_audit.specs.Answers.{IsAnswer, is_passed_over};
+ghost use Rattle.std.specs.Prelude.{◌≡◌, [], IfErr, IfOk, OnOk};
+ghost use Rattle.cvss_audit.specs.Answers.{Begins, IsAnswer, is_passed_over};
 ghost use Rattle.cvss_audit.specs.Objects.{refusal_value};
 ghost use Rattle.cvss_audit.specs.Sources.{id_of};
-ghost use Rattle.cvss_audit.specs.private.Writing.{WritesFound};
+ghost use Rattle.cvss_audit.specs.private.Writing.{StopsFound, StreamsFound};
 ghost use Rattle.cvss_object.specs.Texts.{WritesObject};
 ghost use Rattle.cvss_record.specs.Places.{places_in};
 ghost use Rattle.serde_json.specs.View.{view};
@@ -12,24 +12,28 @@ ghost use Rattle.serde_json.specs.View.{view};
 use crate::place::answer_place;
 use crate::source::Source;
 use crate::told::{put_line, put_refusal};
-use cvss_lines::{Answering, Gathered};
+use cvss_lines::{Gathered, RunFault, Streaming};
 use cvss_object::write_object;
 use cvss_record::vectors_in;
 use serde_json::{Map, Value};
 use std::alloc::{AllocError, Global};
+use std::io::Write;
 
 /// Lines that are JSON documents, each answered by what the vectors in it are.
 pub(crate) struct Documents {}
 
-impl Answering for Documents {
+impl Streaming for Documents {
     ghost rule = { IsAnswer };
 
-    fn answer_line(
+    ghost beginning = { Begins };
+
+    fn stream_line<W: Write>(
         alloc: Global,
         number: u64,
         line: &[u8],
         answers: &mut Gathered,
-    ) -> Result<bool, AllocError> {
+        writer: &mut W,
+    ) -> Result<bool, RunFault> {
         if is_passed_over(line) {
             return Ok(true);
         }
@@ -38,8 +42,8 @@ impl Answering for Documents {
             return Ok(false);
         };
         match Value::from_str(alloc, text) {
-            Ok(document) => answer_document(alloc, number, &document, answers),
-            Err(error) if error.is_memory() => Err(AllocError),
+            Ok(document) => answer_document(alloc, number, &document, answers, writer),
+            Err(error) if error.is_memory() => Err(RunFault::Memory),
             Err(_) => {
                 refuse_line(alloc, number, "not JSON", answers)?;
                 Ok(false)
@@ -72,21 +76,28 @@ fn refuse_line(
     write_object(alloc, members, answers)
 }
 
-/// Writes an object for each place in a document where a vector stands. Tells whether none is
-/// refused and nothing differs.
-fn answer_document(
+/// Writes an object for each place in a document where a vector stands, one after another. Tells
+/// whether none is refused and nothing differs.
+fn answer_document<W: Write>(
     alloc: Global,
     number: u64,
     document: &Value,
     answers: &mut Gathered,
-) -> Result<bool, AllocError>
-    ensures { IfOk result (WritesFound (number, id_of (view document.now)) (places_in (view document.now))
-        answers.old.bytes.items answers.new.bytes.items) }
+    writer: &mut W,
+) -> Result<bool, RunFault>
+    ensures streamed { IfOk result (StreamsFound (number, id_of (view document.now))
+        (places_in (view document.now)) [] answers.old.bytes.items answers.new.bytes.items
+        (W.contents writer.old) (W.contents writer.new)) }
+    ensures stopped { IfErr result (StopsFound (number, id_of (view document.now))
+        (places_in (view document.now)) answers.old.bytes.items
+        (W.contents writer.old) (W.contents writer.new)) }
 {
     let source = Source::of(number, document);
+    let mut places = vectors_in(alloc, document)?;
     let mut agree = true;
-    for place in &vectors_in(alloc, document)? {
-        agree &= answer_place(alloc, source, place, answers)?;
+    while let Some(place) = places.next_place(alloc)? {
+        agree &= answer_place(alloc, source, &place, answers)?;
+        answers.write_if_full(writer)?;
     }
     Ok(agree)
 }

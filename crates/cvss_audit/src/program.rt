@@ -1,8 +1,9 @@
 //! The whole program: `--help`, or a run.
 
-ghost use Rattle.cvss_audit.specs.Answers.{IsAnswer};
+ghost use Rattle.cvss_audit.specs.Answers.{Begins, IsAnswer};
 ghost use Rattle.cvss_lines.specs.Program.{Performs};
 ghost use Rattle.cvss_lines.specs.Requests.{asked_alone};
+ghost use Rattle.cvss_lines.specs.Streaming.{StreamEnds};
 
 use crate::documents::Documents;
 use crate::{Fault, Summary};
@@ -35,9 +36,9 @@ pub fn run_program<R: Read, W: Write>(
     reader: &mut R,
     writer: &mut W,
 ) -> Result<Summary, Fault>
-    ensures { Performs IsAnswer USAGE.now (asked_alone arguments.now)
+    ensures { Performs (StreamEnds IsAnswer Begins) USAGE.now (asked_alone arguments.now)
         (R.remaining reader.old) (R.remaining reader.new)
         (W.contents writer.old) (W.contents writer.new) result }
 {
-    cvss_lines::run_program::<Documents, R, W>(alloc, USAGE, arguments, reader, writer)
+    cvss_lines::run_streaming_program::<Documents, R, W>(alloc, USAGE, arguments, reader, writer)
 }

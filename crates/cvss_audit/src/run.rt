@@ -1,5 +1,5 @@
-ghost use Rattle.cvss_audit.specs.Answers.{IsAnswer};
-ghost use Rattle.cvss_lines.specs.Runs.{Ends};
+ghost use Rattle.cvss_audit.specs.Answers.{Begins, IsAnswer};
+ghost use Rattle.cvss_lines.specs.Streaming.{StreamEnds};
 
 use crate::documents::Documents;
 use crate::{RunFault, Summary};
@@ -14,8 +14,8 @@ pub fn run<R: Read, W: Write>(
     reader: &mut R,
     writer: &mut W,
 ) -> Result<Summary, RunFault>
-    ensures { Ends IsAnswer (R.remaining reader.old) (R.remaining reader.new)
+    ensures { StreamEnds IsAnswer Begins (R.remaining reader.old) (R.remaining reader.new)
         (W.contents writer.old) (W.contents writer.new) result }
 {
-    cvss_lines::run::<Documents, R, W>(alloc, reader, writer)
+    cvss_lines::run_streaming::<Documents, R, W>(alloc, reader, writer)
 }

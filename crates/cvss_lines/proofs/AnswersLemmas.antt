@@ -3,9 +3,9 @@ use Rattle.std.proofs.Common.{◌≡◌, ℕ, ◌+◌, ◌-◌, ◌^◌, ◌<◌
 use Rattle.std.specs.List.{count_by}
 use Rattle.std.proofs.lemmas.List.Sums.{sum_by-cons}
 use Rattle.std.proofs.lemmas.Grind.{flat_map-append}
-use Rattle.cvss_lines.specs.Answers.{Answer, IsAnswers, Rule, is_accepted, is_refused, next_number, written_answer, written_answers}
+use Rattle.cvss_lines.specs.Answers.{Answer, IsAnswers, Rule, is_accepted, is_refused, next_number, number_behind, written_answer, written_answers}
 use Rattle.cvss_lines.specs.Runs.{summary_of, saturating_count}
-use Rattle.cvss_lines.specs.private.Steps.{Counts, counted_on, no_lines, number_behind}
+use Rattle.cvss_lines.specs.private.Steps.{Counts, counted_on, no_lines}
 use Rattle.cvss_lines.specs.declared.summary.Summary.{Summary}
 
 -- the lines of both lists have their answers

@@ -28,6 +28,11 @@ Rule = ℕ → List ℕ → Answer → Type 0
 abbrev pub next_number : ℕ → ℕ
 next_number number = min (number + 1) (2 ^ 64 - 1)
 
+-- the number of the line behind these, of which the first has this number
+abbrev pub number_behind : ℕ → List (List ℕ) → ℕ
+number_behind number [] = number
+number_behind number (line ∷ lines) = number_behind (next_number number) lines
+
 -- by the rule each line has its answer, in the order of the lines, of which the first has this number
 abbrev pub IsAnswers : Rule → ℕ → List (List ℕ) → List Answer → Type 0
 IsAnswers rule number [] [] = ⊤

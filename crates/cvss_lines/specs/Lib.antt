@@ -4,4 +4,5 @@ pub mod Lines
 pub mod Program
 pub mod Requests
 pub mod Runs
+pub mod Streaming
 pub mod private

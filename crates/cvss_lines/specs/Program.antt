@@ -1,9 +1,8 @@
 -- What a program does that answers lines and knows no argument but `--help`, and how it ends.
 use Rattle.std.specs.Prelude.{◌≡◌, ◌≢◌, ℕ, List, [], take, codes, Option, Result, Ok, Err, IfOk, IfErr}
 use Rattle.std.specs.Io.KnownBytes.{Appends, Keeps}
-use Rattle.cvss_lines.specs.Answers.{Rule}
 use Rattle.cvss_lines.specs.Exit as lines
-use Rattle.cvss_lines.specs.Runs.{Ends, summary_of}
+use Rattle.cvss_lines.specs.Runs.{summary_of}
 use Rattle.cvss_lines.specs.declared.asking.Request.{Request}
 use Rattle.cvss_lines.specs.declared.asking.Request.TheVariants as request
 use Rattle.cvss_lines.specs.declared.fault.RunFault.{RunFault}
@@ -27,19 +26,23 @@ abbrev pub told_of : Result Summary RunFault → Result Summary Fault
 told_of (Ok summary) = Ok summary
 told_of (Err fault) = Err (Run fault)
 
+-- what is read and written, and how a run ends
+abbrev pub Ending : Type 1
+Ending = Option (List ℕ) → Option (List ℕ) → Option (List ℕ) → Option (List ℕ) → Result Summary RunFault → Type 0
+
 -- the program has run over the input, and tells how the run has ended
-pub record RunsOver (rule : Rule) (unread unread' written written' : Option (List ℕ)) (result : Result Summary Fault)
+pub record RunsOver (ends : Ending) (unread unread' written written' : Option (List ℕ)) (result : Result Summary Fault)
     : Type 0 where
   pub outcome : Result Summary RunFault
-  pub ends : Ends rule unread unread' written written' outcome
+  pub ended : ends unread unread' written written' outcome
   pub told : result ≡ told_of outcome
 
 -- what the program does, by what its arguments ask for; it reads only where they ask for a run
-pub record Performs (rule : Rule) (usage : List ℕ) (asked : Request) (unread unread' written written' : Option (List ℕ))
+pub record Performs (ends : Ending) (usage : List ℕ) (asked : Request) (unread unread' written written' : Option (List ℕ))
     (result : Result Summary Fault) : Type 0 where
   pub helps : asked ≡ request.Usage → WritesUsage usage written written' result
   pub refuses : asked ≡ request.Unknown → RefusesArguments written written' result
-  pub runs : asked ≡ request.Run → RunsOver rule unread unread' written written' result
+  pub runs : asked ≡ request.Run → RunsOver ends unread unread' written written' result
   pub keeps : asked ≢ request.Run → Keeps unread unread'
 
 -- 0 where nothing is refused, 1 where something is, 2 after a fault

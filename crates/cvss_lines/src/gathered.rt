@@ -1,9 +1,17 @@
 //! The answers that aren't written yet.
 
-ghost use Rattle.std.specs.Prelude.{◌≡◌, ◌++◌, [], OnOk};
+ghost use Rattle.std.specs.Io.KnownBytes.{Appends};
+ghost use Rattle.std.specs.Prelude.{◌≡◌, ◌<◌, ◌++◌, ℕ, [], IfErr, OnOk, take, vec_len};
+ghost use Rattle.cvss_lines.specs.Streaming.{WritesWaiting};
+ghost use Rattle.cvss_lines.specs.declared.fault.RunFault.TheVariants.{Write as WriteFault};
 
+use crate::{RunFault, write_whole};
 use std::alloc::{AllocError, Global};
 use std::fmt;
+use std::io::Write;
+
+/// From how many bytes on answers are written in the midst of a line.
+const FULL: usize = 64 * 1024;
 
 /// Answers that wait to be written, as bytes, a byte 10 behind each text: a line that is its own
 /// answer's text is copied as it stands.
@@ -26,6 +34,27 @@ impl Gathered {
         ensures { OnOk result (self.new.bytes.items ≡ self.old.bytes.items ++ bytes.now) }
     {
         self.bytes.extend_from_slice(bytes)
+    }
+
+    /// Writes the answers if they are as long as a read may be, so that what waits stays small in a line
+    /// of many texts.
+    ///
+    /// # Errors
+    ///
+    /// A failure of the writer, which has a beginning of the answers then.
+    pub fn write_if_full<W: Write>(&mut self, writer: &mut W) -> Result<(), RunFault>
+        ensures written { OnOk result (WritesWaiting self.old.bytes.items self.new.bytes.items
+            (W.contents writer.old) (W.contents writer.new)) }
+        ensures cut { IfErr result (λ fault. (fault ≡ WriteFault) × ((count : ℕ)
+            × Appends (W.contents writer.old) (W.contents writer.new)
+            (take count self.old.bytes.items))) }
+        ensures little { OnOk result (vec_len self.new.bytes < FULL) }
+    {
+        if self.bytes.len() >= FULL {
+            write_whole(writer, &self.bytes)?;
+            self.clear();
+        }
+        Ok(())
     }
 
     pub(crate) fn clear(&mut self)

@@ -1,5 +1,6 @@
 //! Programs that answer each line of an input: how the input is cut into lines, in what pieces it is
-//! read and its answers are written, and how a run ends. What answers a line is an [`Answering`].
+//! read and its answers are written, and how a run ends. What answers a line is
+//! an [`Answering`], or a [`Streaming`] where an answer may be long.
 #![tactic(auto)]
 
 mod answering;
@@ -13,6 +14,7 @@ mod pending;
 mod program;
 mod running;
 mod search;
+mod streaming;
 mod summary;
 mod write;
 
@@ -22,7 +24,8 @@ pub use exit::exit_status;
 pub use fault::RunFault;
 pub use gathered::Gathered;
 pub use lines::first_line;
-pub use program::{Fault, program_status, run_program};
-pub use running::run;
+pub use program::{Fault, program_status, run_program, run_streaming_program};
+pub use running::{run, run_streaming};
+pub use streaming::{Streaming, Whole};
 pub use summary::Summary;
 pub use write::write_whole;

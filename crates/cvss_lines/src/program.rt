@@ -4,11 +4,15 @@ ghost use Rattle.std.specs.Prelude.{◌≡◌, ◌≢◌, ℕ, [], take, Some, I
 ghost use Rattle.std.specs.Io.KnownBytes.{Appends};
 ghost use Rattle.cvss_lines.specs.Program.{Performs, fault_text, program_status as status_of};
 ghost use Rattle.cvss_lines.specs.Requests.{asked_alone as asked_of};
-ghost use Rattle.cvss_lines.specs.Runs.{summary_of};
+ghost use Rattle.cvss_lines.specs.Runs.{Ends, summary_of};
+ghost use Rattle.cvss_lines.specs.Streaming.{StreamEnds};
 ghost use Rattle.cvss_lines.specs.declared.fault.RunFault.TheVariants.{Memory, Write as WriteFault};
 ghost use Rattle.cvss_lines.specs.declared.program.Fault.TheVariants.{Run as RunEnded};
 
-use crate::{Answering, Request, RunFault, Summary, asked_alone, run, write_whole};
+use crate::{
+    Answering, Request, RunFault, Streaming, Summary, Whole, asked_alone, run_streaming,
+    write_whole,
+};
 use std::alloc::{AllocError, Global};
 use std::fmt;
 use std::io::{Read, Write};
@@ -42,7 +46,7 @@ impl fmt::Display for Fault {
     }
 }
 
-/// Writes the usage for `--help` alone, and answers lines as [`run`] does for no argument.
+/// Writes the usage for `--help` alone, and answers lines as [`run`](crate::run) does for no argument.
 ///
 /// # Errors
 ///
@@ -55,14 +59,33 @@ pub fn run_program<A: Answering, R: Read, W: Write>(
     reader: &mut R,
     writer: &mut W,
 ) -> Result<Summary, Fault>
-    ensures { Performs A.rule usage.now (asked_of arguments.now)
+    ensures { Performs (Ends A.rule) usage.now (asked_of arguments.now)
+        (R.remaining reader.old) (R.remaining reader.new)
+        (W.contents writer.old) (W.contents writer.new) result }
+{
+    run_streaming_program::<Whole<A>, R, W>(alloc, usage, arguments, reader, writer)
+}
+
+/// Writes the usage for `--help` alone, and answers lines as [`run_streaming`] does for no argument.
+///
+/// # Errors
+///
+/// As for [`run_program`], and those of `run_streaming`.
+pub fn run_streaming_program<A: Streaming, R: Read, W: Write>(
+    alloc: Global,
+    usage: &str,
+    arguments: &[Vec<u8>],
+    reader: &mut R,
+    writer: &mut W,
+) -> Result<Summary, Fault>
+    ensures { Performs (StreamEnds A.rule A.beginning) usage.now (asked_of arguments.now)
         (R.remaining reader.old) (R.remaining reader.new)
         (W.contents writer.old) (W.contents writer.new) result }
 {
     match asked_alone(arguments) {
         Request::Usage => write_usage(usage, writer),
         Request::Unknown => Err(Fault::Arguments),
-        Request::Run => run::<A, R, W>(alloc, reader, writer).map_err(Fault::Run),
+        Request::Run => run_streaming::<A, R, W>(alloc, reader, writer).map_err(Fault::Run),
     }
 }
 

@@ -1,8 +1,9 @@
 ghost use Rattle.std.specs.Prelude.{◌<◌, IfOk, vec_len};
 ghost use Rattle.cvss_lines.specs.Runs.{Ends};
+ghost use Rattle.cvss_lines.specs.Streaming.{StreamEnds};
 
 use crate::pending::Pending;
-use crate::{Answering, RunFault, Summary};
+use crate::{Answering, RunFault, Streaming, Summary, Whole};
 use std::alloc::{AllocError, Global};
 use std::io::{Read, Write};
 
@@ -20,6 +21,18 @@ pub fn run<A: Answering, R: Read, W: Write>(
     writer: &mut W,
 ) -> Result<Summary, RunFault>
     ensures { Ends A.rule (R.remaining reader.old) (R.remaining reader.new)
+        (W.contents writer.old) (W.contents writer.new) result }
+{
+    run_streaming::<Whole<A>, R, W>(alloc, reader, writer)
+}
+
+/// Answers lines as [`run`] does, where an answer may be written before it is whole.
+pub fn run_streaming<A: Streaming, R: Read, W: Write>(
+    alloc: Global,
+    reader: &mut R,
+    writer: &mut W,
+) -> Result<Summary, RunFault>
+    ensures { StreamEnds A.rule A.beginning (R.remaining reader.old) (R.remaining reader.new)
         (W.contents writer.old) (W.contents writer.new) result }
 {
     let mut chunk = read_buffer(alloc)?;

@@ -1,4 +1,5 @@
 mod FloatLemmas
 pub mod ObjectLemmas
 mod PointerLemmas
+mod PlacesLemmas
 mod TellingLemmas

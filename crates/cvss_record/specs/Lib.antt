@@ -4,6 +4,7 @@ pub mod Groups
 pub mod Members
 pub mod Objects
 pub mod Places
+pub mod PlacesLeft
 pub mod Record
 pub mod laws
 pub mod private

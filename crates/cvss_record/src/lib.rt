@@ -11,11 +11,14 @@ mod group;
 pub mod laws;
 mod member;
 mod place;
+mod places;
+mod pointer;
 mod record;
 mod score;
 
 pub use difference::{Difference, differences, differences_at};
 pub use group::Group;
-pub use place::{Around, Form, Place, vectors_in};
+pub use place::{Around, Form, Place};
+pub use places::{Places, vectors_in};
 pub use record::{record_of, score_value};
 pub use score::{Scores, score_number};

@@ -2,6 +2,7 @@
 
 ghost use Rattle.cvss_lines.specs.Program.{Performs};
 ghost use Rattle.cvss_lines.specs.Requests.{asked_alone};
+ghost use Rattle.cvss_lines.specs.Runs.{Ends};
 ghost use Rattle.cvss_why.specs.Answers.{IsAnswer};
 
 use crate::answer::Vectors;
@@ -34,7 +35,7 @@ pub fn run_program<R: Read, W: Write>(
     reader: &mut R,
     writer: &mut W,
 ) -> Result<Summary, Fault>
-    ensures { Performs IsAnswer USAGE.now (asked_alone arguments.now)
+    ensures { Performs (Ends IsAnswer) USAGE.now (asked_alone arguments.now)
         (R.remaining reader.old) (R.remaining reader.new)
         (W.contents writer.old) (W.contents writer.new) result }
 {

@@ -1,6 +1,6 @@
 use Rattle.std.proofs.Common.{refl, sym}
-use Rattle.cvss.specs.Dispatch.{ToNone}
-use Rattle.cvss.specs.private.Steps.{reason_of}
+use Rattle.cvss_route.specs.Route.{ToNone}
+use Rattle.cvss_route.specs.private.Views.{why_of}
 use Rattle.cvss.specs.declared.reading.ReadFault.TheVariants as told
 use Rattle.cvss.proofs.AnswerLemmas.{of_none}
 use Rattle.cvss.proofs.ReadLemmas.{IsRead-fault}
@@ -9,6 +9,6 @@ use Rattle.cvss.proofs.reading.read.Goals as goal
 pub returns-in-None : goal.returns-in-None
 returns-in-None c =
     let text = c.args.text.now in
-    let why = reason_of c.in-None.fault in
+    let why = why_of c.in-None.fault in
     let route = sym c.in-None.ensures.route in
     IsRead-fault text (ToNone why) route (told.None c.in-None.fault) (of_none text why route) refl (λ reason is. sym is) c.in-None.ensures.tellable

@@ -3,7 +3,7 @@ use Rattle.cvss_name.specs.declared.v2.MetricType.TheVariants.{A}
 use Rattle.cvss_grammar.specs.Refusal.{IsFirstRefusal}
 use Rattle.cvss_text.specs.private.Walk.{reason_of}
 use Rattle.cvss_v2.specs.Vector.{v2}
-use Rattle.cvss.specs.Dispatch.{ToV20}
+use Rattle.cvss_route.specs.Route.{ToV20}
 use Rattle.cvss.specs.declared.metric_type.MetricType.TheVariants.{V2}
 use Rattle.cvss.specs.declared.reading.ReadFault.TheVariants as told
 use Rattle.cvss.specs.declared.vector.Cvss.TheVariants.{CvssV20}

@@ -1,7 +1,7 @@
 use Rattle.cvss_grammar.specs.Refusal.{IsFirstRefusalBehind}
 use Rattle.cvss_text.specs.private.Walk.{reason_of}
 use Rattle.cvss_v3.specs.Vector.{v3}
-use Rattle.cvss.specs.Dispatch.{ToV31}
+use Rattle.cvss_route.specs.Route.{ToV31}
 use Rattle.cvss.specs.declared.metric_type.MetricType.TheVariants.{V3}
 use Rattle.cvss.specs.declared.reading.ReadFault.TheVariants as told
 use Rattle.cvss.specs.declared.vector.Cvss.TheVariants.{CvssV31}

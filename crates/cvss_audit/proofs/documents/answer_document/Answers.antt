@@ -1,13 +1,34 @@
-use Rattle.cvss_record.specs.Places.{place_view}
+use Rattle.std.proofs.Common.{subst}
+use Rattle.cvss_lines.proofs.StepsLemmas.{told_fault}
 use Rattle.cvss_audit.specs.Sources.{source_view}
-use Rattle.cvss_audit.proofs.FoundLemmas.{WritesFound-next, WritesFound-none}
+use Rattle.cvss_audit.specs.private.Writing.{StopsFound}
+use Rattle.cvss_record.specs.Places.{places_in}
+use Rattle.cvss_record.specs.PlacesLeft.{IsNextPlace, places_left}
+use Rattle.serde_json.specs.View.{view}
+use Rattle.cvss_audit.proofs.FoundLemmas.{StopsFound-write, StreamsFound-next, StreamsFound-start}
 use Rattle.cvss_audit.proofs.documents.answer_document.Goals as goal
 
-pub loop-place-init : goal.loop-place-init
-loop-place-init c = WritesFound-none (source_view c.of-source.result) c.args.answers.now.bytes.items
+pub loop-places-init : goal.loop-places-init
+loop-places-init g c = record {
+  source = c.of-source.ensures;
+  found = StreamsFound-start (source_view c.of-source.result) (places_in (view c.args.document.now)) (places_left c.in_ok-places.places)
+      c.args.answers.now.bytes.items (g.W.Write.contents c.args.writer.now) c.in_ok-places.ensures;
+}
 
-pub loop-place-preserved : goal.loop-place-preserved
-loop-place-preserved c =
-    WritesFound-next place_view (source_view c.of-source.result) _ c.loop-place.place-index c.place-item.result c.args.answers.now.bytes.items
-    c.loop-place.answers.bytes.items c.answer_place.new.answers.bytes.items c.loop-place.agree _ c.loop-place-test.true c.place-item.is
-    c.loop-place.invariant c.in_ok-agree.ensures
+pub returns-in_err-write_if_full-clause-stopped : goal.returns-in_err-write_if_full-clause-stopped
+returns-in_err-write_if_full-clause-stopped g c =
+    let next = subst (λ found. IsNextPlace (places_left c.loop-places.places) found (places_left c.next_place.new.self)) c.in-Some.is c.in_ok-place.ensures in
+    told_fault c.from_residual-in_err-write_if_full.result c.in_err-write_if_full.field-0.0 _ c.from_residual-in_err-write_if_full.ensures.1
+    (subst (λ source. StopsFound source (places_in (view c.args.document.now)) c.args.answers.now.bytes.items (g.W.Write.contents c.args.writer.now)
+    (g.W.Write.contents c.write_if_full.new.writer) c.in_err-write_if_full.field-0.0) c.loop-places.invariant.source
+    (StopsFound-write (source_view c.of-source.result) (places_in (view c.args.document.now)) _ _ _ _ _ _ _ _ _ _ _ _ next
+    c.loop-places.invariant.found c.in_ok-agree.ensures c.in_err-write_if_full.ensures.cut))
+
+pub loop-places-preserved : goal.loop-places-preserved
+loop-places-preserved g c =
+    let next = subst (λ found. IsNextPlace (places_left c.loop-places.places) found (places_left c.next_place.new.self)) c.in-Some.is c.in_ok-place.ensures in
+    record {
+      source = c.loop-places.invariant.source;
+      found = StreamsFound-next (source_view c.of-source.result) (places_in (view c.args.document.now)) _ _ _ _ _ _ _ _ _ _ _ _ next
+          c.loop-places.invariant.found c.in_ok-agree.ensures c.in_ok-write_if_full.ensures.written;
+    }

@@ -1,9 +1,17 @@
-use Rattle.std.proofs.Common.{map, take}
-use Rattle.cvss_record.specs.Places.{place_view}
-use Rattle.cvss_audit.specs.Sources.{source_view}
-use Rattle.cvss_audit.specs.private.Writing.{WritesFound}
+use Rattle.std.proofs.Common.{◌≡◌, length}
+use Rattle.cvss_audit.specs.Sources.{id_of, source_view}
+use Rattle.cvss_audit.specs.private.Writing.{StreamsFound}
+use Rattle.cvss_record.specs.Places.{places_in}
+use Rattle.cvss_record.specs.PlacesLeft.{places_left}
+use Rattle.serde_json.specs.View.{view}
 use Rattle.cvss_audit.proofs.documents.answer_document.Given as goal
 
-abbrev pub invariant-loop-place : goal.invariant-loop-place
-invariant-loop-place l =
-    WritesFound (source_view l.source) (map place_view (take l.place-index l.place-items)) l.fn.answers.bytes.items l.answers.bytes.items l.agree
+abbrev pub invariant-loop-places : goal.invariant-loop-places
+invariant-loop-places g l = record {
+  source : source_view l.source ≡ (l.fn.number, id_of (view l.fn.document));
+  found : StreamsFound (source_view l.source) (places_in (view l.fn.document)) (places_left l.places) l.fn.answers.bytes.items l.answers.bytes.items
+      (g.W.Write.contents l.fn.writer) (g.W.Write.contents l.writer) l.agree;
+}
+
+abbrev pub decreases-loop-places : goal.decreases-loop-places
+decreases-loop-places g l = length (places_left l.places)

@@ -1,0 +1,91 @@
+#!/usr/bin/env python3
+"""Checks what memory the built `cvss_audit` takes of a line, beside that of the JSON reader: at most 20
+bytes for each byte of the line, however many places stand in it and however long their pointers are.
+
+What the reader takes is seen by a line of the same bytes in which no vector is found. The answers are
+looked at too: one line for each place, with the pointer that leads to it, in order.
+
+usage: bench/checks/audit_memory.py
+"""
+import itertools
+import re
+import subprocess
+import sys
+import threading
+from pathlib import Path
+
+ROOT = Path(__file__).resolve().parents[2]
+sys.path.insert(0, str(ROOT / "bench/inputs"))
+
+from deep_documents import document
+
+PROGRAM = ROOT / "crates/cvss_audit/out/cvss_audit"
+MOST = 20
+# What answers are kept before they are written, and the pages that the system gives in advance.
+START = 1 << 20
+LAST = '{"vectorString":"AV:N/AC:L/Au:N/C:N/I:N/A:C"}\n'
+COUNT = 2_000
+
+# Each kind of document, and the pointer to the place of this number.
+KINDS = [(("names", letters, COUNT), lambda k, letters=letters: f"/{'n' * letters}/{k}")
+         for letters in (10, 1_000, 10_000, 100_000)]
+KINDS.append((("deep", 20 * COUNT), lambda k: "/a" * 118 + f"/{k}"))
+KINDS.append((("members", 200_000), None))
+KINDS.append((("nested", 126), lambda k: "/a" * 126))
+
+
+def run(line, check):
+    """The most memory in bytes that the program has held when it has answered the line, and one more
+    by which this is seen; the answers to the line go through `check`."""
+    with subprocess.Popen(PROGRAM, stdin=subprocess.PIPE, stdout=subprocess.PIPE) as program:
+        feeding = threading.Thread(target=feed, args=(program.stdin, (line + LAST).encode()))
+        feeding.start()
+        check(itertools.takewhile(lambda answer: b'"line":2,' not in answer[-200:], program.stdout))
+        held = re.search(r"VmHWM:\s*(\d+) kB", Path(f"/proc/{program.pid}/status").read_text())
+        feeding.join()
+        program.stdin.close()
+        if program.wait() != 0:
+            sys.exit(f"{line[:60]}: status {program.returncode}")
+    return int(held[1]) << 10
+
+
+def feed(pipe, data):
+    pipe.write(data)
+    pipe.flush()
+
+
+def check_places(kind, count, pointer, answers):
+    """One answer for each place, in order."""
+    number = 0
+    for answer in answers:
+        if pointer is not None and not answer.startswith(b'{"at":"%s",' % pointer(number).encode()):
+            sys.exit(f"{kind}: place {number} is answered by {answer[:200]}")
+        number += 1
+    if number != count:
+        sys.exit(f"{kind}: {number} answers to {count} places")
+
+
+def check_none(answers):
+    for answer in answers:
+        sys.exit(f"a vector is found where none is: {answer[:200]}")
+
+
+def main():
+    most = 0
+    for kind, pointer in KINDS:
+        line = document(*kind)
+        count = 1 if kind[0] == "nested" else kind[-1]
+        took = run(line, lambda answers: check_places(kind, count, pointer, answers))
+        reader = run(document(*kind, nameless=True), check_none)
+        beside = max(0, took - reader)
+        rate = beside / len(line)
+        most = max(most, rate if len(line) > START // MOST else 0)
+        print(f"{' '.join(map(str, kind))}: a line of {len(line):,} bytes takes {took >> 10:,} KiB, "
+              f"{reader >> 10:,} KiB where no vector is found", flush=True)
+        if beside > MOST * len(line) + START:
+            sys.exit(f"{kind}: {rate:.1f} bytes a byte beside the reader")
+    print(f"cvss_audit takes at most {most:.1f} bytes a byte of a line beside the JSON reader")
+
+
+if __name__ == "__main__":
+    main()

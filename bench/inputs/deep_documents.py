@@ -1,0 +1,44 @@
+#!/usr/bin/env python3
+"""Prints a JSON document, on one line, in which many places or long ways to them are.
+
+- `names K N`: N vectors in an array under a name of K letters.
+- `deep N`: N vectors in an array at depth 120.
+- `members N`: an object of N members, of which each holds a vector.
+- `nested D`: a vector under D names of a letter, one in the other.
+
+With `nameless` the vectors' member has another name of the same length, so that none is found.
+usage: bench/inputs/deep_documents.py KIND NUMBER.. [nameless]
+"""
+import sys
+
+VECTOR = "AV:N/AC:L/Au:N/C:N/I:N/A:C"
+
+
+def names(letters, count):
+    return '{"%s":[%s]}' % ("n" * letters, ",".join([HOLDER] * count))
+
+
+def deep(count):
+    return '{"a":' * 118 + "[" + ",".join([HOLDER] * count) + "]" + "}" * 118
+
+
+def members(count):
+    return "{" + ",".join(f'"{number:x}":{HOLDER}' for number in range(count)) + "}"
+
+
+def nested(depth):
+    return '{"a":' * depth + HOLDER + "}" * depth
+
+
+def document(kind, *numbers, nameless=False):
+    """The document, as a line."""
+    global HOLDER
+    HOLDER = '{"%s":"%s"}' % ("vectorStrinG" if nameless else "vectorString", VECTOR)
+    return {"names": names, "deep": deep, "members": members, "nested": nested}[kind](*numbers) + "\n"
+
+
+if __name__ == "__main__":
+    *given, last = sys.argv[1:]
+    without = last == "nameless"
+    kind, *numbers = given if without else [*given, last]
+    sys.stdout.write(document(kind, *(int(number) for number in numbers), nameless=without))

@@ -1,0 +1,12 @@
+use Rattle.std.proofs.Common.{◌++◌, flat_map, string_bytes, sym, ap, ◌∙◌}
+use Rattle.std.proofs.lemmas.Iterator.{YieldsList-from_chars}
+use Rattle.std.proofs.lemmas.Iterator.Consumers.{YieldsList-end}
+use Rattle.std.proofs.lemmas.List.{map-id}
+use Rattle.cvss_record.specs.Places.{escaped_char}
+use Rattle.cvss_record.proofs.pointer.push_escaped.Goals as goal
+
+pub returns : goal.returns
+returns c =
+    let all = YieldsList-end (YieldsList-from_chars c.args.name.now c.utf8.name cc) c.loop-char.yielded _ c.loop-char.yielded_by _ _ c.in-None.is c.next.ensures.steps in
+    c.loop-char.invariant
+    ∙ ap (λ chars. string_bytes c.args.text.now ++ flat_map escaped_char chars) (sym (map-id c.loop-char.yielded) ∙ all.0)
