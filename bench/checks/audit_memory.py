@@ -1,6 +1,8 @@
 #!/usr/bin/env python3
 """Checks what memory the built `cvss_audit` takes of a line, beside that of the JSON reader: at most 20
-bytes for each byte of the line, however many places stand in it and however long their pointers are.
+bytes for each byte of the line, however many places stand in it and however long their pointers are;
+and where a member says otherwise than its vector as much again as the reader takes, since the answer
+has a copy of what is said.
 
 What the reader takes is seen by a line of the same bytes in which no vector is found. The answers are
 looked at too: one line for each place, with the pointer that leads to it, in order.
@@ -30,11 +32,20 @@ COUNT = 2_000
 KINDS = [(("names", letters, COUNT), lambda k, letters=letters: f"/{'n' * letters}/{k}")
          for letters in (10, 1_000, 10_000, 100_000)]
 KINDS.append((("deep", 20 * COUNT), lambda k: "/a" * 118 + f"/{k}"))
-KINDS.append((("members", 200_000), None))
+KINDS.append((("members", 1_000_000), None))
 KINDS.append((("nested", 126), lambda k: "/a" * 126))
+KINDS.append((("said", 100_000), lambda k: ""))
+KINDS.append((("text", 2_000_000), lambda k: ""))
+KINDS.append((("empty", 4 * COUNT), None))
+# How many places stand in those whose last number is another one.
+PLACES = {"nested": 1, "said": 1, "text": 1, "empty": 0}
+# In which of them something is refused or differs.
+REFUSED = ("said", "text")
+# In which of them what is said is copied.
+COPIED = ("said",)
 
 
-def run(line, check):
+def run(line, check, status=0):
     """The most memory in bytes that the program has held when it has answered the line, and one more
     by which this is seen; the answers to the line go through `check`."""
     with subprocess.Popen(PROGRAM, stdin=subprocess.PIPE, stdout=subprocess.PIPE) as program:
@@ -44,7 +55,7 @@ def run(line, check):
         held = re.search(r"VmHWM:\s*(\d+) kB", Path(f"/proc/{program.pid}/status").read_text())
         feeding.join()
         program.stdin.close()
-        if program.wait() != 0:
+        if program.wait() != status:
             sys.exit(f"{line[:60]}: status {program.returncode}")
     return int(held[1]) << 10
 
@@ -71,20 +82,23 @@ def check_none(answers):
 
 
 def main():
-    most = 0
+    most = dearest = 0
     for kind, pointer in KINDS:
         line = document(*kind)
-        count = 1 if kind[0] == "nested" else kind[-1]
-        took = run(line, lambda answers: check_places(kind, count, pointer, answers))
+        count = PLACES.get(kind[0], kind[-1])
+        took = run(line, lambda answers: check_places(kind, count, pointer, answers),
+                   status=1 if kind[0] in REFUSED else 0)
         reader = run(document(*kind, nameless=True), check_none)
-        beside = max(0, took - reader)
+        beside = max(0, took - (2 * reader if kind[0] in COPIED else reader))
         rate = beside / len(line)
-        most = max(most, rate if len(line) > START // MOST else 0)
+        if len(line) > START // MOST:
+            most, dearest = max(most, rate), max(dearest, reader / len(line))
         print(f"{' '.join(map(str, kind))}: a line of {len(line):,} bytes takes {took >> 10:,} KiB, "
               f"{reader >> 10:,} KiB where no vector is found", flush=True)
         if beside > MOST * len(line) + START:
             sys.exit(f"{kind}: {rate:.1f} bytes a byte beside the reader")
-    print(f"cvss_audit takes at most {most:.1f} bytes a byte of a line beside the JSON reader")
+    print(f"cvss_audit takes at most {most:.1f} bytes a byte of a line beside the JSON reader, "
+          f"which takes up to {dearest:.0f}")
 
 
 if __name__ == "__main__":

@@ -1,10 +1,14 @@
 #!/usr/bin/env python3
-"""Prints a JSON document, on one line, in which many places or long ways to them are.
+"""Prints a JSON document, on one line, of which much is to be kept: many places or long ways to them,
+long values, and objects one in the other.
 
 - `names K N`: N vectors in an array under a name of K letters.
 - `deep N`: N vectors in an array at depth 120.
 - `members N`: an object of N members, of which each holds a vector.
 - `nested D`: a vector under D names of a letter, one in the other.
+- `said N`: a vector whose score is said by an object of N members, each an object in an object.
+- `text N`: a text of N letters where a vector should stand.
+- `empty N`: N times 120 objects, one in the other under empty names, and no vector.
 
 With `nameless` the vectors' member has another name of the same length, so that none is found.
 usage: bench/inputs/deep_documents.py KIND NUMBER.. [nameless]
@@ -30,11 +34,25 @@ def nested(depth):
     return '{"a":' * depth + HOLDER + "}" * depth
 
 
+def said(count):
+    score = ",".join('"%x":{"b":{"c":1}}' % number for number in range(count))
+    return HOLDER[:-1] + ',"baseScore":{%s}}' % score
+
+
+def text(letters):
+    return HOLDER.replace(VECTOR, "n" * letters)
+
+
+def empty(count):
+    return "[" + ",".join(['{"":' * 120 + "0" + "}" * 120] * count) + "]"
+
+
 def document(kind, *numbers, nameless=False):
     """The document, as a line."""
     global HOLDER
     HOLDER = '{"%s":"%s"}' % ("vectorStrinG" if nameless else "vectorString", VECTOR)
-    return {"names": names, "deep": deep, "members": members, "nested": nested}[kind](*numbers) + "\n"
+    kinds = (names, deep, members, nested, said, text, empty)
+    return {made.__name__: made for made in kinds}[kind](*numbers) + "\n"
 
 
 if __name__ == "__main__":
