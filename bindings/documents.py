@@ -1,6 +1,7 @@
 #!/usr/bin/env python3
 """Runs the examples and recipes of docs/BINDINGS.md as they stand there, of docs/PROGRAMS.md those of jobs, and of
-README.md the first command and those of Python and Rust. Says where docs/PERFORMANCE.md lacks a figure.
+README.md the first command and those of Python and Rust. Says where docs/PERFORMANCE.md lacks a figure, and
+docs/BINDINGS.md a name or a command.
 
 Usage: documents.py ROOT FOLDER. ROOT is the folder of the checkout, in which bindings/build has made the library; files
 are made in FOLDER alone. An example tells in comments what it prints. What is not on the machine is said, and left out.
@@ -288,8 +289,40 @@ def check_names():
     assert not unknown, f"cvss_proved has no {unknown}"
 
 
+def first_column(heading, page=PAGE):
+    """What stands in the first column of the table below a heading."""
+    section = page.split(f"\n## {heading}\n", 1)[1].split("\n## ", 1)[0]
+    return " ".join(row.split("|")[1] for row in section.splitlines() if row.startswith("| "))
+
+
+def check_project():
+    """The page relates the names of this project, and says of each command that installs what it needs."""
+    names = first_column("Names")
+    for name in ("Yuntabek", "`cvss`", "`cvss_proved`", "`libcvss`", "`cvss.so`", "`share/yuntabek`", "`cvss-calculator`"):
+        assert name in names, f"the table of names has no {name}"
+    commands = first_column("Install")
+    for command in ("bindings/build", "bindings/install PREFIX", "./install PREFIX", "pip install ./bindings/python"):
+        assert f"`{command}`" in commands, f"the table of commands has no {command}"
+    assert "The Rattle kit is not in this repository" in PAGE, "the page says not where the Rattle kit comes from"
+    leads = re.findall(r"\[docs/BINDINGS.md\]\(docs/BINDINGS.md\) says ([^.]*)", (ROOT / "README.md").read_text())
+    for name in ("the kit", "uninstall", "Yuntabek", "`cvss_proved`", "`libcvss`", "`share/yuntabek`"):
+        assert name in " ".join(leads), f"README.md says not where {name} is told of"
+
+
+def check_properties():
+    """What the table of other packages' names calls properties of Python's Vector, and the list of them, are."""
+    told = re.findall(r"the properties `(\w+)` and `(\w+)`, written without parentheses; `(\w+)`, `(\w+)`", PAGE)
+    listed = re.findall(r"^- `Vector` has the properties (.*?) \(a dict\)", PAGE, re.M)
+    assert told and listed, "the page names no properties"
+    names = [*told[0], *re.findall(r"`(\w+)`", listed[0])]
+    asked = f"from cvss_proved import Vector as V; print([n for n in {names} if not isinstance(vars(V).get(n), property)])"
+    wrong = run([sys.executable, "-c", asked], env=python_environment()).decode().strip()
+    assert wrong == "[]", f"these are no properties: {wrong}"
+
+
 def main():
     check_names()
+    check_project()
     check_figures()
     if has("rt", "the first command of README.md is not tried"):
         try_first_command()
@@ -299,6 +332,7 @@ def main():
         try_base_scores(environment)
         try_nulls(environment)
     try_python()
+    check_properties()
     if has("cc", "the example of C is not tried"):
         try_c()
         try_removal()
