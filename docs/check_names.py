@@ -1,6 +1,7 @@
 #!/usr/bin/env python3
 """Checks that each file and each page of definitions that a document names is there, and that docs/DEFINITIONS.md
-names each page right in `specs/` of a crate that public promises stand in.
+names each page right in `specs/` of a crate that public promises stand in; and that docs/OTHER_REPOSITORIES.md links
+exactly the crates that `cvss` stands on.
 
 A name is a link, a path that begins with a folder of the repository, a file name in back ticks, or pages behind
 their crate, such as: `cvss_lines` specs/Runs, Lines. Words in capitals stand for any name.
@@ -55,6 +56,20 @@ def wrong_names(path, files):
             yield f"{crate} specs/{page}"
 
 
+def wrong_links():
+    """The crates that another repository is told to link, and need not, or is not told to."""
+    rows = [row.split(":") for row in (ROOT / "crates.txt").read_text(encoding="utf-8").splitlines() if row[:1] != "#"]
+    below = {name.split()[0]: {*crates.split()} for name, crates in rows}
+    needed, found = {"cvss"}, set()
+    while needed != found:
+        found = needed
+        needed = found.union(*(below[crate] & below.keys() for crate in found))
+    text = (ROOT / "docs/OTHER_REPOSITORIES.md").read_text(encoding="utf-8")
+    linked = {*re.search(r"^for crate in (.*)$", text, re.M)[1].split()}
+    yield from (f"OTHER_REPOSITORIES.md: {crate} is to be linked" for crate in sorted(needed - linked))
+    yield from (f"OTHER_REPOSITORIES.md: {crate} is not needed" for crate in sorted(linked - needed))
+
+
 def main():
     folders = [folder for folder in os.walk(ROOT) if not re.search(r"/(out|target|\.git)(/|$)", folder[0])]
     files = "\n".join(os.path.join(folder, name) for folder, _, names in folders for name in names)
@@ -65,7 +80,7 @@ def main():
         crate = page.parent.parent.name
         if page.stem != "Lib" and crate not in WITHOUT_PROMISES and (crate, page.stem) not in told:
             wrong.append(f"DEFINITIONS.md does not name {crate} specs/{page.stem}")
-    sys.exit("\n".join(wrong) or None)
+    sys.exit("\n".join([*wrong, *wrong_links()]) or None)
 
 
 if __name__ == "__main__":
