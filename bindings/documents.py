@@ -1,7 +1,7 @@
 #!/usr/bin/env python3
-"""Runs the examples and recipes of docs/BINDINGS.md as they stand there, of docs/PROGRAMS.md those of jobs, and of
-README.md the first command and those of Python and Rust. Says where docs/PERFORMANCE.md lacks a figure, and
-docs/BINDINGS.md a name or a command.
+"""Runs the examples and recipes of docs/BINDINGS.md as they stand there, of docs/PROGRAMS.md those of jobs, of README.md
+the first command and those of Python and Rust, and of both those of the programs. Says where docs/PERFORMANCE.md lacks
+a figure, and docs/BINDINGS.md a name or a command.
 
 Usage: documents.py ROOT FOLDER. ROOT is the folder of the checkout, in which bindings/build has made the library; files
 are made in FOLDER alone. An example tells in comments what it prints. What is not on the machine is said, and left out.
@@ -190,6 +190,23 @@ def try_first_command():
     assert last.startswith(begins) and last.endswith(ends), f"the last line of `rt try` is {last!r}"
 
 
+def try_programs():
+    """The examples of README.md and docs/PROGRAMS.md that stand behind a `$`: each prints what stands below it."""
+    programs = {name: ROOT / f"crates/{name}/out" for name in ("cvss_tool", "cvss_find", "cvss_triage", "cvss_audit")}
+    environment = {**os.environ, "PATH": ":".join([*map(str, programs.values()), os.environ["PATH"]])}
+    pages = ((ROOT / "README.md").read_text(), PROGRAMS)
+    examples = [block for page in pages for block in blocks(page, "") if block.startswith("$ ") and "> findings" not in block]
+    assert len(examples) > 3, "the examples of the programs are gone"
+    for block in examples:
+        command, _, wanted = block.removeprefix("$ ").partition("\n")
+        missing = [name for name, folder in programs.items() if name in command and not (folder / name).exists()]
+        if missing:
+            print(f"{missing[0]} is not built: its example is not tried")
+            continue
+        done = subprocess.run(["bash", "-c", command], cwd=ROOT, env=environment, stdout=subprocess.PIPE)
+        check(done.stdout, wanted, block)
+
+
 # vectors with their scores by the scale of the standard
 AGREEING = '{"vectorString":"CVSS:3.1/AV:N/AC:L/PR:N/UI:N/S:U/C:H/I:H/A:H","baseScore":9.8}'
 DIFFERING = '{"vectorString":"CVSS:3.1/AV:N/AC:L/PR:N/UI:N/S:U/C:H/I:H/A:N","baseScore":9.1,"baseSeverity":"HIGH"}'
@@ -326,6 +343,7 @@ def main():
     check_figures()
     if has("rt", "the first command of README.md is not tried"):
         try_first_command()
+    try_programs()
     environment = audit_environment()
     if environment:
         try_job(environment)
