@@ -90,8 +90,8 @@ func main() {
 def write_lines(folder):
     """The accepted stored lines without a mark, a file for each version; a text of v2 tells no version."""
     count = (ROOT / "bindings/stored/facts").read_bytes().count(b"\n")
-    told = [(ROOT / f"crates/cvss_vectors/{name}").read_text(errors="replace").splitlines() for name in ("stdin", "stdout")]
-    accepted = [line for line, answer in zip(*(lines[:count] for lines in told)) if not answer.startswith("error: ")]
+    stored = [(ROOT / f"crates/cvss_vectors/{name}").read_bytes().split(b"\n")[:count] for name in ("stdin", "stdout")]
+    accepted = [line.decode() for line, answer in zip(*stored) if not answer.startswith(b"error: ")]
     files = {}
     for version in "2", "3", "4":
         own = [line for line in accepted if (line[5] if line.startswith("CVSS:") else "2") == version]

@@ -195,7 +195,8 @@ def try_programs():
     programs = {name: ROOT / f"crates/{name}/out" for name in ("cvss_tool", "cvss_find", "cvss_triage", "cvss_audit")}
     environment = {**os.environ, "PATH": ":".join([*map(str, programs.values()), os.environ["PATH"]])}
     pages = ((ROOT / "README.md").read_text(), PROGRAMS)
-    examples = [block for page in pages for block in blocks(page, "") if block.startswith("$ ") and "> findings" not in block]
+    found = [block for page in pages for block in blocks(page, "") if block.startswith("$ ")]
+    examples = [block for block in found if "> findings" not in block]
     assert len(examples) > 3, "the examples of the programs are gone"
     for block in examples:
         command, _, wanted = block.removeprefix("$ ").partition("\n")
@@ -315,7 +316,7 @@ def first_column(heading, page=PAGE):
 def check_project():
     """The page relates the names of this project, and says of each command that installs what it needs."""
     names = first_column("Names")
-    for name in ("Yuntabek", "`cvss`", "`cvss_proved`", "`libcvss`", "`cvss.so`", "`share/yuntabek`", "`cvss-calculator`"):
+    for name in ("Yuntabek", "`cvss`", "`cvss_proved`", "`libcvss`", "`cvss.so`", "`share/yuntabek`"):
         assert name in names, f"the table of names has no {name}"
     commands = first_column("Install")
     for command in ("bindings/build", "bindings/install PREFIX", "./install PREFIX", "pip install ./bindings/python"):
@@ -332,9 +333,9 @@ def check_properties():
     listed = re.findall(r"^- `Vector` has the properties (.*?) \(a dict\)", PAGE, re.M)
     assert told and listed, "the page names no properties"
     names = [*told[0], *re.findall(r"`(\w+)`", listed[0])]
-    asked = f"from cvss_proved import Vector as V; print([n for n in {names} if not isinstance(vars(V).get(n), property)])"
+    asked = f"from cvss_proved import Vector as V; print({{n for n in {names} if not isinstance(vars(V)[n], property)}})"
     wrong = run([sys.executable, "-c", asked], env=python_environment()).decode().strip()
-    assert wrong == "[]", f"these are no properties: {wrong}"
+    assert wrong == "set()", f"these are no properties: {wrong}"
 
 
 def main():
