@@ -3,8 +3,9 @@
 names each page right in `specs/` of a crate that public promises stand in; and that docs/OTHER_REPOSITORIES.md links
 exactly the crates that `cvss` stands on.
 
-A name is a link, a path that begins with a folder of the repository, a file name in back ticks, or pages behind
-their crate, such as: `cvss_lines` specs/Runs, Lines. Words in capitals stand for any name.
+A name is a link, with the section that is named behind it; a path that begins with a folder of the repository; a file
+name in back ticks; or pages behind their crate, such as: `cvss_lines` specs/Runs, Lines. Words in capitals stand for
+any name.
 
 usage: docs/check_names.py    tells each name that is wrong; status 1 if there are some
 """
@@ -15,13 +16,14 @@ from pathlib import Path
 
 ROOT = Path(__file__).resolve().parent.parent
 DOCUMENTS = [*(ROOT / f"{name}.md" for name in ("README", "CONTRIBUTING", "SECURITY", "CHANGELOG")),
-             *sorted((ROOT / "docs").glob("*.md"))]
+             *sorted((ROOT / "docs").glob("*.md")), ROOT / "conformance/README.md", ROOT / "bindings/python/README.md"]
 # not in a checkout: what builds make, and the crate that another repository is shown to add
 ELSEWHERE = re.compile(r"(^|/)(out|target)(/|$)|^crates/gate(/|$)")
 # callers that are proved from the contracts, and tests, of which the library promises nothing
 WITHOUT_PROMISES = {"cvss_examples", "cvss_lines_tests"}
 
 LINK = re.compile(r"\]\((?!https?:|#)([^)#]+)")
+SECTION = re.compile(r'\]\((?!https?:)([^)#]+)\), "([^"]+)"')
 PATH = re.compile(r"(?<![\w/.$<-])(?:crates|reference|bench|bindings|conformance|docs|examples)/(?:[\w./{},-]|\*(?!\*))*[\w/}*]")
 FILE = re.compile(r"`((?:[\w*.-]+/)*[\w*-]+\.(?:antt|rt|py|sh|md|svg|txt|tsv|rs|h|c|go|edit))`")
 PAGE = r"(?:(?:laws|private)/)?[A-Z]\w*"
@@ -47,6 +49,10 @@ def wrong_names(path, files):
     """The names in a document of what is not there."""
     text = path.read_text(encoding="utf-8")
     yield from (name for name in LINK.findall(text) if not (path.parent / name).exists())
+    for name, section in SECTION.findall(text):
+        target = path.parent / name
+        if target.is_file() and not re.search(rf"(?m)^#+ {re.escape(section)}", target.read_text(encoding="utf-8")):
+            yield f"{name}, \"{section}\""
     for name in sorted({*PATH.findall(text), *FILE.findall(text)}):
         pattern = re.escape(re.sub(r"\b[A-Z]+\b(?!\.md)|\{.*?\}", "*", name)).replace(r"\*", "[^/\n]*")
         if not ELSEWHERE.search(name) and not re.search(rf"(?m)/{pattern.rstrip('/')}(/|$)", files):
