@@ -8,7 +8,7 @@ use Rattle.cvss_number.specs.Exact.{◌over◌, whole, ◌⊑◌}
 use Rattle.cvss_number.proofs.ExactLemmas.{equal_at_most, equal_sym, at_most_trans}
 use Rattle.cvss_number.proofs.RoundingLemmas.{v4-ordered}
 use Rattle.cvss_v4.specs.Distance.{eq1_sum, eq2_sum, eq3_eq6_sum, eq4_sum}
-use Rattle.cvss_v4.specs.Gap.{Group, eq1_group, eq2_group, eq3_eq6_group, eq4_group, eq1_next, eq2_next, eq3_eq6_next, eq4_next, eq5_next, groups, next_lower}
+use Rattle.cvss_v4.specs.Gap.{Group, eq1_group, eq2_group, eq3_eq6_group, eq4_group, eq5_group, eq1_next, eq2_next, eq3_eq6_next, eq4_next, eq5_next, groups, next_lower}
 use Rattle.cvss_v4.specs.Levels.{vulnerable_level, subsequent_level, safety_level}
 use Rattle.cvss_v4.specs.Scores.{has_impact, is_vulnerable_impact, is_subsequent_impact, is_safety_impact, number, IsScore}
 use Rattle.cvss_v4.specs.AsSevere.{IsAtMost, levels, IsAsSevere}
@@ -149,35 +149,18 @@ module _ (v w : Effective) (severe : IsAsSevere v w) where
   all_farther : AreFarther (groups v) (groups w)
   all_farther =
       let ordered = are_ordered v w severe.levels in
-      let class = severe.one_class in (
-        farther eq1_scale eq1_is_scale (v.av, v.pr, v.ui) (w.av, w.pr, w.ui) (eq1_group v) (eq1_group w) refl refl refl refl
-            (ap (λ m. m.eq1) class) ordered.eq1 (ap eq1_next class),
-        (
-          farther eq2_scale eq2_is_scale (v.ac, v.at) (w.ac, w.at) (eq2_group v) (eq2_group w) refl refl refl refl
-              (ap (λ m. m.eq2) class) ordered.eq2 (ap eq2_next class),
-          (
-            farther eq3_eq6_scale eq3_eq6_is_scale (v.vc, v.vi, v.va, v.cr, v.ir, v.ar) (w.vc, w.vi, w.va, w.cr, w.ir, w.ar)
-                (eq3_eq6_group v) (eq3_eq6_group w) refl refl refl refl (ap (λ m. (m.eq3, m.eq6)) class) ordered.eq3_eq6
-                (ap eq3_eq6_next class),
-            (
-              farther eq4_scale eq4_is_scale (v.sc, v.si, v.sa) (w.sc, w.si, w.sa) (eq4_group v) (eq4_group w) refl refl refl refl
-                  (ap (λ m. m.eq4) class) ordered.eq4 (ap eq4_next class),
-              (
-                record {
-                  near_distance = 0;
-                  far_distance = 0;
-                  is_near = refl;
-                  is_far = refl;
-                  order = omega arith;
-                  one_next = ap eq5_next class;
-                  one_depth = refl;
-                },
-                tt,
-              ),
-            ),
-          ),
-        ),
-      )
+      let class = severe.one_class in
+      let eq1 = farther eq1_scale eq1_is_scale (v.av, v.pr, v.ui) (w.av, w.pr, w.ui) (eq1_group v) (eq1_group w) refl refl refl refl
+      (ap (λ m. m.eq1) class) ordered.eq1 (ap eq1_next class) in
+      let eq2 = farther eq2_scale eq2_is_scale (v.ac, v.at) (w.ac, w.at) (eq2_group v) (eq2_group w) refl refl refl refl
+      (ap (λ m. m.eq2) class) ordered.eq2 (ap eq2_next class) in
+      let eq3_eq6 = farther eq3_eq6_scale eq3_eq6_is_scale (v.vc, v.vi, v.va, v.cr, v.ir, v.ar) (w.vc, w.vi, w.va, w.cr, w.ir, w.ar)
+      (eq3_eq6_group v) (eq3_eq6_group w) refl refl refl refl (ap (λ m. (m.eq3, m.eq6)) class) ordered.eq3_eq6 (ap eq3_eq6_next class) in
+      let eq4 = farther eq4_scale eq4_is_scale (v.sc, v.si, v.sa) (w.sc, w.si, w.sa) (eq4_group v) (eq4_group w) refl refl refl refl
+      (ap (λ m. m.eq4) class) ordered.eq4 (ap eq4_next class) in
+      let eq5 : IsFarther (eq5_group v) (eq5_group w) =
+      record { near_distance = 0; far_distance = 0; is_near = refl; is_far = refl; order = omega arith; one_next = ap eq5_next class; one_depth = refl } in
+      (eq1, (eq2, (eq3_eq6, (eq4, (eq5, tt)))))
 
   one_value : table_value v ≡ table_value w
   one_value = ap (λ m. unwrap_or (listed_value m) 0) severe.one_class

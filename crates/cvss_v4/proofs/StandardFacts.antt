@@ -16,6 +16,7 @@ use Rattle.cvss_v4.specs.declared.scoring.effective.SubsequentImpact.TheVariants
 use Rattle.cvss_v4.specs.declared.scoring.effective.SafetyImpact.TheVariants as safety
 use Rattle.cvss_v4.specs.declared.scoring.effective.Requirement.TheVariants as requirement
 use Rattle.cvss_v4.specs.declared.scoring.effective.ExploitMaturity.TheVariants as exploit
+use Rattle.cvss_v4.proofs.DepthLemmas.{mildest}
 
 -- AV:N/AC:L/AT:N/PR:N/UI:N with no impact
 abbrev harmless : Effective
@@ -43,61 +44,25 @@ integrity = record harmless { vi = impact.High; e = exploit.ProofOfConcept }
 
 -- AV:A/AC:H/AT:N/PR:N/UI:P/VC:L/VI:N/VA:H/SC:N/SI:L/SA:S/E:U/CR:L/AR:L
 abbrev unsafe_availability : Effective
-unsafe_availability = record harmless {
-  av = attack_vector.Adjacent;
-  ui = interaction.Passive;
-  ac = complexity.High;
-  vc = impact.Low;
-  va = impact.High;
-  si = safety.Low;
-  sa = safety.Safety;
-  cr = requirement.Low;
-  ar = requirement.Low;
-  e = exploit.Unreported;
-}
+unsafe_availability =
+    let attack = record harmless { av = attack_vector.Adjacent; ui = interaction.Passive; ac = complexity.High; e = exploit.Unreported } in
+    record attack { vc = impact.Low; va = impact.High; si = safety.Low; sa = safety.Safety; cr = requirement.Low; ar = requirement.Low }
 
 -- AV:A/AC:H/AT:N/PR:N/UI:N/VC:H/VI:H/VA:N/E:U/CR:H/IR:L/AR:L
 abbrev adjacent : Effective
-adjacent = record harmless {
-  av = attack_vector.Adjacent;
-  ac = complexity.High;
-  vc = impact.High;
-  vi = impact.High;
-  ir = requirement.Low;
-  ar = requirement.Low;
-  e = exploit.Unreported;
-}
+adjacent =
+    let attack = record harmless { av = attack_vector.Adjacent; ac = complexity.High; e = exploit.Unreported } in
+    record attack { vc = impact.High; vi = impact.High; ir = requirement.Low; ar = requirement.Low }
 
 -- AV:P/AC:H/AT:P/PR:H/UI:A/VA:L/E:U/CR:L/IR:L/AR:L
 abbrev least_severe : Effective
-least_severe = record {
-  av = attack_vector.Physical;
-  pr = privileges.High;
-  ui = interaction.Active;
-  ac = complexity.High;
-  at = conditions.Present;
-  vc = impact.None;
-  vi = impact.None;
-  va = impact.Low;
-  sc = subsequent.None;
-  si = safety.None;
-  sa = safety.None;
-  cr = requirement.Low;
-  ir = requirement.Low;
-  ar = requirement.Low;
-  e = exploit.Unreported;
-}
+least_severe = record mildest { va = impact.Low }
 
 -- all six impacts H
 abbrev most_severe : Effective
-most_severe = record harmless {
-  vc = impact.High;
-  vi = impact.High;
-  va = impact.High;
-  sc = subsequent.High;
-  si = safety.High;
-  sa = safety.High;
-}
+most_severe =
+    let vulnerable = record harmless { vc = impact.High; vi = impact.High; va = impact.High } in
+    record vulnerable { sc = subsequent.High; si = safety.High; sa = safety.High }
 
 pub integrity_class : macro_vector integrity ≡ record { eq1 = 0; eq2 = 0; eq3 = 1; eq4 = 2; eq5 = 1; eq6 = 0 }
 integrity_class = refl
@@ -118,22 +83,8 @@ pub next_lower_classes : (eq3_eq6_next (macro_vector adjacent) ≡ Some (record 
 unfolding rows listed_value
 next_lower_classes = (refl, refl, refl)
 
-pub integrity_score : IsScore integrity (pos 77)
+-- the scores of four of these, and of one without impact
+pub scores : IsScore integrity (pos 77) × IsScore unsafe_availability (pos 42) × IsScore harmless (pos 0)
+    × IsScore most_severe (pos 100) × IsScore adjacent (pos 43)
 unfolding number rows listed_value eq1_least eq2_least eq3_eq6_least eq4_least
-integrity_score = search rules
-
-pub unsafe_availability_score : IsScore unsafe_availability (pos 42)
-unfolding number rows listed_value eq1_least eq2_least eq3_eq6_least eq4_least
-unsafe_availability_score = search rules
-
-pub harmless_score : IsScore harmless (pos 0)
-unfolding number rows listed_value eq1_least eq2_least eq3_eq6_least eq4_least
-harmless_score = search rules
-
-pub most_severe_score : IsScore most_severe (pos 100)
-unfolding number rows listed_value eq1_least eq2_least eq3_eq6_least eq4_least
-most_severe_score = search rules
-
-pub adjacent_score : IsScore adjacent (pos 43)
-unfolding number rows listed_value eq1_least eq2_least eq3_eq6_least eq4_least
-adjacent_score = search rules
+scores = (search rules, search rules, search rules, search rules, search rules)

@@ -5,24 +5,7 @@ use Rattle.std.proofs.lemmas.Bool.{cases_eq}
 use Rattle.cvss_v4.specs.Effective.{attack_vectors, privileges, user_interactions, attack_complexities, all_attack_requirements, vulnerable_impacts, subsequent_impacts, safety_impacts, requirements, values}
 use Rattle.cvss_v4.specs.Levels.{attack_vector_level, privileges_level, interaction_level, complexity_level, requirements_level, vulnerable_level, subsequent_level, safety_level, requirement_level}
 use Rattle.cvss_v4.specs.laws.Maximal.{Eq1Values, Eq2Values, Eq3Eq6Values, Eq4Values}
-use Rattle.cvss_v4.specs.declared.scoring.effective.AttackVector.{AttackVector}
-use Rattle.cvss_v4.specs.declared.scoring.effective.AttackVector.TheVariants as attack_vector
-use Rattle.cvss_v4.specs.declared.scoring.effective.PrivilegesRequired.{PrivilegesRequired}
-use Rattle.cvss_v4.specs.declared.scoring.effective.PrivilegesRequired.TheVariants as privileges_required
-use Rattle.cvss_v4.specs.declared.scoring.effective.UserInteraction.{UserInteraction}
-use Rattle.cvss_v4.specs.declared.scoring.effective.UserInteraction.TheVariants as user_interaction
-use Rattle.cvss_v4.specs.declared.scoring.effective.AttackComplexity.{AttackComplexity}
-use Rattle.cvss_v4.specs.declared.scoring.effective.AttackComplexity.TheVariants as attack_complexity
-use Rattle.cvss_v4.specs.declared.scoring.effective.AttackRequirements.{AttackRequirements}
-use Rattle.cvss_v4.specs.declared.scoring.effective.AttackRequirements.TheVariants as attack_requirements
-use Rattle.cvss_v4.specs.declared.scoring.effective.VulnerableImpact.{VulnerableImpact}
-use Rattle.cvss_v4.specs.declared.scoring.effective.VulnerableImpact.TheVariants as vulnerable_impact
-use Rattle.cvss_v4.specs.declared.scoring.effective.SubsequentImpact.{SubsequentImpact}
-use Rattle.cvss_v4.specs.declared.scoring.effective.SubsequentImpact.TheVariants as subsequent_impact
-use Rattle.cvss_v4.specs.declared.scoring.effective.SafetyImpact.{SafetyImpact}
-use Rattle.cvss_v4.specs.declared.scoring.effective.SafetyImpact.TheVariants as safety_impact
-use Rattle.cvss_v4.specs.declared.scoring.effective.Requirement.{Requirement}
-use Rattle.cvss_v4.specs.declared.scoring.effective.Requirement.TheVariants as requirement
+use Rattle.cvss_v4.specs.declared.scoring.effective as effective
 
 -- both parts of a test that is true
 pub both : (a b : Bool) → (a && b) ≡ true → (a ≡ true) × (b ≡ true)
@@ -70,32 +53,32 @@ six a b = record {
       ((three a a a).each (λ u. (three b b b).every (λ w. p (u.0, u.1, u.2, w.0, w.1, w.2))) h (v.0, v.1, v.2)) (v.3, v.4, v.5);
 }
 
-abbrev each_attack_vector : Finite AttackVector
-each_attack_vector = listed (values attack_vectors) attack_vector_level (elim [ attack_vector.Network ↦ refl | _ ↦ refl ])
+abbrev each_attack_vector : Finite effective.AttackVector.AttackVector
+each_attack_vector = listed (values attack_vectors) attack_vector_level (elim [ effective.AttackVector.TheVariants.Network ↦ refl | _ ↦ refl ])
 
-abbrev each_privileges_required : Finite PrivilegesRequired
-each_privileges_required = listed (values privileges) privileges_level (elim [ privileges_required.None ↦ refl | _ ↦ refl ])
+abbrev each_privileges_required : Finite effective.PrivilegesRequired.PrivilegesRequired
+each_privileges_required = listed (values privileges) privileges_level (elim [ effective.PrivilegesRequired.TheVariants.None ↦ refl | _ ↦ refl ])
 
-abbrev each_user_interaction : Finite UserInteraction
-each_user_interaction = listed (values user_interactions) interaction_level (elim [ user_interaction.None ↦ refl | _ ↦ refl ])
+abbrev each_user_interaction : Finite effective.UserInteraction.UserInteraction
+each_user_interaction = listed (values user_interactions) interaction_level (elim [ effective.UserInteraction.TheVariants.None ↦ refl | _ ↦ refl ])
 
-abbrev each_attack_complexity : Finite AttackComplexity
-each_attack_complexity = listed (values attack_complexities) complexity_level (elim [ attack_complexity.Low ↦ refl | _ ↦ refl ])
+abbrev each_attack_complexity : Finite effective.AttackComplexity.AttackComplexity
+each_attack_complexity = listed (values attack_complexities) complexity_level (elim [ effective.AttackComplexity.TheVariants.Low ↦ refl | _ ↦ refl ])
 
-abbrev each_attack_requirements : Finite AttackRequirements
-each_attack_requirements = listed (values all_attack_requirements) requirements_level (elim [ attack_requirements.None ↦ refl | _ ↦ refl ])
+abbrev each_attack_requirements : Finite effective.AttackRequirements.AttackRequirements
+each_attack_requirements = listed (values all_attack_requirements) requirements_level (elim [ effective.AttackRequirements.TheVariants.None ↦ refl | _ ↦ refl ])
 
-abbrev each_vulnerable_impact : Finite VulnerableImpact
-each_vulnerable_impact = listed (values vulnerable_impacts) vulnerable_level (elim [ vulnerable_impact.High ↦ refl | _ ↦ refl ])
+abbrev each_vulnerable_impact : Finite effective.VulnerableImpact.VulnerableImpact
+each_vulnerable_impact = listed (values vulnerable_impacts) vulnerable_level (elim [ effective.VulnerableImpact.TheVariants.High ↦ refl | _ ↦ refl ])
 
-abbrev each_subsequent_impact : Finite SubsequentImpact
-each_subsequent_impact = listed (values subsequent_impacts) (λ x. subsequent_level x - 1) (elim [ subsequent_impact.High ↦ refl | _ ↦ refl ])
+abbrev each_subsequent_impact : Finite effective.SubsequentImpact.SubsequentImpact
+each_subsequent_impact = listed (values subsequent_impacts) (λ x. subsequent_level x - 1) (elim [ effective.SubsequentImpact.TheVariants.High ↦ refl | _ ↦ refl ])
 
-abbrev each_safety_impact : Finite SafetyImpact
-each_safety_impact = listed (values safety_impacts) safety_level (elim [ safety_impact.High ↦ refl | _ ↦ refl ])
+abbrev each_safety_impact : Finite effective.SafetyImpact.SafetyImpact
+each_safety_impact = listed (values safety_impacts) safety_level (elim [ effective.SafetyImpact.TheVariants.High ↦ refl | _ ↦ refl ])
 
-abbrev each_requirement : Finite Requirement
-each_requirement = listed (values requirements) requirement_level (elim [ requirement.High ↦ refl | _ ↦ refl ])
+abbrev each_requirement : Finite effective.Requirement.Requirement
+each_requirement = listed (values requirements) requirement_level (elim [ effective.Requirement.TheVariants.High ↦ refl | _ ↦ refl ])
 
 -- the values of the metrics of each group
 abbrev pub each_eq1 : Finite Eq1Values

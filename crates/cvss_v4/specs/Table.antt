@@ -2,10 +2,10 @@
 -- (threat), 4 (environmental) and 5 (supplemental).
 use Rattle.std.specs.Prelude.{ℕ, List, Option}
 use Rattle.cvss_name.specs.declared.v4.MetricType.{MetricType}
-use Rattle.cvss_name.specs.declared.v4.MetricType.TheVariants.{AC, AT, AV, PR, SA, SC, SI, UI, VA, VC, VI, E, AR, CR, IR, MAC, MAT, MAV, MPR, MSA, MSC, MSI, MUI, MVA, MVC, MVI, AU, R, RE, S, U, V}
-use Rattle.cvss_v4_metric.specs.Ranks.{attack_vector_rank, attack_complexity_rank, attack_requirements_rank, privileges_required_rank, user_interaction_rank, confidentiality_impact_to_the_vulnerable_system_rank, integrity_impact_to_the_vulnerable_system_rank, availability_impact_to_the_vulnerable_system_rank, confidentiality_impact_to_the_subsequent_system_rank, integrity_impact_to_the_subsequent_system_rank, availability_impact_to_the_subsequent_system_rank, exploit_maturity_rank, safety_rank, automatable_rank, recovery_rank, value_density_rank, vulnerability_response_effort_rank, provider_urgency_rank}
+use Rattle.cvss_name.specs.declared.v4.MetricType.TheVariants as metric
+use Rattle.cvss_v4_metric.specs.Ranks as place
 use Rattle.cvss_v4_metric.specs.Table.{spelling_at}
-use Rattle.cvss_v4_env.specs.Ranks.{confidentiality_requirements_rank, integrity_requirements_rank, availability_requirements_rank, modified_attack_vector_rank, modified_attack_complexity_rank, modified_attack_requirements_rank, modified_privileges_required_rank, modified_user_interaction_rank, modified_confidentiality_impact_to_the_vulnerable_system_rank, modified_integrity_impact_to_the_vulnerable_system_rank, modified_availability_impact_to_the_vulnerable_system_rank, modified_confidentiality_impact_to_the_subsequent_system_rank, modified_integrity_impact_to_the_subsequent_system_rank, modified_availability_impact_to_the_subsequent_system_rank}
+use Rattle.cvss_v4_env.specs.Ranks as environmental
 use Rattle.cvss_v4.specs.declared.vector.Vector.{Vector}
 
 -- a type of values, the place of each among the spellings of its metric, and the value that a vector has
@@ -19,51 +19,51 @@ abbrev of : {A : Type 0} → (A → ℕ) → (Vector → Option A) → Metric
 of {A} rank value = record { Value = A; rank = rank; value = value }
 
 -- the values of each metric
-abbrev pub metric : MetricType → Metric
-metric AV = of attack_vector_rank (λ v. v.av)
-metric AC = of attack_complexity_rank (λ v. v.ac)
-metric AT = of attack_requirements_rank (λ v. v.at)
-metric PR = of privileges_required_rank (λ v. v.pr)
-metric UI = of user_interaction_rank (λ v. v.ui)
-metric VC = of confidentiality_impact_to_the_vulnerable_system_rank (λ v. v.vc)
-metric VI = of integrity_impact_to_the_vulnerable_system_rank (λ v. v.vi)
-metric VA = of availability_impact_to_the_vulnerable_system_rank (λ v. v.va)
-metric SC = of confidentiality_impact_to_the_subsequent_system_rank (λ v. v.sc)
-metric SI = of integrity_impact_to_the_subsequent_system_rank (λ v. v.si)
-metric SA = of availability_impact_to_the_subsequent_system_rank (λ v. v.sa)
-metric E = of exploit_maturity_rank (λ v. v.e)
-metric CR = of confidentiality_requirements_rank (λ v. v.cr)
-metric IR = of integrity_requirements_rank (λ v. v.ir)
-metric AR = of availability_requirements_rank (λ v. v.ar)
-metric MAV = of modified_attack_vector_rank (λ v. v.mav)
-metric MAC = of modified_attack_complexity_rank (λ v. v.mac)
-metric MAT = of modified_attack_requirements_rank (λ v. v.mat)
-metric MPR = of modified_privileges_required_rank (λ v. v.mpr)
-metric MUI = of modified_user_interaction_rank (λ v. v.mui)
-metric MVC = of modified_confidentiality_impact_to_the_vulnerable_system_rank (λ v. v.mvc)
-metric MVI = of modified_integrity_impact_to_the_vulnerable_system_rank (λ v. v.mvi)
-metric MVA = of modified_availability_impact_to_the_vulnerable_system_rank (λ v. v.mva)
-metric MSC = of modified_confidentiality_impact_to_the_subsequent_system_rank (λ v. v.msc)
-metric MSI = of modified_integrity_impact_to_the_subsequent_system_rank (λ v. v.msi)
-metric MSA = of modified_availability_impact_to_the_subsequent_system_rank (λ v. v.msa)
-metric S = of safety_rank (λ v. v.s)
-metric AU = of automatable_rank (λ v. v.au)
-metric R = of recovery_rank (λ v. v.r)
-metric V = of value_density_rank (λ v. v.v)
-metric RE = of vulnerability_response_effort_rank (λ v. v.re)
-metric U = of provider_urgency_rank (λ v. v.u)
+abbrev pub values_of : MetricType → Metric
+values_of metric.AV = of place.AV (λ v. v.av)
+values_of metric.AC = of place.AC (λ v. v.ac)
+values_of metric.AT = of place.AT (λ v. v.at)
+values_of metric.PR = of place.PR (λ v. v.pr)
+values_of metric.UI = of place.UI (λ v. v.ui)
+values_of metric.VC = of place.VC (λ v. v.vc)
+values_of metric.VI = of place.VI (λ v. v.vi)
+values_of metric.VA = of place.VA (λ v. v.va)
+values_of metric.SC = of place.SC (λ v. v.sc)
+values_of metric.SI = of place.SI (λ v. v.si)
+values_of metric.SA = of place.SA (λ v. v.sa)
+values_of metric.E = of place.E (λ v. v.e)
+values_of metric.CR = of environmental.CR (λ v. v.cr)
+values_of metric.IR = of environmental.IR (λ v. v.ir)
+values_of metric.AR = of environmental.AR (λ v. v.ar)
+values_of metric.MAV = of environmental.MAV (λ v. v.mav)
+values_of metric.MAC = of environmental.MAC (λ v. v.mac)
+values_of metric.MAT = of environmental.MAT (λ v. v.mat)
+values_of metric.MPR = of environmental.MPR (λ v. v.mpr)
+values_of metric.MUI = of environmental.MUI (λ v. v.mui)
+values_of metric.MVC = of environmental.MVC (λ v. v.mvc)
+values_of metric.MVI = of environmental.MVI (λ v. v.mvi)
+values_of metric.MVA = of environmental.MVA (λ v. v.mva)
+values_of metric.MSC = of environmental.MSC (λ v. v.msc)
+values_of metric.MSI = of environmental.MSI (λ v. v.msi)
+values_of metric.MSA = of environmental.MSA (λ v. v.msa)
+values_of metric.S = of place.S (λ v. v.s)
+values_of metric.AU = of place.AU (λ v. v.au)
+values_of metric.R = of place.R (λ v. v.r)
+values_of metric.V = of place.V (λ v. v.v)
+values_of metric.RE = of place.RE (λ v. v.re)
+values_of metric.U = of place.U (λ v. v.u)
 
 -- the type of a metric's values
 abbrev pub Value : MetricType → Type 0
-Value kind = (metric kind).Value
+Value kind = (values_of kind).Value
 
 -- the place of a value among the spellings of its metric
 abbrev pub rank_of : (kind : MetricType) → Value kind → ℕ
-rank_of kind = (metric kind).rank
+rank_of kind = (values_of kind).rank
 
 -- the vector's value for a metric
 abbrev pub value_at : Vector → (kind : MetricType) → Option (Value kind)
-value_at v kind = (metric kind).value v
+value_at v kind = (values_of kind).value v
 
 -- how a value is spelled
 abbrev pub spelling_of : (kind : MetricType) → Value kind → List ℕ

@@ -12,26 +12,7 @@ mod refusing;
 mod scores;
 mod sight;
 
-use crate::metric::base::{
-    AttackComplexity, AttackRequirements, AttackVector, AvailabilityImpactToTheSubsequentSystem,
-    AvailabilityImpactToTheVulnerableSystem, ConfidentialityImpactToTheSubsequentSystem,
-    ConfidentialityImpactToTheVulnerableSystem, IntegrityImpactToTheSubsequentSystem,
-    IntegrityImpactToTheVulnerableSystem, PrivilegesRequired, UserInteraction,
-};
-use crate::metric::environmental::{
-    AvailabilityRequirements, ConfidentialityRequirements, IntegrityRequirements,
-    ModifiedAttackComplexity, ModifiedAttackRequirements, ModifiedAttackVector,
-    ModifiedAvailabilityImpactToTheSubsequentSystem,
-    ModifiedAvailabilityImpactToTheVulnerableSystem,
-    ModifiedConfidentialityImpactToTheSubsequentSystem,
-    ModifiedConfidentialityImpactToTheVulnerableSystem,
-    ModifiedIntegrityImpactToTheSubsequentSystem, ModifiedIntegrityImpactToTheVulnerableSystem,
-    ModifiedPrivilegesRequired, ModifiedUserInteraction,
-};
-use crate::metric::supplemental::{
-    Automatable, ProviderUrgency, Recovery, Safety, ValueDensity, VulnerabilityResponseEffort,
-};
-use crate::metric::threat::ExploitMaturity;
+use crate::metric::{base, environmental, supplemental, threat};
 use cvss_base::refusing::vector_behind;
 use cvss_name::Error;
 use cvss_text::front::read_behind;
@@ -47,38 +28,38 @@ use std::alloc::Global;
 #[derive(Clone, Copy, Debug, Default, PartialEq, Eq)]
 pub struct Vector {
     pub minor_version: usize,
-    av: Option<AttackVector>,
-    ac: Option<AttackComplexity>,
-    at: Option<AttackRequirements>,
-    pr: Option<PrivilegesRequired>,
-    ui: Option<UserInteraction>,
-    vc: Option<ConfidentialityImpactToTheVulnerableSystem>,
-    vi: Option<IntegrityImpactToTheVulnerableSystem>,
-    va: Option<AvailabilityImpactToTheVulnerableSystem>,
-    sc: Option<ConfidentialityImpactToTheSubsequentSystem>,
-    si: Option<IntegrityImpactToTheSubsequentSystem>,
-    sa: Option<AvailabilityImpactToTheSubsequentSystem>,
-    e: Option<ExploitMaturity>,
-    cr: Option<ConfidentialityRequirements>,
-    ir: Option<IntegrityRequirements>,
-    ar: Option<AvailabilityRequirements>,
-    mav: Option<ModifiedAttackVector>,
-    mac: Option<ModifiedAttackComplexity>,
-    mat: Option<ModifiedAttackRequirements>,
-    mpr: Option<ModifiedPrivilegesRequired>,
-    mui: Option<ModifiedUserInteraction>,
-    mvc: Option<ModifiedConfidentialityImpactToTheVulnerableSystem>,
-    mvi: Option<ModifiedIntegrityImpactToTheVulnerableSystem>,
-    mva: Option<ModifiedAvailabilityImpactToTheVulnerableSystem>,
-    msc: Option<ModifiedConfidentialityImpactToTheSubsequentSystem>,
-    msi: Option<ModifiedIntegrityImpactToTheSubsequentSystem>,
-    msa: Option<ModifiedAvailabilityImpactToTheSubsequentSystem>,
-    s: Option<Safety>,
-    au: Option<Automatable>,
-    r: Option<Recovery>,
-    v: Option<ValueDensity>,
-    re: Option<VulnerabilityResponseEffort>,
-    u: Option<ProviderUrgency>,
+    av: Option<base::AttackVector>,
+    ac: Option<base::AttackComplexity>,
+    at: Option<base::AttackRequirements>,
+    pr: Option<base::PrivilegesRequired>,
+    ui: Option<base::UserInteraction>,
+    vc: Option<base::ConfidentialityImpactToTheVulnerableSystem>,
+    vi: Option<base::IntegrityImpactToTheVulnerableSystem>,
+    va: Option<base::AvailabilityImpactToTheVulnerableSystem>,
+    sc: Option<base::ConfidentialityImpactToTheSubsequentSystem>,
+    si: Option<base::IntegrityImpactToTheSubsequentSystem>,
+    sa: Option<base::AvailabilityImpactToTheSubsequentSystem>,
+    e: Option<threat::ExploitMaturity>,
+    cr: Option<environmental::ConfidentialityRequirements>,
+    ir: Option<environmental::IntegrityRequirements>,
+    ar: Option<environmental::AvailabilityRequirements>,
+    mav: Option<environmental::ModifiedAttackVector>,
+    mac: Option<environmental::ModifiedAttackComplexity>,
+    mat: Option<environmental::ModifiedAttackRequirements>,
+    mpr: Option<environmental::ModifiedPrivilegesRequired>,
+    mui: Option<environmental::ModifiedUserInteraction>,
+    mvc: Option<environmental::ModifiedConfidentialityImpactToTheVulnerableSystem>,
+    mvi: Option<environmental::ModifiedIntegrityImpactToTheVulnerableSystem>,
+    mva: Option<environmental::ModifiedAvailabilityImpactToTheVulnerableSystem>,
+    msc: Option<environmental::ModifiedConfidentialityImpactToTheSubsequentSystem>,
+    msi: Option<environmental::ModifiedIntegrityImpactToTheSubsequentSystem>,
+    msa: Option<environmental::ModifiedAvailabilityImpactToTheSubsequentSystem>,
+    s: Option<supplemental::Safety>,
+    au: Option<supplemental::Automatable>,
+    r: Option<supplemental::Recovery>,
+    v: Option<supplemental::ValueDensity>,
+    re: Option<supplemental::VulnerabilityResponseEffort>,
+    u: Option<supplemental::ProviderUrgency>,
 }
 
 impl Vector {

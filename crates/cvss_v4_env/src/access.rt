@@ -3,8 +3,8 @@
 
 ghost use Rattle.std.specs.Prelude.{Some, [], ◌∷◌};
 ghost use Rattle.std.proofs.Common.{rules};
-ghost use Rattle.cvss_name.specs.declared.v4.MetricType.TheVariants.{MPR, MUI};
-ghost use Rattle.cvss_v4_env.specs.Ranks.{modified_privileges_required_rank, modified_user_interaction_rank};
+ghost use Rattle.cvss_name.specs.declared.v4.MetricType.TheVariants as metric;
+ghost use Rattle.cvss_v4_env.specs.Ranks as place;
 ghost use Rattle.cvss_v4_metric.specs.Table.{metric_component};
 ghost use Rattle.cvss_v4_env.specs.declared.access.ModifiedPrivilegesRequired.TheVariants as modified_privileges_required;
 ghost use Rattle.cvss_v4_env.specs.declared.access.ModifiedUserInteraction.TheVariants as modified_user_interaction;
@@ -26,9 +26,9 @@ pub enum ModifiedPrivilegesRequired {
 impl Metric for ModifiedPrivilegesRequired {
     const TYPE: MetricType = MetricType::MPR;
 
-    ghost TYPE = { MPR };
+    ghost TYPE = { metric.MPR };
 
-    ghost rank = { modified_privileges_required_rank };
+    ghost rank = { place.MPR };
 
     ghost values = { modified_privileges_required.NotDefined ∷ modified_privileges_required.High ∷ modified_privileges_required.Low ∷ modified_privileges_required.None ∷ [] };
 
@@ -36,28 +36,28 @@ impl Metric for ModifiedPrivilegesRequired {
 
     fn slashed(self) -> &'static str {
         match self {
-            ModifiedPrivilegesRequired::NotDefined => "/MPR:X",
-            ModifiedPrivilegesRequired::High => "/MPR:H",
-            ModifiedPrivilegesRequired::Low => "/MPR:L",
-            ModifiedPrivilegesRequired::None => "/MPR:N",
+            Self::NotDefined => "/MPR:X",
+            Self::High => "/MPR:H",
+            Self::Low => "/MPR:L",
+            Self::None => "/MPR:N",
         }
     }
 
     fn read_bytes(text: &[u8]) -> Option<Self> {
         match only_byte(text)? {
-            b'X' | b'x' => Some(ModifiedPrivilegesRequired::NotDefined),
-            b'H' | b'h' => Some(ModifiedPrivilegesRequired::High),
-            b'L' | b'l' => Some(ModifiedPrivilegesRequired::Low),
-            b'N' | b'n' => Some(ModifiedPrivilegesRequired::None),
+            b'X' | b'x' => Some(Self::NotDefined),
+            b'H' | b'h' => Some(Self::High),
+            b'L' | b'l' => Some(Self::Low),
+            b'N' | b'n' => Some(Self::None),
             _ => None,
         }
     }
 }
 
 impl fmt::Display for ModifiedPrivilegesRequired {
-    ghost output = { λ metric. Some (metric_component MPR (modified_privileges_required_rank metric)) };
+    ghost output = { λ value. Some (metric_component metric.MPR (place.MPR value)) };
 
-    ghost styled_output = { λ metric _. Some (metric_component MPR (modified_privileges_required_rank metric)) };
+    ghost styled_output = { λ value _. Some (metric_component metric.MPR (place.MPR value)) };
 
     fn fmt<W: fmt::Write>(&self, f: &mut fmt::Formatter<W>) -> fmt::Result {
         write_component(self.slashed(), f)
@@ -77,9 +77,9 @@ pub enum ModifiedUserInteraction {
 impl Metric for ModifiedUserInteraction {
     const TYPE: MetricType = MetricType::MUI;
 
-    ghost TYPE = { MUI };
+    ghost TYPE = { metric.MUI };
 
-    ghost rank = { modified_user_interaction_rank };
+    ghost rank = { place.MUI };
 
     ghost values = { modified_user_interaction.NotDefined ∷ modified_user_interaction.Active ∷ modified_user_interaction.Passive ∷ modified_user_interaction.None ∷ [] };
 
@@ -87,28 +87,28 @@ impl Metric for ModifiedUserInteraction {
 
     fn slashed(self) -> &'static str {
         match self {
-            ModifiedUserInteraction::NotDefined => "/MUI:X",
-            ModifiedUserInteraction::Active => "/MUI:A",
-            ModifiedUserInteraction::Passive => "/MUI:P",
-            ModifiedUserInteraction::None => "/MUI:N",
+            Self::NotDefined => "/MUI:X",
+            Self::Active => "/MUI:A",
+            Self::Passive => "/MUI:P",
+            Self::None => "/MUI:N",
         }
     }
 
     fn read_bytes(text: &[u8]) -> Option<Self> {
         match only_byte(text)? {
-            b'X' | b'x' => Some(ModifiedUserInteraction::NotDefined),
-            b'A' | b'a' => Some(ModifiedUserInteraction::Active),
-            b'P' | b'p' => Some(ModifiedUserInteraction::Passive),
-            b'N' | b'n' => Some(ModifiedUserInteraction::None),
+            b'X' | b'x' => Some(Self::NotDefined),
+            b'A' | b'a' => Some(Self::Active),
+            b'P' | b'p' => Some(Self::Passive),
+            b'N' | b'n' => Some(Self::None),
             _ => None,
         }
     }
 }
 
 impl fmt::Display for ModifiedUserInteraction {
-    ghost output = { λ metric. Some (metric_component MUI (modified_user_interaction_rank metric)) };
+    ghost output = { λ value. Some (metric_component metric.MUI (place.MUI value)) };
 
-    ghost styled_output = { λ metric _. Some (metric_component MUI (modified_user_interaction_rank metric)) };
+    ghost styled_output = { λ value _. Some (metric_component metric.MUI (place.MUI value)) };
 
     fn fmt<W: fmt::Write>(&self, f: &mut fmt::Formatter<W>) -> fmt::Result {
         write_component(self.slashed(), f)

@@ -3,8 +3,8 @@
 
 ghost use Rattle.std.specs.Prelude.{Some, [], ◌∷◌};
 ghost use Rattle.std.proofs.Common.{rules};
-ghost use Rattle.cvss_name.specs.declared.v4.MetricType.TheVariants.{MAV, MAC, MAT};
-ghost use Rattle.cvss_v4_env.specs.Ranks.{modified_attack_vector_rank, modified_attack_complexity_rank, modified_attack_requirements_rank};
+ghost use Rattle.cvss_name.specs.declared.v4.MetricType.TheVariants as metric;
+ghost use Rattle.cvss_v4_env.specs.Ranks as place;
 ghost use Rattle.cvss_v4_metric.specs.Table.{metric_component};
 ghost use Rattle.cvss_v4_env.specs.declared.attack.ModifiedAttackVector.TheVariants as modified_attack_vector;
 ghost use Rattle.cvss_v4_env.specs.declared.attack.ModifiedAttackComplexity.TheVariants as modified_attack_complexity;
@@ -28,9 +28,9 @@ pub enum ModifiedAttackVector {
 impl Metric for ModifiedAttackVector {
     const TYPE: MetricType = MetricType::MAV;
 
-    ghost TYPE = { MAV };
+    ghost TYPE = { metric.MAV };
 
-    ghost rank = { modified_attack_vector_rank };
+    ghost rank = { place.MAV };
 
     ghost values = { modified_attack_vector.Physical ∷ modified_attack_vector.Local ∷ modified_attack_vector.Adjacent ∷ modified_attack_vector.Network ∷ modified_attack_vector.NotDefined ∷ [] };
 
@@ -38,30 +38,30 @@ impl Metric for ModifiedAttackVector {
 
     fn slashed(self) -> &'static str {
         match self {
-            ModifiedAttackVector::Physical => "/MAV:P",
-            ModifiedAttackVector::Local => "/MAV:L",
-            ModifiedAttackVector::Adjacent => "/MAV:A",
-            ModifiedAttackVector::Network => "/MAV:N",
-            ModifiedAttackVector::NotDefined => "/MAV:X",
+            Self::Physical => "/MAV:P",
+            Self::Local => "/MAV:L",
+            Self::Adjacent => "/MAV:A",
+            Self::Network => "/MAV:N",
+            Self::NotDefined => "/MAV:X",
         }
     }
 
     fn read_bytes(text: &[u8]) -> Option<Self> {
         match only_byte(text)? {
-            b'P' | b'p' => Some(ModifiedAttackVector::Physical),
-            b'L' | b'l' => Some(ModifiedAttackVector::Local),
-            b'A' | b'a' => Some(ModifiedAttackVector::Adjacent),
-            b'N' | b'n' => Some(ModifiedAttackVector::Network),
-            b'X' | b'x' => Some(ModifiedAttackVector::NotDefined),
+            b'P' | b'p' => Some(Self::Physical),
+            b'L' | b'l' => Some(Self::Local),
+            b'A' | b'a' => Some(Self::Adjacent),
+            b'N' | b'n' => Some(Self::Network),
+            b'X' | b'x' => Some(Self::NotDefined),
             _ => None,
         }
     }
 }
 
 impl fmt::Display for ModifiedAttackVector {
-    ghost output = { λ metric. Some (metric_component MAV (modified_attack_vector_rank metric)) };
+    ghost output = { λ value. Some (metric_component metric.MAV (place.MAV value)) };
 
-    ghost styled_output = { λ metric _. Some (metric_component MAV (modified_attack_vector_rank metric)) };
+    ghost styled_output = { λ value _. Some (metric_component metric.MAV (place.MAV value)) };
 
     fn fmt<W: fmt::Write>(&self, f: &mut fmt::Formatter<W>) -> fmt::Result {
         write_component(self.slashed(), f)
@@ -80,9 +80,9 @@ pub enum ModifiedAttackComplexity {
 impl Metric for ModifiedAttackComplexity {
     const TYPE: MetricType = MetricType::MAC;
 
-    ghost TYPE = { MAC };
+    ghost TYPE = { metric.MAC };
 
-    ghost rank = { modified_attack_complexity_rank };
+    ghost rank = { place.MAC };
 
     ghost values = { modified_attack_complexity.NotDefined ∷ modified_attack_complexity.High ∷ modified_attack_complexity.Low ∷ [] };
 
@@ -90,26 +90,26 @@ impl Metric for ModifiedAttackComplexity {
 
     fn slashed(self) -> &'static str {
         match self {
-            ModifiedAttackComplexity::NotDefined => "/MAC:X",
-            ModifiedAttackComplexity::High => "/MAC:H",
-            ModifiedAttackComplexity::Low => "/MAC:L",
+            Self::NotDefined => "/MAC:X",
+            Self::High => "/MAC:H",
+            Self::Low => "/MAC:L",
         }
     }
 
     fn read_bytes(text: &[u8]) -> Option<Self> {
         match only_byte(text)? {
-            b'X' | b'x' => Some(ModifiedAttackComplexity::NotDefined),
-            b'H' | b'h' => Some(ModifiedAttackComplexity::High),
-            b'L' | b'l' => Some(ModifiedAttackComplexity::Low),
+            b'X' | b'x' => Some(Self::NotDefined),
+            b'H' | b'h' => Some(Self::High),
+            b'L' | b'l' => Some(Self::Low),
             _ => None,
         }
     }
 }
 
 impl fmt::Display for ModifiedAttackComplexity {
-    ghost output = { λ metric. Some (metric_component MAC (modified_attack_complexity_rank metric)) };
+    ghost output = { λ value. Some (metric_component metric.MAC (place.MAC value)) };
 
-    ghost styled_output = { λ metric _. Some (metric_component MAC (modified_attack_complexity_rank metric)) };
+    ghost styled_output = { λ value _. Some (metric_component metric.MAC (place.MAC value)) };
 
     fn fmt<W: fmt::Write>(&self, f: &mut fmt::Formatter<W>) -> fmt::Result {
         write_component(self.slashed(), f)
@@ -128,9 +128,9 @@ pub enum ModifiedAttackRequirements {
 impl Metric for ModifiedAttackRequirements {
     const TYPE: MetricType = MetricType::MAT;
 
-    ghost TYPE = { MAT };
+    ghost TYPE = { metric.MAT };
 
-    ghost rank = { modified_attack_requirements_rank };
+    ghost rank = { place.MAT };
 
     ghost values = { modified_attack_requirements.NotDefined ∷ modified_attack_requirements.Present ∷ modified_attack_requirements.None ∷ [] };
 
@@ -138,26 +138,26 @@ impl Metric for ModifiedAttackRequirements {
 
     fn slashed(self) -> &'static str {
         match self {
-            ModifiedAttackRequirements::NotDefined => "/MAT:X",
-            ModifiedAttackRequirements::Present => "/MAT:P",
-            ModifiedAttackRequirements::None => "/MAT:N",
+            Self::NotDefined => "/MAT:X",
+            Self::Present => "/MAT:P",
+            Self::None => "/MAT:N",
         }
     }
 
     fn read_bytes(text: &[u8]) -> Option<Self> {
         match only_byte(text)? {
-            b'X' | b'x' => Some(ModifiedAttackRequirements::NotDefined),
-            b'P' | b'p' => Some(ModifiedAttackRequirements::Present),
-            b'N' | b'n' => Some(ModifiedAttackRequirements::None),
+            b'X' | b'x' => Some(Self::NotDefined),
+            b'P' | b'p' => Some(Self::Present),
+            b'N' | b'n' => Some(Self::None),
             _ => None,
         }
     }
 }
 
 impl fmt::Display for ModifiedAttackRequirements {
-    ghost output = { λ metric. Some (metric_component MAT (modified_attack_requirements_rank metric)) };
+    ghost output = { λ value. Some (metric_component metric.MAT (place.MAT value)) };
 
-    ghost styled_output = { λ metric _. Some (metric_component MAT (modified_attack_requirements_rank metric)) };
+    ghost styled_output = { λ value _. Some (metric_component metric.MAT (place.MAT value)) };
 
     fn fmt<W: fmt::Write>(&self, f: &mut fmt::Formatter<W>) -> fmt::Result {
         write_component(self.slashed(), f)

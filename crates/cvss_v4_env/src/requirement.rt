@@ -3,8 +3,8 @@
 
 ghost use Rattle.std.specs.Prelude.{Some, [], ◌∷◌};
 ghost use Rattle.std.proofs.Common.{rules};
-ghost use Rattle.cvss_name.specs.declared.v4.MetricType.TheVariants.{CR, IR, AR};
-ghost use Rattle.cvss_v4_env.specs.Ranks.{confidentiality_requirements_rank, integrity_requirements_rank, availability_requirements_rank};
+ghost use Rattle.cvss_name.specs.declared.v4.MetricType.TheVariants as metric;
+ghost use Rattle.cvss_v4_env.specs.Ranks as place;
 ghost use Rattle.cvss_v4_metric.specs.Table.{metric_component};
 ghost use Rattle.cvss_v4_env.specs.declared.requirement.ConfidentialityRequirements.TheVariants as confidentiality_requirements;
 ghost use Rattle.cvss_v4_env.specs.declared.requirement.IntegrityRequirements.TheVariants as integrity_requirements;
@@ -27,9 +27,9 @@ pub enum ConfidentialityRequirements {
 impl Metric for ConfidentialityRequirements {
     const TYPE: MetricType = MetricType::CR;
 
-    ghost TYPE = { CR };
+    ghost TYPE = { metric.CR };
 
-    ghost rank = { confidentiality_requirements_rank };
+    ghost rank = { place.CR };
 
     ghost values = { confidentiality_requirements.NotDefined ∷ confidentiality_requirements.Low ∷ confidentiality_requirements.Medium ∷ confidentiality_requirements.High ∷ [] };
 
@@ -37,28 +37,28 @@ impl Metric for ConfidentialityRequirements {
 
     fn slashed(self) -> &'static str {
         match self {
-            ConfidentialityRequirements::NotDefined => "/CR:X",
-            ConfidentialityRequirements::Low => "/CR:L",
-            ConfidentialityRequirements::Medium => "/CR:M",
-            ConfidentialityRequirements::High => "/CR:H",
+            Self::NotDefined => "/CR:X",
+            Self::Low => "/CR:L",
+            Self::Medium => "/CR:M",
+            Self::High => "/CR:H",
         }
     }
 
     fn read_bytes(text: &[u8]) -> Option<Self> {
         match only_byte(text)? {
-            b'X' | b'x' => Some(ConfidentialityRequirements::NotDefined),
-            b'L' | b'l' => Some(ConfidentialityRequirements::Low),
-            b'M' | b'm' => Some(ConfidentialityRequirements::Medium),
-            b'H' | b'h' => Some(ConfidentialityRequirements::High),
+            b'X' | b'x' => Some(Self::NotDefined),
+            b'L' | b'l' => Some(Self::Low),
+            b'M' | b'm' => Some(Self::Medium),
+            b'H' | b'h' => Some(Self::High),
             _ => None,
         }
     }
 }
 
 impl fmt::Display for ConfidentialityRequirements {
-    ghost output = { λ metric. Some (metric_component CR (confidentiality_requirements_rank metric)) };
+    ghost output = { λ value. Some (metric_component metric.CR (place.CR value)) };
 
-    ghost styled_output = { λ metric _. Some (metric_component CR (confidentiality_requirements_rank metric)) };
+    ghost styled_output = { λ value _. Some (metric_component metric.CR (place.CR value)) };
 
     fn fmt<W: fmt::Write>(&self, f: &mut fmt::Formatter<W>) -> fmt::Result {
         write_component(self.slashed(), f)
@@ -78,9 +78,9 @@ pub enum IntegrityRequirements {
 impl Metric for IntegrityRequirements {
     const TYPE: MetricType = MetricType::IR;
 
-    ghost TYPE = { IR };
+    ghost TYPE = { metric.IR };
 
-    ghost rank = { integrity_requirements_rank };
+    ghost rank = { place.IR };
 
     ghost values = { integrity_requirements.NotDefined ∷ integrity_requirements.Low ∷ integrity_requirements.Medium ∷ integrity_requirements.High ∷ [] };
 
@@ -88,28 +88,28 @@ impl Metric for IntegrityRequirements {
 
     fn slashed(self) -> &'static str {
         match self {
-            IntegrityRequirements::NotDefined => "/IR:X",
-            IntegrityRequirements::Low => "/IR:L",
-            IntegrityRequirements::Medium => "/IR:M",
-            IntegrityRequirements::High => "/IR:H",
+            Self::NotDefined => "/IR:X",
+            Self::Low => "/IR:L",
+            Self::Medium => "/IR:M",
+            Self::High => "/IR:H",
         }
     }
 
     fn read_bytes(text: &[u8]) -> Option<Self> {
         match only_byte(text)? {
-            b'X' | b'x' => Some(IntegrityRequirements::NotDefined),
-            b'L' | b'l' => Some(IntegrityRequirements::Low),
-            b'M' | b'm' => Some(IntegrityRequirements::Medium),
-            b'H' | b'h' => Some(IntegrityRequirements::High),
+            b'X' | b'x' => Some(Self::NotDefined),
+            b'L' | b'l' => Some(Self::Low),
+            b'M' | b'm' => Some(Self::Medium),
+            b'H' | b'h' => Some(Self::High),
             _ => None,
         }
     }
 }
 
 impl fmt::Display for IntegrityRequirements {
-    ghost output = { λ metric. Some (metric_component IR (integrity_requirements_rank metric)) };
+    ghost output = { λ value. Some (metric_component metric.IR (place.IR value)) };
 
-    ghost styled_output = { λ metric _. Some (metric_component IR (integrity_requirements_rank metric)) };
+    ghost styled_output = { λ value _. Some (metric_component metric.IR (place.IR value)) };
 
     fn fmt<W: fmt::Write>(&self, f: &mut fmt::Formatter<W>) -> fmt::Result {
         write_component(self.slashed(), f)
@@ -129,9 +129,9 @@ pub enum AvailabilityRequirements {
 impl Metric for AvailabilityRequirements {
     const TYPE: MetricType = MetricType::AR;
 
-    ghost TYPE = { AR };
+    ghost TYPE = { metric.AR };
 
-    ghost rank = { availability_requirements_rank };
+    ghost rank = { place.AR };
 
     ghost values = { availability_requirements.NotDefined ∷ availability_requirements.Low ∷ availability_requirements.Medium ∷ availability_requirements.High ∷ [] };
 
@@ -139,28 +139,28 @@ impl Metric for AvailabilityRequirements {
 
     fn slashed(self) -> &'static str {
         match self {
-            AvailabilityRequirements::NotDefined => "/AR:X",
-            AvailabilityRequirements::Low => "/AR:L",
-            AvailabilityRequirements::Medium => "/AR:M",
-            AvailabilityRequirements::High => "/AR:H",
+            Self::NotDefined => "/AR:X",
+            Self::Low => "/AR:L",
+            Self::Medium => "/AR:M",
+            Self::High => "/AR:H",
         }
     }
 
     fn read_bytes(text: &[u8]) -> Option<Self> {
         match only_byte(text)? {
-            b'X' | b'x' => Some(AvailabilityRequirements::NotDefined),
-            b'L' | b'l' => Some(AvailabilityRequirements::Low),
-            b'M' | b'm' => Some(AvailabilityRequirements::Medium),
-            b'H' | b'h' => Some(AvailabilityRequirements::High),
+            b'X' | b'x' => Some(Self::NotDefined),
+            b'L' | b'l' => Some(Self::Low),
+            b'M' | b'm' => Some(Self::Medium),
+            b'H' | b'h' => Some(Self::High),
             _ => None,
         }
     }
 }
 
 impl fmt::Display for AvailabilityRequirements {
-    ghost output = { λ metric. Some (metric_component AR (availability_requirements_rank metric)) };
+    ghost output = { λ value. Some (metric_component metric.AR (place.AR value)) };
 
-    ghost styled_output = { λ metric _. Some (metric_component AR (availability_requirements_rank metric)) };
+    ghost styled_output = { λ value _. Some (metric_component metric.AR (place.AR value)) };
 
     fn fmt<W: fmt::Write>(&self, f: &mut fmt::Formatter<W>) -> fmt::Result {
         write_component(self.slashed(), f)

@@ -3,8 +3,8 @@
 
 ghost use Rattle.std.specs.Prelude.{Some, [], ◌∷◌};
 ghost use Rattle.std.proofs.Common.{rules};
-ghost use Rattle.cvss_name.specs.declared.v4.MetricType.TheVariants.{MSC, MSI, MSA};
-ghost use Rattle.cvss_v4_env.specs.Ranks.{modified_confidentiality_impact_to_the_subsequent_system_rank, modified_integrity_impact_to_the_subsequent_system_rank, modified_availability_impact_to_the_subsequent_system_rank};
+ghost use Rattle.cvss_name.specs.declared.v4.MetricType.TheVariants as metric;
+ghost use Rattle.cvss_v4_env.specs.Ranks as place;
 ghost use Rattle.cvss_v4_metric.specs.Table.{metric_component};
 ghost use Rattle.cvss_v4_env.specs.declared.subsequent.ModifiedConfidentialityImpactToTheSubsequentSystem.TheVariants as modified_confidentiality_impact_to_the_subsequent_system;
 ghost use Rattle.cvss_v4_env.specs.declared.subsequent.ModifiedIntegrityImpactToTheSubsequentSystem.TheVariants as modified_integrity_impact_to_the_subsequent_system;
@@ -28,9 +28,9 @@ pub enum ModifiedConfidentialityImpactToTheSubsequentSystem {
 impl Metric for ModifiedConfidentialityImpactToTheSubsequentSystem {
     const TYPE: MetricType = MetricType::MSC;
 
-    ghost TYPE = { MSC };
+    ghost TYPE = { metric.MSC };
 
-    ghost rank = { modified_confidentiality_impact_to_the_subsequent_system_rank };
+    ghost rank = { place.MSC };
 
     ghost values = { modified_confidentiality_impact_to_the_subsequent_system.NotDefined ∷ modified_confidentiality_impact_to_the_subsequent_system.Negligible ∷ modified_confidentiality_impact_to_the_subsequent_system.Low ∷ modified_confidentiality_impact_to_the_subsequent_system.High ∷ [] };
 
@@ -38,28 +38,28 @@ impl Metric for ModifiedConfidentialityImpactToTheSubsequentSystem {
 
     fn slashed(self) -> &'static str {
         match self {
-            ModifiedConfidentialityImpactToTheSubsequentSystem::NotDefined => "/MSC:X",
-            ModifiedConfidentialityImpactToTheSubsequentSystem::Negligible => "/MSC:N",
-            ModifiedConfidentialityImpactToTheSubsequentSystem::Low => "/MSC:L",
-            ModifiedConfidentialityImpactToTheSubsequentSystem::High => "/MSC:H",
+            Self::NotDefined => "/MSC:X",
+            Self::Negligible => "/MSC:N",
+            Self::Low => "/MSC:L",
+            Self::High => "/MSC:H",
         }
     }
 
     fn read_bytes(text: &[u8]) -> Option<Self> {
         match only_byte(text)? {
-            b'X' | b'x' => Some(ModifiedConfidentialityImpactToTheSubsequentSystem::NotDefined),
-            b'N' | b'n' => Some(ModifiedConfidentialityImpactToTheSubsequentSystem::Negligible),
-            b'L' | b'l' => Some(ModifiedConfidentialityImpactToTheSubsequentSystem::Low),
-            b'H' | b'h' => Some(ModifiedConfidentialityImpactToTheSubsequentSystem::High),
+            b'X' | b'x' => Some(Self::NotDefined),
+            b'N' | b'n' => Some(Self::Negligible),
+            b'L' | b'l' => Some(Self::Low),
+            b'H' | b'h' => Some(Self::High),
             _ => None,
         }
     }
 }
 
 impl fmt::Display for ModifiedConfidentialityImpactToTheSubsequentSystem {
-    ghost output = { λ metric. Some (metric_component MSC (modified_confidentiality_impact_to_the_subsequent_system_rank metric)) };
+    ghost output = { λ value. Some (metric_component metric.MSC (place.MSC value)) };
 
-    ghost styled_output = { λ metric _. Some (metric_component MSC (modified_confidentiality_impact_to_the_subsequent_system_rank metric)) };
+    ghost styled_output = { λ value _. Some (metric_component metric.MSC (place.MSC value)) };
 
     fn fmt<W: fmt::Write>(&self, f: &mut fmt::Formatter<W>) -> fmt::Result {
         write_component(self.slashed(), f)
@@ -81,9 +81,9 @@ pub enum ModifiedIntegrityImpactToTheSubsequentSystem {
 impl Metric for ModifiedIntegrityImpactToTheSubsequentSystem {
     const TYPE: MetricType = MetricType::MSI;
 
-    ghost TYPE = { MSI };
+    ghost TYPE = { metric.MSI };
 
-    ghost rank = { modified_integrity_impact_to_the_subsequent_system_rank };
+    ghost rank = { place.MSI };
 
     ghost values = { modified_integrity_impact_to_the_subsequent_system.NotDefined ∷ modified_integrity_impact_to_the_subsequent_system.Negligible ∷ modified_integrity_impact_to_the_subsequent_system.Low ∷ modified_integrity_impact_to_the_subsequent_system.High ∷ modified_integrity_impact_to_the_subsequent_system.Safety ∷ [] };
 
@@ -91,30 +91,30 @@ impl Metric for ModifiedIntegrityImpactToTheSubsequentSystem {
 
     fn slashed(self) -> &'static str {
         match self {
-            ModifiedIntegrityImpactToTheSubsequentSystem::NotDefined => "/MSI:X",
-            ModifiedIntegrityImpactToTheSubsequentSystem::Negligible => "/MSI:N",
-            ModifiedIntegrityImpactToTheSubsequentSystem::Low => "/MSI:L",
-            ModifiedIntegrityImpactToTheSubsequentSystem::High => "/MSI:H",
-            ModifiedIntegrityImpactToTheSubsequentSystem::Safety => "/MSI:S",
+            Self::NotDefined => "/MSI:X",
+            Self::Negligible => "/MSI:N",
+            Self::Low => "/MSI:L",
+            Self::High => "/MSI:H",
+            Self::Safety => "/MSI:S",
         }
     }
 
     fn read_bytes(text: &[u8]) -> Option<Self> {
         match only_byte(text)? {
-            b'X' | b'x' => Some(ModifiedIntegrityImpactToTheSubsequentSystem::NotDefined),
-            b'N' | b'n' => Some(ModifiedIntegrityImpactToTheSubsequentSystem::Negligible),
-            b'L' | b'l' => Some(ModifiedIntegrityImpactToTheSubsequentSystem::Low),
-            b'H' | b'h' => Some(ModifiedIntegrityImpactToTheSubsequentSystem::High),
-            b'S' | b's' => Some(ModifiedIntegrityImpactToTheSubsequentSystem::Safety),
+            b'X' | b'x' => Some(Self::NotDefined),
+            b'N' | b'n' => Some(Self::Negligible),
+            b'L' | b'l' => Some(Self::Low),
+            b'H' | b'h' => Some(Self::High),
+            b'S' | b's' => Some(Self::Safety),
             _ => None,
         }
     }
 }
 
 impl fmt::Display for ModifiedIntegrityImpactToTheSubsequentSystem {
-    ghost output = { λ metric. Some (metric_component MSI (modified_integrity_impact_to_the_subsequent_system_rank metric)) };
+    ghost output = { λ value. Some (metric_component metric.MSI (place.MSI value)) };
 
-    ghost styled_output = { λ metric _. Some (metric_component MSI (modified_integrity_impact_to_the_subsequent_system_rank metric)) };
+    ghost styled_output = { λ value _. Some (metric_component metric.MSI (place.MSI value)) };
 
     fn fmt<W: fmt::Write>(&self, f: &mut fmt::Formatter<W>) -> fmt::Result {
         write_component(self.slashed(), f)
@@ -136,9 +136,9 @@ pub enum ModifiedAvailabilityImpactToTheSubsequentSystem {
 impl Metric for ModifiedAvailabilityImpactToTheSubsequentSystem {
     const TYPE: MetricType = MetricType::MSA;
 
-    ghost TYPE = { MSA };
+    ghost TYPE = { metric.MSA };
 
-    ghost rank = { modified_availability_impact_to_the_subsequent_system_rank };
+    ghost rank = { place.MSA };
 
     ghost values = { modified_availability_impact_to_the_subsequent_system.NotDefined ∷ modified_availability_impact_to_the_subsequent_system.Negligible ∷ modified_availability_impact_to_the_subsequent_system.Low ∷ modified_availability_impact_to_the_subsequent_system.High ∷ modified_availability_impact_to_the_subsequent_system.Safety ∷ [] };
 
@@ -146,30 +146,30 @@ impl Metric for ModifiedAvailabilityImpactToTheSubsequentSystem {
 
     fn slashed(self) -> &'static str {
         match self {
-            ModifiedAvailabilityImpactToTheSubsequentSystem::NotDefined => "/MSA:X",
-            ModifiedAvailabilityImpactToTheSubsequentSystem::Negligible => "/MSA:N",
-            ModifiedAvailabilityImpactToTheSubsequentSystem::Low => "/MSA:L",
-            ModifiedAvailabilityImpactToTheSubsequentSystem::High => "/MSA:H",
-            ModifiedAvailabilityImpactToTheSubsequentSystem::Safety => "/MSA:S",
+            Self::NotDefined => "/MSA:X",
+            Self::Negligible => "/MSA:N",
+            Self::Low => "/MSA:L",
+            Self::High => "/MSA:H",
+            Self::Safety => "/MSA:S",
         }
     }
 
     fn read_bytes(text: &[u8]) -> Option<Self> {
         match only_byte(text)? {
-            b'X' | b'x' => Some(ModifiedAvailabilityImpactToTheSubsequentSystem::NotDefined),
-            b'N' | b'n' => Some(ModifiedAvailabilityImpactToTheSubsequentSystem::Negligible),
-            b'L' | b'l' => Some(ModifiedAvailabilityImpactToTheSubsequentSystem::Low),
-            b'H' | b'h' => Some(ModifiedAvailabilityImpactToTheSubsequentSystem::High),
-            b'S' | b's' => Some(ModifiedAvailabilityImpactToTheSubsequentSystem::Safety),
+            b'X' | b'x' => Some(Self::NotDefined),
+            b'N' | b'n' => Some(Self::Negligible),
+            b'L' | b'l' => Some(Self::Low),
+            b'H' | b'h' => Some(Self::High),
+            b'S' | b's' => Some(Self::Safety),
             _ => None,
         }
     }
 }
 
 impl fmt::Display for ModifiedAvailabilityImpactToTheSubsequentSystem {
-    ghost output = { λ metric. Some (metric_component MSA (modified_availability_impact_to_the_subsequent_system_rank metric)) };
+    ghost output = { λ value. Some (metric_component metric.MSA (place.MSA value)) };
 
-    ghost styled_output = { λ metric _. Some (metric_component MSA (modified_availability_impact_to_the_subsequent_system_rank metric)) };
+    ghost styled_output = { λ value _. Some (metric_component metric.MSA (place.MSA value)) };
 
     fn fmt<W: fmt::Write>(&self, f: &mut fmt::Formatter<W>) -> fmt::Result {
         write_component(self.slashed(), f)

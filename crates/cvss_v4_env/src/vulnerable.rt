@@ -3,8 +3,8 @@
 
 ghost use Rattle.std.specs.Prelude.{Some, [], ◌∷◌};
 ghost use Rattle.std.proofs.Common.{rules};
-ghost use Rattle.cvss_name.specs.declared.v4.MetricType.TheVariants.{MVC, MVI, MVA};
-ghost use Rattle.cvss_v4_env.specs.Ranks.{modified_confidentiality_impact_to_the_vulnerable_system_rank, modified_integrity_impact_to_the_vulnerable_system_rank, modified_availability_impact_to_the_vulnerable_system_rank};
+ghost use Rattle.cvss_name.specs.declared.v4.MetricType.TheVariants as metric;
+ghost use Rattle.cvss_v4_env.specs.Ranks as place;
 ghost use Rattle.cvss_v4_metric.specs.Table.{metric_component};
 ghost use Rattle.cvss_v4_env.specs.declared.vulnerable.ModifiedConfidentialityImpactToTheVulnerableSystem.TheVariants as modified_confidentiality_impact_to_the_vulnerable_system;
 ghost use Rattle.cvss_v4_env.specs.declared.vulnerable.ModifiedIntegrityImpactToTheVulnerableSystem.TheVariants as modified_integrity_impact_to_the_vulnerable_system;
@@ -28,9 +28,9 @@ pub enum ModifiedConfidentialityImpactToTheVulnerableSystem {
 impl Metric for ModifiedConfidentialityImpactToTheVulnerableSystem {
     const TYPE: MetricType = MetricType::MVC;
 
-    ghost TYPE = { MVC };
+    ghost TYPE = { metric.MVC };
 
-    ghost rank = { modified_confidentiality_impact_to_the_vulnerable_system_rank };
+    ghost rank = { place.MVC };
 
     ghost values = { modified_confidentiality_impact_to_the_vulnerable_system.NotDefined ∷ modified_confidentiality_impact_to_the_vulnerable_system.None ∷ modified_confidentiality_impact_to_the_vulnerable_system.Low ∷ modified_confidentiality_impact_to_the_vulnerable_system.High ∷ [] };
 
@@ -38,28 +38,28 @@ impl Metric for ModifiedConfidentialityImpactToTheVulnerableSystem {
 
     fn slashed(self) -> &'static str {
         match self {
-            ModifiedConfidentialityImpactToTheVulnerableSystem::NotDefined => "/MVC:X",
-            ModifiedConfidentialityImpactToTheVulnerableSystem::None => "/MVC:N",
-            ModifiedConfidentialityImpactToTheVulnerableSystem::Low => "/MVC:L",
-            ModifiedConfidentialityImpactToTheVulnerableSystem::High => "/MVC:H",
+            Self::NotDefined => "/MVC:X",
+            Self::None => "/MVC:N",
+            Self::Low => "/MVC:L",
+            Self::High => "/MVC:H",
         }
     }
 
     fn read_bytes(text: &[u8]) -> Option<Self> {
         match only_byte(text)? {
-            b'X' | b'x' => Some(ModifiedConfidentialityImpactToTheVulnerableSystem::NotDefined),
-            b'N' | b'n' => Some(ModifiedConfidentialityImpactToTheVulnerableSystem::None),
-            b'L' | b'l' => Some(ModifiedConfidentialityImpactToTheVulnerableSystem::Low),
-            b'H' | b'h' => Some(ModifiedConfidentialityImpactToTheVulnerableSystem::High),
+            b'X' | b'x' => Some(Self::NotDefined),
+            b'N' | b'n' => Some(Self::None),
+            b'L' | b'l' => Some(Self::Low),
+            b'H' | b'h' => Some(Self::High),
             _ => None,
         }
     }
 }
 
 impl fmt::Display for ModifiedConfidentialityImpactToTheVulnerableSystem {
-    ghost output = { λ metric. Some (metric_component MVC (modified_confidentiality_impact_to_the_vulnerable_system_rank metric)) };
+    ghost output = { λ value. Some (metric_component metric.MVC (place.MVC value)) };
 
-    ghost styled_output = { λ metric _. Some (metric_component MVC (modified_confidentiality_impact_to_the_vulnerable_system_rank metric)) };
+    ghost styled_output = { λ value _. Some (metric_component metric.MVC (place.MVC value)) };
 
     fn fmt<W: fmt::Write>(&self, f: &mut fmt::Formatter<W>) -> fmt::Result {
         write_component(self.slashed(), f)
@@ -80,9 +80,9 @@ pub enum ModifiedIntegrityImpactToTheVulnerableSystem {
 impl Metric for ModifiedIntegrityImpactToTheVulnerableSystem {
     const TYPE: MetricType = MetricType::MVI;
 
-    ghost TYPE = { MVI };
+    ghost TYPE = { metric.MVI };
 
-    ghost rank = { modified_integrity_impact_to_the_vulnerable_system_rank };
+    ghost rank = { place.MVI };
 
     ghost values = { modified_integrity_impact_to_the_vulnerable_system.NotDefined ∷ modified_integrity_impact_to_the_vulnerable_system.None ∷ modified_integrity_impact_to_the_vulnerable_system.Low ∷ modified_integrity_impact_to_the_vulnerable_system.High ∷ [] };
 
@@ -90,28 +90,28 @@ impl Metric for ModifiedIntegrityImpactToTheVulnerableSystem {
 
     fn slashed(self) -> &'static str {
         match self {
-            ModifiedIntegrityImpactToTheVulnerableSystem::NotDefined => "/MVI:X",
-            ModifiedIntegrityImpactToTheVulnerableSystem::None => "/MVI:N",
-            ModifiedIntegrityImpactToTheVulnerableSystem::Low => "/MVI:L",
-            ModifiedIntegrityImpactToTheVulnerableSystem::High => "/MVI:H",
+            Self::NotDefined => "/MVI:X",
+            Self::None => "/MVI:N",
+            Self::Low => "/MVI:L",
+            Self::High => "/MVI:H",
         }
     }
 
     fn read_bytes(text: &[u8]) -> Option<Self> {
         match only_byte(text)? {
-            b'X' | b'x' => Some(ModifiedIntegrityImpactToTheVulnerableSystem::NotDefined),
-            b'N' | b'n' => Some(ModifiedIntegrityImpactToTheVulnerableSystem::None),
-            b'L' | b'l' => Some(ModifiedIntegrityImpactToTheVulnerableSystem::Low),
-            b'H' | b'h' => Some(ModifiedIntegrityImpactToTheVulnerableSystem::High),
+            b'X' | b'x' => Some(Self::NotDefined),
+            b'N' | b'n' => Some(Self::None),
+            b'L' | b'l' => Some(Self::Low),
+            b'H' | b'h' => Some(Self::High),
             _ => None,
         }
     }
 }
 
 impl fmt::Display for ModifiedIntegrityImpactToTheVulnerableSystem {
-    ghost output = { λ metric. Some (metric_component MVI (modified_integrity_impact_to_the_vulnerable_system_rank metric)) };
+    ghost output = { λ value. Some (metric_component metric.MVI (place.MVI value)) };
 
-    ghost styled_output = { λ metric _. Some (metric_component MVI (modified_integrity_impact_to_the_vulnerable_system_rank metric)) };
+    ghost styled_output = { λ value _. Some (metric_component metric.MVI (place.MVI value)) };
 
     fn fmt<W: fmt::Write>(&self, f: &mut fmt::Formatter<W>) -> fmt::Result {
         write_component(self.slashed(), f)
@@ -132,9 +132,9 @@ pub enum ModifiedAvailabilityImpactToTheVulnerableSystem {
 impl Metric for ModifiedAvailabilityImpactToTheVulnerableSystem {
     const TYPE: MetricType = MetricType::MVA;
 
-    ghost TYPE = { MVA };
+    ghost TYPE = { metric.MVA };
 
-    ghost rank = { modified_availability_impact_to_the_vulnerable_system_rank };
+    ghost rank = { place.MVA };
 
     ghost values = { modified_availability_impact_to_the_vulnerable_system.NotDefined ∷ modified_availability_impact_to_the_vulnerable_system.None ∷ modified_availability_impact_to_the_vulnerable_system.Low ∷ modified_availability_impact_to_the_vulnerable_system.High ∷ [] };
 
@@ -142,28 +142,28 @@ impl Metric for ModifiedAvailabilityImpactToTheVulnerableSystem {
 
     fn slashed(self) -> &'static str {
         match self {
-            ModifiedAvailabilityImpactToTheVulnerableSystem::NotDefined => "/MVA:X",
-            ModifiedAvailabilityImpactToTheVulnerableSystem::None => "/MVA:N",
-            ModifiedAvailabilityImpactToTheVulnerableSystem::Low => "/MVA:L",
-            ModifiedAvailabilityImpactToTheVulnerableSystem::High => "/MVA:H",
+            Self::NotDefined => "/MVA:X",
+            Self::None => "/MVA:N",
+            Self::Low => "/MVA:L",
+            Self::High => "/MVA:H",
         }
     }
 
     fn read_bytes(text: &[u8]) -> Option<Self> {
         match only_byte(text)? {
-            b'X' | b'x' => Some(ModifiedAvailabilityImpactToTheVulnerableSystem::NotDefined),
-            b'N' | b'n' => Some(ModifiedAvailabilityImpactToTheVulnerableSystem::None),
-            b'L' | b'l' => Some(ModifiedAvailabilityImpactToTheVulnerableSystem::Low),
-            b'H' | b'h' => Some(ModifiedAvailabilityImpactToTheVulnerableSystem::High),
+            b'X' | b'x' => Some(Self::NotDefined),
+            b'N' | b'n' => Some(Self::None),
+            b'L' | b'l' => Some(Self::Low),
+            b'H' | b'h' => Some(Self::High),
             _ => None,
         }
     }
 }
 
 impl fmt::Display for ModifiedAvailabilityImpactToTheVulnerableSystem {
-    ghost output = { λ metric. Some (metric_component MVA (modified_availability_impact_to_the_vulnerable_system_rank metric)) };
+    ghost output = { λ value. Some (metric_component metric.MVA (place.MVA value)) };
 
-    ghost styled_output = { λ metric _. Some (metric_component MVA (modified_availability_impact_to_the_vulnerable_system_rank metric)) };
+    ghost styled_output = { λ value _. Some (metric_component metric.MVA (place.MVA value)) };
 
     fn fmt<W: fmt::Write>(&self, f: &mut fmt::Formatter<W>) -> fmt::Result {
         write_component(self.slashed(), f)

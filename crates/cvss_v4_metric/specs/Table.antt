@@ -1,6 +1,6 @@
 -- The metrics of CVSS v4.0 with the spellings of their values, as they are compared, the least first: v4.0
 -- specification, sections 2 (base), 3 (threat), 4 (environmental) and 5 (supplemental).
-use Rattle.std.specs.Prelude.{ℕ, List, [], ◌∷◌, ◌++◌, codes, slice_get, unwrap_or}
+use Rattle.std.specs.Prelude.{ℕ, List, [], ◌∷◌, ◌++◌, codes, drop, slice_get, unwrap_or}
 use Rattle.cvss_grammar.specs.Text.{component}
 use Rattle.cvss_name.specs.V4Types.{name_of}
 use Rattle.cvss_name.specs.declared.v4.MetricType.{MetricType}
@@ -94,3 +94,7 @@ threat = E ∷ []
 -- the environmental metrics
 abbrev pub environmental : List MetricType
 environmental = CR ∷ IR ∷ AR ∷ MAV ∷ MAC ∷ MAT ∷ MPR ∷ MUI ∷ MVC ∷ MVI ∷ MVA ∷ MSC ∷ MSI ∷ MSA ∷ []
+
+-- the supplemental metrics, which are printed last
+abbrev pub supplemental : List MetricType
+supplemental = drop 26 printed

@@ -2,8 +2,8 @@
 
 ghost use Rattle.std.specs.Prelude.{Some, [], ◌∷◌};
 ghost use Rattle.std.proofs.Common.{rules};
-ghost use Rattle.cvss_name.specs.declared.v4.MetricType.TheVariants.{E};
-ghost use Rattle.cvss_v4_metric.specs.Ranks.{exploit_maturity_rank};
+ghost use Rattle.cvss_name.specs.declared.v4.MetricType.TheVariants as metric;
+ghost use Rattle.cvss_v4_metric.specs.Ranks as place;
 ghost use Rattle.cvss_v4_metric.specs.Table.{metric_component};
 ghost use Rattle.cvss_v4_metric.specs.declared.threat.ExploitMaturity.TheVariants as exploit_maturity;
 
@@ -24,9 +24,9 @@ pub enum ExploitMaturity {
 impl Metric for ExploitMaturity {
     const TYPE: MetricType = MetricType::E;
 
-    ghost TYPE = { E };
+    ghost TYPE = { metric.E };
 
-    ghost rank = { exploit_maturity_rank };
+    ghost rank = { place.E };
 
     ghost values = { exploit_maturity.NotDefined ∷ exploit_maturity.Unreported ∷ exploit_maturity.ProofOfConcept ∷ exploit_maturity.Attacked ∷ [] };
 
@@ -34,28 +34,28 @@ impl Metric for ExploitMaturity {
 
     fn slashed(self) -> &'static str {
         match self {
-            ExploitMaturity::NotDefined => "/E:X",
-            ExploitMaturity::Unreported => "/E:U",
-            ExploitMaturity::ProofOfConcept => "/E:P",
-            ExploitMaturity::Attacked => "/E:A",
+            Self::NotDefined => "/E:X",
+            Self::Unreported => "/E:U",
+            Self::ProofOfConcept => "/E:P",
+            Self::Attacked => "/E:A",
         }
     }
 
     fn read_bytes(text: &[u8]) -> Option<Self> {
         match only_byte(text)? {
-            b'X' | b'x' => Some(ExploitMaturity::NotDefined),
-            b'U' | b'u' => Some(ExploitMaturity::Unreported),
-            b'P' | b'p' => Some(ExploitMaturity::ProofOfConcept),
-            b'A' | b'a' => Some(ExploitMaturity::Attacked),
+            b'X' | b'x' => Some(Self::NotDefined),
+            b'U' | b'u' => Some(Self::Unreported),
+            b'P' | b'p' => Some(Self::ProofOfConcept),
+            b'A' | b'a' => Some(Self::Attacked),
             _ => None,
         }
     }
 }
 
 impl fmt::Display for ExploitMaturity {
-    ghost output = { λ metric. Some (metric_component E (exploit_maturity_rank metric)) };
+    ghost output = { λ value. Some (metric_component metric.E (place.E value)) };
 
-    ghost styled_output = { λ metric _. Some (metric_component E (exploit_maturity_rank metric)) };
+    ghost styled_output = { λ value _. Some (metric_component metric.E (place.E value)) };
 
     fn fmt<W: fmt::Write>(&self, f: &mut fmt::Formatter<W>) -> fmt::Result {
         write_component(self.slashed(), f)

@@ -3,7 +3,7 @@ use Rattle.std.specs.Prelude.{◌≡◌, ◌++◌, codes, refl}
 use Rattle.cvss_text.specs.private.Walk.{IsLawful, IsLawfulFront}
 use Rattle.cvss_grammar.specs.Version.{numeral}
 use Rattle.cvss_name.specs.declared.v4.MetricType.{MetricType}
-use Rattle.cvss_name.specs.declared.v4.MetricType.TheVariants.{AC, AT, AV, PR, SA, SC, SI, UI, VA, VC, VI, E, AR, CR, IR, MAC, MAT, MAV, MPR, MSA, MSC, MSI, MUI, MVA, MVC, MVI, AU, R, RE, S, U, V}
+use Rattle.cvss_name.specs.declared.v4.MetricType.TheVariants as metric
 use Rattle.cvss_text.proofs.NumeralLemmas.{numeral-injective, numeral-plain}
 use Rattle.cvss_v4.specs.private.TableLaws.{plain_spelling, one_value}
 use Rattle.cvss_v4.specs.declared.vector.Vector.{Vector}
@@ -20,43 +20,43 @@ one_minor_version v w same =
 one_vector : (v w : Vector) → v4.front v ≡ v4.front w → ((kind : MetricType) → value_at v kind ≡ value_at w kind) → v ≡ w
 one_vector v w front same = λ i. record {
   minor_version = one_minor_version v w front i;
-  av = same AV i;
-  ac = same AC i;
-  at = same AT i;
-  pr = same PR i;
-  ui = same UI i;
-  vc = same VC i;
-  vi = same VI i;
-  va = same VA i;
-  sc = same SC i;
-  si = same SI i;
-  sa = same SA i;
-  e = same E i;
-  cr = same CR i;
-  ir = same IR i;
-  ar = same AR i;
-  mav = same MAV i;
-  mac = same MAC i;
-  mat = same MAT i;
-  mpr = same MPR i;
-  mui = same MUI i;
-  mvc = same MVC i;
-  mvi = same MVI i;
-  mva = same MVA i;
-  msc = same MSC i;
-  msi = same MSI i;
-  msa = same MSA i;
-  s = same S i;
-  au = same AU i;
-  r = same R i;
-  v = same V i;
-  re = same RE i;
-  u = same U i;
+  av = same metric.AV i;
+  ac = same metric.AC i;
+  at = same metric.AT i;
+  pr = same metric.PR i;
+  ui = same metric.UI i;
+  vc = same metric.VC i;
+  vi = same metric.VI i;
+  va = same metric.VA i;
+  sc = same metric.SC i;
+  si = same metric.SI i;
+  sa = same metric.SA i;
+  e = same metric.E i;
+  cr = same metric.CR i;
+  ir = same metric.IR i;
+  ar = same metric.AR i;
+  mav = same metric.MAV i;
+  mac = same metric.MAC i;
+  mat = same metric.MAT i;
+  mpr = same metric.MPR i;
+  mui = same metric.MUI i;
+  mvc = same metric.MVC i;
+  mvi = same metric.MVI i;
+  mva = same metric.MVA i;
+  msc = same metric.MSC i;
+  msi = same metric.MSI i;
+  msa = same metric.MSA i;
+  s = same metric.S i;
+  au = same metric.AU i;
+  r = same metric.R i;
+  v = same metric.V i;
+  re = same metric.RE i;
+  u = same metric.U i;
 }
 
 pub v4_is_lawful : IsLawful v4
 v4_is_lawful = record {
-  placed = elim [ AC ↦ refl | _ ↦ refl ];
+  placed = elim [ metric.AC ↦ refl | _ ↦ refl ];
   in_order = refl;
   names_read = refl;
   names_plain = refl;

@@ -7,8 +7,8 @@ ghost use Rattle.cvss_grammar.specs.Version.{numeral, canonical_text, version_pi
 ghost use Rattle.cvss_text.specs.private.Printing.{slashed, slashed_texts};
 ghost use Rattle.cvss_grammar.specs.Text.{component};
 ghost use Rattle.cvss_name.specs.V4Types.{name_of};
-ghost use Rattle.cvss_name.specs.declared.v4.MetricType.TheVariants.{AC, AT, AV, PR, SA, SC, SI, UI, VA, VC, VI, E, AR, CR, IR, MAC, MAT, MAV, MPR, MSA, MSC, MSI, MUI, MVA, MVC, MVI, AU, R, RE, S, U, V};
-ghost use Rattle.cvss_v4_metric.specs.Table.{printed, spelling_at};
+ghost use Rattle.cvss_name.specs.declared.v4.MetricType.TheVariants.{AC, AT, AV, PR, SA, SC, SI, UI, VA, VC, VI, E, AR, CR, IR, MAC, MAT, MAV, MPR, MSA, MSC, MSI, MUI, MVA, MVC, MVI};
+ghost use Rattle.cvss_v4_metric.specs.Table.{printed, spelling_at, supplemental};
 ghost use Rattle.cvss_v4.specs.Vector.{v4};
 ghost use Rattle.cvss_v4.specs.private.Shown.{shown};
 
@@ -154,7 +154,7 @@ impl Vector {
     /// Writes the supplemental metrics, each with a slash before it.
     fn write_supplemental<W: fmt::Write>(&self, f: &mut fmt::Formatter<W>) -> fmt::Result
         ensures { WritesOnOk W.write_str_gives f.old result
-            (slashed_texts v4 self.now (S ∷ AU ∷ R ∷ V ∷ RE ∷ U ∷ [])) f.new }
+            (slashed_texts v4 self.now supplemental) f.new }
     {
         write_three(self.s, self.au, self.r, f)?;
         write_three(self.v, self.re, self.u, f)

@@ -3,8 +3,8 @@
 
 ghost use Rattle.std.specs.Prelude.{Some, [], ◌∷◌};
 ghost use Rattle.std.proofs.Common.{rules};
-ghost use Rattle.cvss_name.specs.declared.v4.MetricType.TheVariants.{PR, UI};
-ghost use Rattle.cvss_v4_metric.specs.Ranks.{privileges_required_rank, user_interaction_rank};
+ghost use Rattle.cvss_name.specs.declared.v4.MetricType.TheVariants as metric;
+ghost use Rattle.cvss_v4_metric.specs.Ranks as place;
 ghost use Rattle.cvss_v4_metric.specs.Table.{metric_component};
 ghost use Rattle.cvss_v4_metric.specs.declared.base.access.PrivilegesRequired.TheVariants as privileges_required;
 ghost use Rattle.cvss_v4_metric.specs.declared.base.access.UserInteraction.TheVariants as user_interaction;
@@ -25,9 +25,9 @@ pub enum PrivilegesRequired {
 impl Metric for PrivilegesRequired {
     const TYPE: MetricType = MetricType::PR;
 
-    ghost TYPE = { PR };
+    ghost TYPE = { metric.PR };
 
-    ghost rank = { privileges_required_rank };
+    ghost rank = { place.PR };
 
     ghost values = { privileges_required.High ∷ privileges_required.Low ∷ privileges_required.None ∷ [] };
 
@@ -35,26 +35,26 @@ impl Metric for PrivilegesRequired {
 
     fn slashed(self) -> &'static str {
         match self {
-            PrivilegesRequired::High => "/PR:H",
-            PrivilegesRequired::Low => "/PR:L",
-            PrivilegesRequired::None => "/PR:N",
+            Self::High => "/PR:H",
+            Self::Low => "/PR:L",
+            Self::None => "/PR:N",
         }
     }
 
     fn read_bytes(text: &[u8]) -> Option<Self> {
         match only_byte(text)? {
-            b'H' | b'h' => Some(PrivilegesRequired::High),
-            b'L' | b'l' => Some(PrivilegesRequired::Low),
-            b'N' | b'n' => Some(PrivilegesRequired::None),
+            b'H' | b'h' => Some(Self::High),
+            b'L' | b'l' => Some(Self::Low),
+            b'N' | b'n' => Some(Self::None),
             _ => None,
         }
     }
 }
 
 impl fmt::Display for PrivilegesRequired {
-    ghost output = { λ metric. Some (metric_component PR (privileges_required_rank metric)) };
+    ghost output = { λ value. Some (metric_component metric.PR (place.PR value)) };
 
-    ghost styled_output = { λ metric _. Some (metric_component PR (privileges_required_rank metric)) };
+    ghost styled_output = { λ value _. Some (metric_component metric.PR (place.PR value)) };
 
     fn fmt<W: fmt::Write>(&self, f: &mut fmt::Formatter<W>) -> fmt::Result {
         write_component(self.slashed(), f)
@@ -73,9 +73,9 @@ pub enum UserInteraction {
 impl Metric for UserInteraction {
     const TYPE: MetricType = MetricType::UI;
 
-    ghost TYPE = { UI };
+    ghost TYPE = { metric.UI };
 
-    ghost rank = { user_interaction_rank };
+    ghost rank = { place.UI };
 
     ghost values = { user_interaction.Active ∷ user_interaction.Passive ∷ user_interaction.None ∷ [] };
 
@@ -83,26 +83,26 @@ impl Metric for UserInteraction {
 
     fn slashed(self) -> &'static str {
         match self {
-            UserInteraction::Active => "/UI:A",
-            UserInteraction::Passive => "/UI:P",
-            UserInteraction::None => "/UI:N",
+            Self::Active => "/UI:A",
+            Self::Passive => "/UI:P",
+            Self::None => "/UI:N",
         }
     }
 
     fn read_bytes(text: &[u8]) -> Option<Self> {
         match only_byte(text)? {
-            b'A' | b'a' => Some(UserInteraction::Active),
-            b'P' | b'p' => Some(UserInteraction::Passive),
-            b'N' | b'n' => Some(UserInteraction::None),
+            b'A' | b'a' => Some(Self::Active),
+            b'P' | b'p' => Some(Self::Passive),
+            b'N' | b'n' => Some(Self::None),
             _ => None,
         }
     }
 }
 
 impl fmt::Display for UserInteraction {
-    ghost output = { λ metric. Some (metric_component UI (user_interaction_rank metric)) };
+    ghost output = { λ value. Some (metric_component metric.UI (place.UI value)) };
 
-    ghost styled_output = { λ metric _. Some (metric_component UI (user_interaction_rank metric)) };
+    ghost styled_output = { λ value _. Some (metric_component metric.UI (place.UI value)) };
 
     fn fmt<W: fmt::Write>(&self, f: &mut fmt::Formatter<W>) -> fmt::Result {
         write_component(self.slashed(), f)

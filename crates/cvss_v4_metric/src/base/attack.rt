@@ -3,8 +3,8 @@
 
 ghost use Rattle.std.specs.Prelude.{Some, [], ◌∷◌};
 ghost use Rattle.std.proofs.Common.{rules};
-ghost use Rattle.cvss_name.specs.declared.v4.MetricType.TheVariants.{AV, AC, AT};
-ghost use Rattle.cvss_v4_metric.specs.Ranks.{attack_vector_rank, attack_complexity_rank, attack_requirements_rank};
+ghost use Rattle.cvss_name.specs.declared.v4.MetricType.TheVariants as metric;
+ghost use Rattle.cvss_v4_metric.specs.Ranks as place;
 ghost use Rattle.cvss_v4_metric.specs.Table.{metric_component};
 ghost use Rattle.cvss_v4_metric.specs.declared.base.attack.AttackVector.TheVariants as attack_vector;
 ghost use Rattle.cvss_v4_metric.specs.declared.base.attack.AttackComplexity.TheVariants as attack_complexity;
@@ -27,9 +27,9 @@ pub enum AttackVector {
 impl Metric for AttackVector {
     const TYPE: MetricType = MetricType::AV;
 
-    ghost TYPE = { AV };
+    ghost TYPE = { metric.AV };
 
-    ghost rank = { attack_vector_rank };
+    ghost rank = { place.AV };
 
     ghost values = { attack_vector.Physical ∷ attack_vector.Local ∷ attack_vector.Adjacent ∷ attack_vector.Network ∷ [] };
 
@@ -37,28 +37,28 @@ impl Metric for AttackVector {
 
     fn slashed(self) -> &'static str {
         match self {
-            AttackVector::Physical => "/AV:P",
-            AttackVector::Local => "/AV:L",
-            AttackVector::Adjacent => "/AV:A",
-            AttackVector::Network => "/AV:N",
+            Self::Physical => "/AV:P",
+            Self::Local => "/AV:L",
+            Self::Adjacent => "/AV:A",
+            Self::Network => "/AV:N",
         }
     }
 
     fn read_bytes(text: &[u8]) -> Option<Self> {
         match only_byte(text)? {
-            b'P' | b'p' => Some(AttackVector::Physical),
-            b'L' | b'l' => Some(AttackVector::Local),
-            b'A' | b'a' => Some(AttackVector::Adjacent),
-            b'N' | b'n' => Some(AttackVector::Network),
+            b'P' | b'p' => Some(Self::Physical),
+            b'L' | b'l' => Some(Self::Local),
+            b'A' | b'a' => Some(Self::Adjacent),
+            b'N' | b'n' => Some(Self::Network),
             _ => None,
         }
     }
 }
 
 impl fmt::Display for AttackVector {
-    ghost output = { λ metric. Some (metric_component AV (attack_vector_rank metric)) };
+    ghost output = { λ value. Some (metric_component metric.AV (place.AV value)) };
 
-    ghost styled_output = { λ metric _. Some (metric_component AV (attack_vector_rank metric)) };
+    ghost styled_output = { λ value _. Some (metric_component metric.AV (place.AV value)) };
 
     fn fmt<W: fmt::Write>(&self, f: &mut fmt::Formatter<W>) -> fmt::Result {
         write_component(self.slashed(), f)
@@ -77,9 +77,9 @@ pub enum AttackComplexity {
 impl Metric for AttackComplexity {
     const TYPE: MetricType = MetricType::AC;
 
-    ghost TYPE = { AC };
+    ghost TYPE = { metric.AC };
 
-    ghost rank = { attack_complexity_rank };
+    ghost rank = { place.AC };
 
     ghost values = { attack_complexity.High ∷ attack_complexity.Low ∷ [] };
 
@@ -87,24 +87,24 @@ impl Metric for AttackComplexity {
 
     fn slashed(self) -> &'static str {
         match self {
-            AttackComplexity::High => "/AC:H",
-            AttackComplexity::Low => "/AC:L",
+            Self::High => "/AC:H",
+            Self::Low => "/AC:L",
         }
     }
 
     fn read_bytes(text: &[u8]) -> Option<Self> {
         match only_byte(text)? {
-            b'H' | b'h' => Some(AttackComplexity::High),
-            b'L' | b'l' => Some(AttackComplexity::Low),
+            b'H' | b'h' => Some(Self::High),
+            b'L' | b'l' => Some(Self::Low),
             _ => None,
         }
     }
 }
 
 impl fmt::Display for AttackComplexity {
-    ghost output = { λ metric. Some (metric_component AC (attack_complexity_rank metric)) };
+    ghost output = { λ value. Some (metric_component metric.AC (place.AC value)) };
 
-    ghost styled_output = { λ metric _. Some (metric_component AC (attack_complexity_rank metric)) };
+    ghost styled_output = { λ value _. Some (metric_component metric.AC (place.AC value)) };
 
     fn fmt<W: fmt::Write>(&self, f: &mut fmt::Formatter<W>) -> fmt::Result {
         write_component(self.slashed(), f)
@@ -123,9 +123,9 @@ pub enum AttackRequirements {
 impl Metric for AttackRequirements {
     const TYPE: MetricType = MetricType::AT;
 
-    ghost TYPE = { AT };
+    ghost TYPE = { metric.AT };
 
-    ghost rank = { attack_requirements_rank };
+    ghost rank = { place.AT };
 
     ghost values = { attack_requirements.Present ∷ attack_requirements.None ∷ [] };
 
@@ -133,24 +133,24 @@ impl Metric for AttackRequirements {
 
     fn slashed(self) -> &'static str {
         match self {
-            AttackRequirements::Present => "/AT:P",
-            AttackRequirements::None => "/AT:N",
+            Self::Present => "/AT:P",
+            Self::None => "/AT:N",
         }
     }
 
     fn read_bytes(text: &[u8]) -> Option<Self> {
         match only_byte(text)? {
-            b'P' | b'p' => Some(AttackRequirements::Present),
-            b'N' | b'n' => Some(AttackRequirements::None),
+            b'P' | b'p' => Some(Self::Present),
+            b'N' | b'n' => Some(Self::None),
             _ => None,
         }
     }
 }
 
 impl fmt::Display for AttackRequirements {
-    ghost output = { λ metric. Some (metric_component AT (attack_requirements_rank metric)) };
+    ghost output = { λ value. Some (metric_component metric.AT (place.AT value)) };
 
-    ghost styled_output = { λ metric _. Some (metric_component AT (attack_requirements_rank metric)) };
+    ghost styled_output = { λ value _. Some (metric_component metric.AT (place.AT value)) };
 
     fn fmt<W: fmt::Write>(&self, f: &mut fmt::Formatter<W>) -> fmt::Result {
         write_component(self.slashed(), f)

@@ -2,8 +2,8 @@
 
 ghost use Rattle.std.specs.Prelude.{Some, [], ◌∷◌};
 ghost use Rattle.std.proofs.Common.{rules};
-ghost use Rattle.cvss_name.specs.declared.v4.MetricType.TheVariants.{SC, SI, SA};
-ghost use Rattle.cvss_v4_metric.specs.Ranks.{confidentiality_impact_to_the_subsequent_system_rank, integrity_impact_to_the_subsequent_system_rank, availability_impact_to_the_subsequent_system_rank};
+ghost use Rattle.cvss_name.specs.declared.v4.MetricType.TheVariants as metric;
+ghost use Rattle.cvss_v4_metric.specs.Ranks as place;
 ghost use Rattle.cvss_v4_metric.specs.Table.{metric_component};
 ghost use Rattle.cvss_v4_metric.specs.declared.base.subsequent.ConfidentialityImpactToTheSubsequentSystem.TheVariants as confidentiality_impact_to_the_subsequent_system;
 ghost use Rattle.cvss_v4_metric.specs.declared.base.subsequent.IntegrityImpactToTheSubsequentSystem.TheVariants as integrity_impact_to_the_subsequent_system;
@@ -26,9 +26,9 @@ pub enum ConfidentialityImpactToTheSubsequentSystem {
 impl Metric for ConfidentialityImpactToTheSubsequentSystem {
     const TYPE: MetricType = MetricType::SC;
 
-    ghost TYPE = { SC };
+    ghost TYPE = { metric.SC };
 
-    ghost rank = { confidentiality_impact_to_the_subsequent_system_rank };
+    ghost rank = { place.SC };
 
     ghost values = { confidentiality_impact_to_the_subsequent_system.None ∷ confidentiality_impact_to_the_subsequent_system.Low ∷ confidentiality_impact_to_the_subsequent_system.High ∷ [] };
 
@@ -36,26 +36,26 @@ impl Metric for ConfidentialityImpactToTheSubsequentSystem {
 
     fn slashed(self) -> &'static str {
         match self {
-            ConfidentialityImpactToTheSubsequentSystem::None => "/SC:N",
-            ConfidentialityImpactToTheSubsequentSystem::Low => "/SC:L",
-            ConfidentialityImpactToTheSubsequentSystem::High => "/SC:H",
+            Self::None => "/SC:N",
+            Self::Low => "/SC:L",
+            Self::High => "/SC:H",
         }
     }
 
     fn read_bytes(text: &[u8]) -> Option<Self> {
         match only_byte(text)? {
-            b'N' | b'n' => Some(ConfidentialityImpactToTheSubsequentSystem::None),
-            b'L' | b'l' => Some(ConfidentialityImpactToTheSubsequentSystem::Low),
-            b'H' | b'h' => Some(ConfidentialityImpactToTheSubsequentSystem::High),
+            b'N' | b'n' => Some(Self::None),
+            b'L' | b'l' => Some(Self::Low),
+            b'H' | b'h' => Some(Self::High),
             _ => None,
         }
     }
 }
 
 impl fmt::Display for ConfidentialityImpactToTheSubsequentSystem {
-    ghost output = { λ metric. Some (metric_component SC (confidentiality_impact_to_the_subsequent_system_rank metric)) };
+    ghost output = { λ value. Some (metric_component metric.SC (place.SC value)) };
 
-    ghost styled_output = { λ metric _. Some (metric_component SC (confidentiality_impact_to_the_subsequent_system_rank metric)) };
+    ghost styled_output = { λ value _. Some (metric_component metric.SC (place.SC value)) };
 
     fn fmt<W: fmt::Write>(&self, f: &mut fmt::Formatter<W>) -> fmt::Result {
         write_component(self.slashed(), f)
@@ -74,9 +74,9 @@ pub enum IntegrityImpactToTheSubsequentSystem {
 impl Metric for IntegrityImpactToTheSubsequentSystem {
     const TYPE: MetricType = MetricType::SI;
 
-    ghost TYPE = { SI };
+    ghost TYPE = { metric.SI };
 
-    ghost rank = { integrity_impact_to_the_subsequent_system_rank };
+    ghost rank = { place.SI };
 
     ghost values = { integrity_impact_to_the_subsequent_system.None ∷ integrity_impact_to_the_subsequent_system.Low ∷ integrity_impact_to_the_subsequent_system.High ∷ [] };
 
@@ -84,26 +84,26 @@ impl Metric for IntegrityImpactToTheSubsequentSystem {
 
     fn slashed(self) -> &'static str {
         match self {
-            IntegrityImpactToTheSubsequentSystem::None => "/SI:N",
-            IntegrityImpactToTheSubsequentSystem::Low => "/SI:L",
-            IntegrityImpactToTheSubsequentSystem::High => "/SI:H",
+            Self::None => "/SI:N",
+            Self::Low => "/SI:L",
+            Self::High => "/SI:H",
         }
     }
 
     fn read_bytes(text: &[u8]) -> Option<Self> {
         match only_byte(text)? {
-            b'N' | b'n' => Some(IntegrityImpactToTheSubsequentSystem::None),
-            b'L' | b'l' => Some(IntegrityImpactToTheSubsequentSystem::Low),
-            b'H' | b'h' => Some(IntegrityImpactToTheSubsequentSystem::High),
+            b'N' | b'n' => Some(Self::None),
+            b'L' | b'l' => Some(Self::Low),
+            b'H' | b'h' => Some(Self::High),
             _ => None,
         }
     }
 }
 
 impl fmt::Display for IntegrityImpactToTheSubsequentSystem {
-    ghost output = { λ metric. Some (metric_component SI (integrity_impact_to_the_subsequent_system_rank metric)) };
+    ghost output = { λ value. Some (metric_component metric.SI (place.SI value)) };
 
-    ghost styled_output = { λ metric _. Some (metric_component SI (integrity_impact_to_the_subsequent_system_rank metric)) };
+    ghost styled_output = { λ value _. Some (metric_component metric.SI (place.SI value)) };
 
     fn fmt<W: fmt::Write>(&self, f: &mut fmt::Formatter<W>) -> fmt::Result {
         write_component(self.slashed(), f)
@@ -123,9 +123,9 @@ pub enum AvailabilityImpactToTheSubsequentSystem {
 impl Metric for AvailabilityImpactToTheSubsequentSystem {
     const TYPE: MetricType = MetricType::SA;
 
-    ghost TYPE = { SA };
+    ghost TYPE = { metric.SA };
 
-    ghost rank = { availability_impact_to_the_subsequent_system_rank };
+    ghost rank = { place.SA };
 
     ghost values = { availability_impact_to_the_subsequent_system.None ∷ availability_impact_to_the_subsequent_system.Low ∷ availability_impact_to_the_subsequent_system.High ∷ [] };
 
@@ -133,26 +133,26 @@ impl Metric for AvailabilityImpactToTheSubsequentSystem {
 
     fn slashed(self) -> &'static str {
         match self {
-            AvailabilityImpactToTheSubsequentSystem::None => "/SA:N",
-            AvailabilityImpactToTheSubsequentSystem::Low => "/SA:L",
-            AvailabilityImpactToTheSubsequentSystem::High => "/SA:H",
+            Self::None => "/SA:N",
+            Self::Low => "/SA:L",
+            Self::High => "/SA:H",
         }
     }
 
     fn read_bytes(text: &[u8]) -> Option<Self> {
         match only_byte(text)? {
-            b'N' | b'n' => Some(AvailabilityImpactToTheSubsequentSystem::None),
-            b'L' | b'l' => Some(AvailabilityImpactToTheSubsequentSystem::Low),
-            b'H' | b'h' => Some(AvailabilityImpactToTheSubsequentSystem::High),
+            b'N' | b'n' => Some(Self::None),
+            b'L' | b'l' => Some(Self::Low),
+            b'H' | b'h' => Some(Self::High),
             _ => None,
         }
     }
 }
 
 impl fmt::Display for AvailabilityImpactToTheSubsequentSystem {
-    ghost output = { λ metric. Some (metric_component SA (availability_impact_to_the_subsequent_system_rank metric)) };
+    ghost output = { λ value. Some (metric_component metric.SA (place.SA value)) };
 
-    ghost styled_output = { λ metric _. Some (metric_component SA (availability_impact_to_the_subsequent_system_rank metric)) };
+    ghost styled_output = { λ value _. Some (metric_component metric.SA (place.SA value)) };
 
     fn fmt<W: fmt::Write>(&self, f: &mut fmt::Formatter<W>) -> fmt::Result {
         write_component(self.slashed(), f)

@@ -2,8 +2,8 @@
 
 ghost use Rattle.std.specs.Prelude.{Some, [], ◌∷◌};
 ghost use Rattle.std.proofs.Common.{rules};
-ghost use Rattle.cvss_name.specs.declared.v4.MetricType.TheVariants.{VC, VI, VA};
-ghost use Rattle.cvss_v4_metric.specs.Ranks.{confidentiality_impact_to_the_vulnerable_system_rank, integrity_impact_to_the_vulnerable_system_rank, availability_impact_to_the_vulnerable_system_rank};
+ghost use Rattle.cvss_name.specs.declared.v4.MetricType.TheVariants as metric;
+ghost use Rattle.cvss_v4_metric.specs.Ranks as place;
 ghost use Rattle.cvss_v4_metric.specs.Table.{metric_component};
 ghost use Rattle.cvss_v4_metric.specs.declared.base.vulnerable.ConfidentialityImpactToTheVulnerableSystem.TheVariants as confidentiality_impact_to_the_vulnerable_system;
 ghost use Rattle.cvss_v4_metric.specs.declared.base.vulnerable.IntegrityImpactToTheVulnerableSystem.TheVariants as integrity_impact_to_the_vulnerable_system;
@@ -25,9 +25,9 @@ pub enum ConfidentialityImpactToTheVulnerableSystem {
 impl Metric for ConfidentialityImpactToTheVulnerableSystem {
     const TYPE: MetricType = MetricType::VC;
 
-    ghost TYPE = { VC };
+    ghost TYPE = { metric.VC };
 
-    ghost rank = { confidentiality_impact_to_the_vulnerable_system_rank };
+    ghost rank = { place.VC };
 
     ghost values = { confidentiality_impact_to_the_vulnerable_system.None ∷ confidentiality_impact_to_the_vulnerable_system.Low ∷ confidentiality_impact_to_the_vulnerable_system.High ∷ [] };
 
@@ -35,26 +35,26 @@ impl Metric for ConfidentialityImpactToTheVulnerableSystem {
 
     fn slashed(self) -> &'static str {
         match self {
-            ConfidentialityImpactToTheVulnerableSystem::None => "/VC:N",
-            ConfidentialityImpactToTheVulnerableSystem::Low => "/VC:L",
-            ConfidentialityImpactToTheVulnerableSystem::High => "/VC:H",
+            Self::None => "/VC:N",
+            Self::Low => "/VC:L",
+            Self::High => "/VC:H",
         }
     }
 
     fn read_bytes(text: &[u8]) -> Option<Self> {
         match only_byte(text)? {
-            b'N' | b'n' => Some(ConfidentialityImpactToTheVulnerableSystem::None),
-            b'L' | b'l' => Some(ConfidentialityImpactToTheVulnerableSystem::Low),
-            b'H' | b'h' => Some(ConfidentialityImpactToTheVulnerableSystem::High),
+            b'N' | b'n' => Some(Self::None),
+            b'L' | b'l' => Some(Self::Low),
+            b'H' | b'h' => Some(Self::High),
             _ => None,
         }
     }
 }
 
 impl fmt::Display for ConfidentialityImpactToTheVulnerableSystem {
-    ghost output = { λ metric. Some (metric_component VC (confidentiality_impact_to_the_vulnerable_system_rank metric)) };
+    ghost output = { λ value. Some (metric_component metric.VC (place.VC value)) };
 
-    ghost styled_output = { λ metric _. Some (metric_component VC (confidentiality_impact_to_the_vulnerable_system_rank metric)) };
+    ghost styled_output = { λ value _. Some (metric_component metric.VC (place.VC value)) };
 
     fn fmt<W: fmt::Write>(&self, f: &mut fmt::Formatter<W>) -> fmt::Result {
         write_component(self.slashed(), f)
@@ -73,9 +73,9 @@ pub enum IntegrityImpactToTheVulnerableSystem {
 impl Metric for IntegrityImpactToTheVulnerableSystem {
     const TYPE: MetricType = MetricType::VI;
 
-    ghost TYPE = { VI };
+    ghost TYPE = { metric.VI };
 
-    ghost rank = { integrity_impact_to_the_vulnerable_system_rank };
+    ghost rank = { place.VI };
 
     ghost values = { integrity_impact_to_the_vulnerable_system.None ∷ integrity_impact_to_the_vulnerable_system.Low ∷ integrity_impact_to_the_vulnerable_system.High ∷ [] };
 
@@ -83,26 +83,26 @@ impl Metric for IntegrityImpactToTheVulnerableSystem {
 
     fn slashed(self) -> &'static str {
         match self {
-            IntegrityImpactToTheVulnerableSystem::None => "/VI:N",
-            IntegrityImpactToTheVulnerableSystem::Low => "/VI:L",
-            IntegrityImpactToTheVulnerableSystem::High => "/VI:H",
+            Self::None => "/VI:N",
+            Self::Low => "/VI:L",
+            Self::High => "/VI:H",
         }
     }
 
     fn read_bytes(text: &[u8]) -> Option<Self> {
         match only_byte(text)? {
-            b'N' | b'n' => Some(IntegrityImpactToTheVulnerableSystem::None),
-            b'L' | b'l' => Some(IntegrityImpactToTheVulnerableSystem::Low),
-            b'H' | b'h' => Some(IntegrityImpactToTheVulnerableSystem::High),
+            b'N' | b'n' => Some(Self::None),
+            b'L' | b'l' => Some(Self::Low),
+            b'H' | b'h' => Some(Self::High),
             _ => None,
         }
     }
 }
 
 impl fmt::Display for IntegrityImpactToTheVulnerableSystem {
-    ghost output = { λ metric. Some (metric_component VI (integrity_impact_to_the_vulnerable_system_rank metric)) };
+    ghost output = { λ value. Some (metric_component metric.VI (place.VI value)) };
 
-    ghost styled_output = { λ metric _. Some (metric_component VI (integrity_impact_to_the_vulnerable_system_rank metric)) };
+    ghost styled_output = { λ value _. Some (metric_component metric.VI (place.VI value)) };
 
     fn fmt<W: fmt::Write>(&self, f: &mut fmt::Formatter<W>) -> fmt::Result {
         write_component(self.slashed(), f)
@@ -121,9 +121,9 @@ pub enum AvailabilityImpactToTheVulnerableSystem {
 impl Metric for AvailabilityImpactToTheVulnerableSystem {
     const TYPE: MetricType = MetricType::VA;
 
-    ghost TYPE = { VA };
+    ghost TYPE = { metric.VA };
 
-    ghost rank = { availability_impact_to_the_vulnerable_system_rank };
+    ghost rank = { place.VA };
 
     ghost values = { availability_impact_to_the_vulnerable_system.None ∷ availability_impact_to_the_vulnerable_system.Low ∷ availability_impact_to_the_vulnerable_system.High ∷ [] };
 
@@ -131,26 +131,26 @@ impl Metric for AvailabilityImpactToTheVulnerableSystem {
 
     fn slashed(self) -> &'static str {
         match self {
-            AvailabilityImpactToTheVulnerableSystem::None => "/VA:N",
-            AvailabilityImpactToTheVulnerableSystem::Low => "/VA:L",
-            AvailabilityImpactToTheVulnerableSystem::High => "/VA:H",
+            Self::None => "/VA:N",
+            Self::Low => "/VA:L",
+            Self::High => "/VA:H",
         }
     }
 
     fn read_bytes(text: &[u8]) -> Option<Self> {
         match only_byte(text)? {
-            b'N' | b'n' => Some(AvailabilityImpactToTheVulnerableSystem::None),
-            b'L' | b'l' => Some(AvailabilityImpactToTheVulnerableSystem::Low),
-            b'H' | b'h' => Some(AvailabilityImpactToTheVulnerableSystem::High),
+            b'N' | b'n' => Some(Self::None),
+            b'L' | b'l' => Some(Self::Low),
+            b'H' | b'h' => Some(Self::High),
             _ => None,
         }
     }
 }
 
 impl fmt::Display for AvailabilityImpactToTheVulnerableSystem {
-    ghost output = { λ metric. Some (metric_component VA (availability_impact_to_the_vulnerable_system_rank metric)) };
+    ghost output = { λ value. Some (metric_component metric.VA (place.VA value)) };
 
-    ghost styled_output = { λ metric _. Some (metric_component VA (availability_impact_to_the_vulnerable_system_rank metric)) };
+    ghost styled_output = { λ value _. Some (metric_component metric.VA (place.VA value)) };
 
     fn fmt<W: fmt::Write>(&self, f: &mut fmt::Formatter<W>) -> fmt::Result {
         write_component(self.slashed(), f)

@@ -2,8 +2,8 @@
 
 ghost use Rattle.std.specs.Prelude.{Some, [], ◌∷◌};
 ghost use Rattle.std.proofs.Common.{rules};
-ghost use Rattle.cvss_name.specs.declared.v4.MetricType.TheVariants.{AU, V};
-ghost use Rattle.cvss_v4_metric.specs.Ranks.{automatable_rank, value_density_rank};
+ghost use Rattle.cvss_name.specs.declared.v4.MetricType.TheVariants as metric;
+ghost use Rattle.cvss_v4_metric.specs.Ranks as place;
 ghost use Rattle.cvss_v4_metric.specs.Table.{metric_component};
 ghost use Rattle.cvss_v4_metric.specs.declared.supplemental.attack.Automatable.TheVariants as automatable;
 ghost use Rattle.cvss_v4_metric.specs.declared.supplemental.attack.ValueDensity.TheVariants as value_density;
@@ -24,9 +24,9 @@ pub enum Automatable {
 impl Metric for Automatable {
     const TYPE: MetricType = MetricType::AU;
 
-    ghost TYPE = { AU };
+    ghost TYPE = { metric.AU };
 
-    ghost rank = { automatable_rank };
+    ghost rank = { place.AU };
 
     ghost values = { automatable.NotDefined ∷ automatable.Yes ∷ automatable.No ∷ [] };
 
@@ -34,26 +34,26 @@ impl Metric for Automatable {
 
     fn slashed(self) -> &'static str {
         match self {
-            Automatable::NotDefined => "/AU:X",
-            Automatable::Yes => "/AU:Y",
-            Automatable::No => "/AU:N",
+            Self::NotDefined => "/AU:X",
+            Self::Yes => "/AU:Y",
+            Self::No => "/AU:N",
         }
     }
 
     fn read_bytes(text: &[u8]) -> Option<Self> {
         match only_byte(text)? {
-            b'X' | b'x' => Some(Automatable::NotDefined),
-            b'Y' | b'y' => Some(Automatable::Yes),
-            b'N' | b'n' => Some(Automatable::No),
+            b'X' | b'x' => Some(Self::NotDefined),
+            b'Y' | b'y' => Some(Self::Yes),
+            b'N' | b'n' => Some(Self::No),
             _ => None,
         }
     }
 }
 
 impl fmt::Display for Automatable {
-    ghost output = { λ metric. Some (metric_component AU (automatable_rank metric)) };
+    ghost output = { λ value. Some (metric_component metric.AU (place.AU value)) };
 
-    ghost styled_output = { λ metric _. Some (metric_component AU (automatable_rank metric)) };
+    ghost styled_output = { λ value _. Some (metric_component metric.AU (place.AU value)) };
 
     fn fmt<W: fmt::Write>(&self, f: &mut fmt::Formatter<W>) -> fmt::Result {
         write_component(self.slashed(), f)
@@ -72,9 +72,9 @@ pub enum ValueDensity {
 impl Metric for ValueDensity {
     const TYPE: MetricType = MetricType::V;
 
-    ghost TYPE = { V };
+    ghost TYPE = { metric.V };
 
-    ghost rank = { value_density_rank };
+    ghost rank = { place.V };
 
     ghost values = { value_density.NotDefined ∷ value_density.Diffuse ∷ value_density.Concentrated ∷ [] };
 
@@ -82,26 +82,26 @@ impl Metric for ValueDensity {
 
     fn slashed(self) -> &'static str {
         match self {
-            ValueDensity::NotDefined => "/V:X",
-            ValueDensity::Diffuse => "/V:D",
-            ValueDensity::Concentrated => "/V:C",
+            Self::NotDefined => "/V:X",
+            Self::Diffuse => "/V:D",
+            Self::Concentrated => "/V:C",
         }
     }
 
     fn read_bytes(text: &[u8]) -> Option<Self> {
         match only_byte(text)? {
-            b'X' | b'x' => Some(ValueDensity::NotDefined),
-            b'D' | b'd' => Some(ValueDensity::Diffuse),
-            b'C' | b'c' => Some(ValueDensity::Concentrated),
+            b'X' | b'x' => Some(Self::NotDefined),
+            b'D' | b'd' => Some(Self::Diffuse),
+            b'C' | b'c' => Some(Self::Concentrated),
             _ => None,
         }
     }
 }
 
 impl fmt::Display for ValueDensity {
-    ghost output = { λ metric. Some (metric_component V (value_density_rank metric)) };
+    ghost output = { λ value. Some (metric_component metric.V (place.V value)) };
 
-    ghost styled_output = { λ metric _. Some (metric_component V (value_density_rank metric)) };
+    ghost styled_output = { λ value _. Some (metric_component metric.V (place.V value)) };
 
     fn fmt<W: fmt::Write>(&self, f: &mut fmt::Formatter<W>) -> fmt::Result {
         write_component(self.slashed(), f)

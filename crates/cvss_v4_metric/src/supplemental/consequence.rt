@@ -2,8 +2,8 @@
 
 ghost use Rattle.std.specs.Prelude.{Some, [], ◌∷◌};
 ghost use Rattle.std.proofs.Common.{rules};
-ghost use Rattle.cvss_name.specs.declared.v4.MetricType.TheVariants.{S, R};
-ghost use Rattle.cvss_v4_metric.specs.Ranks.{safety_rank, recovery_rank};
+ghost use Rattle.cvss_name.specs.declared.v4.MetricType.TheVariants as metric;
+ghost use Rattle.cvss_v4_metric.specs.Ranks as place;
 ghost use Rattle.cvss_v4_metric.specs.Table.{metric_component};
 ghost use Rattle.cvss_v4_metric.specs.declared.supplemental.consequence.Safety.TheVariants as safety;
 ghost use Rattle.cvss_v4_metric.specs.declared.supplemental.consequence.Recovery.TheVariants as recovery;
@@ -24,9 +24,9 @@ pub enum Safety {
 impl Metric for Safety {
     const TYPE: MetricType = MetricType::S;
 
-    ghost TYPE = { S };
+    ghost TYPE = { metric.S };
 
-    ghost rank = { safety_rank };
+    ghost rank = { place.S };
 
     ghost values = { safety.NotDefined ∷ safety.Present ∷ safety.Negligible ∷ [] };
 
@@ -34,26 +34,26 @@ impl Metric for Safety {
 
     fn slashed(self) -> &'static str {
         match self {
-            Safety::NotDefined => "/S:X",
-            Safety::Present => "/S:P",
-            Safety::Negligible => "/S:N",
+            Self::NotDefined => "/S:X",
+            Self::Present => "/S:P",
+            Self::Negligible => "/S:N",
         }
     }
 
     fn read_bytes(text: &[u8]) -> Option<Self> {
         match only_byte(text)? {
-            b'X' | b'x' => Some(Safety::NotDefined),
-            b'P' | b'p' => Some(Safety::Present),
-            b'N' | b'n' => Some(Safety::Negligible),
+            b'X' | b'x' => Some(Self::NotDefined),
+            b'P' | b'p' => Some(Self::Present),
+            b'N' | b'n' => Some(Self::Negligible),
             _ => None,
         }
     }
 }
 
 impl fmt::Display for Safety {
-    ghost output = { λ metric. Some (metric_component S (safety_rank metric)) };
+    ghost output = { λ value. Some (metric_component metric.S (place.S value)) };
 
-    ghost styled_output = { λ metric _. Some (metric_component S (safety_rank metric)) };
+    ghost styled_output = { λ value _. Some (metric_component metric.S (place.S value)) };
 
     fn fmt<W: fmt::Write>(&self, f: &mut fmt::Formatter<W>) -> fmt::Result {
         write_component(self.slashed(), f)
@@ -73,9 +73,9 @@ pub enum Recovery {
 impl Metric for Recovery {
     const TYPE: MetricType = MetricType::R;
 
-    ghost TYPE = { R };
+    ghost TYPE = { metric.R };
 
-    ghost rank = { recovery_rank };
+    ghost rank = { place.R };
 
     ghost values = { recovery.NotDefined ∷ recovery.Automatic ∷ recovery.User ∷ recovery.Irrecoverable ∷ [] };
 
@@ -83,28 +83,28 @@ impl Metric for Recovery {
 
     fn slashed(self) -> &'static str {
         match self {
-            Recovery::NotDefined => "/R:X",
-            Recovery::Automatic => "/R:A",
-            Recovery::User => "/R:U",
-            Recovery::Irrecoverable => "/R:I",
+            Self::NotDefined => "/R:X",
+            Self::Automatic => "/R:A",
+            Self::User => "/R:U",
+            Self::Irrecoverable => "/R:I",
         }
     }
 
     fn read_bytes(text: &[u8]) -> Option<Self> {
         match only_byte(text)? {
-            b'X' | b'x' => Some(Recovery::NotDefined),
-            b'A' | b'a' => Some(Recovery::Automatic),
-            b'U' | b'u' => Some(Recovery::User),
-            b'I' | b'i' => Some(Recovery::Irrecoverable),
+            b'X' | b'x' => Some(Self::NotDefined),
+            b'A' | b'a' => Some(Self::Automatic),
+            b'U' | b'u' => Some(Self::User),
+            b'I' | b'i' => Some(Self::Irrecoverable),
             _ => None,
         }
     }
 }
 
 impl fmt::Display for Recovery {
-    ghost output = { λ metric. Some (metric_component R (recovery_rank metric)) };
+    ghost output = { λ value. Some (metric_component metric.R (place.R value)) };
 
-    ghost styled_output = { λ metric _. Some (metric_component R (recovery_rank metric)) };
+    ghost styled_output = { λ value _. Some (metric_component metric.R (place.R value)) };
 
     fn fmt<W: fmt::Write>(&self, f: &mut fmt::Formatter<W>) -> fmt::Result {
         write_component(self.slashed(), f)

@@ -2,8 +2,8 @@
 
 ghost use Rattle.std.specs.Prelude.{Some, [], ◌∷◌};
 ghost use Rattle.std.proofs.Common.{rules};
-ghost use Rattle.cvss_name.specs.declared.v4.MetricType.TheVariants.{RE, U};
-ghost use Rattle.cvss_v4_metric.specs.Ranks.{vulnerability_response_effort_rank, provider_urgency_rank};
+ghost use Rattle.cvss_name.specs.declared.v4.MetricType.TheVariants as metric;
+ghost use Rattle.cvss_v4_metric.specs.Ranks as place;
 ghost use Rattle.cvss_v4_metric.specs.Table.{metric_component};
 ghost use Rattle.cvss_v4_metric.specs.declared.supplemental.response.VulnerabilityResponseEffort.TheVariants as vulnerability_response_effort;
 ghost use Rattle.cvss_v4_metric.specs.declared.supplemental.response.ProviderUrgency.TheVariants as provider_urgency;
@@ -26,9 +26,9 @@ pub enum VulnerabilityResponseEffort {
 impl Metric for VulnerabilityResponseEffort {
     const TYPE: MetricType = MetricType::RE;
 
-    ghost TYPE = { RE };
+    ghost TYPE = { metric.RE };
 
-    ghost rank = { vulnerability_response_effort_rank };
+    ghost rank = { place.RE };
 
     ghost values = { vulnerability_response_effort.NotDefined ∷ vulnerability_response_effort.Low ∷ vulnerability_response_effort.Moderate ∷ vulnerability_response_effort.High ∷ [] };
 
@@ -36,28 +36,28 @@ impl Metric for VulnerabilityResponseEffort {
 
     fn slashed(self) -> &'static str {
         match self {
-            VulnerabilityResponseEffort::NotDefined => "/RE:X",
-            VulnerabilityResponseEffort::Low => "/RE:L",
-            VulnerabilityResponseEffort::Moderate => "/RE:M",
-            VulnerabilityResponseEffort::High => "/RE:H",
+            Self::NotDefined => "/RE:X",
+            Self::Low => "/RE:L",
+            Self::Moderate => "/RE:M",
+            Self::High => "/RE:H",
         }
     }
 
     fn read_bytes(text: &[u8]) -> Option<Self> {
         match only_byte(text)? {
-            b'X' | b'x' => Some(VulnerabilityResponseEffort::NotDefined),
-            b'L' | b'l' => Some(VulnerabilityResponseEffort::Low),
-            b'M' | b'm' => Some(VulnerabilityResponseEffort::Moderate),
-            b'H' | b'h' => Some(VulnerabilityResponseEffort::High),
+            b'X' | b'x' => Some(Self::NotDefined),
+            b'L' | b'l' => Some(Self::Low),
+            b'M' | b'm' => Some(Self::Moderate),
+            b'H' | b'h' => Some(Self::High),
             _ => None,
         }
     }
 }
 
 impl fmt::Display for VulnerabilityResponseEffort {
-    ghost output = { λ metric. Some (metric_component RE (vulnerability_response_effort_rank metric)) };
+    ghost output = { λ value. Some (metric_component metric.RE (place.RE value)) };
 
-    ghost styled_output = { λ metric _. Some (metric_component RE (vulnerability_response_effort_rank metric)) };
+    ghost styled_output = { λ value _. Some (metric_component metric.RE (place.RE value)) };
 
     fn fmt<W: fmt::Write>(&self, f: &mut fmt::Formatter<W>) -> fmt::Result {
         write_component(self.slashed(), f)
@@ -79,9 +79,9 @@ pub enum ProviderUrgency {
 impl Metric for ProviderUrgency {
     const TYPE: MetricType = MetricType::U;
 
-    ghost TYPE = { U };
+    ghost TYPE = { metric.U };
 
-    ghost rank = { provider_urgency_rank };
+    ghost rank = { place.U };
 
     ghost values = { provider_urgency.NotDefined ∷ provider_urgency.Red ∷ provider_urgency.Amber ∷ provider_urgency.Green ∷ provider_urgency.Clear ∷ [] };
 
@@ -89,30 +89,30 @@ impl Metric for ProviderUrgency {
 
     fn slashed(self) -> &'static str {
         match self {
-            ProviderUrgency::NotDefined => "/U:X",
-            ProviderUrgency::Red => "/U:Red",
-            ProviderUrgency::Amber => "/U:Amber",
-            ProviderUrgency::Green => "/U:Green",
-            ProviderUrgency::Clear => "/U:Clear",
+            Self::NotDefined => "/U:X",
+            Self::Red => "/U:Red",
+            Self::Amber => "/U:Amber",
+            Self::Green => "/U:Green",
+            Self::Clear => "/U:Clear",
         }
     }
 
     fn read_bytes(text: &[u8]) -> Option<Self> {
         match text {
-            b"X" | b"x" => Some(ProviderUrgency::NotDefined),
-            _ if is_raised_as(text, b"RED") => Some(ProviderUrgency::Red),
-            _ if is_raised_as(text, b"AMBER") => Some(ProviderUrgency::Amber),
-            _ if is_raised_as(text, b"GREEN") => Some(ProviderUrgency::Green),
-            _ if is_raised_as(text, b"CLEAR") => Some(ProviderUrgency::Clear),
+            b"X" | b"x" => Some(Self::NotDefined),
+            _ if is_raised_as(text, b"RED") => Some(Self::Red),
+            _ if is_raised_as(text, b"AMBER") => Some(Self::Amber),
+            _ if is_raised_as(text, b"GREEN") => Some(Self::Green),
+            _ if is_raised_as(text, b"CLEAR") => Some(Self::Clear),
             _ => None,
         }
     }
 }
 
 impl fmt::Display for ProviderUrgency {
-    ghost output = { λ metric. Some (metric_component U (provider_urgency_rank metric)) };
+    ghost output = { λ value. Some (metric_component metric.U (place.U value)) };
 
-    ghost styled_output = { λ metric _. Some (metric_component U (provider_urgency_rank metric)) };
+    ghost styled_output = { λ value _. Some (metric_component metric.U (place.U value)) };
 
     fn fmt<W: fmt::Write>(&self, f: &mut fmt::Formatter<W>) -> fmt::Result {
         write_component(self.slashed(), f)

@@ -1,8 +1,9 @@
 //! The optional metrics of a text that is recognised.
 
-ghost use Rattle.std.specs.Prelude.{◌≡◌, [], ◌∷◌, ◌++◌};
+ghost use Rattle.std.specs.Prelude.{◌≡◌, [], ◌∷◌, ◌++◌, drop, take};
 ghost use Rattle.cvss_text.specs.private.Printing.{slashed_texts};
-ghost use Rattle.cvss_name.specs.declared.v4.MetricType.TheVariants.{E, AR, CR, IR, MAC, MAT, MAV, MPR, MSA, MSC, MSI, MUI, MVA, MVC, MVI, AU, R, RE, S, V};
+ghost use Rattle.cvss_name.specs.declared.v4.MetricType.TheVariants.{E, AR, CR, IR, MAC, MAT, MAV, MPR, MSA, MSC, MSI, MUI, MVA, MVC, MVI};
+ghost use Rattle.cvss_v4_metric.specs.Table.{printed, supplemental};
 ghost use Rattle.cvss_v4.specs.Vector.{v4};
 
 use super::{behind_three, put_at_sight};
@@ -14,9 +15,8 @@ use cvss_text::sight::{behind_five, behind_four};
 // A call of its own keeps the vector in memory, where each metric is stored once.
 #[inline(never)]
 pub(super) fn others_at_sight<'a>(vector: &mut Vector, text: &'a [u8]) -> &'a [u8]
-    ensures text { text.now ≡ slashed_texts v4 vector.new
-        (E ∷ CR ∷ IR ∷ AR ∷ MAV ∷ MAC ∷ MAT ∷ MPR ∷ MUI ∷ MVC ∷ MVI ∷ MVA ∷ MSC ∷ MSI ∷ MSA ∷
-        S ∷ AU ∷ R ∷ V ∷ RE ∷ []) ++ result.now }
+    ensures text { text.now ≡ slashed_texts v4 vector.new (take 20 (drop 11 printed))
+        ++ result.now }
     ensures kept { vector.new ≡ record vector.old {
       e = vector.new.e;
       cr = vector.new.cr;
@@ -112,8 +112,7 @@ fn modified_impact_at_sight<'a>(vector: &mut Vector, text: &'a [u8]) -> &'a [u8]
 /// gives what stands behind them.
 #[inline(always)]
 fn supplemental_at_sight<'a>(vector: &mut Vector, text: &'a [u8]) -> &'a [u8]
-    ensures text { text.now ≡ slashed_texts v4 vector.new
-        (S ∷ AU ∷ R ∷ V ∷ RE ∷ []) ++ result.now }
+    ensures text { text.now ≡ slashed_texts v4 vector.new (take 5 supplemental) ++ result.now }
     ensures kept { vector.new ≡ record vector.old {
       s = vector.new.s;
       au = vector.new.au;
