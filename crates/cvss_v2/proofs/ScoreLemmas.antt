@@ -3,28 +3,17 @@ use Rattle.std.proofs.Common.{◌≡◌, ℕ, ◌*◌, ◌^◌, ◌<◌, ℤ, po
 use Rattle.std.proofs.lemmas.Int.{ints}
 use Rattle.cvss_number.specs.Exact.{Exact, ratio, ◌over◌, whole, tenths, thousandths, of_count, smaller, ◌≈◌}
 use Rattle.cvss_number.specs.Rounding.{IsRoundedV2}
-use Rattle.cvss_number.proofs.ExactLemmas.{equal_refl, sum_equal, difference_equal, product_equal}
+use Rattle.cvss_number.proofs.ExactLemmas.{by_sign, equal_refl, sum_equal, difference_equal, product_equal}
 use Rattle.cvss_number.proofs.RoundingLemmas.{v2-equal}
 use Rattle.cvss_v2.specs.declared.weights.Weights.{Weights}
 use Rattle.cvss_v2.specs.Scores.{f_thousandths, f, base_number, temporal_number, environmental_number, impact_of, impact, adjusted_impact, exploitability, IsBase, IsTemporal}
 use Rattle.cvss_v2.proofs.UniqueLemmas.{base_alone}
 
--- the tops of equal numbers are both 0 or both not
-f_thousandths_equal : (m n : ℤ) (p q : ℕ) → 0 < p → 0 < q → m *ℤ pos q ≡ n *ℤ pos p
-    → f_thousandths m ≡ f_thousandths n
-f_thousandths_equal (pos zero) (pos zero) p q some_p some_q same = refl
-f_thousandths_equal (pos zero) (pos (suc n)) p q some_p some_q same = absurd (omega (arith, ints))
-f_thousandths_equal (pos zero) (negsuc n) p q some_p some_q same = absurd (omega (arith, ints))
-f_thousandths_equal (pos (suc m)) (pos zero) p q some_p some_q same = absurd (omega (arith, ints))
-f_thousandths_equal (negsuc m) (pos zero) p q some_p some_q same = absurd (omega (arith, ints))
-f_thousandths_equal (pos (suc m)) (pos (suc n)) p q some_p some_q same = refl
-f_thousandths_equal (pos (suc m)) (negsuc n) p q some_p some_q same = refl
-f_thousandths_equal (negsuc m) (pos (suc n)) p q some_p some_q same = refl
-f_thousandths_equal (negsuc m) (negsuc n) p q some_p some_q same = refl
-
+-- equal impacts have one f
 f_equal : {x x' : Exact} → 0 < x.bottom → 0 < x'.bottom → x ≈ x' → f x ≈ f x'
 f_equal {x} {x'} some_x some_x' same =
-    let same_f = f_thousandths_equal x.top x'.top x.bottom x'.bottom some_x some_x' same.equal in
+    let same_f = by_sign (λ m n. f_thousandths m ≡ f_thousandths n) refl (λ m n. refl) (λ m n. refl)
+    x.top x'.top x.bottom x'.bottom some_x some_x' same.equal in
     record { equal = ap (λ n. pos n *ℤ pos 1000) same_f }
 
 pub base_number_equal : {x x' y y' : Exact} → 0 < x.bottom → 0 < x'.bottom → x ≈ x' → y ≈ y'
