@@ -1,6 +1,6 @@
 -- The weights of a vector are those of the tables.
 use Rattle.std.specs.Prelude.{option_map, unwrap_or}
-use Rattle.std.specs.List.{list_all, dedup, Contains}
+use Rattle.std.specs.List.{dedup, Contains}
 use Rattle.std.proofs.Common.{◌≡◌, ℕ, ◌*◌, List, [], ◌∷◌, ◌++◌, map, true, eqb, Option, refl, rules}
 use Rattle.cvss_name.specs.declared.v2.MetricType.{MetricType}
 use Rattle.cvss_name.specs.declared.v2.MetricType.TheVariants.{A, AC, AV, Au, C, CR}

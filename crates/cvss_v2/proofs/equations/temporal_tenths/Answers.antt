@@ -1,5 +1,5 @@
 use Rattle.std.specs.Int.{w128}
-use Rattle.std.proofs.Common.{◌^◌, arith, lit<, refl}
+use Rattle.std.proofs.Common.{arith, lit<, refl}
 use Rattle.std.proofs.lemmas.Int.{ints, to_z-of_z}
 use Rattle.cvss_number.proofs.ExactLemmas.{equal_trans}
 use Rattle.cvss_number.proofs.RoundingLemmas.{v2-equal}
