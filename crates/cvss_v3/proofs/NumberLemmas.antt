@@ -46,9 +46,7 @@ none_close (suc k) = close_if (changed_modified_impact (0 over 1_000_000)) refl 
 
 pub none_approximates : (k s : ℕ) (changed : Bool) → changed ≡ true → s ≡ 0
     → Approximates changed without_impact (modified_impact_of k changed (s over 1_000_000))
-none_approximates k s changed is_changed is_zero =
-    subst (λ b. Approximates b without_impact (modified_impact_of k b (s over 1_000_000))) (sym is_changed)
-    (subst (λ n. Approximates true without_impact (modified_impact_of k true (n over 1_000_000))) (sym is_zero) (none_close k))
+none_approximates k s changed is_changed is_zero = rw (is_changed, is_zero) (none_close k)
 
 -- and their first number
 none_number : (k : ℕ) (changed : Bool) (E : Exact) → first_number changed (modified_impact_of k changed (0 over 1_000_000)) E ≡ whole 0
@@ -61,9 +59,8 @@ none_number (suc k) true E = refl
 pub none_stands : (minor k : ℕ) (changed : Bool) (s e : ℕ) → s ≡ 0
     → StandsFor minor changed (0 over (10 ^ 13)) (first_number changed (modified_impact_of k changed (s over 1_000_000)) (e over (10 ^ 10)))
 none_stands minor k changed s e is_zero =
-    subst (λ n. StandsFor minor changed (0 over (10 ^ 13)) (first_number changed (modified_impact_of k changed (n over 1_000_000)) (e over (10 ^ 10))))
-    (sym is_zero) (subst (λ n. StandsFor minor changed (0 over (10 ^ 13)) n) (sym (none_number k changed (e over (10 ^ 10))))
-    (equal_stands minor changed (lit< tt) (lit< tt) (record { equal = refl })))
+    let stands = equal_stands minor changed {x = 0 over (10 ^ 13)} {n = whole 0} (lit< tt) (lit< tt) (record { equal = refl }) in
+    rw is_zero (subst (StandsFor minor changed (0 over (10 ^ 13))) (sym (none_number k changed (e over (10 ^ 10)))) stands)
 
 -- with impact, its numbers are those of the listed parts
 pub some_approximates : (k s : ℕ) (changed : Bool) (top : ℤ) → IsSubScore s → top ≡ pos (impact_units k changed s)
