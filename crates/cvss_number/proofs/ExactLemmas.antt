@@ -1,10 +1,10 @@
 -- Order and equality of exact numbers, and what sums, differences and products do to them.
-use Rattle.std.proofs.Common.{◌≡◌, ℕ, ◌+◌, ◌*◌, ◌<◌, ◌≤◌, ℤ, pos, ◌+ℤ◌, ◌-ℤ◌, ◌*ℤ◌, ◌≤ℤ◌, neg_ℤ, ap, arith, refl, sym, ◌∙◌}
-use Rattle.std.proofs.Math.Nat.{mul-le-mul_right, le_of_mul-le-mul_right, lt_of_mul-lt-mul_right, mul-lt-mul_of_pos_right}
+use Rattle.std.proofs.Common.{◌≡◌, ℕ, zero, suc, ◌+◌, ◌-◌, ◌*◌, ◌<◌, ◌≤◌, ℤ, pos, negsuc, ◌+ℤ◌, ◌-ℤ◌, ◌*ℤ◌, ◌≤ℤ◌, neg_ℤ, ap, arith, refl, sym, ◌∙◌}
+use Rattle.std.proofs.Math.Nat.{mul-le-mul, mul-le-mul_right, le_of_mul-le-mul_right, lt_of_mul-lt-mul_right, mul-lt-mul_of_pos_right}
 use Rattle.std.proofs.Math.IntN.{*ℤ_comm}
 use Rattle.std.proofs.lemmas.Int.{ints, by_lt_z}
 use borrow.Author.Differences.{up, down, sum_is_lem, neg_is, product_is}
-use Rattle.cvss_number.specs.Exact.{Exact, ◌⊕◌, ◌⊖◌, ◌⊗◌, ◌over◌, ◌≈◌, ◌⊑◌, ◌⊏◌}
+use Rattle.cvss_number.specs.Exact.{Exact, ratio, whole, ◌⊕◌, ◌⊖◌, ◌⊗◌, ◌over◌, ◌≈◌, ◌⊑◌, ◌⊏◌}
 
 pub equal_refl : (x : Exact) → x ≈ x
 equal_refl x = record { equal = refl }
@@ -72,15 +72,32 @@ equal_trans {x} {y} {z} positive left right =
     (at_most_trans x y z positive (equal_at_most x y left) (equal_at_most y z right))
     (at_most_trans z y x positive (equal_at_most z y (equal_sym right)) (equal_at_most y x (equal_sym left)))
 
+-- what holds of two tops of one sign holds of the tops of equal numbers
+pub by_sign : (P : ℤ → ℤ → Type 0) → P (pos 0) (pos 0) → ((m n : ℕ) → P (pos (suc m)) (pos (suc n)))
+    → ((m n : ℕ) → P (negsuc m) (negsuc n)) → (m n : ℤ) (p q : ℕ) → 0 < p → 0 < q → m *ℤ pos q ≡ n *ℤ pos p → P m n
+by_sign P none above below (pos zero) (pos zero) p q some_p some_q same = none
+by_sign P none above below (pos (suc m)) (pos (suc n)) p q some_p some_q same = above m n
+by_sign P none above below (negsuc m) (negsuc n) p q some_p some_q same = below m n
+by_sign P none above below (pos zero) (pos (suc n)) p q some_p some_q same = absurd (omega (arith, ints))
+by_sign P none above below (pos zero) (negsuc n) p q some_p some_q same = absurd (omega (arith, ints))
+by_sign P none above below (pos (suc m)) (pos zero) p q some_p some_q same = absurd (omega (arith, ints))
+by_sign P none above below (pos (suc m)) (negsuc n) p q some_p some_q same = absurd (omega (arith, ints))
+by_sign P none above below (negsuc m) (pos zero) p q some_p some_q same = absurd (omega (arith, ints))
+by_sign P none above below (negsuc m) (pos (suc n)) p q some_p some_q same = absurd (omega (arith, ints))
+
 -- a factor goes into a sum
 pub times_sum : (a b : ℤ) (n : ℕ) → (a +ℤ b) *ℤ pos n ≡ a *ℤ pos n +ℤ b *ℤ pos n
 times_sum a b n = omega (arith, ints, ap (λ m. m * n) (sum_is_lem a b))
 
+-- and an opposite out of a product
+pub neg_times : (a : ℤ) (n : ℕ) → neg_ℤ a *ℤ pos n ≡ neg_ℤ (a *ℤ pos n)
+neg_times a n =
+    let opposite = neg_is a in
+    omega (arith, ints, ap (λ m. m * n) opposite.0, ap (λ m. m * n) opposite.1)
+
 -- and into a difference
 pub times_difference : (a b : ℤ) (n : ℕ) → (a -ℤ b) *ℤ pos n ≡ a *ℤ pos n -ℤ b *ℤ pos n
-times_difference a b n =
-    let opposite = neg_is b in
-    omega (arith, ints, ap (λ m. m * n) (sum_is_lem a (neg_ℤ b)), ap (λ m. m * n) opposite.0, ap (λ m. m * n) opposite.1)
+times_difference a b n = times_sum a (neg_ℤ b) n ∙ ap (λ z. a *ℤ pos n +ℤ z) (neg_times b n)
 
 -- products group either way
 pub times_times : (a b : ℤ) (n : ℕ) → (a *ℤ b) *ℤ pos n ≡ a *ℤ (b *ℤ pos n)
@@ -97,6 +114,24 @@ times_times a b n =
       ap (λ m. down a * m) outer.0,
       ap (λ m. down a * m) outer.1,
     )
+
+-- with something added a number is not smaller
+pub above_itself : (x : Exact) (m n : ℕ) → x ⊑ x ⊕ m over n
+above_itself x m n =
+    let sum = times_sum (x.top *ℤ pos n) (pos m *ℤ pos x.bottom) x.bottom in
+    record { at_most = omega (arith, ints, sum, times_times x.top (pos n) x.bottom) }
+
+-- the product of three weights taken from 1 each, and that it is at most 1
+pub rests_are : (unit c i a : ℕ) → c ≤ unit → i ≤ unit → a ≤ unit
+    → (whole 1 ⊖ c over unit).top *ℤ (whole 1 ⊖ i over unit).top *ℤ (whole 1 ⊖ a over unit).top ≡ pos ((unit - c) * (unit - i) * (unit - a))
+rests_are unit c i a small_c small_i small_a =
+    let rest_is : (n : ℕ) → n ≤ unit → (whole 1 ⊖ n over unit).top ≡ pos (unit - n) = λ n small. omega (arith, ints) in
+    rw (rest_is c small_c, rest_is i small_i, rest_is a small_a) refl
+
+pub rests_bound : (unit c i a : ℕ) → (unit - c) * (unit - i) * (unit - a) ≤ unit * unit * unit
+rests_bound unit c i a =
+    let bound : (n : ℕ) → unit - n ≤ unit = λ n. omega arith in
+    mul-le-mul (mul-le-mul (bound c) (bound i)) (bound a)
 
 -- an order of a/p and b/q holds over a further factor too
 reaches : (a b : ℤ) (p q n : ℕ) → (a *ℤ pos q) ≤ℤ (b *ℤ pos p) → (a *ℤ pos (q * n)) ≤ℤ (b *ℤ pos (p * n))
@@ -129,24 +164,9 @@ sum_at_most x x' y y' left right =
 -- of a greater number and a smaller one taken away the difference is greater
 pub difference_at_most : (x x' y y' : Exact) → x ⊑ x' → y' ⊑ y → x ⊖ y ⊑ x' ⊖ y'
 difference_at_most x x' y y' left right =
-    let n = x'.bottom * y'.bottom in
-    let n' = x.bottom * y.bottom in
-    let left_reached = reaches x.top x'.top x.bottom x'.bottom (y.bottom * y'.bottom) left.at_most in
-    let right_reached = reaches y'.top y.top y'.bottom y.bottom (x.bottom * x'.bottom) right.at_most in
-    record {
-      at_most = omega (
-        arith,
-        ints,
-        left_reached,
-        right_reached,
-        times_difference (x.top *ℤ pos y.bottom) (y.top *ℤ pos x.bottom) n,
-        times_difference (x'.top *ℤ pos y'.bottom) (y'.top *ℤ pos x'.bottom) n',
-        times_times x.top (pos y.bottom) n,
-        times_times y.top (pos x.bottom) n,
-        times_times x'.top (pos y'.bottom) n',
-        times_times y'.top (pos x'.bottom) n',
-      );
-    }
+    let right' : (neg_ℤ y.top *ℤ pos y'.bottom) ≤ℤ (neg_ℤ y'.top *ℤ pos y.bottom) =
+    omega (arith, ints, neg_times y.top y'.bottom, neg_times y'.top y.bottom, right.at_most) in
+    simp neg_times at (sum_at_most x x' (ratio (neg_ℤ y.top) y.bottom) (ratio (neg_ℤ y'.top) y'.bottom) left (record { at_most = right' }))
 
 -- a factor that is not negative keeps an order
 pub scaled_at_most : (x y : Exact) (n m : ℕ) → x ⊑ y → x ⊗ n over m ⊑ y ⊗ n over m

@@ -1,10 +1,10 @@
 -- Of two numbers in order, each rounding gives tenths in this order. So equal numbers have one rounding.
-use Rattle.std.proofs.Common.{◌≡◌, ◌<◌, ℤ, pos, ◌+ℤ◌, ◌-ℤ◌, ◌≤ℤ◌, arith, rules, subst, lit<}
+use Rattle.std.proofs.Common.{◌≡◌, ◌<◌, ℕ, suc, ◌+◌, ◌*◌, ◌/◌, ℤ, pos, negsuc, neg_ℤ, ◌*ℤ◌, ◌+ℤ◌, ◌-ℤ◌, ◌≤ℤ◌, arith, rules, subst, sym, ◌∙◌, lit<}
 use Rattle.std.proofs.lemmas.Int.{ints, by_lt_z}
 use Rattle.cvss_number.specs.Exact.{Exact, ratio, ◌over◌, whole, tenths, ◌⊕◌, ◌⊗◌, ◌≈◌, ◌⊑◌, ◌⊏◌}
 use Rattle.cvss_number.specs.Rounding.{half_below, half_above, IsNearestAway, IsRoundedV2, IsRoundedV30, IsRoundedV30, IsFloor, IsRoundedUp, IsRoundedV31, IsRoundedV4}
 use Rattle.cvss_number.specs.laws.Rounding.{IsEven, IsNearestEven, RoundsInOrder, RoundsOneWay}
-use Rattle.cvss_number.proofs.ExactLemmas.{equal_at_most, equal_refl, equal_sym, equal_from_at_most, by_below, at_most_trans, at_most_below, below_at_most, sum_at_most, sum_equal, scaled_at_most}
+use Rattle.cvss_number.proofs.ExactLemmas.{equal_at_most, equal_from_at_most, by_below, at_most_trans, at_most_below, below_at_most, sum_at_most, scaled_at_most, times_difference, times_sum, times_times, neg_times}
 
 -- what keeps an order takes equal numbers to one tenth
 unique_if_ordered : (Rounding : Exact → ℤ → Type 0) → RoundsInOrder Rounding → RoundsOneWay Rounding
@@ -134,32 +134,62 @@ v4-unique = unique_if_ordered IsRoundedV4 v4-ordered
 pub nearest_even-unique : RoundsOneWay IsNearestEven
 nearest_even-unique = unique_if_ordered IsNearestEven nearest_even-ordered
 
+-- the nearest tenth of top/q, of two equally near the one farther from zero
+unfoldable pub nearest_of : ℤ → ℕ → ℤ
+nearest_of (pos t) q = pos ((20 * t + q) / (2 * q))
+nearest_of (negsuc t) q = neg_ℤ (pos ((20 * suc t + q) / (2 * q)))
+
+nearest_of_is : (top : ℤ) (q : ℕ) → 0 < q → IsNearestAway (ratio top q) (nearest_of top q)
+unfolding nearest_of
+nearest_of_is (pos t) q some =
+    let n = (20 * t + q) / (2 * q) in
+    let below = times_difference (pos n *ℤ pos 100) (pos 50) q in
+    record {
+      nearest = record {
+        from_half_below = record { at_most = omega (arith, ints, below) };
+        to_half_above = record { at_most = omega (arith, ints) };
+      };
+      away_upward = λ _. record { below = omega (arith, ints) };
+      away_downward = λ negative. absurd (omega (arith, ints, negative.below));
+    }
+nearest_of_is (negsuc t) q some =
+    let n = (20 * suc t + q) / (2 * q) in
+    let r = neg_ℤ (pos n) *ℤ pos 100 in
+    let product = times_times (neg_ℤ (pos n)) (pos 100) q in
+    let opposite = neg_times (pos n) (100 * q) in
+    let below = times_difference r (pos 50) q in
+    let above = times_sum r (pos 50) q in
+    record {
+      nearest = record {
+        from_half_below = record { at_most = omega (arith, ints, below, product, opposite) };
+        to_half_above = record { at_most = omega (arith, ints, above, product, opposite) };
+      };
+      away_upward = λ from_zero. absurd (omega (arith, ints, from_zero.at_most));
+      away_downward = λ _. record { below = omega (arith, ints, below, product, opposite) };
+    }
+
+-- the nearest tenth of x, of two equally near the one farther from zero
+abbrev pub nearest_tenths : Exact → ℤ
+nearest_tenths x = nearest_of x.top x.bottom
+
+pub nearest_is : (x : Exact) → 0 < x.bottom → IsNearestAway x (nearest_tenths x)
+nearest_is x some = nearest_of_is x.top x.bottom some
+
+pub nearest_away-unique : RoundsOneWay IsNearestAway
+nearest_away-unique = unique_if_ordered IsNearestAway nearest_away-ordered
+
+-- the v2 rounding of x
+abbrev pub v2_tenths : Exact → ℤ
+v2_tenths x = nearest_tenths (x ⊕ 1 over 1_000_000)
+
+pub v2_is : (x : Exact) → 0 < x.bottom → IsRoundedV2 x (v2_tenths x)
+v2_is x some = record { lifted = nearest_is (x ⊕ 1 over 1_000_000) (omega arith) }
+
 -- the v2 rounding of a number is that of each number equal to it
 pub v2-equal : {x y : Exact} {r s : ℤ} → 0 < x.bottom → 0 < y.bottom → x ≈ y → r ≡ s → IsRoundedV2 x r → IsRoundedV2 y s
 v2-equal {x} {y} {r} {s} some_x some_y same same_tenths is_r =
-    let lift = 1 over 1_000_000 in
-    let x' = x ⊕ lift in
-    let y' = y ⊕ lift in
-    let some_x' : 0 < x'.bottom = omega arith in
-    let some_y' : 0 < y'.bottom = omega arith in
-    let same' : x' ≈ y' = sum_equal same (equal_refl lift) in
-    let forth = equal_at_most x' y' same' in
-    let back = equal_at_most y' x' (equal_sym same') in
-    let nearest = is_r.lifted.nearest in
-    subst (λ (t : ℤ). IsRoundedV2 y t) same_tenths (record {
-      lifted = record {
-        nearest = record {
-          from_half_below = at_most_trans (half_below r) x' y' some_x' nearest.from_half_below forth;
-          to_half_above = at_most_trans y' x' (half_above r) some_x' back nearest.to_half_above;
-        };
-        away_upward = λ y_not_negative.
-            let x_not_negative = at_most_trans (whole 0) y' x' some_y' y_not_negative back in
-            at_most_below y' x' (half_above r) some_y' back (is_r.lifted.away_upward x_not_negative);
-        away_downward = λ y_negative.
-            let x_negative = at_most_below x' y' (whole 0) some_x' forth y_negative in
-            below_at_most (half_below r) x' y' some_y' (is_r.lifted.away_downward x_negative) forth;
-      };
-    })
+    let is_y = v2_is y some_y in
+    subst (λ (t : ℤ). IsRoundedV2 y t) (sym (v2-unique x y r (v2_tenths y) some_x some_y same is_r is_y) ∙ same_tenths) is_y
 
 -- each of the roundings
 pub ruleset unique_roundings = (v2-unique, v30-unique, v31-unique, v4-unique, nearest_even-unique)

@@ -29,14 +29,16 @@ at_most_if x y holds = record { at_most = le_z_yes (subst T (sym holds) tt) }
 pub passes : (test : ℕ → Bool) (xs : List ℕ) (x : ℕ) → list_all test xs ≡ true → Contains xs x → test x ≡ true
 passes test xs x all listed = All-contains (λ y. test y ≡ true) xs x (AllPass-from_list_all test xs all) listed
 
--- three members pass a test that all pass
+-- two and three members pass a test that all pass
+pub passes_two : (test : ℕ → ℕ → Bool) (xs ys : List ℕ) (x y : ℕ) → list_all (λ x. list_all (test x) ys) xs ≡ true
+    → Contains xs x → Contains ys y → test x y ≡ true
+passes_two test xs ys x y all is_x = passes (test x) ys y (passes (λ x. list_all (test x) ys) xs x all is_x)
+
 pub passes_three : (test : ℕ → ℕ → ℕ → Bool) (xs ys zs : List ℕ) (x y z : ℕ)
     → list_all (λ x. list_all (λ y. list_all (λ z. test x y z) zs) ys) xs ≡ true
     → Contains xs x → Contains ys y → Contains zs z → test x y z ≡ true
-passes_three test xs ys zs x y z all is_x is_y is_z =
-    passes (λ z. test x y z) zs z
-    (passes (λ y. list_all (λ z. test x y z) zs) ys y
-    (passes (λ x. list_all (λ y. list_all (λ z. test x y z) zs) ys) xs x all is_x) is_y) is_z
+passes_three test xs ys zs x y z all is_x is_y =
+    passes (test x y) zs z (passes_two (λ x y. list_all (test x y) zs) xs ys x y all is_x is_y)
 
 -- whether x is listed
 abbrev pub is_listed : List ℕ → ℕ → Bool

@@ -1,39 +1,81 @@
 -- Each number that is rounded on the way to a score of a vector has one nearest tenth with 10^-6 added and without, and
 -- what the environmental score is the rounding of is at least published as one: by trying all.
+use Rattle.std.specs.Int.{int_max}
 use Rattle.std.specs.List.{list_all}
-use Rattle.std.proofs.Common.{◌≡◌, ◌≢◌, ℕ, ◌^◌, ◌<◌, Bool, true, ◌&&◌, ◌||◌, eqb, not, inl, inr, refl}
-use Rattle.std.proofs.lemmas.Bool.{and_parts, or_cases, eqb-true, eqb-false, not-true}
+use Rattle.std.specs.Prelude.{unsigned_abs}
+use Rattle.std.proofs.Common.{◌≡◌, ◌≢◌, ℕ, ◌^◌, ◌<◌, ℤ, pos, ◌+ℤ◌, ◌-ℤ◌, Bool, true, ◌&&◌, ◌||◌, eqb, ltb, not, inl, inr, arith, refl, subst, lit<}
+use Rattle.std.proofs.lemmas.Bool.{and_parts, or_cases, eqb-true, eqb-false, ltb-true, not-true}
+use Rattle.std.proofs.lemmas.Int.{ints}
 use Rattle.cvss_number.specs.Exact.{Exact, ◌over◌, whole, thousandths, tenths, smaller}
+use Rattle.cvss_number.specs.Rounding.{IsNearestAway, IsRoundedV2}
+use Rattle.cvss_number.proofs.RoundingLemmas.{nearest_of, nearest_tenths, nearest_is, v2_tenths, v2_is}
 use Rattle.cvss_name.specs.declared.v2.MetricType.TheVariants.{A, C, I, E, RL, RC, CDP, TD, CR, IR, AR}
 use Rattle.cvss_v2.specs.Scores.{impact_of, impact, adjusted_impact, exploitability, base_number, temporal_number, environmental_number}
 use Rattle.cvss_v2.specs.declared.vector.Vector.{Vector}
 use Rattle.cvss_v2.specs.Weights.{weights_of}
-use Rattle.cvss_number.proofs.TestLemmas.{passes, passes_three, all_below, below_passes}
-use Rattle.cvss_v2.proofs.PlainLemmas.{above_least, place, place_of, rounds_alike, is_published_alike, IsAlike, IsPublishedAlike, alike_if, published_alike_if}
+use Rattle.cvss_number.proofs.TestLemmas.{is_at_most, at_most_if, passes, passes_two, passes_three, all_below, below_passes}
 use Rattle.cvss_v2.proofs.TableLemmas.{weights, weight_listed, weighted_impacts, weighted_listed, exploitabilities, exploitability_listed}
 
--- whether the base number rounds alike, and not to -0.5, of which some products with E, RL and RC do not
-unfoldable base_alike : Exact → Exact → Bool
-base_alike impact exploitability =
-    let number = base_number impact exploitability in
-    not (eqb (place_of number) 3) && rounds_alike number
+-- whether two numbers of tenths are one
+abbrev same : ℤ → ℤ → Bool
+same r s = is_at_most (tenths r) (tenths s) && is_at_most (tenths s) (tenths r)
 
--- whether that holds with each exploitability
+same_if : (r s : ℤ) → same r s ≡ true → r ≡ s
+same_if r s holds =
+    let parts = and_parts (is_at_most (tenths r) (tenths s)) _ holds in
+    let forth = at_most_if (tenths r) (tenths s) parts.0 in
+    let back = at_most_if (tenths s) (tenths r) parts.1 in
+    omega (arith, ints, forth.at_most, back.at_most)
+
+-- so many tenths above -0.8, than which no adjusted base score is less
+abbrev pub above_least : ℕ → ℤ
+above_least n = pos n -ℤ pos 8
+
+-- the place of the tenth nearest to x
+abbrev pub place : Exact → ℕ
+place x = unsigned_abs (nearest_tenths x +ℤ pos 8)
+
+-- whether x and x + 10^-6 have one nearest tenth, from -0.8 to 10
+unfoldable rounds_alike : Exact → Bool
+rounds_alike x =
+    ltb (place x) 109 && (same (v2_tenths x) (above_least (place x)) && same (nearest_tenths x) (above_least (place x)))
+
+-- so many tenths above -0.8, at most 10, are the v2 rounding of x and its nearest tenth
+pub record IsAlike (x : Exact) (n : ℕ) : Type 0 where
+  pub to_ten : n < 109
+  pub by_v2 : IsRoundedV2 x (above_least n)
+  pub plain : IsNearestAway x (above_least n)
+
+alike_if : (x : Exact) → 0 < x.bottom → rounds_alike x ≡ true → IsAlike x (place x)
+unfolding rounds_alike
+alike_if x some holds =
+    let parts = and_parts (ltb (place x) 109) _ holds in
+    let roundings = and_parts (same (v2_tenths x) (above_least (place x))) _ parts.1 in
+    record {
+      to_ten = ltb-true (place x) 109 parts.0;
+      by_v2 = subst (λ (r : ℤ). IsRoundedV2 x r) (same_if _ _ roundings.0) (v2_is x some);
+      plain = subst (λ (r : ℤ). IsNearestAway x r) (same_if _ _ roundings.1) (nearest_is x some);
+    }
+
+-- whether the base number rounds alike, and not to -0.5, of which some products with E, RL and RC do not, with each
+-- exploitability
 unfoldable bases_alike : Exact → Bool
-bases_alike impact = list_all (λ x. base_alike impact (x over (10 ^ 9))) exploitabilities
+bases_alike impact = list_all (λ x.
+    let number = base_number impact (x over (10 ^ 9)) in
+    not (eqb (place number) 3) && rounds_alike number) exploitabilities
 
 -- with each impact
 impacts_alike : list_all (λ c. list_all (λ i. list_all (λ a.
     bases_alike (impact_of (thousandths c) (thousandths i) (thousandths a)))
     (weights A)) (weights I)) (weights C) ≡ true
-unfolding base_alike bases_alike rounds_alike place
+unfolding bases_alike rounds_alike nearest_of
 impacts_alike = refl
 
 -- with each adjusted impact
 adjusted_impacts_alike : list_all (λ c. list_all (λ i. list_all (λ a.
     bases_alike (smaller (whole 10) (impact_of (c over 1_000_000) (i over 1_000_000) (a over 1_000_000))))
     weighted_impacts) weighted_impacts) weighted_impacts ≡ true
-unfolding base_alike bases_alike rounds_alike place
+unfolding bases_alike rounds_alike nearest_of
 adjusted_impacts_alike = refl
 
 -- whether so many tenths above -0.8, times weights, round alike, where they are not -0.5
@@ -44,47 +86,43 @@ temporal_alike e rl rc n =
 -- with all weights, from -0.8 to 10
 temporals_alike : list_all (λ e. list_all (λ rl. list_all (λ rc. all_below (temporal_alike e rl rc) 109)
     (weights RC)) (weights RL)) (weights E) ≡ true
-unfolding all_below temporal_alike rounds_alike place
+unfolding all_below temporal_alike rounds_alike nearest_of
 temporals_alike = refl
 
 -- whether what the environmental score is the rounding of is published alike
 unfoldable environmental_alike : ℕ → ℕ → ℕ → Bool
 environmental_alike cdp td n =
-    is_published_alike (environmental_number (tenths (above_least n)) (thousandths cdp) (thousandths td))
+    let number = environmental_number (tenths (above_least n)) (thousandths cdp) (thousandths td) in
+    same (int_max (pos 0) (v2_tenths number)) (int_max (pos 0) (nearest_tenths number))
 
 -- with all weights, from -0.8 to 10
 environmentals_alike : list_all (λ cdp. list_all (λ td. all_below (environmental_alike cdp td) 109)
     (weights TD)) (weights CDP) ≡ true
-unfolding all_below environmental_alike is_published_alike place
+unfolding all_below environmental_alike nearest_of
 environmentals_alike = refl
 
 -- a base number rounds alike, and not to -0.5
 pub record IsBaseAlike (number : Exact) : Type 0 where
-  pub other : place_of number ≢ 3
-  pub alike : IsAlike number (place_of number)
-
-base_alike_if : (impact exploitability : Exact) → base_alike impact exploitability ≡ true
-    → IsBaseAlike (base_number impact exploitability)
-unfolding base_alike
-base_alike_if impact exploitability holds =
-    let number = base_number impact exploitability in
-    let parts = and_parts (not (eqb (place_of number) 3)) _ holds in
-    record {
-      other = eqb-false (place_of number) 3 (not-true (eqb (place_of number) 3) parts.0);
-      alike = alike_if number parts.1;
-    }
+  pub other : place number ≢ 3
+  pub alike : IsAlike number (place number)
 
 -- with the exploitability of a vector
-of_exploitability : (v : Vector) (impact : Exact) → bases_alike impact ≡ true
+of_exploitability : (v : Vector) (impact : Exact) → 0 < impact.bottom → bases_alike impact ≡ true
     → IsBaseAlike (base_number impact (exploitability (weights_of v)))
 unfolding bases_alike
-of_exploitability v impact holds =
-    base_alike_if impact (exploitability (weights_of v))
-    (passes (λ x. base_alike impact (x over (10 ^ 9))) exploitabilities _ holds (exploitability_listed v))
+of_exploitability v impact some holds =
+    let number = base_number impact (exploitability (weights_of v)) in
+    let parts = and_parts (not (eqb (place number) 3)) _ (passes (λ x.
+    let number = base_number impact (x over (10 ^ 9)) in
+    not (eqb (place number) 3) && rounds_alike number) exploitabilities _ holds (exploitability_listed v)) in
+    record {
+      other = eqb-false (place number) 3 (not-true (eqb (place number) 3) parts.0);
+      alike = alike_if number (omega arith) parts.1;
+    }
 
 pub base_is_alike : (v : Vector) → IsBaseAlike (base_number (impact (weights_of v)) (exploitability (weights_of v)))
 base_is_alike v =
-    of_exploitability v (impact (weights_of v))
+    of_exploitability v (impact (weights_of v)) (lit< tt)
     (passes_three (λ c i a. bases_alike (impact_of (thousandths c) (thousandths i) (thousandths a)))
     (weights C) (weights I) (weights A) _ _ _ impacts_alike (weight_listed v C) (weight_listed v I) (weight_listed v A))
 
@@ -92,7 +130,7 @@ pub adjusted_base_is_alike : (v : Vector)
     → IsBaseAlike (base_number (adjusted_impact (weights_of v)) (exploitability (weights_of v)))
 adjusted_base_is_alike v =
     let w = weights_of v in
-    of_exploitability v (adjusted_impact w)
+    of_exploitability v (adjusted_impact w) (lit< tt)
     (passes_three (λ c i a.
     bases_alike (smaller (whole 10) (impact_of (c over 1_000_000) (i over 1_000_000) (a over 1_000_000))))
     weighted_impacts weighted_impacts weighted_impacts _ _ _ adjusted_impacts_alike
@@ -106,17 +144,15 @@ temporal_from v n =
     let w = weights_of v in
     temporal_number (tenths (above_least n)) (thousandths w.e) (thousandths w.rl) (thousandths w.rc)
 
-pub temporal_is_alike : (v : Vector) (n : ℕ) → n < 109 → n ≢ 3
-    → IsAlike (temporal_from v n) (place_of (temporal_from v n))
+pub temporal_is_alike : (v : Vector) (n : ℕ) → n < 109 → n ≢ 3 → IsAlike (temporal_from v n) (place (temporal_from v n))
 unfolding temporal_alike
 temporal_is_alike v n to_ten other =
     let w = weights_of v in
     let all = passes_three (λ e rl rc. all_below (temporal_alike e rl rc) 109) (weights E) (weights RL) (weights RC)
     w.e w.rl w.rc temporals_alike (weight_listed v E) (weight_listed v RL) (weight_listed v RC) in
-    let holds = below_passes (temporal_alike w.e w.rl w.rc) 109 n all to_ten in
-    elim (or_cases (eqb n 3) (rounds_alike (temporal_from v n)) holds) [
+    elim (or_cases (eqb n 3) (rounds_alike (temporal_from v n)) (below_passes (temporal_alike w.e w.rl w.rc) 109 n all to_ten)) [
       | inl is_other ↦ absurd (other (eqb-true n 3 is_other))
-      | inr alike ↦ alike_if (temporal_from v n) alike
+      | inr alike ↦ alike_if (temporal_from v n) (lit< tt) alike
     ]
 
 -- what the environmental score is the rounding of, with these tenths in the place of the temporal
@@ -125,12 +161,11 @@ environmental_from v n =
     let w = weights_of v in
     environmental_number (tenths (above_least n)) (thousandths w.cdp) (thousandths w.td)
 
-pub environmental_is_alike : (v : Vector) (n : ℕ) → n < 109 → IsPublishedAlike (environmental_from v n)
+pub environmental_is_alike : (v : Vector) (n : ℕ) → n < 109
+    → int_max (pos 0) (v2_tenths (environmental_from v n)) ≡ int_max (pos 0) (nearest_tenths (environmental_from v n))
 unfolding environmental_alike
 environmental_is_alike v n to_ten =
     let w = weights_of v in
-    let of_td : ℕ → ℕ → Bool = λ cdp td. all_below (environmental_alike cdp td) 109 in
-    let all = passes (of_td w.cdp) (weights TD) w.td
-    (passes (λ cdp. list_all (of_td cdp) (weights TD)) (weights CDP) w.cdp environmentals_alike (weight_listed v CDP))
-    (weight_listed v TD) in
-    published_alike_if (environmental_from v n) (below_passes (environmental_alike w.cdp w.td) 109 n all to_ten)
+    let all = passes_two (λ cdp td. all_below (environmental_alike cdp td) 109) (weights CDP) (weights TD) w.cdp w.td
+    environmentals_alike (weight_listed v CDP) (weight_listed v TD) in
+    same_if _ _ (below_passes (environmental_alike w.cdp w.td) 109 n all to_ten)

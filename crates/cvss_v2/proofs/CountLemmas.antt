@@ -1,35 +1,20 @@
 -- What the whole numbers of the code say of the exact numbers of the equations.
 use Rattle.std.proofs.Common.{◌≡◌, ℕ, ◌+◌, ◌-◌, ◌*◌, ◌^◌, ◌≤◌, ℤ, pos, ◌+ℤ◌, ◌-ℤ◌, ◌*ℤ◌, ◌≤ℤ◌, neg_ℤ, arith, refl, ap, ◌∙◌, lit<, zero, suc, negsuc, ◌≢◌, subst, sym}
 use Rattle.std.proofs.lemmas.Int.{ints}
-use Rattle.std.proofs.Math.Nat.{mul-le-mul, mul-le-mul_right}
+use Rattle.std.proofs.Math.Nat.{mul-le-mul_right}
 use borrow.Author.Differences.{up, down}
 use Rattle.cvss_number.specs.Exact.{ratio, ◌over◌, of_count, thousandths, tenths, ◌⊕◌, ◌⊖◌, ◌⊗◌, ◌≈◌}
 use Rattle.cvss_number.specs.Rounding.{IsRoundedV2}
-use Rattle.cvss_number.proofs.ExactLemmas.{times_times, times_sum, times_difference}
+use Rattle.cvss_number.proofs.ExactLemmas.{rests_are, rests_bound, times_times, times_sum, times_difference}
 use Rattle.cvss_number.proofs.RoundingLemmas.{v2-equal}
-use Rattle.cvss_v2.specs.Scores.{rest, impact_of, f_thousandths, base_number, temporal_number, environmental_number}
-
--- three factors that are known
-product_of : (x y z : ℤ) (k m n : ℕ) → x ≡ pos k → y ≡ pos m → z ≡ pos n → x *ℤ y *ℤ z ≡ pos (k * m * n)
-product_of x y z k m n is_k is_m is_n = rw (is_k, is_m, is_n) refl
-
--- a weight of at most 1, taken from 1
-rest_is : (unit n : ℕ) → n ≤ unit → (rest (n over unit)).top ≡ pos (unit - n)
-rest_is unit n small = omega (arith, ints)
-
--- the product of three such rests is at most 1
-rests_bound : (unit c i a : ℕ) → (unit - c) * (unit - i) * (unit - a) ≤ unit * unit * unit
-rests_bound unit c i a =
-    let bound : (n : ℕ) → unit - n ≤ unit = λ n. omega arith in
-    mul-le-mul (mul-le-mul (bound c) (bound i)) (bound a)
+use Rattle.cvss_v2.specs.Scores.{impact_of, f_thousandths, base_number, temporal_number, environmental_number}
 
 -- Impact as a count, of weights in millionths
 pub impact_is : (count : ℤ) (c i a : ℕ) → c ≤ 1_000_000 → i ≤ 1_000_000 → a ≤ 1_000_000
     → count ≡ pos ((10 ^ 18 - (1_000_000 - c) * (1_000_000 - i) * (1_000_000 - a)) * 10_410_000)
     → of_count count ≈ impact_of (c over 1_000_000) (i over 1_000_000) (a over 1_000_000)
 impact_is count c i a small_c small_i small_a is_count =
-    let rests = product_of _ _ _ (1_000_000 - c) (1_000_000 - i) (1_000_000 - a)
-    (rest_is 1_000_000 c small_c) (rest_is 1_000_000 i small_i) (rest_is 1_000_000 a small_a) in
+    let rests = rests_are 1_000_000 c i a small_c small_i small_a in
     record { equal = omega (arith, ints, rests, rests_bound 1_000_000 c i a) }
 
 -- Impact in 10^-11, of weights in thousandths
@@ -37,8 +22,7 @@ pub own_impact_is : (c i a : ℕ) → c ≤ 1000 → i ≤ 1000 → a ≤ 1000
     → ratio (pos ((10 ^ 9 - (1000 - c) * (1000 - i) * (1000 - a)) * 1041)) (10 ^ 11)
     ≈ impact_of (thousandths c) (thousandths i) (thousandths a)
 own_impact_is c i a small_c small_i small_a =
-    let rests = product_of _ _ _ (1000 - c) (1000 - i) (1000 - a)
-    (rest_is 1000 c small_c) (rest_is 1000 i small_i) (rest_is 1000 a small_a) in
+    let rests = rests_are 1000 c i a small_c small_i small_a in
     record { equal = omega (arith, ints, rests, rests_bound 1000 c i a) }
 
 -- f of an impact that is not 0

@@ -1,7 +1,6 @@
 mod ComputedLemmas
 mod CountLemmas
 mod MillionthLemmas
-mod PlainLemmas
 mod ScoreLemmas
 mod StandardFacts
 mod TableLemmas

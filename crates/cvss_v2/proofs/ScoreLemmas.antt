@@ -1,30 +1,17 @@
 -- The equations give the same numbers for equal sub-scores and weights.
-use Rattle.std.proofs.Common.{◌≡◌, ℕ, ◌*◌, ◌^◌, ◌<◌, ℤ, pos, ◌*ℤ◌, arith, refl, ap, lit<, zero, suc, negsuc, subst, sym}
-use Rattle.std.proofs.lemmas.Int.{ints}
-use Rattle.cvss_number.specs.Exact.{Exact, ratio, ◌over◌, whole, tenths, thousandths, of_count, smaller, ◌≈◌}
+use Rattle.std.proofs.Common.{◌≡◌, ℕ, ◌^◌, ◌<◌, ℤ, pos, ◌*ℤ◌, arith, refl, ap, lit<, subst, sym}
+use Rattle.cvss_number.specs.Exact.{Exact, ratio, ◌over◌, of_count, ◌≈◌}
 use Rattle.cvss_number.specs.Rounding.{IsRoundedV2}
-use Rattle.cvss_number.proofs.ExactLemmas.{equal_refl, sum_equal, difference_equal, product_equal}
+use Rattle.cvss_number.proofs.ExactLemmas.{by_sign, equal_refl, sum_equal, difference_equal, product_equal}
 use Rattle.cvss_number.proofs.RoundingLemmas.{v2-equal}
 use Rattle.cvss_v2.specs.declared.weights.Weights.{Weights}
-use Rattle.cvss_v2.specs.Scores.{f_thousandths, f, base_number, temporal_number, environmental_number, impact_of, impact, adjusted_impact, exploitability, IsBase, IsTemporal}
-use Rattle.cvss_v2.proofs.UniqueLemmas.{base_alone}
+use Rattle.cvss_v2.specs.Scores.{f_thousandths, f, base_number, impact, exploitability, IsBase, IsTemporal}
 
--- the tops of equal numbers are both 0 or both not
-f_thousandths_equal : (m n : ℤ) (p q : ℕ) → 0 < p → 0 < q → m *ℤ pos q ≡ n *ℤ pos p
-    → f_thousandths m ≡ f_thousandths n
-f_thousandths_equal (pos zero) (pos zero) p q some_p some_q same = refl
-f_thousandths_equal (pos zero) (pos (suc n)) p q some_p some_q same = absurd (omega (arith, ints))
-f_thousandths_equal (pos zero) (negsuc n) p q some_p some_q same = absurd (omega (arith, ints))
-f_thousandths_equal (pos (suc m)) (pos zero) p q some_p some_q same = absurd (omega (arith, ints))
-f_thousandths_equal (negsuc m) (pos zero) p q some_p some_q same = absurd (omega (arith, ints))
-f_thousandths_equal (pos (suc m)) (pos (suc n)) p q some_p some_q same = refl
-f_thousandths_equal (pos (suc m)) (negsuc n) p q some_p some_q same = refl
-f_thousandths_equal (negsuc m) (pos (suc n)) p q some_p some_q same = refl
-f_thousandths_equal (negsuc m) (negsuc n) p q some_p some_q same = refl
-
+-- equal impacts have one f
 f_equal : {x x' : Exact} → 0 < x.bottom → 0 < x'.bottom → x ≈ x' → f x ≈ f x'
 f_equal {x} {x'} some_x some_x' same =
-    let same_f = f_thousandths_equal x.top x'.top x.bottom x'.bottom some_x some_x' same.equal in
+    let same_f = by_sign (λ m n. f_thousandths m ≡ f_thousandths n) refl (λ m n. refl) (λ m n. refl)
+    x.top x'.top x.bottom x'.bottom some_x some_x' same.equal in
     record { equal = ap (λ n. pos n *ℤ pos 1000) same_f }
 
 pub base_number_equal : {x x' y y' : Exact} → 0 < x.bottom → 0 < x'.bottom → x ≈ x' → y ≈ y'
@@ -67,30 +54,3 @@ pub own_base_is : (w : Weights) (i x : ℕ) {r s : ℤ} → ratio (pos i) (10 ^ 
     → IsBase w (impact w) s
 own_base_is w i x is_impact is_exploitability rounded same_tenths =
     v2-equal (lit< tt) (lit< tt) (base_number_equal (lit< tt) (lit< tt) is_impact is_exploitability) same_tenths rounded
-
--- what holds of the weights that the code takes holds of a vector's
-pub adjusted_of : (w : Weights) {count : ℤ} {c i a : ℕ} → c ≡ w.c * w.cr → i ≡ w.i * w.ir → a ≡ w.a * w.ar
-    → of_count count ≈ smaller (whole 10) (impact_of (c over 1_000_000) (i over 1_000_000) (a over 1_000_000))
-    → of_count count ≈ adjusted_impact w
-adjusted_of w {count} is_c is_i is_a same =
-    subst (λ n. of_count count ≈ n)
-    (λ at. smaller (whole 10) (impact_of (is_c at over 1_000_000) (is_i at over 1_000_000) (is_a at over 1_000_000))) same
-
-pub temporal_of_weights : (w : Weights) (P : Exact → Type 0) (base : ℤ) {e rl rc : ℕ} → e ≡ w.e → rl ≡ w.rl → rc ≡ w.rc
-    → P (temporal_number (tenths base) (thousandths e) (thousandths rl) (thousandths rc))
-    → P (temporal_number (tenths base) (thousandths w.e) (thousandths w.rl) (thousandths w.rc))
-temporal_of_weights w P base is_e is_rl is_rc =
-    subst P (λ at. temporal_number (tenths base) (thousandths (is_e at)) (thousandths (is_rl at)) (thousandths (is_rc at)))
-
-pub temporal_of_base : (w : Weights) (P : Exact → Type 0) (own base : ℤ) {e rl rc : ℕ} → IsBase w (impact w) own → IsBase w (impact w) base
-    → e ≡ w.e → rl ≡ w.rl → rc ≡ w.rc → P (temporal_number (tenths own) (thousandths e) (thousandths rl) (thousandths rc))
-    → P (temporal_number (tenths base) (thousandths w.e) (thousandths w.rl) (thousandths w.rc))
-temporal_of_base w P own base {e} {rl} {rc} is_own is_base is_e is_rl is_rc holds =
-    let same = base_alone w (impact w) (lit< tt) own base is_own is_base in
-    temporal_of_weights w P base is_e is_rl is_rc (subst (λ (n : ℤ). P (temporal_number (tenths n) (thousandths e) (thousandths rl) (thousandths rc))) same holds)
-
-pub environmental_of_weights : (w : Weights) (P : Exact → Type 0) (temporal : ℤ) {cdp td : ℕ} → cdp ≡ w.cdp → td ≡ w.td
-    → P (environmental_number (tenths temporal) (thousandths cdp) (thousandths td))
-    → P (environmental_number (tenths temporal) (thousandths w.cdp) (thousandths w.td))
-environmental_of_weights w P temporal is_cdp is_td =
-    subst P (λ at. environmental_number (tenths temporal) (thousandths (is_cdp at)) (thousandths (is_td at)))

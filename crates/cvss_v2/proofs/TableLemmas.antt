@@ -1,6 +1,6 @@
 -- The weights of a vector are those of the tables.
 use Rattle.std.specs.Prelude.{option_map, unwrap_or}
-use Rattle.std.specs.List.{list_all, dedup, Contains}
+use Rattle.std.specs.List.{dedup, Contains}
 use Rattle.std.proofs.Common.{◌≡◌, ℕ, ◌*◌, List, [], ◌∷◌, ◌++◌, map, true, eqb, Option, refl, rules}
 use Rattle.cvss_name.specs.declared.v2.MetricType.{MetricType}
 use Rattle.cvss_name.specs.declared.v2.MetricType.TheVariants.{A, AC, AV, Au, C, CR}
@@ -8,7 +8,7 @@ use Rattle.cvss_v2.specs.declared.vector.Vector.{Vector}
 use Rattle.cvss_v2.specs.Table.{Value, rows_of, weight_of, absent_weight}
 use Rattle.cvss_v2.specs.Vector.{value_at}
 use Rattle.cvss_v2.specs.Weights.{weight_in}
-use Rattle.cvss_number.proofs.TestLemmas.{passes, passes_three, is_listed, listed_if}
+use Rattle.cvss_number.proofs.TestLemmas.{passes_two, passes_three, is_listed, listed_if}
 
 -- the weights of a metric, that of an absent one included
 abbrev pub weights : MetricType → List ℕ
@@ -30,9 +30,7 @@ pub weighted_listed : (impact requirement : ℕ) → Contains (weights C) impact
     → Contains weighted_impacts (impact * requirement)
 weighted_listed impact requirement is_impact is_requirement =
     listed_if weighted_impacts (impact * requirement)
-    (passes (λ r. is_listed weighted_impacts (impact * r)) (weights CR) requirement
-    (passes (λ i. list_all (λ r. is_listed weighted_impacts (i * r)) (weights CR)) (weights C) impact refl is_impact)
-    is_requirement)
+    (passes_two (λ i r. is_listed weighted_impacts (i * r)) (weights C) (weights CR) impact requirement refl is_impact is_requirement)
 
 -- 20 times the weights of the three access metrics
 abbrev pub exploitabilities : List ℕ

@@ -1,11 +1,11 @@
 -- What the whole numbers of the code say of the exact numbers of the equations.
 use Rattle.std.specs.List.{Contains}
-use Rattle.std.proofs.Common.{◌≡◌, ℕ, ◌-◌, ◌*◌, ◌^◌, ◌+◌, ◌<◌, ◌≤◌, min, ℤ, pos, ◌*ℤ◌, ◌/◌, ◌⊎◌, arith, refl, subst, sym, lit<, lit≤, Bool}
+use Rattle.std.proofs.Common.{◌≡◌, ℕ, ◌*◌, ◌^◌, ◌+◌, ◌<◌, ◌≤◌, min, pos, ◌*ℤ◌, ◌/◌, ◌⊎◌, arith, refl, subst, sym, lit<, lit≤, Bool}
 use Rattle.std.proofs.lemmas.Int.{ints}
 use borrow.Author.Differences.{up, down}
 use Rattle.std.proofs.Math.Nat.{mul-le-mul, lt_of_mul-lt-mul_right, le_of_mul-le-mul_right}
 use Rattle.cvss_number.specs.Exact.{Exact, ratio, ◌over◌, whole, ◌⊗◌, ◌≈◌, smaller}
-use Rattle.cvss_number.proofs.ExactLemmas.{equal_refl, equal_trans, difference_equal, product_equal, times_times}
+use Rattle.cvss_number.proofs.ExactLemmas.{rests_are, rests_bound, equal_refl, equal_trans, difference_equal, product_equal, times_times}
 use Rattle.cvss_v3.proofs.CapLemmas.{by_smaller}
 use Rattle.cvss_name.specs.declared.v3.MetricType.TheVariants.{A, AC, AV, C, I, UI, E, RL, RC, CR, IR, AR}
 use Rattle.cvss_v3.specs.declared.vector.Vector.{Vector}
@@ -18,26 +18,12 @@ use Rattle.cvss_v3.specs.private.Weights.{impacts, requirements}
 use Rattle.cvss_v3.proofs.SubScoreLemmas.{weight_bound, weighted_listed, weighted_whole, iss_listed, miss_listed, exploitability_listed}
 use Rattle.cvss_v3.proofs.TableLemmas.{base_listed, optional_listed, privileges_listed, weight_at_most}
 
--- three factors that are known
-product_of : (x y z : ℤ) (k m n : ℕ) → x ≡ pos k → y ≡ pos m → z ≡ pos n → x *ℤ y *ℤ z ≡ pos (k * m * n)
-product_of x y z k m n is_k is_m is_n = rw (is_k, is_m, is_n) refl
-
--- a weight of at most 1, taken from 1
-rest_is : (n : ℕ) → n ≤ 100 → (rest (hundredths n)).top ≡ pos (100 - n)
-rest_is n small = omega (arith, ints)
-
--- the product of three such rests is at most 1
-rests_bound : (c i a : ℕ) → (100 - c) * (100 - i) * (100 - a) ≤ 10 ^ 6
-rests_bound c i a =
-    let bound : (n : ℕ) → 100 - n ≤ 100 = λ n. omega arith in
-    mul-le-mul (mul-le-mul (bound c) (bound i)) (bound a)
-
 -- a sub-score of weights in hundredths, in millionths
 pub millionths_are : (c i a : ℕ) → c ≤ 100 → i ≤ 100 → a ≤ 100
     → millionths_of c i a over 1_000_000 ≈ sub_score_of (hundredths c) (hundredths i) (hundredths a)
 millionths_are c i a small_c small_i small_a =
-    let rests = product_of _ _ _ (100 - c) (100 - i) (100 - a) (rest_is c small_c) (rest_is i small_i) (rest_is a small_a) in
-    record { equal = omega (arith, ints, rests, rests_bound c i a) }
+    let rests = rests_are 100 c i a small_c small_i small_a in
+    record { equal = omega (arith, ints, rests, rests_bound 100 c i a) }
 
 -- the product of four weights
 pub four_bound : (av ac pr ui : ℕ) → av ≤ 100 → ac ≤ 100 → pr ≤ 100 → ui ≤ 100 → 822 * av * ac * pr * ui ≤ 822 * 10 ^ 8

@@ -1,11 +1,11 @@
 -- Cutting a number to five decimals changes no rounding of v3.1, where the number lies in no gap between the two.
 use Rattle.std.specs.List.{list_all}
-use Rattle.std.proofs.Common.{◌≡◌, ℕ, ◌*◌, ◌^◌, ◌%◌, ◌<◌, ◌≤◌, ℤ, pos, negsuc, ◌-ℤ◌, ◌+ℤ◌, ◌*ℤ◌, Bool, true, ◌||◌, leb, ltb, ◌⊎◌, inl, inr, arith, refl, lit<, subst, sym}
+use Rattle.std.proofs.Common.{◌≡◌, ℕ, ◌+◌, ◌*◌, ◌/◌, ◌^◌, ◌<◌, ◌≤◌, ℤ, pos, ◌-ℤ◌, ◌+ℤ◌, Bool, true, leb, arith, refl, lit<, subst, sym}
 use Rattle.std.proofs.lemmas.Int.{ints}
-use Rattle.std.proofs.lemmas.Bool.{or_cases, leb-true, ltb-true}
+use Rattle.std.proofs.lemmas.Bool.{leb-true}
 use Rattle.cvss_number.specs.Exact.{Exact, ratio, ◌over◌, whole, tenths, ◌⊕◌, ◌⊗◌, ◌⊑◌}
 use Rattle.cvss_number.specs.Rounding.{IsRoundedV31}
-use Rattle.cvss_number.proofs.ExactLemmas.{at_most_trans, at_most_below, scaled_at_most, times_sum, times_times}
+use Rattle.cvss_number.proofs.ExactLemmas.{above_itself, at_most_trans, at_most_below, scaled_at_most}
 use Rattle.cvss_v3.specs.laws.FifthDecimals.{IsSameWhenCut}
 use Rattle.cvss_v3.specs.Scores.{temporal_number}
 use Rattle.cvss_v3.specs.VectorWeights.{weights_of}
@@ -15,18 +15,6 @@ use Rattle.cvss_name.specs.declared.v3.MetricType.TheVariants.{E, RL, RC}
 use Rattle.cvss_v3.proofs.TableLemmas.{optional_listed}
 use Rattle.cvss_v3.proofs.RoundLemmas.{between_jumps}
 use Rattle.cvss_number.proofs.TestLemmas.{passes_three, all_below, below_passes}
-
--- x is at most a half above x
-half_above_itself : (x : Exact) → x ⊑ x ⊕ 1 over 2
-half_above_itself x =
-    record {
-      at_most = omega (
-        arith,
-        ints,
-        times_sum (x.top *ℤ pos 2) (pos 1 *ℤ pos x.bottom) x.bottom,
-        times_times x.top (pos 2) x.bottom,
-      );
-    }
 
 -- a number that lies a fifth decimal or more above the tenth before its rounding has the same rounding when it is cut
 pub cut_is : (n : Exact) (s : ℤ) → 0 < n.bottom → whole 0 ⊑ n → tenths (s -ℤ pos 1) ⊕ 1 over 100_000 ⊑ n
@@ -40,35 +28,24 @@ cut_is n s some from_zero above is_s r is_r =
     let before = tenths (s -ℤ pos 1) ⊕ 1 over 100_000 in
     let scaled : before ⊗ whole 100_000 ⊑ x = scaled_at_most before n 100_000 1 above in
     let low = at_most_below (before ⊗ whole 100_000) x (ratio (f +ℤ pos 1) 1) (lit< tt) scaled is_r.cut.greatest in
-    let to_half = at_most_trans (ratio f 1) x (x ⊕ 1 over 2) some_x is_r.cut.not_above (half_above_itself x) in
+    let to_half = at_most_trans (ratio f 1) x (x ⊕ 1 over 2) some_x is_r.cut.not_above (above_itself x 1 2) in
     let high = at_most_below (ratio f 1) (x ⊕ 1 over 2) (ratio (g +ℤ pos 1) 1) (lit< tt) to_half up.nearest.greatest in
     let same : r ≡ s =
     omega (arith, ints, low.below, high.below, up.rounded.not_below.at_most, is_r.rounded.not_below.at_most, is_r.rounded.least.below) in
     subst (λ (z : ℤ). IsRoundedV31 n z) (sym same) is_s
 
--- so has one of so many 10^-7 that is not from 5 to 9 millionths above a tenth
-same_when_cut : (k : ℕ) → (k % 1_000_000 < 50) ⊎ (100 ≤ k % 1_000_000) → IsSameWhenCut (k over (10 ^ 7))
-same_when_cut k apart (pos r) cut =
-    between_jumps k (10 ^ 7) r (lit< tt)
-    (record { at_most = omega (arith, ints, cut.cut.not_above.at_most, cut.rounded.least.below) })
-    (record {
-      below = elim apart [
-        | inl low ↦ omega (arith, ints, cut.cut.greatest.below, cut.rounded.not_below.at_most, low)
-        | inr high ↦ omega (arith, ints, cut.cut.greatest.below, cut.rounded.not_below.at_most, high)
-      ];
-    })
-same_when_cut k apart (negsuc r) cut =
-    absurd (omega (arith, ints, cut.cut.greatest.below, cut.rounded.not_below.at_most))
+-- the v3.1 rounding of so many 10^-7
+abbrev rounded : ℕ → ℕ
+rounded k = (k + 999_950) / 1_000_000
 
--- whether so many 10^-7 are not from 5 to 9 millionths above a tenth
+-- whether so many 10^-7 are a fifth decimal or more above the tenth before their rounding
 abbrev is_apart : ℕ → Bool
-is_apart k = ltb (k % 1_000_000) 50 || leb 100 (k % 1_000_000)
+is_apart k = leb (rounded k * 1_000_000 + 100) (k + 1_000_000)
 
-apart_if : (k : ℕ) → is_apart k ≡ true → (k % 1_000_000 < 50) ⊎ (100 ≤ k % 1_000_000)
-apart_if k holds = elim (or_cases (ltb (k % 1_000_000) 50) (leb 100 (k % 1_000_000)) holds) [
-  | inl low ↦ inl (ltb-true (k % 1_000_000) 50 low)
-  | inr high ↦ inr (leb-true 100 (k % 1_000_000) high)
-]
+apart_same_when_cut : (k : ℕ) → rounded k * 1_000_000 + 100 ≤ k + 1_000_000 → IsSameWhenCut (k over (10 ^ 7))
+apart_same_when_cut k apart =
+    cut_is (k over (10 ^ 7)) (pos (rounded k)) (lit< tt) (record { at_most = omega (arith, ints) }) (record { at_most = omega (arith, ints, apart) })
+    (between_jumps k (10 ^ 7) (rounded k) (lit< tt) (record { at_most = omega (arith, ints) }) (record { below = omega (arith, ints) }))
 
 products_apart : list_all (λ e. list_all (λ rl. list_all (λ rc. all_below (λ t. is_apart (t * e * rl * rc)) 101)
     report_confidences) remediation_levels) exploit_code_maturities ≡ true
@@ -79,8 +56,9 @@ products_apart = refl
 pub product_same_when_cut : (v : Vector) (t : ℕ) → t ≤ 100 → IsSameWhenCut (temporal_number (pos t) (weights_of v))
 product_same_when_cut v t to_ten =
     let w = weights_of v in
-    let apart = below_passes (λ t. is_apart (t * w.e * w.rl * w.rc)) 101 t
+    let k = t * w.e * w.rl * w.rc in
+    let apart = leb-true (rounded k * 1_000_000 + 100) (k + 1_000_000) (below_passes (λ t. is_apart (t * w.e * w.rl * w.rc)) 101 t
     (passes_three (λ e rl rc. all_below (λ t. is_apart (t * e * rl * rc)) 101) exploit_code_maturities remediation_levels report_confidences
     w.e w.rl w.rc products_apart (optional_listed E (0, lit< tt, refl) v.e) (optional_listed RL (0, lit< tt, refl) v.rl)
-    (optional_listed RC (0, lit< tt, refl) v.rc)) (omega arith) in
-    same_when_cut (t * w.e * w.rl * w.rc) (apart_if (t * w.e * w.rl * w.rc) apart)
+    (optional_listed RC (0, lit< tt, refl) v.rc)) (omega arith)) in
+    apart_same_when_cut k apart

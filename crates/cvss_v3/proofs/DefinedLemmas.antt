@@ -15,6 +15,7 @@ use Rattle.cvss_v3_metric.specs.declared.environmental.modified.Modified.TheVari
 use Rattle.cvss_v3_metric.specs.declared.environmental.modified_scope.ModifiedScope.TheVariants as modified_scope
 use Rattle.cvss_v3.specs.declared.vector.Vector.{Vector}
 use Rattle.cvss_v3.specs.laws.ScoreLaws.{DefineTheSame}
+use Rattle.cvss_v3.specs.Vector.{value_at}
 use Rattle.cvss_v3.specs.VectorWeights.{weights_of, weight_at, privileges_weight, effective, effective_scope, is_changed}
 
 -- there is no value, or it is X
@@ -52,55 +53,38 @@ modified_same : {B C : Type 0} (kind : MetricType) (x : Value kind) → spelling
 modified_same kind x is of v w b c same one base = optional_same kind x is (λ value. of value b) same v w one ∙ ap (of w) base
 
 module _ (v w : Vector) (same : DefineTheSame v w) where
-  attack_vector_same : v.av ≡ w.av
-  attack_vector_same = base_same AV refl v.av w.av (same AV)
+  base : (kind : MetricType) → has_undefined kind ≡ false → value_at v kind ≡ value_at w kind
+  base kind none = base_same kind none (value_at v kind) (value_at w kind) (same kind)
 
-  attack_complexity_same : v.ac ≡ w.ac
-  attack_complexity_same = base_same AC refl v.ac w.ac (same AC)
-
-  privileges_required_same : v.pr ≡ w.pr
-  privileges_required_same = base_same PR refl v.pr w.pr (same PR)
-
-  user_interaction_same : v.ui ≡ w.ui
-  user_interaction_same = base_same UI refl v.ui w.ui (same UI)
-
-  scope_same : v.s ≡ w.s
-  scope_same = base_same S refl v.s w.s (same S)
-
-  confidentiality_same : v.c ≡ w.c
-  confidentiality_same = base_same C refl v.c w.c (same C)
-
-  integrity_same : v.i ≡ w.i
-  integrity_same = base_same I refl v.i w.i (same I)
-
-  availability_same : v.a ≡ w.a
-  availability_same = base_same A refl v.a w.a (same A)
+  optional : (kind : MetricType) (x : Value kind) → spelling_of kind x ≡ codes "X" → weight_at kind (Some x) ≡ weight_at kind None
+      → weight_at kind (value_at v kind) ≡ weight_at kind (value_at w kind)
+  optional kind x is weighs = optional_same kind x is (weight_at kind) weighs (value_at v kind) (value_at w kind) (same kind)
 
   modified_scope_same : effective_scope v.ms v.s ≡ effective_scope w.ms w.s
-  modified_scope_same = modified_same MS modified_scope.NotDefined refl effective_scope v.ms w.ms v.s w.s refl (same MS) scope_same
+  modified_scope_same = modified_same MS modified_scope.NotDefined refl effective_scope v.ms w.ms v.s w.s refl (same MS) (base S refl)
 
   pub one_weights : weights_of v ≡ weights_of w
   one_weights = λ at. record {
-    av = weight_at AV (attack_vector_same at);
-    ac = weight_at AC (attack_complexity_same at);
-    pr = privileges_weight (is_changed (scope_same at)) (privileges_required_same at);
-    ui = weight_at UI (user_interaction_same at);
-    changed = is_changed (scope_same at);
-    c = weight_at C (confidentiality_same at);
-    i = weight_at I (integrity_same at);
-    a = weight_at A (availability_same at);
-    e = optional_same E exploit_code_maturity.NotDefined refl (weight_at E) refl v.e w.e (same E) at;
-    rl = optional_same RL remediation_level.NotDefined refl (weight_at RL) refl v.rl w.rl (same RL) at;
-    rc = optional_same RC report_confidence.NotDefined refl (weight_at RC) refl v.rc w.rc (same RC) at;
-    cr = optional_same CR confidentiality_requirement.NotDefined refl (weight_at CR) refl v.cr w.cr (same CR) at;
-    ir = optional_same IR integrity_requirement.NotDefined refl (weight_at IR) refl v.ir w.ir (same IR) at;
-    ar = optional_same AR availability_requirement.NotDefined refl (weight_at AR) refl v.ar w.ar (same AR) at;
-    mav = weight_at AV (modified_same MAV NotDefined refl effective v.mav w.mav v.av w.av refl (same MAV) attack_vector_same at);
-    mac = weight_at AC (modified_same MAC NotDefined refl effective v.mac w.mac v.ac w.ac refl (same MAC) attack_complexity_same at);
-    mpr = privileges_weight (is_changed (modified_scope_same at)) (modified_same MPR NotDefined refl effective v.mpr w.mpr v.pr w.pr refl (same MPR) privileges_required_same at);
-    mui = weight_at UI (modified_same MUI NotDefined refl effective v.mui w.mui v.ui w.ui refl (same MUI) user_interaction_same at);
+    av = weight_at AV (base AV refl at);
+    ac = weight_at AC (base AC refl at);
+    pr = privileges_weight (is_changed (base S refl at)) (base PR refl at);
+    ui = weight_at UI (base UI refl at);
+    changed = is_changed (base S refl at);
+    c = weight_at C (base C refl at);
+    i = weight_at I (base I refl at);
+    a = weight_at A (base A refl at);
+    e = optional E exploit_code_maturity.NotDefined refl refl at;
+    rl = optional RL remediation_level.NotDefined refl refl at;
+    rc = optional RC report_confidence.NotDefined refl refl at;
+    cr = optional CR confidentiality_requirement.NotDefined refl refl at;
+    ir = optional IR integrity_requirement.NotDefined refl refl at;
+    ar = optional AR availability_requirement.NotDefined refl refl at;
+    mav = weight_at AV (modified_same MAV NotDefined refl effective v.mav w.mav v.av w.av refl (same MAV) (base AV refl) at);
+    mac = weight_at AC (modified_same MAC NotDefined refl effective v.mac w.mac v.ac w.ac refl (same MAC) (base AC refl) at);
+    mpr = privileges_weight (is_changed (modified_scope_same at)) (modified_same MPR NotDefined refl effective v.mpr w.mpr v.pr w.pr refl (same MPR) (base PR refl) at);
+    mui = weight_at UI (modified_same MUI NotDefined refl effective v.mui w.mui v.ui w.ui refl (same MUI) (base UI refl) at);
     modified_changed = is_changed (modified_scope_same at);
-    mc = weight_at C (modified_same MC NotDefined refl effective v.mc w.mc v.c w.c refl (same MC) confidentiality_same at);
-    mi = weight_at I (modified_same MI NotDefined refl effective v.mi w.mi v.i w.i refl (same MI) integrity_same at);
-    ma = weight_at A (modified_same MA NotDefined refl effective v.ma w.ma v.a w.a refl (same MA) availability_same at);
+    mc = weight_at C (modified_same MC NotDefined refl effective v.mc w.mc v.c w.c refl (same MC) (base C refl) at);
+    mi = weight_at I (modified_same MI NotDefined refl effective v.mi w.mi v.i w.i refl (same MI) (base I refl) at);
+    ma = weight_at A (modified_same MA NotDefined refl effective v.ma w.ma v.a w.a refl (same MA) (base A refl) at);
   }

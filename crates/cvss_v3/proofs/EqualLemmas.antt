@@ -1,16 +1,16 @@
 -- The equations give the same numbers for equal parts, and equal numbers have the same roundings.
 use Rattle.std.specs.Prelude.{int_lt, if◌then◌else◌}
-use Rattle.std.proofs.Common.{◌≡◌, ℕ, zero, suc, ◌*◌, ◌<◌, ℤ, pos, negsuc, ◌+ℤ◌, ◌-ℤ◌, ◌*ℤ◌, Bool, true, false, arith, refl, sym, ◌∙◌, subst, lit<}
+use Rattle.std.proofs.Common.{◌≡◌, ℕ, zero, suc, ◌*◌, ◌<◌, ℤ, pos, ◌+ℤ◌, ◌-ℤ◌, Bool, true, false, arith, refl, sym, ◌∙◌, subst, lit<}
 use Rattle.std.proofs.Math.Nat.{mul-pos}
-use Rattle.std.proofs.lemmas.Int.{ints}
 use Rattle.std.proofs.lemmas.Bool.{lt-ltb}
 use Rattle.cvss_number.specs.Exact.{Exact, ratio, ◌over◌, whole, tenths, ◌⊕◌, ◌⊖◌, ◌⊗◌, ◌≈◌}
 use Rattle.cvss_number.specs.Rounding.{IsRoundedV30, IsRoundedV31}
-use Rattle.cvss_number.proofs.ExactLemmas.{equal_refl, equal_sym, equal_at_most, sum_equal, difference_equal, product_equal, at_most_trans, at_most_below, below_at_most}
+use Rattle.cvss_number.proofs.ExactLemmas.{by_sign, equal_refl, equal_sym, equal_at_most, sum_equal, difference_equal, product_equal, at_most_trans, at_most_below, below_at_most}
 use Rattle.cvss_number.proofs.RoundingLemmas.{v30-unique, v31-unique}
 use Rattle.cvss_v3.proofs.CapLemmas.{capped, capped_equal}
 use Rattle.cvss_v3.specs.private.Near.{RoundsAs}
-use Rattle.cvss_v3.specs.Scores.{power, changed_impact, changed_modified_impact, impact_of, modified_impact_of, total_of, first_number, IsRounded}
+use Rattle.cvss_v3.specs.Scores.{power, changed_impact, changed_modified_impact, impact_of, modified_impact_of, iss, miss, exploitability, modified_exploitability, total_of, first_number, base_number, environmental_number, IsRounded}
+use Rattle.cvss_v3.specs.declared.weights.Weights.{Weights}
 
 -- a product of numbers above 0
 pub above_zero : (m n : ℕ) → 0 < m → 0 < n → 0 < m * n
@@ -63,18 +63,6 @@ impact_is true x = refl
 suc_above : (m : ℕ) → int_lt (pos 0) (pos (suc m)) ≡ true
 suc_above m = lt-ltb 0 (suc m) (omega arith)
 
--- equal numbers are both above 0 or both not
-pub sign_equal : (m n : ℤ) (p q : ℕ) → 0 < p → 0 < q → m *ℤ pos q ≡ n *ℤ pos p → int_lt (pos 0) m ≡ int_lt (pos 0) n
-sign_equal (pos zero) (pos zero) p q some_p some_q same = refl
-sign_equal (pos zero) (pos (suc n)) p q some_p some_q same = absurd (omega (arith, ints))
-sign_equal (pos zero) (negsuc n) p q some_p some_q same = refl
-sign_equal (pos (suc m)) (pos zero) p q some_p some_q same = absurd (omega (arith, ints))
-sign_equal (pos (suc m)) (pos (suc n)) p q some_p some_q same = suc_above m ∙ sym (suc_above n)
-sign_equal (pos (suc m)) (negsuc n) p q some_p some_q same = absurd (omega (arith, ints))
-sign_equal (negsuc m) (pos zero) p q some_p some_q same = refl
-sign_equal (negsuc m) (pos (suc n)) p q some_p some_q same = absurd (omega (arith, ints))
-sign_equal (negsuc m) (negsuc n) p q some_p some_q same = refl
-
 pub total_bottom : (changed : Bool) (x y : Exact) → 0 < x.bottom → 0 < y.bottom → 0 < (total_of changed x y).bottom
 total_bottom false x y some_x some_y = above_zero x.bottom y.bottom some_x some_y
 total_bottom true x y some_x some_y = above_zero 100 (x.bottom * y.bottom) (lit< tt) (above_zero x.bottom y.bottom some_x some_y)
@@ -93,8 +81,9 @@ first_equal changed {x} {x'} {y} {y'} some_x some_x' some_y some_y' same_x same_
       | true ↦ capped_equal (total_bottom changed x y some_x some_y) (total_bottom changed x' y' some_x' some_y') (total_equal changed same_x same_y)
       | false ↦ equal_refl (whole 0)
     ] in
-    subst (λ b. first_number changed x y ≈ (if b then total x' y' else whole 0))
-    (sign_equal x.top x'.top x.bottom x'.bottom some_x some_x' same_x.equal) (parted (int_lt (pos 0) x.top))
+    let same_sign = by_sign (λ m n. int_lt (pos 0) m ≡ int_lt (pos 0) n) refl (λ m n. suc_above m ∙ sym (suc_above n)) (λ m n. refl)
+    x.top x'.top x.bottom x'.bottom some_x some_x' same_x.equal in
+    subst (λ b. first_number changed x y ≈ (if b then total x' y' else whole 0)) same_sign (parted (int_lt (pos 0) x.top))
 
 pub first_bottom : (changed : Bool) (x y : Exact) → 0 < x.bottom → 0 < y.bottom → 0 < (first_number changed x y).bottom
 first_bottom changed x y some_x some_y =
@@ -104,6 +93,16 @@ first_bottom changed x y some_x some_y =
       | false ↦ lit< tt
     ] in
     parted (int_lt (pos 0) x.top)
+
+pub base_bottom : (w : Weights) → 0 < (base_number w).bottom
+base_bottom w =
+    subst (λ n. 0 < (first_number w.changed n (exploitability w)).bottom) (impact_is w.changed (iss w))
+    (first_bottom w.changed (modified_impact_of 0 w.changed (iss w)) (exploitability w) (impact_bottom 0 w.changed (iss w) (lit< tt)) (lit< tt))
+
+pub environmental_bottom : (minor : ℕ) (w : Weights) → 0 < (environmental_number minor w).bottom
+environmental_bottom minor w =
+    first_bottom w.modified_changed (modified_impact_of minor w.modified_changed (miss w)) (modified_exploitability w)
+    (impact_bottom minor w.modified_changed (miss w) (lit< tt)) (lit< tt)
 
 least_tenth-equal : (x y : Exact) (r : ℤ) → 0 < x.bottom → 0 < y.bottom → x ≈ y → IsRoundedV30 x r → IsRoundedV30 y r
 least_tenth-equal x y r some_x some_y same rounded = record {

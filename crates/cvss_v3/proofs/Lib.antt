@@ -1,5 +1,4 @@
 mod CapLemmas
-mod CertainLemmas
 mod CountLemmas
 mod CutLemmas
 mod DefinedLemmas

@@ -7,15 +7,17 @@ use Rattle.cvss_number.specs.Exact.{Exact, ratio, ◌over◌, whole, tenths, ◌
 use Rattle.cvss_number.proofs.ExactLemmas.{equal_refl, equal_sym, equal_trans, equal_at_most, at_most_trans, below_at_most, sum_equal, difference_equal}
 use Rattle.cvss_number.proofs.TestLemmas.{is_at_most, at_most_if}
 use Rattle.cvss_v3.proofs.CapLemmas.{not_below_cap}
-use Rattle.cvss_v3.proofs.CountLemmas.{AreParts}
+use Rattle.cvss_v3.proofs.CountLemmas.{AreParts, base_parts}
 use Rattle.cvss_v3.proofs.CutLemmas.{cut_is}
-use Rattle.cvss_v3.proofs.EqualLemmas.{impact_equal, impact_bottom, first_equal, first_bottom, rounds_equal, rounded_once}
-use Rattle.cvss_v3.proofs.NearLemmas.{half, count_approximates, number_approximates, equal_stands, number_stands}
+use Rattle.cvss_v3.proofs.EqualLemmas.{impact_is, impact_equal, impact_bottom, first_equal, first_bottom, rounds_equal, rounded_once}
+use Rattle.cvss_v3.proofs.NearLemmas.{half, still_approximates, equal_stands, number_stands}
 use Rattle.cvss_v3.proofs.RoundLemmas.{rounded_v31}
 use Rattle.cvss_v3.proofs.SettledLemmas.{error, IsSettled, settled_tenths, settled_rounding, settles}
 use Rattle.cvss_v3.specs.Certainty.{IsCertain}
 use Rattle.cvss_v3.specs.laws.FifthDecimals.{IsSameWhenCut}
-use Rattle.cvss_v3.specs.Scores.{power, changed_impact, changed_modified_impact, modified_impact_of, first_number, IsRounded}
+use Rattle.cvss_v3.specs.Scores.{power, changed_impact, changed_modified_impact, iss, impact, modified_impact_of, exploitability, first_number, base_number, IsRounded}
+use Rattle.cvss_v3.specs.VectorWeights.{weights_of}
+use Rattle.cvss_v3.specs.declared.vector.Vector.{Vector}
 use Rattle.cvss_v3.specs.private.Near.{Approximates, StandsFor}
 use Rattle.cvss_v3.specs.private.SubScores.{IsSubScore, exploitabilities}
 use Rattle.cvss_v3.specs.private.Units.{impact_units, total_units}
@@ -44,9 +46,7 @@ none_close (suc k) = close_if (changed_modified_impact (0 over 1_000_000)) refl 
 
 pub none_approximates : (k s : ℕ) (changed : Bool) → changed ≡ true → s ≡ 0
     → Approximates changed without_impact (modified_impact_of k changed (s over 1_000_000))
-none_approximates k s changed is_changed is_zero =
-    subst (λ b. Approximates b without_impact (modified_impact_of k b (s over 1_000_000))) (sym is_changed)
-    (subst (λ n. Approximates true without_impact (modified_impact_of k true (n over 1_000_000))) (sym is_zero) (none_close k))
+none_approximates k s changed is_changed is_zero = rw (is_changed, is_zero) (none_close k)
 
 -- and their first number
 none_number : (k : ℕ) (changed : Bool) (E : Exact) → first_number changed (modified_impact_of k changed (0 over 1_000_000)) E ≡ whole 0
@@ -59,9 +59,8 @@ none_number (suc k) true E = refl
 pub none_stands : (minor k : ℕ) (changed : Bool) (s e : ℕ) → s ≡ 0
     → StandsFor minor changed (0 over (10 ^ 13)) (first_number changed (modified_impact_of k changed (s over 1_000_000)) (e over (10 ^ 10)))
 none_stands minor k changed s e is_zero =
-    subst (λ n. StandsFor minor changed (0 over (10 ^ 13)) (first_number changed (modified_impact_of k changed (n over 1_000_000)) (e over (10 ^ 10))))
-    (sym is_zero) (subst (λ n. StandsFor minor changed (0 over (10 ^ 13)) n) (sym (none_number k changed (e over (10 ^ 10))))
-    (equal_stands minor changed (lit< tt) (lit< tt) (record { equal = refl })))
+    let stands = equal_stands minor changed {x = 0 over (10 ^ 13)} {n = whole 0} (lit< tt) (lit< tt) (record { equal = refl }) in
+    rw is_zero (subst (StandsFor minor changed (0 over (10 ^ 13))) (sym (none_number k changed (e over (10 ^ 10)))) stands)
 
 -- with impact, its numbers are those of the listed parts
 pub some_approximates : (k s : ℕ) (changed : Bool) (top : ℤ) → IsSubScore s → top ≡ pos (impact_units k changed s)
@@ -156,14 +155,19 @@ module _ (k : ℕ) (changed : Bool) (s : ℕ) (S : Exact) (e : ℕ) (E : Exact) 
     | inr sub_score ↦ some_certain sub_score minor
   ]
 
+  pub not_negative : whole 0 ⊑ first_number changed (modified_impact_of k changed S) E
+  not_negative = elim parts.sub_score as (λ _. whole 0 ⊑ first_number changed (modified_impact_of k changed S) E) [
+    | inl is_zero ↦ equal_at_most (whole 0) _ (none_equal is_zero)
+    | inr sub_score ↦ at_most_trans (whole 0) _ _ own_bottom (settled sub_score).at.not_negative (equal_at_most _ _ number_equal)
+  ]
+
   pub same_when_cut : IsSameWhenCut (first_number changed (modified_impact_of k changed S) E)
   same_when_cut = elim parts.sub_score as (λ _. IsSameWhenCut (first_number changed (modified_impact_of k changed S) E)) [
     | inl is_zero ↦
         let n = first_number changed (modified_impact_of k changed S) E in
-        let from_zero = equal_at_most (whole 0) n (none_equal is_zero) in
         let same : 0 over (10 ^ 13) ≈ n = equal_trans (lit< tt) (record { equal = refl }) (none_equal is_zero) in
-        cut_is n (pos 0) number_bottom from_zero
-        (at_most_trans (tenths (pos 0 -ℤ pos 1) ⊕ 1 over 100_000) (whole 0) n (lit< tt) (record { at_most = omega (arith, ints) }) from_zero)
+        cut_is n (pos 0) number_bottom not_negative
+        (at_most_trans (tenths (pos 0 -ℤ pos 1) ⊕ 1 over 100_000) (whole 0) n (lit< tt) (record { at_most = omega (arith, ints) }) not_negative)
         (rounds_equal 1 (lit< tt) number_bottom same (pos 0) (rounded_v31 0))
     | inr sub_score ↦ some_cut sub_score
   ]
@@ -177,7 +181,7 @@ stands_of minor k n s e c d S E some_S some_E same is_S is_E stands =
     let own = subst (λ b. StandsFor minor b (n over (10 ^ 13)) (first_number b (modified_impact_of k b (s over 1_000_000)) (e over (10 ^ 10)))) same stands in
     let some_s = impact_bottom k d (s over 1_000_000) (lit< tt) in
     let some = impact_bottom k d S some_S in
-    number_stands minor d (first_bottom d (modified_impact_of k d (s over 1_000_000)) (e over (10 ^ 10)) some_s (lit< tt))
+    number_stands minor d (lit< tt) (first_bottom d (modified_impact_of k d (s over 1_000_000)) (e over (10 ^ 10)) some_s (lit< tt))
     (first_bottom d (modified_impact_of k d S) E some some_E)
     (first_equal d some_s some (lit< tt) some_E (impact_equal k d is_S) is_E) own
 
@@ -186,4 +190,22 @@ pub impact_of_parts : (k s : ℕ) (c d : Bool) (S x y : Exact) → 0 < x.bottom 
     → Approximates c x (modified_impact_of k c (s over 1_000_000)) → Approximates d y (modified_impact_of k d S)
 impact_of_parts k s c d S x y some_x is_x same is_S near =
     let own = subst (λ b. Approximates b x (modified_impact_of k b (s over 1_000_000))) same near in
-    count_approximates d some_x is_x (number_approximates d (impact_bottom k d (s over 1_000_000) (lit< tt)) (impact_equal k d is_S) own)
+    still_approximates d some_x (impact_bottom k d (s over 1_000_000) (lit< tt)) is_x (impact_equal k d is_S) own
+
+pub base_certain : (minor : ℕ) (v : Vector) → whole 0 ⊏ impact (weights_of v) → IsCertain minor (base_number (weights_of v))
+base_certain minor v =
+    let w = weights_of v in
+    subst (λ n. whole 0 ⊏ n → IsCertain minor (first_number w.changed n (exploitability w))) (impact_is w.changed (iss w))
+    (certain 0 w.changed _ _ _ _ (base_parts v) minor)
+
+pub base_not_negative : (v : Vector) → whole 0 ⊑ base_number (weights_of v)
+base_not_negative v =
+    let w = weights_of v in
+    subst (λ n. whole 0 ⊑ first_number w.changed n (exploitability w)) (impact_is w.changed (iss w))
+    (not_negative 0 w.changed _ _ _ _ (base_parts v))
+
+pub base_same_when_cut : (v : Vector) → IsSameWhenCut (base_number (weights_of v))
+base_same_when_cut v =
+    let w = weights_of v in
+    subst (λ n. IsSameWhenCut (first_number w.changed n (exploitability w))) (impact_is w.changed (iss w))
+    (same_when_cut 0 w.changed _ _ _ _ (base_parts v))

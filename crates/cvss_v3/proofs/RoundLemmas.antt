@@ -90,12 +90,7 @@ low_count_rounded (negsuc n) low = record {
   not_negative = λ not_negative. absurd (omega (arith, ints, not_negative.at_most));
 }
 
--- minor version 0 rounds as v3.0
-pub rounded_at_zero : (minor : ℕ) (x : Exact) (r : ℤ) → minor ≡ 0 → IsRoundedV30 x r → IsRounded minor x r
-rounded_at_zero zero x r is_zero rounded = rounded
-rounded_at_zero (suc minor) x r is_zero rounded = absurd (omega arith)
-
--- any other as v3.1
+-- a minor version that is not 0 rounds as v3.1
 pub rounded_at_other : (minor : ℕ) (x : Exact) (r : ℤ) → minor ≢ 0 → IsRoundedV31 x r → IsRounded minor x r
 rounded_at_other zero x r is_other rounded = absurd (is_other refl)
 rounded_at_other (suc minor) x r is_other rounded = rounded

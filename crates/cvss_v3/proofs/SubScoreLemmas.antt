@@ -5,7 +5,7 @@ use Rattle.std.proofs.lemmas.Bool.{leb-true, eqb-true, or_cases}
 use Rattle.cvss_v3.specs.private.SubScores.{sub_scores, weighted_impacts, exploitabilities, IsSubScore}
 use Rattle.cvss_v3.specs.private.Units.{millionths_of}
 use Rattle.cvss_v3.specs.private.Weights.{attack_vectors, attack_complexities, privileges_required, user_interactions, impacts, requirements}
-use Rattle.cvss_number.proofs.TestLemmas.{passes, passes_three, is_listed, listed_if}
+use Rattle.cvss_number.proofs.TestLemmas.{passes, passes_two, passes_three, is_listed, listed_if}
 
 -- no listed weight is above m
 pub weight_bound : (xs : List ℕ) (x m : ℕ) → list_all (λ y. leb y m) xs ≡ true → Contains xs x → x ≤ m
@@ -21,18 +21,14 @@ pub weighted_listed : (requirement impact : ℕ) → Contains requirements requi
     → Contains weighted_impacts (requirement * impact / 100)
 weighted_listed requirement impact is_requirement is_impact =
     listed_if weighted_impacts (requirement * impact / 100)
-    (passes (λ i. is_listed weighted_impacts (requirement * i / 100)) impacts impact
-    (passes (λ r. list_all (λ i. is_listed weighted_impacts (r * i / 100)) impacts) requirements requirement refl is_requirement)
-    is_impact)
+    (passes_two (λ r i. is_listed weighted_impacts (r * i / 100)) requirements impacts requirement impact refl is_requirement is_impact)
 
 -- an impact times its requirement has no more decimals
 pub weighted_whole : (requirement impact : ℕ) → Contains requirements requirement → Contains impacts impact
     → requirement * impact / 100 * 100 ≡ requirement * impact
 weighted_whole requirement impact is_requirement is_impact =
     eqb-true (requirement * impact / 100 * 100) (requirement * impact)
-    (passes (λ i. eqb (requirement * i / 100 * 100) (requirement * i)) impacts impact
-    (passes (λ r. list_all (λ i. eqb (r * i / 100 * 100) (r * i)) impacts) requirements requirement refl is_requirement)
-    is_impact)
+    (passes_two (λ r i. eqb (r * i / 100 * 100) (r * i)) requirements impacts requirement impact refl is_requirement is_impact)
 
 abbrev is_sub_score : ℕ → Bool
 is_sub_score s = eqb s 0 || is_listed sub_scores s
@@ -76,11 +72,7 @@ pub exploitability_listed : (changed : Bool) (av ac pr ui : ℕ) → Contains at
     → Contains (privileges_required changed) pr → Contains user_interactions ui
     → Contains (exploitabilities changed) (822 * av * ac * pr * ui)
 exploitability_listed changed av ac pr ui is_av is_ac is_pr is_ui =
-    let of_four : ℕ → ℕ → ℕ → ℕ → Bool = λ av ac pr ui. is_listed (exploitabilities changed) (822 * av * ac * pr * ui) in
-    let of_three : ℕ → ℕ → ℕ → Bool = λ av ac pr. list_all (of_four av ac pr) user_interactions in
-    let of_two : ℕ → ℕ → Bool = λ av ac. list_all (of_three av ac) (privileges_required changed) in
-    let of_one : ℕ → Bool = λ av. list_all (of_two av) attack_complexities in
     listed_if (exploitabilities changed) (822 * av * ac * pr * ui)
-    (passes (of_four av ac pr) user_interactions ui
-    (passes (of_three av ac) (privileges_required changed) pr
-    (passes (of_two av) attack_complexities ac (passes of_one attack_vectors av (all_listed changed) is_av) is_ac) is_pr) is_ui)
+    (passes (λ ui. is_listed (exploitabilities changed) (822 * av * ac * pr * ui)) user_interactions ui
+    (passes_three (λ av ac pr. list_all (λ ui. is_listed (exploitabilities changed) (822 * av * ac * pr * ui)) user_interactions)
+    attack_vectors attack_complexities (privileges_required changed) av ac pr (all_listed changed) is_av is_ac is_pr) is_ui)

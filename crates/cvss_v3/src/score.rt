@@ -14,7 +14,7 @@ use std::fmt;
 use std::marker::Model;
 
 /// A score or sub-score: a count of 10^-24 of a score point.
-#[derive(Clone, Copy, Debug, PartialEq, Eq, PartialOrd, Ord)]
+#[derive(Clone, Copy, Debug, Default, PartialEq, Eq, PartialOrd, Ord)]
 pub struct Score(i128);
 
 impl Model for Score {
@@ -85,17 +85,6 @@ impl fmt::Display for Score {
     /// Writes the tenth nearest to the score, of two equally near the even one.
     fn fmt<W: fmt::Write>(&self, f: &mut fmt::Formatter<W>) -> fmt::Result {
         OneDecimal { count: self.0 }.fmt(f)
-    }
-}
-
-impl Default for Score {
-    ghost use Rattle.std.specs.Prelude.{◌≡◌, pos};
-
-    ghost is_default = { λ score. score ≡ pos 0 };
-
-    /// The score 0.
-    fn default() -> Self {
-        Score(0)
     }
 }
 

@@ -1,28 +1,19 @@
 use Rattle.std.specs.Int.{w128}
-use Rattle.std.proofs.Common.{◌≡◌, ◌^◌, ℤ, pos, neg_ℤ, ◌≤ℤ◌, of_z, to_z, arith, lit<, subst, sym}
+use Rattle.std.proofs.Common.{arith, lit<, refl}
 use Rattle.std.proofs.lemmas.Int.{ints, to_z-of_z}
 use Rattle.cvss_number.proofs.ExactLemmas.{equal_trans}
 use Rattle.cvss_number.proofs.RoundingLemmas.{v2-equal}
-use Rattle.cvss_v2.specs.private.Bounds.{IsOnScale}
 use Rattle.cvss_v2.proofs.equations.temporal_tenths.Goals as goal
 
-is_result : (c : goal.After-round_tenths) → c.round_tenths.result ≡ to_z w128 (of_z w128 c.round_tenths.result)
-is_result c = sym (to_z-of_z w128 c.round_tenths.result (record { sfits = c.round_tenths.type_inv }))
-
-pub returns-clause-value : goal.returns-clause-value
-returns-clause-value c =
-    let is_number = simp (to_z-of_z w128 c.args.base c.ranges.base) at c.temporal_number.ensures.value in
-    v2-equal (lit< tt) (lit< tt) (equal_trans (lit< tt) (record { equal = omega (arith, ints) }) is_number)
-    (is_result c) c.round_tenths.ensures.value
-
-pub returns-clause-low : goal.returns-clause-low
-returns-clause-low c = subst (λ (z : ℤ). neg_ℤ (pos (10 ^ 7)) ≤ℤ z) (is_result c) c.round_tenths.ensures.low
-
-pub returns-clause-high : goal.returns-clause-high
-returns-clause-high c = subst (λ (z : ℤ). z ≤ℤ pos (10 ^ 7)) (is_result c) c.round_tenths.ensures.high
-
-pub returns-clause-on_scale : goal.returns-clause-on_scale
-returns-clause-on_scale c = λ on_scale.
-    let number = (simp (to_z-of_z w128 c.args.base c.ranges.base) at c.temporal_number.ensures.on_scale) on_scale in
-    subst IsOnScale (is_result c)
-    (c.round_tenths.ensures.on_scale (record { low = omega (arith, ints, number.low); high = omega (arith, ints, number.high) }))
+pub returns : goal.returns
+returns c =
+    let tenths = c.round_tenths.ensures in
+    let number = simp (to_z-of_z w128 c.args.base c.ranges.base) at c.temporal_number.ensures in
+    simp (to_z-of_z w128 c.round_tenths.result (record { sfits = c.round_tenths.type_inv })) (record {
+      value = v2-equal (lit< tt) (lit< tt) (equal_trans (lit< tt) (record { equal = omega (arith, ints) }) number.value) refl tenths.value;
+      low = tenths.low;
+      high = tenths.high;
+      on_scale = λ on_scale.
+          let number_on_scale = number.on_scale on_scale in
+          tenths.on_scale (record { low = omega (arith, ints, number_on_scale.low); high = omega (arith, ints, number_on_scale.high) });
+    })

@@ -1,13 +1,10 @@
-use Rattle.std.proofs.Common.{◌*◌, arith, lit<}
+use Rattle.std.proofs.Common.{arith, lit<}
 use Rattle.std.proofs.lemmas.Int.{ints}
 use Rattle.cvss_number.proofs.ExactLemmas.{equal_trans}
-use Rattle.cvss_v2.specs.Weights.{weights_of}
-use Rattle.cvss_v2.proofs.ScoreLemmas.{adjusted_of}
 use Rattle.cvss_v2.proofs.vector.Vector.required_impact.Goals as goal
 
 pub returns-clause-value : goal.returns-clause-value
 returns-clause-value c =
     equal_trans (lit< tt) (record { equal = omega (arith, ints) })
-    (adjusted_of (weights_of c.args.self.now) (λ at. c.weight.ensures.weight at * c.weight-2.ensures.weight at)
-    (λ at. c.weight-3.ensures.weight at * c.weight-4.ensures.weight at)
-    (λ at. c.weight-5.ensures.weight at * c.weight-6.ensures.weight at) c.adjusted_impact_count.ensures.value)
+    (simp (c.weight.ensures.weight, c.weight-2.ensures.weight, c.weight-3.ensures.weight, c.weight-4.ensures.weight,
+    c.weight-5.ensures.weight, c.weight-6.ensures.weight) at c.adjusted_impact_count.ensures.value)

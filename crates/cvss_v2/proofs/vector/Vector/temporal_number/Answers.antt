@@ -1,20 +1,22 @@
 use Rattle.std.specs.Int.{w128}
-use Rattle.std.proofs.Common.{◌^◌, arith, lit<, rules}
+use Rattle.std.proofs.Common.{arith, lit<, rules}
 use Rattle.std.proofs.lemmas.Int.{ints, to_z-of_z}
-use Rattle.cvss_number.specs.Exact.{ratio, ◌≈◌}
 use Rattle.cvss_number.proofs.ExactLemmas.{equal_trans}
+use Rattle.cvss_v2.specs.Scores.{impact}
 use Rattle.cvss_v2.specs.Weights.{weights_of}
-use Rattle.cvss_v2.proofs.ScoreLemmas.{base_equal, temporal_of_base}
+use Rattle.cvss_v2.proofs.ScoreLemmas.{base_equal}
+use Rattle.cvss_v2.proofs.UniqueLemmas.{base_alone}
 use Rattle.cvss_v2.proofs.vector.Vector.temporal_number.Goals as goal
 
 pub returns-clause-value : goal.returns-clause-value
 returns-clause-value c = λ base is_base.
     let w = weights_of c.args.self.now in
-    let own = base_equal w (lit< tt) (lit< tt) c.own_impact.ensures.value c.base_of-base.ensures.value in
+    let own = c.base_of-base in
+    let is_own = base_equal w (lit< tt) (lit< tt) c.own_impact.ensures.value own.ensures.value in
+    let same = base_alone w (impact w) (lit< tt) own.result base is_own is_base in
     equal_trans (lit< tt) (record { equal = omega (arith, ints) })
-    (temporal_of_base w (λ n. ratio c.temporal_number-number.result (10 ^ 10) ≈ n) c.base_of-base.result base own is_base
-    c.weight-e.ensures.weight c.weight-rl.ensures.weight c.weight.ensures.weight
-    (simp (to_z-of_z w128 c.base_of-base.result (search rules)) at c.temporal_number-number.ensures.value))
+    (simp (same, c.weight-e.ensures.weight, c.weight-rl.ensures.weight, c.weight.ensures.weight)
+    at (simp (to_z-of_z w128 own.result (search rules)) at c.temporal_number-number.ensures.value))
 
 pub returns-clause-limit : goal.returns-clause-limit
 returns-clause-limit c =

@@ -1,4 +1,4 @@
-use Rattle.cvss_v3.proofs.CertainLemmas.{base_certain}
+use Rattle.cvss_v3.proofs.NumberLemmas.{base_certain}
 use Rattle.cvss_v3.proofs.vector.Vector.base_is_certain.Goals as goal
 
 pub returns-clause-certain : goal.returns-clause-certain
