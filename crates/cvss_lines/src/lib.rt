@@ -12,6 +12,7 @@ pub mod laws;
 mod lines;
 mod pending;
 mod program;
+mod progress;
 mod running;
 mod search;
 mod streaming;
