@@ -1,5 +1,3 @@
-//! What a run keeps from one read to the next.
-
 ghost use Rattle.std.specs.Prelude.{◌≡◌, ◌++◌, ◌∷◌, [], OnOk, IfErr};
 ghost use Rattle.cvss_lines.specs.Lines.{line_text};
 ghost use Rattle.cvss_lines.specs.Runs.{summary_of};
