@@ -1,7 +1,7 @@
 pub mod AnswersLemmas
-pub mod ChunkLemmas
 mod LineFacts
 pub mod LinesLemmas
+pub mod ReadsLemmas
 pub mod RunLemmas
 pub mod StepsLemmas
 pub mod TextsLemmas

@@ -1,66 +1,48 @@
 -- What the steps of a run do together.
-use Rattle.std.proofs.Common.{◌≡◌, refl, ◌<◌, ℕ, ◌+◌, Bool, List, length, [], ◌∷◌, ◌++◌, take, drop, Option, Result, Ok, Err, sym, ap, ◌∙◌, subst, append-nil, append_assoc, inl, inr}
-use Rattle.std.specs.Io.KnownBytes.{Appends}
+use Rattle.std.proofs.Common.{◌≡◌, refl, ℕ, ◌+◌, Bool, List, length, [], ◌∷◌, ◌++◌, take, Option, Result, Ok, Err, sym, ap, ◌∙◌, subst, append-nil, append_assoc, length-append, arith, inl, inr}
 use Rattle.std.specs.Prelude.{IfErr, IsErrAnd}
-use Rattle.std.proofs.KnownBytes.{Appends-nil, Appends-trans}
-use Rattle.std.proofs.Math.Seq.{take-append_seam, take-add, drop-append_seam}
-use Rattle.cvss_lines.specs.Answers.{Answer, IsAnswers, Rule, is_accepted, next_number, number_behind, written_answer, written_answers}
-use Rattle.cvss_lines.specs.Lines.{line_text, lines}
-use Rattle.cvss_lines.specs.Streaming.{AreBegun, Beginning, IsPassed, Stops, Streams}
-use Rattle.cvss_lines.specs.private.Steps.{Counts, Gathers, NoLineEnd, Pass, Writes, StopsAt, StopsWithin}
+use Rattle.std.specs.Io.KnownBytes.{Appends}
+use Rattle.std.proofs.KnownBytes.{Appends-trans}
+use Rattle.std.proofs.Math.Seq.{take-append-add, take-length}
+use Rattle.std.proofs.lemmas.List.{take-append-le}
+use Rattle.cvss_lines.specs.Answers.{Answer, IsAnswers, Rule, is_accepted, next_number, written_answer, written_answers}
+use Rattle.cvss_lines.specs.Streaming.{AreBegun, Beginning, IsPassed, Stops as LineStops, Streams}
+use Rattle.cvss_lines.specs.private.Steps.{AreFirst, ArePassed, Counts, Stands, Stops, StopsAnswering}
 use Rattle.cvss_lines.specs.declared.fault.RunFault.{RunFault}
-use Rattle.cvss_lines.specs.declared.fault.RunFault.TheVariants.{Memory, Write}
-use Rattle.cvss_lines.specs.declared.pending.Pending.{Pending}
-use Rattle.cvss_lines.specs.declared.summary.Summary.{Summary}
-use Rattle.cvss_lines.proofs.LinesLemmas.{one_line}
-use Rattle.cvss_lines.proofs.AnswersLemmas.{IsAnswers-append, number_behind-append, written_answers-append, Counts-append, Counts-nil}
+use Rattle.cvss_lines.specs.declared.fault.RunFault.TheVariants.{Memory}
+use Rattle.cvss_lines.specs.declared.gathered.Gathered.{Gathered}
+use Rattle.cvss_lines.specs.declared.progress.Progress.{Progress}
+use Rattle.cvss_lines.proofs.AnswersLemmas.{IsAnswers-push, number_behind-push, summary_of-push, written_answers-push}
 
 -- a beginning of two lists that has all of the first
 pub take-past : (xs ys : List ℕ) (n : ℕ) → take (length xs + n) (xs ++ ys) ≡ xs ++ take n ys
-take-past xs ys n =
-    take-add (length xs) n (xs ++ ys)
-    ∙ ap (λ front. front ++ take n (drop (length xs) (xs ++ ys))) (take-append_seam xs ys)
-    ∙ ap (λ rest. xs ++ take n rest) (drop-append_seam xs ys)
+take-past xs ys n = take-append-add xs ys n
 
--- what stands behind both sides of an equation
-together_more : (first waits old answered more : List ℕ) → first ++ waits ≡ old ++ answered
-    → first ++ (waits ++ more) ≡ old ++ (answered ++ more)
-together_more first waits old answered more together =
-    sym (append_assoc first waits more) ∙ ap (λ bytes. bytes ++ more) together ∙ append_assoc old answered more
+-- a result whose fault is the one that a call gave
+pub told : {T : Type 0} (r : Result T RunFault) (given : RunFault) (P : Result T RunFault → Type 0)
+    → IsErrAnd r (λ fault. fault ≡ given) → P (Err given) → P r
+told (Ok x) given P is p = absurd is
+told (Err fault) given P is p = subst (λ f. P (Err f)) (sym is) p
 
--- the fault of a result, where it is the one that a call gave
+-- what holds of the fault that a call gave holds of the result's
 pub told_fault : {T : Type 0} (r : Result T RunFault) (given : RunFault) (P : RunFault → Type 0) → IsErrAnd r (λ fault. fault ≡ given)
     → P given → IfErr r P
-told_fault (Ok x) given P is p = tt
-told_fault (Err fault) given P is p = subst P (sym is) p
-
--- the line that the end of the input ends
-only_line : (cut : List ℕ) → NoLineEnd cut → 0 < length cut → line_text (cut ++ []) ∷ [] ≡ lines cut
-only_line cut none some = ap (λ line. line_text line ∷ []) (append-nil cut) ∙ sym (one_line cut none some)
+told_fault r given P is p = told r given (λ result. IfErr result P) is p
 
 module _ (rule : Rule) (beginning : Beginning) where
-  -- what ends in the midst of an answer to some lines, behind the answers to others
-  pub AreBegun-behind : (number : ℕ) (ls ms : List (List ℕ)) (xs : List Answer) (bytes : List ℕ) → IsAnswers rule number ls xs
-      → AreBegun rule beginning (number_behind number ls) ms bytes
-      → AreBegun rule beginning number (ls ++ ms) (written_answers xs ++ bytes)
-  AreBegun-behind number ls ms xs bytes answered b = record {
-    front = ls ++ b.front;
-    line = b.line;
-    back = b.back;
-    split = ap (λ lines. ls ++ lines) b.split ∙ sym (append_assoc ls b.front (b.line ∷ b.back));
-    answers = xs ++ b.answers;
-    answered = IsAnswers-append rule number ls xs b.front b.answers answered b.answered;
-    begun = b.begun;
-    begins = subst (λ n. beginning n b.line b.begun) (sym (number_behind-append number ls b.front)) b.begins;
-    are = ap (λ more. written_answers xs ++ more) b.are
-        ∙ sym (append_assoc (written_answers xs) (written_answers b.answers) b.begun)
-        ∙ ap (λ more. more ++ b.begun) (sym (written_answers-append xs b.answers));
+  -- whole answers to the first of more lines
+  pub AreFirst-more : (ls ms : List (List ℕ)) (bytes : List ℕ) → AreFirst rule ls bytes → AreFirst rule (ls ++ ms) bytes
+  AreFirst-more ls ms bytes f = record {
+    count = f.count;
+    within = omega (arith, f.within, length-append ls ms);
+    answers = f.answers;
+    answered = subst (λ front. IsAnswers rule 1 front f.answers) (sym (take-append-le f.count ls ms f.within)) f.answered;
+    are = f.are;
   }
 
-  -- the same of more lines
-  AreBegun-more : (number : ℕ) (ls ms : List (List ℕ)) (bytes : List ℕ) → AreBegun rule beginning number ls bytes
-      → AreBegun rule beginning number (ls ++ ms) bytes
-  AreBegun-more number ls ms bytes b = record {
+  -- what ends in the midst of an answer to one of more lines
+  pub AreBegun-more : (ls ms : List (List ℕ)) (bytes : List ℕ) → AreBegun rule beginning 1 ls bytes → AreBegun rule beginning 1 (ls ++ ms) bytes
+  AreBegun-more ls ms bytes b = record {
     front = b.front;
     line = b.line;
     back = b.back ++ ms;
@@ -72,246 +54,130 @@ module _ (rule : Rule) (beginning : Beginning) where
     are = b.are;
   }
 
-  -- a beginning of the answer to one line
-  AreBegun-one : (number : ℕ) (line begun : List ℕ) → beginning number line begun
-      → AreBegun rule beginning number (line ∷ []) begun
-  AreBegun-one number line begun begins = record {
-    front = [];
-    line = line;
-    back = [];
-    split = refl;
-    answers = [];
-    answered = tt;
-    begun = begun;
-    begins = begins;
-    are = refl;
-  }
+  module _ (start w w' : Option (List ℕ)) (lines : List (List ℕ)) (now : Progress) (s : Stands rule beginning start w lines now) where
+    -- what ends in the midst of the answer to the next line
+    AreBegun-next : (line begun bytes : List ℕ) → beginning now.number line begun → bytes ≡ now.answers.bytes.items ++ begun
+        → AreBegun rule beginning 1 (lines ++ line ∷ []) (s.passed ++ bytes)
+    AreBegun-next line begun bytes begins is = record {
+      front = lines;
+      line = line;
+      back = [];
+      split = refl;
+      answers = s.answers;
+      answered = s.answered;
+      begun = begun;
+      begins = subst (λ number. beginning number line begun) s.numbered begins;
+      are = ap (λ more. s.passed ++ more) is ∙ sym (append_assoc s.passed now.answers.bytes.items begun)
+          ∙ ap (λ front. front ++ begun) s.together;
+    }
 
-  Pass-one : (number : ℕ) (line old passed : List ℕ) → IsPassed beginning number line old passed
-      → Pass rule beginning number (line ∷ []) old passed
-  Pass-one number line old passed (inl none) = inl none
-  Pass-one number line old passed (inr some) = inr (some.0, AreBegun-one number line some.0 some.1, some.2)
+    -- what is written of the answer to the next line
+    passed_next : (line passed : List ℕ) → IsPassed beginning now.number line now.answers.bytes.items passed
+        → ArePassed rule beginning lines (lines ++ line ∷ []) (s.passed ++ passed)
+    passed_next line passed (inl none) = subst (ArePassed rule beginning lines (lines ++ line ∷ []))
+        (sym (ap (λ more. s.passed ++ more) none ∙ append-nil s.passed))
+        (elim s.are_passed [ inl first ↦ inl first | inr begun ↦ inr (AreBegun-more lines (line ∷ []) s.passed begun) ])
+    passed_next line passed (inr some) = inr (AreBegun-next line some.0 passed some.1 some.2)
 
-  Pass-more : (number : ℕ) (ls ms : List (List ℕ)) (old passed : List ℕ) → Pass rule beginning number ls old passed
-      → Pass rule beginning number (ls ++ ms) old passed
-  Pass-more number ls ms old passed (inl none) = inl none
-  Pass-more number ls ms old passed (inr some) = inr (some.0, AreBegun-more number ls ms some.0 some.1, some.2)
+    -- the next line is answered
+    pub Stands-line : (next : Progress) (line : List ℕ) (accepted : Bool)
+        → Streams rule beginning now.number line now.answers.bytes.items next.answers.bytes.items w w' accepted
+        → ((answer : Answer) → accepted ≡ is_accepted answer → Counts now.summary answer next.summary)
+        → next.number ≡ next_number now.number → Stands rule beginning start w' (lines ++ line ∷ []) next
+    Stands-line next line accepted x counts numbered = record {
+      answers = s.answers ++ x.answer ∷ [];
+      answered = IsAnswers-push rule 1 lines s.answers line x.answer s.answered
+          (subst (λ number. rule number line x.answer) s.numbered x.answers);
+      passed = s.passed ++ x.passed;
+      are_passed = elim (passed_next line x.passed x.is_passed) [
+        | inl first ↦ inl (AreFirst-more lines (line ∷ []) (s.passed ++ x.passed) first)
+        | inr begun ↦ inr begun
+      ];
+      appended = Appends-trans start w w' s.passed x.passed s.appended x.appended;
+      together = append_assoc s.passed x.passed next.answers.bytes.items ∙ ap (λ more. s.passed ++ more) x.together
+          ∙ sym (append_assoc s.passed now.answers.bytes.items (written_answer x.answer))
+          ∙ ap (λ front. front ++ written_answer x.answer) s.together ∙ sym (written_answers-push s.answers x.answer);
+      counted = summary_of-push now.summary next.summary s.answers x.answer s.counted (counts x.answer x.told);
+      numbered = numbered ∙ ap next_number s.numbered ∙ sym (number_behind-push 1 lines line);
+    }
 
-  -- what is written of the answers to some lines, and then of those to others
-  Pass-both : (number next : ℕ) (ls ms : List (List ℕ)) (xs : List Answer) (old waits first second : List ℕ)
-      → IsAnswers rule number ls xs → next ≡ number_behind number ls → first ++ waits ≡ old ++ written_answers xs
-      → Pass rule beginning number ls old first → Pass rule beginning next ms waits second
-      → Pass rule beginning number (ls ++ ms) old (first ++ second)
-  Pass-both number next ls ms xs old waits first second answered is together p (inl none) =
-      subst (Pass rule beginning number (ls ++ ms) old) (sym (ap (λ more. first ++ more) none ∙ append-nil first))
-      (Pass-more number ls ms old first p)
-  Pass-both number next ls ms xs old waits first second answered is together p (inr some) =
-      inr (
-        written_answers xs ++ some.0,
-        AreBegun-behind number ls ms xs some.0 answered (subst (λ n. AreBegun rule beginning n ms some.0) is some.1),
-        ap (λ more. first ++ more) some.2 ∙ together_more first waits old (written_answers xs) some.0 together,
-      )
+    -- a fault in the midst of the next line
+    pub Stops-line : (line : List ℕ) (fault : RunFault) → LineStops beginning now.number line now.answers.bytes.items w w' fault
+        → Stops rule beginning start w' lines (lines ++ line ∷ []) fault
+    Stops-line line fault stops = record {
+      no_read = stops.no_read;
+      memory = λ is.
+          let x = stops.memory is in
+          record {
+            passed = s.passed ++ x.passed;
+            are_passed = passed_next line x.passed x.is_passed;
+            appended = Appends-trans start w w' s.passed x.passed s.appended x.appended;
+          };
+      write = λ is.
+          let x = stops.write is in
+          record {
+            bytes = s.passed ++ (now.answers.bytes.items ++ x.begun);
+            begun = AreBegun-next line x.begun _ x.begins refl;
+            count = length s.passed + x.count;
+            appended = subst (Appends start w') (sym (take-append-add s.passed (now.answers.bytes.items ++ x.begun) x.count))
+                (Appends-trans start w w' s.passed _ s.appended x.appended);
+          };
+    }
 
-  -- no line was answered
-  pub Gathers-nil : (p : Pending) (written : Option (List ℕ)) → Gathers rule beginning p p [] written written
-  Gathers-nil p written = record {
-    answers = [];
-    answered = tt;
-    passed = [];
-    pass = inl refl;
-    appended = Appends-nil written;
-    together = sym (append-nil (p.answers.bytes.items));
-    counted = Counts-nil p.summary;
-    numbered = refl;
-  }
+    -- what waited is written
+    pub Stands-written : (answers : Gathered) → Appends w w' now.answers.bytes.items → answers.bytes.items ≡ []
+        → Stands rule beginning start w' lines (record now { answers = answers })
+    Stands-written answers appended none = record {
+      answers = s.answers;
+      answered = s.answered;
+      passed = s.passed ++ now.answers.bytes.items;
+      are_passed = inl (record {
+        count = length lines;
+        within = omega arith;
+        answers = s.answers;
+        answered = subst (λ front. IsAnswers rule 1 front s.answers) (sym (take-length lines)) s.answered;
+        are = s.together;
+      });
+      appended = Appends-trans start w w' s.passed now.answers.bytes.items s.appended appended;
+      together = ap (λ more. (s.passed ++ now.answers.bytes.items) ++ more) none ∙ append-nil _ ∙ s.together;
+      counted = s.counted;
+      numbered = s.numbered;
+    }
 
-  -- one line was answered
-  pub Gathers-one : (old new now : Pending) (given line : List ℕ) (w w' v : Option (List ℕ)) (accepted told : Bool)
-      → Streams rule beginning old.number given old.answers.bytes.items now.answers.bytes.items w w' accepted
-      → given ≡ line → v ≡ w' → told ≡ accepted → new.answers.bytes.items ≡ now.answers.bytes.items
-      → ((answer : Answer) → told ≡ is_accepted answer → Counts now.summary (answer ∷ []) new.summary) → now.summary ≡ old.summary
-      → new.number ≡ next_number old.number → Gathers rule beginning old new (line ∷ []) w v
-  Gathers-one old new now given line w w' v accepted told streams same_line same_writer same_told is counted kept numbered = record {
-    answers = streams.answer ∷ [];
-    answered = (subst (λ text. rule old.number text streams.answer) same_line streams.answers, tt);
-    passed = streams.passed;
-    pass = subst (λ text. Pass rule beginning old.number (text ∷ []) old.answers.bytes.items streams.passed) same_line
-        (Pass-one old.number given old.answers.bytes.items streams.passed streams.is_passed);
-    appended = subst (λ to. Appends w to streams.passed) (sym same_writer) streams.appended;
-    together = ap (λ bytes. streams.passed ++ bytes) is ∙ streams.together
-        ∙ ap (λ bytes. old.answers.bytes.items ++ bytes) (sym (append-nil (written_answer streams.answer)));
-    counted = subst (λ (summary : Summary). Counts summary (streams.answer ∷ []) new.summary) kept (counted streams.answer (same_told ∙ streams.told));
-    numbered = numbered;
-  }
+    -- a beginning of what waited is written
+    pub cut_answers : (count : ℕ) → Appends w w' (take count now.answers.bytes.items)
+        → Appends start w' (take (length s.passed + count) (written_answers s.answers))
+    cut_answers count appended = subst (Appends start w')
+        (sym (take-append-add s.passed now.answers.bytes.items count) ∙ ap (take (length s.passed + count)) s.together)
+        (Appends-trans start w w' s.passed (take count now.answers.bytes.items) s.appended appended)
 
-  -- lines were answered after others
-  answered-behind : (a b : Pending) (ls ms : List (List ℕ)) (xs ys : List Answer) → IsAnswers rule a.number ls xs
-      → b.number ≡ number_behind a.number ls → IsAnswers rule b.number ms ys
-      → IsAnswers rule a.number (ls ++ ms) (xs ++ ys)
-  answered-behind a b ls ms xs ys p is q =
-      IsAnswers-append rule a.number ls xs ms ys p (subst (λ number. IsAnswers rule number ms ys) is q)
-
-  numbered-behind : (a b c : Pending) (ls ms : List (List ℕ)) → b.number ≡ number_behind a.number ls
-      → c.number ≡ number_behind b.number ms → c.number ≡ number_behind a.number (ls ++ ms)
-  numbered-behind a b c ls ms p q =
-      q ∙ ap (λ number. number_behind number ms) p ∙ sym (number_behind-append a.number ls ms)
-
-  pub Gathers-append : (a b c : Pending) (ls ms : List (List ℕ)) (w w' w'' : Option (List ℕ)) → Gathers rule beginning a b ls w w'
-      → Gathers rule beginning b c ms w' w'' → Gathers rule beginning a c (ls ++ ms) w w''
-  Gathers-append a b c ls ms w w' w'' p q = record {
-    answers = p.answers ++ q.answers;
-    answered = answered-behind a b ls ms p.answers q.answers p.answered p.numbered q.answered;
-    passed = p.passed ++ q.passed;
-    pass = Pass-both a.number b.number ls ms p.answers a.answers.bytes.items b.answers.bytes.items p.passed q.passed p.answered p.numbered p.together p.pass q.pass;
-    appended = Appends-trans w w' w'' p.passed q.passed p.appended q.appended;
-    together = append_assoc p.passed q.passed c.answers.bytes.items ∙ ap (λ bytes. p.passed ++ bytes) q.together
-        ∙ together_more p.passed b.answers.bytes.items a.answers.bytes.items (written_answers p.answers) (written_answers q.answers) p.together
-        ∙ ap (λ bytes. a.answers.bytes.items ++ bytes) (sym (written_answers-append p.answers q.answers));
-    counted = Counts-append a.summary b.summary c.summary p.answers q.answers p.counted q.counted;
-    numbered = numbered-behind a b c ls ms p.numbered q.numbered;
-  }
-
-  -- what is kept of a cut line says nothing of the answers
-  pub Gathers-kept : (a b c : Pending) (ls : List (List ℕ)) (w w' : Option (List ℕ)) → Gathers rule beginning a b ls w w'
-      → c.answers.bytes.items ≡ b.answers.bytes.items
-      → c.summary ≡ b.summary → c.number ≡ b.number → Gathers rule beginning a c ls w w'
-  Gathers-kept a b c ls w w' p same_answers same_summary same_number = record {
-    answers = p.answers;
-    answered = p.answered;
-    passed = p.passed;
-    pass = p.pass;
-    appended = p.appended;
-    together = ap (λ bytes. p.passed ++ bytes) same_answers ∙ p.together;
-    counted = subst (Counts a.summary p.answers) (sym same_summary) p.counted;
-    numbered = same_number ∙ p.numbered;
-  }
-
-  -- the line that the end of the input ends was answered
-  pub Gathers-end : (start next : Pending) (w w' : Option (List ℕ)) → NoLineEnd start.cut.items → 0 < length start.cut.items
-      → Gathers rule beginning start next (line_text (start.cut.items ++ []) ∷ []) w w' → Gathers rule beginning start next (lines start.cut.items) w w'
-  Gathers-end start next w w' none some = subst (λ ls. Gathers rule beginning start next ls w w') (only_line start.cut.items none some)
-
-  -- a fault in the midst of a line
-  pub StopsWithin-one : (number : ℕ) (line old : List ℕ) (w w' : Option (List ℕ)) (fault : RunFault)
-      → Stops beginning number line old w w' fault → StopsWithin rule beginning number fault (line ∷ []) old w w'
-  StopsWithin-one number line old w w' fault stops = record {
+  -- a fault before lines of more were answered
+  pub Stops-more : (start w : Option (List ℕ)) (some all ls ms : List (List ℕ)) (fault : RunFault)
+      → ((bytes : List ℕ) → AreFirst rule some bytes → AreFirst rule ls bytes)
+      → ((bytes : List ℕ) → AreBegun rule beginning 1 all bytes → AreBegun rule beginning 1 ms bytes)
+      → Stops rule beginning start w some all fault → Stops rule beginning start w ls ms fault
+  Stops-more start w some all ls ms fault first begun stops = record {
     no_read = stops.no_read;
     memory = λ is.
-        let lacks = stops.memory is in
-        record { passed = lacks.passed; pass = Pass-one number line old lacks.passed lacks.is_passed; appended = lacks.appended };
-    write = λ is.
-        let fails = stops.write is in
-        record { bytes = fails.begun; begun = AreBegun-one number line fails.begun fails.begins; count = fails.count; appended = fails.appended };
-  }
-
-  -- memory was refused behind lines that were answered
-  pub StopsWithin-memory : (a b : Pending) (ls ms : List (List ℕ)) (w w' : Option (List ℕ)) (fault : RunFault) → Gathers rule beginning a b ls w w'
-      → fault ≡ Memory → StopsWithin rule beginning a.number fault (ls ++ ms) a.answers.bytes.items w w'
-  StopsWithin-memory a b ls ms w w' fault p is = record {
-    no_read = λ read. absurd (cc);
-    memory = λ _. record { passed = p.passed; pass = Pass-more a.number ls ms a.answers.bytes.items p.passed p.pass; appended = p.appended };
-    write = λ write. absurd (cc);
-  }
-
-  -- a fault in the midst of lines behind others
-  pub StopsWithin-behind : (a b : Pending) (ls ms : List (List ℕ)) (w w' w'' : Option (List ℕ)) (fault : RunFault) → Gathers rule beginning a b ls w w'
-      → StopsWithin rule beginning b.number fault ms b.answers.bytes.items w' w''
-      → StopsWithin rule beginning a.number fault (ls ++ ms) a.answers.bytes.items w w''
-  StopsWithin-behind a b ls ms w w' w'' fault p stops = record {
-    no_read = stops.no_read;
-    memory = λ is.
-        let lacks = stops.memory is in
+        let x = stops.memory is in
         record {
-          passed = p.passed ++ lacks.passed;
-          pass = Pass-both a.number b.number ls ms p.answers a.answers.bytes.items b.answers.bytes.items p.passed lacks.passed p.answered p.numbered p.together p.pass lacks.pass;
-          appended = Appends-trans w w' w'' p.passed lacks.passed p.appended lacks.appended;
+          passed = x.passed;
+          are_passed = elim x.are_passed [ inl f ↦ inl (first x.passed f) | inr b ↦ inr (begun x.passed b) ];
+          appended = x.appended;
         };
     write = λ is.
-        let fails = stops.write is in
-        record {
-          bytes = written_answers p.answers ++ fails.bytes;
-          begun = AreBegun-behind a.number ls ms p.answers fails.bytes p.answered (subst (λ n. AreBegun rule beginning n ms fails.bytes) p.numbered fails.begun);
-          count = length p.passed + fails.count;
-          appended = subst (Appends w w'')
-              (sym (take-past p.passed (b.answers.bytes.items ++ fails.bytes) fails.count)
-              ∙ ap (take (length p.passed + fails.count))
-              (together_more p.passed b.answers.bytes.items a.answers.bytes.items (written_answers p.answers) fails.bytes p.together))
-              (Appends-trans w w' w'' p.passed (take fails.count (b.answers.bytes.items ++ fails.bytes)) p.appended fails.appended);
-        };
+        let x = stops.write is in record { bytes = x.bytes; begun = begun x.bytes x.begun; count = x.count; appended = x.appended };
   }
 
-  -- a fault in the midst of lines that others follow
-  pub StopsWithin-more : (number : ℕ) (ls ms : List (List ℕ)) (old : List ℕ) (w w' : Option (List ℕ)) (fault : RunFault)
-      → StopsWithin rule beginning number fault ls old w w' → StopsWithin rule beginning number fault (ls ++ ms) old w w'
-  StopsWithin-more number ls ms old w w' fault stops = record {
-    no_read = stops.no_read;
-    memory = λ is.
-        let lacks = stops.memory is in
-        record { passed = lacks.passed; pass = Pass-more number ls ms old lacks.passed lacks.pass; appended = lacks.appended };
-    write = λ is.
-        let fails = stops.write is in
-        record { bytes = fails.bytes; begun = AreBegun-more number ls ms fails.bytes fails.begun; count = fails.count; appended = fails.appended };
+  -- memory was refused between two lines
+  pub Stops-memory : (start w : Option (List ℕ)) (lines : List (List ℕ)) (now : Progress) → Stands rule beginning start w lines now
+      → Stops rule beginning start w lines lines Memory
+  Stops-memory start w lines now s = record {
+    no_read = λ is. absurd (cc);
+    memory = λ _. record { passed = s.passed; are_passed = s.are_passed; appended = s.appended };
+    write = λ is. absurd (cc);
   }
 
-  -- a fault before the line was answered that the end of the input ends
-  pub StopsWithin-end : (start : Pending) (w w' : Option (List ℕ)) (fault : RunFault) → NoLineEnd start.cut.items → 0 < length start.cut.items
-      → StopsWithin rule beginning start.number fault (line_text (start.cut.items ++ []) ∷ []) start.answers.bytes.items w w'
-      → StopsWithin rule beginning start.number fault (lines start.cut.items) start.answers.bytes.items w w'
-  StopsWithin-end start w w' fault none some =
-      subst (λ ls. StopsWithin rule beginning start.number fault ls start.answers.bytes.items w w') (only_line start.cut.items none some)
-
-  -- a fault where no answer waited
-  pub StopsAt-within : (number : ℕ) (fault : RunFault) (ls : List (List ℕ)) (old : List ℕ) (w w' : Option (List ℕ)) → old ≡ []
-      → StopsWithin rule beginning number fault ls old w w' → StopsAt rule beginning number fault ls w w'
-  StopsAt-within number fault ls old w w' none stops =
-      let fresh : StopsWithin rule beginning number fault ls [] w w' = subst (λ waits. StopsWithin rule beginning number fault ls waits w w') none stops in
-      record { no_read = fresh.no_read; memory = fresh.memory; write = λ is. inr (fresh.write is) }
-
-  -- what was written and what waited is all of the answers, where none waited before
-  all_together : (old new : Pending) (ls : List (List ℕ)) (w w' : Option (List ℕ)) → old.answers.bytes.items ≡ []
-      → (p : Gathers rule beginning old new ls w w') → p.passed ++ new.answers.bytes.items ≡ written_answers p.answers
-  all_together old new ls w w' none p = p.together ∙ ap (λ bytes. bytes ++ written_answers p.answers) none
-
-  -- the answers that were gathered are written
-  pub Writes-gathered : (old new last : Pending) (ls : List (List ℕ)) (w w' w'' : Option (List ℕ)) (bytes : List ℕ)
-      → old.answers.bytes.items ≡ [] → Gathers rule beginning old new ls w w' → last.summary ≡ new.summary → last.number ≡ new.number
-      → bytes ≡ new.answers.bytes.items → Appends w' w'' bytes
-      → Writes rule old last ls w w''
-  Writes-gathered old new last ls w w' w'' bytes none p same_summary same_number is appended = record {
-    answers = p.answers;
-    answered = p.answered;
-    appended = subst (Appends w w'') (ap (λ b. p.passed ++ b) is ∙ all_together old new ls w w' none p)
-        (Appends-trans w w' w'' p.passed bytes p.appended appended);
-    counted = subst (Counts old.summary p.answers) (sym same_summary) p.counted;
-    numbered = same_number ∙ p.numbered;
-  }
-
-  -- a beginning of the answers that were gathered is written
-  pub StopsAt-gathered : (old new : Pending) (ls : List (List ℕ)) (w w' w'' : Option (List ℕ)) (bytes : List ℕ) (fault : RunFault)
-      → old.answers.bytes.items ≡ [] → Gathers rule beginning old new ls w w' → bytes ≡ new.answers.bytes.items
-      → (fault ≡ Write) × ((count : ℕ) × Appends w' w'' (take count bytes))
-      → StopsAt rule beginning old.number fault ls w w''
-  StopsAt-gathered old new ls w w' w'' bytes fault none p is stopped = record {
-    no_read = λ read. cc stopped.0;
-    memory = λ memory. absurd (cc stopped.0);
-    write = λ _. inl (record {
-      answers = p.answers;
-      count = length p.passed + stopped.1.0;
-      answered = p.answered;
-      appended = subst (Appends w w'')
-          (sym (take-past p.passed bytes stopped.1.0)
-          ∙ ap (λ b. take (length p.passed + stopped.1.0) (p.passed ++ b)) is
-          ∙ ap (take (length p.passed + stopped.1.0)) (all_together old new ls w w' none p))
-          (Appends-trans w w' w'' p.passed (take stopped.1.0 bytes) p.appended stopped.1.1);
-    });
-  }
-
-  -- nothing is written where there is no line
-  pub Writes-none : (p : Pending) (written : Option (List ℕ)) → Writes rule p p [] written written
-  Writes-none p written = record {
-    answers = [];
-    answered = tt;
-    appended = Appends-nil written;
-    counted = Counts-nil p.summary;
-    numbered = refl;
-  }
+  pub StopsAnswering-memory : (more : List (List ℕ)) (w : Option (List ℕ)) (now : Progress) → StopsAnswering rule beginning more w w now Memory
+  StopsAnswering-memory more w now = λ start lines s.
+      Stops-more start w lines lines lines (lines ++ more) Memory (λ _ first. first) (AreBegun-more lines more) (Stops-memory start w lines now s)

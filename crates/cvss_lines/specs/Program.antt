@@ -3,8 +3,8 @@ use Rattle.std.specs.Prelude.{◌≡◌, ◌≢◌, ℕ, List, [], take, codes, 
 use Rattle.std.specs.Io.KnownBytes.{Appends, Keeps}
 use Rattle.cvss_lines.specs.Exit as lines
 use Rattle.cvss_lines.specs.Runs.{summary_of}
-use Rattle.cvss_lines.specs.declared.asking.Request.{Request}
-use Rattle.cvss_lines.specs.declared.asking.Request.TheVariants as request
+use Rattle.cvss_lines.specs.declared.requests.Request.{Request}
+use Rattle.cvss_lines.specs.declared.requests.Request.TheVariants as request
 use Rattle.cvss_lines.specs.declared.fault.RunFault.{RunFault}
 use Rattle.cvss_lines.specs.declared.fault.RunFault.TheVariants.{Write}
 use Rattle.cvss_lines.specs.declared.program.Fault.{Fault}

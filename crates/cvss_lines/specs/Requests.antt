@@ -1,8 +1,8 @@
 -- What the arguments of a program ask for.
 use Rattle.std.specs.Prelude.{ℕ, ◌==◌, List, [], ◌∷◌, codes, if◌then◌else◌, bytes_eq}
 use Rattle.std.specs.Global.{Vec}
-use Rattle.cvss_lines.specs.declared.asking.Request.{Request}
-use Rattle.cvss_lines.specs.declared.asking.Request.TheVariants.{Usage, Unknown, Run}
+use Rattle.cvss_lines.specs.declared.requests.Request.{Request}
+use Rattle.cvss_lines.specs.declared.requests.Request.TheVariants.{Usage, Unknown, Run}
 
 -- a first argument asks for the usage, for something that there is not if it begins with a hyphen
 -- otherwise, else for a run

@@ -51,16 +51,23 @@ impl Gathered {
         ensures little { OnOk result (vec_len self.new.bytes < FULL) }
     {
         if self.bytes.len() >= FULL {
-            write_whole(writer, &self.bytes)?;
-            self.clear();
+            self.write_out(writer)?;
         }
         Ok(())
     }
 
-    pub(crate) fn clear(&mut self)
-        ensures { self.new.bytes.items ≡ [] }
+    /// Writes the answers.
+    pub(crate) fn write_out<W: Write>(&mut self, writer: &mut W) -> Result<(), RunFault>
+        ensures written { OnOk result (Appends (W.contents writer.old) (W.contents writer.new)
+            self.old.bytes.items) }
+        ensures none_waits { OnOk result (self.new.bytes.items ≡ []) }
+        ensures cut { IfErr result (λ fault. (fault ≡ WriteFault) × ((count : ℕ)
+            × Appends (W.contents writer.old) (W.contents writer.new)
+            (take count self.old.bytes.items))) }
     {
+        write_whole(writer, &self.bytes)?;
         self.bytes.clear();
+        Ok(())
     }
 }
 

@@ -4,7 +4,6 @@
 #![tactic(auto)]
 
 mod answering;
-mod asking;
 mod exit;
 mod fault;
 mod gathered;
@@ -12,6 +11,8 @@ pub mod laws;
 mod lines;
 mod pending;
 mod program;
+mod progress;
+mod requests;
 mod running;
 mod search;
 mod streaming;
@@ -19,12 +20,12 @@ mod summary;
 mod write;
 
 pub use answering::Answering;
-pub use asking::{Request, arguments, asked, asked_alone};
 pub use exit::exit_status;
 pub use fault::RunFault;
 pub use gathered::Gathered;
 pub use lines::first_line;
 pub use program::{Fault, program_status, run_program, run_streaming_program};
+pub use requests::{Request, arguments, asked, asked_alone};
 pub use running::{run, run_streaming};
 pub use streaming::{Streaming, Whole};
 pub use summary::Summary;

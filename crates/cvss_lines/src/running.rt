@@ -35,17 +35,19 @@ pub fn run_streaming<A: Streaming, R: Read, W: Write>(
     ensures { StreamEnds A.rule A.beginning (R.remaining reader.old) (R.remaining reader.new)
         (W.contents writer.old) (W.contents writer.new) result }
 {
-    let mut chunk = read_buffer(alloc)?;
     let mut pending = Pending::new(alloc);
+    let mut chunk = read_buffer(alloc)?;
     for _ in 0..u64::MAX {
         let Ok(count) = reader.read(&mut chunk) else {
             return Err(RunFault::Read);
         };
         if count == 0 {
             pending.answer_end::<A, W>(alloc, writer)?;
-            return Ok(pending.summary);
+            pending.progress.answers.write_out(writer)?;
+            return Ok(pending.progress.summary);
         }
         pending.answer_chunk::<A, W>(alloc, &chunk[..count], writer)?;
+        pending.progress.answers.write_out(writer)?;
     }
     Err(RunFault::Read)
 }

@@ -1,6 +1,7 @@
-ghost use Rattle.std.specs.Prelude.{◌≡◌, [], ◌∷◌};
+ghost use Rattle.std.specs.Prelude.{◌≡◌, []};
 ghost use Rattle.cvss_lines.specs.Answers.{Answer, is_accepted};
-ghost use Rattle.cvss_lines.specs.private.Steps.{Counts, no_lines};
+ghost use Rattle.cvss_lines.specs.Runs.{summary_of};
+ghost use Rattle.cvss_lines.specs.private.Steps.{Counts};
 
 /// How many lines a run accepted and refused. Each count stops at `u64::MAX`.
 #[derive(Clone, Copy, Debug, PartialEq, Eq)]
@@ -11,7 +12,7 @@ pub struct Summary {
 
 impl Summary {
     pub(crate) fn new() -> Summary
-        ensures { result ≡ no_lines }
+        ensures { result ≡ summary_of [] }
     {
         Summary {
             accepted: 0,
@@ -21,8 +22,7 @@ impl Summary {
 
     /// The counts with one more answer.
     pub(crate) fn with(self, accepted: bool) -> Summary
-        ensures { (answer : Answer) → accepted ≡ is_accepted answer
-            → Counts self (answer ∷ []) result }
+        ensures { (answer : Answer) → accepted ≡ is_accepted answer → Counts self answer result }
     {
         if accepted {
             Summary {

@@ -1,18 +1,26 @@
-use Rattle.std.proofs.Common.{refl}
-use Rattle.cvss_lines.proofs.StepsLemmas.{StopsAt-gathered, StopsAt-within, Writes-gathered, told_fault}
+use Rattle.cvss_lines.specs.declared.fault.RunFault.TheVariants.{Memory}
+use Rattle.cvss_lines.proofs.ReadsLemmas.{HasRead-all, HasRead-line, HasRead-memory, HasRead-stopped}
+use Rattle.cvss_lines.proofs.StepsLemmas.{told_fault}
 use Rattle.cvss_lines.proofs.pending.Pending.answer_chunk.Goals as goal
 
-pub returns-in_err-gather_chunk-clause-stopped : goal.returns-in_err-gather_chunk-clause-stopped
-returns-in_err-gather_chunk-clause-stopped g c =
-    told_fault c.from_residual.result c.in_err-gather_chunk.field-0.0 _ c.from_residual.ensures.1
-    (StopsAt-within g.A.Streaming.rule g.A.Streaming.beginning c.args.self.now.number _ _ c.args.self.now.answers.bytes.items _ _ c.requires.answers c.in_err-gather_chunk.ensures.stopped)
+pub returns-in_err-end_line-clause-stopped : goal.returns-in_err-end_line-clause-stopped
+returns-in_err-end_line-clause-stopped g c =
+    told_fault c.from_residual.result c.in_err-end_line.field-0.0 _ c.from_residual.ensures.1
+    (HasRead-stopped g.A.Streaming.rule g.A.Streaming.beginning c.args.chunk.now c.loop-piece.rest.now _ _ c.args.self.now c.loop-piece.self c.loop-piece.invariant
+    c.in-Some.piece.now c.in-Some.behind.now _ _ c.in-Some.ensures.0 c.in-Some.ensures.1 c.in_err-end_line.ensures.stopped)
 
-pub returns-in_err-write_whole-clause-stopped : goal.returns-in_err-write_whole-clause-stopped
-returns-in_err-write_whole-clause-stopped g c =
-    told_fault c.from_residual-in_err-write_whole.result c.in_err-write_whole.field-0.0 _ c.from_residual-in_err-write_whole.ensures.1
-    (StopsAt-gathered g.A.Streaming.rule g.A.Streaming.beginning c.args.self.now c.gather_chunk.new.self _ _ _ _ _ _ c.requires.answers c.in_ok-gather_chunk.ensures.gathered c.deref.ensures.value c.in_err-write_whole.ensures.err)
+pub loop-piece-preserved : goal.loop-piece-preserved
+loop-piece-preserved g c =
+    HasRead-line g.A.Streaming.rule g.A.Streaming.beginning c.args.chunk.now c.loop-piece.rest.now _ _ c.args.self.now c.loop-piece.self c.loop-piece.invariant
+    c.in-Some.piece.now c.in-Some.behind.now _ c.end_line.new.self c.in-Some.ensures.0 c.in-Some.ensures.1
+    c.in_ok-end_line.ensures.answered c.in_ok-end_line.ensures.cut
 
-pub returns-clause-written : goal.returns-clause-written
-returns-clause-written g c =
-    Writes-gathered g.A.Streaming.rule g.A.Streaming.beginning c.args.self.now c.gather_chunk.new.self _ _ _ _ _ _ c.requires.answers c.in_ok-gather_chunk.ensures.gathered refl refl
-    c.deref.ensures.value c.in_ok-write_whole.ensures.ok
+pub returns-in_err-extend_from_slice-clause-stopped : goal.returns-in_err-extend_from_slice-clause-stopped
+returns-in_err-extend_from_slice-clause-stopped g c =
+    told_fault c.from_residual-in_err-extend_from_slice.result Memory _ c.from_residual-in_err-extend_from_slice.ensures.1
+    (HasRead-memory g.A.Streaming.rule g.A.Streaming.beginning c.args.chunk.now c.loop-piece.rest.now _ _ c.args.self.now c.loop-piece.self c.loop-piece.invariant c.in_default.ensures)
+
+pub returns-clause-answered : goal.returns-clause-answered
+returns-clause-answered g c =
+    HasRead-all g.A.Streaming.rule g.A.Streaming.beginning c.args.chunk.now c.loop-piece.rest.now _ _ c.args.self.now c.loop-piece.self c.loop-piece.invariant
+    _ c.in_default.ensures c.in_ok-extend_from_slice.ensures.items

@@ -1,0 +1,51 @@
+//! How far a run has come.
+
+ghost use Rattle.std.specs.Prelude.{◌≡◌, ◌∷◌, [], IfErr, OnOk};
+ghost use Rattle.cvss_lines.specs.Runs.{summary_of};
+ghost use Rattle.cvss_lines.specs.private.Steps.{Answers, StopsAnswering};
+
+use crate::{Gathered, RunFault, Streaming, Summary};
+use std::alloc::Global;
+use std::io::Write;
+
+/// What is known of the lines that are answered.
+#[derive(Drop)]
+pub(crate) struct Progress {
+    /// The answers that aren't written yet.
+    pub(crate) answers: Gathered,
+    pub(crate) summary: Summary,
+    /// The number of the next line to answer, from 1. It stops at `u64::MAX`.
+    pub(crate) number: u64,
+}
+
+impl Progress {
+    pub(crate) fn new(alloc: Global) -> Progress
+        ensures answers { result.answers.bytes.items ≡ [] }
+        ensures summary { result.summary ≡ summary_of [] }
+        ensures number { result.number ≡ 1 }
+    {
+        Progress {
+            answers: Gathered::new(alloc),
+            summary: Summary::new(),
+            number: 1,
+        }
+    }
+
+    /// Answers the next line.
+    pub(crate) fn answer_line<A: Streaming, W: Write>(
+        &mut self,
+        alloc: Global,
+        line: &[u8],
+        writer: &mut W,
+    ) -> Result<(), RunFault>
+        ensures answered { OnOk result (Answers A.rule A.beginning (line.now ∷ [])
+            (W.contents writer.old) (W.contents writer.new) self.old self.new) }
+        ensures stopped { IfErr result (StopsAnswering A.rule A.beginning (line.now ∷ [])
+            (W.contents writer.old) (W.contents writer.new) self.old) }
+    {
+        let accepted = A::stream_line::<W>(alloc, self.number, line, &mut self.answers, writer)?;
+        self.summary = self.summary.with(accepted);
+        self.number = self.number.saturating_add(1);
+        Ok(())
+    }
+}
