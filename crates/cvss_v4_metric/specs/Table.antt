@@ -86,11 +86,3 @@ printed = AV ∷ AC ∷ AT ∷ PR ∷ UI ∷ VC ∷ VI ∷ VA ∷ SC ∷ SI ∷ 
 -- the base metrics, which each vector has, in the order in which they are missed
 abbrev pub mandatory : List MetricType
 mandatory = AC ∷ AT ∷ AV ∷ PR ∷ SA ∷ SC ∷ SI ∷ UI ∷ VA ∷ VC ∷ VI ∷ []
-
--- the threat metrics
-abbrev pub threat : List MetricType
-threat = E ∷ []
-
--- the environmental metrics
-abbrev pub environmental : List MetricType
-environmental = CR ∷ IR ∷ AR ∷ MAV ∷ MAC ∷ MAT ∷ MPR ∷ MUI ∷ MVC ∷ MVI ∷ MVA ∷ MSC ∷ MSI ∷ MSA ∷ []
