@@ -10,6 +10,7 @@ pub mod private
 pub use Rattle.cvss_grammar.specs.Equality
 pub use Rattle.cvss_name.specs.ErrorText
 pub use Rattle.cvss_number.specs.Exact
+pub use Rattle.cvss_name.specs.Groups
 pub use Rattle.cvss_text.specs.Listing
 pub use Rattle.cvss_base.specs.Rating
 pub use Rattle.cvss_grammar.specs.Refusal
@@ -23,6 +24,7 @@ pub use Rattle.cvss_name.specs.V3Types as TypesV3
 pub use Rattle.cvss_name.specs.V4Types as TypesV4
 pub use Rattle.cvss_grammar.specs.Version
 pub use Rattle.cvss_name.specs.declared.error.Error as ErrorType
+pub use Rattle.cvss_name.specs.declared.group.MetricGroup as MetricGroupType
 pub use Rattle.cvss_name.specs.declared.severity.Severity as SeverityType
 pub use Rattle.cvss_name.specs.declared.v2.MetricType as MetricTypeV2
 pub use Rattle.cvss_name.specs.declared.v3.MetricType as MetricTypeV3

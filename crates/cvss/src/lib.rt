@@ -17,7 +17,7 @@ mod vector;
 
 pub use bytes_error::BytesError;
 pub use cvss_grammar::PREFIX;
-pub use cvss_name::{Error, Severity};
+pub use cvss_name::{Error, MetricGroup, Severity};
 pub use cvss_number::{LIMIT, ONE, OneDecimal, tenths};
 pub use cvss_v2 as v2;
 pub use cvss_v3 as v3;

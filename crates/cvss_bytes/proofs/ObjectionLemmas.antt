@@ -1,45 +1,36 @@
 -- What is wrong with the first of some overrides is wrong with all of them, and no vector has more than fourteen.
-use Rattle.std.proofs.Common.{◌≡◌, ◌≤◌, ◌<◌, ℕ, suc, Bool, true, false, List, [], ◌∷◌, length, take, Option, Some, None, IsSome, Contains, if◌then◌else◌, bytes_eq, inl, inr, refl, sym, ap, subst, ◌∙◌, arith}
-use Rattle.std.specs.List.{cons_option, filter_map, list_any}
+use Rattle.std.proofs.Common.{◌≡◌, ◌≤◌, ◌<◌, ℕ, suc, Bool, true, false, List, [], ◌∷◌, length, take, Option, Some, None, IsSome, if◌then◌else◌, inl, inr, refl, sym, ap, subst, ◌∙◌, arith}
+use Rattle.std.specs.List.{cons_option, filter_map}
 use Rattle.std.specs.Option.{option_map}
 use Rattle.std.proofs.lemmas.List.{get_or-take, length-map, length-take, length-take-le, take_all}
-use Rattle.std.proofs.lemmas.List.Folds.{list_any_at}
 use Rattle.std.proofs.lemmas.List.Sorted.{length_permutation}
 use Rattle.std.proofs.lemmas.Bool.{cases_lt}
-use Rattle.std.proofs.lemmas.Map.Views.{Contains-from_any}
-use Rattle.std.proofs.lemmas.Slice.Eq.{bytes_eq-Decides}
+use Rattle.cvss.specs.Groups.{same_group}
+use Rattle.cvss.specs.MetricGroupType.{MetricGroup}
+use Rattle.cvss.specs.MetricGroupType.TheVariants.{Environmental}
 use Rattle.cvss.specs.MetricTypeV4.{MetricType}
 use Rattle.cvss.specs.OverrideErrorTypeV4.{OverrideError}
 use Rattle.cvss.specs.OverridingV4.{AreOverrides, Objection, NamesOther, ObjectionAt, OfOtherGroup, OfText, TellsFirstObjection, TellsObjection}
 use Rattle.cvss.specs.Refusal.{BadComponent, BadValue, FaultAt, IsNamedBefore, Spells, Missing, Refusal, Repeated, UnknownName, WrongPrefix, WrongVersion, name_at, piece_at, value_at}
-use Rattle.cvss.specs.TableV4.{environmental}
 use Rattle.cvss.specs.Text.{IsComponent, name_part, value_part}
-use Rattle.cvss.specs.TypesV4.{name_of}
+use Rattle.cvss.specs.TypesV4.{group_of}
 use Rattle.cvss.specs.VectorTypeV4.{Vector}
 use Rattle.cvss.specs.VectorV4.{v4}
 use Rattle.cvss.specs.Version.{component_of, components_of, read, reading}
 use Rattle.cvss_bytes.specs.private.Overridden.{place_of}
-use Rattle.cvss_text.proofs.LawLemmas.{names_differ}
-use Rattle.cvss_v4.specs.private.VectorLaws.{v4_is_lawful}
-
--- whether two metrics have one name
-abbrev pub same_name : MetricType → MetricType → Bool
-same_name kind other = bytes_eq (name_of kind) (name_of other)
-
-one_metric : (kind other : MetricType) → same_name kind other ≡ true → kind ≡ other
-one_metric kind other same =
-    names_differ v4 v4_is_lawful kind other ((bytes_eq-Decides _ _).0 same)
 
 -- whether a metric is an environmental one
 abbrev pub is_environmental : MetricType → Bool
-is_environmental kind = list_any (same_name kind) environmental
+is_environmental kind = same_group (group_of kind) Environmental
 
-pub environmental_from : (kind : MetricType) → is_environmental kind ≡ true → Contains environmental kind
-environmental_from kind is = Contains-from_any one_metric kind environmental is
+from_group : (group : MetricGroup) → same_group group Environmental ≡ true → group ≡ Environmental
+from_group = elim [ Environmental ↦ λ _. refl | _ ↦ λ other. absurd cc ]
 
-pub environmental_is : (kind : MetricType) → Contains environmental kind → is_environmental kind ≡ true
-environmental_is kind (place, within, is) =
-    list_any_at (same_name kind) environmental place kind within ((bytes_eq-Decides _ _).1 (ap name_of (sym is)))
+pub environmental_from : (kind : MetricType) → is_environmental kind ≡ true → group_of kind ≡ Environmental
+environmental_from kind is = from_group (group_of kind) is
+
+pub environmental_is : (kind : MetricType) → group_of kind ≡ Environmental → is_environmental kind ≡ true
+environmental_is kind is = ap (λ group. same_group group Environmental) is
 
 -- how many of these metrics are environmental ones
 abbrev count : List MetricType → ℕ

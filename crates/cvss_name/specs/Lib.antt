@@ -1,4 +1,5 @@
 pub mod ErrorText
+pub mod Groups
 pub mod SeverityText
 pub mod Told
 pub mod V2Types

@@ -4,6 +4,8 @@ use Rattle.std.specs.String.{string_bytes}
 use Rattle.cvss_grammar.specs.Refusal.{Refusal, BadValue, Repeated, Missing}
 use Rattle.cvss_name.specs.declared.error.Error.{Error}
 use Rattle.cvss_name.specs.declared.error.Error.TheVariants.{InvalidMetricV2, DuplicateMetricV2, MissingMandatoryMetricV2}
+use Rattle.cvss_name.specs.declared.group.MetricGroup.{MetricGroup}
+use Rattle.cvss_name.specs.declared.group.MetricGroup.TheVariants.{Base, Temporal, Environmental}
 use Rattle.cvss_name.specs.declared.v2.MetricType.{MetricType}
 use Rattle.cvss_name.specs.declared.v2.MetricType.TheVariants.{A, AC, AV, Au, C, I, E, RL, RC, CDP, TD, CR, IR, AR}
 
@@ -31,6 +33,23 @@ name_of kind = (names_of kind).0
 -- the name in words
 abbrev pub description_of : MetricType → List ℕ
 description_of kind = (names_of kind).1
+
+-- the group to which the metric belongs
+abbrev pub group_of : MetricType → MetricGroup
+group_of AV = Base
+group_of AC = Base
+group_of Au = Base
+group_of C = Base
+group_of I = Base
+group_of A = Base
+group_of E = Temporal
+group_of RL = Temporal
+group_of RC = Temporal
+group_of CDP = Environmental
+group_of TD = Environmental
+group_of CR = Environmental
+group_of IR = Environmental
+group_of AR = Environmental
 
 -- the metrics as they are compared, the least first
 abbrev pub declared : List MetricType

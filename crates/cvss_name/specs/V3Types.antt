@@ -5,6 +5,8 @@ use Rattle.std.specs.String.{string_bytes}
 use Rattle.cvss_grammar.specs.Refusal.{Refusal, BadValue, Repeated}
 use Rattle.cvss_name.specs.declared.error.Error.{Error}
 use Rattle.cvss_name.specs.declared.error.Error.TheVariants.{InvalidMetricV3, DuplicateMetricV3}
+use Rattle.cvss_name.specs.declared.group.MetricGroup.{MetricGroup}
+use Rattle.cvss_name.specs.declared.group.MetricGroup.TheVariants.{Base, Temporal, Environmental}
 use Rattle.cvss_name.specs.declared.v3.MetricType.{MetricType}
 use Rattle.cvss_name.specs.declared.v3.MetricType.TheVariants.{A, AC, AV, C, I, PR, S, UI, E, RL, RC, CR, IR, AR, MAV, MAC, MPR, MUI, MS, MC, MI, MA}
 
@@ -40,6 +42,31 @@ name_of kind = (names_of kind).0
 -- the name in words
 abbrev pub description_of : MetricType → List ℕ
 description_of kind = (names_of kind).1
+
+-- the group to which the metric belongs
+abbrev pub group_of : MetricType → MetricGroup
+group_of AV = Base
+group_of AC = Base
+group_of PR = Base
+group_of UI = Base
+group_of S = Base
+group_of C = Base
+group_of I = Base
+group_of A = Base
+group_of E = Temporal
+group_of RL = Temporal
+group_of RC = Temporal
+group_of CR = Environmental
+group_of IR = Environmental
+group_of AR = Environmental
+group_of MAV = Environmental
+group_of MAC = Environmental
+group_of MPR = Environmental
+group_of MUI = Environmental
+group_of MS = Environmental
+group_of MC = Environmental
+group_of MI = Environmental
+group_of MA = Environmental
 
 -- the metrics as they are compared, the least first
 abbrev pub declared : List MetricType

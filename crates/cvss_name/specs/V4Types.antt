@@ -5,6 +5,8 @@ use Rattle.std.specs.String.{string_bytes}
 use Rattle.cvss_grammar.specs.Refusal.{Refusal, BadValue, Repeated, Missing}
 use Rattle.cvss_name.specs.declared.error.Error.{Error}
 use Rattle.cvss_name.specs.declared.error.Error.TheVariants.{InvalidMetricV4, DuplicateMetricV4, MissingMandatoryMetricV4}
+use Rattle.cvss_name.specs.declared.group.MetricGroup.{MetricGroup}
+use Rattle.cvss_name.specs.declared.group.MetricGroup.TheVariants.{Base, Threat, Environmental, Supplemental}
 use Rattle.cvss_name.specs.declared.v4.MetricType.{MetricType}
 use Rattle.cvss_name.specs.declared.v4.MetricType.TheVariants.{AC, AT, AV, PR, SA, SC, SI, UI, VA, VC, VI, E, AR, CR, IR, MAC, MAT, MAV, MPR, MSA, MSC, MSI, MUI, MVA, MVC, MVI, AU, R, RE, S, U, V}
 
@@ -50,6 +52,41 @@ name_of kind = (names_of kind).0
 -- the name in words
 abbrev pub description_of : MetricType → List ℕ
 description_of kind = (names_of kind).1
+
+-- the group to which the metric belongs
+abbrev pub group_of : MetricType → MetricGroup
+group_of AV = Base
+group_of AC = Base
+group_of AT = Base
+group_of PR = Base
+group_of UI = Base
+group_of VC = Base
+group_of VI = Base
+group_of VA = Base
+group_of SC = Base
+group_of SI = Base
+group_of SA = Base
+group_of E = Threat
+group_of CR = Environmental
+group_of IR = Environmental
+group_of AR = Environmental
+group_of MAV = Environmental
+group_of MAC = Environmental
+group_of MAT = Environmental
+group_of MPR = Environmental
+group_of MUI = Environmental
+group_of MVC = Environmental
+group_of MVI = Environmental
+group_of MVA = Environmental
+group_of MSC = Environmental
+group_of MSI = Environmental
+group_of MSA = Environmental
+group_of S = Supplemental
+group_of AU = Supplemental
+group_of R = Supplemental
+group_of V = Supplemental
+group_of RE = Supplemental
+group_of U = Supplemental
 
 -- the metrics as they are compared, the least first
 abbrev pub declared : List MetricType

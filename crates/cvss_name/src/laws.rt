@@ -11,6 +11,7 @@ ghost use Rattle.cvss_name.specs.V3Types as v3_types;
 ghost use Rattle.cvss_name.specs.V4Types as v4_types;
 
 use crate::error::Error;
+use crate::group::MetricGroup;
 use crate::severity::Severity;
 use crate::{v2, v3, v4};
 use std::hash::Hash;
@@ -23,28 +24,31 @@ pub fn orders_are_declared()
     ensures v4 { ComparesAs v4_types.name_of v4_types.declared ⟦<v4::MetricType as Ord>⟧.cmp }
 {}
 
-/// Two severities or metric types are equal exactly if they are one value, and two errors exactly if
+/// Two severities, groups or metric types are equal exactly if they are one value, and two errors exactly if
 /// they tell the same.
 pub fn equality_is_that_of_values()
     ensures severity { EqualsByValue ⟦<Severity as PartialEq>⟧.eq }
+    ensures group { EqualsByValue ⟦<MetricGroup as PartialEq>⟧.eq }
     ensures v2 { EqualsByValue ⟦<v2::MetricType as PartialEq>⟧.eq }
     ensures v3 { EqualsByValue ⟦<v3::MetricType as PartialEq>⟧.eq }
     ensures v4 { EqualsByValue ⟦<v4::MetricType as PartialEq>⟧.eq }
     ensures error { (x y : Error) → IsTrue (⟦<Error as PartialEq>⟧.eq x y) ↔ TellTheSame x y }
 {}
 
-/// A clone of a severity or a metric type is that value, and a clone of an error tells the same.
+/// A clone of a severity, a group or a metric type is that value, and a clone of an error tells the same.
 pub fn clones_are_equal()
     ensures severity { ClonesByValue ⟦<Severity as Clone>⟧.is_clone }
+    ensures group { ClonesByValue ⟦<MetricGroup as Clone>⟧.is_clone }
     ensures v2 { ClonesByValue ⟦<v2::MetricType as Clone>⟧.is_clone }
     ensures v3 { ClonesByValue ⟦<v3::MetricType as Clone>⟧.is_clone }
     ensures v4 { ClonesByValue ⟦<v4::MetricType as Clone>⟧.is_clone }
     ensures error { (x clone : Error) → ⟦<Error as Clone>⟧.is_clone x clone → TellTheSame x clone }
 {}
 
-/// To clone a severity or a metric type takes no memory, so it is never refused.
+/// To clone a severity, a group or a metric type takes no memory, so it is never refused.
 pub fn values_are_cloned_without_memory()
     ensures severity { ClonesAlways ⟦<Severity as Clone>⟧.is_infallible }
+    ensures group { ClonesAlways ⟦<MetricGroup as Clone>⟧.is_infallible }
     ensures v2 { ClonesAlways ⟦<v2::MetricType as Clone>⟧.is_infallible }
     ensures v3 { ClonesAlways ⟦<v3::MetricType as Clone>⟧.is_infallible }
     ensures v4 { ClonesAlways ⟦<v4::MetricType as Clone>⟧.is_infallible }

@@ -1,8 +1,9 @@
-//! Names: the errors, the severity ratings and the metric types of each version, and what they are
-//! called.
+//! Names: the errors, the severity ratings and the metric types of each version, what they are called
+//! and to which groups they belong.
 #![tactic(auto)]
 
 mod error;
+mod group;
 pub mod laws;
 mod named;
 mod severity;
@@ -11,4 +12,5 @@ pub mod v3;
 pub mod v4;
 
 pub use error::Error;
+pub use group::MetricGroup;
 pub use severity::Severity;

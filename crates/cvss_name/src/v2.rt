@@ -4,9 +4,10 @@ ghost use Rattle.std.specs.Prelude.{◌≡◌, IfOk, IfErr, Ok, Some};
 ghost use Rattle.std.proofs.Common.{rules};
 ghost use Rattle.cvss_grammar.specs.Refusal.{UnknownName};
 ghost use Rattle.cvss_name.specs.Told.{Tells};
-ghost use Rattle.cvss_name.specs.V2Types.{v2_reason, name_of, description_of, declared};
+ghost use Rattle.cvss_name.specs.V2Types.{v2_reason, name_of, description_of, group_of, declared};
 
 use crate::error::Error;
+use crate::group::MetricGroup;
 use crate::named::{Named, from_name};
 use MetricType::*;
 use std::alloc::Global;
@@ -76,6 +77,17 @@ impl MetricType {
             MetricType::CR => "Confidentiality Requirement",
             MetricType::IR => "Integrity Requirement",
             MetricType::AR => "Availability Requirement",
+        }
+    }
+
+    /// The group to which the metric belongs (guide, sections 2.1 to 2.3).
+    pub fn group(self) -> MetricGroup
+        ensures { result ≡ group_of self }
+    {
+        match self {
+            A | AC | AV | Au | C | I => MetricGroup::Base,
+            E | RL | RC => MetricGroup::Temporal,
+            CDP | TD | CR | IR | AR => MetricGroup::Environmental,
         }
     }
 

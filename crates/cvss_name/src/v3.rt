@@ -4,9 +4,10 @@ ghost use Rattle.std.specs.Prelude.{◌≡◌, IfOk, IfErr, Ok, Some};
 ghost use Rattle.std.proofs.Common.{rules};
 ghost use Rattle.cvss_grammar.specs.Refusal.{UnknownName};
 ghost use Rattle.cvss_name.specs.Told.{Tells};
-ghost use Rattle.cvss_name.specs.V3Types.{v3_reason, name_of, description_of, declared};
+ghost use Rattle.cvss_name.specs.V3Types.{v3_reason, name_of, description_of, group_of, declared};
 
 use crate::error::Error;
+use crate::group::MetricGroup;
 use crate::named::{Named, from_name};
 use MetricType::*;
 use std::alloc::Global;
@@ -102,6 +103,17 @@ impl MetricType {
             MetricType::MC => "Modified Confidentiality",
             MetricType::MI => "Modified Integrity",
             MetricType::MA => "Modified Availability",
+        }
+    }
+
+    /// The group to which the metric belongs (v3.1 specification, sections 2 to 4).
+    pub fn group(self) -> MetricGroup
+        ensures { result ≡ group_of self }
+    {
+        match self {
+            A | AC | AV | C | I | PR | S | UI => MetricGroup::Base,
+            E | RL | RC => MetricGroup::Temporal,
+            CR | IR | AR | MAV | MAC | MPR | MUI | MS | MC | MI | MA => MetricGroup::Environmental,
         }
     }
 

@@ -4,9 +4,10 @@ ghost use Rattle.std.specs.Prelude.{◌≡◌, IfOk, IfErr, Ok, Some};
 ghost use Rattle.std.proofs.Common.{rules};
 ghost use Rattle.cvss_grammar.specs.Refusal.{UnknownName};
 ghost use Rattle.cvss_name.specs.Told.{Tells};
-ghost use Rattle.cvss_name.specs.V4Types.{v4_reason, name_of, description_of, declared};
+ghost use Rattle.cvss_name.specs.V4Types.{v4_reason, name_of, description_of, group_of, declared};
 
 use crate::error::Error;
+use crate::group::MetricGroup;
 use crate::named::{Named, from_name};
 use MetricType::*;
 use std::alloc::Global;
@@ -140,6 +141,19 @@ impl MetricType {
             MetricType::S => "Safety",
             MetricType::U => "Provider Urgency",
             MetricType::V => "Value Density",
+        }
+    }
+
+    /// The group to which the metric belongs (v4.0 specification, sections 2 to 5).
+    pub fn group(self) -> MetricGroup
+        ensures { result ≡ group_of self }
+    {
+        match self {
+            AC | AT | AV | PR | SA | SC | SI | UI | VA | VC | VI => MetricGroup::Base,
+            E => MetricGroup::Threat,
+            AR | CR | IR | MAC | MAT | MAV | MPR | MSA | MSC | MSI | MUI | MVA | MVC | MVI =>
+                MetricGroup::Environmental,
+            AU | R | RE | S | U | V => MetricGroup::Supplemental,
         }
     }
 

@@ -1,16 +1,14 @@
 -- Overrides: the environmental metrics, and texts that are read one after another.
-use Rattle.std.proofs.Common.{◌≡◌, ◌⊎◌, inl, inr, ℕ, ◌+◌, ◌<◌, Bool, true, false, if◌then◌else◌, bytes_eq, Option, List, [], ◌∷◌, ◌++◌, codes, length, get_or, map, IsSome, Contains, below_more, refl, sym, ap, ◌∙◌, subst, arith}
-use Rattle.std.specs.List.{list_any}
+use Rattle.std.proofs.Common.{◌≡◌, inl, inr, ℕ, ◌+◌, ◌<◌, Option, List, [], ◌∷◌, ◌++◌, codes, length, IsSome, Contains, below_more, refl, sym, ap, ◌∙◌, subst, arith, rules}
 use Rattle.std.specs.Option.{option_or}
-use Rattle.std.proofs.lemmas.List.{get_or-map}
-use Rattle.std.proofs.lemmas.List.Elements.{Contains-append_right}
-use Rattle.std.proofs.lemmas.Map.Views.{Contains-from_any}
-use Rattle.std.proofs.lemmas.Slice.Eq.{bytes_eq-Decides}
+use Rattle.std.proofs.lemmas.List.Elements.{All-contains}
 use Rattle.cvss_grammar.specs.Refusal.{Refusal, BadComponent, Repeated, piece_at, name_at, FaultAt}
 use Rattle.cvss_grammar.specs.Text.{IsComponent, name_part}
-use Rattle.cvss_name.specs.V4Types.{name_of}
+use Rattle.cvss_name.specs.V4Types.{name_of, group_of}
 use Rattle.cvss_grammar.specs.Version.{numeral, read, version_piece, IsComplete}
 use Rattle.cvss_text.specs.private.Walk.{HasNoValue, IsFaultOf}
+use Rattle.cvss_name.specs.declared.group.MetricGroup.{MetricGroup}
+use Rattle.cvss_name.specs.declared.group.MetricGroup.TheVariants.{Base, Environmental}
 use Rattle.cvss_name.specs.declared.v4.MetricType.{MetricType}
 use Rattle.cvss_name.specs.declared.v4.MetricType.TheVariants.{AC}
 use Rattle.cvss_text.proofs.ComponentLemmas.{piece_held}
@@ -20,7 +18,7 @@ use Rattle.cvss_text.proofs.LawLemmas.{names_differ}
 use Rattle.cvss_text.proofs.RefusalLemmas.{same_place, faults_same}
 use Rattle.cvss_text.proofs.WalkLemmas.{fault_at, name_from, AreComponentsOf-all, HasRead-none, HasRead-more}
 use Rattle.cvss_v4.proofs.CompleteLemmas.{none_is_none}
-use Rattle.cvss_v4_metric.specs.Table.{environmental, mandatory}
+use Rattle.cvss_v4_metric.specs.Table.{mandatory}
 use Rattle.cvss_v4.specs.Overriding.{AreOverrides, IsOverridden, NamesOther, Objection, OfOtherGroup, OfText, ObjectionAt, IsFirstObjection}
 use Rattle.cvss_v4.specs.private.OverridingSteps.{AddsOverride, IsObjectionTo, HasReadOverrides}
 use Rattle.cvss_v4.specs.Table.{Value, value_at}
@@ -28,23 +26,10 @@ use Rattle.cvss_v4.specs.Vector.{v4}
 use Rattle.cvss_v4.specs.private.VectorLaws.{v4_is_lawful, one_minor_version}
 use Rattle.cvss_v4.specs.declared.vector.Vector.{Vector}
 
--- the metric is the first of these, or the second, and so on
-abbrev pub IsOneOf : List MetricType → MetricType → Type 0
-IsOneOf [] kind = ⊥
-IsOneOf (one ∷ []) kind = kind ≡ one
-IsOneOf (one ∷ two ∷ more) kind = (kind ≡ one) ⊎ IsOneOf (two ∷ more) kind
-
-pub Contains-one_of : (kinds : List MetricType) (kind : MetricType) → IsOneOf kinds kind → Contains kinds kind
-Contains-one_of [] kind none = absurd none
-Contains-one_of (one ∷ []) kind is = (0, omega arith, sym is)
-Contains-one_of (one ∷ two ∷ more) kind (inl is) = (0, omega arith, sym is)
-Contains-one_of (one ∷ two ∷ more) kind (inr later) =
-    Contains-append_right (one ∷ []) (two ∷ more) kind (Contains-one_of (two ∷ more) kind later)
-
 -- a text that names an environmental metric names no other
-pub names_no_other : (kind : MetricType) (name : List ℕ) → name_of kind ≡ name → Contains environmental kind → NamesOther name → ⊥
+pub names_no_other : (kind : MetricType) (name : List ℕ) → name_of kind ≡ name → group_of kind ≡ Environmental → NamesOther name → ⊥
 names_no_other kind name named is other =
-    other.other (subst (Contains environmental) (names_differ v4 v4_is_lawful kind other.kind (named ∙ sym other.named)) is)
+    other.other (subst (λ each. group_of each ≡ Environmental) (names_differ v4 v4_is_lawful kind other.kind (named ∙ sym other.named)) is)
 
 -- a component with a fault is no override
 pub component_objection : (v : Vector) (text : List ℕ) (reason : Refusal MetricType) → IsComponent text → (NamesOther (read v4 (name_part text)) → ⊥) → IsFaultOf v4 v text reason → IsObjectionTo v text (OfText reason)
@@ -52,7 +37,7 @@ component_objection v text (BadComponent piece) is none fault = absurd fault
 component_objection v text reason is none fault = (is, none, fault)
 
 -- nothing is wrong with a text whose name is that of an environmental metric, and which has no fault
-no_objection_at : (texts : List (List ℕ)) (place : ℕ) (kind : MetricType) → IsComponent (piece_at texts place) → name_of kind ≡ name_at v4 texts place → Contains environmental kind → ((reason : Refusal MetricType) → FaultAt v4 texts place reason → ⊥) → (objection : Objection) → ObjectionAt texts place objection → ⊥
+no_objection_at : (texts : List (List ℕ)) (place : ℕ) (kind : MetricType) → IsComponent (piece_at texts place) → name_of kind ≡ name_at v4 texts place → group_of kind ≡ Environmental → ((reason : Refusal MetricType) → FaultAt v4 texts place reason → ⊥) → (objection : Objection) → ObjectionAt texts place objection → ⊥
 no_objection_at texts place kind is named environment none OfOtherGroup at = names_no_other kind _ named environment at.1
 no_objection_at texts place kind is named environment none (OfText (BadComponent piece)) at = at.1 is
 no_objection_at texts place kind is named environment none (OfText reason) at = none reason at.2
@@ -76,7 +61,7 @@ module _ (texts : List (List ℕ)) (place : ℕ) (within : place < length texts)
       record {
         version = one_minor_version new old adds.puts.front ∙ before.version;
         read = all;
-        environmental = record { each = λ kind some. elim (adds.puts.others kind) [ inl same ↦ subst (Contains environmental) (sym same) added.environmental | inr same ↦ before.environmental.each kind (subst IsSome same some) ] };
+        environmental = record { each = λ kind some. elim (adds.puts.others kind) [ inl same ↦ subst (λ each. group_of each ≡ Environmental) (sym same) added.environmental | inr same ↦ before.environmental.each kind (subst IsSome same some) ] };
         faultless = record { none = λ earlier objection below. below_more (λ each. (other : Objection) → ObjectionAt texts each other → ⊥) place (λ each inside other. before.faultless.none each other inside) none earlier below objection };
       }
 
@@ -139,55 +124,34 @@ module _ (texts : List (List ℕ)) where
       let same = same_place p q (λ before. second.earlier.none p one before first.is) (λ before. first.earlier.none q other before second.is) in
       (same, sorts_same q one other (sort_of q one (subst (λ place. ObjectionAt texts place one) same first.is)) (sort_of q other second.is))
 
--- whether two metrics have one name
-abbrev have_one_name : MetricType → MetricType → Bool
-have_one_name kind other = bytes_eq (name_of kind) (name_of other)
-
-one_metric : (kind other : MetricType) → have_one_name kind other ≡ true → kind ≡ other
-one_metric kind other same = names_differ v4 v4_is_lawful kind other ((bytes_eq-Decides _ _).0 same)
-
--- whether a metric is an environmental one
-abbrev is_environmental : MetricType → Bool
-is_environmental kind = list_any (have_one_name kind) environmental
-
--- what holds of each metric of a list
-alike : (f : MetricType → Bool) (answer : Bool) (kinds : List MetricType) → map f kinds ≡ map (λ _. answer) kinds → (kind : MetricType) → Contains kinds kind → f kind ≡ answer
-alike f answer kinds same kind (place, within, is) =
-    ap f (sym is) ∙ (sym (get_or-map f kinds place kind answer within) ∙ (ap (λ list. get_or list place answer) same ∙ get_or-map (λ _. answer) kinds place kind answer within))
-
-known_environmental : (kind : MetricType) → Contains environmental kind → is_environmental kind ≡ true
-known_environmental = alike is_environmental true environmental refl
-
--- a metric that each vector has is not environmental
-pub mandatory_kept : (kind : MetricType) → Contains mandatory kind → Contains environmental kind → ⊥
-mandatory_kept kind is other =
-    let yes = known_environmental kind other in
-    let no = alike is_environmental false mandatory refl kind is in cc
+-- a metric that each vector has is a base metric
+mandatory_is_base : (kind : MetricType) → Contains mandatory kind → group_of kind ≡ Base
+mandatory_is_base kind is = All-contains (λ each. group_of each ≡ Base) mandatory kind (search rules) is
 
 -- so a vector stays complete where environmental metrics replace its own
 pub IsComplete-overridden : (v overrides new : Vector) → IsOverridden v overrides new → IsComplete v4 v → IsComplete v4 new
 IsComplete-overridden v overrides new is complete = record {
-  present = λ kind mandatory. subst IsSome (sym (is.kept kind (mandatory_kept kind mandatory))) (complete.present kind mandatory);
+  present = λ kind mandatory. subst IsSome (sym (is.kept kind (λ environment. let is_base = mandatory_is_base kind mandatory in cc))) (complete.present kind mandatory);
 }
 
 -- a vector with another's environmental metrics where that has them
 abbrev pub overridden : Vector → Vector → Vector
 overridden v overrides = record v { cr = option_or overrides.cr v.cr; ir = option_or overrides.ir v.ir; ar = option_or overrides.ar v.ar; mav = option_or overrides.mav v.mav; mac = option_or overrides.mac v.mac; mat = option_or overrides.mat v.mat; mpr = option_or overrides.mpr v.mpr; mui = option_or overrides.mui v.mui; mvc = option_or overrides.mvc v.mvc; mvi = option_or overrides.mvi v.mvi; mva = option_or overrides.mva v.mva; msc = option_or overrides.msc v.msc; msi = option_or overrides.msi v.msi; msa = option_or overrides.msa v.msa }
 
--- its value for a metric of the environmental group or of another one
-abbrev value_by : Vector → Vector → (kind : MetricType) → Bool → Option (Value kind)
-value_by v overrides kind is = if is then option_or (value_at overrides kind) (value_at v kind) else value_at v kind
+-- its value for a metric of this group
+abbrev value_by : Vector → Vector → (kind : MetricType) → MetricGroup → Option (Value kind)
+value_by v overrides kind Environmental = option_or (value_at overrides kind) (value_at v kind)
+value_by v overrides kind _ = value_at v kind
 
-by_group : (v overrides : Vector) (kind : MetricType) → value_at (overridden v overrides) kind ≡ value_by v overrides kind (is_environmental kind)
+by_group : (v overrides : Vector) (kind : MetricType) → value_at (overridden v overrides) kind ≡ value_by v overrides kind (group_of kind)
 by_group v overrides = elim [ AC ↦ refl | _ ↦ refl ]
 
-of_no_group : (is : Bool) → (is ≡ true → ⊥) → is ≡ false
-of_no_group true not = absurd (not refl)
-of_no_group false not = refl
+of_other_group : (v overrides : Vector) (kind : MetricType) (group : MetricGroup) → ¬ (group ≡ Environmental) → value_by v overrides kind group ≡ value_at v kind
+of_other_group v overrides kind = elim [ Environmental ↦ λ not. absurd (not refl) | _ ↦ λ _. refl ]
 
 pub IsOverridden-own : (v overrides : Vector) → IsOverridden v overrides (overridden v overrides)
 IsOverridden-own v overrides = record {
-  replaced = λ kind is. by_group v overrides kind ∙ ap (value_by v overrides kind) (known_environmental kind is);
-  kept = λ kind not. by_group v overrides kind ∙ ap (value_by v overrides kind) (of_no_group (is_environmental kind) (λ is. not (Contains-from_any one_metric kind environmental is)));
+  replaced = λ kind is. by_group v overrides kind ∙ ap (value_by v overrides kind) is;
+  kept = λ kind not. by_group v overrides kind ∙ of_other_group v overrides kind (group_of kind) not;
   minor_version = refl;
 }

@@ -1,16 +1,16 @@
 -- An organisation's own environmental metrics in place of a vector's: CVSS v4.0 specification, section 4.
-use Rattle.std.specs.Prelude.{◌++◌, codes, ◌≡◌, ℕ, ◌<◌, List, length, IsSome, Contains}
+use Rattle.std.specs.Prelude.{◌++◌, codes, ◌≡◌, ℕ, ◌<◌, List, length, IsSome}
 use Rattle.std.specs.Fmt.{decimal}
 use Rattle.std.specs.Option.{option_or}
 use Rattle.cvss_name.specs.ErrorText.{error_text}
 use Rattle.cvss_grammar.specs.Refusal.{Refusal, BadComponent, piece_at, name_at, FaultAt}
 use Rattle.cvss_grammar.specs.Text.{IsComponent}
 use Rattle.cvss_name.specs.Told.{Tells}
-use Rattle.cvss_name.specs.V4Types.{v4_reason, name_of}
+use Rattle.cvss_name.specs.V4Types.{v4_reason, name_of, group_of}
 use Rattle.cvss_grammar.specs.Version.{AreComponentsOf}
 use Rattle.cvss_name.specs.declared.error.Error.{Error}
+use Rattle.cvss_name.specs.declared.group.MetricGroup.TheVariants.{Environmental}
 use Rattle.cvss_name.specs.declared.v4.MetricType.{MetricType}
-use Rattle.cvss_v4_metric.specs.Table.{environmental}
 use Rattle.cvss_v4.specs.Table.{value_at}
 use Rattle.cvss_v4.specs.Vector.{v4}
 use Rattle.cvss_v4.specs.declared.vector.Vector.{Vector}
@@ -19,7 +19,7 @@ use Rattle.cvss_v4.specs.declared.vector.overriding.OverrideError.TheVariants.{N
 
 -- the vector has environmental metrics alone
 pub record IsEnvironmental (v : Vector) : Type 0 where
-  pub each : (kind : MetricType) → IsSome (value_at v kind) → Contains environmental kind
+  pub each : (kind : MetricType) → IsSome (value_at v kind) → group_of kind ≡ Environmental
 
 -- the texts, as they are read, are the components of a vector of environmental metrics, each once
 pub record AreOverrides (texts : List (List ℕ)) (v : Vector) : Type 0 where
@@ -28,15 +28,15 @@ pub record AreOverrides (texts : List (List ℕ)) (v : Vector) : Type 0 where
 
 -- the vector has another's environmental metrics where that has them, and all else as it was
 pub record IsOverridden (v overrides new : Vector) : Type 0 where
-  pub replaced : (kind : MetricType) → Contains environmental kind → value_at new kind ≡ option_or (value_at overrides kind) (value_at v kind)
-  pub kept : (kind : MetricType) → ¬ (Contains environmental kind) → value_at new kind ≡ value_at v kind
+  pub replaced : (kind : MetricType) → group_of kind ≡ Environmental → value_at new kind ≡ option_or (value_at overrides kind) (value_at v kind)
+  pub kept : (kind : MetricType) → ¬ (group_of kind ≡ Environmental) → value_at new kind ≡ value_at v kind
   pub minor_version : new.minor_version ≡ v.minor_version
 
 -- a metric of another group has the name
 pub record NamesOther (name : List ℕ) : Type 0 where
   pub kind : MetricType
   pub named : name_of kind ≡ name
-  pub other : ¬ (Contains environmental kind)
+  pub other : ¬ (group_of kind ≡ Environmental)
 
 -- why a text is no override: its metric is of another group, or it is refused as a component is
 pub data Objection : Type 0 where

@@ -87,14 +87,6 @@ printed = AV ∷ AC ∷ AT ∷ PR ∷ UI ∷ VC ∷ VI ∷ VA ∷ SC ∷ SI ∷ 
 abbrev pub mandatory : List MetricType
 mandatory = AC ∷ AT ∷ AV ∷ PR ∷ SA ∷ SC ∷ SI ∷ UI ∷ VA ∷ VC ∷ VI ∷ []
 
--- the threat metrics
-abbrev pub threat : List MetricType
-threat = E ∷ []
-
--- the environmental metrics
-abbrev pub environmental : List MetricType
-environmental = CR ∷ IR ∷ AR ∷ MAV ∷ MAC ∷ MAT ∷ MPR ∷ MUI ∷ MVC ∷ MVI ∷ MVA ∷ MSC ∷ MSI ∷ MSA ∷ []
-
 -- the supplemental metrics, which are printed last
 abbrev pub supplemental : List MetricType
 supplemental = drop 26 printed

@@ -1,10 +1,11 @@
 -- What the private code that reads overrides does at each step. No public clause cites it.
-use Rattle.std.specs.Prelude.{◌≡◌, ℕ, List, Contains, ⊤}
+use Rattle.std.specs.Prelude.{◌≡◌, ℕ, List, ⊤}
 use Rattle.cvss_grammar.specs.Refusal.{BadComponent}
 use Rattle.cvss_grammar.specs.Text.{IsComponent, name_part}
 use Rattle.cvss_grammar.specs.Version.{read}
 use Rattle.cvss_text.specs.private.Walk.{Adds, HasRead, IsFaultOf, IsTellable, reason_of}
-use Rattle.cvss_v4_metric.specs.Table.{environmental}
+use Rattle.cvss_name.specs.V4Types.{group_of}
+use Rattle.cvss_name.specs.declared.group.MetricGroup.TheVariants.{Environmental}
 use Rattle.cvss_v4.specs.Overriding.{IsEnvironmental, NamesOther, Objection, OfOtherGroup, OfText, HasNoObjectionBefore}
 use Rattle.cvss_v4.specs.Vector.{v4}
 use Rattle.cvss_v4.specs.declared.vector.Vector.{Vector}
@@ -14,7 +15,7 @@ use Rattle.cvss_v4.specs.declared.vector.overriding.OverrideFault.TheVariants.{O
 -- the environmental metric at a text goes into the vector
 pub record AddsOverride (old : Vector) (text : List ℕ) (new : Vector) : Type 0 where
   pub adds : Adds v4 old text new
-  pub environmental : Contains environmental adds.kind
+  pub environmental : group_of adds.kind ≡ Environmental
 
 -- what is wrong with a text, where the vector holds those before it
 abbrev pub IsObjectionTo : Vector → List ℕ → Objection → Type 0

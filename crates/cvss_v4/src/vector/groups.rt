@@ -1,8 +1,8 @@
 //! Which groups of metrics a vector has (v4.0 specification, section 1.3).
 
 ghost use Rattle.std.specs.Prelude.{◌≡◌};
-ghost use Rattle.cvss_v4_metric.specs.Table.{environmental};
-ghost use Rattle.cvss_v4.specs.Nomenclature.{has_any, nomenclature_of};
+ghost use Rattle.cvss_name.specs.declared.group.MetricGroup.TheVariants.{Environmental};
+ghost use Rattle.cvss_v4.specs.Nomenclature.{has_group, nomenclature_of};
 
 use crate::nomenclature::Nomenclature;
 use crate::vector::Vector;
@@ -23,7 +23,7 @@ impl Vector {
 
     /// Whether the vector has an environmental metric.
     fn has_environmental(&self) -> bool
-        ensures { result ≡ has_any self.now environmental }
+        ensures { result ≡ has_group self.now Environmental }
     {
         match self {
             Vector { cr: Some(_), .. } => true,

@@ -1,11 +1,12 @@
 //! An organisation's own environmental metrics in place of a vector's (v4.0 specification,
 //! section 4).
 
-ghost use Rattle.std.specs.Prelude.{◌≡◌, ◌↔◌, IsTrue, Some, Contains, IfOk, IfErr, OnOk, IsOk, IsErrAnd, Ok, ℕ, length, map};
+ghost use Rattle.std.specs.Prelude.{◌≡◌, ◌↔◌, IsTrue, Some, IfOk, IfErr, OnOk, IsOk, IsErrAnd, Ok, ℕ, length, map};
 ghost use Rattle.std.specs.Str.{IsUtf8};
 ghost use Rattle.cvss_grammar.specs.Text.{IsComponent};
 ghost use Rattle.cvss_grammar.specs.Version.{IsComplete};
-ghost use Rattle.cvss_v4_metric.specs.Table.{environmental};
+ghost use Rattle.cvss_name.specs.V4Types.{group_of};
+ghost use Rattle.cvss_name.specs.declared.group.MetricGroup.TheVariants.{Environmental};
 ghost use Rattle.cvss_v4.specs.Overriding.{AreOverrides, IsOverridden, Objection, HasNoObjectionBefore, IsFirstObjection, TellsObjection, TellsFirstObjection, override_error_text};
 ghost use Rattle.cvss_v4.specs.private.OverridingSteps.{AddsOverride, IsObjectionTo, IsTellableFault, objection_of};
 ghost use Rattle.cvss_v4.specs.Vector.{v4};
@@ -14,7 +15,7 @@ ghost use Rattle.cvss_v4.specs.declared.vector.overriding.OverrideFault.TheVaria
 use crate::metric::MetricType;
 use crate::vector::Vector;
 use cvss_base::refusing::error_of;
-use cvss_name::Error;
+use cvss_name::{Error, MetricGroup};
 use cvss_text::pieces::is_component;
 use cvss_text::walk::{Fault, cut_component, read_component};
 use std::alloc::Global;
@@ -143,25 +144,9 @@ fn read_override<'a>(text: &'a [u8], overrides: &mut Vector) -> Result<(), Overr
 
 /// Whether the metric is an environmental one.
 fn is_environmental(kind: MetricType) -> bool
-    ensures { IsTrue result ↔ Contains environmental kind }
+    ensures { IsTrue result ↔ (group_of kind ≡ Environmental) }
 {
-    matches!(
-        kind,
-        MetricType::CR
-            | MetricType::IR
-            | MetricType::AR
-            | MetricType::MAV
-            | MetricType::MAC
-            | MetricType::MAT
-            | MetricType::MPR
-            | MetricType::MUI
-            | MetricType::MVC
-            | MetricType::MVI
-            | MetricType::MVA
-            | MetricType::MSC
-            | MetricType::MSI
-            | MetricType::MSA
-    )
+    matches!(kind.group(), MetricGroup::Environmental)
 }
 
 /// The error that tells the fault of the text at this place.

@@ -2,8 +2,9 @@ use Rattle.std.proofs.Common.{sym, ◌∙◌, subst}
 use Rattle.std.proofs.lemmas.Result.{err_from_is_err_and}
 use Rattle.cvss_text.specs.private.Walk.{reason_of}
 use Rattle.cvss_text.proofs.LawLemmas.{names_differ}
-use Rattle.std.specs.List.{Contains}
-use Rattle.cvss_v4_metric.specs.Table.{environmental}
+use Rattle.std.specs.Prelude.{◌≡◌}
+use Rattle.cvss_name.specs.V4Types.{group_of}
+use Rattle.cvss_name.specs.declared.group.MetricGroup.TheVariants.{Environmental}
 use Rattle.cvss_v4.proofs.OverridingLemmas.{names_no_other, component_objection}
 use Rattle.cvss_v4.specs.Vector.{v4}
 use Rattle.cvss_v4.specs.private.VectorLaws.{v4_is_lawful}
@@ -29,5 +30,5 @@ returns-clause-read c =
     let adds = c.in_ok-read_component.ensures.read in
     record {
       adds = adds;
-      environmental = subst (Contains environmental) (names_differ v4 v4_is_lawful c.in_ok-kind.kind adds.kind (c.in_ok-kind.ensures.cut.named ∙ sym adds.named)) environment;
+      environmental = subst (λ kind. group_of kind ≡ Environmental) (names_differ v4 v4_is_lawful c.in_ok-kind.kind adds.kind (c.in_ok-kind.ensures.cut.named ∙ sym adds.named)) environment;
     }
