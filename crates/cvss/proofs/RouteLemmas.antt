@@ -4,7 +4,7 @@ use Rattle.std.specs.List.{All, Contains, onto_first}
 use Rattle.std.specs.Str.{IsUtf8}
 use Rattle.std.proofs.lemmas.Bool.{cases_order, or_parts}
 use Rattle.std.proofs.Math.Bool.{or-true}
-use Rattle.std.proofs.lemmas.List.Elements.{All-head}
+use Rattle.std.proofs.lemmas.List.Elements.{All-nil}
 use Rattle.std.proofs.lemmas.List.Splits.{length-slice_split, slice_split-cons_no}
 use Rattle.std.proofs.lemmas.List.{take_rest}
 use Rattle.std.proofs.Math.Seq.{split_at}
@@ -17,10 +17,10 @@ use Rattle.cvss_name.specs.declared.v2.MetricType as type_v2
 use Rattle.cvss_name.specs.declared.v2.MetricType.TheVariants as kind_v2
 use Rattle.cvss_name.specs.declared.v4.MetricType.TheVariants as kind_v4
 use Rattle.cvss_text.proofs.ComponentLemmas.{piece_held, held_stands}
-use Rattle.cvss_text.proofs.DenotesLemmas.{pieces_denoted}
+use Rattle.cvss_text.proofs.DenotesLemmas.{pieces_of_complete}
 use Rattle.cvss_text.proofs.FrontLemmas.{pieces_denoted_behind}
 use Rattle.cvss_text.proofs.NumeralLemmas.{numeral-injective, numeral-plain}
-use Rattle.cvss_text.proofs.Utf8Lemmas.{IsUtf8-pieces}
+use Rattle.cvss_text.proofs.TextLemmas.{IsPart}
 use Rattle.cvss_text.proofs.WalkLemmas.{value_from}
 use Rattle.cvss_v2.specs.private.TableLaws.{undotted_spelling}
 use Rattle.cvss_v2.specs.Vector.{v2}
@@ -119,8 +119,9 @@ names_apart x y same = let second : 86 ≡ 67 = ap (λ text. get_or text 1 0) sa
 
 pub v20_routed : (text : List ℕ) (vector : vector_v2.Vector) → DenotesV2 text vector → route_of text ≡ ToV20
 v20_routed text vector denotes =
-    let parts = pieces text in
-    let components = pieces_denoted v2 v2_is_lawful vector text refl denotes.denoted denotes.complete in
+    let parts = denotes.denoted.parts in
+    let components = denotes.denoted.components in
+    let are : pieces text ≡ parts = pieces_of_complete v2 v2_is_lawful vector text denotes.denoted (All-nil IsPart) denotes.complete in
     let av = value_from (v2.value_of vector kind_v2.AV) (denotes.complete.present kind_v2.AV (0, lit< tt, refl)) in
     let ac = value_from (v2.value_of vector kind_v2.AC) (denotes.complete.present kind_v2.AC (1, lit< tt, refl)) in
     let av_at = held_stands v2 v2_is_lawful vector parts kind_v2.AV av.0 components av.1 in
@@ -134,7 +135,7 @@ v20_routed text vector denotes =
       ]
     ] in
     let first = piece_held v2 v2_is_lawful vector parts 0 components (omega (arith, some)) in
-    first_held_routed parts first.kind (v2.spelling first.kind first.value) some (undotted_spelling first.kind first.value) first.is
+    ap route_of_pieces are ∙ first_held_routed parts first.kind (v2.spelling first.kind first.value) some (undotted_spelling first.kind first.value) first.is
 
 -- a text that CVSS v3 reads has the minor version by which it was routed
 told_zero : (minor : ℕ) (told : List ℕ) → v3_front minor ≡ version_piece told ∷ [] → told ≡ codes "3.0" → minor ≡ 0

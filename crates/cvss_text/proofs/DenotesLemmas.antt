@@ -1,15 +1,17 @@
 -- A text denotes at most one vector, and has no refusal where that vector is complete.
-use Rattle.std.proofs.Common.{◌≡◌, ℕ, ◌<◌, List, [], length, Option, Some, None, refl, sym, ap, ◌∙◌, subst, arith}
+use Rattle.std.proofs.Common.{◌≡◌, ℕ, ◌<◌, List, [], ◌∷◌, ◌++◌, length, Option, Some, None, refl, sym, ap, ◌∙◌, subst, arith}
+use Rattle.std.specs.List.{All}
 use Rattle.std.proofs.lemmas.List.{take_all}
+use Rattle.std.proofs.lemmas.List.Elements.{All-append}
 use Rattle.std.proofs.lemmas.Option.{slice_get_within, get_or_from_slice_get}
-use Rattle.cvss_grammar.specs.Text.{pieces, joined, name_part, value_part, component}
+use Rattle.cvss_grammar.specs.Text.{pieces, name_part, value_part, component}
 use Rattle.cvss_grammar.specs.Version.{Version, read, AreComponentsOf, Denotes, IsComplete, reading}
-use Rattle.cvss_grammar.specs.Refusal.{Refusal, BadComponent, WrongPrefix, WrongVersion, UnknownName, BadValue, Repeated, Missing, Spells, piece_at, FaultAt, IsFirstReason}
+use Rattle.cvss_grammar.specs.Refusal.{Refusal, UnknownName, BadValue, Repeated, Missing, Spells, piece_at, name_at, FaultAt, IsFirstReason}
 use Rattle.cvss_text.specs.private.Walk.{IsLawful}
-use Rattle.cvss_text.proofs.TextLemmas.{name_part-component, value_part-component}
+use Rattle.cvss_text.proofs.TextLemmas.{IsPart, name_part-component, value_part-component}
 use Rattle.cvss_text.proofs.LawLemmas.{name_plain, names_differ}
 use Rattle.cvss_text.proofs.ComponentLemmas.{IsHeldAs, held_stands, piece_held}
-use Rattle.cvss_text.proofs.JoinLemmas.{pieces_are}
+use Rattle.cvss_text.proofs.JoinLemmas.{pieces-joined, are_parts}
 use Rattle.cvss_text.proofs.OnceLemmas.{names_apart}
 use Rattle.cvss_text.proofs.WalkLemmas.{value_from, name_from, value_from_piece, held_is_named}
 
@@ -45,37 +47,41 @@ module _ {V K : Type 0} (version : Version V K) (lawful : IsLawful version) wher
 
   -- the pieces of a vector's components have no fault
   pub no_fault_held : (v : V) (parts : List (List ℕ)) (place : ℕ) → AreComponentsOf version parts v → place < length parts → (reason : Refusal K) → FaultAt version parts place reason → ⊥
-  no_fault_held v parts place components within (BadComponent piece) none = none
-  no_fault_held v parts place components within (WrongPrefix prefix) none = none
-  no_fault_held v parts place components within (WrongVersion told) none = none
-  no_fault_held v parts place components within (Missing kind) none = none
-  no_fault_held v parts place components within (UnknownName name) (is, unknown) =
+  no_fault_held v parts place components within =
       let held = piece_held version lawful v parts place components within in
-      unknown held.kind (sym (name_from version lawful (piece_at parts place) held.kind _ held.is) ∙ sym is)
-  no_fault_held v parts place components within (BadValue blamed value) (kind, _, named, is, no_spelling) =
-      let held = piece_held version lawful v parts place components within in
-      let one : held.kind ≡ kind = names_differ version lawful held.kind kind (sym (name_from version lawful (piece_at parts place) held.kind _ held.is) ∙ sym named) in
-      no_spelling (subst (λ each. Spells (reading version each) value) one (record { value = held.value; spelled = sym (value_from_piece version lawful (piece_at parts place) held.kind _ held.is) ∙ sym is }))
-  no_fault_held v parts place components within (Repeated kind) (named, _, before) =
-      names_apart version lawful v kind parts before.earlier place components before.is_before within before.same_name (sym named)
+      let named : version.name held.kind ≡ name_at version parts place = sym (name_from version lawful (piece_at parts place) held.kind _ held.is) in
+      elim [
+        | UnknownName name ↦ λ (is, unknown). unknown held.kind (named ∙ sym is)
+        | BadValue blamed value ↦ λ (kind, _, also_named, is, no_spelling).
+            no_spelling (subst (λ each. Spells (reading version each) value) (names_differ version lawful held.kind kind (named ∙ sym also_named))
+            (record { value = held.value; spelled = sym (value_from_piece version lawful (piece_at parts place) held.kind _ held.is) ∙ sym is }))
+        | Repeated kind ↦ λ (also_named, _, before).
+            let same_name = before.same_name ∙ (also_named ∙ sym named) in
+            names_apart version lawful v held.kind parts before.earlier place components before.is_before within same_name (sym named) held.value held.held
+        | _ ↦ λ none. none
+      ]
 
   -- pieces that are the components of a complete vector have no reason to be refused
   pub no_reason : (v : V) (parts : List (List ℕ)) → AreComponentsOf version parts v → IsComplete version v → (reason : Refusal K) → IsFirstReason version parts reason → ⊥
-  no_reason v parts components complete (BadComponent piece) is = is.fault
-  no_reason v parts components complete (WrongPrefix prefix) is = is.fault
-  no_reason v parts components complete (WrongVersion told) is = is.fault
-  no_reason v parts components complete (UnknownName name) is = no_fault_held v parts is.place components is.within (UnknownName name) is.fault
-  no_reason v parts components complete (BadValue kind value) is = no_fault_held v parts is.place components is.within (BadValue kind value) is.fault
-  no_reason v parts components complete (Repeated kind) is = no_fault_held v parts is.place components is.within (Repeated kind) is.fault
   no_reason v parts components complete (Missing kind) missing =
       let held = complete.present kind (missing.place, slice_get_within version.mandatory missing.place kind missing.is, get_or_from_slice_get version.mandatory missing.place kind kind missing.is) in
       missing.absent (held_is_named version lawful v parts (length parts) (omega arith) (rw (take_all (length parts) parts (omega arith)) components) kind held)
+  no_reason v parts components complete reason is = no_fault_held v parts is.place components is.within reason is.fault
 
-  -- the pieces of a text that denotes a complete vector are the vector's components
-  pub pieces_denoted : (v : V) (text : List ℕ) → version.front v ≡ [] → Denotes version text v → IsComplete version v → AreComponentsOf version (pieces text) v
-  pieces_denoted v text frontless denotes complete =
-      let mandatory = lawful.some_piece v frontless in
-      let value = value_from (version.value_of v mandatory.0) (complete.present mandatory.0 mandatory.1) in
-      let stands = held_stands version lawful v denotes.parts mandatory.0 value.0 denotes.components value.1 in
-      let joined_is : text ≡ joined denotes.parts = rw frontless at denotes.text_is in
-      subst (λ parts. AreComponentsOf version parts v) (sym (ap pieces joined_is ∙ pieces_are version lawful v denotes.parts denotes.components (omega (arith, stands.within)))) denotes.components
+  -- a text that denotes a vector without a front that is no part
+  module _ (v : V) (text : List ℕ) (denotes : Denotes version text v) (front : All IsPart (version.front v)) where
+    pub pieces_of_denoted : 0 < length (version.front v ++ denotes.parts) → pieces text ≡ version.front v ++ denotes.parts
+    pieces_of_denoted some =
+        ap pieces denotes.text_is ∙ pieces-joined (version.front v ++ denotes.parts) some
+        (All-append IsPart (version.front v) denotes.parts front (are_parts version lawful v denotes.parts denotes.components))
+
+    -- and is complete
+    some_piece : (pieces : List (List ℕ)) → version.front v ≡ pieces → IsComplete version v → 0 < length (pieces ++ denotes.parts)
+    some_piece [] frontless complete =
+        let mandatory = lawful.some_piece v frontless in
+        let value = value_from (version.value_of v mandatory.0) (complete.present mandatory.0 mandatory.1) in
+        omega (arith, (held_stands version lawful v denotes.parts mandatory.0 value.0 denotes.components value.1).within)
+    some_piece (piece ∷ pieces) is complete = omega arith
+
+    pub pieces_of_complete : IsComplete version v → pieces text ≡ version.front v ++ denotes.parts
+    pieces_of_complete complete = pieces_of_denoted (some_piece (version.front v) refl complete)

@@ -5,7 +5,6 @@ pub mod DenotesLemmas
 pub mod FrontLemmas
 pub mod JoinLemmas
 pub mod LawLemmas
-mod ListingLemmas
 pub mod MissingLemmas
 pub mod NumeralLemmas
 mod OnceLemmas

@@ -1,5 +1,5 @@
 -- How pieces come off a text.
-use Rattle.std.proofs.Common.{◌≡◌, ◌↔◌, IsTrue, not, ℕ, ◌+◌, ◌<◌, ◌≤◌, Bool, true, false, cond, eqb, ltb, List, [], ◌∷◌, inl, inr, length, take, drop, Option, Some, None, refl, sym, ap, ◌∙◌, Bor, arith}
+use Rattle.std.proofs.Common.{◌≡◌, ◌↔◌, IsTrue, not, ℕ, ◌+◌, ◌<◌, ◌≤◌, Bool, true, false, cond, ltb, List, [], ◌∷◌, inl, inr, length, take, drop, Option, Some, None, refl, sym, ap, ◌∙◌, Bor, arith}
 use Rattle.std.specs.Iterator.{MakesProgress, item_count}
 use Rattle.std.specs.List.{position, position_or_len}
 use Rattle.std.specs.Option.{option_map_or, unwrap_or, is_some}
@@ -11,14 +11,8 @@ use Rattle.std.proofs.lemmas.List.Splits.{slice_split_none, slice_split_first, l
 use Rattle.std.proofs.lemmas.List.Sums.{fails_before_first}
 use Rattle.std.proofs.lemmas.Option.{cond_some}
 use Rattle.cvss_text.specs.private.Pieces.{AreParts, IsWithoutColon}
-use Rattle.cvss_grammar.specs.Text.{slash, colon, pieces}
-use Rattle.cvss_text.proofs.TextLemmas.{position-within, colon-parts}
-
-abbrev pub is_slash : ℕ → Bool
-is_slash byte = eqb byte slash
-
-abbrev pub is_colon : ℕ → Bool
-is_colon byte = eqb byte colon
+use Rattle.cvss_grammar.specs.Text.{pieces}
+use Rattle.cvss_text.proofs.TextLemmas.{is_slash, is_colon, position-within, colon-parts}
 
 none-false : (b : Bool) (x : ℕ) → cond b (Some x) None ≡ None → b ≡ false
 none-false true x none = cc

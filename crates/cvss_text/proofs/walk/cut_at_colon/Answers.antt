@@ -29,5 +29,5 @@ returns-in-None g c =
       cut = tt;
       refused = λ _ _. (ap (read version) parts.name_is, unknown);
       unnamed = λ _ kind named. unknown kind (named ∙ ap (read version) (sym parts.name_is));
-      tellable = IsUtf8-name c.args.piece.now _ _ parts;
+      tellable = IsUtf8-name _ _ _ parts.cut;
     }
