@@ -1,19 +1,65 @@
--- A text denotes at most one vector, and has no refusal where that vector is complete.
-use Rattle.std.proofs.Common.{◌≡◌, ℕ, ◌<◌, List, [], ◌∷◌, ◌++◌, length, Option, Some, None, refl, sym, ap, ◌∙◌, subst, arith}
-use Rattle.std.specs.List.{All}
-use Rattle.std.proofs.lemmas.List.{take_all}
-use Rattle.std.proofs.lemmas.List.Elements.{All-append}
+-- A text denotes at most one vector, no two pieces of whose components have one name, and has no
+-- refusal where that vector is complete.
+use Rattle.std.proofs.Common.{◌≡◌, ℕ, ◌<◌, List, [], ◌∷◌, ◌++◌, length, Option, Some, None, refl, sym, ap, ◌∙◌, subst, arith, ◌≢◌, ◌+◌, ◌≤◌, Bool, true, false, cond, get_or, take, map}
+use Rattle.std.specs.List.{All, filter_map, count_by}
+use Rattle.std.proofs.lemmas.List.{take_all, length-map, get_or-map, take-take}
+use Rattle.std.proofs.lemmas.List.Elements.{All-append, All-head, All-tail}
 use Rattle.std.proofs.lemmas.Option.{slice_get_within, get_or_from_slice_get}
 use Rattle.cvss_grammar.specs.Text.{pieces, name_part, value_part, component}
-use Rattle.cvss_grammar.specs.Version.{Version, read, AreComponentsOf, Denotes, IsComplete, reading}
+use Rattle.cvss_grammar.specs.Version.{Version, read, AreComponentsOf, Denotes, IsComplete, reading, component_of, components_of}
 use Rattle.cvss_grammar.specs.Refusal.{Refusal, UnknownName, BadValue, Repeated, Missing, Spells, piece_at, name_at, FaultAt, IsFirstReason}
 use Rattle.cvss_text.specs.private.Walk.{IsLawful}
-use Rattle.cvss_text.proofs.TextLemmas.{IsPart, name_part-component, value_part-component}
-use Rattle.cvss_text.proofs.LawLemmas.{name_plain, names_differ}
-use Rattle.cvss_text.proofs.ComponentLemmas.{IsHeldAs, held_stands, piece_held}
+use Rattle.cvss_text.proofs.TextLemmas.{IsPart, name_part-component, value_part-component, name_part-read, count_by-none}
+use Rattle.cvss_text.proofs.LawLemmas.{name_plain, names_differ, printed_once}
+use Rattle.cvss_text.proofs.ComponentLemmas.{IsHeldAs, held_stands, piece_held, holds_of_components, components_with}
 use Rattle.cvss_text.proofs.JoinLemmas.{pieces-joined, are_parts}
-use Rattle.cvss_text.proofs.OnceLemmas.{names_apart}
 use Rattle.cvss_text.proofs.WalkLemmas.{value_from, name_from, value_from_piece, held_is_named}
+use Rattle.std.specs.Str.{bytes_eq}
+use Rattle.std.proofs.lemmas.Bool.{false_from_ne_true}
+use Rattle.std.proofs.lemmas.List.Sorted.{sum_by-IsPermutation}
+use Rattle.std.proofs.lemmas.List.Sums.{sum_by-cons, sum_by-append, sum_by-take-le, count_by_more_yes}
+use Rattle.std.proofs.lemmas.Slice.Eq.{bytes_eq-Decides}
+
+-- two elements that pass count two
+two_pass : {X : Type 0} (p : X → Bool) (xs : List X) (i j : ℕ) (d : X) → i < j → j < length xs → p (get_or xs i d) ≡ true → p (get_or xs j d) ≡ true → 2 ≤ count_by p xs
+two_pass p xs i j d before within first second =
+    omega (arith, count_by_more_yes p xs i d (omega arith) first, count_by_more_yes p xs j d within second, sum_by-take-le (λ x. cond (p x) 1 0) xs (j + 1), sum_by-take-le (λ x. cond (p x) 1 0) (take j xs) (i + 1), ap (count_by p) (take-take (i + 1) j xs (omega arith)))
+
+cond-le : (b : Bool) → cond b 1 0 ≤ 1
+cond-le true = omega arith
+cond-le false = omega arith
+
+module _ {V K : Type 0} (version : Version V K) (lawful : IsLawful version) (v : V) (kind : K) where
+  -- the text has the metric's name
+  is_named : List ℕ → Bool
+  is_named text = bytes_eq (name_part text) (version.name kind)
+
+  none_named : (kinds : List K) → All (λ other. other ≢ kind) kinds → count_by is_named (map (read version) (filter_map (component_of version v) kinds)) ≡ 0
+  unfolding is_named
+  none_named kinds others =
+      count_by-none is_named _ (holds_of_components version lawful (λ text. is_named text ≡ false) v kinds (λ k d inside value held.
+      let named = name_part-component (version.name (get_or kinds k d)) (read version (version.spelling (get_or kinds k d) value)) (name_plain version lawful (get_or kinds k d)) in
+      false_from_ne_true _ (λ same. others k d inside (names_differ version lawful (get_or kinds k d) kind (sym named ∙ (bytes_eq-Decides _ _).0 same)))))
+
+  at_most_one : (value : version.Value kind) → version.value_of v kind ≡ Some value → count_by is_named (map (read version) (components_of version v)) ≤ 1
+  at_most_one value held =
+      let cut = printed_once version lawful kind in
+      let before = map (read version) (filter_map (component_of version v) cut.before) in
+      let after = map (read version) (filter_map (component_of version v) cut.after) in
+      let here = component (version.name kind) (read version (version.spelling kind value)) in
+      let counted = λ (text : List ℕ). cond {A = ℕ} (is_named text) 1 0 in
+      omega (arith, ap (count_by is_named) (components_with version lawful v kind value cut held), sum_by-append counted before (here ∷ after), sum_by-cons counted here after, cond-le (is_named here), none_named cut.before cut.not_before, none_named cut.after cut.not_after)
+
+  named_passes : (parts : List (List ℕ)) (place : ℕ) → place < length parts → name_at version parts place ≡ version.name kind → is_named (get_or (map (read version) parts) place []) ≡ true
+  unfolding is_named
+  named_passes parts place within named =
+      (bytes_eq-Decides _ _).1 (ap name_part (get_or-map (read version) parts place [] [] within) ∙ (name_part-read version.any_case (piece_at parts place) ∙ named))
+
+  -- two places with one name are one place
+  pub names_apart : (parts : List (List ℕ)) (earlier place : ℕ) → AreComponentsOf version parts v → earlier < place → place < length parts → name_at version parts earlier ≡ version.name kind → name_at version parts place ≡ version.name kind → (value : version.Value kind) → version.value_of v kind ≡ Some value → ⊥
+  names_apart parts earlier place components before within first second value held =
+      let two = two_pass is_named (map (read version) parts) earlier place [] before (omega (arith, length-map parts (read version))) (named_passes parts earlier (omega arith) first) (named_passes parts place within second) in
+      omega (arith, two, at_most_one value held, sum_by-IsPermutation (λ text. cond (is_named text) 1 0) _ _ components.each_once)
 
 -- options that have the same values
 same_options : {A : Type 0} (one other : Option A) → ((value : A) → one ≡ Some value → other ≡ Some value) → ((value : A) → other ≡ Some value → one ≡ Some value) → one ≡ other

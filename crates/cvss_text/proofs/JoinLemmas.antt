@@ -11,15 +11,9 @@ use Rattle.cvss_grammar.specs.Text.{slash, pieces, joined, IsComponent}
 use Rattle.cvss_grammar.specs.Version.{Version, AreComponentsOf}
 use Rattle.cvss_grammar.specs.Refusal.{piece_at}
 use Rattle.cvss_text.specs.private.Walk.{IsLawful}
-use Rattle.cvss_text.proofs.TextLemmas.{is_slash, IsPart, IsPart-read, IsPart-component, none_passes, count_by-cons, foreign_bytes-read, foreign_sorts}
+use Rattle.cvss_text.proofs.TextLemmas.{is_slash, IsPart, IsPart-read, IsPart-component, All-from_count, foreign_bytes-read, foreign_sorts}
 use Rattle.cvss_text.proofs.LawLemmas.{name_plain}
 use Rattle.cvss_text.proofs.ComponentLemmas.{piece_held}
-
-pub All-from_count : (p : ℕ → Bool) (text : List ℕ) → count_by p text ≡ 0 → All (λ byte. p byte ≡ false) text
-All-from_count p [] none = All-nil (λ byte. p byte ≡ false)
-All-from_count p (byte ∷ text) none =
-    let fails = none_passes (p byte) (count_by p text) (sym (count_by-cons p byte text) ∙ none) in
-    All-cons (λ each. p each ≡ false) byte text fails.0 (All-from_count p text fails.1)
 
 -- the pieces of a join are the list that was joined
 uncut : (part : List ℕ) → IsPart part → All (λ byte. is_slash byte ≡ false) part

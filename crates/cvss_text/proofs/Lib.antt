@@ -1,4 +1,3 @@
-mod AnswerLemmas
 pub mod CanonicalLemmas
 pub mod ComponentLemmas
 pub mod DenotesLemmas
@@ -7,14 +6,10 @@ pub mod JoinLemmas
 pub mod LawLemmas
 pub mod MissingLemmas
 pub mod NumeralLemmas
-mod OnceLemmas
 pub mod PieceLemmas
-mod PlainLemmas
 pub mod PrintLemmas
 pub mod PutLemmas
 pub mod RefusalLemmas
-mod SameLemmas
 pub mod SlashedLemmas
 pub mod TextLemmas
-pub mod Utf8Lemmas
 pub mod WalkLemmas

@@ -1,12 +1,13 @@
 -- Texts as they are read, and components cut at their colon.
-use Rattle.std.proofs.Common.{◌≡◌, ℕ, ◌+◌, ◌<◌, Bool, true, false, cond, not, IsTrue, ◌↔◌, eqb, ltb, suc, one-add, List, [], ◌∷◌, ◌++◌, length, drop, refl, sym, ap, ◌∙◌, arith}
+use Rattle.std.proofs.Common.{◌≡◌, ℕ, ◌+◌, ◌<◌, Bool, true, false, cond, IsTrue, ◌↔◌, eqb, ltb, inl, inr, List, [], ◌∷◌, ◌++◌, length, drop, refl, sym, ap, ◌∙◌, arith}
 use Rattle.std.specs.Char.{to_ascii_uppercase}
-use Rattle.std.specs.List.{count_by, position_or_len}
-use Rattle.std.proofs.lemmas.Bool.{eqb-true, false_from_ne_true}
+use Rattle.std.specs.List.{All, count_by, position_or_len}
+use Rattle.std.proofs.lemmas.Bool.{eqb-true, false_from_ne_true, cases_lt}
 use Rattle.std.proofs.lemmas.Bool.Decides.{nat_tests}
-use Rattle.std.proofs.lemmas.List.{map-append, take-map, drop-map, take_at, drop_at, drop-drop}
+use Rattle.std.proofs.lemmas.List.{map-append, take-map, drop-map, take_at, drop_at, drop-drop, length-append, get_or_append_left, get_or_at}
+use Rattle.std.proofs.lemmas.List.Elements.{All-head, All-tail}
 use Rattle.std.proofs.lemmas.List.Folds.{fold-map}
-use Rattle.std.proofs.lemmas.List.Sums.{sum_by-cons, sum_by-append, split_at_first, passes_at_first}
+use Rattle.std.proofs.lemmas.List.Sums.{sum_by-cons, sum_by-append, get_or-le-sum_by, split_at_first, passes_at_first, fails_before_first, position_or_len_is}
 use Rattle.std.specs.Str.{bytes_eq}
 use Rattle.std.proofs.lemmas.Slice.Eq.{bytes_eq-Decides}
 use Rattle.cvss_grammar.specs.Text.{slash, colon, IsComponent, name_part, value_part, component, raised, read_as}
@@ -63,28 +64,32 @@ IsPart-read true piece is = record {
 }
 IsPart-read false piece is = is
 
--- a text without a byte that passes
-pub none_passes : (b : Bool) (n : ℕ) → cond b 1 0 + n ≡ 0 → (b ≡ false) × (n ≡ 0)
-none_passes true n none = absurd (omega arith)
-none_passes false n none = (refl, omega arith)
+-- elements that fail count nothing
+pub count_by-none : {X : Type 0} (p : X → Bool) (xs : List X) → All (λ x. p x ≡ false) xs → count_by p xs ≡ 0
+count_by-none p [] none = refl
+count_by-none p (x ∷ xs) none =
+    omega (arith, sum_by-cons (λ x. cond (p x) 1 0) x xs, ap (λ b. cond {A = ℕ} b 1 0) (All-head (λ x. p x ≡ false) x xs none), count_by-none p xs (All-tail (λ x. p x ≡ false) x xs none))
 
-within_step : (b : Bool) (n count : ℕ) (m : ℕ) → (count ≡ 1 → n < m) → cond b 1 0 + count ≡ 1 → cond (not b) (1 + n) 0 < suc m
-within_step true n count m within one = omega arith
-within_step false n count m within one = omega (arith, within (omega arith))
-
+-- bytes that pass a test, by their count
 module _ (p : ℕ → Bool) where
   pub count_by-cons : (byte : ℕ) (text : List ℕ) → count_by p (byte ∷ text) ≡ cond (p byte) 1 0 + count_by p text
   count_by-cons byte text = sum_by-cons (λ x. cond (p x) 1 0) byte text
 
+  pub All-from_count : (text : List ℕ) → count_by p text ≡ 0 → All (λ byte. p byte ≡ false) text
+  All-from_count text none k d inside =
+      false_from_ne_true _ (λ passes. omega (arith, get_or-le-sum_by (λ x. cond (p x) 1 0) text k d inside, ap (λ b. cond {A = ℕ} b 1 0) passes))
+
   position-none : (text rest : List ℕ) (byte : ℕ) → count_by p text ≡ 0 → p byte ≡ true → position_or_len p (text ++ byte ∷ rest) ≡ length text
-  position-none [] rest byte none passes = rw passes
-  position-none (x ∷ text) rest byte none passes =
-      let fails = none_passes (p x) (count_by p text) (sym (count_by-cons x text) ∙ none) in
-      rw (fails.0, position-none text rest byte fails.1 passes, one-add)
+  position-none text rest byte none passes =
+      position_or_len_is p (text ++ byte ∷ rest) (length text) byte (omega (arith, length-append text (byte ∷ rest)))
+      (λ k below. rw (get_or_append_left text (byte ∷ rest) byte k below) (All-from_count text none k byte below))
+      (λ _. rw (get_or_at text byte rest byte (length text) refl) passes)
 
   pub position-within : (text : List ℕ) → count_by p text ≡ 1 → position_or_len p text < length text
-  position-within [] one = absurd (omega arith)
-  position-within (byte ∷ text) one = within_step (p byte) (position_or_len p text) (count_by p text) (length text) (position-within text) (sym (count_by-cons byte text) ∙ one)
+  position-within text one = elim (cases_lt (position_or_len p text) (length text)) [
+    | inl within ↦ within
+    | inr past ↦ absurd (omega (arith, count_by-none p text (λ k d inside. fails_before_first p text k d (omega arith))))
+  ]
 
 -- a foreign byte is a slash, a colon or beyond ASCII
 one_sort : (byte : ℕ) → cond {A = ℕ} (is_foreign byte) 1 0 ≡ cond {A = ℕ} (is_slash byte) 1 0 + cond {A = ℕ} (is_colon byte) 1 0 + cond {A = ℕ} (ltb 127 byte) 1 0

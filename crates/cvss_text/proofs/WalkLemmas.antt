@@ -12,8 +12,7 @@ use Rattle.cvss_grammar.specs.Text.{colon, pieces, IsComponent, name_part, value
 use Rattle.cvss_grammar.specs.Version.{Version, read, component_of, AreComponentsOf, reading}
 use Rattle.cvss_grammar.specs.Refusal.{Refusal, AreComponentsBefore, BadComponent, UnknownName, BadValue, Repeated, Missing, Spells, piece_at, FaultAt, IsNamedBefore, IsFirstBadPiece, IsFirstFault, IsFirstMissing}
 use Rattle.cvss_text.specs.private.Walk.{IsLawful, IsCut, IsCutFirst, IsReadFirst, IsFirstOfPieces, foreign_bytes, HasNoValue, Puts, Adds, HasRead, IsFaultOf, LacksFirst}
-use Rattle.cvss_text.proofs.TextLemmas.{is_slash, name_part-read, value_part-read, name_part-component, value_part-component, foreign_bytes-read, foreign_sorts, IsPart-component}
-use Rattle.cvss_text.proofs.JoinLemmas.{All-from_count}
+use Rattle.cvss_text.proofs.TextLemmas.{is_slash, All-from_count, name_part-read, value_part-read, name_part-component, value_part-component, foreign_bytes-read, foreign_sorts, IsPart-component}
 use Rattle.cvss_text.proofs.LawLemmas.{name_plain, names_differ}
 use Rattle.cvss_text.proofs.ComponentLemmas.{adds_component, held_stands, piece_held}
 

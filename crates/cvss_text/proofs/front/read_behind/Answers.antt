@@ -1,7 +1,7 @@
 use Rattle.cvss_text.specs.declared.walk.Fault.TheVariants.{InvalidComponent}
 use Rattle.cvss_text.specs.private.Walk.{reason_of}
 use Rattle.cvss_text.proofs.FrontLemmas.{IsAnswerBehind-refused, front_fault_first, IsUtf8-front}
-use Rattle.cvss_text.proofs.Utf8Lemmas.{IsUtf8-bad_piece}
+use Rattle.cvss_text.proofs.PieceLemmas.{IsUtf8-bad_piece}
 use Rattle.cvss_text.proofs.front.read_behind.Goals as goal
 
 pub returns-in-Some : goal.returns-in-Some

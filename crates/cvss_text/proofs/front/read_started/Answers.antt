@@ -2,7 +2,7 @@ use Rattle.cvss_grammar.specs.Refusal.{IsReasonBehind}
 use Rattle.cvss_grammar.specs.Text.{pieces}
 use Rattle.cvss_grammar.specs.Version.{IsSupported}
 use Rattle.cvss_text.specs.private.Pieces.{pieces_left}
-use Rattle.cvss_text.proofs.AnswerLemmas.{IsAnswered-read}
+use Rattle.cvss_text.proofs.FrontLemmas.{IsAnswered-read}
 use Rattle.cvss_text.proofs.FrontLemmas.{fronts, begun_behind, IsAnswerBehind-from, IsUtf8-behind}
 use Rattle.cvss_text.proofs.front.read_started.Goals as goal
 

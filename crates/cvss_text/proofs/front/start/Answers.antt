@@ -1,4 +1,4 @@
-use Rattle.cvss_text.proofs.Utf8Lemmas.{IsUtf8-name, IsUtf8-value}
+use Rattle.cvss_text.proofs.PieceLemmas.{IsUtf8-name, IsUtf8-value}
 use Rattle.cvss_text.proofs.front.start.Goals as goal
 
 pub returns-then-ne-clause-tellable : goal.returns-then-ne-clause-tellable

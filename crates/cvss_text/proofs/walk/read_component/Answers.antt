@@ -1,5 +1,5 @@
 use Rattle.std.proofs.lemmas.Result.{err_from_is_err_and, on_ok_weaker}
-use Rattle.cvss_text.proofs.Utf8Lemmas.{IsUtf8-value}
+use Rattle.cvss_text.proofs.PieceLemmas.{IsUtf8-value}
 use Rattle.cvss_text.proofs.WalkLemmas.{IsComponent-read}
 use Rattle.cvss_text.proofs.walk.read_component.Goals as goal
 
