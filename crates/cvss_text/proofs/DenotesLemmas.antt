@@ -3,7 +3,7 @@
 use Rattle.std.proofs.Common.{◌≡◌, ℕ, ◌<◌, List, [], ◌∷◌, ◌++◌, length, Option, Some, None, refl, sym, ap, ◌∙◌, subst, arith, ◌≢◌, ◌+◌, ◌≤◌, Bool, true, false, cond, get_or, take, map}
 use Rattle.std.specs.List.{All, filter_map, count_by}
 use Rattle.std.proofs.lemmas.List.{take_all, length-map, get_or-map, take-take}
-use Rattle.std.proofs.lemmas.List.Elements.{All-append, All-head, All-tail}
+use Rattle.std.proofs.lemmas.List.Elements.{All-append}
 use Rattle.std.proofs.lemmas.Option.{slice_get_within, get_or_from_slice_get}
 use Rattle.cvss_grammar.specs.Text.{pieces, name_part, value_part, component}
 use Rattle.cvss_grammar.specs.Version.{Version, read, AreComponentsOf, Denotes, IsComplete, reading, component_of, components_of}

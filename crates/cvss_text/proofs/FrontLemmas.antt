@@ -5,7 +5,7 @@ use Rattle.std.specs.List.{All, Contains}
 use Rattle.std.specs.Result.{IsErrAnd}
 use Rattle.std.specs.Str.{IsUtf8}
 use Rattle.std.proofs.lemmas.List.{take-append-drop, take_at, drop_at, get_or-map, get_or-take}
-use Rattle.std.proofs.lemmas.List.Elements.{All-append, All-nil, All-cons, All-head, All-tail}
+use Rattle.std.proofs.lemmas.List.Elements.{All-append, All-nil, All-cons}
 use Rattle.std.proofs.lemmas.List.Splits.{join_with_byte-slice_split}
 use Rattle.cvss_text.specs.declared.walk.Fault.{Fault}
 use Rattle.cvss_grammar.specs.Text.{slash, pieces, joined, value_part, IsComponent}
@@ -185,12 +185,8 @@ module _ {V K : Type 0} (version : Version V K) (lawful : IsLawful version) (fro
   IsAnswerBehind-refused fault first tellable =
       IsAnswerBehind-from (Err fault) (IsAnswered-refused version lawful (IsSupported version) 1 text (IsReasonBehind version (pieces text)) fronts fault first) tellable
 
-module _ (text piece : List ℕ) (parts : List (List ℕ)) (cut : pieces text ≡ piece ∷ parts) where
-  pub IsUtf8-front : IsUtf8 text → IsUtf8 piece
-  IsUtf8-front is = All-head IsUtf8 piece parts (subst (All IsUtf8) cut (IsUtf8-pieces text is))
-
-  pub IsUtf8-behind : IsUtf8 text → All IsUtf8 parts
-  IsUtf8-behind is = All-tail IsUtf8 piece parts (subst (All IsUtf8) cut (IsUtf8-pieces text is))
+pub IsUtf8-cut : (text piece : List ℕ) (parts : List (List ℕ)) → pieces text ≡ piece ∷ parts → IsUtf8 text → All IsUtf8 (piece ∷ parts)
+IsUtf8-cut text piece parts cut is = subst (All IsUtf8) cut (IsUtf8-pieces text is)
 
 module _ {V K : Type 0} (version : Version V K) (text piece : List ℕ) (parts : List (List ℕ)) (cut : pieces text ≡ piece ∷ parts) where
   -- a fault of the first piece is a first refusal

@@ -10,10 +10,10 @@ use Rattle.std.proofs.lemmas.List.Sorted.{IsPermutation-refl}
 use Rattle.std.specs.Str.{IsUtf8}
 use Rattle.cvss_grammar.specs.Text.{colon, pieces, IsComponent, name_part, value_part, component}
 use Rattle.cvss_grammar.specs.Version.{Version, read, component_of, AreComponentsOf, reading}
-use Rattle.cvss_grammar.specs.Refusal.{Refusal, AreComponentsBefore, BadComponent, UnknownName, BadValue, Repeated, Missing, Spells, piece_at, FaultAt, IsNamedBefore, IsFirstBadPiece, IsFirstFault, IsFirstMissing}
+use Rattle.cvss_grammar.specs.Refusal.{Refusal, AreComponentsBefore, BadComponent, UnknownName, BadValue, Repeated, Missing, Spells, piece_at, FaultAt, IsNamedBefore, IsFirstBadPiece, IsFirstMissing}
 use Rattle.cvss_text.specs.private.Walk.{IsLawful, IsCut, IsCutFirst, IsReadFirst, IsFirstOfPieces, foreign_bytes, HasNoValue, Puts, Adds, HasRead, IsFaultOf, LacksFirst}
 use Rattle.cvss_text.proofs.TextLemmas.{is_slash, All-from_count, name_part-read, value_part-read, name_part-component, value_part-component, foreign_bytes-read, foreign_sorts, IsPart-component}
-use Rattle.cvss_text.proofs.LawLemmas.{name_plain, names_differ}
+use Rattle.cvss_text.proofs.LawLemmas.{name_plain, names_differ, IsCut_named}
 use Rattle.cvss_text.proofs.ComponentLemmas.{adds_component, held_stands, piece_held}
 
 -- the value that is there
@@ -92,15 +92,10 @@ module _ {V K : Type 0} (version : Version V K) (lawful : IsLawful version) wher
   IsCutFirst-behind text rest value kind behind is found =
       let name = name_part text in
       let plain : foreign_bytes name ≡ 0 = sym (foreign_bytes-read version.any_case name) ∙ (ap foreign_bytes (sym is.named) ∙ name_plain version lawful kind) in
-      let same_name : name_part (component name value) ≡ name = name_part-component name value plain in
       record {
         piece = component name value;
         first = ap pieces is.cut ∙ pieces-behind name rest value behind plain found;
-        is = record {
-          named = is.named ∙ ap (read version) (sym same_name);
-          value_is = sym (value_part-component name value plain);
-          cut = ap (λ each. component each value) (sym same_name);
-        };
+        is = IsCut_named version lawful (component name value) name value kind refl is.named;
       }
 
   -- a piece that was read has one colon, since no name and no value has one
@@ -130,14 +125,6 @@ module _ {V K : Type 0} (version : Version V K) (lawful : IsLawful version) wher
           faultless = record { none = λ earlier reason below. below_more (λ each. (fault : Refusal K) → FaultAt version parts each fault → ⊥) place (λ each inside fault. before.faultless.none each fault inside) (no_fault_at old parts place (omega arith) before.components new added) earlier below reason };
         }
 
-    pub IsFirstFault-at : (v : V) (reason : Refusal K) → IsFaultOf version v piece reason → HasRead version parts place v → IsFirstFault version parts reason
-    IsFirstFault-at v reason fault before = record { place = place; within = within; fault = fault_at v parts place (omega arith) before.components reason (subst (λ text. IsFaultOf version v text reason) here fault); earlier = before.faultless }
-
-  of_fault : (parts : List (List ℕ)) (reason : Refusal K) → AreComponentsBefore parts (length parts) → IsFirstFault version parts reason → IsFirstOfPieces version parts reason
-  of_fault parts (BadComponent piece) components first = absurd first.fault
-  of_fault parts (Missing kind) components first = absurd first.fault
-  of_fault parts _ components first = (components, first)
-
   pub HasReadTo-start : (parts : List (List ℕ)) (v : V) → HasNoValue version v → HasReadTo version parts parts v
   HasReadTo-start parts v empty = record { place = 0; within = omega arith; left_is = refl; components = record { each = λ earlier below. absurd (omega arith) }; read = HasRead-none parts v empty }
 
@@ -145,11 +132,8 @@ module _ {V K : Type 0} (version : Version V K) (lawful : IsLawful version) wher
     to_end : to.place ≡ length parts
     to_end = omega (arith, to.within, ap length (sym to.left_is ∙ none), length-drop to.place parts)
 
-    pub HasReadTo-all : HasRead version parts (length parts) v
-    HasReadTo-all = subst (λ place. HasRead version parts place v) to_end to.read
-
-    pub HasReadTo-components : AreComponentsBefore parts (length parts)
-    HasReadTo-components = subst (AreComponentsBefore parts) to_end to.components
+    pub HasReadTo-all : HasRead version parts (length parts) v × AreComponentsBefore parts (length parts)
+    HasReadTo-all = subst (λ place. HasRead version parts place v × AreComponentsBefore parts place) to_end (to.read, to.components)
 
   -- the first piece of what is left stands at the place up to which is read
   module _ (parts left : List (List ℕ)) (text : List ℕ) (v : V) (cut : left ≡ pieces text) (to : HasReadTo version parts left v) where
@@ -196,7 +180,13 @@ module _ {V K : Type 0} (version : Version V K) (lawful : IsLawful version) wher
     pub IsFirstOfPieces-fault : (reason : Refusal K) → (IsComponent (piece_at (pieces text) 0) → IsFaultOf version v (piece_at (pieces text) 0) reason) → AreComponentsBefore (pieces text) (length (pieces text)) → IsFirstOfPieces version parts reason
     IsFirstOfPieces-fault reason fault components =
         let all = subst (AreComponentsBefore parts) length_here (components_to (length (pieces text)) components) in
-        of_fault parts reason all (IsFirstFault-at parts to.place place_within (piece_at (pieces text) 0) first_at_place v reason (fault (rw first_at_place (all.each to.place place_within))) to.read)
+        let is_fault = subst (λ piece. IsFaultOf version v piece reason) first_at_place (fault (components.each 0 (omega (arith, length-slice_split is_slash text)))) in
+        of_fault reason (fault_at v parts to.place (omega (arith, place_within)) to.read.components reason is_fault) all
+      where
+        of_fault : (reason : Refusal K) → FaultAt version parts to.place reason → AreComponentsBefore parts (length parts) → IsFirstOfPieces version parts reason
+        of_fault (BadComponent piece) none all = absurd none
+        of_fault (Missing kind) none all = absurd none
+        of_fault _ fault all = (all, record { place = to.place; within = place_within; fault = fault; earlier = to.read.faultless })
 
   pub AreComponentsOf-all : (parts : List (List ℕ)) (v : V) → HasRead version parts (length parts) v → AreComponentsOf version parts v
   AreComponentsOf-all parts v all = rw (take_all (length parts) parts (omega arith)) at all.components

@@ -1,6 +1,8 @@
+use Rattle.std.specs.Str.{IsUtf8}
+use Rattle.std.proofs.lemmas.List.Elements.{All-head}
 use Rattle.cvss_text.specs.declared.walk.Fault.TheVariants.{InvalidComponent}
 use Rattle.cvss_text.specs.private.Walk.{reason_of}
-use Rattle.cvss_text.proofs.FrontLemmas.{IsAnswerBehind-refused, front_fault_first, IsUtf8-front}
+use Rattle.cvss_text.proofs.FrontLemmas.{IsAnswerBehind-refused, front_fault_first, IsUtf8-cut}
 use Rattle.cvss_text.proofs.PieceLemmas.{IsUtf8-bad_piece}
 use Rattle.cvss_text.proofs.front.read_behind.Goals as goal
 
@@ -15,4 +17,4 @@ returns-in-None g c =
     let fault = c.in-Err.ensures in
     IsAnswerBehind-refused version g.met.V.Components.lawful g.met.V.Fronted.plain c.args.text.now c.in-Err.fault
     (front_fault_first version c.args.text.now _ _ c.front_of.ensures c.in-None.ensures (reason_of version c.in-Err.fault) fault.refused)
-    (λ is. fault.tellable (IsUtf8-front c.args.text.now _ _ c.front_of.ensures is))
+    (λ is. fault.tellable (All-head IsUtf8 _ _ (IsUtf8-cut c.args.text.now _ _ c.front_of.ensures is)))

@@ -1,9 +1,11 @@
+use Rattle.std.specs.Str.{IsUtf8}
+use Rattle.std.proofs.lemmas.List.Elements.{All-tail}
 use Rattle.cvss_grammar.specs.Refusal.{IsReasonBehind}
 use Rattle.cvss_grammar.specs.Text.{pieces}
 use Rattle.cvss_grammar.specs.Version.{IsSupported}
 use Rattle.cvss_text.specs.private.Pieces.{pieces_left}
 use Rattle.cvss_text.proofs.FrontLemmas.{IsAnswered-read}
-use Rattle.cvss_text.proofs.FrontLemmas.{fronts, begun_behind, IsAnswerBehind-from, IsUtf8-behind}
+use Rattle.cvss_text.proofs.FrontLemmas.{fronts, begun_behind, IsAnswerBehind-from, IsUtf8-cut}
 use Rattle.cvss_text.proofs.front.read_started.Goals as goal
 
 pub returns : goal.returns
@@ -17,4 +19,4 @@ returns g c =
     let all = fronts version lawful plain text in
     let is = IsAnswered-read version lawful (IsSupported version) 1 text (IsReasonBehind version (pieces text)) all begun _ read.read read.front read.complete read.refused in
     IsAnswerBehind-from version lawful plain text c.read_complete.result is
-    (λ utf8. read.tellable (IsUtf8-behind text _ _ c.requires.cut utf8))
+    (λ utf8. read.tellable (All-tail IsUtf8 _ _ (IsUtf8-cut text _ _ c.requires.cut utf8)))
