@@ -3,6 +3,6 @@ mod JsonLemmas
 mod LawLemmas
 mod OneRefusalLemmas
 mod ReadLemmas
-mod RouteLemmas
+pub mod RouteLemmas
 mod SightLemmas
 mod ToldLemmas

@@ -1,12 +1,12 @@
 -- A version's error tells of all metrics what it tells of that version's.
-use Rattle.std.proofs.Common.{◌≡◌, inl, inr, Some, Option, IfSome, refl, subst, ◌∙◌}
-use Rattle.cvss_grammar.specs.Refusal.{Refusal, BadComponent, WrongPrefix, WrongVersion, UnknownName, BadValue, Repeated, Missing, carries_text}
+use Rattle.std.proofs.Common.{◌≡◌, inl, inr, Some, Option, IfSome, refl, subst, ◌∙◌, rules}
+use Rattle.cvss_grammar.specs.Refusal.{Refusal, BadComponent, carries_text}
 use Rattle.cvss_name.specs.Told.{Tells, reason_told}
 use Rattle.cvss_name.specs.V2Types.{v2_reason}
 use Rattle.cvss_name.specs.V3Types.{v3_reason}
 use Rattle.cvss_name.specs.V4Types.{v4_reason}
 use Rattle.cvss_name.specs.declared.error.Error.{Error}
-use Rattle.cvss_name.specs.declared.error.Error.TheVariants.{InvalidComponent, InvalidPrefix, UnsupportedVersion, InvalidMetricV2, DuplicateMetricV2, MissingMandatoryMetricV2, InvalidMetricV3, DuplicateMetricV3, InvalidMetricV4, DuplicateMetricV4, MissingMandatoryMetricV4, UnknownMetric}
+use Rattle.cvss_name.specs.declared.error.Error.TheVariants.{InvalidComponent}
 use Rattle.cvss.specs.Dispatch.{wrapped, cvss_reason}
 use Rattle.cvss.specs.declared.metric_type.MetricType.{MetricType}
 use Rattle.cvss.specs.declared.metric_type.MetricType.TheVariants.{V2, V3, V4}
@@ -17,41 +17,19 @@ Wraps wrap own = (error : Error) → IfSome (reason_told own error) (λ reason. 
 
 pub v2_wraps : Wraps V2 v2_reason
 v2_wraps (InvalidComponent component) = refl
-v2_wraps (InvalidPrefix prefix) = refl
-v2_wraps (UnsupportedVersion version) = refl
-v2_wraps (UnknownMetric name) = refl
-v2_wraps (InvalidMetricV2 kind value) = refl
-v2_wraps (DuplicateMetricV2 kind) = refl
-v2_wraps (MissingMandatoryMetricV2 kind) = refl
-v2_wraps _ = tt
+v2_wraps _ = search rules
 
 pub v3_wraps : Wraps V3 v3_reason
 v3_wraps (InvalidComponent component) = refl
-v3_wraps (InvalidPrefix prefix) = refl
-v3_wraps (UnsupportedVersion version) = refl
-v3_wraps (UnknownMetric name) = refl
-v3_wraps (InvalidMetricV3 kind value) = refl
-v3_wraps (DuplicateMetricV3 kind) = refl
-v3_wraps _ = tt
+v3_wraps _ = search rules
 
 pub v4_wraps : Wraps V4 v4_reason
 v4_wraps (InvalidComponent component) = refl
-v4_wraps (InvalidPrefix prefix) = refl
-v4_wraps (UnsupportedVersion version) = refl
-v4_wraps (UnknownMetric name) = refl
-v4_wraps (InvalidMetricV4 kind value) = refl
-v4_wraps (DuplicateMetricV4 kind) = refl
-v4_wraps (MissingMandatoryMetricV4 kind) = refl
-v4_wraps _ = tt
+v4_wraps _ = search rules
 
 carries-wrapped : {K : Type 0} (wrap : K → MetricType) (reason : Refusal K) → carries_text (wrapped wrap reason) ≡ carries_text reason
 carries-wrapped wrap (BadComponent piece) = refl
-carries-wrapped wrap (WrongPrefix prefix) = refl
-carries-wrapped wrap (WrongVersion told) = refl
-carries-wrapped wrap (UnknownName name) = refl
-carries-wrapped wrap (BadValue kind value) = refl
-carries-wrapped wrap (Repeated kind) = refl
-carries-wrapped wrap (Missing kind) = refl
+carries-wrapped wrap _ = refl
 
 module _ {K : Type 0} (wrap : K → MetricType) (own : Error → Option (Refusal K)) (wraps : Wraps wrap own) where
   pub tells_wrapped : (reason : Refusal K) (error : Error) → Tells own reason error → Tells cvss_reason (wrapped wrap reason) error

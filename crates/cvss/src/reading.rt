@@ -31,8 +31,8 @@ pub(crate) enum ReadFault<'a> {
     V2(Fault<'a, v2::MetricType>),
     V3(Fault<'a, v3::MetricType>),
     V4(Fault<'a, v4::MetricType>),
-    /// No rules apply.
-    None(NoVersion<'a>),
+    /// No version is told, so no rules apply.
+    Untold(NoVersion<'a>),
 }
 
 /// The vector that a text denotes, or the first reason why there is none.
@@ -44,7 +44,7 @@ pub(crate) fn read(text: &[u8]) -> Result<Cvss, ReadFault<'_>>
         Route::V30(left) => read_v30(text, left),
         Route::V31(left) => read_v31(text, left),
         Route::V40(left) => read_v40(text, left),
-        Route::None(fault) => Err(ReadFault::None(fault)),
+        Route::Untold(fault) => Err(ReadFault::Untold(fault)),
     }
 }
 
@@ -108,11 +108,11 @@ pub(crate) fn error_of(alloc: Global, fault: ReadFault<'_>) -> Error
         ReadFault::V2(fault) => refusing::error_of::<v2::Vector>(alloc, fault),
         ReadFault::V3(fault) => refusing::error_of::<v3::Vector>(alloc, fault),
         ReadFault::V4(fault) => refusing::error_of::<v4::Vector>(alloc, fault),
-        ReadFault::None(fault) => no_version_error_of(alloc, fault),
+        ReadFault::Untold(fault) => no_version_error_of(alloc, fault),
     }
 }
 
-/// The same where no version is told.
+/// The error of a text that tells no version, or that there is no memory for the text that it names.
 fn no_version_error_of(alloc: Global, fault: NoVersion<'_>) -> Error
     requires { IsTellable fault }
     ensures { Tells cvss_reason (untold (why_of fault.entry)) result }

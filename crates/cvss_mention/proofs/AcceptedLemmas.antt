@@ -1,6 +1,6 @@
 -- What is accepted as a vector is whole.
-use Rattle.std.proofs.Common.{◌≡◌, ◌≢◌, ℕ, zero, suc, ◌≤◌, true, rules, List, [], ◌∷◌, ◌++◌, codes, length, refl, sym, ap, ◌∙◌, subst, arith, lit<}
-use Rattle.std.specs.List.{All, Contains}
+use Rattle.std.proofs.Common.{◌≡◌, ℕ, ◌≤◌, true, rules, List, [], ◌∷◌, ◌++◌, codes, length, refl, sym, ap, ◌∙◌, subst, arith}
+use Rattle.std.specs.List.{All}
 use Rattle.std.proofs.lemmas.List.Elements.{All-from_get_or}
 use Rattle.cvss.specs.Dispatch.{DenotesCvss, DenotesV2, DenotesV3, DenotesV4}
 use Rattle.cvss.specs.Text.{component, joined, slash}
@@ -14,8 +14,7 @@ use Rattle.cvss_name.specs.declared.v3.MetricType.{MetricType as KindV3}
 use Rattle.cvss_name.specs.declared.v3.MetricType.TheVariants as kind_v3
 use Rattle.cvss_name.specs.declared.v4.MetricType.{MetricType as KindV4}
 use Rattle.cvss_name.specs.declared.v4.MetricType.TheVariants as kind_v4
-use Rattle.cvss_text.proofs.ComponentLemmas.{held_stands, piece_held}
-use Rattle.cvss_text.proofs.WalkLemmas.{value_from}
+use Rattle.cvss_text.proofs.ComponentLemmas.{piece_held}
 use Rattle.cvss_text.specs.private.Walk.{IsLawful}
 use Rattle.cvss_v2.specs.Vector.{v2}
 use Rattle.cvss_v2.specs.private.VectorLaws.{v2_is_lawful}
@@ -26,6 +25,7 @@ use Rattle.cvss_v3.specs.declared.vector.Vector as vector_v3
 use Rattle.cvss_v4.specs.Vector.{v4}
 use Rattle.cvss_v4.specs.private.VectorLaws.{v4_is_lawful}
 use Rattle.cvss_v4.specs.declared.vector.Vector as vector_v4
+use Rattle.cvss.proofs.RouteLemmas.{only_one, v2_parts, v3_parts, v4_parts}
 use Rattle.cvss_mention.specs.Mentions.{IsAccepted, mentions_of}
 use Rattle.cvss_mention.specs.laws.Whole.{IsMentionedBetween, IsWhole}
 use Rattle.cvss_mention.proofs.PlainLemmas.{IsPlain, IsPlain-from, IsPlain-joined, IsPlain-read, IsWhole-behind, IsWhole-plain, is_plain}
@@ -63,10 +63,8 @@ plain_parts version lawful plain v parts components some =
 whole_v2 : (text : List ℕ) (vector : vector_v2.Vector) → DenotesV2 text vector → IsWhole text
 whole_v2 text vector denotes =
     let parts = denotes.denoted.parts in
-    let av = value_from (v2.value_of vector kind_v2.AV) (denotes.complete.present kind_v2.AV (0, lit< tt, refl)) in
-    let stands = held_stands v2 v2_is_lawful vector parts kind_v2.AV av.0 denotes.denoted.components av.1 in
     subst IsWhole (sym denotes.denoted.text_is)
-    (IsWhole-plain (joined parts) (plain_parts v2 v2_is_lawful plain_v2 vector parts denotes.denoted.components (omega (arith, stands.within))))
+    (IsWhole-plain (joined parts) (plain_parts v2 v2_is_lawful plain_v2 vector parts denotes.denoted.components (omega (arith, v2_parts text vector denotes))))
 
 -- a piece before others
 joined_first : (piece : List ℕ) (parts : List (List ℕ)) → 1 ≤ length parts → joined (piece ∷ parts) ≡ piece ++ slash ∷ joined parts
@@ -79,35 +77,28 @@ whole_behind : (text piece : List ℕ) (front parts : List (List ℕ)) → ((res
 whole_behind text piece front parts whole is front_is some plain =
     subst IsWhole (sym (is ∙ ap (λ first. joined (first ++ parts)) front_is ∙ joined_first piece parts some)) (whole (joined parts) plain)
 
-whole_v3 : (text piece : List ℕ) (minor : ℕ) (vector : vector_v3.Vector) → DenotesV3 text piece minor vector → piece ≡ version_piece (codes "3." ++ numeral minor)
-    → ((rest : List ℕ) → IsPlain rest → IsWhole (piece ++ slash ∷ rest)) → IsWhole text
-whole_v3 text piece minor vector denotes piece_is whole =
+whole_v3 : (text : List ℕ) (minor : ℕ) (vector : vector_v3.Vector) → DenotesV3 text (version_piece (codes "3." ++ numeral minor)) minor vector
+    → ((rest : List ℕ) → IsPlain rest → IsWhole (version_piece (codes "3." ++ numeral minor) ++ slash ∷ rest)) → IsWhole text
+whole_v3 text minor vector denotes whole =
     let parts = denotes.denoted.parts in
-    let front : v3.front vector ≡ piece ∷ [] = ap (λ n. version_piece (codes "3." ++ numeral n) ∷ []) denotes.version ∙ ap (λ first. first ∷ []) (sym piece_is) in
-    let none : parts ≢ [] = λ none. denotes.more (denotes.denoted.text_is ∙ rw (none, denotes.version) (sym piece_is)) in
-    let some = some_parts parts none in
-    whole_behind text piece (v3.front vector) parts whole denotes.denoted.text_is front some
+    let front : v3.front vector ≡ version_piece (codes "3." ++ numeral minor) ∷ [] = ap (λ n. version_piece (codes "3." ++ numeral n) ∷ []) denotes.version in
+    let some = some_parts parts (v3_parts text minor vector denotes) in
+    whole_behind text (version_piece (codes "3." ++ numeral minor)) (v3.front vector) parts whole denotes.denoted.text_is front some
     (plain_parts v3 v3_is_lawful plain_v3 vector parts denotes.denoted.components some)
-
-told_v4 : (told : List ℕ) → Contains v4.supported told → told ≡ codes "4.0"
-told_v4 told (zero, within, is) = sym is
-told_v4 told (suc place, within, is) = absurd (omega (arith, within))
 
 whole_v4 : (text : List ℕ) (vector : vector_v4.Vector) → DenotesV4 text vector → IsWhole text
 whole_v4 text vector denotes =
     let parts = denotes.denoted.parts in
     let supported = denotes.well_formed.supported in
-    let value = value_from (v4.value_of vector kind_v4.AC) (denotes.well_formed.complete.present kind_v4.AC (0, lit< tt, refl)) in
-    let stands = held_stands v4 v4_is_lawful vector parts kind_v4.AC value.0 denotes.denoted.components value.1 in
-    let some : 1 ≤ length parts = omega (arith, stands.within) in
+    let some = some_parts parts (v4_parts text vector denotes) in
     whole_behind text (codes "CVSS:4.0") (v4.front vector) parts (λ rest plain. IsWhole-behind 67 (codes "VSS:4.0") rest refl refl plain)
-    denotes.denoted.text_is (supported.front_is ∙ ap (λ told. version_piece told ∷ []) (told_v4 supported.told supported.supported)) some
+    denotes.denoted.text_is (supported.front_is ∙ ap (λ told. version_piece told ∷ []) (only_one supported.told (codes "4.0") supported.supported)) some
     (plain_parts v4 v4_is_lawful plain_v4 vector parts denotes.denoted.components some)
 
 denoted_whole : (text : List ℕ) (cvss : Cvss) → DenotesCvss text cvss → IsWhole text
 denoted_whole text (CvssV20 vector) denotes = whole_v2 text vector denotes
-denoted_whole text (CvssV30 vector) denotes = whole_v3 text (codes "CVSS:3.0") 0 vector denotes refl (λ rest plain. IsWhole-behind 67 (codes "VSS:3.0") rest refl refl plain)
-denoted_whole text (CvssV31 vector) denotes = whole_v3 text (codes "CVSS:3.1") 1 vector denotes refl (λ rest plain. IsWhole-behind 67 (codes "VSS:3.1") rest refl refl plain)
+denoted_whole text (CvssV30 vector) denotes = whole_v3 text 0 vector denotes (λ rest plain. IsWhole-behind 67 (codes "VSS:3.0") rest refl refl plain)
+denoted_whole text (CvssV31 vector) denotes = whole_v3 text 1 vector denotes (λ rest plain. IsWhole-behind 67 (codes "VSS:3.1") rest refl refl plain)
 denoted_whole text (CvssV40 vector) denotes = whole_v4 text vector denotes
 
 pub accepted_whole : (text : List ℕ) → IsAccepted text → IsWhole text

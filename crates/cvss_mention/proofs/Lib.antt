@@ -1,5 +1,7 @@
 pub mod AcceptedLemmas
+mod EndLemmas
 mod NextLemmas
+mod PartLemmas
 mod PassLemmas
 mod PlaceLemmas
 mod PlainLemmas

@@ -3,7 +3,7 @@ use Rattle.std.proofs.Common.{◌≡◌, ℕ, ◌+◌, ◌≤◌, Bool, true, fa
 use Rattle.std.specs.List.{All, list_all}
 use Rattle.std.proofs.lemmas.List.{length-append, take_at, drop_at}
 use Rattle.std.proofs.lemmas.List.Elements.{All-nil, All-cons}
-use Rattle.cvss_parts.specs.Parts.{begins_part, is_divider, is_vector_byte, less_dividers, onto_first, parts_of}
+use Rattle.cvss_mention.specs.Parts.{begins_part, is_divider, is_vector_byte, less_dividers, onto_first, parts_of}
 use Rattle.cvss_mention.specs.Mentions.{mentions_of, placed_from}
 use Rattle.cvss_mention.specs.laws.Places.{AreInOrder, StandsIn}
 

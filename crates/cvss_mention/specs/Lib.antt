@@ -1,4 +1,5 @@
 pub mod Mentions
 pub mod MentionsLeft
+pub mod Parts
 pub mod laws
 pub mod private

@@ -3,7 +3,7 @@ use Rattle.std.specs.Prelude.{◌≡◌, ℕ, ◌+◌, ◌⊎◌, true, List, []
 use Rattle.cvss.specs.Dispatch.{DenotesCvss}
 use Rattle.cvss.specs.Text.{has, slash}
 use Rattle.cvss.specs.declared.vector.Cvss.{Cvss}
-use Rattle.cvss_parts.specs.Parts.{begins_with_prefix, less_dividers, parts_of}
+use Rattle.cvss_mention.specs.Parts.{begins_with_prefix, less_dividers, parts_of}
 
 -- a mention, and the place of its first byte, counted from 0
 pub record Placed : Type 0 where

@@ -1,7 +1,7 @@
 -- What the iterator over the mentions of a text has still to give.
 use Rattle.std.specs.Prelude.{◌≡◌, ℕ, List, ◌∷◌, ◌++◌, All, drop, Option, None, Some}
 use Rattle.cvss_mention.specs.Mentions.{IsFound, Placed, placed_from}
-use Rattle.cvss_parts.specs.Parts.{parts_of}
+use Rattle.cvss_mention.specs.Parts.{parts_of}
 use Rattle.cvss_mention.specs.declared.mention.Mention.{Mention}
 use Rattle.cvss_mention.specs.declared.mentions.Mentions.{Mentions}
 

@@ -4,7 +4,9 @@
 pub mod laws;
 mod mention;
 mod mentions;
+mod part;
 mod passing;
 
 pub use mention::Mention;
 pub use mentions::Mentions;
+pub use part::{begins_with_prefix, first_part, is_vector_byte, less_dividers};

@@ -6,8 +6,8 @@ ghost use Rattle.cvss.specs.Dispatch.{DenotesCvss};
 ghost use Rattle.cvss.specs.declared.vector.Cvss.{Cvss};
 ghost use Rattle.cvss_mention.specs.Mentions.{IsFound};
 
+use crate::part::begins_with_prefix;
 use cvss::Cvss;
-use cvss_parts::begins_with_prefix;
 
 /// A mention of a vector in a text: bytes that are accepted as a vector, or that were meant as one.
 #[derive(Clone, Copy, Debug)]

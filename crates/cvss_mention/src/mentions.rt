@@ -7,8 +7,8 @@ ghost use Rattle.cvss_mention.specs.MentionsLeft.{IsNext, as_placed, mentions_be
 ghost use Rattle.cvss_mention.specs.private.Passing.{Passes};
 
 use crate::mention::{Mention, is_found};
+use crate::part::{first_part, is_vector_byte, less_dividers};
 use crate::passing::unslashed;
-use cvss_parts::{first_part, is_vector_byte, less_dividers};
 
 /// The mentions of a text that are found, in order. It takes no memory, and looks at each byte a
 /// bounded number of times.
@@ -61,7 +61,7 @@ impl<'a> Mentions<'a> {
         }
     }
 
-    /// The same behind the end of a run, so that a run is passed once.
+    /// As `pass_unslashed`, but behind the end of a run, so that a run is passed once.
     fn pass_behind_run(&mut self)
         ensures { Passes (mentions_left self.old) (mentions_left self.new) }
     {

@@ -4,9 +4,9 @@
 ghost use Rattle.std.specs.Prelude.{◌≡◌, ◌≢◌, ℕ, ◌++◌, ◌<◌, ◌≤◌, false, true, length, slice_index, take, drop};
 ghost use Rattle.cvss.specs.Text.{has, slash};
 ghost use Rattle.cvss_mention.specs.laws.Whole.{is_other, last_byte};
-ghost use Rattle.cvss_parts.specs.Parts.{parts_of};
+ghost use Rattle.cvss_mention.specs.Parts.{parts_of};
 
-use cvss_parts::is_vector_byte;
+use crate::part::is_vector_byte;
 
 /// How many bytes stand before the run that has the first slash; all, where none has one.
 pub(crate) fn unslashed(text: &[u8]) -> usize

@@ -11,7 +11,7 @@ use Rattle.std.proofs.Math.Seq.{split_at}
 use Rattle.cvss_grammar.specs.Version.{version_piece}
 use Rattle.cvss_grammar.specs.Text.{pieces, component, has, colon, slash}
 use Rattle.cvss_text.specs.private.Pieces.{AreParts}
-use Rattle.cvss_text.proofs.Utf8Lemmas.{IsUtf8-pieces}
+use Rattle.cvss_text.proofs.PieceLemmas.{IsUtf8-pieces}
 use Rattle.cvss_route.specs.Route.{Route, route_of, route_of_pieces, route_of_parts}
 
 -- a piece with a name and a value has a colon
@@ -46,7 +46,7 @@ pieces_behind (byte ∷ piece) rest none =
     let apart = or_parts (eqb byte slash) (has slash piece) none in
     slice_split-cons_no (λ each. eqb each slash) byte (piece ++ (slash ∷ rest)) apart.0 ∙ ap (onto_first byte) (pieces_behind piece rest apart.1)
 
--- the same of the piece that tells the version
+-- a text that begins with the piece that tells the version, and a slash
 pub version_first : (text told rest : List ℕ) (left : List (List ℕ)) → text ≡ version_piece told ++ (slash ∷ rest) → has slash told ≡ false → left ≡ pieces rest → pieces text ≡ version_piece told ∷ left
 version_first text told rest left is none left_is = ap pieces is ∙ (pieces_behind (version_piece told) rest none ∙ ap (λ parts. version_piece told ∷ parts) (sym left_is))
 

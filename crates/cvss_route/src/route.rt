@@ -21,8 +21,8 @@ pub enum Route<'a> {
     V30(Pieces<'a>),
     V31(Pieces<'a>),
     V40(Pieces<'a>),
-    /// No rules apply.
-    None(NoVersion<'a>),
+    /// No version is told, so no rules apply.
+    Untold(NoVersion<'a>),
 }
 
 /// Why a text is read by no rules, with the part of the text that is at fault.
@@ -74,11 +74,11 @@ fn route_by_front(text: &[u8]) -> Route<'_>
 {
     let (front, behind) = front_of(text);
     if behind.is_empty() {
-        return Route::None(NoVersion::InvalidComponent(front));
+        return Route::Untold(NoVersion::InvalidComponent(front));
     }
     match parts_of(front) {
         Some((prefix, told)) => route_by(prefix, told, behind),
-        None => Route::None(NoVersion::InvalidComponent(front)),
+        None => Route::Untold(NoVersion::InvalidComponent(front)),
     }
 }
 
@@ -92,7 +92,7 @@ fn route_by<'a>(prefix: &'a [u8], told: &'a [u8], behind: Pieces<'a>) -> Route<'
         return Route::V20;
     }
     if prefix != PREFIX.as_bytes() {
-        return Route::None(NoVersion::InvalidPrefix(prefix));
+        return Route::Untold(NoVersion::InvalidPrefix(prefix));
     }
     route_by_version(told, behind)
 }
@@ -115,5 +115,5 @@ fn route_by_version<'a>(told: &'a [u8], behind: Pieces<'a>) -> Route<'a>
     if told == "3.0".as_bytes() {
         return Route::V30(behind);
     }
-    Route::None(NoVersion::UnsupportedVersion(told))
+    Route::Untold(NoVersion::UnsupportedVersion(told))
 }

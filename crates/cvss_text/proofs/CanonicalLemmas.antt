@@ -1,33 +1,29 @@
 -- A text denotes at most one vector with a front, and a vector's canonical text denotes it.
-use Rattle.std.proofs.Common.{◌≡◌, ℕ, List, [], ◌∷◌, ◌++◌, length, refl, sym, ap, ◌∙◌, subst, eqb, arith}
+use Rattle.std.proofs.Common.{◌≡◌, ℕ, List, [], ◌∷◌, ◌++◌, length, refl, sym, ap, ◌∙◌, subst, arith}
 use Rattle.std.specs.List.{All, count_by}
 use Rattle.std.proofs.lemmas.List.{append_cancel_left, length-append}
-use Rattle.std.proofs.lemmas.List.Elements.{All-from_get_or, All-head, All-weaker}
+use Rattle.std.proofs.lemmas.List.Elements.{All-head}
 use Rattle.std.proofs.lemmas.List.Sorted.{IsPermutation-refl}
-use Rattle.cvss_grammar.specs.Text.{slash, colon, pieces, joined, IsComponent}
+use Rattle.cvss_grammar.specs.Text.{slash, pieces, joined}
 use Rattle.cvss_grammar.specs.Version.{Version, components_of, canonical_text, AreComponentsOf, Denotes}
 use Rattle.cvss_text.specs.private.Walk.{IsLawful}
 use Rattle.cvss_text.proofs.DenotesLemmas.{vectors_same}
-use Rattle.cvss_text.proofs.JoinLemmas.{IsUncut, pieces-joined, piece_is_component, piece_is_uncut}
-
--- a piece that is a component, and has no slash
-record IsPart (piece : List ℕ) : Type 0 where
-  is : IsComponent piece
-  uncut : IsUncut piece
+use Rattle.cvss_text.proofs.TextLemmas.{is_colon, IsPart}
+use Rattle.cvss_text.proofs.JoinLemmas.{pieces-joined, are_parts}
 
 -- a list of parts has a text that is not empty
 not_empty : (part : List ℕ) (parts : List (List ℕ)) → All IsPart (part ∷ parts) → [] ≡ joined (part ∷ parts) → ⊥
 not_empty part parts are same =
-    let cut : ◌≡◌ {A = List (List ℕ)} ([] ∷ []) (part ∷ parts) = ap pieces same ∙ pieces-joined part parts (All-weaker IsPart IsUncut (λ each is. is.uncut) (part ∷ parts) are) in
+    let cut : ◌≡◌ {A = List (List ℕ)} ([] ∷ []) (part ∷ parts) = ap pieces same ∙ pieces-joined (part ∷ parts) (omega arith) are in
     let empty : [] ≡ part = cc in
-    omega (arith, ap (count_by (λ byte. eqb byte colon)) empty, (All-head IsPart part parts are).is.one_colon)
+    omega (arith, ap (count_by is_colon) empty, (All-head IsPart part parts are).one_colon)
 
 joined_same : (xs ys : List (List ℕ)) → All IsPart xs → All IsPart ys → joined xs ≡ joined ys → xs ≡ ys
 joined_same [] [] left right same = refl
 joined_same [] (y ∷ ys) left right same = absurd (not_empty y ys right same)
 joined_same (x ∷ xs) [] left right same = absurd (not_empty x xs left (sym same))
 joined_same (x ∷ xs) (y ∷ ys) left right same =
-    sym (pieces-joined x xs (All-weaker IsPart IsUncut (λ part is. is.uncut) (x ∷ xs) left)) ∙ (ap pieces same ∙ pieces-joined y ys (All-weaker IsPart IsUncut (λ part is. is.uncut) (y ∷ ys) right))
+    sym (pieces-joined (x ∷ xs) (omega arith) left) ∙ (ap pieces same ∙ pieces-joined (y ∷ ys) (omega arith) right)
 
 -- joins with one first piece
 cancel_first : (first : List ℕ) (xs ys : List (List ℕ)) → joined (first ∷ xs) ≡ joined (first ∷ ys) → joined xs ≡ joined ys
@@ -45,16 +41,13 @@ module _ {V K : Type 0} (version : Version V K) (lawful : IsLawful version) wher
   own_components : (v : V) → AreComponentsOf version (components_of version v) v
   own_components v = record { each_once = IsPermutation-refl _ }
 
-  are_parts : (v : V) (parts : List (List ℕ)) → AreComponentsOf version parts v → All IsPart parts
-  are_parts v parts components = All-from_get_or IsPart parts [] (λ place within. record { is = piece_is_component version lawful v parts components place within; uncut = piece_is_uncut version lawful v parts components place within })
-
   pub canonical_text-denotes : (v : V) → Denotes version (canonical_text version v) v
   canonical_text-denotes v = record { parts = components_of version v; text_is = refl; components = own_components v }
 
   pub denoted_once : (v w : V) (text : List ℕ) → version.front v ≡ version.front w → Denotes version text v → Denotes version text w → v ≡ w
   denoted_once v w text front of_v of_w =
       let texts : joined (version.front w ++ of_v.parts) ≡ joined (version.front w ++ of_w.parts) = ap (λ pieces. joined (pieces ++ of_v.parts)) (sym front) ∙ (sym of_v.text_is ∙ of_w.text_is) in
-      let parts : of_v.parts ≡ of_w.parts = joined_same _ _ (are_parts v of_v.parts of_v.components) (are_parts w of_w.parts of_w.components) (cancel_front (version.front w) _ _ texts) in
+      let parts : of_v.parts ≡ of_w.parts = joined_same _ _ (are_parts version lawful v of_v.parts of_v.components) (are_parts version lawful w of_w.parts of_w.components) (cancel_front (version.front w) _ _ texts) in
       vectors_same version lawful v w of_w.parts front (subst (λ each. AreComponentsOf version each v) parts of_v.components) of_w.components
 
   pub canonical_text-same : (v w : V) → version.front v ≡ version.front w → canonical_text version v ≡ canonical_text version w → v ≡ w

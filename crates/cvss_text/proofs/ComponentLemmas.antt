@@ -50,13 +50,17 @@ pub record StandsAt {V K : Type 0} (version : Version V K) (parts : List (List �
   pub within : place < length parts
   pub is : read version (piece_at parts place) ≡ component (version.name kind) (read version (version.spelling kind value))
 
+-- the component of the metric's value, as it is read, is one of which P holds
+abbrev pub HoldsHere : {V K : Type 0} → Version V K → (List ℕ → Type 0) → V → K → Type 0
+HoldsHere version P v kind = (value : version.Value kind) → version.value_of v kind ≡ Some value → P (component (version.name kind) (read version (version.spelling kind value)))
+
 module _ {V K : Type 0} (version : Version V K) (lawful : IsLawful version) where
   -- the components, cut at one metric
-  pub components_cut : (v : V) (kind : K) (cut : IsCutAt version.printed kind) → components_of version v ≡ filter_map (component_of version v) cut.before ++ cons_option (component_of version v kind) (filter_map (component_of version v) cut.after)
+  components_cut : (v : V) (kind : K) (cut : IsCutAt version.printed kind) → components_of version v ≡ filter_map (component_of version v) cut.before ++ cons_option (component_of version v kind) (filter_map (component_of version v) cut.after)
   components_cut v kind cut = ap (filter_map (component_of version v)) cut.is ∙ filter_map-append (component_of version v) cut.before (kind ∷ cut.after)
 
   -- the components, as they are read, cut at a metric that has a value
-  components_with : (v : V) (kind : K) (value : version.Value kind) (cut : IsCutAt version.printed kind) → version.value_of v kind ≡ Some value → map (read version) (components_of version v) ≡ map (read version) (filter_map (component_of version v) cut.before) ++ component (version.name kind) (read version (version.spelling kind value)) ∷ map (read version) (filter_map (component_of version v) cut.after)
+  pub components_with : (v : V) (kind : K) (value : version.Value kind) (cut : IsCutAt version.printed kind) → version.value_of v kind ≡ Some value → map (read version) (components_of version v) ≡ map (read version) (filter_map (component_of version v) cut.before) ++ component (version.name kind) (read version (version.spelling kind value)) ∷ map (read version) (filter_map (component_of version v) cut.after)
   components_with v kind value cut held =
       ap (map (read version)) (components_cut v kind cut) ∙ rw held (map-append (read version) (filter_map (component_of version v) cut.before) (component (version.name kind) (version.spelling kind value) ∷ filter_map (component_of version v) cut.after) ∙ rw (component_read version lawful kind (version.spelling kind value)))
 
@@ -93,16 +97,21 @@ module _ {V K : Type 0} (version : Version V K) (lawful : IsLawful version) wher
       let within : found.0 < length parts = omega (arith, length-map parts (read version), found.1) in
       record { place = found.0; within = within; is = sym (get_or-map (read version) parts found.0 [] text within) ∙ found.2 }
 
-  all_held_cons : (v : V) (kind : K) (rest : List (List ℕ)) (value : Option (version.Value kind)) → version.value_of v kind ≡ value → All (λ text. IsHeldAs version v (read version text)) rest → All (λ text. IsHeldAs version v (read version text)) (cons_option (option_map (component (version.name kind)) (option_map (version.spelling kind) value)) rest)
-  all_held_cons v kind rest None held all = all
-  all_held_cons v kind rest (Some value) held all = All-cons (λ text. IsHeldAs version v (read version text)) (component (version.name kind) (version.spelling kind value)) rest (record { kind = kind; value = value; held = held; is = component_read version lawful kind (version.spelling kind value) }) all
+  -- what holds so of each metric, holds of all components
+  holds_with : (P : List ℕ → Type 0) (v : V) (kind : K) (rest : List (List ℕ)) (held : Option (version.Value kind)) → version.value_of v kind ≡ held → HoldsHere version P v kind → All (λ text. P (read version text)) rest → All (λ text. P (read version text)) (cons_option (option_map (component (version.name kind)) (option_map (version.spelling kind) held)) rest)
+  holds_with P v kind rest None is here all = all
+  holds_with P v kind rest (Some value) is here all = All-cons (λ text. P (read version text)) (component (version.name kind) (version.spelling kind value)) rest (rw (component_read version lawful kind (version.spelling kind value)) (here value is)) all
 
-  all_held : (v : V) (kinds : List K) → All (λ text. IsHeldAs version v (read version text)) (filter_map (component_of version v) kinds)
-  all_held v [] = All-nil (λ text. IsHeldAs version v (read version text))
-  all_held v (kind ∷ kinds) = all_held_cons v kind (filter_map (component_of version v) kinds) (version.value_of v kind) refl (all_held v kinds)
+  holds_read : (P : List ℕ → Type 0) (v : V) (kinds : List K) → All (HoldsHere version P v) kinds → All (λ text. P (read version text)) (filter_map (component_of version v) kinds)
+  holds_read P v [] each = All-nil (λ text. P (read version text))
+  holds_read P v (kind ∷ kinds) each = holds_with P v kind (filter_map (component_of version v) kinds) (version.value_of v kind) refl (All-head (HoldsHere version P v) kind kinds each) (holds_read P v kinds (All-tail (HoldsHere version P v) kind kinds each))
+
+  pub holds_of_components : (P : List ℕ → Type 0) (v : V) (kinds : List K) → All (HoldsHere version P v) kinds → All P (map (read version) (filter_map (component_of version v) kinds))
+  holds_of_components P v kinds each = All-map P (read version) (filter_map (component_of version v) kinds) (holds_read P v kinds each)
 
   -- each piece stands for a value of the vector
   pub piece_held : (v : V) (parts : List (List ℕ)) (place : ℕ) → AreComponentsOf version parts v → place < length parts → IsHeldAs version v (read version (piece_at parts place))
   piece_held v parts place components within =
-      let all = All-permutation (IsHeldAs version v) _ _ components.each_once (All-map (IsHeldAs version v) (read version) (components_of version v) (all_held v version.printed)) in
+      let held = holds_of_components (IsHeldAs version v) v version.printed (λ k d inside value held. record { kind = get_or version.printed k d; value = value; held = held; is = refl }) in
+      let all = All-permutation (IsHeldAs version v) _ _ components.each_once held in
       subst (IsHeldAs version v) (get_or-map (read version) parts place [] (read version []) within) (All-get_or (IsHeldAs version v) (map (read version) parts) place (read version []) (omega (arith, length-map parts (read version))) all)

@@ -1,84 +1,139 @@
--- Texts behind a version piece: what a reader of them has read, and why it refuses.
-use Rattle.std.proofs.Common.{◌≡◌, ℕ, ◌+◌, ◌<◌, zero, suc, List, [], ◌∷◌, ◌++◌, length, get_or, codes, Result, Ok, Err, IfOk, IfErr, refl, subst, sym, ap, ◌∙◌, arith}
+-- What a reader of a whole text answers, whether a version piece stands before the components or not;
+-- and texts behind a version piece.
+use Rattle.std.proofs.Common.{◌≡◌, ℕ, List, [], ◌++◌, length, take, drop, Result, Ok, Err, IfOk, IfErr, OnOk, sym, ap, ◌∙◌, subst, zero, suc, ◌∷◌, get_or, codes, refl, arith}
 use Rattle.std.specs.List.{All, Contains}
 use Rattle.std.specs.Result.{IsErrAnd}
-use Rattle.std.proofs.lemmas.List.{get_or-map}
 use Rattle.std.specs.Str.{IsUtf8}
-use Rattle.std.proofs.lemmas.List.Elements.{All-nil, All-cons, All-head, All-tail, All-from_get_or}
+use Rattle.std.proofs.lemmas.List.{take-append-drop, take_at, drop_at, get_or-map, get_or-take}
+use Rattle.std.proofs.lemmas.List.Elements.{All-append, All-nil, All-cons}
 use Rattle.std.proofs.lemmas.List.Splits.{join_with_byte-slice_split}
-use Rattle.std.proofs.lemmas.Str.{IsUtf8-from_ascii}
 use Rattle.cvss_text.specs.declared.walk.Fault.{Fault}
-use Rattle.cvss_grammar.specs.Text.{slash, pieces, joined, name_part, value_part, IsComponent}
-use Rattle.cvss_grammar.specs.Version.{Version, version_piece, Denotes, IsComplete, IsWellFormed, AreComponentsOf}
-use Rattle.cvss_grammar.specs.Refusal.{Refusal, BadComponent, WrongPrefix, WrongVersion, UnknownName, BadValue, Repeated, Missing, AreComponentsBefore, IsFirstBadPiece, piece_at, IsReasonBehind, IsFirstRefusalBehind, TellsVersion}
-use Rattle.cvss_text.specs.private.Walk.{IsLawful, IsLawfulFront, IsReadBehind, IsAnswerBehind, IsFrontFault, IsStarted, IsFirstOfPieces, HasRead, IsTellable, foreign_bytes, reason_of}
-use Rattle.cvss_text.proofs.AnswerLemmas as answer
-use Rattle.cvss_text.proofs.CanonicalLemmas.{denoted_once}
-use Rattle.cvss_text.proofs.DenotesLemmas.{vectors_same, no_reason}
-use Rattle.cvss_text.proofs.JoinLemmas.{IsUncut, IsUtf8-denoting, none_beyond, pieces-joined, piece_is_component, piece_is_uncut}
-use Rattle.cvss_text.proofs.RefusalLemmas.{IsSortFirst, bad_piece, later, sort_first, reasons_behind_same, refusals_same}
-use Rattle.cvss_text.proofs.TextLemmas.{IsComponent-component, beyond-component, slashes-component, name_part-component, value_part-component}
-use Rattle.cvss_text.proofs.Utf8Lemmas.{IsUtf8-pieces}
+use Rattle.cvss_grammar.specs.Text.{slash, pieces, joined, value_part, IsComponent}
+use Rattle.cvss_grammar.specs.Version.{Version, Denotes, IsComplete, AreComponentsOf, version_piece, IsSupported}
+use Rattle.cvss_grammar.specs.Refusal.{Refusal, BadComponent, BadPiecesFirst, WrongPrefix, WrongVersion, AreComponentsBefore, IsFirstBadPiece, piece_at, IsReasonBehind, IsFirstRefusalBehind, TellsVersion}
+use Rattle.cvss_text.specs.private.Walk.{IsLawful, IsFirstOfPieces, HasRead, reason_of, IsLawfulFront, IsAnswerBehind, IsFrontFault, IsStarted, IsTellable, foreign_bytes}
+use Rattle.cvss_text.proofs.DenotesLemmas.{vectors_same, pieces_of_complete, no_reason, pieces_of_denoted}
+use Rattle.cvss_text.proofs.JoinLemmas.{are_parts, IsUtf8-parts}
+use Rattle.cvss_text.proofs.RefusalLemmas.{refusals_same, reasons_behind_same}
+use Rattle.cvss_text.proofs.TextLemmas.{IsPart, IsPart-component, name_part-component, value_part-component}
 use Rattle.cvss_text.proofs.WalkLemmas.{AreComponentsOf-all}
+use Rattle.std.proofs.lemmas.Result.{IfOk-weaker}
+use Rattle.cvss_text.proofs.CanonicalLemmas.{denoted_once}
+use Rattle.cvss_text.proofs.PieceLemmas.{IsUtf8-pieces}
 
--- the answer is the vector that was read, or else the first refusal
-abbrev pub IsAnswer : {V K : Type 0} → Version V K → List ℕ → Result V (Fault K) → Type 0
-IsAnswer version text = answer.IsAnswer version (IsReadBehind version text) (IsFirstRefusalBehind version text)
+-- the text is a front of this many pieces, as IsFront has it, and the components of a complete vector
+pub record IsText {V K : Type 0} (version : Version V K) (IsFront : V → Type 0) (size : ℕ) (text : List ℕ) (v : V) : Type 0 where
+  pub front : IsFront v
+  pub cut : take size (pieces text) ≡ version.front v
+  pub components : AreComponentsOf version (drop size (pieces text)) v
+  pub complete : IsComplete version v
 
--- a text is a version piece and the components of a vector of that version
-record IsText {V K : Type 0} (version : Version V K) (text : List ℕ) (v : V) : Type 0 where
-  told : List ℕ
-  parts : List (List ℕ)
-  cut : pieces text ≡ version_piece told ∷ parts
-  front_is : version.front v ≡ version_piece told ∷ []
-  supported : Contains version.supported told
-  components : AreComponentsOf version parts v
-  complete : IsComplete version v
+-- how such fronts are; and a text is refused for one reason, and for none where it is such a text
+pub record AreFronts {V K : Type 0} (version : Version V K) (IsFront : V → Type 0) (size : ℕ) (text : List ℕ) (IsReason : Refusal K → Type 0) : Type 0 where
+  pub parts : (v : V) → IsFront v → All IsPart (version.front v)
+  pub sizes : (v : V) → IsFront v → length (version.front v) ≡ size
+  pub one_reason : (one two : Refusal K) → IsReason one → IsReason two → one ≡ two
+  pub no_reason : (v : V) → IsText version IsFront size text v → (reason : Refusal K) → IsReason reason → ⊥
 
-piece_uncut : (told : List ℕ) → foreign_bytes told ≡ 0 → IsUncut (version_piece told)
-piece_uncut told plain = record { no_slash = slashes-component (codes "CVSS") told refl plain }
+-- the front of a text is read, and these pieces are left
+pub record IsBegun {V K : Type 0} (version : Version V K) (IsFront : V → Type 0) (size : ℕ) (text : List ℕ) (IsReason : Refusal K → Type 0) (left : List (List ℕ)) (empty : V) : Type 0 where
+  pub front : (v : V) → version.front v ≡ version.front empty → IsFront v
+  pub taken : take size (pieces text) ≡ version.front empty
+  pub left_is : left ≡ drop size (pieces text)
+  pub reasons : (reason : Refusal K) → IsFirstOfPieces version left reason → BadPiecesFirst IsReason (pieces text) reason
 
-module _ {V K : Type 0} (version : Version V K) (front : IsLawfulFront version) where
-  told_plain : (told : List ℕ) → Contains version.supported told → foreign_bytes told ≡ 0
-  told_plain told (place, within, is) =
+-- what is promised of the answer
+pub record IsAnswered {V K : Type 0} (version : Version V K) (IsFront : V → Type 0) (text : List ℕ) (IsReason : Refusal K → Type 0) (answer : Result V (Fault K)) : Type 0 where
+  pub denoted : IfOk answer (λ v. Denotes version text v)
+  pub formed : IfOk answer (λ v. IsFront v × IsComplete version v)
+  pub accepts : (v : V) → Denotes version text v → IsFront v → IsComplete version v → answer ≡ Ok v
+  pub utf8 : OnOk answer (IsUtf8 text)
+  pub refused : IfErr answer (λ fault. BadPiecesFirst IsReason (pieces text) (reason_of version fault))
+  pub refuses : (reason : Refusal K) → BadPiecesFirst IsReason (pieces text) reason → IsErrAnd answer (λ fault. reason_of version fault ≡ reason)
+
+module _ {V K : Type 0} (version : Version V K) (lawful : IsLawful version) (IsFront : V → Type 0) (size : ℕ) (text : List ℕ) (IsReason : Refusal K → Type 0) (fronts : AreFronts version IsFront size text IsReason) where
+  module _ (v : V) (is : IsText version IsFront size text v) where
+    pieces_are : pieces text ≡ version.front v ++ drop size (pieces text)
+    pieces_are = sym (take-append-drop size (pieces text)) ∙ ap (λ front. front ++ drop size (pieces text)) is.cut
+
+    all_parts : All IsPart (pieces text)
+    all_parts = subst (All IsPart) (sym pieces_are) (All-append IsPart (version.front v) (drop size (pieces text)) (fronts.parts v is.front) (are_parts version lawful v _ is.components))
+
+    utf8 : IsUtf8 text
+    utf8 = subst IsUtf8 (join_with_byte-slice_split slash text) (IsUtf8-parts (pieces text) all_parts)
+
+    denoted : Denotes version text v
+    denoted = record { parts = drop size (pieces text); text_is = sym (join_with_byte-slice_split slash text) ∙ ap joined pieces_are; components = is.components }
+
+    same : (w : V) → IsText version IsFront size text w → v ≡ w
+    same w other = vectors_same version lawful v w (drop size (pieces text)) (sym is.cut ∙ other.cut) is.components other.components
+
+    no_refusal : (reason : Refusal K) → BadPiecesFirst IsReason (pieces text) reason → ⊥
+    no_refusal (BadComponent piece) bad = bad.bad (rw bad.is (record { one_colon = (all_parts bad.place [] bad.within).one_colon }))
+    no_refusal reason (_, reasoned) = fronts.no_reason v is reason reasoned
+
+  text_from : (v : V) → Denotes version text v → IsFront v → IsComplete version v → IsText version IsFront size text v
+  text_from v denotes front complete =
+      let are = pieces_of_complete version lawful v text denotes (fronts.parts v front) complete in
+      record {
+        front = front;
+        cut = ap (take size) are ∙ take_at (version.front v) denotes.parts size (fronts.sizes v front);
+        components = subst (λ list. AreComponentsOf version list v) (sym (ap (drop size) are ∙ drop_at (version.front v) denotes.parts size (fronts.sizes v front))) denotes.components;
+        complete = complete;
+      }
+
+  pub IsAnswered-refused : (fault : Fault K) → BadPiecesFirst IsReason (pieces text) (reason_of version fault) → IsAnswered version IsFront text IsReason (Err fault)
+  IsAnswered-refused fault first = record {
+    denoted = tt;
+    formed = tt;
+    accepts = λ w denotes front complete. absurd (no_refusal w (text_from w denotes front complete) (reason_of version fault) first);
+    utf8 = tt;
+    refused = first;
+    refuses = λ reason other. refusals_same IsReason (pieces text) fronts.one_reason (reason_of version fault) reason first other;
+  }
+
+  pub IsAnswered-read : {left : List (List ℕ)} {empty : V} → IsBegun version IsFront size text IsReason left empty → (answer : Result V (Fault K)) → IfOk answer (λ v. HasRead version left (length left) v) → IfOk answer (λ v. version.front v ≡ version.front empty) → IfOk answer (λ v. IsComplete version v) → IfErr answer (λ fault. IsFirstOfPieces version left (reason_of version fault)) → IsAnswered version IsFront text IsReason answer
+  IsAnswered-read {left = left} begun (Ok v) all front complete refused =
+      let components = AreComponentsOf-all version lawful left v all in
+      let is : IsText version IsFront size text v = record {
+        front = begun.front v front;
+        cut = begun.taken ∙ sym front;
+        components = subst (λ list. AreComponentsOf version list v) begun.left_is components;
+        complete = complete;
+      } in
+      record {
+        denoted = denoted v is;
+        formed = (is.front, complete);
+        accepts = λ w denotes front complete. ap Ok (same v is w (text_from w denotes front complete));
+        utf8 = utf8 v is;
+        refused = tt;
+        refuses = λ reason first. absurd (no_refusal v is reason first);
+      }
+  IsAnswered-read begun (Err fault) all front complete refused = IsAnswered-refused fault (begun.reasons (reason_of version fault) refused)
+
+module _ {V K : Type 0} (version : Version V K) where
+  front_parts : (v : V) (told : List ℕ) → version.front v ≡ version_piece told ∷ [] → foreign_bytes told ≡ 0 → All IsPart (version.front v)
+  front_parts v told front_is plain = subst (All IsPart) (sym front_is) (All-cons IsPart (version_piece told) [] (IsPart-component (codes "CVSS") told refl plain) (All-nil IsPart))
+
+  piece_tells : (told : List ℕ) → Contains version.supported told → TellsVersion version (version_piece told)
+  piece_tells told supported = record {
+    prefix = name_part-component (codes "CVSS") told refl;
+    supported = subst (Contains version.supported) (sym (value_part-component (codes "CVSS") told refl)) supported;
+  }
+
+  told_plain : IsLawfulFront version → (told : List ℕ) → Contains version.supported told → foreign_bytes told ≡ 0
+  told_plain front told (place, within, is) =
       sym (ap foreign_bytes is)
       ∙ (sym (get_or-map foreign_bytes version.supported place told 0 within)
       ∙ (ap (λ list. get_or list place 0) front.plain
       ∙ get_or-map (λ _. 0) version.supported place told 0 within))
 
-  module _ (told : List ℕ) (supported : Contains version.supported told) where
-    front_is_component : IsComponent (version_piece told)
-    front_is_component = IsComponent-component (codes "CVSS") told refl (told_plain told supported)
-
-    front_is_utf8 : IsUtf8 (version_piece told)
-    front_is_utf8 = IsUtf8-from_ascii (version_piece told) (none_beyond (version_piece told) (beyond-component (codes "CVSS") told refl (told_plain told supported)))
-
-    front_tells : TellsVersion version (version_piece told)
-    front_tells = record {
-      prefix = name_part-component (codes "CVSS") told refl;
-      supported = subst (Contains version.supported) (sym (value_part-component (codes "CVSS") told refl)) supported;
-    }
-
 module _ {V K : Type 0} (version : Version V K) (lawful : IsLawful version) (front : IsLawfulFront version) (text : List ℕ) where
-  text_read : (v : V) → IsReadBehind version text v → IsText version text v
-  text_read v is = record {
-    told = is.told;
-    parts = is.parts;
-    cut = is.cut;
-    front_is = is.front_is;
-    supported = is.supported;
-    components = AreComponentsOf-all version lawful is.parts v is.all;
-    complete = is.complete;
-  }
-
   -- the pieces of a text that denotes a vector
   pub pieces_denoted_behind : (v : V) (denotes : Denotes version text v) (told : List ℕ) → version.front v ≡ version_piece told ∷ [] → foreign_bytes told ≡ 0 → pieces text ≡ version_piece told ∷ denotes.parts
   pieces_denoted_behind v denotes told front_is plain =
-      let uncut = All-cons IsUncut (version_piece told) denotes.parts (piece_uncut told plain)
-      (All-from_get_or IsUncut denotes.parts [] (piece_is_uncut version lawful v denotes.parts denotes.components)) in
-      let text_is : text ≡ joined (version_piece told ∷ denotes.parts) =
-      denotes.text_is ∙ ap (λ pieces. joined (pieces ++ denotes.parts)) front_is in
-      ap pieces text_is ∙ pieces-joined (version_piece told) denotes.parts uncut
+      pieces_of_denoted version lawful v text denotes (front_parts version v told front_is plain) (rw front_is (omega arith))
+      ∙ ap (λ front. front ++ denotes.parts) front_is
 
   -- vectors that one text denotes have one front, and are one
   pub fronts_same : (v w : V) → Denotes version text v → Denotes version text w → version.front v ≡ version.front w
@@ -94,159 +149,87 @@ module _ {V K : Type 0} (version : Version V K) (lawful : IsLawful version) (fro
   pub denoted_once_behind : (v w : V) → Denotes version text v → Denotes version text w → v ≡ w
   denoted_once_behind v w of_v of_w = denoted_once version lawful v w text (fronts_same v w of_v of_w) of_v of_w
 
-  text_denoted : (v : V) → Denotes version text v → IsWellFormed version v → IsText version text v
-  text_denoted v denotes formed =
-      let told = formed.supported.told in
-      record {
-        told = told;
-        parts = denotes.parts;
-        cut = pieces_denoted_behind v denotes told formed.supported.front_is (told_plain version front told formed.supported.supported);
-        front_is = formed.supported.front_is;
-        supported = formed.supported.supported;
-        components = denotes.components;
-        complete = formed.complete;
-      }
+  -- a text that is read has no reason to be refused
+  no_reason_behind : (v : V) → IsText version (IsSupported version) 1 text v → (reason : Refusal K) → IsReasonBehind version (pieces text) reason → ⊥
+  no_reason_behind v is =
+      let supported = is.front in
+      let first : version_piece supported.told ≡ piece_at (pieces text) 0 = sym (ap (λ list. piece_at list 0) (is.cut ∙ supported.front_is)) ∙ get_or-take 1 (pieces text) 0 [] (omega arith) in
+      let tells = subst (TellsVersion version) first (piece_tells version supported.told supported.supported) in
+      elim [
+        | WrongPrefix prefix ↦ λ wrong. wrong.wrong (wrong.is ∙ tells.prefix)
+        | WrongVersion told ↦ λ wrong. wrong.wrong (subst (Contains version.supported) (sym wrong.is) tells.supported)
+        | reason ↦ λ behind. no_reason version lawful v (drop 1 (pieces text)) is.components is.complete reason behind.1
+      ]
 
-  -- one text has one vector
-  texts_same : (v w : V) → IsText version text v → IsText version text w → v ≡ w
-  texts_same v w of_v of_w =
-      let both : version_piece of_v.told ∷ of_v.parts ≡ version_piece of_w.told ∷ of_w.parts = sym of_v.cut ∙ of_w.cut in
-      let parts : of_v.parts ≡ of_w.parts = cc in
-      let fronts : version.front v ≡ version.front w = of_v.front_is ∙ (let first : version_piece of_v.told ≡ version_piece of_w.told = cc in ap (λ piece. piece ∷ []) first) ∙ sym of_w.front_is in
-      vectors_same version lawful v w of_w.parts fronts (subst (λ list. AreComponentsOf version list v) parts of_v.components) of_w.components
-
-  is_component_at : (v : V) (is : IsText version text v) (place : ℕ) → place < length (version_piece is.told ∷ is.parts) → IsComponent (get_or (version_piece is.told ∷ is.parts) place [])
-  is_component_at v is zero within = front_is_component version front is.told is.supported
-  is_component_at v is (suc place) within = piece_is_component version lawful v is.parts is.components place (omega arith)
-
-  -- and no reason to be refused
-  no_reason_behind : (v : V) (is : IsText version text v) → (reason : Refusal K) → IsReasonBehind version (version_piece is.told ∷ is.parts) reason → ⊥
-  no_reason_behind v is (WrongPrefix prefix) wrong = wrong.wrong (wrong.is ∙ (front_tells version front is.told is.supported).prefix)
-  no_reason_behind v is (WrongVersion told) wrong = wrong.wrong (subst (Contains version.supported) (sym wrong.is) (front_tells version front is.told is.supported).supported)
-  no_reason_behind v is (BadComponent piece) (_, first) = no_reason version lawful v is.parts is.components is.complete (BadComponent piece) first
-  no_reason_behind v is (UnknownName name) (_, first) = no_reason version lawful v is.parts is.components is.complete (UnknownName name) first
-  no_reason_behind v is (BadValue kind value) (_, first) = no_reason version lawful v is.parts is.components is.complete (BadValue kind value) first
-  no_reason_behind v is (Repeated kind) (_, first) = no_reason version lawful v is.parts is.components is.complete (Repeated kind) first
-  no_reason_behind v is (Missing kind) (_, first) = no_reason version lawful v is.parts is.components is.complete (Missing kind) first
-
-  no_refusal : (v : V) → IsText version text v → (reason : Refusal K) → IsSortFirst (IsReasonBehind version (pieces text)) (pieces text) reason → ⊥
-  no_refusal v is _ (bad_piece bad) =
-      bad.bad (rw bad.is (rw is.cut (is_component_at v is bad.place (rw is.cut at bad.within))))
-  no_refusal v is reason (later _ reasoned) =
-      no_reason_behind v is reason (subst (λ parts. IsReasonBehind version parts reason) is.cut reasoned)
-
-  denoted : (v : V) → IsReadBehind version text v → Denotes version text v
-  denoted v is = record {
-    parts = is.parts;
-    text_is = sym (join_with_byte-slice_split slash text) ∙ (ap joined is.cut ∙ ap (λ pieces. joined (pieces ++ is.parts)) (sym is.front_is));
-    components = AreComponentsOf-all version lawful is.parts v is.all;
+  pub fronts : AreFronts version (IsSupported version) 1 text (IsReasonBehind version (pieces text))
+  fronts = record {
+    parts = λ v is. front_parts version v is.told is.front_is (told_plain version front is.told is.supported);
+    sizes = λ v is. ap length is.front_is;
+    one_reason = reasons_behind_same version lawful (pieces text);
+    no_reason = no_reason_behind;
   }
-
-  utf8 : (v : V) → IsReadBehind version text v → IsUtf8 text
-  utf8 v is =
-      let denotes = denoted v is in
-      rw (denotes.text_is, is.front_is) (IsUtf8-denoting version lawful v denotes.parts denotes.components (version_piece is.told ∷ []) (All-cons IsUtf8 (version_piece is.told) [] (front_is_utf8 version front is.told is.supported) (All-nil IsUtf8)))
-
-  accepts : (result : Result V (Fault K)) → IsAnswer version text result → (v : V) → Denotes version text v → IsWellFormed version v → result ≡ Ok v
-  accepts result is v denotes formed =
-      let meant = text_denoted v denotes formed in
-      answer.accepts-from version (IsReadBehind version text) (IsFirstRefusalBehind version text) result is v
-      (λ w read. texts_same w v (text_read w read) meant)
-      (λ reason first. no_refusal v meant reason (sort_first _ (pieces text) reason first))
-
-  refuses : (result : Result V (Fault K)) → IsAnswer version text result → (reason : Refusal K) → IsFirstRefusalBehind version text reason → IsErrAnd result (λ fault. reason_of version fault ≡ reason)
-  refuses result is =
-      answer.refuses-from version (IsReadBehind version text) (IsFirstRefusalBehind version text) result is
-      (λ w read reason first. no_refusal w (text_read w read) reason (sort_first _ (pieces text) reason first))
-      (refusals_same (IsReasonBehind version (pieces text)) (pieces text) (reasons_behind_same version lawful (pieces text)))
 
   -- so this one answer is all that a reader promises
-  pub IsAnswerBehind-from : (result : Result V (Fault K)) → IsAnswer version text result → (IsUtf8 text → IfErr result (IsTellable version)) → IsAnswerBehind version text result
-  IsAnswerBehind-from (Ok v) is tellable = record {
-    denoted = denoted v is;
-    well_formed = record { complete = is.complete; supported = record { told = is.told; front_is = is.front_is; supported = is.supported } };
-    accepts = accepts (Ok v) is;
-    utf8 = utf8 v is;
-    refused = tt;
-    refuses = refuses (Ok v) is;
-    tellable = tellable;
-  }
-  IsAnswerBehind-from (Err fault) is tellable = record {
-    denoted = tt;
-    well_formed = tt;
-    accepts = accepts (Err fault) is;
-    utf8 = tt;
-    refused = is;
-    refuses = refuses (Err fault) is;
+  pub IsAnswerBehind-from : (answer : Result V (Fault K)) → IsAnswered version (IsSupported version) text (IsReasonBehind version (pieces text)) answer → (IsUtf8 text → IfErr answer (IsTellable version)) → IsAnswerBehind version text answer
+  IsAnswerBehind-from answer is tellable = record {
+    denoted = is.denoted;
+    well_formed = IfOk-weaker answer _ _ (λ v formed. record { complete = formed.1; supported = formed.0 }) is.formed;
+    accepts = λ v denotes formed. is.accepts v denotes formed.supported formed.complete;
+    utf8 = is.utf8;
+    refused = is.refused;
+    refuses = is.refuses;
     tellable = tellable;
   }
 
-module _ (text piece : List ℕ) (parts : List (List ℕ)) (cut : pieces text ≡ piece ∷ parts) where
-  pub IsUtf8-front : IsUtf8 text → IsUtf8 piece
-  IsUtf8-front is = All-head IsUtf8 piece parts (subst (All IsUtf8) cut (IsUtf8-pieces text is))
+  pub IsAnswerBehind-refused : (fault : Fault K) → IsFirstRefusalBehind version text (reason_of version fault) → (IsUtf8 text → IsTellable version fault) → IsAnswerBehind version text (Err fault)
+  IsAnswerBehind-refused fault first tellable =
+      IsAnswerBehind-from (Err fault) (IsAnswered-refused version lawful (IsSupported version) 1 text (IsReasonBehind version (pieces text)) fronts fault first) tellable
 
-  pub IsUtf8-behind : IsUtf8 text → All IsUtf8 parts
-  IsUtf8-behind is = All-tail IsUtf8 piece parts (subst (All IsUtf8) cut (IsUtf8-pieces text is))
+pub IsUtf8-cut : (text piece : List ℕ) (parts : List (List ℕ)) → pieces text ≡ piece ∷ parts → IsUtf8 text → All IsUtf8 (piece ∷ parts)
+IsUtf8-cut text piece parts cut is = subst (All IsUtf8) cut (IsUtf8-pieces text is)
 
 module _ {V K : Type 0} (version : Version V K) (text piece : List ℕ) (parts : List (List ℕ)) (cut : pieces text ≡ piece ∷ parts) where
   -- a fault of the first piece is a first refusal
-  module _ (components : AreComponentsBefore (pieces text) (length (pieces text))) where
-    first_is_component : IsComponent piece
-    first_is_component = subst (λ list. IsComponent (piece_at list 0)) cut (components.each 0 (omega (arith, ap length cut)))
-
-    pub front_fault_first : (reason : Refusal K) → (IsComponent piece → IsFrontFault version piece reason) → IsFirstRefusalBehind version text reason
-    front_fault_first (BadComponent bad) fault = absurd (fault first_is_component)
-    front_fault_first (UnknownName name) fault = absurd (fault first_is_component)
-    front_fault_first (BadValue kind value) fault = absurd (fault first_is_component)
-    front_fault_first (Repeated kind) fault = absurd (fault first_is_component)
-    front_fault_first (Missing kind) fault = absurd (fault first_is_component)
-    front_fault_first (WrongPrefix prefix) fault = (components, rw cut (fault first_is_component))
-    front_fault_first (WrongVersion told) fault = (components, rw cut (fault first_is_component))
+  pub front_fault_first : AreComponentsBefore (pieces text) (length (pieces text)) → (reason : Refusal K) → (IsComponent piece → IsFrontFault version piece reason) → IsFirstRefusalBehind version text reason
+  front_fault_first components =
+      let first = subst (λ list. IsComponent (piece_at list 0)) cut (components.each 0 (omega (arith, ap length cut))) in
+      elim [
+        | WrongPrefix prefix ↦ λ fault. (components, rw cut (fault first))
+        | WrongVersion told ↦ λ fault. (components, rw cut (fault first))
+        | _ ↦ λ fault. absurd (fault first)
+      ]
 
   -- and a first reason of the components behind a version piece
   module _ (is_component : IsComponent piece) (tells : TellsVersion version piece) where
-    front_or : (n : ℕ) → AreComponentsBefore parts n → (place : ℕ) → place < n + 1 → IsComponent (piece_at (piece ∷ parts) place)
-    front_or n behind zero before = is_component
-    front_or n behind (suc place) before = behind.each place (omega arith)
-
-    with_front : AreComponentsBefore parts (length parts) → AreComponentsBefore (pieces text) (length (pieces text))
-    with_front behind = rw cut (record { each = λ place before. front_or (length parts) behind place (omega (arith, before)) })
+    front_or : (n : ℕ) → AreComponentsBefore parts n → AreComponentsBefore (pieces text) (suc n)
+    front_or n behind = rw cut (record { each = elim [ zero ↦ λ before. is_component | suc place ↦ λ before. behind.each place (omega arith) ] })
 
     bad_behind : (bad : List ℕ) → IsFirstBadPiece parts bad → IsFirstBadPiece (pieces text) bad
-    bad_behind bad first = rw cut (record {
+    bad_behind bad first = record {
       place = suc first.place;
-      within = omega (arith, first.within);
-      is = first.is;
+      within = rw cut (omega (arith, first.within));
+      is = rw cut first.is;
       bad = first.bad;
-      earlier = record { each = λ place before. front_or first.place first.earlier place (omega (arith, before)) };
-    })
+      earlier = front_or first.place first.earlier;
+    }
 
-    reason_behind : (reason : Refusal K) → IsFirstOfPieces version parts reason → IsFirstRefusalBehind version text reason
+    pub reason_behind : (reason : Refusal K) → IsFirstOfPieces version parts reason → IsFirstRefusalBehind version text reason
     reason_behind (BadComponent bad) first = bad_behind bad first
     reason_behind (WrongPrefix prefix) (behind, first) = absurd first.fault
     reason_behind (WrongVersion told) (behind, first) = absurd first.fault
-    reason_behind (UnknownName name) (behind, first) = (with_front behind, rw cut (tells, first))
-    reason_behind (BadValue kind value) (behind, first) = (with_front behind, rw cut (tells, first))
-    reason_behind (Repeated kind) (behind, first) = (with_front behind, rw cut (tells, first))
-    reason_behind (Missing kind) (behind, first) = (with_front behind, rw cut (tells, first))
+    reason_behind _ (behind, first) = (subst (λ n. AreComponentsBefore (pieces text) n) (sym (ap length cut)) (front_or (length parts) behind), rw cut (tells, first))
 
 -- a text whose first piece starts a vector is read from behind it
-module _ {V K : Type 0} (version : Version V K) (plain : IsLawfulFront version) (text : List ℕ) (parts : List (List ℕ)) (empty : V) (started : IsStarted version text parts empty) where
-  tells_version : TellsVersion version started.piece
-  tells_version = record {
-    prefix = ap name_part started.starts.is ∙ name_part-component (codes "CVSS") (value_part started.piece) refl;
-    supported = started.starts.starts.supported;
-  }
-
-  pub IsAnswer-started : (result : Result V (Fault K)) → IfOk result (λ v. HasRead version parts (length parts) v) → IfOk result (λ v. version.front v ≡ version.front empty) → IfOk result (λ v. IsComplete version v) → IfErr result (λ fault. IsFirstOfPieces version parts (reason_of version fault)) → IsAnswer version text result
-  IsAnswer-started (Ok v) all front complete refused = record {
-    told = value_part started.piece;
-    parts = parts;
-    cut = started.cut ∙ ap (λ piece. piece ∷ parts) started.starts.is;
-    front_is = front ∙ started.starts.starts.front_is;
-    supported = started.starts.starts.supported;
-    all = all;
-    complete = complete;
-  }
-  IsAnswer-started (Err fault) all front complete refused =
-      reason_behind version text started.piece parts started.cut (subst IsComponent (sym started.starts.is) (front_is_component version plain (value_part started.piece) started.starts.starts.supported)) tells_version (reason_of version fault) refused
+module _ {V K : Type 0} (version : Version V K) (plain : IsLawfulFront version) (text : List ℕ) (left : List (List ℕ)) (empty : V) where
+  pub begun_behind : IsStarted version text left empty → IsBegun version (IsSupported version) 1 text (IsReasonBehind version (pieces text)) left empty
+  begun_behind started =
+      let told = value_part started.piece in
+      let starts = started.starts.starts in
+      let is_component : IsComponent (version_piece told) = record { one_colon = (IsPart-component (codes "CVSS") told refl (told_plain version plain told starts.supported)).one_colon } in
+      let cut = started.cut ∙ ap (λ piece. piece ∷ left) started.starts.is in
+      record {
+        front = λ v same. record { told = told; front_is = same ∙ starts.front_is; supported = starts.supported };
+        taken = ap (take 1) cut ∙ sym starts.front_is;
+        left_is = sym (ap (drop 1) cut);
+        reasons = reason_behind version text (version_piece told) left cut is_component (piece_tells version told starts.supported);
+      }

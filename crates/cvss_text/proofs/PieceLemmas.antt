@@ -1,24 +1,22 @@
--- How pieces come off a text.
-use Rattle.std.proofs.Common.{◌≡◌, ◌↔◌, IsTrue, not, ℕ, ◌+◌, ◌<◌, ◌≤◌, Bool, true, false, cond, eqb, ltb, List, [], ◌∷◌, inl, inr, length, take, drop, Option, Some, None, refl, sym, ap, ◌∙◌, Bor, arith}
+-- How pieces come off a text, and that those of a text in UTF-8 are UTF-8.
+use Rattle.std.proofs.Common.{◌≡◌, ◌↔◌, IsTrue, not, ℕ, ◌+◌, ◌<◌, ◌≤◌, Bool, true, false, cond, ltb, List, [], ◌∷◌, inl, inr, length, take, drop, Option, Some, None, refl, sym, ap, ◌∙◌, Bor, arith, ◌++◌, subst}
 use Rattle.std.specs.Iterator.{MakesProgress, item_count}
-use Rattle.std.specs.List.{position, position_or_len}
+use Rattle.std.specs.List.{position, position_or_len, All}
 use Rattle.std.specs.Option.{option_map_or, unwrap_or, is_some}
 use Rattle.std.specs.Slice.{IsGetRangeResult}
 use Rattle.std.proofs.lemmas.Bool.{ltb-true, ltb-false}
 use Rattle.std.proofs.lemmas.List.Folds.{list_any_none}
-use Rattle.std.proofs.lemmas.List.{take_all, take_rest}
-use Rattle.std.proofs.lemmas.List.Splits.{slice_split_none, slice_split_first, length-slice_split}
+use Rattle.std.proofs.lemmas.List.{take_all, take_rest, length-append, get_or_at, take_at, drop_at, drop-drop}
+use Rattle.std.proofs.lemmas.List.Splits.{slice_split_none, slice_split_first, length-slice_split, join_with_byte-slice_split}
 use Rattle.std.proofs.lemmas.List.Sums.{fails_before_first}
 use Rattle.std.proofs.lemmas.Option.{cond_some}
 use Rattle.cvss_text.specs.private.Pieces.{AreParts, IsWithoutColon}
-use Rattle.cvss_grammar.specs.Text.{slash, colon, pieces}
-use Rattle.cvss_text.proofs.TextLemmas.{position-within, colon-parts}
-
-abbrev pub is_slash : ℕ → Bool
-is_slash byte = eqb byte slash
-
-abbrev pub is_colon : ℕ → Bool
-is_colon byte = eqb byte colon
+use Rattle.cvss_grammar.specs.Text.{pieces, slash, colon, joined, component}
+use Rattle.cvss_text.proofs.TextLemmas.{is_slash, is_colon, position-within, colon-parts}
+use Rattle.std.specs.Str.{IsUtf8}
+use Rattle.std.proofs.lemmas.List.Elements.{All-nil, All-cons}
+use Rattle.std.proofs.lemmas.Str.{IsUtf8-take, IsUtf8-drop, IsCharBoundary-before_ascii, IsCharBoundary-after_ascii}
+use Rattle.cvss_grammar.specs.Refusal.{IsFirstBadPiece}
 
 none-false : (b : Bool) (x : ℕ) → cond b (Some x) None ≡ None → b ≡ false
 none-false true x none = cc
@@ -76,3 +74,34 @@ none_left (Some text) none is = (λ holds. absurd (differ none is holds), λ emp
 -- a call that takes the first of what is left comes nearer to the end
 pub MakesProgress-first : {S A B : Type 0} (rest : S → List B) (s t : S) (x : A) (y : B) → rest s ≡ y ∷ rest t → MakesProgress (λ _. Unit {0}) (item_count rest) s (Some x) t
 MakesProgress-first rest s t x y step = record { on = λ finite. (tt, tt, omega (arith, ap length step)); keeps = tt; rests = λ finite. tt }
+
+-- a text cut at an ASCII byte
+cut_at_ascii : (front rest : List ℕ) (byte : ℕ) → byte < 128 → IsUtf8 (front ++ byte ∷ rest) → IsUtf8 front × IsUtf8 rest
+cut_at_ascii front rest byte ascii is =
+    let whole = front ++ byte ∷ rest in
+    let at = length front in
+    let within : at < length whole = omega (arith, length-append front (byte ∷ rest)) in
+    let before = IsUtf8-take whole at is (IsCharBoundary-before_ascii whole at within (omega (arith, get_or_at front byte rest 0 at refl))) in
+    let behind = IsUtf8-drop whole (at + 1) is (IsCharBoundary-after_ascii whole at is within (omega (arith, get_or_at front byte rest 0 at refl))) in
+    (rw (take_at front (byte ∷ rest) at refl) at before, rw (sym (drop-drop 1 at whole) ∙ ap (drop 1) (drop_at front (byte ∷ rest) at refl)) at behind)
+
+-- each piece
+parts_of_joined : (parts : List (List ℕ)) → IsUtf8 (joined parts) → All IsUtf8 parts
+parts_of_joined [] is = All-nil IsUtf8
+parts_of_joined (part ∷ []) is = All-cons IsUtf8 part [] is (All-nil IsUtf8)
+parts_of_joined (part ∷ next ∷ parts) is =
+    let both = cut_at_ascii part (joined (next ∷ parts)) slash (omega arith) is in
+    All-cons IsUtf8 part (next ∷ parts) both.0 (parts_of_joined (next ∷ parts) both.1)
+
+pub IsUtf8-pieces : (text : List ℕ) → IsUtf8 text → All IsUtf8 (pieces text)
+IsUtf8-pieces text is = parts_of_joined (pieces text) (rw (join_with_byte-slice_split slash text) is)
+
+pub IsUtf8-bad_piece : (text piece : List ℕ) → IsFirstBadPiece (pieces text) piece → IsUtf8 text → IsUtf8 piece
+IsUtf8-bad_piece text piece bad is = rw bad.is (IsUtf8-pieces text is bad.place [] bad.within)
+
+-- the texts before and after a colon
+pub IsUtf8-name : (piece name value : List ℕ) → piece ≡ component name value → IsUtf8 piece → IsUtf8 name
+IsUtf8-name piece name value cut is = (cut_at_ascii name value colon (omega arith) (subst IsUtf8 cut is)).0
+
+pub IsUtf8-value : (piece name value : List ℕ) → piece ≡ component name value → IsUtf8 piece → IsUtf8 value
+IsUtf8-value piece name value cut is = (cut_at_ascii name value colon (omega arith) (subst IsUtf8 cut is)).1

@@ -1,157 +1,138 @@
 -- Texts as they are read, and components cut at their colon.
-use Rattle.std.proofs.Common.{◌≡◌, ℕ, ◌+◌, ◌<◌, ◌≤◌, Bool, true, false, cond, not, IsTrue, ◌↔◌, eqb, ltb, suc, one-add, List, [], ◌∷◌, ◌++◌, length, drop, map, refl, sym, ap, ◌∙◌, arith}
+use Rattle.std.proofs.Common.{◌≡◌, ℕ, ◌+◌, ◌<◌, Bool, true, false, cond, IsTrue, ◌↔◌, eqb, ltb, inl, inr, List, [], ◌∷◌, ◌++◌, length, drop, refl, sym, ap, ◌∙◌, arith}
 use Rattle.std.specs.Char.{to_ascii_uppercase}
-use Rattle.std.specs.List.{count_by, position_or_len, before_first, after_first}
-use Rattle.std.proofs.lemmas.Bool.{eqb-true, false_from_ne_true}
+use Rattle.std.specs.List.{All, count_by, position_or_len}
+use Rattle.std.proofs.lemmas.Bool.{eqb-true, false_from_ne_true, cases_lt}
 use Rattle.std.proofs.lemmas.Bool.Decides.{nat_tests}
-use Rattle.std.proofs.lemmas.List.{map-append, map-id, take-map, drop-map, take_at, drop_at, drop-drop}
-use Rattle.std.proofs.lemmas.List.Sums.{sum_by-cons, sum_by-append, sum_by-le-sum_by, split_at_first, passes_at_first}
+use Rattle.std.proofs.lemmas.List.{map-append, take-map, drop-map, take_at, drop_at, drop-drop, length-append, get_or_append_left, get_or_at}
+use Rattle.std.proofs.lemmas.List.Elements.{All-head, All-tail}
+use Rattle.std.proofs.lemmas.List.Folds.{fold-map}
+use Rattle.std.proofs.lemmas.List.Sums.{sum_by-cons, sum_by-append, get_or-le-sum_by, split_at_first, passes_at_first, fails_before_first, position_or_len_is}
 use Rattle.std.specs.Str.{bytes_eq}
 use Rattle.std.proofs.lemmas.Slice.Eq.{bytes_eq-Decides}
-use Rattle.cvss_grammar.specs.Text.{slash, colon, IsComponent, name_part, value_part, component, read_as}
+use Rattle.cvss_grammar.specs.Text.{slash, colon, IsComponent, name_part, value_part, component, raised, read_as}
 use Rattle.cvss_text.specs.private.Walk.{is_foreign, foreign_bytes}
 
--- what a byte is read as
-abbrev pub letter : Bool → ℕ → ℕ
-letter true byte = to_ascii_uppercase byte
-letter false byte = byte
+abbrev pub is_slash : ℕ → Bool
+is_slash byte = eqb byte slash
 
-pub read_as_is_map : (any_case : Bool) (text : List ℕ) → read_as any_case text ≡ map (letter any_case) text
-read_as_is_map true text = refl
-read_as_is_map false text = sym (map-id text)
+abbrev pub is_colon : ℕ → Bool
+is_colon byte = eqb byte colon
 
--- raising letters neither makes nor takes a divider
-raised_eq : (byte divider : ℕ) → divider < 65 → eqb (to_ascii_uppercase byte) divider ≡ eqb byte divider
-raised_eq byte divider low = grind (arith, nat_tests)
+-- the piece has one colon, and no other foreign byte
+pub record IsPart (piece : List ℕ) : Type 0 where
+  pub one_colon : count_by is_colon piece ≡ 1
+  pub one_foreign : foreign_bytes piece ≡ 1
 
-pub letter_is_colon : (any_case : Bool) (byte : ℕ) → eqb (letter any_case byte) colon ≡ eqb byte colon
-letter_is_colon true byte = raised_eq byte colon (omega arith)
-letter_is_colon false byte = refl
+-- raising letters makes and takes no colon, and no foreign byte
+raised_colon : (byte : ℕ) → is_colon (to_ascii_uppercase byte) ≡ is_colon byte
+raised_colon byte = grind (arith, nat_tests)
 
-pub letter_is_slash : (any_case : Bool) (byte : ℕ) → eqb (letter any_case byte) slash ≡ eqb byte slash
-letter_is_slash true byte = raised_eq byte slash (omega arith)
-letter_is_slash false byte = refl
+raised_foreign : (byte : ℕ) → is_foreign (to_ascii_uppercase byte) ≡ is_foreign byte
+raised_foreign byte = grind (arith, nat_tests)
 
-letter_is_beyond : (any_case : Bool) (byte : ℕ) → ltb 127 (letter any_case byte) ≡ ltb 127 byte
-letter_is_beyond true byte = grind (arith, nat_tests)
-letter_is_beyond false byte = refl
+-- a test that does not see whether letters are raised
+module _ (p : ℕ → Bool) (keeps : (byte : ℕ) → p (to_ascii_uppercase byte) ≡ p byte) where
+  position-raised : (text : List ℕ) → position_or_len p (raised text) ≡ position_or_len p text
+  position-raised [] = refl
+  position-raised (byte ∷ text) = cc (keeps byte, position-raised text)
 
-letter_is_foreign : (any_case : Bool) (byte : ℕ) → is_foreign (letter any_case byte) ≡ is_foreign byte
-letter_is_foreign true byte = grind (arith, nat_tests)
-letter_is_foreign false byte = refl
-
--- a test that does not see how bytes are read
-module _ (p : ℕ → Bool) (f : ℕ → ℕ) (keeps : (byte : ℕ) → p (f byte) ≡ p byte) where
-  position-map : (text : List ℕ) → position_or_len p (map f text) ≡ position_or_len p text
-  position-map [] = refl
-  position-map (byte ∷ text) = cc (keeps byte, position-map text)
-
-  before_first-map : (text : List ℕ) → before_first p (map f text) ≡ map f (before_first p text)
-  before_first-map text = rw (position-map text) (take-map f _ text)
-
-  after_first-map : (text : List ℕ) → after_first p (map f text) ≡ map f (after_first p text)
-  after_first-map text = rw (position-map text) (drop-map f _ text)
-
-  count_by-map : (text : List ℕ) → count_by p (map f text) ≡ count_by p text
-  count_by-map [] = refl
-  count_by-map (byte ∷ text) = cc (keeps byte, count_by-map text, sum_by-cons (λ x. cond (p x) 1 0) byte text, sum_by-cons (λ x. cond (p x) 1 0) (f byte) (map f text))
-
-colon-read : (any_case : Bool) (text : List ℕ) → read_as any_case (colon ∷ text) ≡ colon ∷ read_as any_case text
-colon-read true text = refl
-colon-read false text = refl
+  count_by-raised : (text : List ℕ) → count_by p (raised text) ≡ count_by p text
+  count_by-raised text = fold-map (λ n x. n + cond (p x) 1 0) to_ascii_uppercase 0 text ∙ simp keeps
 
 -- how the parts of a piece are read
-module _ (any_case : Bool) where
-  read-append : (xs ys : List ℕ) → read_as any_case (xs ++ ys) ≡ read_as any_case xs ++ read_as any_case ys
-  read-append xs ys = simp (read_as_is_map, map-append)
+pub read-component : (any_case : Bool) (name value : List ℕ) → read_as any_case (component name value) ≡ component (read_as any_case name) (read_as any_case value)
+read-component true name value = map-append to_ascii_uppercase name (colon ∷ value)
+read-component false name value = refl
 
-  pub read-component : (name value : List ℕ) → read_as any_case (component name value) ≡ component (read_as any_case name) (read_as any_case value)
-  read-component name value = read-append name (colon ∷ value) ∙ rw (colon-read any_case value)
+pub name_part-read : (any_case : Bool) (piece : List ℕ) → name_part (read_as any_case piece) ≡ read_as any_case (name_part piece)
+name_part-read true piece = rw (position-raised is_colon raised_colon piece) (take-map to_ascii_uppercase _ piece)
+name_part-read false piece = refl
 
-  pub name_part-read : (piece : List ℕ) → name_part (read_as any_case piece) ≡ read_as any_case (name_part piece)
-  name_part-read piece = rw (read_as_is_map any_case piece, read_as_is_map any_case (name_part piece)) (before_first-map (λ byte. eqb byte colon) (letter any_case) (letter_is_colon any_case) piece)
+pub value_part-read : (any_case : Bool) (piece : List ℕ) → value_part (read_as any_case piece) ≡ read_as any_case (value_part piece)
+value_part-read true piece = rw (position-raised is_colon raised_colon piece) (drop-map to_ascii_uppercase _ piece)
+value_part-read false piece = refl
 
-  pub value_part-read : (piece : List ℕ) → value_part (read_as any_case piece) ≡ read_as any_case (value_part piece)
-  value_part-read piece = rw (read_as_is_map any_case piece, read_as_is_map any_case (value_part piece)) (after_first-map (λ byte. eqb byte colon) (letter any_case) (letter_is_colon any_case) piece)
+pub foreign_bytes-read : (any_case : Bool) (piece : List ℕ) → foreign_bytes (read_as any_case piece) ≡ foreign_bytes piece
+foreign_bytes-read true piece = count_by-raised is_foreign raised_foreign piece
+foreign_bytes-read false piece = refl
 
-  pub colons-read : (piece : List ℕ) → count_by (λ byte. eqb byte colon) (read_as any_case piece) ≡ count_by (λ byte. eqb byte colon) piece
-  colons-read piece = rw (read_as_is_map any_case piece) (count_by-map (λ byte. eqb byte colon) (letter any_case) (letter_is_colon any_case) piece)
+pub IsPart-read : (any_case : Bool) (piece : List ℕ) → IsPart (read_as any_case piece) → IsPart piece
+IsPart-read true piece is = record {
+  one_colon = sym (count_by-raised is_colon raised_colon piece) ∙ is.one_colon;
+  one_foreign = sym (foreign_bytes-read true piece) ∙ is.one_foreign;
+}
+IsPart-read false piece is = is
 
-  pub slashes-read : (piece : List ℕ) → count_by (λ byte. eqb byte slash) (read_as any_case piece) ≡ count_by (λ byte. eqb byte slash) piece
-  slashes-read piece = rw (read_as_is_map any_case piece) (count_by-map (λ byte. eqb byte slash) (letter any_case) (letter_is_slash any_case) piece)
+-- elements that fail count nothing
+pub count_by-none : {X : Type 0} (p : X → Bool) (xs : List X) → All (λ x. p x ≡ false) xs → count_by p xs ≡ 0
+count_by-none p [] none = refl
+count_by-none p (x ∷ xs) none =
+    omega (arith, sum_by-cons (λ x. cond (p x) 1 0) x xs, ap (λ b. cond {A = ℕ} b 1 0) (All-head (λ x. p x ≡ false) x xs none), count_by-none p xs (All-tail (λ x. p x ≡ false) x xs none))
 
-  pub beyond-read : (piece : List ℕ) → count_by (ltb 127) (read_as any_case piece) ≡ count_by (ltb 127) piece
-  beyond-read piece = rw (read_as_is_map any_case piece) (count_by-map (ltb 127) (letter any_case) (letter_is_beyond any_case) piece)
-
-  pub foreign_bytes-read : (piece : List ℕ) → foreign_bytes (read_as any_case piece) ≡ foreign_bytes piece
-  foreign_bytes-read piece = rw (read_as_is_map any_case piece) (count_by-map is_foreign (letter any_case) (letter_is_foreign any_case) piece)
-
--- a text without a byte that passes
-pub none_passes : (b : Bool) (n : ℕ) → cond b 1 0 + n ≡ 0 → (b ≡ false) × (n ≡ 0)
-none_passes true n none = absurd (omega arith)
-none_passes false n none = (refl, omega arith)
-
-within_step : (b : Bool) (n count : ℕ) (m : ℕ) → (count ≡ 1 → n < m) → cond b 1 0 + count ≡ 1 → cond (not b) (1 + n) 0 < suc m
-within_step true n count m within one = omega arith
-within_step false n count m within one = omega (arith, within (omega arith))
-
+-- bytes that pass a test, by their count
 module _ (p : ℕ → Bool) where
   pub count_by-cons : (byte : ℕ) (text : List ℕ) → count_by p (byte ∷ text) ≡ cond (p byte) 1 0 + count_by p text
   count_by-cons byte text = sum_by-cons (λ x. cond (p x) 1 0) byte text
 
-  pub position-none : (text rest : List ℕ) (byte : ℕ) → count_by p text ≡ 0 → p byte ≡ true → position_or_len p (text ++ byte ∷ rest) ≡ length text
-  position-none [] rest byte none passes = rw passes
-  position-none (x ∷ text) rest byte none passes =
-      let fails = none_passes (p x) (count_by p text) (sym (count_by-cons x text) ∙ none) in
-      rw (fails.0, position-none text rest byte fails.1 passes, one-add)
+  pub All-from_count : (text : List ℕ) → count_by p text ≡ 0 → All (λ byte. p byte ≡ false) text
+  All-from_count text none k d inside =
+      false_from_ne_true _ (λ passes. omega (arith, get_or-le-sum_by (λ x. cond (p x) 1 0) text k d inside, ap (λ b. cond {A = ℕ} b 1 0) passes))
+
+  position-none : (text rest : List ℕ) (byte : ℕ) → count_by p text ≡ 0 → p byte ≡ true → position_or_len p (text ++ byte ∷ rest) ≡ length text
+  position-none text rest byte none passes =
+      position_or_len_is p (text ++ byte ∷ rest) (length text) byte (omega (arith, length-append text (byte ∷ rest)))
+      (λ k below. rw (get_or_append_left text (byte ∷ rest) byte k below) (All-from_count text none k byte below))
+      (λ _. rw (get_or_at text byte rest byte (length text) refl) passes)
 
   pub position-within : (text : List ℕ) → count_by p text ≡ 1 → position_or_len p text < length text
-  position-within [] one = absurd (omega arith)
-  position-within (byte ∷ text) one = within_step (p byte) (position_or_len p text) (count_by p text) (length text) (position-within text) (sym (count_by-cons byte text) ∙ one)
+  position-within text one = elim (cases_lt (position_or_len p text) (length text)) [
+    | inl within ↦ within
+    | inr past ↦ absurd (omega (arith, count_by-none p text (λ k d inside. fails_before_first p text k d (omega arith))))
+  ]
 
--- the foreign_bytes of a component
-pub colons-le : (text : List ℕ) → count_by (λ byte. eqb byte colon) text ≤ foreign_bytes text
-colons-le text = sum_by-le-sum_by _ _ text (λ byte. grind (arith, nat_tests))
+-- a foreign byte is a slash, a colon or beyond ASCII
+one_sort : (byte : ℕ) → cond {A = ℕ} (is_foreign byte) 1 0 ≡ cond {A = ℕ} (is_slash byte) 1 0 + cond {A = ℕ} (is_colon byte) 1 0 + cond {A = ℕ} (ltb 127 byte) 1 0
+one_sort byte = grind (arith, nat_tests)
 
-pub slashes-le : (text : List ℕ) → count_by (λ byte. eqb byte slash) text ≤ foreign_bytes text
-slashes-le text = sum_by-le-sum_by _ _ text (λ byte. grind (arith, nat_tests))
+pub foreign_sorts : (text : List ℕ) → foreign_bytes text ≡ count_by is_slash text + count_by is_colon text + count_by (ltb 127) text
+foreign_sorts [] = refl
+foreign_sorts (byte ∷ text) =
+    omega (arith, one_sort byte, foreign_sorts text, count_by-cons is_foreign byte text, count_by-cons is_slash byte text, count_by-cons is_colon byte text, count_by-cons (ltb 127) byte text)
 
-beyond-le : (text : List ℕ) → count_by (ltb 127) text ≤ foreign_bytes text
-beyond-le text = sum_by-le-sum_by _ _ text (λ byte. grind (arith, nat_tests))
+-- a component whose name has no colon is cut there
+module _ (name value : List ℕ) (no_colon : count_by is_colon name ≡ 0) where
+  colon_place : position_or_len is_colon (component name value) ≡ length name
+  colon_place = position-none is_colon name value colon no_colon refl
+
+  pub name_before : name_part (component name value) ≡ name
+  name_before = rw colon_place (take_at name (colon ∷ value) (length name) refl)
+
+  pub value_behind : value_part (component name value) ≡ value
+  value_behind = rw colon_place (sym (drop-drop 1 (length name) (component name value)) ∙ ap (drop 1) (drop_at name (colon ∷ value) (length name) refl))
 
 module _ (name value : List ℕ) (name_plain : foreign_bytes name ≡ 0) where
-  colon_place : position_or_len (λ byte. eqb byte colon) (component name value) ≡ length name
-  colon_place = position-none (λ byte. eqb byte colon) name value colon (omega (arith, colons-le name)) refl
-
   pub name_part-component : name_part (component name value) ≡ name
-  name_part-component = rw colon_place (take_at name (colon ∷ value) (length name) refl)
+  name_part-component = name_before name value (omega (arith, foreign_sorts name))
 
   pub value_part-component : value_part (component name value) ≡ value
-  value_part-component = rw colon_place (sym (drop-drop 1 (length name) (component name value)) ∙ ap (drop 1) (drop_at name (colon ∷ value) (length name) refl))
+  value_part-component = value_behind name value (omega (arith, foreign_sorts name))
 
   counted : (p : ℕ → Bool) → count_by p (component name value) ≡ count_by p name + (cond (p colon) 1 0 + count_by p value)
   counted p = sum_by-append (λ x. cond (p x) 1 0) name (colon ∷ value) ∙ ap (λ n. count_by p name + n) (count_by-cons p colon value)
 
-  module _ (value_plain : foreign_bytes value ≡ 0) where
-    pub IsComponent-component : IsComponent (component name value)
-    IsComponent-component = record { one_colon = omega (arith, counted (λ byte. eqb byte colon), colons-le name, colons-le value) }
-
-    -- no byte of it is beyond ASCII
-    pub beyond-component : count_by (ltb 127) (component name value) ≡ 0
-    beyond-component = omega (arith, counted (ltb 127), beyond-le name, beyond-le value)
-
-    pub slashes-component : count_by (λ byte. eqb byte slash) (component name value) ≡ 0
-    slashes-component = omega (arith, counted (λ byte. eqb byte slash), slashes-le name, slashes-le value)
+  pub IsPart-component : foreign_bytes value ≡ 0 → IsPart (component name value)
+  IsPart-component value_plain = record {
+    one_colon = omega (arith, counted is_colon, foreign_sorts name, foreign_sorts value);
+    one_foreign = omega (arith, counted is_foreign);
+  }
 
 -- a piece with a colon is its name, the colon and its value
-pub colon-parts : (piece : List ℕ) → position_or_len (λ byte. eqb byte colon) piece < length piece → piece ≡ component (name_part piece) (value_part piece)
-colon-parts piece within =
-    let at_colon = eqb-true _ _ (passes_at_first (λ byte. eqb byte colon) piece 0 within) in
-    split_at_first (λ byte. eqb byte colon) piece 0 within ∙ rw at_colon
+pub colon-parts : (piece : List ℕ) → position_or_len is_colon piece < length piece → piece ≡ component (name_part piece) (value_part piece)
+colon-parts piece within = split_at_first is_colon piece 0 within ∙ rw (eqb-true _ _ (passes_at_first is_colon piece 0 within))
 
 pub component-parts : (piece : List ℕ) → IsComponent piece → piece ≡ component (name_part piece) (value_part piece)
-component-parts piece is =
-    colon-parts piece (position-within (λ byte. eqb byte colon) piece is.one_colon)
+component-parts piece is = colon-parts piece (position-within is_colon piece is.one_colon)
 
 -- a test that tells whether two texts are one is their comparison
 pub bytes_eq_when : (test : Bool) (text other : List ℕ) → (IsTrue test ↔ (text ≡ other)) → test ≡ bytes_eq text other

@@ -4,19 +4,16 @@ use Rattle.std.specs.List.{All, filter_map, onto_first}
 use Rattle.std.proofs.lemmas.Bool.{cases_lt}
 use Rattle.std.proofs.lemmas.List.{get_or-take, take_more, take_all, length-take-le, length-drop, drop_more, get_or-drop}
 use Rattle.std.proofs.lemmas.List.Elements.{All-head, All-tail, All-drop}
-use Rattle.std.proofs.lemmas.List.Splits.{join_with_byte-slice_split, length-slice_split, slice_split-cons_no}
+use Rattle.std.proofs.lemmas.List.Splits.{length-slice_split, slice_split-cons_no}
 use Rattle.std.proofs.lemmas.Option.{none-some}
 use Rattle.std.proofs.lemmas.List.Sorted.{IsPermutation-refl}
 use Rattle.std.specs.Str.{IsUtf8}
-use Rattle.cvss_grammar.specs.Text.{slash, colon, pieces, IsComponent, name_part, value_part, component}
-use Rattle.cvss_text.specs.private.Pieces.{AreParts}
-use Rattle.cvss_grammar.specs.Version.{Version, read, component_of, AreComponentsOf, Denotes, reading}
-use Rattle.cvss_grammar.specs.Refusal.{Refusal, AreComponentsBefore, BadComponent, WrongPrefix, WrongVersion, UnknownName, BadValue, Repeated, Missing, Spells, piece_at, FaultAt, IsNamedBefore, IsFirstBadPiece, IsFirstFault, IsFirstMissing}
+use Rattle.cvss_grammar.specs.Text.{colon, pieces, IsComponent, name_part, value_part, component}
+use Rattle.cvss_grammar.specs.Version.{Version, read, component_of, AreComponentsOf, reading}
+use Rattle.cvss_grammar.specs.Refusal.{Refusal, AreComponentsBefore, BadComponent, UnknownName, BadValue, Repeated, Missing, Spells, piece_at, FaultAt, IsNamedBefore, IsFirstBadPiece, IsFirstMissing}
 use Rattle.cvss_text.specs.private.Walk.{IsLawful, IsCut, IsCutFirst, IsReadFirst, IsFirstOfPieces, foreign_bytes, HasNoValue, Puts, Adds, HasRead, IsFaultOf, LacksFirst}
-use Rattle.cvss_text.proofs.TextLemmas.{name_part-read, value_part-read, name_part-component, value_part-component, foreign_bytes-read, slashes-le, IsComponent-component}
-use Rattle.cvss_text.proofs.JoinLemmas.{All-from_count}
-use Rattle.cvss_text.proofs.LawLemmas.{name_plain, names_differ}
-use Rattle.cvss_text.proofs.PieceLemmas.{is_slash}
+use Rattle.cvss_text.proofs.TextLemmas.{is_slash, All-from_count, name_part-read, value_part-read, name_part-component, value_part-component, foreign_bytes-read, foreign_sorts, IsPart-component}
+use Rattle.cvss_text.proofs.LawLemmas.{name_plain, names_differ, IsCut_named}
 use Rattle.cvss_text.proofs.ComponentLemmas.{adds_component, held_stands, piece_held}
 
 -- the value that is there
@@ -36,12 +33,8 @@ onto_first_piece (byte ∷ front) rest first behind none found =
 
 pieces-behind : (name rest value : List ℕ) (behind : List (List ℕ)) → foreign_bytes name ≡ 0 → pieces rest ≡ value ∷ behind → pieces (component name rest) ≡ component name value ∷ behind
 pieces-behind name rest value behind plain found =
-    onto_first_piece name (colon ∷ rest) (colon ∷ value) behind (All-from_count is_slash name (omega (arith, slashes-le name, plain)))
+    onto_first_piece name (colon ∷ rest) (colon ∷ value) behind (All-from_count is_slash name (omega (arith, foreign_sorts name, plain)))
     (slice_split-cons_no is_slash colon rest refl ∙ ap (onto_first colon) found)
-
--- a piece that is cut behind a metric's name is cut at its first colon
-pub AreParts-cut : {V K : Type 0} (version : Version V K) {piece value : List ℕ} {kind : K} → IsCut version piece kind value → AreParts piece (name_part piece) value
-AreParts-cut version is = record { cut = is.cut; name_is = refl; value_is = is.value_is }
 
 -- the vector holds the components before those that are left, none of which has a fault
 pub record HasReadTo {V K : Type 0} (version : Version V K) (parts left : List (List ℕ)) (v : V) : Type 0 where
@@ -80,17 +73,11 @@ module _ {V K : Type 0} (version : Version V K) (lawful : IsLawful version) wher
 
     -- a component that is no fault of the vector is none at its place
     pub fault_at : (reason : Refusal K) → IsFaultOf version v (piece_at parts place) reason → FaultAt version parts place reason
-    fault_at (BadComponent piece) fault = fault
-    fault_at (UnknownName name) fault = fault
-    fault_at (BadValue kind value) fault = fault
     fault_at (Repeated kind) (named, spelling, held) = (named, spelling, held_is_named kind held)
-    fault_at (WrongPrefix prefix) fault = fault
-    fault_at (WrongVersion told) fault = fault
-    fault_at (Missing kind) fault = fault
+    fault_at _ fault = fault
 
     -- a component that goes into the vector has no fault
     pub no_fault_at : (new : V) → Adds version v (piece_at parts place) new → (reason : Refusal K) → FaultAt version parts place reason → ⊥
-    no_fault_at new adds (BadComponent piece) fault = fault
     no_fault_at new adds (UnknownName name) (is, unknown) = unknown adds.kind (adds.named ∙ sym is)
     no_fault_at new adds (BadValue blamed value) (kind, _, named, is, no_spelling) =
         let is_kind : adds.kind ≡ kind = names_differ version lawful adds.kind kind (adds.named ∙ sym named) in
@@ -98,33 +85,28 @@ module _ {V K : Type 0} (version : Version V K) (lawful : IsLawful version) wher
     no_fault_at new adds (Repeated kind) (named, _, earlier) =
         let is_kind : adds.kind ≡ kind = names_differ version lawful adds.kind kind (adds.named ∙ sym named) in
         none_absent (version.value_of v kind) (subst (λ each. version.value_of v each ≡ None) is_kind adds.puts.fills.was_empty) (named_is_held kind earlier)
-    no_fault_at new adds (WrongPrefix prefix) fault = fault
-    no_fault_at new adds (WrongVersion told) fault = fault
-    no_fault_at new adds (Missing kind) fault = fault
+    no_fault_at new adds _ none = none
 
   -- a text that begins with a metric's name and a colon: no slash stands before the value
   pub IsCutFirst-behind : (text rest value : List ℕ) (kind : K) (behind : List (List ℕ)) → IsCut version text kind rest → pieces rest ≡ value ∷ behind → IsCutFirst version text kind value behind
   IsCutFirst-behind text rest value kind behind is found =
       let name = name_part text in
       let plain : foreign_bytes name ≡ 0 = sym (foreign_bytes-read version.any_case name) ∙ (ap foreign_bytes (sym is.named) ∙ name_plain version lawful kind) in
-      let same_name : name_part (component name value) ≡ name = name_part-component name value plain in
       record {
         piece = component name value;
         first = ap pieces is.cut ∙ pieces-behind name rest value behind plain found;
-        is = record {
-          named = is.named ∙ ap (read version) (sym same_name);
-          value_is = sym (value_part-component name value plain);
-          cut = ap (λ each. component each value) (sym same_name);
-        };
+        is = IsCut_named version lawful (component name value) name value kind refl is.named;
       }
 
   -- a piece that was read has one colon, since no name and no value has one
-  pub IsComponent-read : (old new : V) (piece name value : List ℕ) (kind : K) → AreParts piece name value → version.name kind ≡ read version name → Puts version old kind (read version value) new → IsComponent piece
-  IsComponent-read old new piece name value kind parts named puts =
+  pub IsComponent-read : {old new : V} {piece value : List ℕ} {kind : K} → IsCut version piece kind value → Puts version old kind (read version value) new → IsComponent piece
+  IsComponent-read {piece = piece} {value = value} {kind = kind} is puts =
+      let name = name_part piece in
       let spelling = version.spelling kind puts.fills.value in
-      rw parts.cut (IsComponent-component name value
-      (sym (foreign_bytes-read version.any_case name) ∙ (ap foreign_bytes (sym named) ∙ name_plain version lawful kind))
-      (sym (foreign_bytes-read version.any_case value) ∙ (ap foreign_bytes (sym puts.fills.spelled) ∙ (foreign_bytes-read version.any_case spelling ∙ lawful.spelling_plain kind puts.fills.value))))
+      let part = IsPart-component name value
+      (sym (foreign_bytes-read version.any_case name) ∙ (ap foreign_bytes (sym is.named) ∙ name_plain version lawful kind))
+      (sym (foreign_bytes-read version.any_case value) ∙ (ap foreign_bytes (sym puts.fills.spelled) ∙ (foreign_bytes-read version.any_case spelling ∙ lawful.spelling_plain kind puts.fills.value))) in
+      subst IsComponent (sym is.cut) (record { one_colon = part.one_colon })
 
   -- the start, a step and the end of the walk
   components_none : (v : V) → HasNoValue version v → (kinds : List K) → filter_map (component_of version v) kinds ≡ []
@@ -143,18 +125,6 @@ module _ {V K : Type 0} (version : Version V K) (lawful : IsLawful version) wher
           faultless = record { none = λ earlier reason below. below_more (λ each. (fault : Refusal K) → FaultAt version parts each fault → ⊥) place (λ each inside fault. before.faultless.none each fault inside) (no_fault_at old parts place (omega arith) before.components new added) earlier below reason };
         }
 
-    pub IsFirstFault-at : (v : V) (reason : Refusal K) → IsFaultOf version v piece reason → HasRead version parts place v → IsFirstFault version parts reason
-    IsFirstFault-at v reason fault before = record { place = place; within = within; fault = fault_at v parts place (omega arith) before.components reason (subst (λ text. IsFaultOf version v text reason) here fault); earlier = before.faultless }
-
-  of_fault : (parts : List (List ℕ)) (reason : Refusal K) → AreComponentsBefore parts (length parts) → IsFirstFault version parts reason → IsFirstOfPieces version parts reason
-  of_fault parts (BadComponent piece) components first = absurd first.fault
-  of_fault parts (Missing kind) components first = absurd first.fault
-  of_fault parts (WrongPrefix prefix) components first = (components, first)
-  of_fault parts (WrongVersion told) components first = (components, first)
-  of_fault parts (UnknownName name) components first = (components, first)
-  of_fault parts (BadValue kind value) components first = (components, first)
-  of_fault parts (Repeated kind) components first = (components, first)
-
   pub HasReadTo-start : (parts : List (List ℕ)) (v : V) → HasNoValue version v → HasReadTo version parts parts v
   HasReadTo-start parts v empty = record { place = 0; within = omega arith; left_is = refl; components = record { each = λ earlier below. absurd (omega arith) }; read = HasRead-none parts v empty }
 
@@ -162,11 +132,8 @@ module _ {V K : Type 0} (version : Version V K) (lawful : IsLawful version) wher
     to_end : to.place ≡ length parts
     to_end = omega (arith, to.within, ap length (sym to.left_is ∙ none), length-drop to.place parts)
 
-    pub HasReadTo-all : HasRead version parts (length parts) v
-    HasReadTo-all = subst (λ place. HasRead version parts place v) to_end to.read
-
-    pub HasReadTo-components : AreComponentsBefore parts (length parts)
-    HasReadTo-components = subst (AreComponentsBefore parts) to_end to.components
+    pub HasReadTo-all : HasRead version parts (length parts) v × AreComponentsBefore parts (length parts)
+    HasReadTo-all = subst (λ place. HasRead version parts place v × AreComponentsBefore parts place) to_end (to.read, to.components)
 
   -- the first piece of what is left stands at the place up to which is read
   module _ (parts left : List (List ℕ)) (text : List ℕ) (v : V) (cut : left ≡ pieces text) (to : HasReadTo version parts left v) where
@@ -213,7 +180,13 @@ module _ {V K : Type 0} (version : Version V K) (lawful : IsLawful version) wher
     pub IsFirstOfPieces-fault : (reason : Refusal K) → (IsComponent (piece_at (pieces text) 0) → IsFaultOf version v (piece_at (pieces text) 0) reason) → AreComponentsBefore (pieces text) (length (pieces text)) → IsFirstOfPieces version parts reason
     IsFirstOfPieces-fault reason fault components =
         let all = subst (AreComponentsBefore parts) length_here (components_to (length (pieces text)) components) in
-        of_fault parts reason all (IsFirstFault-at parts to.place place_within (piece_at (pieces text) 0) first_at_place v reason (fault (rw first_at_place (all.each to.place place_within))) to.read)
+        let is_fault = subst (λ piece. IsFaultOf version v piece reason) first_at_place (fault (components.each 0 (omega (arith, length-slice_split is_slash text)))) in
+        of_fault reason (fault_at v parts to.place (omega (arith, place_within)) to.read.components reason is_fault) all
+      where
+        of_fault : (reason : Refusal K) → FaultAt version parts to.place reason → AreComponentsBefore parts (length parts) → IsFirstOfPieces version parts reason
+        of_fault (BadComponent piece) none all = absurd none
+        of_fault (Missing kind) none all = absurd none
+        of_fault _ fault all = (all, record { place = to.place; within = place_within; fault = fault; earlier = to.read.faultless })
 
   pub AreComponentsOf-all : (parts : List (List ℕ)) (v : V) → HasRead version parts (length parts) v → AreComponentsOf version parts v
   AreComponentsOf-all parts v all = rw (take_all (length parts) parts (omega arith)) at all.components
@@ -226,12 +199,4 @@ module _ {V K : Type 0} (version : Version V K) (lawful : IsLawful version) wher
     is = lacks.is;
     absent = λ named. none_absent (version.value_of v kind) lacks.absent (named_is_held v parts (length parts) (omega arith) all.components kind named);
     earlier = λ before other below is. held_is_named v parts (length parts) (omega arith) all.components other (lacks.earlier before other below is);
-  }
-
-  -- a text without a front, all of whose components were read, denotes the vector
-  pub Denotes-from : (text : List ℕ) (v : V) → version.front v ≡ [] → HasRead version (pieces text) (length (pieces text)) v → Denotes version text v
-  Denotes-from text v frontless all = record {
-    parts = pieces text;
-    text_is = rw frontless (sym (join_with_byte-slice_split slash text));
-    components = AreComponentsOf-all (pieces text) v all;
   }

@@ -20,14 +20,14 @@ abbrev pub reason_read : ReadFault → Refusal MetricType
 reason_read (told.V2 fault) = spec.wrapped V2 (walk.reason_of v2 fault)
 reason_read (told.V3 fault) = spec.wrapped V3 (walk.reason_of v3 fault)
 reason_read (told.V4 fault) = spec.wrapped V4 (walk.reason_of v4 fault)
-reason_read (told.None fault) = spec.untold (why_of fault)
+reason_read (told.Untold fault) = spec.untold (why_of fault)
 
 -- and it can be told
 abbrev pub IsTellableFault : ReadFault → Type 0
 IsTellableFault (told.V2 fault) = walk.IsTellable v2 fault
 IsTellableFault (told.V3 fault) = walk.IsTellable v3 fault
 IsTellableFault (told.V4 fault) = walk.IsTellable v4 fault
-IsTellableFault (told.None fault) = IsTellable fault
+IsTellableFault (told.Untold fault) = IsTellable fault
 
 -- what reading a text answers: the vector that it denotes, or the first reason why there is none
 pub record IsRead (text : List ℕ) (answer : Result Cvss ReadFault) : Type 0 where

@@ -2,7 +2,7 @@
 use Rattle.std.specs.Prelude.{◌≡◌, ◌≢◌, ℕ, ◌||◌, Bool, true, false, List, [], ◌∷◌, ◌++◌, length, not, Contains}
 use Rattle.std.specs.List.{list_all}
 use Rattle.cvss_mention.specs.Mentions.{mentions_of}
-use Rattle.cvss_parts.specs.Parts.{begins_with_prefix, is_vector_byte, less_dividers}
+use Rattle.cvss_mention.specs.Parts.{begins_with_prefix, is_vector_byte, less_dividers}
 
 -- `CVSS:` stands in the text, behind its first byte
 abbrev pub has_second_prefix : List ℕ → Bool

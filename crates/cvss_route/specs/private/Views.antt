@@ -7,7 +7,7 @@ use Rattle.cvss_route.specs.Route as spec
 use Rattle.cvss_route.specs.declared.route.NoVersion.{NoVersion}
 use Rattle.cvss_route.specs.declared.route.NoVersion.TheVariants.{InvalidComponent, InvalidPrefix, UnsupportedVersion}
 use Rattle.cvss_route.specs.declared.route.Route.{Route}
-use Rattle.cvss_route.specs.declared.route.Route.TheVariants.{V20, V30, V31, V40, None}
+use Rattle.cvss_route.specs.declared.route.Route.TheVariants.{V20, V30, V31, V40, Untold}
 
 -- why no version is told, as its definition says it
 abbrev pub why_of : NoVersion → spec.NoVersion
@@ -22,7 +22,7 @@ IsTellable (InvalidPrefix prefix) = IsUtf8 prefix.now
 IsTellable (UnsupportedVersion told) = IsUtf8 told.now
 
 abbrev pub IsTellableRoute : Route → Type 0
-IsTellableRoute (None fault) = IsTellable fault
+IsTellableRoute (Untold fault) = IsTellable fault
 IsTellableRoute _ = ⊤
 
 -- where a text is read, as its definition says it
@@ -31,7 +31,7 @@ as_route V20 = spec.ToV20
 as_route (V30 left) = spec.ToV30
 as_route (V31 left) = spec.ToV31
 as_route (V40 left) = spec.ToV40
-as_route (None fault) = spec.ToNone (why_of fault)
+as_route (Untold fault) = spec.ToNone (why_of fault)
 
 -- the pieces of a text that tells its version are the one that tells it, and those with which it is handed on
 abbrev pub IsBehindVersion : List (List ℕ) → Route → Type 0

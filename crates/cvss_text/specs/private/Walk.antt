@@ -10,7 +10,7 @@ use Rattle.cvss_text.specs.declared.walk.Fault.{Fault}
 use Rattle.cvss_text.specs.declared.walk.Fault.TheVariants.{InvalidComponent, InvalidPrefix, UnsupportedVersion, UnknownMetric, InvalidMetric, DuplicateMetric, MissingMandatoryMetric}
 use Rattle.cvss_grammar.specs.laws.Order.{place_in}
 use Rattle.cvss_grammar.specs.Text.{slash, colon, pieces, IsComponent, name_part, value_part, component}
-use Rattle.cvss_grammar.specs.Version.{Version, read, reading, version_piece, AreComponentsOf, Denotes, IsComplete, IsWellFormed}
+use Rattle.cvss_grammar.specs.Version.{Version, read, reading, version_piece, AreComponentsOf, Denotes, IsWellFormed}
 use Rattle.cvss_grammar.specs.Refusal.{Refusal, BadComponent, WrongPrefix, WrongVersion, UnknownName, BadValue, Repeated, Missing, Spells, HasNoFaultBefore, IsFirstReason, BadPiecesFirst, IsFirstRefusalBehind, IsWrongPrefix, IsWrongVersion}
 
 -- a byte that no name and no spelling has: it divides, or is not ASCII
@@ -199,16 +199,6 @@ pub record IsCutAnswer {V K : Type 0} (version : Version V K) (piece : List ℕ)
   pub refused : IfErr answer (λ fault. (v : V) → IsComponent piece → IsFaultOf version v piece (reason_of version fault))
   pub unnamed : OnErr answer (IsComponent piece → (kind : K) → version.name kind ≢ read version (name_part piece))
   pub tellable : IsUtf8 piece → IfErr answer (IsTellable version)
-
--- the text is a version piece and components, which the complete vector holds
-pub record IsReadBehind {V K : Type 0} (version : Version V K) (text : List ℕ) (v : V) : Type 0 where
-  pub told : List ℕ
-  pub parts : List (List ℕ)
-  pub cut : pieces text ≡ version_piece told ∷ parts
-  pub front_is : version.front v ≡ version_piece told ∷ []
-  pub supported : Contains version.supported told
-  pub all : HasRead version parts (length parts) v
-  pub complete : IsComplete version v
 
 -- what reading a text that begins with a version piece answers
 pub record IsAnswerBehind {V K : Type 0} (version : Version V K) (text : List ℕ) (answer : Result V (Fault K)) : Type 0 where

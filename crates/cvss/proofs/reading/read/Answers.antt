@@ -6,9 +6,9 @@ use Rattle.cvss.proofs.AnswerLemmas.{of_none}
 use Rattle.cvss.proofs.ReadLemmas.{IsRead-fault}
 use Rattle.cvss.proofs.reading.read.Goals as goal
 
-pub returns-in-None : goal.returns-in-None
-returns-in-None c =
+pub returns-in-Untold : goal.returns-in-Untold
+returns-in-Untold c =
     let text = c.args.text.now in
-    let why = why_of c.in-None.fault in
-    let route = sym c.in-None.ensures.route in
-    IsRead-fault text (ToNone why) route (told.None c.in-None.fault) (of_none text why route) refl (λ reason is. sym is) c.in-None.ensures.tellable
+    let why = why_of c.in-Untold.fault in
+    let route = sym c.in-Untold.ensures.route in
+    IsRead-fault text (ToNone why) route (told.Untold c.in-Untold.fault) (of_none text why route) refl (λ reason is. sym is) c.in-Untold.ensures.tellable

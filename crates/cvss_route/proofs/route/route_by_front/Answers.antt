@@ -3,7 +3,7 @@ use Rattle.std.proofs.lemmas.Bool.{iff_false}
 use Rattle.cvss_text.specs.private.Pieces.{pieces_left}
 use Rattle.cvss_route.specs.private.Views.{IsBehindVersion}
 use Rattle.cvss_route.proofs.CutLemmas.{cut_routed, first_utf8}
-use Rattle.cvss_text.proofs.Utf8Lemmas.{IsUtf8-name, IsUtf8-value}
+use Rattle.cvss_text.proofs.PieceLemmas.{IsUtf8-name, IsUtf8-value}
 use Rattle.cvss_route.proofs.route.route_by_front.Goals as goal
 
 pub returns-then-is_empty-clause-tellable : goal.returns-then-is_empty-clause-tellable
@@ -17,7 +17,7 @@ returns-in-Some-clause-route c =
 pub returns-in-Some-clause-tellable : goal.returns-in-Some-clause-tellable
 returns-in-Some-clause-tellable c = λ is.
     let piece = first_utf8 c.args.text.now _ _ c.front_of.ensures is in
-    c.route_by.ensures.tellable (IsUtf8-name _ _ _ c.in-Some.ensures piece) (IsUtf8-value _ _ _ c.in-Some.ensures piece)
+    c.route_by.ensures.tellable (IsUtf8-name _ _ _ c.in-Some.ensures.cut piece) (IsUtf8-value _ _ _ c.in-Some.ensures.cut piece)
 
 pub returns-in-None-clause-tellable : goal.returns-in-None-clause-tellable
 returns-in-None-clause-tellable c = first_utf8 c.args.text.now _ _ c.front_of.ensures

@@ -1,5 +1,5 @@
-use Rattle.std.proofs.Common.{subst, sym, ◌∙◌}
-use Rattle.cvss_text.proofs.Utf8Lemmas.{IsUtf8-value}
+use Rattle.std.proofs.Common.{codes, subst, sym, ◌∙◌}
+use Rattle.cvss_text.proofs.PieceLemmas.{IsUtf8-value}
 use Rattle.cvss_route.specs.private.Views.{IsBehindVersion}
 use Rattle.cvss_route.proofs.CutLemmas.{cut_routed, first_utf8, some_piece, version_first, version_parts}
 use Rattle.cvss_route.proofs.route.route_of_text.Goals as goal
@@ -20,4 +20,4 @@ pub returns-in-Some-clause-tellable : goal.returns-in-Some-clause-tellable
 returns-in-Some-clause-tellable c = λ is.
     let told = c.in-Some.told.now in
     let cut = version_first c.args.text.now told c.in-Some.rest.now _ c.in-Some.ensures.text c.in-Some.ensures.slash c.pieces_of.ensures in
-    c.route_by_version.ensures.tellable (IsUtf8-value _ _ told (version_parts told) (first_utf8 c.args.text.now _ _ cut is))
+    c.route_by_version.ensures.tellable (IsUtf8-value _ (codes "CVSS") told (version_parts told).cut (first_utf8 c.args.text.now _ _ cut is))

@@ -1,7 +1,19 @@
+use Rattle.std.proofs.Common.{◌≡◌, ℕ, List, ◌∷◌, Option, Some, None, ap, arith}
+use Rattle.std.specs.Option.{option_map}
+use Rattle.cvss_grammar.specs.Text.{slash, component, value_part}
 use Rattle.cvss_grammar.specs.Version.{held}
+use Rattle.cvss_text.specs.private.Printing.{slashed}
+use Rattle.cvss_text.specs.private.Walk.{foreign_bytes}
 use Rattle.cvss_text.proofs.LawLemmas.{name_plain}
-use Rattle.cvss_text.proofs.ListingLemmas.{held-from_slashed}
+use Rattle.cvss_text.proofs.TextLemmas.{is_colon, foreign_sorts, count_by-cons, value_behind}
 use Rattle.cvss_text.proofs.metrics.spelled.Goals as goal
+
+-- the printed component gives the spelling back
+held-from_slashed : (name : List ℕ) (held : Option (List ℕ)) (text : List ℕ) → foreign_bytes name ≡ 0 → Some text ≡ slashed (option_map (component name) held) → Some (value_part text) ≡ held
+held-from_slashed name None text plain is = absurd (let no : Some text ≡ None = is in cc)
+held-from_slashed name (Some spelling) text plain is =
+    let text_is : text ≡ component (slash ∷ name) spelling = cc in
+    rw text_is (ap Some (value_behind (slash ∷ name) spelling (omega (arith, count_by-cons is_colon slash name, foreign_sorts name))))
 
 pub returns-in-Some : goal.returns-in-Some
 returns-in-Some g c =

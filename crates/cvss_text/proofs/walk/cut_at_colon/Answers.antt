@@ -2,7 +2,7 @@ use Rattle.std.proofs.Common.{ap, sym, ◌∙◌}
 use Rattle.cvss_grammar.specs.Text.{component}
 use Rattle.cvss_grammar.specs.Version.{read}
 use Rattle.cvss_text.proofs.LawLemmas.{named_known, named_unknown}
-use Rattle.cvss_text.proofs.Utf8Lemmas.{IsUtf8-name}
+use Rattle.cvss_text.proofs.PieceLemmas.{IsUtf8-name}
 use Rattle.cvss_text.proofs.walk.cut_at_colon.Goals as goal
 
 pub returns-in-Some-kind_named : goal.returns-in-Some-kind_named
@@ -29,5 +29,5 @@ returns-in-None g c =
       cut = tt;
       refused = λ _ _. (ap (read version) parts.name_is, unknown);
       unnamed = λ _ kind named. unknown kind (named ∙ ap (read version) (sym parts.name_is));
-      tellable = IsUtf8-name c.args.piece.now _ _ parts;
+      tellable = IsUtf8-name _ _ _ parts.cut;
     }

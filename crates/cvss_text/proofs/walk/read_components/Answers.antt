@@ -1,7 +1,7 @@
 use Rattle.std.proofs.Common.{[], refl, ◌∙◌}
 use Rattle.cvss_text.specs.private.Pieces.{pieces_left}
 use Rattle.cvss_text.specs.private.Walk.{reason_of}
-use Rattle.cvss_text.proofs.WalkLemmas.{HasReadTo-start, HasReadTo-all, HasReadTo-components, HasReadTo-more, IsFirstBadPiece-to, IsFirstOfPieces-fault, first_utf8}
+use Rattle.cvss_text.proofs.WalkLemmas.{HasReadTo-start, HasReadTo-all, HasReadTo-more, IsFirstBadPiece-to, IsFirstOfPieces-fault, first_utf8}
 use Rattle.cvss_text.proofs.walk.read_components.Goals as goal
 
 pub loop-text-init : goal.loop-text-init
@@ -31,8 +31,8 @@ returns-in-None-clause-tellable g c = λ is.
 
 pub returns-clause-read : goal.returns-clause-read
 returns-clause-read g c =
-    HasReadTo-all g.V.Components.version g.met.V.Components.lawful (pieces_left c.args.left) _ c.loop-text.vector c.in_default.ensures c.loop-text.invariant.0
+    (HasReadTo-all g.V.Components.version g.met.V.Components.lawful (pieces_left c.args.left) _ c.loop-text.vector c.in_default.ensures c.loop-text.invariant.0).0
 
 pub returns-clause-components : goal.returns-clause-components
 returns-clause-components g c =
-    HasReadTo-components g.V.Components.version g.met.V.Components.lawful (pieces_left c.args.left) _ c.loop-text.vector c.in_default.ensures c.loop-text.invariant.0
+    (HasReadTo-all g.V.Components.version g.met.V.Components.lawful (pieces_left c.args.left) _ c.loop-text.vector c.in_default.ensures c.loop-text.invariant.0).1

@@ -3,11 +3,10 @@ use Rattle.std.specs.List.{All}
 use Rattle.std.specs.Str.{IsUtf8}
 use Rattle.std.proofs.lemmas.List.Elements.{All-head}
 use Rattle.std.proofs.lemmas.Result.{err_from_is_err_and}
-use Rattle.cvss_grammar.specs.Text.{name_part}
 use Rattle.cvss_grammar.specs.Version.{read}
 use Rattle.cvss_text.specs.private.Walk.{Puts}
-use Rattle.cvss_text.proofs.Utf8Lemmas.{IsUtf8-value}
-use Rattle.cvss_text.proofs.WalkLemmas.{AreParts-cut, IsComponent-read}
+use Rattle.cvss_text.proofs.PieceLemmas.{IsUtf8-value}
+use Rattle.cvss_text.proofs.WalkLemmas.{IsComponent-read}
 use Rattle.cvss_text.proofs.walk.read_first.Goals as goal
 
 pub returns-in_err-kind-clause-refused : goal.returns-in_err-kind-clause-refused
@@ -20,7 +19,7 @@ returns-in_err-put_component-clause-tellable g c = λ is.
     let exit = err_from_is_err_and c.from_residual-in_err-put_component.result c.from_residual-in_err-put_component.ensures.1 in
     let cut = c.in_ok-kind.ensures.cut in
     let piece = All-head IsUtf8 _ _ (subst (All IsUtf8) cut.first is) in
-    rw (exit.1, exit.2) (c.in_err-put_component.ensures.tellable (IsUtf8-value cut.piece (name_part cut.piece) c.in_ok-kind.value.now (AreParts-cut g.V.Components.version cut.is) piece))
+    rw (exit.1, exit.2) (c.in_err-put_component.ensures.tellable (IsUtf8-value _ _ _ cut.is.cut piece))
 
 pub returns-clause-read : goal.returns-clause-read
 returns-clause-read g c =
@@ -30,7 +29,7 @@ returns-clause-read g c =
     record {
       piece = cut.piece;
       first = cut.first;
-      component = IsComponent-read version g.met.V.Components.lawful c.args.vector.now c.put_component.new.vector cut.piece (name_part cut.piece) c.in_ok-kind.value.now c.in_ok-kind.kind (AreParts-cut version cut.is) cut.is.named puts;
+      component = IsComponent-read version g.met.V.Components.lawful cut.is puts;
       adds = record {
         kind = c.in_ok-kind.kind;
         named = cut.is.named;

@@ -1,5 +1,5 @@
-use Rattle.cvss_parts.proofs.PartLemmas.{IsWithinFirst-first, IsWithinFirst-next}
-use Rattle.cvss_parts.proofs.part.first_part.Goals as goal
+use Rattle.cvss_mention.proofs.PartLemmas.{IsWithinFirst-first, IsWithinFirst-next}
+use Rattle.cvss_mention.proofs.part.first_part.Goals as goal
 
 pub loop-left-init : goal.loop-left-init
 loop-left-init c = IsWithinFirst-first c.args.text.now c.in-len1-up.len_at_least (cc (c.is_vector_byte.ensures, c.if-not-is_vector_byte.false))

@@ -1,6 +1,6 @@
 use Rattle.std.proofs.Common.{◌≡◌, length}
-use Rattle.cvss_parts.specs.Parts.{less_dividers}
-use Rattle.cvss_parts.proofs.part.less_dividers.Given as goal
+use Rattle.cvss_mention.specs.Parts.{less_dividers}
+use Rattle.cvss_mention.proofs.part.less_dividers.Given as goal
 
 abbrev pub invariant-loop-text : goal.invariant-loop-text
 invariant-loop-text l = less_dividers l.fn.part ≡ less_dividers l.text

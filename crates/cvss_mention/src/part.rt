@@ -1,7 +1,7 @@
 //! How a text is cut into parts.
 
 ghost use Rattle.std.specs.Prelude.{◌≡◌, ◌<◌, ◌≤◌, ◌∷◌, length, take, drop};
-ghost use Rattle.cvss_parts.specs.Parts.{begins_part, begins_with_prefix, is_divider, is_vector_byte, less_dividers, parts_of};
+ghost use Rattle.cvss_mention.specs.Parts.{begins_part, begins_with_prefix, is_divider, is_vector_byte, less_dividers, parts_of};
 
 /// The length of the first part of a text that has bytes.
 pub fn first_part(text: &[u8]) -> usize

@@ -4,7 +4,7 @@ use Rattle.std.proofs.Math.Seq.{split_at}
 use Rattle.std.proofs.lemmas.List.{drop_all}
 use Rattle.std.specs.List.{list_all}
 use Rattle.std.proofs.lemmas.List.Folds.{list_all-append}
-use Rattle.cvss_parts.specs.Parts.{is_divider, less_dividers}
+use Rattle.cvss_mention.specs.Parts.{is_divider, less_dividers}
 
 and_true : (b : Bool) → (b && (true && true)) ≡ b
 and_true true = refl

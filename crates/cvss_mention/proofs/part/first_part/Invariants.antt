@@ -1,6 +1,6 @@
 use Rattle.std.proofs.Common.{length}
-use Rattle.cvss_parts.proofs.PartLemmas.{IsWithinFirst}
-use Rattle.cvss_parts.proofs.part.first_part.Given as goal
+use Rattle.cvss_mention.proofs.PartLemmas.{IsWithinFirst}
+use Rattle.cvss_mention.proofs.part.first_part.Given as goal
 
 abbrev pub invariant-loop-left : goal.invariant-loop-left
 invariant-loop-left l = IsWithinFirst l.fn.text l.left

@@ -2,7 +2,7 @@
 use Rattle.std.proofs.Common.{◌≡◌, ℕ, ◌<◌, ◌≤◌, ◌-◌, get_or, Bool, true, false, not, cond, ◌||◌, if◌then◌else◌, List, [], ◌∷◌, ◌++◌, length, take, drop, refl, sym, ap, ◌∙◌, subst, append_assoc, arith}
 use Rattle.std.proofs.lemmas.Bool.{or_parts}
 use Rattle.std.proofs.lemmas.List.{length-append, take_at, drop_at, take_rest}
-use Rattle.cvss_parts.specs.Parts.{begins_part, begins_with_prefix, is_vector_byte, onto_first, parts_of}
+use Rattle.cvss_mention.specs.Parts.{begins_part, begins_with_prefix, is_vector_byte, onto_first, parts_of}
 
 -- bytes at the front of the first part
 abbrev pub joined_onto : List ℕ → List (List ℕ) → List (List ℕ)
