@@ -62,8 +62,9 @@ pub(crate) fn places(rt: &HostRuntime, document: &str) -> io::Result<()> {
 }
 
 fn print_places(rt: &HostRuntime, document: &Value) -> io::Result<()> {
-    for place in &vectors_in(rt.alloc(), document)? {
-        print_place(rt, place)?;
+    let mut places = vectors_in(rt.alloc(), document)?;
+    while let Some(place) = places.next_place(rt.alloc())? {
+        print_place(rt, &place)?;
     }
     println!(rt)
 }
