@@ -6,7 +6,6 @@ use Rattle.std.proofs.lemmas.List.{get_or-take, length-map, length-take, length-
 use Rattle.std.proofs.lemmas.List.Folds.{list_any_at}
 use Rattle.std.proofs.lemmas.List.Sorted.{length_permutation}
 use Rattle.std.proofs.lemmas.Bool.{cases_lt}
-use Rattle.std.proofs.lemmas.Map.Views.{Contains-from_any}
 use Rattle.std.proofs.lemmas.Slice.Eq.{bytes_eq-Decides}
 use Rattle.cvss.specs.MetricTypeV4.{MetricType}
 use Rattle.cvss.specs.OverrideErrorTypeV4.{OverrideError}
@@ -19,25 +18,16 @@ use Rattle.cvss.specs.VectorTypeV4.{Vector}
 use Rattle.cvss.specs.VectorV4.{v4}
 use Rattle.cvss.specs.Version.{component_of, components_of, read, reading}
 use Rattle.cvss_bytes.specs.private.Overridden.{place_of}
-use Rattle.cvss_text.proofs.LawLemmas.{names_differ}
-use Rattle.cvss_v4.specs.private.VectorLaws.{v4_is_lawful}
 
 -- whether two metrics have one name
-abbrev pub same_name : MetricType → MetricType → Bool
+abbrev same_name : MetricType → MetricType → Bool
 same_name kind other = bytes_eq (name_of kind) (name_of other)
 
-one_metric : (kind other : MetricType) → same_name kind other ≡ true → kind ≡ other
-one_metric kind other same =
-    names_differ v4 v4_is_lawful kind other ((bytes_eq-Decides _ _).0 same)
-
 -- whether a metric is an environmental one
-abbrev pub is_environmental : MetricType → Bool
+abbrev is_environmental : MetricType → Bool
 is_environmental kind = list_any (same_name kind) environmental
 
-pub environmental_from : (kind : MetricType) → is_environmental kind ≡ true → Contains environmental kind
-environmental_from kind is = Contains-from_any one_metric kind environmental is
-
-pub environmental_is : (kind : MetricType) → Contains environmental kind → is_environmental kind ≡ true
+environmental_is : (kind : MetricType) → Contains environmental kind → is_environmental kind ≡ true
 environmental_is kind (place, within, is) =
     list_any_at (same_name kind) environmental place kind within ((bytes_eq-Decides _ _).1 (ap name_of (sym is)))
 
@@ -95,10 +85,7 @@ module _ (xs ys : List (List ℕ)) (place : ℕ) (same : (k : ℕ) → k ≤ pla
       (kind, blames, named ∙ name_same place (omega arith), is ∙ value_same, wrong)
   fault_same (Repeated kind) (named, spelled, before) =
       (named ∙ name_same place (omega arith), subst (Spells (reading v4 kind)) value_same spelled, named_same kind before)
-  fault_same (BadComponent piece) none = none
-  fault_same (WrongPrefix prefix) none = none
-  fault_same (WrongVersion told) none = none
-  fault_same (Missing kind) none = none
+  fault_same _ none = absurd none
 
   is_component : IsComponent (piece_at xs place) → IsComponent (piece_at ys place)
   is_component is = subst IsComponent (same place (omega arith)) is
