@@ -1,21 +1,16 @@
 -- A buffer, as one text after another is written into it.
-use Rattle.std.proofs.Common.{◌≡◌, ℕ, ◌+◌, ◌<◌, ◌≤◌, List, [], length, get_or, take, Some, unwrap_or, refl, sym, ap, subst}
+use Rattle.std.proofs.Common.{◌≡◌, ℕ, ◌+◌, ◌<◌, ◌≤◌, List, [], length, get_or, take, flat_map, Option, Some, unwrap_or, refl, sym, ap, subst}
 use Rattle.std.proofs.lemmas.List.Folds.{length-flat_map-take}
-use Rattle.cvss_text.specs.private.Printing.{slashed, slashed_text, slashed_texts}
-use Rattle.cvss_grammar.specs.Version.{Version, component_of}
 use Rattle.std.proofs.lemmas.Bool.{le-leb, lt-leb}
 use Rattle.cvss_bytes.specs.Buffer.{HasPut, IsWritten}
 
--- the text of a component behind a slash
-pub slashed_text-some : {V K : Type 0} (version : Version V K) (v : V) (kind : K) (text : List ℕ) → Some text ≡ slashed (component_of version v kind) → text ≡ slashed_text version v kind
-slashed_text-some version v kind text is = ap (λ o. unwrap_or o []) is
+-- what the items so far and one more give is no longer than what all give
+pub part_fits : {K X : Type 0} (f : K → List X) (kinds : List K) (i : ℕ) (kind : K) (text : List X) → i < length kinds → kind ≡ get_or kinds i kind → text ≡ f kind → length (flat_map f (take i kinds)) + length text ≤ length (flat_map f kinds)
+part_fits f kinds i kind text within is text_is =
+    rw text_is (subst (λ each. length (flat_map f (take i kinds)) + length (f each) ≤ length (flat_map f kinds)) (sym is) (length-flat_map-take f kinds i kind within))
 
-module _ {V K : Type 0} (version : Version V K) (v : V) (kinds : List K) (i : ℕ) (kind : K) (within : i < length kinds) (is : kind ≡ get_or kinds i kind) where
-  -- the components so far and one more are no longer than all of them
-  pub slashed_texts-fit : length (slashed_texts version v (take i kinds)) + length (slashed_text version v kind) ≤ length (slashed_texts version v kinds)
-  slashed_texts-fit =
-      subst (λ each. length (slashed_texts version v (take i kinds)) + length (slashed_text version v each) ≤ length (slashed_texts version v kinds)) (sym is)
-      (length-flat_map-take (slashed_text version v) kinds i kind within)
+pub present : (o : Option (List ℕ)) (text : List ℕ) → Some text ≡ o → text ≡ unwrap_or o []
+present o text is = ap (λ o. unwrap_or o []) is
 
 -- no text is written yet
 pub nothing_put : {X : Type 0} (old : List X) → HasPut old [] old 0

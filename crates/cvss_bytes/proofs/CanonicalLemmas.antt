@@ -1,19 +1,17 @@
 -- The parts that a canonical text is written in.
 use Rattle.std.proofs.Common.{◌≡◌, ℕ, zero, suc, ◌-◌, List, [], ◌∷◌, ◌++◌, codes, length, take, drop, Some, Contains, sym, ap, ◌∙◌, arith}
 use Rattle.std.proofs.lemmas.List.{take_rest}
-use Rattle.cvss_grammar.specs.Version.{numeral, Version, canonical_text, component_of, version_piece}
+use Rattle.cvss_grammar.specs.Version.{Version, canonical_text, component_of, version_piece}
 use Rattle.cvss_text.specs.private.Printing.{slashed_texts}
 use Rattle.cvss_grammar.specs.Text.{slash}
 use Rattle.cvss_name.specs.declared.v2.MetricType.{MetricType}
 use Rattle.cvss_name.specs.declared.v2.MetricType.TheVariants.{AV}
 use Rattle.cvss_text.proofs.PrintLemmas.{joined-slashed}
 use Rattle.cvss.specs.VectorTypeV2 as vector_v2
-use Rattle.cvss.specs.VectorTypeV3 as vector_v3
 use Rattle.cvss.specs.VectorTypeV4 as vector_v4
 use Rattle.cvss.specs.VectorV2.{v2}
-use Rattle.cvss.specs.VectorV3.{v3}
 use Rattle.cvss.specs.VectorV4.{v4}
-use Rattle.cvss.specs.Dispatch.{DenotesV3, DenotesV4}
+use Rattle.cvss.specs.Dispatch.{DenotesV4}
 
 -- of CVSS v2: the first component without its slash, and the others behind slashes
 pub text_from_first : (vector : vector_v2.Vector) (piece text : List ℕ) (kinds : List MetricType) → text ≡ slash ∷ piece → component_of v2 vector AV ≡ Some piece → kinds ≡ v2.printed → take (length text - 1) (drop 1 text) ++ slashed_texts v2 vector (take (length kinds - 1) (drop 1 kinds)) ≡ canonical_text v2 vector
@@ -23,20 +21,12 @@ text_from_first vector piece text kinds is held in_order =
     ∙ rw (is, in_order, held) (sym (joined-slashed v2 vector piece (drop 1 v2.printed)))
 
 -- behind a piece that tells the version: this piece, and all components behind slashes
-module _ {V K : Type 0} (version : Version V K) (v : V) where
-  pub text_from_front : (piece first : List ℕ) (kinds : List K) → version.front v ≡ piece ∷ [] → first ≡ piece → kinds ≡ version.printed → first ++ slashed_texts version v kinds ≡ canonical_text version v
-  text_from_front piece first kinds front is in_order =
-      rw (is, in_order, front) (sym (joined-slashed version v piece version.printed))
+pub text_from_front : {V K : Type 0} (version : Version V K) (v : V) (piece : List ℕ) (kinds : List K) → version.front v ≡ piece ∷ [] → kinds ≡ version.printed → piece ++ slashed_texts version v kinds ≡ canonical_text version v
+text_from_front version v piece kinds front in_order = rw (in_order, front) (sym (joined-slashed version v piece version.printed))
 
 only_one : {X : Type 0} (x y : X) → Contains (x ∷ []) y → x ≡ y
 only_one x y (zero, within, is) = is
 only_one x y (suc k, within, is) = absurd (omega (arith, within))
-
-pub front_v30 : (text : List ℕ) (vector : vector_v3.Vector) → DenotesV3 text (codes "CVSS:3.0") 0 vector → v3.front vector ≡ codes "CVSS:3.0" ∷ []
-front_v30 text vector denoted = ap (λ minor. version_piece (codes "3." ++ numeral minor) ∷ []) denoted.version
-
-pub front_v31 : (text : List ℕ) (vector : vector_v3.Vector) → DenotesV3 text (codes "CVSS:3.1") 1 vector → v3.front vector ≡ codes "CVSS:3.1" ∷ []
-front_v31 text vector denoted = ap (λ minor. version_piece (codes "3." ++ numeral minor) ∷ []) denoted.version
 
 pub front_v40 : (text : List ℕ) (vector : vector_v4.Vector) → DenotesV4 text vector → v4.front vector ≡ codes "CVSS:4.0" ∷ []
 front_v40 text vector denoted =

@@ -1,9 +1,8 @@
 -- A vector's text without its undefined metrics.
-use Rattle.std.proofs.Common.{◌≡◌, ◌≤◌, ◌<◌, ℕ, ◌+◌, ◌-◌, Bool, true, false, List, [], ◌∷◌, ◌++◌, codes, length, take, drop, get_or, Option, Some, None, unwrap_or, bytes_eq, if◌then◌else◌, refl, sym, ap, subst, ◌∙◌, append_assoc, append-nil, arith, length-append}
+use Rattle.std.proofs.Common.{◌≡◌, ◌≤◌, ◌<◌, ℕ, ◌+◌, ◌-◌, Bool, true, false, List, [], ◌∷◌, ◌++◌, codes, length, take, drop, Option, Some, None, unwrap_or, bytes_eq, if◌then◌else◌, refl, sym, ap, ◌∙◌, append_assoc, append-nil, arith, length-append}
 use Rattle.std.specs.List.{filter_map, cons_option}
 use Rattle.std.specs.Option.{option_map, option_and_then}
 use Rattle.std.proofs.lemmas.List.{take_rest}
-use Rattle.std.proofs.lemmas.List.Folds.{length-flat_map-take}
 use Rattle.cvss_text.specs.private.Printing.{slashed, slashed_text, slashed_texts}
 use Rattle.cvss_grammar.specs.Text.{component, joined, slash}
 use Rattle.cvss_grammar.specs.Version.{Version, canonical_text, component_of, components_of, held}
@@ -56,14 +55,6 @@ module _ {V K : Type 0} (version : Version V K) (undefined : List ℕ) (v : V) w
         length-append (slashed_text version v kind) (slashed_texts version v kinds),
       )
 
-  -- those so far and one more are no longer than all of them
-  pub defined_texts-fit : (kinds : List K) (i : ℕ) (kind : K) (text : List ℕ) → i < length kinds → kind ≡ get_or kinds i kind → Some text ≡ slashed (defined_component version undefined v kind) → length (defined_texts version undefined v (take i kinds)) + length text ≤ length (defined_texts version undefined v kinds)
-  defined_texts-fit kinds i kind text within is present =
-      let one : text ≡ unwrap_or (slashed (defined_component version undefined v kind)) [] = ap (λ o. unwrap_or o []) present in
-      let fit = subst (λ each. length (defined_texts version undefined v (take i kinds)) + length (unwrap_or (slashed (defined_component version undefined v each)) []) ≤ length (defined_texts version undefined v kinds)) (sym is)
-      (length-flat_map-take (λ each. unwrap_or (slashed (defined_component version undefined v each)) []) kinds i kind within) in
-      omega (arith, ap length one, fit)
-
   joined-defined : (first : List ℕ) (kinds : List K) → joined (first ∷ filter_map (defined_component version undefined v) kinds) ≡ first ++ defined_texts version undefined v kinds
   joined-defined first [] = sym (append-nil first)
   joined-defined first (kind ∷ kinds) =
@@ -80,7 +71,7 @@ module _ {V K : Type 0} (version : Version V K) (undefined : List ℕ) (v : V) w
           arith,
           defined_texts-short kinds,
           length-append piece (slashed_texts version v kinds),
-          ap length (text_from_front version v piece piece kinds front refl in_order),
+          ap length (text_from_front version v piece kinds front in_order),
         )
 
     -- behind a piece, where a metric is defined: the defined components

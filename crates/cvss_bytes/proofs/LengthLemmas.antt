@@ -1,5 +1,5 @@
 -- A vector's canonical text is as long as each text that denotes the vector.
-use Rattle.std.proofs.Common.{◌≡◌, ◌≤◌, ℕ, ◌+◌, Bool, true, false, List, [], ◌∷◌, ◌++◌, length, map, refl, sym, ap, ◌∙◌, arith, length-append}
+use Rattle.std.proofs.Common.{◌≡◌, ℕ, ◌+◌, ◌-◌, Bool, true, false, List, [], ◌∷◌, ◌++◌, length, map, refl, sym, ap, ◌∙◌, arith, length-append}
 use Rattle.std.specs.List.{sum_by}
 use Rattle.std.proofs.lemmas.List.{length-map}
 use Rattle.std.proofs.lemmas.List.Sorted.{sum_by-IsPermutation}
@@ -15,21 +15,15 @@ use Rattle.cvss.specs.declared.vector.Cvss.{Cvss}
 use Rattle.cvss.specs.declared.vector.Cvss.TheVariants.{CvssV20, CvssV30, CvssV31, CvssV40}
 
 -- a piece and the slash before it
-abbrev pub piece_length : List ℕ → ℕ
+abbrev piece_length : List ℕ → ℕ
 piece_length piece = length piece + 1
 
 -- pieces with slashes between them
-joined-length : (part : List ℕ) (parts : List (List ℕ)) → length (joined (part ∷ parts)) + 1 ≡ sum_by piece_length (part ∷ parts)
-joined-length part [] = omega arith
-joined-length part (next ∷ parts) =
-    omega (arith, length-append part (slash ∷ joined (next ∷ parts)), joined-length next parts, sum_by-cons piece_length part (next ∷ parts))
-
--- lists of pieces that are as long have joins that are as long
-joined-same_length : (xs ys : List (List ℕ)) → sum_by piece_length xs ≡ sum_by piece_length ys → length (joined xs) ≡ length (joined ys)
-joined-same_length [] [] same = refl
-joined-same_length [] (y ∷ ys) same = absurd (omega (arith, same, sum_by-cons piece_length y ys))
-joined-same_length (x ∷ xs) [] same = absurd (omega (arith, same, sum_by-cons piece_length x xs))
-joined-same_length (x ∷ xs) (y ∷ ys) same = omega (arith, same, joined-length x xs, joined-length y ys)
+joined-length : (parts : List (List ℕ)) → length (joined parts) ≡ sum_by piece_length parts - 1
+joined-length [] = refl
+joined-length (part ∷ []) = omega arith
+joined-length (part ∷ next ∷ parts) =
+    omega (arith, length-append part (slash ∷ joined (next ∷ parts)), joined-length (next ∷ parts), sum_by-cons piece_length part (next ∷ parts), sum_by-cons piece_length next parts)
 
 read_as-length : (any_case : Bool) (text : List ℕ) → length (read_as any_case text) ≡ length text
 read_as-length true text = length-map text _
@@ -41,15 +35,10 @@ sums-read version (part ∷ parts) =
     omega (arith, sum_by-cons piece_length (read version part) (map (read version) parts), sum_by-cons piece_length part parts, read_as-length version.any_case part, sums-read version parts)
 
 -- a vector's components are as long as the pieces that are them
-pub sums-components : {V K : Type 0} (version : Version V K) (parts : List (List ℕ)) (v : V) → AreComponentsOf version parts v → sum_by piece_length (components_of version v) ≡ sum_by piece_length parts
+sums-components : {V K : Type 0} (version : Version V K) (parts : List (List ℕ)) (v : V) → AreComponentsOf version parts v → sum_by piece_length (components_of version v) ≡ sum_by piece_length parts
 sums-components version parts v are =
     let read_same : sum_by piece_length (map (read version) parts) ≡ sum_by piece_length (map (read version) (components_of version v)) = sum_by-IsPermutation piece_length _ _ are.each_once in
     sym (sums-read version (components_of version v)) ∙ (sym read_same ∙ sums-read version parts)
-
--- pieces are no longer than their join and a slash
-pub sums-joined : (parts : List (List ℕ)) → sum_by piece_length parts ≤ length (joined parts) + 1
-sums-joined [] = omega arith
-sums-joined (part ∷ parts) = omega (arith, joined-length part parts)
 
 length-denoted : {V K : Type 0} (version : Version V K) (text : List ℕ) (v : V) → Denotes version text v → length (canonical_text version v) ≡ length text
 length-denoted version text v denoted =
@@ -57,7 +46,7 @@ length-denoted version text v denoted =
     let front = version.front v in
     let same = sums-components version parts v denoted.components in
     let whole : sum_by piece_length (front ++ components_of version v) ≡ sum_by piece_length (front ++ parts) = omega (arith, same, sum_by-append piece_length front (components_of version v), sum_by-append piece_length front parts) in
-    joined-same_length (front ++ components_of version v) (front ++ parts) whole ∙ ap length (sym denoted.text_is)
+    joined-length (front ++ components_of version v) ∙ ap (λ n. n - 1) whole ∙ sym (joined-length (front ++ parts)) ∙ ap length (sym denoted.text_is)
 
 pub length-denoted_cvss : (text : List ℕ) (cvss : Cvss) → DenotesCvss text cvss → length (text_of cvss) ≡ length text
 length-denoted_cvss text (CvssV20 vector) denoted = length-denoted v2 text vector denoted.denoted

@@ -1,17 +1,14 @@
 pub mod AccountLemmas
-pub mod AnswerLemmas
 pub mod BufferLemmas
 pub mod CanonicalLemmas
 pub mod DefinedLemmas
 pub mod DepthLemmas
 pub mod LengthLemmas
 pub mod LinesLemmas
-pub mod MetricLemmas
 pub mod ObjectionLemmas
 pub mod OverriddenLemmas
 pub mod PartLemmas
 pub mod PartsLemmas
-pub mod RatingLemmas
 pub mod ReasonLemmas
 pub mod RecordLemmas
 pub mod UndefinedLemmas

@@ -6,7 +6,6 @@ use Rattle.std.proofs.lemmas.List.{get_or-take, length-map, length-take, length-
 use Rattle.std.proofs.lemmas.List.Sorted.{length_permutation}
 use Rattle.std.proofs.lemmas.Bool.{cases_lt}
 use Rattle.cvss.specs.Groups.{same_group}
-use Rattle.cvss.specs.MetricGroupType.{MetricGroup}
 use Rattle.cvss.specs.MetricGroupType.TheVariants.{Environmental}
 use Rattle.cvss.specs.MetricTypeV4.{MetricType}
 use Rattle.cvss.specs.OverrideErrorTypeV4.{OverrideError}
@@ -20,16 +19,10 @@ use Rattle.cvss.specs.Version.{component_of, components_of, read, reading}
 use Rattle.cvss_bytes.specs.private.Overridden.{place_of}
 
 -- whether a metric is an environmental one
-abbrev pub is_environmental : MetricType → Bool
+abbrev is_environmental : MetricType → Bool
 is_environmental kind = same_group (group_of kind) Environmental
 
-from_group : (group : MetricGroup) → same_group group Environmental ≡ true → group ≡ Environmental
-from_group = elim [ Environmental ↦ λ _. refl | _ ↦ λ other. absurd cc ]
-
-pub environmental_from : (kind : MetricType) → is_environmental kind ≡ true → group_of kind ≡ Environmental
-environmental_from kind is = from_group (group_of kind) is
-
-pub environmental_is : (kind : MetricType) → group_of kind ≡ Environmental → is_environmental kind ≡ true
+environmental_is : (kind : MetricType) → group_of kind ≡ Environmental → is_environmental kind ≡ true
 environmental_is kind is = ap (λ group. same_group group Environmental) is
 
 -- how many of these metrics are environmental ones
@@ -86,10 +79,7 @@ module _ (xs ys : List (List ℕ)) (place : ℕ) (same : (k : ℕ) → k ≤ pla
       (kind, blames, named ∙ name_same place (omega arith), is ∙ value_same, wrong)
   fault_same (Repeated kind) (named, spelled, before) =
       (named ∙ name_same place (omega arith), subst (Spells (reading v4 kind)) value_same spelled, named_same kind before)
-  fault_same (BadComponent piece) none = none
-  fault_same (WrongPrefix prefix) none = none
-  fault_same (WrongVersion told) none = none
-  fault_same (Missing kind) none = none
+  fault_same _ none = absurd none
 
   is_component : IsComponent (piece_at xs place) → IsComponent (piece_at ys place)
   is_component is = subst IsComponent (same place (omega arith)) is

@@ -1,9 +1,9 @@
 -- How a reason that was found is told: by its error, or as want of memory where it carries a part of the text.
-use Rattle.std.proofs.Common.{◌≡◌, ◌≤◌, ℕ, List, ◌++◌, codes, true, Option, IfSome, inl, inr, refl, sym, ap, ◌∙◌, subst, append_assoc, true≢false}
+use Rattle.std.proofs.Common.{◌≡◌, ◌≤◌, ℕ, List, ◌++◌, codes, true, Option, IfSome, inl, inr, refl, sym, ap, ◌∙◌, subst, append_assoc, true≢false, rules}
 use Rattle.std.specs.Fmt.{decimal}
 use Rattle.cvss.specs.Dispatch.{cvss_reason}
 use Rattle.cvss.specs.ErrorType.{Error}
-use Rattle.cvss.specs.ErrorType.TheVariants.{InvalidComponent, InvalidPrefix, UnsupportedVersion, InvalidMetricV4, DuplicateMetricV4, MissingMandatoryMetricV4, UnknownMetric}
+use Rattle.cvss.specs.ErrorType.TheVariants.{DuplicateMetricV4, MissingMandatoryMetricV4}
 use Rattle.cvss.specs.MetricTypeV4 as metric_v4
 use Rattle.cvss.specs.OverrideErrorTypeV4.{OverrideError}
 use Rattle.cvss.specs.OverrideErrorTypeV4.TheVariants.{NotEnvironmental, Refused}
@@ -14,7 +14,7 @@ use Rattle.cvss.specs.TypesV4.{v4_reason}
 use Rattle.cvss.specs.declared.metric_type.MetricType.{MetricType}
 use Rattle.cvss.specs.declared.metric_type.MetricType.TheVariants.{V4}
 use Rattle.cvss.specs.declared.vector.Cvss.{Cvss}
-use Rattle.cvss.specs.declared.vector.Cvss.TheVariants.{CvssV20, CvssV30, CvssV31, CvssV40}
+use Rattle.cvss.specs.declared.vector.Cvss.TheVariants.{CvssV40}
 use Rattle.cvss_bytes.specs.Overriding.{IsOverrideReason}
 use Rattle.cvss_bytes.specs.declared.overriding.Unfit.TheVariants.{Override}
 use Rattle.cvss_bytes.specs.private.Overridden.{IsUnfit, place_of}
@@ -32,14 +32,9 @@ tells_reason error told reason same tells =
 
 -- an error of CVSS v4.0 of which each reason carries a part of the text
 carried : (error : Error) → CarriesText error → IfSome (reason_told v4_reason error) (λ reason. carries_text reason ≡ true)
-carried (InvalidComponent component) carries = refl
-carried (InvalidPrefix prefix) carries = refl
-carried (UnsupportedVersion version) carries = refl
-carried (UnknownMetric name) carries = refl
-carried (InvalidMetricV4 kind value) carries = refl
 carried (DuplicateMetricV4 kind) carries = absurd (true≢false (sym (carries (Repeated (V4 kind)) (inl refl))))
 carried (MissingMandatoryMetricV4 kind) carries = absurd (true≢false (sym (carries (Missing (V4 kind)) (inl refl))))
-carried _ carries = tt
+carried _ carries = search rules
 
 carried_v4 : (error : Error) (reason : Refusal metric_v4.MetricType) → CarriesText error → Tells v4_reason reason error → carries_text reason ≡ true
 carried_v4 error reason carries (inl is) = subst (λ each. IfSome each (λ known. carries_text known ≡ true)) is (carried error carries)
@@ -55,16 +50,11 @@ objection_same place index (OfText reason) error told same (own, refused, tells)
 
 -- an override that is refused is one of the first fifteen
 pub unfit_place : (cvss : Cvss) (text : List ℕ) (error : OverrideError) → IsUnfit cvss text (Override error) → place_of error ≤ 14
-unfit_place (CvssV20 vector) text error unfit = absurd unfit
-unfit_place (CvssV30 vector) text error unfit = absurd unfit
-unfit_place (CvssV31 vector) text error unfit = absurd unfit
 unfit_place (CvssV40 vector) text error unfit = unfit.2
+unfit_place _ text error unfit = absurd unfit
 
 -- why an override is refused, as it is told
 pub objection_told : (cvss : Cvss) (text : List ℕ) (error : OverrideError) (reason : List ℕ) → IsUnfit cvss text (Override error) → IsOverrideErrorTold error reason → IsOverrideReason cvss text reason
-objection_told (CvssV20 vector) text error reason unfit told = absurd unfit
-objection_told (CvssV30 vector) text error reason unfit told = absurd unfit
-objection_told (CvssV31 vector) text error reason unfit told = absurd unfit
 objection_told (CvssV40 vector) text (NotEnvironmental index) reason unfit is =
     inr (record {
       utf8 = unfit.0;
@@ -85,3 +75,4 @@ objection_told (CvssV40 vector) text (Refused index error) reason unfit (_, told
       };
       is = is ∙ ap (λ text. override_words index ++ text) told.is;
     })
+objection_told _ text error reason unfit told = absurd unfit

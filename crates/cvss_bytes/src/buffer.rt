@@ -1,6 +1,7 @@
 //! Texts in a buffer of the caller, and items in an array, without memory.
 
-ghost use Rattle.std.specs.Prelude.{◌≡◌, ◌≤◌, ◌+◌, ◌++◌, length};
+ghost use Rattle.std.specs.Prelude.{◌≡◌, ◌≤◌, ◌+◌, ◌++◌, ◌∷◌, [], length};
+ghost use Rattle.cvss_grammar.specs.Version.{canonical_text};
 ghost use Rattle.cvss_text.specs.private.Printing.{slashed_texts};
 ghost use Rattle.cvss_bytes.specs.Buffer.{HasPut, IsWritten};
 ghost use Rattle.cvss_bytes.specs.private.Steps.{Puts};
@@ -55,6 +56,16 @@ pub(crate) fn put_behind<V: Printed>(
 {
     let place = put(first, buffer, 0);
     put_components(vector, kinds, buffer, place)
+}
+
+/// Writes the canonical text of a vector, of which the piece that tells the version is given, at the
+/// beginning of a buffer, and tells the place behind it.
+pub(crate) fn put_printed<V: Printed>(piece: &[u8], vector: &V, buffer: &mut [u8]) -> usize
+    requires front { V.version.front vector.now ≡ piece.now ∷ [] }
+    requires room { length (canonical_text V.version vector.now) ≤ length buffer.old }
+    ensures { HasPut buffer.old (canonical_text V.version vector.now) buffer.new result }
+{
+    put_behind(piece, vector, V::printed(), buffer)
 }
 
 /// Writes two texts, one behind the other, at the beginning of a buffer where both fit, and tells

@@ -8,9 +8,9 @@ ghost use Rattle.cvss.specs.VectorV2.{v2};
 ghost use Rattle.cvss_bytes.specs.Buffer.{HasPut, IsWritten};
 ghost use Rattle.cvss_bytes.specs.private.Steps.{IsRead};
 
-use crate::buffer::put_behind;
+use crate::buffer::{put_behind, put_printed};
 use cvss::v2::Metric;
-use cvss::{Cvss, v2, v3, v4};
+use cvss::{Cvss, v2};
 use cvss_text::walk::Components;
 
 /// Writes the canonical text of the vector that a text denotes at the beginning of a buffer where it
@@ -34,24 +34,9 @@ pub(crate) fn put_canonical(cvss: &Cvss, buffer: &mut [u8]) -> usize
 {
     match cvss {
         Cvss::CvssV20(vector) => put_v2(vector, buffer),
-        Cvss::CvssV30(vector) => put_behind(
-            "CVSS:3.0".as_bytes(),
-            vector,
-            v3::Vector::printed(),
-            buffer,
-        ),
-        Cvss::CvssV31(vector) => put_behind(
-            "CVSS:3.1".as_bytes(),
-            vector,
-            v3::Vector::printed(),
-            buffer,
-        ),
-        Cvss::CvssV40(vector) => put_behind(
-            "CVSS:4.0".as_bytes(),
-            vector,
-            v4::Vector::printed(),
-            buffer,
-        ),
+        Cvss::CvssV30(vector) => put_printed("CVSS:3.0".as_bytes(), vector, buffer),
+        Cvss::CvssV31(vector) => put_printed("CVSS:3.1".as_bytes(), vector, buffer),
+        Cvss::CvssV40(vector) => put_printed("CVSS:4.0".as_bytes(), vector, buffer),
     }
 }
 

@@ -11,7 +11,7 @@ ghost use Rattle.cvss_bytes.specs.Buffer.{IsWritten};
 ghost use Rattle.cvss_bytes.specs.Defined.{defined_component, text_less, text_without_undefined};
 ghost use Rattle.cvss_bytes.specs.private.Steps.{Puts, defined_texts};
 
-use crate::buffer::{put, put_behind};
+use crate::buffer::{put, put_printed};
 use crate::metrics::spelled;
 use cvss::v2::Metric;
 use cvss::{Cvss, v2};
@@ -69,7 +69,7 @@ fn put_less<V: Printed>(piece: &[u8], vector: &V, whole: usize, buffer: &mut [u8
         return put_defined_behind(piece, vector, kinds, &NOT_DEFINED, whole, buffer);
     }
     if whole <= buffer.len() {
-        put_behind(piece, vector, kinds, buffer);
+        put_printed(piece, vector, buffer);
     }
     whole
 }

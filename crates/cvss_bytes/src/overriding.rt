@@ -9,10 +9,10 @@ ghost use Rattle.cvss_text.specs.private.Printing.{slashed_texts};
 ghost use Rattle.cvss.specs.Dispatch.{DenotesCvss};
 ghost use Rattle.cvss_bytes.specs.Buffer.{IsLeft, IsWritten};
 ghost use Rattle.cvss_bytes.specs.Overriding.{AnswersOverridden, IsOverrideReason, IsWithOverrides, overrides_in};
-ghost use Rattle.cvss_bytes.specs.private.Overridden.{IsPrintable, IsUnfit, place_of};
+ghost use Rattle.cvss_bytes.specs.private.Overridden.{IsUnfit, place_of};
 ghost use Rattle.cvss_bytes.specs.private.Reasons.{IsOverrideErrorTold, override_words};
 
-use crate::buffer::{put_behind, put_both};
+use crate::buffer::{put_both, put_printed};
 use crate::reason::put_error;
 use cvss::v4::OverrideError;
 use cvss::{Cvss, v4};
@@ -52,7 +52,7 @@ pub fn put_overridden(
     let Ok(vector) = overridden(alloc, cvss, text, overrides) else {
         return 0;
     };
-    put_vector(&vector, text.len() + overrides.len() + 1, buffer)
+    put_vector(&vector, buffer)
 }
 
 /// Writes why overrides cannot be put into a vector at the beginning of a buffer where it fits, and
@@ -132,7 +132,7 @@ fn overridden(
 ) -> Result<v4::Vector, Unfit>
     requires { DenotesCvss text.now cvss.now }
     ensures is { IfOk result (IsWithOverrides cvss.now overrides.now) }
-    ensures printable { IfOk result (IsPrintable text.now overrides.now) }
+    ensures front { IfOk result (λ new. v4.front new ≡ codes "CVSS:4.0" ∷ []) }
     ensures accepts { (new : Vector) → IsWithOverrides cvss.now overrides.now new → IsOk result }
     ensures unfit { IfErr result (IsUnfit cvss.now overrides.now) }
 {
@@ -179,17 +179,15 @@ fn first_pieces(text: &str) -> ([&str; TOO_MANY], usize)
 }
 
 /// Writes the canonical text of a vector at the beginning of a buffer where it fits, and tells its
-/// length, which is bounded.
-fn put_vector(vector: &v4::Vector, bound: usize, buffer: &mut [u8]) -> usize
-    requires front { v4.front vector.now ≡ codes "CVSS:4.0" ∷ [] }
-    requires bound { length (canonical_text v4 vector.now) ≤ bound }
+/// length.
+fn put_vector(vector: &v4::Vector, buffer: &mut [u8]) -> usize
+    requires { v4.front vector.now ≡ codes "CVSS:4.0" ∷ [] }
     ensures { IsWritten (canonical_text v4 vector.now) buffer.old buffer.new result }
 {
     let piece = "CVSS:4.0".as_bytes();
-    let kinds = v4::Vector::printed();
-    let length = piece.len() + components_length(vector, kinds, bound);
+    let length = piece.len() + components_length(vector, v4::Vector::printed(), 320);
     if length <= buffer.len() {
-        put_behind(piece, vector, kinds, buffer);
+        put_printed(piece, vector, buffer);
     }
     length
 }

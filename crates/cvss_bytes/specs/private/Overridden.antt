@@ -1,22 +1,14 @@
--- How overrides are read and put into a vector.
-use Rattle.std.specs.Prelude.{◌≡◌, ◌≤◌, ◌+◌, ℕ, List, [], ◌∷◌, ⊤, codes, length}
+-- Why overrides cannot be put into a vector.
+use Rattle.std.specs.Prelude.{◌≤◌, ℕ, List, ⊤}
 use Rattle.std.specs.Str.{IsUtf8}
 use Rattle.cvss.specs.OverrideErrorTypeV4.{OverrideError}
 use Rattle.cvss.specs.OverrideErrorTypeV4.TheVariants.{NotEnvironmental, Refused}
 use Rattle.cvss.specs.OverridingV4.{TellsFirstObjection}
-use Rattle.cvss.specs.VectorTypeV4.{Vector}
-use Rattle.cvss.specs.VectorV4.{v4}
-use Rattle.cvss.specs.Version.{canonical_text}
 use Rattle.cvss.specs.declared.vector.Cvss.{Cvss}
 use Rattle.cvss.specs.declared.vector.Cvss.TheVariants.{CvssV40}
 use Rattle.cvss_bytes.specs.Overriding.{overrides_in}
 use Rattle.cvss_bytes.specs.declared.overriding.Unfit.{Unfit}
 use Rattle.cvss_bytes.specs.declared.overriding.Unfit.TheVariants.{OtherVersion, NotUtf8, Override}
-
--- the vector can be printed: it is the one with the overrides in place, and its text is no longer than both and a slash
-pub record IsPrintable (text overrides : List ℕ) (new : Vector) : Type 0 where
-  pub front : v4.front new ≡ codes "CVSS:4.0" ∷ []
-  pub bound : length (canonical_text v4 new) ≤ length text + length overrides + 1
 
 -- the place of the override that an error tells
 abbrev pub place_of : OverrideError → ℕ

@@ -19,10 +19,13 @@ abbrev pub Puts : {X : Type 0} → List X → List X → ℕ → List X → ℕ 
 Puts {X} text before from after to =
     (old first : List X) → HasPut old first before from → HasPut old (first ++ text) after to
 
--- the components that a vector has for those of these metrics that are defined, each with a slash before it
+-- the component that a vector has for a metric, with a slash before it; nothing where this is not defined
+abbrev pub defined_text : {V K : Type 0} → Version V K → List ℕ → V → K → List ℕ
+defined_text version undefined v kind = unwrap_or (slashed (defined_component version undefined v kind)) []
+
+-- those of some metrics, one behind another
 abbrev pub defined_texts : {V K : Type 0} → Version V K → List ℕ → V → List K → List ℕ
-defined_texts version undefined v kinds =
-    flat_map (λ kind. unwrap_or (slashed (defined_component version undefined v kind)) []) kinds
+defined_texts version undefined v kinds = flat_map (defined_text version undefined v) kinds
 
 -- what stands behind the vector's text: the score and its rating, each behind a blank
 abbrev pub rating_behind : ℕ → Severity → List ℕ

@@ -1,7 +1,6 @@
-use Rattle.std.proofs.Common.{◌∷◌, [], length, refl, ap, arith}
+use Rattle.std.proofs.Common.{◌∷◌, [], arith}
 use Rattle.cvss_grammar.specs.Version.{canonical_text}
 use Rattle.cvss_bytes.proofs.BufferLemmas.{IsWritten-left, IsWritten-put}
-use Rattle.cvss_bytes.proofs.CanonicalLemmas.{text_from_front}
 use Rattle.cvss_bytes.proofs.DefinedLemmas.{defined_texts-within, text_less-none, text_less-some}
 use Rattle.cvss_bytes.proofs.defined.put_less.Goals as goal
 
@@ -21,21 +20,15 @@ returns-then-defined_length-gt0 g c =
     (omega (arith, c.defined_length.ensures, c.if-defined_length-gt0.true)) in
     rw (← text) c.put_defined_behind.ensures
 
-pub put_behind-requires-clause-room : goal.put_behind-requires-clause-room
-put_behind-requires-clause-room g c κs within =
-    let text = text_from_front g.V.Components.version c.args.vector.now c.args.piece.now c.args.piece.now c.printed-kinds.result.now c.requires.front refl c.printed-kinds.ensures in
-    omega (arith, ap length text, c.requires.whole, c.if-whole-buffer.true)
-
 pub returns-then-whole-buffer : goal.returns-then-whole-buffer
 returns-then-whole-buffer g c =
     let version = g.V.Components.version in
     let vector = c.args.vector.now in
-    let text = text_from_front version vector c.args.piece.now c.args.piece.now c.printed-kinds.result.now c.requires.front refl c.printed-kinds.ensures in
     let all = text_less-none version (88 ∷ []) vector c.args.piece.now c.printed-kinds.result.now c.requires.front c.printed-kinds.ensures
     (omega (arith, c.defined_length.ensures, c.if-defined_length-gt0.false)) in
     rw (← all)
-    (IsWritten-put (canonical_text version vector) c.args.buffer.now _ c.put_behind.result _
-    (omega (arith, c.requires.whole, c.if-whole-buffer.true)) c.requires.whole (rw (← text) c.put_behind.ensures))
+    (IsWritten-put (canonical_text version vector) c.args.buffer.now _ c.put_printed.result _
+    (omega (arith, c.requires.whole, c.if-whole-buffer.true)) c.requires.whole c.put_printed.ensures)
 
 pub returns-else-whole-buffer : goal.returns-else-whole-buffer
 returns-else-whole-buffer g c =

@@ -1,11 +1,10 @@
-use Rattle.std.proofs.Common.{length, ap, arith}
-use Rattle.cvss_bytes.proofs.BufferLemmas.{slashed_text-some, slashed_texts-fit}
+use Rattle.std.proofs.Common.{arith}
+use Rattle.cvss_text.specs.private.Printing.{slashed_text}
+use Rattle.cvss_bytes.proofs.BufferLemmas.{part_fits, present}
 use Rattle.cvss_bytes.proofs.overriding.components_length.Goals as goal
 
 pub overflow_add-length : goal.overflow_add-length
 overflow_add-length g c =
-    let version = g.V.Components.version in
-    let vector = c.args.vector.now in
-    let one = slashed_text-some version vector c.kind-item.result c.in-Some.text.now c.in-Some.ensures in
-    let fits = slashed_texts-fit version vector c.args.kinds.now c.loop-kind.kind-index c.kind-item.result c.loop-kind-test.true c.kind-item.is in
-    omega (arith, ap length one, fits, c.loop-kind.invariant, c.requires, c.ranges.bound.fits)
+    let text_of = slashed_text g.V.Components.version c.args.vector.now in
+    let fits = part_fits text_of c.args.kinds.now c.loop-kind.kind-index c.kind-item.result c.in-Some.text.now c.loop-kind-test.true c.kind-item.is (present _ c.in-Some.text.now c.in-Some.ensures) in
+    omega (arith, fits, c.loop-kind.invariant, c.requires, c.ranges.bound.fits)

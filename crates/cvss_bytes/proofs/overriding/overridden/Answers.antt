@@ -1,7 +1,7 @@
 use Rattle.std.proofs.Common.{rules}
-use Rattle.cvss_bytes.proofs.OverriddenLemmas.{printable}
+use Rattle.cvss_bytes.proofs.OverriddenLemmas.{front_kept}
 use Rattle.cvss_bytes.proofs.overriding.overridden.Goals as goal
 
-pub returns-in-Ok-read_overrides-clause-printable : goal.returns-in-Ok-read_overrides-clause-printable
-returns-in-Ok-read_overrides-clause-printable c =
-    printable c.args.cvss.now c.args.text.now c.args.overrides.now _ c.requires (search rules)
+pub returns-in-Ok-read_overrides-clause-front : goal.returns-in-Ok-read_overrides-clause-front
+returns-in-Ok-read_overrides-clause-front c =
+    front_kept c.args.cvss.now c.args.text.now c.args.overrides.now c.overridden_by.result c.requires (search rules)
