@@ -1,13 +1,15 @@
 -- The objects that the program writes: one for each place where a vector stands, and one for a line that is
 -- no JSON.
-use Rattle.std.specs.Prelude.{ℕ, List, [], ◌∷◌, ◌++◌, codes, map, if◌then◌else◌, is_some, Option, Some, None}
+use Rattle.std.specs.Prelude.{ℕ, List, [], ◌∷◌, ◌++◌, codes, map, not, ◌&&◌, if◌then◌else◌, is_some, Option, Some, None}
 use Rattle.std.specs.List.{filter_map}
 use Rattle.cvss.specs.Answers.{rating_by, score_of_tenths, text_of}
+use Rattle.cvss.specs.Groups.{same_group}
+use Rattle.cvss.specs.MetricGroupType.TheVariants.{Base}
 use Rattle.cvss.specs.MetricTypeV3.{MetricType}
-use Rattle.cvss_name.specs.declared.v3.MetricType.TheVariants.{A, AC, AV, C, I, PR, S, UI}
 use Rattle.cvss.specs.NomenclatureV4.{nomenclature_of, text_of as nomenclature_text}
 use Rattle.cvss.specs.SeverityText.{text_of as severity_text}
-use Rattle.cvss.specs.TypesV3.{name_of}
+use Rattle.cvss.specs.TableV3.{printed}
+use Rattle.cvss.specs.TypesV3.{name_of, group_of}
 use Rattle.cvss.specs.VectorTypeV3 as type_v3
 use Rattle.cvss.specs.VectorTypeV4 as type_v4
 use Rattle.cvss.specs.VectorV3.{value_at}
@@ -77,17 +79,14 @@ told_members cvss scores =
     ∷ (codes "severity", string (severity_text (rating_by cvss (score_of_tenths scores.base))))
     ∷ []
 
--- the base metrics of CVSS v3, in printing order: v3.1 specification, section 2
-abbrev pub base_v3 : List MetricType
-base_v3 = AV ∷ AC ∷ PR ∷ UI ∷ S ∷ C ∷ I ∷ A ∷ []
-
--- the metric's name, where the vector lacks the metric
+-- the metric's name, where it is a base metric and the vector lacks it
 abbrev pub missing_at : type_v3.Vector → MetricType → Option Data
-missing_at vector kind = if is_some (value_at vector kind) then None else Some (string (name_of kind))
+missing_at vector kind =
+    if same_group (group_of kind) Base && not (is_some (value_at vector kind)) then Some (string (name_of kind)) else None
 
--- the names of the base metrics that a vector of CVSS v3 lacks
+-- the names of the base metrics that a vector of CVSS v3 lacks, in printing order: v3.1 specification, section 2
 abbrev pub missing_v3 : type_v3.Vector → List Data
-missing_v3 vector = filter_map (missing_at vector) base_v3
+missing_v3 vector = filter_map (missing_at vector) printed
 
 -- the names of the base metrics that the vector lacks; in CVSS v2 and v4.0 a text without one is refused
 abbrev pub missing_of : Cvss → List Data

@@ -7,22 +7,11 @@ ghost use Rattle.cvss_record.specs.Objects.{with_members};
 ghost use Rattle.serde_json.specs.View.{members_view, view};
 
 use crate::told::put_list;
-use cvss::{Cvss, v3};
+use cvss::{Cvss, MetricGroup, v3};
 use cvss_text::print::Printed;
+use cvss_text::walk::Components;
 use serde_json::{Map, Value};
 use std::alloc::{AllocError, Global};
-
-/// The base metrics of CVSS v3, in the order in which a vector is printed.
-const BASE: &[v3::MetricType] = &[
-    v3::MetricType::AV,
-    v3::MetricType::AC,
-    v3::MetricType::PR,
-    v3::MetricType::UI,
-    v3::MetricType::S,
-    v3::MetricType::C,
-    v3::MetricType::I,
-    v3::MetricType::A,
-];
 
 /// Puts the names of the base metrics that a vector of CVSS v3 lacks, if it lacks any. A vector of
 /// another version that was read from a text lacks none.
@@ -46,10 +35,10 @@ pub(crate) fn put_missing(
 fn missing_v3(alloc: Global, vector: &v3::Vector) -> Result<Vec<Value>, AllocError>
     ensures { IfOk result (λ missing. map view missing.items ≡ missing_v3 vector.now) }
 {
-    missing_among(alloc, vector, BASE)
+    missing_among(alloc, vector, v3::Vector::printed())
 }
 
-/// The names of those of these metrics that a vector lacks.
+/// The names of those of these metrics that are base metrics and that a vector lacks.
 fn missing_among(
     alloc: Global,
     vector: &v3::Vector,
@@ -68,7 +57,7 @@ fn missing_among(
     Ok(missing)
 }
 
-/// The name of a metric, if a vector lacks it.
+/// The name of a metric, if it is a base metric and a vector lacks it.
 fn missing_at(
     alloc: Global,
     vector: &v3::Vector,
@@ -76,8 +65,10 @@ fn missing_at(
 ) -> Result<Option<Value>, AllocError>
     ensures { IfOk result (λ found. option_map view found ≡ missing_at vector.now kind) }
 {
-    if vector.slashed(kind).is_some() {
-        return Ok(None);
+    match kind.group() {
+        MetricGroup::Base if vector.slashed(kind).is_none() => {
+            Ok(Some(Value::try_from_str(alloc, kind.name())?))
+        }
+        _ => Ok(None),
     }
-    Ok(Some(Value::try_from_str(alloc, kind.name())?))
 }

@@ -1,44 +1,40 @@
 -- The groups of metrics, and the scores that they give: CVSS v2 guide, section 3.2; v3.1 specification,
 -- section 7; v4.0 specification, section 8.2.
-use Rattle.std.specs.Prelude.{ℕ, ℤ, Bool, false, List, [], ◌∷◌, codes, Option, Some, None, is_some}
+use Rattle.std.specs.Prelude.{ℕ, ℤ, Bool, true, false, ◌&&◌, List, codes, Option, Some, None, is_some}
 use Rattle.std.specs.List.{list_any}
 use Rattle.cvss.specs.Answers.{score_of_tenths}
 use Rattle.cvss.specs.MergingV4.{effective_of}
 use Rattle.cvss.specs.ScoresV2 as scores_v2
 use Rattle.cvss.specs.ScoresV3 as scores_v3
 use Rattle.cvss.specs.ScoresV4.{IsScore}
+use Rattle.cvss.specs.TableV2 as table_v2
+use Rattle.cvss.specs.TableV3 as table_v3
 use Rattle.cvss.specs.Tenths.{IsInTenths}
+use Rattle.cvss.specs.TypesV2 as types_v2
+use Rattle.cvss.specs.TypesV3 as types_v3
 use Rattle.cvss.specs.VectorV2 as vector_v2
 use Rattle.cvss.specs.VectorV3 as vector_v3
 use Rattle.cvss.specs.WeightsV2 as weights_v2
 use Rattle.cvss.specs.WeightsV3 as weights_v3
 use Rattle.cvss.specs.declared.vector.Cvss.{Cvss}
 use Rattle.cvss.specs.declared.vector.Cvss.TheVariants.{CvssV20, CvssV30, CvssV31, CvssV40}
-use Rattle.cvss_name.specs.declared.v2.MetricType as kind_v2
-use Rattle.cvss_name.specs.declared.v2.MetricType.TheVariants as metric_v2
-use Rattle.cvss_name.specs.declared.v3.MetricType as kind_v3
-use Rattle.cvss_name.specs.declared.v3.MetricType.TheVariants as metric_v3
+use Rattle.cvss_name.specs.declared.group.MetricGroup.{MetricGroup}
+use Rattle.cvss_name.specs.declared.group.MetricGroup.TheVariants as metrics
 use Rattle.cvss_record.specs.declared.group.Group.{Group}
 use Rattle.cvss_record.specs.declared.group.Group.TheVariants.{Base, Temporal, Environmental}
 use Rattle.cvss_record.specs.declared.score.Scores.{Scores}
 
--- the optional metrics of CVSS v2 by their groups: guide, sections 2.2 and 2.3
-abbrev pub optional_v2 : Group → List kind_v2.MetricType
-optional_v2 Base = []
-optional_v2 Temporal = metric_v2.E ∷ metric_v2.RL ∷ metric_v2.RC ∷ []
-optional_v2 Environmental = metric_v2.CDP ∷ metric_v2.TD ∷ metric_v2.CR ∷ metric_v2.IR ∷ metric_v2.AR ∷ []
-
--- the optional metrics of CVSS v3 by their groups: v3.1 specification, sections 3 and 4
-abbrev pub optional_v3 : Group → List kind_v3.MetricType
-optional_v3 Base = []
-optional_v3 Temporal = metric_v3.E ∷ metric_v3.RL ∷ metric_v3.RC ∷ []
-optional_v3 Environmental = metric_v3.CR ∷ metric_v3.IR ∷ metric_v3.AR ∷ metric_v3.MAV ∷ metric_v3.MAC ∷ metric_v3.MPR ∷ metric_v3.MUI ∷ metric_v3.MS ∷ metric_v3.MC ∷ metric_v3.MI ∷ metric_v3.MA ∷ []
+-- whether an optional metric of a vector gives it the group, by the group of the metric
+abbrev pub is_given_by : Group → MetricGroup → Bool
+is_given_by Temporal metrics.Temporal = true
+is_given_by Environmental metrics.Environmental = true
+is_given_by _ _ = false
 
 -- the vector has an optional metric of the group, be it that the metric is not defined
 abbrev pub has_group : Cvss → Group → Bool
-has_group (CvssV20 v) group = list_any (λ kind. is_some (vector_v2.value_at v kind)) (optional_v2 group)
-has_group (CvssV30 v) group = list_any (λ kind. is_some (vector_v3.value_at v kind)) (optional_v3 group)
-has_group (CvssV31 v) group = list_any (λ kind. is_some (vector_v3.value_at v kind)) (optional_v3 group)
+has_group (CvssV20 v) group = list_any (λ kind. is_given_by group (types_v2.group_of kind) && is_some (vector_v2.value_at v kind)) table_v2.printed
+has_group (CvssV30 v) group = list_any (λ kind. is_given_by group (types_v3.group_of kind) && is_some (vector_v3.value_at v kind)) table_v3.printed
+has_group (CvssV31 v) group = list_any (λ kind. is_given_by group (types_v3.group_of kind) && is_some (vector_v3.value_at v kind)) table_v3.printed
 has_group (CvssV40 v) group = false
 
 -- the group's score of the vector; CVSS v4.0 has one score, which counts as that of the base group here

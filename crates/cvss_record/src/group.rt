@@ -3,9 +3,11 @@
 
 ghost use Rattle.std.specs.Prelude.{◌≡◌};
 ghost use Rattle.cvss.specs.declared.vector.Cvss.TheVariants.{CvssV20, CvssV30};
-ghost use Rattle.cvss_record.specs.Groups.{has_group, score_member, severity_member};
+ghost use Rattle.cvss_record.specs.Groups.{has_group, is_given_by, score_member, severity_member};
 
-use cvss::{Cvss, v2, v3};
+use cvss::{Cvss, MetricGroup, v2, v3};
+use cvss_text::print::Printed;
+use cvss_text::walk::Components;
 
 /// A group of metrics with a score of its own. The one score of CVSS v4.0 counts as that of the base
 /// group.
@@ -54,74 +56,27 @@ impl Group {
     fn is_in_v2(self, vector: &v2::Vector) -> bool
         ensures { result ≡ has_group (CvssV20 vector.now) self }
     {
-        match self {
-            Group::Base => false,
-            Group::Temporal => has_temporal_v2(vector),
-            Group::Environmental => has_environmental_v2(vector),
-        }
+        v2::Vector::printed()
+            .iter()
+            .any(|kind| self.is_given_by(kind.group()) && vector.slashed(*kind).is_some())
     }
 
     fn is_in_v3(self, vector: &v3::Vector) -> bool
         ensures { result ≡ has_group (CvssV30 vector.now) self }
     {
-        match self {
-            Group::Base => false,
-            Group::Temporal => has_temporal_v3(vector),
-            Group::Environmental => has_environmental_v3(vector),
-        }
+        v3::Vector::printed()
+            .iter()
+            .any(|kind| self.is_given_by(kind.group()) && vector.slashed(*kind).is_some())
     }
-}
 
-fn has_temporal_v2(vector: &v2::Vector) -> bool
-    ensures { result ≡ has_group (CvssV20 vector.now) Group.Temporal }
-{
-    match vector {
-        v2::Vector { e: Some(_), .. } => true,
-        v2::Vector { rl: Some(_), .. } => true,
-        v2::Vector { rc: Some(_), .. } => true,
-        _ => false,
-    }
-}
-
-fn has_environmental_v2(vector: &v2::Vector) -> bool
-    ensures { result ≡ has_group (CvssV20 vector.now) Group.Environmental }
-{
-    match vector {
-        v2::Vector { cdp: Some(_), .. } => true,
-        v2::Vector { td: Some(_), .. } => true,
-        v2::Vector { cr: Some(_), .. } => true,
-        v2::Vector { ir: Some(_), .. } => true,
-        v2::Vector { ar: Some(_), .. } => true,
-        _ => false,
-    }
-}
-
-fn has_temporal_v3(vector: &v3::Vector) -> bool
-    ensures { result ≡ has_group (CvssV30 vector.now) Group.Temporal }
-{
-    match vector {
-        v3::Vector { e: Some(_), .. } => true,
-        v3::Vector { rl: Some(_), .. } => true,
-        v3::Vector { rc: Some(_), .. } => true,
-        _ => false,
-    }
-}
-
-fn has_environmental_v3(vector: &v3::Vector) -> bool
-    ensures { result ≡ has_group (CvssV30 vector.now) Group.Environmental }
-{
-    match vector {
-        v3::Vector { cr: Some(_), .. } => true,
-        v3::Vector { ir: Some(_), .. } => true,
-        v3::Vector { ar: Some(_), .. } => true,
-        v3::Vector { mav: Some(_), .. } => true,
-        v3::Vector { mac: Some(_), .. } => true,
-        v3::Vector { mpr: Some(_), .. } => true,
-        v3::Vector { mui: Some(_), .. } => true,
-        v3::Vector { ms: Some(_), .. } => true,
-        v3::Vector { mc: Some(_), .. } => true,
-        v3::Vector { mi: Some(_), .. } => true,
-        v3::Vector { ma: Some(_), .. } => true,
-        _ => false,
+    /// Whether an optional metric of a vector gives it the group, by the group of the metric.
+    fn is_given_by(self, metrics: MetricGroup) -> bool
+        ensures { result ≡ is_given_by self metrics }
+    {
+        matches!(
+            (self, metrics),
+            (Group::Temporal, MetricGroup::Temporal)
+                | (Group::Environmental, MetricGroup::Environmental)
+        )
     }
 }
