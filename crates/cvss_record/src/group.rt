@@ -56,17 +56,15 @@ impl Group {
     fn is_in_v2(self, vector: &v2::Vector) -> bool
         ensures { result ≡ has_group (CvssV20 vector.now) self }
     {
-        v2::Vector::printed()
-            .iter()
-            .any(|kind| self.is_given_by(kind.group()) && vector.slashed(*kind).is_some())
+        v2::Vector::printed().iter().any(|kind| self.is_given_by(kind.group())
+            && vector.slashed(*kind).is_some())
     }
 
     fn is_in_v3(self, vector: &v3::Vector) -> bool
         ensures { result ≡ has_group (CvssV30 vector.now) self }
     {
-        v3::Vector::printed()
-            .iter()
-            .any(|kind| self.is_given_by(kind.group()) && vector.slashed(*kind).is_some())
+        v3::Vector::printed().iter().any(|kind| self.is_given_by(kind.group())
+            && vector.slashed(*kind).is_some())
     }
 
     /// Whether an optional metric of a vector gives it the group, by the group of the metric.

@@ -6,5 +6,11 @@ use Rattle.cvss_v2.proofs.vector.Vector.required_impact.Goals as goal
 pub returns-clause-value : goal.returns-clause-value
 returns-clause-value c =
     equal_trans (lit< tt) (record { equal = omega (arith, ints) })
-    (simp (c.weight.ensures.weight, c.weight-2.ensures.weight, c.weight-3.ensures.weight, c.weight-4.ensures.weight,
-    c.weight-5.ensures.weight, c.weight-6.ensures.weight) at c.adjusted_impact_count.ensures.value)
+    (simp (
+      c.weight.ensures.weight,
+      c.weight-2.ensures.weight,
+      c.weight-3.ensures.weight,
+      c.weight-4.ensures.weight,
+      c.weight-5.ensures.weight,
+      c.weight-6.ensures.weight,
+    ) at c.adjusted_impact_count.ensures.value)

@@ -4,8 +4,12 @@ use Rattle.cvss_v2.proofs.vector.Vector.temporal_of.Goals as goal
 
 pub returns : goal.returns
 returns c =
-    let tenths = simp (to_z-of_z w128 c.base_of.result (record { sfits = c.base_of.type_inv }), c.weight-e.ensures.weight, c.weight-rl.ensures.weight,
-    c.weight.ensures.weight) at c.temporal_tenths.ensures in
+    let tenths = simp (
+      to_z-of_z w128 c.base_of.result (record { sfits = c.base_of.type_inv }),
+      c.weight-e.ensures.weight,
+      c.weight-rl.ensures.weight,
+      c.weight.ensures.weight,
+    ) at c.temporal_tenths.ensures in
     simp (to_z-of_z w128 c.temporal_tenths.result (record { sfits = c.temporal_tenths.type_inv })) (record {
       value = record { base = c.base_of.result; is_base = c.base_of.ensures.value; is_rounded = tenths.value };
       low = tenths.low;
