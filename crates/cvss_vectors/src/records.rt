@@ -63,7 +63,10 @@ pub(crate) fn places(rt: &HostRuntime, document: &str) -> io::Result<()> {
 
 fn print_places(rt: &HostRuntime, document: &Value) -> io::Result<()> {
     let mut places = vectors_in(rt.alloc(), document)?;
-    while let Some(place) = places.next_place(rt.alloc())? {
+    for _ in 0..u64::MAX {
+        let Some(place) = places.next_place(rt.alloc())? else {
+            break;
+        };
         print_place(rt, &place)?;
     }
     println!(rt)
