@@ -5,6 +5,7 @@ Usage: check_calculator.py ROOT, the folder of the checkout. The package is the 
 
 import http.client
 import json
+import signal
 import socket
 import subprocess
 import sys
@@ -178,8 +179,14 @@ def check_size(root: Path) -> None:
     assert 0 < sum(counts.values()) <= 1_200, counts
 
 
+def take_interrupts() -> None:
+    """A job that a shell has put into the background inherits that interrupts are ignored."""
+    signal.signal(signal.SIGINT, signal.SIG_DFL)
+
+
 def started(*arguments: str) -> "subprocess.Popen[str]":
-    return subprocess.Popen([*COMMAND, *arguments], stdout=subprocess.PIPE, stderr=subprocess.PIPE, text=True)
+    return subprocess.Popen([*COMMAND, *arguments], stdout=subprocess.PIPE, stderr=subprocess.PIPE, text=True,
+                            preexec_fn=take_interrupts)
 
 
 def check_command() -> None:
@@ -193,7 +200,7 @@ def check_command() -> None:
     print(f"Python: the calculator's first answer {time.monotonic() - start:.2f} s behind the command")
     taken = subprocess.run([*COMMAND, "--port", str(port)], stdout=subprocess.PIPE, stderr=subprocess.PIPE)
     assert taken.returncode == 2 and b"cannot be served at" in taken.stderr, taken
-    process.send_signal(2)
+    process.send_signal(signal.SIGINT)
     assert process.communicate() == ("", "") and process.returncode == 0
     for wrong in (["--port", "70000"], ["--bind", "no address"]):
         assert subprocess.run([*COMMAND, *wrong], stdout=subprocess.PIPE, stderr=subprocess.PIPE).returncode == 2, wrong
@@ -201,7 +208,7 @@ def check_command() -> None:
     assert process.stdout is not None
     port = int(process.stdout.readline().split()[0].rstrip("/").rpartition(":")[2])
     assert read(port, V3.encode())
-    process.send_signal(2)
+    process.send_signal(signal.SIGINT)
     faults = process.communicate()[1]
     assert faults.startswith("warning: whoever reaches 0.0.0.0") and V3 in faults, faults
 
