@@ -9,47 +9,34 @@ use Rattle.cvss_name.specs.declared.group.MetricGroup.TheVariants.{Base, Tempora
 use Rattle.cvss_name.specs.declared.v2.MetricType.{MetricType}
 use Rattle.cvss_name.specs.declared.v2.MetricType.TheVariants.{A, AC, AV, Au, C, I, E, RL, RC, CDP, TD, CR, IR, AR}
 
--- a metric's two names: the abbreviation that stands for it in a vector, and the one in words
-abbrev pub names_of : MetricType → List ℕ × List ℕ
-names_of AV = (codes "AV", codes "Access Vector")
-names_of AC = (codes "AC", codes "Access Complexity")
-names_of Au = (codes "Au", codes "Authentication")
-names_of C = (codes "C", codes "Confidentiality Impact")
-names_of I = (codes "I", codes "Integrity Impact")
-names_of A = (codes "A", codes "Availability Impact")
-names_of E = (codes "E", codes "Exploitability")
-names_of RL = (codes "RL", codes "Remediation Level")
-names_of RC = (codes "RC", codes "Report Confidence")
-names_of CDP = (codes "CDP", codes "Collateral Damage Potential")
-names_of TD = (codes "TD", codes "Target Distribution")
-names_of CR = (codes "CR", codes "Confidentiality Requirement")
-names_of IR = (codes "IR", codes "Integrity Requirement")
-names_of AR = (codes "AR", codes "Availability Requirement")
+-- the abbreviation that stands for a metric in a vector, its name in words, and the group to which it belongs
+abbrev pub row_of : MetricType → List ℕ × List ℕ × MetricGroup
+row_of AV = (codes "AV", codes "Access Vector", Base)
+row_of AC = (codes "AC", codes "Access Complexity", Base)
+row_of Au = (codes "Au", codes "Authentication", Base)
+row_of C = (codes "C", codes "Confidentiality Impact", Base)
+row_of I = (codes "I", codes "Integrity Impact", Base)
+row_of A = (codes "A", codes "Availability Impact", Base)
+row_of E = (codes "E", codes "Exploitability", Temporal)
+row_of RL = (codes "RL", codes "Remediation Level", Temporal)
+row_of RC = (codes "RC", codes "Report Confidence", Temporal)
+row_of CDP = (codes "CDP", codes "Collateral Damage Potential", Environmental)
+row_of TD = (codes "TD", codes "Target Distribution", Environmental)
+row_of CR = (codes "CR", codes "Confidentiality Requirement", Environmental)
+row_of IR = (codes "IR", codes "Integrity Requirement", Environmental)
+row_of AR = (codes "AR", codes "Availability Requirement", Environmental)
 
 -- the abbreviation
 abbrev pub name_of : MetricType → List ℕ
-name_of kind = (names_of kind).0
+name_of kind = (row_of kind).0
 
 -- the name in words
 abbrev pub description_of : MetricType → List ℕ
-description_of kind = (names_of kind).1
+description_of kind = (row_of kind).1
 
 -- the group to which the metric belongs
 abbrev pub group_of : MetricType → MetricGroup
-group_of AV = Base
-group_of AC = Base
-group_of Au = Base
-group_of C = Base
-group_of I = Base
-group_of A = Base
-group_of E = Temporal
-group_of RL = Temporal
-group_of RC = Temporal
-group_of CDP = Environmental
-group_of TD = Environmental
-group_of CR = Environmental
-group_of IR = Environmental
-group_of AR = Environmental
+group_of kind = (row_of kind).2
 
 -- the metrics as they are compared, the least first
 abbrev pub declared : List MetricType

@@ -10,63 +10,42 @@ use Rattle.cvss_name.specs.declared.group.MetricGroup.TheVariants.{Base, Tempora
 use Rattle.cvss_name.specs.declared.v3.MetricType.{MetricType}
 use Rattle.cvss_name.specs.declared.v3.MetricType.TheVariants.{A, AC, AV, C, I, PR, S, UI, E, RL, RC, CR, IR, AR, MAV, MAC, MPR, MUI, MS, MC, MI, MA}
 
--- a metric's two names: the abbreviation that stands for it in a vector, and the one in words
-abbrev pub names_of : MetricType → List ℕ × List ℕ
-names_of AV = (codes "AV", codes "Attack Vector")
-names_of AC = (codes "AC", codes "Attack Complexity")
-names_of PR = (codes "PR", codes "Privileges Required")
-names_of UI = (codes "UI", codes "User Interaction")
-names_of S = (codes "S", codes "Scope")
-names_of C = (codes "C", codes "Confidentiality Impact")
-names_of I = (codes "I", codes "Integrity Impact")
-names_of A = (codes "A", codes "Availability Impact")
-names_of E = (codes "E", codes "Exploit Code Maturity")
-names_of RL = (codes "RL", codes "Remediation Level")
-names_of RC = (codes "RC", codes "Report Confidence")
-names_of CR = (codes "CR", codes "Confidentiality Requirements")
-names_of IR = (codes "IR", codes "Integrity Requirements")
-names_of AR = (codes "AR", codes "Availability Requirements")
-names_of MAV = (codes "MAV", codes "Modified Attack Vector")
-names_of MAC = (codes "MAC", codes "Modified Attack Complexity")
-names_of MPR = (codes "MPR", codes "Modified Privileges Required")
-names_of MUI = (codes "MUI", codes "Modified User Interaction")
-names_of MS = (codes "MS", codes "Modified Scope")
-names_of MC = (codes "MC", codes "Modified Confidentiality")
-names_of MI = (codes "MI", codes "Modified Integrity")
-names_of MA = (codes "MA", codes "Modified Availability")
+-- the abbreviation that stands for a metric in a vector, its name in words, and the group to which it belongs
+abbrev pub row_of : MetricType → List ℕ × List ℕ × MetricGroup
+row_of AV = (codes "AV", codes "Attack Vector", Base)
+row_of AC = (codes "AC", codes "Attack Complexity", Base)
+row_of PR = (codes "PR", codes "Privileges Required", Base)
+row_of UI = (codes "UI", codes "User Interaction", Base)
+row_of S = (codes "S", codes "Scope", Base)
+row_of C = (codes "C", codes "Confidentiality Impact", Base)
+row_of I = (codes "I", codes "Integrity Impact", Base)
+row_of A = (codes "A", codes "Availability Impact", Base)
+row_of E = (codes "E", codes "Exploit Code Maturity", Temporal)
+row_of RL = (codes "RL", codes "Remediation Level", Temporal)
+row_of RC = (codes "RC", codes "Report Confidence", Temporal)
+row_of CR = (codes "CR", codes "Confidentiality Requirements", Environmental)
+row_of IR = (codes "IR", codes "Integrity Requirements", Environmental)
+row_of AR = (codes "AR", codes "Availability Requirements", Environmental)
+row_of MAV = (codes "MAV", codes "Modified Attack Vector", Environmental)
+row_of MAC = (codes "MAC", codes "Modified Attack Complexity", Environmental)
+row_of MPR = (codes "MPR", codes "Modified Privileges Required", Environmental)
+row_of MUI = (codes "MUI", codes "Modified User Interaction", Environmental)
+row_of MS = (codes "MS", codes "Modified Scope", Environmental)
+row_of MC = (codes "MC", codes "Modified Confidentiality", Environmental)
+row_of MI = (codes "MI", codes "Modified Integrity", Environmental)
+row_of MA = (codes "MA", codes "Modified Availability", Environmental)
 
 -- the abbreviation
 abbrev pub name_of : MetricType → List ℕ
-name_of kind = (names_of kind).0
+name_of kind = (row_of kind).0
 
 -- the name in words
 abbrev pub description_of : MetricType → List ℕ
-description_of kind = (names_of kind).1
+description_of kind = (row_of kind).1
 
 -- the group to which the metric belongs
 abbrev pub group_of : MetricType → MetricGroup
-group_of AV = Base
-group_of AC = Base
-group_of PR = Base
-group_of UI = Base
-group_of S = Base
-group_of C = Base
-group_of I = Base
-group_of A = Base
-group_of E = Temporal
-group_of RL = Temporal
-group_of RC = Temporal
-group_of CR = Environmental
-group_of IR = Environmental
-group_of AR = Environmental
-group_of MAV = Environmental
-group_of MAC = Environmental
-group_of MPR = Environmental
-group_of MUI = Environmental
-group_of MS = Environmental
-group_of MC = Environmental
-group_of MI = Environmental
-group_of MA = Environmental
+group_of kind = (row_of kind).2
 
 -- the metrics as they are compared, the least first
 abbrev pub declared : List MetricType

@@ -4,10 +4,10 @@ ghost use Rattle.std.specs.Prelude.{◌≡◌, IfOk, IfErr, Ok, Some};
 ghost use Rattle.std.proofs.Common.{rules};
 ghost use Rattle.cvss_grammar.specs.Refusal.{UnknownName};
 ghost use Rattle.cvss_name.specs.Told.{Tells};
-ghost use Rattle.cvss_name.specs.V2Types.{v2_reason, name_of, description_of, group_of, declared};
+ghost use Rattle.cvss_name.specs.V2Types.{v2_reason, row_of, name_of, description_of, group_of, declared};
 
 use crate::error::Error;
-use crate::group::MetricGroup;
+use crate::group::MetricGroup::{self, Base, Environmental, Temporal};
 use crate::named::{Named, from_name};
 use MetricType::*;
 use std::alloc::Global;
@@ -40,55 +40,21 @@ impl MetricType {
     pub fn name(self) -> &'static str
         ensures { result.now ≡ name_of self }
     {
-        match self {
-            MetricType::A => "A",
-            MetricType::AC => "AC",
-            MetricType::AV => "AV",
-            MetricType::Au => "Au",
-            MetricType::C => "C",
-            MetricType::I => "I",
-            MetricType::E => "E",
-            MetricType::RL => "RL",
-            MetricType::RC => "RC",
-            MetricType::CDP => "CDP",
-            MetricType::TD => "TD",
-            MetricType::CR => "CR",
-            MetricType::IR => "IR",
-            MetricType::AR => "AR",
-        }
+        self.row().0
     }
 
     /// The metric's name in words.
     pub fn description(self) -> &'static str
         ensures { result.now ≡ description_of self }
     {
-        match self {
-            MetricType::A => "Availability Impact",
-            MetricType::AC => "Access Complexity",
-            MetricType::AV => "Access Vector",
-            MetricType::Au => "Authentication",
-            MetricType::C => "Confidentiality Impact",
-            MetricType::I => "Integrity Impact",
-            MetricType::E => "Exploitability",
-            MetricType::RL => "Remediation Level",
-            MetricType::RC => "Report Confidence",
-            MetricType::CDP => "Collateral Damage Potential",
-            MetricType::TD => "Target Distribution",
-            MetricType::CR => "Confidentiality Requirement",
-            MetricType::IR => "Integrity Requirement",
-            MetricType::AR => "Availability Requirement",
-        }
+        self.row().1
     }
 
     /// The group to which the metric belongs (guide, sections 2.1 to 2.3).
     pub fn group(self) -> MetricGroup
         ensures { result ≡ group_of self }
     {
-        match self {
-            A | AC | AV | Au | C | I => MetricGroup::Base,
-            E | RL | RC => MetricGroup::Temporal,
-            CDP | TD | CR | IR | AR => MetricGroup::Environmental,
-        }
+        self.row().2
     }
 
     /// The metric type with this abbreviation, exactly as it is written.
@@ -106,14 +72,29 @@ impl MetricType {
 }
 
 impl Named for MetricType {
-    ghost name_of = { name_of };
+    ghost row_of = { row_of };
 
     ghost declared = { declared };
 
     ghost first = { Prim.search rules };
 
-    fn abbreviation(self) -> &'static str {
-        self.name()
+    fn row(self) -> (&'static str, &'static str, MetricGroup) {
+        match self {
+            A => ("A", "Availability Impact", Base),
+            AC => ("AC", "Access Complexity", Base),
+            AV => ("AV", "Access Vector", Base),
+            Au => ("Au", "Authentication", Base),
+            C => ("C", "Confidentiality Impact", Base),
+            I => ("I", "Integrity Impact", Base),
+            E => ("E", "Exploitability", Temporal),
+            RL => ("RL", "Remediation Level", Temporal),
+            RC => ("RC", "Report Confidence", Temporal),
+            CDP => ("CDP", "Collateral Damage Potential", Environmental),
+            TD => ("TD", "Target Distribution", Environmental),
+            CR => ("CR", "Confidentiality Requirement", Environmental),
+            IR => ("IR", "Integrity Requirement", Environmental),
+            AR => ("AR", "Availability Requirement", Environmental),
+        }
     }
 }
 

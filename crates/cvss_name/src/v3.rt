@@ -4,10 +4,10 @@ ghost use Rattle.std.specs.Prelude.{◌≡◌, IfOk, IfErr, Ok, Some};
 ghost use Rattle.std.proofs.Common.{rules};
 ghost use Rattle.cvss_grammar.specs.Refusal.{UnknownName};
 ghost use Rattle.cvss_name.specs.Told.{Tells};
-ghost use Rattle.cvss_name.specs.V3Types.{v3_reason, name_of, description_of, group_of, declared};
+ghost use Rattle.cvss_name.specs.V3Types.{v3_reason, row_of, name_of, description_of, group_of, declared};
 
 use crate::error::Error;
-use crate::group::MetricGroup;
+use crate::group::MetricGroup::{self, Base, Environmental, Temporal};
 use crate::named::{Named, from_name};
 use MetricType::*;
 use std::alloc::Global;
@@ -50,71 +50,21 @@ impl MetricType {
     pub fn name(self) -> &'static str
         ensures { result.now ≡ name_of self }
     {
-        match self {
-            MetricType::A => "A",
-            MetricType::AC => "AC",
-            MetricType::AV => "AV",
-            MetricType::C => "C",
-            MetricType::I => "I",
-            MetricType::PR => "PR",
-            MetricType::S => "S",
-            MetricType::UI => "UI",
-            MetricType::E => "E",
-            MetricType::RL => "RL",
-            MetricType::RC => "RC",
-            MetricType::CR => "CR",
-            MetricType::IR => "IR",
-            MetricType::AR => "AR",
-            MetricType::MAV => "MAV",
-            MetricType::MAC => "MAC",
-            MetricType::MPR => "MPR",
-            MetricType::MUI => "MUI",
-            MetricType::MS => "MS",
-            MetricType::MC => "MC",
-            MetricType::MI => "MI",
-            MetricType::MA => "MA",
-        }
+        self.row().0
     }
 
     /// The metric's name in words.
     pub fn description(self) -> &'static str
         ensures { result.now ≡ description_of self }
     {
-        match self {
-            MetricType::A => "Availability Impact",
-            MetricType::AC => "Attack Complexity",
-            MetricType::AV => "Attack Vector",
-            MetricType::C => "Confidentiality Impact",
-            MetricType::I => "Integrity Impact",
-            MetricType::PR => "Privileges Required",
-            MetricType::S => "Scope",
-            MetricType::UI => "User Interaction",
-            MetricType::E => "Exploit Code Maturity",
-            MetricType::RL => "Remediation Level",
-            MetricType::RC => "Report Confidence",
-            MetricType::CR => "Confidentiality Requirements",
-            MetricType::IR => "Integrity Requirements",
-            MetricType::AR => "Availability Requirements",
-            MetricType::MAV => "Modified Attack Vector",
-            MetricType::MAC => "Modified Attack Complexity",
-            MetricType::MPR => "Modified Privileges Required",
-            MetricType::MUI => "Modified User Interaction",
-            MetricType::MS => "Modified Scope",
-            MetricType::MC => "Modified Confidentiality",
-            MetricType::MI => "Modified Integrity",
-            MetricType::MA => "Modified Availability",
-        }
+        self.row().1
     }
 
     /// The group to which the metric belongs (v3.1 specification, sections 2 to 4).
     pub fn group(self) -> MetricGroup
         ensures { result ≡ group_of self }
     {
-        match self {
-            A | AC | AV | C | I | PR | S | UI => MetricGroup::Base,
-            E | RL | RC => MetricGroup::Temporal,
-            CR | IR | AR | MAV | MAC | MPR | MUI | MS | MC | MI | MA => MetricGroup::Environmental,
-        }
+        self.row().2
     }
 
     /// The metric type with this abbreviation, exactly as it is written.
@@ -132,14 +82,37 @@ impl MetricType {
 }
 
 impl Named for MetricType {
-    ghost name_of = { name_of };
+    ghost row_of = { row_of };
 
     ghost declared = { declared };
 
     ghost first = { Prim.search rules };
 
-    fn abbreviation(self) -> &'static str {
-        self.name()
+    fn row(self) -> (&'static str, &'static str, MetricGroup) {
+        match self {
+            A => ("A", "Availability Impact", Base),
+            AC => ("AC", "Attack Complexity", Base),
+            AV => ("AV", "Attack Vector", Base),
+            C => ("C", "Confidentiality Impact", Base),
+            I => ("I", "Integrity Impact", Base),
+            PR => ("PR", "Privileges Required", Base),
+            S => ("S", "Scope", Base),
+            UI => ("UI", "User Interaction", Base),
+            E => ("E", "Exploit Code Maturity", Temporal),
+            RL => ("RL", "Remediation Level", Temporal),
+            RC => ("RC", "Report Confidence", Temporal),
+            CR => ("CR", "Confidentiality Requirements", Environmental),
+            IR => ("IR", "Integrity Requirements", Environmental),
+            AR => ("AR", "Availability Requirements", Environmental),
+            MAV => ("MAV", "Modified Attack Vector", Environmental),
+            MAC => ("MAC", "Modified Attack Complexity", Environmental),
+            MPR => ("MPR", "Modified Privileges Required", Environmental),
+            MUI => ("MUI", "Modified User Interaction", Environmental),
+            MS => ("MS", "Modified Scope", Environmental),
+            MC => ("MC", "Modified Confidentiality", Environmental),
+            MI => ("MI", "Modified Integrity", Environmental),
+            MA => ("MA", "Modified Availability", Environmental),
+        }
     }
 }
 

@@ -4,10 +4,10 @@ ghost use Rattle.std.specs.Prelude.{◌≡◌, IfOk, IfErr, Ok, Some};
 ghost use Rattle.std.proofs.Common.{rules};
 ghost use Rattle.cvss_grammar.specs.Refusal.{UnknownName};
 ghost use Rattle.cvss_name.specs.Told.{Tells};
-ghost use Rattle.cvss_name.specs.V4Types.{v4_reason, name_of, description_of, group_of, declared};
+ghost use Rattle.cvss_name.specs.V4Types.{v4_reason, row_of, name_of, description_of, group_of, declared};
 
 use crate::error::Error;
-use crate::group::MetricGroup;
+use crate::group::MetricGroup::{self, Base, Environmental, Supplemental, Threat};
 use crate::named::{Named, from_name};
 use MetricType::*;
 use std::alloc::Global;
@@ -61,40 +61,7 @@ impl MetricType {
     pub fn name(self) -> &'static str
         ensures { result.now ≡ name_of self }
     {
-        match self {
-            MetricType::AC => "AC",
-            MetricType::AT => "AT",
-            MetricType::AV => "AV",
-            MetricType::PR => "PR",
-            MetricType::SA => "SA",
-            MetricType::SC => "SC",
-            MetricType::SI => "SI",
-            MetricType::UI => "UI",
-            MetricType::VA => "VA",
-            MetricType::VC => "VC",
-            MetricType::VI => "VI",
-            MetricType::E => "E",
-            MetricType::AR => "AR",
-            MetricType::CR => "CR",
-            MetricType::IR => "IR",
-            MetricType::MAC => "MAC",
-            MetricType::MAT => "MAT",
-            MetricType::MAV => "MAV",
-            MetricType::MPR => "MPR",
-            MetricType::MSA => "MSA",
-            MetricType::MSC => "MSC",
-            MetricType::MSI => "MSI",
-            MetricType::MUI => "MUI",
-            MetricType::MVA => "MVA",
-            MetricType::MVC => "MVC",
-            MetricType::MVI => "MVI",
-            MetricType::AU => "AU",
-            MetricType::R => "R",
-            MetricType::RE => "RE",
-            MetricType::S => "S",
-            MetricType::U => "U",
-            MetricType::V => "V",
-        }
+        self.row().0
     }
 
     /// All metrics, in the order in which they are compared.
@@ -108,53 +75,14 @@ impl MetricType {
     pub fn description(self) -> &'static str
         ensures { result.now ≡ description_of self }
     {
-        match self {
-            MetricType::AC => "Attack Complexity",
-            MetricType::AT => "Attack Requirements",
-            MetricType::AV => "Attack Vector",
-            MetricType::PR => "Privileges Required",
-            MetricType::SA => "Availability Impact to the Subsequent System",
-            MetricType::SC => "Confidentiality Impact to the Subsequent System",
-            MetricType::SI => "Integrity Impact to the Subsequent System",
-            MetricType::UI => "User Interaction",
-            MetricType::VA => "Availability Impact to the Vulnerable System",
-            MetricType::VC => "Confidentiality Impact to the Vulnerable System",
-            MetricType::VI => "Integrity Impact to the Vulnerable System",
-            MetricType::E => "Exploit Maturity",
-            MetricType::AR => "Availability Requirements",
-            MetricType::CR => "Confidentiality Requirements",
-            MetricType::IR => "Integrity Requirements",
-            MetricType::MAC => "Modified Attack Complexity",
-            MetricType::MAT => "Modified Attack Requirements",
-            MetricType::MAV => "Modified Attack Vector",
-            MetricType::MPR => "Modified Privileges Required",
-            MetricType::MSA => "Modified Availability Impact to the Subsequent System",
-            MetricType::MSC => "Modified Confidentiality Impact to the Subsequent System",
-            MetricType::MSI => "Modified Integrity Impact to the Subsequent System",
-            MetricType::MUI => "Modified User Interaction",
-            MetricType::MVA => "Modified Availability Impact to the Vulnerable System",
-            MetricType::MVC => "Modified Confidentiality Impact to the Vulnerable System",
-            MetricType::MVI => "Modified Integrity Impact to the Vulnerable System",
-            MetricType::AU => "Automatable",
-            MetricType::R => "Recovery",
-            MetricType::RE => "Vulnerability Response Effort",
-            MetricType::S => "Safety",
-            MetricType::U => "Provider Urgency",
-            MetricType::V => "Value Density",
-        }
+        self.row().1
     }
 
     /// The group to which the metric belongs (v4.0 specification, sections 2 to 5).
     pub fn group(self) -> MetricGroup
         ensures { result ≡ group_of self }
     {
-        match self {
-            AC | AT | AV | PR | SA | SC | SI | UI | VA | VC | VI => MetricGroup::Base,
-            E => MetricGroup::Threat,
-            AR | CR | IR | MAC | MAT | MAV | MPR | MSA | MSC | MSI | MUI | MVA | MVC | MVI =>
-                MetricGroup::Environmental,
-            AU | R | RE | S | U | V => MetricGroup::Supplemental,
-        }
+        self.row().2
     }
 
     /// The metric type with this abbreviation, exactly as it is written.
@@ -172,14 +100,79 @@ impl MetricType {
 }
 
 impl Named for MetricType {
-    ghost name_of = { name_of };
+    ghost row_of = { row_of };
 
     ghost declared = { declared };
 
     ghost first = { Prim.search rules };
 
-    fn abbreviation(self) -> &'static str {
-        self.name()
+    fn row(self) -> (&'static str, &'static str, MetricGroup) {
+        match self {
+            AC => ("AC", "Attack Complexity", Base),
+            AT => ("AT", "Attack Requirements", Base),
+            AV => ("AV", "Attack Vector", Base),
+            PR => ("PR", "Privileges Required", Base),
+            SA => ("SA", "Availability Impact to the Subsequent System", Base),
+            SC => (
+                "SC",
+                "Confidentiality Impact to the Subsequent System",
+                Base,
+            ),
+            SI => ("SI", "Integrity Impact to the Subsequent System", Base),
+            UI => ("UI", "User Interaction", Base),
+            VA => ("VA", "Availability Impact to the Vulnerable System", Base),
+            VC => (
+                "VC",
+                "Confidentiality Impact to the Vulnerable System",
+                Base,
+            ),
+            VI => ("VI", "Integrity Impact to the Vulnerable System", Base),
+            E => ("E", "Exploit Maturity", Threat),
+            AR => ("AR", "Availability Requirements", Environmental),
+            CR => ("CR", "Confidentiality Requirements", Environmental),
+            IR => ("IR", "Integrity Requirements", Environmental),
+            MAC => ("MAC", "Modified Attack Complexity", Environmental),
+            MAT => ("MAT", "Modified Attack Requirements", Environmental),
+            MAV => ("MAV", "Modified Attack Vector", Environmental),
+            MPR => ("MPR", "Modified Privileges Required", Environmental),
+            MSA => (
+                "MSA",
+                "Modified Availability Impact to the Subsequent System",
+                Environmental,
+            ),
+            MSC => (
+                "MSC",
+                "Modified Confidentiality Impact to the Subsequent System",
+                Environmental,
+            ),
+            MSI => (
+                "MSI",
+                "Modified Integrity Impact to the Subsequent System",
+                Environmental,
+            ),
+            MUI => ("MUI", "Modified User Interaction", Environmental),
+            MVA => (
+                "MVA",
+                "Modified Availability Impact to the Vulnerable System",
+                Environmental,
+            ),
+            MVC => (
+                "MVC",
+                "Modified Confidentiality Impact to the Vulnerable System",
+                Environmental,
+            ),
+            MVI => (
+                "MVI",
+                "Modified Integrity Impact to the Vulnerable System",
+                Environmental,
+            ),
+            AU => ("AU", "Automatable", Supplemental),
+            R => ("R", "Recovery", Supplemental),
+            RE => ("RE", "Vulnerability Response Effort", Supplemental),
+            S => ("S", "Safety", Supplemental),
+            U => ("U", "Provider Urgency", Supplemental),
+            V => ("V", "Value Density", Supplemental),
+        }
     }
 }
 
