@@ -1,16 +1,16 @@
 -- Overrides: the environmental metrics, and texts that are read one after another.
-use Rattle.std.proofs.Common.{◌≡◌, inl, inr, ℕ, ◌+◌, ◌<◌, Option, List, [], ◌∷◌, ◌++◌, codes, length, IsSome, Contains, below_more, refl, sym, ap, ◌∙◌, subst, arith, rules}
+use Rattle.std.proofs.Common.{◌≡◌, true, true≢false, inl, inr, ℕ, ◌+◌, ◌<◌, Option, List, [], ◌∷◌, ◌++◌, codes, length, IsSome, Contains, below_more, refl, sym, ap, ◌∙◌, subst, arith, rules}
 use Rattle.std.specs.Option.{option_or}
-use Rattle.std.proofs.lemmas.List.Elements.{All-contains}
+use Rattle.std.proofs.lemmas.List.Elements.{All-contains, filter_passes}
 use Rattle.cvss_grammar.specs.Refusal.{Refusal, BadComponent, Repeated, piece_at, name_at, FaultAt}
 use Rattle.cvss_grammar.specs.Text.{IsComponent, name_part}
-use Rattle.cvss_name.specs.V4Types.{name_of, group_of}
+use Rattle.cvss_name.specs.Groups.{same_group}
+use Rattle.cvss_name.specs.V4Types.{name_of, group_of, declared}
 use Rattle.cvss_grammar.specs.Version.{numeral, read, version_piece, IsComplete}
 use Rattle.cvss_text.specs.private.Walk.{HasNoValue, IsFaultOf}
 use Rattle.cvss_name.specs.declared.group.MetricGroup.{MetricGroup}
 use Rattle.cvss_name.specs.declared.group.MetricGroup.TheVariants.{Base, Environmental}
 use Rattle.cvss_name.specs.declared.v4.MetricType.{MetricType}
-use Rattle.cvss_name.specs.declared.v4.MetricType.TheVariants.{AC}
 use Rattle.cvss_text.proofs.ComponentLemmas.{piece_held}
 use Rattle.cvss_text.proofs.DenotesLemmas.{no_fault_held, vectors_same}
 use Rattle.cvss_text.proofs.JoinLemmas.{piece_is_component}
@@ -23,7 +23,7 @@ use Rattle.cvss_v4.specs.Overriding.{AreOverrides, IsOverridden, NamesOther, Obj
 use Rattle.cvss_v4.specs.private.OverridingSteps.{AddsOverride, IsObjectionTo, HasReadOverrides}
 use Rattle.cvss_v4.specs.Table.{Value, value_at}
 use Rattle.cvss_v4.specs.Vector.{v4}
-use Rattle.cvss_v4.specs.private.VectorLaws.{v4_is_lawful, one_minor_version}
+use Rattle.cvss_v4.specs.private.VectorLaws.{v4_is_lawful, one_minor_version, vector_of, vector_has}
 use Rattle.cvss_v4.specs.declared.vector.Vector.{Vector}
 
 -- a text that names an environmental metric names no other
@@ -125,33 +125,33 @@ module _ (texts : List (List ℕ)) where
       (same, sorts_same q one other (sort_of q one (subst (λ place. ObjectionAt texts place one) same first.is)) (sort_of q other second.is))
 
 -- a metric that each vector has is a base metric
-mandatory_is_base : (kind : MetricType) → Contains mandatory kind → group_of kind ≡ Base
-mandatory_is_base kind is = All-contains (λ each. group_of each ≡ Base) mandatory kind (search rules) is
+mandatory_is_base : (kind : MetricType) → Contains mandatory kind → same_group (group_of kind) Base ≡ true
+mandatory_is_base kind is =
+    All-contains (λ each. same_group (group_of each) Base ≡ true) mandatory kind (filter_passes (λ each. same_group (group_of each) Base) declared) is
 
 -- so a vector stays complete where environmental metrics replace its own
 pub IsComplete-overridden : (v overrides new : Vector) → IsOverridden v overrides new → IsComplete v4 v → IsComplete v4 new
 IsComplete-overridden v overrides new is complete = record {
-  present = λ kind mandatory. subst IsSome (sym (is.kept kind (λ environment. let is_base = mandatory_is_base kind mandatory in cc))) (complete.present kind mandatory);
+  present = λ kind mandatory. subst IsSome (sym (is.kept kind (λ environment. absurd (true≢false (sym (mandatory_is_base kind mandatory) ∙ ap (λ group. same_group group Base) environment))))) (complete.present kind mandatory);
 }
 
--- a vector with another's environmental metrics where that has them
-abbrev pub overridden : Vector → Vector → Vector
-overridden v overrides = record v { cr = option_or overrides.cr v.cr; ir = option_or overrides.ir v.ir; ar = option_or overrides.ar v.ar; mav = option_or overrides.mav v.mav; mac = option_or overrides.mac v.mac; mat = option_or overrides.mat v.mat; mpr = option_or overrides.mpr v.mpr; mui = option_or overrides.mui v.mui; mvc = option_or overrides.mvc v.mvc; mvi = option_or overrides.mvi v.mvi; mva = option_or overrides.mva v.mva; msc = option_or overrides.msc v.msc; msi = option_or overrides.msi v.msi; msa = option_or overrides.msa v.msa }
-
--- its value for a metric of this group
+-- a vector's value for a metric of this group, where another's environmental metrics replace its own
 abbrev value_by : Vector → Vector → (kind : MetricType) → MetricGroup → Option (Value kind)
 value_by v overrides kind Environmental = option_or (value_at overrides kind) (value_at v kind)
 value_by v overrides kind _ = value_at v kind
 
-by_group : (v overrides : Vector) (kind : MetricType) → value_at (overridden v overrides) kind ≡ value_by v overrides kind (group_of kind)
-by_group v overrides = elim [ AC ↦ refl | _ ↦ refl ]
+-- the vector of these values
+abbrev pub overridden : Vector → Vector → Vector
+overridden v overrides = vector_of v.minor_version (λ kind. value_by v overrides kind (group_of kind))
 
 of_other_group : (v overrides : Vector) (kind : MetricType) (group : MetricGroup) → ¬ (group ≡ Environmental) → value_by v overrides kind group ≡ value_at v kind
 of_other_group v overrides kind = elim [ Environmental ↦ λ not. absurd (not refl) | _ ↦ λ _. refl ]
 
 pub IsOverridden-own : (v overrides : Vector) → IsOverridden v overrides (overridden v overrides)
-IsOverridden-own v overrides = record {
-  replaced = λ kind is. by_group v overrides kind ∙ ap (value_by v overrides kind) is;
-  kept = λ kind not. by_group v overrides kind ∙ of_other_group v overrides kind (group_of kind) not;
-  minor_version = refl;
-}
+IsOverridden-own v overrides =
+    let has = vector_has v.minor_version (λ kind. value_by v overrides kind (group_of kind)) in
+    record {
+      replaced = λ kind is. has kind ∙ ap (value_by v overrides kind) is;
+      kept = λ kind not. has kind ∙ of_other_group v overrides kind (group_of kind) not;
+      minor_version = refl;
+    }

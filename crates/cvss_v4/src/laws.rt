@@ -19,7 +19,7 @@ ghost use Rattle.cvss_v4.specs.Effective.{attack_vectors, privileges, user_inter
 ghost use Rattle.cvss_v4.specs.laws.LetterLaws.{AreLettersOf};
 ghost use Rattle.cvss_v4.specs.laws.Maximal.{Eq1Values, eq1_levels, eq1_maximal, Eq2Values, eq2_levels, eq2_maximal, Eq3Eq6Values, eq3_eq6_levels, eq3_eq6_maximal, Eq4Values, eq4_levels, eq4_maximal};
 ghost use Rattle.cvss_v4.specs.Merging.{letter_at, effective_of};
-ghost use Rattle.cvss_v4.specs.laws.MergingLaws.{HasModifiedAsBase, without_supplemental};
+ghost use Rattle.cvss_v4.specs.laws.MergingLaws.{HasModifiedAsBase, DifferInSupplemental};
 ghost use Rattle.cvss_v4.specs.Nomenclature.{nomenclature_of};
 ghost use Rattle.cvss_v4.specs.laws.OverridingLaws.{AreAlike};
 ghost use Rattle.cvss_v4.specs.laws.ScoreLaws.{IsListed, IsPair, IsFromTenthToTen};
@@ -191,9 +191,10 @@ pub fn not_defined_scores_as_absent()
 
 /// The supplemental metrics change neither the effective values nor the nomenclature.
 pub fn supplemental_metrics_change_nothing()
-    ensures score { (v : Vector) → effective_of (without_supplemental v) ≡ effective_of v }
-    ensures nomenclature { (v : Vector) → nomenclature_of (without_supplemental v)
-        ≡ nomenclature_of v }
+    ensures score { (v w : Vector) → DifferInSupplemental v w
+        → effective_of w ≡ effective_of v }
+    ensures nomenclature { (v w : Vector) → DifferInSupplemental v w
+        → nomenclature_of w ≡ nomenclature_of v }
 {}
 
 /// A modified metric gives the effective value that its base metric gives with the same letter, each

@@ -1,8 +1,10 @@
 -- The metrics of CVSS v4.0 with the spellings of their values, as they are compared, the least first: v4.0
 -- specification, sections 2 (base), 3 (threat), 4 (environmental) and 5 (supplemental).
-use Rattle.std.specs.Prelude.{ℕ, List, [], ◌∷◌, ◌++◌, codes, drop, slice_get, unwrap_or}
+use Rattle.std.specs.Prelude.{ℕ, List, [], ◌∷◌, ◌++◌, codes, slice_get, unwrap_or}
 use Rattle.cvss_grammar.specs.Text.{component}
-use Rattle.cvss_name.specs.V4Types.{name_of}
+use Rattle.cvss_name.specs.Groups.{in_group}
+use Rattle.cvss_name.specs.V4Types.{name_of, group_of, declared}
+use Rattle.cvss_name.specs.declared.group.MetricGroup.TheVariants.{Base, Supplemental}
 use Rattle.cvss_name.specs.declared.v4.MetricType.{MetricType}
 use Rattle.cvss_name.specs.declared.v4.MetricType.TheVariants.{AC, AT, AV, PR, SA, SC, SI, UI, VA, VC, VI, E, AR, CR, IR, MAC, MAT, MAV, MPR, MSA, MSC, MSI, MUI, MVA, MVC, MVI, AU, R, RE, S, U, V}
 
@@ -85,8 +87,8 @@ printed = AV ∷ AC ∷ AT ∷ PR ∷ UI ∷ VC ∷ VI ∷ VA ∷ SC ∷ SI ∷ 
 
 -- the base metrics, which each vector has, in the order in which they are missed
 abbrev pub mandatory : List MetricType
-mandatory = AC ∷ AT ∷ AV ∷ PR ∷ SA ∷ SC ∷ SI ∷ UI ∷ VA ∷ VC ∷ VI ∷ []
+mandatory = in_group group_of Base declared
 
 -- the supplemental metrics, which are printed last
 abbrev pub supplemental : List MetricType
-supplemental = drop 26 printed
+supplemental = in_group group_of Supplemental printed

@@ -5,31 +5,6 @@ use Rattle.cvss_name.specs.declared.v3.MetricType.{MetricType}
 use Rattle.cvss_name.specs.declared.v3.MetricType.TheVariants.{AV, AC, PR, UI, S, C, I, A, E, RL, RC, CR, IR, AR, MAV, MAC, MPR, MUI, MS, MC, MI, MA}
 use Rattle.cvss_words.specs.Words.{Row, not_defined}
 
--- the name of the member that holds the metric's value
-abbrev pub member_of : MetricType → List ℕ
-member_of AV = codes "attackVector"
-member_of AC = codes "attackComplexity"
-member_of PR = codes "privilegesRequired"
-member_of UI = codes "userInteraction"
-member_of S = codes "scope"
-member_of C = codes "confidentialityImpact"
-member_of I = codes "integrityImpact"
-member_of A = codes "availabilityImpact"
-member_of E = codes "exploitCodeMaturity"
-member_of RL = codes "remediationLevel"
-member_of RC = codes "reportConfidence"
-member_of CR = codes "confidentialityRequirement"
-member_of IR = codes "integrityRequirement"
-member_of AR = codes "availabilityRequirement"
-member_of MAV = codes "modifiedAttackVector"
-member_of MAC = codes "modifiedAttackComplexity"
-member_of MPR = codes "modifiedPrivilegesRequired"
-member_of MUI = codes "modifiedUserInteraction"
-member_of MS = codes "modifiedScope"
-member_of MC = codes "modifiedConfidentialityImpact"
-member_of MI = codes "modifiedIntegrityImpact"
-member_of MA = codes "modifiedAvailabilityImpact"
-
 -- words that several metrics have
 abbrev attack_vector_words : List Row
 attack_vector_words = (codes "P", codes "PHYSICAL") ∷ (codes "L", codes "LOCAL") ∷ (codes "A", codes "ADJACENT_NETWORK") ∷ (codes "N", codes "NETWORK") ∷ []
@@ -52,27 +27,36 @@ impact_words = (codes "N", codes "NONE") ∷ (codes "L", codes "LOW") ∷ (codes
 abbrev requirement_words : List Row
 requirement_words = not_defined (codes "X") ∷ (codes "H", codes "HIGH") ∷ (codes "M", codes "MEDIUM") ∷ (codes "L", codes "LOW") ∷ []
 
--- how the values of a metric are spelled, each with its word, in the order in which they are compared
+-- the name of the member that holds a metric's value, and how its values are spelled, each with its word, in the order
+-- in which they are compared
+abbrev entry_of : MetricType → List ℕ × List Row
+entry_of AV = (codes "attackVector", attack_vector_words)
+entry_of AC = (codes "attackComplexity", attack_complexity_words)
+entry_of PR = (codes "privilegesRequired", privileges_required_words)
+entry_of UI = (codes "userInteraction", user_interaction_words)
+entry_of S = (codes "scope", scope_words)
+entry_of C = (codes "confidentialityImpact", impact_words)
+entry_of I = (codes "integrityImpact", impact_words)
+entry_of A = (codes "availabilityImpact", impact_words)
+entry_of E = (codes "exploitCodeMaturity", not_defined (codes "X") ∷ (codes "H", codes "HIGH") ∷ (codes "F", codes "FUNCTIONAL") ∷ (codes "P", codes "PROOF_OF_CONCEPT") ∷ (codes "U", codes "UNPROVEN") ∷ [])
+entry_of RL = (codes "remediationLevel", not_defined (codes "X") ∷ (codes "U", codes "UNAVAILABLE") ∷ (codes "W", codes "WORKAROUND") ∷ (codes "T", codes "TEMPORARY_FIX") ∷ (codes "O", codes "OFFICIAL_FIX") ∷ [])
+entry_of RC = (codes "reportConfidence", not_defined (codes "X") ∷ (codes "C", codes "CONFIRMED") ∷ (codes "R", codes "REASONABLE") ∷ (codes "U", codes "UNKNOWN") ∷ [])
+entry_of CR = (codes "confidentialityRequirement", requirement_words)
+entry_of IR = (codes "integrityRequirement", requirement_words)
+entry_of AR = (codes "availabilityRequirement", requirement_words)
+entry_of MAV = (codes "modifiedAttackVector", not_defined (codes "X") ∷ attack_vector_words)
+entry_of MAC = (codes "modifiedAttackComplexity", not_defined (codes "X") ∷ attack_complexity_words)
+entry_of MPR = (codes "modifiedPrivilegesRequired", not_defined (codes "X") ∷ privileges_required_words)
+entry_of MUI = (codes "modifiedUserInteraction", not_defined (codes "X") ∷ user_interaction_words)
+entry_of MS = (codes "modifiedScope", not_defined (codes "X") ∷ scope_words)
+entry_of MC = (codes "modifiedConfidentialityImpact", not_defined (codes "X") ∷ impact_words)
+entry_of MI = (codes "modifiedIntegrityImpact", not_defined (codes "X") ∷ impact_words)
+entry_of MA = (codes "modifiedAvailabilityImpact", not_defined (codes "X") ∷ impact_words)
+
+-- the name of the member
+abbrev pub member_of : MetricType → List ℕ
+member_of kind = (entry_of kind).0
+
+-- the spellings with their words
 abbrev pub words_of : MetricType → List Row
-words_of AV = attack_vector_words
-words_of AC = attack_complexity_words
-words_of PR = privileges_required_words
-words_of UI = user_interaction_words
-words_of S = scope_words
-words_of C = impact_words
-words_of I = impact_words
-words_of A = impact_words
-words_of E = not_defined (codes "X") ∷ (codes "H", codes "HIGH") ∷ (codes "F", codes "FUNCTIONAL") ∷ (codes "P", codes "PROOF_OF_CONCEPT") ∷ (codes "U", codes "UNPROVEN") ∷ []
-words_of RL = not_defined (codes "X") ∷ (codes "U", codes "UNAVAILABLE") ∷ (codes "W", codes "WORKAROUND") ∷ (codes "T", codes "TEMPORARY_FIX") ∷ (codes "O", codes "OFFICIAL_FIX") ∷ []
-words_of RC = not_defined (codes "X") ∷ (codes "C", codes "CONFIRMED") ∷ (codes "R", codes "REASONABLE") ∷ (codes "U", codes "UNKNOWN") ∷ []
-words_of CR = requirement_words
-words_of IR = requirement_words
-words_of AR = requirement_words
-words_of MAV = not_defined (codes "X") ∷ attack_vector_words
-words_of MAC = not_defined (codes "X") ∷ attack_complexity_words
-words_of MPR = not_defined (codes "X") ∷ privileges_required_words
-words_of MUI = not_defined (codes "X") ∷ user_interaction_words
-words_of MS = not_defined (codes "X") ∷ scope_words
-words_of MC = not_defined (codes "X") ∷ impact_words
-words_of MI = not_defined (codes "X") ∷ impact_words
-words_of MA = not_defined (codes "X") ∷ impact_words
+words_of kind = (entry_of kind).1

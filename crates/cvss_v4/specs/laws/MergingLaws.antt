@@ -1,9 +1,11 @@
 -- Vectors with the same effective values: CVSS v4.0 specification, section 4.2.
-use Rattle.std.specs.Prelude.{◌≡◌, ◌⊎◌, ◌++◌, codes, None}
-use Rattle.cvss_name.specs.V4Types.{name_of}
+use Rattle.std.specs.Prelude.{◌≡◌, ◌⊎◌, ◌++◌, codes}
+use Rattle.cvss_name.specs.V4Types.{name_of, group_of}
+use Rattle.cvss_name.specs.declared.group.MetricGroup.TheVariants.{Supplemental}
 use Rattle.cvss_name.specs.declared.v4.MetricType.{MetricType}
 use Rattle.cvss_name.specs.declared.v4.MetricType.TheVariants.{E, AR, CR, IR}
 use Rattle.cvss_v4.specs.Merging.{letter_at, merged}
+use Rattle.cvss_v4.specs.Table.{value_at}
 use Rattle.cvss_v4.specs.declared.vector.Vector.{Vector}
 
 -- the second vector has no such modified metric, and in the base metric the letter of the first's two together
@@ -26,6 +28,6 @@ pub record HasModifiedAsBase (v w : Vector) : Type 0 where
   pub ir : letter_at w IR ≡ letter_at v IR
   pub ar : letter_at w AR ≡ letter_at v AR
 
--- the vector without its supplemental metrics
-abbrev pub without_supplemental : Vector → Vector
-without_supplemental vector = record vector { s = None; au = None; r = None; v = None; re = None; u = None }
+-- the vectors differ in supplemental metrics alone: all others have the same values in both
+pub record DifferInSupplemental (v w : Vector) : Type 0 where
+  pub kept : (kind : MetricType) → ¬ (group_of kind ≡ Supplemental) → value_at w kind ≡ value_at v kind

@@ -1,5 +1,5 @@
 -- What the walk over a text needs to know of CVSS v4.0.
-use Rattle.std.specs.Prelude.{◌≡◌, ◌++◌, codes, refl}
+use Rattle.std.specs.Prelude.{◌≡◌, ℕ, ◌++◌, codes, Option, refl}
 use Rattle.cvss_text.specs.private.Walk.{IsLawful, IsLawfulFront}
 use Rattle.cvss_grammar.specs.Version.{numeral}
 use Rattle.cvss_name.specs.declared.v4.MetricType.{MetricType}
@@ -7,7 +7,7 @@ use Rattle.cvss_name.specs.declared.v4.MetricType.TheVariants as metric
 use Rattle.cvss_text.proofs.NumeralLemmas.{numeral-injective, numeral-plain}
 use Rattle.cvss_v4.specs.private.TableLaws.{plain_spelling, one_value}
 use Rattle.cvss_v4.specs.declared.vector.Vector.{Vector}
-use Rattle.cvss_v4.specs.Table.{value_at}
+use Rattle.cvss_v4.specs.Table.{Value, value_at}
 use Rattle.cvss_v4.specs.Vector.{v4}
 
 -- vectors with one version piece have one minor version
@@ -16,43 +16,51 @@ one_minor_version v w same =
     let numerals : numeral v.minor_version ≡ numeral w.minor_version = cc in
     numeral-injective v.minor_version w.minor_version numerals
 
+-- the vector with a minor version and a value, or none, for each metric
+abbrev pub vector_of : ℕ → ((kind : MetricType) → Option (Value kind)) → Vector
+vector_of minor_version value = record {
+  minor_version = minor_version;
+  av = value metric.AV;
+  ac = value metric.AC;
+  at = value metric.AT;
+  pr = value metric.PR;
+  ui = value metric.UI;
+  vc = value metric.VC;
+  vi = value metric.VI;
+  va = value metric.VA;
+  sc = value metric.SC;
+  si = value metric.SI;
+  sa = value metric.SA;
+  e = value metric.E;
+  cr = value metric.CR;
+  ir = value metric.IR;
+  ar = value metric.AR;
+  mav = value metric.MAV;
+  mac = value metric.MAC;
+  mat = value metric.MAT;
+  mpr = value metric.MPR;
+  mui = value metric.MUI;
+  mvc = value metric.MVC;
+  mvi = value metric.MVI;
+  mva = value metric.MVA;
+  msc = value metric.MSC;
+  msi = value metric.MSI;
+  msa = value metric.MSA;
+  s = value metric.S;
+  au = value metric.AU;
+  r = value metric.R;
+  v = value metric.V;
+  re = value metric.RE;
+  u = value metric.U;
+}
+
+-- it has these values
+pub vector_has : (minor_version : ℕ) (value : (kind : MetricType) → Option (Value kind)) (kind : MetricType) → value_at (vector_of minor_version value) kind ≡ value kind
+vector_has minor_version value = elim [ metric.AC ↦ refl | _ ↦ refl ]
+
 -- a vector is its minor version and its values
 one_vector : (v w : Vector) → v4.front v ≡ v4.front w → ((kind : MetricType) → value_at v kind ≡ value_at w kind) → v ≡ w
-one_vector v w front same = λ i. record {
-  minor_version = one_minor_version v w front i;
-  av = same metric.AV i;
-  ac = same metric.AC i;
-  at = same metric.AT i;
-  pr = same metric.PR i;
-  ui = same metric.UI i;
-  vc = same metric.VC i;
-  vi = same metric.VI i;
-  va = same metric.VA i;
-  sc = same metric.SC i;
-  si = same metric.SI i;
-  sa = same metric.SA i;
-  e = same metric.E i;
-  cr = same metric.CR i;
-  ir = same metric.IR i;
-  ar = same metric.AR i;
-  mav = same metric.MAV i;
-  mac = same metric.MAC i;
-  mat = same metric.MAT i;
-  mpr = same metric.MPR i;
-  mui = same metric.MUI i;
-  mvc = same metric.MVC i;
-  mvi = same metric.MVI i;
-  mva = same metric.MVA i;
-  msc = same metric.MSC i;
-  msi = same metric.MSI i;
-  msa = same metric.MSA i;
-  s = same metric.S i;
-  au = same metric.AU i;
-  r = same metric.R i;
-  v = same metric.V i;
-  re = same metric.RE i;
-  u = same metric.U i;
-}
+one_vector v w front same = λ i. vector_of (one_minor_version v w front i) (λ kind. same kind i)
 
 pub v4_is_lawful : IsLawful v4
 v4_is_lawful = record {

@@ -2,6 +2,7 @@
 
 ghost use Rattle.std.specs.Prelude.{◌≡◌, [], ◌∷◌, ◌++◌, drop, take};
 ghost use Rattle.cvss_text.specs.private.Printing.{slashed_texts};
+ghost use Rattle.cvss_text.specs.private.Walk.{first_missing};
 ghost use Rattle.cvss_name.specs.declared.v4.MetricType.TheVariants.{E, AR, CR, IR, MAC, MAT, MAV, MPR, MSA, MSC, MSI, MUI, MVA, MVC, MVI};
 ghost use Rattle.cvss_v4_metric.specs.Table.{printed, supplemental};
 ghost use Rattle.cvss_v4.specs.Vector.{v4};
@@ -17,28 +18,10 @@ use cvss_text::sight::{behind_five, behind_four};
 pub(super) fn others_at_sight<'a>(vector: &mut Vector, text: &'a [u8]) -> &'a [u8]
     ensures text { text.now ≡ slashed_texts v4 vector.new (take 20 (drop 11 printed))
         ++ result.now }
-    ensures kept { vector.new ≡ record vector.old {
-      e = vector.new.e;
-      cr = vector.new.cr;
-      ir = vector.new.ir;
-      ar = vector.new.ar;
-      mav = vector.new.mav;
-      mac = vector.new.mac;
-      mat = vector.new.mat;
-      mpr = vector.new.mpr;
-      mui = vector.new.mui;
-      mvc = vector.new.mvc;
-      mvi = vector.new.mvi;
-      mva = vector.new.mva;
-      msc = vector.new.msc;
-      msi = vector.new.msi;
-      msa = vector.new.msa;
-      s = vector.new.s;
-      au = vector.new.au;
-      r = vector.new.r;
-      v = vector.new.v;
-      re = vector.new.re;
-    } }
+    ensures version { vector.new.minor_version ≡ vector.old.minor_version }
+    ensures base { slashed_texts v4 vector.new (take 11 printed)
+        ≡ slashed_texts v4 vector.old (take 11 printed) }
+    ensures missing { first_missing v4 vector.new ≡ first_missing v4 vector.old }
 {
     let text = threat_at_sight(vector, text);
     let text = modified_attack_at_sight(vector, text);
