@@ -4,7 +4,9 @@ use Rattle.std.specs.Prelude.{ℕ, List, [], ◌∷◌, codes, slice_get, unwrap
 use Rattle.std.specs.Option.{option_map_or}
 use Rattle.std.specs.Str.{bytes_eq}
 use Rattle.cvss_grammar.specs.Text.{component}
-use Rattle.cvss_name.specs.V2Types.{name_of}
+use Rattle.cvss_name.specs.Groups.{in_group}
+use Rattle.cvss_name.specs.V2Types.{name_of, group_of}
+use Rattle.cvss_name.specs.declared.group.MetricGroup.TheVariants.{Base}
 use Rattle.cvss_name.specs.declared.v2.MetricType.{MetricType}
 use Rattle.cvss_name.specs.declared.v2.MetricType.TheVariants.{A, AC, AV, Au, C, I, E, RL, RC, CDP, TD, CR, IR, AR}
 use Rattle.cvss_v2.specs.declared.metric.base.access.AccessVector.{AccessVector}
@@ -111,9 +113,9 @@ metric_component kind value = component (name_of kind) (spelling_of kind value)
 abbrev pub printed : List MetricType
 printed = AV ∷ AC ∷ Au ∷ C ∷ I ∷ A ∷ E ∷ RL ∷ RC ∷ CDP ∷ TD ∷ CR ∷ IR ∷ AR ∷ []
 
--- the metrics that every vector has, in the order in which they are missed
+-- the base metrics, which each vector has, in the order in which they are missed
 abbrev pub mandatory : List MetricType
-mandatory = AV ∷ AC ∷ Au ∷ C ∷ I ∷ A ∷ []
+mandatory = in_group group_of Base printed
 
 -- the order in which the metrics of a vector are listed, which is the Rust crate's
 abbrev pub listed : List MetricType

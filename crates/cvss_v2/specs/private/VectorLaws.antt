@@ -1,31 +1,40 @@
 -- What the walk over a text needs to know of CVSS v2.
-use Rattle.std.specs.Prelude.{◌≡◌, refl}
+use Rattle.std.specs.Prelude.{◌≡◌, Option, refl}
 use Rattle.std.proofs.Common.{lit<}
 use Rattle.cvss_text.specs.private.Walk.{IsLawful}
 use Rattle.cvss_name.specs.declared.v2.MetricType.{MetricType}
 use Rattle.cvss_name.specs.declared.v2.MetricType.TheVariants.{A, AC, AV, Au, C, I, E, RL, RC, CDP, TD, CR, IR, AR}
 use Rattle.cvss_v2.specs.declared.vector.Vector.{Vector}
+use Rattle.cvss_v2.specs.Table.{Value}
 use Rattle.cvss_v2.specs.Vector.{v2, value_at}
 use Rattle.cvss_v2.specs.private.TableLaws.{plain_spelling, one_value}
 
+-- the vector with a value, or none, for each metric
+abbrev pub vector_of : ((kind : MetricType) → Option (Value kind)) → Vector
+vector_of value = record {
+  av = value AV;
+  ac = value AC;
+  au = value Au;
+  c = value C;
+  i = value I;
+  a = value A;
+  e = value E;
+  rl = value RL;
+  rc = value RC;
+  cdp = value CDP;
+  td = value TD;
+  cr = value CR;
+  ir = value IR;
+  ar = value AR;
+}
+
+-- it has these values
+pub vector_has : (value : (kind : MetricType) → Option (Value kind)) (kind : MetricType) → value_at (vector_of value) kind ≡ value kind
+vector_has value = elim [ A ↦ refl | _ ↦ refl ]
+
 -- a vector is its values
 one_vector : (v w : Vector) → ((kind : MetricType) → value_at v kind ≡ value_at w kind) → v ≡ w
-one_vector v w same = λ i. record {
-  av = same AV i;
-  ac = same AC i;
-  au = same Au i;
-  c = same C i;
-  i = same I i;
-  a = same A i;
-  e = same E i;
-  rl = same RL i;
-  rc = same RC i;
-  cdp = same CDP i;
-  td = same TD i;
-  cr = same CR i;
-  ir = same IR i;
-  ar = same AR i;
-}
+one_vector v w same = λ i. vector_of (λ kind. same kind i)
 
 pub v2_is_lawful : IsLawful v2
 v2_is_lawful = record {

@@ -1,11 +1,12 @@
 -- What the walk over a text needs to know of CVSS v3.
-use Rattle.std.specs.Prelude.{◌≡◌, ◌++◌, codes, refl}
+use Rattle.std.specs.Prelude.{◌≡◌, ℕ, ◌++◌, codes, Option, refl}
 use Rattle.cvss_text.specs.private.Walk.{IsLawful, IsLawfulFront}
 use Rattle.cvss_grammar.specs.Version.{numeral}
 use Rattle.cvss_name.specs.declared.v3.MetricType.{MetricType}
 use Rattle.cvss_name.specs.declared.v3.MetricType.TheVariants.{A, AC, AV, C, I, PR, S, UI, E, RL, RC, CR, IR, AR, MAV, MAC, MPR, MUI, MS, MC, MI, MA}
 use Rattle.cvss_text.proofs.NumeralLemmas.{numeral-injective, numeral-plain}
 use Rattle.cvss_v3_metric.specs.private.TableLaws.{plain_spelling, one_value}
+use Rattle.cvss_v3_metric.specs.Table.{Value}
 use Rattle.cvss_v3.specs.declared.vector.Vector.{Vector}
 use Rattle.cvss_v3.specs.Vector.{v3, value_at}
 
@@ -15,33 +16,41 @@ one_minor_version v w same =
     let numerals : numeral v.minor_version ≡ numeral w.minor_version = cc in
     numeral-injective v.minor_version w.minor_version numerals
 
+-- the vector with a minor version and a value, or none, for each metric
+abbrev pub vector_of : ℕ → ((kind : MetricType) → Option (Value kind)) → Vector
+vector_of minor_version value = record {
+  minor_version = minor_version;
+  av = value AV;
+  ac = value AC;
+  pr = value PR;
+  ui = value UI;
+  s = value S;
+  c = value C;
+  i = value I;
+  a = value A;
+  e = value E;
+  rl = value RL;
+  rc = value RC;
+  cr = value CR;
+  ir = value IR;
+  ar = value AR;
+  mav = value MAV;
+  mac = value MAC;
+  mpr = value MPR;
+  mui = value MUI;
+  ms = value MS;
+  mc = value MC;
+  mi = value MI;
+  ma = value MA;
+}
+
+-- it has these values
+pub vector_has : (minor_version : ℕ) (value : (kind : MetricType) → Option (Value kind)) (kind : MetricType) → value_at (vector_of minor_version value) kind ≡ value kind
+vector_has minor_version value = elim [ A ↦ refl | _ ↦ refl ]
+
 -- a vector is its minor version and its values
 one_vector : (v w : Vector) → v3.front v ≡ v3.front w → ((kind : MetricType) → value_at v kind ≡ value_at w kind) → v ≡ w
-one_vector v w front same = λ i. record {
-  minor_version = one_minor_version v w front i;
-  av = same AV i;
-  ac = same AC i;
-  pr = same PR i;
-  ui = same UI i;
-  s = same S i;
-  c = same C i;
-  i = same I i;
-  a = same A i;
-  e = same E i;
-  rl = same RL i;
-  rc = same RC i;
-  cr = same CR i;
-  ir = same IR i;
-  ar = same AR i;
-  mav = same MAV i;
-  mac = same MAC i;
-  mpr = same MPR i;
-  mui = same MUI i;
-  ms = same MS i;
-  mc = same MC i;
-  mi = same MI i;
-  ma = same MA i;
-}
+one_vector v w front same = λ i. vector_of (one_minor_version v w front i) (λ kind. same kind i)
 
 pub v3_is_lawful : IsLawful v3
 v3_is_lawful = record {
