@@ -3,12 +3,11 @@
 
 ghost use Rattle.std.specs.Prelude.{◌≡◌, pos, ◌≤◌};
 ghost use Rattle.cvss_v4.specs.Distance.{eq1_distance, eq2_distance, eq3_eq6_distance, eq4_distance};
-ghost use Rattle.cvss_v4.specs.Classes.{macro_vector};
 ghost use Rattle.cvss_v4.specs.Levels.{attack_vector_level, privileges_level, interaction_level, complexity_level, requirements_level, vulnerable_level, subsequent_level, safety_level, requirement_level};
 
-use crate::scoring::classes::MacroVector;
+use crate::scoring::classified::Classified;
 use crate::scoring::effective::{
-    AttackComplexity, AttackRequirements, AttackVector, Effective, PrivilegesRequired, Requirement,
+    AttackComplexity, AttackRequirements, AttackVector, PrivilegesRequired, Requirement,
     SafetyImpact, SubsequentImpact, UserInteraction, VulnerableImpact,
 };
 
@@ -152,29 +151,32 @@ impl Requirement {
 
 /// The distance in EQ1.
 #[inline(always)]
-pub fn eq1_distance(effective: &Effective, class: &MacroVector) -> u8
-    requires { class.now ≡ macro_vector effective.now }
-    ensures { pos result ≡ eq1_distance effective.now }
+pub fn eq1_distance(values: &Classified) -> u8
+    ensures { pos result ≡ eq1_distance values.now.effective }
 {
+    let effective = &values.effective;
+    let class = &values.placed.class;
     effective.av.level() + effective.pr.level() + effective.ui.level()
         - EQ1_LEAST[class.eq1 as usize]
 }
 
 /// The distance in EQ2.
 #[inline(always)]
-pub fn eq2_distance(effective: &Effective, class: &MacroVector) -> u8
-    requires { class.now ≡ macro_vector effective.now }
-    ensures { pos result ≡ eq2_distance effective.now }
+pub fn eq2_distance(values: &Classified) -> u8
+    ensures { pos result ≡ eq2_distance values.now.effective }
 {
+    let effective = &values.effective;
+    let class = &values.placed.class;
     effective.ac.level() + effective.at.level() - EQ2_LEAST[class.eq2 as usize]
 }
 
 /// The distance in EQ3 with EQ6.
 #[inline(always)]
-pub fn eq3_eq6_distance(effective: &Effective, class: &MacroVector) -> u8
-    requires { class.now ≡ macro_vector effective.now }
-    ensures { pos result ≡ eq3_eq6_distance effective.now }
+pub fn eq3_eq6_distance(values: &Classified) -> u8
+    ensures { pos result ≡ eq3_eq6_distance values.now.effective }
 {
+    let effective = &values.effective;
+    let class = &values.placed.class;
     let impacts = effective.vc.level() + effective.vi.level() + effective.va.level();
     let requirements = effective.cr.level() + effective.ir.level() + effective.ar.level();
     impacts + requirements - EQ3_EQ6_LEAST[(2 * class.eq3 + class.eq6).min(4) as usize]
@@ -182,10 +184,11 @@ pub fn eq3_eq6_distance(effective: &Effective, class: &MacroVector) -> u8
 
 /// The distance in EQ4.
 #[inline(always)]
-pub fn eq4_distance(effective: &Effective, class: &MacroVector) -> u8
-    requires { class.now ≡ macro_vector effective.now }
-    ensures { pos result ≡ eq4_distance effective.now }
+pub fn eq4_distance(values: &Classified) -> u8
+    ensures { pos result ≡ eq4_distance values.now.effective }
 {
+    let effective = &values.effective;
+    let class = &values.placed.class;
     effective.sc.level() + effective.si.level() + effective.sa.level()
         - EQ4_LEAST[class.eq4 as usize]
 }
