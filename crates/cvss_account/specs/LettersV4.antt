@@ -2,17 +2,10 @@
 use Rattle.std.specs.Prelude.{ℕ, List, [], ◌∷◌, ◌++◌, codes}
 use Rattle.cvss_record.specs.Objects.{Member}
 use Rattle.serde_json.specs.Data.{string}
+use Rattle.cvss_name.specs.declared.v4.MetricType.TheVariants.{AC, AT, AV, PR, UI}
+use Rattle.cvss_v4_metric.specs.Ranks as place
+use Rattle.cvss_v4_metric.specs.Table.{spelling_at}
 use Rattle.cvss_v4.specs.declared.scoring.effective.Effective.{Effective}
-use Rattle.cvss_v4.specs.declared.scoring.effective.AttackVector.{AttackVector}
-use Rattle.cvss_v4.specs.declared.scoring.effective.AttackVector.TheVariants as attack_vector
-use Rattle.cvss_v4.specs.declared.scoring.effective.PrivilegesRequired.{PrivilegesRequired}
-use Rattle.cvss_v4.specs.declared.scoring.effective.PrivilegesRequired.TheVariants as privileges
-use Rattle.cvss_v4.specs.declared.scoring.effective.UserInteraction.{UserInteraction}
-use Rattle.cvss_v4.specs.declared.scoring.effective.UserInteraction.TheVariants as user_interaction
-use Rattle.cvss_v4.specs.declared.scoring.effective.AttackComplexity.{AttackComplexity}
-use Rattle.cvss_v4.specs.declared.scoring.effective.AttackComplexity.TheVariants as attack_complexity
-use Rattle.cvss_v4.specs.declared.scoring.effective.AttackRequirements.{AttackRequirements}
-use Rattle.cvss_v4.specs.declared.scoring.effective.AttackRequirements.TheVariants as attack_requirements
 use Rattle.cvss_v4.specs.declared.scoring.effective.VulnerableImpact.{VulnerableImpact}
 use Rattle.cvss_v4.specs.declared.scoring.effective.VulnerableImpact.TheVariants as vulnerable_impact
 use Rattle.cvss_v4.specs.declared.scoring.effective.SubsequentImpact.{SubsequentImpact}
@@ -23,26 +16,6 @@ use Rattle.cvss_v4.specs.declared.scoring.effective.Requirement.{Requirement}
 use Rattle.cvss_v4.specs.declared.scoring.effective.Requirement.TheVariants as requirement
 use Rattle.cvss_v4.specs.declared.scoring.effective.ExploitMaturity.{ExploitMaturity}
 use Rattle.cvss_v4.specs.declared.scoring.effective.ExploitMaturity.TheVariants as exploit_maturity
-
--- AV
-abbrev pub attack_vector_letter : AttackVector → List ℕ
-attack_vector_letter = elim [ attack_vector.Network ↦ codes "N" | attack_vector.Adjacent ↦ codes "A" | attack_vector.Local ↦ codes "L" | attack_vector.Physical ↦ codes "P" ]
-
--- PR
-abbrev pub privileges_letter : PrivilegesRequired → List ℕ
-privileges_letter = elim [ privileges.None ↦ codes "N" | privileges.Low ↦ codes "L" | privileges.High ↦ codes "H" ]
-
--- UI
-abbrev pub user_interaction_letter : UserInteraction → List ℕ
-user_interaction_letter = elim [ user_interaction.None ↦ codes "N" | user_interaction.Passive ↦ codes "P" | user_interaction.Active ↦ codes "A" ]
-
--- AC
-abbrev pub attack_complexity_letter : AttackComplexity → List ℕ
-attack_complexity_letter = elim [ attack_complexity.Low ↦ codes "L" | attack_complexity.High ↦ codes "H" ]
-
--- AT
-abbrev pub attack_requirements_letter : AttackRequirements → List ℕ
-attack_requirements_letter = elim [ attack_requirements.None ↦ codes "N" | attack_requirements.Present ↦ codes "P" ]
 
 -- VC, VI and VA
 abbrev pub vulnerable_impact_letter : VulnerableImpact → List ℕ
@@ -68,12 +41,12 @@ exploit_maturity_letter = elim [ exploit_maturity.Attacked ↦ codes "A" | explo
 abbrev pub letter_member : List ℕ → List ℕ → Member
 letter_member name letter = (name, string letter)
 
--- AV, PR, UI, AC and AT
+-- AV, PR, UI, AC and AT, whose effective values are spelled as the metrics
 abbrev pub attack_members : Effective → List Member
 attack_members v =
-    letter_member (codes "AV") (attack_vector_letter v.av) ∷ letter_member (codes "PR") (privileges_letter v.pr)
-    ∷ letter_member (codes "UI") (user_interaction_letter v.ui) ∷ letter_member (codes "AC") (attack_complexity_letter v.ac)
-    ∷ letter_member (codes "AT") (attack_requirements_letter v.at) ∷ []
+    letter_member (codes "AV") (spelling_at AV (place.AV v.av)) ∷ letter_member (codes "PR") (spelling_at PR (place.PR v.pr))
+    ∷ letter_member (codes "UI") (spelling_at UI (place.UI v.ui)) ∷ letter_member (codes "AC") (spelling_at AC (place.AC v.ac))
+    ∷ letter_member (codes "AT") (spelling_at AT (place.AT v.at)) ∷ []
 
 -- VC, VI and VA
 abbrev pub vulnerable_members : Effective → List Member

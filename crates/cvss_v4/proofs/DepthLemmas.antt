@@ -4,11 +4,11 @@ use Rattle.std.proofs.lemmas.Bool.{eqb-true}
 use Rattle.std.proofs.lemmas.Int.{ints}
 use Rattle.cvss_v4.specs.laws.ClassLaws.{IsDepth}
 use Rattle.cvss_v4.specs.declared.scoring.effective.Effective.{Effective}
-use Rattle.cvss_v4.specs.declared.scoring.effective.AttackVector.TheVariants as attack_vector
-use Rattle.cvss_v4.specs.declared.scoring.effective.PrivilegesRequired.TheVariants as privileges_required
-use Rattle.cvss_v4.specs.declared.scoring.effective.UserInteraction.TheVariants as user_interaction
-use Rattle.cvss_v4.specs.declared.scoring.effective.AttackComplexity.TheVariants as attack_complexity
-use Rattle.cvss_v4.specs.declared.scoring.effective.AttackRequirements.TheVariants as attack_requirements
+use Rattle.cvss_v4_metric.specs.declared.base.attack.AttackVector.TheVariants as attack_vector
+use Rattle.cvss_v4_metric.specs.declared.base.access.PrivilegesRequired.TheVariants as privileges_required
+use Rattle.cvss_v4_metric.specs.declared.base.access.UserInteraction.TheVariants as user_interaction
+use Rattle.cvss_v4_metric.specs.declared.base.attack.AttackComplexity.TheVariants as attack_complexity
+use Rattle.cvss_v4_metric.specs.declared.base.attack.AttackRequirements.TheVariants as attack_requirements
 use Rattle.cvss_v4.specs.declared.scoring.effective.VulnerableImpact.TheVariants as impact
 use Rattle.cvss_v4.specs.declared.scoring.effective.SubsequentImpact.TheVariants as subsequent
 use Rattle.cvss_v4.specs.declared.scoring.effective.SafetyImpact.TheVariants as safety

@@ -6,11 +6,11 @@ use Rattle.cvss_v4.specs.Gap.{eq3_eq6_group, eq3_eq6_next, next_lower}
 use Rattle.cvss_v4.specs.Scores.{number, IsScore}
 use Rattle.cvss_v4.specs.Values.{rows, listed_value}
 use Rattle.cvss_v4.specs.declared.scoring.effective.Effective.{Effective}
-use Rattle.cvss_v4.specs.declared.scoring.effective.AttackVector.TheVariants as attack_vector
-use Rattle.cvss_v4.specs.declared.scoring.effective.PrivilegesRequired.TheVariants as privileges
-use Rattle.cvss_v4.specs.declared.scoring.effective.UserInteraction.TheVariants as interaction
-use Rattle.cvss_v4.specs.declared.scoring.effective.AttackComplexity.TheVariants as complexity
-use Rattle.cvss_v4.specs.declared.scoring.effective.AttackRequirements.TheVariants as conditions
+use Rattle.cvss_v4_metric.specs.declared.base.attack.AttackVector.TheVariants as attack_vector
+use Rattle.cvss_v4_metric.specs.declared.base.access.PrivilegesRequired.TheVariants as privileges
+use Rattle.cvss_v4_metric.specs.declared.base.access.UserInteraction.TheVariants as interaction
+use Rattle.cvss_v4_metric.specs.declared.base.attack.AttackComplexity.TheVariants as complexity
+use Rattle.cvss_v4_metric.specs.declared.base.attack.AttackRequirements.TheVariants as conditions
 use Rattle.cvss_v4.specs.declared.scoring.effective.VulnerableImpact.TheVariants as impact
 use Rattle.cvss_v4.specs.declared.scoring.effective.SubsequentImpact.TheVariants as subsequent
 use Rattle.cvss_v4.specs.declared.scoring.effective.SafetyImpact.TheVariants as safety

@@ -2,16 +2,16 @@
 use Rattle.std.specs.Prelude.{◌≡◌, ◌≤◌, ℕ, Bool, true, false, ◌&&◌, ◌||◌, not, if◌then◌else◌}
 use Rattle.cvss_v4.specs.declared.scoring.classes.MacroVector.{MacroVector}
 use Rattle.cvss_v4.specs.declared.scoring.effective.Effective.{Effective}
-use Rattle.cvss_v4.specs.declared.scoring.effective.AttackVector.{AttackVector}
-use Rattle.cvss_v4.specs.declared.scoring.effective.AttackVector.TheVariants.{Network, Physical}
-use Rattle.cvss_v4.specs.declared.scoring.effective.PrivilegesRequired.{PrivilegesRequired}
-use Rattle.cvss_v4.specs.declared.scoring.effective.PrivilegesRequired.TheVariants as privileges_required
-use Rattle.cvss_v4.specs.declared.scoring.effective.UserInteraction.{UserInteraction}
-use Rattle.cvss_v4.specs.declared.scoring.effective.UserInteraction.TheVariants as user_interaction
-use Rattle.cvss_v4.specs.declared.scoring.effective.AttackComplexity.{AttackComplexity}
-use Rattle.cvss_v4.specs.declared.scoring.effective.AttackComplexity.TheVariants as attack_complexity
-use Rattle.cvss_v4.specs.declared.scoring.effective.AttackRequirements.{AttackRequirements}
-use Rattle.cvss_v4.specs.declared.scoring.effective.AttackRequirements.TheVariants as attack_requirements
+use Rattle.cvss_v4_metric.specs.declared.base.attack.AttackVector.{AttackVector}
+use Rattle.cvss_v4_metric.specs.declared.base.attack.AttackVector.TheVariants.{Network, Physical}
+use Rattle.cvss_v4_metric.specs.declared.base.access.PrivilegesRequired.{PrivilegesRequired}
+use Rattle.cvss_v4_metric.specs.declared.base.access.PrivilegesRequired.TheVariants as privileges_required
+use Rattle.cvss_v4_metric.specs.declared.base.access.UserInteraction.{UserInteraction}
+use Rattle.cvss_v4_metric.specs.declared.base.access.UserInteraction.TheVariants as user_interaction
+use Rattle.cvss_v4_metric.specs.declared.base.attack.AttackComplexity.{AttackComplexity}
+use Rattle.cvss_v4_metric.specs.declared.base.attack.AttackComplexity.TheVariants as attack_complexity
+use Rattle.cvss_v4_metric.specs.declared.base.attack.AttackRequirements.{AttackRequirements}
+use Rattle.cvss_v4_metric.specs.declared.base.attack.AttackRequirements.TheVariants as attack_requirements
 use Rattle.cvss_v4.specs.declared.scoring.effective.VulnerableImpact.{VulnerableImpact}
 use Rattle.cvss_v4.specs.declared.scoring.effective.VulnerableImpact.TheVariants as vulnerable_impact
 use Rattle.cvss_v4.specs.declared.scoring.effective.SubsequentImpact.{SubsequentImpact}

@@ -6,11 +6,11 @@ use Rattle.cvss_v4.specs.Effective.{attack_vectors, privileges, user_interaction
 use Rattle.cvss_v4.specs.Levels.{attack_vector_level, privileges_level, interaction_level, complexity_level, requirements_level, vulnerable_level, subsequent_level, safety_level, requirement_level}
 use Rattle.cvss_v4.specs.Classes.{eq1, eq2, eq3, eq4, eq6}
 use Rattle.cvss_v4.specs.declared.scoring.effective.Effective.{Effective}
-use Rattle.cvss_v4.specs.declared.scoring.effective.AttackVector.{AttackVector}
-use Rattle.cvss_v4.specs.declared.scoring.effective.PrivilegesRequired.{PrivilegesRequired}
-use Rattle.cvss_v4.specs.declared.scoring.effective.UserInteraction.{UserInteraction}
-use Rattle.cvss_v4.specs.declared.scoring.effective.AttackComplexity.{AttackComplexity}
-use Rattle.cvss_v4.specs.declared.scoring.effective.AttackRequirements.{AttackRequirements}
+use Rattle.cvss_v4_metric.specs.declared.base.attack.AttackVector.{AttackVector}
+use Rattle.cvss_v4_metric.specs.declared.base.access.PrivilegesRequired.{PrivilegesRequired}
+use Rattle.cvss_v4_metric.specs.declared.base.access.UserInteraction.{UserInteraction}
+use Rattle.cvss_v4_metric.specs.declared.base.attack.AttackComplexity.{AttackComplexity}
+use Rattle.cvss_v4_metric.specs.declared.base.attack.AttackRequirements.{AttackRequirements}
 use Rattle.cvss_v4.specs.declared.scoring.effective.VulnerableImpact.{VulnerableImpact}
 use Rattle.cvss_v4.specs.declared.scoring.effective.SubsequentImpact.{SubsequentImpact}
 use Rattle.cvss_v4.specs.declared.scoring.effective.SafetyImpact.{SafetyImpact}

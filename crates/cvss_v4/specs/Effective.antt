@@ -1,16 +1,16 @@
 -- The effective values of each metric by their letters, the most severe first: CVSS v4.0 specification, sections 2 to 4.
 use Rattle.std.specs.Prelude.{ℕ, List, [], ◌∷◌, codes, map, find, bytes_eq}
 use Rattle.std.specs.Option.{option_map_or}
-use Rattle.cvss_v4.specs.declared.scoring.effective.AttackVector.{AttackVector}
-use Rattle.cvss_v4.specs.declared.scoring.effective.AttackVector.TheVariants as attack_vector
-use Rattle.cvss_v4.specs.declared.scoring.effective.PrivilegesRequired.{PrivilegesRequired}
-use Rattle.cvss_v4.specs.declared.scoring.effective.PrivilegesRequired.TheVariants as privileges_required
-use Rattle.cvss_v4.specs.declared.scoring.effective.UserInteraction.{UserInteraction}
-use Rattle.cvss_v4.specs.declared.scoring.effective.UserInteraction.TheVariants as user_interaction
-use Rattle.cvss_v4.specs.declared.scoring.effective.AttackComplexity.{AttackComplexity}
-use Rattle.cvss_v4.specs.declared.scoring.effective.AttackComplexity.TheVariants as attack_complexity
-use Rattle.cvss_v4.specs.declared.scoring.effective.AttackRequirements.{AttackRequirements}
-use Rattle.cvss_v4.specs.declared.scoring.effective.AttackRequirements.TheVariants as attack_requirements
+use Rattle.cvss_v4_metric.specs.declared.base.attack.AttackVector.{AttackVector}
+use Rattle.cvss_v4_metric.specs.declared.base.attack.AttackVector.TheVariants as attack_vector
+use Rattle.cvss_v4_metric.specs.declared.base.access.PrivilegesRequired.{PrivilegesRequired}
+use Rattle.cvss_v4_metric.specs.declared.base.access.PrivilegesRequired.TheVariants as privileges_required
+use Rattle.cvss_v4_metric.specs.declared.base.access.UserInteraction.{UserInteraction}
+use Rattle.cvss_v4_metric.specs.declared.base.access.UserInteraction.TheVariants as user_interaction
+use Rattle.cvss_v4_metric.specs.declared.base.attack.AttackComplexity.{AttackComplexity}
+use Rattle.cvss_v4_metric.specs.declared.base.attack.AttackComplexity.TheVariants as attack_complexity
+use Rattle.cvss_v4_metric.specs.declared.base.attack.AttackRequirements.{AttackRequirements}
+use Rattle.cvss_v4_metric.specs.declared.base.attack.AttackRequirements.TheVariants as attack_requirements
 use Rattle.cvss_v4.specs.declared.scoring.effective.VulnerableImpact.{VulnerableImpact}
 use Rattle.cvss_v4.specs.declared.scoring.effective.VulnerableImpact.TheVariants as vulnerable_impact
 use Rattle.cvss_v4.specs.declared.scoring.effective.SubsequentImpact.{SubsequentImpact}

@@ -7,6 +7,7 @@ mod depths;
 mod distances;
 pub mod effective;
 mod next;
+mod placed;
 mod score;
 mod shares;
 mod values;

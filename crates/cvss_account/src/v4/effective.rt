@@ -1,14 +1,13 @@
 //! The letters of effective values.
 
 ghost use Rattle.std.specs.Prelude.{◌≡◌, ◌∷◌, [], IfOk, OnOk};
-ghost use Rattle.cvss_account.specs.LettersV4.{attack_vector_letter, privileges_letter, user_interaction_letter, attack_complexity_letter, attack_requirements_letter, vulnerable_impact_letter, subsequent_impact_letter, safety_impact_letter, requirement_letter, exploit_maturity_letter, attack_members, effective_members, letter_member, subsequent_members, vulnerable_members, weighing_members};
+ghost use Rattle.cvss_account.specs.LettersV4.{vulnerable_impact_letter, subsequent_impact_letter, safety_impact_letter, requirement_letter, exploit_maturity_letter, attack_members, effective_members, letter_member, subsequent_members, vulnerable_members, weighing_members};
 ghost use Rattle.cvss_record.specs.Objects.{object_of, with_members};
 ghost use Rattle.serde_json.specs.View.{members_view, view};
 
+use cvss::v4::metric::Metric;
 use cvss::v4::scoring::effective::{
-    AttackComplexity, AttackRequirements, AttackVector, Effective, ExploitMaturity,
-    PrivilegesRequired, Requirement, SafetyImpact, SubsequentImpact, UserInteraction,
-    VulnerableImpact,
+    Effective, ExploitMaturity, Requirement, SafetyImpact, SubsequentImpact, VulnerableImpact,
 };
 use serde_json::{Map, Value, put};
 use std::alloc::{AllocError, Global};
@@ -34,11 +33,11 @@ fn put_attack(
     ensures { OnOk result (members_view members.new.entries
         ≡ with_members (attack_members effective.now) (members_view members.old.entries)) }
 {
-    put_letter(members, alloc, "AV", attack_vector(effective.av))?;
-    put_letter(members, alloc, "PR", privileges(effective.pr))?;
-    put_letter(members, alloc, "UI", user_interaction(effective.ui))?;
-    put_letter(members, alloc, "AC", attack_complexity(effective.ac))?;
-    put_letter(members, alloc, "AT", attack_requirements(effective.at))
+    put_letter(members, alloc, "AV", effective.av.as_str())?;
+    put_letter(members, alloc, "PR", effective.pr.as_str())?;
+    put_letter(members, alloc, "UI", effective.ui.as_str())?;
+    put_letter(members, alloc, "AC", effective.ac.as_str())?;
+    put_letter(members, alloc, "AT", effective.at.as_str())
 }
 
 /// Puts VC, VI and VA.
@@ -94,60 +93,6 @@ fn put_letter(
         ≡ with_members (letter_member name.now letter.now ∷ []) (members_view members.old.entries)) }
 {
     put(members, alloc, name, Value::try_from_str(alloc, letter)?)
-}
-
-/// The letter of AV.
-fn attack_vector(value: AttackVector) -> &'static str
-    ensures { result.now ≡ attack_vector_letter value }
-{
-    match value {
-        AttackVector::Network => "N",
-        AttackVector::Adjacent => "A",
-        AttackVector::Local => "L",
-        AttackVector::Physical => "P",
-    }
-}
-
-/// The letter of PR.
-fn privileges(value: PrivilegesRequired) -> &'static str
-    ensures { result.now ≡ privileges_letter value }
-{
-    match value {
-        PrivilegesRequired::None => "N",
-        PrivilegesRequired::Low => "L",
-        PrivilegesRequired::High => "H",
-    }
-}
-
-/// The letter of UI.
-fn user_interaction(value: UserInteraction) -> &'static str
-    ensures { result.now ≡ user_interaction_letter value }
-{
-    match value {
-        UserInteraction::None => "N",
-        UserInteraction::Passive => "P",
-        UserInteraction::Active => "A",
-    }
-}
-
-/// The letter of AC.
-fn attack_complexity(value: AttackComplexity) -> &'static str
-    ensures { result.now ≡ attack_complexity_letter value }
-{
-    match value {
-        AttackComplexity::Low => "L",
-        AttackComplexity::High => "H",
-    }
-}
-
-/// The letter of AT.
-fn attack_requirements(value: AttackRequirements) -> &'static str
-    ensures { result.now ≡ attack_requirements_letter value }
-{
-    match value {
-        AttackRequirements::None => "N",
-        AttackRequirements::Present => "P",
-    }
 }
 
 /// The letter of VC, VI or VA.

@@ -2,16 +2,16 @@
 -- v4.0 specification, section 8.2.
 use Rattle.std.specs.Prelude.{ℕ, zero, suc, List, [], ◌∷◌}
 use Rattle.cvss_v4.specs.Levels.{attack_vector_level, privileges_level, interaction_level, complexity_level, requirements_level, vulnerable_level, subsequent_level, safety_level, requirement_level}
-use Rattle.cvss_v4.specs.declared.scoring.effective.AttackVector.{AttackVector}
-use Rattle.cvss_v4.specs.declared.scoring.effective.AttackVector.TheVariants.{Network, Adjacent, Physical}
-use Rattle.cvss_v4.specs.declared.scoring.effective.PrivilegesRequired.{PrivilegesRequired}
-use Rattle.cvss_v4.specs.declared.scoring.effective.PrivilegesRequired.TheVariants as pr
-use Rattle.cvss_v4.specs.declared.scoring.effective.UserInteraction.{UserInteraction}
-use Rattle.cvss_v4.specs.declared.scoring.effective.UserInteraction.TheVariants as ui
-use Rattle.cvss_v4.specs.declared.scoring.effective.AttackComplexity.{AttackComplexity}
-use Rattle.cvss_v4.specs.declared.scoring.effective.AttackComplexity.TheVariants as ac
-use Rattle.cvss_v4.specs.declared.scoring.effective.AttackRequirements.{AttackRequirements}
-use Rattle.cvss_v4.specs.declared.scoring.effective.AttackRequirements.TheVariants as at
+use Rattle.cvss_v4_metric.specs.declared.base.attack.AttackVector.{AttackVector}
+use Rattle.cvss_v4_metric.specs.declared.base.attack.AttackVector.TheVariants.{Network, Adjacent, Physical}
+use Rattle.cvss_v4_metric.specs.declared.base.access.PrivilegesRequired.{PrivilegesRequired}
+use Rattle.cvss_v4_metric.specs.declared.base.access.PrivilegesRequired.TheVariants as pr
+use Rattle.cvss_v4_metric.specs.declared.base.access.UserInteraction.{UserInteraction}
+use Rattle.cvss_v4_metric.specs.declared.base.access.UserInteraction.TheVariants as ui
+use Rattle.cvss_v4_metric.specs.declared.base.attack.AttackComplexity.{AttackComplexity}
+use Rattle.cvss_v4_metric.specs.declared.base.attack.AttackComplexity.TheVariants as ac
+use Rattle.cvss_v4_metric.specs.declared.base.attack.AttackRequirements.{AttackRequirements}
+use Rattle.cvss_v4_metric.specs.declared.base.attack.AttackRequirements.TheVariants as at
 use Rattle.cvss_v4.specs.declared.scoring.effective.VulnerableImpact.{VulnerableImpact}
 use Rattle.cvss_v4.specs.declared.scoring.effective.VulnerableImpact.TheVariants as impact
 use Rattle.cvss_v4.specs.declared.scoring.effective.SubsequentImpact.{SubsequentImpact}

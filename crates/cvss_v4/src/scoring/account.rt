@@ -62,7 +62,7 @@ impl Account {
         let values = Classified::of(effective);
         let harmless = Account {
             effective: *effective,
-            class: values.class,
+            class: values.placed.class,
             value: values.value,
             groups: None,
             mean: 0,

@@ -1,44 +1,9 @@
 //! The effective values of a vector: those that remain once each modified metric has replaced its
 //! base metric and each undefined one its default (v4.0 specification, sections 4.2 and 8.2).
 
-/// How near to the vulnerable system the attacker has to be: AV.
-#[derive(Clone, Copy)]
-pub enum AttackVector {
-    Network,
-    Adjacent,
-    Local,
-    Physical,
-}
-
-/// The privileges that the attacker needs: PR.
-#[derive(Clone, Copy)]
-pub enum PrivilegesRequired {
-    None,
-    Low,
-    High,
-}
-
-/// What another user has to do: UI.
-#[derive(Clone, Copy)]
-pub enum UserInteraction {
-    None,
-    Passive,
-    Active,
-}
-
-/// Whether security measures have to be evaded: AC.
-#[derive(Clone, Copy)]
-pub enum AttackComplexity {
-    Low,
-    High,
-}
-
-/// Whether the attack needs conditions of the system: AT.
-#[derive(Clone, Copy)]
-pub enum AttackRequirements {
-    None,
-    Present,
-}
+pub use cvss_v4_metric::base::{
+    AttackComplexity, AttackRequirements, AttackVector, PrivilegesRequired, UserInteraction,
+};
 
 /// An impact on the vulnerable system: VC, VI and VA.
 #[derive(Clone, Copy)]

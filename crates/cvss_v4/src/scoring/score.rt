@@ -9,6 +9,9 @@ use crate::scoring::classified::Classified;
 use crate::scoring::effective::{Effective, SafetyImpact, SubsequentImpact, VulnerableImpact};
 use crate::scoring::shares::{eq1_terms, eq2_terms, eq3_eq6_terms, eq4_terms, eq5_terms};
 
+/// A tenth of a point, in 504000ths of one.
+const TENTH: u32 = 50_400;
+
 /// The score of effective values in tenths: the value of their class less the mean of what the
 /// groups with a next lower class take, rounded half up, and 0 without impact.
 pub fn score_tenths(effective: &Effective) -> u8
@@ -49,7 +52,7 @@ pub(super) fn less_mean(value: u8, mean: u32) -> u32
     ensures some { 50_400 ≤ result }
     ensures range { result ≤ 5_040_000 }
 {
-    value as u32 * 50_400 - mean
+    value as u32 * TENTH - mean
 }
 
 /// A number of 504000ths of a point, rounded to tenths.
@@ -61,7 +64,7 @@ fn rounded(number: u32) -> u8
     ensures range { result ≤ 100 }
     ensures some { 1 ≤ result }
 {
-    ((number + 25_200) / 50_400) as u8
+    ((number + TENTH / 2) / TENTH) as u8
 }
 
 /// 60 divided by how many groups count, where one does.

@@ -74,9 +74,9 @@ pub fn eq1_terms(values: &Classified) -> Terms
     ensures { AreTerms values.now.value (eq1_group values.now.effective) result }
 {
     Terms {
-        next: eq1_next(&values.class, values.place),
-        distance: eq1_distance(&values.effective, &values.class),
-        part: eq1_part(&values.class),
+        next: eq1_next(&values.placed),
+        distance: eq1_distance(values),
+        part: eq1_part(&values.placed),
     }
 }
 
@@ -86,9 +86,9 @@ pub fn eq2_terms(values: &Classified) -> Terms
     ensures { AreTerms values.now.value (eq2_group values.now.effective) result }
 {
     Terms {
-        next: eq2_next(&values.class, values.place),
-        distance: eq2_distance(&values.effective, &values.class),
-        part: eq2_part(&values.class),
+        next: eq2_next(&values.placed),
+        distance: eq2_distance(values),
+        part: eq2_part(&values.placed),
     }
 }
 
@@ -98,9 +98,9 @@ pub fn eq3_eq6_terms(values: &Classified) -> Terms
     ensures { AreTerms values.now.value (eq3_eq6_group values.now.effective) result }
 {
     Terms {
-        next: eq3_eq6_next(&values.class, values.place),
-        distance: eq3_eq6_distance(&values.effective, &values.class),
-        part: eq3_eq6_part(&values.class),
+        next: eq3_eq6_next(&values.placed),
+        distance: eq3_eq6_distance(values),
+        part: eq3_eq6_part(&values.placed),
     }
 }
 
@@ -110,9 +110,9 @@ pub fn eq4_terms(values: &Classified) -> Terms
     ensures { AreTerms values.now.value (eq4_group values.now.effective) result }
 {
     Terms {
-        next: eq4_next(&values.class, values.place),
-        distance: eq4_distance(&values.effective, &values.class),
-        part: eq4_part(&values.class),
+        next: eq4_next(&values.placed),
+        distance: eq4_distance(values),
+        part: eq4_part(&values.placed),
     }
 }
 
@@ -122,7 +122,7 @@ pub fn eq5_terms(values: &Classified) -> Terms
     ensures { AreTerms values.now.value (eq5_group values.now.effective) result }
 {
     Terms {
-        next: eq5_next(&values.class, values.place),
+        next: eq5_next(&values.placed),
         distance: 0,
         part: 840,
     }

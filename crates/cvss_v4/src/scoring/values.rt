@@ -1,13 +1,11 @@
 //! The values of the classes (v4.0 specification, section 8.2).
 
 ghost use Rattle.std.specs.Prelude.{◌≡◌, ◌<◌, slice_index};
-ghost use Rattle.cvss_v4.specs.Classes.{IsMacroVector};
 ghost use Rattle.cvss_v4.specs.laws.ScoreLaws.{IsListed};
 ghost use Rattle.cvss_v4.specs.Values.{listed_value};
-ghost use Rattle.cvss_v4.specs.private.Places.{place_of};
 ghost use Rattle.cvss_v4.specs.declared.scoring.values.TheConstants.{VALUES};
 
-use crate::scoring::classes::MacroVector;
+use crate::scoring::placed::PlacedClass;
 
 /// The value of each class in tenths. A row holds those of EQ1, EQ2, and EQ3 with EQ6: the three
 /// of EQ5 = 0, 1 and 2, for EQ4 = 0, 1 and 2.
@@ -54,24 +52,10 @@ pub fn value_at(place: usize) -> u8
     VALUES[place]
 }
 
-/// The value of a class, whose place is known.
+/// The value of a class.
 #[inline(always)]
-pub fn value_of(class: &MacroVector, place: usize) -> u8
-    requires class { IsMacroVector class.now }
-    requires place { place ≡ place_of class.now }
-    ensures { IsListed (listed_value class.now) result }
+pub fn value_of(placed: &PlacedClass) -> u8
+    ensures { IsListed (listed_value placed.now.class) result }
 {
-    value_at(place)
-}
-
-/// The place of a class among the values.
-#[inline(always)]
-pub fn place_of(class: &MacroVector) -> usize
-    requires { IsMacroVector class.now }
-    ensures value { result ≡ place_of class.now }
-    ensures bound { result < 270 }
-{
-    let impact = (2 * class.eq3 + class.eq6).min(4);
-    let row = (2 * class.eq1 + class.eq2) * 5 + impact;
-    (row as usize * 3 + class.eq4 as usize) * 3 + class.eq5 as usize
+    value_at(placed.place)
 }

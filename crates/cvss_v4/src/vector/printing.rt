@@ -74,7 +74,7 @@ fn write_value<M: Metric, W: fmt::Write>(value: Option<M>, f: &mut fmt::Formatte
     write_slashed(slashed_value(value), f)
 }
 
-/// The same of two values.
+/// Writes a slash and the component of each of two values that is there.
 #[inline(always)]
 fn write_two<L: Metric, M: Metric, W: fmt::Write>(
     first: Option<L>,
@@ -88,7 +88,7 @@ fn write_two<L: Metric, M: Metric, W: fmt::Write>(
     write_value(second, f)
 }
 
-/// The same of three values.
+/// Writes a slash and the component of each of three values that is there.
 #[inline(always)]
 fn write_three<K: Metric, L: Metric, M: Metric, W: fmt::Write>(
     first: Option<K>,

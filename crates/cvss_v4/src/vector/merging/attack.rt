@@ -12,28 +12,21 @@ use crate::metric::environmental::{
     ModifiedAttackComplexity, ModifiedAttackRequirements, ModifiedAttackVector,
     ModifiedPrivilegesRequired, ModifiedUserInteraction,
 };
-use crate::scoring::effective;
 
 /// The effective value of AV, which MAV replaces where it is defined.
 pub(super) fn attack_vector(
     modified: Option<ModifiedAttackVector>,
     base: Option<AttackVector>,
-) -> effective::AttackVector
+) -> AttackVector
     ensures { result ≡ meaning attack_vectors
         (replaced (letter_of MAV modified) (letter_of AV base)) }
 {
-    let unmodified = match base {
-        None | Some(AttackVector::Network) => effective::AttackVector::Network,
-        Some(AttackVector::Adjacent) => effective::AttackVector::Adjacent,
-        Some(AttackVector::Local) => effective::AttackVector::Local,
-        Some(AttackVector::Physical) => effective::AttackVector::Physical,
-    };
     match modified {
-        None | Some(ModifiedAttackVector::NotDefined) => unmodified,
-        Some(ModifiedAttackVector::Network) => effective::AttackVector::Network,
-        Some(ModifiedAttackVector::Adjacent) => effective::AttackVector::Adjacent,
-        Some(ModifiedAttackVector::Local) => effective::AttackVector::Local,
-        Some(ModifiedAttackVector::Physical) => effective::AttackVector::Physical,
+        None | Some(ModifiedAttackVector::NotDefined) => base.unwrap_or(AttackVector::Network),
+        Some(ModifiedAttackVector::Network) => AttackVector::Network,
+        Some(ModifiedAttackVector::Adjacent) => AttackVector::Adjacent,
+        Some(ModifiedAttackVector::Local) => AttackVector::Local,
+        Some(ModifiedAttackVector::Physical) => AttackVector::Physical,
     }
 }
 
@@ -41,18 +34,14 @@ pub(super) fn attack_vector(
 pub(super) fn attack_complexity(
     modified: Option<ModifiedAttackComplexity>,
     base: Option<AttackComplexity>,
-) -> effective::AttackComplexity
+) -> AttackComplexity
     ensures { result ≡ meaning attack_complexities
         (replaced (letter_of MAC modified) (letter_of AC base)) }
 {
-    let unmodified = match base {
-        None | Some(AttackComplexity::Low) => effective::AttackComplexity::Low,
-        Some(AttackComplexity::High) => effective::AttackComplexity::High,
-    };
     match modified {
-        None | Some(ModifiedAttackComplexity::NotDefined) => unmodified,
-        Some(ModifiedAttackComplexity::Low) => effective::AttackComplexity::Low,
-        Some(ModifiedAttackComplexity::High) => effective::AttackComplexity::High,
+        None | Some(ModifiedAttackComplexity::NotDefined) => base.unwrap_or(AttackComplexity::Low),
+        Some(ModifiedAttackComplexity::Low) => AttackComplexity::Low,
+        Some(ModifiedAttackComplexity::High) => AttackComplexity::High,
     }
 }
 
@@ -60,18 +49,16 @@ pub(super) fn attack_complexity(
 pub(super) fn attack_requirements(
     modified: Option<ModifiedAttackRequirements>,
     base: Option<AttackRequirements>,
-) -> effective::AttackRequirements
+) -> AttackRequirements
     ensures { result ≡ meaning all_attack_requirements
         (replaced (letter_of MAT modified) (letter_of AT base)) }
 {
-    let unmodified = match base {
-        None | Some(AttackRequirements::None) => effective::AttackRequirements::None,
-        Some(AttackRequirements::Present) => effective::AttackRequirements::Present,
-    };
     match modified {
-        None | Some(ModifiedAttackRequirements::NotDefined) => unmodified,
-        Some(ModifiedAttackRequirements::None) => effective::AttackRequirements::None,
-        Some(ModifiedAttackRequirements::Present) => effective::AttackRequirements::Present,
+        None | Some(ModifiedAttackRequirements::NotDefined) => base.unwrap_or(
+            AttackRequirements::None,
+        ),
+        Some(ModifiedAttackRequirements::None) => AttackRequirements::None,
+        Some(ModifiedAttackRequirements::Present) => AttackRequirements::Present,
     }
 }
 
@@ -79,20 +66,17 @@ pub(super) fn attack_requirements(
 pub(super) fn privileges_required(
     modified: Option<ModifiedPrivilegesRequired>,
     base: Option<PrivilegesRequired>,
-) -> effective::PrivilegesRequired
+) -> PrivilegesRequired
     ensures { result ≡ meaning privileges
         (replaced (letter_of MPR modified) (letter_of PR base)) }
 {
-    let unmodified = match base {
-        None | Some(PrivilegesRequired::None) => effective::PrivilegesRequired::None,
-        Some(PrivilegesRequired::Low) => effective::PrivilegesRequired::Low,
-        Some(PrivilegesRequired::High) => effective::PrivilegesRequired::High,
-    };
     match modified {
-        None | Some(ModifiedPrivilegesRequired::NotDefined) => unmodified,
-        Some(ModifiedPrivilegesRequired::None) => effective::PrivilegesRequired::None,
-        Some(ModifiedPrivilegesRequired::Low) => effective::PrivilegesRequired::Low,
-        Some(ModifiedPrivilegesRequired::High) => effective::PrivilegesRequired::High,
+        None | Some(ModifiedPrivilegesRequired::NotDefined) => base.unwrap_or(
+            PrivilegesRequired::None,
+        ),
+        Some(ModifiedPrivilegesRequired::None) => PrivilegesRequired::None,
+        Some(ModifiedPrivilegesRequired::Low) => PrivilegesRequired::Low,
+        Some(ModifiedPrivilegesRequired::High) => PrivilegesRequired::High,
     }
 }
 
@@ -100,19 +84,14 @@ pub(super) fn privileges_required(
 pub(super) fn user_interaction(
     modified: Option<ModifiedUserInteraction>,
     base: Option<UserInteraction>,
-) -> effective::UserInteraction
+) -> UserInteraction
     ensures { result ≡ meaning user_interactions
         (replaced (letter_of MUI modified) (letter_of UI base)) }
 {
-    let unmodified = match base {
-        None | Some(UserInteraction::None) => effective::UserInteraction::None,
-        Some(UserInteraction::Passive) => effective::UserInteraction::Passive,
-        Some(UserInteraction::Active) => effective::UserInteraction::Active,
-    };
     match modified {
-        None | Some(ModifiedUserInteraction::NotDefined) => unmodified,
-        Some(ModifiedUserInteraction::None) => effective::UserInteraction::None,
-        Some(ModifiedUserInteraction::Passive) => effective::UserInteraction::Passive,
-        Some(ModifiedUserInteraction::Active) => effective::UserInteraction::Active,
+        None | Some(ModifiedUserInteraction::NotDefined) => base.unwrap_or(UserInteraction::None),
+        Some(ModifiedUserInteraction::None) => UserInteraction::None,
+        Some(ModifiedUserInteraction::Passive) => UserInteraction::Passive,
+        Some(ModifiedUserInteraction::Active) => UserInteraction::Active,
     }
 }

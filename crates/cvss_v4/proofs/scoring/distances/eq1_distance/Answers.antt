@@ -6,6 +6,6 @@ use Rattle.cvss_v4.proofs.scoring.distances.eq1_distance.Goals as goal
 
 pub returns : goal.returns
 returns c =
-    let v = c.args.effective.now in
-    let same = distance_is eq1_scale eq1_is_scale (v.av, v.pr, v.ui) c.args.class.now.eq1 (ap (λ m. m.eq1) c.requires) in
+    let v = c.args.values.now.effective in
+    let same = distance_is eq1_scale eq1_is_scale (v.av, v.pr, v.ui) c.args.values.now.placed.class.eq1 (ap (λ m. m.eq1) c.args.values.now.of_effective) in
     omega (arith, ints, same)

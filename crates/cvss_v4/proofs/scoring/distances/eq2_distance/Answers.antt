@@ -6,6 +6,6 @@ use Rattle.cvss_v4.proofs.scoring.distances.eq2_distance.Goals as goal
 
 pub returns : goal.returns
 returns c =
-    let v = c.args.effective.now in
-    let same = distance_is eq2_scale eq2_is_scale (v.ac, v.at) c.args.class.now.eq2 (ap (λ m. m.eq2) c.requires) in
+    let v = c.args.values.now.effective in
+    let same = distance_is eq2_scale eq2_is_scale (v.ac, v.at) c.args.values.now.placed.class.eq2 (ap (λ m. m.eq2) c.args.values.now.of_effective) in
     omega (arith, ints, same)

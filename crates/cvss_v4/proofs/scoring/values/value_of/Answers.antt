@@ -4,7 +4,11 @@ use Rattle.cvss_v4.proofs.TableLemmas.{value_at_place}
 use Rattle.cvss_v4.proofs.scoring.values.value_of.Goals as goal
 
 pub value_at-requires : goal.value_at-requires
-value_at-requires c = omega (arith, place_bound c.args.class.now c.requires.class)
+value_at-requires c =
+    let placed = c.args.placed.now in
+    omega (arith, placed.at_place, place_bound placed.class placed.is_class)
 
 pub returns : goal.returns
-returns c = rw (c.value_at.ensures, c.requires.place) (value_at_place c.args.class.now c.requires.class)
+returns c =
+    let placed = c.args.placed.now in
+    rw (c.value_at.ensures, placed.at_place) (value_at_place placed.class placed.is_class)
