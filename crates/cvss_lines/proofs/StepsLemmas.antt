@@ -14,10 +14,6 @@ use Rattle.cvss_lines.specs.declared.gathered.Gathered.{Gathered}
 use Rattle.cvss_lines.specs.declared.progress.Progress.{Progress}
 use Rattle.cvss_lines.proofs.AnswersLemmas.{IsAnswers-push, number_behind-push, summary_of-push, written_answers-push}
 
--- a beginning of two lists that has all of the first
-pub take-past : (xs ys : List ℕ) (n : ℕ) → take (length xs + n) (xs ++ ys) ≡ xs ++ take n ys
-take-past xs ys n = take-append-add xs ys n
-
 -- a result whose fault is the one that a call gave
 pub told : {T : Type 0} (r : Result T RunFault) (given : RunFault) (P : Result T RunFault → Type 0)
     → IsErrAnd r (λ fault. fault ≡ given) → P (Err given) → P r
