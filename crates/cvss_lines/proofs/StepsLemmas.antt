@@ -14,10 +14,6 @@ use Rattle.cvss_lines.specs.declared.gathered.Gathered.{Gathered}
 use Rattle.cvss_lines.specs.declared.progress.Progress.{Progress}
 use Rattle.cvss_lines.proofs.AnswersLemmas.{IsAnswers-push, number_behind-push, summary_of-push, written_answers-push}
 
--- a beginning of two lists that has all of the first
-pub take-past : (xs ys : List ℕ) (n : ℕ) → take (length xs + n) (xs ++ ys) ≡ xs ++ take n ys
-take-past xs ys n = take-append-add xs ys n
-
 -- a result whose fault is the one that a call gave
 pub told : {T : Type 0} (r : Result T RunFault) (given : RunFault) (P : Result T RunFault → Type 0)
     → IsErrAnd r (λ fault. fault ≡ given) → P (Err given) → P r
@@ -80,11 +76,11 @@ module _ (rule : Rule) (beginning : Beginning) where
     passed_next line passed (inr some) = inr (AreBegun-next line some.0 passed some.1 some.2)
 
     -- the next line is answered
-    pub Stands-line : (next : Progress) (line : List ℕ) (accepted : Bool)
+    pub Stands_line : (next : Progress) (line : List ℕ) (accepted : Bool)
         → Streams rule beginning now.number line now.answers.bytes.items next.answers.bytes.items w w' accepted
         → ((answer : Answer) → accepted ≡ is_accepted answer → Counts now.summary answer next.summary)
         → next.number ≡ next_number now.number → Stands rule beginning start w' (lines ++ line ∷ []) next
-    Stands-line next line accepted x counts numbered = record {
+    Stands_line next line accepted x counts numbered = record {
       answers = s.answers ++ x.answer ∷ [];
       answered = IsAnswers-push rule 1 lines s.answers line x.answer s.answered
           (subst (λ number. rule number line x.answer) s.numbered x.answers);
@@ -102,9 +98,9 @@ module _ (rule : Rule) (beginning : Beginning) where
     }
 
     -- a fault in the midst of the next line
-    pub Stops-line : (line : List ℕ) (fault : RunFault) → LineStops beginning now.number line now.answers.bytes.items w w' fault
+    pub Stops_line : (line : List ℕ) (fault : RunFault) → LineStops beginning now.number line now.answers.bytes.items w w' fault
         → Stops rule beginning start w' lines (lines ++ line ∷ []) fault
-    Stops-line line fault stops = record {
+    Stops_line line fault stops = record {
       no_read = stops.no_read;
       memory = λ is.
           let x = stops.memory is in
