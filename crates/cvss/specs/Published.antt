@@ -8,13 +8,13 @@ use Rattle.cvss.specs.Answers.{text_of, IsScoreOf, score_of_tenths, rating_by}
 use Rattle.cvss.specs.Dispatch.{DenotesCvss}
 use Rattle.cvss.specs.declared.published.Published.{Published}
 use Rattle.cvss.specs.declared.published.Bounds.{Bounds}
-use Rattle.cvss.specs.declared.published.Bounds.TheVariants.{OfV2, OfV3}
+use Rattle.cvss.specs.declared.published.Bounds.TheVariants.{OfV2, SinceV3}
 use Rattle.cvss.specs.declared.vector.Cvss.{Cvss}
 
 -- the rating of a score, a count of 10^-24, by such bounds
 abbrev pub rating_within : Bounds → ℤ → Severity
 rating_within OfV2 = rating_of
-rating_within OfV3 = rating_of_score
+rating_within SinceV3 = rating_of_score
 
 -- the tenths are those of the vector's score, which its version rates by these bounds
 pub record IsPublished (cvss : Cvss) (published : Published) : Type 0 where

@@ -6,7 +6,7 @@ pub enum Bounds {
     /// Those of the National Vulnerability Database for CVSS v2.
     OfV2,
     /// Those of CVSS v3 and v4.0 (v3.1 specification, section 5; v4.0 specification, section 6).
-    OfV3,
+    SinceV3,
 }
 
 /// A score, and how it is rated.

@@ -166,7 +166,7 @@ impl Cvss {
     {
         match self {
             Cvss::CvssV20(_) => Bounds::OfV2,
-            Cvss::CvssV30(_) | Cvss::CvssV31(_) | Cvss::CvssV40(_) => Bounds::OfV3,
+            Cvss::CvssV30(_) | Cvss::CvssV31(_) | Cvss::CvssV40(_) => Bounds::SinceV3,
         }
     }
 

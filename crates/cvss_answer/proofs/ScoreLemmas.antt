@@ -13,7 +13,7 @@ use Rattle.cvss.specs.SeverityType.TheVariants.{None, Low, Medium, High, Critica
 use Rattle.cvss.specs.Tenths.{tenths_text}
 use Rattle.cvss.specs.declared.published.Published.{Published}
 use Rattle.cvss.specs.declared.published.Bounds.{Bounds}
-use Rattle.cvss.specs.declared.published.Bounds.TheVariants.{OfV2, OfV3}
+use Rattle.cvss.specs.declared.published.Bounds.TheVariants.{OfV2, SinceV3}
 use Rattle.cvss_lines.specs.Answers.{Accepted, WritesAnswer, written_text}
 use Rattle.cvss_lines.proofs.TextsLemmas.{one_text}
 use Rattle.cvss_answer.specs.Answers.{IsAnswer, rated_line, score_line}
@@ -67,22 +67,22 @@ is_high_v2 t from =
     let medium : int_lt (pos (t * 10 ^ 23)) (pos (7 * 10 ^ 24)) ≡ false = grind (arith, nat_tests) in
     rw (low, medium) refl
 
-pub none_v3 : codes " 0.0 none\n" ≡ rated_line OfV3 0
-none_v3 = rated OfV3 0 None (omega arith) refl
+pub none_v3 : codes " 0.0 none\n" ≡ rated_line SinceV3 0
+none_v3 = rated SinceV3 0 None (omega arith) refl
 
-pub low_v3 : (t : ℕ) → 1 ≤ t → t < 40 → 32 ∷ (48 + t / 10) ∷ 46 ∷ (48 + t % 10) ∷ codes " low\n" ≡ rated_line OfV3 t
-low_v3 t from below = rated OfV3 t Low (omega arith) (is_low t from below)
+pub low_v3 : (t : ℕ) → 1 ≤ t → t < 40 → 32 ∷ (48 + t / 10) ∷ 46 ∷ (48 + t % 10) ∷ codes " low\n" ≡ rated_line SinceV3 t
+low_v3 t from below = rated SinceV3 t Low (omega arith) (is_low t from below)
 
-pub medium_v3 : (t : ℕ) → 40 ≤ t → t < 70 → 32 ∷ (48 + t / 10) ∷ 46 ∷ (48 + t % 10) ∷ codes " medium\n" ≡ rated_line OfV3 t
-medium_v3 t from below = rated OfV3 t Medium (omega arith) (is_medium t from below)
+pub medium_v3 : (t : ℕ) → 40 ≤ t → t < 70 → 32 ∷ (48 + t / 10) ∷ 46 ∷ (48 + t % 10) ∷ codes " medium\n" ≡ rated_line SinceV3 t
+medium_v3 t from below = rated SinceV3 t Medium (omega arith) (is_medium t from below)
 
-pub high_v3 : (t : ℕ) → 70 ≤ t → t < 90 → 32 ∷ (48 + t / 10) ∷ 46 ∷ (48 + t % 10) ∷ codes " high\n" ≡ rated_line OfV3 t
-high_v3 t from below = rated OfV3 t High (omega arith) (is_high t from below)
+pub high_v3 : (t : ℕ) → 70 ≤ t → t < 90 → 32 ∷ (48 + t / 10) ∷ 46 ∷ (48 + t % 10) ∷ codes " high\n" ≡ rated_line SinceV3 t
+high_v3 t from below = rated SinceV3 t High (omega arith) (is_high t from below)
 
-pub critical_v3 : (t : ℕ) → 90 ≤ t → t < 100 → 32 ∷ (48 + t / 10) ∷ 46 ∷ (48 + t % 10) ∷ codes " critical\n" ≡ rated_line OfV3 t
-critical_v3 t from below = rated OfV3 t Critical below (is_critical t from)
+pub critical_v3 : (t : ℕ) → 90 ≤ t → t < 100 → 32 ∷ (48 + t / 10) ∷ 46 ∷ (48 + t % 10) ∷ codes " critical\n" ≡ rated_line SinceV3 t
+critical_v3 t from below = rated SinceV3 t Critical below (is_critical t from)
 
-pub ten_v3 : codes " 10.0 critical\n" ≡ rated_line OfV3 100
+pub ten_v3 : codes " 10.0 critical\n" ≡ rated_line SinceV3 100
 unfolding digits
 ten_v3 = refl
 
@@ -103,7 +103,7 @@ alike t from below =
     let high : int_lt (pos (t * 10 ^ 23)) (pos (9 * 10 ^ 24)) ≡ true = grind (arith, nat_tests) in
     rw (some, high) refl
 
-pub between_v2 : (t : ℕ) → 1 ≤ t → t < 90 → rated_line OfV3 t ≡ rated_line OfV2 t
+pub between_v2 : (t : ℕ) → 1 ≤ t → t < 90 → rated_line SinceV3 t ≡ rated_line OfV2 t
 between_v2 t from below = ap (λ rating. codes " " ++ (rating_text t rating ++ 10 ∷ [])) (alike t from below)
 
 -- a canonical line with the line of its score is its vector's answer

@@ -1,7 +1,7 @@
 //! What follows a vector's text in its answer, one text for each score.
 
 ghost use Rattle.std.specs.Prelude.{◌≡◌, ◌≤◌};
-ghost use Rattle.cvss.specs.declared.published.Bounds.TheVariants.{OfV2, OfV3};
+ghost use Rattle.cvss.specs.declared.published.Bounds.TheVariants.{OfV2, SinceV3};
 ghost use Rattle.cvss_answer.specs.Answers.{rated_line, score_line};
 
 use cvss::{Bounds, Published};
@@ -13,7 +13,7 @@ pub(crate) fn score_line(published: Published) -> &'static str
 {
     match published.bounds {
         Bounds::OfV2 => line_of_v2(published.tenths),
-        Bounds::OfV3 => line_of_v3(published.tenths),
+        Bounds::SinceV3 => line_of_v3(published.tenths),
     }
 }
 
@@ -49,7 +49,7 @@ fn line_of_v2(tenths: u8) -> &'static str
 #[tactic(auto, using(crate::proofs::ScoreLemmas::none_v3, crate::proofs::ScoreLemmas::low_v3, crate::proofs::ScoreLemmas::medium_v3, crate::proofs::ScoreLemmas::high_v3, crate::proofs::ScoreLemmas::critical_v3, crate::proofs::ScoreLemmas::ten_v3))]
 fn line_of_v3(tenths: u8) -> &'static str
     requires { tenths ≤ 100 }
-    ensures { result.now ≡ rated_line OfV3 tenths }
+    ensures { result.now ≡ rated_line SinceV3 tenths }
 {
     match tenths {
         0 => " 0.0 none\n", 1 => " 0.1 low\n", 2 => " 0.2 low\n", 3 => " 0.3 low\n", 4 => " 0.4 low\n",

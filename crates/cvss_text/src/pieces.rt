@@ -94,7 +94,7 @@ pub fn parts_of(piece: &[u8]) -> Option<(&[u8], &[u8])>
 }
 
 /// The texts before and after a colon that stands behind one to three bytes.
-pub fn cut_early(piece: &[u8]) -> Option<(&[u8], &[u8])>
+pub fn cut_short_name(piece: &[u8]) -> Option<(&[u8], &[u8])>
     ensures { IfSome result (λ parts. piece.now ≡ component parts.0.now parts.1.now) }
 {
     match cut_at(piece, 2) {

@@ -129,7 +129,7 @@ fn seen(text: &[u8]) -> Option<Cvss> {
 fn bounds_text(bounds: Bounds) -> &'static str {
     match bounds {
         Bounds::OfV2 => "v2",
-        Bounds::OfV3 => "v3",
+        Bounds::SinceV3 => "v3",
     }
 }
 

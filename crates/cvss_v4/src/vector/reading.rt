@@ -13,7 +13,7 @@ use crate::metric::{Metric, MetricType};
 use crate::vector::Vector;
 use MetricType::*;
 use cvss_text::front::Fronted;
-use cvss_text::pieces::cut_early;
+use cvss_text::pieces::cut_short_name;
 use cvss_text::walk::{Components, Slip};
 
 /// The metrics in printing order (v4.0 specification, section 7).
@@ -42,7 +42,7 @@ impl Components for Vector {
     }
 
     fn cut(piece: &[u8]) -> Option<(MetricType, &[u8])> {
-        let (name, value) = cut_early(piece)?;
+        let (name, value) = cut_short_name(piece)?;
         Some((named(name)?, value))
     }
 
