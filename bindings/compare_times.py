@@ -1,13 +1,15 @@
 #!/usr/bin/env python3
 """Compares how long it takes to read a text with how long it took in an earlier state of this repository: Python's
-`Vector(text).score`, Rust's `Cvss::parse` and Go's `Parse`, over the accepted stored lines of each version. The two
-states are asked in turns, and of each the fastest round counts, which other programs have disturbed least.
+`Vector(text).score`, Rust's `Cvss::parse` and Go's `Parse`, over 400 canonical base vectors of each version and over
+its accepted stored lines, most of which stand in another order. The two states are asked in turns, and of each the
+fastest round counts, which other programs have disturbed least.
 
 usage: bindings/compare_times.py COMMIT [OUT]
 
 COMMIT is the earlier state, and OUT the folder bindings/out that bindings/build has made there. Without it the library
 of this checkout stands below both states, and what is compared is the languages' own code. bindings/build has to have
-made the library here. The status is 1 where a language takes a larger part of its earlier time than LIMITS has.
+made the library here. The status is 1 where a language takes a larger part of its earlier time for base vectors than
+LIMITS has.
 """
 import os
 import shutil
@@ -18,7 +20,7 @@ from pathlib import Path
 
 ROOT = Path(__file__).resolve().parent.parent
 LANGUAGES = ("c", "python", "rust", "go")
-# The part of its earlier time that each may take.
+# The part of its earlier time that each may take for base vectors.
 LIMITS = {"Python": 0.45, "Rust": 0.7, "Go": 0.7}
 TURNS = 5
 
@@ -87,7 +89,18 @@ func main() {
 """
 
 
-def write_lines(folder):
+def write_base(folder):
+    """Canonical base vectors, a file for each version."""
+    files = {}
+    for version in "v2", "v3.1", "v4":
+        files[f"{version}, base vectors"] = folder / f"{version}_base"
+        drawn = [sys.executable, "-B", ROOT / "bench/inputs/lines.py", version, "base", "400"]
+        with open(files[f"{version}, base vectors"], "wb") as lines:
+            subprocess.run(drawn, stdout=lines, check=True)
+    return files
+
+
+def write_stored(folder):
     """The accepted stored lines without a mark, a file for each version; a text of v2 tells no version."""
     count = (ROOT / "bindings/stored/facts").read_bytes().count(b"\n")
     stored = [(ROOT / f"crates/cvss_vectors/{name}").read_bytes().split(b"\n")[:count] for name in ("stdin", "stdout")]
@@ -95,8 +108,8 @@ def write_lines(folder):
     files = {}
     for version in "2", "3", "4":
         own = [line for line in accepted if (line[5] if line.startswith("CVSS:") else "2") == version]
-        files[f"v{version}"] = folder / f"v{version}"
-        files[f"v{version}"].write_text("".join(f"{line}\n" for line in own))
+        files[f"v{version}, stored lines"] = folder / f"v{version}_stored"
+        files[f"v{version}, stored lines"].write_text("".join(f"{line}\n" for line in own))
     return files
 
 
@@ -160,17 +173,18 @@ def main():
     with tempfile.TemporaryDirectory() as room:
         folder = Path(room)
         copy_states(folder, sys.argv[1], Path(sys.argv[2] if len(sys.argv) == 3 else ROOT / "bindings/out").resolve())
-        files = write_lines(folder)
+        base, stored = write_base(folder), write_stored(folder)
         for name, tool, build in ("Python", None, build_python), ("Rust", "cargo", build_rust), ("Go", "go", build_go):
             if tool and shutil.which(tool) is None:
                 print(f"{tool} is not on this machine: {name} is not compared")
                 continue
             programs = {state: build(folder / state) for state in ("before", "now")}
-            for version, lines in files.items():
+            for title, lines in {**base, **stored}.items():
                 before, now = least(programs, lines)
-                failed |= now > LIMITS[name] * before
-                print(f"{name}, {version}: {before:,.0f} ns before, {now:,.0f} ns now, {now / before:.2f} of it "
-                      f"(at most {LIMITS[name]})", flush=True)
+                limit = f" (at most {LIMITS[name]})" if title in base else ""
+                failed |= title in base and now > LIMITS[name] * before
+                print(f"{name}, {title}: {before:,.0f} ns before, {now:,.0f} ns now, {now / before:.2f} of it{limit}",
+                      flush=True)
     sys.exit("a language takes more than it may" if failed else 0)
 
 
