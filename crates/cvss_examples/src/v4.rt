@@ -3,7 +3,7 @@
 ghost use Rattle.std.specs.Prelude.{◌≡◌, ◌⊎◌, IfOk, IfErr, IsTrue, Ok, Err, string_bytes};
 ghost use Rattle.cvss.specs.ErrorType.TheVariants.{OutOfMemory};
 ghost use Rattle.cvss.specs.Refusal.{IsFirstRefusalBehind};
-ghost use Rattle.cvss.specs.laws.MergingLawsV4.{HasModifiedAsBase, without_supplemental};
+ghost use Rattle.cvss.specs.laws.MergingLawsV4.{HasModifiedAsBase, DifferInSupplemental};
 ghost use Rattle.cvss.specs.MergingV4.{effective_of, letter_at};
 ghost use Rattle.cvss.specs.MetricTypeV4.{MetricType};
 ghost use Rattle.cvss.specs.NomenclatureV4.{nomenclature_of};
@@ -85,7 +85,7 @@ pub fn modified_scores_as_base(vector: &Vector, base: &Vector) -> (i128, i128)
     (base.score().value(), vector.score().value())
 }
 
-/// The scores and nomenclatures of a complete vector without and with its supplemental metrics, which
+/// The scores and nomenclatures of complete vectors that differ in supplemental metrics alone, which
 /// are the same.
 pub fn supplemental_metrics_change_nothing(
     without: &Vector,
@@ -93,7 +93,7 @@ pub fn supplemental_metrics_change_nothing(
 ) -> (i128, i128, Nomenclature, Nomenclature)
     requires without { IsComplete v4 without.now }
     requires vector { IsComplete v4 vector.now }
-    requires same { without.now ≡ without_supplemental vector.now }
+    requires same { DifferInSupplemental vector.now without.now }
     ensures without { IsInTenths (IsScore (effective_of without.now)) result.0 }
     ensures with { IsInTenths (IsScore (effective_of vector.now)) result.1 }
     ensures score { result.0 ≡ result.1 }

@@ -1,6 +1,5 @@
-use Rattle.std.proofs.Common.{ap, subst, sym, ◌∙◌}
+use Rattle.std.proofs.Common.{subst, sym, ◌∙◌}
 use Rattle.cvss.specs.MergingV4.{effective_of}
-use Rattle.cvss.specs.NomenclatureV4.{nomenclature_of}
 use Rattle.cvss.specs.ScoresV4.{IsScore}
 use Rattle.cvss.specs.Tenths.{IsInTenths}
 use Rattle.cvss_examples.proofs.EqualLemmas.{one_in_tenths}
@@ -8,7 +7,7 @@ use Rattle.cvss_examples.proofs.v4.supplemental_metrics_change_nothing.Goals as 
 
 pub returns-clause-score : goal.returns-clause-score
 returns-clause-score c =
-    let same = ap effective_of c.requires.same ∙ c.supplemental_metrics_change_nothing.ensures.score c.args.vector.now in
+    let same = c.supplemental_metrics_change_nothing.ensures.score c.args.vector.now c.args.without.now c.requires.same in
     let scores = one_in_tenths (c.scores_are_unique.ensures (effective_of c.args.vector.now)) _ _
     (subst (λ effective. IsInTenths (IsScore effective) c.score.result.0) same c.score.ensures.value)
     c.score-2.ensures.value in
@@ -17,5 +16,5 @@ returns-clause-score c =
 
 pub returns-clause-nomenclature : goal.returns-clause-nomenclature
 returns-clause-nomenclature c =
-    let same = ap nomenclature_of c.requires.same ∙ c.supplemental_metrics_change_nothing.ensures.nomenclature c.args.vector.now in
+    let same = c.supplemental_metrics_change_nothing.ensures.nomenclature c.args.vector.now c.args.without.now c.requires.same in
     c.nomenclature.ensures ∙ same ∙ sym c.nomenclature-2.ensures
