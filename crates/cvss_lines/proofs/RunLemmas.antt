@@ -187,8 +187,8 @@ module _ (rule : Rule) (u u' w w' : Option (List ℕ)) where
   none_within : (bytes : List ℕ) → EndsWithin rule (λ _ _ _. ⊥) u u' bytes → ⊥
   none_within bytes within = elim within.begun [ inl begun ↦ begun.begins | inr last ↦ last.1.begins ]
 
-  pub Ends-whole : (outcome : Result Summary RunFault) → StreamEnds rule (λ _ _ _. ⊥) u u' w w' outcome → Ends rule u u' w w' outcome
-  Ends-whole outcome ends = record {
+  pub ends_whole : (outcome : Result Summary RunFault) → StreamEnds rule (λ _ _ _. ⊥) u u' w w' outcome → Ends rule u u' w w' outcome
+  ends_whole outcome ends = record {
     answered = ends.answered;
     read_fault = ends.read_fault;
     memory_fault = λ is. elim (ends.memory_fault is) [

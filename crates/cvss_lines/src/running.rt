@@ -15,6 +15,7 @@ const CHUNK: usize = 64 * 1024;
 /// The input is cut after each byte 10, and a last piece without one is a line if it isn't empty.
 /// The byte 10, and one byte 13 before it or at the end of that last piece, are not part of a
 /// line's text. Each line that a byte 10 ends is answered before the next read.
+#[tactic(auto, using(crate::proofs::RunLemmas::ends_whole))]
 pub fn run<A: Answering, R: Read, W: Write>(
     alloc: Global,
     reader: &mut R,
