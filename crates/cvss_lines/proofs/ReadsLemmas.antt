@@ -32,10 +32,10 @@ module _ (rule : Rule) (beginning : Beginning) where
       }
 
   module _ (chunk rest : List ℕ) (w w' : Option (List ℕ)) (first now : Pending) (p : HasRead chunk rest w w' first now) where
-    pub HasRead-line : (piece behind : List ℕ) (w'' : Option (List ℕ)) (next : Pending) → NoLineEnd piece → rest ≡ piece ++ 10 ∷ behind
+    pub HasRead_line : (piece behind : List ℕ) (w'' : Option (List ℕ)) (next : Pending) → NoLineEnd piece → rest ≡ piece ++ 10 ∷ behind
         → Answers rule beginning (line_text (now.cut.items ++ piece) ∷ []) w' w'' now.progress next.progress
         → next.cut.items ≡ [] → HasRead chunk behind w w'' first next
-    HasRead-line piece behind w'' next none is line cleared = record {
+    HasRead_line piece behind w'' next none is line cleared = record {
       done = p.done ++ (piece ++ 10 ∷ []);
       whole = p.whole ∙ ap (λ r. p.done ++ r) (is ∙ sym (append_assoc piece (10 ∷ []) behind))
           ∙ sym (append_assoc p.done (piece ++ 10 ∷ []) behind);
@@ -48,10 +48,10 @@ module _ (rule : Rule) (beginning : Beginning) where
     whole_behind read = append_assoc read p.done rest ∙ ap (λ r. read ++ r) (sym p.whole)
 
     -- a fault in one more line
-    pub HasRead-stopped : (piece behind : List ℕ) (w'' : Option (List ℕ)) (fault : RunFault) → NoLineEnd piece → rest ≡ piece ++ 10 ∷ behind
+    pub HasRead_stopped : (piece behind : List ℕ) (w'' : Option (List ℕ)) (fault : RunFault) → NoLineEnd piece → rest ≡ piece ++ 10 ∷ behind
         → StopsAnswering rule beginning (line_text (now.cut.items ++ piece) ∷ []) w' w'' now.progress fault
         → StopsReading rule beginning chunk w w'' first fault
-    HasRead-stopped piece behind w'' fault none is stops = λ start read a.
+    HasRead_stopped piece behind w'' fault none is stops = λ start read a.
         let here = p.reads start read a in
         let line = line_text (now.cut.items ++ piece) in
         let before = ended_lines (read ++ p.done) in
@@ -66,15 +66,15 @@ module _ (rule : Rule) (beginning : Beginning) where
         (stops start before here.stands))
 
     -- memory is refused for the rest
-    pub HasRead-memory : NoLineEnd rest → StopsReading rule beginning chunk w w' first Memory
-    HasRead-memory none = λ start read a.
+    pub HasRead_memory : NoLineEnd rest → StopsReading rule beginning chunk w w' first Memory
+    HasRead_memory none = λ start read a.
         subst (λ ls. Stops rule beginning start w' ls ls Memory)
         (sym (Cut-rest (read ++ p.done) rest none).0 ∙ ap ended_lines (whole_behind read))
         (Stops-memory rule beginning start w' _ now.progress (p.reads start read a).stands)
 
     -- the rest is kept
-    pub HasRead-all : (cut : Vec ℕ) → NoLineEnd rest → cut.items ≡ now.cut.items ++ rest → Reads rule beginning chunk w w' first (record now { cut = cut })
-    HasRead-all cut none kept = λ start read a.
+    pub HasRead_all : (cut : Vec ℕ) → NoLineEnd rest → cut.items ≡ now.cut.items ++ rest → Reads rule beginning chunk w w' first (record now { cut = cut })
+    HasRead_all cut none kept = λ start read a.
         let here = p.reads start read a in
         let ended = Cut-rest (read ++ p.done) rest none in
         subst (λ r. Awaits rule beginning start w' r (record now { cut = cut })) (whole_behind read)
@@ -91,19 +91,19 @@ module _ (rule : Rule) (beginning : Beginning) where
         ap (λ kept. ended_lines read ++ line_text kept ∷ []) (append-nil now.cut.items)
         ∙ ap (λ ls. ended_lines read ++ ls) (sym (last_line-some now.cut.items some)) ∙ ap (λ kept. ended_lines read ++ last_line kept) a.kept
 
-    pub EndsInput-line : (next : Pending) → 0 < length now.cut.items
+    pub EndsInput_line : (next : Pending) → 0 < length now.cut.items
         → Answers rule beginning (line_text (now.cut.items ++ []) ∷ []) w w' now.progress next.progress
         → EndsInput rule beginning w w' now next
-    EndsInput-line next some line = λ start read a.
+    EndsInput_line next some line = λ start read a.
         subst (λ ls. Stands rule beginning start w' ls next.progress) (last_kept start read a some) (line start (ended_lines read) a.stands)
 
-    pub StopsEnding-line : (fault : RunFault) → 0 < length now.cut.items
+    pub StopsEnding_line : (fault : RunFault) → 0 < length now.cut.items
         → StopsAnswering rule beginning (line_text (now.cut.items ++ []) ∷ []) w w' now.progress fault
         → StopsEnding rule beginning w w' now fault
-    StopsEnding-line fault some stops = λ start read a.
+    StopsEnding_line fault some stops = λ start read a.
         subst (λ ls. Stops rule beginning start w' (ended_lines read) ls fault) (last_kept start read a some) (stops start (ended_lines read) a.stands)
 
     -- or there is none
-    pub EndsInput-none : now.cut.items ≡ [] → EndsInput rule beginning w w now now
-    EndsInput-none none = λ start read a. subst (λ ls. Stands rule beginning start w ls now.progress)
+    pub EndsInput_none : now.cut.items ≡ [] → EndsInput rule beginning w w now now
+    EndsInput_none none = λ start read a. subst (λ ls. Stands rule beginning start w ls now.progress)
         (sym (append-nil (ended_lines read)) ∙ ap (λ kept. ended_lines read ++ last_line kept) (sym none ∙ a.kept)) a.stands

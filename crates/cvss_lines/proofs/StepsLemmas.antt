@@ -76,11 +76,11 @@ module _ (rule : Rule) (beginning : Beginning) where
     passed_next line passed (inr some) = inr (AreBegun-next line some.0 passed some.1 some.2)
 
     -- the next line is answered
-    pub Stands-line : (next : Progress) (line : List ℕ) (accepted : Bool)
+    pub Stands_line : (next : Progress) (line : List ℕ) (accepted : Bool)
         → Streams rule beginning now.number line now.answers.bytes.items next.answers.bytes.items w w' accepted
         → ((answer : Answer) → accepted ≡ is_accepted answer → Counts now.summary answer next.summary)
         → next.number ≡ next_number now.number → Stands rule beginning start w' (lines ++ line ∷ []) next
-    Stands-line next line accepted x counts numbered = record {
+    Stands_line next line accepted x counts numbered = record {
       answers = s.answers ++ x.answer ∷ [];
       answered = IsAnswers-push rule 1 lines s.answers line x.answer s.answered
           (subst (λ number. rule number line x.answer) s.numbered x.answers);
@@ -98,9 +98,9 @@ module _ (rule : Rule) (beginning : Beginning) where
     }
 
     -- a fault in the midst of the next line
-    pub Stops-line : (line : List ℕ) (fault : RunFault) → LineStops beginning now.number line now.answers.bytes.items w w' fault
+    pub Stops_line : (line : List ℕ) (fault : RunFault) → LineStops beginning now.number line now.answers.bytes.items w w' fault
         → Stops rule beginning start w' lines (lines ++ line ∷ []) fault
-    Stops-line line fault stops = record {
+    Stops_line line fault stops = record {
       no_read = stops.no_read;
       memory = λ is.
           let x = stops.memory is in

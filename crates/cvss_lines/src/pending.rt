@@ -31,6 +31,7 @@ impl Pending {
     }
 
     /// Answers the lines that end in a chunk of the input, and keeps what stands behind them.
+    #[tactic(auto, using(crate::proofs::ReadsLemmas::HasRead_line))]
     pub(crate) fn answer_chunk<A: Streaming, W: Write>(
         &mut self,
         alloc: Global,
@@ -52,6 +53,7 @@ impl Pending {
     }
 
     /// Answers the last line of an input that has ended, where no byte 10 ends it.
+    #[tactic(auto, using(crate::proofs::ReadsLemmas::EndsInput_line, crate::proofs::ReadsLemmas::EndsInput_none))]
     pub(crate) fn answer_end<A: Streaming, W: Write>(
         &mut self,
         alloc: Global,

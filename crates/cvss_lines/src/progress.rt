@@ -32,6 +32,7 @@ impl Progress {
     }
 
     /// Answers the next line.
+    #[tactic(auto, using(crate::proofs::StepsLemmas::Stands_line))]
     pub(crate) fn answer_line<A: Streaming, W: Write>(
         &mut self,
         alloc: Global,

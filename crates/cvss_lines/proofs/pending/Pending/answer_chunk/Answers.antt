@@ -1,26 +1,20 @@
 use Rattle.cvss_lines.specs.declared.fault.RunFault.TheVariants.{Memory}
-use Rattle.cvss_lines.proofs.ReadsLemmas.{HasRead-all, HasRead-line, HasRead-memory, HasRead-stopped}
+use Rattle.cvss_lines.proofs.ReadsLemmas.{HasRead_all, HasRead_memory, HasRead_stopped}
 use Rattle.cvss_lines.proofs.StepsLemmas.{told_fault}
 use Rattle.cvss_lines.proofs.pending.Pending.answer_chunk.Goals as goal
 
 pub returns-in_err-end_line-clause-stopped : goal.returns-in_err-end_line-clause-stopped
 returns-in_err-end_line-clause-stopped g c =
     told_fault c.from_residual.result c.in_err-end_line.field-0.0 _ c.from_residual.ensures.1
-    (HasRead-stopped g.A.Streaming.rule g.A.Streaming.beginning c.args.chunk.now c.loop-piece.rest.now _ _ c.args.self.now c.loop-piece.self c.loop-piece.invariant
+    (HasRead_stopped g.A.Streaming.rule g.A.Streaming.beginning c.args.chunk.now c.loop-piece.rest.now _ _ c.args.self.now c.loop-piece.self c.loop-piece.invariant
     c.in-Some.piece.now c.in-Some.behind.now _ _ c.in-Some.ensures.0 c.in-Some.ensures.1 c.in_err-end_line.ensures.stopped)
-
-pub loop-piece-preserved : goal.loop-piece-preserved
-loop-piece-preserved g c =
-    HasRead-line g.A.Streaming.rule g.A.Streaming.beginning c.args.chunk.now c.loop-piece.rest.now _ _ c.args.self.now c.loop-piece.self c.loop-piece.invariant
-    c.in-Some.piece.now c.in-Some.behind.now _ c.end_line.new.self c.in-Some.ensures.0 c.in-Some.ensures.1
-    c.in_ok-end_line.ensures.answered c.in_ok-end_line.ensures.cut
 
 pub returns-in_err-extend_from_slice-clause-stopped : goal.returns-in_err-extend_from_slice-clause-stopped
 returns-in_err-extend_from_slice-clause-stopped g c =
     told_fault c.from_residual-in_err-extend_from_slice.result Memory _ c.from_residual-in_err-extend_from_slice.ensures.1
-    (HasRead-memory g.A.Streaming.rule g.A.Streaming.beginning c.args.chunk.now c.loop-piece.rest.now _ _ c.args.self.now c.loop-piece.self c.loop-piece.invariant c.in_default.ensures)
+    (HasRead_memory g.A.Streaming.rule g.A.Streaming.beginning c.args.chunk.now c.loop-piece.rest.now _ _ c.args.self.now c.loop-piece.self c.loop-piece.invariant c.in_default.ensures)
 
 pub returns-clause-answered : goal.returns-clause-answered
 returns-clause-answered g c =
-    HasRead-all g.A.Streaming.rule g.A.Streaming.beginning c.args.chunk.now c.loop-piece.rest.now _ _ c.args.self.now c.loop-piece.self c.loop-piece.invariant
+    HasRead_all g.A.Streaming.rule g.A.Streaming.beginning c.args.chunk.now c.loop-piece.rest.now _ _ c.args.self.now c.loop-piece.self c.loop-piece.invariant
     _ c.in_default.ensures c.in_ok-extend_from_slice.ensures.items
