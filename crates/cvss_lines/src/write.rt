@@ -2,9 +2,10 @@ ghost use Rattle.std.specs.Prelude.{◌≡◌, ℕ, take, length, OnOk, IfErr, I
 ghost use Rattle.std.specs.Io.KnownBytes.{Appends};
 
 use crate::RunFault;
-use std::io::Write;
+use std::io::{ErrorKind, Write};
 
-/// Writes all of the bytes. Where the writer fails, it has a beginning of them.
+/// Writes all of the bytes, and again where a signal interrupts it. Where the writer fails, it has
+/// a beginning of them.
 pub fn write_whole<W: Write>(writer: &mut W, bytes: &[u8]) -> Result<(), RunFault>
     ensures ok { OnOk result (Appends (W.contents writer.old) (W.contents writer.new) bytes.now) }
     ensures err { IfErr result (λ fault. (fault ≡ RunFault.Write) × ((count : ℕ)
@@ -12,11 +13,16 @@ pub fn write_whole<W: Write>(writer: &mut W, bytes: &[u8]) -> Result<(), RunFaul
     ensures none { length bytes.now ≡ 0 → IsOk result }
 {
     let mut written = 0;
-    while written < bytes.len() {
+    for _ in 0..u64::MAX {
+        if written >= bytes.len() {
+            return Ok(());
+        }
         match writer.write(&bytes[written..]) {
-            Ok(count) if count > 0 => written += count,
-            _ => return Err(RunFault::Write),
+            Ok(0) => return Err(RunFault::Write),
+            Ok(count) => written += count,
+            Err(error) if error.kind() == ErrorKind::Interrupted => {}
+            Err(_) => return Err(RunFault::Write),
         }
     }
-    Ok(())
+    Err(RunFault::Write)
 }

@@ -1,6 +1,6 @@
 //! Tests of how runs end, and of the calls that programs make for themselves.
 
-use crate::streams::Narrow;
+use crate::streams::{Interrupted, Narrow};
 use cvss_lines::{Request, RunFault, Summary, asked, exit_status, first_line, write_whole};
 use std::alloc::Global;
 use std::process::Abort;
@@ -81,4 +81,14 @@ fn writes_all_bytes_in_pieces(rt: HostRuntime) {
     assert!(rt; write_whole(&mut writer, b"answers") == Ok(()));
     assert!(rt; writer.taken.as_slice() == b"answers".as_slice());
     assert!(rt; write_whole(&mut writer, b"more") == Err(RunFault::Write));
+}
+
+#[test]
+fn writes_again_behind_an_interruption(rt: HostRuntime) {
+    let mut writer = Interrupted {
+        taken: Vec::new(rt.alloc()),
+        goes_on: false,
+    };
+    assert!(rt; write_whole(&mut writer, b"ab") == Ok(()));
+    assert!(rt; writer.taken.as_slice() == b"ab".as_slice());
 }

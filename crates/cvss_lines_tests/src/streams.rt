@@ -39,10 +39,33 @@ impl Write for Narrow {
     fn write(&mut self, buf: &[u8]) -> io::Result<usize> {
         let count = self.room.min(buf.len()).min(3);
         if count == 0 && self.fails {
-            return Err(ErrorKind::Interrupted.into());
+            return Err(ErrorKind::BrokenPipe.into());
         }
         self.taken.extend_from_slice(&buf[..count])?;
         self.room -= count;
+        Ok(count)
+    }
+
+    fn flush(&mut self) -> io::Result<()> {
+        Ok(())
+    }
+}
+
+/// Takes one byte a call, and is interrupted before each.
+#[derive(Drop)]
+pub(crate) struct Interrupted {
+    pub(crate) taken: Vec<u8>,
+    pub(crate) goes_on: bool,
+}
+
+impl Write for Interrupted {
+    fn write(&mut self, buf: &[u8]) -> io::Result<usize> {
+        self.goes_on = !self.goes_on;
+        if self.goes_on {
+            return Err(ErrorKind::Interrupted.into());
+        }
+        let count = buf.len().min(1);
+        self.taken.extend_from_slice(&buf[..count])?;
         Ok(count)
     }
 
