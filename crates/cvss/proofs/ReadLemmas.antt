@@ -13,12 +13,13 @@ use Rattle.cvss.proofs.LawLemmas.{one_vector}
 
 -- a reason of the version by which the text is read is wrapped, and one that is read so is the text's
 module _ (text : List ℕ) (to : Route) (route : route_of text ≡ to) where
-  pub first_there : (reason : Refusal MetricType) → IsFirstRefusalCvss text reason → IsFirstReasonAt to text reason
+  first_there : (reason : Refusal MetricType) → IsFirstRefusalCvss text reason → IsFirstReasonAt to text reason
   first_there reason = subst (λ each. IsFirstReasonAt each text reason) route
 
-  pub first_here : (reason : Refusal MetricType) → IsFirstReasonAt to text reason → IsFirstRefusalCvss text reason
+  first_here : (reason : Refusal MetricType) → IsFirstReasonAt to text reason → IsFirstRefusalCvss text reason
   first_here reason = subst (λ each. IsFirstReasonAt each text reason) (sym route)
 
+module _ {text : List ℕ} {to : Route} (route : route_of text ≡ to) where
   -- a vector that the text denotes, where its version finds no reason to refuse it
   pub IsRead-vector : (cvss : Cvss) → DenotesCvss text cvss → HasScore cvss → IsUtf8 text → ((reason : Refusal MetricType) → IsFirstReasonAt to text reason → ⊥) → IsRead text (Ok cvss)
   IsRead-vector cvss denotes scored utf8 none = record {
@@ -27,7 +28,7 @@ module _ (text : List ℕ) (to : Route) (route : route_of text ≡ to) where
     scored = scored;
     utf8 = utf8;
     refused = tt;
-    refuses = λ reason first. absurd (none reason (first_there reason first));
+    refuses = λ reason first. absurd (none reason (first_there text to route reason first));
     tellable = λ is. tt;
   }
 
@@ -38,8 +39,8 @@ module _ (text : List ℕ) (to : Route) (route : route_of text ≡ to) where
     accepts = λ cvss denotes. absurd (none cvss denotes);
     scored = tt;
     utf8 = tt;
-    refused = first_here (reason_read fault) first;
-    refuses = λ reason also. one reason (first_there reason also);
+    refused = first_here text to route (reason_read fault) first;
+    refuses = λ reason also. one reason (first_there text to route reason also);
     tellable = tellable;
   }
 

@@ -33,6 +33,6 @@ utf8_behind version lawful fronts text v is =
     utf8_canonical version lawful text v is (subst (All IsPart) (sym piece.front_is) (All-cons IsPart (version_piece piece.told) [] part (All-nil IsPart)))
 
 -- what is published of a vector whose canonical text this is
-pub IsPublishedOf-from : (text : List ℕ) (cvss : Cvss) (published : Published) → text ≡ text_of cvss → DenotesCvss text cvss → IsUtf8 text → IsPublished cvss published → IsPublishedOf text published
-IsPublishedOf-from text cvss published canonical denoted utf8 is =
+pub IsPublishedOf_from : (text : List ℕ) (cvss : Cvss) (published : Published) → text ≡ text_of cvss → DenotesCvss text cvss → IsUtf8 text → IsPublished cvss published → IsPublishedOf text published
+IsPublishedOf_from text cvss published canonical denoted utf8 is =
     record { cvss = cvss; canonical = canonical; denoted = denoted; utf8 = utf8; is = is }

@@ -24,6 +24,7 @@ use crate::{Bounds, BytesError, Cvss, Error, MetricType, OneDecimal, Published, 
 /// A text denotes at most one vector, and the text that is printed of a vector denotes that vector
 /// exactly where it is well formed and, in CVSS v3, has a metric and the minor version of its
 /// variant. So two such vectors are one if their texts are.
+#[tactic(auto, using(crate::proofs::LawLemmas::one_vector, crate::proofs::LawLemmas::own_text))]
 pub fn texts_denote_one_vector()
     ensures own { (cvss : Cvss) → (DenotesCvss (text_of cvss) cvss ↔ IsGivenBack cvss) }
     ensures one { (text : List ℕ) → (left right : Cvss)

@@ -45,6 +45,7 @@ impl Cvss {
 // A call of its own for each version keeps the vectors apart: joined in one place, each would be
 // laid out byte by byte as any of the four.
 #[inline(never)]
+#[tactic(auto, using(crate::proofs::SightLemmas::IsPublishedOf_from))]
 fn v2_published(text: &[u8]) -> Option<Published>
     ensures { IfSome result (IsPublishedOf text.now) }
 {
@@ -53,6 +54,7 @@ fn v2_published(text: &[u8]) -> Option<Published>
 }
 
 #[inline(never)]
+#[tactic(auto, using(crate::proofs::SightLemmas::IsPublishedOf_from))]
 fn v3_published(text: &[u8]) -> Option<Published>
     ensures { IfSome result (IsPublishedOf text.now) }
 {
@@ -61,6 +63,7 @@ fn v3_published(text: &[u8]) -> Option<Published>
 }
 
 #[inline(never)]
+#[tactic(auto, using(crate::proofs::SightLemmas::IsPublishedOf_from))]
 fn v4_published(text: &[u8]) -> Option<Published>
     ensures { IfSome result (IsPublishedOf text.now) }
 {

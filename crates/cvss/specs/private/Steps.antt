@@ -1,5 +1,5 @@
 -- What the private code of the front door does.
-use Rattle.std.specs.Prelude.{◌≡◌, ℕ, List, ◌∷◌, codes, ⊤, Result, Ok, OnOk, IfOk, IfErr, IsErrAnd}
+use Rattle.std.specs.Prelude.{◌≡◌, ℕ, List, Result, Ok, OnOk, IfOk, IfErr, IsErrAnd}
 use Rattle.std.specs.Str.{IsUtf8}
 use Rattle.cvss_text.specs.private.Walk as walk
 use Rattle.cvss_grammar.specs.Refusal.{Refusal}
