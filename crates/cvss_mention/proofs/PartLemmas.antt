@@ -102,10 +102,10 @@ pub first_and_rest : (text : List ℕ) → 1 ≤ length text → text ≡ get_or
 first_and_rest [] some = absurd (omega (arith, some))
 first_and_rest (byte ∷ rest) some = ap (λ more. byte ∷ more) (sym (take_rest (byte ∷ rest) 1))
 
-pub IsWithinFirst-first : (text : List ℕ) → 1 ≤ length text → is_vector_byte (get_or text 0 0) ≡ true → IsWithinFirst text (take (length text - 1) (drop 1 text))
-IsWithinFirst-first text some vector = IsWithinFirst-start text (get_or text 0 0) _ (first_and_rest text some) vector
+pub IsWithinFirst_first : (text : List ℕ) → 1 ≤ length text → is_vector_byte (get_or text 0 0) ≡ true → IsWithinFirst text (take (length text - 1) (drop 1 text))
+IsWithinFirst_first text some vector = IsWithinFirst-start text (get_or text 0 0) _ (first_and_rest text some) vector
 
-pub IsWithinFirst-next : (text left : List ℕ) → IsWithinFirst text left → 1 ≤ length left → begins_part left ≡ false → IsWithinFirst text (take (length left - 1) (drop 1 left))
-IsWithinFirst-next text left within some uncut =
+pub IsWithinFirst_next : (text left : List ℕ) → IsWithinFirst text left → 1 ≤ length left → begins_part left ≡ false → IsWithinFirst text (take (length left - 1) (drop 1 left))
+IsWithinFirst_next text left within some uncut =
     let is = first_and_rest left some in
     IsWithinFirst-byte text (get_or left 0 0) _ (subst (IsWithinFirst text) is within) (sym (ap begins_part is) ∙ uncut)

@@ -28,6 +28,7 @@ pub fn whole_texts_are_mentions()
 {}
 
 /// A text that is accepted as a vector is one mention as a whole.
+#[tactic(auto, using(crate::proofs::AcceptedLemmas::accepted_alone, crate::proofs::AcceptedLemmas::accepted_between))]
 pub fn accepted_texts_are_mentions()
     ensures whole { (text : List ℕ) → IsAccepted text → IsWhole text }
     ensures between { (before text behind : List ℕ) → IsAccepted text

@@ -34,6 +34,7 @@ fn slash_or_len(text: &[u8]) -> usize
 }
 
 /// Where the run at the end of a text begins; its length, where the last byte is in no run.
+#[tactic(auto, using(crate::proofs::PassLemmas::run_starts))]
 fn run_start(text: &[u8]) -> usize
     ensures within { result ≤ length text.now }
     ensures start { is_other (last_byte (take result text.now)) ≡ true }
