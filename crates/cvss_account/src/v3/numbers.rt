@@ -1,16 +1,15 @@
 //! The numbers on the way to the scores of CVSS v3.
 
-ghost use Rattle.std.specs.Prelude.{◌≡◌, ℤ};
-ghost use Rattle.cvss_account.specs.Near.{AreNearest, IsNear, count_of};
+ghost use Rattle.std.specs.Prelude.{ℤ};
+ghost use Rattle.cvss_account.specs.Near.{IsNear, count_of};
 ghost use Rattle.cvss_account.specs.NumbersV3.{AreBaseNumbers, AreEnvironmentalNumbers, AreTemporalNumbers, IsFirst, IsNearBy};
-ghost use Rattle.cvss_number.specs.Exact.{IsWithinLimit};
-ghost use Rattle.cvss_number.specs.Tenths.{IsFromZeroToTen, IsInTenths};
+ghost use Rattle.cvss_number.specs.Tenths.{IsInTenths};
 ghost use Rattle.cvss_v3.specs.Scores.{base_number, environmental_number, temporal_number, IsBaseScore, IsEnvironmentalScore};
 ghost use Rattle.cvss_v3.specs.VectorWeights.{weights_of};
 
 use crate::near::ten_millionths;
 use cvss_number::tenths::tenths_of;
-use cvss_v3::{Score, Vector};
+use cvss_v3::Vector;
 
 /// A number in ten millionths, and the score in tenths that it is rounded to.
 #[derive(Clone, Copy)]
@@ -43,9 +42,9 @@ impl BaseNumbers {
         ensures { AreBaseNumbers vector.now.minor_version (weights_of vector.now) result }
     {
         BaseNumbers {
-            iss: nearest(vector.impact()),
-            impact: nearest(vector.scoped_impact()),
-            exploitability: nearest(vector.exploitability()),
+            iss: ten_millionths(vector.impact().value()),
+            impact: ten_millionths(vector.scoped_impact().value()),
+            exploitability: ten_millionths(vector.exploitability().value()),
             scored: Scored::base(vector),
         }
     }
@@ -56,9 +55,9 @@ impl EnvironmentalNumbers {
         ensures { AreEnvironmentalNumbers vector.now.minor_version (weights_of vector.now) result }
     {
         EnvironmentalNumbers {
-            miss: nearest(vector.miss()),
-            impact: nearest(vector.modified_impact()),
-            exploitability: nearest(vector.modified_exploitability()),
+            miss: ten_millionths(vector.miss().value()),
+            impact: ten_millionths(vector.modified_impact().value()),
+            exploitability: ten_millionths(vector.modified_exploitability().value()),
             first: Scored::first_environmental(vector),
             scored: Scored::environmental(vector),
         }
@@ -73,8 +72,8 @@ impl Scored {
             (count_of result.score) }
     {
         Scored {
-            number: nearest(vector.base_number()),
-            score: tenths(vector.base_score()),
+            number: ten_millionths(vector.base_number().value()),
+            score: tenths_of(vector.base_score().value()),
         }
     }
 
@@ -82,8 +81,8 @@ impl Scored {
         ensures { AreTemporalNumbers vector.now.minor_version (weights_of vector.now) result }
     {
         Scored {
-            number: nearest(vector.temporal_number()),
-            score: tenths(vector.temporal_score()),
+            number: ten_millionths(vector.temporal_number().value()),
+            score: tenths_of(vector.temporal_score().value()),
         }
     }
 
@@ -94,8 +93,8 @@ impl Scored {
             (count_of result.score) }
     {
         Scored {
-            number: nearest(vector.environmental_first_number()),
-            score: tenths(vector.environmental_first_score()),
+            number: ten_millionths(vector.environmental_first_number().value()),
+            score: tenths_of(vector.environmental_first_score().value()),
         }
     }
 
@@ -106,24 +105,8 @@ impl Scored {
             (count_of result.score) }
     {
         Scored {
-            number: nearest(vector.environmental_number()),
-            score: tenths(vector.environmental_score()),
+            number: ten_millionths(vector.environmental_number().value()),
+            score: tenths_of(vector.environmental_score().value()),
         }
     }
-}
-
-/// The ten millionths that are nearest to a number.
-fn nearest(number: Score) -> i64
-    requires { IsWithinLimit number }
-    ensures { AreNearest number result }
-{
-    ten_millionths(number.value())
-}
-
-/// The tenths of a published score.
-fn tenths(score: Score) -> u8
-    requires { IsInTenths IsFromZeroToTen score }
-    ensures { score ≡ count_of result }
-{
-    tenths_of(score.value())
 }

@@ -1,0 +1,27 @@
+use Rattle.std.specs.Int.{w128}
+use Rattle.std.proofs.Common.{lit<, rules, w64}
+use Rattle.std.proofs.lemmas.Int.{to_z-of_z}
+use Rattle.cvss_account.proofs.CloseLemmas.{modified_impact_bottom, near_by}
+use Rattle.cvss_account.proofs.NearLemmas.{near_value}
+use Rattle.cvss_v3.specs.VectorWeights.{weights_of}
+use Rattle.cvss_account.proofs.v3.numbers.EnvironmentalNumbers.of.Goals as goal
+
+pub returns : goal.returns
+returns c =
+    let minor = c.args.vector.now.minor_version in
+    let w = weights_of c.args.vector.now in
+    rw (
+      to_z-of_z w64 c.ten_millionths.result (search rules),
+      to_z-of_z w64 c.ten_millionths-2.result (search rules),
+      to_z-of_z w64 c.ten_millionths-3.result (search rules),
+    ) (record {
+      miss = near_value _ c.miss.result c.value.result _ (lit< tt) c.miss.ensures.value c.value.ensures (simp (to_z-of_z w128 c.value.result (search rules)) at c.ten_millionths.ensures);
+      impact = near_by w.modified_changed _ c.modified_impact.result c.value-2.result _ (modified_impact_bottom minor w) c.modified_impact.ensures.close
+          c.modified_impact.ensures.exact c.value-2.ensures (simp (to_z-of_z w128 c.value-2.result (search rules)) at c.ten_millionths-2.ensures);
+      exploitability = near_value _ c.modified_exploitability.result c.value-3.result _ (lit< tt) c.modified_exploitability.ensures.value c.value-3.ensures
+          (simp (to_z-of_z w128 c.value-3.result (search rules)) at c.ten_millionths-3.ensures);
+      first_number = c.first_environmental.ensures.number;
+      first_score = c.first_environmental.ensures.score;
+      number = c.environmental.ensures.number;
+      score = c.environmental.ensures.score;
+    })
