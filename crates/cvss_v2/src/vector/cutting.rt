@@ -31,26 +31,6 @@ fn cut_one(piece: &[u8]) -> Option<(MetricType, &[u8])>
 }
 
 #[inline(always)]
-fn cut_two(piece: &[u8]) -> Option<(MetricType, &[u8])>
-    ensures { IfSome result (λ cut. piece.now ≡ name_of cut.0 ++ (colon ∷ cut.1.now)) }
-{
-    match piece {
-        [first, second, b':', value @ ..] => Some((two_letters(*first, *second)?, value)),
-        _ => None,
-    }
-}
-
-#[inline(always)]
-fn cut_three(piece: &[u8]) -> Option<(MetricType, &[u8])>
-    ensures { IfSome result (λ cut. piece.now ≡ name_of cut.0 ++ (colon ∷ cut.1.now)) }
-{
-    match piece {
-        [b'C', b'D', b'P', b':', value @ ..] => Some((MetricType::CDP, value)),
-        _ => None,
-    }
-}
-
-#[inline(always)]
 fn one_letter(first: u8) -> Option<MetricType>
     ensures { IfSome result (λ kind. name_of kind ≡ first ∷ []) }
 {
@@ -59,6 +39,16 @@ fn one_letter(first: u8) -> Option<MetricType>
         b'I' => Some(MetricType::I),
         b'A' => Some(MetricType::A),
         b'E' => Some(MetricType::E),
+        _ => None,
+    }
+}
+
+#[inline(always)]
+fn cut_two(piece: &[u8]) -> Option<(MetricType, &[u8])>
+    ensures { IfSome result (λ cut. piece.now ≡ name_of cut.0 ++ (colon ∷ cut.1.now)) }
+{
+    match piece {
+        [first, second, b':', value @ ..] => Some((two_letters(*first, *second)?, value)),
         _ => None,
     }
 }
@@ -77,6 +67,16 @@ fn two_letters(first: u8, second: u8) -> Option<MetricType>
         (b'C', b'R') => Some(MetricType::CR),
         (b'I', b'R') => Some(MetricType::IR),
         (b'A', b'R') => Some(MetricType::AR),
+        _ => None,
+    }
+}
+
+#[inline(always)]
+fn cut_three(piece: &[u8]) -> Option<(MetricType, &[u8])>
+    ensures { IfSome result (λ cut. piece.now ≡ name_of cut.0 ++ (colon ∷ cut.1.now)) }
+{
+    match piece {
+        [b'C', b'D', b'P', b':', value @ ..] => Some((MetricType::CDP, value)),
         _ => None,
     }
 }

@@ -1,6 +1,6 @@
 //! How a vector is printed.
 
-ghost use Rattle.std.specs.Prelude.{◌≡◌, Some, [], ◌∷◌, drop, option_map, unwrap_or, flat_map};
+ghost use Rattle.std.specs.Prelude.{◌≡◌, Some, [], ◌∷◌, drop, option_map, unwrap_or};
 ghost use Rattle.std.specs.Fmt.{WritesOnOk};
 ghost use Rattle.std.specs.Option.{option_copied};
 ghost use Rattle.cvss_text.specs.private.Printing.{slashed, slashed_texts};
@@ -45,21 +45,13 @@ fn slashed_value<M: Metric>(value: Option<M>) -> Option<&'static str>
     value.map(|metric| metric.slashed())
 }
 
-/// Writes up to three components, each with a slash before it.
-#[inline(always)]
-fn write_three<W: fmt::Write>(
-    first: Option<&'static str>,
-    second: Option<&'static str>,
-    third: Option<&'static str>,
-    f: &mut fmt::Formatter<W>,
-) -> fmt::Result
-    ensures { WritesOnOk W.write_str_gives f.old result (flat_map
-        (λ text. unwrap_or (option_copied text) [])
-        (first.entry ∷ second.entry ∷ third.entry ∷ [])) f.new }
+/// Writes a slash and the component of a value, if there is one.
+fn write_value<M: Metric, W: fmt::Write>(value: Option<M>, f: &mut fmt::Formatter<W>) -> fmt::Result
+    ensures { WritesOnOk W.write_str_gives f.old result (unwrap_or (slashed
+        (option_map (component (name_of M.TYPE))
+        (option_map (λ metric. spelling_of M.TYPE (M.value metric)) value))) []) f.new }
 {
-    write_slashed(first, f)?;
-    write_slashed(second, f)?;
-    write_slashed(third, f)
+    write_slashed(slashed_value(value), f)
 }
 
 impl Vector {
@@ -68,7 +60,8 @@ impl Vector {
         ensures { WritesOnOk W.write_str_gives f.old result
             (slashed_texts v2 self.now (AC ∷ Au ∷ [])) f.new }
     {
-        write_three(slashed_value(self.ac), slashed_value(self.au), None, f)
+        write_value(self.ac, f)?;
+        write_value(self.au, f)
     }
 
     /// Writes the impacts, each with a slash before it.
@@ -76,12 +69,9 @@ impl Vector {
         ensures { WritesOnOk W.write_str_gives f.old result
             (slashed_texts v2 self.now (C ∷ I ∷ A ∷ [])) f.new }
     {
-        write_three(
-            slashed_value(self.c),
-            slashed_value(self.i),
-            slashed_value(self.a),
-            f,
-        )
+        write_value(self.c, f)?;
+        write_value(self.i, f)?;
+        write_value(self.a, f)
     }
 
     /// Writes the temporal metrics, each with a slash before it.
@@ -89,12 +79,9 @@ impl Vector {
         ensures { WritesOnOk W.write_str_gives f.old result
             (slashed_texts v2 self.now (E ∷ RL ∷ RC ∷ [])) f.new }
     {
-        write_three(
-            slashed_value(self.e),
-            slashed_value(self.rl),
-            slashed_value(self.rc),
-            f,
-        )
+        write_value(self.e, f)?;
+        write_value(self.rl, f)?;
+        write_value(self.rc, f)
     }
 
     /// Writes what is lost and where, each with a slash before it.
@@ -102,7 +89,8 @@ impl Vector {
         ensures { WritesOnOk W.write_str_gives f.old result
             (slashed_texts v2 self.now (CDP ∷ TD ∷ [])) f.new }
     {
-        write_three(slashed_value(self.cdp), slashed_value(self.td), None, f)
+        write_value(self.cdp, f)?;
+        write_value(self.td, f)
     }
 
     /// Writes the security requirements, each with a slash before it.
@@ -110,12 +98,9 @@ impl Vector {
         ensures { WritesOnOk W.write_str_gives f.old result
             (slashed_texts v2 self.now (CR ∷ IR ∷ AR ∷ [])) f.new }
     {
-        write_three(
-            slashed_value(self.cr),
-            slashed_value(self.ir),
-            slashed_value(self.ar),
-            f,
-        )
+        write_value(self.cr, f)?;
+        write_value(self.ir, f)?;
+        write_value(self.ar, f)
     }
 
     /// Writes all metrics but the first, each with a slash before it.

@@ -1,6 +1,6 @@
 //! How a vector is printed.
 
-ghost use Rattle.std.specs.Prelude.{◌≡◌, Some, [], ◌∷◌, ◌++◌, codes, option_map, unwrap_or, flat_map};
+ghost use Rattle.std.specs.Prelude.{◌≡◌, Some, [], ◌∷◌, ◌++◌, codes, option_map, unwrap_or};
 ghost use Rattle.std.specs.Fmt.{WritesOnOk};
 ghost use Rattle.std.specs.Option.{option_copied};
 ghost use Rattle.cvss_grammar.specs.Version.{numeral, canonical_text, version_piece};
@@ -56,23 +56,13 @@ fn slashed_value<M: Metric>(value: Option<M>) -> Option<&'static str>
     }
 }
 
-/// Writes up to four components, each with a slash before it.
-#[inline(always)]
-fn write_four<W: fmt::Write>(
-    first: Option<&'static str>,
-    second: Option<&'static str>,
-    third: Option<&'static str>,
-    fourth: Option<&'static str>,
-    f: &mut fmt::Formatter<W>,
-) -> fmt::Result
-    ensures { WritesOnOk W.write_str_gives f.old result (flat_map
-        (λ text. unwrap_or (option_copied text) [])
-        (first.entry ∷ second.entry ∷ third.entry ∷ fourth.entry ∷ [])) f.new }
+/// Writes a slash and the component of a value, if there is one.
+fn write_value<M: Metric, W: fmt::Write>(value: Option<M>, f: &mut fmt::Formatter<W>) -> fmt::Result
+    ensures { WritesOnOk W.write_str_gives f.old result (unwrap_or (slashed
+        (option_map (component (name_of M.TYPE))
+        (option_map (λ metric. spelling_of M.TYPE (M.value metric)) value))) []) f.new }
 {
-    write_slashed(first, f)?;
-    write_slashed(second, f)?;
-    write_slashed(third, f)?;
-    write_slashed(fourth, f)
+    write_slashed(slashed_value(value), f)
 }
 
 /// Writes the piece that tells the version.
@@ -94,13 +84,10 @@ impl Vector {
         ensures { WritesOnOk W.write_str_gives f.old result
             (slashed_texts v3 self.now (AV ∷ AC ∷ PR ∷ UI ∷ [])) f.new }
     {
-        write_four(
-            slashed_value(self.av),
-            slashed_value(self.ac),
-            slashed_value(self.pr),
-            slashed_value(self.ui),
-            f,
-        )
+        write_value(self.av, f)?;
+        write_value(self.ac, f)?;
+        write_value(self.pr, f)?;
+        write_value(self.ui, f)
     }
 
     /// Writes the scope and the impacts, each with a slash before it.
@@ -108,13 +95,10 @@ impl Vector {
         ensures { WritesOnOk W.write_str_gives f.old result
             (slashed_texts v3 self.now (S ∷ C ∷ I ∷ A ∷ [])) f.new }
     {
-        write_four(
-            slashed_value(self.s),
-            slashed_value(self.c),
-            slashed_value(self.i),
-            slashed_value(self.a),
-            f,
-        )
+        write_value(self.s, f)?;
+        write_value(self.c, f)?;
+        write_value(self.i, f)?;
+        write_value(self.a, f)
     }
 
     /// Writes the temporal metrics, each with a slash before it.
@@ -122,13 +106,9 @@ impl Vector {
         ensures { WritesOnOk W.write_str_gives f.old result
             (slashed_texts v3 self.now (E ∷ RL ∷ RC ∷ [])) f.new }
     {
-        write_four(
-            slashed_value(self.e),
-            slashed_value(self.rl),
-            slashed_value(self.rc),
-            None,
-            f,
-        )
+        write_value(self.e, f)?;
+        write_value(self.rl, f)?;
+        write_value(self.rc, f)
     }
 
     /// Writes the security requirements, each with a slash before it.
@@ -136,13 +116,9 @@ impl Vector {
         ensures { WritesOnOk W.write_str_gives f.old result
             (slashed_texts v3 self.now (CR ∷ IR ∷ AR ∷ [])) f.new }
     {
-        write_four(
-            slashed_value(self.cr),
-            slashed_value(self.ir),
-            slashed_value(self.ar),
-            None,
-            f,
-        )
+        write_value(self.cr, f)?;
+        write_value(self.ir, f)?;
+        write_value(self.ar, f)
     }
 
     /// Writes the modified metrics of how the attack is made, each with a slash before it.
@@ -150,13 +126,10 @@ impl Vector {
         ensures { WritesOnOk W.write_str_gives f.old result
             (slashed_texts v3 self.now (MAV ∷ MAC ∷ MPR ∷ MUI ∷ [])) f.new }
     {
-        write_four(
-            slashed_value(self.mav),
-            slashed_value(self.mac),
-            slashed_value(self.mpr),
-            slashed_value(self.mui),
-            f,
-        )
+        write_value(self.mav, f)?;
+        write_value(self.mac, f)?;
+        write_value(self.mpr, f)?;
+        write_value(self.mui, f)
     }
 
     /// Writes the modified scope and impacts, each with a slash before it.
@@ -164,13 +137,10 @@ impl Vector {
         ensures { WritesOnOk W.write_str_gives f.old result
             (slashed_texts v3 self.now (MS ∷ MC ∷ MI ∷ MA ∷ [])) f.new }
     {
-        write_four(
-            slashed_value(self.ms),
-            slashed_value(self.mc),
-            slashed_value(self.mi),
-            slashed_value(self.ma),
-            f,
-        )
+        write_value(self.ms, f)?;
+        write_value(self.mc, f)?;
+        write_value(self.mi, f)?;
+        write_value(self.ma, f)
     }
 
     /// Writes all metrics, each with a slash before it.
