@@ -203,14 +203,13 @@ def try_much(runs):
 
 
 def try_faults_once(runs):
-    """A write that fails once: rows are written behind an interruption, and behind nothing else."""
-    rows = row(LOW, [])
-    for room in (0, 7):
-        runs.expect("cvss_triage", LOW.encode(), (0, rows, ""), WRITE_ROOM=room, FAULT_ONCE=1,
-                    WRITE_FAULT=errno.EINTR)
-        for fault in (errno.EPIPE, errno.EAGAIN, errno.EIO):
-            for program, given, written in (("cvss_triage", LOW.encode(), rows),
-                                            ("cvss_tool", LINE, FIRST.encode())):
+    """A write that fails once: all is written behind an interruption, and behind nothing else."""
+    for program, given, written in (("cvss_triage", LOW.encode(), row(LOW, [])),
+                                    ("cvss_tool", LINE, FIRST.encode())):
+        for room in (0, 7):
+            runs.expect(program, given, (0, written, ""), WRITE_ROOM=room, FAULT_ONCE=1,
+                        WRITE_FAULT=errno.EINTR)
+            for fault in (errno.EPIPE, errno.EAGAIN, errno.EIO):
                 runs.expect_fault(program, given, written[:room], "write failed", WRITE_ROOM=room,
                                   FAULT_ONCE=1, WRITE_FAULT=fault)
 

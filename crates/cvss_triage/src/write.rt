@@ -4,26 +4,16 @@ ghost use Rattle.std.specs.Prelude.{◌≡◌, ℕ, take, OnOk, IfErr};
 ghost use Rattle.std.specs.Io.KnownBytes.{Appends};
 
 use crate::fault::Fault;
-use std::io::{ErrorKind, Write};
+use std::io::Write;
 
-/// Writes all of the bytes, and again where a signal interrupts it. Where the writer fails, it has
-/// a beginning of them.
+/// Writes all of the bytes. Where the writer fails, it has a beginning of them.
 pub(crate) fn write_whole<W: Write>(writer: &mut W, bytes: &[u8]) -> Result<(), Fault>
     ensures ok { OnOk result (Appends (W.contents writer.old) (W.contents writer.new) bytes.now) }
     ensures err { IfErr result (λ fault. (fault ≡ Fault.Write) × ((count : ℕ)
         × Appends (W.contents writer.old) (W.contents writer.new) (take count bytes.now))) }
 {
-    let mut written = 0;
-    for _ in 0..u64::MAX {
-        if written >= bytes.len() {
-            return Ok(());
-        }
-        match writer.write(&bytes[written..]) {
-            Ok(0) => return Err(Fault::Write),
-            Ok(count) => written += count,
-            Err(error) if error.kind() == ErrorKind::Interrupted => {}
-            Err(_) => return Err(Fault::Write),
-        }
+    match cvss_lines::write_whole(writer, bytes) {
+        Ok(()) => Ok(()),
+        Err(_) => Err(Fault::Write),
     }
-    Err(Fault::Write)
 }
