@@ -1,8 +1,7 @@
 #!/usr/bin/env python3
 """Checks what memory the built `cvss_audit` takes of a line, beside that of the JSON reader: at most 20
-bytes for each byte of the line, however many places stand in it and however long their pointers are;
-and where a member says otherwise than its vector as much again as the reader takes, since the answer
-has a copy of what is said.
+bytes for each byte of the line, however many places stand in it, however long their pointers are, and
+whatever the members say that differ from their vectors.
 
 What the reader takes is seen by a line of the same bytes in which no vector is found. The answers are
 looked at too: one line for each place, with the pointer that leads to it, in order.
@@ -35,14 +34,13 @@ KINDS.append((("deep", 20 * COUNT), lambda k: "/a" * 118 + f"/{k}"))
 KINDS.append((("members", 1_000_000), None))
 KINDS.append((("nested", 126), lambda k: "/a" * 126))
 KINDS.append((("said", 100_000), lambda k: ""))
+KINDS.append((("numbers", 400_000), lambda k: ""))
 KINDS.append((("text", 2_000_000), lambda k: ""))
 KINDS.append((("empty", 4 * COUNT), None))
 # How many places stand in those whose last number is another one.
-PLACES = {"nested": 1, "said": 1, "text": 1, "empty": 0}
+PLACES = {"nested": 1, "said": 1, "numbers": 1, "text": 1, "empty": 0}
 # In which of them something is refused or differs.
-REFUSED = ("said", "text")
-# In which of them what is said is copied.
-COPIED = ("said",)
+REFUSED = ("said", "numbers", "text")
 
 
 def run(line, check, status=0):
@@ -89,7 +87,7 @@ def main():
         took = run(line, lambda answers: check_places(kind, count, pointer, answers),
                    status=1 if kind[0] in REFUSED else 0)
         reader = run(document(*kind, nameless=True), check_none)
-        beside = max(0, took - (2 * reader if kind[0] in COPIED else reader))
+        beside = max(0, took - reader)
         rate = beside / len(line)
         if len(line) > START // MOST:
             most, dearest = max(most, rate), max(dearest, reader / len(line))

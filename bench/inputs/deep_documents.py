@@ -7,6 +7,7 @@ long values, and objects one in the other.
 - `members N`: an object of N members, of which each holds a vector.
 - `nested D`: a vector under D names of a letter, one in the other.
 - `said N`: a vector whose score is said by an object of N members, each an object in an object.
+- `numbers N`: a vector whose score is said by an array of N numbers, which are written in more digits.
 - `text N`: a text of N letters where a vector should stand.
 - `empty N`: N times 120 objects, one in the other under empty names, and no vector.
 
@@ -39,6 +40,10 @@ def said(count):
     return HOLDER[:-1] + ',"baseScore":{%s}}' % score
 
 
+def numbers(count):
+    return HOLDER[:-1] + ',"baseScore":[%s]}' % ",".join(["1e15"] * count)
+
+
 def text(letters):
     return HOLDER.replace(VECTOR, "n" * letters)
 
@@ -47,16 +52,16 @@ def empty(count):
     return "[" + ",".join(['{"":' * 120 + "0" + "}" * 120] * count) + "]"
 
 
-def document(kind, *numbers, nameless=False):
+def document(kind, *sizes, nameless=False):
     """The document, as a line."""
     global HOLDER
     HOLDER = '{"%s":"%s"}' % ("vectorStrinG" if nameless else "vectorString", VECTOR)
-    kinds = (names, deep, members, nested, said, text, empty)
-    return {made.__name__: made for made in kinds}[kind](*numbers) + "\n"
+    kinds = (names, deep, members, nested, said, numbers, text, empty)
+    return {made.__name__: made for made in kinds}[kind](*sizes) + "\n"
 
 
 if __name__ == "__main__":
     *given, last = sys.argv[1:]
     without = last == "nameless"
-    kind, *numbers = given if without else [*given, last]
-    sys.stdout.write(document(kind, *(int(number) for number in numbers), nameless=without))
+    kind, *sizes = given if without else [*given, last]
+    sys.stdout.write(document(kind, *(int(size) for size in sizes), nameless=without))

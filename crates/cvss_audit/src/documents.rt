@@ -13,7 +13,7 @@ use crate::place::answer_place;
 use crate::source::Source;
 use crate::told::{put_line, put_refusal};
 use cvss_lines::{Gathered, RunFault, Streaming};
-use cvss_object::write_object;
+use cvss_object::write_tree_object;
 use cvss_record::vectors_in;
 use serde_json::{Map, Value};
 use std::alloc::{AllocError, Global};
@@ -72,8 +72,8 @@ fn refuse_line(
 {
     let mut members = Map::new(alloc);
     put_line(&mut members, alloc, number)?;
-    put_refusal(&mut members, alloc, reason)?;
-    write_object(alloc, members, answers)
+    put_refusal(&mut members, alloc, String::from_str(alloc, reason)?)?;
+    write_tree_object(alloc, &members, answers)
 }
 
 /// Writes an object for each place in a document where a vector stands, one after another. Tells

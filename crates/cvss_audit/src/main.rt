@@ -3,6 +3,7 @@
 //! `--help` prints how it is used.
 #![tactic(auto)]
 
+mod differs;
 mod documents;
 mod missing;
 mod noting;

@@ -3,20 +3,21 @@
 ghost use Rattle.std.specs.Prelude.{◌≡◌, IfOk, OnOk, map, option_map};
 ghost use Rattle.std.specs.List.{filter_map};
 ghost use Rattle.cvss_audit.specs.Objects.{missing_at, missing_members, missing_v3};
+ghost use Rattle.cvss_object.specs.Trees.{members_view, tree_view};
 ghost use Rattle.cvss_record.specs.Objects.{with_members};
-ghost use Rattle.serde_json.specs.View.{members_view, view};
 
 use crate::told::put_list;
 use cvss::{Cvss, MetricGroup, v3};
+use cvss_object::Tree;
 use cvss_text::print::Printed;
 use cvss_text::walk::Components;
-use serde_json::{Map, Value};
+use serde_json::Map;
 use std::alloc::{AllocError, Global};
 
 /// Puts the names of the base metrics that a vector of CVSS v3 lacks, if it lacks any. A vector of
 /// another version that was read from a text lacks none.
-pub(crate) fn put_missing(
-    members: &mut Map<String, Value>,
+pub(crate) fn put_missing<'a>(
+    members: &mut Map<String, Tree<'a>>,
     alloc: Global,
     cvss: &Cvss,
 ) -> Result<(), AllocError>
@@ -32,24 +33,24 @@ pub(crate) fn put_missing(
     }
 }
 
-fn missing_v3(alloc: Global, vector: &v3::Vector) -> Result<Vec<Value>, AllocError>
-    ensures { IfOk result (λ missing. map view missing.items ≡ missing_v3 vector.now) }
+fn missing_v3<'a>(alloc: Global, vector: &v3::Vector) -> Result<Vec<Tree<'a>>, AllocError>
+    ensures { IfOk result (λ missing. map tree_view missing.items ≡ missing_v3 vector.now) }
 {
     missing_among(alloc, vector, v3::Vector::printed())
 }
 
 /// The names of those of these metrics that are base metrics and that a vector lacks.
-fn missing_among(
+fn missing_among<'a>(
     alloc: Global,
     vector: &v3::Vector,
     kinds: &[v3::MetricType],
-) -> Result<Vec<Value>, AllocError>
-    ensures { IfOk result (λ missing. map view missing.items
+) -> Result<Vec<Tree<'a>>, AllocError>
+    ensures { IfOk result (λ missing. map tree_view missing.items
         ≡ filter_map (missing_at vector.now) kinds.now) }
 {
     let mut missing = Vec::new(alloc);
     for kind in kinds {
-        match missing_at(alloc, vector, *kind)? {
+        match missing_at(vector, *kind) {
             Some(name) => missing.push(name)?,
             None => {}
         }
@@ -58,17 +59,11 @@ fn missing_among(
 }
 
 /// The name of a metric, if it is a base metric and a vector lacks it.
-fn missing_at(
-    alloc: Global,
-    vector: &v3::Vector,
-    kind: v3::MetricType,
-) -> Result<Option<Value>, AllocError>
-    ensures { IfOk result (λ found. option_map view found ≡ missing_at vector.now kind) }
+fn missing_at<'a>(vector: &v3::Vector, kind: v3::MetricType) -> Option<Tree<'a>>
+    ensures { option_map tree_view result ≡ missing_at vector.now kind }
 {
     match kind.group() {
-        MetricGroup::Base if vector.slashed(kind).is_none() => {
-            Ok(Some(Value::try_from_str(alloc, kind.name())?))
-        }
-        _ => Ok(None),
+        MetricGroup::Base if vector.slashed(kind).is_none() => Some(Tree::Text(kind.name())),
+        _ => None,
     }
 }

@@ -4,17 +4,17 @@ ghost use Rattle.std.specs.Prelude.{IfOk};
 ghost use Rattle.cvss_audit.specs.Answers.{IsNoString, IsPlaceObject, IsTextObject};
 ghost use Rattle.cvss_audit.specs.Sources.{source_view};
 ghost use Rattle.cvss_audit.specs.private.Writing.{WritesPlace};
+ghost use Rattle.cvss_object.specs.Trees.{members_view};
 ghost use Rattle.cvss_record.specs.Places.{place_view};
 ghost use Rattle.serde_json.specs.Data.{object};
-ghost use Rattle.serde_json.specs.View.{members_view};
 
 use crate::source::Source;
 use crate::told::{put_accepted, put_place, put_refusal};
 use cvss::{Cvss, Error};
 use cvss_lines::Gathered;
-use cvss_object::write_object;
+use cvss_object::{Tree, write_tree_object};
 use cvss_record::{Place, Scores, differences_at};
-use serde_json::{Map, Value};
+use serde_json::Map;
 use std::alloc::{AllocError, Global};
 
 /// Writes the object of a place. Tells whether its vector is accepted and nothing differs.
@@ -28,16 +28,16 @@ pub(crate) fn answer_place(
         answers.old.bytes.items answers.new.bytes.items) }
 {
     let (members, agrees) = place_object(alloc, source, place)?;
-    write_object(alloc, members, answers)?;
+    write_tree_object(alloc, &members, answers)?;
     Ok(agrees)
 }
 
 /// The object of a place, and whether its vector is accepted and nothing differs.
-fn place_object(
+fn place_object<'a>(
     alloc: Global,
-    source: Source<'_>,
-    place: &Place<'_>,
-) -> Result<(Map<String, Value>, bool), AllocError>
+    source: Source<'a>,
+    place: &'a Place<'a>,
+) -> Result<(Map<String, Tree<'a>>, bool), AllocError>
     ensures { IfOk result (λ told. IsPlaceObject (source_view source.entry) (place_view place.now)
         (object (members_view told.0.entries)) told.1) }
 {
@@ -48,12 +48,12 @@ fn place_object(
 }
 
 /// The object of a place where a text stands.
-fn text_object(
+fn text_object<'a>(
     alloc: Global,
-    source: Source<'_>,
-    place: &Place<'_>,
+    source: Source<'a>,
+    place: &'a Place<'a>,
     text: &str,
-) -> Result<(Map<String, Value>, bool), AllocError>
+) -> Result<(Map<String, Tree<'a>>, bool), AllocError>
     ensures { IfOk result (λ told. IsTextObject (source_view source.entry) (place_view place.now)
         text.now (object (members_view told.0.entries)) told.1) }
 {
@@ -68,24 +68,24 @@ fn text_object(
         }
         Err(Error::OutOfMemory) => Err(AllocError),
         Err(error) => {
-            let reason = error.to_string(alloc)?;
-            put_refusal(&mut members, alloc, reason.as_str())?;
+            put_refusal(&mut members, alloc, error.to_string(alloc)?)?;
             Ok((members, false))
         }
     }
 }
 
 /// The object of a place where no string stands.
-fn no_string_object(
+fn no_string_object<'a>(
     alloc: Global,
-    source: Source<'_>,
-    place: &Place<'_>,
-) -> Result<(Map<String, Value>, bool), AllocError>
+    source: Source<'a>,
+    place: &'a Place<'a>,
+) -> Result<(Map<String, Tree<'a>>, bool), AllocError>
     ensures { IfOk result (λ told. IsNoString (source_view source.entry) (place_view place.now)
         (object (members_view told.0.entries)) told.1) }
 {
     let mut members = Map::new(alloc);
     put_place(&mut members, alloc, source, place)?;
-    put_refusal(&mut members, alloc, "not a string")?;
+    let reason = String::from_str(alloc, "not a string")?;
+    put_refusal(&mut members, alloc, reason)?;
     Ok((members, false))
 }

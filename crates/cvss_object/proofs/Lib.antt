@@ -1,1 +1,4 @@
 mod OneLineLemmas
+mod PrintsLemmas
+mod PartsLemmas
+pub mod TreesLemmas

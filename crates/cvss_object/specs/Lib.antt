@@ -1,1 +1,3 @@
 pub mod Texts
+pub mod Trees
+pub mod private

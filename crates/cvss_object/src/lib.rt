@@ -1,6 +1,9 @@
 //! JSON objects as the answers of programs: each on one line, without spaces.
 #![tactic(auto)]
 
+mod text;
+mod tree;
 mod write;
 
-pub use write::write_object;
+pub use tree::{Tree, put_tree};
+pub use write::{write_object, write_tree_object};

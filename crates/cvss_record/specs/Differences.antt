@@ -2,7 +2,6 @@
 use Rattle.std.specs.Prelude.{◌≡◌, ℕ, Bool, not, ◌&&◌, List, [], ◌∷◌, ◌++◌, codes, bytes_eq, if◌then◌else◌, is_some, Option, Some, None, option_and_then}
 use Rattle.std.specs.List.{filter_map, list_any}
 use Rattle.std.specs.Option.{option_to_list}
-use Rattle.std.specs.String.{string_bytes}
 use Rattle.cvss.specs.declared.vector.Cvss.{Cvss}
 use Rattle.cvss.specs.declared.vector.Cvss.TheVariants.{CvssV20, CvssV30, CvssV31, CvssV40}
 use Rattle.serde_json.specs.Data.{Data, Members, no_members, member, string}
@@ -14,6 +13,8 @@ use Rattle.cvss_record.specs.Objects.{Member}
 use Rattle.cvss_record.specs.Places.{Around, Place}
 use Rattle.cvss_record.specs.Record.{is_rated, version_of}
 use Rattle.cvss_record.specs.declared.difference.Difference as code
+use Rattle.cvss_record.specs.declared.difference.Said.{Said}
+use Rattle.cvss_record.specs.declared.difference.Said.TheVariants.{Value, Name}
 use Rattle.cvss_record.specs.declared.place.Form.{Form}
 use Rattle.cvss_record.specs.declared.place.Form.TheVariants.{Record, GitHub, Osv}
 use Rattle.cvss_record.specs.declared.score.Scores.{Scores}
@@ -129,6 +130,11 @@ pub record AreDifferencesAt (cvss : Cvss) (place : Place) (differences : List Di
   pub are_scores : AreScoresOf cvss scores
   pub are : differences ≡ differences_of cvss scores place
 
+-- what a member says, as the code holds it
+abbrev pub said_view : Said → Data
+said_view (Value value) = view value.now
+said_view (Name name) = string name.now
+
 -- a difference, as the code holds it
 abbrev pub difference_view : code.Difference → Difference
-difference_view difference = (string_bytes difference.member, view difference.says, view difference.is)
+difference_view difference = (difference.member.now, said_view difference.says, view difference.is)

@@ -18,13 +18,22 @@ use std::alloc::{AllocError, Global};
 
 /// A member that says otherwise than the vector's record.
 #[derive(Drop)]
-pub struct Difference {
+pub struct Difference<'a> {
     /// The member's name.
-    pub member: String,
+    pub member: &'a str,
     /// What it says.
-    pub says: Value,
+    pub says: Said<'a>,
     /// What would agree; null where the member's absence alone, or `NOT_DEFINED`, would.
     pub is: Value,
+}
+
+/// What a member says, as it stands in the document.
+#[derive(Drop)]
+pub enum Said<'a> {
+    /// Its value.
+    Value(&'a Value),
+    /// Its name, where that is what says otherwise.
+    Name(&'a str),
 }
 
 /// The members of an object that say otherwise than the record of a vector, in the order of their
@@ -35,11 +44,11 @@ pub struct Difference {
 /// # Errors
 ///
 /// Want of memory alone.
-pub fn differences(
+pub fn differences<'a>(
     alloc: Global,
     cvss: &Cvss,
-    object: &Map<String, Value>,
-) -> Result<Vec<Difference>, AllocError>
+    object: &'a Map<String, Value>,
+) -> Result<Vec<Difference<'a>>, AllocError>
     requires { HasScore cvss.now }
     ensures { IfOk result (λ found. AreDifferences cvss.now (members_view object.now.entries)
         (map difference_view found.items)) }
@@ -47,12 +56,12 @@ pub fn differences(
     record_differences(alloc, cvss, &Scores::of(cvss), object)
 }
 
-fn record_differences(
+fn record_differences<'a>(
     alloc: Global,
     cvss: &Cvss,
     scores: &Scores,
-    object: &Map<String, Value>,
-) -> Result<Vec<Difference>, AllocError>
+    object: &'a Map<String, Value>,
+) -> Result<Vec<Difference<'a>>, AllocError>
     ensures { IfOk result (λ found. map difference_view found.items
         ≡ record_differences cvss.now scores.now (members_view object.now.entries)) }
 {
@@ -74,11 +83,11 @@ fn record_differences(
 /// # Errors
 ///
 /// Want of memory alone.
-pub fn differences_at(
+pub fn differences_at<'a>(
     alloc: Global,
     cvss: &Cvss,
-    place: &Place<'_>,
-) -> Result<Vec<Difference>, AllocError>
+    place: &Place<'a>,
+) -> Result<Vec<Difference<'a>>, AllocError>
     requires { HasScore cvss.now }
     ensures { IfOk result (λ found. AreDifferencesAt cvss.now (place_view place.now)
         (map difference_view found.items)) }
@@ -95,12 +104,12 @@ pub fn differences_at(
     Ok(found)
 }
 
-fn member_differences(
+fn member_differences<'a>(
     alloc: Global,
     cvss: &Cvss,
     scores: &Scores,
-    place: &Place<'_>,
-) -> Result<Vec<Difference>, AllocError>
+    place: &Place<'a>,
+) -> Result<Vec<Difference<'a>>, AllocError>
     ensures { IfOk result (λ found. map difference_view found.items
         ≡ member_differences cvss.now scores.now place.now.form
         (members_view place.now.object.now.entries)) }
@@ -112,11 +121,11 @@ fn member_differences(
     }
 }
 
-fn score_differences(
+fn score_differences<'a>(
     alloc: Global,
     scores: &Scores,
-    object: &Map<String, Value>,
-) -> Result<Vec<Difference>, AllocError>
+    object: &'a Map<String, Value>,
+) -> Result<Vec<Difference<'a>>, AllocError>
     ensures { IfOk result (λ found. map difference_view found.items
         ≡ score_differences scores.now (members_view object.now.entries)) }
 {
@@ -126,11 +135,11 @@ fn score_differences(
     }
 }
 
-fn type_differences(
+fn type_differences<'a>(
     alloc: Global,
     cvss: &Cvss,
-    object: &Map<String, Value>,
-) -> Result<Vec<Difference>, AllocError>
+    object: &'a Map<String, Value>,
+) -> Result<Vec<Difference<'a>>, AllocError>
     ensures { IfOk result (λ found. map difference_view found.items
         ≡ type_differences cvss.now (members_view object.now.entries)) }
 {
@@ -155,11 +164,11 @@ fn osv_type(cvss: &Cvss) -> &'static str
 }
 
 /// The difference of a number at `score`, as GitHub has it.
-fn score_difference(
+fn score_difference<'a>(
     alloc: Global,
     tenths: u8,
-    said: &Value,
-) -> Result<Option<Difference>, AllocError>
+    said: &'a Value,
+) -> Result<Option<Difference<'a>>, AllocError>
     ensures { IfOk result (λ found. option_map difference_view found
         ≡ github_difference tenths (view said.now)) }
 {
@@ -171,14 +180,18 @@ fn score_difference(
 }
 
 /// The difference of the name of a member, if it tells another version than the vector's.
-fn name_difference(alloc: Global, cvss: &Cvss, name: &str) -> Result<Option<Difference>, AllocError>
+fn name_difference<'a>(
+    alloc: Global,
+    cvss: &Cvss,
+    name: &'a str,
+) -> Result<Option<Difference<'a>>, AllocError>
     ensures { IfOk result (λ found. option_to_list (option_map difference_view found)
         ≡ name_differences cvss.now name.now) }
 {
     if tells_version(name) && !tells_version_of(cvss, name) {
         return Ok(Some(Difference {
-            member: String::from_str(alloc, name)?,
-            says: Value::try_from_str(alloc, name)?,
+            member: name,
+            says: Said::Name(name),
             is: Value::try_from_str(alloc, version(cvss))?,
         }));
     }
@@ -211,12 +224,12 @@ fn tells_version_of(cvss: &Cvss, name: &str) -> bool
 }
 
 /// The difference of the rating that NVD tells of a vector of CVSS v2 beside its record.
-fn rating_difference(
+fn rating_difference<'a>(
     alloc: Global,
     cvss: &Cvss,
     tenths: u8,
-    around: Around<'_>,
-) -> Result<Option<Difference>, AllocError>
+    around: Around<'a>,
+) -> Result<Option<Difference<'a>>, AllocError>
     ensures { IfOk result (λ found. option_to_list (option_map difference_view found)
         ≡ rating_differences cvss.now tenths (around_view around.entry)) }
 {
@@ -227,12 +240,12 @@ fn rating_difference(
 }
 
 /// The difference of `baseSeverity`, if it is another rating than that of so many tenths.
-fn severity_difference(
+fn severity_difference<'a>(
     alloc: Global,
     cvss: &Cvss,
     tenths: u8,
-    object: &Map<String, Value>,
-) -> Result<Option<Difference>, AllocError>
+    object: &'a Map<String, Value>,
+) -> Result<Option<Difference<'a>>, AllocError>
     ensures { IfOk result (λ found. option_to_list (option_map difference_view found)
         ≡ severity_differences cvss.now tenths (members_view object.now.entries)) }
 {
@@ -245,12 +258,12 @@ fn severity_difference(
     }
 }
 
-fn push_if_some(
-    found: &mut Vec<Difference>,
-    difference: Option<Difference>,
+fn push_if_some<'a>(
+    found: &mut Vec<Difference<'a>>,
+    difference: Option<Difference<'a>>,
 ) -> Result<(), AllocError>
     ensures { OnOk result (map difference_view found.new.items ≡ map difference_view found.old.items
-        ++ option_to_list (option_map difference_view difference)) }
+        ++ option_to_list (option_map difference_view difference.entry)) }
 {
     if let Some(difference) = difference {
         found.push(difference)?;
@@ -258,9 +271,12 @@ fn push_if_some(
     Ok(())
 }
 
-fn listed(alloc: Global, difference: Option<Difference>) -> Result<Vec<Difference>, AllocError>
+fn listed<'a>(
+    alloc: Global,
+    difference: Option<Difference<'a>>,
+) -> Result<Vec<Difference<'a>>, AllocError>
     ensures { IfOk result (λ found. map difference_view found.items
-        ≡ option_to_list (option_map difference_view difference)) }
+        ≡ option_to_list (option_map difference_view difference.entry)) }
 {
     let mut found = Vec::new(alloc);
     push_if_some(&mut found, difference)?;
@@ -268,13 +284,13 @@ fn listed(alloc: Global, difference: Option<Difference>) -> Result<Vec<Differenc
 }
 
 /// The difference of a member, if it says otherwise than the vector's record or score.
-fn difference_at(
+fn difference_at<'a>(
     alloc: Global,
     cvss: &Cvss,
     scores: &Scores,
-    name: &str,
-    said: &Value,
-) -> Result<Option<Difference>, AllocError>
+    name: &'a str,
+    said: &'a Value,
+) -> Result<Option<Difference<'a>>, AllocError>
     ensures { IfOk result (λ found. option_map difference_view found
         ≡ difference_at cvss.now scores.now (name.now, view said.now)) }
 {
@@ -288,12 +304,12 @@ fn difference_at(
 }
 
 /// The difference between what is said and what is due.
-fn difference_from(
+fn difference_from<'a>(
     alloc: Global,
-    name: &str,
-    said: &Value,
+    name: &'a str,
+    said: &'a Value,
     due: Due,
-) -> Result<Option<Difference>, AllocError>
+) -> Result<Option<Difference<'a>>, AllocError>
     ensures { IfOk result (λ found. option_map difference_view found
         ≡ difference_from (name.now, view said.now) (due_view due)) }
 {
@@ -301,8 +317,8 @@ fn difference_from(
         return Ok(None);
     }
     Ok(Some(Difference {
-        member: String::from_str(alloc, name)?,
-        says: said.clone()?,
+        member: name,
+        says: Said::Value(said),
         is: due.value(alloc)?,
     }))
 }

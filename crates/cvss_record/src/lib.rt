@@ -16,7 +16,7 @@ mod pointer;
 mod record;
 mod score;
 
-pub use difference::{Difference, differences, differences_at};
+pub use difference::{Difference, Said, differences, differences_at};
 pub use group::Group;
 pub use place::{Around, Form, Place};
 pub use places::{Places, vectors_in};

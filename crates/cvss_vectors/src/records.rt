@@ -46,7 +46,7 @@ fn differ_from(rt: &HostRuntime, text: &str, object: &str) -> io::Result<()> {
     }
 }
 
-fn print_members(rt: &HostRuntime, found: &[Difference]) -> io::Result<()> {
+fn print_members(rt: &HostRuntime, found: &[Difference<'_>]) -> io::Result<()> {
     for difference in found {
         print!(rt; "{};", difference.member)?;
     }

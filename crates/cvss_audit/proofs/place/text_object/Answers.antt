@@ -7,7 +7,7 @@ use Rattle.cvss_record.specs.Objects.{with_members}
 use Rattle.cvss_record.specs.Places.{place_view}
 use Rattle.cvss_record.specs.declared.difference.Difference.{Difference}
 use Rattle.serde_json.specs.Data.{object}
-use Rattle.serde_json.specs.View.{members_view}
+use Rattle.cvss_object.specs.Trees.{members_view}
 use Rattle.cvss_audit.specs.Answers.{nothing_differs}
 use Rattle.cvss_audit.specs.Objects.{accepted_members, place_members, refusal_member}
 use Rattle.cvss_audit.specs.Sources.{source_view}
@@ -18,8 +18,8 @@ none_differs : (differences : List Difference) (agrees : Bool) (count : ℕ) →
 none_differs [] agrees count is same = is ∙ ap (λ n. n == 0) same
 none_differs (difference ∷ differences) agrees count is same = is ∙ ne_eqb count 0 (λ none. omega (arith, same, none))
 
-pub returns-in_ok-put_accepted-in-Ok : goal.returns-in_ok-put_accepted-in-Ok
-returns-in_ok-put_accepted-in-Ok c =
+pub returns-in-Ok : goal.returns-in-Ok
+returns-in-Ok c =
     let found = c.in_ok-differences-in-Ok.differences in
     let differences = map difference_view found.items in
     let place = place_members (source_view c.args.source) (place_view c.args.place.now) in
@@ -37,8 +37,8 @@ returns-in_ok-put_accepted-in-Ok c =
       told = none_differs found.items c.is_empty-agrees.result _ c.is_empty-agrees.ensures (omega (arith, found.ok.0));
     })
 
-pub returns-in_ok-put_refusal-in-Err : goal.returns-in_ok-put_refusal-in-Err
-returns-in_ok-put_refusal-in-Err c =
+pub returns : goal.returns
+returns c =
     let place = place_members (source_view c.args.source) (place_view c.args.place.now) in
     let refusal = refusal_member (error_text c.in-Err.error) ∷ [] in
     let of_new = members_view c.new-members.result.entries in

@@ -2,7 +2,7 @@ use Rattle.std.proofs.Common.{◌++◌, map}
 use Rattle.std.proofs.lemmas.Result.{on_ok_weaker}
 use Rattle.cvss_record.proofs.ObjectLemmas.{put_next}
 use Rattle.cvss_record.specs.Differences.{difference_view}
-use Rattle.serde_json.specs.View.{members_view}
+use Rattle.cvss_object.specs.Trees.{members_view}
 use Rattle.cvss_audit.specs.Objects.{differs_members, missing_members, told_members}
 use Rattle.cvss_audit.proofs.told.put_accepted.Goals as goal
 
