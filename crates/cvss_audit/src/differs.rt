@@ -6,7 +6,7 @@ ghost use Rattle.cvss_object.specs.Trees.{members_view, tree_view};
 ghost use Rattle.cvss_record.specs.Differences.{difference_view, said_view};
 ghost use Rattle.cvss_record.specs.Objects.{with_members};
 
-use crate::told::put_list;
+use crate::members::put_list;
 use cvss_object::{Tree, put_tree};
 use cvss_record::{Difference, Said};
 use serde_json::Map;

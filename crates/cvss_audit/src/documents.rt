@@ -9,9 +9,9 @@ ghost use Rattle.cvss_object.specs.Texts.{WritesObject};
 ghost use Rattle.cvss_record.specs.Places.{places_in};
 ghost use Rattle.serde_json.specs.View.{view};
 
+use crate::members::{put_line, put_refusal};
 use crate::place::answer_place;
 use crate::source::Source;
-use crate::told::{put_line, put_refusal};
 use cvss_lines::{Gathered, RunFault, Streaming};
 use cvss_object::write_tree_object;
 use cvss_record::vectors_in;

@@ -5,13 +5,13 @@
 
 mod differs;
 mod documents;
+mod members;
 mod missing;
 mod noting;
 mod place;
 mod program;
 mod run;
 mod source;
-mod told;
 
 use cvss_lines::arguments;
 pub use cvss_lines::{Fault, RunFault, Summary, program_status};

@@ -6,7 +6,7 @@ ghost use Rattle.cvss_audit.specs.Objects.{missing_at, missing_members, missing_
 ghost use Rattle.cvss_object.specs.Trees.{members_view, tree_view};
 ghost use Rattle.cvss_record.specs.Objects.{with_members};
 
-use crate::told::put_list;
+use crate::members::put_list;
 use cvss::{Cvss, MetricGroup, v3};
 use cvss_object::Tree;
 use cvss_text::print::Printed;

@@ -8,8 +8,8 @@ ghost use Rattle.cvss_object.specs.Trees.{members_view};
 ghost use Rattle.cvss_record.specs.Places.{place_view};
 ghost use Rattle.serde_json.specs.Data.{object};
 
+use crate::members::{put_accepted, put_place, put_refusal};
 use crate::source::Source;
-use crate::told::{put_accepted, put_place, put_refusal};
 use cvss::{Cvss, Error};
 use cvss_lines::Gathered;
 use cvss_object::{Tree, write_tree_object};

@@ -6,7 +6,7 @@ use Rattle.cvss_record.proofs.ObjectLemmas.{put_next}
 use Rattle.cvss_record.specs.Objects.{with_members}
 use Rattle.cvss_record.specs.Record.{score_value}
 use Rattle.cvss_audit.specs.Objects.{optional_member, score_members}
-use Rattle.cvss_audit.proofs.told.group_scores.Goals as goal
+use Rattle.cvss_audit.proofs.members.group_scores.Goals as goal
 
 pub returns : goal.returns
 returns c =

@@ -4,7 +4,7 @@ use Rattle.cvss_record.proofs.ObjectLemmas.{put_next}
 use Rattle.cvss_record.specs.Differences.{difference_view}
 use Rattle.cvss_object.specs.Trees.{members_view}
 use Rattle.cvss_audit.specs.Objects.{differs_members, missing_members, told_members}
-use Rattle.cvss_audit.proofs.told.put_accepted.Goals as goal
+use Rattle.cvss_audit.proofs.members.put_accepted.Goals as goal
 
 pub returns : goal.returns
 returns c =
