@@ -1,29 +1,56 @@
 //! The canonical text of a vector that was read.
 
-ghost use Rattle.std.specs.Prelude.{◌≡◌, ◌≤◌, length};
-ghost use Rattle.cvss.specs.Answers.{text_of};
+ghost use Rattle.std.specs.Prelude.{◌≡◌, ◌≤◌, IfNone, IfSome, length};
+ghost use Rattle.cvss.specs.Answers.{HasScore, text_of};
 ghost use Rattle.cvss.specs.Dispatch.{DenotesCvss};
 ghost use Rattle.cvss.specs.Version.{canonical_text, IsComplete};
 ghost use Rattle.cvss.specs.VectorV2.{v2};
+ghost use Rattle.cvss_bytes.specs.Answers.{IsRefused};
 ghost use Rattle.cvss_bytes.specs.Buffer.{HasPut, IsWritten};
 ghost use Rattle.cvss_bytes.specs.private.Steps.{IsRead};
 
-use crate::buffer::{put_behind, put_printed};
+use crate::buffer::{put, put_behind, put_printed};
 use cvss::v2::Metric;
 use cvss::{Cvss, v2};
 use cvss_text::walk::Components;
 
+/// The vector that a text denotes, if there is one. Its canonical text, which is as long as the text,
+/// is written at the beginning of a buffer where it fits. It takes no memory.
+pub fn put_canonical_of(text: &[u8], buffer: &mut [u8]) -> Option<Cvss>
+    ensures denoted { IfSome result (λ cvss. DenotesCvss text.now cvss) }
+    ensures scored { IfSome result (λ cvss. HasScore cvss) }
+    ensures written { IfSome result (λ cvss.
+        IsWritten (text_of cvss) buffer.old buffer.new (length text.now)) }
+    ensures refused { IfNone result (IsRefused text.now) }
+    ensures left { IfNone result (buffer.new ≡ buffer.old) }
+{
+    if let Some(cvss) = Cvss::read_canonical(text) {
+        put_where_it_fits(text, buffer);
+        return Some(cvss);
+    }
+    let cvss = Cvss::read_in_any_order(text)?;
+    put_in_order(&cvss, text, buffer);
+    Some(cvss)
+}
+
+/// Writes a text at the beginning of a buffer where it fits.
+fn put_where_it_fits(text: &[u8], buffer: &mut [u8])
+    ensures { IsWritten text.now buffer.old buffer.new (length text.now) }
+{
+    if text.len() <= buffer.len() {
+        put(text, buffer, 0);
+    }
+}
+
 /// Writes the canonical text of the vector that a text denotes at the beginning of a buffer where it
-/// fits, and tells its length, which is that of the text.
-pub fn put_canonical_of(cvss: &Cvss, text: &[u8], buffer: &mut [u8]) -> usize
+/// fits.
+fn put_in_order(cvss: &Cvss, text: &[u8], buffer: &mut [u8])
     requires { DenotesCvss text.now cvss.now }
-    ensures written { IsWritten (text_of cvss.now) buffer.old buffer.new result }
-    ensures length { result ≡ length text.now }
+    ensures { IsWritten (text_of cvss.now) buffer.old buffer.new (length text.now) }
 {
     if text.len() <= buffer.len() {
         put_canonical(cvss, buffer);
     }
-    text.len()
 }
 
 /// Writes the canonical text at the beginning of a buffer, and tells the place behind it.

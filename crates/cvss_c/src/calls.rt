@@ -73,8 +73,8 @@ pub extern "C" fn cvss_canonical(text: &[u8], buffer: &mut [u8]) -> usize
         (IsLeft buffer.old buffer.new result) }
     ensures length { (cvss : Cvss) → DenotesCvss text.now cvss → result ≡ length text.now }
 {
-    match Cvss::read_bytes(text) {
-        Some(cvss) => put_canonical_of(&cvss, text, buffer),
+    match put_canonical_of(text, buffer) {
+        Some(_) => text.len(),
         None => 0,
     }
 }
@@ -92,10 +92,10 @@ pub extern "C" fn cvss_read(text: &[u8], scores: &mut CvssScores, buffer: &mut [
         (IsLeft buffer.old buffer.new result) }
     ensures length { (cvss : Cvss) → DenotesCvss text.now cvss → result ≡ length text.now }
 {
-    match Cvss::read_bytes(text) {
+    match put_canonical_of(text, buffer) {
         Some(cvss) => {
             *scores = CvssScores::of(&cvss);
-            put_canonical_of(&cvss, text, buffer)
+            text.len()
         }
         None => 0,
     }
