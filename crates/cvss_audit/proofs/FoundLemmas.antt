@@ -2,12 +2,12 @@
 use Rattle.std.proofs.Common.{◌≡◌, ℕ, ◌+◌, Bool, true, false, ◌&&◌, if◌then◌else◌, List, [], ◌∷◌, ◌++◌, length, take, flat_map, Option, Some, inl, inr, refl, sym, ap, ap₂, ◌∙◌, subst, append_assoc, append-nil}
 use Rattle.std.proofs.KnownBytes.{Appends-kept, Appends-nil, Appends-trans}
 use Rattle.std.proofs.Math.Bool.{and-true}
+use Rattle.std.proofs.Math.Seq.{take-append-add}
 use Rattle.std.proofs.lemmas.Grind.{flat_map-append}
 use Rattle.std.proofs.lemmas.List.{map-append}
 use Rattle.std.proofs.lemmas.List.Folds.{list_all-append}
 use Rattle.std.specs.Io.KnownBytes.{Appends}
 use Rattle.std.specs.Str.{IsUtf8}
-use Rattle.cvss_lines.proofs.StepsLemmas.{take-past}
 use Rattle.cvss_lines.specs.Answers.{Answer, Accepted, Refused, is_accepted, written_answer, written_text}
 use Rattle.cvss_lines.specs.Streaming.{IsPassed, Stops, Streams, WritesWaiting}
 use Rattle.cvss_lines.specs.declared.fault.RunFault.{RunFault}
@@ -139,7 +139,7 @@ module _ (source : Source) (places : List Place) where
       begins = found_more before.seen place left left' before.found wrote.found before.split next before.are_found wrote.is_found;
       count = length before.passed + stopped.1.0;
       appended = subst (Appends w w'')
-          (sym (take-past before.passed middle stopped.1.0)
+          (sym (take-append-add before.passed middle stopped.1.0)
           ∙ ap (take (length before.passed + stopped.1.0)) (together_push before.passed waits old middle before.found wrote.found before.together wrote.written))
           (Appends-trans w w' w'' before.passed (take stopped.1.0 middle) before.appended stopped.1.1);
     };
