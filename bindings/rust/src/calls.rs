@@ -83,7 +83,8 @@ extern "C" {
 /// The scores and the canonical text of the vector that a text denotes.
 pub(crate) fn read(text: &[u8]) -> Option<(CvssScores, Vec<u8>)> {
     let mut scores = CvssScores::default();
-    let canonical = written(text.len(), |buffer| {
+    // the canonical text is as long as the text, and a copy is made more quickly than zeros
+    let canonical = written_over(text.to_vec(), |buffer| {
         // SAFETY: the pointers are those of slices and of a struct that live through the call and
         // do not overlap.
         unsafe {
@@ -225,8 +226,12 @@ pub(crate) fn find(text: &[u8], from: usize) -> Option<(usize, usize)> {
 }
 
 /// What a call writes into a buffer that is large enough; tried first with one of this size.
-fn written(size: usize, mut call: impl FnMut(&mut [u8]) -> usize) -> Vec<u8> {
-    let mut buffer = vec![0; size];
+fn written(size: usize, call: impl FnMut(&mut [u8]) -> usize) -> Vec<u8> {
+    written_over(vec![0; size], call)
+}
+
+/// What a call writes into a buffer that is large enough; tried first with this one.
+fn written_over(mut buffer: Vec<u8>, mut call: impl FnMut(&mut [u8]) -> usize) -> Vec<u8> {
     let mut length = call(&mut buffer);
     while length > buffer.len() {
         buffer.resize(length, 0);
