@@ -80,12 +80,12 @@ impl Named for MetricType {
 
     fn row(self) -> (&'static str, &'static str, MetricGroup) {
         match self {
-            A => ("A", "Availability Impact", Base),
-            AC => ("AC", "Access Complexity", Base),
             AV => ("AV", "Access Vector", Base),
+            AC => ("AC", "Access Complexity", Base),
             Au => ("Au", "Authentication", Base),
             C => ("C", "Confidentiality Impact", Base),
             I => ("I", "Integrity Impact", Base),
+            A => ("A", "Availability Impact", Base),
             E => ("E", "Exploitability", Temporal),
             RL => ("RL", "Remediation Level", Temporal),
             RC => ("RC", "Report Confidence", Temporal),

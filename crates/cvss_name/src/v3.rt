@@ -90,14 +90,14 @@ impl Named for MetricType {
 
     fn row(self) -> (&'static str, &'static str, MetricGroup) {
         match self {
-            A => ("A", "Availability Impact", Base),
-            AC => ("AC", "Attack Complexity", Base),
             AV => ("AV", "Attack Vector", Base),
+            AC => ("AC", "Attack Complexity", Base),
+            PR => ("PR", "Privileges Required", Base),
+            UI => ("UI", "User Interaction", Base),
+            S => ("S", "Scope", Base),
             C => ("C", "Confidentiality Impact", Base),
             I => ("I", "Integrity Impact", Base),
-            PR => ("PR", "Privileges Required", Base),
-            S => ("S", "Scope", Base),
-            UI => ("UI", "User Interaction", Base),
+            A => ("A", "Availability Impact", Base),
             E => ("E", "Exploit Code Maturity", Temporal),
             RL => ("RL", "Remediation Level", Temporal),
             RC => ("RC", "Report Confidence", Temporal),

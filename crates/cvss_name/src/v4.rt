@@ -64,13 +64,6 @@ impl MetricType {
         self.row().0
     }
 
-    /// All metrics, in the order in which they are compared.
-    pub fn all() -> &'static [MetricType]
-        ensures { result.now ≡ declared }
-    {
-        &ALL
-    }
-
     /// The metric's name in words.
     pub fn description(self) -> &'static str
         ensures { result.now ≡ description_of self }
@@ -97,6 +90,13 @@ impl MetricType {
     {
         from_name(alloc, &ALL, text)
     }
+
+    /// All metrics, in the order in which they are compared.
+    pub fn all() -> &'static [MetricType]
+        ensures { result.now ≡ declared }
+    {
+        &ALL
+    }
 }
 
 impl Named for MetricType {
@@ -108,36 +108,47 @@ impl Named for MetricType {
 
     fn row(self) -> (&'static str, &'static str, MetricGroup) {
         match self {
+            AV => ("AV", "Attack Vector", Base),
             AC => ("AC", "Attack Complexity", Base),
             AT => ("AT", "Attack Requirements", Base),
-            AV => ("AV", "Attack Vector", Base),
             PR => ("PR", "Privileges Required", Base),
-            SA => ("SA", "Availability Impact to the Subsequent System", Base),
-            SC => (
-                "SC",
-                "Confidentiality Impact to the Subsequent System",
-                Base,
-            ),
-            SI => ("SI", "Integrity Impact to the Subsequent System", Base),
             UI => ("UI", "User Interaction", Base),
-            VA => ("VA", "Availability Impact to the Vulnerable System", Base),
             VC => (
                 "VC",
                 "Confidentiality Impact to the Vulnerable System",
                 Base,
             ),
             VI => ("VI", "Integrity Impact to the Vulnerable System", Base),
+            VA => ("VA", "Availability Impact to the Vulnerable System", Base),
+            SC => (
+                "SC",
+                "Confidentiality Impact to the Subsequent System",
+                Base,
+            ),
+            SI => ("SI", "Integrity Impact to the Subsequent System", Base),
+            SA => ("SA", "Availability Impact to the Subsequent System", Base),
             E => ("E", "Exploit Maturity", Threat),
-            AR => ("AR", "Availability Requirements", Environmental),
             CR => ("CR", "Confidentiality Requirements", Environmental),
             IR => ("IR", "Integrity Requirements", Environmental),
+            AR => ("AR", "Availability Requirements", Environmental),
+            MAV => ("MAV", "Modified Attack Vector", Environmental),
             MAC => ("MAC", "Modified Attack Complexity", Environmental),
             MAT => ("MAT", "Modified Attack Requirements", Environmental),
-            MAV => ("MAV", "Modified Attack Vector", Environmental),
             MPR => ("MPR", "Modified Privileges Required", Environmental),
-            MSA => (
-                "MSA",
-                "Modified Availability Impact to the Subsequent System",
+            MUI => ("MUI", "Modified User Interaction", Environmental),
+            MVC => (
+                "MVC",
+                "Modified Confidentiality Impact to the Vulnerable System",
+                Environmental,
+            ),
+            MVI => (
+                "MVI",
+                "Modified Integrity Impact to the Vulnerable System",
+                Environmental,
+            ),
+            MVA => (
+                "MVA",
+                "Modified Availability Impact to the Vulnerable System",
                 Environmental,
             ),
             MSC => (
@@ -150,28 +161,17 @@ impl Named for MetricType {
                 "Modified Integrity Impact to the Subsequent System",
                 Environmental,
             ),
-            MUI => ("MUI", "Modified User Interaction", Environmental),
-            MVA => (
-                "MVA",
-                "Modified Availability Impact to the Vulnerable System",
+            MSA => (
+                "MSA",
+                "Modified Availability Impact to the Subsequent System",
                 Environmental,
             ),
-            MVC => (
-                "MVC",
-                "Modified Confidentiality Impact to the Vulnerable System",
-                Environmental,
-            ),
-            MVI => (
-                "MVI",
-                "Modified Integrity Impact to the Vulnerable System",
-                Environmental,
-            ),
+            S => ("S", "Safety", Supplemental),
             AU => ("AU", "Automatable", Supplemental),
             R => ("R", "Recovery", Supplemental),
-            RE => ("RE", "Vulnerability Response Effort", Supplemental),
-            S => ("S", "Safety", Supplemental),
-            U => ("U", "Provider Urgency", Supplemental),
             V => ("V", "Value Density", Supplemental),
+            RE => ("RE", "Vulnerability Response Effort", Supplemental),
+            U => ("U", "Provider Urgency", Supplemental),
         }
     }
 }
