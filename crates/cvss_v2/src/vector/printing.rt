@@ -6,7 +6,7 @@ ghost use Rattle.std.specs.Option.{option_copied};
 ghost use Rattle.cvss_text.specs.private.Printing.{slashed, slashed_texts};
 ghost use Rattle.cvss_grammar.specs.Text.{component};
 ghost use Rattle.cvss_name.specs.V2Types.{name_of};
-ghost use Rattle.cvss_grammar.specs.Version.{canonical_text};
+ghost use Rattle.cvss_grammar.specs.Version.{canonical_text, component_of, held};
 ghost use Rattle.cvss_name.specs.declared.v2.MetricType.TheVariants.{A, AC, Au, C, I, E, RL, RC, CDP, TD, CR, IR, AR};
 ghost use Rattle.cvss_v2.specs.Table.{spelling_of, printed};
 ghost use Rattle.cvss_v2.specs.Vector.{v2};
@@ -19,21 +19,33 @@ use std::fmt;
 impl Printed for Vector {
     fn slashed(&self, kind: MetricType) -> Option<&'static str> {
         match kind {
-            MetricType::AV => slashed_value(self.av),
-            MetricType::AC => slashed_value(self.ac),
-            MetricType::Au => slashed_value(self.au),
-            MetricType::C => slashed_value(self.c),
-            MetricType::I => slashed_value(self.i),
-            MetricType::A => slashed_value(self.a),
-            MetricType::E => slashed_value(self.e),
-            MetricType::RL => slashed_value(self.rl),
-            MetricType::RC => slashed_value(self.rc),
-            MetricType::CDP => slashed_value(self.cdp),
-            MetricType::TD => slashed_value(self.td),
-            MetricType::CR => slashed_value(self.cr),
-            MetricType::IR => slashed_value(self.ir),
-            MetricType::AR => slashed_value(self.ar),
+            MetricType::AV => self.slashed_at(kind, self.av),
+            MetricType::AC => self.slashed_at(kind, self.ac),
+            MetricType::Au => self.slashed_at(kind, self.au),
+            MetricType::C => self.slashed_at(kind, self.c),
+            MetricType::I => self.slashed_at(kind, self.i),
+            MetricType::A => self.slashed_at(kind, self.a),
+            MetricType::E => self.slashed_at(kind, self.e),
+            MetricType::RL => self.slashed_at(kind, self.rl),
+            MetricType::RC => self.slashed_at(kind, self.rc),
+            MetricType::CDP => self.slashed_at(kind, self.cdp),
+            MetricType::TD => self.slashed_at(kind, self.td),
+            MetricType::CR => self.slashed_at(kind, self.cr),
+            MetricType::IR => self.slashed_at(kind, self.ir),
+            MetricType::AR => self.slashed_at(kind, self.ar),
         }
+    }
+}
+
+impl Vector {
+    /// A slash and the component of the value that the vector has for a metric.
+    fn slashed_at<M: Metric>(&self, kind: MetricType, value: Option<M>) -> Option<&'static str>
+        requires kind { kind ≡ M.TYPE }
+        requires value { held v2 self.now M.TYPE
+            ≡ option_map (λ metric. spelling_of M.TYPE (M.value metric)) value }
+        ensures { option_copied result ≡ slashed (component_of v2 self.now kind) }
+    {
+        slashed_value(value)
     }
 }
 

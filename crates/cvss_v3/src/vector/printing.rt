@@ -3,7 +3,7 @@
 ghost use Rattle.std.specs.Prelude.{◌≡◌, Some, [], ◌∷◌, ◌++◌, codes, option_map, unwrap_or};
 ghost use Rattle.std.specs.Fmt.{WritesOnOk};
 ghost use Rattle.std.specs.Option.{option_copied};
-ghost use Rattle.cvss_grammar.specs.Version.{numeral, canonical_text, version_piece};
+ghost use Rattle.cvss_grammar.specs.Version.{numeral, canonical_text, component_of, held, version_piece};
 ghost use Rattle.cvss_text.specs.private.Printing.{slashed, slashed_texts};
 ghost use Rattle.cvss_grammar.specs.Text.{component};
 ghost use Rattle.cvss_name.specs.V3Types.{name_of};
@@ -19,29 +19,41 @@ use std::fmt;
 impl Printed for Vector {
     fn slashed(&self, kind: MetricType) -> Option<&'static str> {
         match kind {
-            MetricType::AV => slashed_value(self.av),
-            MetricType::AC => slashed_value(self.ac),
-            MetricType::PR => slashed_value(self.pr),
-            MetricType::UI => slashed_value(self.ui),
-            MetricType::S => slashed_value(self.s),
-            MetricType::C => slashed_value(self.c),
-            MetricType::I => slashed_value(self.i),
-            MetricType::A => slashed_value(self.a),
-            MetricType::E => slashed_value(self.e),
-            MetricType::RL => slashed_value(self.rl),
-            MetricType::RC => slashed_value(self.rc),
-            MetricType::CR => slashed_value(self.cr),
-            MetricType::IR => slashed_value(self.ir),
-            MetricType::AR => slashed_value(self.ar),
-            MetricType::MAV => slashed_value(self.mav),
-            MetricType::MAC => slashed_value(self.mac),
-            MetricType::MPR => slashed_value(self.mpr),
-            MetricType::MUI => slashed_value(self.mui),
-            MetricType::MS => slashed_value(self.ms),
-            MetricType::MC => slashed_value(self.mc),
-            MetricType::MI => slashed_value(self.mi),
-            MetricType::MA => slashed_value(self.ma),
+            MetricType::AV => self.slashed_at(kind, self.av),
+            MetricType::AC => self.slashed_at(kind, self.ac),
+            MetricType::PR => self.slashed_at(kind, self.pr),
+            MetricType::UI => self.slashed_at(kind, self.ui),
+            MetricType::S => self.slashed_at(kind, self.s),
+            MetricType::C => self.slashed_at(kind, self.c),
+            MetricType::I => self.slashed_at(kind, self.i),
+            MetricType::A => self.slashed_at(kind, self.a),
+            MetricType::E => self.slashed_at(kind, self.e),
+            MetricType::RL => self.slashed_at(kind, self.rl),
+            MetricType::RC => self.slashed_at(kind, self.rc),
+            MetricType::CR => self.slashed_at(kind, self.cr),
+            MetricType::IR => self.slashed_at(kind, self.ir),
+            MetricType::AR => self.slashed_at(kind, self.ar),
+            MetricType::MAV => self.slashed_at(kind, self.mav),
+            MetricType::MAC => self.slashed_at(kind, self.mac),
+            MetricType::MPR => self.slashed_at(kind, self.mpr),
+            MetricType::MUI => self.slashed_at(kind, self.mui),
+            MetricType::MS => self.slashed_at(kind, self.ms),
+            MetricType::MC => self.slashed_at(kind, self.mc),
+            MetricType::MI => self.slashed_at(kind, self.mi),
+            MetricType::MA => self.slashed_at(kind, self.ma),
         }
+    }
+}
+
+impl Vector {
+    /// A slash and the component of the value that the vector has for a metric.
+    fn slashed_at<M: Metric>(&self, kind: MetricType, value: Option<M>) -> Option<&'static str>
+        requires kind { kind ≡ M.TYPE }
+        requires value { held v3 self.now M.TYPE
+            ≡ option_map (λ metric. spelling_of M.TYPE (M.value metric)) value }
+        ensures { option_copied result ≡ slashed (component_of v3 self.now kind) }
+    {
+        slashed_value(value)
     }
 }
 

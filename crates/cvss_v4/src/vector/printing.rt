@@ -3,7 +3,7 @@
 ghost use Rattle.std.specs.Prelude.{◌≡◌, Some, [], ◌∷◌, ◌++◌, codes, option_map};
 ghost use Rattle.std.specs.Fmt.{WritesOnOk};
 ghost use Rattle.std.specs.Option.{option_copied};
-ghost use Rattle.cvss_grammar.specs.Version.{numeral, canonical_text, version_piece};
+ghost use Rattle.cvss_grammar.specs.Version.{numeral, canonical_text, component_of, held, version_piece};
 ghost use Rattle.cvss_text.specs.private.Printing.{slashed, slashed_texts};
 ghost use Rattle.cvss_grammar.specs.Text.{component};
 ghost use Rattle.cvss_name.specs.V4Types.{name_of};
@@ -20,39 +20,51 @@ use std::fmt;
 impl Printed for Vector {
     fn slashed(&self, kind: MetricType) -> Option<&'static str> {
         match kind {
-            MetricType::AV => slashed_value(self.av),
-            MetricType::AC => slashed_value(self.ac),
-            MetricType::AT => slashed_value(self.at),
-            MetricType::PR => slashed_value(self.pr),
-            MetricType::UI => slashed_value(self.ui),
-            MetricType::VC => slashed_value(self.vc),
-            MetricType::VI => slashed_value(self.vi),
-            MetricType::VA => slashed_value(self.va),
-            MetricType::SC => slashed_value(self.sc),
-            MetricType::SI => slashed_value(self.si),
-            MetricType::SA => slashed_value(self.sa),
-            MetricType::E => slashed_value(self.e),
-            MetricType::CR => slashed_value(self.cr),
-            MetricType::IR => slashed_value(self.ir),
-            MetricType::AR => slashed_value(self.ar),
-            MetricType::MAV => slashed_value(self.mav),
-            MetricType::MAC => slashed_value(self.mac),
-            MetricType::MAT => slashed_value(self.mat),
-            MetricType::MPR => slashed_value(self.mpr),
-            MetricType::MUI => slashed_value(self.mui),
-            MetricType::MVC => slashed_value(self.mvc),
-            MetricType::MVI => slashed_value(self.mvi),
-            MetricType::MVA => slashed_value(self.mva),
-            MetricType::MSC => slashed_value(self.msc),
-            MetricType::MSI => slashed_value(self.msi),
-            MetricType::MSA => slashed_value(self.msa),
-            MetricType::S => slashed_value(self.s),
-            MetricType::AU => slashed_value(self.au),
-            MetricType::R => slashed_value(self.r),
-            MetricType::V => slashed_value(self.v),
-            MetricType::RE => slashed_value(self.re),
-            MetricType::U => slashed_value(self.u),
+            MetricType::AV => self.slashed_at(kind, self.av),
+            MetricType::AC => self.slashed_at(kind, self.ac),
+            MetricType::AT => self.slashed_at(kind, self.at),
+            MetricType::PR => self.slashed_at(kind, self.pr),
+            MetricType::UI => self.slashed_at(kind, self.ui),
+            MetricType::VC => self.slashed_at(kind, self.vc),
+            MetricType::VI => self.slashed_at(kind, self.vi),
+            MetricType::VA => self.slashed_at(kind, self.va),
+            MetricType::SC => self.slashed_at(kind, self.sc),
+            MetricType::SI => self.slashed_at(kind, self.si),
+            MetricType::SA => self.slashed_at(kind, self.sa),
+            MetricType::E => self.slashed_at(kind, self.e),
+            MetricType::CR => self.slashed_at(kind, self.cr),
+            MetricType::IR => self.slashed_at(kind, self.ir),
+            MetricType::AR => self.slashed_at(kind, self.ar),
+            MetricType::MAV => self.slashed_at(kind, self.mav),
+            MetricType::MAC => self.slashed_at(kind, self.mac),
+            MetricType::MAT => self.slashed_at(kind, self.mat),
+            MetricType::MPR => self.slashed_at(kind, self.mpr),
+            MetricType::MUI => self.slashed_at(kind, self.mui),
+            MetricType::MVC => self.slashed_at(kind, self.mvc),
+            MetricType::MVI => self.slashed_at(kind, self.mvi),
+            MetricType::MVA => self.slashed_at(kind, self.mva),
+            MetricType::MSC => self.slashed_at(kind, self.msc),
+            MetricType::MSI => self.slashed_at(kind, self.msi),
+            MetricType::MSA => self.slashed_at(kind, self.msa),
+            MetricType::S => self.slashed_at(kind, self.s),
+            MetricType::AU => self.slashed_at(kind, self.au),
+            MetricType::R => self.slashed_at(kind, self.r),
+            MetricType::V => self.slashed_at(kind, self.v),
+            MetricType::RE => self.slashed_at(kind, self.re),
+            MetricType::U => self.slashed_at(kind, self.u),
         }
+    }
+}
+
+impl Vector {
+    /// A slash and the component of the value that the vector has for a metric.
+    fn slashed_at<M: Metric>(&self, kind: MetricType, value: Option<M>) -> Option<&'static str>
+        requires kind { kind ≡ M.TYPE }
+        requires value { held v4 self.now M.TYPE
+            ≡ option_map (λ x. spelling_at M.TYPE (M.rank x)) value }
+        ensures { option_copied result ≡ slashed (component_of v4 self.now kind) }
+    {
+        slashed_value(value)
     }
 }
 
