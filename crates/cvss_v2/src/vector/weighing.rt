@@ -1,7 +1,8 @@
 //! What the metrics of a vector weigh, in thousandths.
 
 ghost use Rattle.std.specs.Prelude.{◌≡◌, ◌≤◌, option_map, unwrap_or};
-ghost use Rattle.cvss_v2.specs.Table.{weight_of};
+ghost use Rattle.cvss_v2.specs.Table.{weight_of, absent_weight};
+ghost use Rattle.cvss_v2.specs.Vector.{value_at};
 ghost use Rattle.cvss_v2.specs.Weights.{weight_in};
 ghost use Rattle.cvss_v2.specs.private.Bounds.{greatest_weight};
 
@@ -15,21 +16,35 @@ impl Vector {
         ensures bound { result ≤ 1510 }
     {
         match metric {
-            MetricType::AV => weight(self.av, 0),
-            MetricType::AC => weight(self.ac, 0),
-            MetricType::Au => weight(self.au, 0),
-            MetricType::C => weight(self.c, 0),
-            MetricType::I => weight(self.i, 0),
-            MetricType::A => weight(self.a, 0),
-            MetricType::E => weight(self.e, 1000),
-            MetricType::RL => weight(self.rl, 1000),
-            MetricType::RC => weight(self.rc, 1000),
-            MetricType::CDP => weight(self.cdp, 0),
-            MetricType::TD => weight(self.td, 1000),
-            MetricType::CR => weight(self.cr, 1000),
-            MetricType::IR => weight(self.ir, 1000),
-            MetricType::AR => weight(self.ar, 1000),
+            MetricType::AV => self.weight_at(metric, self.av, 0),
+            MetricType::AC => self.weight_at(metric, self.ac, 0),
+            MetricType::Au => self.weight_at(metric, self.au, 0),
+            MetricType::C => self.weight_at(metric, self.c, 0),
+            MetricType::I => self.weight_at(metric, self.i, 0),
+            MetricType::A => self.weight_at(metric, self.a, 0),
+            MetricType::E => self.weight_at(metric, self.e, 1000),
+            MetricType::RL => self.weight_at(metric, self.rl, 1000),
+            MetricType::RC => self.weight_at(metric, self.rc, 1000),
+            MetricType::CDP => self.weight_at(metric, self.cdp, 0),
+            MetricType::TD => self.weight_at(metric, self.td, 1000),
+            MetricType::CR => self.weight_at(metric, self.cr, 1000),
+            MetricType::IR => self.weight_at(metric, self.ir, 1000),
+            MetricType::AR => self.weight_at(metric, self.ar, 1000),
         }
+    }
+
+    /// The weight of the value that the vector has for a metric, or that of the absent metric.
+    #[inline(always)]
+    fn weight_at<M: Metric>(&self, metric: MetricType, value: Option<M>, absent: u64) -> u64
+        requires metric { metric ≡ M.TYPE }
+        requires value { option_map (weight_of M.TYPE) (value_at self.now M.TYPE)
+            ≡ option_map (λ held. weight_of M.TYPE (M.value held)) value }
+        requires absent { absent ≡ absent_weight M.TYPE }
+        requires least { absent ≤ greatest_weight M.TYPE }
+        ensures weight { result ≡ weight_in self.now metric }
+        ensures bound { result ≤ greatest_weight M.TYPE }
+    {
+        weight(value, absent)
     }
 }
 
