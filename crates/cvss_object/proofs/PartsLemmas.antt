@@ -1,10 +1,10 @@
 -- The text of an array or an object from those of the values in it.
-use Rattle.std.proofs.Common.{◌≡◌, ℕ, ◌≤◌, Bool, true, false, List, [], ◌∷◌, ◌++◌, Some, option_map, option_and_then, refl, sym, ap, ap₂, ◌∙◌, arith, append_assoc, append-nil}
+use Rattle.std.proofs.Common.{◌≡◌, ℕ, ◌≤◌, Bool, true, false, List, [], ◌∷◌, ◌++◌, Some, option_map, option_and_then, refl, sym, ap, ap₂, ◌∙◌, arith, append_assoc}
 use Rattle.json.specs.Json as json
-use Rattle.json.specs.Print.{print, print_from, quoted, token_text}
-use Rattle.json.specs.Token.{Token, end_array, end_object}
+use Rattle.json.specs.Print.{print, print_from, quoted}
+use Rattle.json.specs.Token.{end_array, end_object}
 use Rattle.json.specs.Tree.{ItemsHaveNumbers, MembersHaveNumbers, items_tokens, json_tokens, members_tokens}
-use Rattle.serde_json.specs.Data.{Data, array, object, Items, no_items, item, Members, no_members, member, put, items_depth, members_depth, string}
+use Rattle.serde_json.specs.Data.{Data, array, object, Items, no_items, item, Members, no_members, member, put, items_depth, members_depth}
 use Rattle.serde_json.specs.Read.{max_depth, of_items, of_members}
 use Rattle.serde_json.specs.Written.{blank_items, blank_members, items_outline, members_outline}
 use Rattle.cvss_object.specs.Texts.{IsTextOf}
@@ -111,25 +111,6 @@ IsTextOf-object all text is = text_of (object all) (123 ∷ text) (record {
 }) where
   opened : (members : json.Members) → 123 ∷ print_from false (members_tokens members) ≡ print (json_tokens (json.object members))
   opened members = refl
-
--- ---- one token by itself
-
-pub one_token : (text before : List ℕ) (written : List Token) (t : Token) → text ≡ before ++ print written → before ≡ [] → written ≡ t ∷ []
-    → text ≡ token_text t
-unfolding print_from
-one_token text before written t is none one = is ∙ ap₂ (λ bytes ts. bytes ++ print ts) none one ∙ append-nil (token_text t)
-
-pub IsTextOf-string : (s : List ℕ) → IsTextOf (string s) (quoted s)
-unfolding print_from
-IsTextOf-string s = text_of (string s) (quoted s) (record {
-  json = json.string s;
-  printed = alone s;
-  numbers = tt;
-  reads = λ shallow. refl;
-  outlined = refl;
-}) where
-  alone : (s : List ℕ) → quoted s ≡ print (json_tokens (json.string s))
-  alone s = sym (append-nil (quoted s))
 
 -- ---- one part more behind what has been written
 

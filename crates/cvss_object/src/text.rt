@@ -4,12 +4,11 @@ ghost use Rattle.std.specs.Prelude.{◌≡◌, ◌++◌, [], ◌∷◌, OnOk, if
 ghost use Rattle.cvss_object.specs.Trees.{members_view, tree_view, trees_view};
 ghost use Rattle.cvss_object.specs.private.Pushes.{PushesText};
 ghost use Rattle.json.specs.Print.{quoted};
-ghost use Rattle.serde_json.specs.Data.{array, object, string};
+ghost use Rattle.serde_json.specs.Data.{array, object};
 ghost use Rattle.serde_json.specs.View.{view};
 
 use crate::tree::Tree;
 use cvss_lines::Gathered;
-use json::Writer;
 use serde_json::{Map, Value};
 use std::alloc::{AllocError, Global};
 
@@ -21,7 +20,7 @@ fn push_tree(alloc: Global, tree: &Tree<'_>, answers: &mut Gathered) -> Result<(
     match tree {
         Tree::Own(value) => push_value(alloc, value, answers),
         Tree::Lent(value) => push_value(alloc, value, answers),
-        Tree::Text(text) => push_string(alloc, text, answers),
+        Tree::Text(text) => push_value(alloc, &Value::try_from_str(alloc, text)?, answers),
         Tree::Array(items) => push_items(alloc, items, answers),
         Tree::Object(members) => push_members(alloc, members, answers),
     }
@@ -80,18 +79,9 @@ fn push_name(alloc: Global, name: &str, answers: &mut Gathered) -> Result<(), Al
     ensures { OnOk result (answers.new.bytes.items
         ≡ answers.old.bytes.items ++ (quoted name.now ++ 58 ∷ [])) }
 {
-    let mut writer = Writer::new(Vec::new(alloc));
-    writer.key(name)?;
-    answers.push(&writer.into_inner())
-}
-
-fn push_string(alloc: Global, text: &str, answers: &mut Gathered) -> Result<(), AllocError>
-    ensures { OnOk result (PushesText (string text.now)
-        answers.old.bytes.items answers.new.bytes.items) }
-{
-    let mut writer = Writer::new(Vec::new(alloc));
-    writer.string(text)?;
-    answers.push(&writer.into_inner())
+    let text = Value::try_from_str(alloc, name)?.to_vec(alloc)?;
+    answers.push(&text)?;
+    answers.push(b":")
 }
 
 fn push_value(alloc: Global, value: &Value, answers: &mut Gathered) -> Result<(), AllocError>
