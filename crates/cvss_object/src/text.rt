@@ -1,11 +1,12 @@
 //! The text of a JSON value, behind what waits.
 
-ghost use Rattle.std.specs.Prelude.{◌≡◌, ◌++◌, [], ◌∷◌, OnOk, if◌then◌else◌};
+ghost use Rattle.std.specs.Prelude.{◌≡◌, ◌++◌, [], ◌∷◌, OnOk};
 ghost use Rattle.cvss_object.specs.Trees.{members_view, tree_view, trees_view};
 ghost use Rattle.cvss_object.specs.private.Pushes.{PushesText};
 ghost use Rattle.json.specs.Print.{quoted};
 ghost use Rattle.serde_json.specs.Data.{array, object};
 ghost use Rattle.serde_json.specs.View.{view};
+ghost use Rattle.serde_json.specs.Written.{comma_if};
 
 use crate::tree::Tree;
 use cvss_lines::Gathered;
@@ -58,33 +59,42 @@ pub(crate) fn push_members(
     answers.push(b"{")?;
     let mut later = false;
     for (name, member) in members.iter() {
-        push_comma(later, answers)?;
-        push_name(alloc, name.as_str(), answers)?;
+        push_name(alloc, later, name.as_str(), answers)?;
         push_tree(alloc, member, answers)?;
         later = true;
     }
     answers.push(b"}")
 }
 
-/// Appends a comma, where something stands before.
-fn push_comma(later: bool, answers: &mut Gathered) -> Result<(), AllocError>
+/// Appends a member's name and its colon, behind a comma where something stands before.
+fn push_name(
+    alloc: Global,
+    later: bool,
+    name: &str,
+    answers: &mut Gathered,
+) -> Result<(), AllocError>
     ensures { OnOk result (answers.new.bytes.items
-        ≡ answers.old.bytes.items ++ (if later then 44 ∷ [] else [])) }
+        ≡ answers.old.bytes.items ++ (comma_if later ++ (quoted name.now ++ 58 ∷ []))) }
 {
-    if later { answers.push(b",") } else { Ok(()) }
-}
-
-/// Appends a member's name and its colon.
-fn push_name(alloc: Global, name: &str, answers: &mut Gathered) -> Result<(), AllocError>
-    ensures { OnOk result (answers.new.bytes.items
-        ≡ answers.old.bytes.items ++ (quoted name.now ++ 58 ∷ [])) }
-{
+    push_comma(later, answers)?;
     let text = Value::try_from_str(alloc, name)?.to_vec(alloc)?;
     answers.push(&text)?;
     answers.push(b":")
 }
 
-fn push_value(alloc: Global, value: &Value, answers: &mut Gathered) -> Result<(), AllocError>
+/// Appends a comma, where something stands before.
+fn push_comma(later: bool, answers: &mut Gathered) -> Result<(), AllocError>
+    ensures { OnOk result (answers.new.bytes.items ≡ answers.old.bytes.items ++ comma_if later) }
+{
+    if later { answers.push(b",") } else { Ok(()) }
+}
+
+/// Appends the text of a value.
+pub(crate) fn push_value(
+    alloc: Global,
+    value: &Value,
+    answers: &mut Gathered,
+) -> Result<(), AllocError>
     ensures { OnOk result (PushesText (view value.now)
         answers.old.bytes.items answers.new.bytes.items) }
 {
