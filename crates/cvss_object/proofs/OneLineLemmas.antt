@@ -1,153 +1,139 @@
 -- JSON without spaces is one line: no token's text has a byte 10.
-use Rattle.std.proofs.Common.{◌≡◌, ◌≢◌, ℕ, ◌+◌, zero, suc, ◌<◌, Bool, true, false, not, cond, ◌==◌, ◌&&◌, ◌||◌, List, [], ◌∷◌, ◌++◌, drop, Some, None, All, refl, sym, ◌∙◌, subst, arith, inl, inr}
-use Rattle.std.specs.Prelude.{⊤}
+use Rattle.std.proofs.Common.{◌≡◌, ◌≢◌, ℕ, ◌+◌, suc, Bool, true, false, not, cond, ◌==◌, ◌&&◌, ◌||◌, List, [], ◌∷◌, ◌++◌, drop, Option, Some, None, option_and_then, All, refl, sym, ap, ap₂, ◌∙◌, subst, arith, inl, inr}
 use Rattle.std.specs.Char.{is_ascii_digit}
-use Rattle.std.specs.List.{prefix_len}
-use Rattle.std.proofs.lemmas.Bool.{and_parts, cases_lt, cases_eq, eqb-true, leb-true, or_cases}
-use Rattle.std.proofs.lemmas.List.Elements.{All-nil, All-cons}
-use Rattle.std.proofs.lemmas.Option.{option_and_then_some}
+use Rattle.std.specs.List.{list_all, prefix_len}
+use Rattle.std.proofs.lemmas.Bool.{agree_below_at, and_parts, cases_lt, eqb-true, leb-true, ne_eqb, or_cases}
+use Rattle.std.proofs.lemmas.List.Elements.{All-weaker}
+use Rattle.std.proofs.lemmas.List.Folds.{list_all-append}
+use Rattle.std.proofs.lemmas.List.Sums.{AllPass-from_list_all}
 use Rattle.json.specs.Lex.{tokens}
 use Rattle.json.specs.Print.{ArePrintableOrBad, IsNumber, escape, escape_byte, ends, print, print_from, quoted, separator, token_text, begins, IsPrintableOrBad}
 use Rattle.json.specs.Token.{Token, begin_object, end_object, begin_array, end_array, key, string, number, boolean, null, bad}
-use Rattle.json.specs.Word.{after_digits, after_exponent, after_fraction, after_minus, after_number, after_sign, head}
+use Rattle.json.specs.Word.{after_digits, after_exponent, after_fraction, after_minus, after_number, after_sign, after_whole, head}
 use Rattle.json.proofs.Numbered.{ArePrintableOrBad-tokens}
 use Rattle.json.proofs.Printed.Strings.{escape_byte_plain}
 
--- none of the bytes is 10
-abbrev Clean : List ℕ → Type 0
-Clean [] = ⊤
-Clean (x ∷ xs) = (x ≢ 10) × Clean xs
+abbrev differs : ℕ → Bool
+differs byte = not (byte == 10)
 
-all_clean : (xs : List ℕ) → Clean xs → All (λ byte. byte ≢ 10) xs
-all_clean [] clean = All-nil (λ byte. byte ≢ 10)
-all_clean (x ∷ xs) clean = All-cons (λ byte. byte ≢ 10) x xs clean.0 (all_clean xs clean.1)
+-- whether none of the bytes is 10
+abbrev clean : List ℕ → Bool
+clean = list_all differs
 
-clean-append : (xs ys : List ℕ) → Clean xs → Clean ys → Clean (xs ++ ys)
-clean-append [] ys p q = q
-clean-append (x ∷ xs) ys p q = (p.0, clean-append xs ys p.1 q)
+clean-append : (xs ys : List ℕ) → clean xs ≡ true → clean ys ≡ true → clean (xs ++ ys) ≡ true
+clean-append xs ys p q = list_all-append differs xs ys ∙ ap₂ (λ a b. a && b) p q
 
--- a first byte that is passed over
-behind_first : (b : Bool) (t : List ℕ) → (b ≡ true → head t ≢ 10) → Clean (cond b (drop 1 t) t) → Clean t
-behind_first b [] differs clean = tt
-behind_first true (x ∷ xs) differs clean = (differs refl, clean)
-behind_first false (x ∷ xs) differs clean = clean
+-- ---- numbers, whose parts are cut off one after the other
 
-digit_differs : (x : ℕ) → is_ascii_digit x ≡ true → x ≢ 10
-digit_differs x digit is = absurd (omega (arith, leb-true 48 x (and_parts _ _ digit).0, is))
+-- a byte that is passed over
+one : (c : ℕ) (t : List ℕ) → differs c ≡ true → (head t == c) ≡ true → clean (drop 1 t) ≡ true → clean t ≡ true
+one c [] other is rest = refl
+one c (x ∷ xs) other is rest = ap₂ (λ a b. a && b) (ap differs (eqb-true x c is) ∙ other) rest
 
-one_more : (n : ℕ) → 1 + n ≡ suc n
-one_more n = omega arith
-
-digits_step : (b : Bool) (x n : ℕ) (xs : List ℕ) → (b ≡ true → x ≢ 10) → (Clean (drop n xs) → Clean xs)
-    → Clean (drop (cond b (1 + n) 0) (x ∷ xs)) → Clean (x ∷ xs)
-digits_step true x n xs differs rest clean = (differs refl, rest (subst (λ count. Clean (drop count (x ∷ xs))) (one_more n) clean))
-digits_step false x n xs differs rest clean = clean
-
-behind_digits : (t : List ℕ) → Clean (drop (prefix_len is_ascii_digit t) t) → Clean t
-behind_digits [] clean = tt
-behind_digits (x ∷ xs) clean = digits_step (is_ascii_digit x) x (prefix_len is_ascii_digit xs) xs (digit_differs x) (behind_digits xs) clean
-
--- bytes that end where a part of a number ends are clean, if what follows is
-some_cond : (b : Bool) (t r : List ℕ) → cond b None (Some t) ≡ Some r → t ≡ r
-some_cond true t r is = absurd cc
-some_cond false t r is = cc
-
-digits_clean : (t r : List ℕ) → after_digits t ≡ Some r → Clean r → Clean t
-digits_clean t r is clean = behind_digits t (subst Clean (sym (some_cond _ _ r is)) clean)
-
-whole_step : (b : Bool) (t r : List ℕ) → (b ≡ true → head t ≢ 10) → cond b (Some (drop 1 t)) (after_digits t) ≡ Some r → Clean r → Clean t
-whole_step true t r differs is clean = behind_first true t differs (subst Clean (sym cc) clean)
-whole_step false t r differs is clean = digits_clean t r is clean
-
-fraction_step : (b : Bool) (t r : List ℕ) → (b ≡ true → head t ≢ 10) → cond b (after_digits (drop 1 t)) (Some t) ≡ Some r → Clean r → Clean t
-fraction_step true t r differs is clean = behind_first true t differs (digits_clean (drop 1 t) r is clean)
-fraction_step false t r differs is clean = subst Clean (sym cc) clean
-
-either_differs : (x a b : ℕ) → a ≢ 10 → b ≢ 10 → ((x == a) || (x == b)) ≡ true → x ≢ 10
-either_differs x a b first second is same = elim (or_cases (x == a) (x == b) is) [
-  | inl here ↦ first (sym (eqb-true x a here) ∙ same)
-  | inr there ↦ second (sym (eqb-true x b there) ∙ same)
+either : (a b : ℕ) (t : List ℕ) → differs a ≡ true → differs b ≡ true → ((head t == a) || (head t == b)) ≡ true → clean (drop 1 t) ≡ true → clean t ≡ true
+either a b t first second is rest = elim (or_cases (head t == a) (head t == b) is) [
+  | inl here ↦ one a t first here rest
+  | inr there ↦ one b t second there rest
 ]
 
-exponent_step : (b : Bool) (t r : List ℕ) → (b ≡ true → head t ≢ 10) → cond b (after_digits (after_sign (drop 1 t))) (Some t) ≡ Some r → Clean r → Clean t
-exponent_step true t r differs is clean =
-    behind_first true t differs
-    (behind_first _ (drop 1 t) (either_differs (head (drop 1 t)) 45 43 (λ is. absurd cc) (λ is. absurd cc)) (digits_clean (after_sign (drop 1 t)) r is clean))
-exponent_step false t r differs is clean = subst Clean (sym cc) clean
+optional : (b : Bool) (t : List ℕ) → (b ≡ true → clean (drop 1 t) ≡ true → clean t ≡ true) → clean (cond b (drop 1 t) t) ≡ true → clean t ≡ true
+optional true t passed rest = passed refl rest
+optional false t passed rest = rest
 
-is_differs : (x a : ℕ) → a ≢ 10 → (x == a) ≡ true → x ≢ 10
-is_differs x a other is same = other (sym (eqb-true x a is) ∙ same)
+digit_differs : (x : ℕ) → is_ascii_digit x ≡ true → differs x ≡ true
+digit_differs x digit = ap not (ne_eqb x 10 (λ is. omega (arith, leb-true 48 x (and_parts _ _ digit).0)))
 
-number_clean : (s : List ℕ) → IsNumber s → Clean s
+digits_step : (b : Bool) (x n : ℕ) (xs : List ℕ) → (b ≡ true → differs x ≡ true) → (clean (drop n xs) ≡ true → clean xs ≡ true)
+    → clean (drop (cond b (1 + n) 0) (x ∷ xs)) ≡ true → clean (x ∷ xs) ≡ true
+digits_step true x n xs other more rest =
+    let next : 1 + n ≡ suc n = omega arith in
+    ap₂ (λ a b. a && b) (other refl) (more (ap (λ count. clean (drop count (x ∷ xs))) (sym next) ∙ rest))
+digits_step false x n xs other more rest = rest
+
+behind_digits : (t : List ℕ) → clean (drop (prefix_len is_ascii_digit t) t) ≡ true → clean t ≡ true
+behind_digits [] rest = refl
+behind_digits (x ∷ xs) rest = digits_step (is_ascii_digit x) x (prefix_len is_ascii_digit xs) xs (digit_differs x) (behind_digits xs) rest
+
+-- there is such a part, and what it leaves is clean
+abbrev Leaves : Option (List ℕ) → Type 0
+Leaves None = ⊥
+Leaves (Some rest) = clean rest ≡ true
+
+by_test : (b : Bool) (x y : Option (List ℕ)) (P : Type 0) → (b ≡ true → Leaves x → P) → (Leaves y → P) → Leaves (cond b x y) → P
+by_test true x y P first second = first refl
+by_test false x y P first second = second
+
+digits : (t : List ℕ) → Leaves (after_digits t) → clean t ≡ true
+digits t = by_test (prefix_len is_ascii_digit t == 0) None _ _ (λ none rest. absurd rest) (behind_digits t)
+
+whole : (t : List ℕ) → Leaves (after_whole t) → clean t ≡ true
+whole t = by_test (head t == 48) (Some (drop 1 t)) _ _ (one 48 t refl) (digits t)
+
+fraction : (t : List ℕ) → Leaves (after_fraction t) → clean t ≡ true
+fraction t = by_test (head t == 46) _ (Some t) _ (λ is rest. one 46 t refl is (digits (drop 1 t) rest)) (λ rest. rest)
+
+exponent : (t : List ℕ) → Leaves (after_exponent t) → clean t ≡ true
+exponent t =
+    let u = drop 1 t in
+    by_test ((head t == 101) || (head t == 69)) _ (Some t) _
+    (λ is rest. either 101 69 t refl refl is (optional _ u (either 45 43 u refl refl) (digits (after_sign u) rest))) (λ rest. rest)
+
+before : (f : List ℕ → Option (List ℕ)) → ((t : List ℕ) → Leaves (f t) → clean t ≡ true) → (o : Option (List ℕ)) → Leaves (option_and_then f o) → Leaves o
+before f part None rest = rest
+before f part (Some t) rest = part t rest
+
+number_clean : (s : List ℕ) → IsNumber s → clean s ≡ true
 unfolding after_number
 number_clean s is =
-    option_and_then_some after_exponent _ [] is (λ behind_fraction fraction exponent.
-    option_and_then_some after_fraction _ behind_fraction fraction (λ behind_whole whole fraction.
-    behind_first _ s (is_differs (head s) 45 (λ is. absurd cc))
-    (whole_step _ (after_minus s) behind_whole (is_differs (head (after_minus s)) 48 (λ is. absurd cc)) whole
-    (fraction_step _ behind_whole behind_fraction (is_differs (head behind_whole) 46 (λ is. absurd cc)) fraction
-    (exponent_step _ behind_fraction [] (either_differs (head behind_fraction) 101 69 (λ is. absurd cc) (λ is. absurd cc)) exponent tt)))))
+    optional (head s == 45) s (one 45 s refl)
+    (whole (after_minus s) (before after_fraction fraction _ (before after_exponent exponent _ (subst Leaves (sym is) refl))))
 
--- the escapes of the bytes below n are clean
-abbrev are_clean : List ℕ → Bool
-are_clean [] = true
-are_clean (x ∷ xs) = not (x == 10) && are_clean xs
+-- ---- strings
 
-clean_of : (xs : List ℕ) → are_clean xs ≡ true → Clean xs
-clean_of [] is = tt
-clean_of (x ∷ xs) is = let both = and_parts _ _ is in (λ same. absurd (subst (λ y. not (y == 10) ≡ true → ⊥) (sym same) (λ no. cc) both.0), clean_of xs both.1)
-
-abbrev escapes_below : ℕ → Bool
-escapes_below zero = true
-escapes_below (suc n) = are_clean (escape_byte n) && escapes_below n
-
-escape_below : (n : ℕ) → escapes_below n ≡ true → (x : ℕ) → x < n → Clean (escape_byte x)
-escape_below zero is x below = absurd (omega arith)
-escape_below (suc n) is x below =
-    let both = and_parts _ _ is in
-    elim (cases_eq x n) [ inl same ↦ rw same (clean_of (escape_byte n) both.0) | inr other ↦ escape_below n both.1 x (omega arith) ]
-
-ascii_escapes : escapes_below 128 ≡ true
+escape_byte-clean : (x : ℕ) → clean (escape_byte x) ≡ true
 unfolding escape_byte
-ascii_escapes = refl
-
-escape_byte-clean : (x : ℕ) → Clean (escape_byte x)
 escape_byte-clean x = elim (cases_lt x 128) [
-  | inl ascii ↦ escape_below 128 ascii_escapes x ascii
-  | inr above ↦ subst Clean (sym (escape_byte_plain x (λ is. omega arith) (λ is. omega arith) (omega arith))) (λ is. omega arith, tt)
+  | inl ascii ↦ agree_below_at (λ y. clean (escape_byte y)) (λ y. true) 128 x refl ascii
+  | inr above ↦
+      ap clean (escape_byte_plain x (λ is. omega arith) (λ is. omega arith) (omega arith))
+      ∙ ap (λ b. not b && true) (ne_eqb x 10 (λ is. omega arith))
 ]
 
-escape-clean : (s : List ℕ) → Clean (escape s)
-escape-clean [] = tt
+escape-clean : (s : List ℕ) → clean (escape s) ≡ true
+escape-clean [] = refl
 escape-clean (x ∷ xs) = clean-append (escape_byte x) (escape xs) (escape_byte-clean x) (escape-clean xs)
 
-quoted-clean : (s : List ℕ) → Clean (quoted s)
-quoted-clean s = (λ is. absurd cc, clean-append (escape s) (34 ∷ []) (escape-clean s) (λ is. absurd cc, tt))
+quoted-clean : (s : List ℕ) → clean (quoted s) ≡ true
+quoted-clean s = clean-append (escape s) (34 ∷ []) (escape-clean s) refl
 
-token-clean : (t : Token) → IsPrintableOrBad t → Clean (token_text t)
-token-clean begin_object is = clean_of (token_text begin_object) refl
-token-clean end_object is = clean_of (token_text end_object) refl
-token-clean begin_array is = clean_of (token_text begin_array) refl
-token-clean end_array is = clean_of (token_text end_array) refl
-token-clean (key s) is = clean-append (quoted s) (58 ∷ []) (quoted-clean s) (clean_of (58 ∷ []) refl)
+-- ---- tokens
+
+token-clean : (t : Token) → IsPrintableOrBad t → clean (token_text t) ≡ true
+token-clean begin_object is = refl
+token-clean end_object is = refl
+token-clean begin_array is = refl
+token-clean end_array is = refl
+token-clean (key s) is = clean-append (quoted s) (58 ∷ []) (quoted-clean s) refl
 token-clean (string s) is = quoted-clean s
 token-clean (number s) is = number_clean s is
-token-clean (boolean true) is = clean_of (token_text (boolean true)) refl
-token-clean (boolean false) is = clean_of (token_text (boolean false)) refl
-token-clean null is = clean_of (token_text null) refl
-token-clean bad is = tt
+token-clean (boolean true) is = refl
+token-clean (boolean false) is = refl
+token-clean null is = refl
+token-clean bad is = refl
 
-separator-clean : (b : Bool) → Clean (cond b (44 ∷ []) [])
-separator-clean true = clean_of (44 ∷ []) refl
-separator-clean false = tt
+separator-clean : (b : Bool) → clean (cond b (44 ∷ []) []) ≡ true
+separator-clean true = refl
+separator-clean false = refl
 
-print-clean : (after_value : Bool) (ts : List Token) → ArePrintableOrBad ts → Clean (print_from after_value ts)
+print-clean : (after_value : Bool) (ts : List Token) → ArePrintableOrBad ts → clean (print_from after_value ts) ≡ true
 unfolding print_from
-print-clean after_value [] are = tt
+print-clean after_value [] are = refl
 print-clean after_value (t ∷ ts) are =
     clean-append (separator after_value t) (token_text t ++ print_from (ends t) ts) (separator-clean (after_value && begins t))
     (clean-append (token_text t) (print_from (ends t) ts) (token-clean t are.0) (print-clean (ends t) ts are.1))
 
 -- a text without spaces is one line
 pub one_line : (text : List ℕ) → text ≡ print (tokens text) → All (λ byte. byte ≢ 10) text
-one_line text is = all_clean text (subst Clean (sym is) (print-clean false (tokens text) (ArePrintableOrBad-tokens text)))
+one_line text is =
+    All-weaker (λ byte. differs byte ≡ true) (λ byte. byte ≢ 10) (λ byte other same. absurd (subst (λ y. differs y ≡ true → ⊥) (sym same) (λ no. cc) other)) text
+    (AllPass-from_list_all differs text (ap clean is ∙ print-clean false (tokens text) (ArePrintableOrBad-tokens text)))

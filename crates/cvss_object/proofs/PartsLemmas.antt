@@ -1,14 +1,14 @@
 -- The text of an array or an object from those of the values in it.
-use Rattle.std.proofs.Common.{◌≡◌, ℕ, ◌≤◌, Bool, true, false, List, [], ◌∷◌, ◌++◌, Some, option_map, option_and_then, refl, sym, ap, ap₂, ◌∙◌, arith, append_assoc, append-nil}
+use Rattle.std.proofs.Common.{◌≡◌, ℕ, ◌≤◌, Bool, true, false, List, [], ◌∷◌, ◌++◌, Some, option_map, option_and_then, refl, sym, ap, ap₂, ◌∙◌, subst, arith, append_assoc}
 use Rattle.json.specs.Json as json
-use Rattle.json.specs.Print.{print, print_from, quoted, token_text}
-use Rattle.json.specs.Token.{Token, end_array, end_object}
-use Rattle.json.specs.Tree.{ItemsHaveNumbers, MembersHaveNumbers, items_tokens, json_tokens, members_tokens}
-use Rattle.serde_json.specs.Data.{Data, array, object, Items, no_items, item, Members, no_members, member, put, items_depth, members_depth, string}
+use Rattle.json.specs.Print.{print_from, quoted}
+use Rattle.json.specs.Tree.{ItemsHaveNumbers, MembersHaveNumbers, items_tokens, members_tokens}
+use Rattle.serde_json.specs.Data.{Data, array, object, Items, no_items, item, Members, no_members, member, put, items_depth, members_depth}
 use Rattle.serde_json.specs.Read.{max_depth, of_items, of_members}
-use Rattle.serde_json.specs.Written.{blank_items, blank_members, items_outline, members_outline}
+use Rattle.serde_json.specs.Written.{blank_items, blank_members, comma_if, items_outline, members_outline}
 use Rattle.cvss_object.specs.Texts.{IsTextOf}
-use Rattle.cvss_object.proofs.PrintsLemmas.{comma, print_before, print_key, print_of, text_of}
+use Rattle.cvss_object.specs.private.Pushes.{PushesText}
+use Rattle.cvss_object.proofs.PrintsLemmas.{print_before, print_member, print_of, text_of}
 
 -- ---- arrays
 
@@ -24,22 +24,19 @@ pub IsItemsText-end : (later : Bool) → IsItemsText later no_items (93 ∷ [])
 unfolding print_from
 IsItemsText-end later = record {
   items = json.no_items;
-  printed = closed later;
+  printed = elim later as (λ b. 93 ∷ [] ≡ print_from b (items_tokens json.no_items)) [ true ↦ refl | false ↦ refl ];
   numbers = tt;
   reads = λ shallow. refl;
   outlined = refl;
-} where
-  closed : (later : Bool) → 93 ∷ [] ≡ print_from later (end_array ∷ [])
-  closed true = refl
-  closed false = refl
+}
 
 pub IsItemsText-more : (later : Bool) (value : Data) (left : Items) (text rest : List ℕ) → IsTextOf value text → IsItemsText true left rest
-    → IsItemsText later (item value left) (comma later ++ (text ++ rest))
+    → IsItemsText later (item value left) (comma_if later ++ (text ++ rest))
 IsItemsText-more later value left text rest is more =
     let first = print_of value text is in
     record {
       items = json.item first.json more.items;
-      printed = ap₂ (λ front back. comma later ++ (front ++ back)) first.printed more.printed ∙ sym (print_before later first.json (items_tokens more.items));
+      printed = ap₂ (λ front back. comma_if later ++ (front ++ back)) first.printed more.printed ∙ sym (print_before later first.json (items_tokens more.items));
       numbers = (first.numbers, more.numbers);
       reads = λ shallow.
           ap (option_and_then (λ d. option_map (item d) (of_items more.items))) (first.reads (omega (arith, shallow)))
@@ -51,13 +48,11 @@ pub IsTextOf-array : (values : Items) (text : List ℕ) → IsItemsText false va
 unfolding print_from
 IsTextOf-array values text is = text_of (array values) (91 ∷ text) (record {
   json = json.array is.items;
-  printed = ap (λ rest. 91 ∷ rest) is.printed ∙ opened is.items;
+  printed = ap (λ rest. 91 ∷ rest) is.printed;
   numbers = is.numbers;
   reads = λ shallow. ap (option_map array) (is.reads (omega (arith, shallow)));
   outlined = ap json.array is.outlined;
-}) where
-  opened : (items : json.Items) → 91 ∷ print_from false (items_tokens items) ≡ print (json_tokens (json.array items))
-  opened items = refl
+})
 
 -- ---- objects
 
@@ -73,26 +68,21 @@ pub IsMembersText-end : (later : Bool) (all : Members) → IsMembersText later a
 unfolding print_from
 IsMembersText-end later all = record {
   members = json.no_members;
-  printed = closed later;
+  printed = elim later as (λ b. 125 ∷ [] ≡ print_from b (members_tokens json.no_members)) [ true ↦ refl | false ↦ refl ];
   numbers = tt;
   reads = λ shallow. refl;
   outlined = refl;
-} where
-  closed : (later : Bool) → 125 ∷ [] ≡ print_from later (end_object ∷ [])
-  closed true = refl
-  closed false = refl
+}
 
 pub IsMembersText-more : (later : Bool) (all found : Members) (name : List ℕ) (value : Data) (left : Members) (text rest : List ℕ) → IsTextOf value text
     → IsMembersText true all (put name value found) left rest
-    → IsMembersText later all found (member name value left) (comma later ++ ((quoted name ++ 58 ∷ []) ++ (text ++ rest)))
+    → IsMembersText later all found (member name value left) ((comma_if later ++ (quoted name ++ 58 ∷ [])) ++ (text ++ rest))
 IsMembersText-more later all found name value left text rest is more =
     let first = print_of value text is in
+    let named = comma_if later ++ (quoted name ++ 58 ∷ []) in
     record {
       members = json.member name first.json more.members;
-      printed =
-          ap₂ (λ front back. comma later ++ ((quoted name ++ 58 ∷ []) ++ (front ++ back))) first.printed more.printed
-          ∙ ap (λ back. comma later ++ ((quoted name ++ 58 ∷ []) ++ back)) (sym (print_before false first.json (members_tokens more.members)))
-          ∙ sym (print_key later name (json_tokens first.json ++ members_tokens more.members));
+      printed = ap₂ (λ front back. named ++ (front ++ back)) first.printed more.printed ∙ sym (print_member later name first.json (members_tokens more.members));
       numbers = (first.numbers, more.numbers);
       reads = λ shallow.
           ap (option_and_then (λ d. of_members more.members (put name d found))) (first.reads (omega (arith, shallow)))
@@ -104,45 +94,27 @@ pub IsTextOf-object : (all : Members) (text : List ℕ) → IsMembersText false 
 unfolding print_from
 IsTextOf-object all text is = text_of (object all) (123 ∷ text) (record {
   json = json.object is.members;
-  printed = ap (λ rest. 123 ∷ rest) is.printed ∙ opened is.members;
+  printed = ap (λ rest. 123 ∷ rest) is.printed;
   numbers = is.numbers;
   reads = λ shallow. ap (option_map object) (is.reads (omega (arith, shallow)));
   outlined = ap json.object is.outlined;
-}) where
-  opened : (members : json.Members) → 123 ∷ print_from false (members_tokens members) ≡ print (json_tokens (json.object members))
-  opened members = refl
+})
 
--- ---- one token by itself
+-- ---- behind what has been written
 
-pub one_token : (text before : List ℕ) (written : List Token) (t : Token) → text ≡ before ++ print written → before ≡ [] → written ≡ t ∷ []
-    → text ≡ token_text t
-unfolding print_from
-one_token text before written t is none one = is ∙ ap₂ (λ bytes ts. bytes ++ print ts) none one ∙ append-nil (token_text t)
+-- an opening bracket
+pub opened : (value : Data) (bracket : ℕ) (rest old new : List ℕ) → new ≡ old ++ bracket ∷ [] → IsTextOf value (bracket ∷ rest) → PushesText value old (new ++ rest)
+opened value bracket rest old new is text = record {
+  text = bracket ∷ rest;
+  is_text = text;
+  written = ap (λ bytes. bytes ++ rest) is ∙ append_assoc old (bracket ∷ []) rest;
+}
 
-pub IsTextOf-string : (s : List ℕ) → IsTextOf (string s) (quoted s)
-unfolding print_from
-IsTextOf-string s = text_of (string s) (quoted s) (record {
-  json = json.string s;
-  printed = alone s;
-  numbers = tt;
-  reads = λ shallow. refl;
-  outlined = refl;
-}) where
-  alone : (s : List ℕ) → quoted s ≡ print (json_tokens (json.string s))
-  alone s = sym (append-nil (quoted s))
-
--- ---- one part more behind what has been written
-
-pub one_more : (begun front text rest : List ℕ) → (begun ++ (front ++ text)) ++ rest ≡ begun ++ (front ++ (text ++ rest))
-one_more begun front text rest = append_assoc begun (front ++ text) rest ∙ ap (λ bytes. begun ++ bytes) (append_assoc front text rest)
-
-pub one_named : (begun front name text rest : List ℕ) → (begun ++ (front ++ (name ++ text))) ++ rest ≡ begun ++ (front ++ (name ++ (text ++ rest)))
-one_named begun front name text rest =
-    one_more begun front (name ++ text) rest ∙ ap (λ bytes. begun ++ (front ++ bytes)) (append_assoc name text rest)
-
-pub written_more : (old waits begun front text middle new : List ℕ) → waits ≡ old ++ begun → middle ≡ waits ++ front → new ≡ middle ++ text
-    → new ≡ old ++ (begun ++ (front ++ text))
-written_more old waits begun front text middle new before comma last =
-    last ∙ ap (λ bytes. bytes ++ text) (comma ∙ ap (λ bytes. bytes ++ front) before)
-    ∙ ap (λ bytes. bytes ++ text) (append_assoc old begun front) ∙ append_assoc old (begun ++ front) text
-    ∙ ap (λ bytes. old ++ bytes) (append_assoc begun front text)
+-- a value, and what stands before it
+pub more : (whole : Data) (begun old front rest : List ℕ) {value : Data} {middle new : List ℕ} → middle ≡ old ++ front → (pushed : PushesText value middle new)
+    → PushesText whole begun (old ++ (front ++ (pushed.text ++ rest))) → PushesText whole begun (new ++ rest)
+more whole begun old front rest {new = new} before pushed ends =
+    let parts : new ++ rest ≡ old ++ (front ++ (pushed.text ++ rest)) =
+    ap (λ bytes. bytes ++ rest) (pushed.written ∙ ap (λ bytes. bytes ++ pushed.text) before)
+    ∙ append_assoc (old ++ front) pushed.text rest ∙ append_assoc old front (pushed.text ++ rest) in
+    subst (PushesText whole begun) (sym parts) ends

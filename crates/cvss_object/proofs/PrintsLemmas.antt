@@ -1,5 +1,5 @@
 -- A text of a value, and the JSON that it is printed from.
-use Rattle.std.proofs.Common.{◌≡◌, ℕ, ◌≤◌, Bool, true, false, cond, List, [], ◌∷◌, ◌++◌, fold, Some, option_and_then, refl, sym, ap, ap₂, ◌∙◌, arith, append_assoc, append-nil}
+use Rattle.std.proofs.Common.{◌≡◌, ℕ, ◌≤◌, Bool, true, false, List, [], ◌∷◌, ◌++◌, fold, Some, option_and_then, refl, sym, ap, ap₂, ◌∙◌, arith, append_assoc, append-nil}
 use Rattle.std.proofs.lemmas.List.Sums.{fold-append}
 use Rattle.json.proofs.Numbered.{ArePrintableOrBad-tokens, value-HasNumbers}
 use Rattle.json.proofs.Printed.Tokens.{print_from-append, tokens-print}
@@ -12,7 +12,7 @@ use Rattle.json.specs.Tree as tree
 use Rattle.json.specs.Tree.{HasNumbers, ItemsHaveNumbers, MembersHaveNumbers, items_tokens, json_tokens, members_tokens}
 use Rattle.serde_json.specs.Data.{Data, array, object, Items, no_items, item, Members, no_members, member, depth, items_depth, members_depth, null, boolean, number, string}
 use Rattle.serde_json.specs.Read.{max_depth, of_json, read}
-use Rattle.serde_json.specs.Written.{blank, blank_items, blank_members, items_outline, members_outline, outline}
+use Rattle.serde_json.specs.Written.{blank, blank_items, blank_members, comma_if, items_outline, members_outline, outline}
 use Rattle.cvss_object.specs.Texts.{IsTextOf}
 use Rattle.cvss_object.proofs.OneLineLemmas.{one_line}
 
@@ -121,11 +121,7 @@ mutual
   ended-members b (json.member k j ms) =
       fold-append (λ _ t. ends t) false (json_tokens j) (members_tokens ms) ∙ ended-members (ended false (json_tokens j)) ms
 
--- a comma, where a value stands before
-abbrev pub comma : Bool → List ℕ
-comma later = cond later (44 ∷ []) []
-
-print_later : (later : Bool) (j : json.Json) → print_from later (json_tokens j) ≡ comma later ++ print (json_tokens j)
+print_later : (later : Bool) (j : json.Json) → print_from later (json_tokens j) ≡ comma_if later ++ print (json_tokens j)
 unfolding print_from
 print_later true json.null = refl
 print_later true (json.boolean x) = refl
@@ -136,14 +132,14 @@ print_later true (json.object ms) = refl
 print_later false j = refl
 
 pub print_before : (later : Bool) (j : json.Json) (after : List Token)
-    → print_from later (json_tokens j ++ after) ≡ comma later ++ (print (json_tokens j) ++ print_from true after)
+    → print_from later (json_tokens j ++ after) ≡ comma_if later ++ (print (json_tokens j) ++ print_from true after)
 print_before later j after =
     print_from-append later (json_tokens j) after
     ∙ ap₂ (λ front b. front ++ print_from b after) (print_later later j) (ended-json later j)
-    ∙ append_assoc (comma later) (print (json_tokens j)) (print_from true after)
+    ∙ append_assoc (comma_if later) (print (json_tokens j)) (print_from true after)
 
-pub print_key : (later : Bool) (k : List ℕ) (after : List Token)
-    → print_from later (key k ∷ after) ≡ comma later ++ ((quoted k ++ 58 ∷ []) ++ print_from false after)
+pub print_member : (later : Bool) (k : List ℕ) (j : json.Json) (after : List Token)
+    → print_from later (key k ∷ (json_tokens j ++ after)) ≡ (comma_if later ++ (quoted k ++ 58 ∷ [])) ++ (print (json_tokens j) ++ print_from true after)
 unfolding print_from
-print_key true k after = refl
-print_key false k after = refl
+print_member true k j after = ap (λ back. 44 ∷ ((quoted k ++ 58 ∷ []) ++ back)) (print_before false j after)
+print_member false k j after = ap (λ back. (quoted k ++ 58 ∷ []) ++ back) (print_before false j after)

@@ -1,15 +1,15 @@
 //! The text of a JSON value, behind what waits.
 
-ghost use Rattle.std.specs.Prelude.{◌≡◌, ◌++◌, [], ◌∷◌, OnOk, if◌then◌else◌};
+ghost use Rattle.std.specs.Prelude.{◌≡◌, ◌++◌, [], ◌∷◌, OnOk};
 ghost use Rattle.cvss_object.specs.Trees.{members_view, tree_view, trees_view};
 ghost use Rattle.cvss_object.specs.private.Pushes.{PushesText};
 ghost use Rattle.json.specs.Print.{quoted};
-ghost use Rattle.serde_json.specs.Data.{array, object, string};
+ghost use Rattle.serde_json.specs.Data.{array, object};
 ghost use Rattle.serde_json.specs.View.{view};
+ghost use Rattle.serde_json.specs.Written.{comma_if};
 
 use crate::tree::Tree;
 use cvss_lines::Gathered;
-use json::Writer;
 use serde_json::{Map, Value};
 use std::alloc::{AllocError, Global};
 
@@ -21,7 +21,7 @@ fn push_tree(alloc: Global, tree: &Tree<'_>, answers: &mut Gathered) -> Result<(
     match tree {
         Tree::Own(value) => push_value(alloc, value, answers),
         Tree::Lent(value) => push_value(alloc, value, answers),
-        Tree::Text(text) => push_string(alloc, text, answers),
+        Tree::Text(text) => push_value(alloc, &Value::try_from_str(alloc, text)?, answers),
         Tree::Array(items) => push_items(alloc, items, answers),
         Tree::Object(members) => push_members(alloc, members, answers),
     }
@@ -59,42 +59,42 @@ pub(crate) fn push_members(
     answers.push(b"{")?;
     let mut later = false;
     for (name, member) in members.iter() {
-        push_comma(later, answers)?;
-        push_name(alloc, name.as_str(), answers)?;
+        push_name(alloc, later, name.as_str(), answers)?;
         push_tree(alloc, member, answers)?;
         later = true;
     }
     answers.push(b"}")
 }
 
+/// Appends a member's name and its colon, behind a comma where something stands before.
+fn push_name(
+    alloc: Global,
+    later: bool,
+    name: &str,
+    answers: &mut Gathered,
+) -> Result<(), AllocError>
+    ensures { OnOk result (answers.new.bytes.items
+        ≡ answers.old.bytes.items ++ (comma_if later ++ (quoted name.now ++ 58 ∷ []))) }
+{
+    push_comma(later, answers)?;
+    let text = Value::try_from_str(alloc, name)?.to_vec(alloc)?;
+    answers.push(&text)?;
+    answers.push(b":")
+}
+
 /// Appends a comma, where something stands before.
 fn push_comma(later: bool, answers: &mut Gathered) -> Result<(), AllocError>
-    ensures { OnOk result (answers.new.bytes.items
-        ≡ answers.old.bytes.items ++ (if later then 44 ∷ [] else [])) }
+    ensures { OnOk result (answers.new.bytes.items ≡ answers.old.bytes.items ++ comma_if later) }
 {
     if later { answers.push(b",") } else { Ok(()) }
 }
 
-/// Appends a member's name and its colon.
-fn push_name(alloc: Global, name: &str, answers: &mut Gathered) -> Result<(), AllocError>
-    ensures { OnOk result (answers.new.bytes.items
-        ≡ answers.old.bytes.items ++ (quoted name.now ++ 58 ∷ [])) }
-{
-    let mut writer = Writer::new(Vec::new(alloc));
-    writer.key(name)?;
-    answers.push(&writer.into_inner())
-}
-
-fn push_string(alloc: Global, text: &str, answers: &mut Gathered) -> Result<(), AllocError>
-    ensures { OnOk result (PushesText (string text.now)
-        answers.old.bytes.items answers.new.bytes.items) }
-{
-    let mut writer = Writer::new(Vec::new(alloc));
-    writer.string(text)?;
-    answers.push(&writer.into_inner())
-}
-
-fn push_value(alloc: Global, value: &Value, answers: &mut Gathered) -> Result<(), AllocError>
+/// Appends the text of a value.
+pub(crate) fn push_value(
+    alloc: Global,
+    value: &Value,
+    answers: &mut Gathered,
+) -> Result<(), AllocError>
     ensures { OnOk result (PushesText (view value.now)
         answers.old.bytes.items answers.new.bytes.items) }
 {

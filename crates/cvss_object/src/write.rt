@@ -6,7 +6,7 @@ ghost use Rattle.cvss_object.specs.Trees as trees;
 ghost use Rattle.serde_json.specs.Data.{object};
 ghost use Rattle.serde_json.specs.View.{members_view};
 
-use crate::text::push_members;
+use crate::text::{push_members, push_value};
 use crate::tree::Tree;
 use cvss_lines::Gathered;
 use serde_json::{Map, Value};
@@ -25,8 +25,7 @@ pub fn write_object(
     ensures { OnOk result (WritesObject (object (members_view members.entries))
         answers.old.bytes.items answers.new.bytes.items) }
 {
-    let text = Value::Object(members).to_vec(alloc)?;
-    answers.push(&text)?;
+    push_value(alloc, &Value::Object(members), answers)?;
     answers.push(b"\n")
 }
 
