@@ -23,11 +23,11 @@ abbrev pub error : Exact
 error = 1 over 1_000_000
 
 -- whether x is close to n, and n where that is asked for
-unfoldable is_near : Bool → Exact → Exact → Bool
+unfoldable pub is_near : Bool → Exact → Exact → Bool
 is_near changed x n =
     is_at_most x (n ⊕ half) && (is_at_most n (x ⊕ half) && (changed || (is_at_most x n && is_at_most n x)))
 
-near_if : (changed : Bool) (x n : Exact) → is_near changed x n ≡ true → Approximates changed x n
+pub near_if : (changed : Bool) (x n : Exact) → is_near changed x n ≡ true → Approximates changed x n
 unfolding is_near
 near_if changed x n holds =
     let parts = and_parts (is_at_most x (n ⊕ half)) _ holds in
