@@ -8,7 +8,7 @@ use Rattle.cvss_number.proofs.ExactLemmas.{at_most_below}
 use Rattle.cvss_number.specs.Exact.{Exact, of_count, smaller, whole, ◌over◌, ◌⊕◌, ◌≈◌}
 use Rattle.cvss_number.specs.Tenths.{IsInTenths}
 use Rattle.cvss_v3.specs.Closeness.{IsCloseTo}
-use Rattle.cvss_v3.specs.Scores.{base_number, changed_impact, changed_modified_impact, environmental_number, exploitability, first_number, impact, impact_of, iss, miss, modified_exploitability, modified_impact, modified_impact_of, power, total_of}
+use Rattle.cvss_v3.specs.Scores.{base_number, changed_impact, changed_modified_impact, environmental_number, exploitability, first_number, impact, impact_of, iss, miss, modified_exploitability, modified_impact, modified_impact_of, power, rules_of, total_of}
 use Rattle.cvss_v3.specs.declared.weights.Weights.{Weights}
 use Rattle.cvss_account.proofs.NearLemmas.{count_told, near_value}
 use Rattle.cvss_account.specs.Near.{AreNearest, IsWithinMillionth, count_of, ten_millionths}
@@ -43,7 +43,7 @@ impact_above false w = lit< tt
 pub impact_bottom : (w : Weights) → 0 < (impact w).bottom
 impact_bottom w = impact_above w.changed w
 
-modified_above : (minor : ℕ) (changed : Bool) (w : Weights) → 0 < (modified_impact_of minor changed (miss w)).bottom
+modified_above : (minor : ℕ) (changed : Bool) (w : Weights) → 0 < (modified_impact_of (rules_of minor) changed (miss w)).bottom
 unfolding power changed_impact changed_modified_impact
 modified_above minor false w = lit< tt
 modified_above zero true w = lit< tt

@@ -9,7 +9,9 @@ use Rattle.cvss_number.proofs.ExactLemmas.{by_sign, equal_refl, equal_sym, equal
 use Rattle.cvss_number.proofs.RoundingLemmas.{v30-unique, v31-unique}
 use Rattle.cvss_v3.proofs.CapLemmas.{capped, capped_equal}
 use Rattle.cvss_v3.specs.private.Near.{RoundsAs}
-use Rattle.cvss_v3.specs.Scores.{power, changed_impact, changed_modified_impact, impact_of, modified_impact_of, iss, miss, exploitability, modified_exploitability, total_of, first_number, base_number, environmental_number, IsRounded}
+use Rattle.cvss_v3.specs.Scores.{power, changed_impact, changed_modified_impact, impact_of, modified_impact_of, modified_impact, iss, miss, exploitability, modified_exploitability, total_of, first_number, base_number, environmental_number, rules_of, IsRounded}
+use Rattle.cvss_v3.specs.declared.rules.Rules.{Rules}
+use Rattle.cvss_v3.specs.declared.rules.Rules.TheVariants.{V30, V31}
 use Rattle.cvss_v3.specs.declared.weights.Weights.{Weights}
 
 -- a product of numbers above 0
@@ -42,21 +44,21 @@ powered_bottom x y n some_x some_y =
     (above_zero 100 _ (lit< tt) (power_bottom _ n (omega arith)))
 
 -- equal sub-scores have equal impacts
-pub impact_equal : (minor : ℕ) (changed : Bool) {x y : Exact} → x ≈ y
-    → modified_impact_of minor changed x ≈ modified_impact_of minor changed y
+pub impact_equal : (rules : Rules) (changed : Bool) {x y : Exact} → x ≈ y
+    → modified_impact_of rules changed x ≈ modified_impact_of rules changed y
 unfolding changed_impact changed_modified_impact
-impact_equal minor false same = product_equal (equal_refl (642 over 100)) same
-impact_equal zero true same = powered_equal 15 same same
-impact_equal (suc minor) true same = powered_equal 13 same (product_equal same (equal_refl (9731 over 10_000)))
+impact_equal rules false same = product_equal (equal_refl (642 over 100)) same
+impact_equal V30 true same = powered_equal 15 same same
+impact_equal V31 true same = powered_equal 13 same (product_equal same (equal_refl (9731 over 10_000)))
 
-pub impact_bottom : (minor : ℕ) (changed : Bool) (x : Exact) → 0 < x.bottom → 0 < (modified_impact_of minor changed x).bottom
+pub impact_bottom : (rules : Rules) (changed : Bool) (x : Exact) → 0 < x.bottom → 0 < (modified_impact_of rules changed x).bottom
 unfolding changed_impact changed_modified_impact
-impact_bottom minor false x some = omega arith
-impact_bottom zero true x some = powered_bottom x x 15 some some
-impact_bottom (suc minor) true x some = powered_bottom x (x ⊗ 9731 over 10_000) 13 some (omega arith)
+impact_bottom rules false x some = omega arith
+impact_bottom V30 true x some = powered_bottom x x 15 some some
+impact_bottom V31 true x some = powered_bottom x (x ⊗ 9731 over 10_000) 13 some (omega arith)
 
 -- the impact is the modified impact of v3.0
-pub impact_is : (changed : Bool) (x : Exact) → modified_impact_of 0 changed x ≡ impact_of changed x
+pub impact_is : (changed : Bool) (x : Exact) → modified_impact_of V30 changed x ≡ impact_of changed x
 impact_is false x = refl
 impact_is true x = refl
 
@@ -97,12 +99,12 @@ first_bottom changed x y some_x some_y =
 pub base_bottom : (w : Weights) → 0 < (base_number w).bottom
 base_bottom w =
     subst (λ n. 0 < (first_number w.changed n (exploitability w)).bottom) (impact_is w.changed (iss w))
-    (first_bottom w.changed (modified_impact_of 0 w.changed (iss w)) (exploitability w) (impact_bottom 0 w.changed (iss w) (lit< tt)) (lit< tt))
+    (first_bottom w.changed (modified_impact_of V30 w.changed (iss w)) (exploitability w) (impact_bottom V30 w.changed (iss w) (lit< tt)) (lit< tt))
 
 pub environmental_bottom : (minor : ℕ) (w : Weights) → 0 < (environmental_number minor w).bottom
 environmental_bottom minor w =
-    first_bottom w.modified_changed (modified_impact_of minor w.modified_changed (miss w)) (modified_exploitability w)
-    (impact_bottom minor w.modified_changed (miss w) (lit< tt)) (lit< tt)
+    first_bottom w.modified_changed (modified_impact minor w) (modified_exploitability w)
+    (impact_bottom (rules_of minor) w.modified_changed (miss w) (lit< tt)) (lit< tt)
 
 least_tenth-equal : (x y : Exact) (r : ℤ) → 0 < x.bottom → 0 < y.bottom → x ≈ y → IsRoundedV30 x r → IsRoundedV30 y r
 least_tenth-equal x y r some_x some_y same rounded = record {

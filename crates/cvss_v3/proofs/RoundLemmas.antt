@@ -1,12 +1,11 @@
 -- The whole tenths that a number has as its roundings.
-use Rattle.std.proofs.Common.{◌≡◌, ◌≢◌, ℕ, zero, suc, ◌+◌, ◌*◌, ◌/◌, ◌^◌, ◌<◌, ◌≤◌, ℤ, pos, ◌+ℤ◌, ◌-ℤ◌, ◌*ℤ◌, ◌<ℤ◌, ◌≤ℤ◌, arith, refl, subst, lit<, true, negsuc}
+use Rattle.std.proofs.Common.{◌≡◌, ℕ, zero, suc, ◌+◌, ◌*◌, ◌/◌, ◌^◌, ◌<◌, ◌≤◌, ℤ, pos, ◌+ℤ◌, ◌-ℤ◌, ◌*ℤ◌, ◌<ℤ◌, ◌≤ℤ◌, arith, refl, subst, lit<, true, negsuc}
 use Rattle.std.proofs.lemmas.Int.{ints}
 use Rattle.std.proofs.lemmas.Bool.{leb-true}
 use Rattle.std.proofs.Math.Nat.{lt_of_mul-lt-mul_right}
 use lib.Signed.{le_z}
 use Rattle.cvss_number.specs.Exact.{Exact, ◌over◌, tenths, of_count, ◌⊕◌, ◌⊑◌, ◌⊏◌}
 use Rattle.cvss_number.specs.Rounding.{IsRoundedV30, IsRoundedV31}
-use Rattle.cvss_v3.specs.Scores.{IsRounded}
 
 -- the number next to r tenths at which the v3.1 rounding jumps
 abbrev pub jump : ℤ → Exact
@@ -89,8 +88,3 @@ low_count_rounded (negsuc n) low = record {
   negative = λ negative. refl;
   not_negative = λ not_negative. absurd (omega (arith, ints, not_negative.at_most));
 }
-
--- a minor version that is not 0 rounds as v3.1
-pub rounded_at_other : (minor : ℕ) (x : Exact) (r : ℤ) → minor ≢ 0 → IsRoundedV31 x r → IsRounded minor x r
-rounded_at_other zero x r is_other rounded = absurd (is_other refl)
-rounded_at_other (suc minor) x r is_other rounded = rounded

@@ -8,6 +8,8 @@ use Rattle.cvss_number.specs.Exact.{Exact, ratio, ◌over◌, whole, tenths, ◌
 use Rattle.cvss_number.proofs.ExactLemmas.{equal_from_at_most, at_most_trans, at_most_below, below_at_most}
 use Rattle.cvss_number.proofs.TestLemmas.{is_below, is_at_most, below_if, at_most_if, passes}
 use Rattle.cvss_v3.specs.Scores.{power, unchanged_impact, changed_impact, changed_modified_impact, modified_impact_of, first_number, IsRounded}
+use Rattle.cvss_v3.specs.declared.rules.Rules.{Rules}
+use Rattle.cvss_v3.specs.declared.rules.Rules.TheVariants.{V30, V31}
 use Rattle.cvss_v3.specs.Closeness.{IsCloseTo}
 use Rattle.cvss_v3.specs.private.Near.{Approximates}
 use Rattle.cvss_v3.specs.private.SubScores.{sub_scores, exploitabilities, IsSubScore}
@@ -21,11 +23,11 @@ abbrev pub error : Exact
 error = 1 over 1_000_000
 
 -- whether x is close to n, and n where that is asked for
-unfoldable is_near : Bool → Exact → Exact → Bool
+unfoldable pub is_near : Bool → Exact → Exact → Bool
 is_near changed x n =
     is_at_most x (n ⊕ half) && (is_at_most n (x ⊕ half) && (changed || (is_at_most x n && is_at_most n x)))
 
-near_if : (changed : Bool) (x n : Exact) → is_near changed x n ≡ true → Approximates changed x n
+pub near_if : (changed : Bool) (x n : Exact) → is_near changed x n ≡ true → Approximates changed x n
 unfolding is_near
 near_if changed x n holds =
     let parts = and_parts (is_at_most x (n ⊕ half)) _ holds in
@@ -176,11 +178,11 @@ changed_modified_settle : list_all (λ s. settle true (changed_modified_impact (
 unfolding is_near is_within is_settled_at tenth_above jump_above is_settled settle power changed_modified_impact changed_modified_units
 changed_modified_settle = refl
 
-pub settles : (minor : ℕ) (changed : Bool) (s : ℕ) → IsSubScore s
-    → Settles changed (modified_impact_of minor changed (s over 1_000_000)) (impact_units minor changed s)
-settles minor false s sub_score =
+pub settles : (rules : Rules) (changed : Bool) (s : ℕ) → IsSubScore s
+    → Settles changed (modified_impact_of rules changed (s over 1_000_000)) (impact_units rules changed s)
+settles rules false s sub_score =
     settles_if false _ _ (passes (λ s. settle false (unchanged_impact (s over 1_000_000)) (642_000 * s)) sub_scores s unchanged_settle sub_score.listed)
-settles zero true s sub_score =
+settles V30 true s sub_score =
     settles_if true _ _ (passes (λ s. settle true (changed_impact (s over 1_000_000)) (changed_units s)) sub_scores s changed_settle sub_score.listed)
-settles (suc minor) true s sub_score =
+settles V31 true s sub_score =
     settles_if true _ _ (passes (λ s. settle true (changed_modified_impact (s over 1_000_000)) (changed_modified_units s)) sub_scores s changed_modified_settle sub_score.listed)

@@ -11,12 +11,6 @@ use Rattle.cvss_number.proofs.TestLemmas.{passes, passes_two, passes_three, is_l
 pub weight_bound : (xs : List ℕ) (x m : ℕ) → list_all (λ y. leb y m) xs ≡ true → Contains xs x → x ≤ m
 weight_bound xs x m all listed = leb-true x m (passes (λ y. leb y m) xs x all listed)
 
-pub sub_score_low : (s : ℕ) → IsSubScore s → 110_000 ≤ s
-sub_score_low s sub_score = leb-true 110_000 s (passes (λ y. leb 110_000 y) sub_scores s refl sub_score.listed)
-
-pub sub_score_high : (s : ℕ) → IsSubScore s → s ≤ 915_000
-sub_score_high s sub_score = weight_bound sub_scores s 915_000 refl sub_score.listed
-
 pub weighted_listed : (requirement impact : ℕ) → Contains requirements requirement → Contains impacts impact
     → Contains weighted_impacts (requirement * impact / 100)
 weighted_listed requirement impact is_requirement is_impact =
@@ -36,7 +30,10 @@ is_sub_score s = eqb s 0 || is_listed sub_scores s
 sub_score_if : (s : ℕ) → is_sub_score s ≡ true → (s ≡ 0) ⊎ IsSubScore s
 sub_score_if s holds = elim (or_cases (eqb s 0) (is_listed sub_scores s) holds) [
   | inl is_zero ↦ inl (eqb-true s 0 is_zero)
-  | inr listed ↦ inr (record { listed = listed_if sub_scores s listed })
+  | inr listed ↦
+      let is = listed_if sub_scores s listed in
+      let low = leb-true 110_000 s (passes (λ y. leb 110_000 y) sub_scores s refl is) in
+      inr (record { listed = is; low = low; high = weight_bound sub_scores s 915_000 refl is })
 ]
 
 -- a sub-score that is not 0 is listed

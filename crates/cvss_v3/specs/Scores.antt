@@ -1,10 +1,17 @@
 -- The equations of the v3.0 specification, section 8, and of the v3.1 specification, section 7: base (8.1; 7.1),
--- temporal (8.2; 7.2) and environmental (8.3; 7.3). A minor version 0 takes those of v3.0, any other those of v3.1.
+-- temporal (8.2; 7.2) and environmental (8.3; 7.3).
 use Rattle.std.specs.Prelude.{ℕ, zero, suc, ℤ, pos, Bool, true, false, int_lt, if◌then◌else◌}
 use Rattle.cvss_number.specs.Exact.{Exact, ◌over◌, whole, tenths, ◌⊕◌, ◌⊖◌, ◌⊗◌, smaller}
 use Rattle.cvss_number.specs.Rounding.{IsRoundedV30, IsRoundedV31}
 use Rattle.cvss_number.specs.Tenths.{IsInTenths}
+use Rattle.cvss_v3.specs.declared.rules.Rules.{Rules}
+use Rattle.cvss_v3.specs.declared.rules.Rules.TheVariants.{V30, V31}
 use Rattle.cvss_v3.specs.declared.weights.Weights.{Weights}
+
+-- minor version 0 has the rules of v3.0, any other those of v3.1
+abbrev pub rules_of : ℕ → Rules
+rules_of zero = V30
+rules_of (suc minor) = V31
 
 -- a weight of so many hundredths
 abbrev pub hundredths : ℕ → Exact
@@ -53,11 +60,11 @@ abbrev pub impact_of : Bool → Exact → Exact
 impact_of false iss = unchanged_impact iss
 impact_of true iss = changed_impact iss
 
--- Modified Impact, by the minor version and whether the modified scope is changed
-abbrev pub modified_impact_of : ℕ → Bool → Exact → Exact
-modified_impact_of minor false miss = unchanged_impact miss
-modified_impact_of zero true miss = changed_impact miss
-modified_impact_of (suc minor) true miss = changed_modified_impact miss
+-- Modified Impact, by the rules and whether the modified scope is changed
+abbrev pub modified_impact_of : Rules → Bool → Exact → Exact
+modified_impact_of rules false miss = unchanged_impact miss
+modified_impact_of V30 true miss = changed_impact miss
+modified_impact_of V31 true miss = changed_modified_impact miss
 
 -- Impact
 abbrev pub impact : Weights → Exact
@@ -65,7 +72,7 @@ impact w = impact_of w.changed (iss w)
 
 -- Modified Impact
 abbrev pub modified_impact : ℕ → Weights → Exact
-modified_impact minor w = modified_impact_of minor w.modified_changed (miss w)
+modified_impact minor w = modified_impact_of (rules_of minor) w.modified_changed (miss w)
 
 -- 8.22 × AttackVector × AttackComplexity × PrivilegesRequired × UserInteraction
 abbrev pub exploitability_of : ℕ → ℕ → ℕ → ℕ → Exact
@@ -103,9 +110,13 @@ abbrev pub temporal_number : ℤ → Weights → Exact
 temporal_number r w = tenths r ⊗ hundredths w.e ⊗ hundredths w.rl ⊗ hundredths w.rc
 
 -- r tenths are x rounded up: v3.0 specification, 8.1; v3.1 specification, Appendix A
+abbrev pub IsRoundedBy : Rules → Exact → ℤ → Type 0
+IsRoundedBy V30 x r = IsRoundedV30 x r
+IsRoundedBy V31 x r = IsRoundedV31 x r
+
+-- and so by the minor version
 abbrev pub IsRounded : ℕ → Exact → ℤ → Type 0
-IsRounded zero x r = IsRoundedV30 x r
-IsRounded (suc minor) x r = IsRoundedV31 x r
+IsRounded minor x r = IsRoundedBy (rules_of minor) x r
 
 -- r tenths are the BaseScore
 abbrev pub IsBase : ℕ → Weights → ℤ → Type 0

@@ -9,6 +9,7 @@ ghost use Rattle.cvss_v3.specs.private.SubScores.{IsSubScore, exploitabilities};
 ghost use Rattle.cvss_v3.specs.private.Units.{millionths_of, impact_units, total_units};
 
 use crate::power::{changed_impact, changed_modified_impact};
+use crate::rules::Rules;
 
 /// An impact times its requirement, cut to hundredths.
 #[inline(always)]
@@ -60,34 +61,31 @@ pub fn temporal(tenths: u64, e: u64, rl: u64, rc: u64) -> u64
     tenths * (e * rl * rc)
 }
 
-/// Impact and Modified Impact in 10^-11, of a sub-score in millionths that is not 0.
+/// Modified Impact in 10^-11, of a sub-score in millionths that is not 0. Impact is that of v3.0.
 #[inline(always)]
-fn impact(sub_score: u64, changed: bool, minor_version: usize) -> u64
+fn impact(sub_score: u64, changed: bool, rules: Rules) -> u64
     requires { IsSubScore sub_score }
-    ensures value { result ≡ impact_units minor_version changed sub_score }
+    ensures value { result ≡ impact_units rules changed sub_score }
     ensures bound { result ≤ 10 ^ 12 }
 {
-    if !changed {
-        return 642_000 * sub_score;
-    }
-    if minor_version == 0 {
-        changed_impact(sub_score)
-    } else {
-        changed_modified_impact(sub_score)
+    match (changed, rules) {
+        (false, _) => 642_000 * sub_score,
+        (true, Rules::V30) => changed_impact(sub_score),
+        (true, Rules::V31) => changed_modified_impact(sub_score),
     }
 }
 
-/// Impact and Modified Impact in 10^-11, of a sub-score in millionths. Without one they are below 0
-/// where the scope is changed.
-pub fn signed_impact(sub_score: u64, changed: bool, minor_version: usize) -> i64
+/// Modified Impact in 10^-11, of a sub-score in millionths. Without one it is below 0 where the
+/// scope is changed. Impact is that of v3.0.
+pub fn signed_impact(sub_score: u64, changed: bool, rules: Rules) -> i64
     requires { (sub_score ≡ 0) ⊎ IsSubScore sub_score }
     ensures value { Approximates changed (ratio result (10 ^ 11))
-        (modified_impact_of minor_version changed (sub_score over 1_000_000)) }
+        (modified_impact_of rules changed (sub_score over 1_000_000)) }
     ensures low { neg_ℤ (pos (10 ^ 12)) ≤ℤ result }
     ensures high { result ≤ℤ pos (10 ^ 12) }
 {
     if sub_score != 0 {
-        return impact(sub_score, changed, minor_version) as i64;
+        return impact(sub_score, changed, rules) as i64;
     }
     if changed { WITHOUT_IMPACT } else { 0 }
 }
@@ -98,23 +96,19 @@ const WITHOUT_IMPACT: i64 = -21_808_000_000;
 /// What a score is the rounding of, in 10^-13: of a sub-score in millionths and an exploitability in
 /// 10^-10.
 #[inline(always)]
-pub fn first_number(sub_score: u64, exploitability: u64, changed: bool, minor_version: usize) -> u64
+pub fn first_number(sub_score: u64, exploitability: u64, changed: bool, rules: Rules) -> u64
     requires sub_score { (sub_score ≡ 0) ⊎ IsSubScore sub_score }
     requires listed { Contains (exploitabilities changed) exploitability }
     requires exploitability { exploitability ≤ 822 * 10 ^ 8 }
     ensures value { (minor : ℕ) → StandsFor minor changed (result over (10 ^ 13))
-        (first_number changed (modified_impact_of minor_version changed (sub_score over 1_000_000))
+        (first_number changed (modified_impact_of rules changed (sub_score over 1_000_000))
         (exploitability over (10 ^ 10))) }
     ensures to_ten { result ≤ 10 ^ 14 }
 {
     if sub_score == 0 {
         return 0;
     }
-    total(
-        impact(sub_score, changed, minor_version),
-        exploitability,
-        changed,
-    )
+    total(impact(sub_score, changed, rules), exploitability, changed)
 }
 
 /// What a score is the rounding of, in 10^-13: of an impact in 10^-11 and an exploitability in

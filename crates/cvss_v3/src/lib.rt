@@ -5,6 +5,7 @@ mod equations;
 pub mod laws;
 mod power;
 mod rounding;
+mod rules;
 mod score;
 mod vector;
 mod weights;

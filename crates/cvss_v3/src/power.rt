@@ -6,6 +6,7 @@ ghost use Rattle.cvss_v3.specs.private.SubScores.{IsSubScore};
 ghost use Rattle.cvss_v3.specs.private.Units.{changed_units, changed_modified_units};
 
 /// 7.52 * (ISS - 0.029) - 3.25 * (ISS - 0.02)^15 in 10^-11, of an ISS in millionths.
+#[tactic(auto, unfolding(crate::specs::private::Units::changed_units))]
 pub fn changed_impact(iss: u64) -> u64
     requires { IsSubScore iss }
     ensures value { result ≡ changed_units iss }
@@ -19,6 +20,7 @@ pub fn changed_impact(iss: u64) -> u64
 }
 
 /// 7.52 * (MISS - 0.029) - 3.25 * (MISS * 0.9731 - 0.02)^13 in 10^-11, of a MISS in millionths.
+#[tactic(auto, unfolding(crate::specs::private::Units::changed_modified_units))]
 pub fn changed_modified_impact(miss: u64) -> u64
     requires { IsSubScore miss }
     ensures value { result ≡ changed_modified_units miss }

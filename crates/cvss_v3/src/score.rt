@@ -6,7 +6,8 @@ ghost use Rattle.cvss_base.specs.Rating.{rating_of_score};
 ghost use Rattle.cvss_number.specs.Tenths.{score_text, IsInTenths, IsFromZeroToTen};
 ghost use Rattle.cvss_v3.specs.Scores.{IsRounded};
 
-use crate::rounding;
+use crate::rounding::round_count;
+use crate::rules::Rules;
 use cvss_base::severity_of_score;
 use cvss_name::Severity;
 use cvss_number::{OneDecimal, TENTH};
@@ -60,7 +61,7 @@ impl Score {
         ensures value { IsInTenths (IsRounded minor_version (of_count self)) result }
         ensures limit { IsWithinLimit result }
     {
-        Score(rounding::round_count(self.0, minor_version) * TENTH)
+        Score(round_count(self.0, Rules::of(minor_version)) * TENTH)
     }
 
     /// The rating: none below 0.1, low below 4.0, medium below 7.0, high below 9.0, and critical

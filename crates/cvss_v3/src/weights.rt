@@ -4,8 +4,7 @@
 /// section 8.4; v3.1 specification, section 7.4). An absent base metric weighs 0. A modified metric
 /// that is absent or not defined weighs as its base metric.
 ///
-/// Minor version 0 scores by the v3.0 specification, any other by the v3.1 specification. Scores
-/// are whole tenths. The code takes each weight from the vector where it needs it.
+/// The code takes each weight from the vector where it needs it.
 pub struct Weights {
     pub av: u64,
     pub ac: u64,

@@ -1,7 +1,7 @@
 -- The values that the equations' parts take over the weights of the tables (v3.0 specification, 8.4; v3.1
 -- specification, 7.4), absent base metrics included. ISS takes 10 values, which are among the 68 of MISS. The
 -- contracts of private functions alone cite these.
-use Rattle.std.specs.Prelude.{ℕ, Bool, true, false, List, [], ◌∷◌}
+use Rattle.std.specs.Prelude.{ℕ, ◌≤◌, Bool, true, false, List, [], ◌∷◌}
 use Rattle.std.specs.List.{Contains}
 
 -- an impact times its requirement, in hundredths
@@ -22,6 +22,8 @@ sub_scores =
 -- ISS or MISS can be so many millionths, and is not 0
 pub record IsSubScore (n : ℕ) : Type 0 where
   pub listed : Contains sub_scores n
+  pub low : 110_000 ≤ n
+  pub high : n ≤ 915_000
 
 -- Exploitability by whether the scope is changed, in 10^-10, absent metrics included
 abbrev pub exploitabilities : Bool → List ℕ

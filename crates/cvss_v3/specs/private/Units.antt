@@ -1,6 +1,8 @@
 -- What the code computes in whole numbers of small units, of weights in hundredths: v3.1 specification, 7.1 to 7.3. The
 -- contracts of private functions alone cite these.
-use Rattle.std.specs.Prelude.{ℕ, zero, suc, ◌+◌, ◌-◌, ◌*◌, ◌/◌, ◌^◌, min, Bool, true, false}
+use Rattle.std.specs.Prelude.{ℕ, ◌+◌, ◌-◌, ◌*◌, ◌/◌, ◌^◌, min, Bool, true, false}
+use Rattle.cvss_v3.specs.declared.rules.Rules.{Rules}
+use Rattle.cvss_v3.specs.declared.rules.Rules.TheVariants.{V30, V31}
 
 -- a sub-score in millionths
 abbrev pub millionths_of : ℕ → ℕ → ℕ → ℕ
@@ -25,11 +27,11 @@ unfoldable pub changed_modified_units : ℕ → ℕ
 changed_modified_units s =
     752_000 * (s - 29_000) - 325 * product (twelfth (s * 9731 / 10 - 20_000_000)) (s * 9731 / 10 - 20_000_000)
 
--- an impact by the minor version and whether the scope is changed
-abbrev pub impact_units : ℕ → Bool → ℕ → ℕ
-impact_units minor false s = 642_000 * s
-impact_units zero true s = changed_units s
-impact_units (suc minor) true s = changed_modified_units s
+-- an impact by the rules and whether the scope is changed
+abbrev pub impact_units : Rules → Bool → ℕ → ℕ
+impact_units rules false s = 642_000 * s
+impact_units V30 true s = changed_units s
+impact_units V31 true s = changed_modified_units s
 
 -- what a score is the rounding of, in 10^-13, of an impact and an exploitability in 10^-10
 abbrev pub total_units : Bool → ℕ → ℕ → ℕ

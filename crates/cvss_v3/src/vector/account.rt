@@ -10,6 +10,7 @@ ghost use Rattle.cvss_v3.specs.VectorWeights.{weights_of, weight_in};
 use super::weighing::{effective_scope, is_changed};
 use crate::equations;
 use crate::metric::MetricType;
+use crate::rules::Rules;
 use crate::score::Score;
 use crate::vector::Vector;
 
@@ -62,7 +63,7 @@ impl Vector {
         ensures limit { IsWithinLimit result }
     {
         let changed = self.is_scope_changed();
-        let impact = equations::signed_impact(self.iss_millionths(), changed, 0);
+        let impact = equations::signed_impact(self.iss_millionths(), changed, Rules::V30);
         Score::new(i128::from(impact) * ELEVENTH)
     }
 
@@ -111,7 +112,7 @@ impl Vector {
     {
         let changed = self.is_modified_scope_changed();
         let miss = self.miss_millionths();
-        let impact = equations::signed_impact(miss, changed, self.minor_version);
+        let impact = equations::signed_impact(miss, changed, Rules::of(self.minor_version));
         Score::new(i128::from(impact) * ELEVENTH)
     }
 

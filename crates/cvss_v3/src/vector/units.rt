@@ -11,6 +11,7 @@ ghost use Rattle.cvss_v3.specs.private.SubScores.{IsSubScore, exploitabilities};
 use super::weighing::{effective, is_changed, scoped_weight, weight};
 use crate::equations;
 use crate::rounding::round_tenths;
+use crate::rules::Rules;
 use crate::vector::Vector;
 
 impl Vector {
@@ -75,7 +76,7 @@ impl Vector {
     {
         let exploitability = self.exploitability_units();
         let changed = self.is_scope_changed();
-        equations::first_number(self.iss_millionths(), exploitability, changed, 0)
+        equations::first_number(self.iss_millionths(), exploitability, changed, Rules::V30)
     }
 
     /// A number of 10^-13 that stands for the first number of the environmental score.
@@ -89,7 +90,7 @@ impl Vector {
         let miss = self.miss_millionths();
         let exploitability = self.modified_exploitability_units();
         let changed = self.is_modified_scope_changed();
-        equations::first_number(miss, exploitability, changed, self.minor_version)
+        equations::first_number(miss, exploitability, changed, Rules::of(self.minor_version))
     }
 
     /// The base score in tenths.
@@ -98,7 +99,7 @@ impl Vector {
         ensures value { IsBase self.now.minor_version (weights_of self.now) (pos result) }
         ensures to_ten { result ≤ 100 }
     {
-        round_tenths(self.base_units(), self.minor_version)
+        round_tenths(self.base_units(), Rules::of(self.minor_version))
     }
 
     /// The first rounding of the environmental score, in tenths.
@@ -108,7 +109,7 @@ impl Vector {
             (environmental_number self.now.minor_version (weights_of self.now)) (pos result) }
         ensures to_ten { result ≤ 100 }
     {
-        round_tenths(self.environmental_units(), self.minor_version)
+        round_tenths(self.environmental_units(), Rules::of(self.minor_version))
     }
 
     /// So many tenths times E, RL and RC, in 10^-7.
@@ -131,6 +132,6 @@ impl Vector {
         ensures to_ten { result ≤ 100 }
     {
         let product = self.temporal_units(tenths) * 1_000_000;
-        round_tenths(product, self.minor_version)
+        round_tenths(product, Rules::of(self.minor_version))
     }
 }

@@ -2,6 +2,7 @@ use Rattle.std.proofs.Common.{◌^◌, subst, lit<}
 use Rattle.cvss_number.specs.Exact.{◌over◌}
 use Rattle.cvss_v3.specs.Scores.{iss, exploitability, first_number}
 use Rattle.cvss_v3.specs.VectorWeights.{weights_of}
+use Rattle.cvss_v3.specs.declared.rules.Rules.TheVariants.{V30}
 use Rattle.cvss_v3.specs.private.Near.{StandsFor}
 use Rattle.cvss_v3.proofs.EqualLemmas.{impact_is}
 use Rattle.cvss_v3.proofs.NumberLemmas.{stands_of}
@@ -13,5 +14,5 @@ returns-clause-value c = λ minor.
     let e = c.exploitability_units-exploitability in
     subst (λ n. StandsFor minor w.changed (c.first_number.result over (10 ^ 13)) (first_number w.changed n (exploitability w)))
     (impact_is w.changed (iss w))
-    (stands_of minor 0 c.first_number.result c.iss_millionths.result e.result c.is_scope_changed-changed.result w.changed (iss w) (exploitability w)
+    (stands_of minor V30 c.first_number.result c.iss_millionths.result e.result c.is_scope_changed-changed.result w.changed (iss w) (exploitability w)
     (lit< tt) (lit< tt) c.is_scope_changed-changed.ensures c.iss_millionths.ensures.value e.ensures.value (c.first_number.ensures.value minor))

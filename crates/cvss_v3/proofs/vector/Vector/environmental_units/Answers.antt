@@ -10,5 +10,6 @@ returns-clause-value c = λ minor.
     let s = c.miss_millionths-miss in
     let e = c.modified_exploitability_units-exploitability in
     let changed = c.is_modified_scope_changed-changed in
-    stands_of minor c.args.self.now.minor_version c.first_number.result s.result e.result changed.result w.modified_changed
-    (miss w) (modified_exploitability w) (lit< tt) (lit< tt) changed.ensures s.ensures.value e.ensures.value (c.first_number.ensures.value minor)
+    let own = stands_of minor c.of.result c.first_number.result s.result e.result changed.result w.modified_changed
+    (miss w) (modified_exploitability w) (lit< tt) (lit< tt) changed.ensures s.ensures.value e.ensures.value (c.first_number.ensures.value minor) in
+    rw c.of.ensures at own

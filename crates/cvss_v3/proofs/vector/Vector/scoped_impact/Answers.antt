@@ -3,6 +3,7 @@ use Rattle.std.proofs.lemmas.Int.{ints}
 use Rattle.cvss_number.specs.Exact.{Exact, ratio, of_count, ◌≈◌}
 use Rattle.cvss_v3.specs.Scores.{iss}
 use Rattle.cvss_v3.specs.VectorWeights.{weights_of}
+use Rattle.cvss_v3.specs.declared.rules.Rules.TheVariants.{V30}
 use Rattle.cvss_v3.specs.private.Near.{Approximates}
 use Rattle.cvss_v3.proofs.EqualLemmas.{impact_is}
 use Rattle.cvss_v3.proofs.NumberLemmas.{impact_of_parts}
@@ -14,6 +15,6 @@ returns c =
     let changed = c.is_scope_changed-changed in
     let same : of_count c.new.result ≈ ratio c.signed_impact-impact.result (10 ^ 11) = record { equal = omega (arith, ints) } in
     let near = subst (λ (n : Exact). Approximates w.changed (of_count c.new.result) n) (impact_is w.changed (iss w))
-    (impact_of_parts 0 c.iss_millionths.result changed.result w.changed (iss w) _ _ (lit< tt) same
+    (impact_of_parts V30 c.iss_millionths.result changed.result w.changed (iss w) _ _ (lit< tt) same
     changed.ensures c.iss_millionths.ensures.value c.signed_impact-impact.ensures.value) in
     record { close = near.close; exact = near.exact; limit = record { from_lowest = omega (arith, ints); to_highest = omega (arith, ints) } }

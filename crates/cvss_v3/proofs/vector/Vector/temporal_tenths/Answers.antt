@@ -7,4 +7,4 @@ use Rattle.cvss_v3.proofs.vector.Vector.temporal_tenths.Goals as goal
 pub returns-clause-value : goal.returns-clause-value
 returns-clause-value c =
     rounds_equal c.args.self.now.minor_version (lit< tt) (lit< tt)
-    (equal_trans (lit< tt) (record { equal = omega (arith, ints) }) c.temporal_units-product.ensures.value) _ c.round_tenths.ensures.value
+    (equal_trans (lit< tt) (record { equal = omega (arith, ints) }) c.temporal_units-product.ensures.value) _ (rw c.of.ensures at c.round_tenths.ensures.value)
