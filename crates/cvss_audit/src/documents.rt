@@ -19,8 +19,10 @@ use serde_json::{Map, Value};
 use std::alloc::{AllocError, Global};
 use std::io::Write;
 
-/// Lines that are JSON documents, each answered by what the vectors in it are.
-pub(crate) struct Documents {}
+/// Lines that are JSON documents, each answered by one line for each place where a vector stands in it.
+/// Lines of blanks alone are passed over. A line counts as accepted if nothing in it is refused and
+/// nothing differs.
+pub struct Documents {}
 
 impl Streaming for Documents {
     ghost rule = { IsAnswer };

@@ -5,19 +5,17 @@
 
 mod differs;
 mod documents;
+mod help;
 mod members;
 mod missing;
 mod noting;
 mod place;
-mod program;
-mod run;
 mod source;
 
-use cvss_lines::arguments;
-pub use cvss_lines::{Fault, RunFault, Summary, program_status};
+use cvss_lines::{ProgramFault, Summary, arguments, program_status, run_streaming_program};
+pub use documents::Documents;
+use help::USAGE;
 use noting::{Given, Note, Told};
-pub use program::{USAGE, run_program};
-pub use run::run;
 use std::io::{Read, Write};
 use std::process::ExitCode;
 
@@ -33,7 +31,7 @@ fn main(rt: HostRuntime) -> ExitCode {
         }
         Err(fault) => {
             let _ = eprintln!(rt; "cvss_audit: {fault}");
-            if *fault == Fault::Arguments {
+            if *fault == ProgramFault::Arguments {
                 let _ = eprint!(rt; "{USAGE}");
             }
         }
@@ -46,7 +44,7 @@ fn audit<R: Read, W: Write>(
     rt: &HostRuntime,
     reader: &mut R,
     writer: &mut W,
-) -> Result<Summary, Fault> {
+) -> Result<Summary, ProgramFault> {
     let arguments = arguments(rt.alloc(), rt)?;
-    run_program(rt.alloc(), &arguments, reader, writer)
+    run_streaming_program::<Documents, R, W>(rt.alloc(), USAGE, &arguments, reader, writer)
 }

@@ -2,22 +2,20 @@
 //! one line: where it stands, and what it is. `--help` prints how it is used.
 #![tactic(auto)]
 
+mod help;
 pub mod laws;
-mod program;
-mod run;
 mod telling;
 
-use cvss_lines::arguments;
-pub use cvss_lines::{Fault, RunFault, Summary, program_status};
-pub use program::{USAGE, run_program};
-pub use run::run;
+use cvss_lines::{ProgramFault, Summary, arguments, program_status, run_program};
+use help::USAGE;
 use std::process::ExitCode;
+pub use telling::Texts;
 
 fn main(rt: HostRuntime) -> ExitCode {
     let result = find(&rt);
     if let Err(fault) = &result {
         let _ = eprintln!(rt; "cvss_find: {fault}");
-        if *fault == Fault::Arguments {
+        if *fault == ProgramFault::Arguments {
             let _ = eprint!(rt; "{USAGE}");
         }
     }
@@ -25,7 +23,13 @@ fn main(rt: HostRuntime) -> ExitCode {
 }
 
 /// Runs over standard input and output, with the program's arguments.
-fn find(rt: &HostRuntime) -> Result<Summary, Fault> {
+fn find(rt: &HostRuntime) -> Result<Summary, ProgramFault> {
     let arguments = arguments(rt.alloc(), rt)?;
-    run_program(rt.alloc(), &arguments, &mut rt.stdin(), &mut rt.stdout())
+    run_program::<Texts, _, _>(
+        rt.alloc(),
+        USAGE,
+        &arguments,
+        &mut rt.stdin(),
+        &mut rt.stdout(),
+    )
 }

@@ -14,8 +14,9 @@ use cvss_mention::{Mention, Mentions};
 use std::alloc::{AllocError, Global};
 use std::fmt::{self, Write};
 
-/// Lines of any bytes, each answered by what the mentions of vectors in it are.
-pub(crate) struct Texts {}
+/// Lines of any bytes, each answered by one line for each mention of a vector that is found in it. A
+/// line counts as accepted if each of these is.
+pub struct Texts {}
 
 impl Answering for Texts {
     ghost rule = { IsAnswer };

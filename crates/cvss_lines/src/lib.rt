@@ -24,7 +24,7 @@ pub use exit::exit_status;
 pub use fault::RunFault;
 pub use gathered::Gathered;
 pub use lines::first_line;
-pub use program::{Fault, program_status, run_program, run_streaming_program};
+pub use program::{ProgramFault, program_status, run_program, run_streaming_program};
 pub use requests::{Request, arguments, asked, asked_alone};
 pub use running::{run, run_streaming};
 pub use streaming::{Streaming, Whole};

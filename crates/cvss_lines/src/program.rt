@@ -7,7 +7,7 @@ ghost use Rattle.cvss_lines.specs.Requests.{asked_alone as asked_of};
 ghost use Rattle.cvss_lines.specs.Runs.{Ends, summary_of};
 ghost use Rattle.cvss_lines.specs.Streaming.{StreamEnds};
 ghost use Rattle.cvss_lines.specs.declared.fault.RunFault.TheVariants.{Memory, Write as WriteFault};
-ghost use Rattle.cvss_lines.specs.declared.program.Fault.TheVariants.{Run as RunEnded};
+ghost use Rattle.cvss_lines.specs.declared.program.ProgramFault.TheVariants.{Run as RunEnded};
 
 use crate::{
     Answering, Request, RunFault, Streaming, Summary, Whole, asked_alone, run_streaming,
@@ -19,29 +19,29 @@ use std::io::{Read, Write};
 
 /// Why a program ends before it has answered all of its input.
 #[derive(Clone, Copy, Debug, PartialEq, Eq)]
-pub enum Fault {
+pub enum ProgramFault {
     /// There are arguments other than `--help` alone.
     Arguments,
     /// The run has ended early.
     Run(RunFault),
 }
 
-impl From<AllocError> for Fault {
+impl From<AllocError> for ProgramFault {
     ghost from_gives = { λ _ fault. fault ≡ RunEnded Memory };
 
-    fn from(_: AllocError) -> Fault {
-        Fault::Run(RunFault::Memory)
+    fn from(_: AllocError) -> ProgramFault {
+        ProgramFault::Run(RunFault::Memory)
     }
 }
 
 /// The words for the fault, without the program's name.
-impl fmt::Display for Fault {
+impl fmt::Display for ProgramFault {
     ghost output = { λ fault. Some (fault_text fault) };
 
     fn fmt<W: fmt::Write>(&self, f: &mut fmt::Formatter<W>) -> fmt::Result {
         match self {
-            Fault::Arguments => f.write_str("no argument is known but `--help`"),
-            Fault::Run(fault) => write!(f, "{fault}"),
+            ProgramFault::Arguments => f.write_str("no argument is known but `--help`"),
+            ProgramFault::Run(fault) => write!(f, "{fault}"),
         }
     }
 }
@@ -58,7 +58,7 @@ pub fn run_program<A: Answering, R: Read, W: Write>(
     arguments: &[Vec<u8>],
     reader: &mut R,
     writer: &mut W,
-) -> Result<Summary, Fault>
+) -> Result<Summary, ProgramFault>
     ensures { Performs (Ends A.rule) usage.now (asked_of arguments.now)
         (R.remaining reader.old) (R.remaining reader.new)
         (W.contents writer.old) (W.contents writer.new) result }
@@ -77,20 +77,20 @@ pub fn run_streaming_program<A: Streaming, R: Read, W: Write>(
     arguments: &[Vec<u8>],
     reader: &mut R,
     writer: &mut W,
-) -> Result<Summary, Fault>
+) -> Result<Summary, ProgramFault>
     ensures { Performs (StreamEnds A.rule A.beginning) usage.now (asked_of arguments.now)
         (R.remaining reader.old) (R.remaining reader.new)
         (W.contents writer.old) (W.contents writer.new) result }
 {
     match asked_alone(arguments) {
         Request::Usage => write_usage(usage, writer),
-        Request::Unknown => Err(Fault::Arguments),
-        Request::Run => run_streaming::<A, R, W>(alloc, reader, writer).map_err(Fault::Run),
+        Request::Unknown => Err(ProgramFault::Arguments),
+        Request::Run => run_streaming::<A, R, W>(alloc, reader, writer).map_err(ProgramFault::Run),
     }
 }
 
 /// Writes the usage. No line is counted.
-fn write_usage<W: Write>(usage: &str, writer: &mut W) -> Result<Summary, Fault>
+fn write_usage<W: Write>(usage: &str, writer: &mut W) -> Result<Summary, ProgramFault>
     ensures whole { IfOk result (λ summary. (summary ≡ summary_of [])
         × Appends (W.contents writer.old) (W.contents writer.new) usage.now) }
     ensures cut { IfErr result (λ fault. (fault ≡ RunEnded WriteFault) × ((count : ℕ)
@@ -98,13 +98,13 @@ fn write_usage<W: Write>(usage: &str, writer: &mut W) -> Result<Summary, Fault>
 {
     match write_whole(writer, usage.as_bytes()) {
         Ok(()) => Ok(Summary::new()),
-        Err(fault) => Err(Fault::Run(fault)),
+        Err(fault) => Err(ProgramFault::Run(fault)),
     }
 }
 
 /// The exit status of a program: 0 if no line was refused or the usage is written, 1 if some were
 /// refused, 2 after a fault.
-pub fn program_status(outcome: &Result<Summary, Fault>) -> u8
+pub fn program_status(outcome: &Result<Summary, ProgramFault>) -> u8
     ensures { result ≡ status_of outcome.now }
 {
     match outcome {

@@ -67,10 +67,10 @@ fn record_differences<'a>(
 {
     let mut found = Vec::new(alloc);
     for (name, said) in object.iter() {
-        match difference_at(alloc, cvss, scores, name.as_str(), said)? {
-            Some(difference) => found.push(difference)?,
-            None => {}
-        }
+        push_if_some(
+            &mut found,
+            difference_at(alloc, cvss, scores, name.as_str(), said)?,
+        )?;
     }
     Ok(found)
 }

@@ -1,7 +1,7 @@
 //! Steps into a document, as JSON Pointers (RFC 6901) have them.
 
 ghost use Rattle.std.specs.Prelude.{◌≡◌, ◌++◌, OnOk, string_bytes};
-ghost use Rattle.cvss_record.specs.Places.{escaped};
+ghost use Rattle.cvss_record.specs.Places.{escaped, escaped_char};
 ghost use Rattle.cvss_record.specs.PlacesLeft.{step_text};
 
 use std::alloc::AllocError;
@@ -34,11 +34,18 @@ fn push_escaped(text: &mut String, name: &str) -> Result<(), AllocError>
     ensures { OnOk result (string_bytes text.new ≡ string_bytes text.old ++ escaped name.now) }
 {
     for char in name.chars() {
-        match char {
-            '~' => text.push_str("~0")?,
-            '/' => text.push_str("~1")?,
-            char => text.push(char)?,
-        }
+        push_char(text, char)?;
     }
     Ok(())
+}
+
+/// Writes a character as a pointer has it.
+fn push_char(text: &mut String, char: char) -> Result<(), AllocError>
+    ensures { OnOk result (string_bytes text.new ≡ string_bytes text.old ++ escaped_char char) }
+{
+    match char {
+        '~' => text.push_str("~0"),
+        '/' => text.push_str("~1"),
+        char => text.push(char),
+    }
 }

@@ -4,6 +4,7 @@ ghost use Rattle.std.specs.Prelude.{◌≡◌, IfOk, OnOk, map};
 ghost use Rattle.cvss.specs.Answers.{HasScore, metrics_of};
 ghost use Rattle.cvss_record.specs.Objects.{with_members};
 ghost use Rattle.cvss_record.specs.Record.{IsRecordOf, group_members, is_rated, metric_member, optional_members, score_value, vector_members, version_of};
+ghost use Rattle.serde_json.specs.Data.{put as with_member, string};
 ghost use Rattle.serde_json.specs.View.{members_view, view};
 
 use crate::group::Group;
@@ -69,13 +70,8 @@ fn put_vector(
     ensures { OnOk result (members_view members.new.entries
         ≡ with_members (vector_members cvss.now) (members_view members.old.entries)) }
 {
+    put_text(members, alloc, "version", version(cvss))?;
     let text = cvss.to_string(alloc)?;
-    put(
-        members,
-        alloc,
-        "version",
-        Value::try_from_str(alloc, version(cvss))?,
-    )?;
     put(members, alloc, "vectorString", Value::String(text))
 }
 
@@ -88,8 +84,7 @@ fn put_metrics(
         ≡ with_members (map metric_member (metrics_of cvss.now)) (members_view members.old.entries)) }
 {
     for (metric, spelling) in cvss.metrics() {
-        let value = Value::try_from_str(alloc, word(metric, spelling))?;
-        put(members, alloc, member(metric), value)?;
+        put_text(members, alloc, member(metric), word(metric, spelling))?;
     }
     Ok(())
 }
@@ -106,8 +101,12 @@ fn put_group(
 {
     put(members, alloc, group.score_member(), score_value(tenths))?;
     if is_rated(cvss) {
-        let value = Value::try_from_str(alloc, rating(cvss, tenths))?;
-        put(members, alloc, group.severity_member(), value)?;
+        put_text(
+            members,
+            alloc,
+            group.severity_member(),
+            rating(cvss, tenths),
+        )?;
     }
     Ok(())
 }
@@ -126,6 +125,19 @@ fn put_optional(
         Some(tenths) if group.is_in(cvss) => put_group(members, alloc, cvss, group, tenths),
         _ => Ok(()),
     }
+}
+
+/// Puts a text under a name.
+fn put_text(
+    members: &mut Map<String, Value>,
+    alloc: Global,
+    name: &str,
+    text: &str,
+) -> Result<(), AllocError>
+    ensures { OnOk result (members_view members.new.entries
+        ≡ with_member name.now (string text.now) (members_view members.old.entries)) }
+{
+    put(members, alloc, name, Value::try_from_str(alloc, text)?)
 }
 
 /// The value of a score of so many tenths, as a record has it.

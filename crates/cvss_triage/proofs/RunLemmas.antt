@@ -9,8 +9,8 @@ use Rattle.cvss_triage.specs.Exit.{fault_of}
 use Rattle.cvss_lines.specs.Lines.{lines}
 use Rattle.cvss_triage.specs.Lines.{AreTexts}
 use Rattle.cvss_triage.specs.Runs.{ReadsAll, TellsOf, TellsArgument, IsTold}
-use Rattle.cvss_triage.specs.declared.fault.Fault.{Fault}
-use Rattle.cvss_triage.specs.declared.fault.Fault.TheVariants.{Read, Write, Memory, NotText, ArgumentNotText, UnknownOption, Refused}
+use Rattle.cvss_triage.specs.declared.fault.TriageFault.{TriageFault}
+use Rattle.cvss_triage.specs.declared.fault.TriageFault.TheVariants.{Read, Write, Memory, NotText, ArgumentNotText, UnknownOption, Refused}
 
 -- where all lines are texts, these are the lines
 pub all_lines : (lines : List (List ℕ)) (texts : List (Bor (List ℕ))) → AreTexts lines texts true → map (λ text. text.now) texts ≡ lines
@@ -37,7 +37,7 @@ TellsArgument-from arguments place (NotEnvironmental index) (inr told) = (told, 
 TellsArgument-from arguments place (Text index error) (inr told) = (told, λ lacks. absurd cc)
 
 -- a fault tells what is wrong with what was read
-pub IsTold-from : (overrides : List (List ℕ)) (unread unread' : Option (List ℕ)) (input : List ℕ) → ReadsAll unread unread' input → (fault : Fault) → TellsOf overrides input fault → IsTold overrides unread unread' fault
+pub IsTold-from : (overrides : List (List ℕ)) (unread unread' : Option (List ℕ)) (input : List ℕ) → ReadsAll unread unread' input → (fault : TriageFault) → TellsOf overrides input fault → IsTold overrides unread unread' fault
 IsTold-from overrides unread unread' input reads Read told = tt
 IsTold-from overrides unread unread' input reads Write told = tt
 IsTold-from overrides unread unread' input reads Memory told = tt

@@ -6,21 +6,21 @@ use Rattle.std.specs.declared.io.ErrorKind.TheVariants.{OutOfMemory as NoMemory}
 use Rattle.cvss.specs.ErrorText.{error_text}
 use Rattle.cvss_ranking.specs.declared.error.TriageError.{TriageError}
 use Rattle.cvss_ranking.specs.declared.error.TriageError.TheVariants.{Override, NotEnvironmental, Text, OutOfMemory}
-use Rattle.cvss_triage.specs.declared.fault.Fault.{Fault}
-use Rattle.cvss_triage.specs.declared.fault.Fault.TheVariants.{Read, Write, Memory, NotText, ArgumentNotText, UnknownOption, Refused}
+use Rattle.cvss_triage.specs.declared.fault.TriageFault.{TriageFault}
+use Rattle.cvss_triage.specs.declared.fault.TriageFault.TheVariants.{Read, Write, Memory, NotText, ArgumentNotText, UnknownOption, Refused}
 
 -- the fault that an error of triage is
-abbrev pub fault_of : TriageError → Fault
+abbrev pub fault_of : TriageError → TriageFault
 fault_of OutOfMemory = Memory
 fault_of error = Refused error
 
 -- the fault that a failure of the reader is
-abbrev pub read_fault_of : ErrorKind → Fault
+abbrev pub read_fault_of : ErrorKind → TriageFault
 read_fault_of NoMemory = Memory
 read_fault_of kind = Read
 
 -- 0 where the rows are written, 1 where an argument or a line is refused, 2 after any other fault
-abbrev pub exit_status : Result (Unit {0}) Fault → ℕ
+abbrev pub exit_status : Result (Unit {0}) TriageFault → ℕ
 exit_status (Ok _) = 0
 exit_status (Err (NotText index)) = 1
 exit_status (Err (ArgumentNotText index)) = 1
@@ -31,7 +31,7 @@ exit_status (Err Write) = 2
 exit_status (Err Memory) = 2
 
 -- the words on standard error, with arguments and lines counted from 1
-abbrev pub fault_text : Fault → List ℕ
+abbrev pub fault_text : TriageFault → List ℕ
 fault_text Read = codes "read failed"
 fault_text Write = codes "write failed"
 fault_text Memory = codes "out of memory"

@@ -11,8 +11,8 @@ use Rattle.cvss_ranking.specs.Triage.{AreRanked}
 use Rattle.cvss_lines.specs.Lines.{lines}
 use Rattle.cvss_triage.specs.Lines.{IsNoText}
 use Rattle.cvss_triage.specs.Rows.{row_text}
-use Rattle.cvss_triage.specs.declared.fault.Fault.{Fault}
-use Rattle.cvss_triage.specs.declared.fault.Fault.TheVariants.{Read, Write, Memory, NotText, ArgumentNotText, UnknownOption, Refused}
+use Rattle.cvss_triage.specs.declared.fault.TriageFault.{TriageFault}
+use Rattle.cvss_triage.specs.declared.fault.TriageFault.TheVariants.{Read, Write, Memory, NotText, ArgumentNotText, UnknownOption, Refused}
 
 -- all of the input is read
 pub record ReadsAll (unread unread' : Option (List ℕ)) (input : List ℕ) : Type 0 where
@@ -46,7 +46,7 @@ pub record RanksCut (overrides : List (List ℕ)) (unread unread' written writte
 -- the fault tells what is wrong with the overrides and an input's lines: the first fault of the overrides
 -- and of the lines before any that is not UTF-8; or that such a line, before which nothing is wrong, is not
 -- UTF-8; or that there was no memory
-abbrev pub TellsOf : List (List ℕ) → List ℕ → Fault → Type 0
+abbrev pub TellsOf : List (List ℕ) → List ℕ → TriageFault → Type 0
 TellsOf overrides input (Refused error) =
     (count : ℕ) × All IsUtf8 (take count (lines input))
     × TellsFirstFault (take count (lines input)) overrides error × (error ≢ OutOfMemory)
@@ -59,7 +59,7 @@ TellsOf overrides input Read = ⊥
 TellsOf overrides input Write = ⊥
 
 -- the fault tells what is wrong, once all of the input is read; or that the reader, the writer or memory failed
-abbrev pub IsTold : List (List ℕ) → Option (List ℕ) → Option (List ℕ) → Fault → Type 0
+abbrev pub IsTold : List (List ℕ) → Option (List ℕ) → Option (List ℕ) → TriageFault → Type 0
 IsTold overrides unread unread' Read = ⊤
 IsTold overrides unread unread' Write = ⊤
 IsTold overrides unread unread' Memory = ⊤
@@ -68,7 +68,7 @@ IsTold overrides unread unread' fault =
 
 -- the fault tells what is wrong with arguments of which this one is no text: the first fault of those before
 -- it, or else that it is none
-abbrev pub TellsArgument : List (List ℕ) → ℕ → Fault → Type 0
+abbrev pub TellsArgument : List (List ℕ) → ℕ → TriageFault → Type 0
 TellsArgument arguments place (Refused error) = TellsFirstFault [] (take place arguments) error × (error ≢ OutOfMemory)
 TellsArgument arguments place (ArgumentNotText index) =
     (index ≡ place) × (vector : Vector) × AreOverrides (take place arguments) vector
@@ -79,7 +79,7 @@ TellsArgument arguments place Read = ⊥
 TellsArgument arguments place Write = ⊥
 
 -- an argument is no text; nothing is read then
-pub record IsToldUnread (arguments : List (List ℕ)) (unread unread' : Option (List ℕ)) (fault : Fault) : Type 0 where
+pub record IsToldUnread (arguments : List (List ℕ)) (unread unread' : Option (List ℕ)) (fault : TriageFault) : Type 0 where
   pub place : ℕ
   pub no_text : IsNoText arguments place
   pub told : TellsArgument arguments place fault

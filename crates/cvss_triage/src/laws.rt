@@ -3,12 +3,12 @@
 ghost use Rattle.std.specs.Prelude.{◌↔◌, IsTrue};
 ghost use Rattle.cvss_triage.specs.laws.Faults.{TellTheSame};
 
-use crate::fault::Fault;
+use crate::fault::TriageFault;
 use cvss_ranking::laws;
 
 /// Two faults are equal exactly if they tell the same.
 pub fn equality_is_that_of_values()
-    ensures { (x y : Fault) → IsTrue (⟦<Fault as PartialEq>⟧.eq x y) ↔ TellTheSame x y }
+    ensures { (x y : TriageFault) → IsTrue (⟦<TriageFault as PartialEq>⟧.eq x y) ↔ TellTheSame x y }
 {
     laws::equality_is_that_of_values();
 }

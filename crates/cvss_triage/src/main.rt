@@ -15,7 +15,7 @@ mod write;
 
 use cvss_lines::arguments;
 pub use exit::exit_status;
-pub use fault::Fault;
+pub use fault::TriageFault;
 pub use program::{USAGE, run_program};
 pub use run::{run, run_arguments};
 use std::process::ExitCode;
@@ -29,7 +29,7 @@ fn main(rt: HostRuntime) -> ExitCode {
 }
 
 /// Runs over standard input and output, with the program's arguments.
-fn triage(rt: &HostRuntime) -> Result<(), Fault> {
+fn triage(rt: &HostRuntime) -> Result<(), TriageFault> {
     let arguments = arguments(rt.alloc(), rt)?;
     run_program(rt.alloc(), &arguments, &mut rt.stdin(), &mut rt.stdout())
 }

@@ -6,7 +6,7 @@ ghost use Rattle.cvss_lines.specs.Requests.{asked as asked_of};
 ghost use Rattle.cvss_triage.specs.Lines.{bytes_of};
 ghost use Rattle.cvss_triage.specs.Runs.{Ranks, RanksCut, IsTold, IsToldUnread};
 
-use crate::fault::Fault;
+use crate::fault::TriageFault;
 use crate::run::run_arguments;
 use crate::write::write_whole;
 use cvss_lines::{Request, asked};
@@ -37,18 +37,18 @@ pub fn run_program<R: Read, W: Write>(
     arguments: &[Vec<u8>],
     reader: &mut R,
     writer: &mut W,
-) -> Result<(), Fault>
+) -> Result<(), TriageFault>
     // The usage, for which nothing is read.
     ensures usage { asked_of arguments.now ≡ Request.Usage
         → OnOk result (Appends (W.contents writer.old) (W.contents writer.new) USAGE.now) }
     ensures usage_cut { asked_of arguments.now ≡ Request.Usage
-        → IfErr result (λ fault. (fault ≡ Fault.Write) × ((count : ℕ)
+        → IfErr result (λ fault. (fault ≡ TriageFault.Write) × ((count : ℕ)
         × Appends (W.contents writer.old) (W.contents writer.new) (take count USAGE.now))) }
     ensures unread { asked_of arguments.now ≢ Request.Run
         → Keeps (R.remaining reader.old) (R.remaining reader.new) }
     // A first argument that is no component and not `--help`.
     ensures unknown { asked_of arguments.now ≡ Request.Unknown
-        → (result ≡ Err Fault.UnknownOption)
+        → (result ≡ Err TriageFault.UnknownOption)
         × Keeps (W.contents writer.old) (W.contents writer.new) }
     // Rows.
     ensures ranked { asked_of arguments.now ≡ Request.Run
@@ -56,7 +56,7 @@ pub fn run_program<R: Read, W: Write>(
         (R.remaining reader.old) (R.remaining reader.new)
         (W.contents writer.old) (W.contents writer.new)) }
     ensures cut { asked_of arguments.now ≡ Request.Run
-        → IsErrOf result Fault.Write → RanksCut (bytes_of arguments.now)
+        → IsErrOf result TriageFault.Write → RanksCut (bytes_of arguments.now)
         (R.remaining reader.old) (R.remaining reader.new)
         (W.contents writer.old) (W.contents writer.new) }
     ensures refused { asked_of arguments.now ≡ Request.Run
@@ -65,12 +65,12 @@ pub fn run_program<R: Read, W: Write>(
         ⊎ IsToldUnread (bytes_of arguments.now)
         (R.remaining reader.old) (R.remaining reader.new) fault) }
     ensures silent { asked_of arguments.now ≡ Request.Run
-        → IfErr result (λ fault. fault ≢ Fault.Write
+        → IfErr result (λ fault. fault ≢ TriageFault.Write
         → Keeps (W.contents writer.old) (W.contents writer.new)) }
 {
     match asked(arguments) {
         Request::Usage => write_whole(writer, USAGE.as_bytes()),
-        Request::Unknown => Err(Fault::UnknownOption),
+        Request::Unknown => Err(TriageFault::UnknownOption),
         Request::Run => run_arguments(alloc, arguments, reader, writer),
     }
 }

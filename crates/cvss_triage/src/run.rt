@@ -6,7 +6,7 @@ ghost use Rattle.cvss_triage.specs.Lines.{bytes_of};
 ghost use Rattle.cvss_triage.specs.Runs.{AreRowsOf, Ranks, RanksCut, IsTold, IsToldUnread, TellsOf};
 
 use crate::arguments::texts_of_arguments;
-use crate::fault::Fault;
+use crate::fault::TriageFault;
 use crate::lines::texts_of;
 use crate::rows::written_rows;
 use crate::write::write_whole;
@@ -25,11 +25,11 @@ pub fn run_arguments<R: Read, W: Write>(
     arguments: &[Vec<u8>],
     reader: &mut R,
     writer: &mut W,
-) -> Result<(), Fault>
+) -> Result<(), TriageFault>
     ensures ranked { OnOk result (Ranks (bytes_of arguments.now)
         (R.remaining reader.old) (R.remaining reader.new)
         (W.contents writer.old) (W.contents writer.new)) }
-    ensures cut { IsErrOf result Fault.Write
+    ensures cut { IsErrOf result TriageFault.Write
         → RanksCut (bytes_of arguments.now)
         (R.remaining reader.old) (R.remaining reader.new)
         (W.contents writer.old) (W.contents writer.new) }
@@ -38,7 +38,7 @@ pub fn run_arguments<R: Read, W: Write>(
         (R.remaining reader.old) (R.remaining reader.new) fault
         ⊎ IsToldUnread (bytes_of arguments.now)
         (R.remaining reader.old) (R.remaining reader.new) fault) }
-    ensures silent { IfErr result (λ fault. fault ≢ Fault.Write
+    ensures silent { IfErr result (λ fault. fault ≢ TriageFault.Write
         → Keeps (W.contents writer.old) (W.contents writer.new)) }
 {
     let (overrides, all) = texts_of_arguments(alloc, arguments)?;
@@ -46,7 +46,7 @@ pub fn run_arguments<R: Read, W: Write>(
         return run(alloc, &overrides, reader, writer);
     }
     apply(alloc, &[], &overrides)?;
-    Err(Fault::ArgumentNotText {
+    Err(TriageFault::ArgumentNotText {
         index: overrides.len(),
     })
 }
@@ -64,17 +64,17 @@ pub fn run<R: Read, W: Write>(
     overrides: &[&str],
     reader: &mut R,
     writer: &mut W,
-) -> Result<(), Fault>
+) -> Result<(), TriageFault>
     ensures ranked { OnOk result (Ranks (map (λ text. text.now) overrides.now)
         (R.remaining reader.old) (R.remaining reader.new)
         (W.contents writer.old) (W.contents writer.new)) }
     // After a failed write a beginning of the rows is written, and after another fault nothing.
-    ensures cut { IsErrOf result Fault.Write → RanksCut (map (λ text. text.now) overrides.now)
+    ensures cut { IsErrOf result TriageFault.Write → RanksCut (map (λ text. text.now) overrides.now)
         (R.remaining reader.old) (R.remaining reader.new)
         (W.contents writer.old) (W.contents writer.new) }
     ensures refused { IfErr result (IsTold (map (λ text. text.now) overrides.now)
         (R.remaining reader.old) (R.remaining reader.new)) }
-    ensures silent { IfErr result (λ fault. fault ≢ Fault.Write
+    ensures silent { IfErr result (λ fault. fault ≢ TriageFault.Write
         → Keeps (W.contents writer.old) (W.contents writer.new)) }
 {
     let mut input = Vec::new(alloc);
@@ -84,7 +84,7 @@ pub fn run<R: Read, W: Write>(
 }
 
 /// The rows of an input's lines with the overrides in place, as they are written.
-fn ranked_text(alloc: Global, overrides: &[&str], input: &[u8]) -> Result<String, Fault>
+fn ranked_text(alloc: Global, overrides: &[&str], input: &[u8]) -> Result<String, TriageFault>
     ensures ranked { IfOk result (λ text.
         AreRowsOf (map (λ text. text.now) overrides.now) input.now (string_bytes text)) }
     ensures refused { IfErr result (TellsOf (map (λ text. text.now) overrides.now) input.now) }
@@ -92,7 +92,7 @@ fn ranked_text(alloc: Global, overrides: &[&str], input: &[u8]) -> Result<String
     let (texts, all) = texts_of(alloc, input)?;
     let rows = apply(alloc, &texts, overrides)?;
     if !all {
-        return Err(Fault::NotText { index: texts.len() });
+        return Err(TriageFault::NotText { index: texts.len() });
     }
     Ok(written_rows(alloc, &rows)?)
 }

@@ -17,7 +17,7 @@ use serde_json::{Map, Value, put};
 use std::alloc::{AllocError, Global};
 
 /// Lines that are texts of vectors, each answered by the account of its score or by why there is none.
-pub(crate) struct Vectors {}
+pub struct Vectors {}
 
 impl Answering for Vectors {
     ghost rule = { IsAnswer };

@@ -3,20 +3,18 @@
 #![tactic(auto)]
 
 mod answer;
-mod program;
-mod run;
+mod help;
 
-use cvss_lines::arguments;
-pub use cvss_lines::{Fault, RunFault, Summary, program_status};
-pub use program::{USAGE, run_program};
-pub use run::run;
+pub use answer::Vectors;
+use cvss_lines::{ProgramFault, Summary, arguments, program_status, run_program};
+use help::USAGE;
 use std::process::ExitCode;
 
 fn main(rt: HostRuntime) -> ExitCode {
     let result = why(&rt);
     if let Err(fault) = &result {
         let _ = eprintln!(rt; "cvss_why: {fault}");
-        if *fault == Fault::Arguments {
+        if *fault == ProgramFault::Arguments {
             let _ = eprint!(rt; "{USAGE}");
         }
     }
@@ -24,7 +22,13 @@ fn main(rt: HostRuntime) -> ExitCode {
 }
 
 /// Runs over standard input and output, with the program's arguments.
-fn why(rt: &HostRuntime) -> Result<Summary, Fault> {
+fn why(rt: &HostRuntime) -> Result<Summary, ProgramFault> {
     let arguments = arguments(rt.alloc(), rt)?;
-    run_program(rt.alloc(), &arguments, &mut rt.stdin(), &mut rt.stdout())
+    run_program::<Vectors, _, _>(
+        rt.alloc(),
+        USAGE,
+        &arguments,
+        &mut rt.stdin(),
+        &mut rt.stdout(),
+    )
 }

@@ -1,11 +1,11 @@
 -- What equality of faults means: that of what they tell.
 use Rattle.std.specs.Prelude.{◌≡◌, ⊤}
 use Rattle.cvss_ranking.specs.laws.Faults as triage
-use Rattle.cvss_triage.specs.declared.fault.Fault.{Fault}
-use Rattle.cvss_triage.specs.declared.fault.Fault.TheVariants.{Read, Write, Memory, NotText, ArgumentNotText, UnknownOption, Refused}
+use Rattle.cvss_triage.specs.declared.fault.TriageFault.{TriageFault}
+use Rattle.cvss_triage.specs.declared.fault.TriageFault.TheVariants.{Read, Write, Memory, NotText, ArgumentNotText, UnknownOption, Refused}
 
 -- two faults are of one kind, at one place, and their reasons tell the same
-abbrev pub TellTheSame : Fault → Fault → Type 0
+abbrev pub TellTheSame : TriageFault → TriageFault → Type 0
 TellTheSame Read Read = ⊤
 TellTheSame Write Write = ⊤
 TellTheSame Memory Memory = ⊤
