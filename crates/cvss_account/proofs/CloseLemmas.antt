@@ -1,17 +1,16 @@
 -- The nearest ten millionths of a count that is close to a number are near to the number.
 use Rattle.std.specs.Prelude.{int_lt, if◌then◌else◌}
-use Rattle.std.proofs.Common.{◌≡◌, ℕ, zero, suc, ◌+◌, ◌*◌, ◌^◌, ◌<◌, ◌≤◌, ℤ, pos, Bool, true, false, arith, lit<, subst}
+use Rattle.std.proofs.Common.{◌≡◌, ℕ, zero, suc, ◌+◌, ◌*◌, ◌^◌, ◌<◌, ◌≤◌, ℤ, pos, Bool, true, false, arith, lit<}
 use Rattle.std.proofs.Math.Nat.{mul-le-mul_right, mul-pos}
 use Rattle.std.proofs.lemmas.Int.{ints}
 use borrow.Author.Differences.{up, down}
 use Rattle.cvss_number.proofs.ExactLemmas.{at_most_below}
 use Rattle.cvss_number.specs.Exact.{Exact, of_count, smaller, whole, ◌over◌, ◌⊕◌, ◌≈◌}
-use Rattle.cvss_number.specs.Tenths.{IsInTenths}
 use Rattle.cvss_v3.specs.Closeness.{IsCloseTo}
 use Rattle.cvss_v3.specs.Scores.{base_number, changed_impact, changed_modified_impact, environmental_number, exploitability, first_number, impact, impact_of, iss, miss, modified_exploitability, modified_impact, modified_impact_of, power, rules_of, total_of}
 use Rattle.cvss_v3.specs.declared.weights.Weights.{Weights}
-use Rattle.cvss_account.proofs.NearLemmas.{count_told, near_value}
-use Rattle.cvss_account.specs.Near.{AreNearest, IsWithinMillionth, count_of, ten_millionths}
+use Rattle.cvss_account.proofs.NearLemmas.{near_equal}
+use Rattle.cvss_account.specs.Near.{AreNearest, IsWithinMillionth, ten_millionths}
 use Rattle.cvss_account.specs.NumbersV3.{IsNearBy}
 
 pub near_close : (n : Exact) (c k : ℤ) → 0 < n.bottom → IsCloseTo n (of_count c) → AreNearest c k → IsWithinMillionth n k
@@ -23,17 +22,13 @@ near_close n c k some close nearest =
       not_below = record { below = omega (arith, ints, some, close.not_above.at_most, mul-le-mul_right n.bottom parts) };
     }
 
--- the value of a score that is exact where the scope is not changed, and else close
-pub near_by : (changed : Bool) (n : Exact) (c v k : ℤ) → 0 < n.bottom → IsCloseTo n (of_count c) → (changed ≡ false → of_count c ≈ n)
-    → v ≡ c → AreNearest v k → IsNearBy changed n k
-near_by changed n c v k some close exact is nearest = record {
-  within = near_close n c k some close (subst (λ count. AreNearest count k) is nearest);
-  near = λ unchanged. near_value n c v k some (exact unchanged) is nearest;
+-- a count that is the number where the scope is not changed, and else close to it
+pub near_by : (changed : Bool) (n : Exact) (c k : ℤ) → 0 < n.bottom → IsCloseTo n (of_count c) → (changed ≡ false → of_count c ≈ n)
+    → AreNearest c k → IsNearBy changed n k
+near_by changed n c k some close exact nearest = record {
+  within = near_close n c k some close nearest;
+  near = λ unchanged. near_equal n c k some (exact unchanged) nearest;
 }
-
--- a score's tenths are its count
-pub score_told : (IsNumber : ℤ → Type 0) (c v : ℤ) (t : ℕ) → IsInTenths IsNumber c → v ≡ c → v ≡ count_of t → IsInTenths IsNumber (count_of t)
-score_told IsNumber c v t is same count = count_told (IsInTenths IsNumber) c v t is same count
 
 impact_above : (changed : Bool) (w : Weights) → 0 < (impact_of changed (iss w)).bottom
 unfolding power changed_impact

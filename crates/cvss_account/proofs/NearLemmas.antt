@@ -1,9 +1,9 @@
 -- The nearest ten millionths are near.
-use Rattle.std.proofs.Common.{◌≡◌, ℕ, subst, sym, ◌∙◌, ◌<◌, arith, ℤ}
+use Rattle.std.proofs.Common.{◌≡◌, ◌<◌, ℤ, arith}
 use Rattle.std.proofs.lemmas.Int.{ints}
 use Rattle.cvss_number.proofs.ExactLemmas.{at_most_below, below_at_most, equal_at_most, equal_sym, equal_trans, sum_at_most}
 use Rattle.cvss_number.specs.Exact.{Exact, of_count, ◌over◌, ◌⊕◌, ◌≈◌}
-use Rattle.cvss_account.specs.Near.{AreNearest, IsNear, IsTenth, IsWithinMillionth, count_of, ten_millionths}
+use Rattle.cvss_account.specs.Near.{AreNearest, IsNear, IsTenth, ten_millionths}
 use Rattle.cvss_number.specs.Tenths.{IsInTenths}
 
 -- the ten millionths of the only count that is so many of them
@@ -26,18 +26,10 @@ near_equal n c k some same nearest =
       exact = λ m is. settled c k m nearest (equal_trans some same is);
     }
 
--- the same of the value of a score
-pub near_value : (n : Exact) (c v k : ℤ) → 0 < n.bottom → of_count c ≈ n → v ≡ c → AreNearest v k → IsNear n k
-near_value n c v k some same is nearest = near_equal n c k some same (subst (λ count. AreNearest count k) is nearest)
-
 -- a count of tenths is told as these tenths
-pub tenth_told : (IsNumber : ℤ → Type 0) (c v k : ℤ) → IsInTenths IsNumber c → v ≡ c → AreNearest v k → IsTenth IsNumber k
-tenth_told IsNumber c v k told is nearest = record {
+pub tenth_told : (IsNumber : ℤ → Type 0) (c k : ℤ) → IsInTenths IsNumber c → AreNearest c k → IsTenth IsNumber k
+tenth_told IsNumber c k told nearest = record {
   tenths = told.number;
   is_number = told.is_number;
-  is = omega (arith, ints, nearest.not_above, nearest.not_below, is, told.is_count);
+  is = omega (arith, ints, nearest.not_above, nearest.not_below, told.is_count);
 }
-
--- what is said of a count is said of the tenths that it is told in
-pub count_told : (Is : ℤ → Type 0) (c v : ℤ) (t : ℕ) → Is c → v ≡ c → v ≡ count_of t → Is (count_of t)
-count_told Is c v t is same count = subst Is (sym same ∙ count) is

@@ -4,6 +4,7 @@ pub mod LettersV4
 pub mod Near
 pub mod NumbersV2
 pub mod NumbersV3
+pub mod Parts
 pub mod V2
 pub mod V3
 pub mod V4

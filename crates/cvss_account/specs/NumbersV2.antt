@@ -1,5 +1,5 @@
 -- The numbers that accounts of CVSS v2 tell: guide, section 3.2.
-use Rattle.std.specs.Prelude.{◌≡◌, ℤ, pos, ◌*ℤ◌}
+use Rattle.std.specs.Prelude.{ℤ}
 use Rattle.cvss_number.specs.Exact.{tenths, thousandths}
 use Rattle.cvss_v2.specs.Scores as scores
 use Rattle.cvss_v2.specs.declared.weights.Weights.{Weights}

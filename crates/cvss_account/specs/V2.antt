@@ -6,6 +6,7 @@ use Rattle.cvss.specs.TypesV2.{name_of}
 use Rattle.cvss.specs.VectorTypeV2.{Vector}
 use Rattle.cvss.specs.WeightsV2.{weight_in, weights_of}
 use Rattle.cvss_account.specs.Decimal.{decimal_value}
+use Rattle.cvss_account.specs.Parts.{part_members}
 use Rattle.cvss_account.specs.NumbersV2.{AreBaseNumbers, AreEnvironmentalNumbers, AreTemporalNumbers}
 use Rattle.cvss_account.specs.declared.v2.numbers.BaseNumbers.{BaseNumbers}
 use Rattle.cvss_account.specs.declared.v2.numbers.EnvironmentalNumbers.{EnvironmentalNumbers}
@@ -54,11 +55,7 @@ environmental_value told =
 -- the members of a vector's account
 abbrev pub account_members : Vector → BaseNumbers → TemporalNumbers → EnvironmentalNumbers → List Member
 account_members vector base temporal environmental =
-    (codes "weights", weights_value vector)
-    ∷ (codes "base", base_value base)
-    ∷ (codes "temporal", temporal_value temporal)
-    ∷ (codes "environmental", environmental_value environmental)
-    ∷ []
+    part_members (weights_value vector) (base_value base) (temporal_value temporal) (environmental_value environmental)
 
 -- these are the members of the vector's account
 pub record AreAccountMembers (vector : Vector) (members : List Member) : Type 0 where

@@ -10,6 +10,7 @@ use Rattle.cvss.specs.VectorTypeV3.{Vector}
 use Rattle.cvss.specs.WeightsTypeV3.{Weights}
 use Rattle.cvss.specs.WeightsV3.{weight_in, weights_of}
 use Rattle.cvss_account.specs.Decimal.{decimal_value}
+use Rattle.cvss_account.specs.Parts.{part_members}
 use Rattle.cvss_account.specs.NumbersV3.{AreBaseNumbers, AreEnvironmentalNumbers, AreTemporalNumbers}
 use Rattle.cvss_account.specs.declared.v3.numbers.BaseNumbers.{BaseNumbers}
 use Rattle.cvss_account.specs.declared.v3.numbers.EnvironmentalNumbers.{EnvironmentalNumbers}
@@ -75,12 +76,8 @@ environmental_value told =
 -- the members of a vector's account
 abbrev pub account_members : Weights → BaseNumbers → Scored → EnvironmentalNumbers → List Member
 account_members w base temporal environmental =
-    scope_members w ++
-    ((codes "weights", weights_value w)
-    ∷ (codes "base", base_value base)
-    ∷ (codes "temporal", temporal_value temporal)
-    ∷ (codes "environmental", environmental_value environmental)
-    ∷ [])
+    scope_members w
+    ++ part_members (weights_value w) (base_value base) (temporal_value temporal) (environmental_value environmental)
 
 -- these are the members of the vector's account
 pub record AreAccountMembers (vector : Vector) (members : List Member) : Type 0 where

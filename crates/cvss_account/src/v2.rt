@@ -1,15 +1,15 @@
 //! The accounts of the scores of CVSS v2 (guide, section 3.2).
 
 ghost use Rattle.std.specs.Prelude.{◌≡◌, IfOk, OnOk};
-ghost use Rattle.cvss_account.specs.V2.{AreAccountMembers, account_members, base_value, environmental_value, temporal_value, weight_value, weights_value};
+ghost use Rattle.cvss_account.specs.V2.{AreAccountMembers, base_value, environmental_value, temporal_value, weight_value, weights_value};
 ghost use Rattle.cvss_account.specs.private.Puts.{PutsNumbers};
-ghost use Rattle.cvss_record.specs.Objects.{with_members};
 ghost use Rattle.serde_json.specs.View.{members_view, view};
 
 mod numbers;
 
 use crate::decimal::decimal_value;
 use crate::near::ten_millionths;
+use crate::parts::put_parts;
 use cvss::v2::{MetricType, Vector};
 use cvss_record::score_value;
 use cvss_text::metrics::Listed;
@@ -26,33 +26,11 @@ pub(crate) fn put_account(
     ensures { OnOk result (PutsNumbers (AreAccountMembers vector.now)
         (members_view members.old.entries) (members_view members.new.entries)) }
 {
-    let base = BaseNumbers::of(vector);
-    let temporal = TemporalNumbers::of(vector);
-    let environmental = EnvironmentalNumbers::of(vector);
-    put_values(members, alloc, vector, &base, &temporal, &environmental)
-}
-
-/// Puts the weights and these numbers.
-fn put_values(
-    members: &mut Map<String, Value>,
-    alloc: Global,
-    vector: &Vector,
-    base: &BaseNumbers,
-    temporal: &TemporalNumbers,
-    environmental: &EnvironmentalNumbers,
-) -> Result<(), AllocError>
-    ensures { OnOk result (members_view members.new.entries
-        ≡ with_members (account_members vector.now base.now temporal.now environmental.now)
-        (members_view members.old.entries)) }
-{
     let weights = weights_value(alloc, vector)?;
-    put(members, alloc, "weights", weights)?;
-    let base = base_value(alloc, base)?;
-    put(members, alloc, "base", base)?;
-    let temporal = temporal_value(alloc, temporal)?;
-    put(members, alloc, "temporal", temporal)?;
-    let environmental = environmental_value(alloc, environmental)?;
-    put(members, alloc, "environmental", environmental)
+    let base = base_value(alloc, &BaseNumbers::of(vector))?;
+    let temporal = temporal_value(alloc, &TemporalNumbers::of(vector))?;
+    let environmental = environmental_value(alloc, &EnvironmentalNumbers::of(vector))?;
+    put_parts(members, alloc, weights, base, temporal, environmental)
 }
 
 /// What each metric weighs.

@@ -3,7 +3,7 @@
 ghost use Rattle.std.specs.Prelude.{◌≡◌, IfOk, OnOk, option_map};
 ghost use Rattle.cvss.specs.TypesV3.{name_of};
 ghost use Rattle.cvss.specs.WeightsV3.{weights_of};
-ghost use Rattle.cvss_account.specs.V3.{AreAccountMembers, account_members, base_value, environmental_value, scope_letter, scope_members, scored_members, temporal_value, weight_member, weights_value};
+ghost use Rattle.cvss_account.specs.V3.{AreAccountMembers, base_value, environmental_value, scope_letter, scope_members, scored_members, temporal_value, weight_member, weights_value};
 ghost use Rattle.cvss_account.specs.private.Puts.{PutsNumbers};
 ghost use Rattle.cvss_record.specs.Objects.{with_members};
 ghost use Rattle.serde_json.specs.View.{members_view, view};
@@ -12,6 +12,7 @@ mod numbers;
 
 use crate::decimal::decimal_value;
 use crate::near::ten_millionths;
+use crate::parts::put_parts;
 use cvss::v3::{MetricType, Score, Vector};
 use cvss_number::TENTH;
 use cvss_record::score_value;
@@ -29,34 +30,12 @@ pub(crate) fn put_account(
     ensures { OnOk result (PutsNumbers (AreAccountMembers vector.now)
         (members_view members.old.entries) (members_view members.new.entries)) }
 {
-    let base = BaseNumbers::of(vector);
-    let temporal = Scored::temporal(vector);
-    let environmental = EnvironmentalNumbers::of(vector);
-    put_values(members, alloc, vector, &base, &temporal, &environmental)
-}
-
-/// Puts the scopes, the weights and these numbers.
-fn put_values(
-    members: &mut Map<String, Value>,
-    alloc: Global,
-    vector: &Vector,
-    base: &BaseNumbers,
-    temporal: &Scored,
-    environmental: &EnvironmentalNumbers,
-) -> Result<(), AllocError>
-    ensures { OnOk result (members_view members.new.entries ≡ with_members
-        (account_members (weights_of vector.now) base.now temporal.now environmental.now)
-        (members_view members.old.entries)) }
-{
     put_scopes(members, alloc, vector)?;
     let weights = weights_value(alloc, vector)?;
-    put(members, alloc, "weights", weights)?;
-    let base = base_value(alloc, base)?;
-    put(members, alloc, "base", base)?;
-    let temporal = temporal_value(alloc, temporal)?;
-    put(members, alloc, "temporal", temporal)?;
-    let environmental = environmental_value(alloc, environmental)?;
-    put(members, alloc, "environmental", environmental)
+    let base = base_value(alloc, &BaseNumbers::of(vector))?;
+    let temporal = temporal_value(alloc, Scored::temporal(vector))?;
+    let environmental = environmental_value(alloc, &EnvironmentalNumbers::of(vector))?;
+    put_parts(members, alloc, weights, base, temporal, environmental)
 }
 
 /// Puts the scope and the modified scope, as they count.
@@ -122,11 +101,11 @@ fn base_value(alloc: Global, numbers: &BaseNumbers) -> Result<Value, AllocError>
 }
 
 /// The object of the temporal score.
-fn temporal_value(alloc: Global, scored: &Scored) -> Result<Value, AllocError>
-    ensures { IfOk result (λ value. view value ≡ temporal_value scored.now) }
+fn temporal_value(alloc: Global, scored: Scored) -> Result<Value, AllocError>
+    ensures { IfOk result (λ value. view value ≡ temporal_value scored) }
 {
     let mut members = Map::new(alloc);
-    put_scored(&mut members, alloc, *scored)?;
+    put_scored(&mut members, alloc, scored)?;
     Ok(Value::Object(members))
 }
 

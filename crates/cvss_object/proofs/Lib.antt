@@ -1,4 +1,4 @@
 mod OneLineLemmas
 mod PrintsLemmas
 mod PartsLemmas
-pub mod TreesLemmas
+mod TreesLemmas

@@ -1,5 +1,5 @@
--- A tree, level by level, and a `BTreeMap` of trees beside the members that it stands for.
-use Rattle.std.proofs.Common.{◌≡◌, List, [], ◌∷◌, ◌++◌, String, BTreeMap, Global, Ordering, Less, Equal, Greater, string_bytes, string_cmp, nat_cmp, refl, ap, ◌∙◌, rules}
+-- A `BTreeMap` of trees beside the members that it stands for.
+use Rattle.std.proofs.Common.{◌≡◌, List, [], ◌∷◌, ◌++◌, String, Global, Ordering, Less, Equal, Greater, string_bytes, string_cmp, nat_cmp, refl, ap, ◌∙◌}
 use Rattle.std.proofs.lemmas.Cmp.{nat_list_cmp_total}
 use Rattle.std.specs.BTreeMap.{insert_entry}
 use Rattle.std.specs.Cmp.Lexicographic.{slice_cmp}
@@ -7,15 +7,12 @@ use Rattle.std.specs.List.{AllByRecursion}
 use Rattle.std.specs.List.Sorted.{IsStrictlySortedBy}
 use Rattle.std.specs.Map.{keys_of}
 use Rattle.std.specs.Ordering.{match_ordering, ordering_reverse}
-use Rattle.serde_json.specs.Data.{object, member, put}
+use Rattle.serde_json.specs.Data.{member, put}
 use Rattle.cvss_object.specs.Trees.{members_view, tree_view}
-use Rattle.cvss_object.specs.declared.tree.Tree.{Tree, Object, the_lemmas}
+use Rattle.cvss_object.specs.declared.tree.Tree.{Tree}
 
 abbrev pub Entry : Type 0
 Entry = String Global × Tree
-
-pub tree_view-Object : (members : BTreeMap (String Global) Tree) → tree_view (Object members) ≡ object (members_view members.entries)
-tree_view-Object members = search (rules, the_lemmas)
 
 members_view-match_ordering : (o : Ordering) (a b c : List Entry)
     → members_view (match_ordering o a b c) ≡ match_ordering o (members_view a) (members_view b) (members_view c)

@@ -1,11 +1,15 @@
 //! The numbers on the way to the scores of CVSS v2.
 
+ghost use Rattle.std.specs.Prelude.{◌≡◌};
+ghost use Rattle.cvss_account.specs.Near.{AreNearest, count_of};
 ghost use Rattle.cvss_account.specs.NumbersV2.{AreBaseNumbers, AreEnvironmentalNumbers, AreTemporalNumbers};
+ghost use Rattle.cvss_number.specs.Exact.{IsWithinLimit};
+ghost use Rattle.cvss_number.specs.Tenths.{IsFromZeroToTen, IsInTenths};
 ghost use Rattle.cvss_v2.specs.Weights.{weights_of};
 
 use crate::near::ten_millionths;
 use cvss_number::tenths::tenths_of;
-use cvss_v2::Vector;
+use cvss_v2::{Score, Vector};
 
 /// The numbers of the base score in ten millionths, and the score in tenths.
 #[derive(Clone, Copy)]
@@ -39,11 +43,11 @@ impl BaseNumbers {
         ensures { AreBaseNumbers (weights_of vector.now) result }
     {
         BaseNumbers {
-            impact: ten_millionths(vector.impact().value()),
-            exploitability: ten_millionths(vector.exploitability().value()),
-            f: ten_millionths(vector.impact_factor().value()),
-            number: ten_millionths(vector.base_number().value()),
-            score: tenths_of(vector.score().value()),
+            impact: nearest(vector.impact()),
+            exploitability: nearest(vector.exploitability()),
+            f: nearest(vector.impact_factor()),
+            number: nearest(vector.base_number()),
+            score: tenths(vector.score()),
         }
     }
 }
@@ -53,8 +57,8 @@ impl TemporalNumbers {
         ensures { AreTemporalNumbers (weights_of vector.now) result }
     {
         TemporalNumbers {
-            number: ten_millionths(vector.temporal_number().value()),
-            score: tenths_of(vector.temporal_score().value()),
+            number: nearest(vector.temporal_number()),
+            score: tenths(vector.temporal_score()),
         }
     }
 }
@@ -64,11 +68,27 @@ impl EnvironmentalNumbers {
         ensures { AreEnvironmentalNumbers (weights_of vector.now) result }
     {
         EnvironmentalNumbers {
-            adjusted_impact: ten_millionths(vector.adjusted_impact().value()),
-            adjusted_base: ten_millionths(vector.adjusted_base().value()),
-            adjusted_temporal: ten_millionths(vector.adjusted_temporal().value()),
-            number: ten_millionths(vector.environmental_number().value()),
-            score: tenths_of(vector.environmental_score().value()),
+            adjusted_impact: nearest(vector.adjusted_impact()),
+            adjusted_base: nearest(vector.adjusted_base()),
+            adjusted_temporal: nearest(vector.adjusted_temporal()),
+            number: nearest(vector.environmental_number()),
+            score: tenths(vector.environmental_score()),
         }
     }
+}
+
+/// The ten millionths that are nearest to a number.
+fn nearest(number: Score) -> i64
+    requires { IsWithinLimit number }
+    ensures { AreNearest number result }
+{
+    ten_millionths(number.value())
+}
+
+/// The tenths of a score.
+fn tenths(score: Score) -> u8
+    requires { IsInTenths IsFromZeroToTen score }
+    ensures { count_of result ≡ score }
+{
+    tenths_of(score.value())
 }

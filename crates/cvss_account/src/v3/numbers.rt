@@ -1,15 +1,15 @@
 //! The numbers on the way to the scores of CVSS v3.
 
-ghost use Rattle.std.specs.Prelude.{ℤ};
-ghost use Rattle.cvss_account.specs.Near.{IsNear, count_of};
-ghost use Rattle.cvss_account.specs.NumbersV3.{AreBaseNumbers, AreEnvironmentalNumbers, AreTemporalNumbers, IsFirst, IsNearBy};
-ghost use Rattle.cvss_number.specs.Tenths.{IsInTenths};
-ghost use Rattle.cvss_v3.specs.Scores.{base_number, environmental_number, temporal_number, IsBaseScore, IsEnvironmentalScore};
+ghost use Rattle.std.specs.Prelude.{◌≡◌};
+ghost use Rattle.cvss_account.specs.Near.{AreNearest, count_of};
+ghost use Rattle.cvss_account.specs.NumbersV3.{AreBaseNumbers, AreEnvironmentalNumbers, AreTemporalNumbers};
+ghost use Rattle.cvss_number.specs.Exact.{IsWithinLimit};
+ghost use Rattle.cvss_number.specs.Tenths.{IsFromZeroToTen, IsInTenths};
 ghost use Rattle.cvss_v3.specs.VectorWeights.{weights_of};
 
 use crate::near::ten_millionths;
 use cvss_number::tenths::tenths_of;
-use cvss_v3::Vector;
+use cvss_v3::{Score, Vector};
 
 /// A number in ten millionths, and the score in tenths that it is rounded to.
 #[derive(Clone, Copy)]
@@ -42,10 +42,10 @@ impl BaseNumbers {
         ensures { AreBaseNumbers vector.now.minor_version (weights_of vector.now) result }
     {
         BaseNumbers {
-            iss: ten_millionths(vector.impact().value()),
-            impact: ten_millionths(vector.scoped_impact().value()),
-            exploitability: ten_millionths(vector.exploitability().value()),
-            scored: Scored::base(vector),
+            iss: nearest(vector.impact()),
+            impact: nearest(vector.scoped_impact()),
+            exploitability: nearest(vector.exploitability()),
+            scored: Scored::of(vector.base_number(), vector.base_score()),
         }
     }
 }
@@ -55,58 +55,42 @@ impl EnvironmentalNumbers {
         ensures { AreEnvironmentalNumbers vector.now.minor_version (weights_of vector.now) result }
     {
         EnvironmentalNumbers {
-            miss: ten_millionths(vector.miss().value()),
-            impact: ten_millionths(vector.modified_impact().value()),
-            exploitability: ten_millionths(vector.modified_exploitability().value()),
-            first: Scored::first_environmental(vector),
-            scored: Scored::environmental(vector),
+            miss: nearest(vector.miss()),
+            impact: nearest(vector.modified_impact()),
+            exploitability: nearest(vector.modified_exploitability()),
+            first: Scored::of(
+                vector.environmental_first_number(),
+                vector.environmental_first_score(),
+            ),
+            scored: Scored::of(vector.environmental_number(), vector.environmental_score()),
         }
     }
 }
 
 impl Scored {
-    fn base(vector: &Vector) -> Scored
-        ensures number { IsNearBy (weights_of vector.now).changed (base_number (weights_of vector.now))
-            result.number }
-        ensures score { IsBaseScore vector.now.minor_version (weights_of vector.now)
-            (count_of result.score) }
-    {
-        Scored {
-            number: ten_millionths(vector.base_number().value()),
-            score: tenths_of(vector.base_score().value()),
-        }
-    }
-
     pub(crate) fn temporal(vector: &Vector) -> Scored
         ensures { AreTemporalNumbers vector.now.minor_version (weights_of vector.now) result }
     {
-        Scored {
-            number: ten_millionths(vector.temporal_number().value()),
-            score: tenths_of(vector.temporal_score().value()),
-        }
+        Scored::of(vector.temporal_number(), vector.temporal_score())
     }
 
-    fn first_environmental(vector: &Vector) -> Scored
-        ensures number { IsNearBy (weights_of vector.now).modified_changed
-            (environmental_number vector.now.minor_version (weights_of vector.now)) result.number }
-        ensures score { IsInTenths (IsFirst vector.now.minor_version (weights_of vector.now))
-            (count_of result.score) }
+    fn of(number: Score, score: Score) -> Scored
+        requires number { IsWithinLimit number }
+        requires score { IsInTenths IsFromZeroToTen score }
+        ensures number { AreNearest number result.number }
+        ensures score { count_of result.score ≡ score }
     {
         Scored {
-            number: ten_millionths(vector.environmental_first_number().value()),
-            score: tenths_of(vector.environmental_first_score().value()),
+            number: nearest(number),
+            score: tenths_of(score.value()),
         }
     }
+}
 
-    fn environmental(vector: &Vector) -> Scored
-        ensures number { (first : ℤ) → IsFirst vector.now.minor_version (weights_of vector.now) first
-            → IsNear (temporal_number first (weights_of vector.now)) result.number }
-        ensures score { IsEnvironmentalScore vector.now.minor_version (weights_of vector.now)
-            (count_of result.score) }
-    {
-        Scored {
-            number: ten_millionths(vector.environmental_number().value()),
-            score: tenths_of(vector.environmental_score().value()),
-        }
-    }
+/// The ten millionths that are nearest to a number.
+fn nearest(number: Score) -> i64
+    requires { IsWithinLimit number }
+    ensures { AreNearest number result }
+{
+    ten_millionths(number.value())
 }
