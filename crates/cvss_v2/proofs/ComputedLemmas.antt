@@ -4,7 +4,7 @@ use Rattle.std.specs.Int.{int_max}
 use Rattle.std.specs.List.{list_all}
 use Rattle.std.specs.Ordering.{int_eq}
 use Rattle.std.specs.Prelude.{unsigned_abs}
-use Rattle.std.proofs.Common.{◌≡◌, ◌≢◌, ℕ, ◌^◌, ◌<◌, ℤ, pos, ◌+ℤ◌, ◌-ℤ◌, Bool, true, ◌&&◌, ◌||◌, eqb, ltb, not, inl, inr, arith, refl, subst, lit<}
+use Rattle.std.proofs.Common.{◌≡◌, ◌≢◌, ℕ, ◌^◌, ◌<◌, ℤ, pos, ◌+ℤ◌, ◌-ℤ◌, Bool, true, ◌&&◌, ◌||◌, eqb, ltb, not, inl, inr, arith, refl, rules, subst, lit<}
 use Rattle.std.proofs.lemmas.Bool.{and_parts, or_cases, eqb-true, eqb-false, ltb-true, not-true}
 use Rattle.std.proofs.lemmas.Bool.Decides.{Decides-int_eq}
 use Rattle.cvss_number.specs.Exact.{Exact, ◌over◌, whole, thousandths, tenths, smaller}
@@ -38,14 +38,11 @@ pub record IsAlike (x : Exact) (n : ℕ) : Type 0 where
 
 alike_if : (x : Exact) → 0 < x.bottom → rounds_alike x ≡ true → IsAlike x (place x)
 unfolding rounds_alike
-alike_if x some holds =
-    let parts = and_parts (ltb (place x) 109) _ holds in
-    let roundings = and_parts (int_eq (v2_tenths x) (above_least (place x))) _ parts.1 in
-    record {
-      to_ten = ltb-true (place x) 109 parts.0;
-      by_v2 = subst (λ (r : ℤ). IsRoundedV2 x r) ((Decides-int_eq _ _).0 roundings.0) (v2_is x some);
-      plain = subst (λ (r : ℤ). IsNearestAway x r) ((Decides-int_eq _ _).0 roundings.1) (nearest_is x some);
-    }
+alike_if x some holds = record {
+  to_ten = ltb-true (place x) 109 (search rules);
+  by_v2 = subst (λ (r : ℤ). IsRoundedV2 x r) ((Decides-int_eq _ _).0 (search rules)) (v2_is x some);
+  plain = subst (λ (r : ℤ). IsNearestAway x r) ((Decides-int_eq _ _).0 (search rules)) (nearest_is x some);
+}
 
 -- whether the base number rounds alike, and not to -0.5, of which some products with E, RL and RC do not, with each
 -- exploitability
