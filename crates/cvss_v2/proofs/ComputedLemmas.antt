@@ -2,10 +2,11 @@
 -- what the environmental score is the rounding of is at least published as one: by trying all.
 use Rattle.std.specs.Int.{int_max}
 use Rattle.std.specs.List.{list_all}
+use Rattle.std.specs.Ordering.{int_eq}
 use Rattle.std.specs.Prelude.{unsigned_abs}
-use Rattle.std.proofs.Common.{◌≡◌, ◌≢◌, ℕ, ◌^◌, ◌<◌, ℤ, pos, ◌+ℤ◌, ◌-ℤ◌, Bool, true, ◌&&◌, ◌||◌, eqb, ltb, not, inl, inr, arith, refl, subst, lit<}
+use Rattle.std.proofs.Common.{◌≡◌, ◌≢◌, ℕ, ◌^◌, ◌<◌, ℤ, pos, ◌+ℤ◌, ◌-ℤ◌, Bool, true, ◌&&◌, ◌||◌, eqb, ltb, not, inl, inr, arith, refl, rules, subst, lit<}
 use Rattle.std.proofs.lemmas.Bool.{and_parts, or_cases, eqb-true, eqb-false, ltb-true, not-true}
-use Rattle.std.proofs.lemmas.Int.{ints}
+use Rattle.std.proofs.lemmas.Bool.Decides.{Decides-int_eq}
 use Rattle.cvss_number.specs.Exact.{Exact, ◌over◌, whole, thousandths, tenths, smaller}
 use Rattle.cvss_number.specs.Rounding.{IsNearestAway, IsRoundedV2}
 use Rattle.cvss_number.proofs.RoundingLemmas.{nearest_of, nearest_tenths, nearest_is, v2_tenths, v2_is}
@@ -13,19 +14,8 @@ use Rattle.cvss_name.specs.declared.v2.MetricType.TheVariants.{A, C, I, E, RL, R
 use Rattle.cvss_v2.specs.Scores.{impact_of, impact, adjusted_impact, exploitability, base_number, temporal_number, environmental_number}
 use Rattle.cvss_v2.specs.declared.vector.Vector.{Vector}
 use Rattle.cvss_v2.specs.Weights.{weights_of}
-use Rattle.cvss_number.proofs.TestLemmas.{is_at_most, at_most_if, passes, passes_two, passes_three, all_below, below_passes}
+use Rattle.cvss_number.proofs.TestLemmas.{passes, passes_two, passes_three, all_below, below_passes}
 use Rattle.cvss_v2.proofs.TableLemmas.{weights, weight_listed, weighted_impacts, weighted_listed, exploitabilities, exploitability_listed}
-
--- whether two numbers of tenths are one
-abbrev same : ℤ → ℤ → Bool
-same r s = is_at_most (tenths r) (tenths s) && is_at_most (tenths s) (tenths r)
-
-same_if : (r s : ℤ) → same r s ≡ true → r ≡ s
-same_if r s holds =
-    let parts = and_parts (is_at_most (tenths r) (tenths s)) _ holds in
-    let forth = at_most_if (tenths r) (tenths s) parts.0 in
-    let back = at_most_if (tenths s) (tenths r) parts.1 in
-    omega (arith, ints, forth.at_most, back.at_most)
 
 -- so many tenths above -0.8, than which no adjusted base score is less
 abbrev pub above_least : ℕ → ℤ
@@ -38,7 +28,7 @@ place x = unsigned_abs (nearest_tenths x +ℤ pos 8)
 -- whether x and x + 10^-6 have one nearest tenth, from -0.8 to 10
 unfoldable rounds_alike : Exact → Bool
 rounds_alike x =
-    ltb (place x) 109 && (same (v2_tenths x) (above_least (place x)) && same (nearest_tenths x) (above_least (place x)))
+    ltb (place x) 109 && (int_eq (v2_tenths x) (above_least (place x)) && int_eq (nearest_tenths x) (above_least (place x)))
 
 -- so many tenths above -0.8, at most 10, are the v2 rounding of x and its nearest tenth
 pub record IsAlike (x : Exact) (n : ℕ) : Type 0 where
@@ -48,14 +38,11 @@ pub record IsAlike (x : Exact) (n : ℕ) : Type 0 where
 
 alike_if : (x : Exact) → 0 < x.bottom → rounds_alike x ≡ true → IsAlike x (place x)
 unfolding rounds_alike
-alike_if x some holds =
-    let parts = and_parts (ltb (place x) 109) _ holds in
-    let roundings = and_parts (same (v2_tenths x) (above_least (place x))) _ parts.1 in
-    record {
-      to_ten = ltb-true (place x) 109 parts.0;
-      by_v2 = subst (λ (r : ℤ). IsRoundedV2 x r) (same_if _ _ roundings.0) (v2_is x some);
-      plain = subst (λ (r : ℤ). IsNearestAway x r) (same_if _ _ roundings.1) (nearest_is x some);
-    }
+alike_if x some holds = record {
+  to_ten = ltb-true (place x) 109 (search rules);
+  by_v2 = subst (λ (r : ℤ). IsRoundedV2 x r) ((Decides-int_eq _ _).0 (search rules)) (v2_is x some);
+  plain = subst (λ (r : ℤ). IsNearestAway x r) ((Decides-int_eq _ _).0 (search rules)) (nearest_is x some);
+}
 
 -- whether the base number rounds alike, and not to -0.5, of which some products with E, RL and RC do not, with each
 -- exploitability
@@ -93,7 +80,7 @@ temporals_alike = refl
 unfoldable environmental_alike : ℕ → ℕ → ℕ → Bool
 environmental_alike cdp td n =
     let number = environmental_number (tenths (above_least n)) (thousandths cdp) (thousandths td) in
-    same (int_max (pos 0) (v2_tenths number)) (int_max (pos 0) (nearest_tenths number))
+    int_eq (int_max (pos 0) (v2_tenths number)) (int_max (pos 0) (nearest_tenths number))
 
 -- with all weights, from -0.8 to 10
 environmentals_alike : list_all (λ cdp. list_all (λ td. all_below (environmental_alike cdp td) 109)
@@ -168,4 +155,4 @@ environmental_is_alike v n to_ten =
     let w = weights_of v in
     let all = passes_two (λ cdp td. all_below (environmental_alike cdp td) 109) (weights CDP) (weights TD) w.cdp w.td
     environmentals_alike (weight_listed v CDP) (weight_listed v TD) in
-    same_if _ _ (below_passes (environmental_alike w.cdp w.td) 109 n all to_ten)
+    (Decides-int_eq _ _).0 (below_passes (environmental_alike w.cdp w.td) 109 n all to_ten)

@@ -44,30 +44,14 @@ environmental_score = record { adjusted_temporal = pos 83; is_temporal = adjuste
 
 -- AV:L/AC:H/Au:M/C:P/I:N/A:N/TD:L/CR:L, whose environmental number is -0.05: 0 with 10^-6 added, and else -0.1
 abbrev below_zero : Weights
-below_zero = record {
-  av = 395;
-  ac = 350;
-  au = 450;
-  c = 275;
-  i = 0;
-  a = 0;
-  e = 1000;
-  rl = 1000;
-  rc = 1000;
-  cdp = 0;
-  td = 250;
-  cr = 500;
-  ir = 1000;
-  ar = 1000;
-}
+below_zero = record apache { av = 395; ac = 350; au = 450; c = 275; a = 0; e = 1000; rl = 1000; cdp = 0; td = 250; cr = 500; ar = 1000 }
+
+below_zero_temporal : IsTemporal below_zero (adjusted_impact below_zero) (negsuc 1)
+below_zero_temporal = record { base = negsuc 1; is_base = search rules; is_rounded = search rules }
 
 pub below_zero_scores : IsEnvironmental below_zero (pos 0) × IsEnvironmentalBy IsNearestAway below_zero (negsuc 0)
 below_zero_scores = (
-  record {
-    adjusted_temporal = negsuc 1;
-    is_temporal = record { base = negsuc 1; is_base = search rules; is_rounded = search rules };
-    is_rounded = search rules;
-  },
+  record { adjusted_temporal = negsuc 1; is_temporal = below_zero_temporal; is_rounded = search rules },
   record {
     adjusted_temporal = negsuc 1;
     is_temporal = record { base = negsuc 1; is_base = search rules; is_rounded = search rules };

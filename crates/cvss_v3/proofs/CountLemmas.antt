@@ -51,25 +51,22 @@ capped_millionths n x some is_x =
 rest_equal : {x y : Exact} → x ≈ y → rest x ≈ rest y
 rest_equal same = difference_equal (equal_refl (whole 1)) same
 
--- MISS is that of the impacts times their requirements
-pub miss_parts : (c i a : ℕ) (w : Weights) → hundredths c ≈ hundredths w.cr ⊗ hundredths w.mc → hundredths i ≈ hundredths w.ir ⊗ hundredths w.mi
-    → hundredths a ≈ hundredths w.ar ⊗ hundredths w.ma
-    → sub_score_of (hundredths c) (hundredths i) (hundredths a)
-    ≈ sub_score_of (hundredths w.cr ⊗ hundredths w.mc) (hundredths w.ir ⊗ hundredths w.mi) (hundredths w.ar ⊗ hundredths w.ma)
-miss_parts c i a w is_c is_i is_a =
-    rest_equal (product_equal (product_equal (rest_equal is_c) (rest_equal is_i)) (rest_equal is_a))
+-- equal impacts have equal sub-scores
+sub_score_equal : {c c' i i' a a' : Exact} → c ≈ c' → i ≈ i' → a ≈ a' → sub_score_of c i a ≈ sub_score_of c' i' a'
+sub_score_equal same_c same_i same_a =
+    rest_equal (product_equal (product_equal (rest_equal same_c) (rest_equal same_i)) (rest_equal same_a))
 
 -- an impact times its requirement
-weighted_is : (requirement impact : ℕ) → Contains requirements requirement → Contains impacts impact
-    → hundredths (requirement * impact / 100) ≈ hundredths requirement ⊗ hundredths impact
-weighted_is requirement impact is_requirement is_impact =
-    let exact = weighted_whole requirement impact is_requirement is_impact in
-    record { equal = omega (arith, ints, exact) }
+record IsWeighted (requirement impact : ℕ) : Type 0 where
+  listed : Contains weighted_impacts (requirement * impact / 100)
+  bound : requirement * impact / 100 ≤ 100
+  exact : hundredths (requirement * impact / 100) ≈ hundredths requirement ⊗ hundredths impact
 
-weighted_bound : (requirement impact : ℕ) → Contains requirements requirement → Contains impacts impact
-    → requirement * impact / 100 ≤ 100
-weighted_bound requirement impact is_requirement is_impact =
-    weight_bound weighted_impacts (requirement * impact / 100) 100 refl (weighted_listed requirement impact is_requirement is_impact)
+weighted : (requirement impact : ℕ) → Contains requirements requirement → Contains impacts impact → IsWeighted requirement impact
+weighted requirement impact is_requirement is_impact =
+    let listed = weighted_listed requirement impact is_requirement is_impact in
+    let whole = weighted_whole requirement impact is_requirement is_impact in
+    record { listed = listed; bound = weight_bound weighted_impacts _ 100 refl listed; exact = record { equal = omega (arith, ints, whole) } }
 
 -- MISS in millionths
 abbrev pub miss_millionths : Weights → ℕ
@@ -107,23 +104,16 @@ pub modified_parts : (v : Vector) → AreParts (weights_of v).modified_changed
     (822 * (weights_of v).mav * (weights_of v).mac * (weights_of v).mpr * (weights_of v).mui) (modified_exploitability (weights_of v))
 modified_parts v =
     let w = weights_of v in
-    let cr = optional_listed CR (0, lit< tt, refl) v.cr in
-    let ir = optional_listed IR (0, lit< tt, refl) v.ir in
-    let ar = optional_listed AR (0, lit< tt, refl) v.ar in
-    let mc = base_listed C (effective v.mc v.c) in
-    let mi = base_listed I (effective v.mi v.i) in
-    let ma = base_listed A (effective v.ma v.a) in
-    let c = w.cr * w.mc / 100 in
-    let i = w.ir * w.mi / 100 in
-    let a = w.ar * w.ma / 100 in
-    let are = millionths_are c i a (weighted_bound w.cr w.mc cr mc) (weighted_bound w.ir w.mi ir mi) (weighted_bound w.ar w.ma ar ma) in
-    let parts = miss_parts c i a w (weighted_is w.cr w.mc cr mc) (weighted_is w.ir w.mi ir mi) (weighted_is w.ar w.ma ar ma) in
+    let c = weighted w.cr w.mc (optional_listed CR (0, lit< tt, refl) v.cr) (base_listed C (effective v.mc v.c)) in
+    let i = weighted w.ir w.mi (optional_listed IR (0, lit< tt, refl) v.ir) (base_listed I (effective v.mi v.i)) in
+    let a = weighted w.ar w.ma (optional_listed AR (0, lit< tt, refl) v.ar) (base_listed A (effective v.ma v.a)) in
+    let are = millionths_are _ _ _ c.bound i.bound a.bound in
     record {
-      is_S = capped_millionths (millionths_of c i a) _ (lit< tt) (equal_trans (lit< tt) are parts);
+      is_S = capped_millionths _ _ (lit< tt) (equal_trans (lit< tt) are (sub_score_equal c.exact i.exact a.exact));
       is_E = equal_refl (modified_exploitability w);
       some_S = lit< tt;
       some_E = lit< tt;
-      sub_score = miss_listed c i a (weighted_listed w.cr w.mc cr mc) (weighted_listed w.ir w.mi ir mi) (weighted_listed w.ar w.ma ar ma);
+      sub_score = miss_listed _ _ _ c.listed i.listed a.listed;
       listed = exploitability_listed w.modified_changed w.mav w.mac w.mpr w.mui (base_listed AV (effective v.mav v.av))
           (base_listed AC (effective v.mac v.ac)) (privileges_listed w.modified_changed (effective v.mpr v.pr))
           (base_listed UI (effective v.mui v.ui));

@@ -5,7 +5,7 @@ use Rattle.std.proofs.lemmas.Bool.{leb-true}
 use Rattle.std.proofs.Math.Nat.{lt_of_mul-lt-mul_right}
 use lib.Signed.{le_z}
 use Rattle.cvss_number.specs.Exact.{Exact, ◌over◌, tenths, of_count, ◌⊕◌, ◌⊑◌, ◌⊏◌}
-use Rattle.cvss_number.specs.Rounding.{IsRoundedV30, IsRoundedV31}
+use Rattle.cvss_number.specs.Rounding.{IsRoundedV31}
 
 -- the number next to r tenths at which the v3.1 rounding jumps
 abbrev pub jump : ℤ → Exact
@@ -56,13 +56,6 @@ between_jumps t q r some low high = record {
           least = record { below = fifth_least t q r some low };
         };
       };
-}
-
--- the v3.0 rounding in 10^-13
-pub rounded_v30 : (number : ℕ) → IsRoundedV30 (number over (10 ^ 13)) (pos ((number + 999_999_999_999) / 10 ^ 12))
-rounded_v30 number = record {
-  not_below = record { at_most = omega (arith, ints) };
-  least = record { below = omega (arith, ints) };
 }
 
 -- the v3.1 rounding in 10^-13

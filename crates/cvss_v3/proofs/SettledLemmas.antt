@@ -1,7 +1,7 @@
 -- No rounding jumps near to the first number, for each value of the sub-scores, and the code's number lies near to it.
 use Rattle.std.specs.Prelude.{unsigned_abs}
 use Rattle.std.specs.List.{list_all, Contains}
-use Rattle.std.proofs.Common.{◌≡◌, ℕ, zero, suc, ◌+◌, ◌-◌, ◌*◌, ◌/◌, ◌^◌, ◌<◌, ℤ, pos, negsuc, ◌-ℤ◌, Bool, true, false, ◌&&◌, ◌||◌, arith, refl}
+use Rattle.std.proofs.Common.{◌≡◌, ℕ, zero, suc, ◌+◌, ◌-◌, ◌*◌, ◌/◌, ◌^◌, ◌<◌, ℤ, pos, negsuc, ◌-ℤ◌, Bool, true, false, ◌&&◌, ◌||◌, arith, refl, rules}
 use Rattle.std.proofs.lemmas.Int.{ints}
 use Rattle.std.proofs.lemmas.Bool.{and_parts}
 use Rattle.cvss_number.specs.Exact.{Exact, ratio, ◌over◌, whole, tenths, ◌⊕◌, ◌⊖◌, ◌⊑◌, ◌⊏◌}
@@ -10,7 +10,6 @@ use Rattle.cvss_number.proofs.TestLemmas.{is_below, is_at_most, below_if, at_mos
 use Rattle.cvss_v3.specs.Scores.{power, unchanged_impact, changed_impact, changed_modified_impact, modified_impact_of, first_number, IsRounded}
 use Rattle.cvss_v3.specs.declared.rules.Rules.{Rules}
 use Rattle.cvss_v3.specs.declared.rules.Rules.TheVariants.{V30, V31}
-use Rattle.cvss_v3.specs.Closeness.{IsCloseTo}
 use Rattle.cvss_v3.specs.private.Near.{Approximates}
 use Rattle.cvss_v3.specs.private.SubScores.{sub_scores, exploitabilities, IsSubScore}
 use Rattle.cvss_v3.specs.private.Units.{changed_units, changed_modified_units, impact_units, total_units}
@@ -29,16 +28,10 @@ is_near changed x n =
 
 pub near_if : (changed : Bool) (x n : Exact) → is_near changed x n ≡ true → Approximates changed x n
 unfolding is_near
-near_if changed x n holds =
-    let parts = and_parts (is_at_most x (n ⊕ half)) _ holds in
-    let after = and_parts (is_at_most n (x ⊕ half)) _ parts.1 in
-    let close : IsCloseTo n x = record { not_above = at_most_if x (n ⊕ half) parts.0; not_below = at_most_if n (x ⊕ half) after.0 } in
-    record {
-      close = close;
-      exact = λ is_unchanged.
-          let orders = and_parts (is_at_most x n) _ (rw is_unchanged at after.1) in
-          equal_from_at_most x n (at_most_if x n orders.0) (at_most_if n x orders.1);
-    }
+near_if changed x n holds = record {
+  close = record { not_above = at_most_if x (n ⊕ half) (search rules); not_below = at_most_if n (x ⊕ half) (search rules) };
+  exact = λ is_unchanged. equal_from_at_most x n (at_most_if x n (search rules)) (at_most_if n x (search rules));
+}
 
 -- whether x lies within an error of n, at most 10
 unfoldable is_within : Exact → Exact → Bool
@@ -50,17 +43,16 @@ pub record IsWithin (n x : Exact) : Type 0 where
 
 within_if : (n x : Exact) → is_within n x ≡ true → IsWithin n x
 unfolding is_within
-within_if n x holds =
-    let parts = and_parts (is_at_most (n ⊖ error) x) _ holds in
-    record { low = at_most_if (n ⊖ error) x parts.0; high = at_most_if x (capped (n ⊕ error)) parts.1 }
+within_if n x holds = record { low = at_most_if (n ⊖ error) x (search rules); high = at_most_if x (capped (n ⊕ error)) (search rules) }
 
 -- whether what lies within an error of n is rounded to r tenths by v3.0, and by v3.1 to s, and n lies a fifth decimal or
 -- more above the tenth before s
 unfoldable is_settled_at : Exact → ℕ → ℕ → Bool
 is_settled_at n r s =
-    is_at_most (whole 0) (n ⊖ error) && (is_below (tenths (pos r -ℤ pos 1)) (n ⊖ error)
+    (is_at_most (whole 0) n && is_at_most (tenths (pos s -ℤ pos 1) ⊕ 1 over 100_000) n)
+    && (is_at_most (whole 0) (n ⊖ error) && (is_below (tenths (pos r -ℤ pos 1)) (n ⊖ error)
     && (is_at_most (capped (n ⊕ error)) (tenths (pos r)) && (is_at_most (jump (pos s -ℤ pos 1)) (n ⊖ error)
-    && (is_below (capped (n ⊕ error)) (jump (pos s)) && (is_at_most (whole 0) n && is_at_most (tenths (pos s -ℤ pos 1) ⊕ 1 over 100_000) n)))))
+    && is_below (capped (n ⊕ error)) (jump (pos s))))))
 
 pub record IsSettledAt (n : Exact) (r s : ℕ) : Type 0 where
   pub from_zero : whole 0 ⊑ n ⊖ error
@@ -74,20 +66,15 @@ pub record IsSettledAt (n : Exact) (r s : ℕ) : Type 0 where
 settled_at : (n : Exact) (r s : ℕ) → is_settled_at n r s ≡ true → IsSettledAt n r s
 unfolding is_settled_at
 settled_at n r s settled =
-    let first = and_parts (is_at_most (whole 0) (n ⊖ error)) _ settled in
-    let second = and_parts (is_below (tenths (pos r -ℤ pos 1)) (n ⊖ error)) _ first.1 in
-    let third = and_parts (is_at_most (capped (n ⊕ error)) (tenths (pos r))) _ second.1 in
-    let fourth = and_parts (is_at_most (jump (pos s -ℤ pos 1)) (n ⊖ error)) _ third.1 in
-    let fifth = and_parts (is_below (capped (n ⊕ error)) (jump (pos s))) _ fourth.1 in
-    let last = and_parts (is_at_most (whole 0) n) _ fifth.1 in
+    let parts = and_parts (is_at_most (whole 0) n && is_at_most (tenths (pos s -ℤ pos 1) ⊕ 1 over 100_000) n) _ settled in
     record {
-      from_zero = at_most_if (whole 0) (n ⊖ error) first.0;
-      above_tenth = below_if (tenths (pos r -ℤ pos 1)) (n ⊖ error) second.0;
-      to_tenth = at_most_if (capped (n ⊕ error)) (tenths (pos r)) third.0;
-      from_jump = at_most_if (jump (pos s -ℤ pos 1)) (n ⊖ error) fourth.0;
-      below_jump = below_if (capped (n ⊕ error)) (jump (pos s)) fifth.0;
-      not_negative = at_most_if (whole 0) n last.0;
-      from_cut = at_most_if (tenths (pos s -ℤ pos 1) ⊕ 1 over 100_000) n last.1;
+      from_zero = at_most_if (whole 0) (n ⊖ error) (search rules);
+      above_tenth = below_if (tenths (pos r -ℤ pos 1)) (n ⊖ error) (search rules);
+      to_tenth = at_most_if (capped (n ⊕ error)) (tenths (pos r)) (search rules);
+      from_jump = at_most_if (jump (pos s -ℤ pos 1)) (n ⊖ error) (search rules);
+      below_jump = below_if (capped (n ⊕ error)) (jump (pos s)) (search rules);
+      not_negative = at_most_if (whole 0) n (search rules);
+      from_cut = at_most_if _ n (search rules);
     }
 
 -- the least tenth that is not below n
@@ -111,16 +98,12 @@ is_settled changed n x =
 
 settled_if : (changed : Bool) (n x : Exact) → is_settled changed n x ≡ true → IsSettled changed n x
 unfolding is_settled
-settled_if changed n x settled =
-    let parts = and_parts (is_settled_at n (tenth_above n) (jump_above n)) _ settled in
-    let after = and_parts (is_within n n) _ parts.1 in
-    let last = and_parts (is_within n x) _ after.1 in
-    record {
-      at = settled_at n (tenth_above n) (jump_above n) parts.0;
-      itself = within_if n n after.0;
-      within = within_if n x last.0;
-      near = near_if changed x n last.1;
-    }
+settled_if changed n x settled = record {
+  at = settled_at n (tenth_above n) (jump_above n) (search rules);
+  itself = within_if n n (search rules);
+  within = within_if n x (search rules);
+  near = near_if changed x n (search rules);
+}
 
 -- the tenths to which a settled number is rounded by a minor version
 abbrev pub settled_tenths : ℕ → Exact → ℤ
@@ -157,14 +140,12 @@ pub record Settles (changed : Bool) (impact : Exact) (units : ℕ) : Type 0 wher
 
 settles_if : (changed : Bool) (impact : Exact) (units : ℕ) → settle changed impact units ≡ true → Settles changed impact units
 unfolding settle
-settles_if changed impact units holds =
-    let parts = and_parts (is_near changed (units over (10 ^ 11)) impact) _ holds in
-    record {
-      near = near_if changed (units over (10 ^ 11)) impact parts.0;
-      number = λ e listed. settled_if changed _ _ (passes (λ e.
-          is_settled changed (first_number changed impact (e over (10 ^ 10))) (total_units changed units e over (10 ^ 13)))
-          (exploitabilities changed) e parts.1 listed);
-    }
+settles_if changed impact units holds = record {
+  near = near_if changed (units over (10 ^ 11)) impact (search rules);
+  number = λ e listed. settled_if changed _ _ (passes (λ e.
+      is_settled changed (first_number changed impact (e over (10 ^ 10))) (total_units changed units e over (10 ^ 13)))
+      (exploitabilities changed) e (search rules) listed);
+}
 
 unchanged_settle : list_all (λ s. settle false (unchanged_impact (s over 1_000_000)) (642_000 * s)) sub_scores ≡ true
 unfolding is_near is_within is_settled_at tenth_above jump_above is_settled settle

@@ -1,5 +1,5 @@
 -- Scores of vectors by both specifications, and roundings, so that a wrong equation does not check.
-use Rattle.std.proofs.Common.{◌≡◌, ℕ, ◌^◌, ◌<◌, ℤ, pos, ◌-ℤ◌, Bool, true, false, refl, lit<}
+use Rattle.std.proofs.Common.{◌≡◌, ℕ, ◌^◌, ◌<◌, ℤ, pos, ◌-ℤ◌, true, false, refl, lit<}
 use Rattle.cvss_number.specs.Exact.{Exact, ◌over◌, tenths, ◌⊕◌, ◌≈◌}
 use Rattle.cvss_number.specs.Rounding.{IsRoundedV30, IsRoundedV31}
 use Rattle.cvss_v3.specs.Scores.{power, changed_impact, changed_modified_impact, base_number, environmental_number, temporal_number, miss, IsRounded, IsBase, IsTemporal, IsEnvironmental}
@@ -14,36 +14,32 @@ v31_if : (t q r : ℕ) → 0 < q → is_at_most (jump (pos r -ℤ pos 1)) (t ove
     → IsRoundedV31 (t over q) (pos r)
 v31_if t q r some low high = between_jumps t q r some (at_most_if _ (t over q) low) (below_if (t over q) _ high)
 
--- a vector that has base metrics alone
-abbrev of_base : ℕ → ℕ → ℕ → ℕ → Bool → ℕ → ℕ → ℕ → Weights
-of_base av ac pr ui changed c i a = record {
-  av = av;
-  ac = ac;
-  pr = pr;
-  ui = ui;
-  changed = changed;
-  c = c;
-  i = i;
-  a = a;
+-- AV:N/AC:L/PR:N/UI:N/S:U/C:H/I:H/A:H
+abbrev worst_unchanged : Weights
+worst_unchanged = record {
+  av = 85;
+  ac = 77;
+  pr = 85;
+  ui = 85;
+  changed = false;
+  c = 56;
+  i = 56;
+  a = 56;
   e = 100;
   rl = 100;
   rc = 100;
   cr = 100;
   ir = 100;
   ar = 100;
-  mav = av;
-  mac = ac;
-  mpr = pr;
-  mui = ui;
-  modified_changed = changed;
-  mc = c;
-  mi = i;
-  ma = a;
+  mav = 85;
+  mac = 77;
+  mpr = 85;
+  mui = 85;
+  modified_changed = false;
+  mc = 56;
+  mi = 56;
+  ma = 56;
 }
-
--- AV:N/AC:L/PR:N/UI:N/S:U/C:H/I:H/A:H
-abbrev worst_unchanged : Weights
-worst_unchanged = of_base 85 77 85 85 false 56 56 56
 
 pub worst_unchanged_base : (base_number worst_unchanged ≈ 9_760_161_495 over (10 ^ 9)) × IsBase 1 worst_unchanged (pos 98)
 worst_unchanged_base = (record { equal = refl }, v31_if _ _ 98 (lit< tt) refl refl)
@@ -62,7 +58,7 @@ high_requirements_environmental = (
 
 -- AV:N/AC:L/PR:N/UI:R/S:C/C:H/I:H/A:H, whose environmental score is greater in v3.1
 abbrev worst_changed : Weights
-worst_changed = of_base 85 77 85 62 true 56 56 56
+worst_changed = record worst_unchanged { ui = 62; changed = true; mui = 62; modified_changed = true }
 
 pub worst_changed_environmental : IsEnvironmental 0 worst_changed (pos 96) × IsEnvironmental 1 worst_changed (pos 97)
 unfolding changed_impact changed_modified_impact power
@@ -73,7 +69,7 @@ worst_changed_environmental = (
 
 -- AV:N/AC:L/PR:L/UI:N/S:C/C:H/I:H/A:H/MS:U, whose privileges weigh by each scope
 abbrev scope_modified : Weights
-scope_modified = record (of_base 85 77 68 85 true 56 56 56) { mpr = 62; modified_changed = false }
+scope_modified = record worst_unchanged { pr = 68; changed = true; mpr = 62 }
 
 pub scope_modified_scores : IsBase 1 scope_modified (pos 99)
     × (environmental_number 1 scope_modified ≈ 870_837_345 over (10 ^ 8)) × IsEnvironmental 1 scope_modified (pos 88)
@@ -87,7 +83,7 @@ scope_modified_scores = (
 -- AV:N/AC:L/PR:N/UI:N/S:C/C:H/I:H/A:H/E:H/RL:U/RC:U by v3.0, whose temporal number is exactly 9.2: of a millionth more the
 -- rounding is 9.3
 abbrev on_a_jump : Weights
-on_a_jump = record (of_base 85 77 85 85 true 56 56 56) { rc = 92 }
+on_a_jump = record worst_unchanged { changed = true; rc = 92; modified_changed = true }
 
 pub on_a_jump_temporal : IsTemporal 0 on_a_jump (pos 92)
     × IsRounded 0 (temporal_number (pos 100) on_a_jump ⊕ 1 over 1_000_000) (pos 93)
