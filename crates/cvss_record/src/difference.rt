@@ -202,13 +202,10 @@ fn name_difference<'a>(
 fn tells_version(name: &str) -> bool
     ensures { result ≡ is_among name.now version_names }
 {
-    name == "cvssV2_0"
-        || name == "cvssV3_0"
-        || name == "cvssV3_1"
-        || name == "cvssV4_0"
-        || name == "cvss_v2"
-        || name == "cvss_v3"
-        || name == "cvss_v4"
+    matches!(
+        name,
+        "cvssV2_0" | "cvssV3_0" | "cvssV3_1" | "cvssV4_0" | "cvss_v2" | "cvss_v3" | "cvss_v4"
+    )
 }
 
 /// Whether a member of this name tells the vector's version.
@@ -216,10 +213,10 @@ fn tells_version_of(cvss: &Cvss, name: &str) -> bool
     ensures { result ≡ is_among name.now (names_of cvss.now) }
 {
     match cvss {
-        Cvss::CvssV20(_) => name == "cvssV2_0" || name == "cvss_v2",
-        Cvss::CvssV30(_) => name == "cvssV3_0" || name == "cvss_v3",
-        Cvss::CvssV31(_) => name == "cvssV3_1" || name == "cvss_v3",
-        Cvss::CvssV40(_) => name == "cvssV4_0" || name == "cvss_v4",
+        Cvss::CvssV20(_) => matches!(name, "cvssV2_0" | "cvss_v2"),
+        Cvss::CvssV30(_) => matches!(name, "cvssV3_0" | "cvss_v3"),
+        Cvss::CvssV31(_) => matches!(name, "cvssV3_1" | "cvss_v3"),
+        Cvss::CvssV40(_) => matches!(name, "cvssV4_0" | "cvss_v4"),
     }
 }
 

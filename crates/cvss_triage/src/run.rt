@@ -1,9 +1,9 @@
 //! A run over an input.
 
-ghost use Rattle.std.specs.Prelude.{◌≡◌, ◌≢◌, ◌⊎◌, IfOk, IfErr, IsErrOf, OnOk, map, string_bytes};
+ghost use Rattle.std.specs.Prelude.{◌≡◌, ◌≢◌, ◌⊎◌, ℕ, List, IfOk, IfErr, IsErrOf, OnOk, length, map, take, string_bytes};
 ghost use Rattle.std.specs.Io.KnownBytes.{Keeps};
 ghost use Rattle.cvss_triage.specs.Lines.{bytes_of};
-ghost use Rattle.cvss_triage.specs.Runs.{AreRowsOf, Ranks, RanksCut, IsTold, IsToldUnread, TellsOf};
+ghost use Rattle.cvss_triage.specs.Runs.{AreRowsOf, Ranks, RanksCut, IsTold, IsToldUnread, TellsArgument, TellsOf};
 
 use crate::arguments::texts_of_arguments;
 use crate::fault::TriageFault;
@@ -45,10 +45,21 @@ pub fn run_arguments<R: Read, W: Write>(
     if all {
         return run(alloc, &overrides, reader, writer);
     }
-    apply(alloc, &[], &overrides)?;
-    Err(TriageFault::ArgumentNotText {
-        index: overrides.len(),
-    })
+    Err(argument_fault(alloc, &overrides))
+}
+
+/// What is wrong with arguments of which these are the texts before the first that is none.
+fn argument_fault(alloc: Global, overrides: &[&str]) -> TriageFault
+    ensures { (arguments : List (List ℕ))
+        → map (λ text. text.now) overrides.now ≡ take (length overrides.now) arguments
+        → TellsArgument arguments (length overrides.now) result }
+{
+    match apply(alloc, &[], overrides) {
+        Ok(_) => TriageFault::ArgumentNotText {
+            index: overrides.len(),
+        },
+        Err(error) => TriageFault::from(error),
+    }
 }
 
 /// Reads vectors' texts to the end of the input, one a line, and writes their rows with the
