@@ -14,10 +14,6 @@ use Rattle.cvss_v3.specs.declared.rules.Rules.{Rules}
 use Rattle.cvss_v3.specs.declared.rules.Rules.TheVariants.{V30, V31}
 use Rattle.cvss_v3.specs.declared.weights.Weights.{Weights}
 
--- a product of numbers above 0
-pub above_zero : (m n : ℕ) → 0 < m → 0 < n → 0 < m * n
-above_zero m n some_m some_n = mul-pos some_m some_n
-
 power_equal : {x y : Exact} (n : ℕ) → x ≈ y → power x n ≈ power y n
 unfolding power
 power_equal zero same = equal_refl (whole 1)
@@ -26,7 +22,7 @@ power_equal (suc n) same = product_equal same (power_equal n same)
 power_bottom : (x : Exact) (n : ℕ) → 0 < x.bottom → 0 < (power x n).bottom
 unfolding power
 power_bottom x zero some = lit< tt
-power_bottom x (suc n) some = above_zero x.bottom (power x n).bottom some (power_bottom x n some)
+power_bottom x (suc n) some = mul-pos some (power_bottom x n some)
 
 -- an impact with the scope changed, of a sub-score and of what is less 0.02 in its power
 abbrev powered : ℕ → Exact → Exact → Exact
@@ -40,8 +36,7 @@ powered_equal n same_x same_y =
 
 powered_bottom : (x y : Exact) (n : ℕ) → 0 < x.bottom → 0 < y.bottom → 0 < (powered n x y).bottom
 powered_bottom x y n some_x some_y =
-    above_zero (100 * (x.bottom * 1000)) (100 * _) (omega arith)
-    (above_zero 100 _ (lit< tt) (power_bottom _ n (omega arith)))
+    mul-pos {m = 100 * (x.bottom * 1000)} (omega arith) (mul-pos {m = 100} (lit< tt) (power_bottom _ n (omega arith)))
 
 -- equal sub-scores have equal impacts
 pub impact_equal : (rules : Rules) (changed : Bool) {x y : Exact} → x ≈ y
@@ -66,8 +61,8 @@ suc_above : (m : ℕ) → int_lt (pos 0) (pos (suc m)) ≡ true
 suc_above m = lt-ltb 0 (suc m) (omega arith)
 
 pub total_bottom : (changed : Bool) (x y : Exact) → 0 < x.bottom → 0 < y.bottom → 0 < (total_of changed x y).bottom
-total_bottom false x y some_x some_y = above_zero x.bottom y.bottom some_x some_y
-total_bottom true x y some_x some_y = above_zero 100 (x.bottom * y.bottom) (lit< tt) (above_zero x.bottom y.bottom some_x some_y)
+total_bottom false x y some_x some_y = mul-pos some_x some_y
+total_bottom true x y some_x some_y = mul-pos {m = 100} (lit< tt) (mul-pos some_x some_y)
 
 total_equal : (changed : Bool) {x x' y y' : Exact} → x ≈ x' → y ≈ y' → total_of changed x y ≈ total_of changed x' y'
 total_equal false same_x same_y = sum_equal same_x same_y
@@ -91,7 +86,7 @@ pub first_bottom : (changed : Bool) (x y : Exact) → 0 < x.bottom → 0 < y.bot
 first_bottom changed x y some_x some_y =
     let parted : (b : Bool) → 0 < (if b then capped (total_of changed x y) else whole 0).bottom =
     λ b. elim b as (λ v. 0 < (if v then capped (total_of changed x y) else whole 0).bottom) [
-      | true ↦ above_zero _ 1 (total_bottom changed x y some_x some_y) (lit< tt)
+      | true ↦ mul-pos {n = 1} (total_bottom changed x y some_x some_y) (lit< tt)
       | false ↦ lit< tt
     ] in
     parted (int_lt (pos 0) x.top)

@@ -1,14 +1,14 @@
 -- The highest severity vectors of the classes and their least sums.
 use Rattle.std.proofs.Common.{◌≡◌, ℕ, Bool, true, false, ◌&&◌, ◌==◌, leb, List, [], ◌∷◌, arith, slice_index_or}
 use Rattle.std.specs.List.{list_all, list_any}
-use Rattle.std.proofs.lemmas.Bool.{eqb-true}
+use Rattle.std.proofs.lemmas.Bool.{and_parts, eqb-true}
 use Rattle.std.proofs.lemmas.Bool.Decides.{nat_tests}
 use Rattle.std.proofs.lemmas.List.Folds.{Any-from_list_any}
 use Rattle.std.proofs.lemmas.List.Sums.{AllPass-from_list_all}
 use Rattle.cvss_v4.specs.laws.ClassLaws.{IsDominated, HaveLeastSum}
 use Rattle.cvss_v4.specs.AsSevere.{IsAtMost}
 use Rattle.cvss_v4.proofs.LeastLemmas.{Scale, Classes}
-use Rattle.cvss_v4.proofs.TestLemmas.{both, Finite}
+use Rattle.cvss_v4.proofs.TestLemmas.{Finite}
 
 -- no level is above that of the same place of as many, as a test
 abbrev pub is_at_most : List ℕ → List ℕ → Bool
@@ -22,7 +22,7 @@ at_most [] [] h = tt
 at_most [] (other ∷ others) h = cc
 at_most (level ∷ rest) [] h = cc
 at_most (level ∷ rest) (other ∷ others) h =
-    let parts = both (leb level other) (is_at_most rest others) h in
+    let parts = and_parts (leb level other) (is_at_most rest others) h in
     (grind (arith, nat_tests), at_most rest others parts.1)
 
 -- some listed values dominate these, as a test
@@ -49,5 +49,5 @@ module _ {V C : Type 0} (scale : Scale V C) {IsClass : C → Type 0} {AreSame : 
       let all = AllPass-from_list_all (is_least class) (maximal class) (classes.each are_least h class is) in
       λ k d in_list.
       let m = slice_index_or (maximal class) k d in
-      let parts = both (classes.same (scale.class m) class) (scale.sum m == scale.least class) (all k d in_list) in
+      let parts = and_parts (classes.same (scale.class m) class) (scale.sum m == scale.least class) (all k d in_list) in
       (classes.same_tells (scale.class m) class parts.0, eqb-true (scale.sum m) (scale.least class) parts.1)

@@ -1,6 +1,6 @@
 -- The depth of each class is its greatest distance plus 1.
 use Rattle.std.proofs.Common.{◌≡◌, ℕ, zero, suc, ◌+◌, Bool, true, ◌&&◌, ◌==◌, [], ◌∷◌, slice_get, unwrap_or, pos, ◌<ℤ◌, arith, ap, subst}
-use Rattle.std.proofs.lemmas.Bool.{eqb-true}
+use Rattle.std.proofs.lemmas.Bool.{and_parts, eqb-true}
 use Rattle.std.proofs.lemmas.Int.{ints}
 use Rattle.cvss_v4.specs.laws.ClassLaws.{IsDepth}
 use Rattle.cvss_v4.specs.declared.scoring.effective.Effective.{Effective}
@@ -16,7 +16,6 @@ use Rattle.cvss_v4.specs.declared.scoring.effective.Requirement.TheVariants as r
 use Rattle.cvss_v4.specs.declared.scoring.effective.ExploitMaturity.TheVariants as exploit_maturity
 use Rattle.cvss_v4.proofs.DistanceLemmas.{distance}
 use Rattle.cvss_v4.proofs.LeastLemmas.{Scale, IsScale, Classes, from_least, below_depth}
-use Rattle.cvss_v4.proofs.TestLemmas.{both}
 
 -- values with the highest level of each metric
 abbrev pub mildest : Effective
@@ -68,7 +67,7 @@ module _ {V C : Type 0} (scale : Scale V C) {IsClass : C → Type 0} {AreSame : 
       → IsDepth (λ v. AreSame (scale.class (values v)) class) (λ v. distance scale (values v)) (scale.depth class)
   depth h class is_class =
       let v = values (farthest class) in
-      let parts = both (classes.same (scale.class v) class) (scale.sum v + 1 == scale.least class + scale.depth class)
+      let parts = and_parts (classes.same (scale.class v) class) (scale.sum v + 1 == scale.least class + scale.depth class)
       (classes.each is_farthest h class is_class) in
       let of_class = classes.same_tells (scale.class v) class parts.0 in
       let one_least = ap scale.least (classes.one (scale.class v) class of_class) in

@@ -1,14 +1,14 @@
 -- The groups of metrics with levels, and what holds of the level sums of each class.
 use Rattle.std.proofs.Common.{◌≡◌, ℕ, zero, suc, ◌+◌, ◌*◌, ◌/◌, ◌<◌, ◌≤◌, min, Bool, true, ◌&&◌, ◌||◌, ◌==◌, leb, ltb, List, [], ◌∷◌, slice_index, refl, arith}
 use Rattle.std.specs.List.{list_all}
-use Rattle.std.proofs.lemmas.Bool.{eqb-true}
+use Rattle.std.proofs.lemmas.Bool.{and_parts, eqb-true}
 use Rattle.std.proofs.lemmas.Bool.Decides.{nat_tests}
 use Rattle.cvss_v4.specs.Classes.{eq1, eq2, eq3, eq4, eq6}
 use Rattle.cvss_v4.specs.Distance.{eq1_sum, eq1_least, eq2_sum, eq2_least, eq3_eq6_sum, eq3_eq6_least, eq4_sum, eq4_least}
 use Rattle.cvss_v4.specs.Gap.{eq1_depth, eq2_depth, eq3_eq6_depth, eq4_depth}
 use Rattle.cvss_v4.specs.laws.Maximal.{Eq1Values, Eq2Values, Eq3Eq6Values, Eq4Values}
 use Rattle.cvss_v4.specs.laws.ScoreLaws.{IsPair}
-use Rattle.cvss_v4.proofs.TestLemmas.{both, at_place, Finite, each_eq1, each_eq2, each_eq3_eq6, each_eq4, below, each_below}
+use Rattle.cvss_v4.proofs.TestLemmas.{at_place, Finite, each_eq1, each_eq2, each_eq3_eq6, each_eq4, below, each_below}
 
 -- what a group says of its values and of its classes: the class and the level sum of values, and the least sum of a
 -- class, the constant that the code has for it, and the depth
@@ -59,8 +59,8 @@ module _ {V C : Type 0} (scale : Scale V C) where
         let class = scale.class v in
         let low = leb (scale.constant class) (scale.sum v) in
         let high = ltb (scale.sum v) (scale.constant class + scale.depth class) in
-        let outer = both (classes.is_class class) (low && high) (values.each (is_within classes.is_class) within v) in
-        let inner = both low high outer.1 in
+        let outer = and_parts (classes.is_class class) (low && high) (values.each (is_within classes.is_class) within v) in
+        let inner = and_parts low high outer.1 in
         record { is_class = classes.tells class outer.0; from_constant = grind (arith, nat_tests); to_depth = grind (arith, nat_tests) };
     is_least = λ class is. eqb-true _ _ (classes.each is_least least class is);
     divides = divides;
@@ -170,8 +170,8 @@ either_one class3 class6 h two = grind (arith, nat_tests)
 
 pub pair : (class : ℕ × ℕ) → is_pair class ≡ true → IsPairOf class
 pair (class3, class6) h =
-    let outer = both (leb class3 2) (leb class6 1 && (ltb class3 2 || (class6 == 1))) h in
-    let inner = both (leb class6 1) (ltb class3 2 || (class6 == 1)) outer.1 in
+    let outer = and_parts (leb class3 2) (leb class6 1 && (ltb class3 2 || (class6 == 1))) h in
+    let inner = and_parts (leb class6 1) (ltb class3 2 || (class6 == 1)) outer.1 in
     record {
       eq3 = grind (arith, nat_tests);
       eq6 = grind (arith, nat_tests);
@@ -185,7 +185,7 @@ pairs = record {
   is_class = is_pair;
   tells = pair;
   same = λ x y. (x.0 == y.0) && (x.1 == y.1);
-  same_tells = λ x y h. let parts = both (x.0 == y.0) (x.1 == y.1) h in (eqb-true x.0 y.0 parts.0, eqb-true x.1 y.1 parts.1);
+  same_tells = λ x y h. let parts = and_parts (x.0 == y.0) (x.1 == y.1) h in (eqb-true x.0 y.0 parts.0, eqb-true x.1 y.1 parts.1);
   one = λ x y same i. (same.0 i, same.1 i);
 }
 

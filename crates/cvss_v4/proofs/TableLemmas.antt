@@ -1,5 +1,6 @@
 -- The values of the code are those of the table, and no class has a smaller value than its next lower ones.
 use Rattle.std.proofs.Common.{◌≡◌, ℕ, ◌≤◌, Bool, true, false, ◌&&◌, ◌||◌, ◌==◌, leb, slice_index, Option, Some, None, refl, arith, ap}
+use Rattle.std.proofs.lemmas.Bool.{and_parts}
 use Rattle.std.specs.Option.{option_and_then}
 use Rattle.std.proofs.lemmas.Bool.Decides.{nat_tests}
 use Rattle.cvss_v4.specs.Classes.{IsMacroVector}
@@ -9,7 +10,7 @@ use Rattle.cvss_v4.specs.private.Places.{place_of}
 use Rattle.cvss_v4.specs.Values.{rows, listed_value}
 use Rattle.cvss_v4.specs.declared.scoring.classes.MacroVector.{MacroVector}
 use Rattle.cvss_v4.specs.declared.scoring.values.TheConstants.{VALUES}
-use Rattle.cvss_v4.proofs.TestLemmas.{both, below, each_below}
+use Rattle.cvss_v4.proofs.TestLemmas.{below, each_below}
 
 -- a test that is true for all classes is true for each
 module _ (p : MacroVector → Bool) where
@@ -58,8 +59,8 @@ is_listed (Some listed) value = (listed == value) && (leb 1 value && leb value 1
 listed : (o : Option ℕ) (value : ℕ) → is_listed o value ≡ true → IsListed o value
 listed None value h = cc
 listed (Some v) value h =
-    let outer = both (v == value) (leb 1 value && leb value 100) h in
-    let inner = both (leb 1 value) (leb value 100) outer.1 in
+    let outer = and_parts (v == value) (leb 1 value && leb value 100) h in
+    let inner = and_parts (leb 1 value) (leb value 100) outer.1 in
     let same : v ≡ value = grind (arith, nat_tests) in
     record { is_value = ap Some same; from_one = grind (arith, nat_tests); to_hundred = grind (arith, nat_tests) }
 
@@ -91,7 +92,7 @@ falling : (here next : Option ℕ) (value lower : ℕ) → falls here next ≡ t
 falling here None value lower h is_value is_lower = cc
 falling None (Some l) value lower h is_value is_lower = cc
 falling (Some v) (Some l) value lower h is_value is_lower =
-    let parts = both (leb 1 l) (leb l v) h in
+    let parts = and_parts (leb 1 l) (leb l v) h in
     let same_value : v ≡ value = cc in
     let same_lower : l ≡ lower = cc in
     record { from_one = grind (arith, nat_tests); to_value = grind (arith, nat_tests) }

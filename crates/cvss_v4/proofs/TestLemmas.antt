@@ -1,7 +1,7 @@
 -- A test that computes to true for all values of a type, or all numbers below a limit, holds of each.
-use Rattle.std.proofs.Common.{◌≡◌, ℕ, zero, suc, ◌-◌, ◌<◌, Bool, true, false, ◌&&◌, List, [], ◌∷◌, Some, slice_get, refl, arith, ap, sym, ◌∙◌, inl, inr}
+use Rattle.std.proofs.Common.{◌≡◌, ℕ, zero, suc, ◌-◌, ◌<◌, Bool, true, ◌&&◌, List, [], ◌∷◌, Some, slice_get, refl, arith, ap, sym, ◌∙◌, inl, inr}
 use Rattle.std.specs.List.{list_all}
-use Rattle.std.proofs.lemmas.Bool.{cases_eq}
+use Rattle.std.proofs.lemmas.Bool.{and_parts, cases_eq}
 use Rattle.cvss_v4.specs.Effective.{attack_vectors, privileges, user_interactions, attack_complexities, all_attack_requirements, vulnerable_impacts, subsequent_impacts, safety_impacts, requirements, values}
 use Rattle.cvss_v4.specs.Levels.{attack_vector_level, privileges_level, interaction_level, complexity_level, requirements_level, vulnerable_level, subsequent_level, safety_level, requirement_level}
 use Rattle.cvss_v4.specs.laws.Maximal.{Eq1Values, Eq2Values, Eq3Eq6Values, Eq4Values}
@@ -9,19 +9,13 @@ use Rattle.cvss_v4_metric.specs.declared.base.access as access
 use Rattle.cvss_v4_metric.specs.declared.base.attack as attack
 use Rattle.cvss_v4.specs.declared.scoring.effective as effective
 
--- both parts of a test that is true
-pub both : (a b : Bool) → (a && b) ≡ true → (a ≡ true) × (b ≡ true)
-both true true h = (refl, refl)
-both true false h = (refl, h)
-both false b h = cc
-
 -- a test that is true for all of a list is true for each
 pub at_place : {A : Type 0} (p : A → Bool) (xs : List A) (x : A) (k : ℕ) → list_all p xs ≡ true → slice_get xs k ≡ Some x
     → p x ≡ true
 at_place p [] x zero all here = cc
 at_place p [] x (suc k) all here = cc
-at_place p (y ∷ ys) x zero all here = let same : y ≡ x = cc in ap p (sym same) ∙ (both (p y) (list_all p ys) all).0
-at_place p (y ∷ ys) x (suc k) all here = at_place p ys x k (both (p y) (list_all p ys) all).1 here
+at_place p (y ∷ ys) x zero all here = let same : y ≡ x = cc in ap p (sym same) ∙ (and_parts (p y) (list_all p ys) all).0
+at_place p (y ∷ ys) x (suc k) all here = at_place p ys x k (and_parts (p y) (list_all p ys) all).1 here
 
 -- a type of few values: a test of all of them, and that it holds of each
 pub record Finite (A : Type 0) : Type 0 where
@@ -103,7 +97,7 @@ below p (suc n) = p n && below p n
 pub each_below : (p : ℕ → Bool) (n k : ℕ) → k < n → below p n ≡ true → p k ≡ true
 each_below p zero k h all = absurd (omega arith)
 each_below p (suc n) k h all =
-    let parts = both (p n) (below p n) all in
+    let parts = and_parts (p n) (below p n) all in
     elim (cases_eq k n) as (λ _. p k ≡ true) [
       | inl same ↦ ap p same ∙ parts.0
       | inr other ↦ each_below p n k (omega arith) parts.1
