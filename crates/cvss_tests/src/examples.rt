@@ -8,53 +8,59 @@ use cvss_examples::json::{converted_and_back, text_of, value_of, written_and_rea
 use std::alloc::Global;
 use std::process::Abort;
 
+/// What is audited: two of the texts are refused.
+const AUDITED: [&str; 8] = [
+    "CVSS:3.1/AV:N/AC:L/PR:N/UI:N/S:U/C:H/I:H/A:H",
+    "CVSS:4.0/AV:N/AC:L/AT:N/PR:L/UI:N/VC:H/VI:H/VA:H/SC:N/SI:N/SA:N",
+    "garbage",
+    "AV:N/AC:L/Au:N/C:N/I:N/A:C",
+    "CVSS:4.0/AV:A/AC:H/AT:N/PR:N/UI:N/VC:H/VI:H/VA:N/SC:N/SI:N/SA:N/E:U/CR:H/IR:L/AR:L",
+    "AV:N/AC:L/Au:N/C:N/I:N/A:N",
+    "CVSS:3.1",
+    "CVSS:3.1/av:n/s:c",
+];
+
+/// How many of the audited texts are rated so, or higher.
+const FINDINGS: [(Severity, usize); 5] = [
+    (Severity::None, 6),
+    (Severity::Low, 5),
+    (Severity::Medium, 4),
+    (Severity::High, 3),
+    (Severity::Critical, 1),
+];
+
 #[test]
 fn audits_texts_of_all_versions(rt: HostRuntime) {
-    let texts = [
-        "CVSS:3.1/AV:N/AC:L/PR:N/UI:N/S:U/C:H/I:H/A:H",
-        "CVSS:4.0/AV:N/AC:L/AT:N/PR:L/UI:N/VC:H/VI:H/VA:H/SC:N/SI:N/SA:N",
-        "garbage",
-        "AV:N/AC:L/Au:N/C:N/I:N/A:C",
-        "CVSS:4.0/AV:A/AC:H/AT:N/PR:N/UI:N/VC:H/VI:H/VA:N/SC:N/SI:N/SA:N/E:U/CR:H/IR:L/AR:L",
-        "AV:N/AC:L/Au:N/C:N/I:N/A:N",
-        "CVSS:3.1",
-        "CVSS:3.1/av:n/s:c",
-    ];
-    let rows = [
-        (Severity::None, 6),
-        (Severity::Low, 5),
-        (Severity::Medium, 4),
-        (Severity::High, 3),
-        (Severity::Critical, 1),
-    ];
-    for (level, findings) in rows {
+    for (level, findings) in &FINDINGS {
         let expected = Audit {
-            findings,
+            findings: *findings,
             refused: 2,
         };
-        assert!(rt; count_findings(&texts, level) == expected, "{level}");
+        assert!(rt; count_findings(&AUDITED, *level) == expected, "{level}");
     }
 }
 
+/// Texts with what an advisory tells of each.
+const ADVISORIES: [(&str, &str); 4] = [
+    (
+        "A:C/I:N/C:N/Au:N/AC:L/AV:N",
+        "AV:N/AC:L/Au:N/C:N/I:N/A:C: 7.8 (high)",
+    ),
+    ("CVSS:3.1/av:n/s:c", "CVSS:3.1/AV:N/S:C: 0.0 (none)"),
+    (
+        "CVSS:4.0/AV:N/AC:L/AT:N/PR:N/UI:N/VC:H/VI:H/VA:H/SC:H/SI:H/SA:H",
+        "CVSS:4.0/AV:N/AC:L/AT:N/PR:N/UI:N/VC:H/VI:H/VA:H/SC:H/SI:H/SA:H: 10.0 (critical)",
+    ),
+    (
+        "garbage",
+        "no vector: invalid CVSS metric group component: `garbage`",
+    ),
+];
+
 #[test]
 fn tells_the_vector_or_the_reason(rt: HostRuntime) -> Tried {
-    let rows = [
-        (
-            "A:C/I:N/C:N/Au:N/AC:L/AV:N",
-            "AV:N/AC:L/Au:N/C:N/I:N/A:C: 7.8 (high)",
-        ),
-        ("CVSS:3.1/av:n/s:c", "CVSS:3.1/AV:N/S:C: 0.0 (none)"),
-        (
-            "CVSS:4.0/AV:N/AC:L/AT:N/PR:N/UI:N/VC:H/VI:H/VA:H/SC:H/SI:H/SA:H",
-            "CVSS:4.0/AV:N/AC:L/AT:N/PR:N/UI:N/VC:H/VI:H/VA:H/SC:H/SI:H/SA:H: 10.0 (critical)",
-        ),
-        (
-            "garbage",
-            "no vector: invalid CVSS metric group component: `garbage`",
-        ),
-    ];
-    for (text, told) in rows {
-        assert!(rt; advisory(rt.alloc(), text)?.as_str() == told, "{text}");
+    for (text, told) in &ADVISORIES {
+        assert!(rt; advisory(rt.alloc(), text)?.as_str() == *told, "{text}");
     }
     Ok(())
 }
@@ -78,17 +84,19 @@ fn comes_back(rt: &impl Abort, alloc: Global, text: &str, canonical: &str) -> Tr
     Ok(())
 }
 
+/// Texts with the canonical text of each.
+const CANONICAL: [(&str, &str); 3] = [
+    ("A:C/I:N/C:N/Au:N/AC:L/AV:N", "AV:N/AC:L/Au:N/C:N/I:N/A:C"),
+    ("CVSS:3.1/MA:N/CR:H/AV:N", "CVSS:3.1/AV:N/CR:H/MA:N"),
+    (
+        "CVSS:4.0/u:red/sa:n/si:n/sc:n/va:n/vi:l/vc:l/ui:n/pr:h/at:n/ac:l/av:n",
+        "CVSS:4.0/AV:N/AC:L/AT:N/PR:H/UI:N/VC:L/VI:L/VA:N/SC:N/SI:N/SA:N/U:Red",
+    ),
+];
+
 #[test]
 fn texts_pass_through_json_values(rt: HostRuntime) -> Tried {
-    let rows = [
-        ("A:C/I:N/C:N/Au:N/AC:L/AV:N", "AV:N/AC:L/Au:N/C:N/I:N/A:C"),
-        ("CVSS:3.1/MA:N/CR:H/AV:N", "CVSS:3.1/AV:N/CR:H/MA:N"),
-        (
-            "CVSS:4.0/u:red/sa:n/si:n/sc:n/va:n/vi:l/vc:l/ui:n/pr:h/at:n/ac:l/av:n",
-            "CVSS:4.0/AV:N/AC:L/AT:N/PR:H/UI:N/VC:L/VI:L/VA:N/SC:N/SI:N/SA:N/U:Red",
-        ),
-    ];
-    for (text, canonical) in rows {
+    for (text, canonical) in &CANONICAL {
         passes(&rt, rt.alloc(), text, canonical)?;
         comes_back(&rt, rt.alloc(), text, canonical)?;
     }

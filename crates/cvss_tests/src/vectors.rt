@@ -13,20 +13,22 @@ fn version_of(vector: &Cvss) -> &'static str {
     }
 }
 
+/// Texts with the version of each.
+const VERSIONS: [(&str, &str); 4] = [
+    ("AV:N/AC:L/Au:N/C:N/I:N/A:C", "2.0"),
+    ("CVSS:3.0/AV:N/AC:L/PR:N/UI:R/S:C/C:H/I:H/A:H", "3.0"),
+    ("CVSS:3.1/AV:N/AC:L/PR:N/UI:N/S:U/C:H/I:H/A:H", "3.1"),
+    (
+        "CVSS:4.0/AV:N/AC:L/AT:N/PR:N/UI:N/VC:L/VI:H/VA:N/SC:N/SI:N/SA:N/E:P",
+        "4.0",
+    ),
+];
+
 #[test]
 fn a_text_is_a_vector_of_the_version_that_it_tells(rt: HostRuntime) -> Tried {
-    let rows = [
-        ("AV:N/AC:L/Au:N/C:N/I:N/A:C", "2.0"),
-        ("CVSS:3.0/AV:N/AC:L/PR:N/UI:R/S:C/C:H/I:H/A:H", "3.0"),
-        ("CVSS:3.1/AV:N/AC:L/PR:N/UI:N/S:U/C:H/I:H/A:H", "3.1"),
-        (
-            "CVSS:4.0/AV:N/AC:L/AT:N/PR:N/UI:N/VC:L/VI:H/VA:N/SC:N/SI:N/SA:N/E:P",
-            "4.0",
-        ),
-    ];
-    for (text, version) in rows {
+    for (text, version) in &VERSIONS {
         assert!(rt;
-            version_of(&Cvss::from_str(rt.alloc(), text)?) == version,
+            version_of(&Cvss::from_str(rt.alloc(), text)?) == *version,
             "{text}"
         );
     }

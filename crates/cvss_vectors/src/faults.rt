@@ -1,7 +1,7 @@
 //! What the error of a refused text holds.
 
 use cvss::{Cvss, Error};
-use std::io;
+use std::{fmt, io};
 
 /// The kind of a refusal, and the part of the text or the metric that it holds.
 pub(crate) fn fault(rt: &HostRuntime, text: &str) -> io::Result<()> {
@@ -13,26 +13,33 @@ pub(crate) fn fault(rt: &HostRuntime, text: &str) -> io::Result<()> {
 
 fn print_fault(rt: &HostRuntime, error: &Error) -> io::Result<()> {
     match error {
-        Error::InvalidComponent { component } => println!(rt; "component {component}"),
-        Error::InvalidPrefix { prefix } => println!(rt; "prefix {prefix}"),
-        Error::UnsupportedVersion { version } => println!(rt; "version {version}"),
-        Error::UnknownMetric { name } => println!(rt; "metric {name}"),
-        Error::InvalidMetricV2 { metric_type, value } => {
-            println!(rt; "value of v2 {metric_type} {value}")
-        }
-        Error::InvalidMetricV3 { metric_type, value } => {
-            println!(rt; "value of v3 {metric_type} {value}")
-        }
-        Error::InvalidMetricV4 { metric_type, value } => {
-            println!(rt; "value of v4 {metric_type} {value}")
-        }
-        Error::DuplicateMetricV3 { metric_type } => println!(rt; "duplicate of v3 {metric_type}"),
+        Error::InvalidComponent { component } => print_held(rt, "component", component),
+        Error::InvalidPrefix { prefix } => print_held(rt, "prefix", prefix),
+        Error::UnsupportedVersion { version } => print_held(rt, "version", version),
+        Error::UnknownMetric { name } => print_held(rt, "metric", name),
+        Error::InvalidMetricV2 { metric_type, value } => print_value(rt, "v2", metric_type, value),
+        Error::InvalidMetricV3 { metric_type, value } => print_value(rt, "v3", metric_type, value),
+        Error::InvalidMetricV4 { metric_type, value } => print_value(rt, "v4", metric_type, value),
+        Error::DuplicateMetricV3 { metric_type } => print_held(rt, "duplicate of v3", metric_type),
         Error::MissingMandatoryMetricV2 { metric_type } => {
-            println!(rt; "missing of v2 {metric_type}")
+            print_held(rt, "missing of v2", metric_type)
         }
         Error::MissingMandatoryMetricV4 { metric_type } => {
-            println!(rt; "missing of v4 {metric_type}")
+            print_held(rt, "missing of v4", metric_type)
         }
         _ => println!(rt; "another"),
     }
+}
+
+fn print_held<P: fmt::Display>(rt: &HostRuntime, kind: &str, part: &P) -> io::Result<()> {
+    println!(rt; "{kind} {part}")
+}
+
+fn print_value<K: fmt::Display>(
+    rt: &HostRuntime,
+    version: &str,
+    metric_type: &K,
+    value: &str,
+) -> io::Result<()> {
+    println!(rt; "value of {version} {metric_type} {value}")
 }

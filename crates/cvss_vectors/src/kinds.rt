@@ -1,11 +1,30 @@
 //! Metrics by their names.
 
-use crate::shown::{print_error, show};
+use crate::shown::{Word, show};
 use crate::{first_word, values2, values3, values4};
 use cvss::{v2, v3, v4};
+use std::alloc::Global;
 use std::{fmt, io};
 
 const NO_VERSION: &str = "no such version";
+
+impl Word for v2::MetricType {
+    fn read(alloc: Global, word: &str) -> Option<v2::MetricType> {
+        v2::MetricType::from_str(alloc, word).ok()
+    }
+}
+
+impl Word for v3::MetricType {
+    fn read(alloc: Global, word: &str) -> Option<v3::MetricType> {
+        v3::MetricType::from_str(alloc, word).ok()
+    }
+}
+
+impl Word for v4::MetricType {
+    fn read(alloc: Global, word: &str) -> Option<v4::MetricType> {
+        v4::MetricType::from_str(alloc, word).ok()
+    }
+}
 
 /// What is asked of a metric: its name, one of its values, or each of some.
 #[derive(Clone, Copy)]
@@ -21,26 +40,21 @@ pub(crate) fn kind(rt: &HostRuntime, asked: &str) -> io::Result<()> {
     told(rt, version, name, Asked::Name)
 }
 
-pub(crate) fn print_kind<K>(
-    rt: &HostRuntime,
-    kind: &K,
-    name: &str,
-    description: &str,
-) -> io::Result<()>
+/// A metric or a value, and two texts that belong to it.
+pub(crate) fn print_with<T>(rt: &HostRuntime, value: &T, one: &str, other: &str) -> io::Result<()>
 where
-    K: fmt::Display,
+    T: fmt::Display,
 {
-    println!(rt; "{kind} {name} {description}")
+    println!(rt; "{value} {one} {other}")
 }
 
 /// Metrics beside each other.
 pub(crate) fn each_kind(rt: &HostRuntime, asked: &str) -> io::Result<()> {
     let (version, words) = first_word(asked);
-    let alloc = rt.alloc();
     match version {
-        "2" => show(rt, words, |word| v2::MetricType::from_str(alloc, word).ok()),
-        "3" => show(rt, words, |word| v3::MetricType::from_str(alloc, word).ok()),
-        "4" => show(rt, words, |word| v4::MetricType::from_str(alloc, word).ok()),
+        "2" => show::<v2::MetricType>(rt, words),
+        "3" => show::<v3::MetricType>(rt, words),
+        "4" => show::<v4::MetricType>(rt, words),
         _ => println!(rt; "{NO_VERSION}"),
     }
 }
@@ -69,18 +83,9 @@ fn metric_of(asked: &str) -> Option<(&str, &str, &str)> {
 
 fn told(rt: &HostRuntime, version: &str, name: &str, asked: Asked<'_>) -> io::Result<()> {
     match version {
-        "2" => match v2::MetricType::from_str(rt.alloc(), name) {
-            Ok(kind) => values2::answer(rt, kind, asked),
-            Err(error) => print_error(rt, &error),
-        },
-        "3" => match v3::MetricType::from_str(rt.alloc(), name) {
-            Ok(kind) => values3::answer(rt, kind, asked),
-            Err(error) => print_error(rt, &error),
-        },
-        "4" => match v4::MetricType::from_str(rt.alloc(), name) {
-            Ok(kind) => values4::answer(rt, kind, asked),
-            Err(error) => print_error(rt, &error),
-        },
+        "2" => values2::answer(rt, name, asked),
+        "3" => values3::answer(rt, name, asked),
+        "4" => values4::answer(rt, name, asked),
         _ => println!(rt; "{NO_VERSION}"),
     }
 }

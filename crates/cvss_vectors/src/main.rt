@@ -72,7 +72,7 @@ pub(crate) fn first_word(text: &str) -> (&str, &str) {
     text.split_once(' ').unwrap_or(("", text))
 }
 
-/// What a mark and a blank ask for.
+/// What a mark and a blank ask for of vectors' texts, or else of anything.
 fn answer_marked(rt: &HostRuntime, line: &[u8], mark: &str, asked: &str) -> io::Result<()> {
     match mark {
         "v2" => vectors::of_v2(rt, asked),
@@ -84,6 +84,16 @@ fn answer_marked(rt: &HostRuntime, line: &[u8], mark: &str, asked: &str) -> io::
         "metrics" => vectors::metrics(rt, asked),
         "sight" => vectors::at_sight(rt, asked),
         "same" => vectors::same(rt, asked),
+        "record" => records::record(rt, asked),
+        "differ" => records::differ(rt, asked),
+        "places" => records::places(rt, asked),
+        _ => answer_otherwise(rt, line, mark, asked),
+    }
+}
+
+/// What a mark asks for of metrics, values, numbers and triage; a line with none is a vector.
+fn answer_otherwise(rt: &HostRuntime, line: &[u8], mark: &str, asked: &str) -> io::Result<()> {
+    match mark {
         "kind" => kinds::kind(rt, asked),
         "value" => kinds::value(rt, asked),
         "each" => shown::each(rt, asked),
@@ -93,9 +103,6 @@ fn answer_marked(rt: &HostRuntime, line: &[u8], mark: &str, asked: &str) -> io::
         "tenths" => numbers::tenths(rt, asked),
         "rank" => ranking::rank(rt, asked),
         "overrides" => ranking::overrides(rt, asked),
-        "record" => records::record(rt, asked),
-        "differ" => records::differ(rt, asked),
-        "places" => records::places(rt, asked),
         _ => vectors::of_any(rt, line),
     }
 }

@@ -43,13 +43,19 @@ fn certainty(vector: &v3::Vector) -> &'static str {
 /// The sub-scores of a vector of v2 or v3.
 pub(crate) fn parts(rt: &HostRuntime, text: &str) -> io::Result<()> {
     match Cvss::from_str(rt.alloc(), text) {
-        Ok(Cvss::CvssV20(vector)) => parts_of_v2(rt, &vector),
-        Ok(Cvss::CvssV30(vector) | Cvss::CvssV31(vector)) => {
+        Ok(vector) => print_parts(rt, &vector),
+        Err(error) => print_error(rt, &error),
+    }
+}
+
+fn print_parts(rt: &HostRuntime, vector: &Cvss) -> io::Result<()> {
+    match vector {
+        Cvss::CvssV20(vector) => parts_of_v2(rt, vector),
+        Cvss::CvssV30(vector) | Cvss::CvssV31(vector) => {
             let impact = vector.impact().value();
             println!(rt; "{impact} {}", vector.exploitability().value())
         }
-        Ok(Cvss::CvssV40(_)) => println!(rt; "v4 has none"),
-        Err(error) => print_error(rt, &error),
+        Cvss::CvssV40(_) => println!(rt; "v4 has none"),
     }
 }
 

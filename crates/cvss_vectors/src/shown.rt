@@ -3,54 +3,103 @@
 use crate::first_word;
 use crate::kinds::{each_kind, each_value};
 use cvss::v4::Nomenclature;
-use cvss::{Cvss, Severity, v2, v3, v4};
+use cvss::{Cvss, Error, Severity, v2, v3, v4};
+use std::alloc::{AllocError, Global};
 use std::{fmt, io};
+
+/// A type as whose values words are read.
+pub(crate) trait Word: fmt::Display + Clone + PartialEq + Drop {
+    /// The value of a word.
+    fn read(alloc: Global, word: &str) -> Option<Self>;
+}
+
+impl Word for Cvss {
+    fn read(_alloc: Global, word: &str) -> Option<Cvss> {
+        Cvss::read_bytes(word.as_bytes())
+    }
+}
+
+impl Word for v2::Vector {
+    fn read(_alloc: Global, word: &str) -> Option<v2::Vector> {
+        v2::Vector::read_bytes(word.as_bytes())
+    }
+}
+
+impl Word for v3::Vector {
+    fn read(_alloc: Global, word: &str) -> Option<v3::Vector> {
+        v3::Vector::read_bytes(word.as_bytes())
+    }
+}
+
+impl Word for v4::Vector {
+    fn read(_alloc: Global, word: &str) -> Option<v4::Vector> {
+        v4::Vector::read_bytes(word.as_bytes())
+    }
+}
+
+impl Word for Severity {
+    fn read(alloc: Global, word: &str) -> Option<Severity> {
+        Severity::from_str(alloc, word).ok()
+    }
+}
+
+impl Word for Nomenclature {
+    fn read(alloc: Global, word: &str) -> Option<Nomenclature> {
+        Nomenclature::from_str(alloc, word).ok()
+    }
+}
+
+/// Why a word is no vector.
+impl Word for Error {
+    fn read(alloc: Global, word: &str) -> Option<Error> {
+        Cvss::from_str(alloc, word).err()
+    }
+}
 
 /// Of the words that are read, the values.
 pub(crate) fn each(rt: &HostRuntime, asked: &str) -> io::Result<()> {
     let (kind, words) = first_word(asked);
-    let alloc = rt.alloc();
     match kind {
         "kind" => each_kind(rt, words),
         "value" => each_value(rt, words),
-        "vector" => show(rt, words, |word| Cvss::read_bytes(word.as_bytes())),
-        "v2" => show(rt, words, |word| v2::Vector::read_bytes(word.as_bytes())),
-        "v3" => show(rt, words, |word| v3::Vector::read_bytes(word.as_bytes())),
-        "v4" => show(rt, words, |word| v4::Vector::read_bytes(word.as_bytes())),
-        "rating" => show(rt, words, |word| Severity::from_str(alloc, word).ok()),
-        "nomenclature" => show(rt, words, |word| Nomenclature::from_str(alloc, word).ok()),
-        "error" => show(rt, words, |word| Cvss::from_str(alloc, word).err()),
+        "vector" => show::<Cvss>(rt, words),
+        "v2" => show::<v2::Vector>(rt, words),
+        "v3" => show::<v3::Vector>(rt, words),
+        "v4" => show::<v4::Vector>(rt, words),
+        "rating" => show::<Severity>(rt, words),
+        "nomenclature" => show::<Nomenclature>(rt, words),
+        "error" => show::<Error>(rt, words),
         _ => println!(rt; "no such type"),
     }
 }
 
 /// Of the words that are read, a copy of each value, how many of them it equals, and how many not.
-pub(crate) fn show<T, F>(rt: &HostRuntime, words: &str, read: F) -> io::Result<()>
-where
-    T: fmt::Display + Clone + PartialEq + Drop,
-    F: Fn(&str) -> Option<T>,
-    requires { F.IsAlwaysCallable read }
-{
+pub(crate) fn show<T: Word>(rt: &HostRuntime, words: &str) -> io::Result<()> {
     let mut values = Vec::new(rt.alloc());
     for word in words.split(' ') {
-        if let Some(value) = read(word) {
+        if let Some(value) = T::read(rt.alloc(), word) {
             values.push(value)?;
         }
     }
     print_each(rt, &values)
 }
 
-fn print_each<T>(rt: &HostRuntime, values: &[T]) -> io::Result<()>
+pub(crate) fn print_each<T>(rt: &HostRuntime, values: &[T]) -> io::Result<()>
 where
     T: fmt::Display + Clone + PartialEq + Drop,
 {
     for value in values {
-        let same = values.iter().filter(|other| **other == *value).count();
-        let others = values.iter().filter(|other| **other != *value).count();
         print_alike(rt, &value.clone()?)?;
-        print!(rt; " {same} {others};")?;
+        print_counts(rt, values, value)?;
     }
     println!(rt)
+}
+
+/// How many values one equals, and how many not.
+fn print_counts<T: PartialEq>(rt: &HostRuntime, values: &[T], value: &T) -> io::Result<()> {
+    let same = values.iter().filter(|other| *other == value).count();
+    let others = values.iter().filter(|other| *other != value).count();
+    print!(rt; " {same} {others};")
 }
 
 /// Prints a value; or that it is another text under some option of a formatter, be it a width, a
@@ -59,15 +108,24 @@ pub(crate) fn print_alike<T>(rt: &HostRuntime, value: &T) -> io::Result<()>
 where
     T: fmt::Display,
 {
-    let plain = value.to_string(rt.alloc())?;
-    let styled = format!(in rt.alloc();
-        "{value:>200}\n{value:<12}\n{value:^9}\n{value:*>8.3}\n{value:.1}\n{value:#}\n{value:+}\n{value:012}"
-    )?;
-    if styled.split('\n').all(|text| text == plain.as_str()) {
+    if is_alike(rt.alloc(), value)? {
         print!(rt; "{value}")
     } else {
         print!(rt; "options change the text")
     }
+}
+
+/// Whether a value is one text under all options.
+fn is_alike<T: fmt::Display>(alloc: Global, value: &T) -> Result<bool, AllocError> {
+    let plain = value.to_string(alloc)?;
+    let styled = format!(in alloc;
+        "{value:>200}\n{value:<12}\n{value:^9}\n{value:*>8.3}\n{value:.1}\n{value:#}\n{value:+}\n{value:012}"
+    )?;
+    Ok(are_lines_of(&styled, &plain))
+}
+
+fn are_lines_of(lines: &str, text: &str) -> bool {
+    lines.split('\n').all(|line| line == text)
 }
 
 /// A value of a metric: the value, the metric, the spelling and the weight.

@@ -1,13 +1,20 @@
 //! Values of the metrics of CVSS v2.
 
-use crate::kinds::{Asked, print_kind};
-use crate::shown::{print_error, print_value, show};
+use crate::kinds::{Asked, print_with};
+use crate::shown::{print_each, print_error, print_value};
 use cvss::v2::metric::{base, environmental, temporal};
 use cvss::v2::{Metric, MetricType};
 use std::io;
 
-/// Tells of values of a metric.
-pub(crate) fn answer(rt: &HostRuntime, kind: MetricType, asked: Asked<'_>) -> io::Result<()> {
+/// Tells of the metric of a name, or of its values.
+pub(crate) fn answer(rt: &HostRuntime, name: &str, asked: Asked<'_>) -> io::Result<()> {
+    match MetricType::from_str(rt.alloc(), name) {
+        Ok(kind) => answer_of(rt, kind, asked),
+        Err(error) => print_error(rt, &error),
+    }
+}
+
+fn answer_of(rt: &HostRuntime, kind: MetricType, asked: Asked<'_>) -> io::Result<()> {
     match kind {
         MetricType::AV => told::<base::AccessVector>(rt, kind, asked),
         MetricType::AC => told::<base::AccessComplexity>(rt, kind, asked),
@@ -28,10 +35,20 @@ pub(crate) fn answer(rt: &HostRuntime, kind: MetricType, asked: Asked<'_>) -> io
 
 fn told<M: Metric + Drop>(rt: &HostRuntime, kind: MetricType, asked: Asked<'_>) -> io::Result<()> {
     match asked {
-        Asked::Name => print_kind(rt, &kind, kind.name(), kind.description()),
+        Asked::Name => print_with(rt, &kind, kind.name(), kind.description()),
         Asked::One(text) => one::<M>(rt, text),
-        Asked::Each(words) => show(rt, words, |word| M::read(word)),
+        Asked::Each(words) => each::<M>(rt, words),
     }
+}
+
+fn each<M: Metric + Drop>(rt: &HostRuntime, words: &str) -> io::Result<()> {
+    let mut values = Vec::new(rt.alloc());
+    for word in words.split(' ') {
+        if let Some(value) = M::read(word) {
+            values.push(value)?;
+        }
+    }
+    print_each(rt, &values)
 }
 
 fn one<M: Metric + Drop>(rt: &HostRuntime, text: &str) -> io::Result<()> {

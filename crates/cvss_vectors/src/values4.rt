@@ -1,13 +1,20 @@
 //! Values of the metrics of CVSS v4.
 
-use crate::kinds::{Asked, print_kind};
-use crate::shown::{print_error, show};
+use crate::kinds::{Asked, print_with};
+use crate::shown::{print_each, print_error};
 use cvss::v4::MetricType;
 use cvss::v4::metric::{Metric, base, environmental, supplemental, threat};
 use std::io;
 
-/// Tells of values of a metric.
-pub(crate) fn answer(rt: &HostRuntime, kind: MetricType, asked: Asked<'_>) -> io::Result<()> {
+/// Tells of the metric of a name, or of its values.
+pub(crate) fn answer(rt: &HostRuntime, name: &str, asked: Asked<'_>) -> io::Result<()> {
+    match MetricType::from_str(rt.alloc(), name) {
+        Ok(kind) => answer_of(rt, kind, asked),
+        Err(error) => print_error(rt, &error),
+    }
+}
+
+fn answer_of(rt: &HostRuntime, kind: MetricType, asked: Asked<'_>) -> io::Result<()> {
     match kind {
         MetricType::AC => told::<base::AttackComplexity>(rt, kind, asked),
         MetricType::AT => told::<base::AttackRequirements>(rt, kind, asked),
@@ -58,15 +65,25 @@ pub(crate) fn answer(rt: &HostRuntime, kind: MetricType, asked: Asked<'_>) -> io
 
 fn told<M: Metric + Drop>(rt: &HostRuntime, kind: MetricType, asked: Asked<'_>) -> io::Result<()> {
     match asked {
-        Asked::Name => print_kind(rt, &kind, kind.name(), kind.description()),
+        Asked::Name => print_with(rt, &kind, kind.name(), kind.description()),
         Asked::One(text) => one::<M>(rt, text),
-        Asked::Each(words) => show(rt, words, |word| M::read(word)),
+        Asked::Each(words) => each::<M>(rt, words),
     }
+}
+
+fn each<M: Metric + Drop>(rt: &HostRuntime, words: &str) -> io::Result<()> {
+    let mut values = Vec::new(rt.alloc());
+    for word in words.split(' ') {
+        if let Some(value) = M::read(word) {
+            values.push(value)?;
+        }
+    }
+    print_each(rt, &values)
 }
 
 fn one<M: Metric + Drop>(rt: &HostRuntime, text: &str) -> io::Result<()> {
     match M::from_str(rt.alloc(), text) {
-        Ok(value) => println!(rt; "{value} {} {}", M::name(), value.as_str()),
+        Ok(value) => print_with(rt, &value, M::name(), value.as_str()),
         Err(error) => print_error(rt, &error),
     }
 }

@@ -10,7 +10,7 @@ const OTHERWISE: &str = "read_bytes says otherwise";
 pub(crate) fn of_any(rt: &HostRuntime, line: &[u8]) -> io::Result<()> {
     let read = Cvss::read_bytes(line);
     match Cvss::from_bytes(rt.alloc(), line) {
-        Ok(vector) => print_vector(rt, &read, vector, &vector.score_text(), vector.severity()),
+        Ok(vector) => print_vector(rt, &read, &vector, &vector.score_text(), vector.severity()),
         Err(error) => print_refusal(rt, read.is_none(), &error),
     }
 }
@@ -21,7 +21,7 @@ pub(crate) fn of_v2(rt: &HostRuntime, text: &str) -> io::Result<()> {
     match v2::Vector::from_str(rt.alloc(), text) {
         Ok(vector) => {
             let score = vector.score();
-            print_vector(rt, &read, vector, &score, score.severity())
+            print_vector(rt, &read, &vector, &score, score.severity())
         }
         Err(error) => print_refusal(rt, read.is_none(), &error),
     }
@@ -31,7 +31,7 @@ pub(crate) fn of_v2(rt: &HostRuntime, text: &str) -> io::Result<()> {
 pub(crate) fn of_v3(rt: &HostRuntime, text: &str) -> io::Result<()> {
     let read = v3::Vector::read_bytes(text.as_bytes());
     match v3::Vector::from_str(rt.alloc(), text) {
-        Ok(vector) => print_vector(rt, &read, vector, &vector.score(), vector.severity()),
+        Ok(vector) => print_vector(rt, &read, &vector, &vector.score(), vector.severity()),
         Err(error) => print_refusal(rt, read.is_none(), &error),
     }
 }
@@ -42,7 +42,7 @@ pub(crate) fn of_v4(rt: &HostRuntime, text: &str) -> io::Result<()> {
     match v4::Vector::from_str(rt.alloc(), text) {
         Ok(vector) => {
             let score = vector.score();
-            print_vector(rt, &read, vector, &score, score.severity())
+            print_vector(rt, &read, &vector, &score, score.severity())
         }
         Err(error) => print_refusal(rt, read.is_none(), &error),
     }
@@ -52,15 +52,15 @@ pub(crate) fn of_v4(rt: &HostRuntime, text: &str) -> io::Result<()> {
 fn print_vector<V, S>(
     rt: &HostRuntime,
     read: &Option<V>,
-    vector: V,
+    vector: &V,
     score: &S,
     rating: Severity,
 ) -> io::Result<()>
 where
-    V: fmt::Display + PartialEq + Copy + Drop,
+    V: fmt::Display + PartialEq,
     S: fmt::Display,
 {
-    if *read == Some(vector) {
+    if read.as_ref() == Some(vector) {
         println!(rt; "{vector} {score} {rating}")
     } else {
         println!(rt; "{OTHERWISE}")
@@ -116,14 +116,17 @@ pub(crate) fn at_sight(rt: &HostRuntime, text: &str) -> io::Result<()> {
 /// The vector that each call gives that may decline a text.
 fn seen(text: &[u8]) -> Option<Cvss> {
     let vector = Cvss::read_canonical(text)?;
-    let by_version = match vector {
-        Cvss::CvssV20(_) => Cvss::CvssV20(v2::Vector::read_canonical(text)?),
-        Cvss::CvssV30(_) => Cvss::CvssV30(v3::Vector::read_canonical(text)?),
-        Cvss::CvssV31(_) => Cvss::CvssV31(v3::Vector::read_canonical(text)?),
-        Cvss::CvssV40(_) => Cvss::CvssV40(v4::Vector::read_canonical(text)?),
-    };
     let in_any_order = Cvss::read_in_any_order(text)?;
-    (by_version == vector && in_any_order == vector).then_some(vector)
+    (in_any_order == vector && is_seen_by_version(text, &vector)).then_some(vector)
+}
+
+fn is_seen_by_version(text: &[u8], vector: &Cvss) -> bool {
+    match vector {
+        Cvss::CvssV20(vector) => v2::Vector::read_canonical(text).as_ref() == Some(vector),
+        Cvss::CvssV30(vector) | Cvss::CvssV31(vector) => v3::Vector::read_canonical(text).as_ref()
+            == Some(vector),
+        Cvss::CvssV40(vector) => v4::Vector::read_canonical(text).as_ref() == Some(vector),
+    }
 }
 
 fn bounds_text(bounds: Bounds) -> &'static str {
@@ -150,13 +153,13 @@ fn word(yes: bool) -> &'static str {
 
 fn both(one: &str, other: &str) -> Option<(bool, bool)> {
     match (
-        Cvss::read_bytes(one.as_bytes())?,
-        Cvss::read_bytes(other.as_bytes())?,
+        &Cvss::read_bytes(one.as_bytes())?,
+        &Cvss::read_bytes(other.as_bytes())?,
     ) {
-        (Cvss::CvssV20(one), Cvss::CvssV20(other)) => Some((one == other, one.same_text(&other))),
+        (Cvss::CvssV20(one), Cvss::CvssV20(other)) => Some((one == other, one.same_text(other))),
         (Cvss::CvssV30(one) | Cvss::CvssV31(one), Cvss::CvssV30(other) | Cvss::CvssV31(other)) =>
-            Some((one == other, one.same_text(&other))),
-        (Cvss::CvssV40(one), Cvss::CvssV40(other)) => Some((one == other, one.same_text(&other))),
+            Some((one == other, one.same_text(other))),
+        (Cvss::CvssV40(one), Cvss::CvssV40(other)) => Some((one == other, one.same_text(other))),
         _ => None,
     }
 }
