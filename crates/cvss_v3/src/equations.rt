@@ -36,6 +36,7 @@ pub fn sub_score(c: u64, i: u64, a: u64) -> u64
 
 /// Exploitability in 10^-10, of four weights in hundredths.
 #[inline(always)]
+#[tactic(auto, using(crate::proofs::CountLemmas::four_bound))]
 pub fn exploitability(av: u64, ac: u64, pr: u64, ui: u64) -> u64
     requires av { av ≤ 100 }
     requires ac { ac ≤ 100 }

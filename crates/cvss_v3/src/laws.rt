@@ -79,6 +79,7 @@ pub fn cutting_changes_no_score()
 {}
 
 /// A metric that is `X` and one that is absent weigh the same, so that all scores are the same.
+#[tactic(auto, using(crate::proofs::DefinedLemmas::one_weights))]
 pub fn not_defined_weighs_as_absent()
     ensures { (left right : Vector) → DefineTheSame left right
         → weights_of left ≡ weights_of right }

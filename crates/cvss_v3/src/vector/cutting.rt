@@ -59,6 +59,7 @@ fn cut_three(piece: &[u8]) -> Option<(MetricType, &[u8])>
 
 /// A letter in upper case; of a byte that is none, no such letter.
 #[inline(always)]
+#[tactic(auto, using(crate::proofs::NameLemmas::upper_is))]
 fn upper(byte: u8) -> u8
     ensures { IsTrue (is_ascii_uppercase result) → to_ascii_uppercase byte ≡ result }
 {

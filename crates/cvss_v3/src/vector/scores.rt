@@ -87,6 +87,7 @@ impl Vector {
     /// Whether, with impact, an error of 10^-6 in the number that the base score is the rounding of
     /// leaves the score as it is, as long as the number stays at most 10: it always does (v3.1
     /// specification, Appendix A, on numbers that are computed in floating point).
+    #[tactic(auto, using(crate::proofs::NumberLemmas::base_certain))]
     pub fn base_is_certain(&self) -> bool
         ensures always { IsTrue result }
         ensures certain { IsTrue result
