@@ -73,18 +73,29 @@ pub(crate) fn each(rt: &HostRuntime, asked: &str) -> io::Result<()> {
     }
 }
 
-/// Of the words that are read, a copy of each value, how many of them it equals, and how many not.
+/// Of the words that a type reads, the values beside each other.
 pub(crate) fn show<T: Word>(rt: &HostRuntime, words: &str) -> io::Result<()> {
+    show_read(rt, words, |word| T::read(rt.alloc(), word))
+}
+
+/// Of the words that a function reads, a copy of each value, how many of them it equals, and how many
+/// not.
+pub(crate) fn show_read<T, F>(rt: &HostRuntime, words: &str, read: F) -> io::Result<()>
+where
+    T: fmt::Display + Clone + PartialEq + Drop,
+    F: Fn(&str) -> Option<T>,
+    requires { F.IsAlwaysCallable read }
+{
     let mut values = Vec::new(rt.alloc());
     for word in words.split(' ') {
-        if let Some(value) = T::read(rt.alloc(), word) {
+        if let Some(value) = read(word) {
             values.push(value)?;
         }
     }
     print_each(rt, &values)
 }
 
-pub(crate) fn print_each<T>(rt: &HostRuntime, values: &[T]) -> io::Result<()>
+fn print_each<T>(rt: &HostRuntime, values: &[T]) -> io::Result<()>
 where
     T: fmt::Display + Clone + PartialEq + Drop,
 {

@@ -1,7 +1,7 @@
 //! Values of the metrics of CVSS v4.
 
 use crate::kinds::{Asked, print_with};
-use crate::shown::{print_each, print_error};
+use crate::shown::{print_error, show_read};
 use cvss::v4::MetricType;
 use cvss::v4::metric::{Metric, base, environmental, supplemental, threat};
 use std::io;
@@ -67,18 +67,8 @@ fn told<M: Metric + Drop>(rt: &HostRuntime, kind: MetricType, asked: Asked<'_>) 
     match asked {
         Asked::Name => print_with(rt, &kind, kind.name(), kind.description()),
         Asked::One(text) => one::<M>(rt, text),
-        Asked::Each(words) => each::<M>(rt, words),
+        Asked::Each(words) => show_read(rt, words, |word| M::read(word)),
     }
-}
-
-fn each<M: Metric + Drop>(rt: &HostRuntime, words: &str) -> io::Result<()> {
-    let mut values = Vec::new(rt.alloc());
-    for word in words.split(' ') {
-        if let Some(value) = M::read(word) {
-            values.push(value)?;
-        }
-    }
-    print_each(rt, &values)
 }
 
 fn one<M: Metric + Drop>(rt: &HostRuntime, text: &str) -> io::Result<()> {
