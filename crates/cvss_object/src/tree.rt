@@ -7,8 +7,8 @@ ghost use Rattle.serde_json.specs.Data.{put};
 use serde_json::{Map, Value};
 use std::alloc::{AllocError, Global};
 
-/// A JSON value of which parts may stand elsewhere: they are written from there, and a string alone is
-/// copied, while it is written.
+/// A JSON value of which parts may stand elsewhere: they are written from there, and a string alone
+/// is copied, while it is written.
 #[derive(Drop)]
 pub enum Tree<'a> {
     /// A value of its own.
