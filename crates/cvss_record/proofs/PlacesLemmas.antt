@@ -2,13 +2,10 @@
 use Rattle.std.proofs.Common.{◌≡◌, ℕ, ◌+◌, ◌<◌, ◌≤◌, List, [], ◌∷◌, ◌++◌, drop, map, Option, None, Some, option_map, Bor, BTreeMap, Global, String, string_bytes, refl, sym, ap, ap₂, ◌∙◌, subst, append_assoc, append-nil, arith}
 use Rattle.std.proofs.lemmas.Grind.{flat_map-append}
 use Rattle.std.proofs.lemmas.List.{map-append, map-id}
-use Rattle.serde_json.specs.Data as Json
 use Rattle.serde_json.specs.Data.{array, object, item, member}
 use Rattle.serde_json.specs.View.{items_view, members_view, view}
 use Rattle.serde_json.specs.declared.value.Value.{Value}
-use Rattle.std.specs.Fmt.{decimal}
-use Rattle.cvss_record.specs.Places as Places
-use Rattle.cvss_record.specs.Places.{Place, around_view, below, escaped, place_of, places_in, places_in_items, places_in_members, places_within}
+use Rattle.cvss_record.specs.Places.{Place, around_view, place_of, places_in, places_in_items, places_in_members, places_within}
 use Rattle.cvss_record.specs.PlacesLeft.{places_in_levels, places_in_rest, step_text, under}
 use Rattle.cvss_record.specs.private.Walking.{Visits, level_of, pointer_to, steps_in, steps_in_items, steps_in_members, steps_in_rest, steps_left}
 use Rattle.cvss_record.specs.declared.place.Around.{Around}
