@@ -3,15 +3,15 @@
 ghost use Rattle.std.specs.Prelude.{◌≡◌, ◌++◌, IfOk, OnOk, map, option_map};
 ghost use Rattle.std.specs.Option.{option_to_list};
 ghost use Rattle.cvss.specs.Answers.{HasScore};
-ghost use Rattle.cvss_record.specs.Differences.{AreDifferences, AreDifferencesAt, difference_at, difference_from, difference_view, github_difference, is_among, member_differences, name_differences, names_of, osv_type, rating_differences, record_differences, score_differences, severity_differences, type_differences, version_names};
-ghost use Rattle.cvss_record.specs.Places.{around_view, place_view};
+ghost use Rattle.cvss_record.specs.Differences.{AreDifferences, AreDifferencesAt, difference_at, difference_from, difference_view, github_difference, member_differences, osv_type, record_differences, score_differences, type_differences};
+ghost use Rattle.cvss_record.specs.Places.{place_view};
 ghost use Rattle.cvss_record.specs.private.Views.{due_view};
 ghost use Rattle.serde_json.specs.View.{members_view, view};
 
 use crate::due::{Due, due_at};
-use crate::place::{Around, Form, Place, member};
-use crate::record::{is_rated, version};
-use crate::score::{Scores, rating};
+use crate::place::{Form, Place, member};
+use crate::score::Scores;
+use crate::surroundings::{name_difference, rating_difference};
 use cvss::Cvss;
 use serde_json::{Map, Value};
 use std::alloc::{AllocError, Global};
@@ -179,82 +179,6 @@ fn score_difference<'a>(
     }
 }
 
-/// The difference of the name of a member, if it tells another version than the vector's.
-fn name_difference<'a>(
-    alloc: Global,
-    cvss: &Cvss,
-    name: &'a str,
-) -> Result<Option<Difference<'a>>, AllocError>
-    ensures { IfOk result (λ found. option_to_list (option_map difference_view found)
-        ≡ name_differences cvss.now name.now) }
-{
-    if tells_version(name) && !tells_version_of(cvss, name) {
-        return Ok(Some(Difference {
-            member: name,
-            says: Said::Name(name),
-            is: Value::try_from_str(alloc, version(cvss))?,
-        }));
-    }
-    Ok(None)
-}
-
-/// Whether a member of this name tells the version of what it holds.
-fn tells_version(name: &str) -> bool
-    ensures { result ≡ is_among name.now version_names }
-{
-    matches!(
-        name,
-        "cvssV2_0" | "cvssV3_0" | "cvssV3_1" | "cvssV4_0" | "cvss_v2" | "cvss_v3" | "cvss_v4"
-    )
-}
-
-/// Whether a member of this name tells the vector's version.
-fn tells_version_of(cvss: &Cvss, name: &str) -> bool
-    ensures { result ≡ is_among name.now (names_of cvss.now) }
-{
-    match cvss {
-        Cvss::CvssV20(_) => matches!(name, "cvssV2_0" | "cvss_v2"),
-        Cvss::CvssV30(_) => matches!(name, "cvssV3_0" | "cvss_v3"),
-        Cvss::CvssV31(_) => matches!(name, "cvssV3_1" | "cvss_v3"),
-        Cvss::CvssV40(_) => matches!(name, "cvssV4_0" | "cvss_v4"),
-    }
-}
-
-/// The difference of the rating that NVD tells of a vector of CVSS v2 beside its record.
-fn rating_difference<'a>(
-    alloc: Global,
-    cvss: &Cvss,
-    tenths: u8,
-    around: Around<'a>,
-) -> Result<Option<Difference<'a>>, AllocError>
-    ensures { IfOk result (λ found. option_to_list (option_map difference_view found)
-        ≡ rating_differences cvss.now tenths (around_view around.entry)) }
-{
-    if !is_rated(cvss) && around.name == "cvssData" {
-        return severity_difference(alloc, cvss, tenths, around.object);
-    }
-    Ok(None)
-}
-
-/// The difference of `baseSeverity`, if it is another rating than that of so many tenths.
-fn severity_difference<'a>(
-    alloc: Global,
-    cvss: &Cvss,
-    tenths: u8,
-    object: &'a Map<String, Value>,
-) -> Result<Option<Difference<'a>>, AllocError>
-    ensures { IfOk result (λ found. option_to_list (option_map difference_view found)
-        ≡ severity_differences cvss.now tenths (members_view object.now.entries)) }
-{
-    match member(object, "baseSeverity") {
-        Some(said) => {
-            let due = Due::Text(rating(cvss, tenths));
-            difference_from(alloc, "baseSeverity", said, due)
-        }
-        None => Ok(None),
-    }
-}
-
 fn push_if_some<'a>(
     found: &mut Vec<Difference<'a>>,
     difference: Option<Difference<'a>>,
@@ -301,7 +225,7 @@ fn difference_at<'a>(
 }
 
 /// The difference between what is said and what is due.
-fn difference_from<'a>(
+pub(crate) fn difference_from<'a>(
     alloc: Global,
     name: &'a str,
     said: &'a Value,

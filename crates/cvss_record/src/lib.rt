@@ -15,6 +15,7 @@ mod places;
 mod pointer;
 mod record;
 mod score;
+mod surroundings;
 
 pub use difference::{Difference, Said, differences, differences_at};
 pub use group::Group;
