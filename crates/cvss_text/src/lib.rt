@@ -2,6 +2,7 @@
 //! the version piece, printing, listing, and recognising a canonical text.
 #![tactic(auto)]
 
+pub mod cutting;
 pub mod front;
 pub mod metrics;
 pub mod pieces;

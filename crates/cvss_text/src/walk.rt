@@ -1,16 +1,17 @@
 //! The walk over a vector's components, once for all versions. It takes no memory: a fault borrows
 //! the part of the text that it names.
 
-ghost use Rattle.std.specs.Prelude.{◌≡◌, ◌↔◌, ℕ, List, IsTrue, bytes_eq, find, IfSome, IfOk, IfErr, OnOk, IsErrAnd, Ok, [], length};
+ghost use Rattle.std.specs.Prelude.{◌≡◌, ℕ, List, IfSome, IfOk, IfErr, OnOk, IsErrAnd, Ok, [], length};
 ghost use Rattle.std.specs.List.{All};
 ghost use Rattle.std.specs.Str.{IsUtf8};
 ghost use Rattle.cvss_text.specs.private.Pieces.{pieces_left};
-ghost use Rattle.cvss_grammar.specs.Text.{IsComponent, pieces, raised, read_as};
+ghost use Rattle.cvss_grammar.specs.Text.{IsComponent, pieces};
 ghost use Rattle.cvss_grammar.specs.Version.{Version, read, Denotes, IsComplete};
 ghost use Rattle.cvss_grammar.specs.Refusal.{AreComponentsBefore, Refusal, piece_at, IsFirstRefusal};
-ghost use Rattle.cvss_text.specs.private.Walk.{HasNoValue, IsEmpty, IsPut, IsCut, IsCutAnswer, IsCutFirst, IsReadFirst, IsLawful, Puts, Adds, HasRead, IsFaultOf, IsFirstOfPieces, first_missing, IsTellable, reason_of};
+ghost use Rattle.cvss_text.specs.private.Walk.{HasNoValue, IsEmpty, IsPut, IsCut, IsReadFirst, IsLawful, Puts, Adds, HasRead, IsFaultOf, IsFirstOfPieces, first_missing, IsTellable, reason_of};
 
-use crate::pieces::{Pieces, first_bad_piece, front_of, parts_of, pieces_of};
+use crate::cutting::{cut_component, cut_first};
+use crate::pieces::{Pieces, first_bad_piece, pieces_of};
 
 /// Why a value does not go into a vector.
 #[derive(Clone, Copy)]
@@ -78,45 +79,6 @@ pub trait Components: Copy {
     ghost lawful: { IsLawful version };
 }
 
-/// The metric with this name.
-fn kind_named<V: Components>(name: &[u8]) -> Option<V::Kind>
-    ensures { result ≡ find (λ kind. bytes_eq (read V.version name.now) (V.version.name kind))
-        V.version.printed }
-{
-    V::printed().iter().copied().find(|kind| is_read_as(
-        V::any_case(),
-        name,
-        V::name(*kind).as_bytes(),
-    ))
-}
-
-/// The metric that a piece names, and the value behind its colon.
-pub fn cut_component<'a, V: Components>(
-    piece: &'a [u8],
-) -> Result<(V::Kind, &'a [u8]), Fault<'a, V::Kind>>
-    ensures { IsCutAnswer V.version piece.now result }
-{
-    match V::cut(piece) {
-        Some(cut) => Ok(cut),
-        None => cut_at_colon::<V>(piece),
-    }
-}
-
-/// The metric that a piece names, and the value behind its colon, by a search for the colon.
-fn cut_at_colon<'a, V: Components>(
-    piece: &'a [u8],
-) -> Result<(V::Kind, &'a [u8]), Fault<'a, V::Kind>>
-    ensures { IsCutAnswer V.version piece.now result }
-{
-    let Some((name, value)) = parts_of(piece) else {
-        return Err(Fault::InvalidComponent(piece));
-    };
-    match kind_named::<V>(name) {
-        Some(kind) => Ok((kind, value)),
-        None => Err(Fault::UnknownMetric(name)),
-    }
-}
-
 /// Reads one component into the vector.
 pub fn read_component<'a, V: Components>(
     piece: &'a [u8],
@@ -149,27 +111,6 @@ fn put_component<'a, V: Components>(
         Err(Slip::Invalid) => Err(Fault::InvalidMetric(V::blamed(kind), value)),
         Err(Slip::Repeated) => Err(Fault::DuplicateMetric(kind)),
     }
-}
-
-/// The metric that the first piece of a text names, the value behind its colon, and the pieces behind
-/// that. The end of the piece is sought behind the colon, since no name has a slash.
-#[inline(always)]
-fn cut_first<'a, V: Components>(
-    text: &'a [u8],
-) -> Result<(V::Kind, &'a [u8], Pieces<'a>), Fault<'a, V::Kind>>
-    ensures cut { IfOk result (λ cut.
-        IsCutFirst V.version text.now cut.0 cut.1.now (pieces_left cut.2)) }
-    ensures refused { IfErr result (λ fault. (v : V) → IsComponent (piece_at (pieces text.now) 0)
-        → IsFaultOf V.version v (piece_at (pieces text.now) 0) (reason_of V.version fault)) }
-    ensures tellable { All IsUtf8 (pieces text.now) → IfErr result (IsTellable V.version) }
-{
-    if let Some(cut) = V::cut(text) {
-        let (value, left) = front_of(cut.1);
-        return Ok((cut.0, value, left));
-    }
-    let (piece, left) = front_of(text);
-    let (kind, value) = cut_at_colon::<V>(piece)?;
-    Ok((kind, value, left))
 }
 
 /// Reads the first component of a text into the vector, and gives the pieces behind it.
@@ -262,27 +203,4 @@ pub fn read_vector<'a, V: Components>(text: &'a [u8], empty: V) -> Result<V, Fau
     ensures tellable { IsUtf8 text.now → IfErr result (IsTellable V.version) }
 {
     read_complete(pieces_of(text), empty)
-}
-
-/// Whether a text is read as this name.
-#[tactic(auto, using(crate::proofs::TextLemmas::bytes_eq_when))]
-fn is_read_as(any_case: bool, text: &[u8], name: &[u8]) -> bool
-    ensures { result ≡ bytes_eq (read_as any_case text.now) name.now }
-{
-    if any_case {
-        is_raised_as(text, name)
-    } else {
-        text == name
-    }
-}
-
-/// Whether a text is this name once its ASCII letters are raised.
-pub fn is_raised_as(text: &[u8], name: &[u8]) -> bool
-    ensures { IsTrue result ↔ (raised text.now ≡ name.now) }
-{
-    text.len() == name.len()
-        && text
-            .iter()
-            .zip(name)
-            .all(|(byte, letter)| byte.to_ascii_uppercase() == *letter)
 }

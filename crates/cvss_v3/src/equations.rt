@@ -1,6 +1,6 @@
 //! The equations of both specifications in whole numbers of small units.
 
-ghost use Rattle.std.specs.Prelude.{◌≡◌, ◌⊎◌, ◌≤◌, ◌<◌, ◌*◌, ◌/◌, ◌^◌, ◌≤ℤ◌, ℕ, pos, neg_ℤ};
+ghost use Rattle.std.specs.Prelude.{◌≡◌, ◌⊎◌, ◌≤◌, ◌*◌, ◌/◌, ◌^◌, ◌≤ℤ◌, ℕ, pos, neg_ℤ};
 ghost use Rattle.std.specs.List.{Contains};
 ghost use Rattle.cvss_number.specs.Exact.{ratio, ◌over◌, ◌⊗◌, ◌≈◌};
 ghost use Rattle.cvss_v3.specs.Scores.{hundredths, first_number, modified_impact_of};

@@ -12,7 +12,7 @@ ghost use Rattle.cvss_v4_metric.specs.Table.{spelling_at, metric_component};
 
 use cvss_name::Error;
 pub use cvss_name::v4::MetricType;
-use cvss_text::walk::is_raised_as;
+use cvss_text::cutting::is_raised_as;
 use std::alloc::Global;
 use std::fmt;
 

@@ -16,8 +16,9 @@ use crate::metric::MetricType;
 use crate::vector::Vector;
 use cvss_base::refusing::error_of;
 use cvss_name::{Error, MetricGroup};
+use cvss_text::cutting::cut_component;
 use cvss_text::pieces::is_component;
-use cvss_text::walk::{Fault, cut_component, read_component};
+use cvss_text::walk::{Fault, read_component};
 use std::alloc::Global;
 use std::fmt;
 

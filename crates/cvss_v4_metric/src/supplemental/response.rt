@@ -9,8 +9,8 @@ ghost use Rattle.cvss_v4_metric.specs.declared.supplemental.response.Vulnerabili
 ghost use Rattle.cvss_v4_metric.specs.declared.supplemental.response.ProviderUrgency.TheVariants as provider_urgency;
 
 use crate::metric::{Metric, MetricType, only_byte};
+use cvss_text::cutting::is_raised_as;
 use cvss_text::print::write_component;
-use cvss_text::walk::is_raised_as;
 use std::fmt;
 
 /// How hard it is to respond to the vulnerability (v4.0 specification, section 5.6).

@@ -5,7 +5,7 @@ use Rattle.std.proofs.lemmas.List.Elements.{All-head}
 use Rattle.std.proofs.lemmas.Result.{err_from_is_err_and}
 use Rattle.cvss_grammar.specs.Refusal.{piece_at}
 use Rattle.cvss_text.proofs.WalkLemmas.{IsCutFirst-behind}
-use Rattle.cvss_text.proofs.walk.cut_first.Goals as goal
+use Rattle.cvss_text.proofs.cutting.cut_first.Goals as goal
 
 pub returns-in-Some-clause-cut : goal.returns-in-Some-clause-cut
 returns-in-Some-clause-cut g c =
