@@ -6,6 +6,7 @@ ghost use Rattle.cvss_name.specs.declared.error.Error.TheVariants.{OutOfMemory};
 ghost use Rattle.cvss_name.specs.ErrorText.{error_text, quoted, described};
 ghost use Rattle.cvss_name.specs.private.Unknown.{TellsUnknown};
 
+use crate::named::Named;
 use crate::{v2, v3, v4};
 use std::alloc::{AllocError, Global};
 use std::fmt;
@@ -104,56 +105,32 @@ impl fmt::Display for Error {
                 write_quoted("invalid CVSS string prefix: ", prefix.as_str(), f)
             }
             Error::UnsupportedVersion { version } => {
-                write!(f, "unsupported CVSS version: {version}")
+                write_behind("unsupported CVSS version: ", version.as_str(), f)
             }
-            Error::InvalidMetricV2 { metric_type, value } => write!(
-                f,
-                "invalid CVSSv2 {} ({}) metric: `{value}`",
-                metric_type.name(),
-                metric_type.description()
-            ),
-            Error::DuplicateMetricV2 { metric_type } => write_metric(
-                "duplicate CVSSv2 ",
-                metric_type.name(),
-                metric_type.description(),
-                f,
-            ),
-            Error::MissingMandatoryMetricV2 { metric_type } => write_metric(
-                "missing mandatory CVSSv2 ",
-                metric_type.name(),
-                metric_type.description(),
-                f,
-            ),
-            Error::InvalidMetricV3 { metric_type, value } => write!(
-                f,
-                "invalid CVSSv3 {} ({}) metric: `{value}`",
-                metric_type.name(),
-                metric_type.description()
-            ),
-            Error::DuplicateMetricV3 { metric_type } => write_metric(
-                "duplicate CVSSv3 ",
-                metric_type.name(),
-                metric_type.description(),
-                f,
-            ),
-            Error::InvalidMetricV4 { metric_type, value } => write!(
-                f,
-                "invalid CVSSv4 {} ({}) metric: `{value}`",
-                metric_type.name(),
-                metric_type.description()
-            ),
-            Error::DuplicateMetricV4 { metric_type } => write_metric(
-                "duplicate CVSSv4 ",
-                metric_type.name(),
-                metric_type.description(),
-                f,
-            ),
-            Error::MissingMandatoryMetricV4 { metric_type } => write_metric(
-                "missing mandatory CVSSv4 ",
-                metric_type.name(),
-                metric_type.description(),
-                f,
-            ),
+            Error::InvalidMetricV2 { metric_type, value } => {
+                write_invalid("invalid CVSSv2 ", *metric_type, value.as_str(), f)
+            }
+            Error::DuplicateMetricV2 { metric_type } => {
+                write_metric("duplicate CVSSv2 ", *metric_type, f)
+            }
+            Error::MissingMandatoryMetricV2 { metric_type } => {
+                write_metric("missing mandatory CVSSv2 ", *metric_type, f)
+            }
+            Error::InvalidMetricV3 { metric_type, value } => {
+                write_invalid("invalid CVSSv3 ", *metric_type, value.as_str(), f)
+            }
+            Error::DuplicateMetricV3 { metric_type } => {
+                write_metric("duplicate CVSSv3 ", *metric_type, f)
+            }
+            Error::InvalidMetricV4 { metric_type, value } => {
+                write_invalid("invalid CVSSv4 ", *metric_type, value.as_str(), f)
+            }
+            Error::DuplicateMetricV4 { metric_type } => {
+                write_metric("duplicate CVSSv4 ", *metric_type, f)
+            }
+            Error::MissingMandatoryMetricV4 { metric_type } => {
+                write_metric("missing mandatory CVSSv4 ", *metric_type, f)
+            }
             Error::InvalidNomenclatureV4 { nomenclature } => {
                 write_quoted("invalid CVSSv4 nomenclature: ", nomenclature.as_str(), f)
             }
@@ -184,17 +161,43 @@ fn write_quoted<W: fmt::Write>(
     write!(f, "{before}`{text}`")
 }
 
-/// Writes what is wrong with a metric.
-fn write_metric<W: fmt::Write>(
+/// Writes a text as it stands.
+fn write_behind<W: fmt::Write>(
     before: &'static str,
-    name: &'static str,
-    description: &'static str,
+    text: &str,
     f: &mut fmt::Formatter<W>,
 ) -> fmt::Result
-    ensures { DisplaysOnOk W.write_str_gives f.old result
-        (Some (before.now ++ described name.now description.now ++ codes " metric")) f.new }
+    ensures { DisplaysOnOk W.write_str_gives f.old result (Some (before.now ++ text.now)) f.new }
 {
+    write!(f, "{before}{text}")
+}
+
+/// Writes what is wrong with a metric.
+fn write_metric<N: Named, W: fmt::Write>(
+    before: &'static str,
+    kind: N,
+    f: &mut fmt::Formatter<W>,
+) -> fmt::Result
+    ensures { DisplaysOnOk W.write_str_gives f.old result (Some (before.now
+        ++ described (N.row_of kind).0 (N.row_of kind).1 ++ codes " metric")) f.new }
+{
+    let (name, description, _) = kind.row();
     write!(f, "{before}{name} ({description}) metric")
+}
+
+/// Writes that a metric has no such value.
+fn write_invalid<N: Named, W: fmt::Write>(
+    before: &'static str,
+    kind: N,
+    value: &str,
+    f: &mut fmt::Formatter<W>,
+) -> fmt::Result
+    ensures { DisplaysOnOk W.write_str_gives f.old result (Some (before.now
+        ++ described (N.row_of kind).0 (N.row_of kind).1 ++ codes " metric: "
+        ++ quoted value.now)) f.new }
+{
+    write_metric(before, kind, f)?;
+    write!(f, ": `{value}`")
 }
 
 impl std::error::Error for Error {}
