@@ -35,6 +35,24 @@ pub enum MetricType {
 /// The metric types as they are declared.
 const ALL: [MetricType; 14] = [A, AC, AV, Au, C, I, E, RL, RC, CDP, TD, CR, IR, AR];
 
+/// The abbreviation of each metric type, its name in words and its group, as they are declared.
+const ROWS: [(&str, &str, MetricGroup); 14] = [
+    ("A", "Availability Impact", Base),
+    ("AC", "Access Complexity", Base),
+    ("AV", "Access Vector", Base),
+    ("Au", "Authentication", Base),
+    ("C", "Confidentiality Impact", Base),
+    ("I", "Integrity Impact", Base),
+    ("E", "Exploitability", Temporal),
+    ("RL", "Remediation Level", Temporal),
+    ("RC", "Report Confidence", Temporal),
+    ("CDP", "Collateral Damage Potential", Environmental),
+    ("TD", "Target Distribution", Environmental),
+    ("CR", "Confidentiality Requirement", Environmental),
+    ("IR", "Integrity Requirement", Environmental),
+    ("AR", "Availability Requirement", Environmental),
+];
+
 impl MetricType {
     /// The abbreviation that stands for the metric in a vector (guide, section 2.4).
     pub fn name(self) -> &'static str
@@ -79,22 +97,8 @@ impl Named for MetricType {
     ghost first = { Prim.search rules };
 
     fn row(self) -> (&'static str, &'static str, MetricGroup) {
-        match self {
-            AV => ("AV", "Access Vector", Base),
-            AC => ("AC", "Access Complexity", Base),
-            Au => ("Au", "Authentication", Base),
-            C => ("C", "Confidentiality Impact", Base),
-            I => ("I", "Integrity Impact", Base),
-            A => ("A", "Availability Impact", Base),
-            E => ("E", "Exploitability", Temporal),
-            RL => ("RL", "Remediation Level", Temporal),
-            RC => ("RC", "Report Confidence", Temporal),
-            CDP => ("CDP", "Collateral Damage Potential", Environmental),
-            TD => ("TD", "Target Distribution", Environmental),
-            CR => ("CR", "Confidentiality Requirement", Environmental),
-            IR => ("IR", "Integrity Requirement", Environmental),
-            AR => ("AR", "Availability Requirement", Environmental),
-        }
+        let row = &ROWS[self as usize];
+        *row
     }
 }
 

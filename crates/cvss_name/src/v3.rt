@@ -45,6 +45,32 @@ const ALL: [MetricType; 22] = [
     A, AC, AV, C, I, PR, S, UI, E, RL, RC, CR, IR, AR, MAV, MAC, MPR, MUI, MS, MC, MI, MA,
 ];
 
+/// The abbreviation of each metric type, its name in words and its group, as they are declared.
+const ROWS: [(&str, &str, MetricGroup); 22] = [
+    ("A", "Availability Impact", Base),
+    ("AC", "Attack Complexity", Base),
+    ("AV", "Attack Vector", Base),
+    ("C", "Confidentiality Impact", Base),
+    ("I", "Integrity Impact", Base),
+    ("PR", "Privileges Required", Base),
+    ("S", "Scope", Base),
+    ("UI", "User Interaction", Base),
+    ("E", "Exploit Code Maturity", Temporal),
+    ("RL", "Remediation Level", Temporal),
+    ("RC", "Report Confidence", Temporal),
+    ("CR", "Confidentiality Requirements", Environmental),
+    ("IR", "Integrity Requirements", Environmental),
+    ("AR", "Availability Requirements", Environmental),
+    ("MAV", "Modified Attack Vector", Environmental),
+    ("MAC", "Modified Attack Complexity", Environmental),
+    ("MPR", "Modified Privileges Required", Environmental),
+    ("MUI", "Modified User Interaction", Environmental),
+    ("MS", "Modified Scope", Environmental),
+    ("MC", "Modified Confidentiality", Environmental),
+    ("MI", "Modified Integrity", Environmental),
+    ("MA", "Modified Availability", Environmental),
+];
+
 impl MetricType {
     /// The abbreviation that stands for the metric in a vector (v3.1 specification, section 6).
     pub fn name(self) -> &'static str
@@ -89,30 +115,8 @@ impl Named for MetricType {
     ghost first = { Prim.search rules };
 
     fn row(self) -> (&'static str, &'static str, MetricGroup) {
-        match self {
-            AV => ("AV", "Attack Vector", Base),
-            AC => ("AC", "Attack Complexity", Base),
-            PR => ("PR", "Privileges Required", Base),
-            UI => ("UI", "User Interaction", Base),
-            S => ("S", "Scope", Base),
-            C => ("C", "Confidentiality Impact", Base),
-            I => ("I", "Integrity Impact", Base),
-            A => ("A", "Availability Impact", Base),
-            E => ("E", "Exploit Code Maturity", Temporal),
-            RL => ("RL", "Remediation Level", Temporal),
-            RC => ("RC", "Report Confidence", Temporal),
-            CR => ("CR", "Confidentiality Requirements", Environmental),
-            IR => ("IR", "Integrity Requirements", Environmental),
-            AR => ("AR", "Availability Requirements", Environmental),
-            MAV => ("MAV", "Modified Attack Vector", Environmental),
-            MAC => ("MAC", "Modified Attack Complexity", Environmental),
-            MPR => ("MPR", "Modified Privileges Required", Environmental),
-            MUI => ("MUI", "Modified User Interaction", Environmental),
-            MS => ("MS", "Modified Scope", Environmental),
-            MC => ("MC", "Modified Confidentiality", Environmental),
-            MI => ("MI", "Modified Integrity", Environmental),
-            MA => ("MA", "Modified Availability", Environmental),
-        }
+        let row = &ROWS[self as usize];
+        *row
     }
 }
 

@@ -56,6 +56,74 @@ const ALL: [MetricType; 32] = [
     MUI, MVA, MVC, MVI, AU, R, RE, S, U, V,
 ];
 
+/// The abbreviation of each metric type, its name in words and its group, as they are declared.
+const ROWS: [(&str, &str, MetricGroup); 32] = [
+    ("AC", "Attack Complexity", Base),
+    ("AT", "Attack Requirements", Base),
+    ("AV", "Attack Vector", Base),
+    ("PR", "Privileges Required", Base),
+    ("SA", "Availability Impact to the Subsequent System", Base),
+    (
+        "SC",
+        "Confidentiality Impact to the Subsequent System",
+        Base,
+    ),
+    ("SI", "Integrity Impact to the Subsequent System", Base),
+    ("UI", "User Interaction", Base),
+    ("VA", "Availability Impact to the Vulnerable System", Base),
+    (
+        "VC",
+        "Confidentiality Impact to the Vulnerable System",
+        Base,
+    ),
+    ("VI", "Integrity Impact to the Vulnerable System", Base),
+    ("E", "Exploit Maturity", Threat),
+    ("AR", "Availability Requirements", Environmental),
+    ("CR", "Confidentiality Requirements", Environmental),
+    ("IR", "Integrity Requirements", Environmental),
+    ("MAC", "Modified Attack Complexity", Environmental),
+    ("MAT", "Modified Attack Requirements", Environmental),
+    ("MAV", "Modified Attack Vector", Environmental),
+    ("MPR", "Modified Privileges Required", Environmental),
+    (
+        "MSA",
+        "Modified Availability Impact to the Subsequent System",
+        Environmental,
+    ),
+    (
+        "MSC",
+        "Modified Confidentiality Impact to the Subsequent System",
+        Environmental,
+    ),
+    (
+        "MSI",
+        "Modified Integrity Impact to the Subsequent System",
+        Environmental,
+    ),
+    ("MUI", "Modified User Interaction", Environmental),
+    (
+        "MVA",
+        "Modified Availability Impact to the Vulnerable System",
+        Environmental,
+    ),
+    (
+        "MVC",
+        "Modified Confidentiality Impact to the Vulnerable System",
+        Environmental,
+    ),
+    (
+        "MVI",
+        "Modified Integrity Impact to the Vulnerable System",
+        Environmental,
+    ),
+    ("AU", "Automatable", Supplemental),
+    ("R", "Recovery", Supplemental),
+    ("RE", "Vulnerability Response Effort", Supplemental),
+    ("S", "Safety", Supplemental),
+    ("U", "Provider Urgency", Supplemental),
+    ("V", "Value Density", Supplemental),
+];
+
 impl MetricType {
     /// The abbreviation that stands for the metric in a vector (v4.0 specification, section 7).
     pub fn name(self) -> &'static str
@@ -107,72 +175,8 @@ impl Named for MetricType {
     ghost first = { Prim.search rules };
 
     fn row(self) -> (&'static str, &'static str, MetricGroup) {
-        match self {
-            AV => ("AV", "Attack Vector", Base),
-            AC => ("AC", "Attack Complexity", Base),
-            AT => ("AT", "Attack Requirements", Base),
-            PR => ("PR", "Privileges Required", Base),
-            UI => ("UI", "User Interaction", Base),
-            VC => (
-                "VC",
-                "Confidentiality Impact to the Vulnerable System",
-                Base,
-            ),
-            VI => ("VI", "Integrity Impact to the Vulnerable System", Base),
-            VA => ("VA", "Availability Impact to the Vulnerable System", Base),
-            SC => (
-                "SC",
-                "Confidentiality Impact to the Subsequent System",
-                Base,
-            ),
-            SI => ("SI", "Integrity Impact to the Subsequent System", Base),
-            SA => ("SA", "Availability Impact to the Subsequent System", Base),
-            E => ("E", "Exploit Maturity", Threat),
-            CR => ("CR", "Confidentiality Requirements", Environmental),
-            IR => ("IR", "Integrity Requirements", Environmental),
-            AR => ("AR", "Availability Requirements", Environmental),
-            MAV => ("MAV", "Modified Attack Vector", Environmental),
-            MAC => ("MAC", "Modified Attack Complexity", Environmental),
-            MAT => ("MAT", "Modified Attack Requirements", Environmental),
-            MPR => ("MPR", "Modified Privileges Required", Environmental),
-            MUI => ("MUI", "Modified User Interaction", Environmental),
-            MVC => (
-                "MVC",
-                "Modified Confidentiality Impact to the Vulnerable System",
-                Environmental,
-            ),
-            MVI => (
-                "MVI",
-                "Modified Integrity Impact to the Vulnerable System",
-                Environmental,
-            ),
-            MVA => (
-                "MVA",
-                "Modified Availability Impact to the Vulnerable System",
-                Environmental,
-            ),
-            MSC => (
-                "MSC",
-                "Modified Confidentiality Impact to the Subsequent System",
-                Environmental,
-            ),
-            MSI => (
-                "MSI",
-                "Modified Integrity Impact to the Subsequent System",
-                Environmental,
-            ),
-            MSA => (
-                "MSA",
-                "Modified Availability Impact to the Subsequent System",
-                Environmental,
-            ),
-            S => ("S", "Safety", Supplemental),
-            AU => ("AU", "Automatable", Supplemental),
-            R => ("R", "Recovery", Supplemental),
-            V => ("V", "Value Density", Supplemental),
-            RE => ("RE", "Vulnerability Response Effort", Supplemental),
-            U => ("U", "Provider Urgency", Supplemental),
-        }
+        let row = &ROWS[self as usize];
+        *row
     }
 }
 
