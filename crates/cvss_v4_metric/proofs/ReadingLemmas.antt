@@ -1,16 +1,12 @@
 -- Which texts are read alike.
-use Rattle.std.proofs.Common.{◌≡◌, ◌∷◌, [], ℕ, List, inl, inr, refl, ap, sym, ◌∙◌, arith}
-use Rattle.std.proofs.lemmas.Bool.Decides.{nat_tests}
-use Rattle.std.specs.Char.{to_ascii_uppercase}
+use Rattle.std.proofs.Common.{◌≡◌, ◌∷◌, [], ℕ, List, inl, inr, refl, ap, sym, ◌∙◌}
+use Rattle.std.proofs.lemmas.Str.Ascii.{uppercase-uppercase}
 use Rattle.cvss_grammar.specs.Text.{raised}
 use Rattle.cvss_v4_metric.specs.Reading.{IsReading}
 
-letter_raised_twice : (byte : ℕ) → to_ascii_uppercase (to_ascii_uppercase byte) ≡ to_ascii_uppercase byte
-letter_raised_twice byte = grind (arith, nat_tests)
-
 raised_twice : (text : List ℕ) → raised (raised text) ≡ raised text
 raised_twice [] = refl
-raised_twice (byte ∷ text) = rw (letter_raised_twice byte) (rw (raised_twice text) refl)
+raised_twice (byte ∷ text) = rw (uppercase-uppercase byte) (rw (raised_twice text) refl)
 
 -- a text that a value is read from is the value's spelling, in some case
 pub read_alike : (spelling text : List ℕ) → IsReading spelling text → raised spelling ≡ raised text
