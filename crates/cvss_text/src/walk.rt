@@ -1,14 +1,14 @@
 //! The walk over a vector's components, once for all versions. It takes no memory: a fault borrows
 //! the part of the text that it names.
 
-ghost use Rattle.std.specs.Prelude.{◌≡◌, ℕ, List, IfSome, IfOk, IfErr, OnOk, IsErrAnd, Ok, [], length};
+ghost use Rattle.std.specs.Prelude.{◌≡◌, ℕ, List, IfSome, IfOk, IfErr, OnOk, IsErrAnd, Some, Ok, [], length};
 ghost use Rattle.std.specs.List.{All};
 ghost use Rattle.std.specs.Str.{IsUtf8};
 ghost use Rattle.cvss_text.specs.private.Pieces.{pieces_left};
 ghost use Rattle.cvss_grammar.specs.Text.{IsComponent, pieces};
 ghost use Rattle.cvss_grammar.specs.Version.{Version, read, Denotes, IsComplete};
 ghost use Rattle.cvss_grammar.specs.Refusal.{AreComponentsBefore, Refusal, piece_at, IsFirstRefusal};
-ghost use Rattle.cvss_text.specs.private.Walk.{HasNoValue, IsEmpty, IsPut, IsCut, IsReadFirst, IsLawful, Puts, Adds, HasRead, IsFaultOf, IsFirstOfPieces, first_missing, IsTellable, reason_of};
+ghost use Rattle.cvss_text.specs.private.Walk.{HasNoValue, IsEmpty, IsFilled, IsPut, IsCut, IsReadFirst, IsLawful, Puts, Adds, HasRead, IsFaultOf, IsFirstOfPieces, first_missing, IsTellable, reason_of};
 
 use crate::cutting::{cut_component, cut_first};
 use crate::pieces::{Pieces, first_bad_piece, pieces_of};
@@ -77,6 +77,25 @@ pub trait Components: Copy {
         ensures { result ≡ first_missing version self.now };
 
     ghost lawful: { IsLawful version };
+}
+
+/// Puts the value that was read of a text into its place, which has to be empty. None was read where
+/// the text spells no value.
+#[inline(always)]
+pub fn fill_place<M: Copy>(place: &mut Option<M>, read: Option<M>) -> Result<(), Slip>
+    ensures { (spelling : M → List ℕ) (text : List ℕ)
+        → IfSome read (λ value. spelling value ≡ text)
+        → ((value : M) → spelling value ≡ text → read ≡ Some value)
+        → IsFilled spelling place.old text result place.new }
+{
+    let Some(value) = read else {
+        return Err(Slip::Invalid);
+    };
+    if place.is_some() {
+        return Err(Slip::Repeated);
+    }
+    *place = Some(value);
+    Ok(())
 }
 
 /// Reads one component into the vector.

@@ -9,7 +9,7 @@ use super::cutting::cut_named;
 use crate::metric::{Metric, MetricType};
 use crate::vector::Vector;
 use MetricType::*;
-use cvss_text::walk::{Components, Slip};
+use cvss_text::walk::{Components, Slip, fill_place};
 
 /// The metrics in printing order (guide, section 2.4).
 const PRINTED: [MetricType; 14] = [AV, AC, Au, C, I, A, E, RL, RC, CDP, TD, CR, IR, AR];
@@ -78,12 +78,5 @@ impl Components for Vector {
 fn fill<M: Metric>(place: &mut Option<M>, text: &[u8]) -> Result<(), Slip>
     ensures { IsFilled (λ x. spelling_of M.TYPE (M.value x)) place.old text.now result place.new }
 {
-    let Some(metric) = M::read_bytes(text) else {
-        return Err(Slip::Invalid);
-    };
-    if place.is_some() {
-        return Err(Slip::Repeated);
-    }
-    *place = Some(metric);
-    Ok(())
+    fill_place(place, M::read_bytes(text))
 }
