@@ -14,7 +14,7 @@ use crate::vector::Vector;
 use MetricType::*;
 use cvss_text::front::Fronted;
 use cvss_text::pieces::cut_short_name;
-use cvss_text::walk::{Components, Slip};
+use cvss_text::walk::{Components, Slip, fill_place};
 
 /// The metrics in printing order (v4.0 specification, section 7).
 const PRINTED: [MetricType; 32] = [
@@ -224,12 +224,5 @@ fn modified(first: u8, second: u8) -> Option<MetricType>
 fn fill<M: Metric>(place: &mut Option<M>, text: &[u8]) -> Result<(), Slip>
     ensures { IsFilled (λ x. raised (spelling_at M.TYPE (M.rank x))) place.old (raised text.now) result place.new }
 {
-    let Some(metric) = M::read_bytes(text) else {
-        return Err(Slip::Invalid);
-    };
-    if place.is_some() {
-        return Err(Slip::Repeated);
-    }
-    *place = Some(metric);
-    Ok(())
+    fill_place(place, M::read_bytes(text))
 }
