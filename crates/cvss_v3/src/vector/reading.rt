@@ -13,7 +13,7 @@ use crate::metric::{Metric, MetricType};
 use crate::vector::Vector;
 use MetricType::*;
 use cvss_text::front::Fronted;
-use cvss_text::walk::{Components, Slip};
+use cvss_text::walk::{Components, Slip, fill_place};
 
 /// The metrics in printing order (v3.1 specification, section 6).
 const PRINTED: [MetricType; 22] = [
@@ -117,17 +117,9 @@ impl Vector {
 }
 
 /// Reads a value into its place, which has to be empty.
-#[tactic(auto, using(cvss_v3_metric::specs::private::TableLaws::raised_spelling))]
 fn fill<M: Metric>(place: &mut Option<M>, text: &[u8]) -> Result<(), Slip>
     ensures { IsFilled (λ x. raised (spelling_of M.TYPE (M.value x))) place.old (raised text.now)
         result place.new }
 {
-    let Some(metric) = M::read_bytes(text) else {
-        return Err(Slip::Invalid);
-    };
-    if place.is_some() {
-        return Err(Slip::Repeated);
-    }
-    *place = Some(metric);
-    Ok(())
+    fill_place(place, M::read_bytes(text))
 }

@@ -1,0 +1,15 @@
+use Rattle.std.proofs.Common.{sym, ◌∙◌}
+use Rattle.std.proofs.lemmas.Option.{IfSome_then}
+use Rattle.cvss_grammar.specs.Text.{raised}
+use Rattle.cvss_v3_metric.specs.Table.{spelling_of}
+use Rattle.cvss_v3_metric.specs.private.TableLaws.{raised_spelling}
+use Rattle.cvss_v3.proofs.vector.reading.fill.Goals as goal
+
+pub returns : goal.returns
+returns g c =
+    let kind = g.M.Metric.TYPE in
+    let value = g.M.Metric.value in
+    let read = c.read_bytes.ensures in
+    c.fill_place.ensures (λ x. raised (spelling_of kind (value x))) (raised c.args.text.now)
+    (IfSome_then c.read_bytes.result read.spelled (λ x is. raised_spelling kind (value x) ∙ is))
+    (λ x is. read.read x (sym (raised_spelling kind (value x)) ∙ is))
