@@ -5,11 +5,14 @@
 //! why a text is refused does.
 #![tactic(auto)]
 
-mod calls;
+mod lines;
+mod refusals;
+mod vectors;
 
-pub use calls::{
-    cvss_account, cvss_answer, cvss_answers, cvss_canonical, cvss_find, cvss_metrics,
-    cvss_overridden, cvss_override_reason, cvss_read, cvss_reason, cvss_record, cvss_refusal_kind,
-    cvss_refusal_metric, cvss_scores, cvss_version, cvss_without_undefined,
-};
 pub use cvss_bytes::{CvssMetric, CvssScores};
+pub use lines::{cvss_answer, cvss_answers, cvss_find};
+pub use refusals::{cvss_override_reason, cvss_reason, cvss_refusal_kind, cvss_refusal_metric};
+pub use vectors::{
+    cvss_account, cvss_canonical, cvss_metrics, cvss_overridden, cvss_read, cvss_record,
+    cvss_scores, cvss_version, cvss_without_undefined,
+};

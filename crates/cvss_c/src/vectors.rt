@@ -1,37 +1,28 @@
-//! The functions that C calls.
+//! What C is told of the vector that a text denotes.
 
-ghost use Rattle.std.specs.Prelude.{◌≡◌, ◌++◌, ℕ, List, codes, length, pos, true, false};
+ghost use Rattle.std.specs.Prelude.{◌≡◌, ℕ, List, length, true, false};
 ghost use Rattle.cvss.specs.Answers.{text_of};
 ghost use Rattle.cvss.specs.Dispatch.{DenotesCvss};
 ghost use Rattle.cvss.specs.VectorV4.{v4};
 ghost use Rattle.cvss.specs.Version.{canonical_text};
 ghost use Rattle.cvss.specs.declared.vector.Cvss.{Cvss};
 ghost use Rattle.cvss_bytes.specs.Accounts.{IsAccountTold};
-ghost use Rattle.cvss_bytes.specs.Answers.{Answers, IsAnswer, IsReason};
+ghost use Rattle.cvss_bytes.specs.Answers.{Answers};
 ghost use Rattle.cvss_bytes.specs.Buffer.{IsLeft, IsWritten};
 ghost use Rattle.cvss_bytes.specs.Defined.{text_without_undefined};
-ghost use Rattle.cvss_bytes.specs.Lines.{AnswersLines};
-ghost use Rattle.cvss_bytes.specs.Mentioned.{AnswersMention};
 ghost use Rattle.cvss_bytes.specs.Metrics.{metrics_in_order};
-ghost use Rattle.cvss_bytes.specs.Overriding.{AnswersOverridden, IsOverrideReason};
+ghost use Rattle.cvss_bytes.specs.Overriding.{AnswersOverridden};
 ghost use Rattle.cvss_bytes.specs.Records.{IsRecordTold};
-ghost use Rattle.cvss_bytes.specs.Refusals.{IsBlamed, IsKind};
 ghost use Rattle.cvss_bytes.specs.Scores.{AreScoresOf, nothing, version_number as number_of_version};
 
 use cvss::Cvss;
 use cvss_bytes::account::put_account;
-use cvss_bytes::answer::put_answer_to;
-use cvss_bytes::buffer::put_both;
 use cvss_bytes::canonical::put_canonical_of;
 use cvss_bytes::defined::put_without_undefined;
-use cvss_bytes::lines::put_answers;
-use cvss_bytes::mentioned::put_mention;
 use cvss_bytes::metrics::put_metrics;
 use cvss_bytes::numbers::{NOTHING, version_number};
-use cvss_bytes::overriding::{put_overridden, put_override_reason};
-use cvss_bytes::reason::put_reason;
+use cvss_bytes::overriding::put_overridden;
 use cvss_bytes::record::put_record;
-use cvss_bytes::refusal::{ACCEPTED, blamed_by, kind_of};
 use cvss_bytes::{CvssMetric, CvssScores};
 use std::alloc::Global;
 
@@ -153,29 +144,6 @@ pub extern "C" fn cvss_overridden(
     }
 }
 
-/// The length of the reason why `cvss_overridden` answers 0: why the text denotes no vector, that it
-/// is none of CVSS v4.0, or what is wrong with the first override that is refused. It is written into
-/// the buffer where it fits. 0 where the overrides are put into the vector.
-#[unsafe(no_mangle)]
-pub extern "C" fn cvss_override_reason(
-    alloc: Global,
-    text: &[u8],
-    overrides: &[u8],
-    buffer: &mut [u8],
-) -> usize
-    ensures { Answers text.now
-        (λ cvss. AnswersOverridden cvss overrides.now (λ _. IsLeft buffer.old buffer.new result)
-        ((reason : List ℕ) × IsOverrideReason cvss overrides.now reason
-        × IsWritten reason buffer.old buffer.new result))
-        ((reason : List ℕ) × IsReason text.now reason
-        × IsWritten reason buffer.old buffer.new result) }
-{
-    match Cvss::read_bytes(text) {
-        Some(cvss) => put_override_reason(alloc, &cvss, text, overrides, buffer),
-        None => put_reason(alloc, &[], text, buffer),
-    }
-}
-
 /// The length of the record of the vector that a text denotes, the JSON object of FIRST's schema of
 /// its version, which is written into the buffer where it fits; 0 where the text denotes none. Where
 /// there was no memory for it, `out of memory` is written in its place.
@@ -206,92 +174,4 @@ pub extern "C" fn cvss_account(alloc: Global, text: &[u8], buffer: &mut [u8]) ->
         Some(cvss) => put_account(alloc, &cvss, buffer),
         None => 0,
     }
-}
-
-/// The length of the reason why a text is refused, which is written into the buffer where it fits;
-/// 0 where the text denotes a vector.
-#[unsafe(no_mangle)]
-pub extern "C" fn cvss_reason(alloc: Global, text: &[u8], buffer: &mut [u8]) -> usize
-    ensures { Answers text.now (λ _. IsLeft buffer.old buffer.new result)
-        ((reason : List ℕ) × IsReason text.now reason
-        × IsWritten reason buffer.old buffer.new result) }
-{
-    match Cvss::read_bytes(text) {
-        Some(_) => 0,
-        None => put_reason(alloc, &[], text, buffer),
-    }
-}
-
-/// The kind of refusal that a text gets: 1 for a piece that is no component, 2 for a wrong prefix, 3
-/// for a version that is not supported, 4 for an unknown metric, 5 for a value that the metric does
-/// not have, 6 for a metric that stands twice, 7 for a metric that is missing, 8 for a text that is
-/// not UTF-8, 9 where there was no memory to tell one of 1 to 5. 0 where the text denotes a vector.
-#[unsafe(no_mangle)]
-pub extern "C" fn cvss_refusal_kind(alloc: Global, text: &[u8]) -> i32
-    ensures { Answers text.now (λ _. result ≡ pos 0) (IsKind text.now result) }
-{
-    match Cvss::read_bytes(text) {
-        Some(_) => ACCEPTED,
-        None => kind_of(alloc, text),
-    }
-}
-
-/// The length of the abbreviation of the metric that a refusal of the kinds 5 to 7 blames, which is
-/// written into the buffer where it fits; 0 for the other kinds, and where the text denotes a
-/// vector.
-#[unsafe(no_mangle)]
-pub extern "C" fn cvss_refusal_metric(alloc: Global, text: &[u8], buffer: &mut [u8]) -> usize
-    ensures { Answers text.now (λ _. IsLeft buffer.old buffer.new result)
-        ((name : List ℕ) × IsBlamed text.now name
-        × IsWritten name buffer.old buffer.new result) }
-{
-    match Cvss::read_bytes(text) {
-        Some(_) => 0,
-        None => put_both(&[], blamed_by(alloc, text).as_bytes(), buffer),
-    }
-}
-
-/// The length of the line that the program answers to a text, without the byte 10 that ends it; it
-/// is written into the buffer where it fits. An answer to an accepted text takes no memory.
-#[unsafe(no_mangle)]
-pub extern "C" fn cvss_answer(alloc: Global, text: &[u8], buffer: &mut [u8]) -> usize
-    ensures { (answer : List ℕ) × IsAnswer text.now answer
-        × IsWritten answer buffer.old buffer.new result }
-{
-    put_answer_to(alloc, text, buffer)
-}
-
-/// The answers to many texts, each ended by a byte 10, which one byte 13 may precede. Each answer is
-/// ended by a byte 10, as the program writes them. As many are written into the buffer, one behind
-/// the other, as have room in it; their length is told, and in `read` how many bytes of the texts
-/// they answer. What stands behind the last byte 10 is not read.
-#[unsafe(no_mangle)]
-pub extern "C" fn cvss_answers(
-    alloc: Global,
-    texts: &[u8],
-    buffer: &mut [u8],
-    read: &mut usize,
-) -> usize
-    ensures { AnswersLines texts.now buffer.old buffer.new read.new result }
-{
-    let (written, bytes) = put_answers(alloc, texts, buffer);
-    *read = bytes;
-    written
-}
-
-/// Whether a vector is mentioned in any text from a byte on; then where the first mention begins,
-/// counted from 0 in the whole text, and its length. A mention denotes a vector, or begins with
-/// `CVSS:`, has a slash and is refused. Where there is none, the numbers are left as they were. It
-/// takes no memory.
-#[unsafe(no_mangle)]
-pub extern "C" fn cvss_find(
-    text: &[u8],
-    from: usize,
-    start: &mut usize,
-    found_length: &mut usize,
-) -> bool
-    ensures { AnswersMention text.now from start.old found_length.old start.new found_length.new
-        result }
-{
-    put_mention(text, from, start, found_length)
 }
