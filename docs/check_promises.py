@@ -15,7 +15,7 @@ import sys
 from check_shelves import ROOT, WITHOUT_PROMISES, signatures, sources
 
 # effective values and classes of v4, which have a path for a test alone
-SCORING = "cvss_v4/src/scoring"
+SCORING = "cvss_v4_score/src/scoring"
 
 DERIVED = re.compile(r"^#\[derive\(([^)]*)\)\]\n(?:#\[[^\n]*\n)*pub (?:struct|enum) (\w+)", re.M)
 LAW = re.compile(r"⟦<(?:\w+::)?(\w+)(?:<'static>)? as (?:PartialEq|Clone)>⟧\.(eq|is_clone|is_infallible)")

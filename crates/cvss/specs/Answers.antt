@@ -7,17 +7,17 @@ use Rattle.cvss_number.specs.Tenths.{IsInTenths, tenths_text}
 use Rattle.cvss_name.specs.V4Types.{declared}
 use Rattle.cvss_grammar.specs.Version.{canonical_text, IsComplete}
 use Rattle.cvss_name.specs.declared.severity.Severity.{Severity}
-use Rattle.cvss_v2.specs.Rating.{rating_of}
-use Rattle.cvss_v2.specs.Scores as scores_v2
+use Rattle.cvss_v2_score.specs.Rating.{rating_of}
+use Rattle.cvss_v2_score.specs.Scores as scores_v2
 use Rattle.cvss_v2.specs.Table as table_v2
 use Rattle.cvss_v2.specs.Vector.{v2}
 use Rattle.cvss_v2.specs.Weights as weights_v2
-use Rattle.cvss_v3.specs.Scores as scores_v3
+use Rattle.cvss_v3_score.specs.Scores as scores_v3
 use Rattle.cvss_v3_metric.specs.Table as table_v3
 use Rattle.cvss_v3.specs.Vector.{v3}
 use Rattle.cvss_v3.specs.VectorWeights as weights_v3
 use Rattle.cvss_v4.specs.Merging.{effective_of}
-use Rattle.cvss_v4.specs.Scores.{IsScore}
+use Rattle.cvss_v4_score.specs.Scores.{IsScore}
 use Rattle.cvss_v4.specs.Vector.{v4}
 use Rattle.cvss.specs.declared.vector.Cvss.{Cvss}
 use Rattle.cvss.specs.declared.vector.Cvss.TheVariants.{CvssV20, CvssV30, CvssV31, CvssV40}

@@ -3,7 +3,7 @@ use Rattle.std.specs.Prelude.{◌≡◌, ℕ, ◌≤◌, List, ℤ}
 use Rattle.std.specs.Str.{IsUtf8}
 use Rattle.cvss_base.specs.Rating.{rating_of_score}
 use Rattle.cvss_name.specs.declared.severity.Severity.{Severity}
-use Rattle.cvss_v2.specs.Rating.{rating_of}
+use Rattle.cvss_v2_score.specs.Rating.{rating_of}
 use Rattle.cvss.specs.Answers.{text_of, IsScoreOf, score_of_tenths, rating_by}
 use Rattle.cvss.specs.Dispatch.{DenotesCvss}
 use Rattle.cvss.specs.declared.published.Published.{Published}

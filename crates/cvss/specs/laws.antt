@@ -7,8 +7,8 @@ pub use Rattle.cvss_name.specs.laws.Severities
 pub use Rattle.cvss_number.specs.laws.Rounding as RoundingLaws
 pub use Rattle.cvss_v2.specs.laws.NotDefined as ScoreLawsV2
 pub use Rattle.cvss_v3.specs.laws.ScoreLaws as ScoreLawsV3
-pub use Rattle.cvss_v4.specs.laws.ClassLaws as ClassLawsV4
-pub use Rattle.cvss_v4.specs.laws.Maximal as MaximalV4
+pub use Rattle.cvss_v4_score.specs.laws.ClassLaws as ClassLawsV4
+pub use Rattle.cvss_v4_score.specs.laws.Maximal as MaximalV4
+pub use Rattle.cvss_v4_score.specs.laws.ScoreLaws as ScoreLawsV4
 pub use Rattle.cvss_v4.specs.laws.MergingLaws as MergingLawsV4
 pub use Rattle.cvss_v4.specs.laws.OverridingLaws as OverridingLawsV4
-pub use Rattle.cvss_v4.specs.laws.ScoreLaws as ScoreLawsV4

@@ -3,7 +3,7 @@
 ghost use Rattle.std.specs.Prelude.{◌≡◌, ◌≢◌, ℕ, List, IfOk, IfErr, Some, Ok, Err, refl};
 ghost use Rattle.cvss_name.specs.SeverityText as severity;
 ghost use Rattle.cvss_name.specs.Told.{TellsFirst, TellsNoSeverity};
-ghost use Rattle.cvss_v4.specs.Nomenclature.{TellsNoNomenclature};
+ghost use Rattle.cvss_v4_score.specs.Nomenclature.{TellsNoNomenclature};
 ghost use Rattle.cvss_name.specs.V2Types.{v2_reason};
 ghost use Rattle.cvss_name.specs.V3Types.{v3_reason};
 ghost use Rattle.cvss_name.specs.V4Types.{v4_reason};
@@ -13,7 +13,7 @@ ghost use Rattle.cvss_name.specs.declared.error.Error.{Error};
 ghost use Rattle.cvss_name.specs.declared.error.Error.TheVariants.{OutOfMemory as LacksMemory};
 ghost use Rattle.cvss_v2.specs.Vector.{v2};
 ghost use Rattle.cvss_v3.specs.Vector.{v3};
-ghost use Rattle.cvss_v4.specs.Nomenclature as nomenclature;
+ghost use Rattle.cvss_v4_score.specs.Nomenclature as nomenclature;
 ghost use Rattle.cvss_v4.specs.Vector.{v4};
 ghost use Rattle.cvss.specs.Answers.{text_of};
 ghost use Rattle.cvss.specs.Dispatch.{DenotesCvss, IsFirstRefusalCvss, cvss_reason};

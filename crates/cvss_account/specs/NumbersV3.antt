@@ -2,8 +2,8 @@
 use Rattle.std.specs.Prelude.{◌≡◌, ℕ, ℤ, Bool, false}
 use Rattle.cvss_number.specs.Exact.{Exact}
 use Rattle.cvss_number.specs.Tenths.{IsInTenths}
-use Rattle.cvss_v3.specs.Scores as scores
-use Rattle.cvss_v3.specs.declared.weights.Weights.{Weights}
+use Rattle.cvss_v3_score.specs.Scores as scores
+use Rattle.cvss_v3_score.specs.declared.weights.Weights.{Weights}
 use Rattle.cvss_account.specs.Near.{IsNear, IsWithinMillionth, count_of}
 use Rattle.cvss_account.specs.declared.v3.numbers.BaseNumbers.{BaseNumbers}
 use Rattle.cvss_account.specs.declared.v3.numbers.EnvironmentalNumbers.{EnvironmentalNumbers}

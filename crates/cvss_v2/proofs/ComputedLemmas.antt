@@ -11,7 +11,7 @@ use Rattle.cvss_number.specs.Exact.{Exact, ◌over◌, whole, thousandths, tenth
 use Rattle.cvss_number.specs.Rounding.{IsNearestAway, IsRoundedV2}
 use Rattle.cvss_number.proofs.RoundingLemmas.{nearest_of, nearest_tenths, nearest_is, v2_tenths, v2_is}
 use Rattle.cvss_name.specs.declared.v2.MetricType.TheVariants.{A, C, I, E, RL, RC, CDP, TD, CR, IR, AR}
-use Rattle.cvss_v2.specs.Scores.{impact_of, impact, adjusted_impact, exploitability, base_number, temporal_number, environmental_number}
+use Rattle.cvss_v2_score.specs.Scores.{impact_of, impact, adjusted_impact, exploitability, base_number, temporal_number, environmental_number}
 use Rattle.cvss_v2.specs.declared.vector.Vector.{Vector}
 use Rattle.cvss_v2.specs.Weights.{weights_of}
 use Rattle.cvss_number.proofs.TestLemmas.{passes, passes_two, passes_three, all_below, below_passes}

@@ -1,5 +1,3 @@
-pub mod Rating
-pub mod Scores
 pub mod Table
 pub mod Vector
 pub mod Weights

@@ -1,33 +1,18 @@
 //! Laws of CVSS v2, each the contract of a function that does nothing. A proof that needs a law
 //! calls it.
 
-ghost use Rattle.std.specs.Prelude.{◌≡◌, ◌↔◌, ℕ, ℤ, pos, List, Some, None};
-ghost use Rattle.std.specs.Ordering.{int_cmp};
+ghost use Rattle.std.specs.Prelude.{◌≡◌, ◌↔◌, ℕ, ℤ, List, None};
 ghost use Rattle.cvss_grammar.specs.Equality.{EqualsByValue, ClonesByValue, ClonesAlways};
-ghost use Rattle.cvss_number.specs.Exact.{of_count};
 ghost use Rattle.cvss_grammar.specs.Version.{canonical_text, Denotes};
 ghost use Rattle.cvss_v2.specs.laws.NotDefined.{DefineTheSame};
-ghost use Rattle.cvss_number.specs.laws.Rounding.{IsOneCount};
-ghost use Rattle.cvss_v2.specs.Scores.{IsTemporal, IsBaseScore, IsTemporalScore, IsEnvironmentalScore, IsBaseScoreBy, IsTemporalScoreBy, IsEnvironmentalScoreBy};
+ghost use Rattle.cvss_v2_score.specs.Scores.{IsBaseScore, IsTemporalScore, IsEnvironmentalScore, IsBaseScoreBy, IsTemporalScoreBy, IsEnvironmentalScoreBy};
 ghost use Rattle.cvss_number.specs.Rounding.{IsNearestAway};
-ghost use Rattle.cvss_number.specs.Tenths.{IsInTenths};
 ghost use Rattle.cvss_name.specs.declared.v2.MetricType.{MetricType};
 ghost use Rattle.cvss_v2.specs.Vector.{v2, value_at};
 ghost use Rattle.cvss_v2.specs.Weights.{weights_of};
-ghost use Rattle.cvss_v2.specs.declared.weights.Weights.{Weights};
 
 use crate::{Score, Vector};
-
-/// Scores compare as their counts, are equal exactly if these are, and are 0 by default; a clone is
-/// the score.
-pub fn scores_compare_as_counts()
-    ensures order { (x y : ℤ) → ⟦<Score as Ord>⟧.cmp x y ≡ int_cmp x y }
-    ensures partial_order { (x y : ℤ) → ⟦<Score as PartialOrd>⟧.partial_cmp x y
-        ≡ Some (int_cmp x y) }
-    ensures equality { EqualsByValue ⟦<Score as PartialEq>⟧.eq }
-    ensures clone { ClonesByValue ⟦<Score as Clone>⟧.is_clone }
-    ensures default { (score : ℤ) → ⟦<Score as Default>⟧.is_default score → score ≡ pos 0 }
-{}
+pub use cvss_v2_score::laws::{scores_are_unique, scores_compare_as_counts};
 
 /// Two vectors are equal exactly if they are one; a clone is the vector, and the default vector has
 /// no metric.
@@ -50,15 +35,6 @@ pub fn texts_denote_one_vector()
     ensures own { (vector : Vector) → Denotes v2 (canonical_text v2 vector) vector }
     ensures one { (text : List ℕ) → (left right : Vector)
         → Denotes v2 text left → Denotes v2 text right → left ≡ right }
-{}
-
-/// Weights give one score of each kind.
-pub fn scores_are_unique()
-    ensures base { (w : Weights) → IsOneCount (IsBaseScore w) }
-    ensures temporal { (w : Weights) → IsOneCount (IsTemporalScore w) }
-    ensures environmental { (w : Weights) → IsOneCount (IsEnvironmentalScore w) }
-    ensures internal { (w : Weights) → (impact : ℤ)
-        → IsOneCount (IsInTenths (IsTemporal w (of_count impact))) }
 {}
 
 /// The 10^-6 that the rounding adds changes no published score of a vector: each is the same if

@@ -16,7 +16,8 @@ use Rattle.cvss_v3_metric.specs.declared.environmental.modified_scope.ModifiedSc
 use Rattle.cvss_v3.specs.declared.vector.Vector.{Vector}
 use Rattle.cvss_v3.specs.laws.ScoreLaws.{DefineTheSame}
 use Rattle.cvss_v3.specs.Vector.{value_at}
-use Rattle.cvss_v3.specs.VectorWeights.{weights_of, weight_at, privileges_weight, effective, effective_scope, is_changed}
+use Rattle.cvss_v3.specs.VectorWeights.{weights_of}
+use Rattle.cvss_v3_score.specs.Weighing.{weight_at, privileges_weight, effective, effective_scope, is_changed}
 
 -- there is no value, or it is X
 abbrev IsUndefined : (kind : MetricType) → Option (Value kind) → Type 0

@@ -1,51 +1,22 @@
--- Weights have one score of each kind, and the temporal score is at most the base score.
-use Rattle.std.proofs.Common.{◌≡◌, ℕ, zero, suc, ◌*◌, ◌^◌, ◌<◌, ◌≤◌, ℤ, pos, negsuc, ◌≤ℤ◌, arith, subst, lit<}
+-- The temporal score of a vector is at most its base score.
+use Rattle.std.proofs.Common.{◌≡◌, ℕ, zero, suc, ◌*◌, ◌^◌, ◌<◌, ◌≤◌, ℤ, pos, negsuc, ◌≤ℤ◌, Bool, inl, inr, arith, refl, subst, lit<}
 use Rattle.std.proofs.lemmas.Int.{ints}
 use Rattle.std.proofs.Math.Nat.{mul-le-mul, le_refl}
 use Rattle.cvss_number.specs.Exact.{Exact, ◌over◌, whole, ◌⊑◌}
-use Rattle.cvss_number.specs.laws.Rounding.{IsOneCount}
-use Rattle.cvss_number.proofs.ExactLemmas.{at_most_trans}
+use Rattle.cvss_number.proofs.ExactLemmas.{at_most_trans, equal_at_most}
 use Rattle.cvss_number.proofs.RoundingLemmas.{least_tenth-ordered, v31-ordered}
-use Rattle.cvss_number.proofs.TenthsLemmas.{in_tenths_once}
-use Rattle.cvss_v3.specs.Scores.{base_number, environmental_number, temporal_number, IsRounded, IsBase, IsTemporal, IsEnvironmental, IsBaseScore, IsTemporalScore, IsEnvironmentalScore}
+use Rattle.cvss_v3_score.specs.Scores.{iss, exploitability, first_number, base_number, temporal_number, IsRounded, IsBaseScore, IsTemporalScore}
+use Rattle.cvss_v3_score.specs.private.Weights.{exploit_code_maturities, remediation_levels, report_confidences}
+use Rattle.cvss_v3_score.specs.declared.rules.Rules.TheVariants.{V30}
+use Rattle.cvss_v3_score.proofs.CountLemmas.{AreParts, base_parts}
+use Rattle.cvss_v3_score.proofs.EqualLemmas.{base_bottom, impact_is}
+use Rattle.cvss_v3_score.proofs.LawLemmas.{base_once}
+use Rattle.cvss_v3_score.proofs.NumberLemmas.{number_of, own_bottom, equal, settled, none_equal}
+use Rattle.cvss_v3_score.proofs.RoundLemmas.{between_jumps}
+use Rattle.cvss_v3_score.proofs.SubScoreLemmas.{weight_bound}
 use Rattle.cvss_v3.specs.VectorWeights.{weights_of}
 use Rattle.cvss_v3.specs.declared.vector.Vector.{Vector}
-use Rattle.cvss_v3.specs.declared.weights.Weights.{Weights}
-use Rattle.cvss_v3.proofs.CountLemmas.{temporal_bound}
-use Rattle.cvss_v3.proofs.EqualLemmas.{base_bottom, environmental_bottom, rounded_once}
-use Rattle.cvss_v3.proofs.NumberLemmas.{base_not_negative}
-use Rattle.cvss_v3.proofs.RoundLemmas.{between_jumps}
-
-pub base_once : (minor : ℕ) (w : Weights) → IsOneCount (IsBase minor w)
-base_once minor w r s is_r is_s = rounded_once minor (base_number w) r s (base_bottom w) is_r is_s
-
--- of equal tenths the products with E, RL and RC have one rounding
-product_once : (minor : ℕ) (w : Weights) (m n r s : ℤ) → m ≡ n → IsRounded minor (temporal_number m w) r
-    → IsRounded minor (temporal_number n w) s → r ≡ s
-product_once minor w m n r s same is_r is_s =
-    rounded_once minor (temporal_number n w) r s (lit< tt) (subst (λ z. IsRounded minor (temporal_number z w) r) same is_r) is_s
-
-temporal_once : (minor : ℕ) (w : Weights) → IsOneCount (IsTemporal minor w)
-temporal_once minor w r s is_r is_s =
-    product_once minor w is_r.base is_s.base r s (base_once minor w is_r.base is_s.base is_r.is_base is_s.is_base)
-    is_r.is_rounded is_s.is_rounded
-
-pub first_once : (minor : ℕ) (w : Weights) → IsOneCount (IsRounded minor (environmental_number minor w))
-first_once minor w r s is_r is_s = rounded_once minor (environmental_number minor w) r s (environmental_bottom minor w) is_r is_s
-
-environmental_once : (minor : ℕ) (w : Weights) → IsOneCount (IsEnvironmental minor w)
-environmental_once minor w r s is_r is_s =
-    let first = first_once minor w is_r.first is_s.first is_r.is_first is_s.is_first in
-    product_once minor w is_r.first is_s.first r s first is_r.is_rounded is_s.is_rounded
-
-pub base_score_once : (minor : ℕ) (w : Weights) → IsOneCount (IsBaseScore minor w)
-base_score_once minor w = in_tenths_once (IsBase minor w) (base_once minor w)
-
-pub temporal_score_once : (minor : ℕ) (w : Weights) → IsOneCount (IsTemporalScore minor w)
-temporal_score_once minor w = in_tenths_once (IsTemporal minor w) (temporal_once minor w)
-
-pub environmental_score_once : (minor : ℕ) (w : Weights) → IsOneCount (IsEnvironmentalScore minor w)
-environmental_score_once minor w = in_tenths_once (IsEnvironmental minor w) (environmental_once minor w)
+use Rattle.cvss_v3.proofs.TableLemmas.{weights_listed}
 
 -- a greater number has no smaller rounding
 ordered : (minor : ℕ) (x y : Exact) (r s : ℤ) → 0 < x.bottom → 0 < y.bottom → x ⊑ y → IsRounded minor x r → IsRounded minor y s → r ≤ℤ s
@@ -57,6 +28,28 @@ tenths_rounded : (minor n : ℕ) → IsRounded minor (n over 10) (pos n)
 tenths_rounded zero n = record { not_below = record { at_most = omega (arith, ints) }; least = record { below = omega (arith, ints) } }
 tenths_rounded (suc minor) n =
     between_jumps n 10 n (lit< tt) (record { at_most = omega (arith, ints) }) (record { below = omega (arith, ints) })
+
+-- the first number by v3.0 is not negative
+not_negative : (changed : Bool) (s : ℕ) (S : Exact) (e : ℕ) (E : Exact) → AreParts changed s S e E → whole 0 ⊑ number_of V30 changed S E
+not_negative changed s S e E parts = elim parts.sub_score as (λ _. whole 0 ⊑ number_of V30 changed S E) [
+  | inl is_zero ↦ equal_at_most (whole 0) _ (none_equal V30 changed s S e E parts is_zero)
+  | inr sub_score ↦
+      at_most_trans (whole 0) _ _ (own_bottom V30 changed s S e E parts) (settled V30 changed s S e E parts sub_score).at.not_negative
+      (equal_at_most _ _ (equal V30 changed s S e E parts))
+]
+
+base_not_negative : (v : Vector) → whole 0 ⊑ base_number (weights_of v)
+base_not_negative v =
+    let w = weights_of v in
+    subst (λ n. whole 0 ⊑ first_number w.changed n (exploitability w)) (impact_is w.changed (iss w))
+    (not_negative w.changed _ _ _ _ (base_parts w (weights_listed v)))
+
+-- the product of E, RL and RC
+temporal_bound : (v : Vector) → (weights_of v).e * (weights_of v).rl * (weights_of v).rc ≤ 10 ^ 6
+temporal_bound v =
+    let are = weights_listed v in
+    mul-le-mul (mul-le-mul (weight_bound exploit_code_maturities _ 100 refl are.e) (weight_bound remediation_levels _ 100 refl are.rl))
+    (weight_bound report_confidences _ 100 refl are.rc)
 
 -- tenths that are not negative, times E, RL and RC, are rounded to no more
 product_at_most : (minor : ℕ) (v : Vector) (m r : ℤ) → pos 0 ≤ℤ m → IsRounded minor (temporal_number m (weights_of v)) r → r ≤ℤ m

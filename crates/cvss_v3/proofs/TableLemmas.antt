@@ -1,14 +1,15 @@
 -- The weights of a vector's values are those of the tables.
-use Rattle.std.proofs.Common.{◌≡◌, ℕ, suc, ◌≤◌, ◌∷◌, Bool, true, false, Option, Some, None, unwrap_or, arith, refl, leb, rules}
-use Rattle.std.proofs.lemmas.Bool.{leb-true}
+use Rattle.std.proofs.Common.{◌≡◌, suc, ◌∷◌, Bool, true, false, Option, Some, None, unwrap_or, arith, refl, rules, lit<}
 use Rattle.std.specs.List.{Contains}
 use Rattle.cvss_name.specs.declared.v3.MetricType.{MetricType}
-use Rattle.cvss_name.specs.declared.v3.MetricType.TheVariants.{A, PR}
+use Rattle.cvss_name.specs.declared.v3.MetricType.TheVariants.{A, AC, AV, C, I, PR, UI, E, RL, RC, CR, IR, AR}
 use Rattle.cvss_v3_metric.specs.Modified.{weight_or}
 use Rattle.cvss_v3_metric.specs.Table.{Value, weight_of}
-use Rattle.cvss_number.proofs.TestLemmas.{passes, is_listed, listed_if}
-use Rattle.cvss_v3.specs.VectorWeights.{weight_at, privileges_weight}
-use Rattle.cvss_v3.specs.private.Weights.{weights_in, privileges_required, WeighsAtMost}
+use Rattle.cvss_number.proofs.TestLemmas.{is_listed, listed_if}
+use Rattle.cvss_v3_score.specs.Weighing.{weight_at, privileges_weight, effective, effective_scope, is_changed}
+use Rattle.cvss_v3_score.specs.private.Weights.{weights_in, privileges_required, AreOfTables}
+use Rattle.cvss_v3.specs.VectorWeights.{weights_of}
+use Rattle.cvss_v3.specs.declared.vector.Vector.{Vector}
 
 listed : (kind : MetricType) (value : Value kind) → is_listed (weights_in kind) (unwrap_or (weight_of kind value) 0) ≡ true
 listed A = search rules
@@ -18,12 +19,12 @@ listed _ = search rules
 weight_listed : (kind : MetricType) (value : Value kind) → Contains (weights_in kind) (unwrap_or (weight_of kind value) 0)
 weight_listed kind value = listed_if (weights_in kind) (unwrap_or (weight_of kind value) 0) (listed kind value)
 
-pub base_listed : (kind : MetricType) (value : Option (Value kind)) → Contains (0 ∷ weights_in kind) (weight_or (weight_of kind) value 0)
+base_listed : (kind : MetricType) (value : Option (Value kind)) → Contains (0 ∷ weights_in kind) (weight_or (weight_of kind) value 0)
 base_listed kind None = (0, omega arith, refl)
 base_listed kind (Some value) = let (i, within, is) = weight_listed kind value in (suc i, omega (arith, within), is)
 
 -- an absent optional metric weighs as X does, whose row is the first
-pub optional_listed : (kind : MetricType) → Contains (weights_in kind) (weight_at kind None) → (value : Option (Value kind)) → Contains (weights_in kind) (weight_at kind value)
+optional_listed : (kind : MetricType) → Contains (weights_in kind) (weight_at kind None) → (value : Option (Value kind)) → Contains (weights_in kind) (weight_at kind value)
 optional_listed kind absent None = absent
 optional_listed kind absent (Some value) = weight_listed kind value
 
@@ -31,12 +32,29 @@ scoped : (changed : Bool) (value : Option (Value PR)) → is_listed (privileges_
 scoped false = search rules
 scoped true = search rules
 
-pub privileges_listed : (changed : Bool) (value : Option (Value PR)) → Contains (privileges_required changed) (privileges_weight changed value)
+privileges_listed : (changed : Bool) (value : Option (Value PR)) → Contains (privileges_required changed) (privileges_weight changed value)
 privileges_listed changed value = listed_if (privileges_required changed) (privileges_weight changed value) (scoped changed value)
 
--- no weight of a metric is above what none of its values' weights is above
-pub weight_at_most : (kind : MetricType) (value : Option (Value kind)) (absent most : ℕ) → WeighsAtMost most kind → absent ≤ most
-    → weight_or (weight_of kind) value absent ≤ most
-weight_at_most kind None absent most all small = small
-weight_at_most kind (Some value) absent most all small =
-    leb-true (unwrap_or (weight_of kind value) 0) most (passes (λ weight. leb weight most) (weights_in kind) _ all (weight_listed kind value))
+pub weights_listed : (v : Vector) → AreOfTables (weights_of v)
+weights_listed v = record {
+  av = base_listed AV v.av;
+  ac = base_listed AC v.ac;
+  pr = privileges_listed (is_changed v.s) v.pr;
+  ui = base_listed UI v.ui;
+  c = base_listed C v.c;
+  i = base_listed I v.i;
+  a = base_listed A v.a;
+  e = optional_listed E (0, lit< tt, refl) v.e;
+  rl = optional_listed RL (0, lit< tt, refl) v.rl;
+  rc = optional_listed RC (0, lit< tt, refl) v.rc;
+  cr = optional_listed CR (0, lit< tt, refl) v.cr;
+  ir = optional_listed IR (0, lit< tt, refl) v.ir;
+  ar = optional_listed AR (0, lit< tt, refl) v.ar;
+  mav = base_listed AV (effective v.mav v.av);
+  mac = base_listed AC (effective v.mac v.ac);
+  mpr = privileges_listed (is_changed (effective_scope v.ms v.s)) (effective v.mpr v.pr);
+  mui = base_listed UI (effective v.mui v.ui);
+  mc = base_listed C (effective v.mc v.c);
+  mi = base_listed I (effective v.mi v.i);
+  ma = base_listed A (effective v.ma v.a);
+}

@@ -1,5 +1,1 @@
-pub mod Near
-pub mod SubScores
-pub mod Units
 pub mod VectorLaws
-pub mod Weights

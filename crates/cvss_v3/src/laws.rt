@@ -4,17 +4,16 @@
 ghost use Rattle.std.specs.Prelude.{◌≡◌, ℕ, List, ℤ, pos, ◌≤◌, ◌≤ℤ◌, Some, None};
 ghost use Rattle.std.specs.Ordering.{int_cmp};
 ghost use Rattle.cvss_grammar.specs.Equality.{EqualsByValue, ClonesByValue, ClonesAlways};
-ghost use Rattle.cvss_number.specs.laws.Rounding.{IsOneCount};
 ghost use Rattle.cvss_grammar.specs.Version.{canonical_text, Denotes};
 ghost use Rattle.cvss_v3.specs.laws.FifthDecimals.{IsSameWhenCut};
 ghost use Rattle.cvss_v3.specs.laws.ScoreLaws.{DefineTheSame, with_modified_as_base};
-ghost use Rattle.cvss_v3.specs.Scores.{base_number, environmental_number, temporal_number, IsBaseScore, IsTemporalScore, IsEnvironmentalScore};
+ghost use Rattle.cvss_v3_score.specs.Scores.{base_number, environmental_number, temporal_number, IsBaseScore, IsTemporalScore, IsEnvironmentalScore};
 ghost use Rattle.cvss_name.specs.declared.v3.MetricType.{MetricType};
 ghost use Rattle.cvss_v3.specs.Vector.{v3, value_at};
 ghost use Rattle.cvss_v3.specs.VectorWeights.{weights_of};
-ghost use Rattle.cvss_v3.specs.declared.weights.Weights.{Weights};
 
 use crate::{Score, Vector};
+pub use cvss_v3_score::laws::scores_are_unique;
 
 /// Scores compare as their counts, are equal exactly if these are, and are 0 by default; a clone is
 /// the score.
@@ -50,14 +49,6 @@ pub fn texts_denote_one_vector()
     ensures own { (vector : Vector) → Denotes v3 (canonical_text v3 vector) vector }
     ensures one { (text : List ℕ) → (left right : Vector)
         → Denotes v3 text left → Denotes v3 text right → left ≡ right }
-{}
-
-/// Weights give one score of each kind.
-pub fn scores_are_unique()
-    ensures base { (minor : ℕ) → (w : Weights) → IsOneCount (IsBaseScore minor w) }
-    ensures temporal { (minor : ℕ) → (w : Weights) → IsOneCount (IsTemporalScore minor w) }
-    ensures environmental { (minor : ℕ) → (w : Weights)
-        → IsOneCount (IsEnvironmentalScore minor w) }
 {}
 
 /// The temporal score of a vector is at most its base score.

@@ -4,13 +4,13 @@ ghost use Rattle.std.specs.Prelude.{◌≡◌, ◌≤◌, ◌*ℤ◌, ◌^◌, �
 ghost use Rattle.cvss_number.specs.Exact.{of_count, IsWithinLimit};
 ghost use Rattle.cvss_base.specs.Rating.{rating_of_score};
 ghost use Rattle.cvss_number.specs.Tenths.{score_text, IsInTenths, IsFromZeroToTen};
-ghost use Rattle.cvss_v3.specs.Scores.{IsRounded};
+ghost use Rattle.cvss_v3_score.specs.Scores.{IsRounded};
 
-use crate::rounding::round_count;
-use crate::rules::Rules;
 use cvss_base::severity_of_score;
 use cvss_name::Severity;
 use cvss_number::{OneDecimal, TENTH};
+use cvss_v3_score::Rules;
+use cvss_v3_score::rounding::round_count;
 use std::fmt;
 use std::marker::Model;
 

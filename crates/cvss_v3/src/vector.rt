@@ -11,7 +11,6 @@ mod refusing;
 mod scores;
 mod sight;
 mod units;
-mod weighing;
 
 use crate::metric::base::{
     AttackComplexity, AttackVector, Availability, Confidentiality, Integrity, PrivilegesRequired,

@@ -10,7 +10,7 @@ use Rattle.cvss_name.specs.declared.v4.MetricType.{MetricType}
 use Rattle.cvss_name.specs.declared.v4.MetricType.TheVariants.{AC}
 use Rattle.cvss_v4_metric.specs.Metrics.{IsMetric}
 use Rattle.cvss_v4_metric.specs.Table.{spellings_of, spelling_at}
-use Rattle.cvss_v4.proofs.TestLemmas.{at_place}
+use Rattle.cvss_v4_score.proofs.TestLemmas.{at_place}
 
 -- whether a spelling of one letter is in upper case
 abbrev is_plain : List ℕ → Bool

@@ -1,25 +1,6 @@
-mod AccountLemmas
-mod ClassLawLemmas
-mod ClassLemmas
 mod CompleteLemmas
-mod CountLemmas
-mod DepthLemmas
-mod DistanceLemmas
-mod GroupLemmas
-mod LeastLemmas
 mod LetterLemmas
-mod MeanLemmas
 mod MergingFacts
 mod MergingLemmas
-mod NextLemmas
 mod OverridingLemmas
-mod PlaceLemmas
-mod RoundedLemmas
-pub mod ScoreLawLemmas
-mod ScoreLemmas
-mod SevereLemmas
-mod ShareLemmas
-mod StandardFacts
-mod TableLemmas
-mod TestLemmas
 mod TextLemmas

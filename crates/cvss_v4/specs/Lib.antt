@@ -1,16 +1,7 @@
-pub mod Account
-pub mod AsSevere
-pub mod Classes
-pub mod Distance
-pub mod Effective
-pub mod Gap
-pub mod Levels
 pub mod Merging
 pub mod Nomenclature
 pub mod Overriding
-pub mod Scores
 pub mod Table
-pub mod Values
 pub mod Vector
 pub mod laws
 pub mod private

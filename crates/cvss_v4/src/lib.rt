@@ -3,13 +3,9 @@
 
 pub mod laws;
 pub mod metric;
-mod nomenclature;
-mod score;
-pub mod scoring;
 mod vector;
 
+pub use cvss_v4_score::scoring::account::Account;
+pub use cvss_v4_score::{Nomenclature, Score, scoring};
 pub use metric::MetricType;
-pub use nomenclature::Nomenclature;
-pub use score::Score;
-pub use scoring::account::Account;
 pub use vector::{Metrics, OverrideError, Vector};

@@ -3,13 +3,15 @@
 ghost use Rattle.std.specs.Prelude.{◌≡◌, ◌≤◌, pos};
 ghost use Rattle.cvss_number.specs.Exact.{◌over◌, ◌⊕◌};
 ghost use Rattle.cvss_number.specs.Rounding.{IsRoundedV4};
-ghost use Rattle.cvss_v4.specs.AsSevere.{IsAsSevere};
-ghost use Rattle.cvss_v4.specs.Scores.{number};
+ghost use Rattle.cvss_v4_score.specs.AsSevere.{IsAsSevere};
+ghost use Rattle.cvss_v4_score.specs.Scores.{number};
 
 use crate::samples::{HARMLESS, LEAST, WORST};
-use cvss_v4::laws::{a_millionth_changes_no_score, scores_are_unique, severe_values_score_no_less};
-use cvss_v4::scoring::effective::Effective;
-use cvss_v4::scoring::score_tenths;
+use cvss_v4_score::laws::{
+    a_millionth_changes_no_score, scores_are_unique, severe_values_score_no_less,
+};
+use cvss_v4_score::scoring::effective::Effective;
+use cvss_v4_score::scoring::score_tenths;
 use std::test::Fail;
 
 /// The score, taken twice.

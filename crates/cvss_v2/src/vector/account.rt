@@ -3,14 +3,15 @@
 ghost use Rattle.std.specs.Prelude.{◌≡◌, ◌*◌, ◌^◌, ℤ, pos};
 ghost use Rattle.cvss_number.specs.Exact.{of_count, tenths, thousandths, ◌≈◌, IsWithinLimit};
 ghost use Rattle.cvss_number.specs.Tenths.{IsInTenths};
-ghost use Rattle.cvss_v2.specs.Scores.{impact, adjusted_impact, exploitability, f, base_number, temporal_number, environmental_number, IsBase, IsTemporal};
+ghost use Rattle.cvss_v2_score.specs.Scores.{impact, adjusted_impact, exploitability, f, base_number, temporal_number, environmental_number, IsBase, IsTemporal};
 ghost use Rattle.cvss_v2.specs.Weights.{weight_in, weights_of};
 
 use super::weighing::weight;
+use crate::MetricType;
 use crate::metric::THOUSANDTH;
-use crate::score::Score;
 use crate::vector::Vector;
-use crate::{MetricType, base_score, equations};
+use cvss_v2_score::score::of_tenths;
+use cvss_v2_score::{Score, base_score, equations};
 
 impl Vector {
     /// What a metric weighs in this vector, in counts of 10^-24 (guide, section 3.2): an absent one
@@ -65,7 +66,7 @@ impl Vector {
             (IsBase (weights_of self.now) (adjusted_impact (weights_of self.now))) result }
         ensures limit { IsWithinLimit result }
     {
-        Score::of_tenths(self.base_of(self.required_impact()))
+        of_tenths(self.base_of(self.required_impact()))
     }
 
     /// AdjustedTemporal, the temporal score of the adjusted base score (guide, section 3.2.3), which
@@ -75,7 +76,7 @@ impl Vector {
             (IsTemporal (weights_of self.now) (adjusted_impact (weights_of self.now))) result }
         ensures limit { IsWithinLimit result }
     {
-        Score::of_tenths(self.temporal_of(self.required_impact()))
+        of_tenths(self.temporal_of(self.required_impact()))
     }
 
     /// What the environmental score is the rounding of (guide, section 3.2.3), which is exact and

@@ -2,14 +2,14 @@
 
 ghost use Rattle.std.specs.Prelude.{◌≤◌, ◌*ℤ◌, ◌^◌, pos};
 ghost use Rattle.cvss_number.specs.Exact.{of_count, ◌≈◌, IsWithinLimit};
-ghost use Rattle.cvss_v2.specs.Scores.{impact, adjusted_impact, exploitability, IsTemporal, IsBaseScore, IsTemporalScore, IsEnvironmentalScore};
+ghost use Rattle.cvss_v2_score.specs.Scores.{impact, adjusted_impact, exploitability, IsTemporal, IsBaseScore, IsTemporalScore, IsEnvironmentalScore};
 ghost use Rattle.cvss_number.specs.Tenths.{IsInTenths, IsFromZeroToTen};
 ghost use Rattle.cvss_v2.specs.Weights.{weights_of};
 
 use super::weighing::weight;
-use crate::equations;
-use crate::score::Score;
 use crate::vector::Vector;
+use cvss_v2_score::score::{of_tenths, published};
+use cvss_v2_score::{Score, scores};
 
 impl Vector {
     /// The impact sub-score (guide, section 3.2.1), which is exact.
@@ -41,7 +41,7 @@ impl Vector {
         ensures value { IsBaseScore (weights_of self.now) result }
         ensures range { IsInTenths IsFromZeroToTen result }
     {
-        Score::of_tenths(i128::from(self.tenths()))
+        of_tenths(i128::from(self.tenths()))
     }
 
     /// The base score (guide, section 3.2.1) in tenths, not below 0.
@@ -58,7 +58,7 @@ impl Vector {
         ensures value { IsTemporalScore (weights_of self.now) result }
         ensures range { IsInTenths IsFromZeroToTen result }
     {
-        Score::published(self.temporal_of(self.own_impact()))
+        published(self.temporal_of(self.own_impact()))
     }
 
     /// The environmental score (guide, section 3.2.3), not below 0.
@@ -66,10 +66,14 @@ impl Vector {
         ensures value { IsEnvironmentalScore (weights_of self.now) result }
         ensures range { IsInTenths IsFromZeroToTen result }
     {
-        let adjusted_temporal = self.temporal_of(self.required_impact());
+        let impact = self.required_impact();
+        let exploitability = self.own_exploitability();
+        let e = weight(self.e, 1000);
+        let rl = weight(self.rl, 1000);
+        let rc = weight(self.rc, 1000);
         let cdp = weight(self.cdp, 0);
         let td = weight(self.td, 1000);
-        Score::published(equations::environmental_tenths(adjusted_temporal, cdp, td))
+        scores::environmental_score(impact, exploitability, e, rl, rc, cdp, td)
     }
 
     /// The temporal score with another impact in the place of the vector's own, which may be
@@ -79,6 +83,6 @@ impl Vector {
         ensures value { IsInTenths (IsTemporal (weights_of self.now) (of_count impact)) result }
         ensures limit { IsWithinLimit result }
     {
-        Score::of_tenths(self.temporal_of(impact))
+        of_tenths(self.temporal_of(impact))
     }
 }

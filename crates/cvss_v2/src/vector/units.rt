@@ -2,13 +2,13 @@
 
 ghost use Rattle.std.specs.Prelude.{◌≡◌, ◌*◌, ◌^◌, ◌≤◌, ◌≤ℤ◌, ℤ, pos, neg_ℤ};
 ghost use Rattle.cvss_number.specs.Exact.{ratio, of_count, ◌≈◌, IsWithinLimit};
-ghost use Rattle.cvss_v2.specs.Scores.{impact, adjusted_impact, exploitability, IsBase, IsTemporal};
+ghost use Rattle.cvss_v2_score.specs.Scores.{impact, adjusted_impact, exploitability, IsBase, IsTemporal};
 ghost use Rattle.cvss_v2.specs.Weights.{weights_of};
-ghost use Rattle.cvss_v2.specs.private.Bounds.{IsImpactCount, IsOnScale};
+ghost use Rattle.cvss_v2_score.specs.private.Bounds.{IsImpactCount, IsOnScale};
 
 use super::weighing::weight;
 use crate::vector::Vector;
-use crate::{Score, base_score, equations};
+use cvss_v2_score::{Score, base_score, equations, scores};
 
 impl Vector {
     /// Impact in 10^-11.
@@ -65,7 +65,7 @@ impl Vector {
         ensures high { result ≤ℤ pos (10 ^ 7) }
         ensures on_scale { IsImpactCount impact → IsOnScale result }
     {
-        equations::base_tenths(impact.value(), self.own_exploitability().value())
+        scores::base_score(impact, self.own_exploitability())
     }
 
     /// The temporal score of an impact, in tenths.
@@ -78,7 +78,8 @@ impl Vector {
     {
         let e = weight(self.e, 1000);
         let rl = weight(self.rl, 1000);
-        equations::temporal_tenths(self.base_of(impact), e, rl, weight(self.rc, 1000))
+        let rc = weight(self.rc, 1000);
+        scores::temporal_score(impact, self.own_exploitability(), e, rl, rc)
     }
 
     /// The base score in tenths, before it is raised to 0.

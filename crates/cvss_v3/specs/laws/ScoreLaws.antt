@@ -5,7 +5,7 @@ use Rattle.cvss_name.specs.declared.v3.MetricType.{MetricType}
 use Rattle.cvss_v3_metric.specs.Table.{spelling_of}
 use Rattle.cvss_v3.specs.declared.vector.Vector.{Vector}
 use Rattle.cvss_v3.specs.Vector.{value_at}
-use Rattle.cvss_v3.specs.VectorWeights.{effective, effective_scope}
+use Rattle.cvss_v3_score.specs.Weighing.{effective, effective_scope}
 
 -- the vector has no value for the metric, or the value X
 abbrev pub IsNotDefined : Vector → MetricType → Type 0

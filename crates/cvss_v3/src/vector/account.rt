@@ -1,18 +1,19 @@
 //! The numbers on the way to the scores of a vector.
 
-ghost use Rattle.std.specs.Prelude.{◌≡◌, ◌*◌, ◌^◌, ℤ, pos, false, option_map};
+ghost use Rattle.std.specs.Prelude.{◌≡◌, ◌≤◌, ◌*◌, ◌^◌, ℤ, pos, false, option_map, IfSome};
 ghost use Rattle.cvss_number.specs.Exact.{of_count, ◌≈◌, IsWithinLimit};
 ghost use Rattle.cvss_number.specs.Tenths.{IsInTenths, IsFromZeroToTen};
-ghost use Rattle.cvss_v3.specs.Closeness.{IsCloseTo};
-ghost use Rattle.cvss_v3.specs.Scores.{impact, miss, modified_impact, modified_exploitability, base_number, environmental_number, temporal_number, IsRounded, IsBase};
+ghost use Rattle.cvss_v3_score.specs.Closeness.{IsCloseTo};
+ghost use Rattle.cvss_v3_score.specs.Scores.{impact, miss, modified_impact, modified_exploitability, base_number, environmental_number, temporal_number, IsRounded, IsBase};
 ghost use Rattle.cvss_v3.specs.VectorWeights.{weights_of, weight_in};
 
-use super::weighing::{effective_scope, is_changed};
-use crate::equations;
 use crate::metric::MetricType;
-use crate::rules::Rules;
 use crate::score::Score;
 use crate::vector::Vector;
+use cvss_v3_score::weighing::{
+    effective, effective_scope, is_changed, modified_privileges, scoped_weight, weight,
+};
+use cvss_v3_score::{Rules, equations};
 
 /// 10^-2, 10^-7, 10^-11 and 10^-13 in counts of 10^-24.
 const HUNDREDTH: i128 = 10_000_000_000_000_000_000_000;
@@ -24,6 +25,36 @@ const ELEVENTH: i128 = 10_000_000_000_000;
 const THIRTEENTH: i128 = 100_000_000_000;
 
 impl Vector {
+    /// The weight of a metric in hundredths, which the scopes have not.
+    fn hundredths(&self, metric: MetricType) -> Option<u64>
+        ensures value { result ≡ weight_in (weights_of self.now) metric }
+        ensures bound { IfSome result (λ weight. weight ≤ 150) }
+    {
+        match metric {
+            MetricType::AV => Some(weight(self.av, 0)),
+            MetricType::AC => Some(weight(self.ac, 0)),
+            MetricType::PR => Some(scoped_weight(self.pr, is_changed(self.s))),
+            MetricType::UI => Some(weight(self.ui, 0)),
+            MetricType::C => Some(weight(self.c, 0)),
+            MetricType::I => Some(weight(self.i, 0)),
+            MetricType::A => Some(weight(self.a, 0)),
+            MetricType::E => Some(weight(self.e, 100)),
+            MetricType::RL => Some(weight(self.rl, 100)),
+            MetricType::RC => Some(weight(self.rc, 100)),
+            MetricType::CR => Some(weight(self.cr, 100)),
+            MetricType::IR => Some(weight(self.ir, 100)),
+            MetricType::AR => Some(weight(self.ar, 100)),
+            MetricType::MAV => Some(weight(effective(self.mav, self.av), 0)),
+            MetricType::MAC => Some(weight(effective(self.mac, self.ac), 0)),
+            MetricType::MPR => Some(modified_privileges(self.mpr, self.pr, self.ms, self.s)),
+            MetricType::MUI => Some(weight(effective(self.mui, self.ui), 0)),
+            MetricType::MC => Some(weight(effective(self.mc, self.c), 0)),
+            MetricType::MI => Some(weight(effective(self.mi, self.i), 0)),
+            MetricType::MA => Some(weight(effective(self.ma, self.a), 0)),
+            MetricType::S | MetricType::MS => None,
+        }
+    }
+
     /// What a metric weighs in the equations, in counts of 10^-24 (v3.1 specification, section 7.4;
     /// v3.0 specification, section 8.4): a modified metric that is absent or `X` as its base metric,
     /// PR by the scope and MPR by the modified scope, an absent base metric 0. `S` and `MS` weigh

@@ -3,17 +3,15 @@
 ghost use Rattle.std.specs.Prelude.{◌≡◌, ◌≤◌, ◌*ℤ◌, ◌^◌, ℤ, pos, IsTrue};
 ghost use Rattle.cvss_number.specs.Exact.{of_count, whole, ◌≈◌, ◌⊏◌, IsWithinLimit};
 ghost use Rattle.cvss_number.specs.Tenths.{IsInTenths, IsFromZeroToTen};
-ghost use Rattle.cvss_v3.specs.Certainty.{IsCertain};
-ghost use Rattle.cvss_v3.specs.Scores.{iss, impact, modified_impact, exploitability, base_number, environmental_number, IsBaseScore, IsTemporalScore, IsEnvironmentalScore};
+ghost use Rattle.cvss_v3_score.specs.Certainty.{IsCertain};
+ghost use Rattle.cvss_v3_score.specs.Scores.{iss, impact, modified_impact, exploitability, base_number, environmental_number, IsBaseScore, IsTemporalScore, IsEnvironmentalScore};
 ghost use Rattle.cvss_v3.specs.VectorWeights.{weights_of};
 ghost use Rattle.cvss_base.specs.Rating.{rating_of_score};
 
 use crate::score::Score;
 use crate::vector::Vector;
 use cvss_name::Severity;
-
-/// No number that the metrics give to a rounding lies within 10^-6 of a jump of that rounding.
-const FAR_FROM_A_JUMP: bool = true;
+use cvss_v3_score::rounding::is_certain;
 
 impl Vector {
     /// The base score (v3.1 specification, section 7.1; v3.0 specification, section 8.1).
@@ -87,14 +85,13 @@ impl Vector {
     /// Whether, with impact, an error of 10^-6 in the number that the base score is the rounding of
     /// leaves the score as it is, as long as the number stays at most 10: it always does (v3.1
     /// specification, Appendix A, on numbers that are computed in floating point).
-    #[tactic(auto, using(crate::proofs::NumberLemmas::base_certain))]
     pub fn base_is_certain(&self) -> bool
         ensures always { IsTrue result }
         ensures certain { IsTrue result
             → whole 0 ⊏ impact (weights_of self.now)
             → IsCertain self.now.minor_version (base_number (weights_of self.now)) }
     {
-        FAR_FROM_A_JUMP
+        is_certain()
     }
 
     /// Whether, with modified impact, an error of 10^-6 in the number that the environmental score is
@@ -108,6 +105,6 @@ impl Vector {
             → IsCertain self.now.minor_version
             (environmental_number self.now.minor_version (weights_of self.now)) }
     {
-        FAR_FROM_A_JUMP
+        is_certain()
     }
 }

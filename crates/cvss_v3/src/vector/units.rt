@@ -3,16 +3,15 @@
 ghost use Rattle.std.specs.Prelude.{◌≡◌, ◌⊎◌, ◌≤◌, ◌*◌, ◌^◌, ℕ, pos};
 ghost use Rattle.std.specs.List.{Contains};
 ghost use Rattle.cvss_number.specs.Exact.{◌over◌, ◌≈◌};
-ghost use Rattle.cvss_v3.specs.private.Near.{StandsFor};
-ghost use Rattle.cvss_v3.specs.Scores.{iss, miss, exploitability, modified_exploitability, base_number, environmental_number, temporal_number, IsRounded, IsBase};
+ghost use Rattle.cvss_v3_score.specs.private.Near.{StandsFor};
+ghost use Rattle.cvss_v3_score.specs.Scores.{iss, miss, exploitability, modified_exploitability, base_number, environmental_number, temporal_number, IsRounded, IsBase};
 ghost use Rattle.cvss_v3.specs.VectorWeights.{weights_of};
-ghost use Rattle.cvss_v3.specs.private.SubScores.{IsSubScore, exploitabilities};
+ghost use Rattle.cvss_v3_score.specs.private.SubScores.{IsSubScore, exploitabilities};
 
-use super::weighing::{effective, is_changed, scoped_weight, weight};
-use crate::equations;
-use crate::rounding::round_tenths;
-use crate::rules::Rules;
 use crate::vector::Vector;
+use cvss_v3_score::rounding::round_tenths;
+use cvss_v3_score::weighing::{effective, is_changed, modified_privileges, scoped_weight, weight};
+use cvss_v3_score::{Rules, equations};
 
 impl Vector {
     /// ISS, the impact sub-score, in millionths.
@@ -63,8 +62,9 @@ impl Vector {
     {
         let av = weight(effective(self.mav, self.av), 0);
         let ac = weight(effective(self.mac, self.ac), 0);
+        let pr = modified_privileges(self.mpr, self.pr, self.ms, self.s);
         let ui = weight(effective(self.mui, self.ui), 0);
-        equations::exploitability(av, ac, self.modified_privileges(), ui)
+        equations::exploitability(av, ac, pr, ui)
     }
 
     /// A number of 10^-13 that stands for the first number of the base score.

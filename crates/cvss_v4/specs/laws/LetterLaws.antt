@@ -3,7 +3,7 @@ use Rattle.std.specs.Prelude.{ℕ, List, Bool, IsTrue, ◌||◌, codes, bytes_eq
 use Rattle.std.specs.List.{list_any, list_all}
 use Rattle.cvss_name.specs.declared.v4.MetricType.{MetricType}
 use Rattle.cvss_v4_metric.specs.Table.{spellings_of}
-use Rattle.cvss_v4.specs.Effective.{Letters}
+use Rattle.cvss_v4_score.specs.Effective.{Letters}
 
 -- the spelling is X, or one of the letters
 abbrev pub is_known : {E : Type 0} → Letters E → List ℕ → Bool

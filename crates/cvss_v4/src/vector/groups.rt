@@ -4,8 +4,8 @@ ghost use Rattle.std.specs.Prelude.{◌≡◌};
 ghost use Rattle.cvss_name.specs.declared.group.MetricGroup.TheVariants.{Environmental};
 ghost use Rattle.cvss_v4.specs.Nomenclature.{has_group, nomenclature_of};
 
-use crate::nomenclature::Nomenclature;
 use crate::vector::Vector;
+use cvss_v4_score::{Nomenclature, nomenclature_of_groups};
 
 impl Vector {
     /// The groups of metrics that the vector has, besides the supplemental ones. A metric that is
@@ -13,12 +13,7 @@ impl Vector {
     pub fn nomenclature(&self) -> Nomenclature
         ensures { result ≡ nomenclature_of self.now }
     {
-        match (self.e.is_some(), self.has_environmental()) {
-            (false, false) => Nomenclature::CvssB,
-            (false, true) => Nomenclature::CvssBE,
-            (true, false) => Nomenclature::CvssBT,
-            (true, true) => Nomenclature::CvssBTE,
-        }
+        nomenclature_of_groups(self.e, self.has_environmental())
     }
 
     /// Whether the vector has an environmental metric.
@@ -42,5 +37,13 @@ impl Vector {
             Vector { msa: Some(_), .. } => true,
             _ => false,
         }
+    }
+}
+
+impl From<&Vector> for Nomenclature {
+    ghost from_gives = { λ vector nomenclature. nomenclature ≡ nomenclature_of vector.now };
+
+    fn from(vector: &Vector) -> Self {
+        vector.nomenclature()
     }
 }

@@ -2,7 +2,7 @@
 
 ghost use Rattle.std.specs.Prelude.{◌≡◌};
 ghost use Rattle.cvss_name.specs.declared.v4.MetricType.TheVariants.{AR, CR, E, IR};
-ghost use Rattle.cvss_v4.specs.Effective.{meaning, requirements, exploit_maturities};
+ghost use Rattle.cvss_v4_score.specs.Effective.{meaning, requirements, exploit_maturities};
 ghost use Rattle.cvss_v4.specs.Merging.{letter_of, effective_of};
 
 mod attack;
@@ -13,11 +13,11 @@ use crate::metric::environmental::{
     AvailabilityRequirements, ConfidentialityRequirements, IntegrityRequirements,
 };
 use crate::metric::threat::ExploitMaturity;
-use crate::scoring::effective::{self, Effective};
 use crate::vector::Vector;
 use attack::{
     attack_complexity, attack_requirements, attack_vector, privileges_required, user_interaction,
 };
+use cvss_v4_score::scoring::effective::{self, Effective};
 use subsequent::{
     availability_impact_to_the_subsequent_system, confidentiality_impact_to_the_subsequent_system,
     integrity_impact_to_the_subsequent_system,

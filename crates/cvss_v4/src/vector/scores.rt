@@ -5,24 +5,23 @@ ghost use Rattle.cvss_number.specs.Exact.{◌over◌, ◌⊕◌};
 ghost use Rattle.cvss_number.specs.Rounding.{IsRoundedV4};
 ghost use Rattle.cvss_number.specs.Tenths.{IsInTenths, IsFromZeroToTen};
 ghost use Rattle.cvss_grammar.specs.Version.{IsComplete};
-ghost use Rattle.cvss_v4.specs.Account.{AreInRange, IsAccount};
+ghost use Rattle.cvss_v4_score.specs.Account.{AreInRange, IsAccount};
 ghost use Rattle.cvss_v4.specs.Merging.{effective_of};
 ghost use Rattle.cvss_v4.specs.Nomenclature.{nomenclature_of};
-ghost use Rattle.cvss_v4.specs.AsSevere.{IsAsSevere};
-ghost use Rattle.cvss_v4.specs.Scores.{has_impact, number, IsScore};
+ghost use Rattle.cvss_v4_score.specs.AsSevere.{IsAsSevere};
+ghost use Rattle.cvss_v4_score.specs.Scores.{has_impact, number, IsScore};
 ghost use Rattle.cvss_v4.specs.Vector.{v4};
-ghost use Rattle.cvss_v4.specs.declared.scoring.effective.Effective.{Effective};
+ghost use Rattle.cvss_v4_score.specs.declared.scoring.effective.Effective.{Effective};
 
-use crate::score::Score;
-use crate::scoring::account::Account;
-use crate::scoring::score_tenths;
 use crate::vector::Vector;
+use cvss_v4_score::scoring::account::Account;
+use cvss_v4_score::scoring::score_tenths;
+use cvss_v4_score::{Score, score_of};
 
 impl Vector {
     /// The score (v4.0 specification, section 8.2) of a complete vector, with its nomenclature: the
     /// value of its class less the mean of gap times distance over depth, to the nearest tenth,
     /// half up; 0 without impact, and at least a tenth with it.
-    #[tactic(auto, using(crate::proofs::CountLemmas::lifted_count))]
     pub fn score(&self) -> Score
         requires complete { IsComplete v4 self.now }
         ensures value { IsInTenths (IsScore (effective_of self.now)) result.0 }
@@ -37,7 +36,7 @@ impl Vector {
         ensures millionth { IsInTenths
             (IsRoundedV4 (number (effective_of self.now) ⊕ 1 over 1_000_000)) result.0 }
     {
-        Score::of_tenths(score_tenths(&self.effective()), self.nomenclature())
+        score_of(&self.effective(), self.nomenclature())
     }
 
     /// The score of a complete vector in tenths: what `score` counts in 10^-24.

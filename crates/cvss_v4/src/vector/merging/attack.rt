@@ -2,7 +2,7 @@
 
 ghost use Rattle.std.specs.Prelude.{◌≡◌};
 ghost use Rattle.cvss_name.specs.declared.v4.MetricType.TheVariants.{AC, AT, AV, MAC, MAT, MAV, MPR, MUI, PR, UI};
-ghost use Rattle.cvss_v4.specs.Effective.{meaning, attack_vectors, privileges, user_interactions, attack_complexities, all_attack_requirements};
+ghost use Rattle.cvss_v4_score.specs.Effective.{meaning, attack_vectors, privileges, user_interactions, attack_complexities, all_attack_requirements};
 ghost use Rattle.cvss_v4.specs.Merging.{letter_of, replaced};
 
 use crate::metric::base::{

@@ -4,7 +4,7 @@
 
 ghost use Rattle.std.specs.Prelude.{◌≡◌};
 ghost use Rattle.cvss_name.specs.declared.v4.MetricType.TheVariants.{MSA, MSC, MSI, SA, SC, SI};
-ghost use Rattle.cvss_v4.specs.Effective.{meaning, subsequent_impacts, safety_impacts};
+ghost use Rattle.cvss_v4_score.specs.Effective.{meaning, subsequent_impacts, safety_impacts};
 ghost use Rattle.cvss_v4.specs.Merging.{letter_of, replaced};
 
 use crate::metric::base::{
@@ -16,7 +16,7 @@ use crate::metric::environmental::{
     ModifiedConfidentialityImpactToTheSubsequentSystem,
     ModifiedIntegrityImpactToTheSubsequentSystem,
 };
-use crate::scoring::effective;
+use cvss_v4_score::scoring::effective;
 
 /// The effective value of an impact that may be Safety, by one table for the types of both.
 macro_rules! safety_impact {

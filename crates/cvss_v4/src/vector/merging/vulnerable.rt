@@ -2,7 +2,7 @@
 
 ghost use Rattle.std.specs.Prelude.{◌≡◌};
 ghost use Rattle.cvss_name.specs.declared.v4.MetricType.TheVariants.{MVA, MVC, MVI, VA, VC, VI};
-ghost use Rattle.cvss_v4.specs.Effective.{meaning, vulnerable_impacts};
+ghost use Rattle.cvss_v4_score.specs.Effective.{meaning, vulnerable_impacts};
 ghost use Rattle.cvss_v4.specs.Merging.{letter_of, replaced};
 
 use crate::metric::base::{
@@ -14,7 +14,7 @@ use crate::metric::environmental::{
     ModifiedConfidentialityImpactToTheVulnerableSystem,
     ModifiedIntegrityImpactToTheVulnerableSystem,
 };
-use crate::scoring::effective;
+use cvss_v4_score::scoring::effective;
 
 /// The effective value of an impact, by one table for the types of all three.
 macro_rules! vulnerable_impact {

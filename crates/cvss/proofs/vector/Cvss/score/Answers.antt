@@ -3,7 +3,7 @@ use Rattle.std.specs.Int.{w128}
 use Rattle.std.proofs.lemmas.Int.{to_z-of_z}
 use Rattle.cvss_number.specs.Tenths.{IsInTenths}
 use Rattle.cvss_v4.specs.Merging.{effective_of}
-use Rattle.cvss_v4.specs.Scores.{IsScore}
+use Rattle.cvss_v4_score.specs.Scores.{IsScore}
 use Rattle.cvss.specs.Answers.{IsScoreOf}
 use Rattle.cvss.proofs.vector.Cvss.score.Goals as goal
 

@@ -2,10 +2,10 @@ use Rattle.std.specs.Int.{w128}
 use Rattle.std.proofs.Common.{arith, lit<, rules}
 use Rattle.std.proofs.lemmas.Int.{ints, to_z-of_z}
 use Rattle.cvss_number.proofs.ExactLemmas.{equal_trans}
-use Rattle.cvss_v2.specs.Scores.{adjusted_impact}
+use Rattle.cvss_v2_score.specs.Scores.{adjusted_impact}
 use Rattle.cvss_v2.specs.Weights.{weights_of}
-use Rattle.cvss_v2.proofs.ScoreLemmas.{temporal_equal}
-use Rattle.cvss_v2.proofs.UniqueLemmas.{temporal_alone}
+use Rattle.cvss_v2_score.proofs.ScoreLemmas.{temporal_equal}
+use Rattle.cvss_v2_score.proofs.UniqueLemmas.{temporal_alone}
 use Rattle.cvss_v2.proofs.vector.Vector.environmental_number.Goals as goal
 
 pub returns-clause-value : goal.returns-clause-value

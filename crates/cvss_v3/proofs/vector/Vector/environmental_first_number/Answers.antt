@@ -3,8 +3,8 @@ use Rattle.std.proofs.lemmas.Int.{ints}
 use Rattle.cvss_number.specs.Exact.{◌over◌, of_count, ◌≈◌}
 use Rattle.cvss_number.proofs.ExactLemmas.{equal_refl}
 use Rattle.cvss_v3.specs.VectorWeights.{weights_of}
-use Rattle.cvss_v3.proofs.EqualLemmas.{environmental_bottom}
-use Rattle.cvss_v3.proofs.NearLemmas.{still_approximates}
+use Rattle.cvss_v3_score.proofs.EqualLemmas.{environmental_bottom}
+use Rattle.cvss_v3_score.proofs.NearLemmas.{still_approximates}
 use Rattle.cvss_v3.proofs.vector.Vector.environmental_first_number.Goals as goal
 
 pub returns : goal.returns

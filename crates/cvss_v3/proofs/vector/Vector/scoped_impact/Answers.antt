@@ -1,12 +1,12 @@
 use Rattle.std.proofs.Common.{◌^◌, arith, lit<, subst}
 use Rattle.std.proofs.lemmas.Int.{ints}
 use Rattle.cvss_number.specs.Exact.{Exact, ratio, of_count, ◌≈◌}
-use Rattle.cvss_v3.specs.Scores.{iss}
+use Rattle.cvss_v3_score.specs.Scores.{iss}
 use Rattle.cvss_v3.specs.VectorWeights.{weights_of}
-use Rattle.cvss_v3.specs.declared.rules.Rules.TheVariants.{V30}
-use Rattle.cvss_v3.specs.private.Near.{Approximates}
-use Rattle.cvss_v3.proofs.EqualLemmas.{impact_is}
-use Rattle.cvss_v3.proofs.NumberLemmas.{impact_of_parts}
+use Rattle.cvss_v3_score.specs.declared.rules.Rules.TheVariants.{V30}
+use Rattle.cvss_v3_score.specs.private.Near.{Approximates}
+use Rattle.cvss_v3_score.proofs.EqualLemmas.{impact_is}
+use Rattle.cvss_v3_score.proofs.NumberLemmas.{impact_of_parts}
 use Rattle.cvss_v3.proofs.vector.Vector.scoped_impact.Goals as goal
 
 pub returns : goal.returns

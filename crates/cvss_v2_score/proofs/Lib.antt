@@ -1,0 +1,4 @@
+mod CountLemmas
+pub mod ScoreLemmas
+mod StandardFacts
+pub mod UniqueLemmas

@@ -1,0 +1,10 @@
+mod CapLemmas
+pub mod CountLemmas
+pub mod EqualLemmas
+pub mod LawLemmas
+pub mod NearLemmas
+pub mod NumberLemmas
+pub mod RoundLemmas
+mod SettledLemmas
+mod StandardFacts
+pub mod SubScoreLemmas

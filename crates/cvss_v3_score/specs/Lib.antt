@@ -1,0 +1,5 @@
+pub mod Certainty
+pub mod Closeness
+pub mod Scores
+pub mod Weighing
+pub mod private

@@ -1,0 +1,4 @@
+pub mod Near
+pub mod SubScores
+pub mod Units
+pub mod Weights

@@ -1,8 +1,0 @@
--- What the private code holds of a next lower class.
-use Rattle.cvss_v4.specs.Values.{listed_value}
-use Rattle.cvss_v4.specs.laws.ScoreLaws.{IsListed}
-use Rattle.cvss_v4.specs.declared.scoring.next.NextClass.{NextClass}
-
--- the value is listed for the class
-abbrev pub IsInTable : NextClass → Type 0
-IsInTable next = IsListed (listed_value next.class) next.value

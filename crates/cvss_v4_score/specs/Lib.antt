@@ -1,0 +1,12 @@
+pub mod Account
+pub mod AsSevere
+pub mod Classes
+pub mod Distance
+pub mod Effective
+pub mod Gap
+pub mod Levels
+pub mod Nomenclature
+pub mod Scores
+pub mod Values
+pub mod laws
+pub mod private

@@ -1,0 +1,3 @@
+pub mod ClassLaws
+pub mod Maximal
+pub mod ScoreLaws

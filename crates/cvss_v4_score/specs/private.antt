@@ -1,0 +1,3 @@
+pub mod Next
+pub mod Places
+pub mod Shares
