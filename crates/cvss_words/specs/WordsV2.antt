@@ -14,7 +14,7 @@ requirement_words = (codes "L", codes "LOW") ∷ (codes "M", codes "MEDIUM") ∷
 
 -- the name of the member that holds a metric's value, and how its values are spelled, each with its word, in the order
 -- in which they are compared
-abbrev entry_of : MetricType → List ℕ × List Row
+abbrev pub entry_of : MetricType → List ℕ × List Row
 entry_of AV = (codes "accessVector", (codes "L", codes "LOCAL") ∷ (codes "A", codes "ADJACENT_NETWORK") ∷ (codes "N", codes "NETWORK") ∷ [])
 entry_of AC = (codes "accessComplexity", (codes "H", codes "HIGH") ∷ (codes "M", codes "MEDIUM") ∷ (codes "L", codes "LOW") ∷ [])
 entry_of Au = (codes "authentication", (codes "M", codes "MULTIPLE") ∷ (codes "S", codes "SINGLE") ∷ (codes "N", codes "NONE") ∷ [])

@@ -29,7 +29,7 @@ requirement_words = not_defined (codes "X") ∷ (codes "H", codes "HIGH") ∷ (c
 
 -- the name of the member that holds a metric's value, and how its values are spelled, each with its word, in the order
 -- in which they are compared
-abbrev entry_of : MetricType → List ℕ × List Row
+abbrev pub entry_of : MetricType → List ℕ × List Row
 entry_of AV = (codes "attackVector", attack_vector_words)
 entry_of AC = (codes "attackComplexity", attack_complexity_words)
 entry_of PR = (codes "privilegesRequired", privileges_required_words)

@@ -35,7 +35,7 @@ safety_words = subsequent_impact_words ++ (codes "S", codes "SAFETY") ∷ []
 
 -- the name of the member that holds a metric's value, and how its values are spelled, each with its word, in the order
 -- in which they are compared
-abbrev entry_of : MetricType → List ℕ × List Row
+abbrev pub entry_of : MetricType → List ℕ × List Row
 entry_of metric.AV = (codes "attackVector", attack_vector_words)
 entry_of metric.AC = (codes "attackComplexity", attack_complexity_words)
 entry_of metric.AT = (codes "attackRequirements", attack_requirements_words)

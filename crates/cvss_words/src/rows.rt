@@ -1,10 +1,42 @@
-//! Rows of words.
+//! Rows of words, and those that several versions have.
 
 ghost use Rattle.std.specs.Prelude.{◌≡◌, map};
 ghost use Rattle.cvss_words.specs.Words.{word_in};
 
+use crate::NOT_DEFINED;
+
 /// How a value is spelled, and its word.
 pub(crate) type Row = (&'static str, &'static str);
+
+pub(crate) const LOCAL: Row = ("L", "LOCAL");
+
+pub(crate) const ADJACENT_NETWORK: Row = ("A", "ADJACENT_NETWORK");
+
+pub(crate) const NETWORK: Row = ("N", "NETWORK");
+
+pub(crate) const HIGH: Row = ("H", "HIGH");
+
+pub(crate) const MEDIUM: Row = ("M", "MEDIUM");
+
+pub(crate) const LOW: Row = ("L", "LOW");
+
+pub(crate) const NONE: Row = ("N", "NONE");
+
+pub(crate) const UNPROVEN: Row = ("U", "UNPROVEN");
+
+pub(crate) const FUNCTIONAL: Row = ("F", "FUNCTIONAL");
+
+pub(crate) const WORKAROUND: Row = ("W", "WORKAROUND");
+
+pub(crate) const UNAVAILABLE: Row = ("U", "UNAVAILABLE");
+
+pub(crate) const CONFIRMED: Row = ("C", "CONFIRMED");
+
+pub(crate) const PHYSICAL: Row = ("P", "PHYSICAL");
+
+pub(crate) const X: Row = ("X", NOT_DEFINED);
+
+pub(crate) const PROOF_OF_CONCEPT: Row = ("P", "PROOF_OF_CONCEPT");
 
 /// The word of the value with this spelling; empty where no row has it.
 pub(crate) fn word_in(rows: &[Row], spelling: &str) -> &'static str

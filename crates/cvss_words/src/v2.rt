@@ -2,94 +2,85 @@
 
 ghost use Rattle.std.specs.Prelude.{◌≡◌, map};
 ghost use Rattle.cvss_words.specs.Words.{word_in};
-ghost use Rattle.cvss_words.specs.WordsV2.{member_of, words_of};
+ghost use Rattle.cvss_words.specs.WordsV2.{entry_of, member_of, words_of};
 
 use crate::NOT_DEFINED;
-use crate::rows::{Row, word_in};
+use crate::rows::{
+    ADJACENT_NETWORK, CONFIRMED, FUNCTIONAL, HIGH, LOCAL, LOW, MEDIUM, NETWORK, NONE, Row,
+    UNAVAILABLE, UNPROVEN, WORKAROUND, word_in,
+};
 use cvss_name::v2::MetricType;
+
+// Rows that this version alone has.
+const MULTIPLE: Row = ("M", "MULTIPLE");
+
+const SINGLE: Row = ("S", "SINGLE");
+
+const PARTIAL: Row = ("P", "PARTIAL");
+
+const COMPLETE: Row = ("C", "COMPLETE");
+
+const PROOF_OF_CONCEPT: Row = ("POC", "PROOF_OF_CONCEPT");
+
+const ND: Row = ("ND", NOT_DEFINED);
+
+const OFFICIAL_FIX: Row = ("OF", "OFFICIAL_FIX");
+
+const TEMPORARY_FIX: Row = ("TF", "TEMPORARY_FIX");
+
+const UNCONFIRMED: Row = ("UC", "UNCONFIRMED");
+
+const UNCORROBORATED: Row = ("UR", "UNCORROBORATED");
+
+const LOW_MEDIUM: Row = ("LM", "LOW_MEDIUM");
+
+const MEDIUM_HIGH: Row = ("MH", "MEDIUM_HIGH");
+
+/// The name of the member that holds the metric's value, and how its values are spelled, each
+/// with its word.
+fn entry(kind: MetricType) -> (&'static str, &'static [Row])
+    ensures { (result.0.now, map (λ row. (row.0.now, row.1.now)) result.1.now) ≡ entry_of kind }
+{
+    match kind {
+        MetricType::AV => ("accessVector", &[LOCAL, ADJACENT_NETWORK, NETWORK]),
+        MetricType::AC => ("accessComplexity", &[HIGH, MEDIUM, LOW]),
+        MetricType::Au => ("authentication", &[MULTIPLE, SINGLE, NONE]),
+        MetricType::C => ("confidentialityImpact", &[NONE, PARTIAL, COMPLETE]),
+        MetricType::I => ("integrityImpact", &[NONE, PARTIAL, COMPLETE]),
+        MetricType::A => ("availabilityImpact", &[NONE, PARTIAL, COMPLETE]),
+        MetricType::E => (
+            "exploitability",
+            &[UNPROVEN, PROOF_OF_CONCEPT, FUNCTIONAL, HIGH, ND],
+        ),
+        MetricType::RL => (
+            "remediationLevel",
+            &[OFFICIAL_FIX, TEMPORARY_FIX, WORKAROUND, UNAVAILABLE, ND],
+        ),
+        MetricType::RC => (
+            "reportConfidence",
+            &[UNCONFIRMED, UNCORROBORATED, CONFIRMED, ND],
+        ),
+        MetricType::CDP => (
+            "collateralDamagePotential",
+            &[NONE, LOW, LOW_MEDIUM, MEDIUM_HIGH, HIGH, ND],
+        ),
+        MetricType::TD => ("targetDistribution", &[NONE, LOW, MEDIUM, HIGH, ND]),
+        MetricType::CR => ("confidentialityRequirement", &[LOW, MEDIUM, HIGH, ND]),
+        MetricType::IR => ("integrityRequirement", &[LOW, MEDIUM, HIGH, ND]),
+        MetricType::AR => ("availabilityRequirement", &[LOW, MEDIUM, HIGH, ND]),
+    }
+}
 
 /// The name of the member that holds the metric's value.
 pub fn member(kind: MetricType) -> &'static str
     ensures { result.now ≡ member_of kind }
 {
-    match kind {
-        MetricType::AV => "accessVector",
-        MetricType::AC => "accessComplexity",
-        MetricType::Au => "authentication",
-        MetricType::C => "confidentialityImpact",
-        MetricType::I => "integrityImpact",
-        MetricType::A => "availabilityImpact",
-        MetricType::E => "exploitability",
-        MetricType::RL => "remediationLevel",
-        MetricType::RC => "reportConfidence",
-        MetricType::CDP => "collateralDamagePotential",
-        MetricType::TD => "targetDistribution",
-        MetricType::CR => "confidentialityRequirement",
-        MetricType::IR => "integrityRequirement",
-        MetricType::AR => "availabilityRequirement",
-    }
-}
-
-/// How the metric's values are spelled, each with its word.
-fn rows(kind: MetricType) -> &'static [Row]
-    ensures { map (λ row. (row.0.now, row.1.now)) result.now ≡ words_of kind }
-{
-    match kind {
-        MetricType::AV => &[("L", "LOCAL"), ("A", "ADJACENT_NETWORK"), ("N", "NETWORK")],
-        MetricType::AC => &[("H", "HIGH"), ("M", "MEDIUM"), ("L", "LOW")],
-        MetricType::Au => &[("M", "MULTIPLE"), ("S", "SINGLE"), ("N", "NONE")],
-        MetricType::C | MetricType::I | MetricType::A => &[
-            ("N", "NONE"),
-            ("P", "PARTIAL"),
-            ("C", "COMPLETE"),
-        ],
-        MetricType::E => &[
-            ("U", "UNPROVEN"),
-            ("POC", "PROOF_OF_CONCEPT"),
-            ("F", "FUNCTIONAL"),
-            ("H", "HIGH"),
-            ("ND", NOT_DEFINED),
-        ],
-        MetricType::RL => &[
-            ("OF", "OFFICIAL_FIX"),
-            ("TF", "TEMPORARY_FIX"),
-            ("W", "WORKAROUND"),
-            ("U", "UNAVAILABLE"),
-            ("ND", NOT_DEFINED),
-        ],
-        MetricType::RC => &[
-            ("UC", "UNCONFIRMED"),
-            ("UR", "UNCORROBORATED"),
-            ("C", "CONFIRMED"),
-            ("ND", NOT_DEFINED),
-        ],
-        MetricType::CDP => &[
-            ("N", "NONE"),
-            ("L", "LOW"),
-            ("LM", "LOW_MEDIUM"),
-            ("MH", "MEDIUM_HIGH"),
-            ("H", "HIGH"),
-            ("ND", NOT_DEFINED),
-        ],
-        MetricType::TD => &[
-            ("N", "NONE"),
-            ("L", "LOW"),
-            ("M", "MEDIUM"),
-            ("H", "HIGH"),
-            ("ND", NOT_DEFINED),
-        ],
-        MetricType::CR | MetricType::IR | MetricType::AR => &[
-            ("L", "LOW"),
-            ("M", "MEDIUM"),
-            ("H", "HIGH"),
-            ("ND", NOT_DEFINED),
-        ],
-    }
+    entry(kind).0
 }
 
 /// The word of the metric's value with this spelling; empty where it has no such value.
 pub fn word(kind: MetricType, spelling: &str) -> &'static str
     ensures { result.now ≡ word_in (words_of kind) spelling.now }
 {
-    word_in(rows(kind), spelling)
+    word_in(entry(kind).1, spelling)
 }

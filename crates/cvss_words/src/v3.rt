@@ -2,116 +2,82 @@
 
 ghost use Rattle.std.specs.Prelude.{◌≡◌, map};
 ghost use Rattle.cvss_words.specs.Words.{word_in};
-ghost use Rattle.cvss_words.specs.WordsV3.{member_of, words_of};
+ghost use Rattle.cvss_words.specs.WordsV3.{entry_of, member_of, words_of};
 
-use crate::NOT_DEFINED;
-use crate::rows::{Row, word_in};
+use crate::rows::{
+    ADJACENT_NETWORK, CONFIRMED, FUNCTIONAL, HIGH, LOCAL, LOW, MEDIUM, NETWORK, NONE, PHYSICAL,
+    PROOF_OF_CONCEPT, Row, UNAVAILABLE, UNPROVEN, WORKAROUND, X, word_in,
+};
 use cvss_name::v3::MetricType;
+
+// Rows that this version alone has.
+const REQUIRED: Row = ("R", "REQUIRED");
+
+const UNCHANGED: Row = ("U", "UNCHANGED");
+
+const CHANGED: Row = ("C", "CHANGED");
+
+const TEMPORARY_FIX: Row = ("T", "TEMPORARY_FIX");
+
+const OFFICIAL_FIX: Row = ("O", "OFFICIAL_FIX");
+
+const REASONABLE: Row = ("R", "REASONABLE");
+
+const UNKNOWN: Row = ("U", "UNKNOWN");
+
+/// The name of the member that holds the metric's value, and how its values are spelled, each
+/// with its word.
+fn entry(kind: MetricType) -> (&'static str, &'static [Row])
+    ensures { (result.0.now, map (λ row. (row.0.now, row.1.now)) result.1.now) ≡ entry_of kind }
+{
+    match kind {
+        MetricType::AV => (
+            "attackVector",
+            &[PHYSICAL, LOCAL, ADJACENT_NETWORK, NETWORK],
+        ),
+        MetricType::AC => ("attackComplexity", &[HIGH, LOW]),
+        MetricType::PR => ("privilegesRequired", &[HIGH, LOW, NONE]),
+        MetricType::UI => ("userInteraction", &[REQUIRED, NONE]),
+        MetricType::S => ("scope", &[UNCHANGED, CHANGED]),
+        MetricType::C => ("confidentialityImpact", &[NONE, LOW, HIGH]),
+        MetricType::I => ("integrityImpact", &[NONE, LOW, HIGH]),
+        MetricType::A => ("availabilityImpact", &[NONE, LOW, HIGH]),
+        MetricType::E => (
+            "exploitCodeMaturity",
+            &[X, HIGH, FUNCTIONAL, PROOF_OF_CONCEPT, UNPROVEN],
+        ),
+        MetricType::RL => (
+            "remediationLevel",
+            &[X, UNAVAILABLE, WORKAROUND, TEMPORARY_FIX, OFFICIAL_FIX],
+        ),
+        MetricType::RC => ("reportConfidence", &[X, CONFIRMED, REASONABLE, UNKNOWN]),
+        MetricType::CR => ("confidentialityRequirement", &[X, HIGH, MEDIUM, LOW]),
+        MetricType::IR => ("integrityRequirement", &[X, HIGH, MEDIUM, LOW]),
+        MetricType::AR => ("availabilityRequirement", &[X, HIGH, MEDIUM, LOW]),
+        MetricType::MAV => (
+            "modifiedAttackVector",
+            &[X, PHYSICAL, LOCAL, ADJACENT_NETWORK, NETWORK],
+        ),
+        MetricType::MAC => ("modifiedAttackComplexity", &[X, HIGH, LOW]),
+        MetricType::MPR => ("modifiedPrivilegesRequired", &[X, HIGH, LOW, NONE]),
+        MetricType::MUI => ("modifiedUserInteraction", &[X, REQUIRED, NONE]),
+        MetricType::MS => ("modifiedScope", &[X, UNCHANGED, CHANGED]),
+        MetricType::MC => ("modifiedConfidentialityImpact", &[X, NONE, LOW, HIGH]),
+        MetricType::MI => ("modifiedIntegrityImpact", &[X, NONE, LOW, HIGH]),
+        MetricType::MA => ("modifiedAvailabilityImpact", &[X, NONE, LOW, HIGH]),
+    }
+}
 
 /// The name of the member that holds the metric's value.
 pub fn member(kind: MetricType) -> &'static str
     ensures { result.now ≡ member_of kind }
 {
-    match kind {
-        MetricType::AV => "attackVector",
-        MetricType::AC => "attackComplexity",
-        MetricType::PR => "privilegesRequired",
-        MetricType::UI => "userInteraction",
-        MetricType::S => "scope",
-        MetricType::C => "confidentialityImpact",
-        MetricType::I => "integrityImpact",
-        MetricType::A => "availabilityImpact",
-        MetricType::E => "exploitCodeMaturity",
-        MetricType::RL => "remediationLevel",
-        MetricType::RC => "reportConfidence",
-        MetricType::CR => "confidentialityRequirement",
-        MetricType::IR => "integrityRequirement",
-        MetricType::AR => "availabilityRequirement",
-        MetricType::MAV => "modifiedAttackVector",
-        MetricType::MAC => "modifiedAttackComplexity",
-        MetricType::MPR => "modifiedPrivilegesRequired",
-        MetricType::MUI => "modifiedUserInteraction",
-        MetricType::MS => "modifiedScope",
-        MetricType::MC => "modifiedConfidentialityImpact",
-        MetricType::MI => "modifiedIntegrityImpact",
-        MetricType::MA => "modifiedAvailabilityImpact",
-    }
-}
-
-/// How the metric's values are spelled, each with its word.
-fn rows(kind: MetricType) -> &'static [Row]
-    ensures { map (λ row. (row.0.now, row.1.now)) result.now ≡ words_of kind }
-{
-    match kind {
-        MetricType::AV => &[
-            ("P", "PHYSICAL"),
-            ("L", "LOCAL"),
-            ("A", "ADJACENT_NETWORK"),
-            ("N", "NETWORK"),
-        ],
-        MetricType::AC => &[("H", "HIGH"), ("L", "LOW")],
-        MetricType::PR => &[("H", "HIGH"), ("L", "LOW"), ("N", "NONE")],
-        MetricType::UI => &[("R", "REQUIRED"), ("N", "NONE")],
-        MetricType::S => &[("U", "UNCHANGED"), ("C", "CHANGED")],
-        MetricType::C | MetricType::I | MetricType::A => &[
-            ("N", "NONE"),
-            ("L", "LOW"),
-            ("H", "HIGH"),
-        ],
-        MetricType::E => &[
-            ("X", NOT_DEFINED),
-            ("H", "HIGH"),
-            ("F", "FUNCTIONAL"),
-            ("P", "PROOF_OF_CONCEPT"),
-            ("U", "UNPROVEN"),
-        ],
-        MetricType::RL => &[
-            ("X", NOT_DEFINED),
-            ("U", "UNAVAILABLE"),
-            ("W", "WORKAROUND"),
-            ("T", "TEMPORARY_FIX"),
-            ("O", "OFFICIAL_FIX"),
-        ],
-        MetricType::RC => &[
-            ("X", NOT_DEFINED),
-            ("C", "CONFIRMED"),
-            ("R", "REASONABLE"),
-            ("U", "UNKNOWN"),
-        ],
-        MetricType::CR | MetricType::IR | MetricType::AR => &[
-            ("X", NOT_DEFINED),
-            ("H", "HIGH"),
-            ("M", "MEDIUM"),
-            ("L", "LOW"),
-        ],
-        MetricType::MAV => &[
-            ("X", NOT_DEFINED),
-            ("P", "PHYSICAL"),
-            ("L", "LOCAL"),
-            ("A", "ADJACENT_NETWORK"),
-            ("N", "NETWORK"),
-        ],
-        MetricType::MAC => &[("X", NOT_DEFINED), ("H", "HIGH"), ("L", "LOW")],
-        MetricType::MPR => &[
-            ("X", NOT_DEFINED),
-            ("H", "HIGH"),
-            ("L", "LOW"),
-            ("N", "NONE"),
-        ],
-        MetricType::MUI => &[("X", NOT_DEFINED), ("R", "REQUIRED"), ("N", "NONE")],
-        MetricType::MS => &[("X", NOT_DEFINED), ("U", "UNCHANGED"), ("C", "CHANGED")],
-        MetricType::MC | MetricType::MI | MetricType::MA => &[
-            ("X", NOT_DEFINED),
-            ("N", "NONE"),
-            ("L", "LOW"),
-            ("H", "HIGH"),
-        ],
-    }
+    entry(kind).0
 }
 
 /// The word of the metric's value with this spelling; empty where it has no such value.
 pub fn word(kind: MetricType, spelling: &str) -> &'static str
     ensures { result.now ≡ word_in (words_of kind) spelling.now }
 {
-    word_in(rows(kind), spelling)
+    word_in(entry(kind).1, spelling)
 }

@@ -2,153 +2,120 @@
 
 ghost use Rattle.std.specs.Prelude.{◌≡◌, map};
 ghost use Rattle.cvss_words.specs.Words.{word_in};
-ghost use Rattle.cvss_words.specs.WordsV4.{member_of, words_of};
+ghost use Rattle.cvss_words.specs.WordsV4.{entry_of, member_of, words_of};
 
-use crate::NOT_DEFINED;
-use crate::rows::{Row, word_in};
+use crate::rows::{
+    HIGH, LOCAL, LOW, MEDIUM, NETWORK, NONE, PHYSICAL, PROOF_OF_CONCEPT, Row, X, word_in,
+};
 use cvss_name::v4::MetricType;
+
+// Rows that this version alone has.
+const ADJACENT: Row = ("A", "ADJACENT");
+
+const PRESENT: Row = ("P", "PRESENT");
+
+const ACTIVE: Row = ("A", "ACTIVE");
+
+const PASSIVE: Row = ("P", "PASSIVE");
+
+const UNREPORTED: Row = ("U", "UNREPORTED");
+
+const ATTACKED: Row = ("A", "ATTACKED");
+
+const NEGLIGIBLE: Row = ("N", "NEGLIGIBLE");
+
+const SAFETY: Row = ("S", "SAFETY");
+
+const YES: Row = ("Y", "YES");
+
+const NO: Row = ("N", "NO");
+
+const AUTOMATIC: Row = ("A", "AUTOMATIC");
+
+const USER: Row = ("U", "USER");
+
+const IRRECOVERABLE: Row = ("I", "IRRECOVERABLE");
+
+const DIFFUSE: Row = ("D", "DIFFUSE");
+
+const CONCENTRATED: Row = ("C", "CONCENTRATED");
+
+const MODERATE: Row = ("M", "MODERATE");
+
+const RED: Row = ("Red", "RED");
+
+const AMBER: Row = ("Amber", "AMBER");
+
+const GREEN: Row = ("Green", "GREEN");
+
+const CLEAR: Row = ("Clear", "CLEAR");
+
+/// The name of the member that holds the metric's value, and how its values are spelled, each
+/// with its word.
+fn entry(kind: MetricType) -> (&'static str, &'static [Row])
+    ensures { (result.0.now, map (λ row. (row.0.now, row.1.now)) result.1.now) ≡ entry_of kind }
+{
+    match kind {
+        MetricType::AV => ("attackVector", &[PHYSICAL, LOCAL, ADJACENT, NETWORK]),
+        MetricType::AC => ("attackComplexity", &[HIGH, LOW]),
+        MetricType::AT => ("attackRequirements", &[PRESENT, NONE]),
+        MetricType::PR => ("privilegesRequired", &[HIGH, LOW, NONE]),
+        MetricType::UI => ("userInteraction", &[ACTIVE, PASSIVE, NONE]),
+        MetricType::VC => ("vulnConfidentialityImpact", &[NONE, LOW, HIGH]),
+        MetricType::VI => ("vulnIntegrityImpact", &[NONE, LOW, HIGH]),
+        MetricType::VA => ("vulnAvailabilityImpact", &[NONE, LOW, HIGH]),
+        MetricType::SC => ("subConfidentialityImpact", &[NONE, LOW, HIGH]),
+        MetricType::SI => ("subIntegrityImpact", &[NONE, LOW, HIGH]),
+        MetricType::SA => ("subAvailabilityImpact", &[NONE, LOW, HIGH]),
+        MetricType::E => (
+            "exploitMaturity",
+            &[X, UNREPORTED, PROOF_OF_CONCEPT, ATTACKED],
+        ),
+        MetricType::CR => ("confidentialityRequirement", &[X, LOW, MEDIUM, HIGH]),
+        MetricType::IR => ("integrityRequirement", &[X, LOW, MEDIUM, HIGH]),
+        MetricType::AR => ("availabilityRequirement", &[X, LOW, MEDIUM, HIGH]),
+        MetricType::MAV => (
+            "modifiedAttackVector",
+            &[PHYSICAL, LOCAL, ADJACENT, NETWORK, X],
+        ),
+        MetricType::MAC => ("modifiedAttackComplexity", &[X, HIGH, LOW]),
+        MetricType::MAT => ("modifiedAttackRequirements", &[X, PRESENT, NONE]),
+        MetricType::MPR => ("modifiedPrivilegesRequired", &[X, HIGH, LOW, NONE]),
+        MetricType::MUI => ("modifiedUserInteraction", &[X, ACTIVE, PASSIVE, NONE]),
+        MetricType::MVC => ("modifiedVulnConfidentialityImpact", &[X, NONE, LOW, HIGH]),
+        MetricType::MVI => ("modifiedVulnIntegrityImpact", &[X, NONE, LOW, HIGH]),
+        MetricType::MVA => ("modifiedVulnAvailabilityImpact", &[X, NONE, LOW, HIGH]),
+        MetricType::MSC => (
+            "modifiedSubConfidentialityImpact",
+            &[X, NEGLIGIBLE, LOW, HIGH],
+        ),
+        MetricType::MSI => (
+            "modifiedSubIntegrityImpact",
+            &[X, NEGLIGIBLE, LOW, HIGH, SAFETY],
+        ),
+        MetricType::MSA => (
+            "modifiedSubAvailabilityImpact",
+            &[X, NEGLIGIBLE, LOW, HIGH, SAFETY],
+        ),
+        MetricType::S => ("Safety", &[X, PRESENT, NEGLIGIBLE]),
+        MetricType::AU => ("Automatable", &[X, YES, NO]),
+        MetricType::R => ("Recovery", &[X, AUTOMATIC, USER, IRRECOVERABLE]),
+        MetricType::V => ("valueDensity", &[X, DIFFUSE, CONCENTRATED]),
+        MetricType::RE => ("vulnerabilityResponseEffort", &[X, LOW, MODERATE, HIGH]),
+        MetricType::U => ("providerUrgency", &[X, RED, AMBER, GREEN, CLEAR]),
+    }
+}
 
 /// The name of the member that holds the metric's value.
 pub fn member(kind: MetricType) -> &'static str
     ensures { result.now ≡ member_of kind }
 {
-    match kind {
-        MetricType::AV => "attackVector",
-        MetricType::AC => "attackComplexity",
-        MetricType::AT => "attackRequirements",
-        MetricType::PR => "privilegesRequired",
-        MetricType::UI => "userInteraction",
-        MetricType::VC => "vulnConfidentialityImpact",
-        MetricType::VI => "vulnIntegrityImpact",
-        MetricType::VA => "vulnAvailabilityImpact",
-        MetricType::SC => "subConfidentialityImpact",
-        MetricType::SI => "subIntegrityImpact",
-        MetricType::SA => "subAvailabilityImpact",
-        MetricType::E => "exploitMaturity",
-        MetricType::CR => "confidentialityRequirement",
-        MetricType::IR => "integrityRequirement",
-        MetricType::AR => "availabilityRequirement",
-        MetricType::MAV => "modifiedAttackVector",
-        MetricType::MAC => "modifiedAttackComplexity",
-        MetricType::MAT => "modifiedAttackRequirements",
-        MetricType::MPR => "modifiedPrivilegesRequired",
-        MetricType::MUI => "modifiedUserInteraction",
-        MetricType::MVC => "modifiedVulnConfidentialityImpact",
-        MetricType::MVI => "modifiedVulnIntegrityImpact",
-        MetricType::MVA => "modifiedVulnAvailabilityImpact",
-        MetricType::MSC => "modifiedSubConfidentialityImpact",
-        MetricType::MSI => "modifiedSubIntegrityImpact",
-        MetricType::MSA => "modifiedSubAvailabilityImpact",
-        MetricType::S => "Safety",
-        MetricType::AU => "Automatable",
-        MetricType::R => "Recovery",
-        MetricType::V => "valueDensity",
-        MetricType::RE => "vulnerabilityResponseEffort",
-        MetricType::U => "providerUrgency",
-    }
-}
-
-/// How the metric's values are spelled, each with its word.
-fn rows(kind: MetricType) -> &'static [Row]
-    ensures { map (λ row. (row.0.now, row.1.now)) result.now ≡ words_of kind }
-{
-    match kind {
-        MetricType::AV => &[
-            ("P", "PHYSICAL"),
-            ("L", "LOCAL"),
-            ("A", "ADJACENT"),
-            ("N", "NETWORK"),
-        ],
-        MetricType::AC => &[("H", "HIGH"), ("L", "LOW")],
-        MetricType::AT => &[("P", "PRESENT"), ("N", "NONE")],
-        MetricType::PR => &[("H", "HIGH"), ("L", "LOW"), ("N", "NONE")],
-        MetricType::UI => &[("A", "ACTIVE"), ("P", "PASSIVE"), ("N", "NONE")],
-        MetricType::VC
-        | MetricType::VI
-        | MetricType::VA
-        | MetricType::SC
-        | MetricType::SI
-        | MetricType::SA => &[("N", "NONE"), ("L", "LOW"), ("H", "HIGH")],
-        MetricType::E => &[
-            ("X", NOT_DEFINED),
-            ("U", "UNREPORTED"),
-            ("P", "PROOF_OF_CONCEPT"),
-            ("A", "ATTACKED"),
-        ],
-        MetricType::CR | MetricType::IR | MetricType::AR => &[
-            ("X", NOT_DEFINED),
-            ("L", "LOW"),
-            ("M", "MEDIUM"),
-            ("H", "HIGH"),
-        ],
-        MetricType::MAV => &[
-            ("P", "PHYSICAL"),
-            ("L", "LOCAL"),
-            ("A", "ADJACENT"),
-            ("N", "NETWORK"),
-            ("X", NOT_DEFINED),
-        ],
-        MetricType::MAC => &[("X", NOT_DEFINED), ("H", "HIGH"), ("L", "LOW")],
-        MetricType::MAT => &[("X", NOT_DEFINED), ("P", "PRESENT"), ("N", "NONE")],
-        MetricType::MPR => &[
-            ("X", NOT_DEFINED),
-            ("H", "HIGH"),
-            ("L", "LOW"),
-            ("N", "NONE"),
-        ],
-        MetricType::MUI => &[
-            ("X", NOT_DEFINED),
-            ("A", "ACTIVE"),
-            ("P", "PASSIVE"),
-            ("N", "NONE"),
-        ],
-        MetricType::MVC | MetricType::MVI | MetricType::MVA => &[
-            ("X", NOT_DEFINED),
-            ("N", "NONE"),
-            ("L", "LOW"),
-            ("H", "HIGH"),
-        ],
-        MetricType::MSC => &[
-            ("X", NOT_DEFINED),
-            ("N", "NEGLIGIBLE"),
-            ("L", "LOW"),
-            ("H", "HIGH"),
-        ],
-        MetricType::MSI | MetricType::MSA => &[
-            ("X", NOT_DEFINED),
-            ("N", "NEGLIGIBLE"),
-            ("L", "LOW"),
-            ("H", "HIGH"),
-            ("S", "SAFETY"),
-        ],
-        MetricType::S => &[("X", NOT_DEFINED), ("P", "PRESENT"), ("N", "NEGLIGIBLE")],
-        MetricType::AU => &[("X", NOT_DEFINED), ("Y", "YES"), ("N", "NO")],
-        MetricType::R => &[
-            ("X", NOT_DEFINED),
-            ("A", "AUTOMATIC"),
-            ("U", "USER"),
-            ("I", "IRRECOVERABLE"),
-        ],
-        MetricType::V => &[("X", NOT_DEFINED), ("D", "DIFFUSE"), ("C", "CONCENTRATED")],
-        MetricType::RE => &[
-            ("X", NOT_DEFINED),
-            ("L", "LOW"),
-            ("M", "MODERATE"),
-            ("H", "HIGH"),
-        ],
-        MetricType::U => &[
-            ("X", NOT_DEFINED),
-            ("Red", "RED"),
-            ("Amber", "AMBER"),
-            ("Green", "GREEN"),
-            ("Clear", "CLEAR"),
-        ],
-    }
+    entry(kind).0
 }
 
 /// The word of the metric's value with this spelling; empty where it has no such value.
 pub fn word(kind: MetricType, spelling: &str) -> &'static str
     ensures { result.now ≡ word_in (words_of kind) spelling.now }
 {
-    word_in(rows(kind), spelling)
+    word_in(entry(kind).1, spelling)
 }
