@@ -20,7 +20,7 @@ DOCUMENTS = [*(ROOT / f"{name}.md" for name in ("README", "CONTRIBUTING", "SECUR
 # not in a checkout: what builds make, and the crate that another repository is shown to add
 ELSEWHERE = re.compile(r"(^|/)(out|target)(/|$)|^crates/gate(/|$)")
 # callers that are proved from the contracts, and tests, of which the library promises nothing
-WITHOUT_PROMISES = {"cvss_examples", "cvss_lines_tests"}
+WITHOUT_PROMISES = {"cvss_examples", "cvss_tests"}
 
 LINK = re.compile(r"\]\((?!https?:|#)([^)#]+)")
 SECTION = re.compile(r'\]\((?!https?:)([^)#]+)\), "([^"]+)"')

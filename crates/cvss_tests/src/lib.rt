@@ -1,5 +1,6 @@
 //! Tests of what no stored line shows: types and their traits, values that no text denotes, JSON
-//! values that are no strings, and callers. Texts, scores and refusals are lines of `cvss_vectors`.
+//! values that are no strings, runs over readers and writers that no file is, and callers. Texts,
+//! scores and refusals are lines of `cvss_vectors`.
 #![tactic(auto)]
 
 #[cfg(test)]
@@ -11,11 +12,15 @@ mod examples;
 #[cfg(test)]
 mod json;
 #[cfg(test)]
+mod lines;
+#[cfg(test)]
 mod metrics;
 #[cfg(test)]
 mod paths;
 #[cfg(test)]
 mod scores;
+#[cfg(test)]
+mod scoring;
 #[cfg(test)]
 mod triage;
 #[cfg(test)]

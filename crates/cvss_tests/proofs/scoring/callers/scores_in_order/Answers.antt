@@ -1,6 +1,6 @@
 use Rattle.std.proofs.Common.{arith, pos}
 use Rattle.std.proofs.lemmas.Int.{ints}
-use Rattle.cvss_v4_tests.proofs.callers.scores_in_order.Goals as goal
+use Rattle.cvss_tests.proofs.scoring.callers.scores_in_order.Goals as goal
 
 pub returns : goal.returns
 returns c =

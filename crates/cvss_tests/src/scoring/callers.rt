@@ -6,7 +6,7 @@ ghost use Rattle.cvss_number.specs.Rounding.{IsRoundedV4};
 ghost use Rattle.cvss_v4_score.specs.AsSevere.{IsAsSevere};
 ghost use Rattle.cvss_v4_score.specs.Scores.{number};
 
-use crate::samples::{HARMLESS, LEAST, WORST};
+use super::samples::{HARMLESS, LEAST, WORST};
 use cvss_v4_score::laws::{
     a_millionth_changes_no_score, scores_are_unique, severe_values_score_no_less,
 };

@@ -1,9 +1,9 @@
 //! Tests of whole runs, whose lines are their own answers.
 
-ghost use Rattle.cvss_lines_tests.specs.Echo.{IsEcho};
+ghost use Rattle.cvss_tests.specs.Echo.{IsEcho};
 
-use crate::kinds::KINDS;
-use crate::streams::{Narrow, Steps};
+use super::kinds::KINDS;
+use super::streams::{Narrow, Steps};
 use cvss_lines::{Answering, Gathered, RunFault, Summary, run};
 use std::alloc::{AllocError, Global};
 use std::process::Abort;

@@ -1,5 +1,5 @@
 use Rattle.std.proofs.Common.{pos}
-use Rattle.cvss_v4_tests.proofs.callers.lifted_score.Goals as goal
+use Rattle.cvss_tests.proofs.scoring.callers.lifted_score.Goals as goal
 
 pub returns : goal.returns
 returns c =

@@ -1,6 +1,6 @@
 //! Scores, classes and values that the public calculators give.
 
-use crate::samples::{
+use super::samples::{
     ADJACENT, CONFIDENTIAL, HARMLESS, HIGHLY_PRIVILEGED, INTEGRITY, LEAST, LOW_CONFIDENTIALITY,
     PRIVILEGED, UNSAFE, UNSAFE_INTEGRITY, WORST,
 };

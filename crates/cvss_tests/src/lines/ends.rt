@@ -1,6 +1,6 @@
 //! Tests of how runs end, and of the calls that programs make for themselves.
 
-use crate::streams::{Interrupted, Narrow};
+use super::streams::{Interrupted, Narrow};
 use cvss_lines::{Request, RunFault, Summary, asked, exit_status, first_line, write_whole};
 use std::alloc::Global;
 use std::process::Abort;

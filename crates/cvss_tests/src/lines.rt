@@ -1,0 +1,6 @@
+//! Runs over lines, with readers and writers that no file is.
+
+mod ends;
+mod kinds;
+mod runs;
+mod streams;
