@@ -87,7 +87,7 @@ pub trait JsonText: fmt::Display + Sized {
     /// # Errors
     ///
     /// `OutOfMemory` alone.
-    fn to_value(&self, alloc: Global) -> Result<Value, JsonError>
+    final fn to_value(&self, alloc: Global) -> Result<Value, JsonError>
         ensures written { IfOk result (λ value. view value ≡ string (text self.now)) }
         ensures lacks_memory { IfErr result (λ error. error ≡ OutOfMemory) }
     {

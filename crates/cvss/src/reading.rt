@@ -1,17 +1,21 @@
 //! How a text is read by the rules of the version that it tells. It takes no memory: a fault borrows
 //! the part of the text that it names.
 
-ghost use Rattle.std.specs.Prelude.{◌≡◌, ◌∷◌, IfOk, Some, codes};
+ghost use Rattle.std.specs.Prelude.{◌≡◌, ◌∷◌, codes};
 ghost use Rattle.std.specs.Str.{IsUtf8};
 ghost use Rattle.cvss_grammar.specs.Text.{pieces};
-ghost use Rattle.cvss_name.specs.Told.{Tells, reason_told};
+ghost use Rattle.cvss_name.specs.Told.{Tells};
 ghost use Rattle.cvss_grammar.specs.Version.{version_piece};
 ghost use Rattle.cvss_text.specs.private.Pieces.{pieces_left};
+ghost use Rattle.cvss_text.specs.private.Walk.{IsTellable, reason_of};
 ghost use Rattle.cvss.specs.Bytes.{IsRefusedAs};
-ghost use Rattle.cvss.specs.Dispatch.{cvss_reason, untold};
+ghost use Rattle.cvss.specs.declared.metric_type.MetricType.TheVariants.{V2};
+ghost use Rattle.cvss.specs.Dispatch.{cvss_reason, untold, wrapped};
 ghost use Rattle.cvss.specs.private.Steps.{IsRead, IsTellableFault, reason_read};
 ghost use Rattle.cvss_route.specs.Route.{ToV20, ToV30, ToV31, ToV40, route_of};
-ghost use Rattle.cvss_route.specs.private.Views.{IsTellable, why_of};
+ghost use Rattle.cvss_route.specs.private.Views as is_told;
+ghost use Rattle.cvss_route.specs.private.Views.{why_of};
+ghost use Rattle.cvss_v2.specs.Vector.{v2};
 
 use crate::bytes_error::BytesError;
 use crate::vector::Cvss;
@@ -21,18 +25,16 @@ use cvss_name::Error;
 use cvss_route::{NoVersion, Route, route_of_text};
 use cvss_text::front::{Fronted, read_started};
 use cvss_text::pieces::Pieces;
-use cvss_text::text::copied_text;
 use cvss_text::walk::{Fault, read_vector};
-use std::alloc::{AllocError, Global};
+use std::alloc::Global;
 
-/// Why a text denotes no vector, as the version found by whose rules it was read.
-#[derive(Clone, Copy)]
+/// Why a text denotes no vector, as the version found by whose rules it was read. That a text tells
+/// no version is said as CVSS v2 says it.
+#[derive(Drop)]
 pub(crate) enum ReadFault<'a> {
     V2(Fault<'a, v2::MetricType>),
     V3(Fault<'a, v3::MetricType>),
     V4(Fault<'a, v4::MetricType>),
-    /// No version is told, so no rules apply.
-    Untold(NoVersion<'a>),
 }
 
 /// The vector that a text denotes, or the first reason why there is none.
@@ -44,7 +46,19 @@ pub(crate) fn read(text: &[u8]) -> Result<Cvss, ReadFault<'_>>
         Route::V30(left) => read_v30(text, left),
         Route::V31(left) => read_v31(text, left),
         Route::V40(left) => read_v40(text, left),
-        Route::Untold(fault) => Err(ReadFault::Untold(fault)),
+        Route::Untold(why) => Err(ReadFault::V2(fault_of(why))),
+    }
+}
+
+/// The fault that a text tells no version.
+fn fault_of<'a>(why: NoVersion<'a>) -> Fault<'a, v2::MetricType>
+    ensures reason { wrapped V2 (reason_of v2 result) ≡ untold (why_of why.entry) }
+    ensures tellable { is_told.IsTellable why.entry → IsTellable v2 result }
+{
+    match why {
+        NoVersion::InvalidComponent(piece) => Fault::InvalidComponent(piece),
+        NoVersion::InvalidPrefix(prefix) => Fault::InvalidPrefix(prefix),
+        NoVersion::UnsupportedVersion(version) => Fault::UnsupportedVersion(version),
     }
 }
 
@@ -108,36 +122,7 @@ pub(crate) fn error_of(alloc: Global, fault: ReadFault<'_>) -> Error
         ReadFault::V2(fault) => refusing::error_of::<v2::Vector>(alloc, fault),
         ReadFault::V3(fault) => refusing::error_of::<v3::Vector>(alloc, fault),
         ReadFault::V4(fault) => refusing::error_of::<v4::Vector>(alloc, fault),
-        ReadFault::Untold(fault) => no_version_error_of(alloc, fault),
     }
-}
-
-/// The error of a text that tells no version, or that there is no memory for the text that it names.
-fn no_version_error_of(alloc: Global, fault: NoVersion<'_>) -> Error
-    requires { IsTellable fault }
-    ensures { Tells cvss_reason (untold (why_of fault.entry)) result }
-{
-    match copied_error(alloc, fault) {
-        Ok(error) => error,
-        Err(_) => Error::OutOfMemory,
-    }
-}
-
-fn copied_error(alloc: Global, fault: NoVersion<'_>) -> Result<Error, AllocError>
-    requires { IsTellable fault }
-    ensures { IfOk result (λ error. reason_told cvss_reason error ≡ Some (untold (why_of fault.entry))) }
-{
-    Ok(match fault {
-        NoVersion::InvalidComponent(piece) => Error::InvalidComponent {
-            component: copied_text(alloc, piece)?,
-        },
-        NoVersion::InvalidPrefix(prefix) => Error::InvalidPrefix {
-            prefix: copied_text(alloc, prefix)?,
-        },
-        NoVersion::UnsupportedVersion(version) => Error::UnsupportedVersion {
-            version: copied_text(alloc, version)?,
-        },
-    })
 }
 
 /// The error of bytes in which a fault was found: that they are no text, or that of the fault.

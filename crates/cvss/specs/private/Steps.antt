@@ -5,7 +5,6 @@ use Rattle.cvss_text.specs.private.Walk as walk
 use Rattle.cvss_grammar.specs.Refusal.{Refusal}
 use Rattle.cvss.specs.Dispatch as spec
 use Rattle.cvss.specs.declared.metric_type.MetricType.{MetricType}
-use Rattle.cvss_route.specs.private.Views.{IsTellable, why_of}
 use Rattle.cvss_v2.specs.Vector.{v2}
 use Rattle.cvss_v3.specs.Vector.{v3}
 use Rattle.cvss_v4.specs.Vector.{v4}
@@ -20,14 +19,12 @@ abbrev pub reason_read : ReadFault → Refusal MetricType
 reason_read (told.V2 fault) = spec.wrapped V2 (walk.reason_of v2 fault)
 reason_read (told.V3 fault) = spec.wrapped V3 (walk.reason_of v3 fault)
 reason_read (told.V4 fault) = spec.wrapped V4 (walk.reason_of v4 fault)
-reason_read (told.Untold fault) = spec.untold (why_of fault)
 
 -- and it can be told
 abbrev pub IsTellableFault : ReadFault → Type 0
 IsTellableFault (told.V2 fault) = walk.IsTellable v2 fault
 IsTellableFault (told.V3 fault) = walk.IsTellable v3 fault
 IsTellableFault (told.V4 fault) = walk.IsTellable v4 fault
-IsTellableFault (told.Untold fault) = IsTellable fault
 
 -- what reading a text answers: the vector that it denotes, or the first reason why there is none
 pub record IsRead (text : List ℕ) (answer : Result Cvss ReadFault) : Type 0 where
