@@ -1,4 +1,5 @@
 mod AnswerLemmas
+mod BytesLemmas
 mod JsonLemmas
 mod LawLemmas
 mod OneRefusalLemmas
