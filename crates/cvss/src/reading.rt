@@ -26,7 +26,7 @@ use cvss_text::walk::{Fault, read_vector};
 use std::alloc::{AllocError, Global};
 
 /// Why a text denotes no vector, as the version found by whose rules it was read.
-#[derive(Clone, Copy)]
+#[derive(Drop)]
 pub(crate) enum ReadFault<'a> {
     V2(Fault<'a, v2::MetricType>),
     V3(Fault<'a, v3::MetricType>),
