@@ -15,24 +15,18 @@ abbrev equals : (parts : List (List Field)) → Each Ordering parts
 equals [] = tt
 equals (fields ∷ parts) = (λ _ _. Equal, equals parts)
 
-behind_zero : (place : ℕ) → Less ≡ nat_cmp 0 (suc place)
-behind_zero place = grind (arith, nat_tests)
-
-before_zero : (place : ℕ) → Greater ≡ nat_cmp (suc place) 0
-before_zero place = grind (arith, nat_tests)
+abbrev place : (parts : List (List Field)) → Choice parts → ℕ
+place parts x = tag (rowss parts) (intoss parts x)
 
 shifted : (x y : ℕ) → nat_cmp x y ≡ nat_cmp (suc x) (suc y)
 shifted x y = grind (arith, nat_tests)
-
-abbrev place : (parts : List (List Field)) → Choice parts → ℕ
-place parts x = tag (rowss parts) (intoss parts x)
 
 by_place : (parts : List (List Field)) (x y : Choice parts)
     → by Less Greater parts (equals parts) x y ≡ nat_cmp (place parts x) (place parts y)
 by_place [] x y = absurd x
 by_place (fields ∷ parts) (inl x) (inl y) = refl
-by_place (fields ∷ parts) (inl x) (inr y) = behind_zero (place parts y)
-by_place (fields ∷ parts) (inr x) (inl y) = before_zero (place parts x)
+by_place (fields ∷ parts) (inl x) (inr y) = grind (arith, nat_tests)
+by_place (fields ∷ parts) (inr x) (inl y) = grind (arith, nat_tests)
 by_place (fields ∷ parts) (inr x) (inr y) = by_place parts x y ∙ shifted (place parts x) (place parts y)
 
 -- so it is that of a list in which each variant stands at its place
