@@ -13,7 +13,7 @@ use cvss_text::pieces::{Pieces, front_of, parts_of, pieces_of};
 use cvss_text::sight::behind_five;
 
 /// By the rules of which version a text is read.
-#[derive(Clone, Copy)]
+#[derive(Drop)]
 pub enum Route<'a> {
     /// All of the text is read.
     V20,
@@ -26,7 +26,7 @@ pub enum Route<'a> {
 }
 
 /// Why a text is read by no rules, with the part of the text that is at fault.
-#[derive(Clone, Copy)]
+#[derive(Drop)]
 pub enum NoVersion<'a> {
     /// The text has one piece, or its first piece has no colon.
     InvalidComponent(&'a [u8]),

@@ -8,7 +8,7 @@ ghost use Rattle.cvss_text.specs.private.Pieces.{pieces_left, AreParts, IsWithou
 ghost use Rattle.cvss_grammar.specs.Refusal.{AreComponentsBefore, IsFirstBadPiece};
 
 /// The pieces of a text, cut at each slash.
-#[derive(Clone, Copy, Debug)]
+#[derive(Clone, Copy)]
 pub struct Pieces<'a> {
     rest: Option<&'a [u8]>,
 }

@@ -14,7 +14,7 @@ use crate::cutting::{cut_component, cut_first};
 use crate::pieces::{Pieces, first_bad_piece, pieces_of};
 
 /// Why a value does not go into a vector.
-#[derive(Clone, Copy)]
+#[derive(Drop)]
 pub enum Slip {
     /// The metric has no such value.
     Invalid,
@@ -23,7 +23,7 @@ pub enum Slip {
 }
 
 /// Why a text is refused, with the part of the text that is at fault.
-#[derive(Clone, Copy)]
+#[derive(Drop)]
 pub enum Fault<'a, K> {
     /// A piece of the text has no colon, or more than one.
     InvalidComponent(&'a [u8]),

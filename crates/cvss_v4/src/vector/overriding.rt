@@ -47,7 +47,7 @@ impl fmt::Display for OverrideError {
 impl std::error::Error for OverrideError {}
 
 /// Why a text is no override, with the part of the text that is at fault.
-#[derive(Clone, Copy)]
+#[derive(Drop)]
 enum OverrideFault<'a> {
     OtherGroup,
     Component(Fault<'a, MetricType>),
