@@ -1,6 +1,6 @@
 //! The numbers of a vector's equations in whole numbers of small units.
 
-ghost use Rattle.std.specs.Prelude.{◌≡◌, ◌*◌, ◌^◌, ◌≤◌, ◌≤ℤ◌, ℤ, pos, neg_ℤ};
+ghost use Rattle.std.specs.Prelude.{◌*◌, ◌^◌, ◌≤◌, ◌≤ℤ◌, ℤ, pos, neg_ℤ};
 ghost use Rattle.cvss_number.specs.Exact.{ratio, of_count, ◌≈◌, IsWithinLimit};
 ghost use Rattle.cvss_v2_score.specs.Scores.{impact, adjusted_impact, exploitability, IsBase, IsTemporal};
 ghost use Rattle.cvss_v2.specs.Weights.{weights_of};
