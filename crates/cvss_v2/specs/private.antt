@@ -1,4 +1,5 @@
 pub mod Bounds
+pub mod Slashed
 pub mod TableLaws
 pub mod Values
 pub mod VectorLaws

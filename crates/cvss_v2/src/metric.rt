@@ -32,19 +32,31 @@ pub trait Metric: Copy + Clone + fmt::Debug + fmt::Display + Eq + Ord {
 
     ghost value: { Self → Value TYPE };
 
-    /// A slash and the component that stands for the value in a vector.
-    fn slashed(self) -> &'static str
-        ensures { result.now ≡ slash ∷ metric_component TYPE (value self) };
-
-    /// The value's weight in thousandths (guide, section 3.2).
-    fn thousandths(self) -> u64
-        ensures { result ≡ weight_of TYPE (value self) };
+    /// A slash and the component that stands for the value in a vector, and the value's weight in
+    /// thousandths (guide, section 3.2).
+    fn row(self) -> (&'static str, u64)
+        ensures text { result.0.now ≡ slash ∷ metric_component TYPE (value self) }
+        ensures weight { result.1 ≡ weight_of TYPE (value self) };
 
     /// The value with this spelling.
     fn read_bytes(text: &[u8]) -> Option<Self>
         ensures spelled { IfSome result (λ metric. spelling_of TYPE (value metric) ≡ text.now) }
         ensures read { (metric : Self) → spelling_of TYPE (value metric) ≡ text.now
             → result ≡ Some metric };
+
+    /// A slash and the component that stands for the value in a vector.
+    final fn slashed(self) -> &'static str
+        ensures { result.now ≡ slash ∷ metric_component TYPE (value self) }
+    {
+        self.row().0
+    }
+
+    /// The value's weight in thousandths (guide, section 3.2).
+    final fn thousandths(self) -> u64
+        ensures { result ≡ weight_of TYPE (value self) }
+    {
+        self.row().1
+    }
 
     /// How the value is spelled in a vector.
     final fn as_str(self) -> &'static str

@@ -1,6 +1,6 @@
 //! The equations of the guide in whole numbers, exact but for one rounding at the end of each score.
 ghost use Rattle.std.specs.Prelude.{◌≡◌, ◌*◌, ◌^◌, ◌≤◌, ◌≤ℤ◌, ◌+ℤ◌, ◌-ℤ◌, ◌*ℤ◌, ◌/◌, ◌<◌, pos, neg_ℤ};
-ghost use Rattle.cvss_number.specs.Exact.{ratio, ◌over◌, whole, thousandths, tenths, of_count, ◌⊗◌, ◌≈◌, smaller, IsWithinLimit};
+ghost use Rattle.cvss_number.specs.Exact.{ratio, ◌over◌, whole, thousandths, tenths, of_count, ◌≈◌, smaller, IsWithinLimit};
 ghost use Rattle.cvss_number.specs.Rounding.{IsRoundedV2};
 ghost use Rattle.cvss_v2_score.specs.Scores.{impact_of, base_number, temporal_number, environmental_number};
 ghost use Rattle.cvss_v2_score.specs.private.Bounds.{IsImpactCount, IsOnScale, IsOnScaleOf};

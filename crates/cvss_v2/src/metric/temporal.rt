@@ -32,23 +32,13 @@ impl Metric for Exploitability {
 
     ghost by_value = { Prim.search rules };
 
-    fn slashed(self) -> &'static str {
+    fn row(self) -> (&'static str, u64) {
         match self {
-            Exploitability::Unproven => "/E:U",
-            Exploitability::ProofOfConcept => "/E:POC",
-            Exploitability::Functional => "/E:F",
-            Exploitability::High => "/E:H",
-            Exploitability::NotDefined => "/E:ND",
-        }
-    }
-
-    fn thousandths(self) -> u64 {
-        match self {
-            Exploitability::Unproven => 850,
-            Exploitability::ProofOfConcept => 900,
-            Exploitability::Functional => 950,
-            Exploitability::High => 1000,
-            Exploitability::NotDefined => 1000,
+            Exploitability::Unproven => ("/E:U", 850),
+            Exploitability::ProofOfConcept => ("/E:POC", 900),
+            Exploitability::Functional => ("/E:F", 950),
+            Exploitability::High => ("/E:H", 1000),
+            Exploitability::NotDefined => ("/E:ND", 1000),
         }
     }
 
@@ -70,7 +60,7 @@ impl fmt::Display for Exploitability {
     ghost styled_output = { λ metric _. Some (metric_component E metric) };
 
     fn fmt<W: fmt::Write>(&self, f: &mut fmt::Formatter<W>) -> fmt::Result {
-        write_component(self.slashed(), f)
+        write_component(self.row().0, f)
     }
 }
 
@@ -97,23 +87,13 @@ impl Metric for RemediationLevel {
 
     ghost by_value = { Prim.search rules };
 
-    fn slashed(self) -> &'static str {
+    fn row(self) -> (&'static str, u64) {
         match self {
-            RemediationLevel::OfficialFix => "/RL:OF",
-            RemediationLevel::TemporaryFix => "/RL:TF",
-            RemediationLevel::Workaround => "/RL:W",
-            RemediationLevel::Unavailable => "/RL:U",
-            RemediationLevel::NotDefined => "/RL:ND",
-        }
-    }
-
-    fn thousandths(self) -> u64 {
-        match self {
-            RemediationLevel::OfficialFix => 870,
-            RemediationLevel::TemporaryFix => 900,
-            RemediationLevel::Workaround => 950,
-            RemediationLevel::Unavailable => 1000,
-            RemediationLevel::NotDefined => 1000,
+            RemediationLevel::OfficialFix => ("/RL:OF", 870),
+            RemediationLevel::TemporaryFix => ("/RL:TF", 900),
+            RemediationLevel::Workaround => ("/RL:W", 950),
+            RemediationLevel::Unavailable => ("/RL:U", 1000),
+            RemediationLevel::NotDefined => ("/RL:ND", 1000),
         }
     }
 
@@ -135,7 +115,7 @@ impl fmt::Display for RemediationLevel {
     ghost styled_output = { λ metric _. Some (metric_component RL metric) };
 
     fn fmt<W: fmt::Write>(&self, f: &mut fmt::Formatter<W>) -> fmt::Result {
-        write_component(self.slashed(), f)
+        write_component(self.row().0, f)
     }
 }
 
@@ -161,21 +141,12 @@ impl Metric for ReportConfidence {
 
     ghost by_value = { Prim.search rules };
 
-    fn slashed(self) -> &'static str {
+    fn row(self) -> (&'static str, u64) {
         match self {
-            ReportConfidence::Unconfirmed => "/RC:UC",
-            ReportConfidence::Uncorroborated => "/RC:UR",
-            ReportConfidence::Confirmed => "/RC:C",
-            ReportConfidence::NotDefined => "/RC:ND",
-        }
-    }
-
-    fn thousandths(self) -> u64 {
-        match self {
-            ReportConfidence::Unconfirmed => 900,
-            ReportConfidence::Uncorroborated => 950,
-            ReportConfidence::Confirmed => 1000,
-            ReportConfidence::NotDefined => 1000,
+            ReportConfidence::Unconfirmed => ("/RC:UC", 900),
+            ReportConfidence::Uncorroborated => ("/RC:UR", 950),
+            ReportConfidence::Confirmed => ("/RC:C", 1000),
+            ReportConfidence::NotDefined => ("/RC:ND", 1000),
         }
     }
 
@@ -196,6 +167,6 @@ impl fmt::Display for ReportConfidence {
     ghost styled_output = { λ metric _. Some (metric_component RC metric) };
 
     fn fmt<W: fmt::Write>(&self, f: &mut fmt::Formatter<W>) -> fmt::Result {
-        write_component(self.slashed(), f)
+        write_component(self.row().0, f)
     }
 }

@@ -52,7 +52,7 @@ impl Vector {
             (thousandths (weights_of self.now).rl) (thousandths (weights_of self.now).rc) }
         ensures limit { IsWithinLimit result }
     {
-        let base = self.base_of(self.own_impact());
+        let base = self.base_of(self.impact());
         let e = weight(self.e, 1000);
         let rl = weight(self.rl, 1000);
         let number = equations::temporal_number(base, e, rl, weight(self.rc, 1000));
@@ -66,7 +66,7 @@ impl Vector {
             (IsBase (weights_of self.now) (adjusted_impact (weights_of self.now))) result }
         ensures limit { IsWithinLimit result }
     {
-        of_tenths(self.base_of(self.required_impact()))
+        of_tenths(self.base_of(self.adjusted_impact()))
     }
 
     /// AdjustedTemporal, the temporal score of the adjusted base score (guide, section 3.2.3), which
@@ -76,7 +76,7 @@ impl Vector {
             (IsTemporal (weights_of self.now) (adjusted_impact (weights_of self.now))) result }
         ensures limit { IsWithinLimit result }
     {
-        of_tenths(self.temporal_of(self.required_impact()))
+        of_tenths(self.temporal_of(self.adjusted_impact()))
     }
 
     /// What the environmental score is the rounding of (guide, section 3.2.3), which is exact and
@@ -88,7 +88,7 @@ impl Vector {
             (thousandths (weights_of self.now).cdp) (thousandths (weights_of self.now).td) }
         ensures limit { IsWithinLimit result }
     {
-        let temporal = self.temporal_of(self.required_impact());
+        let temporal = self.temporal_of(self.adjusted_impact());
         let cdp = weight(self.cdp, 0);
         let number = equations::environmental_number(temporal, cdp, weight(self.td, 1000));
         Score::new(number * 100_000_000_000_000_000)

@@ -1,15 +1,15 @@
 //! How a vector is printed.
 
-ghost use Rattle.std.specs.Prelude.{◌≡◌, Some, [], ◌∷◌, drop, option_map, unwrap_or};
+ghost use Rattle.std.specs.Prelude.{◌≡◌, ◌++◌, Some, drop, option_map};
 ghost use Rattle.std.specs.Fmt.{WritesOnOk};
 ghost use Rattle.std.specs.Option.{option_copied};
 ghost use Rattle.cvss_text.specs.private.Printing.{slashed, slashed_texts};
 ghost use Rattle.cvss_grammar.specs.Text.{component};
 ghost use Rattle.cvss_name.specs.V2Types.{name_of};
 ghost use Rattle.cvss_grammar.specs.Version.{canonical_text, component_of, held};
-ghost use Rattle.cvss_name.specs.declared.v2.MetricType.TheVariants.{A, AC, Au, C, I, E, RL, RC, CDP, TD, CR, IR, AR};
 ghost use Rattle.cvss_v2.specs.Table.{spelling_of, printed};
 ghost use Rattle.cvss_v2.specs.Vector.{v2};
+ghost use Rattle.cvss_v2.specs.private.Slashed.{slashed_value};
 
 use crate::metric::{Metric, MetricType};
 use crate::vector::Vector;
@@ -54,78 +54,44 @@ fn slashed_value<M: Metric>(value: Option<M>) -> Option<&'static str>
     ensures { option_copied result ≡ slashed (option_map (component (name_of M.TYPE))
         (option_map (λ metric. spelling_of M.TYPE (M.value metric)) value)) }
 {
-    value.map(|metric| metric.slashed())
+    match value {
+        Some(metric) => Some(metric.slashed()),
+        None => None,
+    }
 }
 
 /// Writes a slash and the component of a value, if there is one.
 fn write_value<M: Metric, W: fmt::Write>(value: Option<M>, f: &mut fmt::Formatter<W>) -> fmt::Result
-    ensures { WritesOnOk W.write_str_gives f.old result (unwrap_or (slashed
-        (option_map (component (name_of M.TYPE))
-        (option_map (λ metric. spelling_of M.TYPE (M.value metric)) value))) []) f.new }
+    ensures { WritesOnOk W.write_str_gives f.old result (slashed_value M.TYPE M.value value) f.new }
 {
     write_slashed(slashed_value(value), f)
 }
 
-impl Vector {
-    /// Writes the access metrics behind the first, each with a slash before it.
-    fn write_access<W: fmt::Write>(&self, f: &mut fmt::Formatter<W>) -> fmt::Result
-        ensures { WritesOnOk W.write_str_gives f.old result
-            (slashed_texts v2 self.now (AC ∷ Au ∷ [])) f.new }
-    {
-        write_value(self.ac, f)?;
-        write_value(self.au, f)
-    }
+/// Writes a slash and the component of each of three values that there is.
+fn write_three<K: Metric, M: Metric, N: Metric, W: fmt::Write>(
+    first: &Option<K>,
+    second: &Option<M>,
+    third: &Option<N>,
+    f: &mut fmt::Formatter<W>,
+) -> fmt::Result
+    ensures { WritesOnOk W.write_str_gives f.old result (slashed_value K.TYPE K.value first.now
+        ++ slashed_value M.TYPE M.value second.now ++ slashed_value N.TYPE N.value third.now) f.new }
+{
+    write_value(*first, f)?;
+    write_value(*second, f)?;
+    write_value(*third, f)
+}
 
-    /// Writes the impacts, each with a slash before it.
-    fn write_impact<W: fmt::Write>(&self, f: &mut fmt::Formatter<W>) -> fmt::Result
-        ensures { WritesOnOk W.write_str_gives f.old result
-            (slashed_texts v2 self.now (C ∷ I ∷ A ∷ [])) f.new }
-    {
-        write_value(self.c, f)?;
-        write_value(self.i, f)?;
-        write_value(self.a, f)
-    }
-
-    /// Writes the temporal metrics, each with a slash before it.
-    fn write_temporal<W: fmt::Write>(&self, f: &mut fmt::Formatter<W>) -> fmt::Result
-        ensures { WritesOnOk W.write_str_gives f.old result
-            (slashed_texts v2 self.now (E ∷ RL ∷ RC ∷ [])) f.new }
-    {
-        write_value(self.e, f)?;
-        write_value(self.rl, f)?;
-        write_value(self.rc, f)
-    }
-
-    /// Writes what is lost and where, each with a slash before it.
-    fn write_loss<W: fmt::Write>(&self, f: &mut fmt::Formatter<W>) -> fmt::Result
-        ensures { WritesOnOk W.write_str_gives f.old result
-            (slashed_texts v2 self.now (CDP ∷ TD ∷ [])) f.new }
-    {
-        write_value(self.cdp, f)?;
-        write_value(self.td, f)
-    }
-
-    /// Writes the security requirements, each with a slash before it.
-    fn write_requirements<W: fmt::Write>(&self, f: &mut fmt::Formatter<W>) -> fmt::Result
-        ensures { WritesOnOk W.write_str_gives f.old result
-            (slashed_texts v2 self.now (CR ∷ IR ∷ AR ∷ [])) f.new }
-    {
-        write_value(self.cr, f)?;
-        write_value(self.ir, f)?;
-        write_value(self.ar, f)
-    }
-
-    /// Writes all metrics but the first, each with a slash before it.
-    fn write_others<W: fmt::Write>(&self, f: &mut fmt::Formatter<W>) -> fmt::Result
-        ensures { WritesOnOk W.write_str_gives f.old result
-            (slashed_texts v2 self.now (drop 1 printed)) f.new }
-    {
-        self.write_access(f)?;
-        self.write_impact(f)?;
-        self.write_temporal(f)?;
-        self.write_loss(f)?;
-        self.write_requirements(f)
-    }
+/// Writes all metrics of a vector but the first, each with a slash before it.
+fn write_others<W: fmt::Write>(vector: &Vector, f: &mut fmt::Formatter<W>) -> fmt::Result
+    ensures { WritesOnOk W.write_str_gives f.old result
+        (slashed_texts v2 vector.now (drop 1 printed)) f.new }
+{
+    write_three(&vector.ac, &vector.au, &vector.c, f)?;
+    write_three(&vector.i, &vector.a, &vector.e, f)?;
+    write_three(&vector.rl, &vector.rc, &vector.cdp, f)?;
+    write_three(&vector.td, &vector.cr, &vector.ir, f)?;
+    write_value(vector.ar, f)
 }
 
 impl fmt::Display for Vector {
@@ -136,6 +102,6 @@ impl fmt::Display for Vector {
             return write_components(self, f);
         };
         write_component(av.slashed(), f)?;
-        self.write_others(f)
+        write_others(self, f)
     }
 }

@@ -1,6 +1,6 @@
 //! The scores of a vector.
 
-ghost use Rattle.std.specs.Prelude.{◌≤◌, ◌*ℤ◌, ◌^◌, pos};
+ghost use Rattle.std.specs.Prelude.{◌*◌, ◌≤◌, ◌≤ℤ◌, ◌*ℤ◌, ◌^◌, pos};
 ghost use Rattle.cvss_number.specs.Exact.{of_count, ◌≈◌, IsWithinLimit};
 ghost use Rattle.cvss_v2_score.specs.Scores.{impact, adjusted_impact, exploitability, IsTemporal, IsBaseScore, IsTemporalScore, IsEnvironmentalScore};
 ghost use Rattle.cvss_number.specs.Tenths.{IsInTenths, IsFromZeroToTen};
@@ -9,31 +9,41 @@ ghost use Rattle.cvss_v2.specs.Weights.{weights_of};
 use super::weighing::weight;
 use crate::vector::Vector;
 use cvss_v2_score::score::{of_tenths, published};
-use cvss_v2_score::{Score, scores};
+use cvss_v2_score::{Score, equations, scores};
 
 impl Vector {
-    /// The impact sub-score (guide, section 3.2.1), which is exact.
+    /// The impact sub-score (guide, section 3.2.1), which is exact, from 0 to 10.001.
     pub fn impact(&self) -> Score
         ensures value { of_count result ≈ impact (weights_of self.now) }
         ensures limit { IsWithinLimit result }
+        ensures low { pos 0 ≤ℤ result }
+        ensures high { result ≤ℤ pos (10_001 * 10 ^ 21) }
     {
-        self.own_impact()
+        Score::new(i128::from(self.impact_units()) * 10_000_000_000_000)
     }
 
-    /// The exploitability sub-score (guide, section 3.2.1), which is exact.
+    /// The exploitability sub-score (guide, section 3.2.1), which is exact, from 0 to 10.
     pub fn exploitability(&self) -> Score
         ensures value { of_count result ≈ exploitability (weights_of self.now) }
         ensures limit { IsWithinLimit result }
+        ensures low { pos 0 ≤ℤ result }
+        ensures high { result ≤ℤ pos (10 ^ 25) }
     {
-        self.own_exploitability()
+        Score::new(i128::from(self.exploitability_units()) * 1_000_000_000_000_000)
     }
 
-    /// The impact sub-score with the requirements (guide, section 3.2.3), which is exact.
+    /// The impact sub-score with the requirements (guide, section 3.2.3), which is exact and at
+    /// most 10.
     pub fn adjusted_impact(&self) -> Score
         ensures value { of_count result ≈ adjusted_impact (weights_of self.now) }
         ensures limit { IsWithinLimit result }
+        ensures low { pos 0 ≤ℤ result }
+        ensures high { result ≤ℤ pos (10_001 * 10 ^ 21) }
     {
-        self.required_impact()
+        let c = weight(self.c, 0) * weight(self.cr, 1000);
+        let i = weight(self.i, 0) * weight(self.ir, 1000);
+        let a = weight(self.a, 0) * weight(self.ar, 1000);
+        Score::new(equations::adjusted_impact_count(c, i, a))
     }
 
     /// The base score (guide, section 3.2.1), not below 0.
@@ -58,7 +68,7 @@ impl Vector {
         ensures value { IsTemporalScore (weights_of self.now) result }
         ensures range { IsInTenths IsFromZeroToTen result }
     {
-        published(self.temporal_of(self.own_impact()))
+        published(self.temporal_of(self.impact()))
     }
 
     /// The environmental score (guide, section 3.2.3), not below 0.
@@ -66,8 +76,8 @@ impl Vector {
         ensures value { IsEnvironmentalScore (weights_of self.now) result }
         ensures range { IsInTenths IsFromZeroToTen result }
     {
-        let impact = self.required_impact();
-        let exploitability = self.own_exploitability();
+        let impact = self.adjusted_impact();
+        let exploitability = self.exploitability();
         let e = weight(self.e, 1000);
         let rl = weight(self.rl, 1000);
         let rc = weight(self.rc, 1000);

@@ -2,15 +2,16 @@
 //! printed, so that the text is gone through once, with no cutting and no searching. The other
 //! way, by components in any order, is `reading`.
 
-ghost use Rattle.std.specs.Prelude.{◌≡◌, IfSome, None, [], ◌∷◌, ◌++◌, option_map, unwrap_or};
-ghost use Rattle.cvss_text.specs.private.Printing.{slashed, slashed_texts};
+ghost use Rattle.std.specs.Prelude.{◌≡◌, IfSome, None, [], ◌∷◌, ◌++◌};
+ghost use Rattle.cvss_text.specs.private.Printing.{slashed_texts};
 ghost use Rattle.cvss_text.specs.private.Walk.{first_missing};
-ghost use Rattle.cvss_grammar.specs.Text.{slash, colon, component};
+ghost use Rattle.cvss_grammar.specs.Text.{slash, colon};
 ghost use Rattle.cvss_name.specs.V2Types.{name_of};
 ghost use Rattle.cvss_grammar.specs.Version.{canonical_text, IsComplete};
 ghost use Rattle.cvss_name.specs.declared.v2.MetricType.TheVariants.{A, AC, AV, Au, C, I, E, RL, RC, CDP, TD, CR, IR, AR};
 ghost use Rattle.cvss_v2.specs.Table.{spelling_of, metric_component, printed};
 ghost use Rattle.cvss_v2.specs.Vector.{v2};
+ghost use Rattle.cvss_v2.specs.private.Slashed.{slashed_value};
 
 mod base;
 
@@ -113,9 +114,7 @@ fn environmental_at_sight<'a>(vector: &mut Vector, text: &'a [u8]) -> &'a [u8]
 /// gives what stands behind that; else no value, and the text.
 #[inline(always)]
 fn optional_at_sight<'a, M: Metric>(place: &mut Option<M>, text: &'a [u8]) -> &'a [u8]
-    ensures { text.now ≡ unwrap_or (slashed (option_map (component (name_of M.TYPE))
-        (option_map (λ metric. spelling_of M.TYPE (M.value metric)) place.new))) []
-        ++ result.now }
+    ensures { text.now ≡ slashed_value M.TYPE M.value place.new ++ result.now }
 {
     put_read(place, component_at_sight(text), text)
 }
@@ -146,25 +145,18 @@ fn value_at_sight<M: Metric>(text: &[u8]) -> Option<(M, &[u8])>
     Some((M::read_bytes(value)?, rest))
 }
 
-/// What stands behind a slash, the name of a metric but the first, and the colon after it.
+/// What stands behind a slash, the name of a metric and the colon after it.
 #[inline(always)]
 fn behind_name(kind: MetricType, text: &[u8]) -> Option<&[u8]>
     ensures { IfSome result (λ value. text.now ≡ slash ∷ (name_of kind ++ (colon ∷ value.now))) }
 {
-    match (kind, text) {
-        (MetricType::AC, _) => behind_four(text, *b"/AC:"),
-        (MetricType::Au, _) => behind_four(text, *b"/Au:"),
-        (MetricType::C, [b'/', b'C', b':', value @ ..]) => Some(value),
-        (MetricType::I, [b'/', b'I', b':', value @ ..]) => Some(value),
-        (MetricType::A, [b'/', b'A', b':', value @ ..]) => Some(value),
-        (MetricType::E, [b'/', b'E', b':', value @ ..]) => Some(value),
-        (MetricType::RL, _) => behind_four(text, *b"/RL:"),
-        (MetricType::RC, _) => behind_four(text, *b"/RC:"),
-        (MetricType::CDP, _) => behind_five(text, *b"/CDP:"),
-        (MetricType::TD, _) => behind_four(text, *b"/TD:"),
-        (MetricType::CR, _) => behind_four(text, *b"/CR:"),
-        (MetricType::IR, _) => behind_four(text, *b"/IR:"),
-        (MetricType::AR, _) => behind_four(text, *b"/AR:"),
+    match kind.name().as_bytes() {
+        [only] => match text {
+            [b'/', letter, b':', value @ ..] if *letter == *only => Some(value),
+            _ => None,
+        },
+        [first, second] => behind_four(text, [b'/', *first, *second, b':']),
+        [first, second, third] => behind_five(text, [b'/', *first, *second, *third, b':']),
         _ => None,
     }
 }

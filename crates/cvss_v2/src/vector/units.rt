@@ -1,8 +1,8 @@
 //! The numbers of a vector's equations in whole numbers of small units.
 
-ghost use Rattle.std.specs.Prelude.{◌≡◌, ◌*◌, ◌^◌, ◌≤◌, ◌≤ℤ◌, ℤ, pos, neg_ℤ};
+ghost use Rattle.std.specs.Prelude.{◌*◌, ◌^◌, ◌≤◌, ◌≤ℤ◌, ℤ, pos, neg_ℤ};
 ghost use Rattle.cvss_number.specs.Exact.{ratio, of_count, ◌≈◌, IsWithinLimit};
-ghost use Rattle.cvss_v2_score.specs.Scores.{impact, adjusted_impact, exploitability, IsBase, IsTemporal};
+ghost use Rattle.cvss_v2_score.specs.Scores.{impact, exploitability, IsBase, IsTemporal};
 ghost use Rattle.cvss_v2.specs.Weights.{weights_of};
 ghost use Rattle.cvss_v2_score.specs.private.Bounds.{IsImpactCount, IsOnScale};
 
@@ -29,34 +29,6 @@ impl Vector {
         base_score::exploitability(weight(self.av, 0), weight(self.ac, 0), weight(self.au, 0))
     }
 
-    /// The impact, which is exact.
-    pub(super) fn own_impact(&self) -> Score
-        ensures value { of_count result ≈ impact (weights_of self.now) }
-        ensures bound { IsImpactCount result }
-    {
-        Score::new(i128::from(self.impact_units()) * 10_000_000_000_000)
-    }
-
-    /// The impact with the requirements, which is exact and at most 10.
-    pub(super) fn required_impact(&self) -> Score
-        ensures value { of_count result ≈ adjusted_impact (weights_of self.now) }
-        ensures bound { IsImpactCount result }
-    {
-        let c = weight(self.c, 0) * weight(self.cr, 1000);
-        let i = weight(self.i, 0) * weight(self.ir, 1000);
-        let a = weight(self.a, 0) * weight(self.ar, 1000);
-        Score::new(equations::adjusted_impact_count(c, i, a))
-    }
-
-    /// The exploitability, which is exact.
-    pub(super) fn own_exploitability(&self) -> Score
-        ensures value { of_count result ≈ exploitability (weights_of self.now) }
-        ensures low { pos 0 ≤ℤ result }
-        ensures high { result ≤ℤ pos (10 ^ 25) }
-    {
-        Score::new(i128::from(self.exploitability_units()) * 1_000_000_000_000_000)
-    }
-
     /// The base score of an impact, in tenths.
     pub(super) fn base_of(&self, impact: Score) -> i128
         requires { IsWithinLimit impact }
@@ -65,7 +37,7 @@ impl Vector {
         ensures high { result ≤ℤ pos (10 ^ 7) }
         ensures on_scale { IsImpactCount impact → IsOnScale result }
     {
-        scores::base_score(impact, self.own_exploitability())
+        scores::base_score(impact, self.exploitability())
     }
 
     /// The temporal score of an impact, in tenths.
@@ -79,7 +51,7 @@ impl Vector {
         let e = weight(self.e, 1000);
         let rl = weight(self.rl, 1000);
         let rc = weight(self.rc, 1000);
-        scores::temporal_score(impact, self.own_exploitability(), e, rl, rc)
+        scores::temporal_score(impact, self.exploitability(), e, rl, rc)
     }
 
     /// The base score in tenths, before it is raised to 0.

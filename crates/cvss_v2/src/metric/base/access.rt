@@ -30,19 +30,11 @@ impl Metric for AccessVector {
 
     ghost by_value = { Prim.search rules };
 
-    fn slashed(self) -> &'static str {
+    fn row(self) -> (&'static str, u64) {
         match self {
-            AccessVector::Local => "/AV:L",
-            AccessVector::AdjacentNetwork => "/AV:A",
-            AccessVector::Network => "/AV:N",
-        }
-    }
-
-    fn thousandths(self) -> u64 {
-        match self {
-            AccessVector::Local => 395,
-            AccessVector::AdjacentNetwork => 646,
-            AccessVector::Network => 1000,
+            AccessVector::Local => ("/AV:L", 395),
+            AccessVector::AdjacentNetwork => ("/AV:A", 646),
+            AccessVector::Network => ("/AV:N", 1000),
         }
     }
 
@@ -62,7 +54,7 @@ impl fmt::Display for AccessVector {
     ghost styled_output = { λ metric _. Some (metric_component AV metric) };
 
     fn fmt<W: fmt::Write>(&self, f: &mut fmt::Formatter<W>) -> fmt::Result {
-        write_component(self.slashed(), f)
+        write_component(self.row().0, f)
     }
 }
 
@@ -87,19 +79,11 @@ impl Metric for AccessComplexity {
 
     ghost by_value = { Prim.search rules };
 
-    fn slashed(self) -> &'static str {
+    fn row(self) -> (&'static str, u64) {
         match self {
-            AccessComplexity::High => "/AC:H",
-            AccessComplexity::Medium => "/AC:M",
-            AccessComplexity::Low => "/AC:L",
-        }
-    }
-
-    fn thousandths(self) -> u64 {
-        match self {
-            AccessComplexity::High => 350,
-            AccessComplexity::Medium => 610,
-            AccessComplexity::Low => 710,
+            AccessComplexity::High => ("/AC:H", 350),
+            AccessComplexity::Medium => ("/AC:M", 610),
+            AccessComplexity::Low => ("/AC:L", 710),
         }
     }
 
@@ -119,7 +103,7 @@ impl fmt::Display for AccessComplexity {
     ghost styled_output = { λ metric _. Some (metric_component AC metric) };
 
     fn fmt<W: fmt::Write>(&self, f: &mut fmt::Formatter<W>) -> fmt::Result {
-        write_component(self.slashed(), f)
+        write_component(self.row().0, f)
     }
 }
 
@@ -144,19 +128,11 @@ impl Metric for Authentication {
 
     ghost by_value = { Prim.search rules };
 
-    fn slashed(self) -> &'static str {
+    fn row(self) -> (&'static str, u64) {
         match self {
-            Authentication::Multiple => "/Au:M",
-            Authentication::Single => "/Au:S",
-            Authentication::None => "/Au:N",
-        }
-    }
-
-    fn thousandths(self) -> u64 {
-        match self {
-            Authentication::Multiple => 450,
-            Authentication::Single => 560,
-            Authentication::None => 704,
+            Authentication::Multiple => ("/Au:M", 450),
+            Authentication::Single => ("/Au:S", 560),
+            Authentication::None => ("/Au:N", 704),
         }
     }
 
@@ -176,6 +152,6 @@ impl fmt::Display for Authentication {
     ghost styled_output = { λ metric _. Some (metric_component Au metric) };
 
     fn fmt<W: fmt::Write>(&self, f: &mut fmt::Formatter<W>) -> fmt::Result {
-        write_component(self.slashed(), f)
+        write_component(self.row().0, f)
     }
 }

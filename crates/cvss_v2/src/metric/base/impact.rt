@@ -30,19 +30,11 @@ impl Metric for ConfidentialityImpact {
 
     ghost by_value = { Prim.search rules };
 
-    fn slashed(self) -> &'static str {
+    fn row(self) -> (&'static str, u64) {
         match self {
-            ConfidentialityImpact::None => "/C:N",
-            ConfidentialityImpact::Partial => "/C:P",
-            ConfidentialityImpact::Complete => "/C:C",
-        }
-    }
-
-    fn thousandths(self) -> u64 {
-        match self {
-            ConfidentialityImpact::None => 0,
-            ConfidentialityImpact::Partial => 275,
-            ConfidentialityImpact::Complete => 660,
+            ConfidentialityImpact::None => ("/C:N", 0),
+            ConfidentialityImpact::Partial => ("/C:P", 275),
+            ConfidentialityImpact::Complete => ("/C:C", 660),
         }
     }
 
@@ -62,7 +54,7 @@ impl fmt::Display for ConfidentialityImpact {
     ghost styled_output = { λ metric _. Some (metric_component C metric) };
 
     fn fmt<W: fmt::Write>(&self, f: &mut fmt::Formatter<W>) -> fmt::Result {
-        write_component(self.slashed(), f)
+        write_component(self.row().0, f)
     }
 }
 
@@ -87,19 +79,11 @@ impl Metric for IntegrityImpact {
 
     ghost by_value = { Prim.search rules };
 
-    fn slashed(self) -> &'static str {
+    fn row(self) -> (&'static str, u64) {
         match self {
-            IntegrityImpact::None => "/I:N",
-            IntegrityImpact::Partial => "/I:P",
-            IntegrityImpact::Complete => "/I:C",
-        }
-    }
-
-    fn thousandths(self) -> u64 {
-        match self {
-            IntegrityImpact::None => 0,
-            IntegrityImpact::Partial => 275,
-            IntegrityImpact::Complete => 660,
+            IntegrityImpact::None => ("/I:N", 0),
+            IntegrityImpact::Partial => ("/I:P", 275),
+            IntegrityImpact::Complete => ("/I:C", 660),
         }
     }
 
@@ -119,7 +103,7 @@ impl fmt::Display for IntegrityImpact {
     ghost styled_output = { λ metric _. Some (metric_component I metric) };
 
     fn fmt<W: fmt::Write>(&self, f: &mut fmt::Formatter<W>) -> fmt::Result {
-        write_component(self.slashed(), f)
+        write_component(self.row().0, f)
     }
 }
 
@@ -144,19 +128,11 @@ impl Metric for AvailabilityImpact {
 
     ghost by_value = { Prim.search rules };
 
-    fn slashed(self) -> &'static str {
+    fn row(self) -> (&'static str, u64) {
         match self {
-            AvailabilityImpact::None => "/A:N",
-            AvailabilityImpact::Partial => "/A:P",
-            AvailabilityImpact::Complete => "/A:C",
-        }
-    }
-
-    fn thousandths(self) -> u64 {
-        match self {
-            AvailabilityImpact::None => 0,
-            AvailabilityImpact::Partial => 275,
-            AvailabilityImpact::Complete => 660,
+            AvailabilityImpact::None => ("/A:N", 0),
+            AvailabilityImpact::Partial => ("/A:P", 275),
+            AvailabilityImpact::Complete => ("/A:C", 660),
         }
     }
 
@@ -176,6 +152,6 @@ impl fmt::Display for AvailabilityImpact {
     ghost styled_output = { λ metric _. Some (metric_component A metric) };
 
     fn fmt<W: fmt::Write>(&self, f: &mut fmt::Formatter<W>) -> fmt::Result {
-        write_component(self.slashed(), f)
+        write_component(self.row().0, f)
     }
 }

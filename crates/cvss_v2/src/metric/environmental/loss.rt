@@ -33,25 +33,14 @@ impl Metric for CollateralDamagePotential {
 
     ghost by_value = { Prim.search rules };
 
-    fn slashed(self) -> &'static str {
+    fn row(self) -> (&'static str, u64) {
         match self {
-            CollateralDamagePotential::None => "/CDP:N",
-            CollateralDamagePotential::Low => "/CDP:L",
-            CollateralDamagePotential::LowMedium => "/CDP:LM",
-            CollateralDamagePotential::MediumHigh => "/CDP:MH",
-            CollateralDamagePotential::High => "/CDP:H",
-            CollateralDamagePotential::NotDefined => "/CDP:ND",
-        }
-    }
-
-    fn thousandths(self) -> u64 {
-        match self {
-            CollateralDamagePotential::None => 0,
-            CollateralDamagePotential::Low => 100,
-            CollateralDamagePotential::LowMedium => 300,
-            CollateralDamagePotential::MediumHigh => 400,
-            CollateralDamagePotential::High => 500,
-            CollateralDamagePotential::NotDefined => 0,
+            CollateralDamagePotential::None => ("/CDP:N", 0),
+            CollateralDamagePotential::Low => ("/CDP:L", 100),
+            CollateralDamagePotential::LowMedium => ("/CDP:LM", 300),
+            CollateralDamagePotential::MediumHigh => ("/CDP:MH", 400),
+            CollateralDamagePotential::High => ("/CDP:H", 500),
+            CollateralDamagePotential::NotDefined => ("/CDP:ND", 0),
         }
     }
 
@@ -74,7 +63,7 @@ impl fmt::Display for CollateralDamagePotential {
     ghost styled_output = { λ metric _. Some (metric_component CDP metric) };
 
     fn fmt<W: fmt::Write>(&self, f: &mut fmt::Formatter<W>) -> fmt::Result {
-        write_component(self.slashed(), f)
+        write_component(self.row().0, f)
     }
 }
 
@@ -101,23 +90,13 @@ impl Metric for TargetDistribution {
 
     ghost by_value = { Prim.search rules };
 
-    fn slashed(self) -> &'static str {
+    fn row(self) -> (&'static str, u64) {
         match self {
-            TargetDistribution::None => "/TD:N",
-            TargetDistribution::Low => "/TD:L",
-            TargetDistribution::Medium => "/TD:M",
-            TargetDistribution::High => "/TD:H",
-            TargetDistribution::NotDefined => "/TD:ND",
-        }
-    }
-
-    fn thousandths(self) -> u64 {
-        match self {
-            TargetDistribution::None => 0,
-            TargetDistribution::Low => 250,
-            TargetDistribution::Medium => 750,
-            TargetDistribution::High => 1000,
-            TargetDistribution::NotDefined => 1000,
+            TargetDistribution::None => ("/TD:N", 0),
+            TargetDistribution::Low => ("/TD:L", 250),
+            TargetDistribution::Medium => ("/TD:M", 750),
+            TargetDistribution::High => ("/TD:H", 1000),
+            TargetDistribution::NotDefined => ("/TD:ND", 1000),
         }
     }
 
@@ -139,6 +118,6 @@ impl fmt::Display for TargetDistribution {
     ghost styled_output = { λ metric _. Some (metric_component TD metric) };
 
     fn fmt<W: fmt::Write>(&self, f: &mut fmt::Formatter<W>) -> fmt::Result {
-        write_component(self.slashed(), f)
+        write_component(self.row().0, f)
     }
 }

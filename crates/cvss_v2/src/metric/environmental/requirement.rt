@@ -31,21 +31,12 @@ impl Metric for ConfidentialityRequirement {
 
     ghost by_value = { Prim.search rules };
 
-    fn slashed(self) -> &'static str {
+    fn row(self) -> (&'static str, u64) {
         match self {
-            ConfidentialityRequirement::Low => "/CR:L",
-            ConfidentialityRequirement::Medium => "/CR:M",
-            ConfidentialityRequirement::High => "/CR:H",
-            ConfidentialityRequirement::NotDefined => "/CR:ND",
-        }
-    }
-
-    fn thousandths(self) -> u64 {
-        match self {
-            ConfidentialityRequirement::Low => 500,
-            ConfidentialityRequirement::Medium => 1000,
-            ConfidentialityRequirement::High => 1510,
-            ConfidentialityRequirement::NotDefined => 1000,
+            ConfidentialityRequirement::Low => ("/CR:L", 500),
+            ConfidentialityRequirement::Medium => ("/CR:M", 1000),
+            ConfidentialityRequirement::High => ("/CR:H", 1510),
+            ConfidentialityRequirement::NotDefined => ("/CR:ND", 1000),
         }
     }
 
@@ -66,7 +57,7 @@ impl fmt::Display for ConfidentialityRequirement {
     ghost styled_output = { λ metric _. Some (metric_component CR metric) };
 
     fn fmt<W: fmt::Write>(&self, f: &mut fmt::Formatter<W>) -> fmt::Result {
-        write_component(self.slashed(), f)
+        write_component(self.row().0, f)
     }
 }
 
@@ -92,21 +83,12 @@ impl Metric for IntegrityRequirement {
 
     ghost by_value = { Prim.search rules };
 
-    fn slashed(self) -> &'static str {
+    fn row(self) -> (&'static str, u64) {
         match self {
-            IntegrityRequirement::Low => "/IR:L",
-            IntegrityRequirement::Medium => "/IR:M",
-            IntegrityRequirement::High => "/IR:H",
-            IntegrityRequirement::NotDefined => "/IR:ND",
-        }
-    }
-
-    fn thousandths(self) -> u64 {
-        match self {
-            IntegrityRequirement::Low => 500,
-            IntegrityRequirement::Medium => 1000,
-            IntegrityRequirement::High => 1510,
-            IntegrityRequirement::NotDefined => 1000,
+            IntegrityRequirement::Low => ("/IR:L", 500),
+            IntegrityRequirement::Medium => ("/IR:M", 1000),
+            IntegrityRequirement::High => ("/IR:H", 1510),
+            IntegrityRequirement::NotDefined => ("/IR:ND", 1000),
         }
     }
 
@@ -127,7 +109,7 @@ impl fmt::Display for IntegrityRequirement {
     ghost styled_output = { λ metric _. Some (metric_component IR metric) };
 
     fn fmt<W: fmt::Write>(&self, f: &mut fmt::Formatter<W>) -> fmt::Result {
-        write_component(self.slashed(), f)
+        write_component(self.row().0, f)
     }
 }
 
@@ -153,21 +135,12 @@ impl Metric for AvailabilityRequirement {
 
     ghost by_value = { Prim.search rules };
 
-    fn slashed(self) -> &'static str {
+    fn row(self) -> (&'static str, u64) {
         match self {
-            AvailabilityRequirement::Low => "/AR:L",
-            AvailabilityRequirement::Medium => "/AR:M",
-            AvailabilityRequirement::High => "/AR:H",
-            AvailabilityRequirement::NotDefined => "/AR:ND",
-        }
-    }
-
-    fn thousandths(self) -> u64 {
-        match self {
-            AvailabilityRequirement::Low => 500,
-            AvailabilityRequirement::Medium => 1000,
-            AvailabilityRequirement::High => 1510,
-            AvailabilityRequirement::NotDefined => 1000,
+            AvailabilityRequirement::Low => ("/AR:L", 500),
+            AvailabilityRequirement::Medium => ("/AR:M", 1000),
+            AvailabilityRequirement::High => ("/AR:H", 1510),
+            AvailabilityRequirement::NotDefined => ("/AR:ND", 1000),
         }
     }
 
@@ -188,6 +161,6 @@ impl fmt::Display for AvailabilityRequirement {
     ghost styled_output = { λ metric _. Some (metric_component AR metric) };
 
     fn fmt<W: fmt::Write>(&self, f: &mut fmt::Formatter<W>) -> fmt::Result {
-        write_component(self.slashed(), f)
+        write_component(self.row().0, f)
     }
 }

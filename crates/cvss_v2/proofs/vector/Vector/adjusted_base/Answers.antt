@@ -8,6 +8,6 @@ use Rattle.cvss_v2.proofs.vector.Vector.adjusted_base.Goals as goal
 pub returns-clause-value : goal.returns-clause-value
 returns-clause-value c = record {
   number = c.base_of.result;
-  is_number = base_equal (weights_of c.args.self.now) (lit< tt) (lit< tt) c.required_impact.ensures.value c.base_of.ensures.value;
+  is_number = base_equal (weights_of c.args.self.now) (lit< tt) (lit< tt) c.adjusted_impact.ensures.value c.base_of.ensures.value;
   is_count = simp (to_z-of_z w128 c.base_of.result (search rules)) at c.of_tenths.ensures;
 }

@@ -6,4 +6,4 @@ use Rattle.cvss_v2.proofs.vector.Vector.base_of.Goals as goal
 pub returns-clause-value : goal.returns-clause-value
 returns-clause-value c =
     simp (to_z-of_z w128 c.base_score.result (record { sfits = c.base_score.type_inv }))
-    (c.base_score.ensures.value (weights_of c.args.self.now) c.own_exploitability.ensures.value)
+    (c.base_score.ensures.value (weights_of c.args.self.now) c.exploitability.ensures.value)

@@ -12,7 +12,7 @@ pub returns-clause-value : goal.returns-clause-value
 returns-clause-value c = λ temporal is_temporal.
     let w = weights_of c.args.self.now in
     let own = c.temporal_of-temporal in
-    let is_own = temporal_equal w (lit< tt) (lit< tt) c.required_impact.ensures.value own.ensures.value in
+    let is_own = temporal_equal w (lit< tt) (lit< tt) c.adjusted_impact.ensures.value own.ensures.value in
     let same = temporal_alone w (adjusted_impact w) (lit< tt) own.result temporal is_own is_temporal in
     equal_trans (lit< tt) (record { equal = omega (arith, ints) })
     (simp (same, c.weight-cdp.ensures.weight, c.weight.ensures.weight)

@@ -12,7 +12,7 @@ pub returns-clause-value : goal.returns-clause-value
 returns-clause-value c = λ base is_base.
     let w = weights_of c.args.self.now in
     let own = c.base_of-base in
-    let is_own = base_equal w (lit< tt) (lit< tt) c.own_impact.ensures.value own.ensures.value in
+    let is_own = base_equal w (lit< tt) (lit< tt) c.impact.ensures.value own.ensures.value in
     let same = base_alone w (impact w) (lit< tt) own.result base is_own is_base in
     equal_trans (lit< tt) (record { equal = omega (arith, ints) })
     (simp (same, c.weight-e.ensures.weight, c.weight-rl.ensures.weight, c.weight.ensures.weight)

@@ -8,6 +8,6 @@ use Rattle.cvss_v2.proofs.vector.Vector.temporal_score.Goals as goal
 pub returns-clause-value : goal.returns-clause-value
 returns-clause-value c = record {
   number = c.temporal_of.result;
-  is_number = temporal_equal (weights_of c.args.self.now) (lit< tt) (lit< tt) c.own_impact.ensures.value c.temporal_of.ensures.value;
+  is_number = temporal_equal (weights_of c.args.self.now) (lit< tt) (lit< tt) c.impact.ensures.value c.temporal_of.ensures.value;
   is_count = simp (to_z-of_z w128 c.temporal_of.result (search rules)) at c.published.ensures.value;
 }
