@@ -39,8 +39,7 @@ impl Components for Vector {
     }
 
     fn cut(piece: &[u8]) -> Option<(MetricType, &[u8])> {
-        let (kind, value) = cut_named(piece)?;
-        Some((kind, value))
+        cut_named(piece)
     }
 
     fn blamed(kind: MetricType) -> MetricType {
