@@ -6,16 +6,14 @@ use Rattle.cvss_name.specs.declared.v3.MetricType.{MetricType}
 use Rattle.cvss_v3_metric.specs.declared.environmental.modified.Modified.{Modified}
 use Rattle.cvss_v3_metric.specs.declared.environmental.modified.Modified.TheVariants.{NotDefined, Modified as Set}
 use Rattle.cvss_v3_metric.specs.Modified.{modified_rank}
-use Rattle.cvss_v3_metric.specs.Table.{Value, spelling_of, weight_of, rank_of, blamed}
+use Rattle.cvss_v3_metric.specs.Table.{Value, spelling_of, weight_of, rank_of}
 
 -- the enum has the values of the metric in the table
-pub record IsMetric {A : Type 0} (kind named : MetricType) (value : A → Value kind) (compared : A → A → Ordering) : Type 0 where
+pub record IsMetric {A : Type 0} (kind : MetricType) (value : A → Value kind) (compared : A → A → Ordering) : Type 0 where
   -- each value of the table is a value of the enum
   pub covers : (x : Value kind) → (metric : A) × value metric ≡ x
   -- two values compare as their places in the table do
   pub ordered : (x y : A) → compared x y ≡ nat_cmp (rank_of kind (value x)) (rank_of kind (value y))
-  -- a refusal names the base metric
-  pub fault : named ≡ blamed kind
 
 -- the enum has the values of a base metric, which the modified metric can replace
 pub record IsBaseMetric {A : Type 0} (kind modified_kind : MetricType) (value : A → Value kind) (modified : Modified A → Value modified_kind) : Type 0 where
@@ -28,4 +26,3 @@ pub record IsBaseMetric {A : Type 0} (kind modified_kind : MetricType) (value : 
   pub weightless : (x : Modified A) → weight_of modified_kind (modified x) ≡ Some 0
   pub covers : (x : Value modified_kind) → (metric : Modified A) × modified metric ≡ x
   pub rank : (x : Modified A) → rank_of modified_kind (modified x) ≡ modified_rank (λ y. rank_of kind (value y)) x
-  pub blamed : kind ≡ blamed modified_kind

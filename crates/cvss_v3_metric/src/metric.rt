@@ -8,7 +8,7 @@ ghost use Rattle.cvss_grammar.specs.Equality.{EqualsByValue, ClonesByValue, Clon
 ghost use Rattle.cvss_number.specs.Exact.{IsWithinLimit};
 ghost use Rattle.cvss_name.specs.declared.v3.MetricType.{MetricType};
 ghost use Rattle.cvss_grammar.specs.Text.{slash, raised};
-ghost use Rattle.cvss_v3_metric.specs.Table.{Value, spelling_of, weight_of, metric_component};
+ghost use Rattle.cvss_v3_metric.specs.Table.{Value, spelling_of, weight_of, metric_component, blamed};
 ghost use Rattle.cvss_v3_metric.specs.Metrics.{IsMetric};
 
 use cvss_name::Error;
@@ -25,11 +25,6 @@ pub trait Metric: Copy + Clone + fmt::Debug + fmt::Display + Eq + Ord + 'static 
     const TYPE: MetricType;
 
     ghost TYPE: { MetricType };
-
-    /// The metric that a refused value is reported under.
-    const FAULT_TYPE: MetricType;
-
-    ghost FAULT_TYPE: { MetricType };
 
     ghost value: { Self → Value TYPE };
 
@@ -114,14 +109,14 @@ pub trait Metric: Copy + Clone + fmt::Debug + fmt::Display + Eq + Ord + 'static 
         ensures spelled { IfOk result (λ metric. spelling_of TYPE (value metric) ≡ text.now) }
         ensures read { (metric : Self) → spelling_of TYPE (value metric) ≡ text.now
             → result ≡ Ok metric }
-        ensures refused { IfErr result (Tells v3_reason (BadValue FAULT_TYPE text.now)) }
+        ensures refused { IfErr result (Tells v3_reason (BadValue (blamed TYPE) text.now)) }
     {
         match Self::read(text) {
             Some(metric) => Ok(metric),
             None => {
                 let value = String::from_str(alloc, text)?;
                 Err(Error::InvalidMetricV3 {
-                    metric_type: Self::FAULT_TYPE,
+                    metric_type: blamed(Self::TYPE),
                     value,
                 })
             }
@@ -151,10 +146,27 @@ pub trait Metric: Copy + Clone + fmt::Debug + fmt::Display + Eq + Ord + 'static 
         Self::TYPE.name()
     }
 
-    ghost law: { IsMetric TYPE FAULT_TYPE value ⟦<Self as Ord>⟧.cmp };
+    ghost law: { IsMetric TYPE value ⟦<Self as Ord>⟧.cmp };
 
     // Two are equal exactly if they are one value, and a clone is that value and never refused.
     ghost by_value: { EqualsByValue ⟦<Self as PartialEq>⟧.eq
         × ClonesByValue ⟦<Self as Clone>⟧.is_clone
         × ClonesAlways ⟦<Self as Clone>⟧.is_infallible };
+}
+
+/// The metric that a refused value is reported under: of a modified metric its base metric.
+pub fn blamed(kind: MetricType) -> MetricType
+    ensures { result ≡ blamed kind }
+{
+    match kind {
+        MetricType::MAV => MetricType::AV,
+        MetricType::MAC => MetricType::AC,
+        MetricType::MPR => MetricType::PR,
+        MetricType::MUI => MetricType::UI,
+        MetricType::MS => MetricType::S,
+        MetricType::MC => MetricType::C,
+        MetricType::MI => MetricType::I,
+        MetricType::MA => MetricType::A,
+        kind => kind,
+    }
 }

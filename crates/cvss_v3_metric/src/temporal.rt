@@ -22,15 +22,11 @@ pub enum ExploitCodeMaturity {
 impl Metric for ExploitCodeMaturity {
     const TYPE: MetricType = MetricType::E;
 
-    const FAULT_TYPE: MetricType = MetricType::E;
-
     ghost TYPE = { E };
-
-    ghost FAULT_TYPE = { E };
 
     ghost value = { λ metric. metric };
 
-    ghost law = { record { covers = λ x. (x, refl); ordered = Prim.search rules; fault = refl } };
+    ghost law = { record { covers = λ x. (x, refl); ordered = Prim.search rules } };
 
     ghost by_value = { Prim.search rules };
 
@@ -80,15 +76,11 @@ pub enum RemediationLevel {
 impl Metric for RemediationLevel {
     const TYPE: MetricType = MetricType::RL;
 
-    const FAULT_TYPE: MetricType = MetricType::RL;
-
     ghost TYPE = { RL };
-
-    ghost FAULT_TYPE = { RL };
 
     ghost value = { λ metric. metric };
 
-    ghost law = { record { covers = λ x. (x, refl); ordered = Prim.search rules; fault = refl } };
+    ghost law = { record { covers = λ x. (x, refl); ordered = Prim.search rules } };
 
     ghost by_value = { Prim.search rules };
 
@@ -137,15 +129,11 @@ pub enum ReportConfidence {
 impl Metric for ReportConfidence {
     const TYPE: MetricType = MetricType::RC;
 
-    const FAULT_TYPE: MetricType = MetricType::RC;
-
     ghost TYPE = { RC };
-
-    ghost FAULT_TYPE = { RC };
 
     ghost value = { λ metric. metric };
 
-    ghost law = { record { covers = λ x. (x, refl); ordered = Prim.search rules; fault = refl } };
+    ghost law = { record { covers = λ x. (x, refl); ordered = Prim.search rules } };
 
     ghost by_value = { Prim.search rules };
 

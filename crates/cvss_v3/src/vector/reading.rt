@@ -1,15 +1,14 @@
 //! How a vector is filled from its components.
 
-ghost use Rattle.std.specs.Prelude.{◌≡◌, ◌∷◌, ◌++◌, IfSome, length, take};
-ghost use Rattle.cvss_grammar.specs.Text.{colon, raised};
-ghost use Rattle.cvss_name.specs.V3Types.{name_of};
+ghost use Rattle.std.specs.Prelude.{◌≡◌};
+ghost use Rattle.cvss_grammar.specs.Text.{raised};
 ghost use Rattle.cvss_text.specs.private.Walk.{HasNoValue, IsFilled};
 ghost use Rattle.cvss_v3_metric.specs.Table.{spelling_of};
 ghost use Rattle.cvss_v3.specs.Vector.{v3};
 ghost use Rattle.cvss_v3.specs.private.VectorLaws.{v3_is_lawful, v3_fronts_are_lawful};
 
 use super::cutting::cut_named;
-use crate::metric::{Metric, MetricType};
+use crate::metric::{Metric, MetricType, blamed};
 use crate::vector::Vector;
 use MetricType::*;
 use cvss_text::front::Fronted;
@@ -40,22 +39,11 @@ impl Components for Vector {
     }
 
     fn cut(piece: &[u8]) -> Option<(MetricType, &[u8])> {
-        let (kind, value) = cut_named(piece)?;
-        Some((kind, value))
+        cut_named(piece)
     }
 
     fn blamed(kind: MetricType) -> MetricType {
-        match kind {
-            MetricType::MAV => MetricType::AV,
-            MetricType::MAC => MetricType::AC,
-            MetricType::MPR => MetricType::PR,
-            MetricType::MUI => MetricType::UI,
-            MetricType::MS => MetricType::S,
-            MetricType::MC => MetricType::C,
-            MetricType::MI => MetricType::I,
-            MetricType::MA => MetricType::A,
-            kind => kind,
-        }
+        blamed(kind)
     }
 
     fn put(&mut self, kind: MetricType, value: &[u8]) -> Result<(), Slip> {

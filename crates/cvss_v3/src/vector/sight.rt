@@ -95,29 +95,42 @@ fn component_at_sight<M: Metric>(text: &[u8]) -> Option<(M, &[u8])>
 fn behind_name(kind: MetricType, text: &[u8]) -> Option<&[u8]>
     ensures { IfSome result (λ value. text.now ≡ slash ∷ (name_of kind ++ (colon ∷ value.now))) }
 {
-    match (kind, text) {
-        (MetricType::AV, _) => behind_four(text, *b"/AV:"),
-        (MetricType::AC, _) => behind_four(text, *b"/AC:"),
-        (MetricType::PR, _) => behind_four(text, *b"/PR:"),
-        (MetricType::UI, _) => behind_four(text, *b"/UI:"),
-        (MetricType::S, [b'/', b'S', b':', value @ ..]) => Some(value),
-        (MetricType::C, [b'/', b'C', b':', value @ ..]) => Some(value),
-        (MetricType::I, [b'/', b'I', b':', value @ ..]) => Some(value),
-        (MetricType::A, [b'/', b'A', b':', value @ ..]) => Some(value),
-        (MetricType::E, [b'/', b'E', b':', value @ ..]) => Some(value),
-        (MetricType::RL, _) => behind_four(text, *b"/RL:"),
-        (MetricType::RC, _) => behind_four(text, *b"/RC:"),
-        (MetricType::CR, _) => behind_four(text, *b"/CR:"),
-        (MetricType::IR, _) => behind_four(text, *b"/IR:"),
-        (MetricType::AR, _) => behind_four(text, *b"/AR:"),
-        (MetricType::MAV, _) => behind_five(text, *b"/MAV:"),
-        (MetricType::MAC, _) => behind_five(text, *b"/MAC:"),
-        (MetricType::MPR, _) => behind_five(text, *b"/MPR:"),
-        (MetricType::MUI, _) => behind_five(text, *b"/MUI:"),
-        (MetricType::MS, _) => behind_four(text, *b"/MS:"),
-        (MetricType::MC, _) => behind_four(text, *b"/MC:"),
-        (MetricType::MI, _) => behind_four(text, *b"/MI:"),
-        (MetricType::MA, _) => behind_four(text, *b"/MA:"),
+    match kind {
+        MetricType::AV => behind_four(text, *b"/AV:"),
+        MetricType::AC => behind_four(text, *b"/AC:"),
+        MetricType::PR => behind_four(text, *b"/PR:"),
+        MetricType::UI => behind_four(text, *b"/UI:"),
+        MetricType::S => behind_three(text, *b"/S:"),
+        MetricType::C => behind_three(text, *b"/C:"),
+        MetricType::I => behind_three(text, *b"/I:"),
+        MetricType::A => behind_three(text, *b"/A:"),
+        MetricType::E => behind_three(text, *b"/E:"),
+        MetricType::RL => behind_four(text, *b"/RL:"),
+        MetricType::RC => behind_four(text, *b"/RC:"),
+        MetricType::CR => behind_four(text, *b"/CR:"),
+        MetricType::IR => behind_four(text, *b"/IR:"),
+        MetricType::AR => behind_four(text, *b"/AR:"),
+        MetricType::MAV => behind_five(text, *b"/MAV:"),
+        MetricType::MAC => behind_five(text, *b"/MAC:"),
+        MetricType::MPR => behind_five(text, *b"/MPR:"),
+        MetricType::MUI => behind_five(text, *b"/MUI:"),
+        MetricType::MS => behind_four(text, *b"/MS:"),
+        MetricType::MC => behind_four(text, *b"/MC:"),
+        MetricType::MI => behind_four(text, *b"/MI:"),
+        MetricType::MA => behind_four(text, *b"/MA:"),
+    }
+}
+
+/// What stands behind three bytes with which a text begins.
+#[inline(always)]
+fn behind_three(text: &[u8], three: [u8; 3]) -> Option<&[u8]>
+    ensures { IfSome result (λ rest. text.now ≡ three ++ rest.now) }
+{
+    let [a, b, c] = three;
+    match text {
+        [first, second, third, rest @ ..] if *first == a && *second == b && *third == c => Some(
+            rest,
+        ),
         _ => None,
     }
 }

@@ -23,15 +23,11 @@ pub enum AttackVector {
 impl Metric for AttackVector {
     const TYPE: MetricType = MetricType::AV;
 
-    const FAULT_TYPE: MetricType = MetricType::AV;
-
     ghost TYPE = { AV };
-
-    ghost FAULT_TYPE = { AV };
 
     ghost value = { λ metric. metric };
 
-    ghost law = { record { covers = λ x. (x, refl); ordered = Prim.search rules; fault = refl } };
+    ghost law = { record { covers = λ x. (x, refl); ordered = Prim.search rules } };
 
     ghost by_value = { Prim.search rules };
 
@@ -107,15 +103,11 @@ impl Default for AttackComplexity {
 impl Metric for AttackComplexity {
     const TYPE: MetricType = MetricType::AC;
 
-    const FAULT_TYPE: MetricType = MetricType::AC;
-
     ghost TYPE = { AC };
-
-    ghost FAULT_TYPE = { AC };
 
     ghost value = { λ metric. metric };
 
-    ghost law = { record { covers = λ x. (x, refl); ordered = Prim.search rules; fault = refl } };
+    ghost law = { record { covers = λ x. (x, refl); ordered = Prim.search rules } };
 
     ghost by_value = { Prim.search rules };
 

@@ -22,15 +22,11 @@ pub enum Confidentiality {
 impl Metric for Confidentiality {
     const TYPE: MetricType = MetricType::C;
 
-    const FAULT_TYPE: MetricType = MetricType::C;
-
     ghost TYPE = { C };
-
-    ghost FAULT_TYPE = { C };
 
     ghost value = { λ metric. metric };
 
-    ghost law = { record { covers = λ x. (x, refl); ordered = Prim.search rules; fault = refl } };
+    ghost law = { record { covers = λ x. (x, refl); ordered = Prim.search rules } };
 
     ghost by_value = { Prim.search rules };
 
@@ -95,15 +91,11 @@ pub enum Integrity {
 impl Metric for Integrity {
     const TYPE: MetricType = MetricType::I;
 
-    const FAULT_TYPE: MetricType = MetricType::I;
-
     ghost TYPE = { I };
-
-    ghost FAULT_TYPE = { I };
 
     ghost value = { λ metric. metric };
 
-    ghost law = { record { covers = λ x. (x, refl); ordered = Prim.search rules; fault = refl } };
+    ghost law = { record { covers = λ x. (x, refl); ordered = Prim.search rules } };
 
     ghost by_value = { Prim.search rules };
 
@@ -168,15 +160,11 @@ pub enum Availability {
 impl Metric for Availability {
     const TYPE: MetricType = MetricType::A;
 
-    const FAULT_TYPE: MetricType = MetricType::A;
-
     ghost TYPE = { A };
-
-    ghost FAULT_TYPE = { A };
 
     ghost value = { λ metric. metric };
 
-    ghost law = { record { covers = λ x. (x, refl); ordered = Prim.search rules; fault = refl } };
+    ghost law = { record { covers = λ x. (x, refl); ordered = Prim.search rules } };
 
     ghost by_value = { Prim.search rules };
 

@@ -21,15 +21,11 @@ pub enum UserInteraction {
 impl Metric for UserInteraction {
     const TYPE: MetricType = MetricType::UI;
 
-    const FAULT_TYPE: MetricType = MetricType::UI;
-
     ghost TYPE = { UI };
-
-    ghost FAULT_TYPE = { UI };
 
     ghost value = { λ metric. metric };
 
-    ghost law = { record { covers = λ x. (x, refl); ordered = Prim.search rules; fault = refl } };
+    ghost law = { record { covers = λ x. (x, refl); ordered = Prim.search rules } };
 
     ghost by_value = { Prim.search rules };
 

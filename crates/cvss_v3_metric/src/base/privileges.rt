@@ -24,15 +24,11 @@ pub enum PrivilegesRequired {
 impl Metric for PrivilegesRequired {
     const TYPE: MetricType = MetricType::PR;
 
-    const FAULT_TYPE: MetricType = MetricType::PR;
-
     ghost TYPE = { PR };
-
-    ghost FAULT_TYPE = { PR };
 
     ghost value = { λ metric. metric };
 
-    ghost law = { record { covers = λ x. (x, refl); ordered = Prim.search rules; fault = refl } };
+    ghost law = { record { covers = λ x. (x, refl); ordered = Prim.search rules } };
 
     ghost by_value = { Prim.search rules };
 

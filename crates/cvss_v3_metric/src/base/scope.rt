@@ -20,15 +20,11 @@ pub enum Scope {
 impl Metric for Scope {
     const TYPE: MetricType = MetricType::S;
 
-    const FAULT_TYPE: MetricType = MetricType::S;
-
     ghost TYPE = { S };
-
-    ghost FAULT_TYPE = { S };
 
     ghost value = { λ metric. metric };
 
-    ghost law = { record { covers = λ x. (x, refl); ordered = Prim.search rules; fault = refl } };
+    ghost law = { record { covers = λ x. (x, refl); ordered = Prim.search rules } };
 
     ghost by_value = { Prim.search rules };
 

@@ -46,16 +46,11 @@ impl<T: BaseMetric> Metric for Modified<T> {
 
     ghost TYPE = { T.MODIFIED_TYPE };
 
-    const FAULT_TYPE: MetricType = T::TYPE;
-
-    ghost FAULT_TYPE = { T.TYPE };
-
     ghost value = { T.modified };
 
     ghost law = { record {
       covers = T.base_law.covers;
       ordered = modified_order _ T.law T.base_law refl (λ y. refl) (λ x. refl) (λ x y. refl);
-      fault = T.base_law.blamed;
     } };
 
     ghost by_value = { (

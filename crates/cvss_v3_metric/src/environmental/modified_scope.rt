@@ -22,13 +22,9 @@ impl Metric for ModifiedScope {
 
     ghost TYPE = { MS };
 
-    const FAULT_TYPE: MetricType = MetricType::S;
-
-    ghost FAULT_TYPE = { S };
-
     ghost value = { λ metric. metric };
 
-    ghost law = { record { covers = λ x. (x, refl); ordered = Prim.search rules; fault = refl } };
+    ghost law = { record { covers = λ x. (x, refl); ordered = Prim.search rules } };
 
     ghost by_value = { Prim.search rules };
 

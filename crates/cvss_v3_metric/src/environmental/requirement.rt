@@ -21,15 +21,11 @@ pub enum ConfidentialityRequirement {
 impl Metric for ConfidentialityRequirement {
     const TYPE: MetricType = MetricType::CR;
 
-    const FAULT_TYPE: MetricType = MetricType::CR;
-
     ghost TYPE = { CR };
-
-    ghost FAULT_TYPE = { CR };
 
     ghost value = { λ metric. metric };
 
-    ghost law = { record { covers = λ x. (x, refl); ordered = Prim.search rules; fault = refl } };
+    ghost law = { record { covers = λ x. (x, refl); ordered = Prim.search rules } };
 
     ghost by_value = { Prim.search rules };
 
@@ -76,15 +72,11 @@ pub enum IntegrityRequirement {
 impl Metric for IntegrityRequirement {
     const TYPE: MetricType = MetricType::IR;
 
-    const FAULT_TYPE: MetricType = MetricType::IR;
-
     ghost TYPE = { IR };
-
-    ghost FAULT_TYPE = { IR };
 
     ghost value = { λ metric. metric };
 
-    ghost law = { record { covers = λ x. (x, refl); ordered = Prim.search rules; fault = refl } };
+    ghost law = { record { covers = λ x. (x, refl); ordered = Prim.search rules } };
 
     ghost by_value = { Prim.search rules };
 
@@ -131,15 +123,11 @@ pub enum AvailabilityRequirement {
 impl Metric for AvailabilityRequirement {
     const TYPE: MetricType = MetricType::AR;
 
-    const FAULT_TYPE: MetricType = MetricType::AR;
-
     ghost TYPE = { AR };
-
-    ghost FAULT_TYPE = { AR };
 
     ghost value = { λ metric. metric };
 
-    ghost law = { record { covers = λ x. (x, refl); ordered = Prim.search rules; fault = refl } };
+    ghost law = { record { covers = λ x. (x, refl); ordered = Prim.search rules } };
 
     ghost by_value = { Prim.search rules };
 

@@ -1,5 +1,5 @@
 -- A number that may stand for an exact one: v3.1 specification, Appendix A, on numbers that are computed in floating
--- point. The contracts of private functions alone cite these.
+-- point. The contracts of calls that `cvss` has no path to cite these.
 use Rattle.std.specs.Prelude.{◌≡◌, ℕ, ℤ, Bool, false}
 use Rattle.cvss_number.specs.Exact.{Exact, ◌≈◌}
 use Rattle.cvss_v3_score.specs.Closeness.{IsCloseTo}

@@ -1,6 +1,6 @@
 -- The values that the equations' parts take over the weights of the tables (v3.0 specification, 8.4; v3.1
 -- specification, 7.4), absent base metrics included. ISS takes 10 values, which are among the 68 of MISS. The
--- contracts of private functions alone cite these.
+-- contracts of calls that `cvss` has no path to cite these.
 use Rattle.std.specs.Prelude.{ℕ, ◌≤◌, Bool, true, false, List, [], ◌∷◌}
 use Rattle.std.specs.List.{Contains}
 

@@ -1,5 +1,5 @@
 -- What the code computes in whole numbers of small units, of weights in hundredths: v3.1 specification, 7.1 to 7.3. The
--- contracts of private functions alone cite these.
+-- contracts of calls that `cvss` has no path to cite these.
 use Rattle.std.specs.Prelude.{ℕ, ◌+◌, ◌-◌, ◌*◌, ◌/◌, ◌^◌, min, Bool, true, false}
 use Rattle.cvss_v3_score.specs.declared.rules.Rules.{Rules}
 use Rattle.cvss_v3_score.specs.declared.rules.Rules.TheVariants.{V30, V31}

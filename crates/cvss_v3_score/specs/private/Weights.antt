@@ -1,5 +1,5 @@
 -- The weights that the metrics of a vector can have, in hundredths: v3.0 specification, 8.4; v3.1 specification, 7.4. The
--- contracts of private functions alone cite these.
+-- contracts of calls that `cvss` has no path to cite these.
 use Rattle.std.specs.Prelude.{◌≡◌, ℕ, nat_le, Bool, true, false, List, ◌∷◌, map, unwrap_or}
 use Rattle.std.specs.List.{list_all, Contains}
 use Rattle.cvss_name.specs.declared.v3.MetricType.{MetricType}
