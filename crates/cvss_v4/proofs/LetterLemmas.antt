@@ -20,7 +20,7 @@ is_plain (letter ∷ next ∷ more) = true
 
 all_plain : (kind : MetricType) → list_all is_plain (spellings_of kind) ≡ true
 all_plain AC = refl
-all_plain _ = search rules
+all_plain _ = refl
 
 plain_letter : (text : List ℕ) (letter : ℕ) → is_plain text ≡ true → raised text ≡ letter ∷ [] → text ≡ letter ∷ []
 plain_letter [] letter plain same = absurd cc

@@ -3,4 +3,5 @@ mod LetterLemmas
 mod MergingFacts
 mod MergingLemmas
 mod OverridingLemmas
+mod SightLemmas
 mod TextLemmas

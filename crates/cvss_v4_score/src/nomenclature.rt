@@ -1,6 +1,6 @@
 //! Which groups of metrics a score rests on (v4.0 specification, section 1.3).
 
-ghost use Rattle.std.specs.Prelude.{◌≡◌, IfOk, IfErr, IfSome, Some, is_some};
+ghost use Rattle.std.specs.Prelude.{◌≡◌, IfOk, IfErr, Ok, Some, is_some};
 ghost use Rattle.cvss_v4_score.specs.Nomenclature.{text_of, nomenclature_with, TellsNoNomenclature};
 
 use cvss_name::Error;
@@ -41,25 +41,14 @@ impl Nomenclature {
             → result ≡ Ok nomenclature }
         ensures refused { IfErr result (TellsNoNomenclature text.now) }
     {
-        match Nomenclature::read(text) {
-            Some(nomenclature) => Ok(nomenclature),
-            None => Err(Error::InvalidNomenclatureV4 {
+        match text {
+            "CVSS-B" => Ok(Nomenclature::CvssB),
+            "CVSS-BE" => Ok(Nomenclature::CvssBE),
+            "CVSS-BT" => Ok(Nomenclature::CvssBT),
+            "CVSS-BTE" => Ok(Nomenclature::CvssBTE),
+            _ => Err(Error::InvalidNomenclatureV4 {
                 nomenclature: String::from_str(alloc, text)?,
             }),
-        }
-    }
-
-    fn read(text: &str) -> Option<Nomenclature>
-        ensures named { IfSome result (λ nomenclature. text_of nomenclature ≡ text.now) }
-        ensures read { (nomenclature : Nomenclature) → text_of nomenclature ≡ text.now
-            → result ≡ Some nomenclature }
-    {
-        match text {
-            "CVSS-B" => Some(Nomenclature::CvssB),
-            "CVSS-BE" => Some(Nomenclature::CvssBE),
-            "CVSS-BT" => Some(Nomenclature::CvssBT),
-            "CVSS-BTE" => Some(Nomenclature::CvssBTE),
-            _ => None,
         }
     }
 }

@@ -86,20 +86,6 @@ fn write_value<M: Metric, W: fmt::Write>(value: Option<M>, f: &mut fmt::Formatte
     write_slashed(slashed_value(value), f)
 }
 
-/// Writes a slash and the component of each of two values that is there.
-#[inline(always)]
-fn write_two<L: Metric, M: Metric, W: fmt::Write>(
-    first: Option<L>,
-    second: Option<M>,
-    f: &mut fmt::Formatter<W>,
-) -> fmt::Result
-    ensures { WritesOnOk W.write_str_gives f.old result
-        (shown L.TYPE L.rank first ++ shown M.TYPE M.rank second) f.new }
-{
-    write_value(first, f)?;
-    write_value(second, f)
-}
-
 /// Writes a slash and the component of each of three values that is there.
 #[inline(always)]
 fn write_three<K: Metric, L: Metric, M: Metric, W: fmt::Write>(
@@ -137,7 +123,8 @@ impl Vector {
             (AV ∷ AC ∷ AT ∷ PR ∷ UI ∷ VC ∷ VI ∷ VA ∷ SC ∷ SI ∷ SA ∷ [])) f.new }
     {
         write_three(self.av, self.ac, self.at, f)?;
-        write_two(self.pr, self.ui, f)?;
+        write_value(self.pr, f)?;
+        write_value(self.ui, f)?;
         write_three(self.vc, self.vi, self.va, f)?;
         write_three(self.sc, self.si, self.sa, f)
     }
@@ -158,7 +145,8 @@ impl Vector {
             (MAV ∷ MAC ∷ MAT ∷ MPR ∷ MUI ∷ MVC ∷ MVI ∷ MVA ∷ MSC ∷ MSI ∷ MSA ∷ [])) f.new }
     {
         write_three(self.mav, self.mac, self.mat, f)?;
-        write_two(self.mpr, self.mui, f)?;
+        write_value(self.mpr, f)?;
+        write_value(self.mui, f)?;
         write_three(self.mvc, self.mvi, self.mva, f)?;
         write_three(self.msc, self.msi, self.msa, f)
     }

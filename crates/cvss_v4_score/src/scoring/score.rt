@@ -87,10 +87,16 @@ fn sixty_by(counted: u32) -> u32
 pub(super) fn has_impact(effective: &Effective) -> bool
     ensures { result ≡ has_impact effective.now }
 {
-    !matches!(effective.vc, VulnerableImpact::None)
-        || !matches!(effective.vi, VulnerableImpact::None)
-        || !matches!(effective.va, VulnerableImpact::None)
-        || !matches!(effective.sc, SubsequentImpact::None)
-        || !matches!(effective.si, SafetyImpact::None)
-        || !matches!(effective.sa, SafetyImpact::None)
+    !matches!(
+        effective,
+        Effective {
+            vc: VulnerableImpact::None,
+            vi: VulnerableImpact::None,
+            va: VulnerableImpact::None,
+            sc: SubsequentImpact::None,
+            si: SafetyImpact::None,
+            sa: SafetyImpact::None,
+            ..
+        }
+    )
 }

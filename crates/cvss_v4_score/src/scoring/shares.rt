@@ -28,23 +28,6 @@ pub struct Share {
     pub counted: u32,
 }
 
-impl Share {
-    /// The share of a group with a next lower class.
-    #[inline(always)]
-    fn of(value: u8, lower: u8, distance: u8, part: u32) -> Self
-        requires value { value ≤ 100 }
-        requires part { IsPart value lower distance part }
-        ensures taken { result.taken ≡ (value - lower) * distance * part }
-        ensures counted { result.counted ≡ 1 }
-        ensures bound { result.taken ≤ 840 * (value - 1) }
-    {
-        Share {
-            taken: (value - lower) as u32 * (distance as u32 * part),
-            counted: 1,
-        }
-    }
-}
-
 impl Terms {
     /// What the group takes from a value.
     #[inline(always)]
@@ -59,7 +42,10 @@ impl Terms {
         ensures bound { result.taken ≤ 840 * (value - 1) * result.counted }
     {
         match self.next {
-            Some(next) => Share::of(value, next.value, self.distance, self.part),
+            Some(next) => Share {
+                taken: (value - next.value) as u32 * (self.distance as u32 * self.part),
+                counted: 1,
+            },
             None => Share {
                 taken: 0,
                 counted: 0,

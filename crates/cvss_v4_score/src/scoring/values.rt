@@ -1,9 +1,7 @@
 //! The values of the classes (v4.0 specification, section 8.2).
 
-ghost use Rattle.std.specs.Prelude.{◌≡◌, ◌<◌, slice_index};
 ghost use Rattle.cvss_v4_score.specs.laws.ScoreLaws.{IsListed};
 ghost use Rattle.cvss_v4_score.specs.Values.{listed_value};
-ghost use Rattle.cvss_v4_score.specs.declared.scoring.values.TheConstants.{VALUES};
 
 use crate::scoring::placed::PlacedClass;
 
@@ -43,19 +41,10 @@ pub(crate) const VALUES: [u8; 270] = [
     53, 24, 14, 24, 12, 5, 10, 3, 1,
 ];
 
-/// The value at the place of a class, in tenths.
-#[inline(always)]
-pub fn value_at(place: usize) -> u8
-    requires { place < 270 }
-    ensures { result ≡ slice_index VALUES place }
-{
-    VALUES[place]
-}
-
-/// The value of a class.
+/// The value of a class, in tenths.
 #[inline(always)]
 pub fn value_of(placed: &PlacedClass) -> u8
     ensures { IsListed (listed_value placed.now.class) result }
 {
-    value_at(placed.place)
+    VALUES[placed.place]
 }
