@@ -1,6 +1,7 @@
 //! How a canonical text is recognised, as far as the versions share it.
 
-ghost use Rattle.std.specs.Prelude.{◌≡◌, IsTrue, IfSome, IfNone, Some, None, ◌++◌};
+ghost use Rattle.std.specs.Prelude.{◌≡◌, ◌∷◌, ◌++◌, IsTrue, IfSome, IfNone, Some, None};
+ghost use Rattle.cvss_grammar.specs.Text.{slash, colon};
 
 /// Puts the value that was read of a text into its place, and gives what stands behind it; if none
 /// was read, no value, and the text.
@@ -22,6 +23,34 @@ pub fn put_read<'a, M: Copy>(
             *place = None;
             text
         }
+    }
+}
+
+/// What stands behind a slash, a metric's name of one to three letters, and a colon.
+#[inline(always)]
+pub fn behind_name<'a>(name: &str, text: &'a [u8]) -> Option<&'a [u8]>
+    ensures { IfSome result
+        (λ value. text.now ≡ slash ∷ (name.now ++ (colon ∷ value.now))) }
+{
+    match name.as_bytes() {
+        [only] => behind_three(text, [b'/', *only, b':']),
+        [first, second] => behind_four(text, [b'/', *first, *second, b':']),
+        [first, second, third] => behind_five(text, [b'/', *first, *second, *third, b':']),
+        _ => None,
+    }
+}
+
+/// What stands behind three bytes with which a text begins.
+#[inline(always)]
+pub fn behind_three(text: &[u8], three: [u8; 3]) -> Option<&[u8]>
+    ensures { IfSome result (λ rest. text.now ≡ three ++ rest.now) }
+{
+    let [a, b, c] = three;
+    match text {
+        [first, second, third, rest @ ..] if *first == a && *second == b && *third == c => Some(
+            rest,
+        ),
+        _ => None,
     }
 }
 

@@ -18,7 +18,7 @@ mod base;
 use crate::metric::{Metric, MetricType};
 use crate::vector::Vector;
 use base::base_at_sight;
-use cvss_text::sight::{behind_five, behind_four, put_read};
+use cvss_text::sight::{behind_name, put_read};
 
 impl Vector {
     /// The vector whose canonical text this is, where that is seen at once: `None` tells nothing of
@@ -126,7 +126,7 @@ fn component_at_sight<M: Metric>(text: &[u8]) -> Option<(M, &[u8])>
     ensures { IfSome result
         (λ read. text.now ≡ slash ∷ (metric_component M.TYPE (M.value read.0) ++ read.1.now)) }
 {
-    value_at_sight(behind_name(M::TYPE, text)?)
+    value_at_sight(behind_name(M::TYPE.name(), text)?)
 }
 
 /// The value of a metric, where a text begins with its spelling up to a slash, and what stands
@@ -143,20 +143,4 @@ fn value_at_sight<M: Metric>(text: &[u8]) -> Option<(M, &[u8])>
         [] => return None,
     };
     Some((M::read_bytes(value)?, rest))
-}
-
-/// What stands behind a slash, the name of a metric and the colon after it.
-#[inline(always)]
-fn behind_name(kind: MetricType, text: &[u8]) -> Option<&[u8]>
-    ensures { IfSome result (λ value. text.now ≡ slash ∷ (name_of kind ++ (colon ∷ value.now))) }
-{
-    match kind.name().as_bytes() {
-        [only] => match text {
-            [b'/', letter, b':', value @ ..] if *letter == *only => Some(value),
-            _ => None,
-        },
-        [first, second] => behind_four(text, [b'/', *first, *second, b':']),
-        [first, second, third] => behind_five(text, [b'/', *first, *second, *third, b':']),
-        _ => None,
-    }
 }

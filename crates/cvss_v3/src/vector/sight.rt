@@ -16,7 +16,7 @@ mod optional;
 use crate::metric::{Metric, MetricType};
 use crate::vector::Vector;
 use base::base_at_sight;
-use cvss_text::sight::{behind_five, behind_four, put_read};
+use cvss_text::sight::{behind_four, behind_name, put_read};
 use optional::others_at_sight;
 
 impl Vector {
@@ -84,53 +84,8 @@ fn component_at_sight<M: Metric>(text: &[u8]) -> Option<(M, &[u8])>
     ensures { IfSome result
         (λ read. text.now ≡ slash ∷ (metric_component M.TYPE (M.value read.0) ++ read.1.now)) }
 {
-    match behind_name(M::TYPE, text)? {
+    match behind_name(M::TYPE.name(), text)? {
         [letter, rest @ ..] => Some((M::read_letter(*letter)?, rest)),
         [] => None,
-    }
-}
-
-/// What stands behind a slash, a metric's name and a colon.
-#[inline(always)]
-fn behind_name(kind: MetricType, text: &[u8]) -> Option<&[u8]>
-    ensures { IfSome result (λ value. text.now ≡ slash ∷ (name_of kind ++ (colon ∷ value.now))) }
-{
-    match kind {
-        MetricType::AV => behind_four(text, *b"/AV:"),
-        MetricType::AC => behind_four(text, *b"/AC:"),
-        MetricType::PR => behind_four(text, *b"/PR:"),
-        MetricType::UI => behind_four(text, *b"/UI:"),
-        MetricType::S => behind_three(text, *b"/S:"),
-        MetricType::C => behind_three(text, *b"/C:"),
-        MetricType::I => behind_three(text, *b"/I:"),
-        MetricType::A => behind_three(text, *b"/A:"),
-        MetricType::E => behind_three(text, *b"/E:"),
-        MetricType::RL => behind_four(text, *b"/RL:"),
-        MetricType::RC => behind_four(text, *b"/RC:"),
-        MetricType::CR => behind_four(text, *b"/CR:"),
-        MetricType::IR => behind_four(text, *b"/IR:"),
-        MetricType::AR => behind_four(text, *b"/AR:"),
-        MetricType::MAV => behind_five(text, *b"/MAV:"),
-        MetricType::MAC => behind_five(text, *b"/MAC:"),
-        MetricType::MPR => behind_five(text, *b"/MPR:"),
-        MetricType::MUI => behind_five(text, *b"/MUI:"),
-        MetricType::MS => behind_four(text, *b"/MS:"),
-        MetricType::MC => behind_four(text, *b"/MC:"),
-        MetricType::MI => behind_four(text, *b"/MI:"),
-        MetricType::MA => behind_four(text, *b"/MA:"),
-    }
-}
-
-/// What stands behind three bytes with which a text begins.
-#[inline(always)]
-fn behind_three(text: &[u8], three: [u8; 3]) -> Option<&[u8]>
-    ensures { IfSome result (λ rest. text.now ≡ three ++ rest.now) }
-{
-    let [a, b, c] = three;
-    match text {
-        [first, second, third, rest @ ..] if *first == a && *second == b && *third == c => Some(
-            rest,
-        ),
-        _ => None,
     }
 }

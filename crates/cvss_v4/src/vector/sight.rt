@@ -21,7 +21,7 @@ use crate::metric::supplemental::ProviderUrgency;
 use crate::metric::{Metric, MetricType};
 use crate::vector::Vector;
 use base::base_at_sight;
-use cvss_text::sight::put_read;
+use cvss_text::sight::{behind_three, put_read};
 use optional::others_at_sight;
 
 impl Vector {
@@ -135,19 +135,5 @@ fn spelled_by_letter<M: Metric>(letter: u8) -> Option<M>
         M::read_bytes(&[letter])
     } else {
         None
-    }
-}
-
-/// What stands behind three bytes with which a text begins.
-#[inline(always)]
-fn behind_three(text: &[u8], three: [u8; 3]) -> Option<&[u8]>
-    ensures { IfSome result (λ rest. text.now ≡ three ++ rest.now) }
-{
-    let [a, b, c] = three;
-    match text {
-        [first, second, third, rest @ ..] if *first == a && *second == b && *third == c => Some(
-            rest,
-        ),
-        _ => None,
     }
 }

@@ -8,13 +8,13 @@ ghost use Rattle.cvss_name.specs.declared.v2.MetricType.TheVariants.{A, AC, AV, 
 ghost use Rattle.cvss_v2.specs.Table.{spelling_of, metric_component};
 ghost use Rattle.cvss_v2.specs.Vector.{v2};
 
-use super::behind_name;
 use crate::metric::Metric;
 use crate::metric::base::{
     AccessComplexity, AccessVector, Authentication, AvailabilityImpact, ConfidentialityImpact,
     IntegrityImpact,
 };
 use crate::vector::Vector;
+use cvss_text::sight::behind_name;
 
 /// The vector of the base metrics with which a text begins, each value spelled by one letter.
 #[inline(always)]
@@ -98,7 +98,7 @@ fn base_component_at_sight<M: Metric>(text: &[u8]) -> Option<(M, &[u8])>
     ensures { IfSome result
         (λ read. text.now ≡ slash ∷ (metric_component M.TYPE (M.value read.0) ++ read.1.now)) }
 {
-    match behind_name(M::TYPE, text)? {
+    match behind_name(M::TYPE.name(), text)? {
         [letter, rest @ ..] => Some((letter_at_sight(*letter)?, rest)),
         [] => None,
     }

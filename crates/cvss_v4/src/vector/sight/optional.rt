@@ -7,9 +7,9 @@ ghost use Rattle.cvss_name.specs.declared.v4.MetricType.TheVariants.{E, AR, CR, 
 ghost use Rattle.cvss_v4_metric.specs.Table.{printed, supplemental};
 ghost use Rattle.cvss_v4.specs.Vector.{v4};
 
-use super::{behind_three, put_at_sight};
+use super::put_at_sight;
 use crate::vector::Vector;
-use cvss_text::sight::{behind_five, behind_four};
+use cvss_text::sight::{behind_five, behind_four, behind_three};
 
 /// Puts the optional metrics but for the last with which a text begins into the vector, and gives
 /// what stands behind them.
