@@ -2,7 +2,7 @@
 
 ghost use Rattle.std.specs.Prelude.{Some, refl};
 ghost use Rattle.std.proofs.Common.{rules};
-ghost use Rattle.cvss_name.specs.declared.v3.MetricType.TheVariants.{S, MS};
+ghost use Rattle.cvss_name.specs.declared.v3.MetricType.TheVariants.{MS};
 ghost use Rattle.cvss_v3_metric.specs.Table.{metric_component};
 
 use crate::base::Scope;
