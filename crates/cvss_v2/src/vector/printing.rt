@@ -4,12 +4,10 @@ ghost use Rattle.std.specs.Prelude.{◌≡◌, ◌++◌, Some, drop, option_map}
 ghost use Rattle.std.specs.Fmt.{WritesOnOk};
 ghost use Rattle.std.specs.Option.{option_copied};
 ghost use Rattle.cvss_text.specs.private.Printing.{slashed, slashed_texts};
-ghost use Rattle.cvss_grammar.specs.Text.{component};
-ghost use Rattle.cvss_name.specs.V2Types.{name_of};
 ghost use Rattle.cvss_grammar.specs.Version.{canonical_text, component_of, held};
 ghost use Rattle.cvss_v2.specs.Table.{spelling_of, printed};
 ghost use Rattle.cvss_v2.specs.Vector.{v2};
-ghost use Rattle.cvss_v2.specs.private.Slashed.{slashed_value};
+ghost use Rattle.cvss_v2.specs.private.Slashed.{slashed_value, value_component};
 
 use crate::metric::{Metric, MetricType};
 use crate::vector::Vector;
@@ -51,8 +49,7 @@ impl Vector {
 
 /// A slash and the component of a value.
 fn slashed_value<M: Metric>(value: Option<M>) -> Option<&'static str>
-    ensures { option_copied result ≡ slashed (option_map (component (name_of M.TYPE))
-        (option_map (λ metric. spelling_of M.TYPE (M.value metric)) value)) }
+    ensures { option_copied result ≡ slashed (value_component M.TYPE M.value value) }
 {
     match value {
         Some(metric) => Some(metric.slashed()),
