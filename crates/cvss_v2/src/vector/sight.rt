@@ -5,8 +5,7 @@
 ghost use Rattle.std.specs.Prelude.{◌≡◌, IfSome, None, [], ◌∷◌, ◌++◌};
 ghost use Rattle.cvss_text.specs.private.Printing.{slashed_texts};
 ghost use Rattle.cvss_text.specs.private.Walk.{first_missing};
-ghost use Rattle.cvss_grammar.specs.Text.{slash, colon};
-ghost use Rattle.cvss_name.specs.V2Types.{name_of};
+ghost use Rattle.cvss_grammar.specs.Text.{slash};
 ghost use Rattle.cvss_grammar.specs.Version.{canonical_text, IsComplete};
 ghost use Rattle.cvss_name.specs.declared.v2.MetricType.TheVariants.{A, AC, AV, Au, C, I, E, RL, RC, CDP, TD, CR, IR, AR};
 ghost use Rattle.cvss_v2.specs.Table.{spelling_of, metric_component, printed};

@@ -5,7 +5,7 @@
 ghost use Rattle.std.specs.Prelude.{◌≡◌, IfSome, Contains, [], ◌∷◌, ◌++◌, codes, option_map, unwrap_or};
 ghost use Rattle.cvss_grammar.specs.Version.{numeral, canonical_text, version_piece, IsWellFormed};
 ghost use Rattle.cvss_text.specs.private.Printing.{slashed, slashed_texts};
-ghost use Rattle.cvss_grammar.specs.Text.{slash, colon, component};
+ghost use Rattle.cvss_grammar.specs.Text.{slash, component};
 ghost use Rattle.cvss_name.specs.V3Types.{name_of};
 ghost use Rattle.cvss_v3_metric.specs.Table.{spelling_of, metric_component, printed};
 ghost use Rattle.cvss_v3.specs.Vector.{v3};
