@@ -1,1 +1,2 @@
+pub mod Slashed
 pub mod VectorLaws

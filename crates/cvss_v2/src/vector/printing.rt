@@ -51,10 +51,8 @@ impl Vector {
 fn slashed_value<M: Metric>(value: Option<M>) -> Option<&'static str>
     ensures { option_copied result ≡ slashed (value_component M.TYPE M.value value) }
 {
-    match value {
-        Some(metric) => Some(metric.slashed()),
-        None => None,
-    }
+    let metric = value?;
+    Some(metric.slashed())
 }
 
 /// Writes a slash and the component of a value, if there is one.

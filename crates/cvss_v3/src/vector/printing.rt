@@ -1,15 +1,13 @@
 //! How a vector is printed.
 
-ghost use Rattle.std.specs.Prelude.{◌≡◌, Some, [], ◌∷◌, ◌++◌, codes, option_map, unwrap_or};
+ghost use Rattle.std.specs.Prelude.{◌≡◌, ◌++◌, Some, codes, drop, option_map, take};
 ghost use Rattle.std.specs.Fmt.{WritesOnOk};
 ghost use Rattle.std.specs.Option.{option_copied};
 ghost use Rattle.cvss_grammar.specs.Version.{numeral, canonical_text, component_of, held, version_piece};
 ghost use Rattle.cvss_text.specs.private.Printing.{slashed, slashed_texts};
-ghost use Rattle.cvss_grammar.specs.Text.{component};
-ghost use Rattle.cvss_name.specs.V3Types.{name_of};
-ghost use Rattle.cvss_name.specs.declared.v3.MetricType.TheVariants.{A, AC, AV, C, I, PR, S, UI, E, RL, RC, CR, IR, AR, MAV, MAC, MPR, MUI, MS, MC, MI, MA};
 ghost use Rattle.cvss_v3_metric.specs.Table.{spelling_of, printed};
 ghost use Rattle.cvss_v3.specs.Vector.{v3};
+ghost use Rattle.cvss_v3.specs.private.Slashed.{slashed_value, value_component};
 
 use crate::metric::{Metric, MetricType};
 use crate::vector::Vector;
@@ -57,24 +55,37 @@ impl Vector {
     }
 }
 
-/// A slash and the component of a value.
-fn slashed_value<M: Metric>(value: Option<M>) -> Option<&'static str>
-    ensures { option_copied result ≡ slashed (option_map (component (name_of M.TYPE))
-        (option_map (λ metric. spelling_of M.TYPE (M.value metric)) value)) }
-{
-    match value {
-        Some(metric) => Some(metric.slashed()),
-        None => None,
-    }
-}
-
 /// Writes a slash and the component of a value, if there is one.
 fn write_value<M: Metric, W: fmt::Write>(value: Option<M>, f: &mut fmt::Formatter<W>) -> fmt::Result
-    ensures { WritesOnOk W.write_str_gives f.old result (unwrap_or (slashed
-        (option_map (component (name_of M.TYPE))
-        (option_map (λ metric. spelling_of M.TYPE (M.value metric)) value))) []) f.new }
+    ensures { WritesOnOk W.write_str_gives f.old result (slashed_value M.TYPE M.value value) f.new }
 {
     write_slashed(slashed_value(value), f)
+}
+
+/// A slash and the component of a value.
+fn slashed_value<M: Metric>(value: Option<M>) -> Option<&'static str>
+    ensures { option_copied result ≡ slashed (value_component M.TYPE M.value value) }
+{
+    let metric = value?;
+    Some(metric.slashed())
+}
+
+/// Writes a slash and the component of each of four values that there is.
+fn write_four<K: Metric, L: Metric, M: Metric, N: Metric, W: fmt::Write>(
+    first: &Option<K>,
+    second: &Option<L>,
+    third: &Option<M>,
+    fourth: &Option<N>,
+    f: &mut fmt::Formatter<W>,
+) -> fmt::Result
+    ensures { WritesOnOk W.write_str_gives f.old result (slashed_value K.TYPE K.value first.now
+        ++ slashed_value L.TYPE L.value second.now ++ slashed_value M.TYPE M.value third.now
+        ++ slashed_value N.TYPE N.value fourth.now) f.new }
+{
+    write_value(*first, f)?;
+    write_value(*second, f)?;
+    write_value(*third, f)?;
+    write_value(*fourth, f)
 }
 
 /// Writes the piece that tells the version.
@@ -91,66 +102,23 @@ fn write_version<W: fmt::Write>(minor_version: usize, f: &mut fmt::Formatter<W>)
 }
 
 impl Vector {
-    /// Writes how the attack is made, each with a slash before it.
-    fn write_attack<W: fmt::Write>(&self, f: &mut fmt::Formatter<W>) -> fmt::Result
+    /// Writes the base metrics, each with a slash before it.
+    fn write_base<W: fmt::Write>(&self, f: &mut fmt::Formatter<W>) -> fmt::Result
         ensures { WritesOnOk W.write_str_gives f.old result
-            (slashed_texts v3 self.now (AV ∷ AC ∷ PR ∷ UI ∷ [])) f.new }
+            (slashed_texts v3 self.now (take 8 printed)) f.new }
     {
-        write_value(self.av, f)?;
-        write_value(self.ac, f)?;
-        write_value(self.pr, f)?;
-        write_value(self.ui, f)
+        write_four(&self.av, &self.ac, &self.pr, &self.ui, f)?;
+        write_four(&self.s, &self.c, &self.i, &self.a, f)
     }
 
-    /// Writes the scope and the impacts, each with a slash before it.
-    fn write_impact<W: fmt::Write>(&self, f: &mut fmt::Formatter<W>) -> fmt::Result
+    /// Writes the optional metrics, each with a slash before it.
+    fn write_optional<W: fmt::Write>(&self, f: &mut fmt::Formatter<W>) -> fmt::Result
         ensures { WritesOnOk W.write_str_gives f.old result
-            (slashed_texts v3 self.now (S ∷ C ∷ I ∷ A ∷ [])) f.new }
+            (slashed_texts v3 self.now (drop 8 printed)) f.new }
     {
-        write_value(self.s, f)?;
-        write_value(self.c, f)?;
-        write_value(self.i, f)?;
-        write_value(self.a, f)
-    }
-
-    /// Writes the temporal metrics, each with a slash before it.
-    fn write_temporal<W: fmt::Write>(&self, f: &mut fmt::Formatter<W>) -> fmt::Result
-        ensures { WritesOnOk W.write_str_gives f.old result
-            (slashed_texts v3 self.now (E ∷ RL ∷ RC ∷ [])) f.new }
-    {
-        write_value(self.e, f)?;
-        write_value(self.rl, f)?;
-        write_value(self.rc, f)
-    }
-
-    /// Writes the security requirements, each with a slash before it.
-    fn write_requirements<W: fmt::Write>(&self, f: &mut fmt::Formatter<W>) -> fmt::Result
-        ensures { WritesOnOk W.write_str_gives f.old result
-            (slashed_texts v3 self.now (CR ∷ IR ∷ AR ∷ [])) f.new }
-    {
-        write_value(self.cr, f)?;
-        write_value(self.ir, f)?;
-        write_value(self.ar, f)
-    }
-
-    /// Writes the modified metrics of how the attack is made, each with a slash before it.
-    fn write_modified_attack<W: fmt::Write>(&self, f: &mut fmt::Formatter<W>) -> fmt::Result
-        ensures { WritesOnOk W.write_str_gives f.old result
-            (slashed_texts v3 self.now (MAV ∷ MAC ∷ MPR ∷ MUI ∷ [])) f.new }
-    {
-        write_value(self.mav, f)?;
-        write_value(self.mac, f)?;
-        write_value(self.mpr, f)?;
-        write_value(self.mui, f)
-    }
-
-    /// Writes the modified scope and impacts, each with a slash before it.
-    fn write_modified_impact<W: fmt::Write>(&self, f: &mut fmt::Formatter<W>) -> fmt::Result
-        ensures { WritesOnOk W.write_str_gives f.old result
-            (slashed_texts v3 self.now (MS ∷ MC ∷ MI ∷ MA ∷ [])) f.new }
-    {
-        write_value(self.ms, f)?;
-        write_value(self.mc, f)?;
+        write_four(&self.e, &self.rl, &self.rc, &self.cr, f)?;
+        write_four(&self.ir, &self.ar, &self.mav, &self.mac, f)?;
+        write_four(&self.mpr, &self.mui, &self.ms, &self.mc, f)?;
         write_value(self.mi, f)?;
         write_value(self.ma, f)
     }
@@ -159,12 +127,8 @@ impl Vector {
     fn write_metrics<W: fmt::Write>(&self, f: &mut fmt::Formatter<W>) -> fmt::Result
         ensures { WritesOnOk W.write_str_gives f.old result (slashed_texts v3 self.now printed) f.new }
     {
-        self.write_attack(f)?;
-        self.write_impact(f)?;
-        self.write_temporal(f)?;
-        self.write_requirements(f)?;
-        self.write_modified_attack(f)?;
-        self.write_modified_impact(f)
+        self.write_base(f)?;
+        self.write_optional(f)
     }
 }
 

@@ -2,13 +2,13 @@
 //! printed, so that the text is gone through once, with no cutting and no searching. The other
 //! way, by components in any order and any case, is `reading`.
 
-ghost use Rattle.std.specs.Prelude.{◌≡◌, IfSome, Contains, [], ◌∷◌, ◌++◌, codes, option_map, unwrap_or};
+ghost use Rattle.std.specs.Prelude.{◌≡◌, IfSome, Contains, ◌∷◌, ◌++◌, codes};
 ghost use Rattle.cvss_grammar.specs.Version.{numeral, canonical_text, version_piece, IsWellFormed};
-ghost use Rattle.cvss_text.specs.private.Printing.{slashed, slashed_texts};
-ghost use Rattle.cvss_grammar.specs.Text.{slash, component};
-ghost use Rattle.cvss_name.specs.V3Types.{name_of};
-ghost use Rattle.cvss_v3_metric.specs.Table.{spelling_of, metric_component, printed};
+ghost use Rattle.cvss_text.specs.private.Printing.{slashed_texts};
+ghost use Rattle.cvss_grammar.specs.Text.{slash};
+ghost use Rattle.cvss_v3_metric.specs.Table.{metric_component, printed};
 ghost use Rattle.cvss_v3.specs.Vector.{v3};
+ghost use Rattle.cvss_v3.specs.private.Slashed.{slashed_value};
 
 mod base;
 mod optional;
@@ -70,9 +70,7 @@ fn metrics_at_sight(minor_version: usize, text: &[u8]) -> Option<Vector>
 /// gives what stands behind that; else no value, and the text.
 #[inline(always)]
 fn put_at_sight<'a, M: Metric>(place: &mut Option<M>, text: &'a [u8]) -> &'a [u8]
-    ensures { text.now ≡ unwrap_or (slashed (option_map (component (name_of M.TYPE))
-        (option_map (λ metric. spelling_of M.TYPE (M.value metric)) place.new))) []
-        ++ result.now }
+    ensures { text.now ≡ slashed_value M.TYPE M.value place.new ++ result.now }
 {
     put_read(place, component_at_sight(text), text)
 }

@@ -1,0 +1,16 @@
+-- How a value is printed behind the metrics before it.
+use Rattle.std.specs.Prelude.{ℕ, List, [], Option, option_map, unwrap_or}
+use Rattle.cvss_text.specs.private.Printing.{slashed}
+use Rattle.cvss_grammar.specs.Text.{component}
+use Rattle.cvss_name.specs.V3Types.{name_of}
+use Rattle.cvss_name.specs.declared.v3.MetricType.{MetricType}
+use Rattle.cvss_v3_metric.specs.Table.{Value, spelling_of}
+
+-- the component of a value of the table, if there is one
+abbrev pub value_component : {M : Type 0} (kind : MetricType) → (M → Value kind) → Option M → Option (List ℕ)
+value_component kind value_of value =
+    option_map (component (name_of kind)) (option_map (λ metric. spelling_of kind (value_of metric)) value)
+
+-- a slash and the component, or nothing
+abbrev pub slashed_value : {M : Type 0} (kind : MetricType) → (M → Value kind) → Option M → List ℕ
+slashed_value kind value_of value = unwrap_or (slashed (value_component kind value_of value)) []
