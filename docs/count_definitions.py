@@ -15,7 +15,7 @@ from check_shelves import wrong_clauses
 
 ROOT = Path(__file__).resolve().parent.parent
 PAGE = ROOT / "docs" / "DEFINITIONS.md"
-CRATES = ["grammar", "number", "text", "name", "base", "v2", "v2_score", "v3_metric", "v3", "v3_score", "v4_metric", "v4_env", "v4",
+CRATES = ["grammar", "number", "text", "name", "base", "v2_metric", "v2", "v2_score", "v3_metric", "v3", "v3_score", "v4_metric", "v4",
           "v4_score"]
 ROW = re.compile(r"(\| \[[^]]+\]\(\.\./(crates/\w+/specs/\w+\.antt)\) \| )\d+( \|)")
 HEAD = re.compile(r"^(### .*, )\d+( lines)$", re.M)

@@ -11,10 +11,10 @@ use Rattle.cvss_v3.specs.Vector.{v3}
 use Rattle.cvss_v3.specs.private.VectorLaws.{v3_is_lawful}
 use Rattle.cvss_v4.specs.Vector.{v4}
 use Rattle.cvss_v4.specs.private.VectorLaws.{v4_is_lawful}
-use Rattle.cvss_route.specs.Route.{Route, ToV20, ToV30, ToV31, ToV40, ToNone, route_of}
-use Rattle.cvss.specs.Dispatch.{wrapped, IsReasonOf, IsFirstReasonAt, IsFirstRefusalCvss}
-use Rattle.cvss.specs.declared.metric_type.MetricType.{MetricType}
-use Rattle.cvss.specs.declared.metric_type.MetricType.TheVariants.{V2, V3, V4}
+use Rattle.cvss_any.specs.Route.{Route, ToV20, ToV30, ToV31, ToV40, ToNone, route_of}
+use Rattle.cvss_any.specs.Dispatch.{wrapped, IsReasonOf, IsFirstReasonAt, IsFirstRefusalCvss}
+use Rattle.cvss_any.specs.declared.metric_type.MetricType.{MetricType}
+use Rattle.cvss_any.specs.declared.metric_type.MetricType.TheVariants.{V2, V3, V4}
 
 module _ {V K : Type 0} (version : Version V K) (lawful : IsLawful version) (text : List ℕ) where
   pub one_refusal : (one other : Refusal K) → IsFirstRefusal version text one → IsFirstRefusal version text other → one ≡ other

@@ -1,12 +1,16 @@
-pub mod Answers
-pub mod Bytes
-pub mod Dispatch
 pub mod Json
-pub mod MetricTypes
-pub mod MetricsLeft
-pub mod Published
 pub mod laws
-pub mod private
+pub use Rattle.cvss_any.specs.Answers
+pub use Rattle.cvss_any.specs.Bytes
+pub use Rattle.cvss_any.specs.Dispatch
+pub use Rattle.cvss_any.specs.MetricTypes
+pub use Rattle.cvss_any.specs.MetricsLeft
+pub use Rattle.cvss_any.specs.Published
+pub use Rattle.cvss_any.specs.declared.vector.Cvss as CvssType
+pub use Rattle.cvss_any.specs.declared.bytes_error.BytesError as BytesErrorType
+pub use Rattle.cvss_any.specs.declared.published.Bounds as BoundsType
+pub use Rattle.cvss_any.specs.declared.published.Published as PublishedType
+pub use Rattle.cvss_any.specs.declared.metric_type.MetricType as MetricTypeAny
 pub use Rattle.cvss_grammar.specs.Equality
 pub use Rattle.cvss_name.specs.ErrorText
 pub use Rattle.cvss_number.specs.Exact
@@ -31,7 +35,7 @@ pub use Rattle.cvss_name.specs.declared.v3.MetricType as MetricTypeV3
 pub use Rattle.cvss_name.specs.declared.v4.MetricType as MetricTypeV4
 pub use Rattle.cvss_v2_score.specs.Rating as RatingV2
 pub use Rattle.cvss_v2_score.specs.Scores as ScoresV2
-pub use Rattle.cvss_v2.specs.Table as TableV2
+pub use Rattle.cvss_v2_metric.specs.Table as TableV2
 pub use Rattle.cvss_v2.specs.Vector as VectorV2
 pub use Rattle.cvss_v2.specs.Weights as WeightsV2
 pub use Rattle.cvss_v2.specs.declared.vector.Vector as VectorTypeV2
@@ -51,7 +55,6 @@ pub use Rattle.cvss_v4_metric.specs.Metrics as MetricsV4
 pub use Rattle.cvss_v4_metric.specs.Reading as ReadingV4
 pub use Rattle.cvss_v4_metric.specs.Ranks as RanksV4
 pub use Rattle.cvss_v4_metric.specs.Table as TableV4
-pub use Rattle.cvss_v4_env.specs.Ranks as EnvironmentalRanksV4
 pub use Rattle.cvss_v4_score.specs.AsSevere as AsSevereV4
 pub use Rattle.cvss_v4_score.specs.Classes as ClassesV4
 pub use Rattle.cvss_v4_score.specs.Distance as DistanceV4

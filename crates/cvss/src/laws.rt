@@ -12,8 +12,8 @@ ghost use Rattle.cvss_number.specs.laws.Rounding.{IsOneCount};
 ghost use Rattle.cvss_v2.specs.Vector as of_v2;
 ghost use Rattle.cvss_v3.specs.Vector as of_v3;
 ghost use Rattle.cvss_v4.specs.Vector as of_v4;
-ghost use Rattle.cvss.specs.Answers.{text_of, IsScoreOf};
-ghost use Rattle.cvss.specs.Dispatch.{DenotesCvss, IsFirstRefusalCvss};
+ghost use Rattle.cvss_any.specs.Answers.{text_of, IsScoreOf};
+ghost use Rattle.cvss_any.specs.Dispatch.{DenotesCvss, IsFirstRefusalCvss};
 ghost use Rattle.cvss.specs.laws.BytesErrors as of_bytes;
 ghost use Rattle.cvss.specs.laws.GivenBack.{IsGivenBack};
 ghost use Rattle.cvss.specs.laws.JsonErrors.{TellTheSame};
@@ -24,7 +24,6 @@ use crate::{Bounds, BytesError, Cvss, Error, MetricType, OneDecimal, Published, 
 /// A text denotes at most one vector, and the text that is printed of a vector denotes that vector
 /// exactly where it is well formed and, in CVSS v3, has a metric and the minor version of its
 /// variant. So two such vectors are one if their texts are.
-#[tactic(auto, using(crate::proofs::LawLemmas::one_vector, crate::proofs::LawLemmas::own_text))]
 pub fn texts_denote_one_vector()
     ensures own { (cvss : Cvss) → (DenotesCvss (text_of cvss) cvss ↔ IsGivenBack cvss) }
     ensures one { (text : List ℕ) → (left right : Cvss)

@@ -5,24 +5,13 @@
 //! [`json`] writes them as JSON strings and reads them back.
 #![tactic(auto)]
 
-mod bytes_error;
 pub mod json;
 pub mod laws;
-mod metric_type;
-mod metrics;
-mod published;
-mod reading;
-mod sight;
-mod vector;
+pub mod v2;
+pub mod v3;
+pub mod v4;
 
-pub use bytes_error::BytesError;
+pub use cvss_any::{Bounds, BytesError, Cvss, MetricType, Metrics, Published};
 pub use cvss_grammar::PREFIX;
 pub use cvss_name::{Error, MetricGroup, Severity};
 pub use cvss_number::{LIMIT, ONE, OneDecimal, tenths};
-pub use cvss_v2 as v2;
-pub use cvss_v3 as v3;
-pub use cvss_v4 as v4;
-pub use metric_type::MetricType;
-pub use metrics::Metrics;
-pub use published::{Bounds, Published};
-pub use vector::Cvss;

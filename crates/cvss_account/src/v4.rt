@@ -1,7 +1,6 @@
 //! The account of a score of CVSS v4.0 (specification, section 8.2).
 
 ghost use Rattle.std.specs.Prelude.{◌≡◌, ◌≤◌, IfOk, OnOk, Some, map, string_bytes};
-ghost use Rattle.std.specs.Fmt.{decimal};
 ghost use Rattle.cvss.specs.VectorV4.{v4};
 ghost use Rattle.cvss.specs.Version.{IsComplete};
 ghost use Rattle.cvss_account.specs.V4.{AreAccountMembers, class_members, class_text, group_values, metric_members, number_members};
@@ -9,8 +8,6 @@ ghost use Rattle.cvss_account.specs.private.Puts.{PutsNumbers};
 ghost use Rattle.cvss_record.specs.Objects.{with_members};
 ghost use Rattle.cvss_v4_score.specs.Account.{AreInRange, GroupsAreInRange};
 ghost use Rattle.serde_json.specs.View.{members_view, view};
-ghost use Rattle.serde_json.specs.Data.{array};
-ghost use Rattle.serde_json.specs.View.{items_of};
 
 mod effective;
 mod group;

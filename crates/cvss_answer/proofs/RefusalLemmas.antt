@@ -1,8 +1,8 @@
 -- What the answer to a refused line is, from the error that refuses it.
 use Rattle.std.proofs.Common.{◌++◌, ◌⊎◌, inl, inr, List, ℕ, codes, refl}
-use Rattle.cvss.specs.Bytes.{TellsWhyNot, bytes_error_text}
-use Rattle.cvss.specs.declared.bytes_error.BytesError.{BytesError}
-use Rattle.cvss.specs.declared.bytes_error.BytesError.TheVariants.{NotUtf8, Invalid}
+use Rattle.cvss_any.specs.Bytes.{TellsWhyNot, bytes_error_text}
+use Rattle.cvss_any.specs.declared.bytes_error.BytesError.{BytesError}
+use Rattle.cvss_any.specs.declared.bytes_error.BytesError.TheVariants.{NotUtf8, Invalid}
 use Rattle.cvss_answer.specs.Answers.{IsRefusal, IsNoText}
 
 pub refusal_told : (line : List ℕ) (error : BytesError) → TellsWhyNot line error → IsRefusal line (codes "error: " ++ bytes_error_text error) ⊎ IsNoText line (codes "error: " ++ bytes_error_text error)

@@ -3,17 +3,17 @@ use Rattle.std.proofs.Common.{◌≡◌, ℕ, ◌+◌, ◌*◌, ◌/◌, ◌%◌
 use Rattle.std.specs.Fmt.{digits}
 use Rattle.std.proofs.lemmas.Bool.Decides.{nat_tests}
 use Rattle.std.proofs.lemmas.Fmt.{decimal_digit}
-use Rattle.cvss.specs.Answers.{rating_by, rating_text, score_of_tenths, text_of, vector_answer}
-use Rattle.cvss.specs.Published.{IsPublishedOf, rating_within}
-use Rattle.cvss.specs.Rating.{rating_of_score}
-use Rattle.cvss.specs.RatingV2.{rating_of}
-use Rattle.cvss.specs.SeverityText.{text_of as severity_text}
-use Rattle.cvss.specs.SeverityType.{Severity}
-use Rattle.cvss.specs.SeverityType.TheVariants.{None, Low, Medium, High, Critical}
-use Rattle.cvss.specs.Tenths.{tenths_text}
-use Rattle.cvss.specs.declared.published.Published.{Published}
-use Rattle.cvss.specs.declared.published.Bounds.{Bounds}
-use Rattle.cvss.specs.declared.published.Bounds.TheVariants.{OfV2, SinceV3}
+use Rattle.cvss_any.specs.Answers.{rating_by, rating_text, score_of_tenths, text_of, vector_answer}
+use Rattle.cvss_any.specs.Published.{IsPublishedOf, rating_within}
+use Rattle.cvss_base.specs.Rating.{rating_of_score}
+use Rattle.cvss_v2_score.specs.Rating.{rating_of}
+use Rattle.cvss_name.specs.SeverityText.{text_of as severity_text}
+use Rattle.cvss_name.specs.declared.severity.Severity.{Severity}
+use Rattle.cvss_name.specs.declared.severity.Severity.TheVariants.{None, Low, Medium, High, Critical}
+use Rattle.cvss_number.specs.Tenths.{tenths_text}
+use Rattle.cvss_any.specs.declared.published.Published.{Published}
+use Rattle.cvss_any.specs.declared.published.Bounds.{Bounds}
+use Rattle.cvss_any.specs.declared.published.Bounds.TheVariants.{OfV2, SinceV3}
 use Rattle.cvss_lines.specs.Answers.{Accepted, WritesAnswer, written_text}
 use Rattle.cvss_lines.proofs.TextsLemmas.{one_text}
 use Rattle.cvss_answer.specs.Answers.{IsAnswer, rated_line, score_line}

@@ -1,13 +1,13 @@
 //! The answer to one line.
 
 ghost use Rattle.std.specs.Prelude.{◌≡◌, ℕ, ◌++◌, [], ◌∷◌, ◌≤◌, codes, IfOk, OnOk};
-ghost use Rattle.cvss.specs.Answers.{HasScore, text_of};
-ghost use Rattle.cvss.specs.Bytes.{bytes_error_text};
+ghost use Rattle.cvss_any.specs.Answers.{HasScore, text_of};
+ghost use Rattle.cvss_any.specs.Bytes.{bytes_error_text};
 ghost use Rattle.cvss_lines.specs.Answers.{WritesAnswer};
 ghost use Rattle.cvss_answer.specs.Answers.{IsAnswer, WritesVector, score_line};
 
 use crate::score_line::score_line;
-use cvss::{BytesError, Cvss, Published};
+use cvss_any::{BytesError, Cvss, Published};
 use cvss_lines::{Answering, Gathered};
 use std::alloc::{AllocError, Global};
 use std::fmt::{self, Write};

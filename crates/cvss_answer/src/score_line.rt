@@ -1,10 +1,10 @@
 //! What follows a vector's text in its answer, one text for each score.
 
 ghost use Rattle.std.specs.Prelude.{◌≡◌, ◌≤◌};
-ghost use Rattle.cvss.specs.declared.published.Bounds.TheVariants.{OfV2, SinceV3};
+ghost use Rattle.cvss_any.specs.declared.published.Bounds.TheVariants.{OfV2, SinceV3};
 ghost use Rattle.cvss_answer.specs.Answers.{rated_line, score_line};
 
-use cvss::{Bounds, Published};
+use cvss_any::{Bounds, Published};
 
 /// A published score and its rating, each behind a blank, and a byte 10.
 pub(crate) fn score_line(published: Published) -> &'static str

@@ -7,7 +7,7 @@ use Rattle.cvss.specs.ErrorText.{error_text}
 use Rattle.cvss.specs.ErrorType.{Error}
 use Rattle.cvss_name.specs.declared.error.Error.TheVariants.{OutOfMemory}
 use Rattle.cvss.specs.Told.{TellsFirst}
-use Rattle.cvss.specs.declared.vector.Cvss.{Cvss}
+use Rattle.cvss.specs.CvssType.{Cvss}
 use Rattle.cvss_lines.specs.Answers.{Answer, Accepted, Refused, written_text}
 use Rattle.cvss_object.specs.Texts.{IsTextOf}
 use Rattle.cvss_record.specs.Differences.{AreDifferencesAt, Difference}

@@ -13,8 +13,8 @@ use Rattle.cvss.specs.TypesV3.{name_of, group_of}
 use Rattle.cvss.specs.VectorTypeV3 as type_v3
 use Rattle.cvss.specs.VectorTypeV4 as type_v4
 use Rattle.cvss.specs.VectorV3.{value_at}
-use Rattle.cvss.specs.declared.vector.Cvss.{Cvss}
-use Rattle.cvss.specs.declared.vector.Cvss.TheVariants.{CvssV20, CvssV30, CvssV31, CvssV40}
+use Rattle.cvss.specs.CvssType.{Cvss}
+use Rattle.cvss.specs.CvssType.TheVariants.{CvssV20, CvssV30, CvssV31, CvssV40}
 use Rattle.cvss_record.specs.Differences.{Difference}
 use Rattle.cvss_record.specs.Objects.{Member, object_of}
 use Rattle.cvss_record.specs.Places.{Place}

@@ -12,7 +12,8 @@ mod noting;
 mod place;
 mod source;
 
-use cvss_lines::{ProgramFault, Summary, arguments, program_status, run_streaming_program};
+use cvss_lines::Summary;
+use cvss_program::{ProgramFault, arguments, program_status, run_streaming_program};
 pub use documents::Documents;
 use help::USAGE;
 use noting::{Given, Note, Told};

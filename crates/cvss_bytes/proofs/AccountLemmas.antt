@@ -12,8 +12,8 @@ use Rattle.cvss.specs.VectorTypeV2.{Vector as VectorV2}
 use Rattle.cvss.specs.VectorTypeV3.{Vector as VectorV3}
 use Rattle.cvss.specs.WeightsTypeV3.{Weights}
 use Rattle.cvss.specs.WeightsV3.{weight_in, weights_of}
-use Rattle.cvss.specs.declared.vector.Cvss.{Cvss}
-use Rattle.cvss.specs.declared.vector.Cvss.TheVariants.{CvssV20, CvssV30, CvssV31, CvssV40}
+use Rattle.cvss.specs.CvssType.{Cvss}
+use Rattle.cvss.specs.CvssType.TheVariants.{CvssV20, CvssV30, CvssV31, CvssV40}
 use Rattle.cvss_account.specs.Account.{AreNumbersOf, IsAccountOf, score_members}
 use Rattle.cvss_account.specs.Decimal.{decimal_number, decimal_value, nearest_to}
 use Rattle.cvss_account.specs.LettersV4.{effective_members}

@@ -8,8 +8,8 @@ use Rattle.cvss_grammar.specs.Text.{component, joined, slash}
 use Rattle.cvss_grammar.specs.Version.{Version, canonical_text, component_of, components_of, held}
 use Rattle.cvss_name.specs.declared.v2.MetricType.{MetricType}
 use Rattle.cvss_name.specs.declared.v2.MetricType.TheVariants.{AV}
-use Rattle.cvss_v2.specs.declared.metric.base.access.AccessVector.{AccessVector}
-use Rattle.cvss_v2.specs.declared.metric.base.access.AccessVector.TheVariants as access_vector
+use Rattle.cvss_v2_metric.specs.declared.base.access.AccessVector.{AccessVector}
+use Rattle.cvss_v2_metric.specs.declared.base.access.AccessVector.TheVariants as access_vector
 use Rattle.cvss.specs.VectorTypeV2 as vector_v2
 use Rattle.cvss.specs.VectorV2.{v2}
 use Rattle.cvss_bytes.specs.Defined.{defined_component, if_defined, or_if_none, text_less}

@@ -11,10 +11,10 @@ use Rattle.cvss.specs.OverridingV4.{Objection, OfOtherGroup, OfText, TellsObject
 use Rattle.cvss.specs.Refusal.{Refusal, Repeated, Missing, carries_text}
 use Rattle.cvss.specs.Told.{Tells, reason_told}
 use Rattle.cvss.specs.TypesV4.{v4_reason}
-use Rattle.cvss.specs.declared.metric_type.MetricType.{MetricType}
-use Rattle.cvss.specs.declared.metric_type.MetricType.TheVariants.{V4}
-use Rattle.cvss.specs.declared.vector.Cvss.{Cvss}
-use Rattle.cvss.specs.declared.vector.Cvss.TheVariants.{CvssV40}
+use Rattle.cvss.specs.MetricTypeAny.{MetricType}
+use Rattle.cvss.specs.MetricTypeAny.TheVariants.{V4}
+use Rattle.cvss.specs.CvssType.{Cvss}
+use Rattle.cvss.specs.CvssType.TheVariants.{CvssV40}
 use Rattle.cvss_bytes.specs.Overriding.{IsOverrideReason}
 use Rattle.cvss_bytes.specs.declared.overriding.Unfit.TheVariants.{Override}
 use Rattle.cvss_bytes.specs.private.Overridden.{IsUnfit, place_of}

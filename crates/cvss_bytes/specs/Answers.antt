@@ -2,7 +2,7 @@
 use Rattle.std.specs.Prelude.{◌≡◌, ℕ, ◌⊎◌, ◌++◌, List, codes}
 use Rattle.std.specs.Str.{IsUtf8}
 use Rattle.cvss.specs.Answers.{IsScoreOf, score_of_tenths, vector_answer}
-use Rattle.cvss.specs.declared.vector.Cvss.{Cvss}
+use Rattle.cvss.specs.CvssType.{Cvss}
 use Rattle.cvss.specs.Dispatch.{DenotesCvss, IsFirstRefusalCvss, cvss_reason}
 use Rattle.cvss.specs.ErrorText.{error_text}
 use Rattle.cvss.specs.ErrorType.{Error}

@@ -8,8 +8,8 @@ use Rattle.cvss_grammar.specs.Version.{Version, components_of, held}
 use Rattle.cvss.specs.VectorV2.{v2}
 use Rattle.cvss.specs.VectorV3.{v3}
 use Rattle.cvss.specs.VectorV4.{v4}
-use Rattle.cvss.specs.declared.vector.Cvss.{Cvss}
-use Rattle.cvss.specs.declared.vector.Cvss.TheVariants.{CvssV20, CvssV30, CvssV31, CvssV40}
+use Rattle.cvss.specs.CvssType.{Cvss}
+use Rattle.cvss.specs.CvssType.TheVariants.{CvssV20, CvssV30, CvssV31, CvssV40}
 
 -- the spelling of a value, unless it says that the metric is not defined
 abbrev pub if_defined : List ℕ → List ℕ → Option (List ℕ)

@@ -4,7 +4,7 @@ use Rattle.std.specs.Str.{IsUtf8}
 use Rattle.cvss.specs.Dispatch.{IsFirstRefusalCvss}
 use Rattle.cvss.specs.MetricTypes.{name_of}
 use Rattle.cvss.specs.Refusal.{Refusal, BadComponent, WrongPrefix, WrongVersion, UnknownName, BadValue, Repeated, Missing, carries_text}
-use Rattle.cvss.specs.declared.metric_type.MetricType.{MetricType}
+use Rattle.cvss.specs.MetricTypeAny.{MetricType}
 
 -- the number of a reason's kind
 abbrev pub kind_number : Refusal MetricType → ℤ

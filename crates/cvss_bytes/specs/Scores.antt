@@ -1,7 +1,7 @@
 -- The scores of a vector as C sees them: whole tenths, and numbers for versions, ratings and nomenclatures.
 use Rattle.std.specs.Prelude.{◌≡◌, ◌⊎◌, ◌*ℤ◌, ◌^◌, ℤ, pos, negsuc, [], ◌∷◌, IsSome}
-use Rattle.cvss.specs.declared.vector.Cvss.{Cvss}
-use Rattle.cvss.specs.declared.vector.Cvss.TheVariants.{CvssV20, CvssV30, CvssV31, CvssV40}
+use Rattle.cvss.specs.CvssType.{Cvss}
+use Rattle.cvss.specs.CvssType.TheVariants.{CvssV20, CvssV30, CvssV31, CvssV40}
 use Rattle.cvss.specs.MergingV4.{effective_of}
 use Rattle.cvss.specs.NomenclatureTypeV4.{Nomenclature}
 use Rattle.cvss.specs.NomenclatureTypeV4.TheVariants.{CvssB, CvssBE, CvssBT, CvssBTE}

@@ -10,7 +10,7 @@ ghost use Rattle.cvss_bytes.specs.Buffer.{HasPut, IsWritten};
 ghost use Rattle.cvss_bytes.specs.private.Steps.{IsRead};
 
 use crate::buffer::{put, put_behind, put_printed};
-use cvss::v2::Metric;
+use cvss::v2::metric::Spelled;
 use cvss::{Cvss, v2};
 use cvss_text::walk::Components;
 

@@ -5,7 +5,7 @@ ghost use Rattle.std.specs.Option.{option_copied};
 ghost use Rattle.cvss.specs.Version.{IsComplete};
 ghost use Rattle.cvss.specs.VectorV2.{v2};
 ghost use Rattle.cvss.specs.Dispatch.{DenotesCvss};
-ghost use Rattle.cvss_text.specs.private.Printing.{slashed, slashed_texts};
+ghost use Rattle.cvss_text.specs.private.Printing.{slashed};
 ghost use Rattle.cvss_grammar.specs.Version.{canonical_text};
 ghost use Rattle.cvss_bytes.specs.Buffer.{IsWritten};
 ghost use Rattle.cvss_bytes.specs.Defined.{defined_component, text_less, text_without_undefined};
@@ -13,7 +13,7 @@ ghost use Rattle.cvss_bytes.specs.private.Steps.{Puts, defined_texts};
 
 use crate::buffer::{put, put_printed};
 use crate::metrics::spelled;
-use cvss::v2::Metric;
+use cvss::v2::metric::Spelled;
 use cvss::{Cvss, v2};
 use cvss_text::print::Printed;
 use cvss_text::walk::Components;

@@ -1,6 +1,6 @@
 //! Answers to many texts, one a line.
 
-ghost use Rattle.std.specs.Prelude.{◌≡◌, ◌≢◌, ◌+◌, ◌<◌, ◌≤◌, ℕ, ◌++◌, ◌∷◌, [], All, List, MatchOption, length};
+ghost use Rattle.std.specs.Prelude.{◌≡◌, ◌+◌, ◌<◌, ◌≤◌, ℕ, ◌++◌, ◌∷◌, List, MatchOption, length};
 ghost use Rattle.cvss_bytes.specs.Answers.{IsAnswer};
 ghost use Rattle.cvss_bytes.specs.Lines.{AnswersLines, HasNoEnd, ended, text_of_line};
 ghost use Rattle.cvss_bytes.specs.private.Steps.{IsFirstEnd, Puts};

@@ -1,6 +1,6 @@
 //! Why a text is refused.
 
-ghost use Rattle.std.specs.Prelude.{◌≡◌, ◌≤◌, ◌+◌, ◌++◌, ℕ, List, IfOk, MatchOption, length, string_bytes};
+ghost use Rattle.std.specs.Prelude.{◌≡◌, ◌≤◌, ◌+◌, ◌++◌, ℕ, List, MatchOption, length};
 ghost use Rattle.cvss.specs.ErrorText.{error_text};
 ghost use Rattle.cvss_bytes.specs.Answers.{IsReason, IsRefused};
 ghost use Rattle.cvss_bytes.specs.Buffer.{IsWritten};

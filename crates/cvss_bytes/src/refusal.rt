@@ -1,10 +1,10 @@
 //! What kind of refusal a text gets, and of which metric.
 
-ghost use Rattle.std.specs.Prelude.{◌≡◌, []};
+ghost use Rattle.std.specs.Prelude.{[]};
 ghost use Rattle.cvss.specs.Dispatch.{cvss_reason};
 ghost use Rattle.cvss.specs.Refusal.{Refusal};
 ghost use Rattle.cvss.specs.Told.{Tells};
-ghost use Rattle.cvss.specs.declared.metric_type.MetricType.{MetricType};
+ghost use Rattle.cvss.specs.MetricTypeAny.{MetricType};
 ghost use Rattle.cvss_bytes.specs.Answers.{IsRefused};
 ghost use Rattle.cvss_bytes.specs.Refusals.{IsBlamed, IsKind, IsSaid, blamed_name, kind_number as number_of_kind, no_memory};
 

@@ -5,7 +5,7 @@ ghost use Rattle.cvss.specs.Answers.{text_of};
 ghost use Rattle.cvss.specs.Dispatch.{DenotesCvss};
 ghost use Rattle.cvss.specs.VectorV4.{v4};
 ghost use Rattle.cvss.specs.Version.{canonical_text};
-ghost use Rattle.cvss.specs.declared.vector.Cvss.{Cvss};
+ghost use Rattle.cvss.specs.CvssType.{Cvss};
 ghost use Rattle.cvss_bytes.specs.Accounts.{IsAccountTold};
 ghost use Rattle.cvss_bytes.specs.Answers.{Answers};
 ghost use Rattle.cvss_bytes.specs.Buffer.{IsLeft, IsWritten};

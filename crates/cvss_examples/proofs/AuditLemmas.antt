@@ -3,7 +3,7 @@ use Rattle.std.proofs.Common.{◌≡◌, ℕ, ◌+◌, List, [], ◌∷◌, ◌+
 use Rattle.std.specs.Prelude.{Some}
 use Rattle.cvss.specs.Dispatch.{DenotesCvss}
 use Rattle.cvss.specs.SeverityType.{Severity}
-use Rattle.cvss.specs.declared.vector.Cvss.{Cvss}
+use Rattle.cvss.specs.CvssType.{Cvss}
 use Rattle.cvss_examples.specs.Counts.{IsCountOf}
 use Rattle.cvss_examples.specs.Findings.{IsAtOrAbove, IsFinding, IsNoVector}
 use Rattle.cvss_examples.proofs.CountLemmas.{IsCountOf-push, IsCountOf-skip}

@@ -15,8 +15,8 @@ use Rattle.cvss.specs.Told.{TellsFirst}
 use Rattle.cvss.specs.VectorTypeV3.{Vector}
 use Rattle.cvss.specs.VectorV3.{v3}
 use Rattle.cvss.specs.Version.{AreComponentsOf, components_of, read}
-use Rattle.cvss.specs.declared.vector.Cvss.{Cvss}
-use Rattle.cvss.specs.declared.vector.Cvss.TheVariants.{CvssV20, CvssV30, CvssV31, CvssV40}
+use Rattle.cvss.specs.CvssType.{Cvss}
+use Rattle.cvss.specs.CvssType.TheVariants.{CvssV20, CvssV30, CvssV31, CvssV40}
 use Rattle.cvss.specs.declared.json.JsonError.{JsonError}
 use Rattle.cvss.specs.declared.json.JsonError.TheVariants.{NotAString, Invalid, OutOfMemory as NoMemory}
 use Rattle.cvss_examples.specs.Conversions.{IsCanonicalText, IsTextOf, IsValueOf, TellsNoText}

@@ -7,7 +7,7 @@ use Rattle.cvss.specs.ErrorType.{Error}
 use Rattle.cvss.specs.SeverityText as severity
 use Rattle.cvss.specs.Tenths.{tenths_text}
 use Rattle.cvss.specs.Told.{TellsFirst}
-use Rattle.cvss.specs.declared.vector.Cvss.{Cvss}
+use Rattle.cvss.specs.CvssType.{Cvss}
 
 -- what is told of a vector with a score of so many tenths: its canonical text, the score, its rating
 abbrev pub advisory_text : Cvss → ℕ → List ℕ

@@ -7,7 +7,7 @@ use Rattle.cvss.specs.Json.{IsNoString, IsStringOf, StandsFor}
 use Rattle.cvss.specs.Told.{TellsFirst}
 use Rattle.cvss.specs.declared.json.JsonError.{JsonError}
 use Rattle.cvss.specs.declared.json.JsonError.TheVariants.{NotAString, Invalid, OutOfMemory}
-use Rattle.cvss.specs.declared.vector.Cvss.{Cvss}
+use Rattle.cvss.specs.CvssType.{Cvss}
 use Rattle.serde_json.specs.Data.{Data, string}
 
 -- the value is the string of the canonical text of what the text denotes

@@ -4,7 +4,7 @@ use Rattle.cvss.specs.Answers.{IsScoreOf, rating_by}
 use Rattle.cvss.specs.Dispatch.{DenotesCvss}
 use Rattle.cvss.specs.SeverityType.{Severity}
 use Rattle.cvss.specs.SeverityType.TheVariants.{None, Low, Medium, High, Critical}
-use Rattle.cvss.specs.declared.vector.Cvss.{Cvss}
+use Rattle.cvss.specs.CvssType.{Cvss}
 
 -- how many severities stand below this one
 abbrev pub rank : Severity → ℕ

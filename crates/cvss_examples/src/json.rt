@@ -6,7 +6,7 @@ ghost use Rattle.cvss.specs.Dispatch.{DenotesCvss};
 ghost use Rattle.cvss.specs.Json.{StandsFor};
 ghost use Rattle.cvss.specs.laws.GivenBack.{IsGivenBack};
 ghost use Rattle.cvss.specs.declared.json.JsonError.TheVariants.{OutOfMemory};
-ghost use Rattle.cvss.specs.declared.vector.Cvss.{Cvss};
+ghost use Rattle.cvss.specs.CvssType.{Cvss};
 ghost use Rattle.cvss_examples.specs.Conversions.{IsCanonicalText, IsTextOf, IsValueOf, TellsNoText, TellsNoValue};
 ghost use Rattle.serde_json.specs.View.{view};
 

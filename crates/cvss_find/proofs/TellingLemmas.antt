@@ -7,8 +7,8 @@ use Rattle.std.proofs.lemmas.Grind.{flat_map-append}
 use Rattle.std.proofs.lemmas.List.{map-append}
 use Rattle.std.proofs.lemmas.List.Elements.{All-nil}
 use Rattle.std.proofs.lemmas.List.Folds.{list_all-append}
-use Rattle.cvss.specs.Published.{IsPublishedOf}
-use Rattle.cvss.specs.declared.published.Published.{Published}
+use Rattle.cvss_any.specs.Published.{IsPublishedOf}
+use Rattle.cvss_any.specs.declared.published.Published.{Published}
 use Rattle.cvss_answer.specs.Answers as vectors
 use Rattle.cvss_lines.specs.Answers.{Answer, Accepted, Refused, WritesAnswer, is_accepted, texts_of, written_answer, written_text}
 use Rattle.cvss_find.specs.Answers.{AreTold, IsAnswer, IsTold, Told, all_accepted, answer_of, place_text, told_texts}

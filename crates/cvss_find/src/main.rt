@@ -6,7 +6,8 @@ mod help;
 pub mod laws;
 mod telling;
 
-use cvss_lines::{ProgramFault, Summary, arguments, program_status, run_program};
+use cvss_lines::Summary;
+use cvss_program::{ProgramFault, arguments, program_status, run_program};
 use help::USAGE;
 use std::process::ExitCode;
 pub use telling::Texts;

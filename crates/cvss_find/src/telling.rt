@@ -1,14 +1,14 @@
 //! The answer to a line: what is told of the mentions in it.
 
 ghost use Rattle.std.specs.Prelude.{◌≡◌, ◌++◌, IfOk, OnOk};
-ghost use Rattle.cvss.specs.Published.{IsPublishedOf};
+ghost use Rattle.cvss_any.specs.Published.{IsPublishedOf};
 ghost use Rattle.cvss_find.specs.Answers.{IsAnswer, place_text};
 ghost use Rattle.cvss_find.specs.private.Telling.{WritesTold};
 ghost use Rattle.cvss_lines.specs.Answers.{WritesAnswer};
 ghost use Rattle.cvss_mention.specs.MentionsLeft.{as_placed};
 
-use cvss::{Cvss, Published};
 use cvss_answer::{Vectors, write_canonical};
+use cvss_any::{Cvss, Published};
 use cvss_lines::{Answering, Gathered};
 use cvss_mention::{Mention, Mentions};
 use std::alloc::{AllocError, Global};

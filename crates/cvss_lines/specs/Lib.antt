@@ -1,8 +1,6 @@
 pub mod Answers
 pub mod Exit
 pub mod Lines
-pub mod Program
-pub mod Requests
 pub mod Runs
 pub mod Streaming
 pub mod private

@@ -2,11 +2,11 @@
 use Rattle.std.proofs.Common.{◌≡◌, ℕ, ◌≤◌, true, rules, List, [], ◌∷◌, ◌++◌, codes, length, refl, sym, ap, ◌∙◌, subst, arith}
 use Rattle.std.specs.List.{All}
 use Rattle.std.proofs.lemmas.List.Elements.{All-from_get_or}
-use Rattle.cvss.specs.Dispatch.{DenotesCvss, DenotesV2, DenotesV3, DenotesV4}
-use Rattle.cvss.specs.Text.{component, joined, slash}
-use Rattle.cvss.specs.Version.{AreComponentsOf, Version, numeral, read, version_piece}
-use Rattle.cvss.specs.declared.vector.Cvss.{Cvss}
-use Rattle.cvss.specs.declared.vector.Cvss.TheVariants.{CvssV20, CvssV30, CvssV31, CvssV40}
+use Rattle.cvss_any.specs.Dispatch.{DenotesCvss, DenotesV2, DenotesV3, DenotesV4}
+use Rattle.cvss_grammar.specs.Text.{component, joined, slash}
+use Rattle.cvss_grammar.specs.Version.{AreComponentsOf, Version, numeral, read, version_piece}
+use Rattle.cvss_any.specs.declared.vector.Cvss.{Cvss}
+use Rattle.cvss_any.specs.declared.vector.Cvss.TheVariants.{CvssV20, CvssV30, CvssV31, CvssV40}
 use Rattle.cvss_grammar.specs.Refusal.{piece_at}
 use Rattle.cvss_name.specs.declared.v2.MetricType.{MetricType as KindV2}
 use Rattle.cvss_name.specs.declared.v2.MetricType.TheVariants as kind_v2
@@ -25,7 +25,7 @@ use Rattle.cvss_v3.specs.declared.vector.Vector as vector_v3
 use Rattle.cvss_v4.specs.Vector.{v4}
 use Rattle.cvss_v4.specs.private.VectorLaws.{v4_is_lawful}
 use Rattle.cvss_v4.specs.declared.vector.Vector as vector_v4
-use Rattle.cvss.proofs.RouteLemmas.{only_one, v2_parts, v3_parts, v4_parts}
+use Rattle.cvss_any.proofs.RouteLemmas.{only_one, v2_parts, v3_parts, v4_parts}
 use Rattle.cvss_mention.specs.Mentions.{IsAccepted, mentions_of}
 use Rattle.cvss_mention.specs.laws.Whole.{IsMentionedBetween, IsWhole}
 use Rattle.cvss_mention.proofs.PlainLemmas.{IsPlain, IsPlain-from, IsPlain-joined, IsPlain-read, IsWhole-behind, IsWhole-plain, is_plain}

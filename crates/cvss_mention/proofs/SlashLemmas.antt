@@ -3,13 +3,13 @@ use Rattle.std.proofs.Common.{◌≡◌, ◌≢◌, ℕ, ◌≤◌, true, inl, i
 use Rattle.std.proofs.Math.Bool.{or-true}
 use Rattle.std.proofs.lemmas.List.{length-append}
 use Rattle.std.proofs.lemmas.List.Folds.{list_any-append}
-use Rattle.cvss.specs.Dispatch.{DenotesCvss}
-use Rattle.cvss.specs.Text.{has, joined, slash}
-use Rattle.cvss.specs.declared.vector.Cvss.{Cvss}
-use Rattle.cvss.specs.declared.vector.Cvss.TheVariants.{CvssV20, CvssV30, CvssV31, CvssV40}
+use Rattle.cvss_any.specs.Dispatch.{DenotesCvss}
+use Rattle.cvss_grammar.specs.Text.{has, joined, slash}
+use Rattle.cvss_any.specs.declared.vector.Cvss.{Cvss}
+use Rattle.cvss_any.specs.declared.vector.Cvss.TheVariants.{CvssV20, CvssV30, CvssV31, CvssV40}
 use Rattle.cvss_v3.specs.Vector.{v3}
 use Rattle.cvss_v4.specs.Vector.{v4}
-use Rattle.cvss.proofs.RouteLemmas.{v2_parts, v3_parts, v4_parts}
+use Rattle.cvss_any.proofs.RouteLemmas.{v2_parts, v3_parts, v4_parts}
 use Rattle.cvss_mention.specs.Mentions.{IsFound}
 
 -- a text of two pieces or more

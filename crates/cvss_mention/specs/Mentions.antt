@@ -1,8 +1,8 @@
 -- The mentions of vectors in a text of any bytes, each with its place, and which of them are found.
 use Rattle.std.specs.Prelude.{◌≡◌, ℕ, ◌+◌, ◌⊎◌, true, List, [], ◌∷◌, length, ⊤}
-use Rattle.cvss.specs.Dispatch.{DenotesCvss}
-use Rattle.cvss.specs.Text.{has, slash}
-use Rattle.cvss.specs.declared.vector.Cvss.{Cvss}
+use Rattle.cvss_any.specs.Dispatch.{DenotesCvss}
+use Rattle.cvss_grammar.specs.Text.{has, slash}
+use Rattle.cvss_any.specs.declared.vector.Cvss.{Cvss}
 use Rattle.cvss_mention.specs.Parts.{begins_with_prefix, less_dividers, parts_of}
 
 -- a mention, and the place of its first byte, counted from 0

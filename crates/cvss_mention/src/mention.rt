@@ -1,13 +1,13 @@
 //! A mention of a vector.
 
 ghost use Rattle.std.specs.Prelude.{◌≡◌, ◌↔◌, IfSome, IsTrue, Some};
-ghost use Rattle.cvss.specs.Answers.{HasScore};
-ghost use Rattle.cvss.specs.Dispatch.{DenotesCvss};
-ghost use Rattle.cvss.specs.declared.vector.Cvss.{Cvss};
+ghost use Rattle.cvss_any.specs.Answers.{HasScore};
+ghost use Rattle.cvss_any.specs.Dispatch.{DenotesCvss};
+ghost use Rattle.cvss_any.specs.declared.vector.Cvss.{Cvss};
 ghost use Rattle.cvss_mention.specs.Mentions.{IsFound};
 
 use crate::part::begins_with_prefix;
-use cvss::Cvss;
+use cvss_any::Cvss;
 
 /// A mention of a vector in a text: bytes that are accepted as a vector, or that were meant as one.
 #[derive(Clone, Copy, Debug)]

@@ -1,13 +1,13 @@
 -- Of two numbers in order, each rounding gives tenths in this order. So equal numbers have one rounding.
 use Rattle.std.proofs.Common.{◌≡◌, ◌<◌, ℕ, suc, ◌+◌, ◌*◌, ◌/◌, ℤ, pos, negsuc, neg_ℤ, ◌*ℤ◌, ◌+ℤ◌, ◌-ℤ◌, ◌≤ℤ◌, arith, rules, subst, sym, ◌∙◌, lit<}
-use Rattle.std.proofs.lemmas.Int.{ints, by_lt_z}
+use Rattle.std.proofs.lemmas.Int.{ints}
 use Rattle.cvss_number.specs.Exact.{Exact, ratio, ◌over◌, whole, tenths, ◌⊕◌, ◌⊗◌, ◌≈◌, ◌⊑◌, ◌⊏◌}
 use Rattle.cvss_number.specs.Rounding.{half_below, half_above, IsNearestAway, IsRoundedV2, IsRoundedV30, IsRoundedV30, IsFloor, IsRoundedUp, IsRoundedV31, IsRoundedV4}
-use Rattle.cvss_number.specs.laws.Rounding.{IsEven, IsNearestEven, RoundsInOrder, RoundsOneWay}
-use Rattle.cvss_number.proofs.ExactLemmas.{equal_at_most, equal_from_at_most, by_below, at_most_trans, at_most_below, below_at_most, sum_at_most, scaled_at_most, times_difference, times_sum, times_times, neg_times}
+use Rattle.cvss_number.specs.laws.Rounding.{RoundsInOrder, RoundsOneWay}
+use Rattle.cvss_number.proofs.ExactLemmas.{equal_at_most, by_below, at_most_below, below_at_most, sum_at_most, scaled_at_most, times_difference, times_sum, times_times, neg_times}
 
 -- what keeps an order takes equal numbers to one tenth
-unique_if_ordered : (Rounding : Exact → ℤ → Type 0) → RoundsInOrder Rounding → RoundsOneWay Rounding
+pub unique_if_ordered : (Rounding : Exact → ℤ → Type 0) → RoundsInOrder Rounding → RoundsOneWay Rounding
 unique_if_ordered Rounding ordered x y r s some_x some_y same is_r is_s =
     let forth : r ≤ℤ s = ordered x y r s some_x some_y (equal_at_most x y same) is_r is_s in
     let back : s ≤ℤ r = ordered y x s r some_y some_x (record { at_most = omega (arith, ints) }) is_s is_r in
@@ -97,28 +97,6 @@ v31-ordered x y r s some_x some_y order is_r is_s =
     omega (arith, ints, is_r.negative x_negative, s_not_negative))
     (λ x_not_negative. rounded_up-ordered x y r s some_x some_y order (is_r.not_negative x_not_negative) s_up))
 
--- two tenths in a row are not both even
-next_not_even : (r s : ℤ) → IsEven r → IsEven s → ¬ (r ≡ s +ℤ pos 1)
-next_not_even r s r_even s_even next = omega (arith, ints)
-
--- were r above s, x and y would both lie halfway between the two, and both would be even
-nearest_even-ordered : RoundsInOrder IsNearestEven
-nearest_even-ordered x y r s some_x some_y order is_r is_s =
-    let low = is_r.nearest.from_half_below in
-    let high = is_s.nearest.to_half_above in
-    let x_high = at_most_trans x y (half_above s) some_y order high in
-    let y_low = at_most_trans (half_below r) x y some_x low order in
-    let halves = at_most_trans (half_below r) x (half_above s) some_x low x_high in
-    by_lt_z s r
-    (λ s_below_r.
-    let same_half : half_above s ⊑ half_below r = record { at_most = omega (arith, ints, s_below_r) } in
-    let x_low = at_most_trans x (half_above s) (half_below r) (lit< tt) x_high same_half in
-    let y_high = at_most_trans (half_above s) (half_below r) y (lit< tt) same_half y_low in
-    let r_even = is_r.even_above (equal_from_at_most x (half_below r) x_low low) in
-    let s_even = is_s.even_below (equal_from_at_most y (half_above s) high y_high) in
-    absurd (next_not_even r s r_even s_even (omega (arith, ints, halves, s_below_r))))
-    (λ r_at_most_s. r_at_most_s)
-
 pub v2-unique : RoundsOneWay IsRoundedV2
 v2-unique = unique_if_ordered IsRoundedV2 v2-ordered
 
@@ -130,9 +108,6 @@ v31-unique = unique_if_ordered IsRoundedV31 v31-ordered
 
 pub v4-unique : RoundsOneWay IsRoundedV4
 v4-unique = unique_if_ordered IsRoundedV4 v4-ordered
-
-pub nearest_even-unique : RoundsOneWay IsNearestEven
-nearest_even-unique = unique_if_ordered IsNearestEven nearest_even-ordered
 
 -- the nearest tenth of top/q, of two equally near the one farther from zero
 unfoldable pub nearest_of : ℤ → ℕ → ℤ
@@ -190,6 +165,3 @@ pub v2-equal : {x y : Exact} {r s : ℤ} → 0 < x.bottom → 0 < y.bottom → x
 v2-equal {x} {y} {r} {s} some_x some_y same same_tenths is_r =
     let is_y = v2_is y some_y in
     subst (λ (t : ℤ). IsRoundedV2 y t) (sym (v2-unique x y r (v2_tenths y) some_x some_y same is_r is_y) ∙ same_tenths) is_y
-
--- each of the roundings
-pub ruleset unique_roundings = (v2-unique, v30-unique, v31-unique, v4-unique, nearest_even-unique)

@@ -1,10 +1,10 @@
 -- Texts whose rows are made one after another.
 use Rattle.std.proofs.Common.{◌≡◌, inl, inr, ℕ, ◌+◌, List, [], ◌∷◌, ◌++◌, below_more}
 use Rattle.std.proofs.lemmas.Bool.{cases_order}
-use Rattle.cvss.specs.MetricTypeV4.{MetricType}
-use Rattle.cvss.specs.Refusal.{Refusal, piece_at, IsFirstRefusalBehind}
-use Rattle.cvss.specs.VectorTypeV4.{Vector}
-use Rattle.cvss.specs.VectorV4.{v4}
+use Rattle.cvss_name.specs.declared.v4.MetricType.{MetricType}
+use Rattle.cvss_grammar.specs.Refusal.{Refusal, piece_at, IsFirstRefusalBehind}
+use Rattle.cvss_v4.specs.declared.vector.Vector.{Vector}
+use Rattle.cvss_v4.specs.Vector.{v4}
 use Rattle.cvss_ranking.specs.Faults.{HasNoRefusalBefore, IsFirstRefused}
 use Rattle.cvss_ranking.specs.Triage.{IsRow, AreRows}
 use Rattle.cvss_ranking.specs.declared.row.Row.{Row}

@@ -1,15 +1,15 @@
 //! The rows of texts under overrides, in order.
 
 ghost use Rattle.std.specs.Prelude.{◌≡◌, ◌⊎◌, ℕ, IfOk, IfErr, OnOk, IsErrAnd, length, map};
-ghost use Rattle.cvss.specs.MetricTypeV4.{MetricType};
-ghost use Rattle.cvss.specs.Refusal.{Refusal};
+ghost use Rattle.cvss_name.specs.declared.v4.MetricType.{MetricType};
+ghost use Rattle.cvss_grammar.specs.Refusal.{Refusal};
 ghost use Rattle.cvss_ranking.specs.Faults.{Fault, InText, IsFirstFault, IsFirstRefused, HasNoRefusalBefore, TellsFault, TellsFirstFault, TellsFirstRefused};
 ghost use Rattle.cvss_ranking.specs.Triage.{AreRanked, AreRows};
 ghost use Rattle.cvss_ranking.specs.declared.error.TriageError.TheVariants.{OutOfMemory};
 
 use crate::error::TriageError;
 use crate::row::{Row, sort};
-use cvss::v4::Vector;
+use cvss_v4::Vector;
 use std::alloc::Global;
 
 /// The rows of vectors' texts, with an organisation's environmental metrics put in, in falling

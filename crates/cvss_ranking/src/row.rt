@@ -1,13 +1,13 @@
 //! What triage tells of one text.
 
 ghost use Rattle.std.specs.Prelude.{◌≡◌, IfOk, IsPermutation, IsSorted};
-ghost use Rattle.cvss.specs.Rating.{rating_of_score};
-ghost use Rattle.cvss.specs.VectorV4.{v4};
-ghost use Rattle.cvss.specs.Version.{IsComplete};
+ghost use Rattle.cvss_base.specs.Rating.{rating_of_score};
+ghost use Rattle.cvss_v4.specs.Vector.{v4};
+ghost use Rattle.cvss_grammar.specs.Version.{IsComplete};
 ghost use Rattle.cvss_ranking.specs.Triage.{row_order};
 
-use cvss::Severity;
-use cvss::v4::{Nomenclature, Score, Vector};
+use cvss_name::Severity;
+use cvss_v4::{Nomenclature, Score, Vector};
 use std::alloc::{AllocError, Global};
 
 /// A text, and what its vector is with the overrides in place.

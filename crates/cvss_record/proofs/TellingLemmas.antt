@@ -4,9 +4,9 @@ use Rattle.std.proofs.lemmas.Slice.Eq.{bytes_eq-Decides}
 use Rattle.cvss.specs.Answers.{metrics_of, text_of}
 use Rattle.cvss.specs.Dispatch.{DenotesCvss}
 use Rattle.cvss.specs.laws.GivenBack.{IsGivenBack}
-use Rattle.cvss.specs.declared.metric_type.MetricType.{MetricType}
-use Rattle.cvss.specs.declared.metric_type.MetricType.TheVariants.{V2, V3, V4}
-use Rattle.cvss.specs.declared.vector.Cvss.{Cvss}
+use Rattle.cvss.specs.MetricTypeAny.{MetricType}
+use Rattle.cvss.specs.MetricTypeAny.TheVariants.{V2, V3, V4}
+use Rattle.cvss.specs.CvssType.{Cvss}
 use Rattle.cvss_name.specs.declared.v2.MetricType.TheVariants as metric_v2
 use Rattle.cvss_name.specs.declared.v3.MetricType.TheVariants as metric_v3
 use Rattle.cvss_name.specs.declared.v4.MetricType.TheVariants as metric_v4

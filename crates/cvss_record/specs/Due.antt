@@ -4,10 +4,10 @@ use Rattle.std.specs.Float.Ieee.{eq}
 use Rattle.std.specs.List.{list_any}
 use Rattle.std.specs.Option.{option_or}
 use Rattle.cvss.specs.Answers.{metrics_of, rating_by, score_of_tenths}
-use Rattle.cvss.specs.declared.vector.Cvss.{Cvss}
-use Rattle.cvss.specs.declared.vector.Cvss.TheVariants.{CvssV20, CvssV30, CvssV31, CvssV40}
+use Rattle.cvss.specs.CvssType.{Cvss}
+use Rattle.cvss.specs.CvssType.TheVariants.{CvssV20, CvssV30, CvssV31, CvssV40}
 use Rattle.cvss_name.specs.V4Types.{declared}
-use Rattle.cvss_v2.specs.Table as table_v2
+use Rattle.cvss_v2_metric.specs.Table as table_v2
 use Rattle.cvss_v3_metric.specs.Table as table_v3
 use Rattle.cvss_words.specs.WordsV2 as words_v2
 use Rattle.cvss_words.specs.WordsV3 as words_v3

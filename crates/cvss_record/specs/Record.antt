@@ -5,9 +5,9 @@ use Rattle.std.specs.Float.Ieee.{of_int, div}
 use Rattle.cvss.specs.Answers.{metrics_of, rating_by, score_of_tenths, text_of}
 use Rattle.cvss.specs.SeverityType.{Severity}
 use Rattle.cvss.specs.SeverityType.TheVariants as severity
-use Rattle.cvss.specs.declared.metric_type.MetricType.{MetricType}
-use Rattle.cvss.specs.declared.vector.Cvss.{Cvss}
-use Rattle.cvss.specs.declared.vector.Cvss.TheVariants.{CvssV20, CvssV30, CvssV31, CvssV40}
+use Rattle.cvss.specs.MetricTypeAny.{MetricType}
+use Rattle.cvss.specs.CvssType.{Cvss}
+use Rattle.cvss.specs.CvssType.TheVariants.{CvssV20, CvssV30, CvssV31, CvssV40}
 use Rattle.serde_json.specs.Data.{Data, float, number, string}
 use Rattle.cvss_record.specs.Groups.{AreScoresOf, has_group, score_member, severity_member}
 use Rattle.cvss_record.specs.Members.{member_of, word_of}

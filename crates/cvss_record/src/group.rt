@@ -2,7 +2,7 @@
 //! 7).
 
 ghost use Rattle.std.specs.Prelude.{◌≡◌};
-ghost use Rattle.cvss.specs.declared.vector.Cvss.TheVariants.{CvssV20, CvssV30};
+ghost use Rattle.cvss.specs.CvssType.TheVariants.{CvssV20, CvssV30};
 ghost use Rattle.cvss_record.specs.Groups.{has_group, is_given_by, score_member, severity_member};
 
 use cvss::{Cvss, MetricGroup, v2, v3};

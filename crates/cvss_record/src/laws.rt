@@ -3,7 +3,7 @@
 
 ghost use Rattle.std.specs.Prelude.{◌≡◌, All};
 ghost use Rattle.cvss.specs.laws.GivenBack.{IsGivenBack};
-ghost use Rattle.cvss.specs.declared.vector.Cvss.{Cvss};
+ghost use Rattle.cvss.specs.CvssType.{Cvss};
 ghost use Rattle.cvss_grammar.specs.Equality.{ClonesAlways, ClonesByValue, EqualsByValue};
 ghost use Rattle.cvss_record.specs.Places.{places_in};
 ghost use Rattle.cvss_record.specs.Record.{IsRecordOf};

@@ -2,7 +2,7 @@
 
 ghost use Rattle.std.specs.Prelude.{◌≡◌};
 ghost use Rattle.cvss.specs.Answers.{HasScore, rating_by, score_of_tenths};
-ghost use Rattle.cvss.specs.declared.vector.Cvss.TheVariants.{CvssV20, CvssV30, CvssV40};
+ghost use Rattle.cvss.specs.CvssType.TheVariants.{CvssV20, CvssV30, CvssV40};
 ghost use Rattle.cvss.specs.VectorV4.{v4};
 ghost use Rattle.cvss.specs.Version.{IsComplete};
 ghost use Rattle.cvss_record.specs.Groups.{AreScoresOf, tenths_at};

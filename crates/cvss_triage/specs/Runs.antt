@@ -2,8 +2,8 @@
 use Rattle.std.specs.Prelude.{◌≡◌, ◌≢◌, ℕ, List, [], take, Option, All, flat_map, ⊤}
 use Rattle.std.specs.Io.KnownBytes.{Consumes, Appends, IsAtEnd, Keeps}
 use Rattle.std.specs.Str.{IsUtf8}
-use Rattle.cvss.specs.OverridingV4.{AreOverrides}
-use Rattle.cvss.specs.VectorTypeV4.{Vector}
+use Rattle.cvss_v4.specs.Overriding.{AreOverrides}
+use Rattle.cvss_v4.specs.declared.vector.Vector.{Vector}
 use Rattle.cvss_ranking.specs.Faults.{TellsFirstFault}
 use Rattle.cvss_ranking.specs.declared.error.TriageError.TheVariants.{OutOfMemory}
 use Rattle.cvss_ranking.specs.declared.row.Row.{Row}

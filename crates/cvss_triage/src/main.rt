@@ -13,7 +13,7 @@ mod rows;
 mod run;
 mod write;
 
-use cvss_lines::arguments;
+use cvss_program::arguments;
 pub use exit::exit_status;
 pub use fault::TriageFault;
 pub use program::{USAGE, run_program};

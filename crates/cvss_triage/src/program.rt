@@ -2,14 +2,14 @@
 
 ghost use Rattle.std.specs.Prelude.{◌≡◌, ◌≢◌, ◌⊎◌, ℕ, IfErr, IsErrOf, OnOk, take};
 ghost use Rattle.std.specs.Io.KnownBytes.{Appends, Keeps};
-ghost use Rattle.cvss_lines.specs.Requests.{asked as asked_of};
+ghost use Rattle.cvss_program.specs.Requests.{asked as asked_of};
 ghost use Rattle.cvss_triage.specs.Lines.{bytes_of};
 ghost use Rattle.cvss_triage.specs.Runs.{Ranks, RanksCut, IsTold, IsToldUnread};
 
 use crate::fault::TriageFault;
 use crate::run::run_arguments;
 use crate::write::write_whole;
-use cvss_lines::{Request, asked};
+use cvss_program::{Request, asked};
 use std::alloc::Global;
 use std::io::{Read, Write};
 

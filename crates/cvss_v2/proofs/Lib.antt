@@ -1,5 +1,1 @@
-mod ComputedLemmas
-mod MillionthLemmas
-mod TableLemmas
 mod TextLemmas
-mod WeightLemmas

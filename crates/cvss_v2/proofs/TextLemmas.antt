@@ -1,23 +1,15 @@
--- A text denotes at most one vector, and a canonical text denotes its own.
+-- A canonical text is the components of its vector, each behind a slash, but for the first slash.
 use Rattle.std.proofs.Common.{◌≡◌, ℕ, List, [], ◌∷◌, ◌++◌, drop, Option, Some, None, IsSome, option_map, unwrap_or, refl, sym, ap, ◌∙◌, lit<}
 use Rattle.cvss_text.specs.private.Printing.{slashed, slashed_texts}
 use Rattle.cvss_grammar.specs.Text.{slash, component}
 use Rattle.cvss_name.specs.V2Types.{name_of}
 use Rattle.cvss_name.specs.declared.v2.MetricType.TheVariants.{AV}
 use Rattle.cvss_text.proofs.PrintLemmas.{joined-slashed}
-use Rattle.cvss_v2.specs.declared.metric.base.access.AccessVector.{AccessVector}
-use Rattle.cvss_v2.specs.Table.{metric_component, spelling_of, printed}
-use Rattle.cvss_grammar.specs.Version.{canonical_text, Denotes, IsComplete}
-use Rattle.cvss_text.proofs.CanonicalLemmas.{canonical_text-denotes, denoted_once}
+use Rattle.cvss_v2_metric.specs.declared.base.access.AccessVector.{AccessVector}
+use Rattle.cvss_v2_metric.specs.Table.{metric_component, spelling_of, printed}
+use Rattle.cvss_grammar.specs.Version.{canonical_text, IsComplete}
 use Rattle.cvss_v2.specs.declared.vector.Vector.{Vector}
 use Rattle.cvss_v2.specs.Vector.{v2}
-use Rattle.cvss_v2.specs.private.VectorLaws.{v2_is_lawful}
-
-pub own_text : (vector : Vector) → Denotes v2 (canonical_text v2 vector) vector
-own_text = canonical_text-denotes v2 v2_is_lawful
-
-pub one_vector : (text : List ℕ) (left right : Vector) → Denotes v2 text left → Denotes v2 text right → left ≡ right
-one_vector text left right = denoted_once v2 v2_is_lawful left right text refl
 
 -- the component of the first metric, and those of the others behind slashes
 pub text_from_first : (vector : Vector) (av : AccessVector) (text : List ℕ) → vector.av ≡ Some av → text ≡ slash ∷ metric_component AV av → drop 1 text ++ slashed_texts v2 vector (drop 1 printed) ≡ canonical_text v2 vector

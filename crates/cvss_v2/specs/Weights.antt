@@ -4,7 +4,7 @@ use Rattle.cvss_name.specs.declared.v2.MetricType.{MetricType}
 use Rattle.cvss_name.specs.declared.v2.MetricType.TheVariants.{A, AC, AV, Au, C, I, E, RL, RC, CDP, TD, CR, IR, AR}
 use Rattle.cvss_v2.specs.declared.vector.Vector.{Vector}
 use Rattle.cvss_v2_score.specs.declared.weights.Weights.{Weights}
-use Rattle.cvss_v2.specs.Table.{weight_of, absent_weight}
+use Rattle.cvss_v2_metric.specs.Table.{weight_of, absent_weight}
 use Rattle.cvss_v2.specs.Vector.{value_at}
 
 -- the weight of a vector's metric

@@ -13,19 +13,19 @@ mod sight;
 mod units;
 mod weighing;
 
-use crate::metric::base::{
-    AccessComplexity, AccessVector, Authentication, AvailabilityImpact, ConfidentialityImpact,
-    IntegrityImpact,
-};
-use crate::metric::environmental::{
-    AvailabilityRequirement, CollateralDamagePotential, ConfidentialityRequirement,
-    IntegrityRequirement, TargetDistribution,
-};
-use crate::metric::temporal::{Exploitability, RemediationLevel, ReportConfidence};
 use cvss_base::refusing::vector_of;
 use cvss_name::Error;
 use cvss_text::print::same_components;
 use cvss_text::walk::read_vector;
+use cvss_v2_metric::base::{
+    AccessComplexity, AccessVector, Authentication, AvailabilityImpact, ConfidentialityImpact,
+    IntegrityImpact,
+};
+use cvss_v2_metric::environmental::{
+    AvailabilityRequirement, CollateralDamagePotential, ConfidentialityRequirement,
+    IntegrityRequirement, TargetDistribution,
+};
+use cvss_v2_metric::temporal::{Exploitability, RemediationLevel, ReportConfidence};
 pub use listing::Metrics;
 use std::alloc::Global;
 

@@ -1,4 +1,3 @@
 mod CountLemmas
 pub mod ScoreLemmas
-mod StandardFacts
 pub mod UniqueLemmas

@@ -1,6 +1,3 @@
-mod CutLemmas
-mod DefinedLemmas
-mod LawLemmas
 mod NameLemmas
-mod TableLemmas
+pub mod TableLemmas
 mod TextLemmas

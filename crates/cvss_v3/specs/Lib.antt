@@ -1,4 +1,3 @@
 pub mod Vector
 pub mod VectorWeights
-pub mod laws
 pub mod private

@@ -5,7 +5,5 @@ pub mod laws;
 mod score;
 mod vector;
 
-pub use cvss_v3_metric as metric;
-pub use cvss_v3_metric::{Metric, MetricType};
 pub use score::Score;
 pub use vector::{Metrics, Vector};

@@ -12,19 +12,19 @@ mod scores;
 mod sight;
 mod units;
 
-use crate::metric::base::{
-    AttackComplexity, AttackVector, Availability, Confidentiality, Integrity, PrivilegesRequired,
-    Scope, UserInteraction,
-};
-use crate::metric::environmental::{
-    AvailabilityRequirement, ConfidentialityRequirement, IntegrityRequirement, Modified,
-    ModifiedScope,
-};
-use crate::metric::temporal::{ExploitCodeMaturity, RemediationLevel, ReportConfidence};
 use cvss_base::refusing::vector_behind;
 use cvss_name::Error;
 use cvss_text::front::read_behind;
 use cvss_text::print::same_components;
+use cvss_v3_metric::base::{
+    AttackComplexity, AttackVector, Availability, Confidentiality, Integrity, PrivilegesRequired,
+    Scope, UserInteraction,
+};
+use cvss_v3_metric::environmental::{
+    AvailabilityRequirement, ConfidentialityRequirement, IntegrityRequirement, Modified,
+    ModifiedScope,
+};
+use cvss_v3_metric::temporal::{ExploitCodeMaturity, RemediationLevel, ReportConfidence};
 pub use listing::Metrics;
 use std::alloc::Global;
 

@@ -9,7 +9,9 @@ use Rattle.cvss_v3_metric.specs.Modified.{modified_rank}
 use Rattle.cvss_v3_metric.specs.Table.{Value, spelling_of, weight_of, rank_of}
 
 -- the enum has the values of the metric in the table
-pub record IsMetric {A : Type 0} (kind : MetricType) (value : A → Value kind) (compared : A → A → Ordering) : Type 0 where
+pub record IsMetric {A : Type 0} (type kind : MetricType) (value : A → Value kind) (compared : A → A → Ordering) : Type 0 where
+  -- its values are spelled as those of the metric
+  pub told : type ≡ kind
   -- each value of the table is a value of the enum
   pub covers : (x : Value kind) → (metric : A) × value metric ≡ x
   -- two values compare as their places in the table do

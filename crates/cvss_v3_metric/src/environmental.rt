@@ -4,6 +4,6 @@ mod modified;
 mod modified_scope;
 mod requirement;
 
-pub use modified::{BaseMetric, Modified};
+pub use modified::{BaseMetric, Modifiable, Modified};
 pub use modified_scope::ModifiedScope;
 pub use requirement::{AvailabilityRequirement, ConfidentialityRequirement, IntegrityRequirement};

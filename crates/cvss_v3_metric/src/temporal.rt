@@ -5,7 +5,7 @@ ghost use Rattle.std.proofs.Common.{rules};
 ghost use Rattle.cvss_name.specs.declared.v3.MetricType.TheVariants.{E, RL, RC};
 ghost use Rattle.cvss_v3_metric.specs.Table.{metric_component};
 
-use crate::metric::{Metric, MetricType};
+use crate::metric::{Metric, MetricType, Spelled};
 use cvss_text::print::write_component;
 use std::fmt;
 
@@ -19,16 +19,10 @@ pub enum ExploitCodeMaturity {
     Unproven,
 }
 
-impl Metric for ExploitCodeMaturity {
-    const TYPE: MetricType = MetricType::E;
-
-    ghost TYPE = { E };
+impl Spelled for ExploitCodeMaturity {
+    ghost kind = { E };
 
     ghost value = { λ metric. metric };
-
-    ghost law = { record { covers = λ x. (x, refl); ordered = Prim.search rules } };
-
-    ghost by_value = { Prim.search rules };
 
     fn row(self) -> (&'static str, Option<u64>) {
         match self {
@@ -53,6 +47,16 @@ impl Metric for ExploitCodeMaturity {
     }
 }
 
+impl Metric for ExploitCodeMaturity {
+    const TYPE: MetricType = MetricType::E;
+
+    ghost TYPE = { E };
+
+    ghost law = { record { told = refl; covers = λ x. (x, refl); ordered = Prim.search rules } };
+
+    ghost by_value = { Prim.search rules };
+}
+
 impl fmt::Display for ExploitCodeMaturity {
     ghost output = { λ metric. Some (metric_component E metric) };
 
@@ -73,16 +77,10 @@ pub enum RemediationLevel {
     OfficialFix,
 }
 
-impl Metric for RemediationLevel {
-    const TYPE: MetricType = MetricType::RL;
-
-    ghost TYPE = { RL };
+impl Spelled for RemediationLevel {
+    ghost kind = { RL };
 
     ghost value = { λ metric. metric };
-
-    ghost law = { record { covers = λ x. (x, refl); ordered = Prim.search rules } };
-
-    ghost by_value = { Prim.search rules };
 
     fn row(self) -> (&'static str, Option<u64>) {
         match self {
@@ -107,6 +105,16 @@ impl Metric for RemediationLevel {
     }
 }
 
+impl Metric for RemediationLevel {
+    const TYPE: MetricType = MetricType::RL;
+
+    ghost TYPE = { RL };
+
+    ghost law = { record { told = refl; covers = λ x. (x, refl); ordered = Prim.search rules } };
+
+    ghost by_value = { Prim.search rules };
+}
+
 impl fmt::Display for RemediationLevel {
     ghost output = { λ metric. Some (metric_component RL metric) };
 
@@ -126,16 +134,10 @@ pub enum ReportConfidence {
     Unknown,
 }
 
-impl Metric for ReportConfidence {
-    const TYPE: MetricType = MetricType::RC;
-
-    ghost TYPE = { RC };
+impl Spelled for ReportConfidence {
+    ghost kind = { RC };
 
     ghost value = { λ metric. metric };
-
-    ghost law = { record { covers = λ x. (x, refl); ordered = Prim.search rules } };
-
-    ghost by_value = { Prim.search rules };
 
     fn row(self) -> (&'static str, Option<u64>) {
         match self {
@@ -156,6 +158,16 @@ impl Metric for ReportConfidence {
             _ => None,
         }
     }
+}
+
+impl Metric for ReportConfidence {
+    const TYPE: MetricType = MetricType::RC;
+
+    ghost TYPE = { RC };
+
+    ghost law = { record { told = refl; covers = λ x. (x, refl); ordered = Prim.search rules } };
+
+    ghost by_value = { Prim.search rules };
 }
 
 impl fmt::Display for ReportConfidence {

@@ -6,5 +6,4 @@ pub mod NearLemmas
 pub mod NumberLemmas
 pub mod RoundLemmas
 mod SettledLemmas
-mod StandardFacts
 pub mod SubScoreLemmas

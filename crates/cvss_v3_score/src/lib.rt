@@ -2,7 +2,6 @@
 #![tactic(auto)]
 
 pub mod equations;
-pub mod laws;
 mod power;
 pub mod rounding;
 mod rules;

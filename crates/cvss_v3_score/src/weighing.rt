@@ -6,15 +6,15 @@ ghost use Rattle.cvss_v3_metric.specs.Table.{weight_of};
 ghost use Rattle.cvss_v3_score.specs.Weighing.{effective, effective_scope, is_changed as is_scope_changed, privileges_weight};
 ghost use Rattle.cvss_v3_score.specs.private.Weights.{WeighsAtMost};
 
-use cvss_v3_metric::Metric;
+use cvss_v3_metric::Spelled;
 use cvss_v3_metric::base::{PrivilegesRequired, Scope};
-use cvss_v3_metric::environmental::{BaseMetric, Modified, ModifiedScope};
+use cvss_v3_metric::environmental::{Modifiable, Modified, ModifiedScope};
 
 /// The weight of a value in hundredths, or another where the metric is absent.
 #[inline(always)]
-pub fn weight<M: Metric>(value: Option<M>, absent: u64) -> u64
-    ensures value { result ≡ weight_or (λ metric. weight_of M.TYPE (M.value metric)) value absent }
-    ensures bound { (most : ℕ) → WeighsAtMost most M.TYPE → absent ≤ most → result ≤ most }
+pub fn weight<M: Spelled>(value: Option<M>, absent: u64) -> u64
+    ensures value { result ≡ weight_or (λ metric. weight_of M.kind (M.value metric)) value absent }
+    ensures bound { (most : ℕ) → WeighsAtMost most M.kind → absent ≤ most → result ≤ most }
 {
     match value {
         Some(metric) => metric.hundredths().unwrap_or(0),
@@ -54,7 +54,7 @@ pub fn modified_privileges(
 
 /// The value of a modified metric where it is defined, and else of the base metric.
 #[inline(always)]
-pub fn effective<T: BaseMetric>(modified: Option<Modified<T>>, base: Option<T>) -> Option<T>
+pub fn effective<T: Modifiable>(modified: Option<Modified<T>>, base: Option<T>) -> Option<T>
     ensures { result ≡ effective modified base }
 {
     match modified {

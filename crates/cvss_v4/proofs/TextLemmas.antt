@@ -1,11 +1,11 @@
--- A text denotes at most one vector, and a canonical text denotes its own.
+-- The canonical text of a vector, and the vector that it denotes.
 use Rattle.std.proofs.Common.{◌≡◌, ◌≢◌, ◌↔◌, ℕ, IsTrue, nat_eq, List, [], ◌∷◌, ◌++◌, codes, Option, Some, None, IfSome, refl, sym, ap, ◌∙◌, lit<, subst}
 use Rattle.std.proofs.lemmas.Bool.Decides.{Decides-eqb}
 use Rattle.cvss_grammar.specs.Version.{numeral, canonical_text, version_piece, Denotes, IsSupported, IsWellFormed}
 use Rattle.cvss_text.specs.private.Printing.{slashed_texts}
 use Rattle.cvss_text.specs.private.Walk.{first_missing}
 use Rattle.cvss_text.proofs.CanonicalLemmas.{canonical_text-denotes}
-use Rattle.cvss_text.proofs.FrontLemmas.{denoted_once_behind, fronts_same}
+use Rattle.cvss_text.proofs.FrontLemmas.{fronts_same}
 use Rattle.cvss_text.proofs.MissingLemmas.{IsComplete-from}
 use Rattle.cvss_text.proofs.PrintLemmas.{joined-slashed}
 use Rattle.cvss_v4_metric.specs.Table.{printed}
@@ -13,11 +13,8 @@ use Rattle.cvss_v4.specs.declared.vector.Vector.{Vector}
 use Rattle.cvss_v4.specs.Vector.{v4}
 use Rattle.cvss_v4.specs.private.VectorLaws.{v4_is_lawful, v4_fronts_are_lawful, one_minor_version}
 
-pub own_text : (vector : Vector) → Denotes v4 (canonical_text v4 vector) vector
+own_text : (vector : Vector) → Denotes v4 (canonical_text v4 vector) vector
 own_text = canonical_text-denotes v4 v4_is_lawful
-
-pub one_vector : (text : List ℕ) (left right : Vector) → Denotes v4 text left → Denotes v4 text right → left ≡ right
-one_vector = denoted_once_behind v4 v4_is_lawful v4_fronts_are_lawful
 
 -- vectors of two minor versions have two texts
 pub versions_apart : (v w : Vector) → v.minor_version ≢ w.minor_version

@@ -5,7 +5,6 @@ use Rattle.cvss_name.specs.declared.v4.MetricType.{MetricType}
 use Rattle.cvss_name.specs.declared.v4.MetricType.TheVariants as metric
 use Rattle.cvss_v4_metric.specs.Ranks as place
 use Rattle.cvss_v4_metric.specs.Table.{spelling_at}
-use Rattle.cvss_v4_env.specs.Ranks as environmental
 use Rattle.cvss_v4.specs.declared.vector.Vector.{Vector}
 
 -- a type of values, the place of each among the spellings of its metric, and the value that a vector has
@@ -32,20 +31,20 @@ values_of metric.SC = of place.SC (λ v. v.sc)
 values_of metric.SI = of place.SI (λ v. v.si)
 values_of metric.SA = of place.SA (λ v. v.sa)
 values_of metric.E = of place.E (λ v. v.e)
-values_of metric.CR = of environmental.CR (λ v. v.cr)
-values_of metric.IR = of environmental.IR (λ v. v.ir)
-values_of metric.AR = of environmental.AR (λ v. v.ar)
-values_of metric.MAV = of environmental.MAV (λ v. v.mav)
-values_of metric.MAC = of environmental.MAC (λ v. v.mac)
-values_of metric.MAT = of environmental.MAT (λ v. v.mat)
-values_of metric.MPR = of environmental.MPR (λ v. v.mpr)
-values_of metric.MUI = of environmental.MUI (λ v. v.mui)
-values_of metric.MVC = of environmental.MVC (λ v. v.mvc)
-values_of metric.MVI = of environmental.MVI (λ v. v.mvi)
-values_of metric.MVA = of environmental.MVA (λ v. v.mva)
-values_of metric.MSC = of environmental.MSC (λ v. v.msc)
-values_of metric.MSI = of environmental.MSI (λ v. v.msi)
-values_of metric.MSA = of environmental.MSA (λ v. v.msa)
+values_of metric.CR = of place.CR (λ v. v.cr)
+values_of metric.IR = of place.IR (λ v. v.ir)
+values_of metric.AR = of place.AR (λ v. v.ar)
+values_of metric.MAV = of place.MAV (λ v. v.mav)
+values_of metric.MAC = of place.MAC (λ v. v.mac)
+values_of metric.MAT = of place.MAT (λ v. v.mat)
+values_of metric.MPR = of place.MPR (λ v. v.mpr)
+values_of metric.MUI = of place.MUI (λ v. v.mui)
+values_of metric.MVC = of place.MVC (λ v. v.mvc)
+values_of metric.MVI = of place.MVI (λ v. v.mvi)
+values_of metric.MVA = of place.MVA (λ v. v.mva)
+values_of metric.MSC = of place.MSC (λ v. v.msc)
+values_of metric.MSI = of place.MSI (λ v. v.msi)
+values_of metric.MSA = of place.MSA (λ v. v.msa)
 values_of metric.S = of place.S (λ v. v.s)
 values_of metric.AU = of place.AU (λ v. v.au)
 values_of metric.R = of place.R (λ v. v.r)

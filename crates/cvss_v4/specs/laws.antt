@@ -1,3 +1,1 @@
-pub mod LetterLaws
-pub mod MergingLaws
 pub mod OverridingLaws

@@ -2,10 +2,8 @@
 #![tactic(auto)]
 
 pub mod laws;
-pub mod metric;
 mod vector;
 
 pub use cvss_v4_score::scoring::account::Account;
-pub use cvss_v4_score::{Nomenclature, Score, scoring};
-pub use metric::MetricType;
+pub use cvss_v4_score::{Nomenclature, Score};
 pub use vector::{Metrics, OverrideError, Vector};

@@ -12,12 +12,12 @@ mod refusing;
 mod scores;
 mod sight;
 
-use crate::metric::{base, environmental, supplemental, threat};
 use cvss_base::refusing::vector_behind;
 use cvss_name::Error;
 use cvss_text::front::read_behind;
 use cvss_text::print::same_components;
 use cvss_text::walk::Components;
+use cvss_v4_metric::{base, environmental, supplemental, threat};
 pub use listing::Metrics;
 pub use overriding::OverrideError;
 use std::alloc::Global;

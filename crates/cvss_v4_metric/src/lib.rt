@@ -1,10 +1,10 @@
-//! The base, threat and supplemental metrics of CVSS v4.0, each an enum of its values, and what all
-//! metrics have in common.
+//! The metrics of CVSS v4.0, each an enum of its values, and what they have in common.
 #![tactic(auto)]
 
 pub mod base;
+pub mod environmental;
 mod metric;
 pub mod supplemental;
 pub mod threat;
 
-pub use metric::{Metric, MetricType, only_byte};
+pub use metric::{Metric, MetricType, Spelled, only_letter};

@@ -16,31 +16,46 @@ use cvss_text::cutting::is_raised_as;
 use std::alloc::Global;
 use std::fmt;
 
+/// What stands in vectors as a component: how values are spelled, and read from their spelling. Code
+/// that reads and prints any metric asks for no more, so that its proof rests on nothing else of the
+/// enums.
+pub trait Spelled: Copy {
+    ghost kind: { MetricType };
+
+    ghost rank: { Self → ℕ };
+
+    /// A slash and the component that stands for the value in a vector.
+    fn slashed(self) -> &'static str
+        ensures { result.now ≡ slash ∷ metric_component kind (rank self) };
+
+    /// The value with this spelling, in any ASCII case.
+    fn read_bytes(text: &[u8]) -> Option<Self>
+        ensures spelled { IfSome result
+            (λ metric. raised (spelling_at kind (rank metric)) ≡ raised text.now) }
+        ensures read { (metric : Self) → raised (spelling_at kind (rank metric)) ≡ raised text.now
+            → result ≡ Some metric };
+}
+
 /// A metric: an enum of the values that the specification gives for its type.
-pub trait Metric: Copy + Clone + fmt::Debug + fmt::Display + Eq + Ord + Default + 'static {
+pub trait Metric: Spelled
+    + Copy
+    + Clone
+    + fmt::Debug
+    + fmt::Display
+    + Eq
+    + Ord
+    + Default
+    + 'static {
     /// Which metric this is.
     const TYPE: MetricType;
 
     ghost TYPE: { MetricType };
 
-    ghost rank: { Self → ℕ };
-
     ghost values: { List Self };
-
-    /// A slash and the component that stands for the value in a vector.
-    fn slashed(self) -> &'static str
-        ensures { result.now ≡ slash ∷ metric_component TYPE (rank self) };
-
-    /// The value with this spelling, in any ASCII case.
-    fn read_bytes(text: &[u8]) -> Option<Self>
-        ensures spelled { IfSome result
-            (λ metric. raised (spelling_at TYPE (rank metric)) ≡ raised text.now) }
-        ensures read { (metric : Self) → raised (spelling_at TYPE (rank metric)) ≡ raised text.now
-            → result ≡ Some metric };
 
     /// How the value is spelled in a vector.
     final fn as_str(self) -> &'static str
-        ensures { result.now ≡ spelling_at TYPE (rank self) }
+        ensures { result.now ≡ spelling_at Self.kind (Self.rank self) }
     {
         &self.slashed()[Self::TYPE.name().len() + 2..]
     }
@@ -49,9 +64,9 @@ pub trait Metric: Copy + Clone + fmt::Debug + fmt::Display + Eq + Ord + Default 
     #[tactic(auto, using(crate::proofs::ReadingLemmas::read_alike))]
     final fn read_raised(text: &str) -> Option<Self>
         ensures spelled { IfSome result
-            (λ metric. IsReading (spelling_at TYPE (rank metric)) (raised text.now)) }
+            (λ metric. IsReading (spelling_at Self.kind (Self.rank metric)) (raised text.now)) }
         ensures read { (metric : Self)
-            → IsReading (spelling_at TYPE (rank metric)) (raised text.now)
+            → IsReading (spelling_at Self.kind (Self.rank metric)) (raised text.now)
             → result ≡ Some metric }
     {
         Self::read_bytes(text.as_bytes())
@@ -61,8 +76,8 @@ pub trait Metric: Copy + Clone + fmt::Debug + fmt::Display + Eq + Ord + Default 
     #[tactic(auto, using(crate::proofs::ReadingLemmas::read_alike))]
     final fn read(text: &str) -> Option<Self>
         ensures spelled { IfSome result
-            (λ metric. IsReading (spelling_at TYPE (rank metric)) text.now) }
-        ensures read { (metric : Self) → IsReading (spelling_at TYPE (rank metric)) text.now
+            (λ metric. IsReading (spelling_at Self.kind (Self.rank metric)) text.now) }
+        ensures read { (metric : Self) → IsReading (spelling_at Self.kind (Self.rank metric)) text.now
             → result ≡ Some metric }
     {
         let metric = Self::read_bytes(text.as_bytes())?;
@@ -80,8 +95,8 @@ pub trait Metric: Copy + Clone + fmt::Debug + fmt::Display + Eq + Ord + Default 
     /// `InvalidMetricV4` with the text where the metric has no such value.
     final fn from_str(alloc: Global, text: &str) -> Result<Self, Error>
         ensures spelled { IfOk result
-            (λ metric. IsReading (spelling_at TYPE (rank metric)) text.now) }
-        ensures read { (metric : Self) → IsReading (spelling_at TYPE (rank metric)) text.now
+            (λ metric. IsReading (spelling_at Self.kind (Self.rank metric)) text.now) }
+        ensures read { (metric : Self) → IsReading (spelling_at Self.kind (Self.rank metric)) text.now
             → result ≡ Ok metric }
         ensures refused { IfErr result (Tells v4_reason (BadValue TYPE text.now)) }
     {
@@ -104,19 +119,19 @@ pub trait Metric: Copy + Clone + fmt::Debug + fmt::Display + Eq + Ord + Default 
         Self::TYPE.name()
     }
 
-    ghost law: { IsMetric TYPE rank values ⟦<Self as Default>⟧.is_default
+    ghost law: { IsMetric TYPE Self.kind Self.rank values ⟦<Self as Default>⟧.is_default
         ⟦<Self as Ord>⟧.cmp ⟦<Self as PartialEq>⟧.eq ⟦<Self as Clone>⟧.is_clone
         ⟦<Self as Clone>⟧.is_infallible };
 }
 
-/// The byte of a text of one byte.
+/// The letter in upper case of a text of one byte.
 #[inline(always)]
-pub fn only_byte(text: &[u8]) -> Option<u8>
-    ensures only { IfSome result (λ byte. text.now ≡ byte ∷ []) }
-    ensures other { IfNone result ((byte : ℕ) → raised text.now ≡ byte ∷ [] → ⊥) }
+pub fn only_letter(text: &[u8]) -> Option<u8>
+    ensures only { IfSome result (λ letter. raised text.now ≡ letter ∷ []) }
+    ensures other { IfNone result ((letter : ℕ) → raised text.now ≡ letter ∷ [] → ⊥) }
 {
     match text {
-        [byte] => Some(*byte),
+        [byte] => Some(byte.to_ascii_uppercase()),
         _ => None,
     }
 }

@@ -7,7 +7,7 @@ ghost use Rattle.cvss_v4_metric.specs.Ranks as place;
 ghost use Rattle.cvss_v4_metric.specs.Table.{metric_component};
 ghost use Rattle.cvss_v4_metric.specs.declared.threat.ExploitMaturity.TheVariants as exploit_maturity;
 
-use crate::metric::{Metric, MetricType, only_byte};
+use crate::metric::{Metric, MetricType, Spelled, only_letter};
 use cvss_text::print::write_component;
 use std::fmt;
 
@@ -21,16 +21,10 @@ pub enum ExploitMaturity {
     Attacked,
 }
 
-impl Metric for ExploitMaturity {
-    const TYPE: MetricType = MetricType::E;
-
-    ghost TYPE = { metric.E };
+impl Spelled for ExploitMaturity {
+    ghost kind = { metric.E };
 
     ghost rank = { place.E };
-
-    ghost values = { exploit_maturity.NotDefined ∷ exploit_maturity.Unreported ∷ exploit_maturity.ProofOfConcept ∷ exploit_maturity.Attacked ∷ [] };
-
-    ghost law = { Prim.search rules };
 
     fn slashed(self) -> &'static str {
         match self {
@@ -42,14 +36,24 @@ impl Metric for ExploitMaturity {
     }
 
     fn read_bytes(text: &[u8]) -> Option<Self> {
-        match only_byte(text)? {
-            b'X' | b'x' => Some(Self::NotDefined),
-            b'U' | b'u' => Some(Self::Unreported),
-            b'P' | b'p' => Some(Self::ProofOfConcept),
-            b'A' | b'a' => Some(Self::Attacked),
+        match only_letter(text)? {
+            b'X' => Some(Self::NotDefined),
+            b'U' => Some(Self::Unreported),
+            b'P' => Some(Self::ProofOfConcept),
+            b'A' => Some(Self::Attacked),
             _ => None,
         }
     }
+}
+
+impl Metric for ExploitMaturity {
+    const TYPE: MetricType = MetricType::E;
+
+    ghost TYPE = { metric.E };
+
+    ghost values = { exploit_maturity.NotDefined ∷ exploit_maturity.Unreported ∷ exploit_maturity.ProofOfConcept ∷ exploit_maturity.Attacked ∷ [] };
+
+    ghost law = { Prim.search rules };
 }
 
 impl fmt::Display for ExploitMaturity {

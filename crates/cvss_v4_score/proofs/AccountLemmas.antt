@@ -6,8 +6,7 @@ use Rattle.cvss_v4_score.specs.Account.{IsGroupAccount}
 use Rattle.cvss_v4_score.specs.Classes.{macro_vector}
 use Rattle.cvss_v4_score.specs.Gap.{Group, next_lower}
 use Rattle.cvss_v4_score.specs.Scores.{proportion}
-use Rattle.cvss_v4_score.specs.Values.{listed_value, table_value}
-use Rattle.cvss_v4_score.specs.laws.ScoreLaws.{IsListed}
+use Rattle.cvss_v4_score.specs.Values.{listed_value, table_value, IsListed}
 use Rattle.cvss_v4_score.specs.private.Shares.{AreTerms, taken}
 use Rattle.cvss_v4_score.specs.declared.scoring.account.GroupAccount.{GroupAccount}
 use Rattle.cvss_v4_score.specs.declared.scoring.effective.Effective.{Effective}

@@ -4,10 +4,9 @@ use Rattle.std.specs.Option.{option_and_then}
 use Rattle.std.proofs.lemmas.Int.{ints}
 use Rattle.cvss_v4_score.specs.Classes.{macro_vector}
 use Rattle.cvss_v4_score.specs.Gap.{Group, eq1_group, eq2_group, eq3_eq6_group, eq4_group, eq5_group, eq1_next, eq2_next, eq3_eq6_next, eq4_next, eq5_next, groups, next_lower}
-use Rattle.cvss_v4_score.specs.Values.{listed_value, table_value}
+use Rattle.cvss_v4_score.specs.Values.{listed_value, table_value, IsListed}
 use Rattle.cvss_v4_score.specs.declared.scoring.classes.MacroVector.{MacroVector}
 use Rattle.cvss_v4_score.specs.declared.scoring.effective.Effective.{Effective}
-use Rattle.cvss_v4_score.specs.laws.ScoreLaws.{IsListed}
 use Rattle.cvss_v4_score.proofs.ClassLemmas.{macro_vector_is}
 use Rattle.cvss_v4_score.proofs.DistanceLemmas.{distance}
 use Rattle.cvss_v4_score.proofs.LeastLemmas.{Scale, IsScale, from_least, below_depth, eq1_scale, eq1_is_scale, eq2_scale, eq2_is_scale, eq3_eq6_scale, eq3_eq6_is_scale, eq4_scale, eq4_is_scale}

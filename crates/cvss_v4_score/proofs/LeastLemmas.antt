@@ -3,11 +3,9 @@ use Rattle.std.proofs.Common.{◌≡◌, ℕ, zero, suc, ◌+◌, ◌*◌, ◌/�
 use Rattle.std.specs.List.{list_all}
 use Rattle.std.proofs.lemmas.Bool.{and_parts, eqb-true}
 use Rattle.std.proofs.lemmas.Bool.Decides.{nat_tests}
-use Rattle.cvss_v4_score.specs.Classes.{eq1, eq2, eq3, eq4, eq6}
+use Rattle.cvss_v4_score.specs.Classes.{eq1, eq2, eq3, eq4, eq6, IsPair, Eq1Values, Eq2Values, Eq3Eq6Values, Eq4Values}
 use Rattle.cvss_v4_score.specs.Distance.{eq1_sum, eq1_least, eq2_sum, eq2_least, eq3_eq6_sum, eq3_eq6_least, eq4_sum, eq4_least}
 use Rattle.cvss_v4_score.specs.Gap.{eq1_depth, eq2_depth, eq3_eq6_depth, eq4_depth}
-use Rattle.cvss_v4_score.specs.laws.Maximal.{Eq1Values, Eq2Values, Eq3Eq6Values, Eq4Values}
-use Rattle.cvss_v4_score.specs.laws.ScoreLaws.{IsPair}
 use Rattle.cvss_v4_score.proofs.TestLemmas.{at_place, Finite, each_eq1, each_eq2, each_eq3_eq6, each_eq4, below, each_below}
 
 -- what a group says of its values and of its classes: the class and the level sum of values, and the least sum of a

@@ -1,19 +1,16 @@
 mod AccountLemmas
-mod ClassLawLemmas
 mod ClassLemmas
 mod CountLemmas
-mod DepthLemmas
-mod DistanceLemmas
-mod GroupLemmas
-mod LeastLemmas
-mod MeanLemmas
+pub mod DistanceLemmas
+pub mod GroupLemmas
+pub mod LeastLemmas
+pub mod MeanLemmas
 mod NextLemmas
 mod PlaceLemmas
 mod RoundedLemmas
 pub mod ScoreLawLemmas
 mod ScoreLemmas
-mod SevereLemmas
+pub mod SevereLemmas
 mod ShareLemmas
-mod StandardFacts
 mod TableLemmas
 pub mod TestLemmas

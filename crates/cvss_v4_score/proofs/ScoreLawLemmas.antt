@@ -1,37 +1,22 @@
--- One score, and the same with a millionth more; with impact the number lies from 0.1 to 10.
-use Rattle.std.proofs.Common.{◌≡◌, ◌↔◌, ℕ, zero, suc, ◌-◌, ◌*◌, ◌/◌, ◌<◌, ◌≤◌, max, Bool, true, false, List, [], ◌∷◌, Option, Some, None, option_map, unwrap_or, IfSome, refl, arith, ℤ, lit<}
-use Rattle.std.specs.List.{All}
+-- The number is a whole number of 504000ths of a point; so there is one score, and the same with a millionth more.
+use Rattle.std.proofs.Common.{◌≡◌, ◌↔◌, ℕ, ◌-◌, ◌*◌, ◌/◌, ◌<◌, ◌≤◌, max, Bool, true, false, List, [], ◌∷◌, Option, Some, None, option_map, unwrap_or, refl, arith, ℤ, lit<}
 use Rattle.std.proofs.Math.Nat.{mul-pos}
 use Rattle.std.proofs.lemmas.Int.{ints}
-use Rattle.cvss_number.specs.Exact.{◌over◌, whole, ◌⊕◌, ◌≈◌, ◌⊑◌}
+use Rattle.cvss_number.specs.Exact.{◌over◌, ◌⊕◌, ◌≈◌}
 use Rattle.cvss_number.specs.Rounding.{IsRoundedV4}
-use Rattle.cvss_number.proofs.ExactLemmas.{equal_refl, equal_sym, equal_at_most, at_most_trans, sum_equal}
+use Rattle.cvss_number.proofs.ExactLemmas.{equal_refl, equal_sym, sum_equal}
 use Rattle.cvss_number.proofs.RoundingLemmas.{v4-unique}
 use Rattle.cvss_v4_score.specs.Gap.{Group, groups, next_lower}
-use Rattle.cvss_v4_score.specs.laws.ScoreLaws.{IsFromTenthToTen}
 use Rattle.cvss_v4_score.specs.Scores.{has_impact, number, IsScore}
 use Rattle.cvss_v4_score.specs.private.Shares.{taken, counted}
 use Rattle.cvss_v4_score.specs.Values.{table_value}
 use Rattle.cvss_v4_score.specs.declared.scoring.effective.Effective.{Effective}
-use Rattle.cvss_v4_score.proofs.GroupLemmas.{table_value_listed, groups_sound}
+use Rattle.cvss_v4_score.proofs.GroupLemmas.{groups_sound}
 use Rattle.cvss_v4_score.proofs.MeanLemmas.{IsSound, AreSound, all_taken, all_counted}
 use Rattle.cvss_v4_score.proofs.RoundedLemmas.{mean_bound, v4-equal}
 use Rattle.cvss_v4_score.proofs.ScoreLemmas.{number_is, number_without_impact}
 use Rattle.cvss_v4_score.proofs.ShareLemmas.{part_bound}
 use Rattle.cvss_v4_score.proofs.TableLemmas.{Falls}
-
--- what holds of each value that is there
-if_there : (P : ℕ → Type 0) (next : Option ℕ) → ((lower : ℕ) → next ≡ Some lower → P lower) → IfSome next P
-if_there P None each = tt
-if_there P (Some lower) each = each lower refl
-
--- no next lower value of sound groups is above the value
-pub sound_fall : (value : ℕ) (groups : List Group) → AreSound value groups
-    → All (λ group. IfSome (next_lower group) (λ lower. lower ≤ value)) groups
-sound_fall value [] are_sound k d in_list = absurd (omega arith)
-sound_fall value (group ∷ rest) are_sound zero d in_list =
-    if_there (λ lower. lower ≤ value) (next_lower group) (λ lower next. (are_sound.0.falls lower next).to_value)
-sound_fall value (group ∷ rest) are_sound (suc k) d in_list = sound_fall value rest are_sound.1 k d (omega arith)
 
 -- what is taken of a gap is no more than the gap to 1
 part_at_most : (value distance depth : ℕ) (next : Option ℕ) → distance < depth → depth * (840 / depth) ≡ 840
@@ -64,7 +49,7 @@ abbrev pub count_of : Effective → ℕ
 count_of v = table_value v * 50400 - all_taken (table_value v) (groups v) * (60 / max (all_counted (groups v)) 1)
 
 -- the mean that is taken from a value leaves at least 0.1
-mean_taken : (v : Effective)
+pub mean_taken : (v : Effective)
     → all_taken (table_value v) (groups v) * (60 / max (all_counted (groups v)) 1) ≤ 50400 * (table_value v - 1)
 mean_taken v =
     let value = table_value v in
@@ -78,19 +63,6 @@ count_with_impact v with_impact =
     let all = all_taken value (groups v) in
     let count = all_counted (groups v) in
     number_is v all count with_impact refl refl (few_counted v) (omega (arith, mean_taken v))
-
--- so the number lies from 0.1 to 10
-pub from_tenth_to_ten : (v : Effective) → has_impact v ≡ true → IsFromTenthToTen (number v)
-from_tenth_to_ten v with_impact =
-    let counted = count_with_impact v with_impact in
-    let n = count_of v over 504000 in
-    let value = table_value_listed v in
-    let from_tenth : 1 over 10 ⊑ n = record { at_most = omega (arith, ints, mean_taken v, value.from_one) } in
-    let to_ten : n ⊑ whole 10 = record { at_most = omega (arith, ints, value.to_hundred) } in
-    record {
-      from_tenth = at_most_trans (1 over 10) n (number v) (lit< tt) from_tenth (equal_at_most n (number v) (equal_sym counted.0));
-      to_ten = at_most_trans (number v) n (whole 10) (lit< tt) (equal_at_most (number v) n counted.0) to_ten;
-    }
 
 by_impact : (v : Effective) (b : Bool) → has_impact v ≡ b → (n : ℕ) × (number v ≈ n over 504000) × (0 < (number v).bottom)
 by_impact v true with_impact =

@@ -7,8 +7,7 @@ use Rattle.cvss_number.proofs.ExactLemmas.{difference_equal, equal_refl, equal_s
 use Rattle.cvss_v4_score.specs.Classes.{macro_vector}
 use Rattle.cvss_v4_score.specs.Gap.{groups}
 use Rattle.cvss_v4_score.specs.Scores.{has_impact, mean, number, proportions}
-use Rattle.cvss_v4_score.specs.laws.ScoreLaws.{IsListed}
-use Rattle.cvss_v4_score.specs.Values.{listed_value, table_value}
+use Rattle.cvss_v4_score.specs.Values.{listed_value, table_value, IsListed}
 use Rattle.cvss_v4_score.specs.declared.scoring.effective.Effective.{Effective}
 use Rattle.cvss_v4_score.proofs.GroupLemmas.{groups_sound}
 use Rattle.cvss_v4_score.proofs.MeanLemmas.{IsTotal, all_taken, all_counted, less_mean, mean_is, total_is}

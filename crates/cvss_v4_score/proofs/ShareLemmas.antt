@@ -5,8 +5,7 @@ use Rattle.std.proofs.lemmas.Int.{ints}
 use Rattle.cvss_v4_score.specs.Account.{with_value}
 use Rattle.cvss_v4_score.specs.Classes.{macro_vector}
 use Rattle.cvss_v4_score.specs.Gap.{Group}
-use Rattle.cvss_v4_score.specs.Values.{listed_value, table_value}
-use Rattle.cvss_v4_score.specs.laws.ScoreLaws.{IsListed}
+use Rattle.cvss_v4_score.specs.Values.{listed_value, table_value, IsListed}
 use Rattle.cvss_v4_score.specs.private.Next.{IsInTable}
 use Rattle.cvss_v4_score.specs.private.Shares.{AreTerms, IsPart, taken, counted}
 use Rattle.cvss_v4_score.specs.declared.scoring.effective.Effective.{Effective}

@@ -4,10 +4,9 @@ use Rattle.std.proofs.lemmas.Bool.{and_parts}
 use Rattle.std.specs.Option.{option_and_then}
 use Rattle.std.proofs.lemmas.Bool.Decides.{nat_tests}
 use Rattle.cvss_v4_score.specs.Classes.{IsMacroVector}
-use Rattle.cvss_v4_score.specs.laws.ScoreLaws.{IsListed}
 use Rattle.cvss_v4_score.specs.Gap.{eq1_next, eq2_next, eq3_eq6_next, eq4_next, eq5_next}
 use Rattle.cvss_v4_score.specs.private.Places.{place_of}
-use Rattle.cvss_v4_score.specs.Values.{rows, listed_value}
+use Rattle.cvss_v4_score.specs.Values.{rows, listed_value, IsListed}
 use Rattle.cvss_v4_score.specs.declared.scoring.classes.MacroVector.{MacroVector}
 use Rattle.cvss_v4_score.specs.declared.scoring.values.TheConstants.{VALUES}
 use Rattle.cvss_v4_score.proofs.TestLemmas.{below, each_below}

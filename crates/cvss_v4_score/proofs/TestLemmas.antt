@@ -4,7 +4,7 @@ use Rattle.std.specs.List.{list_all}
 use Rattle.std.proofs.lemmas.Bool.{and_parts, cases_eq}
 use Rattle.cvss_v4_score.specs.Effective.{attack_vectors, privileges, user_interactions, attack_complexities, all_attack_requirements, vulnerable_impacts, subsequent_impacts, safety_impacts, requirements, values}
 use Rattle.cvss_v4_score.specs.Levels.{attack_vector_level, privileges_level, interaction_level, complexity_level, requirements_level, vulnerable_level, subsequent_level, safety_level, requirement_level}
-use Rattle.cvss_v4_score.specs.laws.Maximal.{Eq1Values, Eq2Values, Eq3Eq6Values, Eq4Values}
+use Rattle.cvss_v4_score.specs.Classes.{Eq1Values, Eq2Values, Eq3Eq6Values, Eq4Values}
 use Rattle.cvss_v4_metric.specs.declared.base.access as access
 use Rattle.cvss_v4_metric.specs.declared.base.attack as attack
 use Rattle.cvss_v4_score.specs.declared.scoring.effective as effective

@@ -23,6 +23,10 @@ use Rattle.cvss_v4_score.specs.declared.scoring.effective.Requirement.TheVariant
 use Rattle.cvss_v4_score.specs.declared.scoring.effective.ExploitMaturity.{ExploitMaturity}
 use Rattle.cvss_v4_score.specs.declared.scoring.effective.ExploitMaturity.TheVariants.{Attacked, ProofOfConcept, Unreported}
 
+-- values of AV, PR and UI
+abbrev pub Eq1Values : Type 0
+Eq1Values = AttackVector × PrivilegesRequired × UserInteraction
+
 -- AV:N, AV:P, PR:N and UI:N
 abbrev pub is_network : AttackVector → Bool
 is_network = elim [ Network ↦ true | _ ↦ false ]
@@ -42,6 +46,10 @@ eq1 av pr ui =
     if is_network av && is_unprivileged pr && is_alone ui then 0
     else (if (is_network av || (is_unprivileged pr || is_alone ui)) && not (is_physical av) then 1 else 2)
 
+-- values of AC and AT
+abbrev pub Eq2Values : Type 0
+Eq2Values = AttackComplexity × AttackRequirements
+
 -- AC:L and AT:N
 abbrev pub is_simple : AttackComplexity → Bool
 is_simple = elim [ attack_complexity.Low ↦ true | _ ↦ false ]
@@ -52,6 +60,10 @@ is_unconditional = elim [ attack_requirements.None ↦ true | _ ↦ false ]
 -- 0: AC:L and AT:N; 1: not AC:L, or not AT:N
 abbrev pub eq2 : AttackComplexity → AttackRequirements → ℕ
 eq2 ac at = if is_simple ac && is_unconditional at then 0 else 1
+
+-- values of VC, VI, VA, CR, IR and AR
+abbrev pub Eq3Eq6Values : Type 0
+Eq3Eq6Values = VulnerableImpact × VulnerableImpact × VulnerableImpact × Requirement × Requirement × Requirement
 
 -- VC:H, VI:H or VA:H; CR:H, IR:H or AR:H
 abbrev pub is_vulnerable_high : VulnerableImpact → Bool
@@ -73,6 +85,10 @@ eq6 vc vi va cr ir ar =
     || (is_requirement_high ir && is_vulnerable_high vi || is_requirement_high ar && is_vulnerable_high va)
     then 0
     else 1
+
+-- values of SC, SI and SA
+abbrev pub Eq4Values : Type 0
+Eq4Values = SubsequentImpact × SafetyImpact × SafetyImpact
 
 -- SC:H; SI:H or SA:H; SI:S or SA:S
 abbrev pub is_subsequent_high : SubsequentImpact → Bool
@@ -114,3 +130,9 @@ pub record IsMacroVector (m : MacroVector) : Type 0 where
   pub eq5 : m.eq5 ≤ 2
   pub eq6 : m.eq6 ≤ 1
   pub eq3_eq6 : m.eq3 ≡ 2 → m.eq6 ≡ 1
+
+-- there is a class of EQ3 with EQ6 with these two numbers
+pub record IsPair (class3 class6 : ℕ) : Type 0 where
+  pub eq3 : class3 ≤ 2
+  pub eq6 : class6 ≤ 1
+  pub both : class3 ≡ 2 → class6 ≡ 1

@@ -8,5 +8,4 @@ pub mod Levels
 pub mod Nomenclature
 pub mod Scores
 pub mod Values
-pub mod laws
 pub mod private

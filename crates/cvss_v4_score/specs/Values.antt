@@ -1,5 +1,5 @@
 -- The values of the classes, in tenths: CVSS v4.0 specification, section 8.2 (MacroVector lookup).
-use Rattle.std.specs.Prelude.{ℕ, ◌+◌, ◌*◌, ◌==◌, List, [], ◌∷◌, Option, slice_get, find, option_and_then, unwrap_or}
+use Rattle.std.specs.Prelude.{◌≡◌, ℕ, ◌+◌, ◌*◌, ◌≤◌, ◌==◌, List, [], ◌∷◌, Option, Some, slice_get, find, option_and_then, unwrap_or}
 use Rattle.cvss_v4_score.specs.declared.scoring.classes.MacroVector.{MacroVector}
 use Rattle.cvss_v4_score.specs.declared.scoring.effective.Effective.{Effective}
 use Rattle.cvss_v4_score.specs.Classes.{macro_vector}
@@ -64,3 +64,9 @@ class_value m = unwrap_or (listed_value m) 0
 -- the value of the class of effective values
 abbrev pub table_value : Effective → ℕ
 table_value v = class_value (macro_vector v)
+
+-- a value of the table is there, and is this one, which is from 1 to 100
+pub record IsListed (listed : Option ℕ) (value : ℕ) : Type 0 where
+  pub is_value : listed ≡ Some value
+  pub from_one : 1 ≤ value
+  pub to_hundred : value ≤ 100

@@ -3,9 +3,9 @@ use Rattle.std.specs.Prelude.{◌≡◌, ℕ, List, [], ◌∷◌, ◌++◌, cod
 use Rattle.std.specs.Str.{IsUtf8}
 use Rattle.cvss.specs.Bytes.{TellsWhyNot, bytes_error_text}
 use Rattle.cvss.specs.Dispatch.{DenotesCvss}
-use Rattle.cvss.specs.declared.bytes_error.BytesError.{BytesError}
-use Rattle.cvss.specs.declared.bytes_error.BytesError.TheVariants.{NotUtf8, Invalid}
-use Rattle.cvss.specs.declared.vector.Cvss.{Cvss}
+use Rattle.cvss.specs.BytesErrorType.{BytesError}
+use Rattle.cvss.specs.BytesErrorType.TheVariants.{NotUtf8, Invalid}
+use Rattle.cvss.specs.CvssType.{Cvss}
 use Rattle.cvss_account.specs.Account.{AreMembersOf}
 use Rattle.cvss_lines.specs.Answers.{Answer, Accepted, Refused}
 use Rattle.cvss_object.specs.Texts.{IsTextOf}

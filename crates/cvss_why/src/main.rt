@@ -6,7 +6,8 @@ mod answer;
 mod help;
 
 pub use answer::Vectors;
-use cvss_lines::{ProgramFault, Summary, arguments, program_status, run_program};
+use cvss_lines::Summary;
+use cvss_program::{ProgramFault, arguments, program_status, run_program};
 use help::USAGE;
 use std::process::ExitCode;
 

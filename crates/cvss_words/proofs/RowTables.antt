@@ -5,7 +5,7 @@ use Rattle.cvss_name.specs.declared.v2.MetricType.TheVariants as metric_v2
 use Rattle.cvss_name.specs.declared.v3.MetricType as kind_v3
 use Rattle.cvss_name.specs.declared.v3.MetricType.TheVariants as metric_v3
 use Rattle.cvss_name.specs.declared.v4.MetricType as kind_v4
-use Rattle.cvss_v2.specs.Table as table_v2
+use Rattle.cvss_v2_metric.specs.Table as table_v2
 use Rattle.cvss_v3_metric.specs.Table as table_v3
 use Rattle.cvss_v4_metric.specs.Table as table_v4
 use Rattle.cvss_words.specs.Words.{AreRowsOf}

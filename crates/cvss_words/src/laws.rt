@@ -4,7 +4,7 @@ ghost use Rattle.std.specs.Prelude.{map};
 ghost use Rattle.cvss_name.specs.declared.v2.MetricType as kind_v2;
 ghost use Rattle.cvss_name.specs.declared.v3.MetricType as kind_v3;
 ghost use Rattle.cvss_name.specs.declared.v4.MetricType as kind_v4;
-ghost use Rattle.cvss_v2.specs.Table as table_v2;
+ghost use Rattle.cvss_v2_metric.specs.Table as table_v2;
 ghost use Rattle.cvss_v3_metric.specs.Table as table_v3;
 ghost use Rattle.cvss_v4_metric.specs.Table as table_v4;
 ghost use Rattle.cvss_words.specs.Words.{AreRowsOf, HaveOneName};

@@ -1,8 +1,8 @@
 -- What equality of errors of bytes means: that of what they tell.
 use Rattle.std.specs.Prelude.{⊤}
 use Rattle.cvss_name.specs.laws.Errors as base
-use Rattle.cvss.specs.declared.bytes_error.BytesError.{BytesError}
-use Rattle.cvss.specs.declared.bytes_error.BytesError.TheVariants.{NotUtf8, Invalid}
+use Rattle.cvss_any.specs.declared.bytes_error.BytesError.{BytesError}
+use Rattle.cvss_any.specs.declared.bytes_error.BytesError.TheVariants.{NotUtf8, Invalid}
 
 -- both are that the bytes are no text, or both reasons tell the same
 abbrev pub TellTheSame : BytesError → BytesError → Type 0

@@ -1,6 +1,6 @@
 //! What a group of metrics brings to a score.
 
-ghost use Rattle.std.specs.Prelude.{◌≡◌, ◌≤◌, IfOk, OnOk, string_bytes};
+ghost use Rattle.std.specs.Prelude.{◌≡◌, IfOk, OnOk, string_bytes};
 ghost use Rattle.cvss_account.specs.V4.{group_value, next_members};
 ghost use Rattle.cvss_record.specs.Objects.{with_members};
 ghost use Rattle.cvss_v4_score.specs.Account.{IsInRange};

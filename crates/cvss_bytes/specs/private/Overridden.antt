@@ -4,8 +4,8 @@ use Rattle.std.specs.Str.{IsUtf8}
 use Rattle.cvss.specs.OverrideErrorTypeV4.{OverrideError}
 use Rattle.cvss.specs.OverrideErrorTypeV4.TheVariants.{NotEnvironmental, Refused}
 use Rattle.cvss.specs.OverridingV4.{TellsFirstObjection}
-use Rattle.cvss.specs.declared.vector.Cvss.{Cvss}
-use Rattle.cvss.specs.declared.vector.Cvss.TheVariants.{CvssV40}
+use Rattle.cvss.specs.CvssType.{Cvss}
+use Rattle.cvss.specs.CvssType.TheVariants.{CvssV40}
 use Rattle.cvss_bytes.specs.Overriding.{overrides_in}
 use Rattle.cvss_bytes.specs.declared.overriding.Unfit.{Unfit}
 use Rattle.cvss_bytes.specs.declared.overriding.Unfit.TheVariants.{OtherVersion, NotUtf8, Override}

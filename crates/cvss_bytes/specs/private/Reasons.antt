@@ -9,7 +9,7 @@ use Rattle.cvss.specs.OverrideErrorTypeV4.{OverrideError}
 use Rattle.cvss.specs.OverrideErrorTypeV4.TheVariants.{NotEnvironmental, Refused}
 use Rattle.cvss.specs.Refusal.{Refusal, carries_text}
 use Rattle.cvss.specs.Told.{Tells}
-use Rattle.cvss.specs.declared.metric_type.MetricType.{MetricType}
+use Rattle.cvss.specs.MetricTypeAny.{MetricType}
 
 -- each reason that the error tells carries a part of the text
 abbrev pub CarriesText : Error → Type 0

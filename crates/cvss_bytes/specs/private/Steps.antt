@@ -2,7 +2,7 @@
 use Rattle.std.specs.Prelude.{◌≡◌, ◌≢◌, ℕ, ◌<◌, ◌≤◌, List, [], ◌++◌, codes, length, slice_index, flat_map, unwrap_or}
 use Rattle.cvss.specs.Answers.{rating_text}
 use Rattle.cvss.specs.Dispatch.{DenotesCvss}
-use Rattle.cvss.specs.declared.vector.Cvss.{Cvss}
+use Rattle.cvss.specs.CvssType.{Cvss}
 use Rattle.cvss_grammar.specs.Version.{Version}
 use Rattle.cvss_name.specs.declared.severity.Severity.{Severity}
 use Rattle.cvss_text.specs.private.Printing.{slashed}

@@ -1,7 +1,8 @@
 //! Tests of how runs end, and of the calls that programs make for themselves.
 
 use super::streams::{Interrupted, Narrow};
-use cvss_lines::{Request, RunFault, Summary, asked, exit_status, first_line, write_whole};
+use cvss_lines::{RunFault, Summary, exit_status, first_line, write_whole};
+use cvss_program::{Request, asked};
 use std::alloc::Global;
 use std::process::Abort;
 use std::test::Fail;

@@ -7,9 +7,7 @@ ghost use Rattle.cvss_v4_score.specs.AsSevere.{IsAsSevere};
 ghost use Rattle.cvss_v4_score.specs.Scores.{number};
 
 use super::samples::{HARMLESS, LEAST, WORST};
-use cvss_v4_score::laws::{
-    a_millionth_changes_no_score, scores_are_unique, severe_values_score_no_less,
-};
+use cvss_laws::v4::{a_millionth_changes_no_score, scores_are_unique, severe_values_score_no_less};
 use cvss_v4_score::scoring::effective::Effective;
 use cvss_v4_score::scoring::score_tenths;
 use std::test::Fail;

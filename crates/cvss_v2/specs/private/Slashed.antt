@@ -4,7 +4,7 @@ use Rattle.cvss_text.specs.private.Printing.{slashed}
 use Rattle.cvss_grammar.specs.Text.{component}
 use Rattle.cvss_name.specs.V2Types.{name_of}
 use Rattle.cvss_name.specs.declared.v2.MetricType.{MetricType}
-use Rattle.cvss_v2.specs.Table.{Value, spelling_of}
+use Rattle.cvss_v2_metric.specs.Table.{Value, spelling_of}
 
 -- the component of a value of the table, if there is one
 abbrev pub value_component : {M : Type 0} (kind : MetricType) → (M → Value kind) → Option M → Option (List ℕ)

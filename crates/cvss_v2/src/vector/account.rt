@@ -7,11 +7,13 @@ ghost use Rattle.cvss_v2_score.specs.Scores.{impact, adjusted_impact, exploitabi
 ghost use Rattle.cvss_v2.specs.Weights.{weight_in, weights_of};
 
 use super::weighing::weight;
-use crate::MetricType;
-use crate::metric::THOUSANDTH;
 use crate::vector::Vector;
+use cvss_v2_metric::MetricType;
 use cvss_v2_score::score::of_tenths;
 use cvss_v2_score::{Score, base_score, equations};
+
+/// A thousandth, in counts of 10^-24.
+const THOUSANDTH: i128 = 1_000_000_000_000_000_000_000;
 
 impl Vector {
     /// What a metric weighs in this vector, in counts of 10^-24 (guide, section 3.2): an absent one

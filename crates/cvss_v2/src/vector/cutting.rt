@@ -4,7 +4,7 @@ ghost use Rattle.std.specs.Prelude.{◌≡◌, ◌∷◌, [], ◌++◌, IfSome};
 ghost use Rattle.cvss_grammar.specs.Text.{colon};
 ghost use Rattle.cvss_name.specs.V2Types.{name_of};
 
-use crate::metric::MetricType;
+use cvss_v2_metric::MetricType;
 
 /// The metric with whose name and a colon a piece begins, and what stands behind these.
 #[inline(always)]

@@ -8,16 +8,16 @@ ghost use Rattle.cvss_text.specs.private.Walk.{first_missing};
 ghost use Rattle.cvss_grammar.specs.Text.{slash};
 ghost use Rattle.cvss_grammar.specs.Version.{canonical_text, IsComplete};
 ghost use Rattle.cvss_name.specs.declared.v2.MetricType.TheVariants.{A, AC, AV, Au, C, I, E, RL, RC, CDP, TD, CR, IR, AR};
-ghost use Rattle.cvss_v2.specs.Table.{spelling_of, metric_component, printed};
+ghost use Rattle.cvss_v2_metric.specs.Table.{spelling_of, metric_component, printed};
 ghost use Rattle.cvss_v2.specs.Vector.{v2};
 ghost use Rattle.cvss_v2.specs.private.Slashed.{slashed_value};
 
 mod base;
 
-use crate::metric::{Metric, MetricType};
 use crate::vector::Vector;
 use base::base_at_sight;
 use cvss_text::sight::{behind_name, put_read};
+use cvss_v2_metric::{MetricType, Spelled};
 
 impl Vector {
     /// The vector whose canonical text this is, where that is seen at once: `None` tells nothing of
@@ -83,9 +83,9 @@ fn temporal_at_sight<'a>(vector: &mut Vector, text: &'a [u8]) -> &'a [u8]
       rc = vector.new.rc;
     } }
 {
-    let text = optional_at_sight(&mut vector.e, text);
-    let text = optional_at_sight(&mut vector.rl, text);
-    optional_at_sight(&mut vector.rc, text)
+    let text = optional_at_sight(MetricType::E, &mut vector.e, text);
+    let text = optional_at_sight(MetricType::RL, &mut vector.rl, text);
+    optional_at_sight(MetricType::RC, &mut vector.rc, text)
 }
 
 /// Puts the environmental metrics with which a text begins into the vector, and gives what stands
@@ -102,38 +102,44 @@ fn environmental_at_sight<'a>(vector: &mut Vector, text: &'a [u8]) -> &'a [u8]
       ar = vector.new.ar;
     } }
 {
-    let text = optional_at_sight(&mut vector.cdp, text);
-    let text = optional_at_sight(&mut vector.td, text);
-    let text = optional_at_sight(&mut vector.cr, text);
-    let text = optional_at_sight(&mut vector.ir, text);
-    optional_at_sight(&mut vector.ar, text)
+    let text = optional_at_sight(MetricType::CDP, &mut vector.cdp, text);
+    let text = optional_at_sight(MetricType::TD, &mut vector.td, text);
+    let text = optional_at_sight(MetricType::CR, &mut vector.cr, text);
+    let text = optional_at_sight(MetricType::IR, &mut vector.ir, text);
+    optional_at_sight(MetricType::AR, &mut vector.ar, text)
 }
 
 /// Puts the value of a metric into its place, if a text begins with a slash and its component, and
 /// gives what stands behind that; else no value, and the text.
 #[inline(always)]
-fn optional_at_sight<'a, M: Metric>(place: &mut Option<M>, text: &'a [u8]) -> &'a [u8]
-    ensures { text.now ≡ slashed_value M.TYPE M.value place.new ++ result.now }
+fn optional_at_sight<'a, M: Spelled>(
+    kind: MetricType,
+    place: &mut Option<M>,
+    text: &'a [u8],
+) -> &'a [u8]
+    requires { kind ≡ M.kind }
+    ensures { text.now ≡ slashed_value M.kind M.value place.new ++ result.now }
 {
-    put_read(place, component_at_sight(text), text)
+    put_read(place, component_at_sight(kind, text), text)
 }
 
 /// The value of a metric, where a text begins with a slash and its component, and what stands
 /// behind that.
 #[inline(always)]
-fn component_at_sight<M: Metric>(text: &[u8]) -> Option<(M, &[u8])>
+fn component_at_sight<M: Spelled>(kind: MetricType, text: &[u8]) -> Option<(M, &[u8])>
+    requires { kind ≡ M.kind }
     ensures { IfSome result
-        (λ read. text.now ≡ slash ∷ (metric_component M.TYPE (M.value read.0) ++ read.1.now)) }
+        (λ read. text.now ≡ slash ∷ (metric_component M.kind (M.value read.0) ++ read.1.now)) }
 {
-    value_at_sight(behind_name(M::TYPE.name(), text)?)
+    value_at_sight(behind_name(kind.name(), text)?)
 }
 
 /// The value of a metric, where a text begins with its spelling up to a slash, and what stands
 /// behind that. No spelling has more than three letters.
 #[inline(always)]
-fn value_at_sight<M: Metric>(text: &[u8]) -> Option<(M, &[u8])>
+fn value_at_sight<M: Spelled>(text: &[u8]) -> Option<(M, &[u8])>
     ensures { IfSome result
-        (λ read. text.now ≡ spelling_of M.TYPE (M.value read.0) ++ read.1.now) }
+        (λ read. text.now ≡ spelling_of M.kind (M.value read.0) ++ read.1.now) }
 {
     let (value, rest) = match text {
         [_] | [_, b'/', ..] => text.split_at(1),

@@ -1,13 +1,13 @@
 //! What the metrics of a vector weigh, in thousandths.
 
 ghost use Rattle.std.specs.Prelude.{◌≡◌, ◌≤◌, option_map, unwrap_or};
-ghost use Rattle.cvss_v2.specs.Table.{weight_of, absent_weight};
+ghost use Rattle.cvss_v2_metric.specs.Table.{weight_of, absent_weight};
 ghost use Rattle.cvss_v2.specs.Vector.{value_at};
 ghost use Rattle.cvss_v2.specs.Weights.{weight_in};
 ghost use Rattle.cvss_v2.specs.private.Bounds.{greatest_weight};
 
-use crate::metric::{Metric, MetricType};
 use crate::vector::Vector;
+use cvss_v2_metric::{MetricType, Spelled};
 
 impl Vector {
     /// What a metric weighs in this vector, in thousandths.
@@ -35,14 +35,14 @@ impl Vector {
 
     /// The weight of the value that the vector has for a metric, or that of the absent metric.
     #[inline(always)]
-    fn weight_at<M: Metric>(&self, metric: MetricType, value: Option<M>, absent: u64) -> u64
-        requires metric { metric ≡ M.TYPE }
-        requires value { option_map (weight_of M.TYPE) (value_at self.now M.TYPE)
-            ≡ option_map (λ held. weight_of M.TYPE (M.value held)) value }
-        requires absent { absent ≡ absent_weight M.TYPE }
-        requires least { absent ≤ greatest_weight M.TYPE }
+    fn weight_at<M: Spelled>(&self, metric: MetricType, value: Option<M>, absent: u64) -> u64
+        requires metric { metric ≡ M.kind }
+        requires value { option_map (weight_of M.kind) (value_at self.now M.kind)
+            ≡ option_map (λ held. weight_of M.kind (M.value held)) value }
+        requires absent { absent ≡ absent_weight M.kind }
+        requires least { absent ≤ greatest_weight M.kind }
         ensures weight { result ≡ weight_in self.now metric }
-        ensures bound { result ≤ greatest_weight M.TYPE }
+        ensures bound { result ≤ greatest_weight M.kind }
     {
         weight(value, absent)
     }
@@ -50,11 +50,11 @@ impl Vector {
 
 /// The weight of a value in thousandths, or that of an absent metric.
 #[inline(always)]
-pub(super) fn weight<M: Metric>(value: Option<M>, absent: u64) -> u64
-    requires { absent ≤ greatest_weight M.TYPE }
+pub(super) fn weight<M: Spelled>(value: Option<M>, absent: u64) -> u64
+    requires { absent ≤ greatest_weight M.kind }
     ensures weight { result
-        ≡ unwrap_or (option_map (λ metric. weight_of M.TYPE (M.value metric)) value) absent }
-    ensures bound { result ≤ greatest_weight M.TYPE }
+        ≡ unwrap_or (option_map (λ metric. weight_of M.kind (M.value metric)) value) absent }
+    ensures bound { result ≤ greatest_weight M.kind }
 {
     match value {
         Some(metric) => metric.thousandths(),

@@ -7,9 +7,9 @@ ghost use Rattle.cvss_v3_score.specs.Closeness.{IsCloseTo};
 ghost use Rattle.cvss_v3_score.specs.Scores.{impact, miss, modified_impact, modified_exploitability, base_number, environmental_number, temporal_number, IsRounded, IsBase};
 ghost use Rattle.cvss_v3.specs.VectorWeights.{weights_of, weight_in};
 
-use crate::metric::MetricType;
 use crate::score::Score;
 use crate::vector::Vector;
+use cvss_v3_metric::MetricType;
 use cvss_v3_score::weighing::{
     effective, effective_scope, is_changed, modified_privileges, scoped_weight, weight,
 };

@@ -8,11 +8,11 @@ ghost use Rattle.cvss_v3.specs.Vector.{v3};
 ghost use Rattle.cvss_v3.specs.private.VectorLaws.{v3_is_lawful, v3_fronts_are_lawful};
 
 use super::cutting::cut_named;
-use crate::metric::{Metric, MetricType, blamed};
 use crate::vector::Vector;
 use MetricType::*;
 use cvss_text::front::Fronted;
 use cvss_text::walk::{Components, Slip, fill_place};
+use cvss_v3_metric::{MetricType, Spelled, blamed};
 
 /// The metrics in printing order (v3.1 specification, section 6).
 const PRINTED: [MetricType; 22] = [
@@ -105,8 +105,8 @@ impl Vector {
 }
 
 /// Reads a value into its place, which has to be empty.
-fn fill<M: Metric>(place: &mut Option<M>, text: &[u8]) -> Result<(), Slip>
-    ensures { IsFilled (λ x. raised (spelling_of M.TYPE (M.value x))) place.old (raised text.now)
+fn fill<M: Spelled>(place: &mut Option<M>, text: &[u8]) -> Result<(), Slip>
+    ensures { IsFilled (λ x. raised (spelling_of M.kind (M.value x))) place.old (raised text.now)
         result place.new }
 {
     fill_place(place, M::read_bytes(text))

@@ -2,10 +2,10 @@
 
 ghost use Rattle.cvss_name.specs.V3Types.{v3_reason};
 
-use crate::metric::MetricType;
 use crate::vector::Vector;
 use cvss_base::refusing::Refused;
 use cvss_name::Error;
+use cvss_v3_metric::MetricType;
 
 impl Refused for Vector {
     ghost reason = { v3_reason };

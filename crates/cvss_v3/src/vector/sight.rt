@@ -13,10 +13,10 @@ ghost use Rattle.cvss_v3.specs.private.Slashed.{slashed_value};
 mod base;
 mod optional;
 
-use crate::metric::{Metric, MetricType};
 use crate::vector::Vector;
 use base::base_at_sight;
 use cvss_text::sight::{behind_four, behind_name, put_read};
+use cvss_v3_metric::{MetricType, Spelled};
 use optional::others_at_sight;
 
 impl Vector {
@@ -69,20 +69,22 @@ fn metrics_at_sight(minor_version: usize, text: &[u8]) -> Option<Vector>
 /// Puts the value of a metric into its place, if a text begins with a slash and its component, and
 /// gives what stands behind that; else no value, and the text.
 #[inline(always)]
-fn put_at_sight<'a, M: Metric>(place: &mut Option<M>, text: &'a [u8]) -> &'a [u8]
-    ensures { text.now ≡ slashed_value M.TYPE M.value place.new ++ result.now }
+fn put_at_sight<'a, M: Spelled>(kind: MetricType, place: &mut Option<M>, text: &'a [u8]) -> &'a [u8]
+    requires { kind ≡ M.kind }
+    ensures { text.now ≡ slashed_value M.kind M.value place.new ++ result.now }
 {
-    put_read(place, component_at_sight(text), text)
+    put_read(place, component_at_sight(kind, text), text)
 }
 
 /// The value of a metric, where a text begins with a slash and its component, and what stands
 /// behind that.
 #[inline(always)]
-fn component_at_sight<M: Metric>(text: &[u8]) -> Option<(M, &[u8])>
+fn component_at_sight<M: Spelled>(kind: MetricType, text: &[u8]) -> Option<(M, &[u8])>
+    requires { kind ≡ M.kind }
     ensures { IfSome result
-        (λ read. text.now ≡ slash ∷ (metric_component M.TYPE (M.value read.0) ++ read.1.now)) }
+        (λ read. text.now ≡ slash ∷ (metric_component M.kind (M.value read.0) ++ read.1.now)) }
 {
-    match behind_name(M::TYPE.name(), text)? {
+    match behind_name(kind.name(), text)? {
         [letter, rest @ ..] => Some((M::read_letter(*letter)?, rest)),
         [] => None,
     }

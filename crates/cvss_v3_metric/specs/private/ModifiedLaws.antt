@@ -26,7 +26,7 @@ both_next m n k l next second = grind (arith, common_steps)
 
 -- modified values, the one that is not defined first and the others as the base metric's, compare as
 -- the ranks in the table do
-pub modified_order : {A : Type 0} {kind modified_kind : MetricType} {value : A → Value kind} {modified : Modified A → Value modified_kind} {compared : A → A → Ordering} (in_turn : Modified A → Modified A → Ordering) → IsMetric kind value compared → IsBaseMetric kind modified_kind value modified
+pub modified_order : {A : Type 0} {type kind modified_kind : MetricType} {value : A → Value kind} {modified : Modified A → Value modified_kind} {compared : A → A → Ordering} (in_turn : Modified A → Modified A → Ordering) → IsMetric type kind value compared → IsBaseMetric kind modified_kind value modified
     → in_turn NotDefined NotDefined ≡ Equal
     → ((y : A) → in_turn NotDefined (Set y) ≡ Less)
     → ((x : A) → in_turn (Set x) NotDefined ≡ Greater)

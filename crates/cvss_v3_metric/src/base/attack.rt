@@ -6,8 +6,8 @@ ghost use Rattle.cvss_name.specs.declared.v3.MetricType.TheVariants.{AV, AC, MAV
 ghost use Rattle.cvss_grammar.specs.Text.{slash};
 ghost use Rattle.cvss_v3_metric.specs.Table.{metric_component, default_complexity};
 
-use crate::environmental::{BaseMetric, Modified};
-use crate::metric::{Metric, MetricType};
+use crate::environmental::{BaseMetric, Modifiable, Modified};
+use crate::metric::{Metric, MetricType, Spelled};
 use cvss_text::print::write_component;
 use std::fmt;
 
@@ -20,16 +20,10 @@ pub enum AttackVector {
     Network,
 }
 
-impl Metric for AttackVector {
-    const TYPE: MetricType = MetricType::AV;
-
-    ghost TYPE = { AV };
+impl Spelled for AttackVector {
+    ghost kind = { AV };
 
     ghost value = { λ metric. metric };
-
-    ghost law = { record { covers = λ x. (x, refl); ordered = Prim.search rules } };
-
-    ghost by_value = { Prim.search rules };
 
     fn row(self) -> (&'static str, Option<u64>) {
         match self {
@@ -52,6 +46,16 @@ impl Metric for AttackVector {
     }
 }
 
+impl Metric for AttackVector {
+    const TYPE: MetricType = MetricType::AV;
+
+    ghost TYPE = { AV };
+
+    ghost law = { record { told = refl; covers = λ x. (x, refl); ordered = Prim.search rules } };
+
+    ghost by_value = { Prim.search rules };
+}
+
 impl fmt::Display for AttackVector {
     ghost output = { λ metric. Some (metric_component AV metric) };
 
@@ -62,10 +66,8 @@ impl fmt::Display for AttackVector {
     }
 }
 
-impl BaseMetric for AttackVector {
-    const MODIFIED_TYPE: MetricType = MetricType::MAV;
-
-    ghost MODIFIED_TYPE = { MAV };
+impl Modifiable for AttackVector {
+    ghost modified_kind = { MAV };
 
     ghost modified = { λ metric. metric };
 
@@ -84,6 +86,14 @@ impl BaseMetric for AttackVector {
     }
 }
 
+impl BaseMetric for AttackVector {
+    const MODIFIED_TYPE: MetricType = MetricType::MAV;
+
+    ghost MODIFIED_TYPE = { MAV };
+
+    ghost modified_is = { refl };
+}
+
 /// Whether an attack needs conditions beyond the attacker's control (v3.1 specification, section
 /// 2.1.2).
 #[derive(Clone, Copy, Debug, PartialEq, Eq, PartialOrd, Ord)]
@@ -100,16 +110,10 @@ impl Default for AttackComplexity {
     }
 }
 
-impl Metric for AttackComplexity {
-    const TYPE: MetricType = MetricType::AC;
-
-    ghost TYPE = { AC };
+impl Spelled for AttackComplexity {
+    ghost kind = { AC };
 
     ghost value = { λ metric. metric };
-
-    ghost law = { record { covers = λ x. (x, refl); ordered = Prim.search rules } };
-
-    ghost by_value = { Prim.search rules };
 
     fn row(self) -> (&'static str, Option<u64>) {
         match self {
@@ -128,6 +132,16 @@ impl Metric for AttackComplexity {
     }
 }
 
+impl Metric for AttackComplexity {
+    const TYPE: MetricType = MetricType::AC;
+
+    ghost TYPE = { AC };
+
+    ghost law = { record { told = refl; covers = λ x. (x, refl); ordered = Prim.search rules } };
+
+    ghost by_value = { Prim.search rules };
+}
+
 impl fmt::Display for AttackComplexity {
     ghost output = { λ metric. Some (metric_component AC metric) };
 
@@ -138,10 +152,8 @@ impl fmt::Display for AttackComplexity {
     }
 }
 
-impl BaseMetric for AttackComplexity {
-    const MODIFIED_TYPE: MetricType = MetricType::MAC;
-
-    ghost MODIFIED_TYPE = { MAC };
+impl Modifiable for AttackComplexity {
+    ghost modified_kind = { MAC };
 
     ghost modified = { λ metric. metric };
 
@@ -156,4 +168,12 @@ impl BaseMetric for AttackComplexity {
             Modified::Modified(AttackComplexity::Low) => "/MAC:L",
         }
     }
+}
+
+impl BaseMetric for AttackComplexity {
+    const MODIFIED_TYPE: MetricType = MetricType::MAC;
+
+    ghost MODIFIED_TYPE = { MAC };
+
+    ghost modified_is = { refl };
 }

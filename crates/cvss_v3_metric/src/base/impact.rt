@@ -6,8 +6,8 @@ ghost use Rattle.cvss_name.specs.declared.v3.MetricType.TheVariants.{C, I, A, MC
 ghost use Rattle.cvss_grammar.specs.Text.{slash};
 ghost use Rattle.cvss_v3_metric.specs.Table.{metric_component};
 
-use crate::environmental::{BaseMetric, Modified};
-use crate::metric::{Metric, MetricType};
+use crate::environmental::{BaseMetric, Modifiable, Modified};
+use crate::metric::{Metric, MetricType, Spelled};
 use cvss_text::print::write_component;
 use std::fmt;
 
@@ -19,16 +19,10 @@ pub enum Confidentiality {
     High,
 }
 
-impl Metric for Confidentiality {
-    const TYPE: MetricType = MetricType::C;
-
-    ghost TYPE = { C };
+impl Spelled for Confidentiality {
+    ghost kind = { C };
 
     ghost value = { λ metric. metric };
-
-    ghost law = { record { covers = λ x. (x, refl); ordered = Prim.search rules } };
-
-    ghost by_value = { Prim.search rules };
 
     fn row(self) -> (&'static str, Option<u64>) {
         match self {
@@ -49,6 +43,16 @@ impl Metric for Confidentiality {
     }
 }
 
+impl Metric for Confidentiality {
+    const TYPE: MetricType = MetricType::C;
+
+    ghost TYPE = { C };
+
+    ghost law = { record { told = refl; covers = λ x. (x, refl); ordered = Prim.search rules } };
+
+    ghost by_value = { Prim.search rules };
+}
+
 impl fmt::Display for Confidentiality {
     ghost output = { λ metric. Some (metric_component C metric) };
 
@@ -59,10 +63,8 @@ impl fmt::Display for Confidentiality {
     }
 }
 
-impl BaseMetric for Confidentiality {
-    const MODIFIED_TYPE: MetricType = MetricType::MC;
-
-    ghost MODIFIED_TYPE = { MC };
+impl Modifiable for Confidentiality {
+    ghost modified_kind = { MC };
 
     ghost modified = { λ metric. metric };
 
@@ -80,6 +82,14 @@ impl BaseMetric for Confidentiality {
     }
 }
 
+impl BaseMetric for Confidentiality {
+    const MODIFIED_TYPE: MetricType = MetricType::MC;
+
+    ghost MODIFIED_TYPE = { MC };
+
+    ghost modified_is = { refl };
+}
+
 /// What can no longer be trusted to be genuine (v3.1 specification, section 2.3.2).
 #[derive(Clone, Copy, Debug, PartialEq, Eq, PartialOrd, Ord)]
 pub enum Integrity {
@@ -88,16 +98,10 @@ pub enum Integrity {
     High,
 }
 
-impl Metric for Integrity {
-    const TYPE: MetricType = MetricType::I;
-
-    ghost TYPE = { I };
+impl Spelled for Integrity {
+    ghost kind = { I };
 
     ghost value = { λ metric. metric };
-
-    ghost law = { record { covers = λ x. (x, refl); ordered = Prim.search rules } };
-
-    ghost by_value = { Prim.search rules };
 
     fn row(self) -> (&'static str, Option<u64>) {
         match self {
@@ -118,6 +122,16 @@ impl Metric for Integrity {
     }
 }
 
+impl Metric for Integrity {
+    const TYPE: MetricType = MetricType::I;
+
+    ghost TYPE = { I };
+
+    ghost law = { record { told = refl; covers = λ x. (x, refl); ordered = Prim.search rules } };
+
+    ghost by_value = { Prim.search rules };
+}
+
 impl fmt::Display for Integrity {
     ghost output = { λ metric. Some (metric_component I metric) };
 
@@ -128,10 +142,8 @@ impl fmt::Display for Integrity {
     }
 }
 
-impl BaseMetric for Integrity {
-    const MODIFIED_TYPE: MetricType = MetricType::MI;
-
-    ghost MODIFIED_TYPE = { MI };
+impl Modifiable for Integrity {
+    ghost modified_kind = { MI };
 
     ghost modified = { λ metric. metric };
 
@@ -149,6 +161,14 @@ impl BaseMetric for Integrity {
     }
 }
 
+impl BaseMetric for Integrity {
+    const MODIFIED_TYPE: MetricType = MetricType::MI;
+
+    ghost MODIFIED_TYPE = { MI };
+
+    ghost modified_is = { refl };
+}
+
 /// What can no longer be used (v3.1 specification, section 2.3.3).
 #[derive(Clone, Copy, Debug, PartialEq, Eq, PartialOrd, Ord)]
 pub enum Availability {
@@ -157,16 +177,10 @@ pub enum Availability {
     High,
 }
 
-impl Metric for Availability {
-    const TYPE: MetricType = MetricType::A;
-
-    ghost TYPE = { A };
+impl Spelled for Availability {
+    ghost kind = { A };
 
     ghost value = { λ metric. metric };
-
-    ghost law = { record { covers = λ x. (x, refl); ordered = Prim.search rules } };
-
-    ghost by_value = { Prim.search rules };
 
     fn row(self) -> (&'static str, Option<u64>) {
         match self {
@@ -187,6 +201,16 @@ impl Metric for Availability {
     }
 }
 
+impl Metric for Availability {
+    const TYPE: MetricType = MetricType::A;
+
+    ghost TYPE = { A };
+
+    ghost law = { record { told = refl; covers = λ x. (x, refl); ordered = Prim.search rules } };
+
+    ghost by_value = { Prim.search rules };
+}
+
 impl fmt::Display for Availability {
     ghost output = { λ metric. Some (metric_component A metric) };
 
@@ -197,10 +221,8 @@ impl fmt::Display for Availability {
     }
 }
 
-impl BaseMetric for Availability {
-    const MODIFIED_TYPE: MetricType = MetricType::MA;
-
-    ghost MODIFIED_TYPE = { MA };
+impl Modifiable for Availability {
+    ghost modified_kind = { MA };
 
     ghost modified = { λ metric. metric };
 
@@ -216,4 +238,12 @@ impl BaseMetric for Availability {
             Modified::Modified(Availability::High) => "/MA:H",
         }
     }
+}
+
+impl BaseMetric for Availability {
+    const MODIFIED_TYPE: MetricType = MetricType::MA;
+
+    ghost MODIFIED_TYPE = { MA };
+
+    ghost modified_is = { refl };
 }

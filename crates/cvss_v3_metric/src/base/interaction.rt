@@ -6,8 +6,8 @@ ghost use Rattle.cvss_name.specs.declared.v3.MetricType.TheVariants.{UI, MUI};
 ghost use Rattle.cvss_grammar.specs.Text.{slash};
 ghost use Rattle.cvss_v3_metric.specs.Table.{metric_component};
 
-use crate::environmental::{BaseMetric, Modified};
-use crate::metric::{Metric, MetricType};
+use crate::environmental::{BaseMetric, Modifiable, Modified};
+use crate::metric::{Metric, MetricType, Spelled};
 use cvss_text::print::write_component;
 use std::fmt;
 
@@ -18,16 +18,10 @@ pub enum UserInteraction {
     None,
 }
 
-impl Metric for UserInteraction {
-    const TYPE: MetricType = MetricType::UI;
-
-    ghost TYPE = { UI };
+impl Spelled for UserInteraction {
+    ghost kind = { UI };
 
     ghost value = { λ metric. metric };
-
-    ghost law = { record { covers = λ x. (x, refl); ordered = Prim.search rules } };
-
-    ghost by_value = { Prim.search rules };
 
     fn row(self) -> (&'static str, Option<u64>) {
         match self {
@@ -46,6 +40,16 @@ impl Metric for UserInteraction {
     }
 }
 
+impl Metric for UserInteraction {
+    const TYPE: MetricType = MetricType::UI;
+
+    ghost TYPE = { UI };
+
+    ghost law = { record { told = refl; covers = λ x. (x, refl); ordered = Prim.search rules } };
+
+    ghost by_value = { Prim.search rules };
+}
+
 impl fmt::Display for UserInteraction {
     ghost output = { λ metric. Some (metric_component UI metric) };
 
@@ -56,10 +60,8 @@ impl fmt::Display for UserInteraction {
     }
 }
 
-impl BaseMetric for UserInteraction {
-    const MODIFIED_TYPE: MetricType = MetricType::MUI;
-
-    ghost MODIFIED_TYPE = { MUI };
+impl Modifiable for UserInteraction {
+    ghost modified_kind = { MUI };
 
     ghost modified = { λ metric. metric };
 
@@ -74,4 +76,12 @@ impl BaseMetric for UserInteraction {
             Modified::Modified(UserInteraction::None) => "/MUI:N",
         }
     }
+}
+
+impl BaseMetric for UserInteraction {
+    const MODIFIED_TYPE: MetricType = MetricType::MUI;
+
+    ghost MODIFIED_TYPE = { MUI };
+
+    ghost modified_is = { refl };
 }

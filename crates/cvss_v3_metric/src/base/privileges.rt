@@ -7,8 +7,8 @@ ghost use Rattle.cvss_name.specs.declared.v3.MetricType.TheVariants.{PR, MPR};
 ghost use Rattle.cvss_grammar.specs.Text.{slash};
 ghost use Rattle.cvss_v3_metric.specs.Table.{scoped_weight, metric_component};
 
-use crate::environmental::{BaseMetric, Modified};
-use crate::metric::{HUNDREDTH, Metric, MetricType};
+use crate::environmental::{BaseMetric, Modifiable, Modified};
+use crate::metric::{HUNDREDTH, Metric, MetricType, Spelled};
 use cvss_text::print::write_component;
 use std::fmt;
 
@@ -21,16 +21,10 @@ pub enum PrivilegesRequired {
     None,
 }
 
-impl Metric for PrivilegesRequired {
-    const TYPE: MetricType = MetricType::PR;
-
-    ghost TYPE = { PR };
+impl Spelled for PrivilegesRequired {
+    ghost kind = { PR };
 
     ghost value = { λ metric. metric };
-
-    ghost law = { record { covers = λ x. (x, refl); ordered = Prim.search rules } };
-
-    ghost by_value = { Prim.search rules };
 
     fn row(self) -> (&'static str, Option<u64>) {
         match self {
@@ -51,6 +45,16 @@ impl Metric for PrivilegesRequired {
     }
 }
 
+impl Metric for PrivilegesRequired {
+    const TYPE: MetricType = MetricType::PR;
+
+    ghost TYPE = { PR };
+
+    ghost law = { record { told = refl; covers = λ x. (x, refl); ordered = Prim.search rules } };
+
+    ghost by_value = { Prim.search rules };
+}
+
 impl fmt::Display for PrivilegesRequired {
     ghost output = { λ metric. Some (metric_component PR metric) };
 
@@ -61,10 +65,8 @@ impl fmt::Display for PrivilegesRequired {
     }
 }
 
-impl BaseMetric for PrivilegesRequired {
-    const MODIFIED_TYPE: MetricType = MetricType::MPR;
-
-    ghost MODIFIED_TYPE = { MPR };
+impl Modifiable for PrivilegesRequired {
+    ghost modified_kind = { MPR };
 
     ghost modified = { λ metric. metric };
 
@@ -80,6 +82,14 @@ impl BaseMetric for PrivilegesRequired {
             Modified::Modified(PrivilegesRequired::None) => "/MPR:N",
         }
     }
+}
+
+impl BaseMetric for PrivilegesRequired {
+    const MODIFIED_TYPE: MetricType = MetricType::MPR;
+
+    ghost MODIFIED_TYPE = { MPR };
+
+    ghost modified_is = { refl };
 }
 
 impl PrivilegesRequired {

@@ -5,7 +5,7 @@ ghost use Rattle.std.proofs.Common.{rules};
 ghost use Rattle.cvss_name.specs.declared.v3.MetricType.TheVariants.{S};
 ghost use Rattle.cvss_v3_metric.specs.Table.{metric_component};
 
-use crate::metric::{Metric, MetricType};
+use crate::metric::{Metric, MetricType, Spelled};
 use cvss_text::print::write_component;
 use std::fmt;
 
@@ -17,16 +17,10 @@ pub enum Scope {
     Changed,
 }
 
-impl Metric for Scope {
-    const TYPE: MetricType = MetricType::S;
-
-    ghost TYPE = { S };
+impl Spelled for Scope {
+    ghost kind = { S };
 
     ghost value = { λ metric. metric };
-
-    ghost law = { record { covers = λ x. (x, refl); ordered = Prim.search rules } };
-
-    ghost by_value = { Prim.search rules };
 
     fn row(self) -> (&'static str, Option<u64>) {
         match self {
@@ -43,6 +37,16 @@ impl Metric for Scope {
             _ => None,
         }
     }
+}
+
+impl Metric for Scope {
+    const TYPE: MetricType = MetricType::S;
+
+    ghost TYPE = { S };
+
+    ghost law = { record { told = refl; covers = λ x. (x, refl); ordered = Prim.search rules } };
+
+    ghost by_value = { Prim.search rules };
 }
 
 impl fmt::Display for Scope {

@@ -9,7 +9,7 @@ ghost use Rattle.cvss_v3_metric.specs.Metrics.{IsBaseMetric};
 ghost use Rattle.cvss_v3_metric.specs.Modified.{replaced, weight_or};
 
 use crate::base::PrivilegesRequired;
-use crate::metric::{HUNDREDTH, Metric, MetricType};
+use crate::metric::{HUNDREDTH, Metric, MetricType, Spelled};
 use cvss_text::print::write_component;
 use std::fmt;
 
@@ -20,44 +20,35 @@ pub enum Modified<T> {
     Modified(T),
 }
 
-/// A base metric that a modified metric can replace.
-pub trait BaseMetric: Metric {
+/// What stands in vectors as a component of a modified metric.
+pub trait Modifiable: Spelled {
     ghost use Rattle.cvss_v3_metric.specs.declared.environmental.modified.Modified.{Modified};
 
+    ghost modified_kind: { MetricType };
+
+    ghost modified: { Modified Self → Value modified_kind };
+
+    /// A slash and the component that stands for the modified value in a vector.
+    fn modified_slashed(metric: Modified<Self>) -> &'static str
+        ensures { result.now ≡ slash ∷ metric_component modified_kind (modified metric) };
+
+    ghost base_law: { IsBaseMetric Self.kind modified_kind Self.value modified };
+}
+
+/// A base metric that a modified metric can replace.
+pub trait BaseMetric: Metric + Modifiable {
     /// The modified metric.
     const MODIFIED_TYPE: MetricType;
 
     ghost MODIFIED_TYPE: { MetricType };
 
-    ghost modified: { Modified Self → Value MODIFIED_TYPE };
-
-    /// A slash and the component that stands for the modified value in a vector.
-    fn modified_slashed(metric: Modified<Self>) -> &'static str
-        ensures { result.now ≡ slash ∷ metric_component MODIFIED_TYPE (modified metric) };
-
-    ghost base_law: { IsBaseMetric Self.TYPE MODIFIED_TYPE Self.value modified };
+    ghost modified_is: { MODIFIED_TYPE ≡ Self.modified_kind };
 }
 
-impl<T: BaseMetric> Metric for Modified<T> {
-    ghost use Rattle.cvss_v3_metric.specs.private.ModifiedLaws.{modified_order, modified_equality};
-    ghost use Rattle.std.proofs.Common.{rules};
-
-    const TYPE: MetricType = T::MODIFIED_TYPE;
-
-    ghost TYPE = { T.MODIFIED_TYPE };
+impl<T: Modifiable> Spelled for Modified<T> {
+    ghost kind = { T.modified_kind };
 
     ghost value = { T.modified };
-
-    ghost law = { record {
-      covers = T.base_law.covers;
-      ordered = modified_order _ T.law T.base_law refl (λ y. refl) (λ x. refl) (λ x y. refl);
-    } };
-
-    ghost by_value = { (
-      modified_equality _ T.by_value.0 refl (λ y. refl) (λ x. refl) (λ x y. refl),
-      Prim.search rules,
-      Prim.search rules,
-    ) };
 
     fn row(self) -> (&'static str, Option<u64>) {
         (T::modified_slashed(self), Some(0))
@@ -72,17 +63,38 @@ impl<T: BaseMetric> Metric for Modified<T> {
     }
 }
 
-impl<T: BaseMetric> fmt::Display for Modified<T> {
-    ghost output = { λ metric. Some (metric_component T.MODIFIED_TYPE (T.modified metric)) };
+impl<T: BaseMetric> Metric for Modified<T> {
+    ghost use Rattle.cvss_v3_metric.specs.private.ModifiedLaws.{modified_order, modified_equality};
+    ghost use Rattle.std.proofs.Common.{rules};
 
-    ghost styled_output = { λ metric _. Some (metric_component T.MODIFIED_TYPE (T.modified metric)) };
+    const TYPE: MetricType = T::MODIFIED_TYPE;
+
+    ghost TYPE = { T.MODIFIED_TYPE };
+
+    ghost law = { record {
+      told = T.modified_is;
+      covers = T.base_law.covers;
+      ordered = modified_order _ T.law T.base_law refl (λ y. refl) (λ x. refl) (λ x y. refl);
+    } };
+
+    ghost by_value = { (
+      modified_equality _ T.by_value.0 refl (λ y. refl) (λ x. refl) (λ x y. refl),
+      Prim.search rules,
+      Prim.search rules,
+    ) };
+}
+
+impl<T: Modifiable> fmt::Display for Modified<T> {
+    ghost output = { λ metric. Some (metric_component T.modified_kind (T.modified metric)) };
+
+    ghost styled_output = { λ metric _. Some (metric_component T.modified_kind (T.modified metric)) };
 
     fn fmt<W: fmt::Write>(&self, f: &mut fmt::Formatter<W>) -> fmt::Result {
         write_component(T::modified_slashed(*self), f)
     }
 }
 
-impl<T: BaseMetric> Modified<T> {
+impl<T: Modifiable> Modified<T> {
     /// The value that is set, and else that of the base metric.
     pub fn or(self, base: Option<T>) -> Option<T>
         ensures { result ≡ replaced self base }
@@ -92,10 +104,12 @@ impl<T: BaseMetric> Modified<T> {
             Modified::Modified(value) => Some(value),
         }
     }
+}
 
+impl<T: BaseMetric> Modified<T> {
     /// The weight of the value that is set, and else of the base metric's, in counts of 10^-24.
     pub fn modified_score(self, base: Option<T>) -> i128
-        ensures value { result ≡ pos (weight_or (λ value. weight_of T.TYPE (T.value value))
+        ensures value { result ≡ pos (weight_or (λ value. weight_of T.kind (T.value value))
             (replaced self base) 0 * 10 ^ 22) }
         ensures limit { IsWithinLimit result }
     {

@@ -6,7 +6,7 @@ ghost use Rattle.cvss_name.specs.declared.v3.MetricType.TheVariants.{MS};
 ghost use Rattle.cvss_v3_metric.specs.Table.{metric_component};
 
 use crate::base::Scope;
-use crate::metric::{Metric, MetricType};
+use crate::metric::{Metric, MetricType, Spelled};
 use cvss_text::print::write_component;
 use std::fmt;
 
@@ -17,16 +17,10 @@ pub enum ModifiedScope {
     Modified(Scope),
 }
 
-impl Metric for ModifiedScope {
-    const TYPE: MetricType = MetricType::MS;
-
-    ghost TYPE = { MS };
+impl Spelled for ModifiedScope {
+    ghost kind = { MS };
 
     ghost value = { λ metric. metric };
-
-    ghost law = { record { covers = λ x. (x, refl); ordered = Prim.search rules } };
-
-    ghost by_value = { Prim.search rules };
 
     fn row(self) -> (&'static str, Option<u64>) {
         match self {
@@ -43,6 +37,16 @@ impl Metric for ModifiedScope {
             _ => Some(ModifiedScope::Modified(Scope::read_letter(letter)?)),
         }
     }
+}
+
+impl Metric for ModifiedScope {
+    const TYPE: MetricType = MetricType::MS;
+
+    ghost TYPE = { MS };
+
+    ghost law = { record { told = refl; covers = λ x. (x, refl); ordered = Prim.search rules } };
+
+    ghost by_value = { Prim.search rules };
 }
 
 impl fmt::Display for ModifiedScope {

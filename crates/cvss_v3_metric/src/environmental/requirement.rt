@@ -5,7 +5,7 @@ ghost use Rattle.std.proofs.Common.{rules};
 ghost use Rattle.cvss_name.specs.declared.v3.MetricType.TheVariants.{CR, IR, AR};
 ghost use Rattle.cvss_v3_metric.specs.Table.{metric_component};
 
-use crate::metric::{Metric, MetricType};
+use crate::metric::{Metric, MetricType, Spelled};
 use cvss_text::print::write_component;
 use std::fmt;
 
@@ -18,16 +18,10 @@ pub enum ConfidentialityRequirement {
     Low,
 }
 
-impl Metric for ConfidentialityRequirement {
-    const TYPE: MetricType = MetricType::CR;
-
-    ghost TYPE = { CR };
+impl Spelled for ConfidentialityRequirement {
+    ghost kind = { CR };
 
     ghost value = { λ metric. metric };
-
-    ghost law = { record { covers = λ x. (x, refl); ordered = Prim.search rules } };
-
-    ghost by_value = { Prim.search rules };
 
     fn row(self) -> (&'static str, Option<u64>) {
         match self {
@@ -50,6 +44,16 @@ impl Metric for ConfidentialityRequirement {
     }
 }
 
+impl Metric for ConfidentialityRequirement {
+    const TYPE: MetricType = MetricType::CR;
+
+    ghost TYPE = { CR };
+
+    ghost law = { record { told = refl; covers = λ x. (x, refl); ordered = Prim.search rules } };
+
+    ghost by_value = { Prim.search rules };
+}
+
 impl fmt::Display for ConfidentialityRequirement {
     ghost output = { λ metric. Some (metric_component CR metric) };
 
@@ -69,16 +73,10 @@ pub enum IntegrityRequirement {
     Low,
 }
 
-impl Metric for IntegrityRequirement {
-    const TYPE: MetricType = MetricType::IR;
-
-    ghost TYPE = { IR };
+impl Spelled for IntegrityRequirement {
+    ghost kind = { IR };
 
     ghost value = { λ metric. metric };
-
-    ghost law = { record { covers = λ x. (x, refl); ordered = Prim.search rules } };
-
-    ghost by_value = { Prim.search rules };
 
     fn row(self) -> (&'static str, Option<u64>) {
         match self {
@@ -101,6 +99,16 @@ impl Metric for IntegrityRequirement {
     }
 }
 
+impl Metric for IntegrityRequirement {
+    const TYPE: MetricType = MetricType::IR;
+
+    ghost TYPE = { IR };
+
+    ghost law = { record { told = refl; covers = λ x. (x, refl); ordered = Prim.search rules } };
+
+    ghost by_value = { Prim.search rules };
+}
+
 impl fmt::Display for IntegrityRequirement {
     ghost output = { λ metric. Some (metric_component IR metric) };
 
@@ -120,16 +128,10 @@ pub enum AvailabilityRequirement {
     Low,
 }
 
-impl Metric for AvailabilityRequirement {
-    const TYPE: MetricType = MetricType::AR;
-
-    ghost TYPE = { AR };
+impl Spelled for AvailabilityRequirement {
+    ghost kind = { AR };
 
     ghost value = { λ metric. metric };
-
-    ghost law = { record { covers = λ x. (x, refl); ordered = Prim.search rules } };
-
-    ghost by_value = { Prim.search rules };
 
     fn row(self) -> (&'static str, Option<u64>) {
         match self {
@@ -150,6 +152,16 @@ impl Metric for AvailabilityRequirement {
             _ => None,
         }
     }
+}
+
+impl Metric for AvailabilityRequirement {
+    const TYPE: MetricType = MetricType::AR;
+
+    ghost TYPE = { AR };
+
+    ghost law = { record { told = refl; covers = λ x. (x, refl); ordered = Prim.search rules } };
+
+    ghost by_value = { Prim.search rules };
 }
 
 impl fmt::Display for AvailabilityRequirement {

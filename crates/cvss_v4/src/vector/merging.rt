@@ -9,14 +9,14 @@ mod attack;
 mod subsequent;
 mod vulnerable;
 
-use crate::metric::environmental::{
-    AvailabilityRequirements, ConfidentialityRequirements, IntegrityRequirements,
-};
-use crate::metric::threat::ExploitMaturity;
 use crate::vector::Vector;
 use attack::{
     attack_complexity, attack_requirements, attack_vector, privileges_required, user_interaction,
 };
+use cvss_v4_metric::environmental::{
+    AvailabilityRequirements, ConfidentialityRequirements, IntegrityRequirements,
+};
+use cvss_v4_metric::threat::ExploitMaturity;
 use cvss_v4_score::scoring::effective::{self, Effective};
 use subsequent::{
     availability_impact_to_the_subsequent_system, confidentiality_impact_to_the_subsequent_system,

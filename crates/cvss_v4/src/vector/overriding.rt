@@ -12,13 +12,13 @@ ghost use Rattle.cvss_v4.specs.private.OverridingSteps.{AddsOverride, IsObjectio
 ghost use Rattle.cvss_v4.specs.Vector.{v4};
 ghost use Rattle.cvss_v4.specs.declared.vector.overriding.OverrideFault.TheVariants.{Component};
 
-use crate::metric::MetricType;
 use crate::vector::Vector;
 use cvss_base::refusing::error_of;
 use cvss_name::{Error, MetricGroup};
 use cvss_text::cutting::cut_component;
 use cvss_text::pieces::is_component;
 use cvss_text::walk::{Fault, read_component};
+use cvss_v4_metric::MetricType;
 use std::alloc::Global;
 use std::fmt;
 

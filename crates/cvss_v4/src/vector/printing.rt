@@ -12,9 +12,9 @@ ghost use Rattle.cvss_v4_metric.specs.Table.{printed, spelling_at, supplemental}
 ghost use Rattle.cvss_v4.specs.Vector.{v4};
 ghost use Rattle.cvss_v4.specs.private.Shown.{shown};
 
-use crate::metric::{Metric, MetricType};
 use crate::vector::Vector;
 use cvss_text::print::{Printed, write_slashed};
+use cvss_v4_metric::{MetricType, Spelled};
 use std::fmt;
 
 impl Printed for Vector {
@@ -58,10 +58,10 @@ impl Printed for Vector {
 
 impl Vector {
     /// A slash and the component of the value that the vector has for a metric.
-    fn slashed_at<M: Metric>(&self, kind: MetricType, value: Option<M>) -> Option<&'static str>
-        requires kind { kind ≡ M.TYPE }
-        requires value { held v4 self.now M.TYPE
-            ≡ option_map (λ x. spelling_at M.TYPE (M.rank x)) value }
+    fn slashed_at<M: Spelled>(&self, kind: MetricType, value: Option<M>) -> Option<&'static str>
+        requires kind { kind ≡ M.kind }
+        requires value { held v4 self.now M.kind
+            ≡ option_map (λ x. spelling_at M.kind (M.rank x)) value }
         ensures { option_copied result ≡ slashed (component_of v4 self.now kind) }
     {
         slashed_value(value)
@@ -69,9 +69,9 @@ impl Vector {
 }
 
 /// A slash and the component of a value.
-fn slashed_value<M: Metric>(value: Option<M>) -> Option<&'static str>
+fn slashed_value<M: Spelled>(value: Option<M>) -> Option<&'static str>
     ensures { option_copied result
-        ≡ slashed (option_map (component (name_of M.TYPE)) (option_map (λ x. spelling_at M.TYPE (M.rank x)) value)) }
+        ≡ slashed (option_map (component (name_of M.kind)) (option_map (λ x. spelling_at M.kind (M.rank x)) value)) }
 {
     match value {
         Some(metric) => Some(metric.slashed()),
@@ -80,22 +80,25 @@ fn slashed_value<M: Metric>(value: Option<M>) -> Option<&'static str>
 }
 
 /// Writes a slash and the component of a value, if there is one.
-fn write_value<M: Metric, W: fmt::Write>(value: Option<M>, f: &mut fmt::Formatter<W>) -> fmt::Result
-    ensures { WritesOnOk W.write_str_gives f.old result (shown M.TYPE M.rank value) f.new }
+fn write_value<M: Spelled, W: fmt::Write>(
+    value: Option<M>,
+    f: &mut fmt::Formatter<W>,
+) -> fmt::Result
+    ensures { WritesOnOk W.write_str_gives f.old result (shown M.kind M.rank value) f.new }
 {
     write_slashed(slashed_value(value), f)
 }
 
 /// Writes a slash and the component of each of three values that is there.
 #[inline(always)]
-fn write_three<K: Metric, L: Metric, M: Metric, W: fmt::Write>(
+fn write_three<K: Spelled, L: Spelled, M: Spelled, W: fmt::Write>(
     first: Option<K>,
     second: Option<L>,
     third: Option<M>,
     f: &mut fmt::Formatter<W>,
 ) -> fmt::Result
     ensures { WritesOnOk W.write_str_gives f.old result
-        (shown K.TYPE K.rank first ++ shown L.TYPE L.rank second ++ shown M.TYPE M.rank third)
+        (shown K.kind K.rank first ++ shown L.kind L.rank second ++ shown M.kind M.rank third)
         f.new }
 {
     write_value(first, f)?;

@@ -9,12 +9,12 @@ ghost use Rattle.cvss_v4.specs.Vector.{v4};
 ghost use Rattle.cvss_v4.specs.private.VectorLaws.{v4_is_lawful, v4_fronts_are_lawful};
 
 use crate::laws::default_vectors_have_no_metric;
-use crate::metric::{Metric, MetricType};
 use crate::vector::Vector;
 use MetricType::*;
 use cvss_text::front::Fronted;
 use cvss_text::pieces::cut_short_name;
 use cvss_text::walk::{Components, Slip, fill_place};
+use cvss_v4_metric::{MetricType, Spelled};
 
 /// The metrics in printing order (v4.0 specification, section 7).
 const PRINTED: [MetricType; 32] = [
@@ -221,8 +221,8 @@ fn modified(first: u8, second: u8) -> Option<MetricType>
 }
 
 /// Reads a value into its place, which has to be empty.
-fn fill<M: Metric>(place: &mut Option<M>, text: &[u8]) -> Result<(), Slip>
-    ensures { IsFilled (λ x. raised (spelling_at M.TYPE (M.rank x))) place.old (raised text.now) result place.new }
+fn fill<M: Spelled>(place: &mut Option<M>, text: &[u8]) -> Result<(), Slip>
+    ensures { IsFilled (λ x. raised (spelling_at M.kind (M.rank x))) place.old (raised text.now) result place.new }
 {
     fill_place(place, M::read_bytes(text))
 }

@@ -2,10 +2,10 @@
 
 ghost use Rattle.cvss_name.specs.V4Types.{v4_reason};
 
-use crate::metric::MetricType;
 use crate::vector::Vector;
 use cvss_base::refusing::Refused;
 use cvss_name::Error;
+use cvss_v4_metric::MetricType;
 
 impl Refused for Vector {
     ghost reason = { v4_reason };

@@ -17,11 +17,11 @@ ghost use Rattle.cvss_v4.specs.private.Shown.{shown};
 mod base;
 mod optional;
 
-use crate::metric::supplemental::ProviderUrgency;
-use crate::metric::{Metric, MetricType};
 use crate::vector::Vector;
 use base::base_at_sight;
 use cvss_text::sight::{behind_three, put_read};
+use cvss_v4_metric::supplemental::ProviderUrgency;
+use cvss_v4_metric::{MetricType, Spelled};
 use optional::others_at_sight;
 
 impl Vector {
@@ -101,14 +101,14 @@ fn urgency_at_sight(text: &[u8]) -> Option<Option<ProviderUrgency>>
 /// gives what stands behind that; else no value, and the text. It is given what stands behind the
 /// slash, the name and the colon.
 #[inline(always)]
-fn put_at_sight<'a, M: Metric>(
+fn put_at_sight<'a, M: Spelled>(
     place: &mut Option<M>,
     behind: Option<&'a [u8]>,
     text: &'a [u8],
 ) -> &'a [u8]
     requires { IfSome behind
-        (λ behind. text.now ≡ slash ∷ (name_of M.TYPE ++ (colon ∷ behind.now))) }
-    ensures { text.now ≡ shown M.TYPE M.rank place.new ++ result.now }
+        (λ behind. text.now ≡ slash ∷ (name_of M.kind ++ (colon ∷ behind.now))) }
+    ensures { text.now ≡ shown M.kind M.rank place.new ++ result.now }
 {
     put_read(place, value_at_sight(behind), text)
 }
@@ -116,9 +116,9 @@ fn put_at_sight<'a, M: Metric>(
 /// The value of a metric, where a text begins with its spelling, and what stands behind that. A
 /// spelling of several letters is not recognised.
 #[inline(always)]
-fn value_at_sight<M: Metric>(text: Option<&[u8]>) -> Option<(M, &[u8])>
+fn value_at_sight<M: Spelled>(text: Option<&[u8]>) -> Option<(M, &[u8])>
     ensures { IfSome result (λ read. IsSomeAnd text.entry
-        (λ text. text.now ≡ spelling_at M.TYPE (M.rank read.0) ++ read.1.now)) }
+        (λ text. text.now ≡ spelling_at M.kind (M.rank read.0) ++ read.1.now)) }
 {
     match text? {
         [letter, rest @ ..] => Some((spelled_by_letter(*letter)?, rest)),
@@ -128,8 +128,8 @@ fn value_at_sight<M: Metric>(text: Option<&[u8]>) -> Option<(M, &[u8])>
 
 /// The value that a letter spells.
 #[inline(always)]
-fn spelled_by_letter<M: Metric>(letter: u8) -> Option<M>
-    ensures { IfSome result (λ metric. spelling_at M.TYPE (M.rank metric) ≡ letter ∷ []) }
+fn spelled_by_letter<M: Spelled>(letter: u8) -> Option<M>
+    ensures { IfSome result (λ metric. spelling_at M.kind (M.rank metric) ≡ letter ∷ []) }
 {
     if letter.to_ascii_uppercase() == letter {
         M::read_bytes(&[letter])

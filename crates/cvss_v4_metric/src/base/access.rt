@@ -9,7 +9,7 @@ ghost use Rattle.cvss_v4_metric.specs.Table.{metric_component};
 ghost use Rattle.cvss_v4_metric.specs.declared.base.access.PrivilegesRequired.TheVariants as privileges_required;
 ghost use Rattle.cvss_v4_metric.specs.declared.base.access.UserInteraction.TheVariants as user_interaction;
 
-use crate::metric::{Metric, MetricType, only_byte};
+use crate::metric::{Metric, MetricType, Spelled, only_letter};
 use cvss_text::print::write_component;
 use std::fmt;
 
@@ -22,16 +22,10 @@ pub enum PrivilegesRequired {
     None,
 }
 
-impl Metric for PrivilegesRequired {
-    const TYPE: MetricType = MetricType::PR;
-
-    ghost TYPE = { metric.PR };
+impl Spelled for PrivilegesRequired {
+    ghost kind = { metric.PR };
 
     ghost rank = { place.PR };
-
-    ghost values = { privileges_required.High ∷ privileges_required.Low ∷ privileges_required.None ∷ [] };
-
-    ghost law = { Prim.search rules };
 
     fn slashed(self) -> &'static str {
         match self {
@@ -42,13 +36,23 @@ impl Metric for PrivilegesRequired {
     }
 
     fn read_bytes(text: &[u8]) -> Option<Self> {
-        match only_byte(text)? {
-            b'H' | b'h' => Some(Self::High),
-            b'L' | b'l' => Some(Self::Low),
-            b'N' | b'n' => Some(Self::None),
+        match only_letter(text)? {
+            b'H' => Some(Self::High),
+            b'L' => Some(Self::Low),
+            b'N' => Some(Self::None),
             _ => None,
         }
     }
+}
+
+impl Metric for PrivilegesRequired {
+    const TYPE: MetricType = MetricType::PR;
+
+    ghost TYPE = { metric.PR };
+
+    ghost values = { privileges_required.High ∷ privileges_required.Low ∷ privileges_required.None ∷ [] };
+
+    ghost law = { Prim.search rules };
 }
 
 impl fmt::Display for PrivilegesRequired {
@@ -70,16 +74,10 @@ pub enum UserInteraction {
     None,
 }
 
-impl Metric for UserInteraction {
-    const TYPE: MetricType = MetricType::UI;
-
-    ghost TYPE = { metric.UI };
+impl Spelled for UserInteraction {
+    ghost kind = { metric.UI };
 
     ghost rank = { place.UI };
-
-    ghost values = { user_interaction.Active ∷ user_interaction.Passive ∷ user_interaction.None ∷ [] };
-
-    ghost law = { Prim.search rules };
 
     fn slashed(self) -> &'static str {
         match self {
@@ -90,13 +88,23 @@ impl Metric for UserInteraction {
     }
 
     fn read_bytes(text: &[u8]) -> Option<Self> {
-        match only_byte(text)? {
-            b'A' | b'a' => Some(Self::Active),
-            b'P' | b'p' => Some(Self::Passive),
-            b'N' | b'n' => Some(Self::None),
+        match only_letter(text)? {
+            b'A' => Some(Self::Active),
+            b'P' => Some(Self::Passive),
+            b'N' => Some(Self::None),
             _ => None,
         }
     }
+}
+
+impl Metric for UserInteraction {
+    const TYPE: MetricType = MetricType::UI;
+
+    ghost TYPE = { metric.UI };
+
+    ghost values = { user_interaction.Active ∷ user_interaction.Passive ∷ user_interaction.None ∷ [] };
+
+    ghost law = { Prim.search rules };
 }
 
 impl fmt::Display for UserInteraction {

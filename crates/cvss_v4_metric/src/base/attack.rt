@@ -10,7 +10,7 @@ ghost use Rattle.cvss_v4_metric.specs.declared.base.attack.AttackVector.TheVaria
 ghost use Rattle.cvss_v4_metric.specs.declared.base.attack.AttackComplexity.TheVariants as attack_complexity;
 ghost use Rattle.cvss_v4_metric.specs.declared.base.attack.AttackRequirements.TheVariants as attack_requirements;
 
-use crate::metric::{Metric, MetricType, only_byte};
+use crate::metric::{Metric, MetricType, Spelled, only_letter};
 use cvss_text::print::write_component;
 use std::fmt;
 
@@ -24,16 +24,10 @@ pub enum AttackVector {
     Network,
 }
 
-impl Metric for AttackVector {
-    const TYPE: MetricType = MetricType::AV;
-
-    ghost TYPE = { metric.AV };
+impl Spelled for AttackVector {
+    ghost kind = { metric.AV };
 
     ghost rank = { place.AV };
-
-    ghost values = { attack_vector.Physical ∷ attack_vector.Local ∷ attack_vector.Adjacent ∷ attack_vector.Network ∷ [] };
-
-    ghost law = { Prim.search rules };
 
     fn slashed(self) -> &'static str {
         match self {
@@ -45,14 +39,24 @@ impl Metric for AttackVector {
     }
 
     fn read_bytes(text: &[u8]) -> Option<Self> {
-        match only_byte(text)? {
-            b'P' | b'p' => Some(Self::Physical),
-            b'L' | b'l' => Some(Self::Local),
-            b'A' | b'a' => Some(Self::Adjacent),
-            b'N' | b'n' => Some(Self::Network),
+        match only_letter(text)? {
+            b'P' => Some(Self::Physical),
+            b'L' => Some(Self::Local),
+            b'A' => Some(Self::Adjacent),
+            b'N' => Some(Self::Network),
             _ => None,
         }
     }
+}
+
+impl Metric for AttackVector {
+    const TYPE: MetricType = MetricType::AV;
+
+    ghost TYPE = { metric.AV };
+
+    ghost values = { attack_vector.Physical ∷ attack_vector.Local ∷ attack_vector.Adjacent ∷ attack_vector.Network ∷ [] };
+
+    ghost law = { Prim.search rules };
 }
 
 impl fmt::Display for AttackVector {
@@ -74,16 +78,10 @@ pub enum AttackComplexity {
     Low,
 }
 
-impl Metric for AttackComplexity {
-    const TYPE: MetricType = MetricType::AC;
-
-    ghost TYPE = { metric.AC };
+impl Spelled for AttackComplexity {
+    ghost kind = { metric.AC };
 
     ghost rank = { place.AC };
-
-    ghost values = { attack_complexity.High ∷ attack_complexity.Low ∷ [] };
-
-    ghost law = { Prim.search rules };
 
     fn slashed(self) -> &'static str {
         match self {
@@ -93,12 +91,22 @@ impl Metric for AttackComplexity {
     }
 
     fn read_bytes(text: &[u8]) -> Option<Self> {
-        match only_byte(text)? {
-            b'H' | b'h' => Some(Self::High),
-            b'L' | b'l' => Some(Self::Low),
+        match only_letter(text)? {
+            b'H' => Some(Self::High),
+            b'L' => Some(Self::Low),
             _ => None,
         }
     }
+}
+
+impl Metric for AttackComplexity {
+    const TYPE: MetricType = MetricType::AC;
+
+    ghost TYPE = { metric.AC };
+
+    ghost values = { attack_complexity.High ∷ attack_complexity.Low ∷ [] };
+
+    ghost law = { Prim.search rules };
 }
 
 impl fmt::Display for AttackComplexity {
@@ -120,16 +128,10 @@ pub enum AttackRequirements {
     None,
 }
 
-impl Metric for AttackRequirements {
-    const TYPE: MetricType = MetricType::AT;
-
-    ghost TYPE = { metric.AT };
+impl Spelled for AttackRequirements {
+    ghost kind = { metric.AT };
 
     ghost rank = { place.AT };
-
-    ghost values = { attack_requirements.Present ∷ attack_requirements.None ∷ [] };
-
-    ghost law = { Prim.search rules };
 
     fn slashed(self) -> &'static str {
         match self {
@@ -139,12 +141,22 @@ impl Metric for AttackRequirements {
     }
 
     fn read_bytes(text: &[u8]) -> Option<Self> {
-        match only_byte(text)? {
-            b'P' | b'p' => Some(Self::Present),
-            b'N' | b'n' => Some(Self::None),
+        match only_letter(text)? {
+            b'P' => Some(Self::Present),
+            b'N' => Some(Self::None),
             _ => None,
         }
     }
+}
+
+impl Metric for AttackRequirements {
+    const TYPE: MetricType = MetricType::AT;
+
+    ghost TYPE = { metric.AT };
+
+    ghost values = { attack_requirements.Present ∷ attack_requirements.None ∷ [] };
+
+    ghost law = { Prim.search rules };
 }
 
 impl fmt::Display for AttackRequirements {

@@ -9,7 +9,7 @@ ghost use Rattle.cvss_v4_metric.specs.declared.base.subsequent.ConfidentialityIm
 ghost use Rattle.cvss_v4_metric.specs.declared.base.subsequent.IntegrityImpactToTheSubsequentSystem.TheVariants as integrity_impact_to_the_subsequent_system;
 ghost use Rattle.cvss_v4_metric.specs.declared.base.subsequent.AvailabilityImpactToTheSubsequentSystem.TheVariants as availability_impact_to_the_subsequent_system;
 
-use crate::metric::{Metric, MetricType, only_byte};
+use crate::metric::{Metric, MetricType, Spelled, only_letter};
 use cvss_text::print::write_component;
 use std::fmt;
 
@@ -23,16 +23,10 @@ pub enum ConfidentialityImpactToTheSubsequentSystem {
     High,
 }
 
-impl Metric for ConfidentialityImpactToTheSubsequentSystem {
-    const TYPE: MetricType = MetricType::SC;
-
-    ghost TYPE = { metric.SC };
+impl Spelled for ConfidentialityImpactToTheSubsequentSystem {
+    ghost kind = { metric.SC };
 
     ghost rank = { place.SC };
-
-    ghost values = { confidentiality_impact_to_the_subsequent_system.None ∷ confidentiality_impact_to_the_subsequent_system.Low ∷ confidentiality_impact_to_the_subsequent_system.High ∷ [] };
-
-    ghost law = { Prim.search rules };
 
     fn slashed(self) -> &'static str {
         match self {
@@ -43,13 +37,23 @@ impl Metric for ConfidentialityImpactToTheSubsequentSystem {
     }
 
     fn read_bytes(text: &[u8]) -> Option<Self> {
-        match only_byte(text)? {
-            b'N' | b'n' => Some(Self::None),
-            b'L' | b'l' => Some(Self::Low),
-            b'H' | b'h' => Some(Self::High),
+        match only_letter(text)? {
+            b'N' => Some(Self::None),
+            b'L' => Some(Self::Low),
+            b'H' => Some(Self::High),
             _ => None,
         }
     }
+}
+
+impl Metric for ConfidentialityImpactToTheSubsequentSystem {
+    const TYPE: MetricType = MetricType::SC;
+
+    ghost TYPE = { metric.SC };
+
+    ghost values = { confidentiality_impact_to_the_subsequent_system.None ∷ confidentiality_impact_to_the_subsequent_system.Low ∷ confidentiality_impact_to_the_subsequent_system.High ∷ [] };
+
+    ghost law = { Prim.search rules };
 }
 
 impl fmt::Display for ConfidentialityImpactToTheSubsequentSystem {
@@ -71,16 +75,10 @@ pub enum IntegrityImpactToTheSubsequentSystem {
     High,
 }
 
-impl Metric for IntegrityImpactToTheSubsequentSystem {
-    const TYPE: MetricType = MetricType::SI;
-
-    ghost TYPE = { metric.SI };
+impl Spelled for IntegrityImpactToTheSubsequentSystem {
+    ghost kind = { metric.SI };
 
     ghost rank = { place.SI };
-
-    ghost values = { integrity_impact_to_the_subsequent_system.None ∷ integrity_impact_to_the_subsequent_system.Low ∷ integrity_impact_to_the_subsequent_system.High ∷ [] };
-
-    ghost law = { Prim.search rules };
 
     fn slashed(self) -> &'static str {
         match self {
@@ -91,13 +89,23 @@ impl Metric for IntegrityImpactToTheSubsequentSystem {
     }
 
     fn read_bytes(text: &[u8]) -> Option<Self> {
-        match only_byte(text)? {
-            b'N' | b'n' => Some(Self::None),
-            b'L' | b'l' => Some(Self::Low),
-            b'H' | b'h' => Some(Self::High),
+        match only_letter(text)? {
+            b'N' => Some(Self::None),
+            b'L' => Some(Self::Low),
+            b'H' => Some(Self::High),
             _ => None,
         }
     }
+}
+
+impl Metric for IntegrityImpactToTheSubsequentSystem {
+    const TYPE: MetricType = MetricType::SI;
+
+    ghost TYPE = { metric.SI };
+
+    ghost values = { integrity_impact_to_the_subsequent_system.None ∷ integrity_impact_to_the_subsequent_system.Low ∷ integrity_impact_to_the_subsequent_system.High ∷ [] };
+
+    ghost law = { Prim.search rules };
 }
 
 impl fmt::Display for IntegrityImpactToTheSubsequentSystem {
@@ -120,16 +128,10 @@ pub enum AvailabilityImpactToTheSubsequentSystem {
     High,
 }
 
-impl Metric for AvailabilityImpactToTheSubsequentSystem {
-    const TYPE: MetricType = MetricType::SA;
-
-    ghost TYPE = { metric.SA };
+impl Spelled for AvailabilityImpactToTheSubsequentSystem {
+    ghost kind = { metric.SA };
 
     ghost rank = { place.SA };
-
-    ghost values = { availability_impact_to_the_subsequent_system.None ∷ availability_impact_to_the_subsequent_system.Low ∷ availability_impact_to_the_subsequent_system.High ∷ [] };
-
-    ghost law = { Prim.search rules };
 
     fn slashed(self) -> &'static str {
         match self {
@@ -140,13 +142,23 @@ impl Metric for AvailabilityImpactToTheSubsequentSystem {
     }
 
     fn read_bytes(text: &[u8]) -> Option<Self> {
-        match only_byte(text)? {
-            b'N' | b'n' => Some(Self::None),
-            b'L' | b'l' => Some(Self::Low),
-            b'H' | b'h' => Some(Self::High),
+        match only_letter(text)? {
+            b'N' => Some(Self::None),
+            b'L' => Some(Self::Low),
+            b'H' => Some(Self::High),
             _ => None,
         }
     }
+}
+
+impl Metric for AvailabilityImpactToTheSubsequentSystem {
+    const TYPE: MetricType = MetricType::SA;
+
+    ghost TYPE = { metric.SA };
+
+    ghost values = { availability_impact_to_the_subsequent_system.None ∷ availability_impact_to_the_subsequent_system.Low ∷ availability_impact_to_the_subsequent_system.High ∷ [] };
+
+    ghost law = { Prim.search rules };
 }
 
 impl fmt::Display for AvailabilityImpactToTheSubsequentSystem {

@@ -9,7 +9,7 @@ ghost use Rattle.cvss_v4_metric.specs.declared.base.vulnerable.ConfidentialityIm
 ghost use Rattle.cvss_v4_metric.specs.declared.base.vulnerable.IntegrityImpactToTheVulnerableSystem.TheVariants as integrity_impact_to_the_vulnerable_system;
 ghost use Rattle.cvss_v4_metric.specs.declared.base.vulnerable.AvailabilityImpactToTheVulnerableSystem.TheVariants as availability_impact_to_the_vulnerable_system;
 
-use crate::metric::{Metric, MetricType, only_byte};
+use crate::metric::{Metric, MetricType, Spelled, only_letter};
 use cvss_text::print::write_component;
 use std::fmt;
 
@@ -22,16 +22,10 @@ pub enum ConfidentialityImpactToTheVulnerableSystem {
     High,
 }
 
-impl Metric for ConfidentialityImpactToTheVulnerableSystem {
-    const TYPE: MetricType = MetricType::VC;
-
-    ghost TYPE = { metric.VC };
+impl Spelled for ConfidentialityImpactToTheVulnerableSystem {
+    ghost kind = { metric.VC };
 
     ghost rank = { place.VC };
-
-    ghost values = { confidentiality_impact_to_the_vulnerable_system.None ∷ confidentiality_impact_to_the_vulnerable_system.Low ∷ confidentiality_impact_to_the_vulnerable_system.High ∷ [] };
-
-    ghost law = { Prim.search rules };
 
     fn slashed(self) -> &'static str {
         match self {
@@ -42,13 +36,23 @@ impl Metric for ConfidentialityImpactToTheVulnerableSystem {
     }
 
     fn read_bytes(text: &[u8]) -> Option<Self> {
-        match only_byte(text)? {
-            b'N' | b'n' => Some(Self::None),
-            b'L' | b'l' => Some(Self::Low),
-            b'H' | b'h' => Some(Self::High),
+        match only_letter(text)? {
+            b'N' => Some(Self::None),
+            b'L' => Some(Self::Low),
+            b'H' => Some(Self::High),
             _ => None,
         }
     }
+}
+
+impl Metric for ConfidentialityImpactToTheVulnerableSystem {
+    const TYPE: MetricType = MetricType::VC;
+
+    ghost TYPE = { metric.VC };
+
+    ghost values = { confidentiality_impact_to_the_vulnerable_system.None ∷ confidentiality_impact_to_the_vulnerable_system.Low ∷ confidentiality_impact_to_the_vulnerable_system.High ∷ [] };
+
+    ghost law = { Prim.search rules };
 }
 
 impl fmt::Display for ConfidentialityImpactToTheVulnerableSystem {
@@ -70,16 +74,10 @@ pub enum IntegrityImpactToTheVulnerableSystem {
     High,
 }
 
-impl Metric for IntegrityImpactToTheVulnerableSystem {
-    const TYPE: MetricType = MetricType::VI;
-
-    ghost TYPE = { metric.VI };
+impl Spelled for IntegrityImpactToTheVulnerableSystem {
+    ghost kind = { metric.VI };
 
     ghost rank = { place.VI };
-
-    ghost values = { integrity_impact_to_the_vulnerable_system.None ∷ integrity_impact_to_the_vulnerable_system.Low ∷ integrity_impact_to_the_vulnerable_system.High ∷ [] };
-
-    ghost law = { Prim.search rules };
 
     fn slashed(self) -> &'static str {
         match self {
@@ -90,13 +88,23 @@ impl Metric for IntegrityImpactToTheVulnerableSystem {
     }
 
     fn read_bytes(text: &[u8]) -> Option<Self> {
-        match only_byte(text)? {
-            b'N' | b'n' => Some(Self::None),
-            b'L' | b'l' => Some(Self::Low),
-            b'H' | b'h' => Some(Self::High),
+        match only_letter(text)? {
+            b'N' => Some(Self::None),
+            b'L' => Some(Self::Low),
+            b'H' => Some(Self::High),
             _ => None,
         }
     }
+}
+
+impl Metric for IntegrityImpactToTheVulnerableSystem {
+    const TYPE: MetricType = MetricType::VI;
+
+    ghost TYPE = { metric.VI };
+
+    ghost values = { integrity_impact_to_the_vulnerable_system.None ∷ integrity_impact_to_the_vulnerable_system.Low ∷ integrity_impact_to_the_vulnerable_system.High ∷ [] };
+
+    ghost law = { Prim.search rules };
 }
 
 impl fmt::Display for IntegrityImpactToTheVulnerableSystem {
@@ -118,16 +126,10 @@ pub enum AvailabilityImpactToTheVulnerableSystem {
     High,
 }
 
-impl Metric for AvailabilityImpactToTheVulnerableSystem {
-    const TYPE: MetricType = MetricType::VA;
-
-    ghost TYPE = { metric.VA };
+impl Spelled for AvailabilityImpactToTheVulnerableSystem {
+    ghost kind = { metric.VA };
 
     ghost rank = { place.VA };
-
-    ghost values = { availability_impact_to_the_vulnerable_system.None ∷ availability_impact_to_the_vulnerable_system.Low ∷ availability_impact_to_the_vulnerable_system.High ∷ [] };
-
-    ghost law = { Prim.search rules };
 
     fn slashed(self) -> &'static str {
         match self {
@@ -138,13 +140,23 @@ impl Metric for AvailabilityImpactToTheVulnerableSystem {
     }
 
     fn read_bytes(text: &[u8]) -> Option<Self> {
-        match only_byte(text)? {
-            b'N' | b'n' => Some(Self::None),
-            b'L' | b'l' => Some(Self::Low),
-            b'H' | b'h' => Some(Self::High),
+        match only_letter(text)? {
+            b'N' => Some(Self::None),
+            b'L' => Some(Self::Low),
+            b'H' => Some(Self::High),
             _ => None,
         }
     }
+}
+
+impl Metric for AvailabilityImpactToTheVulnerableSystem {
+    const TYPE: MetricType = MetricType::VA;
+
+    ghost TYPE = { metric.VA };
+
+    ghost values = { availability_impact_to_the_vulnerable_system.None ∷ availability_impact_to_the_vulnerable_system.Low ∷ availability_impact_to_the_vulnerable_system.High ∷ [] };
+
+    ghost law = { Prim.search rules };
 }
 
 impl fmt::Display for AvailabilityImpactToTheVulnerableSystem {

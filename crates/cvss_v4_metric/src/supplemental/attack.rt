@@ -8,7 +8,7 @@ ghost use Rattle.cvss_v4_metric.specs.Table.{metric_component};
 ghost use Rattle.cvss_v4_metric.specs.declared.supplemental.attack.Automatable.TheVariants as automatable;
 ghost use Rattle.cvss_v4_metric.specs.declared.supplemental.attack.ValueDensity.TheVariants as value_density;
 
-use crate::metric::{Metric, MetricType, only_byte};
+use crate::metric::{Metric, MetricType, Spelled, only_letter};
 use cvss_text::print::write_component;
 use std::fmt;
 
@@ -21,16 +21,10 @@ pub enum Automatable {
     No,
 }
 
-impl Metric for Automatable {
-    const TYPE: MetricType = MetricType::AU;
-
-    ghost TYPE = { metric.AU };
+impl Spelled for Automatable {
+    ghost kind = { metric.AU };
 
     ghost rank = { place.AU };
-
-    ghost values = { automatable.NotDefined ∷ automatable.Yes ∷ automatable.No ∷ [] };
-
-    ghost law = { Prim.search rules };
 
     fn slashed(self) -> &'static str {
         match self {
@@ -41,13 +35,23 @@ impl Metric for Automatable {
     }
 
     fn read_bytes(text: &[u8]) -> Option<Self> {
-        match only_byte(text)? {
-            b'X' | b'x' => Some(Self::NotDefined),
-            b'Y' | b'y' => Some(Self::Yes),
-            b'N' | b'n' => Some(Self::No),
+        match only_letter(text)? {
+            b'X' => Some(Self::NotDefined),
+            b'Y' => Some(Self::Yes),
+            b'N' => Some(Self::No),
             _ => None,
         }
     }
+}
+
+impl Metric for Automatable {
+    const TYPE: MetricType = MetricType::AU;
+
+    ghost TYPE = { metric.AU };
+
+    ghost values = { automatable.NotDefined ∷ automatable.Yes ∷ automatable.No ∷ [] };
+
+    ghost law = { Prim.search rules };
 }
 
 impl fmt::Display for Automatable {
@@ -69,16 +73,10 @@ pub enum ValueDensity {
     Concentrated,
 }
 
-impl Metric for ValueDensity {
-    const TYPE: MetricType = MetricType::V;
-
-    ghost TYPE = { metric.V };
+impl Spelled for ValueDensity {
+    ghost kind = { metric.V };
 
     ghost rank = { place.V };
-
-    ghost values = { value_density.NotDefined ∷ value_density.Diffuse ∷ value_density.Concentrated ∷ [] };
-
-    ghost law = { Prim.search rules };
 
     fn slashed(self) -> &'static str {
         match self {
@@ -89,13 +87,23 @@ impl Metric for ValueDensity {
     }
 
     fn read_bytes(text: &[u8]) -> Option<Self> {
-        match only_byte(text)? {
-            b'X' | b'x' => Some(Self::NotDefined),
-            b'D' | b'd' => Some(Self::Diffuse),
-            b'C' | b'c' => Some(Self::Concentrated),
+        match only_letter(text)? {
+            b'X' => Some(Self::NotDefined),
+            b'D' => Some(Self::Diffuse),
+            b'C' => Some(Self::Concentrated),
             _ => None,
         }
     }
+}
+
+impl Metric for ValueDensity {
+    const TYPE: MetricType = MetricType::V;
+
+    ghost TYPE = { metric.V };
+
+    ghost values = { value_density.NotDefined ∷ value_density.Diffuse ∷ value_density.Concentrated ∷ [] };
+
+    ghost law = { Prim.search rules };
 }
 
 impl fmt::Display for ValueDensity {

@@ -8,7 +8,7 @@ ghost use Rattle.cvss_v4_metric.specs.Table.{metric_component};
 ghost use Rattle.cvss_v4_metric.specs.declared.supplemental.consequence.Safety.TheVariants as safety;
 ghost use Rattle.cvss_v4_metric.specs.declared.supplemental.consequence.Recovery.TheVariants as recovery;
 
-use crate::metric::{Metric, MetricType, only_byte};
+use crate::metric::{Metric, MetricType, Spelled, only_letter};
 use cvss_text::print::write_component;
 use std::fmt;
 
@@ -21,16 +21,10 @@ pub enum Safety {
     Negligible,
 }
 
-impl Metric for Safety {
-    const TYPE: MetricType = MetricType::S;
-
-    ghost TYPE = { metric.S };
+impl Spelled for Safety {
+    ghost kind = { metric.S };
 
     ghost rank = { place.S };
-
-    ghost values = { safety.NotDefined ∷ safety.Present ∷ safety.Negligible ∷ [] };
-
-    ghost law = { Prim.search rules };
 
     fn slashed(self) -> &'static str {
         match self {
@@ -41,13 +35,23 @@ impl Metric for Safety {
     }
 
     fn read_bytes(text: &[u8]) -> Option<Self> {
-        match only_byte(text)? {
-            b'X' | b'x' => Some(Self::NotDefined),
-            b'P' | b'p' => Some(Self::Present),
-            b'N' | b'n' => Some(Self::Negligible),
+        match only_letter(text)? {
+            b'X' => Some(Self::NotDefined),
+            b'P' => Some(Self::Present),
+            b'N' => Some(Self::Negligible),
             _ => None,
         }
     }
+}
+
+impl Metric for Safety {
+    const TYPE: MetricType = MetricType::S;
+
+    ghost TYPE = { metric.S };
+
+    ghost values = { safety.NotDefined ∷ safety.Present ∷ safety.Negligible ∷ [] };
+
+    ghost law = { Prim.search rules };
 }
 
 impl fmt::Display for Safety {
@@ -70,16 +74,10 @@ pub enum Recovery {
     Irrecoverable,
 }
 
-impl Metric for Recovery {
-    const TYPE: MetricType = MetricType::R;
-
-    ghost TYPE = { metric.R };
+impl Spelled for Recovery {
+    ghost kind = { metric.R };
 
     ghost rank = { place.R };
-
-    ghost values = { recovery.NotDefined ∷ recovery.Automatic ∷ recovery.User ∷ recovery.Irrecoverable ∷ [] };
-
-    ghost law = { Prim.search rules };
 
     fn slashed(self) -> &'static str {
         match self {
@@ -91,14 +89,24 @@ impl Metric for Recovery {
     }
 
     fn read_bytes(text: &[u8]) -> Option<Self> {
-        match only_byte(text)? {
-            b'X' | b'x' => Some(Self::NotDefined),
-            b'A' | b'a' => Some(Self::Automatic),
-            b'U' | b'u' => Some(Self::User),
-            b'I' | b'i' => Some(Self::Irrecoverable),
+        match only_letter(text)? {
+            b'X' => Some(Self::NotDefined),
+            b'A' => Some(Self::Automatic),
+            b'U' => Some(Self::User),
+            b'I' => Some(Self::Irrecoverable),
             _ => None,
         }
     }
+}
+
+impl Metric for Recovery {
+    const TYPE: MetricType = MetricType::R;
+
+    ghost TYPE = { metric.R };
+
+    ghost values = { recovery.NotDefined ∷ recovery.Automatic ∷ recovery.User ∷ recovery.Irrecoverable ∷ [] };
+
+    ghost law = { Prim.search rules };
 }
 
 impl fmt::Display for Recovery {

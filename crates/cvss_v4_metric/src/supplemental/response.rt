@@ -8,7 +8,7 @@ ghost use Rattle.cvss_v4_metric.specs.Table.{metric_component};
 ghost use Rattle.cvss_v4_metric.specs.declared.supplemental.response.VulnerabilityResponseEffort.TheVariants as vulnerability_response_effort;
 ghost use Rattle.cvss_v4_metric.specs.declared.supplemental.response.ProviderUrgency.TheVariants as provider_urgency;
 
-use crate::metric::{Metric, MetricType, only_byte};
+use crate::metric::{Metric, MetricType, Spelled, only_letter};
 use cvss_text::cutting::is_raised_as;
 use cvss_text::print::write_component;
 use std::fmt;
@@ -23,16 +23,10 @@ pub enum VulnerabilityResponseEffort {
     High,
 }
 
-impl Metric for VulnerabilityResponseEffort {
-    const TYPE: MetricType = MetricType::RE;
-
-    ghost TYPE = { metric.RE };
+impl Spelled for VulnerabilityResponseEffort {
+    ghost kind = { metric.RE };
 
     ghost rank = { place.RE };
-
-    ghost values = { vulnerability_response_effort.NotDefined ∷ vulnerability_response_effort.Low ∷ vulnerability_response_effort.Moderate ∷ vulnerability_response_effort.High ∷ [] };
-
-    ghost law = { Prim.search rules };
 
     fn slashed(self) -> &'static str {
         match self {
@@ -44,14 +38,24 @@ impl Metric for VulnerabilityResponseEffort {
     }
 
     fn read_bytes(text: &[u8]) -> Option<Self> {
-        match only_byte(text)? {
-            b'X' | b'x' => Some(Self::NotDefined),
-            b'L' | b'l' => Some(Self::Low),
-            b'M' | b'm' => Some(Self::Moderate),
-            b'H' | b'h' => Some(Self::High),
+        match only_letter(text)? {
+            b'X' => Some(Self::NotDefined),
+            b'L' => Some(Self::Low),
+            b'M' => Some(Self::Moderate),
+            b'H' => Some(Self::High),
             _ => None,
         }
     }
+}
+
+impl Metric for VulnerabilityResponseEffort {
+    const TYPE: MetricType = MetricType::RE;
+
+    ghost TYPE = { metric.RE };
+
+    ghost values = { vulnerability_response_effort.NotDefined ∷ vulnerability_response_effort.Low ∷ vulnerability_response_effort.Moderate ∷ vulnerability_response_effort.High ∷ [] };
+
+    ghost law = { Prim.search rules };
 }
 
 impl fmt::Display for VulnerabilityResponseEffort {
@@ -76,16 +80,10 @@ pub enum ProviderUrgency {
     Clear,
 }
 
-impl Metric for ProviderUrgency {
-    const TYPE: MetricType = MetricType::U;
-
-    ghost TYPE = { metric.U };
+impl Spelled for ProviderUrgency {
+    ghost kind = { metric.U };
 
     ghost rank = { place.U };
-
-    ghost values = { provider_urgency.NotDefined ∷ provider_urgency.Red ∷ provider_urgency.Amber ∷ provider_urgency.Green ∷ provider_urgency.Clear ∷ [] };
-
-    ghost law = { Prim.search rules };
 
     fn slashed(self) -> &'static str {
         match self {
@@ -107,6 +105,16 @@ impl Metric for ProviderUrgency {
             _ => None,
         }
     }
+}
+
+impl Metric for ProviderUrgency {
+    const TYPE: MetricType = MetricType::U;
+
+    ghost TYPE = { metric.U };
+
+    ghost values = { provider_urgency.NotDefined ∷ provider_urgency.Red ∷ provider_urgency.Amber ∷ provider_urgency.Green ∷ provider_urgency.Clear ∷ [] };
+
+    ghost law = { Prim.search rules };
 }
 
 impl fmt::Display for ProviderUrgency {

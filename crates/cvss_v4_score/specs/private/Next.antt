@@ -1,6 +1,5 @@
 -- What the private code holds of a next lower class.
-use Rattle.cvss_v4_score.specs.Values.{listed_value}
-use Rattle.cvss_v4_score.specs.laws.ScoreLaws.{IsListed}
+use Rattle.cvss_v4_score.specs.Values.{listed_value, IsListed}
 use Rattle.cvss_v4_score.specs.declared.scoring.next.NextClass.{NextClass}
 
 -- the value is listed for the class

@@ -2,8 +2,7 @@
 
 ghost use Rattle.std.specs.Prelude.{◌≡◌};
 ghost use Rattle.cvss_v4_score.specs.Classes.{macro_vector};
-ghost use Rattle.cvss_v4_score.specs.Values.{listed_value};
-ghost use Rattle.cvss_v4_score.specs.laws.ScoreLaws.{IsListed};
+ghost use Rattle.cvss_v4_score.specs.Values.{listed_value, IsListed};
 
 use crate::scoring::effective::Effective;
 use crate::scoring::placed::PlacedClass;

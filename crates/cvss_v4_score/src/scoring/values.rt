@@ -1,7 +1,6 @@
 //! The values of the classes (v4.0 specification, section 8.2).
 
-ghost use Rattle.cvss_v4_score.specs.laws.ScoreLaws.{IsListed};
-ghost use Rattle.cvss_v4_score.specs.Values.{listed_value};
+ghost use Rattle.cvss_v4_score.specs.Values.{listed_value, IsListed};
 
 use crate::scoring::placed::PlacedClass;
 

@@ -1,4 +1,4 @@
-use Rattle.cvss.proofs.LawLemmas.{score_once}
+use Rattle.cvss_any.proofs.UniqueLemmas.{score_once}
 use Rattle.cvss.proofs.laws.scores_are_unique.Goals as goal
 
 pub returns : goal.returns

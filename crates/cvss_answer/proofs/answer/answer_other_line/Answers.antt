@@ -1,6 +1,6 @@
 use Rattle.std.proofs.Common.{[], ◌∷◌, ◌++◌, codes, refl}
-use Rattle.cvss.specs.Answers.{vector_answer}
-use Rattle.cvss.specs.Bytes.{bytes_error_text}
+use Rattle.cvss_any.specs.Answers.{vector_answer}
+use Rattle.cvss_any.specs.Bytes.{bytes_error_text}
 use Rattle.cvss_lines.specs.Answers.{Accepted, Refused}
 use Rattle.cvss_answer.specs.Answers.{IsAnswer}
 use Rattle.cvss_lines.proofs.TextsLemmas.{one_text}

@@ -1,7 +1,7 @@
 use Rattle.std.proofs.Common.{◌++◌, [], ◌∷◌, codes}
 use Rattle.std.proofs.lemmas.Fmt.{contents_after_writes}
 use Rattle.std.proofs.lemmas.Result.{on_ok_weaker}
-use Rattle.cvss.specs.Bytes.{bytes_error_text}
+use Rattle.cvss_any.specs.Bytes.{bytes_error_text}
 use Rattle.cvss_lines.specs.declared.gathered.Gathered.{Gathered}
 use Rattle.cvss_answer.proofs.answer.write_error.Goals as goal
 

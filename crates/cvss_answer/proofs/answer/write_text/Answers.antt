@@ -1,6 +1,6 @@
 use Rattle.std.proofs.lemmas.Fmt.{contents_after_writes}
 use Rattle.std.proofs.lemmas.Result.{on_ok_weaker}
-use Rattle.cvss.specs.Answers.{text_of}
+use Rattle.cvss_any.specs.Answers.{text_of}
 use Rattle.cvss_lines.specs.declared.gathered.Gathered.{Gathered}
 use Rattle.cvss_answer.proofs.answer.write_text.Goals as goal
 

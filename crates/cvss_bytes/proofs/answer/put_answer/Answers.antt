@@ -1,6 +1,6 @@
 use Rattle.std.proofs.Common.{◌≡◌, ℕ, ◌+◌, ◌++◌, codes, length, sym, ap, ◌∙◌, arith, append_assoc, length-append}
 use Rattle.cvss.specs.Answers.{text_of, IsScoreOf, rating_by, rating_text, score_of_tenths}
-use Rattle.cvss.specs.declared.vector.Cvss.{Cvss}
+use Rattle.cvss.specs.CvssType.{Cvss}
 use Rattle.cvss_name.specs.declared.severity.Severity.{Severity}
 use Rattle.cvss_bytes.specs.Answers.{IsAnswerOf}
 use Rattle.cvss_bytes.specs.private.Steps.{rating_behind}

@@ -1,5 +1,5 @@
 use Rattle.std.proofs.Common.{◌≡◌, ◌⊎◌, [], length, refl, subst}
-use Rattle.cvss.specs.OverridingV4.{AreOverrides}
+use Rattle.cvss_v4.specs.Overriding.{AreOverrides}
 use Rattle.cvss_ranking.specs.Faults.{TellsFirstFault}
 use Rattle.cvss_ranking.specs.declared.error.TriageError.TheVariants.{OutOfMemory}
 use Rattle.cvss_triage.proofs.RunLemmas.{TellsArgument-from}

@@ -5,16 +5,16 @@ ghost use Rattle.cvss_text.specs.private.Printing.{slashed_texts};
 ghost use Rattle.cvss_text.specs.private.Walk.{first_missing};
 ghost use Rattle.cvss_grammar.specs.Text.{slash};
 ghost use Rattle.cvss_name.specs.declared.v2.MetricType.TheVariants.{A, AC, AV, Au, C, I, E, RL, RC, CDP, TD, CR, IR, AR};
-ghost use Rattle.cvss_v2.specs.Table.{spelling_of, metric_component};
+ghost use Rattle.cvss_v2_metric.specs.Table.{spelling_of, metric_component};
 ghost use Rattle.cvss_v2.specs.Vector.{v2};
 
-use crate::metric::Metric;
-use crate::metric::base::{
+use crate::vector::Vector;
+use cvss_text::sight::behind_name;
+use cvss_v2_metric::base::{
     AccessComplexity, AccessVector, Authentication, AvailabilityImpact, ConfidentialityImpact,
     IntegrityImpact,
 };
-use crate::vector::Vector;
-use cvss_text::sight::behind_name;
+use cvss_v2_metric::{MetricType, Spelled};
 
 /// The vector of the base metrics with which a text begins, each value spelled by one letter.
 #[inline(always)]
@@ -52,8 +52,8 @@ fn access_at_sight(text: &[u8]) -> Option<(AccessVector, AccessComplexity, Authe
         ++ read.3.now) }
 {
     let (av, text) = first_at_sight(text)?;
-    let (ac, text) = base_component_at_sight(text)?;
-    let (au, text) = base_component_at_sight(text)?;
+    let (ac, text) = base_component_at_sight(MetricType::AC, text)?;
+    let (au, text) = base_component_at_sight(MetricType::Au, text)?;
     Some((av, ac, au, text))
 }
 
@@ -74,9 +74,9 @@ fn impact_at_sight(
         ++ slash ∷ metric_component I read.1 ++ slash ∷ metric_component A read.2
         ++ read.3.now) }
 {
-    let (c, text) = base_component_at_sight(text)?;
-    let (i, text) = base_component_at_sight(text)?;
-    let (a, text) = base_component_at_sight(text)?;
+    let (c, text) = base_component_at_sight(MetricType::C, text)?;
+    let (i, text) = base_component_at_sight(MetricType::I, text)?;
+    let (a, text) = base_component_at_sight(MetricType::A, text)?;
     Some((c, i, a, text))
 }
 
@@ -94,11 +94,12 @@ fn first_at_sight(text: &[u8]) -> Option<(AccessVector, &[u8])>
 /// The value of a base metric, where a text begins with a slash and its component, and what stands
 /// behind that.
 #[inline(always)]
-fn base_component_at_sight<M: Metric>(text: &[u8]) -> Option<(M, &[u8])>
+fn base_component_at_sight<M: Spelled>(kind: MetricType, text: &[u8]) -> Option<(M, &[u8])>
+    requires { kind ≡ M.kind }
     ensures { IfSome result
-        (λ read. text.now ≡ slash ∷ (metric_component M.TYPE (M.value read.0) ++ read.1.now)) }
+        (λ read. text.now ≡ slash ∷ (metric_component M.kind (M.value read.0) ++ read.1.now)) }
 {
-    match behind_name(M::TYPE.name(), text)? {
+    match behind_name(kind.name(), text)? {
         [letter, rest @ ..] => Some((letter_at_sight(*letter)?, rest)),
         [] => None,
     }
@@ -106,8 +107,8 @@ fn base_component_at_sight<M: Metric>(text: &[u8]) -> Option<(M, &[u8])>
 
 /// The value that a letter spells.
 #[inline(always)]
-fn letter_at_sight<M: Metric>(letter: u8) -> Option<M>
-    ensures { IfSome result (λ metric. spelling_of M.TYPE (M.value metric) ≡ letter ∷ []) }
+fn letter_at_sight<M: Spelled>(letter: u8) -> Option<M>
+    ensures { IfSome result (λ metric. spelling_of M.kind (M.value metric) ≡ letter ∷ []) }
 {
     M::read_bytes(&[letter])
 }

@@ -7,6 +7,7 @@ ghost use Rattle.cvss_v3.specs.Vector.{v3};
 
 use super::component_at_sight;
 use crate::vector::Vector;
+use cvss_v3_metric::MetricType;
 
 /// The vector with the base metrics with which a text begins, if all of them do.
 #[inline(always)]
@@ -45,10 +46,10 @@ fn attack_at_sight(vector: Vector, text: &[u8]) -> Option<(Vector, &[u8])>
       ui = read.0.ui;
     }) }
 {
-    let (av, text) = component_at_sight(text)?;
-    let (ac, text) = component_at_sight(text)?;
-    let (pr, text) = component_at_sight(text)?;
-    let (ui, text) = component_at_sight(text)?;
+    let (av, text) = component_at_sight(MetricType::AV, text)?;
+    let (ac, text) = component_at_sight(MetricType::AC, text)?;
+    let (pr, text) = component_at_sight(MetricType::PR, text)?;
+    let (ui, text) = component_at_sight(MetricType::UI, text)?;
     let vector = Vector {
         av: Some(av),
         ac: Some(ac),
@@ -71,10 +72,10 @@ fn impact_at_sight(vector: Vector, text: &[u8]) -> Option<(Vector, &[u8])>
       a = read.0.a;
     }) }
 {
-    let (s, text) = component_at_sight(text)?;
-    let (c, text) = component_at_sight(text)?;
-    let (i, text) = component_at_sight(text)?;
-    let (a, text) = component_at_sight(text)?;
+    let (s, text) = component_at_sight(MetricType::S, text)?;
+    let (c, text) = component_at_sight(MetricType::C, text)?;
+    let (i, text) = component_at_sight(MetricType::I, text)?;
+    let (a, text) = component_at_sight(MetricType::A, text)?;
     let vector = Vector {
         s: Some(s),
         c: Some(c),

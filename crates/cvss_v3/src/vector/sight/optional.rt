@@ -7,6 +7,7 @@ ghost use Rattle.cvss_v3.specs.Vector.{v3};
 
 use super::put_at_sight;
 use crate::vector::Vector;
+use cvss_v3_metric::MetricType;
 
 /// Puts the optional metrics with which a text begins into the vector, and gives what stands behind
 /// them.
@@ -50,9 +51,9 @@ fn temporal_at_sight<'a>(vector: &mut Vector, text: &'a [u8]) -> &'a [u8]
       rc = vector.new.rc;
     } }
 {
-    let text = put_at_sight(&mut vector.e, text);
-    let text = put_at_sight(&mut vector.rl, text);
-    put_at_sight(&mut vector.rc, text)
+    let text = put_at_sight(MetricType::E, &mut vector.e, text);
+    let text = put_at_sight(MetricType::RL, &mut vector.rl, text);
+    put_at_sight(MetricType::RC, &mut vector.rc, text)
 }
 
 /// Puts the security requirements with which a text begins into the vector, and gives what stands
@@ -66,9 +67,9 @@ fn requirements_at_sight<'a>(vector: &mut Vector, text: &'a [u8]) -> &'a [u8]
       ar = vector.new.ar;
     } }
 {
-    let text = put_at_sight(&mut vector.cr, text);
-    let text = put_at_sight(&mut vector.ir, text);
-    put_at_sight(&mut vector.ar, text)
+    let text = put_at_sight(MetricType::CR, &mut vector.cr, text);
+    let text = put_at_sight(MetricType::IR, &mut vector.ir, text);
+    put_at_sight(MetricType::AR, &mut vector.ar, text)
 }
 
 /// Puts the modified metrics of how the attack is made with which a text begins into the vector,
@@ -84,10 +85,10 @@ fn modified_attack_at_sight<'a>(vector: &mut Vector, text: &'a [u8]) -> &'a [u8]
       mui = vector.new.mui;
     } }
 {
-    let text = put_at_sight(&mut vector.mav, text);
-    let text = put_at_sight(&mut vector.mac, text);
-    let text = put_at_sight(&mut vector.mpr, text);
-    put_at_sight(&mut vector.mui, text)
+    let text = put_at_sight(MetricType::MAV, &mut vector.mav, text);
+    let text = put_at_sight(MetricType::MAC, &mut vector.mac, text);
+    let text = put_at_sight(MetricType::MPR, &mut vector.mpr, text);
+    put_at_sight(MetricType::MUI, &mut vector.mui, text)
 }
 
 /// Puts the modified scope and impacts with which a text begins into the vector, and gives what
@@ -102,8 +103,8 @@ fn modified_impact_at_sight<'a>(vector: &mut Vector, text: &'a [u8]) -> &'a [u8]
       ma = vector.new.ma;
     } }
 {
-    let text = put_at_sight(&mut vector.ms, text);
-    let text = put_at_sight(&mut vector.mc, text);
-    let text = put_at_sight(&mut vector.mi, text);
-    put_at_sight(&mut vector.ma, text)
+    let text = put_at_sight(MetricType::MS, &mut vector.ms, text);
+    let text = put_at_sight(MetricType::MC, &mut vector.mc, text);
+    let text = put_at_sight(MetricType::MI, &mut vector.mi, text);
+    put_at_sight(MetricType::MA, &mut vector.ma, text)
 }

@@ -5,10 +5,10 @@ ghost use Rattle.cvss_name.specs.declared.v4.MetricType.TheVariants.{AC, AT, AV,
 ghost use Rattle.cvss_v4_score.specs.Effective.{meaning, attack_vectors, privileges, user_interactions, attack_complexities, all_attack_requirements};
 ghost use Rattle.cvss_v4.specs.Merging.{letter_of, replaced};
 
-use crate::metric::base::{
+use cvss_v4_metric::base::{
     AttackComplexity, AttackRequirements, AttackVector, PrivilegesRequired, UserInteraction,
 };
-use crate::metric::environmental::{
+use cvss_v4_metric::environmental::{
     ModifiedAttackComplexity, ModifiedAttackRequirements, ModifiedAttackVector,
     ModifiedPrivilegesRequired, ModifiedUserInteraction,
 };

@@ -7,11 +7,11 @@ ghost use Rattle.cvss_name.specs.declared.v4.MetricType.TheVariants.{MSA, MSC, M
 ghost use Rattle.cvss_v4_score.specs.Effective.{meaning, subsequent_impacts, safety_impacts};
 ghost use Rattle.cvss_v4.specs.Merging.{letter_of, replaced};
 
-use crate::metric::base::{
+use cvss_v4_metric::base::{
     AvailabilityImpactToTheSubsequentSystem, ConfidentialityImpactToTheSubsequentSystem,
     IntegrityImpactToTheSubsequentSystem,
 };
-use crate::metric::environmental::{
+use cvss_v4_metric::environmental::{
     ModifiedAvailabilityImpactToTheSubsequentSystem,
     ModifiedConfidentialityImpactToTheSubsequentSystem,
     ModifiedIntegrityImpactToTheSubsequentSystem,

@@ -5,11 +5,11 @@ ghost use Rattle.cvss_name.specs.declared.v4.MetricType.TheVariants.{MVA, MVC, M
 ghost use Rattle.cvss_v4_score.specs.Effective.{meaning, vulnerable_impacts};
 ghost use Rattle.cvss_v4.specs.Merging.{letter_of, replaced};
 
-use crate::metric::base::{
+use cvss_v4_metric::base::{
     AvailabilityImpactToTheVulnerableSystem, ConfidentialityImpactToTheVulnerableSystem,
     IntegrityImpactToTheVulnerableSystem,
 };
-use crate::metric::environmental::{
+use cvss_v4_metric::environmental::{
     ModifiedAvailabilityImpactToTheVulnerableSystem,
     ModifiedConfidentialityImpactToTheVulnerableSystem,
     ModifiedIntegrityImpactToTheVulnerableSystem,

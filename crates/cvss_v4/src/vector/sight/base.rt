@@ -10,14 +10,14 @@ ghost use Rattle.cvss_v4.specs.Table.{rank_of};
 ghost use Rattle.cvss_v4.specs.Vector.{v4};
 
 use super::value_at_sight;
-use crate::metric::base::{
+use crate::vector::Vector;
+use cvss_text::sight::behind_four;
+use cvss_v4_metric::base::{
     AttackComplexity, AttackRequirements, AttackVector, AvailabilityImpactToTheSubsequentSystem,
     AvailabilityImpactToTheVulnerableSystem, ConfidentialityImpactToTheSubsequentSystem,
     ConfidentialityImpactToTheVulnerableSystem, IntegrityImpactToTheSubsequentSystem,
     IntegrityImpactToTheVulnerableSystem, PrivilegesRequired, UserInteraction,
 };
-use crate::vector::Vector;
-use cvss_text::sight::behind_four;
 
 /// The vector of the base metrics with which a text begins, if all of them do.
 #[inline(always)]

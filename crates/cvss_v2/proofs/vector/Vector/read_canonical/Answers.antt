@@ -5,7 +5,7 @@ use Rattle.cvss_grammar.specs.Text.{slash}
 use Rattle.cvss_grammar.specs.Version.{canonical_text, IsComplete}
 use Rattle.cvss_text.proofs.MissingLemmas.{IsComplete-from}
 use Rattle.cvss_v2.specs.declared.vector.Vector.{Vector}
-use Rattle.cvss_v2.specs.Table.{printed}
+use Rattle.cvss_v2_metric.specs.Table.{printed}
 use Rattle.cvss_v2.specs.Vector.{v2}
 use Rattle.cvss_v2.proofs.TextLemmas.{text_without_slash}
 use Rattle.cvss_v2.proofs.vector.Vector.read_canonical.Goals as goal

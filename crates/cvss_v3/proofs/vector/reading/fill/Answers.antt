@@ -7,8 +7,8 @@ use Rattle.cvss_v3.proofs.vector.reading.fill.Goals as goal
 
 pub returns : goal.returns
 returns g c =
-    let kind = g.M.Metric.TYPE in
-    let value = g.M.Metric.value in
+    let kind = g.M.Spelled.kind in
+    let value = g.M.Spelled.value in
     let read = c.read_bytes.ensures in
     c.fill_place.ensures (λ x. raised (spelling_of kind (value x))) (raised c.args.text.now)
     (IfSome_then c.read_bytes.result read.spelled (λ x is. raised_spelling kind (value x) ∙ is))

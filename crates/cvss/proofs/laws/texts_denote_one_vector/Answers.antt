@@ -1,0 +1,9 @@
+use Rattle.cvss_any.proofs.UniqueLemmas.{one_vector}
+use Rattle.cvss.proofs.LawLemmas.{own_text}
+use Rattle.cvss.proofs.laws.texts_denote_one_vector.Goals as goal
+
+pub returns-clause-own : goal.returns-clause-own
+returns-clause-own c = own_text
+
+pub returns-clause-one : goal.returns-clause-one
+returns-clause-one c = one_vector

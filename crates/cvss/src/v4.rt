@@ -1,0 +1,9 @@
+//! CVSS v4.0: its metrics, vectors, their nomenclature and their scores, and the laws that hold of
+//! them.
+
+pub mod metric;
+
+pub use cvss_laws::v4 as laws;
+pub use cvss_name::v4::MetricType;
+pub use cvss_v4::{Account, Metrics, Nomenclature, OverrideError, Score, Vector};
+pub use cvss_v4_score::scoring;

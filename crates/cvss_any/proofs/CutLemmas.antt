@@ -1,0 +1,55 @@
+-- How a text is cut at its first slash, and its first piece at its first colon.
+use Rattle.std.proofs.Common.{◌≡◌, ◌≢◌, ℕ, ◌<◌, ◌-◌, suc, true, false, eqb, ◌||◌, List, [], ◌∷◌, ◌++◌, codes, length, get_or, take, drop, refl, sym, ap, ◌∙◌, subst, arith}
+use Rattle.std.specs.List.{All, onto_first}
+use Rattle.std.specs.Str.{IsUtf8}
+use Rattle.std.proofs.lemmas.Bool.{or_parts}
+use Rattle.std.proofs.Math.Bool.{or-true}
+use Rattle.std.proofs.lemmas.List.Elements.{All-head}
+use Rattle.std.proofs.lemmas.List.Splits.{length-slice_split, slice_split-cons_no}
+use Rattle.std.proofs.lemmas.List.{take_rest}
+use Rattle.std.proofs.Math.Seq.{split_at}
+use Rattle.cvss_grammar.specs.Version.{version_piece}
+use Rattle.cvss_grammar.specs.Text.{pieces, component, has, colon, slash}
+use Rattle.cvss_text.specs.private.Pieces.{AreParts}
+use Rattle.cvss_text.proofs.PieceLemmas.{IsUtf8-pieces}
+use Rattle.cvss_any.specs.Route.{Route, route_of, route_of_pieces, route_of_parts}
+
+-- a piece with a name and a value has a colon
+has_colon : (name value : List ℕ) → has colon (component name value) ≡ true
+has_colon [] value = refl
+has_colon (byte ∷ name) value = ap (λ rest. eqb byte colon || rest) (has_colon name value) ∙ or-true (eqb byte colon)
+
+-- the route of a text that is cut at its first slash, and its first piece at its first colon
+pub cut_routed : (text piece prefix told : List ℕ) (rest : List (List ℕ)) (to : Route) → pieces text ≡ piece ∷ rest → rest ≢ [] → AreParts piece prefix told → to ≡ route_of_parts prefix told → to ≡ route_of text
+cut_routed text piece prefix told [] to cut some parts is = absurd (some refl)
+cut_routed text piece prefix told (next ∷ more) to cut some parts is =
+    let colon_in : has colon piece ≡ true = ap (has colon) parts.cut ∙ has_colon prefix told in
+    let by_parts : route_of_pieces (piece ∷ next ∷ more) ≡ route_of_parts prefix told = rw (colon_in, sym parts.name_is, sym parts.value_is) refl in
+    is ∙ sym (ap route_of_pieces cut ∙ by_parts)
+
+-- the first piece of a text
+pub first_utf8 : (text piece : List ℕ) (rest : List (List ℕ)) → pieces text ≡ piece ∷ rest → IsUtf8 text → IsUtf8 piece
+first_utf8 text piece rest cut is = All-head IsUtf8 piece rest (subst (All IsUtf8) cut (IsUtf8-pieces text is))
+
+-- a version piece is cut at its colon
+pub version_parts : (told : List ℕ) → AreParts (version_piece told) (codes "CVSS") told
+version_parts told = record { cut = refl; name_is = refl; value_is = refl }
+
+-- a text has a first piece
+pub some_piece : (text : List ℕ) → pieces text ≢ []
+some_piece text none = omega (arith, ap length none, length-slice_split (λ byte. eqb byte slash) text)
+
+-- a text that begins with a piece and a slash
+pieces_behind : (piece rest : List ℕ) → has slash piece ≡ false → pieces (piece ++ (slash ∷ rest)) ≡ piece ∷ pieces rest
+pieces_behind [] rest none = refl
+pieces_behind (byte ∷ piece) rest none =
+    let apart = or_parts (eqb byte slash) (has slash piece) none in
+    slice_split-cons_no (λ each. eqb each slash) byte (piece ++ (slash ∷ rest)) apart.0 ∙ ap (onto_first byte) (pieces_behind piece rest apart.1)
+
+-- a text that begins with the piece that tells the version, and a slash
+pub version_first : (text told rest : List ℕ) (left : List (List ℕ)) → text ≡ version_piece told ++ (slash ∷ rest) → has slash told ≡ false → left ≡ pieces rest → pieces text ≡ version_piece told ∷ left
+version_first text told rest left is none left_is = ap pieces is ∙ (pieces_behind (version_piece told) rest none ∙ ap (λ parts. version_piece told ∷ parts) (sym left_is))
+
+-- a text is cut at a slash that stands in it
+pub cut_at_slash : (text : List ℕ) (at : ℕ) → at < length text → get_or text at 0 ≡ slash → text ≡ take at text ++ (slash ∷ take (length text - suc at) (drop (suc at) text))
+cut_at_slash text at within is = split_at text at 0 within ∙ rw (is, take_rest text (suc at)) refl

@@ -1,0 +1,37 @@
+-- A version's error tells of all metrics what it tells of that version's.
+use Rattle.std.proofs.Common.{◌≡◌, inl, inr, Some, Option, IfSome, refl, subst, ◌∙◌, rules}
+use Rattle.cvss_grammar.specs.Refusal.{Refusal, BadComponent, carries_text}
+use Rattle.cvss_name.specs.Told.{Tells, reason_told}
+use Rattle.cvss_name.specs.V2Types.{v2_reason}
+use Rattle.cvss_name.specs.V3Types.{v3_reason}
+use Rattle.cvss_name.specs.V4Types.{v4_reason}
+use Rattle.cvss_name.specs.declared.error.Error.{Error}
+use Rattle.cvss_name.specs.declared.error.Error.TheVariants.{InvalidComponent}
+use Rattle.cvss_any.specs.Dispatch.{wrapped, cvss_reason}
+use Rattle.cvss_any.specs.declared.metric_type.MetricType.{MetricType}
+use Rattle.cvss_any.specs.declared.metric_type.MetricType.TheVariants.{V2, V3, V4}
+
+-- what an error tells of a version's metrics, it tells of those of all
+abbrev pub Wraps : {K : Type 0} → (K → MetricType) → (Error → Option (Refusal K)) → Type 0
+Wraps wrap own = (error : Error) → IfSome (reason_told own error) (λ reason. reason_told cvss_reason error ≡ Some (wrapped wrap reason))
+
+pub v2_wraps : Wraps V2 v2_reason
+v2_wraps (InvalidComponent component) = refl
+v2_wraps _ = search rules
+
+pub v3_wraps : Wraps V3 v3_reason
+v3_wraps (InvalidComponent component) = refl
+v3_wraps _ = search rules
+
+pub v4_wraps : Wraps V4 v4_reason
+v4_wraps (InvalidComponent component) = refl
+v4_wraps _ = search rules
+
+carries-wrapped : {K : Type 0} (wrap : K → MetricType) (reason : Refusal K) → carries_text (wrapped wrap reason) ≡ carries_text reason
+carries-wrapped wrap (BadComponent piece) = refl
+carries-wrapped wrap _ = refl
+
+module _ {K : Type 0} (wrap : K → MetricType) (own : Error → Option (Refusal K)) (wraps : Wraps wrap own) where
+  pub tells_wrapped : (reason : Refusal K) (error : Error) → Tells own reason error → Tells cvss_reason (wrapped wrap reason) error
+  tells_wrapped reason error (inl told) = inl (subst (λ each. IfSome each (λ known. reason_told cvss_reason error ≡ Some (wrapped wrap known))) told (wraps error))
+  tells_wrapped reason error (inr lacking) = inr (lacking.0, carries-wrapped wrap reason ∙ lacking.1)

@@ -1,0 +1,20 @@
+//! A vector of any version: read, printed and scored by the rules of the version that its text tells.
+#![tactic(auto)]
+
+mod bytes_error;
+mod metric_type;
+mod metrics;
+mod published;
+mod reading;
+mod route;
+mod sight;
+mod vector;
+
+pub use bytes_error::BytesError;
+use cvss_v2 as v2;
+use cvss_v3 as v3;
+use cvss_v4 as v4;
+pub use metric_type::MetricType;
+pub use metrics::Metrics;
+pub use published::{Bounds, Published};
+pub use vector::Cvss;

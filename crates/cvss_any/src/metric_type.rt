@@ -1,0 +1,38 @@
+//! The metrics of all versions.
+
+ghost use Rattle.std.specs.Prelude.{◌≡◌};
+ghost use Rattle.cvss_any.specs.MetricTypes.{name_of, description_of};
+
+use cvss_name::{v2, v3, v4};
+
+/// A metric of one of the versions.
+#[derive(Clone, Copy, Debug, PartialEq, Eq)]
+pub enum MetricType {
+    V2(v2::MetricType),
+    V3(v3::MetricType),
+    V4(v4::MetricType),
+}
+
+impl MetricType {
+    /// The metric's short name, as it stands in a vector.
+    pub fn name(self) -> &'static str
+        ensures { result.now ≡ name_of self }
+    {
+        match self {
+            MetricType::V2(metric) => metric.name(),
+            MetricType::V3(metric) => metric.name(),
+            MetricType::V4(metric) => metric.name(),
+        }
+    }
+
+    /// The metric's full name.
+    pub fn description(self) -> &'static str
+        ensures { result.now ≡ description_of self }
+    {
+        match self {
+            MetricType::V2(metric) => metric.description(),
+            MetricType::V3(metric) => metric.description(),
+            MetricType::V4(metric) => metric.description(),
+        }
+    }
+}

@@ -1,0 +1,137 @@
+//! How a text is read by the rules of the version that it tells. It takes no memory: a fault borrows
+//! the part of the text that it names.
+
+ghost use Rattle.std.specs.Prelude.{◌≡◌, ◌∷◌, codes};
+ghost use Rattle.std.specs.Str.{IsUtf8};
+ghost use Rattle.cvss_grammar.specs.Text.{pieces};
+ghost use Rattle.cvss_name.specs.Told.{Tells};
+ghost use Rattle.cvss_grammar.specs.Version.{version_piece};
+ghost use Rattle.cvss_text.specs.private.Pieces.{pieces_left};
+ghost use Rattle.cvss_text.specs.private.Walk.{IsTellable, reason_of};
+ghost use Rattle.cvss_any.specs.Bytes.{IsRefusedAs};
+ghost use Rattle.cvss_any.specs.declared.metric_type.MetricType.TheVariants.{V2};
+ghost use Rattle.cvss_any.specs.Dispatch.{cvss_reason, untold, wrapped};
+ghost use Rattle.cvss_any.specs.private.Steps.{IsRead, IsTellableFault, reason_read};
+ghost use Rattle.cvss_any.specs.Route.{ToV20, ToV30, ToV31, ToV40, route_of};
+ghost use Rattle.cvss_any.specs.private.Views as is_told;
+ghost use Rattle.cvss_any.specs.private.Views.{why_of};
+ghost use Rattle.cvss_v2.specs.Vector.{v2};
+
+use crate::bytes_error::BytesError;
+use crate::route::{NoVersion, Route, route_of_text};
+use crate::vector::Cvss;
+use crate::{v2, v3, v4};
+use cvss_base::refusing;
+use cvss_name::Error;
+use cvss_text::front::{Fronted, read_started};
+use cvss_text::pieces::Pieces;
+use cvss_text::walk::{Fault, read_vector};
+use std::alloc::Global;
+
+/// Why a text denotes no vector, as the version found by whose rules it was read. That a text tells
+/// no version is said as CVSS v2 says it.
+#[derive(Drop)]
+pub(crate) enum ReadFault<'a> {
+    V2(Fault<'a, cvss_name::v2::MetricType>),
+    V3(Fault<'a, cvss_name::v3::MetricType>),
+    V4(Fault<'a, cvss_name::v4::MetricType>),
+}
+
+/// The vector that a text denotes, or the first reason why there is none.
+pub(crate) fn read(text: &[u8]) -> Result<Cvss, ReadFault<'_>>
+    ensures { IsRead text.now result }
+{
+    match route_of_text(text) {
+        Route::V20 => read_v20(text),
+        Route::V30(left) => read_v30(text, left),
+        Route::V31(left) => read_v31(text, left),
+        Route::V40(left) => read_v40(text, left),
+        Route::Untold(why) => Err(ReadFault::V2(fault_of(why))),
+    }
+}
+
+/// The fault that a text tells no version.
+fn fault_of<'a>(why: NoVersion<'a>) -> Fault<'a, cvss_name::v2::MetricType>
+    ensures reason { wrapped V2 (reason_of v2 result) ≡ untold (why_of why.entry) }
+    ensures tellable { is_told.IsTellable why.entry → IsTellable v2 result }
+{
+    match why {
+        NoVersion::InvalidComponent(piece) => Fault::InvalidComponent(piece),
+        NoVersion::InvalidPrefix(prefix) => Fault::InvalidPrefix(prefix),
+        NoVersion::UnsupportedVersion(version) => Fault::UnsupportedVersion(version),
+    }
+}
+
+// A call of its own for each version keeps the vectors apart, as in `sight`.
+#[inline(never)]
+fn read_v20(text: &[u8]) -> Result<Cvss, ReadFault<'_>>
+    requires { route_of text.now ≡ ToV20 }
+    ensures { IsRead text.now result }
+{
+    match read_vector(text, v2::Vector::default()) {
+        Ok(vector) => Ok(Cvss::CvssV20(vector)),
+        Err(fault) => Err(ReadFault::V2(fault)),
+    }
+}
+
+#[inline(never)]
+fn read_v30<'a>(text: &'a [u8], left: Pieces<'a>) -> Result<Cvss, ReadFault<'a>>
+    requires routed { route_of text.now ≡ ToV30 }
+    requires behind { pieces text.now ≡ version_piece (codes "3.0") ∷ pieces_left left }
+    ensures { IsRead text.now result }
+{
+    let empty = v3::Vector::start(b"3.0").unwrap();
+    match read_started(text, left, empty) {
+        Ok(vector) => Ok(Cvss::CvssV30(vector)),
+        Err(fault) => Err(ReadFault::V3(fault)),
+    }
+}
+
+#[inline(never)]
+fn read_v31<'a>(text: &'a [u8], left: Pieces<'a>) -> Result<Cvss, ReadFault<'a>>
+    requires routed { route_of text.now ≡ ToV31 }
+    requires behind { pieces text.now ≡ version_piece (codes "3.1") ∷ pieces_left left }
+    ensures { IsRead text.now result }
+{
+    let empty = v3::Vector::start(b"3.1").unwrap();
+    match read_started(text, left, empty) {
+        Ok(vector) => Ok(Cvss::CvssV31(vector)),
+        Err(fault) => Err(ReadFault::V3(fault)),
+    }
+}
+
+#[inline(never)]
+fn read_v40<'a>(text: &'a [u8], left: Pieces<'a>) -> Result<Cvss, ReadFault<'a>>
+    requires routed { route_of text.now ≡ ToV40 }
+    requires behind { pieces text.now ≡ version_piece (codes "4.0") ∷ pieces_left left }
+    ensures { IsRead text.now result }
+{
+    let empty = v4::Vector::start(b"4.0").unwrap();
+    match read_started(text, left, empty) {
+        Ok(vector) => Ok(Cvss::CvssV40(vector)),
+        Err(fault) => Err(ReadFault::V4(fault)),
+    }
+}
+
+/// The error that tells a fault, or that there is no memory for the text that the fault names.
+pub(crate) fn error_of(alloc: Global, fault: ReadFault<'_>) -> Error
+    requires { IsTellableFault fault }
+    ensures { Tells cvss_reason (reason_read fault.entry) result }
+{
+    match fault {
+        ReadFault::V2(fault) => refusing::error_of::<v2::Vector>(alloc, fault),
+        ReadFault::V3(fault) => refusing::error_of::<v3::Vector>(alloc, fault),
+        ReadFault::V4(fault) => refusing::error_of::<v4::Vector>(alloc, fault),
+    }
+}
+
+/// The error of bytes in which a fault was found: that they are no text, or that of the fault.
+pub(crate) fn bytes_error_of(alloc: Global, text: &[u8], fault: ReadFault<'_>) -> BytesError
+    requires { IsUtf8 text.now → IsTellableFault fault }
+    ensures { IsRefusedAs text.now (reason_read fault.entry) result }
+{
+    match str::from_utf8(text) {
+        Ok(_) => BytesError::Invalid(error_of(alloc, fault)),
+        Err(_) => BytesError::NotUtf8,
+    }
+}

@@ -1,0 +1,112 @@
+//! Canonical texts of any version, recognised at sight.
+
+ghost use Rattle.std.specs.Prelude.{◌≡◌, IfSome, IsSome};
+ghost use Rattle.std.specs.Str.{IsUtf8};
+ghost use Rattle.cvss_any.specs.Answers.{HasScore, text_of};
+ghost use Rattle.cvss_any.specs.Dispatch.{DenotesCvss};
+ghost use Rattle.cvss_any.specs.Published.{IsPublishedOf};
+
+use crate::published::Published;
+use crate::vector::Cvss;
+use crate::{v2, v3, v4};
+
+/// The bytes of `CVSS:3.0` or `CVSS:3.1`, which alone are no vector.
+const VERSION_PIECE: usize = 8;
+
+impl Cvss {
+    /// The vector whose canonical text this is, where that is seen at once: `None` tells nothing of
+    /// the text, of which `read_in_any_order` tells. It takes no memory.
+    pub fn read_canonical(text: &[u8]) -> Option<Cvss>
+        ensures canonical { IfSome result (λ cvss. text.now ≡ text_of cvss) }
+        ensures denoted { IfSome result (λ cvss. DenotesCvss text.now cvss) }
+        ensures scored { IfSome result (λ cvss. HasScore cvss) }
+        ensures utf8 { IsSome result → IsUtf8 text.now }
+    {
+        match text {
+            [b'A', ..] => v2_at_sight(text),
+            [_, _, _, _, _, b'3', ..] => v3_at_sight(text),
+            _ => v4_at_sight(text),
+        }
+    }
+
+    /// What is published of the vector whose canonical text this is, where that is seen at once, as
+    /// by `read_canonical`.
+    pub fn published_at_sight(text: &[u8]) -> Option<Published>
+        ensures { IfSome result (IsPublishedOf text.now) }
+    {
+        match text {
+            [b'A', ..] => v2_published(text),
+            [_, _, _, _, _, b'3', ..] => v3_published(text),
+            _ => v4_published(text),
+        }
+    }
+}
+
+// A call of its own for each version keeps the vectors apart: joined in one place, each would be
+// laid out byte by byte as any of the four.
+#[inline(never)]
+#[tactic(auto, using(crate::proofs::SightLemmas::IsPublishedOf_from))]
+fn v2_published(text: &[u8]) -> Option<Published>
+    ensures { IfSome result (IsPublishedOf text.now) }
+{
+    let cvss = v2_at_sight(text)?;
+    Some(cvss.published())
+}
+
+#[inline(never)]
+#[tactic(auto, using(crate::proofs::SightLemmas::IsPublishedOf_from))]
+fn v3_published(text: &[u8]) -> Option<Published>
+    ensures { IfSome result (IsPublishedOf text.now) }
+{
+    let cvss = v3_at_sight(text)?;
+    Some(cvss.published())
+}
+
+#[inline(never)]
+#[tactic(auto, using(crate::proofs::SightLemmas::IsPublishedOf_from))]
+fn v4_published(text: &[u8]) -> Option<Published>
+    ensures { IfSome result (IsPublishedOf text.now) }
+{
+    let cvss = v4_at_sight(text)?;
+    Some(cvss.published())
+}
+
+#[inline(always)]
+fn v2_at_sight(text: &[u8]) -> Option<Cvss>
+    ensures canonical { IfSome result (λ cvss. text.now ≡ text_of cvss) }
+    ensures denoted { IfSome result (λ cvss. DenotesCvss text.now cvss) }
+    ensures scored { IfSome result (λ cvss. HasScore cvss) }
+    ensures utf8 { IsSome result → IsUtf8 text.now }
+{
+    let vector = v2::Vector::read_canonical(text)?;
+    Some(Cvss::CvssV20(vector))
+}
+
+#[inline(always)]
+fn v3_at_sight(text: &[u8]) -> Option<Cvss>
+    ensures canonical { IfSome result (λ cvss. text.now ≡ text_of cvss) }
+    ensures denoted { IfSome result (λ cvss. DenotesCvss text.now cvss) }
+    ensures scored { IfSome result (λ cvss. HasScore cvss) }
+    ensures utf8 { IsSome result → IsUtf8 text.now }
+{
+    let vector = v3::Vector::read_canonical(text)?;
+    if text.len() == VERSION_PIECE {
+        return None;
+    }
+    match vector.minor_version {
+        0 => Some(Cvss::CvssV30(vector)),
+        1 => Some(Cvss::CvssV31(vector)),
+        _ => None,
+    }
+}
+
+#[inline(always)]
+fn v4_at_sight(text: &[u8]) -> Option<Cvss>
+    ensures canonical { IfSome result (λ cvss. text.now ≡ text_of cvss) }
+    ensures denoted { IfSome result (λ cvss. DenotesCvss text.now cvss) }
+    ensures scored { IfSome result (λ cvss. HasScore cvss) }
+    ensures utf8 { IsSome result → IsUtf8 text.now }
+{
+    let vector = v4::Vector::read_canonical(text)?;
+    Some(Cvss::CvssV40(vector))
+}

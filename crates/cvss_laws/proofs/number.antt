@@ -1,0 +1,2 @@
+mod EvenLemmas
+mod StandardFacts

@@ -1,0 +1,5 @@
+mod ComputedLemmas
+mod MillionthLemmas
+mod StandardFacts
+mod TableLemmas
+mod WeightLemmas

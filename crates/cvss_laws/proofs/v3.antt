@@ -1,0 +1,5 @@
+mod CutLemmas
+mod DefinedLemmas
+mod LawLemmas
+mod StandardFacts
+mod UniqueLemmas

@@ -1,0 +1,6 @@
+mod ClassLawLemmas
+mod DepthLemmas
+mod MergingFacts
+mod MergingLemmas
+mod RangeLemmas
+mod StandardFacts

@@ -1,0 +1,53 @@
+-- The highest severity vectors of the classes and their least sums.
+use Rattle.std.proofs.Common.{◌≡◌, ℕ, Bool, true, false, ◌&&◌, ◌==◌, leb, List, [], ◌∷◌, arith, slice_index_or}
+use Rattle.std.specs.List.{list_all, list_any}
+use Rattle.std.proofs.lemmas.Bool.{and_parts, eqb-true}
+use Rattle.std.proofs.lemmas.Bool.Decides.{nat_tests}
+use Rattle.std.proofs.lemmas.List.Folds.{Any-from_list_any}
+use Rattle.std.proofs.lemmas.List.Sums.{AllPass-from_list_all}
+use Rattle.cvss_laws.specs.v4.ClassLaws.{IsDominated, HaveLeastSum}
+use Rattle.cvss_v4_score.specs.AsSevere.{IsAtMost}
+use Rattle.cvss_v4_score.proofs.LeastLemmas.{Scale, Classes}
+use Rattle.cvss_v4_score.proofs.TestLemmas.{Finite}
+
+-- no level is above that of the same place of as many, as a test
+abbrev pub is_at_most : List ℕ → List ℕ → Bool
+is_at_most [] [] = true
+is_at_most [] (other ∷ others) = false
+is_at_most (level ∷ rest) [] = false
+is_at_most (level ∷ rest) (other ∷ others) = leb level other && is_at_most rest others
+
+at_most : (levels others : List ℕ) → is_at_most levels others ≡ true → IsAtMost levels others
+at_most [] [] h = tt
+at_most [] (other ∷ others) h = cc
+at_most (level ∷ rest) [] h = cc
+at_most (level ∷ rest) (other ∷ others) h =
+    let parts = and_parts (leb level other) (is_at_most rest others) h in
+    (grind (arith, nat_tests), at_most rest others parts.1)
+
+-- some listed values dominate these, as a test
+abbrev pub is_dominated : {V : Type 0} → (V → List ℕ) → List V → V → Bool
+is_dominated levels maximal v = list_any (λ m. is_at_most (levels m) (levels v)) maximal
+
+pub dominated : {V : Type 0} (values : Finite V) (levels : V → List ℕ) (maximal : V → List V)
+    → values.every (λ v. is_dominated levels (maximal v) v) ≡ true → (v : V) → IsDominated levels (maximal v) v
+dominated values levels maximal h v =
+    let found = Any-from_list_any (λ m. is_at_most (levels m) (levels v)) (maximal v) (values.each (λ v. is_dominated levels (maximal v) v) h v) in
+    (found.0, found.1, found.2, found.3, at_most (levels found.1) (levels v) found.4)
+
+-- the listed values of a class are of it and have its least sum, as a test
+module _ {V C : Type 0} (scale : Scale V C) {IsClass : C → Type 0} {AreSame : C → C → Type 0} (classes : Classes IsClass AreSame) (maximal : C → List V) where
+  abbrev is_least : C → V → Bool
+  is_least class m = classes.same (scale.class m) class && (scale.sum m == scale.least class)
+
+  abbrev pub are_least : C → Bool
+  are_least class = list_all (is_least class) (maximal class)
+
+  pub have_least : classes.every are_least ≡ true → (class : C) → IsClass class
+      → HaveLeastSum (λ m. AreSame (scale.class m) class) scale.sum (maximal class) (scale.least class)
+  have_least h class is =
+      let all = AllPass-from_list_all (is_least class) (maximal class) (classes.each are_least h class is) in
+      λ k d in_list.
+      let m = slice_index_or (maximal class) k d in
+      let parts = and_parts (classes.same (scale.class m) class) (scale.sum m == scale.least class) (all k d in_list) in
+      (classes.same_tells (scale.class m) class parts.0, eqb-true (scale.sum m) (scale.least class) parts.1)

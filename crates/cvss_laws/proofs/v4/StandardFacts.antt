@@ -1,0 +1,90 @@
+-- Classes and scores that the public calculators of CVSS v4.0 give, so that a wrong rule does not check.
+use Rattle.std.proofs.Common.{◌≡◌, Some, None, pos, refl, rules}
+use Rattle.cvss_v4_score.specs.Classes.{macro_vector}
+use Rattle.cvss_v4_score.specs.Distance.{eq1_least, eq2_least, eq3_eq6_least, eq4_least}
+use Rattle.cvss_v4_score.specs.Gap.{eq3_eq6_group, eq3_eq6_next, next_lower}
+use Rattle.cvss_v4_score.specs.Scores.{number, IsScore}
+use Rattle.cvss_v4_score.specs.Values.{rows, listed_value}
+use Rattle.cvss_v4_score.specs.declared.scoring.effective.Effective.{Effective}
+use Rattle.cvss_v4_metric.specs.declared.base.attack.AttackVector.TheVariants as attack_vector
+use Rattle.cvss_v4_metric.specs.declared.base.access.PrivilegesRequired.TheVariants as privileges
+use Rattle.cvss_v4_metric.specs.declared.base.access.UserInteraction.TheVariants as interaction
+use Rattle.cvss_v4_metric.specs.declared.base.attack.AttackComplexity.TheVariants as complexity
+use Rattle.cvss_v4_metric.specs.declared.base.attack.AttackRequirements.TheVariants as conditions
+use Rattle.cvss_v4_score.specs.declared.scoring.effective.VulnerableImpact.TheVariants as impact
+use Rattle.cvss_v4_score.specs.declared.scoring.effective.SubsequentImpact.TheVariants as subsequent
+use Rattle.cvss_v4_score.specs.declared.scoring.effective.SafetyImpact.TheVariants as safety
+use Rattle.cvss_v4_score.specs.declared.scoring.effective.Requirement.TheVariants as requirement
+use Rattle.cvss_v4_score.specs.declared.scoring.effective.ExploitMaturity.TheVariants as exploit
+use Rattle.cvss_laws.proofs.v4.DepthLemmas.{mildest}
+
+-- AV:N/AC:L/AT:N/PR:N/UI:N with no impact
+abbrev harmless : Effective
+harmless = record {
+  av = attack_vector.Network;
+  pr = privileges.None;
+  ui = interaction.None;
+  ac = complexity.Low;
+  at = conditions.None;
+  vc = impact.None;
+  vi = impact.None;
+  va = impact.None;
+  sc = subsequent.None;
+  si = safety.None;
+  sa = safety.None;
+  cr = requirement.High;
+  ir = requirement.High;
+  ar = requirement.High;
+  e = exploit.Attacked;
+}
+
+-- the same with VI:H/E:P
+abbrev integrity : Effective
+integrity = record harmless { vi = impact.High; e = exploit.ProofOfConcept }
+
+-- AV:A/AC:H/AT:N/PR:N/UI:P/VC:L/VI:N/VA:H/SC:N/SI:L/SA:S/E:U/CR:L/AR:L
+abbrev unsafe_availability : Effective
+unsafe_availability =
+    let attack = record harmless { av = attack_vector.Adjacent; ui = interaction.Passive; ac = complexity.High; e = exploit.Unreported } in
+    record attack { vc = impact.Low; va = impact.High; si = safety.Low; sa = safety.Safety; cr = requirement.Low; ar = requirement.Low }
+
+-- AV:A/AC:H/AT:N/PR:N/UI:N/VC:H/VI:H/VA:N/E:U/CR:H/IR:L/AR:L
+abbrev adjacent : Effective
+adjacent =
+    let attack = record harmless { av = attack_vector.Adjacent; ac = complexity.High; e = exploit.Unreported } in
+    record attack { vc = impact.High; vi = impact.High; ir = requirement.Low; ar = requirement.Low }
+
+-- AV:P/AC:H/AT:P/PR:H/UI:A/VA:L/E:U/CR:L/IR:L/AR:L
+abbrev least_severe : Effective
+least_severe = record mildest { va = impact.Low }
+
+-- all six impacts H
+abbrev most_severe : Effective
+most_severe =
+    let vulnerable = record harmless { vc = impact.High; vi = impact.High; va = impact.High } in
+    record vulnerable { sc = subsequent.High; si = safety.High; sa = safety.High }
+
+pub integrity_class : macro_vector integrity ≡ record { eq1 = 0; eq2 = 0; eq3 = 1; eq4 = 2; eq5 = 1; eq6 = 0 }
+integrity_class = refl
+
+-- the first and the last value of the table, one between them, and none for EQ3 = 2 with EQ6 = 0
+pub table_values : (listed_value (record { eq1 = 0; eq2 = 0; eq3 = 0; eq4 = 0; eq5 = 0; eq6 = 0 }) ≡ Some 100)
+    × (listed_value (record { eq1 = 1; eq2 = 0; eq3 = 1; eq4 = 2; eq5 = 1; eq6 = 1 }) ≡ Some 52)
+    × (listed_value (record { eq1 = 2; eq2 = 1; eq3 = 2; eq4 = 2; eq5 = 2; eq6 = 1 }) ≡ Some 1)
+    × (listed_value (record { eq1 = 0; eq2 = 0; eq3 = 2; eq4 = 0; eq5 = 0; eq6 = 0 }) ≡ None)
+unfolding rows listed_value
+table_values = (refl, refl, refl, refl)
+
+-- of the classes with the values 3.0 and 2.4 that with the larger is the next lower one, and the least severe class has
+-- none
+pub next_lower_classes : (eq3_eq6_next (macro_vector adjacent) ≡ Some (record { eq1 = 1; eq2 = 1; eq3 = 0; eq4 = 2; eq5 = 2; eq6 = 1 }))
+    × (next_lower (eq3_eq6_group adjacent) ≡ Some 30)
+    × (eq3_eq6_next (macro_vector least_severe) ≡ None)
+unfolding rows listed_value
+next_lower_classes = (refl, refl, refl)
+
+-- the scores of four of these, and of one without impact
+pub scores : IsScore integrity (pos 77) × IsScore unsafe_availability (pos 42) × IsScore harmless (pos 0)
+    × IsScore most_severe (pos 100) × IsScore adjacent (pos 43)
+unfolding number rows listed_value eq1_least eq2_least eq3_eq6_least eq4_least
+scores = (search rules, search rules, search rules, search rules, search rules)

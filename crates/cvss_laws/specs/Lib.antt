@@ -1,0 +1,4 @@
+pub mod number
+pub mod v2
+pub mod v3
+pub mod v4

@@ -1,0 +1,5 @@
+pub mod ClassLaws
+pub mod LetterLaws
+pub mod Maximal
+pub mod MergingLaws
+pub mod ScoreLaws

@@ -1,0 +1,57 @@
+//! Laws of CVSS v2, each the contract of a function that does nothing. A proof that needs a law
+//! calls it.
+
+ghost use Rattle.std.specs.Prelude.{◌≡◌, ◌↔◌, ℕ, ℤ, List};
+ghost use Rattle.cvss_grammar.specs.Version.{canonical_text, Denotes};
+ghost use Rattle.cvss_laws.specs.v2.NotDefined.{DefineTheSame};
+ghost use Rattle.cvss_number.specs.Exact.{of_count};
+ghost use Rattle.cvss_number.specs.Rounding.{IsNearestAway};
+ghost use Rattle.cvss_number.specs.Tenths.{IsInTenths};
+ghost use Rattle.cvss_number.specs.laws.Rounding.{IsOneCount};
+ghost use Rattle.cvss_v2.specs.Vector.{v2};
+ghost use Rattle.cvss_v2.specs.Weights.{weights_of};
+ghost use Rattle.cvss_v2.specs.declared.vector.Vector.{Vector};
+ghost use Rattle.cvss_v2_score.specs.Scores.{IsTemporal, IsBaseScore, IsTemporalScore, IsEnvironmentalScore, IsBaseScoreBy, IsTemporalScoreBy, IsEnvironmentalScoreBy};
+ghost use Rattle.cvss_v2_score.specs.declared.weights.Weights.{Weights};
+
+pub use cvss_v2::laws::{values_are_cloned_without_memory, vectors_are_their_values};
+pub use cvss_v2_score::laws::scores_compare_as_counts;
+
+/// A canonical text denotes its vector, and a text denotes at most one vector. So what is printed
+/// of a complete vector is read as that vector.
+pub fn texts_denote_one_vector()
+    ensures own { (vector : Vector) → Denotes v2 (canonical_text v2 vector) vector }
+    ensures one { (text : List ℕ) → (left right : Vector)
+        → Denotes v2 text left → Denotes v2 text right → left ≡ right }
+{}
+
+/// Weights give one score of each kind.
+pub fn scores_are_unique()
+    ensures base { (w : Weights) → IsOneCount (IsBaseScore w) }
+    ensures temporal { (w : Weights) → IsOneCount (IsTemporalScore w) }
+    ensures environmental { (w : Weights) → IsOneCount (IsEnvironmentalScore w) }
+    ensures internal { (w : Weights) → (impact : ℤ)
+        → IsOneCount (IsInTenths (IsTemporal w (of_count impact))) }
+{}
+
+/// The 10^-6 that the rounding adds changes no published score of a vector: each is the same if
+/// every rounding on the way to it takes the nearest tenth of the exact number, half away from
+/// zero. Before it is raised to 0 a number may differ: the environmental one of
+/// `AV:L/AC:H/Au:M/C:P/I:N/A:N/TD:L/CR:L` is -0.05, whose rounding is 0 and whose nearest tenth is
+/// -0.1.
+pub fn a_millionth_changes_no_score()
+    ensures base { (vector : Vector) → (count : ℤ) → IsBaseScore (weights_of vector) count
+        ↔ IsBaseScoreBy IsNearestAway (weights_of vector) count }
+    ensures temporal { (vector : Vector) → (count : ℤ) → IsTemporalScore (weights_of vector) count
+        ↔ IsTemporalScoreBy IsNearestAway (weights_of vector) count }
+    ensures environmental { (vector : Vector) → (count : ℤ)
+        → IsEnvironmentalScore (weights_of vector) count
+        ↔ IsEnvironmentalScoreBy IsNearestAway (weights_of vector) count }
+{}
+
+/// A metric that is `ND` and one that is absent weigh the same, so that all scores are the same
+/// (guide, sections 2.2 and 2.3).
+pub fn not_defined_weighs_as_absent()
+    ensures { (left right : Vector) → DefineTheSame left right
+        → weights_of left ≡ weights_of right }
+{}

@@ -1,0 +1,10 @@
+//! A whole program that answers lines and knows no argument but `--help`, and what its arguments
+//! ask for.
+#![tactic(auto)]
+
+pub mod laws;
+mod program;
+mod requests;
+
+pub use program::{ProgramFault, program_status, run_program, run_streaming_program};
+pub use requests::{Request, arguments, asked, asked_alone};

@@ -1,0 +1,175 @@
+//! What an attack does to the component (guide, sections 2.1.4 to 2.1.6).
+
+ghost use Rattle.std.specs.Prelude.{Some, refl};
+ghost use Rattle.std.proofs.Common.{rules};
+ghost use Rattle.cvss_name.specs.declared.v2.MetricType.TheVariants.{C, I, A};
+ghost use Rattle.cvss_v2_metric.specs.Table.{metric_component};
+
+use crate::metric::{Metric, MetricType, Spelled};
+use cvss_text::print::write_component;
+use std::fmt;
+
+/// What an attack discloses (guide, section 2.1.4).
+#[derive(Clone, Copy, Debug, PartialEq, Eq, PartialOrd, Ord)]
+pub enum ConfidentialityImpact {
+    None,
+    Partial,
+    Complete,
+}
+
+impl Spelled for ConfidentialityImpact {
+    ghost kind = { C };
+
+    ghost value = { λ metric. metric };
+
+    fn row(self) -> (&'static str, u64) {
+        match self {
+            ConfidentialityImpact::None => ("/C:N", 0),
+            ConfidentialityImpact::Partial => ("/C:P", 275),
+            ConfidentialityImpact::Complete => ("/C:C", 660),
+        }
+    }
+
+    fn read_bytes(text: &[u8]) -> Option<Self> {
+        match text {
+            b"N" => Some(ConfidentialityImpact::None),
+            b"P" => Some(ConfidentialityImpact::Partial),
+            b"C" => Some(ConfidentialityImpact::Complete),
+            _ => None,
+        }
+    }
+}
+
+impl Metric for ConfidentialityImpact {
+    const TYPE: MetricType = MetricType::C;
+
+    ghost TYPE = { C };
+
+    ghost type_is = { refl };
+
+    ghost covers = { λ x. (x, refl) };
+
+    ghost ordered = { Prim.search rules };
+
+    ghost by_value = { Prim.search rules };
+}
+
+impl fmt::Display for ConfidentialityImpact {
+    ghost output = { λ metric. Some (metric_component C metric) };
+
+    ghost styled_output = { λ metric _. Some (metric_component C metric) };
+
+    fn fmt<W: fmt::Write>(&self, f: &mut fmt::Formatter<W>) -> fmt::Result {
+        write_component(self.row().0, f)
+    }
+}
+
+/// What an attack changes (guide, section 2.1.5).
+#[derive(Clone, Copy, Debug, PartialEq, Eq, PartialOrd, Ord)]
+pub enum IntegrityImpact {
+    None,
+    Partial,
+    Complete,
+}
+
+impl Spelled for IntegrityImpact {
+    ghost kind = { I };
+
+    ghost value = { λ metric. metric };
+
+    fn row(self) -> (&'static str, u64) {
+        match self {
+            IntegrityImpact::None => ("/I:N", 0),
+            IntegrityImpact::Partial => ("/I:P", 275),
+            IntegrityImpact::Complete => ("/I:C", 660),
+        }
+    }
+
+    fn read_bytes(text: &[u8]) -> Option<Self> {
+        match text {
+            b"N" => Some(IntegrityImpact::None),
+            b"P" => Some(IntegrityImpact::Partial),
+            b"C" => Some(IntegrityImpact::Complete),
+            _ => None,
+        }
+    }
+}
+
+impl Metric for IntegrityImpact {
+    const TYPE: MetricType = MetricType::I;
+
+    ghost TYPE = { I };
+
+    ghost type_is = { refl };
+
+    ghost covers = { λ x. (x, refl) };
+
+    ghost ordered = { Prim.search rules };
+
+    ghost by_value = { Prim.search rules };
+}
+
+impl fmt::Display for IntegrityImpact {
+    ghost output = { λ metric. Some (metric_component I metric) };
+
+    ghost styled_output = { λ metric _. Some (metric_component I metric) };
+
+    fn fmt<W: fmt::Write>(&self, f: &mut fmt::Formatter<W>) -> fmt::Result {
+        write_component(self.row().0, f)
+    }
+}
+
+/// What an attack makes unavailable (guide, section 2.1.6).
+#[derive(Clone, Copy, Debug, PartialEq, Eq, PartialOrd, Ord)]
+pub enum AvailabilityImpact {
+    None,
+    Partial,
+    Complete,
+}
+
+impl Spelled for AvailabilityImpact {
+    ghost kind = { A };
+
+    ghost value = { λ metric. metric };
+
+    fn row(self) -> (&'static str, u64) {
+        match self {
+            AvailabilityImpact::None => ("/A:N", 0),
+            AvailabilityImpact::Partial => ("/A:P", 275),
+            AvailabilityImpact::Complete => ("/A:C", 660),
+        }
+    }
+
+    fn read_bytes(text: &[u8]) -> Option<Self> {
+        match text {
+            b"N" => Some(AvailabilityImpact::None),
+            b"P" => Some(AvailabilityImpact::Partial),
+            b"C" => Some(AvailabilityImpact::Complete),
+            _ => None,
+        }
+    }
+}
+
+impl Metric for AvailabilityImpact {
+    const TYPE: MetricType = MetricType::A;
+
+    ghost TYPE = { A };
+
+    ghost type_is = { refl };
+
+    ghost covers = { λ x. (x, refl) };
+
+    ghost ordered = { Prim.search rules };
+
+    ghost by_value = { Prim.search rules };
+}
+
+impl fmt::Display for AvailabilityImpact {
+    ghost output = { λ metric. Some (metric_component A metric) };
+
+    ghost styled_output = { λ metric _. Some (metric_component A metric) };
+
+    fn fmt<W: fmt::Write>(&self, f: &mut fmt::Formatter<W>) -> fmt::Result {
+        write_component(self.row().0, f)
+    }
+}

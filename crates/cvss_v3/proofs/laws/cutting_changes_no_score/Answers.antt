@@ -1,5 +1,0 @@
-use Rattle.cvss_v3.proofs.CutLemmas.{base_same_when_cut, first_same_when_cut, product_same_when_cut}
-use Rattle.cvss_v3.proofs.laws.cutting_changes_no_score.Goals as goal
-
-pub returns : goal.returns
-returns c = record { base = base_same_when_cut; environmental = first_same_when_cut; product = product_same_when_cut }

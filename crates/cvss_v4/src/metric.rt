@@ -1,4 +1,0 @@
-//! The metrics of CVSS v4.0, each an enum of its values (v4.0 specification, sections 2 to 5).
-
-pub use cvss_v4_env as environmental;
-pub use cvss_v4_metric::{Metric, MetricType, base, supplemental, threat};

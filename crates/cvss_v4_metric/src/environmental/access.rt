@@ -1,0 +1,124 @@
+//! What the attack needs of others, in the user's own environment (v4.0 specification, section
+//! 4.2).
+
+ghost use Rattle.std.specs.Prelude.{Some, [], ◌∷◌};
+ghost use Rattle.std.proofs.Common.{rules};
+ghost use Rattle.cvss_name.specs.declared.v4.MetricType.TheVariants as metric;
+ghost use Rattle.cvss_v4_metric.specs.Ranks as place;
+ghost use Rattle.cvss_v4_metric.specs.Table.{metric_component};
+ghost use Rattle.cvss_v4_metric.specs.declared.environmental.access.ModifiedPrivilegesRequired.TheVariants as modified_privileges_required;
+ghost use Rattle.cvss_v4_metric.specs.declared.environmental.access.ModifiedUserInteraction.TheVariants as modified_user_interaction;
+
+use crate::metric::{Metric, MetricType, Spelled, only_letter};
+use cvss_text::print::write_component;
+use std::fmt;
+
+/// What Privileges Required is in the user's own environment (v4.0 specification, section 4.2).
+#[derive(Clone, Copy, Debug, Default, PartialEq, Eq, PartialOrd, Ord)]
+pub enum ModifiedPrivilegesRequired {
+    #[default]
+    NotDefined,
+    High,
+    Low,
+    None,
+}
+
+impl Spelled for ModifiedPrivilegesRequired {
+    ghost kind = { metric.MPR };
+
+    ghost rank = { place.MPR };
+
+    fn slashed(self) -> &'static str {
+        match self {
+            Self::NotDefined => "/MPR:X",
+            Self::High => "/MPR:H",
+            Self::Low => "/MPR:L",
+            Self::None => "/MPR:N",
+        }
+    }
+
+    fn read_bytes(text: &[u8]) -> Option<Self> {
+        match only_letter(text)? {
+            b'X' => Some(Self::NotDefined),
+            b'H' => Some(Self::High),
+            b'L' => Some(Self::Low),
+            b'N' => Some(Self::None),
+            _ => None,
+        }
+    }
+}
+
+impl Metric for ModifiedPrivilegesRequired {
+    const TYPE: MetricType = MetricType::MPR;
+
+    ghost TYPE = { metric.MPR };
+
+    ghost values = { modified_privileges_required.NotDefined ∷ modified_privileges_required.High ∷ modified_privileges_required.Low ∷ modified_privileges_required.None ∷ [] };
+
+    ghost law = { Prim.search rules };
+}
+
+impl fmt::Display for ModifiedPrivilegesRequired {
+    ghost output = { λ value. Some (metric_component metric.MPR (place.MPR value)) };
+
+    ghost styled_output = { λ value _. Some (metric_component metric.MPR (place.MPR value)) };
+
+    fn fmt<W: fmt::Write>(&self, f: &mut fmt::Formatter<W>) -> fmt::Result {
+        write_component(self.slashed(), f)
+    }
+}
+
+/// What User Interaction is in the user's own environment (v4.0 specification, section 4.2).
+#[derive(Clone, Copy, Debug, Default, PartialEq, Eq, PartialOrd, Ord)]
+pub enum ModifiedUserInteraction {
+    #[default]
+    NotDefined,
+    Active,
+    Passive,
+    None,
+}
+
+impl Spelled for ModifiedUserInteraction {
+    ghost kind = { metric.MUI };
+
+    ghost rank = { place.MUI };
+
+    fn slashed(self) -> &'static str {
+        match self {
+            Self::NotDefined => "/MUI:X",
+            Self::Active => "/MUI:A",
+            Self::Passive => "/MUI:P",
+            Self::None => "/MUI:N",
+        }
+    }
+
+    fn read_bytes(text: &[u8]) -> Option<Self> {
+        match only_letter(text)? {
+            b'X' => Some(Self::NotDefined),
+            b'A' => Some(Self::Active),
+            b'P' => Some(Self::Passive),
+            b'N' => Some(Self::None),
+            _ => None,
+        }
+    }
+}
+
+impl Metric for ModifiedUserInteraction {
+    const TYPE: MetricType = MetricType::MUI;
+
+    ghost TYPE = { metric.MUI };
+
+    ghost values = { modified_user_interaction.NotDefined ∷ modified_user_interaction.Active ∷ modified_user_interaction.Passive ∷ modified_user_interaction.None ∷ [] };
+
+    ghost law = { Prim.search rules };
+}
+
+impl fmt::Display for ModifiedUserInteraction {
+    ghost output = { λ value. Some (metric_component metric.MUI (place.MUI value)) };
+
+    ghost styled_output = { λ value _. Some (metric_component metric.MUI (place.MUI value)) };
+
+    fn fmt<W: fmt::Write>(&self, f: &mut fmt::Formatter<W>) -> fmt::Result {
+        write_component(self.slashed(), f)
+    }
+}

@@ -1,0 +1,177 @@
+//! Where the attack comes from and what it depends on, in the user's own environment (v4.0
+//! specification, section 4.2).
+
+ghost use Rattle.std.specs.Prelude.{Some, [], ◌∷◌};
+ghost use Rattle.std.proofs.Common.{rules};
+ghost use Rattle.cvss_name.specs.declared.v4.MetricType.TheVariants as metric;
+ghost use Rattle.cvss_v4_metric.specs.Ranks as place;
+ghost use Rattle.cvss_v4_metric.specs.Table.{metric_component};
+ghost use Rattle.cvss_v4_metric.specs.declared.environmental.attack.ModifiedAttackVector.TheVariants as modified_attack_vector;
+ghost use Rattle.cvss_v4_metric.specs.declared.environmental.attack.ModifiedAttackComplexity.TheVariants as modified_attack_complexity;
+ghost use Rattle.cvss_v4_metric.specs.declared.environmental.attack.ModifiedAttackRequirements.TheVariants as modified_attack_requirements;
+
+use crate::metric::{Metric, MetricType, Spelled, only_letter};
+use cvss_text::print::write_component;
+use std::fmt;
+
+/// What Attack Vector is in the user's own environment (v4.0 specification, section 4.2).
+#[derive(Clone, Copy, Debug, Default, PartialEq, Eq, PartialOrd, Ord)]
+pub enum ModifiedAttackVector {
+    Physical,
+    Local,
+    Adjacent,
+    Network,
+    #[default]
+    NotDefined,
+}
+
+impl Spelled for ModifiedAttackVector {
+    ghost kind = { metric.MAV };
+
+    ghost rank = { place.MAV };
+
+    fn slashed(self) -> &'static str {
+        match self {
+            Self::Physical => "/MAV:P",
+            Self::Local => "/MAV:L",
+            Self::Adjacent => "/MAV:A",
+            Self::Network => "/MAV:N",
+            Self::NotDefined => "/MAV:X",
+        }
+    }
+
+    fn read_bytes(text: &[u8]) -> Option<Self> {
+        match only_letter(text)? {
+            b'P' => Some(Self::Physical),
+            b'L' => Some(Self::Local),
+            b'A' => Some(Self::Adjacent),
+            b'N' => Some(Self::Network),
+            b'X' => Some(Self::NotDefined),
+            _ => None,
+        }
+    }
+}
+
+impl Metric for ModifiedAttackVector {
+    const TYPE: MetricType = MetricType::MAV;
+
+    ghost TYPE = { metric.MAV };
+
+    ghost values = { modified_attack_vector.Physical ∷ modified_attack_vector.Local ∷ modified_attack_vector.Adjacent ∷ modified_attack_vector.Network ∷ modified_attack_vector.NotDefined ∷ [] };
+
+    ghost law = { Prim.search rules };
+}
+
+impl fmt::Display for ModifiedAttackVector {
+    ghost output = { λ value. Some (metric_component metric.MAV (place.MAV value)) };
+
+    ghost styled_output = { λ value _. Some (metric_component metric.MAV (place.MAV value)) };
+
+    fn fmt<W: fmt::Write>(&self, f: &mut fmt::Formatter<W>) -> fmt::Result {
+        write_component(self.slashed(), f)
+    }
+}
+
+/// What Attack Complexity is in the user's own environment (v4.0 specification, section 4.2).
+#[derive(Clone, Copy, Debug, Default, PartialEq, Eq, PartialOrd, Ord)]
+pub enum ModifiedAttackComplexity {
+    #[default]
+    NotDefined,
+    High,
+    Low,
+}
+
+impl Spelled for ModifiedAttackComplexity {
+    ghost kind = { metric.MAC };
+
+    ghost rank = { place.MAC };
+
+    fn slashed(self) -> &'static str {
+        match self {
+            Self::NotDefined => "/MAC:X",
+            Self::High => "/MAC:H",
+            Self::Low => "/MAC:L",
+        }
+    }
+
+    fn read_bytes(text: &[u8]) -> Option<Self> {
+        match only_letter(text)? {
+            b'X' => Some(Self::NotDefined),
+            b'H' => Some(Self::High),
+            b'L' => Some(Self::Low),
+            _ => None,
+        }
+    }
+}
+
+impl Metric for ModifiedAttackComplexity {
+    const TYPE: MetricType = MetricType::MAC;
+
+    ghost TYPE = { metric.MAC };
+
+    ghost values = { modified_attack_complexity.NotDefined ∷ modified_attack_complexity.High ∷ modified_attack_complexity.Low ∷ [] };
+
+    ghost law = { Prim.search rules };
+}
+
+impl fmt::Display for ModifiedAttackComplexity {
+    ghost output = { λ value. Some (metric_component metric.MAC (place.MAC value)) };
+
+    ghost styled_output = { λ value _. Some (metric_component metric.MAC (place.MAC value)) };
+
+    fn fmt<W: fmt::Write>(&self, f: &mut fmt::Formatter<W>) -> fmt::Result {
+        write_component(self.slashed(), f)
+    }
+}
+
+/// What Attack Requirements is in the user's own environment (v4.0 specification, section 4.2).
+#[derive(Clone, Copy, Debug, Default, PartialEq, Eq, PartialOrd, Ord)]
+pub enum ModifiedAttackRequirements {
+    #[default]
+    NotDefined,
+    Present,
+    None,
+}
+
+impl Spelled for ModifiedAttackRequirements {
+    ghost kind = { metric.MAT };
+
+    ghost rank = { place.MAT };
+
+    fn slashed(self) -> &'static str {
+        match self {
+            Self::NotDefined => "/MAT:X",
+            Self::Present => "/MAT:P",
+            Self::None => "/MAT:N",
+        }
+    }
+
+    fn read_bytes(text: &[u8]) -> Option<Self> {
+        match only_letter(text)? {
+            b'X' => Some(Self::NotDefined),
+            b'P' => Some(Self::Present),
+            b'N' => Some(Self::None),
+            _ => None,
+        }
+    }
+}
+
+impl Metric for ModifiedAttackRequirements {
+    const TYPE: MetricType = MetricType::MAT;
+
+    ghost TYPE = { metric.MAT };
+
+    ghost values = { modified_attack_requirements.NotDefined ∷ modified_attack_requirements.Present ∷ modified_attack_requirements.None ∷ [] };
+
+    ghost law = { Prim.search rules };
+}
+
+impl fmt::Display for ModifiedAttackRequirements {
+    ghost output = { λ value. Some (metric_component metric.MAT (place.MAT value)) };
+
+    ghost styled_output = { λ value _. Some (metric_component metric.MAT (place.MAT value)) };
+
+    fn fmt<W: fmt::Write>(&self, f: &mut fmt::Formatter<W>) -> fmt::Result {
+        write_component(self.slashed(), f)
+    }
+}

@@ -1,0 +1,180 @@
+//! How much the user's organisation depends on each kind of security (v4.0 specification, section
+//! 4.1).
+
+ghost use Rattle.std.specs.Prelude.{Some, [], ◌∷◌};
+ghost use Rattle.std.proofs.Common.{rules};
+ghost use Rattle.cvss_name.specs.declared.v4.MetricType.TheVariants as metric;
+ghost use Rattle.cvss_v4_metric.specs.Ranks as place;
+ghost use Rattle.cvss_v4_metric.specs.Table.{metric_component};
+ghost use Rattle.cvss_v4_metric.specs.declared.environmental.requirement.ConfidentialityRequirements.TheVariants as confidentiality_requirements;
+ghost use Rattle.cvss_v4_metric.specs.declared.environmental.requirement.IntegrityRequirements.TheVariants as integrity_requirements;
+ghost use Rattle.cvss_v4_metric.specs.declared.environmental.requirement.AvailabilityRequirements.TheVariants as availability_requirements;
+
+use crate::metric::{Metric, MetricType, Spelled, only_letter};
+use cvss_text::print::write_component;
+use std::fmt;
+
+/// How much confidentiality matters to the user's organisation (v4.0 specification, section 4.1).
+#[derive(Clone, Copy, Debug, Default, PartialEq, Eq, PartialOrd, Ord)]
+pub enum ConfidentialityRequirements {
+    #[default]
+    NotDefined,
+    Low,
+    Medium,
+    High,
+}
+
+impl Spelled for ConfidentialityRequirements {
+    ghost kind = { metric.CR };
+
+    ghost rank = { place.CR };
+
+    fn slashed(self) -> &'static str {
+        match self {
+            Self::NotDefined => "/CR:X",
+            Self::Low => "/CR:L",
+            Self::Medium => "/CR:M",
+            Self::High => "/CR:H",
+        }
+    }
+
+    fn read_bytes(text: &[u8]) -> Option<Self> {
+        match only_letter(text)? {
+            b'X' => Some(Self::NotDefined),
+            b'L' => Some(Self::Low),
+            b'M' => Some(Self::Medium),
+            b'H' => Some(Self::High),
+            _ => None,
+        }
+    }
+}
+
+impl Metric for ConfidentialityRequirements {
+    const TYPE: MetricType = MetricType::CR;
+
+    ghost TYPE = { metric.CR };
+
+    ghost values = { confidentiality_requirements.NotDefined ∷ confidentiality_requirements.Low ∷ confidentiality_requirements.Medium ∷ confidentiality_requirements.High ∷ [] };
+
+    ghost law = { Prim.search rules };
+}
+
+impl fmt::Display for ConfidentialityRequirements {
+    ghost output = { λ value. Some (metric_component metric.CR (place.CR value)) };
+
+    ghost styled_output = { λ value _. Some (metric_component metric.CR (place.CR value)) };
+
+    fn fmt<W: fmt::Write>(&self, f: &mut fmt::Formatter<W>) -> fmt::Result {
+        write_component(self.slashed(), f)
+    }
+}
+
+/// How much integrity matters to the user's organisation (v4.0 specification, section 4.1).
+#[derive(Clone, Copy, Debug, Default, PartialEq, Eq, PartialOrd, Ord)]
+pub enum IntegrityRequirements {
+    #[default]
+    NotDefined,
+    Low,
+    Medium,
+    High,
+}
+
+impl Spelled for IntegrityRequirements {
+    ghost kind = { metric.IR };
+
+    ghost rank = { place.IR };
+
+    fn slashed(self) -> &'static str {
+        match self {
+            Self::NotDefined => "/IR:X",
+            Self::Low => "/IR:L",
+            Self::Medium => "/IR:M",
+            Self::High => "/IR:H",
+        }
+    }
+
+    fn read_bytes(text: &[u8]) -> Option<Self> {
+        match only_letter(text)? {
+            b'X' => Some(Self::NotDefined),
+            b'L' => Some(Self::Low),
+            b'M' => Some(Self::Medium),
+            b'H' => Some(Self::High),
+            _ => None,
+        }
+    }
+}
+
+impl Metric for IntegrityRequirements {
+    const TYPE: MetricType = MetricType::IR;
+
+    ghost TYPE = { metric.IR };
+
+    ghost values = { integrity_requirements.NotDefined ∷ integrity_requirements.Low ∷ integrity_requirements.Medium ∷ integrity_requirements.High ∷ [] };
+
+    ghost law = { Prim.search rules };
+}
+
+impl fmt::Display for IntegrityRequirements {
+    ghost output = { λ value. Some (metric_component metric.IR (place.IR value)) };
+
+    ghost styled_output = { λ value _. Some (metric_component metric.IR (place.IR value)) };
+
+    fn fmt<W: fmt::Write>(&self, f: &mut fmt::Formatter<W>) -> fmt::Result {
+        write_component(self.slashed(), f)
+    }
+}
+
+/// How much availability matters to the user's organisation (v4.0 specification, section 4.1).
+#[derive(Clone, Copy, Debug, Default, PartialEq, Eq, PartialOrd, Ord)]
+pub enum AvailabilityRequirements {
+    #[default]
+    NotDefined,
+    Low,
+    Medium,
+    High,
+}
+
+impl Spelled for AvailabilityRequirements {
+    ghost kind = { metric.AR };
+
+    ghost rank = { place.AR };
+
+    fn slashed(self) -> &'static str {
+        match self {
+            Self::NotDefined => "/AR:X",
+            Self::Low => "/AR:L",
+            Self::Medium => "/AR:M",
+            Self::High => "/AR:H",
+        }
+    }
+
+    fn read_bytes(text: &[u8]) -> Option<Self> {
+        match only_letter(text)? {
+            b'X' => Some(Self::NotDefined),
+            b'L' => Some(Self::Low),
+            b'M' => Some(Self::Medium),
+            b'H' => Some(Self::High),
+            _ => None,
+        }
+    }
+}
+
+impl Metric for AvailabilityRequirements {
+    const TYPE: MetricType = MetricType::AR;
+
+    ghost TYPE = { metric.AR };
+
+    ghost values = { availability_requirements.NotDefined ∷ availability_requirements.Low ∷ availability_requirements.Medium ∷ availability_requirements.High ∷ [] };
+
+    ghost law = { Prim.search rules };
+}
+
+impl fmt::Display for AvailabilityRequirements {
+    ghost output = { λ value. Some (metric_component metric.AR (place.AR value)) };
+
+    ghost styled_output = { λ value _. Some (metric_component metric.AR (place.AR value)) };
+
+    fn fmt<W: fmt::Write>(&self, f: &mut fmt::Formatter<W>) -> fmt::Result {
+        write_component(self.slashed(), f)
+    }
+}

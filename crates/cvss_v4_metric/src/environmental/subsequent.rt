@@ -1,0 +1,189 @@
+//! What systems behind the vulnerable one lose, in the user's own environment (v4.0 specification,
+//! section 4.2).
+
+ghost use Rattle.std.specs.Prelude.{Some, [], ◌∷◌};
+ghost use Rattle.std.proofs.Common.{rules};
+ghost use Rattle.cvss_name.specs.declared.v4.MetricType.TheVariants as metric;
+ghost use Rattle.cvss_v4_metric.specs.Ranks as place;
+ghost use Rattle.cvss_v4_metric.specs.Table.{metric_component};
+ghost use Rattle.cvss_v4_metric.specs.declared.environmental.subsequent.ModifiedConfidentialityImpactToTheSubsequentSystem.TheVariants as modified_confidentiality_impact_to_the_subsequent_system;
+ghost use Rattle.cvss_v4_metric.specs.declared.environmental.subsequent.ModifiedIntegrityImpactToTheSubsequentSystem.TheVariants as modified_integrity_impact_to_the_subsequent_system;
+ghost use Rattle.cvss_v4_metric.specs.declared.environmental.subsequent.ModifiedAvailabilityImpactToTheSubsequentSystem.TheVariants as modified_availability_impact_to_the_subsequent_system;
+
+use crate::metric::{Metric, MetricType, Spelled, only_letter};
+use cvss_text::print::write_component;
+use std::fmt;
+
+/// What Confidentiality Impact to the Subsequent System is in the user's own environment (v4.0
+/// specification, section 4.2).
+#[derive(Clone, Copy, Debug, Default, PartialEq, Eq, PartialOrd, Ord)]
+pub enum ModifiedConfidentialityImpactToTheSubsequentSystem {
+    #[default]
+    NotDefined,
+    Negligible,
+    Low,
+    High,
+}
+
+impl Spelled for ModifiedConfidentialityImpactToTheSubsequentSystem {
+    ghost kind = { metric.MSC };
+
+    ghost rank = { place.MSC };
+
+    fn slashed(self) -> &'static str {
+        match self {
+            Self::NotDefined => "/MSC:X",
+            Self::Negligible => "/MSC:N",
+            Self::Low => "/MSC:L",
+            Self::High => "/MSC:H",
+        }
+    }
+
+    fn read_bytes(text: &[u8]) -> Option<Self> {
+        match only_letter(text)? {
+            b'X' => Some(Self::NotDefined),
+            b'N' => Some(Self::Negligible),
+            b'L' => Some(Self::Low),
+            b'H' => Some(Self::High),
+            _ => None,
+        }
+    }
+}
+
+impl Metric for ModifiedConfidentialityImpactToTheSubsequentSystem {
+    const TYPE: MetricType = MetricType::MSC;
+
+    ghost TYPE = { metric.MSC };
+
+    ghost values = { modified_confidentiality_impact_to_the_subsequent_system.NotDefined ∷ modified_confidentiality_impact_to_the_subsequent_system.Negligible ∷ modified_confidentiality_impact_to_the_subsequent_system.Low ∷ modified_confidentiality_impact_to_the_subsequent_system.High ∷ [] };
+
+    ghost law = { Prim.search rules };
+}
+
+impl fmt::Display for ModifiedConfidentialityImpactToTheSubsequentSystem {
+    ghost output = { λ value. Some (metric_component metric.MSC (place.MSC value)) };
+
+    ghost styled_output = { λ value _. Some (metric_component metric.MSC (place.MSC value)) };
+
+    fn fmt<W: fmt::Write>(&self, f: &mut fmt::Formatter<W>) -> fmt::Result {
+        write_component(self.slashed(), f)
+    }
+}
+
+/// What Integrity Impact to the Subsequent System is in the user's own environment (v4.0
+/// specification, section 4.2).
+#[derive(Clone, Copy, Debug, Default, PartialEq, Eq, PartialOrd, Ord)]
+pub enum ModifiedIntegrityImpactToTheSubsequentSystem {
+    #[default]
+    NotDefined,
+    Negligible,
+    Low,
+    High,
+    Safety,
+}
+
+impl Spelled for ModifiedIntegrityImpactToTheSubsequentSystem {
+    ghost kind = { metric.MSI };
+
+    ghost rank = { place.MSI };
+
+    fn slashed(self) -> &'static str {
+        match self {
+            Self::NotDefined => "/MSI:X",
+            Self::Negligible => "/MSI:N",
+            Self::Low => "/MSI:L",
+            Self::High => "/MSI:H",
+            Self::Safety => "/MSI:S",
+        }
+    }
+
+    fn read_bytes(text: &[u8]) -> Option<Self> {
+        match only_letter(text)? {
+            b'X' => Some(Self::NotDefined),
+            b'N' => Some(Self::Negligible),
+            b'L' => Some(Self::Low),
+            b'H' => Some(Self::High),
+            b'S' => Some(Self::Safety),
+            _ => None,
+        }
+    }
+}
+
+impl Metric for ModifiedIntegrityImpactToTheSubsequentSystem {
+    const TYPE: MetricType = MetricType::MSI;
+
+    ghost TYPE = { metric.MSI };
+
+    ghost values = { modified_integrity_impact_to_the_subsequent_system.NotDefined ∷ modified_integrity_impact_to_the_subsequent_system.Negligible ∷ modified_integrity_impact_to_the_subsequent_system.Low ∷ modified_integrity_impact_to_the_subsequent_system.High ∷ modified_integrity_impact_to_the_subsequent_system.Safety ∷ [] };
+
+    ghost law = { Prim.search rules };
+}
+
+impl fmt::Display for ModifiedIntegrityImpactToTheSubsequentSystem {
+    ghost output = { λ value. Some (metric_component metric.MSI (place.MSI value)) };
+
+    ghost styled_output = { λ value _. Some (metric_component metric.MSI (place.MSI value)) };
+
+    fn fmt<W: fmt::Write>(&self, f: &mut fmt::Formatter<W>) -> fmt::Result {
+        write_component(self.slashed(), f)
+    }
+}
+
+/// What Availability Impact to the Subsequent System is in the user's own environment (v4.0
+/// specification, section 4.2).
+#[derive(Clone, Copy, Debug, Default, PartialEq, Eq, PartialOrd, Ord)]
+pub enum ModifiedAvailabilityImpactToTheSubsequentSystem {
+    #[default]
+    NotDefined,
+    Negligible,
+    Low,
+    High,
+    Safety,
+}
+
+impl Spelled for ModifiedAvailabilityImpactToTheSubsequentSystem {
+    ghost kind = { metric.MSA };
+
+    ghost rank = { place.MSA };
+
+    fn slashed(self) -> &'static str {
+        match self {
+            Self::NotDefined => "/MSA:X",
+            Self::Negligible => "/MSA:N",
+            Self::Low => "/MSA:L",
+            Self::High => "/MSA:H",
+            Self::Safety => "/MSA:S",
+        }
+    }
+
+    fn read_bytes(text: &[u8]) -> Option<Self> {
+        match only_letter(text)? {
+            b'X' => Some(Self::NotDefined),
+            b'N' => Some(Self::Negligible),
+            b'L' => Some(Self::Low),
+            b'H' => Some(Self::High),
+            b'S' => Some(Self::Safety),
+            _ => None,
+        }
+    }
+}
+
+impl Metric for ModifiedAvailabilityImpactToTheSubsequentSystem {
+    const TYPE: MetricType = MetricType::MSA;
+
+    ghost TYPE = { metric.MSA };
+
+    ghost values = { modified_availability_impact_to_the_subsequent_system.NotDefined ∷ modified_availability_impact_to_the_subsequent_system.Negligible ∷ modified_availability_impact_to_the_subsequent_system.Low ∷ modified_availability_impact_to_the_subsequent_system.High ∷ modified_availability_impact_to_the_subsequent_system.Safety ∷ [] };
+
+    ghost law = { Prim.search rules };
+}
+
+impl fmt::Display for ModifiedAvailabilityImpactToTheSubsequentSystem {
+    ghost output = { λ value. Some (metric_component metric.MSA (place.MSA value)) };
+
+    ghost styled_output = { λ value _. Some (metric_component metric.MSA (place.MSA value)) };
+
+    fn fmt<W: fmt::Write>(&self, f: &mut fmt::Formatter<W>) -> fmt::Result {
+        write_component(self.slashed(), f)
+    }
+}

@@ -1,0 +1,183 @@
+//! What the vulnerable system loses, in the user's own environment (v4.0 specification, section
+//! 4.2).
+
+ghost use Rattle.std.specs.Prelude.{Some, [], ◌∷◌};
+ghost use Rattle.std.proofs.Common.{rules};
+ghost use Rattle.cvss_name.specs.declared.v4.MetricType.TheVariants as metric;
+ghost use Rattle.cvss_v4_metric.specs.Ranks as place;
+ghost use Rattle.cvss_v4_metric.specs.Table.{metric_component};
+ghost use Rattle.cvss_v4_metric.specs.declared.environmental.vulnerable.ModifiedConfidentialityImpactToTheVulnerableSystem.TheVariants as modified_confidentiality_impact_to_the_vulnerable_system;
+ghost use Rattle.cvss_v4_metric.specs.declared.environmental.vulnerable.ModifiedIntegrityImpactToTheVulnerableSystem.TheVariants as modified_integrity_impact_to_the_vulnerable_system;
+ghost use Rattle.cvss_v4_metric.specs.declared.environmental.vulnerable.ModifiedAvailabilityImpactToTheVulnerableSystem.TheVariants as modified_availability_impact_to_the_vulnerable_system;
+
+use crate::metric::{Metric, MetricType, Spelled, only_letter};
+use cvss_text::print::write_component;
+use std::fmt;
+
+/// What Confidentiality Impact to the Vulnerable System is in the user's own environment (v4.0
+/// specification, section 4.2).
+#[derive(Clone, Copy, Debug, Default, PartialEq, Eq, PartialOrd, Ord)]
+pub enum ModifiedConfidentialityImpactToTheVulnerableSystem {
+    #[default]
+    NotDefined,
+    None,
+    Low,
+    High,
+}
+
+impl Spelled for ModifiedConfidentialityImpactToTheVulnerableSystem {
+    ghost kind = { metric.MVC };
+
+    ghost rank = { place.MVC };
+
+    fn slashed(self) -> &'static str {
+        match self {
+            Self::NotDefined => "/MVC:X",
+            Self::None => "/MVC:N",
+            Self::Low => "/MVC:L",
+            Self::High => "/MVC:H",
+        }
+    }
+
+    fn read_bytes(text: &[u8]) -> Option<Self> {
+        match only_letter(text)? {
+            b'X' => Some(Self::NotDefined),
+            b'N' => Some(Self::None),
+            b'L' => Some(Self::Low),
+            b'H' => Some(Self::High),
+            _ => None,
+        }
+    }
+}
+
+impl Metric for ModifiedConfidentialityImpactToTheVulnerableSystem {
+    const TYPE: MetricType = MetricType::MVC;
+
+    ghost TYPE = { metric.MVC };
+
+    ghost values = { modified_confidentiality_impact_to_the_vulnerable_system.NotDefined ∷ modified_confidentiality_impact_to_the_vulnerable_system.None ∷ modified_confidentiality_impact_to_the_vulnerable_system.Low ∷ modified_confidentiality_impact_to_the_vulnerable_system.High ∷ [] };
+
+    ghost law = { Prim.search rules };
+}
+
+impl fmt::Display for ModifiedConfidentialityImpactToTheVulnerableSystem {
+    ghost output = { λ value. Some (metric_component metric.MVC (place.MVC value)) };
+
+    ghost styled_output = { λ value _. Some (metric_component metric.MVC (place.MVC value)) };
+
+    fn fmt<W: fmt::Write>(&self, f: &mut fmt::Formatter<W>) -> fmt::Result {
+        write_component(self.slashed(), f)
+    }
+}
+
+/// What Integrity Impact to the Vulnerable System is in the user's own environment (v4.0
+/// specification, section 4.2).
+#[derive(Clone, Copy, Debug, Default, PartialEq, Eq, PartialOrd, Ord)]
+pub enum ModifiedIntegrityImpactToTheVulnerableSystem {
+    #[default]
+    NotDefined,
+    None,
+    Low,
+    High,
+}
+
+impl Spelled for ModifiedIntegrityImpactToTheVulnerableSystem {
+    ghost kind = { metric.MVI };
+
+    ghost rank = { place.MVI };
+
+    fn slashed(self) -> &'static str {
+        match self {
+            Self::NotDefined => "/MVI:X",
+            Self::None => "/MVI:N",
+            Self::Low => "/MVI:L",
+            Self::High => "/MVI:H",
+        }
+    }
+
+    fn read_bytes(text: &[u8]) -> Option<Self> {
+        match only_letter(text)? {
+            b'X' => Some(Self::NotDefined),
+            b'N' => Some(Self::None),
+            b'L' => Some(Self::Low),
+            b'H' => Some(Self::High),
+            _ => None,
+        }
+    }
+}
+
+impl Metric for ModifiedIntegrityImpactToTheVulnerableSystem {
+    const TYPE: MetricType = MetricType::MVI;
+
+    ghost TYPE = { metric.MVI };
+
+    ghost values = { modified_integrity_impact_to_the_vulnerable_system.NotDefined ∷ modified_integrity_impact_to_the_vulnerable_system.None ∷ modified_integrity_impact_to_the_vulnerable_system.Low ∷ modified_integrity_impact_to_the_vulnerable_system.High ∷ [] };
+
+    ghost law = { Prim.search rules };
+}
+
+impl fmt::Display for ModifiedIntegrityImpactToTheVulnerableSystem {
+    ghost output = { λ value. Some (metric_component metric.MVI (place.MVI value)) };
+
+    ghost styled_output = { λ value _. Some (metric_component metric.MVI (place.MVI value)) };
+
+    fn fmt<W: fmt::Write>(&self, f: &mut fmt::Formatter<W>) -> fmt::Result {
+        write_component(self.slashed(), f)
+    }
+}
+
+/// What Availability Impact to the Vulnerable System is in the user's own environment (v4.0
+/// specification, section 4.2).
+#[derive(Clone, Copy, Debug, Default, PartialEq, Eq, PartialOrd, Ord)]
+pub enum ModifiedAvailabilityImpactToTheVulnerableSystem {
+    #[default]
+    NotDefined,
+    None,
+    Low,
+    High,
+}
+
+impl Spelled for ModifiedAvailabilityImpactToTheVulnerableSystem {
+    ghost kind = { metric.MVA };
+
+    ghost rank = { place.MVA };
+
+    fn slashed(self) -> &'static str {
+        match self {
+            Self::NotDefined => "/MVA:X",
+            Self::None => "/MVA:N",
+            Self::Low => "/MVA:L",
+            Self::High => "/MVA:H",
+        }
+    }
+
+    fn read_bytes(text: &[u8]) -> Option<Self> {
+        match only_letter(text)? {
+            b'X' => Some(Self::NotDefined),
+            b'N' => Some(Self::None),
+            b'L' => Some(Self::Low),
+            b'H' => Some(Self::High),
+            _ => None,
+        }
+    }
+}
+
+impl Metric for ModifiedAvailabilityImpactToTheVulnerableSystem {
+    const TYPE: MetricType = MetricType::MVA;
+
+    ghost TYPE = { metric.MVA };
+
+    ghost values = { modified_availability_impact_to_the_vulnerable_system.NotDefined ∷ modified_availability_impact_to_the_vulnerable_system.None ∷ modified_availability_impact_to_the_vulnerable_system.Low ∷ modified_availability_impact_to_the_vulnerable_system.High ∷ [] };
+
+    ghost law = { Prim.search rules };
+}
+
+impl fmt::Display for ModifiedAvailabilityImpactToTheVulnerableSystem {
+    ghost output = { λ value. Some (metric_component metric.MVA (place.MVA value)) };
+
+    ghost styled_output = { λ value _. Some (metric_component metric.MVA (place.MVA value)) };
+
+    fn fmt<W: fmt::Write>(&self, f: &mut fmt::Formatter<W>) -> fmt::Result {
+        write_component(self.slashed(), f)
+    }
+}

@@ -1,5 +1,0 @@
-use Rattle.cvss_v4_score.proofs.ScoreLawLemmas.{lifted_score}
-use Rattle.cvss_v4_score.proofs.laws.a_millionth_changes_no_score.Goals as goal
-
-pub returns : goal.returns
-returns c = lifted_score

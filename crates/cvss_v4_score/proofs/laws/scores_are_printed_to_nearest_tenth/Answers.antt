@@ -1,5 +1,0 @@
-use Rattle.cvss_number.proofs.PrintedLemmas.{printed-nearest}
-use Rattle.cvss_v4_score.proofs.laws.scores_are_printed_to_nearest_tenth.Goals as goal
-
-pub returns : goal.returns
-returns c = printed-nearest

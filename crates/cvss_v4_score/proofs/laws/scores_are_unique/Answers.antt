@@ -1,5 +1,0 @@
-use Rattle.cvss_v4_score.proofs.ScoreLawLemmas.{one_score}
-use Rattle.cvss_v4_score.proofs.laws.scores_are_unique.Goals as goal
-
-pub returns : goal.returns
-returns c = one_score

@@ -1,5 +1,0 @@
-use Rattle.cvss_v4_score.proofs.SevereLemmas.{severe_score}
-use Rattle.cvss_v4_score.proofs.laws.severe_values_score_no_less.Goals as goal
-
-pub returns : goal.returns
-returns c = severe_score

@@ -1,3 +1,0 @@
-pub mod ClassLaws
-pub mod Maximal
-pub mod ScoreLaws
