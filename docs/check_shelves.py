@@ -57,14 +57,15 @@ def names_given(uses):
 
 def sources(crate):
     """The files of a crate, each with whether it is public and its text, and the names that a `pub use` gives. Of a
-    crate of equations that is public which the version's crate passes on."""
+    crate of equations that is public which the version's crate or `cvss` passes on."""
     folder = ROOT / "crates" / crate / "src"
     root = next(path for path in (folder / "lib.rt", folder / "main.rt") if path.exists())
     files = [(path, is_public, path.read_text(encoding="utf-8")) for path, is_public in modules(root, True)]
     uses = [use for _, _, text in files for use in EXPORT.findall(text)]
     if not crate.endswith("_score"):
         return files, names_given(uses)
-    above = [path.read_text(encoding="utf-8") for path in (folder.parents[1] / crate[:-6] / "src").rglob("*.rt")]
+    above = [path.read_text(encoding="utf-8") for name in (crate[:-6], "cvss")
+             for path in (folder.parents[1] / name / "src").rglob("*.rt")]
     passed_on = names_given(use for text in above for use in EXPORT.findall(text) if f"{crate}::" in use)
     return [(path, is_public and path.relative_to(folder).parts[0].split(".")[0] in passed_on, text)
             for path, is_public, text in files], passed_on
