@@ -11,5 +11,6 @@ pub mod PrintLemmas
 pub mod PutLemmas
 pub mod RefusalLemmas
 pub mod SlashedLemmas
+pub mod SpellingLemmas
 pub mod TextLemmas
 pub mod WalkLemmas

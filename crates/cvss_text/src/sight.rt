@@ -42,7 +42,7 @@ pub fn behind_name<'a>(name: &str, text: &'a [u8]) -> Option<&'a [u8]>
 
 /// What stands behind three bytes with which a text begins.
 #[inline(always)]
-pub fn behind_three(text: &[u8], three: [u8; 3]) -> Option<&[u8]>
+fn behind_three(text: &[u8], three: [u8; 3]) -> Option<&[u8]>
     ensures { IfSome result (λ rest. text.now ≡ three ++ rest.now) }
 {
     let [a, b, c] = three;

@@ -1,5 +1,4 @@
 mod CompleteLemmas
-mod LetterLemmas
 mod OverridingLemmas
 mod SightLemmas
 mod TextLemmas

@@ -1,6 +1,9 @@
 -- Which texts are read alike.
-use Rattle.std.proofs.Common.{◌≡◌, ◌∷◌, [], ℕ, List, inl, inr, refl, ap, sym, ◌∙◌}
-use Rattle.std.proofs.lemmas.Str.Ascii.{uppercase-uppercase}
+use Rattle.std.proofs.Common.{◌≡◌, ◌∷◌, [], ℕ, List, inl, inr, refl, ap, sym, ◌∙◌, arith}
+use Rattle.std.proofs.lemmas.Bool.Decides.{nat_tests}
+use Rattle.std.proofs.lemmas.Str.Ascii.{uppercase-uppercase, lowercase-uppercase}
+use Rattle.std.specs.Char.{to_ascii_uppercase, to_ascii_lowercase}
+use Rattle.std.specs.Str.{str_to_ascii_lowercase}
 use Rattle.cvss_grammar.specs.Text.{raised}
 use Rattle.cvss_v4_metric.specs.Reading.{IsReading}
 
@@ -12,3 +15,21 @@ raised_twice (byte ∷ text) = rw (uppercase-uppercase byte) (rw (raised_twice t
 pub read_alike : (spelling text : List ℕ) → IsReading spelling text → raised spelling ≡ raised text
 read_alike spelling text (inl same) = ap raised same
 read_alike spelling text (inr same) = sym (raised_twice spelling) ∙ ap raised same
+
+lowered_raised : (text : List ℕ) → str_to_ascii_lowercase (raised text) ≡ str_to_ascii_lowercase text
+lowered_raised [] = refl
+lowered_raised (byte ∷ text) = rw (lowercase-uppercase byte) (rw (lowered_raised text) refl)
+
+uppercase_lowercase : (byte : ℕ) → to_ascii_uppercase (to_ascii_lowercase byte) ≡ to_ascii_uppercase byte
+uppercase_lowercase byte = grind (arith, nat_tests)
+
+raised_lowered : (text : List ℕ) → raised (str_to_ascii_lowercase text) ≡ raised text
+raised_lowered [] = refl
+raised_lowered (byte ∷ text) = rw (uppercase_lowercase byte) (rw (raised_lowered text) refl)
+
+-- texts that are alike in upper case are so in lower case, and the other way
+pub lowered_alike : (text other : List ℕ) → raised text ≡ raised other → str_to_ascii_lowercase text ≡ str_to_ascii_lowercase other
+lowered_alike text other same = sym (lowered_raised text) ∙ ap str_to_ascii_lowercase same ∙ lowered_raised other
+
+pub raised_alike : (text other : List ℕ) → str_to_ascii_lowercase text ≡ str_to_ascii_lowercase other → raised text ≡ raised other
+raised_alike text other same = sym (raised_lowered text) ∙ ap raised same ∙ raised_lowered other

@@ -7,9 +7,7 @@ use Rattle.cvss_name.specs.declared.v4.MetricType.{MetricType}
 use Rattle.cvss_v4_metric.specs.Table.{spellings_of, spelling_at, default_of}
 
 -- the enum has the values of the metric in the table
-pub record IsMetric {A : Type 0} (kind spelled : MetricType) (rank : A → ℕ) (values : List A) (is_default : A → Type 0) (compared : A → A → Ordering) (same : A → A → Bool) (is_clone : A → A → Type 0) (is_infallible : A → Type 0) : Type 0 where
-  -- they are spelled as values of the metric
-  pub told : kind ≡ spelled
+pub record IsMetric {A : Type 0} (kind : MetricType) (rank : A → ℕ) (values : List A) (is_default : A → Type 0) (compared : A → A → Ordering) (same : A → A → Bool) (is_clone : A → A → Type 0) (is_infallible : A → Type 0) : Type 0 where
   -- the values are spelled as the table says, in its order
   pub rows : map (λ x. spelling_at kind (rank x)) values ≡ spellings_of kind
   -- each value of the enum is one of them, at its place

@@ -1,6 +1,7 @@
 //! What all metrics of CVSS v4.0 have in common.
 
-ghost use Rattle.std.specs.Prelude.{◌≡◌, ◌↔◌, [], ◌∷◌, ℕ, List, IsTrue, IfSome, IfNone, IfOk, IfErr, Some};
+ghost use Rattle.std.specs.Prelude.{◌≡◌, ◌↔◌, [], ◌∷◌, ℕ, List, IsTrue, IfSome, IfOk, IfErr, Some, bytes_eq, find};
+ghost use Rattle.std.specs.Str.{str_eq_ignore_ascii_case};
 ghost use Rattle.cvss_grammar.specs.Refusal.{BadValue};
 ghost use Rattle.cvss_grammar.specs.Text.{slash, raised};
 ghost use Rattle.cvss_name.specs.Told.{Tells};
@@ -19,21 +20,60 @@ use std::fmt;
 /// What stands in vectors as a component: how values are spelled, and read from their spelling. Code
 /// that reads and prints any metric asks for no more, so that its proof rests on nothing else of the
 /// enums.
-pub trait Spelled: Copy {
-    ghost kind: { MetricType };
+pub trait Spelled: Copy + 'static {
+    /// Which metric this is.
+    const TYPE: MetricType;
+
+    ghost TYPE: { MetricType };
 
     ghost rank: { Self → ℕ };
 
+    ghost values: { List Self };
+
+    /// The values, the least first.
+    fn values() -> &'static [Self]
+        ensures { result.now ≡ values };
+
     /// A slash and the component that stands for the value in a vector.
     fn slashed(self) -> &'static str
-        ensures { result.now ≡ slash ∷ metric_component kind (rank self) };
+        ensures { result.now ≡ slash ∷ metric_component TYPE (rank self) };
+
+    /// The value that this letter spells, exactly as it is written.
+    #[inline(always)]
+    final fn read_letter(letter: u8) -> Option<Self>
+        ensures spelled { IfSome result (λ metric. spelling_at TYPE (rank metric) ≡ letter ∷ []) }
+        ensures read { (metric : Self) → spelling_at TYPE (rank metric) ≡ letter ∷ []
+            → result ≡ Some metric }
+    {
+        match Self::values()
+            .iter()
+            .find(|value| is_letter(spelling(**value), letter))
+        {
+            Some(value) => Some(*value),
+            None => None,
+        }
+    }
 
     /// The value with this spelling, in any ASCII case.
-    fn read_bytes(text: &[u8]) -> Option<Self>
+    #[inline(always)]
+    final fn read_bytes(text: &[u8]) -> Option<Self>
         ensures spelled { IfSome result
-            (λ metric. raised (spelling_at kind (rank metric)) ≡ raised text.now) }
-        ensures read { (metric : Self) → raised (spelling_at kind (rank metric)) ≡ raised text.now
-            → result ≡ Some metric };
+            (λ metric. raised (spelling_at TYPE (rank metric)) ≡ raised text.now) }
+        ensures read { (metric : Self) → raised (spelling_at TYPE (rank metric)) ≡ raised text.now
+            → result ≡ Some metric }
+    {
+        match Self::values()
+            .iter()
+            .find(|value| is_alike(spelling(**value), text))
+        {
+            Some(value) => Some(*value),
+            None => None,
+        }
+    }
+
+    // Each value is the first with its spelling.
+    ghost first: { (x : Self) → find (λ other. str_eq_ignore_ascii_case
+        (spelling_at TYPE (rank other)) (spelling_at TYPE (rank x))) values ≡ Some x };
 }
 
 /// A metric: an enum of the values that the specification gives for its type.
@@ -46,16 +86,9 @@ pub trait Metric: Spelled
     + Ord
     + Default
     + 'static {
-    /// Which metric this is.
-    const TYPE: MetricType;
-
-    ghost TYPE: { MetricType };
-
-    ghost values: { List Self };
-
     /// How the value is spelled in a vector.
     final fn as_str(self) -> &'static str
-        ensures { result.now ≡ spelling_at Self.kind (Self.rank self) }
+        ensures { result.now ≡ spelling_at Self.TYPE (Self.rank self) }
     {
         &self.slashed()[Self::TYPE.name().len() + 2..]
     }
@@ -64,9 +97,9 @@ pub trait Metric: Spelled
     #[tactic(auto, using(crate::proofs::ReadingLemmas::read_alike))]
     final fn read_raised(text: &str) -> Option<Self>
         ensures spelled { IfSome result
-            (λ metric. IsReading (spelling_at Self.kind (Self.rank metric)) (raised text.now)) }
+            (λ metric. IsReading (spelling_at Self.TYPE (Self.rank metric)) (raised text.now)) }
         ensures read { (metric : Self)
-            → IsReading (spelling_at Self.kind (Self.rank metric)) (raised text.now)
+            → IsReading (spelling_at Self.TYPE (Self.rank metric)) (raised text.now)
             → result ≡ Some metric }
     {
         Self::read_bytes(text.as_bytes())
@@ -76,8 +109,8 @@ pub trait Metric: Spelled
     #[tactic(auto, using(crate::proofs::ReadingLemmas::read_alike))]
     final fn read(text: &str) -> Option<Self>
         ensures spelled { IfSome result
-            (λ metric. IsReading (spelling_at Self.kind (Self.rank metric)) text.now) }
-        ensures read { (metric : Self) → IsReading (spelling_at Self.kind (Self.rank metric)) text.now
+            (λ metric. IsReading (spelling_at Self.TYPE (Self.rank metric)) text.now) }
+        ensures read { (metric : Self) → IsReading (spelling_at Self.TYPE (Self.rank metric)) text.now
             → result ≡ Some metric }
     {
         let metric = Self::read_bytes(text.as_bytes())?;
@@ -95,10 +128,10 @@ pub trait Metric: Spelled
     /// `InvalidMetricV4` with the text where the metric has no such value.
     final fn from_str(alloc: Global, text: &str) -> Result<Self, Error>
         ensures spelled { IfOk result
-            (λ metric. IsReading (spelling_at Self.kind (Self.rank metric)) text.now) }
-        ensures read { (metric : Self) → IsReading (spelling_at Self.kind (Self.rank metric)) text.now
+            (λ metric. IsReading (spelling_at Self.TYPE (Self.rank metric)) text.now) }
+        ensures read { (metric : Self) → IsReading (spelling_at Self.TYPE (Self.rank metric)) text.now
             → result ≡ Ok metric }
-        ensures refused { IfErr result (Tells v4_reason (BadValue TYPE text.now)) }
+        ensures refused { IfErr result (Tells v4_reason (BadValue Self.TYPE text.now)) }
     {
         match Self::read(text) {
             Some(metric) => Ok(metric),
@@ -114,25 +147,49 @@ pub trait Metric: Spelled
 
     /// The metric's abbreviation.
     final fn name() -> &'static str
-        ensures { result.now ≡ name_of TYPE }
+        ensures { result.now ≡ name_of Self.TYPE }
     {
         Self::TYPE.name()
     }
 
-    ghost law: { IsMetric TYPE Self.kind Self.rank values ⟦<Self as Default>⟧.is_default
+    ghost law: { IsMetric Self.TYPE Self.rank Self.values ⟦<Self as Default>⟧.is_default
         ⟦<Self as Ord>⟧.cmp ⟦<Self as PartialEq>⟧.eq ⟦<Self as Clone>⟧.is_clone
         ⟦<Self as Clone>⟧.is_infallible };
 }
 
-/// The letter in upper case of a text of one byte.
+/// How a value is spelled in a vector.
 #[inline(always)]
-pub fn only_letter(text: &[u8]) -> Option<u8>
-    ensures only { IfSome result (λ letter. raised text.now ≡ letter ∷ []) }
-    ensures other { IfNone result ((letter : ℕ) → raised text.now ≡ letter ∷ [] → ⊥) }
+#[tactic(auto, using(cvss_text::proofs::SpellingLemmas::spelling_behind))]
+fn spelling<M: Spelled>(value: M) -> &'static [u8]
+    ensures { result.now ≡ spelling_at M.TYPE (M.rank value) }
+{
+    value
+        .slashed()
+        .as_bytes()
+        .get(M::TYPE.name().len() + 2..)
+        .unwrap_or(&[])
+}
+
+/// Whether a text is this letter.
+#[inline(always)]
+fn is_letter(text: &[u8], letter: u8) -> bool
+    ensures { result ≡ bytes_eq text.now (letter ∷ []) }
 {
     match text {
-        [byte] => Some(byte.to_ascii_uppercase()),
-        _ => None,
+        [only] => *only == letter,
+        _ => false,
+    }
+}
+
+/// Whether two texts are alike but for the case of their ASCII letters. Most are one letter.
+#[inline(always)]
+#[tactic(auto, using(cvss_text::proofs::TextLemmas::bytes_eq_when))]
+fn is_alike(text: &[u8], other: &[u8]) -> bool
+    ensures { result ≡ str_eq_ignore_ascii_case text.now other.now }
+{
+    match (text, other) {
+        ([letter], [same]) => letter.to_ascii_lowercase() == same.to_ascii_lowercase(),
+        _ => text.eq_ignore_ascii_case(other),
     }
 }
 

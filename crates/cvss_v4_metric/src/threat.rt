@@ -7,7 +7,7 @@ ghost use Rattle.cvss_v4_metric.specs.Ranks as place;
 ghost use Rattle.cvss_v4_metric.specs.Table.{metric_component};
 ghost use Rattle.cvss_v4_metric.specs.declared.threat.ExploitMaturity.TheVariants as exploit_maturity;
 
-use crate::metric::{Metric, MetricType, Spelled, only_letter};
+use crate::metric::{Metric, MetricType, Spelled};
 use cvss_text::print::write_component;
 use std::fmt;
 
@@ -22,9 +22,22 @@ pub enum ExploitMaturity {
 }
 
 impl Spelled for ExploitMaturity {
-    ghost kind = { metric.E };
+    const TYPE: MetricType = MetricType::E;
+
+    ghost TYPE = { metric.E };
 
     ghost rank = { place.E };
+
+    ghost values = { exploit_maturity.NotDefined ∷ exploit_maturity.Unreported ∷ exploit_maturity.ProofOfConcept ∷ exploit_maturity.Attacked ∷ [] };
+
+    fn values() -> &'static [Self] {
+        &[
+            Self::NotDefined,
+            Self::Unreported,
+            Self::ProofOfConcept,
+            Self::Attacked,
+        ]
+    }
 
     fn slashed(self) -> &'static str {
         match self {
@@ -35,24 +48,10 @@ impl Spelled for ExploitMaturity {
         }
     }
 
-    fn read_bytes(text: &[u8]) -> Option<Self> {
-        match only_letter(text)? {
-            b'X' => Some(Self::NotDefined),
-            b'U' => Some(Self::Unreported),
-            b'P' => Some(Self::ProofOfConcept),
-            b'A' => Some(Self::Attacked),
-            _ => None,
-        }
-    }
+    ghost first = { Prim.search rules };
 }
 
 impl Metric for ExploitMaturity {
-    const TYPE: MetricType = MetricType::E;
-
-    ghost TYPE = { metric.E };
-
-    ghost values = { exploit_maturity.NotDefined ∷ exploit_maturity.Unreported ∷ exploit_maturity.ProofOfConcept ∷ exploit_maturity.Attacked ∷ [] };
-
     ghost law = { Prim.search rules };
 }
 

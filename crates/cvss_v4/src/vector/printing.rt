@@ -59,9 +59,9 @@ impl Printed for Vector {
 impl Vector {
     /// A slash and the component of the value that the vector has for a metric.
     fn slashed_at<M: Spelled>(&self, kind: MetricType, value: Option<M>) -> Option<&'static str>
-        requires kind { kind ≡ M.kind }
-        requires value { held v4 self.now M.kind
-            ≡ option_map (λ x. spelling_at M.kind (M.rank x)) value }
+        requires kind { kind ≡ M.TYPE }
+        requires value { held v4 self.now M.TYPE
+            ≡ option_map (λ x. spelling_at M.TYPE (M.rank x)) value }
         ensures { option_copied result ≡ slashed (component_of v4 self.now kind) }
     {
         slashed_value(value)
@@ -71,7 +71,7 @@ impl Vector {
 /// A slash and the component of a value.
 fn slashed_value<M: Spelled>(value: Option<M>) -> Option<&'static str>
     ensures { option_copied result
-        ≡ slashed (option_map (component (name_of M.kind)) (option_map (λ x. spelling_at M.kind (M.rank x)) value)) }
+        ≡ slashed (option_map (component (name_of M.TYPE)) (option_map (λ x. spelling_at M.TYPE (M.rank x)) value)) }
 {
     match value {
         Some(metric) => Some(metric.slashed()),
@@ -84,7 +84,7 @@ fn write_value<M: Spelled, W: fmt::Write>(
     value: Option<M>,
     f: &mut fmt::Formatter<W>,
 ) -> fmt::Result
-    ensures { WritesOnOk W.write_str_gives f.old result (shown M.kind M.rank value) f.new }
+    ensures { WritesOnOk W.write_str_gives f.old result (shown M.TYPE M.rank value) f.new }
 {
     write_slashed(slashed_value(value), f)
 }
@@ -98,7 +98,7 @@ fn write_three<K: Spelled, L: Spelled, M: Spelled, W: fmt::Write>(
     f: &mut fmt::Formatter<W>,
 ) -> fmt::Result
     ensures { WritesOnOk W.write_str_gives f.old result
-        (shown K.kind K.rank first ++ shown L.kind L.rank second ++ shown M.kind M.rank third)
+        (shown K.TYPE K.rank first ++ shown L.TYPE L.rank second ++ shown M.TYPE M.rank third)
         f.new }
 {
     write_value(first, f)?;

@@ -2,14 +2,14 @@
 //! printed, so that the text is gone through once, with no cutting and no searching. The other
 //! way, by components in any order and any case, is `reading`.
 
-ghost use Rattle.std.specs.Prelude.{◌≡◌, IfSome, IsSomeAnd, None, [], ◌∷◌, ◌++◌, codes, option_map, unwrap_or};
+ghost use Rattle.std.specs.Prelude.{◌≡◌, IfSome, None, [], ◌∷◌, ◌++◌, codes, option_map, unwrap_or};
 ghost use Rattle.cvss_text.specs.private.Printing.{slashed, slashed_texts};
 ghost use Rattle.cvss_text.specs.private.Walk.{first_missing};
-ghost use Rattle.cvss_grammar.specs.Text.{slash, colon, component};
+ghost use Rattle.cvss_grammar.specs.Text.{slash, component};
 ghost use Rattle.cvss_name.specs.V4Types.{name_of};
 ghost use Rattle.cvss_grammar.specs.Version.{canonical_text, version_piece, IsWellFormed};
 ghost use Rattle.cvss_name.specs.declared.v4.MetricType.TheVariants.{AC, AT, AV, PR, SA, SC, SI, U, UI, VA, VC, VI};
-ghost use Rattle.cvss_v4_metric.specs.Table.{printed, spelling_at};
+ghost use Rattle.cvss_v4_metric.specs.Table.{metric_component, printed};
 ghost use Rattle.cvss_v4.specs.Table.{spelling_of};
 ghost use Rattle.cvss_v4.specs.Vector.{v4};
 ghost use Rattle.cvss_v4.specs.private.Shown.{shown};
@@ -19,9 +19,9 @@ mod optional;
 
 use crate::vector::Vector;
 use base::base_at_sight;
-use cvss_text::sight::{behind_three, put_read};
+use cvss_text::sight::{behind_name, put_read};
+use cvss_v4_metric::Spelled;
 use cvss_v4_metric::supplemental::ProviderUrgency;
-use cvss_v4_metric::{MetricType, Spelled};
 use optional::others_at_sight;
 
 impl Vector {
@@ -87,53 +87,36 @@ fn urgency_at_sight(text: &[u8]) -> Option<Option<ProviderUrgency>>
     if text.is_empty() {
         return Some(None);
     }
-    match behind_three(text, *b"/U:")? {
-        b"X" => Some(Some(ProviderUrgency::NotDefined)),
-        b"Red" => Some(Some(ProviderUrgency::Red)),
-        b"Amber" => Some(Some(ProviderUrgency::Amber)),
-        b"Green" => Some(Some(ProviderUrgency::Green)),
-        b"Clear" => Some(Some(ProviderUrgency::Clear)),
-        _ => None,
+    match ProviderUrgency::values()
+        .iter()
+        .find(|urgency| urgency.slashed().as_bytes() == text)
+    {
+        Some(urgency) => Some(Some(*urgency)),
+        None => None,
     }
 }
 
 /// Puts the value of a metric into its place, if a text begins with a slash and its component, and
-/// gives what stands behind that; else no value, and the text. It is given what stands behind the
-/// slash, the name and the colon.
+/// gives what stands behind that; else no value, and the text.
 #[inline(always)]
-fn put_at_sight<'a, M: Spelled>(
-    place: &mut Option<M>,
-    behind: Option<&'a [u8]>,
-    text: &'a [u8],
-) -> &'a [u8]
-    requires { IfSome behind
-        (λ behind. text.now ≡ slash ∷ (name_of M.kind ++ (colon ∷ behind.now))) }
-    ensures { text.now ≡ shown M.kind M.rank place.new ++ result.now }
+fn put_at_sight<'a, M: Spelled>(place: &mut Option<M>, text: &'a [u8]) -> &'a [u8]
+    ensures { text.now ≡ shown M.TYPE M.rank place.new ++ result.now }
 {
-    put_read(place, value_at_sight(behind), text)
+    put_read(place, component_at_sight(text), text)
 }
 
-/// The value of a metric, where a text begins with its spelling, and what stands behind that. A
-/// spelling of several letters is not recognised.
+/// The value of a metric, where a text begins with a slash and its component, and what stands
+/// behind that. A spelling of several letters is not recognised.
 #[inline(always)]
-fn value_at_sight<M: Spelled>(text: Option<&[u8]>) -> Option<(M, &[u8])>
-    ensures { IfSome result (λ read. IsSomeAnd text.entry
-        (λ text. text.now ≡ spelling_at M.kind (M.rank read.0) ++ read.1.now)) }
+fn component_at_sight<M: Spelled>(text: &[u8]) -> Option<(M, &[u8])>
+    ensures { IfSome result
+        (λ read. text.now ≡ slash ∷ (metric_component M.TYPE (M.rank read.0) ++ read.1.now)) }
 {
-    match text? {
-        [letter, rest @ ..] => Some((spelled_by_letter(*letter)?, rest)),
-        [] => None,
-    }
-}
-
-/// The value that a letter spells.
-#[inline(always)]
-fn spelled_by_letter<M: Spelled>(letter: u8) -> Option<M>
-    ensures { IfSome result (λ metric. spelling_at M.kind (M.rank metric) ≡ letter ∷ []) }
-{
-    if letter.to_ascii_uppercase() == letter {
-        M::read_bytes(&[letter])
-    } else {
-        None
+    match behind_name(M::TYPE.name(), text) {
+        Some([letter, rest @ ..]) => match M::read_letter(*letter) {
+            Some(value) => Some((value, rest)),
+            None => None,
+        },
+        _ => None,
     }
 }

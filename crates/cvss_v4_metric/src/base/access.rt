@@ -9,7 +9,7 @@ ghost use Rattle.cvss_v4_metric.specs.Table.{metric_component};
 ghost use Rattle.cvss_v4_metric.specs.declared.base.access.PrivilegesRequired.TheVariants as privileges_required;
 ghost use Rattle.cvss_v4_metric.specs.declared.base.access.UserInteraction.TheVariants as user_interaction;
 
-use crate::metric::{Metric, MetricType, Spelled, only_letter};
+use crate::metric::{Metric, MetricType, Spelled};
 use cvss_text::print::write_component;
 use std::fmt;
 
@@ -23,9 +23,17 @@ pub enum PrivilegesRequired {
 }
 
 impl Spelled for PrivilegesRequired {
-    ghost kind = { metric.PR };
+    const TYPE: MetricType = MetricType::PR;
+
+    ghost TYPE = { metric.PR };
 
     ghost rank = { place.PR };
+
+    ghost values = { privileges_required.High ∷ privileges_required.Low ∷ privileges_required.None ∷ [] };
+
+    fn values() -> &'static [Self] {
+        &[Self::High, Self::Low, Self::None]
+    }
 
     fn slashed(self) -> &'static str {
         match self {
@@ -35,23 +43,10 @@ impl Spelled for PrivilegesRequired {
         }
     }
 
-    fn read_bytes(text: &[u8]) -> Option<Self> {
-        match only_letter(text)? {
-            b'H' => Some(Self::High),
-            b'L' => Some(Self::Low),
-            b'N' => Some(Self::None),
-            _ => None,
-        }
-    }
+    ghost first = { Prim.search rules };
 }
 
 impl Metric for PrivilegesRequired {
-    const TYPE: MetricType = MetricType::PR;
-
-    ghost TYPE = { metric.PR };
-
-    ghost values = { privileges_required.High ∷ privileges_required.Low ∷ privileges_required.None ∷ [] };
-
     ghost law = { Prim.search rules };
 }
 
@@ -75,9 +70,17 @@ pub enum UserInteraction {
 }
 
 impl Spelled for UserInteraction {
-    ghost kind = { metric.UI };
+    const TYPE: MetricType = MetricType::UI;
+
+    ghost TYPE = { metric.UI };
 
     ghost rank = { place.UI };
+
+    ghost values = { user_interaction.Active ∷ user_interaction.Passive ∷ user_interaction.None ∷ [] };
+
+    fn values() -> &'static [Self] {
+        &[Self::Active, Self::Passive, Self::None]
+    }
 
     fn slashed(self) -> &'static str {
         match self {
@@ -87,23 +90,10 @@ impl Spelled for UserInteraction {
         }
     }
 
-    fn read_bytes(text: &[u8]) -> Option<Self> {
-        match only_letter(text)? {
-            b'A' => Some(Self::Active),
-            b'P' => Some(Self::Passive),
-            b'N' => Some(Self::None),
-            _ => None,
-        }
-    }
+    ghost first = { Prim.search rules };
 }
 
 impl Metric for UserInteraction {
-    const TYPE: MetricType = MetricType::UI;
-
-    ghost TYPE = { metric.UI };
-
-    ghost values = { user_interaction.Active ∷ user_interaction.Passive ∷ user_interaction.None ∷ [] };
-
     ghost law = { Prim.search rules };
 }
 

@@ -10,7 +10,7 @@ ghost use Rattle.cvss_v4_metric.specs.declared.base.attack.AttackVector.TheVaria
 ghost use Rattle.cvss_v4_metric.specs.declared.base.attack.AttackComplexity.TheVariants as attack_complexity;
 ghost use Rattle.cvss_v4_metric.specs.declared.base.attack.AttackRequirements.TheVariants as attack_requirements;
 
-use crate::metric::{Metric, MetricType, Spelled, only_letter};
+use crate::metric::{Metric, MetricType, Spelled};
 use cvss_text::print::write_component;
 use std::fmt;
 
@@ -25,9 +25,17 @@ pub enum AttackVector {
 }
 
 impl Spelled for AttackVector {
-    ghost kind = { metric.AV };
+    const TYPE: MetricType = MetricType::AV;
+
+    ghost TYPE = { metric.AV };
 
     ghost rank = { place.AV };
+
+    ghost values = { attack_vector.Physical ∷ attack_vector.Local ∷ attack_vector.Adjacent ∷ attack_vector.Network ∷ [] };
+
+    fn values() -> &'static [Self] {
+        &[Self::Physical, Self::Local, Self::Adjacent, Self::Network]
+    }
 
     fn slashed(self) -> &'static str {
         match self {
@@ -38,24 +46,10 @@ impl Spelled for AttackVector {
         }
     }
 
-    fn read_bytes(text: &[u8]) -> Option<Self> {
-        match only_letter(text)? {
-            b'P' => Some(Self::Physical),
-            b'L' => Some(Self::Local),
-            b'A' => Some(Self::Adjacent),
-            b'N' => Some(Self::Network),
-            _ => None,
-        }
-    }
+    ghost first = { Prim.search rules };
 }
 
 impl Metric for AttackVector {
-    const TYPE: MetricType = MetricType::AV;
-
-    ghost TYPE = { metric.AV };
-
-    ghost values = { attack_vector.Physical ∷ attack_vector.Local ∷ attack_vector.Adjacent ∷ attack_vector.Network ∷ [] };
-
     ghost law = { Prim.search rules };
 }
 
@@ -79,9 +73,17 @@ pub enum AttackComplexity {
 }
 
 impl Spelled for AttackComplexity {
-    ghost kind = { metric.AC };
+    const TYPE: MetricType = MetricType::AC;
+
+    ghost TYPE = { metric.AC };
 
     ghost rank = { place.AC };
+
+    ghost values = { attack_complexity.High ∷ attack_complexity.Low ∷ [] };
+
+    fn values() -> &'static [Self] {
+        &[Self::High, Self::Low]
+    }
 
     fn slashed(self) -> &'static str {
         match self {
@@ -90,22 +92,10 @@ impl Spelled for AttackComplexity {
         }
     }
 
-    fn read_bytes(text: &[u8]) -> Option<Self> {
-        match only_letter(text)? {
-            b'H' => Some(Self::High),
-            b'L' => Some(Self::Low),
-            _ => None,
-        }
-    }
+    ghost first = { Prim.search rules };
 }
 
 impl Metric for AttackComplexity {
-    const TYPE: MetricType = MetricType::AC;
-
-    ghost TYPE = { metric.AC };
-
-    ghost values = { attack_complexity.High ∷ attack_complexity.Low ∷ [] };
-
     ghost law = { Prim.search rules };
 }
 
@@ -129,9 +119,17 @@ pub enum AttackRequirements {
 }
 
 impl Spelled for AttackRequirements {
-    ghost kind = { metric.AT };
+    const TYPE: MetricType = MetricType::AT;
+
+    ghost TYPE = { metric.AT };
 
     ghost rank = { place.AT };
+
+    ghost values = { attack_requirements.Present ∷ attack_requirements.None ∷ [] };
+
+    fn values() -> &'static [Self] {
+        &[Self::Present, Self::None]
+    }
 
     fn slashed(self) -> &'static str {
         match self {
@@ -140,22 +138,10 @@ impl Spelled for AttackRequirements {
         }
     }
 
-    fn read_bytes(text: &[u8]) -> Option<Self> {
-        match only_letter(text)? {
-            b'P' => Some(Self::Present),
-            b'N' => Some(Self::None),
-            _ => None,
-        }
-    }
+    ghost first = { Prim.search rules };
 }
 
 impl Metric for AttackRequirements {
-    const TYPE: MetricType = MetricType::AT;
-
-    ghost TYPE = { metric.AT };
-
-    ghost values = { attack_requirements.Present ∷ attack_requirements.None ∷ [] };
-
     ghost law = { Prim.search rules };
 }
 

@@ -9,7 +9,7 @@ ghost use Rattle.cvss_v4_metric.specs.declared.base.subsequent.ConfidentialityIm
 ghost use Rattle.cvss_v4_metric.specs.declared.base.subsequent.IntegrityImpactToTheSubsequentSystem.TheVariants as integrity_impact_to_the_subsequent_system;
 ghost use Rattle.cvss_v4_metric.specs.declared.base.subsequent.AvailabilityImpactToTheSubsequentSystem.TheVariants as availability_impact_to_the_subsequent_system;
 
-use crate::metric::{Metric, MetricType, Spelled, only_letter};
+use crate::metric::{Metric, MetricType, Spelled};
 use cvss_text::print::write_component;
 use std::fmt;
 
@@ -24,9 +24,17 @@ pub enum ConfidentialityImpactToTheSubsequentSystem {
 }
 
 impl Spelled for ConfidentialityImpactToTheSubsequentSystem {
-    ghost kind = { metric.SC };
+    const TYPE: MetricType = MetricType::SC;
+
+    ghost TYPE = { metric.SC };
 
     ghost rank = { place.SC };
+
+    ghost values = { confidentiality_impact_to_the_subsequent_system.None ∷ confidentiality_impact_to_the_subsequent_system.Low ∷ confidentiality_impact_to_the_subsequent_system.High ∷ [] };
+
+    fn values() -> &'static [Self] {
+        &[Self::None, Self::Low, Self::High]
+    }
 
     fn slashed(self) -> &'static str {
         match self {
@@ -36,23 +44,10 @@ impl Spelled for ConfidentialityImpactToTheSubsequentSystem {
         }
     }
 
-    fn read_bytes(text: &[u8]) -> Option<Self> {
-        match only_letter(text)? {
-            b'N' => Some(Self::None),
-            b'L' => Some(Self::Low),
-            b'H' => Some(Self::High),
-            _ => None,
-        }
-    }
+    ghost first = { Prim.search rules };
 }
 
 impl Metric for ConfidentialityImpactToTheSubsequentSystem {
-    const TYPE: MetricType = MetricType::SC;
-
-    ghost TYPE = { metric.SC };
-
-    ghost values = { confidentiality_impact_to_the_subsequent_system.None ∷ confidentiality_impact_to_the_subsequent_system.Low ∷ confidentiality_impact_to_the_subsequent_system.High ∷ [] };
-
     ghost law = { Prim.search rules };
 }
 
@@ -76,9 +71,17 @@ pub enum IntegrityImpactToTheSubsequentSystem {
 }
 
 impl Spelled for IntegrityImpactToTheSubsequentSystem {
-    ghost kind = { metric.SI };
+    const TYPE: MetricType = MetricType::SI;
+
+    ghost TYPE = { metric.SI };
 
     ghost rank = { place.SI };
+
+    ghost values = { integrity_impact_to_the_subsequent_system.None ∷ integrity_impact_to_the_subsequent_system.Low ∷ integrity_impact_to_the_subsequent_system.High ∷ [] };
+
+    fn values() -> &'static [Self] {
+        &[Self::None, Self::Low, Self::High]
+    }
 
     fn slashed(self) -> &'static str {
         match self {
@@ -88,23 +91,10 @@ impl Spelled for IntegrityImpactToTheSubsequentSystem {
         }
     }
 
-    fn read_bytes(text: &[u8]) -> Option<Self> {
-        match only_letter(text)? {
-            b'N' => Some(Self::None),
-            b'L' => Some(Self::Low),
-            b'H' => Some(Self::High),
-            _ => None,
-        }
-    }
+    ghost first = { Prim.search rules };
 }
 
 impl Metric for IntegrityImpactToTheSubsequentSystem {
-    const TYPE: MetricType = MetricType::SI;
-
-    ghost TYPE = { metric.SI };
-
-    ghost values = { integrity_impact_to_the_subsequent_system.None ∷ integrity_impact_to_the_subsequent_system.Low ∷ integrity_impact_to_the_subsequent_system.High ∷ [] };
-
     ghost law = { Prim.search rules };
 }
 
@@ -129,9 +119,17 @@ pub enum AvailabilityImpactToTheSubsequentSystem {
 }
 
 impl Spelled for AvailabilityImpactToTheSubsequentSystem {
-    ghost kind = { metric.SA };
+    const TYPE: MetricType = MetricType::SA;
+
+    ghost TYPE = { metric.SA };
 
     ghost rank = { place.SA };
+
+    ghost values = { availability_impact_to_the_subsequent_system.None ∷ availability_impact_to_the_subsequent_system.Low ∷ availability_impact_to_the_subsequent_system.High ∷ [] };
+
+    fn values() -> &'static [Self] {
+        &[Self::None, Self::Low, Self::High]
+    }
 
     fn slashed(self) -> &'static str {
         match self {
@@ -141,23 +139,10 @@ impl Spelled for AvailabilityImpactToTheSubsequentSystem {
         }
     }
 
-    fn read_bytes(text: &[u8]) -> Option<Self> {
-        match only_letter(text)? {
-            b'N' => Some(Self::None),
-            b'L' => Some(Self::Low),
-            b'H' => Some(Self::High),
-            _ => None,
-        }
-    }
+    ghost first = { Prim.search rules };
 }
 
 impl Metric for AvailabilityImpactToTheSubsequentSystem {
-    const TYPE: MetricType = MetricType::SA;
-
-    ghost TYPE = { metric.SA };
-
-    ghost values = { availability_impact_to_the_subsequent_system.None ∷ availability_impact_to_the_subsequent_system.Low ∷ availability_impact_to_the_subsequent_system.High ∷ [] };
-
     ghost law = { Prim.search rules };
 }
 

@@ -9,7 +9,7 @@ ghost use Rattle.cvss_v4_metric.specs.declared.base.vulnerable.ConfidentialityIm
 ghost use Rattle.cvss_v4_metric.specs.declared.base.vulnerable.IntegrityImpactToTheVulnerableSystem.TheVariants as integrity_impact_to_the_vulnerable_system;
 ghost use Rattle.cvss_v4_metric.specs.declared.base.vulnerable.AvailabilityImpactToTheVulnerableSystem.TheVariants as availability_impact_to_the_vulnerable_system;
 
-use crate::metric::{Metric, MetricType, Spelled, only_letter};
+use crate::metric::{Metric, MetricType, Spelled};
 use cvss_text::print::write_component;
 use std::fmt;
 
@@ -23,9 +23,17 @@ pub enum ConfidentialityImpactToTheVulnerableSystem {
 }
 
 impl Spelled for ConfidentialityImpactToTheVulnerableSystem {
-    ghost kind = { metric.VC };
+    const TYPE: MetricType = MetricType::VC;
+
+    ghost TYPE = { metric.VC };
 
     ghost rank = { place.VC };
+
+    ghost values = { confidentiality_impact_to_the_vulnerable_system.None ∷ confidentiality_impact_to_the_vulnerable_system.Low ∷ confidentiality_impact_to_the_vulnerable_system.High ∷ [] };
+
+    fn values() -> &'static [Self] {
+        &[Self::None, Self::Low, Self::High]
+    }
 
     fn slashed(self) -> &'static str {
         match self {
@@ -35,23 +43,10 @@ impl Spelled for ConfidentialityImpactToTheVulnerableSystem {
         }
     }
 
-    fn read_bytes(text: &[u8]) -> Option<Self> {
-        match only_letter(text)? {
-            b'N' => Some(Self::None),
-            b'L' => Some(Self::Low),
-            b'H' => Some(Self::High),
-            _ => None,
-        }
-    }
+    ghost first = { Prim.search rules };
 }
 
 impl Metric for ConfidentialityImpactToTheVulnerableSystem {
-    const TYPE: MetricType = MetricType::VC;
-
-    ghost TYPE = { metric.VC };
-
-    ghost values = { confidentiality_impact_to_the_vulnerable_system.None ∷ confidentiality_impact_to_the_vulnerable_system.Low ∷ confidentiality_impact_to_the_vulnerable_system.High ∷ [] };
-
     ghost law = { Prim.search rules };
 }
 
@@ -75,9 +70,17 @@ pub enum IntegrityImpactToTheVulnerableSystem {
 }
 
 impl Spelled for IntegrityImpactToTheVulnerableSystem {
-    ghost kind = { metric.VI };
+    const TYPE: MetricType = MetricType::VI;
+
+    ghost TYPE = { metric.VI };
 
     ghost rank = { place.VI };
+
+    ghost values = { integrity_impact_to_the_vulnerable_system.None ∷ integrity_impact_to_the_vulnerable_system.Low ∷ integrity_impact_to_the_vulnerable_system.High ∷ [] };
+
+    fn values() -> &'static [Self] {
+        &[Self::None, Self::Low, Self::High]
+    }
 
     fn slashed(self) -> &'static str {
         match self {
@@ -87,23 +90,10 @@ impl Spelled for IntegrityImpactToTheVulnerableSystem {
         }
     }
 
-    fn read_bytes(text: &[u8]) -> Option<Self> {
-        match only_letter(text)? {
-            b'N' => Some(Self::None),
-            b'L' => Some(Self::Low),
-            b'H' => Some(Self::High),
-            _ => None,
-        }
-    }
+    ghost first = { Prim.search rules };
 }
 
 impl Metric for IntegrityImpactToTheVulnerableSystem {
-    const TYPE: MetricType = MetricType::VI;
-
-    ghost TYPE = { metric.VI };
-
-    ghost values = { integrity_impact_to_the_vulnerable_system.None ∷ integrity_impact_to_the_vulnerable_system.Low ∷ integrity_impact_to_the_vulnerable_system.High ∷ [] };
-
     ghost law = { Prim.search rules };
 }
 
@@ -127,9 +117,17 @@ pub enum AvailabilityImpactToTheVulnerableSystem {
 }
 
 impl Spelled for AvailabilityImpactToTheVulnerableSystem {
-    ghost kind = { metric.VA };
+    const TYPE: MetricType = MetricType::VA;
+
+    ghost TYPE = { metric.VA };
 
     ghost rank = { place.VA };
+
+    ghost values = { availability_impact_to_the_vulnerable_system.None ∷ availability_impact_to_the_vulnerable_system.Low ∷ availability_impact_to_the_vulnerable_system.High ∷ [] };
+
+    fn values() -> &'static [Self] {
+        &[Self::None, Self::Low, Self::High]
+    }
 
     fn slashed(self) -> &'static str {
         match self {
@@ -139,23 +137,10 @@ impl Spelled for AvailabilityImpactToTheVulnerableSystem {
         }
     }
 
-    fn read_bytes(text: &[u8]) -> Option<Self> {
-        match only_letter(text)? {
-            b'N' => Some(Self::None),
-            b'L' => Some(Self::Low),
-            b'H' => Some(Self::High),
-            _ => None,
-        }
-    }
+    ghost first = { Prim.search rules };
 }
 
 impl Metric for AvailabilityImpactToTheVulnerableSystem {
-    const TYPE: MetricType = MetricType::VA;
-
-    ghost TYPE = { metric.VA };
-
-    ghost values = { availability_impact_to_the_vulnerable_system.None ∷ availability_impact_to_the_vulnerable_system.Low ∷ availability_impact_to_the_vulnerable_system.High ∷ [] };
-
     ghost law = { Prim.search rules };
 }
 

@@ -9,7 +9,7 @@ ghost use Rattle.cvss_v4_metric.specs.Table.{metric_component};
 ghost use Rattle.cvss_v4_metric.specs.declared.environmental.access.ModifiedPrivilegesRequired.TheVariants as modified_privileges_required;
 ghost use Rattle.cvss_v4_metric.specs.declared.environmental.access.ModifiedUserInteraction.TheVariants as modified_user_interaction;
 
-use crate::metric::{Metric, MetricType, Spelled, only_letter};
+use crate::metric::{Metric, MetricType, Spelled};
 use cvss_text::print::write_component;
 use std::fmt;
 
@@ -24,9 +24,17 @@ pub enum ModifiedPrivilegesRequired {
 }
 
 impl Spelled for ModifiedPrivilegesRequired {
-    ghost kind = { metric.MPR };
+    const TYPE: MetricType = MetricType::MPR;
+
+    ghost TYPE = { metric.MPR };
 
     ghost rank = { place.MPR };
+
+    ghost values = { modified_privileges_required.NotDefined ∷ modified_privileges_required.High ∷ modified_privileges_required.Low ∷ modified_privileges_required.None ∷ [] };
+
+    fn values() -> &'static [Self] {
+        &[Self::NotDefined, Self::High, Self::Low, Self::None]
+    }
 
     fn slashed(self) -> &'static str {
         match self {
@@ -37,24 +45,10 @@ impl Spelled for ModifiedPrivilegesRequired {
         }
     }
 
-    fn read_bytes(text: &[u8]) -> Option<Self> {
-        match only_letter(text)? {
-            b'X' => Some(Self::NotDefined),
-            b'H' => Some(Self::High),
-            b'L' => Some(Self::Low),
-            b'N' => Some(Self::None),
-            _ => None,
-        }
-    }
+    ghost first = { Prim.search rules };
 }
 
 impl Metric for ModifiedPrivilegesRequired {
-    const TYPE: MetricType = MetricType::MPR;
-
-    ghost TYPE = { metric.MPR };
-
-    ghost values = { modified_privileges_required.NotDefined ∷ modified_privileges_required.High ∷ modified_privileges_required.Low ∷ modified_privileges_required.None ∷ [] };
-
     ghost law = { Prim.search rules };
 }
 
@@ -79,9 +73,17 @@ pub enum ModifiedUserInteraction {
 }
 
 impl Spelled for ModifiedUserInteraction {
-    ghost kind = { metric.MUI };
+    const TYPE: MetricType = MetricType::MUI;
+
+    ghost TYPE = { metric.MUI };
 
     ghost rank = { place.MUI };
+
+    ghost values = { modified_user_interaction.NotDefined ∷ modified_user_interaction.Active ∷ modified_user_interaction.Passive ∷ modified_user_interaction.None ∷ [] };
+
+    fn values() -> &'static [Self] {
+        &[Self::NotDefined, Self::Active, Self::Passive, Self::None]
+    }
 
     fn slashed(self) -> &'static str {
         match self {
@@ -92,24 +94,10 @@ impl Spelled for ModifiedUserInteraction {
         }
     }
 
-    fn read_bytes(text: &[u8]) -> Option<Self> {
-        match only_letter(text)? {
-            b'X' => Some(Self::NotDefined),
-            b'A' => Some(Self::Active),
-            b'P' => Some(Self::Passive),
-            b'N' => Some(Self::None),
-            _ => None,
-        }
-    }
+    ghost first = { Prim.search rules };
 }
 
 impl Metric for ModifiedUserInteraction {
-    const TYPE: MetricType = MetricType::MUI;
-
-    ghost TYPE = { metric.MUI };
-
-    ghost values = { modified_user_interaction.NotDefined ∷ modified_user_interaction.Active ∷ modified_user_interaction.Passive ∷ modified_user_interaction.None ∷ [] };
-
     ghost law = { Prim.search rules };
 }
 

@@ -10,7 +10,7 @@ ghost use Rattle.cvss_v4_metric.specs.declared.environmental.attack.ModifiedAtta
 ghost use Rattle.cvss_v4_metric.specs.declared.environmental.attack.ModifiedAttackComplexity.TheVariants as modified_attack_complexity;
 ghost use Rattle.cvss_v4_metric.specs.declared.environmental.attack.ModifiedAttackRequirements.TheVariants as modified_attack_requirements;
 
-use crate::metric::{Metric, MetricType, Spelled, only_letter};
+use crate::metric::{Metric, MetricType, Spelled};
 use cvss_text::print::write_component;
 use std::fmt;
 
@@ -26,9 +26,23 @@ pub enum ModifiedAttackVector {
 }
 
 impl Spelled for ModifiedAttackVector {
-    ghost kind = { metric.MAV };
+    const TYPE: MetricType = MetricType::MAV;
+
+    ghost TYPE = { metric.MAV };
 
     ghost rank = { place.MAV };
+
+    ghost values = { modified_attack_vector.Physical ∷ modified_attack_vector.Local ∷ modified_attack_vector.Adjacent ∷ modified_attack_vector.Network ∷ modified_attack_vector.NotDefined ∷ [] };
+
+    fn values() -> &'static [Self] {
+        &[
+            Self::Physical,
+            Self::Local,
+            Self::Adjacent,
+            Self::Network,
+            Self::NotDefined,
+        ]
+    }
 
     fn slashed(self) -> &'static str {
         match self {
@@ -40,25 +54,10 @@ impl Spelled for ModifiedAttackVector {
         }
     }
 
-    fn read_bytes(text: &[u8]) -> Option<Self> {
-        match only_letter(text)? {
-            b'P' => Some(Self::Physical),
-            b'L' => Some(Self::Local),
-            b'A' => Some(Self::Adjacent),
-            b'N' => Some(Self::Network),
-            b'X' => Some(Self::NotDefined),
-            _ => None,
-        }
-    }
+    ghost first = { Prim.search rules };
 }
 
 impl Metric for ModifiedAttackVector {
-    const TYPE: MetricType = MetricType::MAV;
-
-    ghost TYPE = { metric.MAV };
-
-    ghost values = { modified_attack_vector.Physical ∷ modified_attack_vector.Local ∷ modified_attack_vector.Adjacent ∷ modified_attack_vector.Network ∷ modified_attack_vector.NotDefined ∷ [] };
-
     ghost law = { Prim.search rules };
 }
 
@@ -82,9 +81,17 @@ pub enum ModifiedAttackComplexity {
 }
 
 impl Spelled for ModifiedAttackComplexity {
-    ghost kind = { metric.MAC };
+    const TYPE: MetricType = MetricType::MAC;
+
+    ghost TYPE = { metric.MAC };
 
     ghost rank = { place.MAC };
+
+    ghost values = { modified_attack_complexity.NotDefined ∷ modified_attack_complexity.High ∷ modified_attack_complexity.Low ∷ [] };
+
+    fn values() -> &'static [Self] {
+        &[Self::NotDefined, Self::High, Self::Low]
+    }
 
     fn slashed(self) -> &'static str {
         match self {
@@ -94,23 +101,10 @@ impl Spelled for ModifiedAttackComplexity {
         }
     }
 
-    fn read_bytes(text: &[u8]) -> Option<Self> {
-        match only_letter(text)? {
-            b'X' => Some(Self::NotDefined),
-            b'H' => Some(Self::High),
-            b'L' => Some(Self::Low),
-            _ => None,
-        }
-    }
+    ghost first = { Prim.search rules };
 }
 
 impl Metric for ModifiedAttackComplexity {
-    const TYPE: MetricType = MetricType::MAC;
-
-    ghost TYPE = { metric.MAC };
-
-    ghost values = { modified_attack_complexity.NotDefined ∷ modified_attack_complexity.High ∷ modified_attack_complexity.Low ∷ [] };
-
     ghost law = { Prim.search rules };
 }
 
@@ -134,9 +128,17 @@ pub enum ModifiedAttackRequirements {
 }
 
 impl Spelled for ModifiedAttackRequirements {
-    ghost kind = { metric.MAT };
+    const TYPE: MetricType = MetricType::MAT;
+
+    ghost TYPE = { metric.MAT };
 
     ghost rank = { place.MAT };
+
+    ghost values = { modified_attack_requirements.NotDefined ∷ modified_attack_requirements.Present ∷ modified_attack_requirements.None ∷ [] };
+
+    fn values() -> &'static [Self] {
+        &[Self::NotDefined, Self::Present, Self::None]
+    }
 
     fn slashed(self) -> &'static str {
         match self {
@@ -146,23 +148,10 @@ impl Spelled for ModifiedAttackRequirements {
         }
     }
 
-    fn read_bytes(text: &[u8]) -> Option<Self> {
-        match only_letter(text)? {
-            b'X' => Some(Self::NotDefined),
-            b'P' => Some(Self::Present),
-            b'N' => Some(Self::None),
-            _ => None,
-        }
-    }
+    ghost first = { Prim.search rules };
 }
 
 impl Metric for ModifiedAttackRequirements {
-    const TYPE: MetricType = MetricType::MAT;
-
-    ghost TYPE = { metric.MAT };
-
-    ghost values = { modified_attack_requirements.NotDefined ∷ modified_attack_requirements.Present ∷ modified_attack_requirements.None ∷ [] };
-
     ghost law = { Prim.search rules };
 }
 

@@ -10,7 +10,7 @@ ghost use Rattle.cvss_v4_metric.specs.declared.environmental.requirement.Confide
 ghost use Rattle.cvss_v4_metric.specs.declared.environmental.requirement.IntegrityRequirements.TheVariants as integrity_requirements;
 ghost use Rattle.cvss_v4_metric.specs.declared.environmental.requirement.AvailabilityRequirements.TheVariants as availability_requirements;
 
-use crate::metric::{Metric, MetricType, Spelled, only_letter};
+use crate::metric::{Metric, MetricType, Spelled};
 use cvss_text::print::write_component;
 use std::fmt;
 
@@ -25,9 +25,17 @@ pub enum ConfidentialityRequirements {
 }
 
 impl Spelled for ConfidentialityRequirements {
-    ghost kind = { metric.CR };
+    const TYPE: MetricType = MetricType::CR;
+
+    ghost TYPE = { metric.CR };
 
     ghost rank = { place.CR };
+
+    ghost values = { confidentiality_requirements.NotDefined ∷ confidentiality_requirements.Low ∷ confidentiality_requirements.Medium ∷ confidentiality_requirements.High ∷ [] };
+
+    fn values() -> &'static [Self] {
+        &[Self::NotDefined, Self::Low, Self::Medium, Self::High]
+    }
 
     fn slashed(self) -> &'static str {
         match self {
@@ -38,24 +46,10 @@ impl Spelled for ConfidentialityRequirements {
         }
     }
 
-    fn read_bytes(text: &[u8]) -> Option<Self> {
-        match only_letter(text)? {
-            b'X' => Some(Self::NotDefined),
-            b'L' => Some(Self::Low),
-            b'M' => Some(Self::Medium),
-            b'H' => Some(Self::High),
-            _ => None,
-        }
-    }
+    ghost first = { Prim.search rules };
 }
 
 impl Metric for ConfidentialityRequirements {
-    const TYPE: MetricType = MetricType::CR;
-
-    ghost TYPE = { metric.CR };
-
-    ghost values = { confidentiality_requirements.NotDefined ∷ confidentiality_requirements.Low ∷ confidentiality_requirements.Medium ∷ confidentiality_requirements.High ∷ [] };
-
     ghost law = { Prim.search rules };
 }
 
@@ -80,9 +74,17 @@ pub enum IntegrityRequirements {
 }
 
 impl Spelled for IntegrityRequirements {
-    ghost kind = { metric.IR };
+    const TYPE: MetricType = MetricType::IR;
+
+    ghost TYPE = { metric.IR };
 
     ghost rank = { place.IR };
+
+    ghost values = { integrity_requirements.NotDefined ∷ integrity_requirements.Low ∷ integrity_requirements.Medium ∷ integrity_requirements.High ∷ [] };
+
+    fn values() -> &'static [Self] {
+        &[Self::NotDefined, Self::Low, Self::Medium, Self::High]
+    }
 
     fn slashed(self) -> &'static str {
         match self {
@@ -93,24 +95,10 @@ impl Spelled for IntegrityRequirements {
         }
     }
 
-    fn read_bytes(text: &[u8]) -> Option<Self> {
-        match only_letter(text)? {
-            b'X' => Some(Self::NotDefined),
-            b'L' => Some(Self::Low),
-            b'M' => Some(Self::Medium),
-            b'H' => Some(Self::High),
-            _ => None,
-        }
-    }
+    ghost first = { Prim.search rules };
 }
 
 impl Metric for IntegrityRequirements {
-    const TYPE: MetricType = MetricType::IR;
-
-    ghost TYPE = { metric.IR };
-
-    ghost values = { integrity_requirements.NotDefined ∷ integrity_requirements.Low ∷ integrity_requirements.Medium ∷ integrity_requirements.High ∷ [] };
-
     ghost law = { Prim.search rules };
 }
 
@@ -135,9 +123,17 @@ pub enum AvailabilityRequirements {
 }
 
 impl Spelled for AvailabilityRequirements {
-    ghost kind = { metric.AR };
+    const TYPE: MetricType = MetricType::AR;
+
+    ghost TYPE = { metric.AR };
 
     ghost rank = { place.AR };
+
+    ghost values = { availability_requirements.NotDefined ∷ availability_requirements.Low ∷ availability_requirements.Medium ∷ availability_requirements.High ∷ [] };
+
+    fn values() -> &'static [Self] {
+        &[Self::NotDefined, Self::Low, Self::Medium, Self::High]
+    }
 
     fn slashed(self) -> &'static str {
         match self {
@@ -148,24 +144,10 @@ impl Spelled for AvailabilityRequirements {
         }
     }
 
-    fn read_bytes(text: &[u8]) -> Option<Self> {
-        match only_letter(text)? {
-            b'X' => Some(Self::NotDefined),
-            b'L' => Some(Self::Low),
-            b'M' => Some(Self::Medium),
-            b'H' => Some(Self::High),
-            _ => None,
-        }
-    }
+    ghost first = { Prim.search rules };
 }
 
 impl Metric for AvailabilityRequirements {
-    const TYPE: MetricType = MetricType::AR;
-
-    ghost TYPE = { metric.AR };
-
-    ghost values = { availability_requirements.NotDefined ∷ availability_requirements.Low ∷ availability_requirements.Medium ∷ availability_requirements.High ∷ [] };
-
     ghost law = { Prim.search rules };
 }
 

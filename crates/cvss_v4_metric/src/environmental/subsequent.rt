@@ -10,7 +10,7 @@ ghost use Rattle.cvss_v4_metric.specs.declared.environmental.subsequent.Modified
 ghost use Rattle.cvss_v4_metric.specs.declared.environmental.subsequent.ModifiedIntegrityImpactToTheSubsequentSystem.TheVariants as modified_integrity_impact_to_the_subsequent_system;
 ghost use Rattle.cvss_v4_metric.specs.declared.environmental.subsequent.ModifiedAvailabilityImpactToTheSubsequentSystem.TheVariants as modified_availability_impact_to_the_subsequent_system;
 
-use crate::metric::{Metric, MetricType, Spelled, only_letter};
+use crate::metric::{Metric, MetricType, Spelled};
 use cvss_text::print::write_component;
 use std::fmt;
 
@@ -26,9 +26,17 @@ pub enum ModifiedConfidentialityImpactToTheSubsequentSystem {
 }
 
 impl Spelled for ModifiedConfidentialityImpactToTheSubsequentSystem {
-    ghost kind = { metric.MSC };
+    const TYPE: MetricType = MetricType::MSC;
+
+    ghost TYPE = { metric.MSC };
 
     ghost rank = { place.MSC };
+
+    ghost values = { modified_confidentiality_impact_to_the_subsequent_system.NotDefined ∷ modified_confidentiality_impact_to_the_subsequent_system.Negligible ∷ modified_confidentiality_impact_to_the_subsequent_system.Low ∷ modified_confidentiality_impact_to_the_subsequent_system.High ∷ [] };
+
+    fn values() -> &'static [Self] {
+        &[Self::NotDefined, Self::Negligible, Self::Low, Self::High]
+    }
 
     fn slashed(self) -> &'static str {
         match self {
@@ -39,24 +47,10 @@ impl Spelled for ModifiedConfidentialityImpactToTheSubsequentSystem {
         }
     }
 
-    fn read_bytes(text: &[u8]) -> Option<Self> {
-        match only_letter(text)? {
-            b'X' => Some(Self::NotDefined),
-            b'N' => Some(Self::Negligible),
-            b'L' => Some(Self::Low),
-            b'H' => Some(Self::High),
-            _ => None,
-        }
-    }
+    ghost first = { Prim.search rules };
 }
 
 impl Metric for ModifiedConfidentialityImpactToTheSubsequentSystem {
-    const TYPE: MetricType = MetricType::MSC;
-
-    ghost TYPE = { metric.MSC };
-
-    ghost values = { modified_confidentiality_impact_to_the_subsequent_system.NotDefined ∷ modified_confidentiality_impact_to_the_subsequent_system.Negligible ∷ modified_confidentiality_impact_to_the_subsequent_system.Low ∷ modified_confidentiality_impact_to_the_subsequent_system.High ∷ [] };
-
     ghost law = { Prim.search rules };
 }
 
@@ -83,9 +77,23 @@ pub enum ModifiedIntegrityImpactToTheSubsequentSystem {
 }
 
 impl Spelled for ModifiedIntegrityImpactToTheSubsequentSystem {
-    ghost kind = { metric.MSI };
+    const TYPE: MetricType = MetricType::MSI;
+
+    ghost TYPE = { metric.MSI };
 
     ghost rank = { place.MSI };
+
+    ghost values = { modified_integrity_impact_to_the_subsequent_system.NotDefined ∷ modified_integrity_impact_to_the_subsequent_system.Negligible ∷ modified_integrity_impact_to_the_subsequent_system.Low ∷ modified_integrity_impact_to_the_subsequent_system.High ∷ modified_integrity_impact_to_the_subsequent_system.Safety ∷ [] };
+
+    fn values() -> &'static [Self] {
+        &[
+            Self::NotDefined,
+            Self::Negligible,
+            Self::Low,
+            Self::High,
+            Self::Safety,
+        ]
+    }
 
     fn slashed(self) -> &'static str {
         match self {
@@ -97,25 +105,10 @@ impl Spelled for ModifiedIntegrityImpactToTheSubsequentSystem {
         }
     }
 
-    fn read_bytes(text: &[u8]) -> Option<Self> {
-        match only_letter(text)? {
-            b'X' => Some(Self::NotDefined),
-            b'N' => Some(Self::Negligible),
-            b'L' => Some(Self::Low),
-            b'H' => Some(Self::High),
-            b'S' => Some(Self::Safety),
-            _ => None,
-        }
-    }
+    ghost first = { Prim.search rules };
 }
 
 impl Metric for ModifiedIntegrityImpactToTheSubsequentSystem {
-    const TYPE: MetricType = MetricType::MSI;
-
-    ghost TYPE = { metric.MSI };
-
-    ghost values = { modified_integrity_impact_to_the_subsequent_system.NotDefined ∷ modified_integrity_impact_to_the_subsequent_system.Negligible ∷ modified_integrity_impact_to_the_subsequent_system.Low ∷ modified_integrity_impact_to_the_subsequent_system.High ∷ modified_integrity_impact_to_the_subsequent_system.Safety ∷ [] };
-
     ghost law = { Prim.search rules };
 }
 
@@ -142,9 +135,23 @@ pub enum ModifiedAvailabilityImpactToTheSubsequentSystem {
 }
 
 impl Spelled for ModifiedAvailabilityImpactToTheSubsequentSystem {
-    ghost kind = { metric.MSA };
+    const TYPE: MetricType = MetricType::MSA;
+
+    ghost TYPE = { metric.MSA };
 
     ghost rank = { place.MSA };
+
+    ghost values = { modified_availability_impact_to_the_subsequent_system.NotDefined ∷ modified_availability_impact_to_the_subsequent_system.Negligible ∷ modified_availability_impact_to_the_subsequent_system.Low ∷ modified_availability_impact_to_the_subsequent_system.High ∷ modified_availability_impact_to_the_subsequent_system.Safety ∷ [] };
+
+    fn values() -> &'static [Self] {
+        &[
+            Self::NotDefined,
+            Self::Negligible,
+            Self::Low,
+            Self::High,
+            Self::Safety,
+        ]
+    }
 
     fn slashed(self) -> &'static str {
         match self {
@@ -156,25 +163,10 @@ impl Spelled for ModifiedAvailabilityImpactToTheSubsequentSystem {
         }
     }
 
-    fn read_bytes(text: &[u8]) -> Option<Self> {
-        match only_letter(text)? {
-            b'X' => Some(Self::NotDefined),
-            b'N' => Some(Self::Negligible),
-            b'L' => Some(Self::Low),
-            b'H' => Some(Self::High),
-            b'S' => Some(Self::Safety),
-            _ => None,
-        }
-    }
+    ghost first = { Prim.search rules };
 }
 
 impl Metric for ModifiedAvailabilityImpactToTheSubsequentSystem {
-    const TYPE: MetricType = MetricType::MSA;
-
-    ghost TYPE = { metric.MSA };
-
-    ghost values = { modified_availability_impact_to_the_subsequent_system.NotDefined ∷ modified_availability_impact_to_the_subsequent_system.Negligible ∷ modified_availability_impact_to_the_subsequent_system.Low ∷ modified_availability_impact_to_the_subsequent_system.High ∷ modified_availability_impact_to_the_subsequent_system.Safety ∷ [] };
-
     ghost law = { Prim.search rules };
 }
 

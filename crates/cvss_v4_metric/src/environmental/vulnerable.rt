@@ -10,7 +10,7 @@ ghost use Rattle.cvss_v4_metric.specs.declared.environmental.vulnerable.Modified
 ghost use Rattle.cvss_v4_metric.specs.declared.environmental.vulnerable.ModifiedIntegrityImpactToTheVulnerableSystem.TheVariants as modified_integrity_impact_to_the_vulnerable_system;
 ghost use Rattle.cvss_v4_metric.specs.declared.environmental.vulnerable.ModifiedAvailabilityImpactToTheVulnerableSystem.TheVariants as modified_availability_impact_to_the_vulnerable_system;
 
-use crate::metric::{Metric, MetricType, Spelled, only_letter};
+use crate::metric::{Metric, MetricType, Spelled};
 use cvss_text::print::write_component;
 use std::fmt;
 
@@ -26,9 +26,17 @@ pub enum ModifiedConfidentialityImpactToTheVulnerableSystem {
 }
 
 impl Spelled for ModifiedConfidentialityImpactToTheVulnerableSystem {
-    ghost kind = { metric.MVC };
+    const TYPE: MetricType = MetricType::MVC;
+
+    ghost TYPE = { metric.MVC };
 
     ghost rank = { place.MVC };
+
+    ghost values = { modified_confidentiality_impact_to_the_vulnerable_system.NotDefined ∷ modified_confidentiality_impact_to_the_vulnerable_system.None ∷ modified_confidentiality_impact_to_the_vulnerable_system.Low ∷ modified_confidentiality_impact_to_the_vulnerable_system.High ∷ [] };
+
+    fn values() -> &'static [Self] {
+        &[Self::NotDefined, Self::None, Self::Low, Self::High]
+    }
 
     fn slashed(self) -> &'static str {
         match self {
@@ -39,24 +47,10 @@ impl Spelled for ModifiedConfidentialityImpactToTheVulnerableSystem {
         }
     }
 
-    fn read_bytes(text: &[u8]) -> Option<Self> {
-        match only_letter(text)? {
-            b'X' => Some(Self::NotDefined),
-            b'N' => Some(Self::None),
-            b'L' => Some(Self::Low),
-            b'H' => Some(Self::High),
-            _ => None,
-        }
-    }
+    ghost first = { Prim.search rules };
 }
 
 impl Metric for ModifiedConfidentialityImpactToTheVulnerableSystem {
-    const TYPE: MetricType = MetricType::MVC;
-
-    ghost TYPE = { metric.MVC };
-
-    ghost values = { modified_confidentiality_impact_to_the_vulnerable_system.NotDefined ∷ modified_confidentiality_impact_to_the_vulnerable_system.None ∷ modified_confidentiality_impact_to_the_vulnerable_system.Low ∷ modified_confidentiality_impact_to_the_vulnerable_system.High ∷ [] };
-
     ghost law = { Prim.search rules };
 }
 
@@ -82,9 +76,17 @@ pub enum ModifiedIntegrityImpactToTheVulnerableSystem {
 }
 
 impl Spelled for ModifiedIntegrityImpactToTheVulnerableSystem {
-    ghost kind = { metric.MVI };
+    const TYPE: MetricType = MetricType::MVI;
+
+    ghost TYPE = { metric.MVI };
 
     ghost rank = { place.MVI };
+
+    ghost values = { modified_integrity_impact_to_the_vulnerable_system.NotDefined ∷ modified_integrity_impact_to_the_vulnerable_system.None ∷ modified_integrity_impact_to_the_vulnerable_system.Low ∷ modified_integrity_impact_to_the_vulnerable_system.High ∷ [] };
+
+    fn values() -> &'static [Self] {
+        &[Self::NotDefined, Self::None, Self::Low, Self::High]
+    }
 
     fn slashed(self) -> &'static str {
         match self {
@@ -95,24 +97,10 @@ impl Spelled for ModifiedIntegrityImpactToTheVulnerableSystem {
         }
     }
 
-    fn read_bytes(text: &[u8]) -> Option<Self> {
-        match only_letter(text)? {
-            b'X' => Some(Self::NotDefined),
-            b'N' => Some(Self::None),
-            b'L' => Some(Self::Low),
-            b'H' => Some(Self::High),
-            _ => None,
-        }
-    }
+    ghost first = { Prim.search rules };
 }
 
 impl Metric for ModifiedIntegrityImpactToTheVulnerableSystem {
-    const TYPE: MetricType = MetricType::MVI;
-
-    ghost TYPE = { metric.MVI };
-
-    ghost values = { modified_integrity_impact_to_the_vulnerable_system.NotDefined ∷ modified_integrity_impact_to_the_vulnerable_system.None ∷ modified_integrity_impact_to_the_vulnerable_system.Low ∷ modified_integrity_impact_to_the_vulnerable_system.High ∷ [] };
-
     ghost law = { Prim.search rules };
 }
 
@@ -138,9 +126,17 @@ pub enum ModifiedAvailabilityImpactToTheVulnerableSystem {
 }
 
 impl Spelled for ModifiedAvailabilityImpactToTheVulnerableSystem {
-    ghost kind = { metric.MVA };
+    const TYPE: MetricType = MetricType::MVA;
+
+    ghost TYPE = { metric.MVA };
 
     ghost rank = { place.MVA };
+
+    ghost values = { modified_availability_impact_to_the_vulnerable_system.NotDefined ∷ modified_availability_impact_to_the_vulnerable_system.None ∷ modified_availability_impact_to_the_vulnerable_system.Low ∷ modified_availability_impact_to_the_vulnerable_system.High ∷ [] };
+
+    fn values() -> &'static [Self] {
+        &[Self::NotDefined, Self::None, Self::Low, Self::High]
+    }
 
     fn slashed(self) -> &'static str {
         match self {
@@ -151,24 +147,10 @@ impl Spelled for ModifiedAvailabilityImpactToTheVulnerableSystem {
         }
     }
 
-    fn read_bytes(text: &[u8]) -> Option<Self> {
-        match only_letter(text)? {
-            b'X' => Some(Self::NotDefined),
-            b'N' => Some(Self::None),
-            b'L' => Some(Self::Low),
-            b'H' => Some(Self::High),
-            _ => None,
-        }
-    }
+    ghost first = { Prim.search rules };
 }
 
 impl Metric for ModifiedAvailabilityImpactToTheVulnerableSystem {
-    const TYPE: MetricType = MetricType::MVA;
-
-    ghost TYPE = { metric.MVA };
-
-    ghost values = { modified_availability_impact_to_the_vulnerable_system.NotDefined ∷ modified_availability_impact_to_the_vulnerable_system.None ∷ modified_availability_impact_to_the_vulnerable_system.Low ∷ modified_availability_impact_to_the_vulnerable_system.High ∷ [] };
-
     ghost law = { Prim.search rules };
 }
 

@@ -8,7 +8,7 @@ ghost use Rattle.cvss_v4_metric.specs.Table.{metric_component};
 ghost use Rattle.cvss_v4_metric.specs.declared.supplemental.attack.Automatable.TheVariants as automatable;
 ghost use Rattle.cvss_v4_metric.specs.declared.supplemental.attack.ValueDensity.TheVariants as value_density;
 
-use crate::metric::{Metric, MetricType, Spelled, only_letter};
+use crate::metric::{Metric, MetricType, Spelled};
 use cvss_text::print::write_component;
 use std::fmt;
 
@@ -22,9 +22,17 @@ pub enum Automatable {
 }
 
 impl Spelled for Automatable {
-    ghost kind = { metric.AU };
+    const TYPE: MetricType = MetricType::AU;
+
+    ghost TYPE = { metric.AU };
 
     ghost rank = { place.AU };
+
+    ghost values = { automatable.NotDefined ∷ automatable.Yes ∷ automatable.No ∷ [] };
+
+    fn values() -> &'static [Self] {
+        &[Self::NotDefined, Self::Yes, Self::No]
+    }
 
     fn slashed(self) -> &'static str {
         match self {
@@ -34,23 +42,10 @@ impl Spelled for Automatable {
         }
     }
 
-    fn read_bytes(text: &[u8]) -> Option<Self> {
-        match only_letter(text)? {
-            b'X' => Some(Self::NotDefined),
-            b'Y' => Some(Self::Yes),
-            b'N' => Some(Self::No),
-            _ => None,
-        }
-    }
+    ghost first = { Prim.search rules };
 }
 
 impl Metric for Automatable {
-    const TYPE: MetricType = MetricType::AU;
-
-    ghost TYPE = { metric.AU };
-
-    ghost values = { automatable.NotDefined ∷ automatable.Yes ∷ automatable.No ∷ [] };
-
     ghost law = { Prim.search rules };
 }
 
@@ -74,9 +69,17 @@ pub enum ValueDensity {
 }
 
 impl Spelled for ValueDensity {
-    ghost kind = { metric.V };
+    const TYPE: MetricType = MetricType::V;
+
+    ghost TYPE = { metric.V };
 
     ghost rank = { place.V };
+
+    ghost values = { value_density.NotDefined ∷ value_density.Diffuse ∷ value_density.Concentrated ∷ [] };
+
+    fn values() -> &'static [Self] {
+        &[Self::NotDefined, Self::Diffuse, Self::Concentrated]
+    }
 
     fn slashed(self) -> &'static str {
         match self {
@@ -86,23 +89,10 @@ impl Spelled for ValueDensity {
         }
     }
 
-    fn read_bytes(text: &[u8]) -> Option<Self> {
-        match only_letter(text)? {
-            b'X' => Some(Self::NotDefined),
-            b'D' => Some(Self::Diffuse),
-            b'C' => Some(Self::Concentrated),
-            _ => None,
-        }
-    }
+    ghost first = { Prim.search rules };
 }
 
 impl Metric for ValueDensity {
-    const TYPE: MetricType = MetricType::V;
-
-    ghost TYPE = { metric.V };
-
-    ghost values = { value_density.NotDefined ∷ value_density.Diffuse ∷ value_density.Concentrated ∷ [] };
-
     ghost law = { Prim.search rules };
 }
 

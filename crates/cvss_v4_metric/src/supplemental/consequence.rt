@@ -8,7 +8,7 @@ ghost use Rattle.cvss_v4_metric.specs.Table.{metric_component};
 ghost use Rattle.cvss_v4_metric.specs.declared.supplemental.consequence.Safety.TheVariants as safety;
 ghost use Rattle.cvss_v4_metric.specs.declared.supplemental.consequence.Recovery.TheVariants as recovery;
 
-use crate::metric::{Metric, MetricType, Spelled, only_letter};
+use crate::metric::{Metric, MetricType, Spelled};
 use cvss_text::print::write_component;
 use std::fmt;
 
@@ -22,9 +22,17 @@ pub enum Safety {
 }
 
 impl Spelled for Safety {
-    ghost kind = { metric.S };
+    const TYPE: MetricType = MetricType::S;
+
+    ghost TYPE = { metric.S };
 
     ghost rank = { place.S };
+
+    ghost values = { safety.NotDefined ∷ safety.Present ∷ safety.Negligible ∷ [] };
+
+    fn values() -> &'static [Self] {
+        &[Self::NotDefined, Self::Present, Self::Negligible]
+    }
 
     fn slashed(self) -> &'static str {
         match self {
@@ -34,23 +42,10 @@ impl Spelled for Safety {
         }
     }
 
-    fn read_bytes(text: &[u8]) -> Option<Self> {
-        match only_letter(text)? {
-            b'X' => Some(Self::NotDefined),
-            b'P' => Some(Self::Present),
-            b'N' => Some(Self::Negligible),
-            _ => None,
-        }
-    }
+    ghost first = { Prim.search rules };
 }
 
 impl Metric for Safety {
-    const TYPE: MetricType = MetricType::S;
-
-    ghost TYPE = { metric.S };
-
-    ghost values = { safety.NotDefined ∷ safety.Present ∷ safety.Negligible ∷ [] };
-
     ghost law = { Prim.search rules };
 }
 
@@ -75,9 +70,22 @@ pub enum Recovery {
 }
 
 impl Spelled for Recovery {
-    ghost kind = { metric.R };
+    const TYPE: MetricType = MetricType::R;
+
+    ghost TYPE = { metric.R };
 
     ghost rank = { place.R };
+
+    ghost values = { recovery.NotDefined ∷ recovery.Automatic ∷ recovery.User ∷ recovery.Irrecoverable ∷ [] };
+
+    fn values() -> &'static [Self] {
+        &[
+            Self::NotDefined,
+            Self::Automatic,
+            Self::User,
+            Self::Irrecoverable,
+        ]
+    }
 
     fn slashed(self) -> &'static str {
         match self {
@@ -88,24 +96,10 @@ impl Spelled for Recovery {
         }
     }
 
-    fn read_bytes(text: &[u8]) -> Option<Self> {
-        match only_letter(text)? {
-            b'X' => Some(Self::NotDefined),
-            b'A' => Some(Self::Automatic),
-            b'U' => Some(Self::User),
-            b'I' => Some(Self::Irrecoverable),
-            _ => None,
-        }
-    }
+    ghost first = { Prim.search rules };
 }
 
 impl Metric for Recovery {
-    const TYPE: MetricType = MetricType::R;
-
-    ghost TYPE = { metric.R };
-
-    ghost values = { recovery.NotDefined ∷ recovery.Automatic ∷ recovery.User ∷ recovery.Irrecoverable ∷ [] };
-
     ghost law = { Prim.search rules };
 }
 

@@ -8,8 +8,7 @@ ghost use Rattle.cvss_v4_metric.specs.Table.{metric_component};
 ghost use Rattle.cvss_v4_metric.specs.declared.supplemental.response.VulnerabilityResponseEffort.TheVariants as vulnerability_response_effort;
 ghost use Rattle.cvss_v4_metric.specs.declared.supplemental.response.ProviderUrgency.TheVariants as provider_urgency;
 
-use crate::metric::{Metric, MetricType, Spelled, only_letter};
-use cvss_text::cutting::is_raised_as;
+use crate::metric::{Metric, MetricType, Spelled};
 use cvss_text::print::write_component;
 use std::fmt;
 
@@ -24,9 +23,17 @@ pub enum VulnerabilityResponseEffort {
 }
 
 impl Spelled for VulnerabilityResponseEffort {
-    ghost kind = { metric.RE };
+    const TYPE: MetricType = MetricType::RE;
+
+    ghost TYPE = { metric.RE };
 
     ghost rank = { place.RE };
+
+    ghost values = { vulnerability_response_effort.NotDefined ∷ vulnerability_response_effort.Low ∷ vulnerability_response_effort.Moderate ∷ vulnerability_response_effort.High ∷ [] };
+
+    fn values() -> &'static [Self] {
+        &[Self::NotDefined, Self::Low, Self::Moderate, Self::High]
+    }
 
     fn slashed(self) -> &'static str {
         match self {
@@ -37,24 +44,10 @@ impl Spelled for VulnerabilityResponseEffort {
         }
     }
 
-    fn read_bytes(text: &[u8]) -> Option<Self> {
-        match only_letter(text)? {
-            b'X' => Some(Self::NotDefined),
-            b'L' => Some(Self::Low),
-            b'M' => Some(Self::Moderate),
-            b'H' => Some(Self::High),
-            _ => None,
-        }
-    }
+    ghost first = { Prim.search rules };
 }
 
 impl Metric for VulnerabilityResponseEffort {
-    const TYPE: MetricType = MetricType::RE;
-
-    ghost TYPE = { metric.RE };
-
-    ghost values = { vulnerability_response_effort.NotDefined ∷ vulnerability_response_effort.Low ∷ vulnerability_response_effort.Moderate ∷ vulnerability_response_effort.High ∷ [] };
-
     ghost law = { Prim.search rules };
 }
 
@@ -81,9 +74,23 @@ pub enum ProviderUrgency {
 }
 
 impl Spelled for ProviderUrgency {
-    ghost kind = { metric.U };
+    const TYPE: MetricType = MetricType::U;
+
+    ghost TYPE = { metric.U };
 
     ghost rank = { place.U };
+
+    ghost values = { provider_urgency.NotDefined ∷ provider_urgency.Red ∷ provider_urgency.Amber ∷ provider_urgency.Green ∷ provider_urgency.Clear ∷ [] };
+
+    fn values() -> &'static [Self] {
+        &[
+            Self::NotDefined,
+            Self::Red,
+            Self::Amber,
+            Self::Green,
+            Self::Clear,
+        ]
+    }
 
     fn slashed(self) -> &'static str {
         match self {
@@ -95,25 +102,10 @@ impl Spelled for ProviderUrgency {
         }
     }
 
-    fn read_bytes(text: &[u8]) -> Option<Self> {
-        match text {
-            b"X" | b"x" => Some(Self::NotDefined),
-            _ if is_raised_as(text, b"RED") => Some(Self::Red),
-            _ if is_raised_as(text, b"AMBER") => Some(Self::Amber),
-            _ if is_raised_as(text, b"GREEN") => Some(Self::Green),
-            _ if is_raised_as(text, b"CLEAR") => Some(Self::Clear),
-            _ => None,
-        }
-    }
+    ghost first = { Prim.search rules };
 }
 
 impl Metric for ProviderUrgency {
-    const TYPE: MetricType = MetricType::U;
-
-    ghost TYPE = { metric.U };
-
-    ghost values = { provider_urgency.NotDefined ∷ provider_urgency.Red ∷ provider_urgency.Amber ∷ provider_urgency.Green ∷ provider_urgency.Clear ∷ [] };
-
     ghost law = { Prim.search rules };
 }
 

@@ -6,10 +6,11 @@ ghost use Rattle.cvss_text.specs.private.Walk.{first_missing};
 ghost use Rattle.cvss_name.specs.declared.v4.MetricType.TheVariants.{E, AR, CR, IR, MAC, MAT, MAV, MPR, MSA, MSC, MSI, MUI, MVA, MVC, MVI};
 ghost use Rattle.cvss_v4_metric.specs.Table.{printed, supplemental};
 ghost use Rattle.cvss_v4.specs.Vector.{v4};
+ghost use Rattle.cvss_v4.specs.private.Shown.{shown};
 
 use super::put_at_sight;
 use crate::vector::Vector;
-use cvss_text::sight::{behind_five, behind_four, behind_three};
+use cvss_v4_metric::Spelled;
 
 /// Puts the optional metrics but for the last with which a text begins into the vector, and gives
 /// what stands behind them.
@@ -41,10 +42,8 @@ fn threat_at_sight<'a>(vector: &mut Vector, text: &'a [u8]) -> &'a [u8]
       ar = vector.new.ar;
     } }
 {
-    let text = put_at_sight(&mut vector.e, behind_three(text, *b"/E:"), text);
-    let text = put_at_sight(&mut vector.cr, behind_four(text, *b"/CR:"), text);
-    let text = put_at_sight(&mut vector.ir, behind_four(text, *b"/IR:"), text);
-    put_at_sight(&mut vector.ar, behind_four(text, *b"/AR:"), text)
+    let text = put_at_sight(&mut vector.e, text);
+    put_three_at_sight(&mut vector.cr, &mut vector.ir, &mut vector.ar, text)
 }
 
 /// Puts the modified metrics of how the attack is made with which a text begins into the vector,
@@ -61,11 +60,9 @@ fn modified_attack_at_sight<'a>(vector: &mut Vector, text: &'a [u8]) -> &'a [u8]
       mui = vector.new.mui;
     } }
 {
-    let text = put_at_sight(&mut vector.mav, behind_five(text, *b"/MAV:"), text);
-    let text = put_at_sight(&mut vector.mac, behind_five(text, *b"/MAC:"), text);
-    let text = put_at_sight(&mut vector.mat, behind_five(text, *b"/MAT:"), text);
-    let text = put_at_sight(&mut vector.mpr, behind_five(text, *b"/MPR:"), text);
-    put_at_sight(&mut vector.mui, behind_five(text, *b"/MUI:"), text)
+    let text = put_three_at_sight(&mut vector.mav, &mut vector.mac, &mut vector.mat, text);
+    let text = put_at_sight(&mut vector.mpr, text);
+    put_at_sight(&mut vector.mui, text)
 }
 
 /// Puts the modified impacts with which a text begins into the vector, and gives what stands behind
@@ -83,12 +80,8 @@ fn modified_impact_at_sight<'a>(vector: &mut Vector, text: &'a [u8]) -> &'a [u8]
       msa = vector.new.msa;
     } }
 {
-    let text = put_at_sight(&mut vector.mvc, behind_five(text, *b"/MVC:"), text);
-    let text = put_at_sight(&mut vector.mvi, behind_five(text, *b"/MVI:"), text);
-    let text = put_at_sight(&mut vector.mva, behind_five(text, *b"/MVA:"), text);
-    let text = put_at_sight(&mut vector.msc, behind_five(text, *b"/MSC:"), text);
-    let text = put_at_sight(&mut vector.msi, behind_five(text, *b"/MSI:"), text);
-    put_at_sight(&mut vector.msa, behind_five(text, *b"/MSA:"), text)
+    let text = put_three_at_sight(&mut vector.mvc, &mut vector.mvi, &mut vector.mva, text);
+    put_three_at_sight(&mut vector.msc, &mut vector.msi, &mut vector.msa, text)
 }
 
 /// Puts the supplemental metrics but for the last with which a text begins into the vector, and
@@ -104,9 +97,24 @@ fn supplemental_at_sight<'a>(vector: &mut Vector, text: &'a [u8]) -> &'a [u8]
       re = vector.new.re;
     } }
 {
-    let text = put_at_sight(&mut vector.s, behind_three(text, *b"/S:"), text);
-    let text = put_at_sight(&mut vector.au, behind_four(text, *b"/AU:"), text);
-    let text = put_at_sight(&mut vector.r, behind_three(text, *b"/R:"), text);
-    let text = put_at_sight(&mut vector.v, behind_three(text, *b"/V:"), text);
-    put_at_sight(&mut vector.re, behind_four(text, *b"/RE:"), text)
+    let text = put_three_at_sight(&mut vector.s, &mut vector.au, &mut vector.r, text);
+    let text = put_at_sight(&mut vector.v, text);
+    put_at_sight(&mut vector.re, text)
+}
+
+/// Puts the values of three metrics into their places, as far as a text begins with their components,
+/// and gives what stands behind these.
+#[inline(always)]
+fn put_three_at_sight<'a, K: Spelled, L: Spelled, M: Spelled>(
+    first: &mut Option<K>,
+    second: &mut Option<L>,
+    third: &mut Option<M>,
+    text: &'a [u8],
+) -> &'a [u8]
+    ensures { text.now ≡ shown K.TYPE K.rank first.new ++ shown L.TYPE L.rank second.new
+        ++ shown M.TYPE M.rank third.new ++ result.now }
+{
+    let text = put_at_sight(first, text);
+    let text = put_at_sight(second, text);
+    put_at_sight(third, text)
 }
