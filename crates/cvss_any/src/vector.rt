@@ -10,6 +10,7 @@ use crate::reading::{bytes_error_of, error_of, read};
 use crate::{v2, v3, v4};
 use cvss_base::severity_of_score;
 use cvss_name::{Error, Severity};
+use cvss_number::TENTH;
 use cvss_number::tenths::text_of as text_of_tenths;
 use std::alloc::Global;
 use std::fmt;
@@ -138,11 +139,7 @@ impl Cvss {
         ensures value { IsScoreOf self.now result }
         ensures range { IsInTenths IsFromZeroToTen result }
     {
-        match self {
-            Cvss::CvssV20(vector) => vector.score().value(),
-            Cvss::CvssV30(vector) | Cvss::CvssV31(vector) => vector.score().value(),
-            Cvss::CvssV40(vector) => vector.score().value(),
-        }
+        i128::from(self.tenths()) * TENTH
     }
 
     /// The tenths of the score of a vector that has one.
