@@ -1,12 +1,16 @@
 -- The line of each score stands at its place.
-use Rattle.std.proofs.Common.{◌≡◌, ℕ, zero, suc, ◌+◌, ◌<◌, ◌≤◌, true, [], ◌∷◌, ◌++◌, List, codes, map, Some, slice_get, unwrap_or, refl, sym, ap, ◌∙◌, append_assoc, arith}
+use Rattle.std.proofs.Common.{◌≡◌, ℕ, zero, suc, ◌+◌, ◌*◌, ◌^◌, ◌<◌, ◌≤◌, pos, int_lt, true, false, [], ◌∷◌, ◌++◌, List, codes, map, Some, slice_get, unwrap_or, refl, sym, ap, ◌∙◌, append_assoc, arith}
+use Rattle.std.proofs.lemmas.Bool.Decides.{nat_tests}
 use Rattle.std.proofs.lemmas.Option.{slice_get-map}
 use Rattle.std.specs.List.{range_with_len}
 use Rattle.std.specs.Option.{option_map}
 use Rattle.cvss_any.specs.Answers.{rating_by, rating_text, score_of_tenths, text_of, vector_answer}
 use Rattle.cvss_any.specs.Published.{IsPublishedOf}
 use Rattle.cvss_any.specs.declared.published.Bounds.{Bounds}
+use Rattle.cvss_any.specs.declared.published.Bounds.TheVariants.{OfV2, SinceV3}
 use Rattle.cvss_any.specs.declared.published.Published.{Published}
+use Rattle.cvss_base.specs.Rating.{rating_of_score}
+use Rattle.cvss_v2_score.specs.Rating.{rating_of}
 use Rattle.cvss_lines.specs.Answers.{Accepted, WritesAnswer, written_text}
 use Rattle.cvss_lines.proofs.TextsLemmas.{one_text}
 use Rattle.cvss_answer.specs.Answers.{IsAnswer, rated_line, score_line}
@@ -17,15 +21,24 @@ at_place (suc n) zero below from = let same : from ≡ from + 0 = omega arith in
 at_place (suc n) (suc place) below from =
     let same : from + 1 + place ≡ from + suc place = omega arith in at_place n place (omega arith) (from + 1) ∙ ap Some same
 
--- a line that stands where its tenths say, among the lines of 0.0 to 10.0, is theirs
-pub line_told : (bounds : Bounds) (line : List ℕ) (lines : List (List ℕ)) (place t : ℕ) → Some line ≡ slice_get lines place → place ≡ t → t ≤ 100
-    → lines ≡ map (rated_line bounds) (range_with_len 0 101) → line ≡ rated_line bounds t
-line_told bounds line lines place t is same below all =
-    let found : Some line ≡ option_map (rated_line bounds) (Some (0 + t)) =
-    is ∙ (λ i. slice_get (all i) (same i)) ∙ slice_get-map (rated_line bounds) (range_with_len 0 101) t
-    ∙ ap (option_map (rated_line bounds)) (at_place 101 t (omega arith) 0) in
-    let itself : 0 + t ≡ t = omega arith in
-    ap (λ o. unwrap_or o line) found ∙ ap (rated_line bounds) itself
+-- a line that stands at a place among the lines of so many scores from one on is that of the score at this place
+pub line_told : (bounds : Bounds) (from n : ℕ) (line : List ℕ) (lines : List (List ℕ)) (place t : ℕ) → Some line ≡ slice_get lines place → from + place ≡ t → place < n
+    → lines ≡ map (rated_line bounds) (range_with_len from n) → line ≡ rated_line bounds t
+line_told bounds from n line lines place t is stands within all =
+    let found : Some line ≡ option_map (rated_line bounds) (Some (from + place)) =
+    is ∙ ap (λ list. slice_get list place) all ∙ slice_get-map (rated_line bounds) (range_with_len from n) place
+    ∙ ap (option_map (rated_line bounds)) (at_place n place within from) in
+    ap (λ o. unwrap_or o line) found ∙ ap (rated_line bounds) stands
+
+-- from 0.1 to 8.9 the bounds rate alike
+alike : (t : ℕ) → 1 ≤ t → t < 90 → rating_of_score (pos (t * 10 ^ 23)) ≡ rating_of (pos (t * 10 ^ 23))
+alike t from below =
+    let some : int_lt (pos (t * 10 ^ 23)) (pos (10 ^ 23)) ≡ false = grind (arith, nat_tests) in
+    let high : int_lt (pos (t * 10 ^ 23)) (pos (9 * 10 ^ 24)) ≡ true = grind (arith, nat_tests) in
+    rw (some, high) refl
+
+pub between_v2 : (t : ℕ) → 1 ≤ t → t < 90 → rated_line SinceV3 t ≡ rated_line OfV2 t
+between_v2 t from below = ap (λ rating. codes " " ++ (rating_text t rating ++ 10 ∷ [])) (alike t from below)
 
 -- a canonical line with the line of its score is its vector's answer
 canonical_answer : (text : List ℕ) (published : Published) → (is : IsPublishedOf text published)
