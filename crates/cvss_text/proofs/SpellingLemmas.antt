@@ -1,5 +1,6 @@
 -- How a value is found by its spelling.
-use Rattle.std.proofs.Common.{◌≡◌, [], ◌∷◌, ℕ, ◌+◌, List, Bool, true, false, cond, Some, find, length, drop, suc, refl, sym, subst, arith}
+use Rattle.std.proofs.Common.{◌≡◌, [], ◌∷◌, ℕ, zero, suc, ◌+◌, List, Bool, true, false, not, ◌&&◌, ◌||◌, cond, Some, find, map, slice_get, length, drop, refl, sym, subst, arith}
+use Rattle.std.specs.List.{list_any}
 use Rattle.std.specs.Str.{str_eq_ignore_ascii_case, str_to_ascii_lowercase}
 use Rattle.std.proofs.lemmas.Slice.Eq.{bytes_eq-Decides}
 use Rattle.std.proofs.Math.Seq.{drop-append-add}
@@ -22,6 +23,11 @@ find_narrower {X} wide narrow (x ∷ items) found is passes wider =
     by_tests false true second wider is rest = absurd (cc (wider refl))
     by_tests false false second wider is rest = rest is
 
+-- whether no two of the spellings are alike but for the case of their letters
+abbrev pub differ : List (List ℕ) → Bool
+differ [] = true
+differ (spelling ∷ others) = not (list_any (str_eq_ignore_ascii_case spelling) others) && differ others
+
 -- the spelling stands behind the slash, the name and the colon
 pub spelling_behind : (name spelling : List ℕ) → drop (length name + 2) (slash ∷ component name spelling) ≡ spelling
 spelling_behind name spelling =
@@ -37,3 +43,34 @@ pub read_first : {A : Type 0} (spelling : A → List ℕ) (values : List A) (tes
 read_first spelling values test value first passes alike =
     find_narrower (λ other. str_eq_ignore_ascii_case (spelling other) (spelling value)) (λ x. test (spelling x)) values value first passes
     (λ x passed. (bytes_eq-Decides _ _).1 (alike (spelling x) passed))
+
+neither : (a b : Bool) → not a && b ≡ true → (a ≡ false) × (b ≡ true)
+neither true b is = absurd cc
+neither false true is = (refl, refl)
+neither false false is = absurd cc
+
+fails : (a b : Bool) → a || b ≡ false → (a ≡ false) × (b ≡ false)
+fails true b is = absurd cc
+fails false true is = absurd cc
+fails false false is = (refl, refl)
+
+fails_at : {A : Type 0} (test : List ℕ → Bool) (spelling : A → List ℕ) (values : List A) (value : A) (place : ℕ) → list_any test (map spelling values) ≡ false
+    → slice_get values place ≡ Some value → test (spelling value) ≡ false
+fails_at test spelling [] value place none at = absurd cc
+fails_at test spelling (x ∷ values) value zero none at =
+    let same : x ≡ value = cc in
+    subst (λ y. test (spelling y) ≡ false) same (fails (test (spelling x)) (list_any test (map spelling values)) none).0
+fails_at test spelling (x ∷ values) value (suc place) none at =
+    fails_at test spelling values value place (fails (test (spelling x)) (list_any test (map spelling values)) none).1 at
+
+-- where no two spellings are alike, each value is the first that is spelled like it
+pub first_alike : {A : Type 0} (spelling : A → List ℕ) (values : List A) (value : A) (place : ℕ) → differ (map spelling values) ≡ true
+    → slice_get values place ≡ Some value → find (λ other. str_eq_ignore_ascii_case (spelling other) (spelling value)) values ≡ Some value
+first_alike spelling [] value place differs at = absurd cc
+first_alike spelling (x ∷ values) value zero differs at =
+    let same : x ≡ value = cc in
+    let here : str_eq_ignore_ascii_case (spelling x) (spelling value) ≡ true = subst (λ y. str_eq_ignore_ascii_case (spelling x) (spelling y) ≡ true) same ((bytes_eq-Decides (str_to_ascii_lowercase (spelling x)) (str_to_ascii_lowercase (spelling x))).1 refl) in
+    rw here at
+first_alike spelling (x ∷ values) value (suc place) differs at =
+    let both = neither (list_any (str_eq_ignore_ascii_case (spelling x)) (map spelling values)) (differ (map spelling values)) differs in
+    rw (fails_at (str_eq_ignore_ascii_case (spelling x)) spelling values value place both.0 at) (first_alike spelling values value place both.1 at)

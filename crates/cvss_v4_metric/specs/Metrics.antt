@@ -1,17 +1,13 @@
 -- What holds of each enum of metric values.
-use Rattle.std.specs.Prelude.{◌≡◌, ℕ, Bool, List, map, Some, slice_get}
+use Rattle.std.specs.Prelude.{◌≡◌, ℕ, Bool}
 use Rattle.std.specs.Ordering.{nat_cmp}
 use Rattle.std.specs.declared.cmp.Ordering.{Ordering}
 use Rattle.cvss_grammar.specs.Equality.{EqualsByValue, ClonesByValue}
 use Rattle.cvss_name.specs.declared.v4.MetricType.{MetricType}
-use Rattle.cvss_v4_metric.specs.Table.{spellings_of, spelling_at, default_of}
+use Rattle.cvss_v4_metric.specs.Table.{spelling_at, default_of}
 
 -- the enum has the values of the metric in the table
-pub record IsMetric {A : Type 0} (kind : MetricType) (rank : A → ℕ) (values : List A) (is_default : A → Type 0) (compared : A → A → Ordering) (same : A → A → Bool) (is_clone : A → A → Type 0) (is_infallible : A → Type 0) : Type 0 where
-  -- the values are spelled as the table says, in its order
-  pub rows : map (λ x. spelling_at kind (rank x)) values ≡ spellings_of kind
-  -- each value of the enum is one of them, at its place
-  pub covers : (x : A) → slice_get values (rank x) ≡ Some x
+pub record IsMetric {A : Type 0} (kind : MetricType) (rank : A → ℕ) (is_default : A → Type 0) (compared : A → A → Ordering) (same : A → A → Bool) (is_clone : A → A → Type 0) (is_infallible : A → Type 0) : Type 0 where
   -- two values compare as their places do
   pub ordered : (x y : A) → compared x y ≡ nat_cmp (rank x) (rank y)
   -- the default is the table's

@@ -1,6 +1,6 @@
 //! What all metrics of CVSS v4.0 have in common.
 
-ghost use Rattle.std.specs.Prelude.{◌≡◌, ◌↔◌, [], ◌∷◌, ℕ, List, IsTrue, IfSome, IfOk, IfErr, Some, bytes_eq, find};
+ghost use Rattle.std.specs.Prelude.{◌≡◌, ◌↔◌, [], ◌∷◌, ℕ, IsTrue, IfSome, IfOk, IfErr, Some, bytes_eq, map, slice_get};
 ghost use Rattle.std.specs.Str.{str_eq_ignore_ascii_case};
 ghost use Rattle.cvss_grammar.specs.Refusal.{BadValue};
 ghost use Rattle.cvss_grammar.specs.Text.{slash, raised};
@@ -9,7 +9,7 @@ ghost use Rattle.cvss_name.specs.V4Types.{v4_reason, name_of};
 ghost use Rattle.cvss_name.specs.declared.v4.MetricType.{MetricType};
 ghost use Rattle.cvss_v4_metric.specs.Metrics.{IsMetric};
 ghost use Rattle.cvss_v4_metric.specs.Reading.{IsReading};
-ghost use Rattle.cvss_v4_metric.specs.Table.{spelling_at, metric_component};
+ghost use Rattle.cvss_v4_metric.specs.Table.{spelling_at, spellings_of, metric_component};
 
 use cvss_name::Error;
 pub use cvss_name::v4::MetricType;
@@ -28,11 +28,10 @@ pub trait Spelled: Copy + 'static {
 
     ghost rank: { Self → ℕ };
 
-    ghost values: { List Self };
-
     /// The values, the least first.
     fn values() -> &'static [Self]
-        ensures { result.now ≡ values };
+        ensures rows { map (λ metric. spelling_at TYPE (rank metric)) result.now ≡ spellings_of TYPE }
+        ensures covers { (metric : Self) → slice_get result.now (rank metric) ≡ Some metric };
 
     /// A slash and the component that stands for the value in a vector.
     fn slashed(self) -> &'static str
@@ -45,13 +44,10 @@ pub trait Spelled: Copy + 'static {
         ensures read { (metric : Self) → spelling_at TYPE (rank metric) ≡ letter ∷ []
             → result ≡ Some metric }
     {
-        match Self::values()
+        Self::values()
             .iter()
-            .find(|value| is_letter(spelling(**value), letter))
-        {
-            Some(value) => Some(*value),
-            None => None,
-        }
+            .copied()
+            .find(|value| is_letter(spelling(*value), letter))
     }
 
     /// The value with this spelling, in any ASCII case.
@@ -62,18 +58,11 @@ pub trait Spelled: Copy + 'static {
         ensures read { (metric : Self) → raised (spelling_at TYPE (rank metric)) ≡ raised text.now
             → result ≡ Some metric }
     {
-        match Self::values()
+        Self::values()
             .iter()
-            .find(|value| is_alike(spelling(**value), text))
-        {
-            Some(value) => Some(*value),
-            None => None,
-        }
+            .copied()
+            .find(|value| is_alike(spelling(*value), text))
     }
-
-    // Each value is the first with its spelling.
-    ghost first: { (x : Self) → find (λ other. str_eq_ignore_ascii_case
-        (spelling_at TYPE (rank other)) (spelling_at TYPE (rank x))) values ≡ Some x };
 }
 
 /// A metric: an enum of the values that the specification gives for its type.
@@ -152,7 +141,7 @@ pub trait Metric: Spelled
         Self::TYPE.name()
     }
 
-    ghost law: { IsMetric Self.TYPE Self.rank Self.values ⟦<Self as Default>⟧.is_default
+    ghost law: { IsMetric Self.TYPE Self.rank ⟦<Self as Default>⟧.is_default
         ⟦<Self as Ord>⟧.cmp ⟦<Self as PartialEq>⟧.eq ⟦<Self as Clone>⟧.is_clone
         ⟦<Self as Clone>⟧.is_infallible };
 }

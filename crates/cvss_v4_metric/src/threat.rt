@@ -1,11 +1,10 @@
 //! The threat metric (v4.0 specification, section 3).
 
-ghost use Rattle.std.specs.Prelude.{Some, [], ◌∷◌};
+ghost use Rattle.std.specs.Prelude.{Some};
 ghost use Rattle.std.proofs.Common.{rules};
 ghost use Rattle.cvss_name.specs.declared.v4.MetricType.TheVariants as metric;
 ghost use Rattle.cvss_v4_metric.specs.Ranks as place;
 ghost use Rattle.cvss_v4_metric.specs.Table.{metric_component};
-ghost use Rattle.cvss_v4_metric.specs.declared.threat.ExploitMaturity.TheVariants as exploit_maturity;
 
 use crate::metric::{Metric, MetricType, Spelled};
 use cvss_text::print::write_component;
@@ -28,8 +27,6 @@ impl Spelled for ExploitMaturity {
 
     ghost rank = { place.E };
 
-    ghost values = { exploit_maturity.NotDefined ∷ exploit_maturity.Unreported ∷ exploit_maturity.ProofOfConcept ∷ exploit_maturity.Attacked ∷ [] };
-
     fn values() -> &'static [Self] {
         &[
             Self::NotDefined,
@@ -47,8 +44,6 @@ impl Spelled for ExploitMaturity {
             Self::Attacked => "/E:A",
         }
     }
-
-    ghost first = { Prim.search rules };
 }
 
 impl Metric for ExploitMaturity {

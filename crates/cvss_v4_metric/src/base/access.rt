@@ -1,13 +1,11 @@
 //! What the attack needs of others: privileges, and somebody who takes part (v4.0 specification,
 //! sections 2.1.4 and 2.1.5).
 
-ghost use Rattle.std.specs.Prelude.{Some, [], ◌∷◌};
+ghost use Rattle.std.specs.Prelude.{Some};
 ghost use Rattle.std.proofs.Common.{rules};
 ghost use Rattle.cvss_name.specs.declared.v4.MetricType.TheVariants as metric;
 ghost use Rattle.cvss_v4_metric.specs.Ranks as place;
 ghost use Rattle.cvss_v4_metric.specs.Table.{metric_component};
-ghost use Rattle.cvss_v4_metric.specs.declared.base.access.PrivilegesRequired.TheVariants as privileges_required;
-ghost use Rattle.cvss_v4_metric.specs.declared.base.access.UserInteraction.TheVariants as user_interaction;
 
 use crate::metric::{Metric, MetricType, Spelled};
 use cvss_text::print::write_component;
@@ -29,8 +27,6 @@ impl Spelled for PrivilegesRequired {
 
     ghost rank = { place.PR };
 
-    ghost values = { privileges_required.High ∷ privileges_required.Low ∷ privileges_required.None ∷ [] };
-
     fn values() -> &'static [Self] {
         &[Self::High, Self::Low, Self::None]
     }
@@ -42,8 +38,6 @@ impl Spelled for PrivilegesRequired {
             Self::None => "/PR:N",
         }
     }
-
-    ghost first = { Prim.search rules };
 }
 
 impl Metric for PrivilegesRequired {
@@ -76,8 +70,6 @@ impl Spelled for UserInteraction {
 
     ghost rank = { place.UI };
 
-    ghost values = { user_interaction.Active ∷ user_interaction.Passive ∷ user_interaction.None ∷ [] };
-
     fn values() -> &'static [Self] {
         &[Self::Active, Self::Passive, Self::None]
     }
@@ -89,8 +81,6 @@ impl Spelled for UserInteraction {
             Self::None => "/UI:N",
         }
     }
-
-    ghost first = { Prim.search rules };
 }
 
 impl Metric for UserInteraction {

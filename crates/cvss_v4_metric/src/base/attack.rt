@@ -1,14 +1,11 @@
 //! Where the attack comes from and what it depends on (v4.0 specification, sections 2.1.1 to
 //! 2.1.3).
 
-ghost use Rattle.std.specs.Prelude.{Some, [], ◌∷◌};
+ghost use Rattle.std.specs.Prelude.{Some};
 ghost use Rattle.std.proofs.Common.{rules};
 ghost use Rattle.cvss_name.specs.declared.v4.MetricType.TheVariants as metric;
 ghost use Rattle.cvss_v4_metric.specs.Ranks as place;
 ghost use Rattle.cvss_v4_metric.specs.Table.{metric_component};
-ghost use Rattle.cvss_v4_metric.specs.declared.base.attack.AttackVector.TheVariants as attack_vector;
-ghost use Rattle.cvss_v4_metric.specs.declared.base.attack.AttackComplexity.TheVariants as attack_complexity;
-ghost use Rattle.cvss_v4_metric.specs.declared.base.attack.AttackRequirements.TheVariants as attack_requirements;
 
 use crate::metric::{Metric, MetricType, Spelled};
 use cvss_text::print::write_component;
@@ -31,8 +28,6 @@ impl Spelled for AttackVector {
 
     ghost rank = { place.AV };
 
-    ghost values = { attack_vector.Physical ∷ attack_vector.Local ∷ attack_vector.Adjacent ∷ attack_vector.Network ∷ [] };
-
     fn values() -> &'static [Self] {
         &[Self::Physical, Self::Local, Self::Adjacent, Self::Network]
     }
@@ -45,8 +40,6 @@ impl Spelled for AttackVector {
             Self::Network => "/AV:N",
         }
     }
-
-    ghost first = { Prim.search rules };
 }
 
 impl Metric for AttackVector {
@@ -79,8 +72,6 @@ impl Spelled for AttackComplexity {
 
     ghost rank = { place.AC };
 
-    ghost values = { attack_complexity.High ∷ attack_complexity.Low ∷ [] };
-
     fn values() -> &'static [Self] {
         &[Self::High, Self::Low]
     }
@@ -91,8 +82,6 @@ impl Spelled for AttackComplexity {
             Self::Low => "/AC:L",
         }
     }
-
-    ghost first = { Prim.search rules };
 }
 
 impl Metric for AttackComplexity {
@@ -125,8 +114,6 @@ impl Spelled for AttackRequirements {
 
     ghost rank = { place.AT };
 
-    ghost values = { attack_requirements.Present ∷ attack_requirements.None ∷ [] };
-
     fn values() -> &'static [Self] {
         &[Self::Present, Self::None]
     }
@@ -137,8 +124,6 @@ impl Spelled for AttackRequirements {
             Self::None => "/AT:N",
         }
     }
-
-    ghost first = { Prim.search rules };
 }
 
 impl Metric for AttackRequirements {

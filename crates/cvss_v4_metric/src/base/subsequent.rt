@@ -1,13 +1,10 @@
 //! What systems behind the vulnerable one lose (v4.0 specification, section 2.2).
 
-ghost use Rattle.std.specs.Prelude.{Some, [], ◌∷◌};
+ghost use Rattle.std.specs.Prelude.{Some};
 ghost use Rattle.std.proofs.Common.{rules};
 ghost use Rattle.cvss_name.specs.declared.v4.MetricType.TheVariants as metric;
 ghost use Rattle.cvss_v4_metric.specs.Ranks as place;
 ghost use Rattle.cvss_v4_metric.specs.Table.{metric_component};
-ghost use Rattle.cvss_v4_metric.specs.declared.base.subsequent.ConfidentialityImpactToTheSubsequentSystem.TheVariants as confidentiality_impact_to_the_subsequent_system;
-ghost use Rattle.cvss_v4_metric.specs.declared.base.subsequent.IntegrityImpactToTheSubsequentSystem.TheVariants as integrity_impact_to_the_subsequent_system;
-ghost use Rattle.cvss_v4_metric.specs.declared.base.subsequent.AvailabilityImpactToTheSubsequentSystem.TheVariants as availability_impact_to_the_subsequent_system;
 
 use crate::metric::{Metric, MetricType, Spelled};
 use cvss_text::print::write_component;
@@ -30,8 +27,6 @@ impl Spelled for ConfidentialityImpactToTheSubsequentSystem {
 
     ghost rank = { place.SC };
 
-    ghost values = { confidentiality_impact_to_the_subsequent_system.None ∷ confidentiality_impact_to_the_subsequent_system.Low ∷ confidentiality_impact_to_the_subsequent_system.High ∷ [] };
-
     fn values() -> &'static [Self] {
         &[Self::None, Self::Low, Self::High]
     }
@@ -43,8 +38,6 @@ impl Spelled for ConfidentialityImpactToTheSubsequentSystem {
             Self::High => "/SC:H",
         }
     }
-
-    ghost first = { Prim.search rules };
 }
 
 impl Metric for ConfidentialityImpactToTheSubsequentSystem {
@@ -77,8 +70,6 @@ impl Spelled for IntegrityImpactToTheSubsequentSystem {
 
     ghost rank = { place.SI };
 
-    ghost values = { integrity_impact_to_the_subsequent_system.None ∷ integrity_impact_to_the_subsequent_system.Low ∷ integrity_impact_to_the_subsequent_system.High ∷ [] };
-
     fn values() -> &'static [Self] {
         &[Self::None, Self::Low, Self::High]
     }
@@ -90,8 +81,6 @@ impl Spelled for IntegrityImpactToTheSubsequentSystem {
             Self::High => "/SI:H",
         }
     }
-
-    ghost first = { Prim.search rules };
 }
 
 impl Metric for IntegrityImpactToTheSubsequentSystem {
@@ -125,8 +114,6 @@ impl Spelled for AvailabilityImpactToTheSubsequentSystem {
 
     ghost rank = { place.SA };
 
-    ghost values = { availability_impact_to_the_subsequent_system.None ∷ availability_impact_to_the_subsequent_system.Low ∷ availability_impact_to_the_subsequent_system.High ∷ [] };
-
     fn values() -> &'static [Self] {
         &[Self::None, Self::Low, Self::High]
     }
@@ -138,8 +125,6 @@ impl Spelled for AvailabilityImpactToTheSubsequentSystem {
             Self::High => "/SA:H",
         }
     }
-
-    ghost first = { Prim.search rules };
 }
 
 impl Metric for AvailabilityImpactToTheSubsequentSystem {

@@ -1,13 +1,10 @@
 //! What the vulnerable system loses (v4.0 specification, section 2.2).
 
-ghost use Rattle.std.specs.Prelude.{Some, [], ◌∷◌};
+ghost use Rattle.std.specs.Prelude.{Some};
 ghost use Rattle.std.proofs.Common.{rules};
 ghost use Rattle.cvss_name.specs.declared.v4.MetricType.TheVariants as metric;
 ghost use Rattle.cvss_v4_metric.specs.Ranks as place;
 ghost use Rattle.cvss_v4_metric.specs.Table.{metric_component};
-ghost use Rattle.cvss_v4_metric.specs.declared.base.vulnerable.ConfidentialityImpactToTheVulnerableSystem.TheVariants as confidentiality_impact_to_the_vulnerable_system;
-ghost use Rattle.cvss_v4_metric.specs.declared.base.vulnerable.IntegrityImpactToTheVulnerableSystem.TheVariants as integrity_impact_to_the_vulnerable_system;
-ghost use Rattle.cvss_v4_metric.specs.declared.base.vulnerable.AvailabilityImpactToTheVulnerableSystem.TheVariants as availability_impact_to_the_vulnerable_system;
 
 use crate::metric::{Metric, MetricType, Spelled};
 use cvss_text::print::write_component;
@@ -29,8 +26,6 @@ impl Spelled for ConfidentialityImpactToTheVulnerableSystem {
 
     ghost rank = { place.VC };
 
-    ghost values = { confidentiality_impact_to_the_vulnerable_system.None ∷ confidentiality_impact_to_the_vulnerable_system.Low ∷ confidentiality_impact_to_the_vulnerable_system.High ∷ [] };
-
     fn values() -> &'static [Self] {
         &[Self::None, Self::Low, Self::High]
     }
@@ -42,8 +37,6 @@ impl Spelled for ConfidentialityImpactToTheVulnerableSystem {
             Self::High => "/VC:H",
         }
     }
-
-    ghost first = { Prim.search rules };
 }
 
 impl Metric for ConfidentialityImpactToTheVulnerableSystem {
@@ -76,8 +69,6 @@ impl Spelled for IntegrityImpactToTheVulnerableSystem {
 
     ghost rank = { place.VI };
 
-    ghost values = { integrity_impact_to_the_vulnerable_system.None ∷ integrity_impact_to_the_vulnerable_system.Low ∷ integrity_impact_to_the_vulnerable_system.High ∷ [] };
-
     fn values() -> &'static [Self] {
         &[Self::None, Self::Low, Self::High]
     }
@@ -89,8 +80,6 @@ impl Spelled for IntegrityImpactToTheVulnerableSystem {
             Self::High => "/VI:H",
         }
     }
-
-    ghost first = { Prim.search rules };
 }
 
 impl Metric for IntegrityImpactToTheVulnerableSystem {
@@ -123,8 +112,6 @@ impl Spelled for AvailabilityImpactToTheVulnerableSystem {
 
     ghost rank = { place.VA };
 
-    ghost values = { availability_impact_to_the_vulnerable_system.None ∷ availability_impact_to_the_vulnerable_system.Low ∷ availability_impact_to_the_vulnerable_system.High ∷ [] };
-
     fn values() -> &'static [Self] {
         &[Self::None, Self::Low, Self::High]
     }
@@ -136,8 +123,6 @@ impl Spelled for AvailabilityImpactToTheVulnerableSystem {
             Self::High => "/VA:H",
         }
     }
-
-    ghost first = { Prim.search rules };
 }
 
 impl Metric for AvailabilityImpactToTheVulnerableSystem {

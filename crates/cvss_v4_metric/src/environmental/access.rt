@@ -1,13 +1,11 @@
 //! What the attack needs of others, in the user's own environment (v4.0 specification, section
 //! 4.2).
 
-ghost use Rattle.std.specs.Prelude.{Some, [], ◌∷◌};
+ghost use Rattle.std.specs.Prelude.{Some};
 ghost use Rattle.std.proofs.Common.{rules};
 ghost use Rattle.cvss_name.specs.declared.v4.MetricType.TheVariants as metric;
 ghost use Rattle.cvss_v4_metric.specs.Ranks as place;
 ghost use Rattle.cvss_v4_metric.specs.Table.{metric_component};
-ghost use Rattle.cvss_v4_metric.specs.declared.environmental.access.ModifiedPrivilegesRequired.TheVariants as modified_privileges_required;
-ghost use Rattle.cvss_v4_metric.specs.declared.environmental.access.ModifiedUserInteraction.TheVariants as modified_user_interaction;
 
 use crate::metric::{Metric, MetricType, Spelled};
 use cvss_text::print::write_component;
@@ -30,8 +28,6 @@ impl Spelled for ModifiedPrivilegesRequired {
 
     ghost rank = { place.MPR };
 
-    ghost values = { modified_privileges_required.NotDefined ∷ modified_privileges_required.High ∷ modified_privileges_required.Low ∷ modified_privileges_required.None ∷ [] };
-
     fn values() -> &'static [Self] {
         &[Self::NotDefined, Self::High, Self::Low, Self::None]
     }
@@ -44,8 +40,6 @@ impl Spelled for ModifiedPrivilegesRequired {
             Self::None => "/MPR:N",
         }
     }
-
-    ghost first = { Prim.search rules };
 }
 
 impl Metric for ModifiedPrivilegesRequired {
@@ -79,8 +73,6 @@ impl Spelled for ModifiedUserInteraction {
 
     ghost rank = { place.MUI };
 
-    ghost values = { modified_user_interaction.NotDefined ∷ modified_user_interaction.Active ∷ modified_user_interaction.Passive ∷ modified_user_interaction.None ∷ [] };
-
     fn values() -> &'static [Self] {
         &[Self::NotDefined, Self::Active, Self::Passive, Self::None]
     }
@@ -93,8 +85,6 @@ impl Spelled for ModifiedUserInteraction {
             Self::None => "/MUI:N",
         }
     }
-
-    ghost first = { Prim.search rules };
 }
 
 impl Metric for ModifiedUserInteraction {

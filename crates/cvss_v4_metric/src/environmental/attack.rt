@@ -1,14 +1,11 @@
 //! Where the attack comes from and what it depends on, in the user's own environment (v4.0
 //! specification, section 4.2).
 
-ghost use Rattle.std.specs.Prelude.{Some, [], ◌∷◌};
+ghost use Rattle.std.specs.Prelude.{Some};
 ghost use Rattle.std.proofs.Common.{rules};
 ghost use Rattle.cvss_name.specs.declared.v4.MetricType.TheVariants as metric;
 ghost use Rattle.cvss_v4_metric.specs.Ranks as place;
 ghost use Rattle.cvss_v4_metric.specs.Table.{metric_component};
-ghost use Rattle.cvss_v4_metric.specs.declared.environmental.attack.ModifiedAttackVector.TheVariants as modified_attack_vector;
-ghost use Rattle.cvss_v4_metric.specs.declared.environmental.attack.ModifiedAttackComplexity.TheVariants as modified_attack_complexity;
-ghost use Rattle.cvss_v4_metric.specs.declared.environmental.attack.ModifiedAttackRequirements.TheVariants as modified_attack_requirements;
 
 use crate::metric::{Metric, MetricType, Spelled};
 use cvss_text::print::write_component;
@@ -32,8 +29,6 @@ impl Spelled for ModifiedAttackVector {
 
     ghost rank = { place.MAV };
 
-    ghost values = { modified_attack_vector.Physical ∷ modified_attack_vector.Local ∷ modified_attack_vector.Adjacent ∷ modified_attack_vector.Network ∷ modified_attack_vector.NotDefined ∷ [] };
-
     fn values() -> &'static [Self] {
         &[
             Self::Physical,
@@ -53,8 +48,6 @@ impl Spelled for ModifiedAttackVector {
             Self::NotDefined => "/MAV:X",
         }
     }
-
-    ghost first = { Prim.search rules };
 }
 
 impl Metric for ModifiedAttackVector {
@@ -87,8 +80,6 @@ impl Spelled for ModifiedAttackComplexity {
 
     ghost rank = { place.MAC };
 
-    ghost values = { modified_attack_complexity.NotDefined ∷ modified_attack_complexity.High ∷ modified_attack_complexity.Low ∷ [] };
-
     fn values() -> &'static [Self] {
         &[Self::NotDefined, Self::High, Self::Low]
     }
@@ -100,8 +91,6 @@ impl Spelled for ModifiedAttackComplexity {
             Self::Low => "/MAC:L",
         }
     }
-
-    ghost first = { Prim.search rules };
 }
 
 impl Metric for ModifiedAttackComplexity {
@@ -134,8 +123,6 @@ impl Spelled for ModifiedAttackRequirements {
 
     ghost rank = { place.MAT };
 
-    ghost values = { modified_attack_requirements.NotDefined ∷ modified_attack_requirements.Present ∷ modified_attack_requirements.None ∷ [] };
-
     fn values() -> &'static [Self] {
         &[Self::NotDefined, Self::Present, Self::None]
     }
@@ -147,8 +134,6 @@ impl Spelled for ModifiedAttackRequirements {
             Self::None => "/MAT:N",
         }
     }
-
-    ghost first = { Prim.search rules };
 }
 
 impl Metric for ModifiedAttackRequirements {

@@ -1,14 +1,11 @@
 //! How much the user's organisation depends on each kind of security (v4.0 specification, section
 //! 4.1).
 
-ghost use Rattle.std.specs.Prelude.{Some, [], ◌∷◌};
+ghost use Rattle.std.specs.Prelude.{Some};
 ghost use Rattle.std.proofs.Common.{rules};
 ghost use Rattle.cvss_name.specs.declared.v4.MetricType.TheVariants as metric;
 ghost use Rattle.cvss_v4_metric.specs.Ranks as place;
 ghost use Rattle.cvss_v4_metric.specs.Table.{metric_component};
-ghost use Rattle.cvss_v4_metric.specs.declared.environmental.requirement.ConfidentialityRequirements.TheVariants as confidentiality_requirements;
-ghost use Rattle.cvss_v4_metric.specs.declared.environmental.requirement.IntegrityRequirements.TheVariants as integrity_requirements;
-ghost use Rattle.cvss_v4_metric.specs.declared.environmental.requirement.AvailabilityRequirements.TheVariants as availability_requirements;
 
 use crate::metric::{Metric, MetricType, Spelled};
 use cvss_text::print::write_component;
@@ -31,8 +28,6 @@ impl Spelled for ConfidentialityRequirements {
 
     ghost rank = { place.CR };
 
-    ghost values = { confidentiality_requirements.NotDefined ∷ confidentiality_requirements.Low ∷ confidentiality_requirements.Medium ∷ confidentiality_requirements.High ∷ [] };
-
     fn values() -> &'static [Self] {
         &[Self::NotDefined, Self::Low, Self::Medium, Self::High]
     }
@@ -45,8 +40,6 @@ impl Spelled for ConfidentialityRequirements {
             Self::High => "/CR:H",
         }
     }
-
-    ghost first = { Prim.search rules };
 }
 
 impl Metric for ConfidentialityRequirements {
@@ -80,8 +73,6 @@ impl Spelled for IntegrityRequirements {
 
     ghost rank = { place.IR };
 
-    ghost values = { integrity_requirements.NotDefined ∷ integrity_requirements.Low ∷ integrity_requirements.Medium ∷ integrity_requirements.High ∷ [] };
-
     fn values() -> &'static [Self] {
         &[Self::NotDefined, Self::Low, Self::Medium, Self::High]
     }
@@ -94,8 +85,6 @@ impl Spelled for IntegrityRequirements {
             Self::High => "/IR:H",
         }
     }
-
-    ghost first = { Prim.search rules };
 }
 
 impl Metric for IntegrityRequirements {
@@ -129,8 +118,6 @@ impl Spelled for AvailabilityRequirements {
 
     ghost rank = { place.AR };
 
-    ghost values = { availability_requirements.NotDefined ∷ availability_requirements.Low ∷ availability_requirements.Medium ∷ availability_requirements.High ∷ [] };
-
     fn values() -> &'static [Self] {
         &[Self::NotDefined, Self::Low, Self::Medium, Self::High]
     }
@@ -143,8 +130,6 @@ impl Spelled for AvailabilityRequirements {
             Self::High => "/AR:H",
         }
     }
-
-    ghost first = { Prim.search rules };
 }
 
 impl Metric for AvailabilityRequirements {

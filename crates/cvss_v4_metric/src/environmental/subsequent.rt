@@ -1,14 +1,11 @@
 //! What systems behind the vulnerable one lose, in the user's own environment (v4.0 specification,
 //! section 4.2).
 
-ghost use Rattle.std.specs.Prelude.{Some, [], ◌∷◌};
+ghost use Rattle.std.specs.Prelude.{Some};
 ghost use Rattle.std.proofs.Common.{rules};
 ghost use Rattle.cvss_name.specs.declared.v4.MetricType.TheVariants as metric;
 ghost use Rattle.cvss_v4_metric.specs.Ranks as place;
 ghost use Rattle.cvss_v4_metric.specs.Table.{metric_component};
-ghost use Rattle.cvss_v4_metric.specs.declared.environmental.subsequent.ModifiedConfidentialityImpactToTheSubsequentSystem.TheVariants as modified_confidentiality_impact_to_the_subsequent_system;
-ghost use Rattle.cvss_v4_metric.specs.declared.environmental.subsequent.ModifiedIntegrityImpactToTheSubsequentSystem.TheVariants as modified_integrity_impact_to_the_subsequent_system;
-ghost use Rattle.cvss_v4_metric.specs.declared.environmental.subsequent.ModifiedAvailabilityImpactToTheSubsequentSystem.TheVariants as modified_availability_impact_to_the_subsequent_system;
 
 use crate::metric::{Metric, MetricType, Spelled};
 use cvss_text::print::write_component;
@@ -32,8 +29,6 @@ impl Spelled for ModifiedConfidentialityImpactToTheSubsequentSystem {
 
     ghost rank = { place.MSC };
 
-    ghost values = { modified_confidentiality_impact_to_the_subsequent_system.NotDefined ∷ modified_confidentiality_impact_to_the_subsequent_system.Negligible ∷ modified_confidentiality_impact_to_the_subsequent_system.Low ∷ modified_confidentiality_impact_to_the_subsequent_system.High ∷ [] };
-
     fn values() -> &'static [Self] {
         &[Self::NotDefined, Self::Negligible, Self::Low, Self::High]
     }
@@ -46,8 +41,6 @@ impl Spelled for ModifiedConfidentialityImpactToTheSubsequentSystem {
             Self::High => "/MSC:H",
         }
     }
-
-    ghost first = { Prim.search rules };
 }
 
 impl Metric for ModifiedConfidentialityImpactToTheSubsequentSystem {
@@ -83,8 +76,6 @@ impl Spelled for ModifiedIntegrityImpactToTheSubsequentSystem {
 
     ghost rank = { place.MSI };
 
-    ghost values = { modified_integrity_impact_to_the_subsequent_system.NotDefined ∷ modified_integrity_impact_to_the_subsequent_system.Negligible ∷ modified_integrity_impact_to_the_subsequent_system.Low ∷ modified_integrity_impact_to_the_subsequent_system.High ∷ modified_integrity_impact_to_the_subsequent_system.Safety ∷ [] };
-
     fn values() -> &'static [Self] {
         &[
             Self::NotDefined,
@@ -104,8 +95,6 @@ impl Spelled for ModifiedIntegrityImpactToTheSubsequentSystem {
             Self::Safety => "/MSI:S",
         }
     }
-
-    ghost first = { Prim.search rules };
 }
 
 impl Metric for ModifiedIntegrityImpactToTheSubsequentSystem {
@@ -141,8 +130,6 @@ impl Spelled for ModifiedAvailabilityImpactToTheSubsequentSystem {
 
     ghost rank = { place.MSA };
 
-    ghost values = { modified_availability_impact_to_the_subsequent_system.NotDefined ∷ modified_availability_impact_to_the_subsequent_system.Negligible ∷ modified_availability_impact_to_the_subsequent_system.Low ∷ modified_availability_impact_to_the_subsequent_system.High ∷ modified_availability_impact_to_the_subsequent_system.Safety ∷ [] };
-
     fn values() -> &'static [Self] {
         &[
             Self::NotDefined,
@@ -162,8 +149,6 @@ impl Spelled for ModifiedAvailabilityImpactToTheSubsequentSystem {
             Self::Safety => "/MSA:S",
         }
     }
-
-    ghost first = { Prim.search rules };
 }
 
 impl Metric for ModifiedAvailabilityImpactToTheSubsequentSystem {

@@ -1,14 +1,11 @@
 //! What the vulnerable system loses, in the user's own environment (v4.0 specification, section
 //! 4.2).
 
-ghost use Rattle.std.specs.Prelude.{Some, [], ◌∷◌};
+ghost use Rattle.std.specs.Prelude.{Some};
 ghost use Rattle.std.proofs.Common.{rules};
 ghost use Rattle.cvss_name.specs.declared.v4.MetricType.TheVariants as metric;
 ghost use Rattle.cvss_v4_metric.specs.Ranks as place;
 ghost use Rattle.cvss_v4_metric.specs.Table.{metric_component};
-ghost use Rattle.cvss_v4_metric.specs.declared.environmental.vulnerable.ModifiedConfidentialityImpactToTheVulnerableSystem.TheVariants as modified_confidentiality_impact_to_the_vulnerable_system;
-ghost use Rattle.cvss_v4_metric.specs.declared.environmental.vulnerable.ModifiedIntegrityImpactToTheVulnerableSystem.TheVariants as modified_integrity_impact_to_the_vulnerable_system;
-ghost use Rattle.cvss_v4_metric.specs.declared.environmental.vulnerable.ModifiedAvailabilityImpactToTheVulnerableSystem.TheVariants as modified_availability_impact_to_the_vulnerable_system;
 
 use crate::metric::{Metric, MetricType, Spelled};
 use cvss_text::print::write_component;
@@ -32,8 +29,6 @@ impl Spelled for ModifiedConfidentialityImpactToTheVulnerableSystem {
 
     ghost rank = { place.MVC };
 
-    ghost values = { modified_confidentiality_impact_to_the_vulnerable_system.NotDefined ∷ modified_confidentiality_impact_to_the_vulnerable_system.None ∷ modified_confidentiality_impact_to_the_vulnerable_system.Low ∷ modified_confidentiality_impact_to_the_vulnerable_system.High ∷ [] };
-
     fn values() -> &'static [Self] {
         &[Self::NotDefined, Self::None, Self::Low, Self::High]
     }
@@ -46,8 +41,6 @@ impl Spelled for ModifiedConfidentialityImpactToTheVulnerableSystem {
             Self::High => "/MVC:H",
         }
     }
-
-    ghost first = { Prim.search rules };
 }
 
 impl Metric for ModifiedConfidentialityImpactToTheVulnerableSystem {
@@ -82,8 +75,6 @@ impl Spelled for ModifiedIntegrityImpactToTheVulnerableSystem {
 
     ghost rank = { place.MVI };
 
-    ghost values = { modified_integrity_impact_to_the_vulnerable_system.NotDefined ∷ modified_integrity_impact_to_the_vulnerable_system.None ∷ modified_integrity_impact_to_the_vulnerable_system.Low ∷ modified_integrity_impact_to_the_vulnerable_system.High ∷ [] };
-
     fn values() -> &'static [Self] {
         &[Self::NotDefined, Self::None, Self::Low, Self::High]
     }
@@ -96,8 +87,6 @@ impl Spelled for ModifiedIntegrityImpactToTheVulnerableSystem {
             Self::High => "/MVI:H",
         }
     }
-
-    ghost first = { Prim.search rules };
 }
 
 impl Metric for ModifiedIntegrityImpactToTheVulnerableSystem {
@@ -132,8 +121,6 @@ impl Spelled for ModifiedAvailabilityImpactToTheVulnerableSystem {
 
     ghost rank = { place.MVA };
 
-    ghost values = { modified_availability_impact_to_the_vulnerable_system.NotDefined ∷ modified_availability_impact_to_the_vulnerable_system.None ∷ modified_availability_impact_to_the_vulnerable_system.Low ∷ modified_availability_impact_to_the_vulnerable_system.High ∷ [] };
-
     fn values() -> &'static [Self] {
         &[Self::NotDefined, Self::None, Self::Low, Self::High]
     }
@@ -146,8 +133,6 @@ impl Spelled for ModifiedAvailabilityImpactToTheVulnerableSystem {
             Self::High => "/MVA:H",
         }
     }
-
-    ghost first = { Prim.search rules };
 }
 
 impl Metric for ModifiedAvailabilityImpactToTheVulnerableSystem {

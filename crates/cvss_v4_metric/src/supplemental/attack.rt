@@ -1,12 +1,10 @@
 //! What an attacker can reach (v4.0 specification, sections 5.2 and 5.5).
 
-ghost use Rattle.std.specs.Prelude.{Some, [], ◌∷◌};
+ghost use Rattle.std.specs.Prelude.{Some};
 ghost use Rattle.std.proofs.Common.{rules};
 ghost use Rattle.cvss_name.specs.declared.v4.MetricType.TheVariants as metric;
 ghost use Rattle.cvss_v4_metric.specs.Ranks as place;
 ghost use Rattle.cvss_v4_metric.specs.Table.{metric_component};
-ghost use Rattle.cvss_v4_metric.specs.declared.supplemental.attack.Automatable.TheVariants as automatable;
-ghost use Rattle.cvss_v4_metric.specs.declared.supplemental.attack.ValueDensity.TheVariants as value_density;
 
 use crate::metric::{Metric, MetricType, Spelled};
 use cvss_text::print::write_component;
@@ -28,8 +26,6 @@ impl Spelled for Automatable {
 
     ghost rank = { place.AU };
 
-    ghost values = { automatable.NotDefined ∷ automatable.Yes ∷ automatable.No ∷ [] };
-
     fn values() -> &'static [Self] {
         &[Self::NotDefined, Self::Yes, Self::No]
     }
@@ -41,8 +37,6 @@ impl Spelled for Automatable {
             Self::No => "/AU:N",
         }
     }
-
-    ghost first = { Prim.search rules };
 }
 
 impl Metric for Automatable {
@@ -75,8 +69,6 @@ impl Spelled for ValueDensity {
 
     ghost rank = { place.V };
 
-    ghost values = { value_density.NotDefined ∷ value_density.Diffuse ∷ value_density.Concentrated ∷ [] };
-
     fn values() -> &'static [Self] {
         &[Self::NotDefined, Self::Diffuse, Self::Concentrated]
     }
@@ -88,8 +80,6 @@ impl Spelled for ValueDensity {
             Self::Concentrated => "/V:C",
         }
     }
-
-    ghost first = { Prim.search rules };
 }
 
 impl Metric for ValueDensity {

@@ -1,12 +1,10 @@
 //! What comes of an attack (v4.0 specification, sections 5.1 and 5.4).
 
-ghost use Rattle.std.specs.Prelude.{Some, [], ◌∷◌};
+ghost use Rattle.std.specs.Prelude.{Some};
 ghost use Rattle.std.proofs.Common.{rules};
 ghost use Rattle.cvss_name.specs.declared.v4.MetricType.TheVariants as metric;
 ghost use Rattle.cvss_v4_metric.specs.Ranks as place;
 ghost use Rattle.cvss_v4_metric.specs.Table.{metric_component};
-ghost use Rattle.cvss_v4_metric.specs.declared.supplemental.consequence.Safety.TheVariants as safety;
-ghost use Rattle.cvss_v4_metric.specs.declared.supplemental.consequence.Recovery.TheVariants as recovery;
 
 use crate::metric::{Metric, MetricType, Spelled};
 use cvss_text::print::write_component;
@@ -28,8 +26,6 @@ impl Spelled for Safety {
 
     ghost rank = { place.S };
 
-    ghost values = { safety.NotDefined ∷ safety.Present ∷ safety.Negligible ∷ [] };
-
     fn values() -> &'static [Self] {
         &[Self::NotDefined, Self::Present, Self::Negligible]
     }
@@ -41,8 +37,6 @@ impl Spelled for Safety {
             Self::Negligible => "/S:N",
         }
     }
-
-    ghost first = { Prim.search rules };
 }
 
 impl Metric for Safety {
@@ -76,8 +70,6 @@ impl Spelled for Recovery {
 
     ghost rank = { place.R };
 
-    ghost values = { recovery.NotDefined ∷ recovery.Automatic ∷ recovery.User ∷ recovery.Irrecoverable ∷ [] };
-
     fn values() -> &'static [Self] {
         &[
             Self::NotDefined,
@@ -95,8 +87,6 @@ impl Spelled for Recovery {
             Self::Irrecoverable => "/R:I",
         }
     }
-
-    ghost first = { Prim.search rules };
 }
 
 impl Metric for Recovery {

@@ -1,12 +1,10 @@
 //! How to respond to the vulnerability (v4.0 specification, sections 5.3 and 5.6).
 
-ghost use Rattle.std.specs.Prelude.{Some, [], ◌∷◌};
+ghost use Rattle.std.specs.Prelude.{Some};
 ghost use Rattle.std.proofs.Common.{rules};
 ghost use Rattle.cvss_name.specs.declared.v4.MetricType.TheVariants as metric;
 ghost use Rattle.cvss_v4_metric.specs.Ranks as place;
 ghost use Rattle.cvss_v4_metric.specs.Table.{metric_component};
-ghost use Rattle.cvss_v4_metric.specs.declared.supplemental.response.VulnerabilityResponseEffort.TheVariants as vulnerability_response_effort;
-ghost use Rattle.cvss_v4_metric.specs.declared.supplemental.response.ProviderUrgency.TheVariants as provider_urgency;
 
 use crate::metric::{Metric, MetricType, Spelled};
 use cvss_text::print::write_component;
@@ -29,8 +27,6 @@ impl Spelled for VulnerabilityResponseEffort {
 
     ghost rank = { place.RE };
 
-    ghost values = { vulnerability_response_effort.NotDefined ∷ vulnerability_response_effort.Low ∷ vulnerability_response_effort.Moderate ∷ vulnerability_response_effort.High ∷ [] };
-
     fn values() -> &'static [Self] {
         &[Self::NotDefined, Self::Low, Self::Moderate, Self::High]
     }
@@ -43,8 +39,6 @@ impl Spelled for VulnerabilityResponseEffort {
             Self::High => "/RE:H",
         }
     }
-
-    ghost first = { Prim.search rules };
 }
 
 impl Metric for VulnerabilityResponseEffort {
@@ -80,8 +74,6 @@ impl Spelled for ProviderUrgency {
 
     ghost rank = { place.U };
 
-    ghost values = { provider_urgency.NotDefined ∷ provider_urgency.Red ∷ provider_urgency.Amber ∷ provider_urgency.Green ∷ provider_urgency.Clear ∷ [] };
-
     fn values() -> &'static [Self] {
         &[
             Self::NotDefined,
@@ -101,8 +93,6 @@ impl Spelled for ProviderUrgency {
             Self::Clear => "/U:Clear",
         }
     }
-
-    ghost first = { Prim.search rules };
 }
 
 impl Metric for ProviderUrgency {
