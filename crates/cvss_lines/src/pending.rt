@@ -31,7 +31,6 @@ impl Pending {
     }
 
     /// Answers the lines that end in a chunk of the input, and keeps what stands behind them.
-    #[tactic(auto, using(crate::proofs::ReadsLemmas::HasRead_line))]
     pub(crate) fn answer_chunk<A: Streaming, W: Write>(
         &mut self,
         alloc: Global,

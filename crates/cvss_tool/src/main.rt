@@ -5,7 +5,6 @@ mod fault;
 mod run;
 
 pub use cvss_lines::{RunFault, Summary, exit_status, laws};
-pub use cvss_ranking as triage;
 pub use fault::fault_text;
 pub use run::run;
 use std::process::ExitCode;

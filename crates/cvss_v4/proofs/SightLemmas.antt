@@ -1,10 +1,20 @@
 -- A text that is recognised part by part is the components of all the metrics.
-use Rattle.std.proofs.Common.{◌≡◌, ℕ, ◌==◌, true, List, [], ◌∷◌, ◌++◌, length, refl, sym, ap, arith, ◌∙◌}
+use Rattle.std.proofs.Common.{flat_map, ◌≡◌, ℕ, ◌==◌, true, List, [], ◌∷◌, ◌++◌, length, refl, sym, ap, arith, ◌∙◌}
 use Rattle.std.proofs.lemmas.Bool.{eqb-true}
 use Rattle.std.proofs.lemmas.Grind.{flat_map-append}
-use Rattle.std.proofs.lemmas.List.{append-nil}
+use Rattle.std.proofs.lemmas.List.{append_assoc, append-nil}
 use Rattle.cvss_grammar.specs.Version.{Version}
 use Rattle.cvss_text.specs.private.Printing.{slashed_text, slashed_texts}
+
+-- the text of each metric before those of the metrics behind it, and the rest
+abbrev pub in_turn : {K : Type 0} → (K → List ℕ) → List K → List ℕ → List ℕ
+in_turn text_of [] rest = rest
+in_turn text_of (kind ∷ kinds) rest = text_of kind ++ in_turn text_of kinds rest
+
+pub texts_in_turn : {K : Type 0} (text_of : K → List ℕ) (kinds : List K) (rest : List ℕ) → in_turn text_of kinds rest ≡ flat_map text_of kinds ++ rest
+texts_in_turn text_of [] rest = refl
+texts_in_turn text_of (kind ∷ kinds) rest =
+    ap (λ behind. text_of kind ++ behind) (texts_in_turn text_of kinds rest) ∙ sym (append_assoc (text_of kind) (flat_map text_of kinds) rest)
 
 empty : (text : List ℕ) → true ≡ (length text == 0) → text ≡ []
 empty [] is = refl

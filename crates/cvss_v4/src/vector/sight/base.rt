@@ -52,9 +52,9 @@ pub(super) fn base_at_sight(text: &[u8]) -> Option<(Vector, &[u8])>
 #[inline(always)]
 fn three_at_sight<K: Spelled, L: Spelled, M: Spelled>(text: &[u8]) -> Option<(K, L, M, &[u8])>
     ensures { IfSome result (λ read. text.now
-        ≡ slash ∷ metric_component K.TYPE (K.rank read.0)
-        ++ slash ∷ metric_component L.TYPE (L.rank read.1)
-        ++ slash ∷ metric_component M.TYPE (M.rank read.2) ++ read.3.now) }
+        ≡ slash ∷ (metric_component K.TYPE (K.rank read.0)
+        ++ (slash ∷ (metric_component L.TYPE (L.rank read.1)
+        ++ (slash ∷ (metric_component M.TYPE (M.rank read.2) ++ read.3.now)))))) }
 {
     let (first, text) = component_at_sight(text)?;
     let (second, text) = component_at_sight(text)?;

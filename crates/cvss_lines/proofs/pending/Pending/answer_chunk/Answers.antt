@@ -1,7 +1,12 @@
 use Rattle.cvss_lines.specs.declared.fault.RunFault.TheVariants.{Memory}
-use Rattle.cvss_lines.proofs.ReadsLemmas.{HasRead_all, HasRead_memory, HasRead_stopped}
+use Rattle.cvss_lines.proofs.ReadsLemmas.{HasRead_all, HasRead_line, HasRead_memory, HasRead_stopped}
 use Rattle.cvss_lines.proofs.StepsLemmas.{told_fault}
 use Rattle.cvss_lines.proofs.pending.Pending.answer_chunk.Goals as goal
+
+pub loop-piece-preserved : goal.loop-piece-preserved
+loop-piece-preserved g c =
+    HasRead_line g.A.Streaming.rule g.A.Streaming.beginning c.args.chunk.now c.loop-piece.rest.now _ _ c.args.self.now c.loop-piece.self c.loop-piece.invariant
+    c.in-Some.piece.now c.in-Some.behind.now _ _ c.in-Some.ensures.0 c.in-Some.ensures.1 c.in_ok-end_line.ensures.answered c.in_ok-end_line.ensures.cut
 
 pub returns-in_err-end_line-clause-stopped : goal.returns-in_err-end_line-clause-stopped
 returns-in_err-end_line-clause-stopped g c =
