@@ -1,14 +1,13 @@
 //! How a vector is printed.
 
-ghost use Rattle.std.specs.Prelude.{◌≡◌, Some, [], ◌∷◌, ◌++◌, codes, option_map};
+ghost use Rattle.std.specs.Prelude.{◌≡◌, Some, ◌++◌, codes, drop, option_map, take};
 ghost use Rattle.std.specs.Fmt.{WritesOnOk};
 ghost use Rattle.std.specs.Option.{option_copied};
 ghost use Rattle.cvss_grammar.specs.Version.{numeral, canonical_text, component_of, held, version_piece};
 ghost use Rattle.cvss_text.specs.private.Printing.{slashed, slashed_texts};
 ghost use Rattle.cvss_grammar.specs.Text.{component};
 ghost use Rattle.cvss_name.specs.V4Types.{name_of};
-ghost use Rattle.cvss_name.specs.declared.v4.MetricType.TheVariants.{AC, AT, AV, PR, SA, SC, SI, UI, VA, VC, VI, E, AR, CR, IR, MAC, MAT, MAV, MPR, MSA, MSC, MSI, MUI, MVA, MVC, MVI};
-ghost use Rattle.cvss_v4_metric.specs.Table.{printed, spelling_at, supplemental};
+ghost use Rattle.cvss_v4_metric.specs.Table.{printed, spelling_at};
 ghost use Rattle.cvss_v4.specs.Vector.{v4};
 ghost use Rattle.cvss_v4.specs.private.Shown.{shown};
 
@@ -73,10 +72,8 @@ fn slashed_value<M: Spelled>(value: Option<M>) -> Option<&'static str>
     ensures { option_copied result
         ≡ slashed (option_map (component (name_of M.TYPE)) (option_map (λ x. spelling_at M.TYPE (M.rank x)) value)) }
 {
-    match value {
-        Some(metric) => Some(metric.slashed()),
-        None => None,
-    }
+    let metric = value?;
+    Some(metric.slashed())
 }
 
 /// Writes a slash and the component of a value, if there is one.
@@ -98,7 +95,7 @@ fn write_three<K: Spelled, L: Spelled, M: Spelled, W: fmt::Write>(
     f: &mut fmt::Formatter<W>,
 ) -> fmt::Result
     ensures { WritesOnOk W.write_str_gives f.old result
-        (shown K.TYPE K.rank first ++ shown L.TYPE L.rank second ++ shown M.TYPE M.rank third)
+        (shown K.TYPE K.rank first ++ (shown L.TYPE L.rank second ++ shown M.TYPE M.rank third))
         f.new }
 {
     write_value(first, f)?;
@@ -122,8 +119,7 @@ impl Vector {
     /// Writes the base metrics, each with a slash before it.
     fn write_base<W: fmt::Write>(&self, f: &mut fmt::Formatter<W>) -> fmt::Result
         ensures { WritesOnOk W.write_str_gives f.old result
-            (slashed_texts v4 self.now
-            (AV ∷ AC ∷ AT ∷ PR ∷ UI ∷ VC ∷ VI ∷ VA ∷ SC ∷ SI ∷ SA ∷ [])) f.new }
+            (slashed_texts v4 self.now (take 11 printed)) f.new }
     {
         write_three(self.av, self.ac, self.at, f)?;
         write_value(self.pr, f)?;
@@ -132,20 +128,10 @@ impl Vector {
         write_three(self.sc, self.si, self.sa, f)
     }
 
-    /// Writes the threat metric and the security requirements, each with a slash before it.
-    fn write_threat<W: fmt::Write>(&self, f: &mut fmt::Formatter<W>) -> fmt::Result
-        ensures { WritesOnOk W.write_str_gives f.old result
-            (slashed_texts v4 self.now (E ∷ CR ∷ IR ∷ AR ∷ [])) f.new }
-    {
-        write_value(self.e, f)?;
-        write_three(self.cr, self.ir, self.ar, f)
-    }
-
     /// Writes the modified base metrics, each with a slash before it.
     fn write_modified<W: fmt::Write>(&self, f: &mut fmt::Formatter<W>) -> fmt::Result
         ensures { WritesOnOk W.write_str_gives f.old result
-            (slashed_texts v4 self.now
-            (MAV ∷ MAC ∷ MAT ∷ MPR ∷ MUI ∷ MVC ∷ MVI ∷ MVA ∷ MSC ∷ MSI ∷ MSA ∷ [])) f.new }
+            (slashed_texts v4 self.now (take 11 (drop 15 printed))) f.new }
     {
         write_three(self.mav, self.mac, self.mat, f)?;
         write_value(self.mpr, f)?;
@@ -154,23 +140,16 @@ impl Vector {
         write_three(self.msc, self.msi, self.msa, f)
     }
 
-    /// Writes the supplemental metrics, each with a slash before it.
-    fn write_supplemental<W: fmt::Write>(&self, f: &mut fmt::Formatter<W>) -> fmt::Result
-        ensures { WritesOnOk W.write_str_gives f.old result
-            (slashed_texts v4 self.now supplemental) f.new }
-    {
-        write_three(self.s, self.au, self.r, f)?;
-        write_three(self.v, self.re, self.u, f)
-    }
-
     /// Writes all metrics, each with a slash before it.
     fn write_metrics<W: fmt::Write>(&self, f: &mut fmt::Formatter<W>) -> fmt::Result
         ensures { WritesOnOk W.write_str_gives f.old result (slashed_texts v4 self.now printed) f.new }
     {
         self.write_base(f)?;
-        self.write_threat(f)?;
+        write_value(self.e, f)?;
+        write_three(self.cr, self.ir, self.ar, f)?;
         self.write_modified(f)?;
-        self.write_supplemental(f)
+        write_three(self.s, self.au, self.r, f)?;
+        write_three(self.v, self.re, self.u, f)
     }
 }
 

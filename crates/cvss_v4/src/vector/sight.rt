@@ -2,27 +2,22 @@
 //! printed, so that the text is gone through once, with no cutting and no searching. The other
 //! way, by components in any order and any case, is `reading`.
 
-ghost use Rattle.std.specs.Prelude.{◌≡◌, IfSome, None, [], ◌∷◌, ◌++◌, codes, option_map, unwrap_or};
+ghost use Rattle.std.specs.Prelude.{◌≡◌, IfSome, None, [], ◌∷◌, ◌++◌, codes, drop, take, option_map, unwrap_or};
 ghost use Rattle.cvss_text.specs.private.Printing.{slashed, slashed_texts};
 ghost use Rattle.cvss_text.specs.private.Walk.{first_missing};
 ghost use Rattle.cvss_grammar.specs.Text.{slash, component};
 ghost use Rattle.cvss_name.specs.V4Types.{name_of};
 ghost use Rattle.cvss_grammar.specs.Version.{canonical_text, version_piece, IsWellFormed};
-ghost use Rattle.cvss_name.specs.declared.v4.MetricType.TheVariants.{AC, AT, AV, PR, SA, SC, SI, U, UI, VA, VC, VI};
+ghost use Rattle.cvss_name.specs.declared.v4.MetricType.TheVariants.{U};
 ghost use Rattle.cvss_v4_metric.specs.Table.{metric_component, printed};
 ghost use Rattle.cvss_v4.specs.Table.{spelling_of};
 ghost use Rattle.cvss_v4.specs.Vector.{v4};
 ghost use Rattle.cvss_v4.specs.private.Shown.{shown};
 
-mod base;
-mod optional;
-
 use crate::vector::Vector;
-use base::base_at_sight;
 use cvss_text::sight::{behind_name, put_read};
 use cvss_v4_metric::Spelled;
 use cvss_v4_metric::supplemental::ProviderUrgency;
-use optional::others_at_sight;
 
 impl Vector {
     /// The vector whose canonical text this is, where that is seen at once: `None` tells nothing of
@@ -65,8 +60,7 @@ fn metrics_at_sight(text: &[u8]) -> Option<Vector>
 #[inline(always)]
 fn whole_at_sight(base: Vector, text: &[u8]) -> Option<Vector>
     requires { first_missing v4 base ≡ None }
-    ensures text { IfSome result (λ vector. slashed_texts v4 base
-        (AV ∷ AC ∷ AT ∷ PR ∷ UI ∷ VC ∷ VI ∷ VA ∷ SC ∷ SI ∷ SA ∷ []) ++ text.now
+    ensures text { IfSome result (λ vector. slashed_texts v4 base (take 11 printed) ++ text.now
         ≡ slashed_texts v4 vector printed) }
     ensures version { IfSome result (λ vector. vector.minor_version ≡ base.minor_version) }
     ensures present { IfSome result (λ vector. first_missing v4 vector ≡ None) }
@@ -75,6 +69,63 @@ fn whole_at_sight(base: Vector, text: &[u8]) -> Option<Vector>
     let rest = others_at_sight(&mut vector, text);
     let u = urgency_at_sight(rest)?;
     Some(Vector { u, ..vector })
+}
+
+/// The vector of the base metrics with which a text begins, if all of them do.
+#[inline(always)]
+fn base_at_sight(text: &[u8]) -> Option<(Vector, &[u8])>
+    ensures text { IfSome result (λ read. text.now
+        ≡ slashed_texts v4 read.0 (take 11 printed) ++ read.1.now) }
+    ensures version { IfSome result (λ read. read.0.minor_version ≡ 0) }
+    ensures present { IfSome result (λ read. first_missing v4 read.0 ≡ None) }
+    ensures bare { IfSome result (λ read. slashed_texts v4 read.0 (drop 11 printed) ≡ []) }
+{
+    // No eleven base metrics are shorter, so their lengths are compared once.
+    if text.len() < 55 {
+        return None;
+    }
+    let (av, ac, at, text) = three_at_sight(text)?;
+    let (pr, text) = component_at_sight(text)?;
+    let (ui, text) = component_at_sight(text)?;
+    let (vc, vi, va, text) = three_at_sight(text)?;
+    let (sc, si, sa, text) = three_at_sight(text)?;
+    let base = Vector {
+        av: Some(av),
+        ac: Some(ac),
+        at: Some(at),
+        pr: Some(pr),
+        ui: Some(ui),
+        vc: Some(vc),
+        vi: Some(vi),
+        va: Some(va),
+        sc: Some(sc),
+        si: Some(si),
+        sa: Some(sa),
+        ..Vector::default()
+    };
+    Some((base, text))
+}
+
+/// Puts the optional metrics but for the last with which a text begins into the vector, and gives
+/// what stands behind them.
+// A call of its own keeps the vector in memory, where each metric is stored once.
+#[inline(never)]
+fn others_at_sight<'a>(vector: &mut Vector, text: &'a [u8]) -> &'a [u8]
+    ensures text { text.now ≡ slashed_texts v4 vector.new (take 20 (drop 11 printed))
+        ++ result.now }
+    ensures version { vector.new.minor_version ≡ vector.old.minor_version }
+    ensures base { slashed_texts v4 vector.new (take 11 printed)
+        ≡ slashed_texts v4 vector.old (take 11 printed) }
+    ensures missing { first_missing v4 vector.new ≡ first_missing v4 vector.old }
+{
+    let text = put_three_at_sight(&mut vector.e, &mut vector.cr, &mut vector.ir, text);
+    let text = put_three_at_sight(&mut vector.ar, &mut vector.mav, &mut vector.mac, text);
+    let text = put_three_at_sight(&mut vector.mat, &mut vector.mpr, &mut vector.mui, text);
+    let text = put_three_at_sight(&mut vector.mvc, &mut vector.mvi, &mut vector.mva, text);
+    let text = put_three_at_sight(&mut vector.msc, &mut vector.msi, &mut vector.msa, text);
+    let text = put_three_at_sight(&mut vector.s, &mut vector.au, &mut vector.r, text);
+    let text = put_at_sight(&mut vector.v, text);
+    put_at_sight(&mut vector.re, text)
 }
 
 /// The provider's urgency, if a slash and its component are the whole text, or none if nothing is.
@@ -87,13 +138,28 @@ fn urgency_at_sight(text: &[u8]) -> Option<Option<ProviderUrgency>>
     if text.is_empty() {
         return Some(None);
     }
-    match ProviderUrgency::values()
+    let urgency = ProviderUrgency::values()
         .iter()
-        .find(|urgency| urgency.slashed().as_bytes() == text)
-    {
-        Some(urgency) => Some(Some(*urgency)),
-        None => None,
-    }
+        .copied()
+        .find(|urgency| urgency.slashed().as_bytes() == text)?;
+    Some(Some(urgency))
+}
+
+/// Puts the values of three metrics into their places, as far as a text begins with their components,
+/// and gives what stands behind these.
+#[inline(always)]
+fn put_three_at_sight<'a, K: Spelled, L: Spelled, M: Spelled>(
+    first: &mut Option<K>,
+    second: &mut Option<L>,
+    third: &mut Option<M>,
+    text: &'a [u8],
+) -> &'a [u8]
+    ensures { text.now ≡ shown K.TYPE K.rank first.new ++ (shown L.TYPE L.rank second.new
+        ++ (shown M.TYPE M.rank third.new ++ result.now)) }
+{
+    let text = put_at_sight(first, text);
+    let text = put_at_sight(second, text);
+    put_at_sight(third, text)
 }
 
 /// Puts the value of a metric into its place, if a text begins with a slash and its component, and
@@ -103,6 +169,21 @@ fn put_at_sight<'a, M: Spelled>(place: &mut Option<M>, text: &'a [u8]) -> &'a [u
     ensures { text.now ≡ shown M.TYPE M.rank place.new ++ result.now }
 {
     put_read(place, component_at_sight(text), text)
+}
+
+/// The values of three metrics, where a text begins with a slash and the component of each, and what
+/// stands behind them.
+#[inline(always)]
+fn three_at_sight<K: Spelled, L: Spelled, M: Spelled>(text: &[u8]) -> Option<(K, L, M, &[u8])>
+    ensures { IfSome result (λ read. text.now
+        ≡ slash ∷ (metric_component K.TYPE (K.rank read.0)
+        ++ (slash ∷ (metric_component L.TYPE (L.rank read.1)
+        ++ (slash ∷ (metric_component M.TYPE (M.rank read.2) ++ read.3.now)))))) }
+{
+    let (first, text) = component_at_sight(text)?;
+    let (second, text) = component_at_sight(text)?;
+    let (third, text) = component_at_sight(text)?;
+    Some((first, second, third, text))
 }
 
 /// The value of a metric, where a text begins with a slash and its component, and what stands
