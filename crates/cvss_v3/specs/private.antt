@@ -1,2 +1,2 @@
-pub mod Slashed
+pub mod Shown
 pub mod VectorLaws

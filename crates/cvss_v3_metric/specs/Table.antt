@@ -10,10 +10,10 @@ use Rattle.cvss_v3_metric.specs.declared.base.attack.AttackVector.{AttackVector}
 use Rattle.cvss_v3_metric.specs.declared.base.attack.AttackVector.TheVariants as attack_vector
 use Rattle.cvss_v3_metric.specs.declared.base.attack.AttackComplexity.{AttackComplexity}
 use Rattle.cvss_v3_metric.specs.declared.base.attack.AttackComplexity.TheVariants as attack_complexity
-use Rattle.cvss_v3_metric.specs.declared.base.privileges.PrivilegesRequired.{PrivilegesRequired}
-use Rattle.cvss_v3_metric.specs.declared.base.privileges.PrivilegesRequired.TheVariants as privileges_required
-use Rattle.cvss_v3_metric.specs.declared.base.interaction.UserInteraction.{UserInteraction}
-use Rattle.cvss_v3_metric.specs.declared.base.interaction.UserInteraction.TheVariants as user_interaction
+use Rattle.cvss_v3_metric.specs.declared.base.access.PrivilegesRequired.{PrivilegesRequired}
+use Rattle.cvss_v3_metric.specs.declared.base.access.PrivilegesRequired.TheVariants as privileges_required
+use Rattle.cvss_v3_metric.specs.declared.base.access.UserInteraction.{UserInteraction}
+use Rattle.cvss_v3_metric.specs.declared.base.access.UserInteraction.TheVariants as user_interaction
 use Rattle.cvss_v3_metric.specs.declared.base.scope.Scope.{Scope}
 use Rattle.cvss_v3_metric.specs.declared.base.scope.Scope.TheVariants as scope
 use Rattle.cvss_v3_metric.specs.declared.base.impact.Confidentiality.{Confidentiality}
@@ -34,8 +34,8 @@ use Rattle.cvss_v3_metric.specs.declared.environmental.requirement.IntegrityRequ
 use Rattle.cvss_v3_metric.specs.declared.environmental.requirement.IntegrityRequirement.TheVariants as integrity_requirement
 use Rattle.cvss_v3_metric.specs.declared.environmental.requirement.AvailabilityRequirement.{AvailabilityRequirement}
 use Rattle.cvss_v3_metric.specs.declared.environmental.requirement.AvailabilityRequirement.TheVariants as availability_requirement
-use Rattle.cvss_v3_metric.specs.declared.environmental.modified_scope.ModifiedScope.{ModifiedScope}
-use Rattle.cvss_v3_metric.specs.declared.environmental.modified_scope.ModifiedScope.TheVariants as modified_scope
+use Rattle.cvss_v3_metric.specs.declared.environmental.modified.ModifiedScope.{ModifiedScope}
+use Rattle.cvss_v3_metric.specs.declared.environmental.modified.ModifiedScope.TheVariants as modified_scope
 use Rattle.cvss_v3_metric.specs.declared.environmental.modified.Modified.{Modified}
 use Rattle.cvss_v3_metric.specs.Modified.{Row, modified_rows, modified_rank}
 

@@ -1,3 +1,2 @@
 pub mod ModifiedLaws
 pub mod TableLaws
-pub mod Values

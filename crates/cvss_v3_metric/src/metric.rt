@@ -4,7 +4,6 @@ ghost use Rattle.std.specs.Prelude.{◌≡◌, [], ◌∷◌, ◌*◌, ◌^◌, 
 ghost use Rattle.cvss_grammar.specs.Refusal.{BadValue};
 ghost use Rattle.cvss_name.specs.Told.{Tells};
 ghost use Rattle.cvss_name.specs.V3Types.{v3_reason, name_of};
-ghost use Rattle.cvss_grammar.specs.Equality.{EqualsByValue, ClonesByValue, ClonesAlways};
 ghost use Rattle.cvss_number.specs.Exact.{IsWithinLimit};
 ghost use Rattle.cvss_name.specs.declared.v3.MetricType.{MetricType};
 ghost use Rattle.cvss_grammar.specs.Text.{slash, raised};
@@ -23,33 +22,36 @@ pub(crate) const HUNDREDTH: i128 = 10_000_000_000_000_000_000_000;
 /// weighed. Code that reads, prints and weighs any metric asks for no more, so that its proof rests on
 /// nothing else of the enums.
 pub trait Spelled: Copy {
-    ghost kind: { MetricType };
+    /// Which metric this is.
+    const TYPE: MetricType;
 
-    ghost value: { Self → Value kind };
+    ghost TYPE: { MetricType };
+
+    ghost value: { Self → Value TYPE };
 
     /// A slash and the component that stands for the value in a vector, and the value's weight in
     /// hundredths, if it has one (v3.1 specification, section 7.4).
     fn row(self) -> (&'static str, Option<u64>)
-        ensures text { result.0.now ≡ slash ∷ metric_component kind (value self) }
-        ensures weight { result.1 ≡ weight_of kind (value self) };
+        ensures text { result.0.now ≡ slash ∷ metric_component TYPE (value self) }
+        ensures weight { result.1 ≡ weight_of TYPE (value self) };
 
     /// The value that is spelled by this letter, exactly as it is written: each value is spelled by
     /// one letter.
     fn read_letter(letter: u8) -> Option<Self>
-        ensures spelled { IfSome result (λ metric. spelling_of kind (value metric) ≡ letter ∷ []) }
-        ensures read { (metric : Self) → spelling_of kind (value metric) ≡ letter ∷ []
+        ensures spelled { IfSome result (λ metric. spelling_of TYPE (value metric) ≡ letter ∷ []) }
+        ensures read { (metric : Self) → spelling_of TYPE (value metric) ≡ letter ∷ []
             → result ≡ Some metric };
 
     /// A slash and the component that stands for the value in a vector.
     final fn slashed(self) -> &'static str
-        ensures { result.now ≡ slash ∷ metric_component kind (value self) }
+        ensures { result.now ≡ slash ∷ metric_component TYPE (value self) }
     {
         self.row().0
     }
 
     /// The value's weight in hundredths, if it has one (v3.1 specification, section 7.4).
     final fn hundredths(self) -> Option<u64>
-        ensures { result ≡ weight_of kind (value self) }
+        ensures { result ≡ weight_of TYPE (value self) }
     {
         self.row().1
     }
@@ -57,8 +59,8 @@ pub trait Spelled: Copy {
     /// The value with this spelling, in any ASCII case.
     final fn read_bytes(text: &[u8]) -> Option<Self>
         ensures spelled { IfSome result
-            (λ metric. spelling_of kind (value metric) ≡ raised text.now) }
-        ensures read { (metric : Self) → spelling_of kind (value metric) ≡ raised text.now
+            (λ metric. spelling_of TYPE (value metric) ≡ raised text.now) }
+        ensures read { (metric : Self) → spelling_of TYPE (value metric) ≡ raised text.now
             → result ≡ Some metric }
     {
         match text {
@@ -70,14 +72,9 @@ pub trait Spelled: Copy {
 
 /// A metric: an enum of the values that the specification gives for its type.
 pub trait Metric: Spelled + Copy + Clone + fmt::Debug + fmt::Display + Eq + Ord + 'static {
-    /// Which metric this is.
-    const TYPE: MetricType;
-
-    ghost TYPE: { MetricType };
-
     /// How the value is spelled in a vector.
     final fn as_str(self) -> &'static str
-        ensures { result.now ≡ spelling_of Self.kind (Self.value self) }
+        ensures { result.now ≡ spelling_of Self.TYPE (Self.value self) }
     {
         &self.slashed()[Self::TYPE.name().len() + 2..]
     }
@@ -85,8 +82,8 @@ pub trait Metric: Spelled + Copy + Clone + fmt::Debug + fmt::Display + Eq + Ord 
     /// The value with this spelling, in any ASCII case.
     final fn read_raised(text: &str) -> Option<Self>
         ensures spelled { IfSome result
-            (λ metric. spelling_of Self.kind (Self.value metric) ≡ raised text.now) }
-        ensures read { (metric : Self) → spelling_of Self.kind (Self.value metric) ≡ raised text.now
+            (λ metric. spelling_of Self.TYPE (Self.value metric) ≡ raised text.now) }
+        ensures read { (metric : Self) → spelling_of Self.TYPE (Self.value metric) ≡ raised text.now
             → result ≡ Some metric }
     {
         Self::read_bytes(text.as_bytes())
@@ -95,8 +92,8 @@ pub trait Metric: Spelled + Copy + Clone + fmt::Debug + fmt::Display + Eq + Ord 
     /// The value with this spelling, exactly as it is written.
     #[tactic(auto, using(crate::specs::private::TableLaws::raised_spelling))]
     final fn read(text: &str) -> Option<Self>
-        ensures spelled { IfSome result (λ metric. spelling_of Self.kind (Self.value metric) ≡ text.now) }
-        ensures read { (metric : Self) → spelling_of Self.kind (Self.value metric) ≡ text.now
+        ensures spelled { IfSome result (λ metric. spelling_of Self.TYPE (Self.value metric) ≡ text.now) }
+        ensures read { (metric : Self) → spelling_of Self.TYPE (Self.value metric) ≡ text.now
             → result ≡ Some metric }
     {
         let metric = Self::read_raised(text)?;
@@ -113,10 +110,10 @@ pub trait Metric: Spelled + Copy + Clone + fmt::Debug + fmt::Display + Eq + Ord 
     ///
     /// `InvalidMetricV3` with the text where the metric has no such value.
     final fn from_str(alloc: Global, text: &str) -> Result<Self, Error>
-        ensures spelled { IfOk result (λ metric. spelling_of Self.kind (Self.value metric) ≡ text.now) }
-        ensures read { (metric : Self) → spelling_of Self.kind (Self.value metric) ≡ text.now
+        ensures spelled { IfOk result (λ metric. spelling_of Self.TYPE (Self.value metric) ≡ text.now) }
+        ensures read { (metric : Self) → spelling_of Self.TYPE (Self.value metric) ≡ text.now
             → result ≡ Ok metric }
-        ensures refused { IfErr result (Tells v3_reason (BadValue (blamed TYPE) text.now)) }
+        ensures refused { IfErr result (Tells v3_reason (BadValue (blamed Self.TYPE) text.now)) }
     {
         match Self::read(text) {
             Some(metric) => Ok(metric),
@@ -132,15 +129,15 @@ pub trait Metric: Spelled + Copy + Clone + fmt::Debug + fmt::Display + Eq + Ord 
 
     /// Whether the value has a weight.
     final fn has_score(self) -> bool
-        ensures { IsTrue result ↔ IsSome (weight_of Self.kind (Self.value self)) }
+        ensures { IsTrue result ↔ IsSome (weight_of Self.TYPE (Self.value self)) }
     {
         self.hundredths().is_some()
     }
 
     /// The value's weight in counts of 10^-24 (v3.1 specification, section 7.4).
     final fn score(self) -> i128
-        requires { IsSome (weight_of Self.kind (Self.value self)) }
-        ensures value { result ≡ pos (unwrap_or (weight_of Self.kind (Self.value self)) 0 * 10 ^ 22) }
+        requires { IsSome (weight_of Self.TYPE (Self.value self)) }
+        ensures value { result ≡ pos (unwrap_or (weight_of Self.TYPE (Self.value self)) 0 * 10 ^ 22) }
         ensures limit { IsWithinLimit result }
     {
         i128::from(self.hundredths().unwrap()) * HUNDREDTH
@@ -148,17 +145,13 @@ pub trait Metric: Spelled + Copy + Clone + fmt::Debug + fmt::Display + Eq + Ord 
 
     /// The metric's abbreviation.
     final fn name() -> &'static str
-        ensures { result.now ≡ name_of TYPE }
+        ensures { result.now ≡ name_of Self.TYPE }
     {
         Self::TYPE.name()
     }
 
-    ghost law: { IsMetric TYPE Self.kind Self.value ⟦<Self as Ord>⟧.cmp };
-
-    // Two are equal exactly if they are one value, and a clone is that value and never refused.
-    ghost by_value: { EqualsByValue ⟦<Self as PartialEq>⟧.eq
-        × ClonesByValue ⟦<Self as Clone>⟧.is_clone
-        × ClonesAlways ⟦<Self as Clone>⟧.is_infallible };
+    ghost law: { IsMetric Self.TYPE Self.value ⟦<Self as Ord>⟧.cmp ⟦<Self as PartialEq>⟧.eq
+        ⟦<Self as Clone>⟧.is_clone ⟦<Self as Clone>⟧.is_infallible };
 }
 
 /// The metric that a refused value is reported under: of a modified metric its base metric.

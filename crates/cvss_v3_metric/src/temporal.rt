@@ -1,6 +1,6 @@
 //! The temporal metrics (v3.1 specification, section 3).
 
-ghost use Rattle.std.specs.Prelude.{Some, refl};
+ghost use Rattle.std.specs.Prelude.{Some};
 ghost use Rattle.std.proofs.Common.{rules};
 ghost use Rattle.cvss_name.specs.declared.v3.MetricType.TheVariants.{E, RL, RC};
 ghost use Rattle.cvss_v3_metric.specs.Table.{metric_component};
@@ -20,41 +20,37 @@ pub enum ExploitCodeMaturity {
 }
 
 impl Spelled for ExploitCodeMaturity {
-    ghost kind = { E };
+    const TYPE: MetricType = MetricType::E;
+
+    ghost TYPE = { E };
 
     ghost value = { λ metric. metric };
 
     fn row(self) -> (&'static str, Option<u64>) {
         match self {
-            ExploitCodeMaturity::NotDefined => ("/E:X", Some(100)),
-            ExploitCodeMaturity::High => ("/E:H", Some(100)),
-            ExploitCodeMaturity::Functional => ("/E:F", Some(97)),
-            ExploitCodeMaturity::ProofOfConcept => ("/E:P", Some(94)),
-            ExploitCodeMaturity::Unproven => ("/E:U", Some(91)),
+            Self::NotDefined => ("/E:X", Some(100)),
+            Self::High => ("/E:H", Some(100)),
+            Self::Functional => ("/E:F", Some(97)),
+            Self::ProofOfConcept => ("/E:P", Some(94)),
+            Self::Unproven => ("/E:U", Some(91)),
         }
     }
 
     #[inline(always)]
     fn read_letter(letter: u8) -> Option<Self> {
         match letter {
-            b'X' => Some(ExploitCodeMaturity::NotDefined),
-            b'H' => Some(ExploitCodeMaturity::High),
-            b'F' => Some(ExploitCodeMaturity::Functional),
-            b'P' => Some(ExploitCodeMaturity::ProofOfConcept),
-            b'U' => Some(ExploitCodeMaturity::Unproven),
+            b'X' => Some(Self::NotDefined),
+            b'H' => Some(Self::High),
+            b'F' => Some(Self::Functional),
+            b'P' => Some(Self::ProofOfConcept),
+            b'U' => Some(Self::Unproven),
             _ => None,
         }
     }
 }
 
 impl Metric for ExploitCodeMaturity {
-    const TYPE: MetricType = MetricType::E;
-
-    ghost TYPE = { E };
-
-    ghost law = { record { told = refl; covers = λ x. (x, refl); ordered = Prim.search rules } };
-
-    ghost by_value = { Prim.search rules };
+    ghost law = { Prim.search rules };
 }
 
 impl fmt::Display for ExploitCodeMaturity {
@@ -63,7 +59,7 @@ impl fmt::Display for ExploitCodeMaturity {
     ghost styled_output = { λ metric _. Some (metric_component E metric) };
 
     fn fmt<W: fmt::Write>(&self, f: &mut fmt::Formatter<W>) -> fmt::Result {
-        write_component(self.row().0, f)
+        write_component(self.slashed(), f)
     }
 }
 
@@ -78,41 +74,37 @@ pub enum RemediationLevel {
 }
 
 impl Spelled for RemediationLevel {
-    ghost kind = { RL };
+    const TYPE: MetricType = MetricType::RL;
+
+    ghost TYPE = { RL };
 
     ghost value = { λ metric. metric };
 
     fn row(self) -> (&'static str, Option<u64>) {
         match self {
-            RemediationLevel::NotDefined => ("/RL:X", Some(100)),
-            RemediationLevel::Unavailable => ("/RL:U", Some(100)),
-            RemediationLevel::Workaround => ("/RL:W", Some(97)),
-            RemediationLevel::TemporaryFix => ("/RL:T", Some(96)),
-            RemediationLevel::OfficialFix => ("/RL:O", Some(95)),
+            Self::NotDefined => ("/RL:X", Some(100)),
+            Self::Unavailable => ("/RL:U", Some(100)),
+            Self::Workaround => ("/RL:W", Some(97)),
+            Self::TemporaryFix => ("/RL:T", Some(96)),
+            Self::OfficialFix => ("/RL:O", Some(95)),
         }
     }
 
     #[inline(always)]
     fn read_letter(letter: u8) -> Option<Self> {
         match letter {
-            b'X' => Some(RemediationLevel::NotDefined),
-            b'U' => Some(RemediationLevel::Unavailable),
-            b'W' => Some(RemediationLevel::Workaround),
-            b'T' => Some(RemediationLevel::TemporaryFix),
-            b'O' => Some(RemediationLevel::OfficialFix),
+            b'X' => Some(Self::NotDefined),
+            b'U' => Some(Self::Unavailable),
+            b'W' => Some(Self::Workaround),
+            b'T' => Some(Self::TemporaryFix),
+            b'O' => Some(Self::OfficialFix),
             _ => None,
         }
     }
 }
 
 impl Metric for RemediationLevel {
-    const TYPE: MetricType = MetricType::RL;
-
-    ghost TYPE = { RL };
-
-    ghost law = { record { told = refl; covers = λ x. (x, refl); ordered = Prim.search rules } };
-
-    ghost by_value = { Prim.search rules };
+    ghost law = { Prim.search rules };
 }
 
 impl fmt::Display for RemediationLevel {
@@ -121,7 +113,7 @@ impl fmt::Display for RemediationLevel {
     ghost styled_output = { λ metric _. Some (metric_component RL metric) };
 
     fn fmt<W: fmt::Write>(&self, f: &mut fmt::Formatter<W>) -> fmt::Result {
-        write_component(self.row().0, f)
+        write_component(self.slashed(), f)
     }
 }
 
@@ -135,39 +127,35 @@ pub enum ReportConfidence {
 }
 
 impl Spelled for ReportConfidence {
-    ghost kind = { RC };
+    const TYPE: MetricType = MetricType::RC;
+
+    ghost TYPE = { RC };
 
     ghost value = { λ metric. metric };
 
     fn row(self) -> (&'static str, Option<u64>) {
         match self {
-            ReportConfidence::NotDefined => ("/RC:X", Some(100)),
-            ReportConfidence::Confirmed => ("/RC:C", Some(100)),
-            ReportConfidence::Reasonable => ("/RC:R", Some(96)),
-            ReportConfidence::Unknown => ("/RC:U", Some(92)),
+            Self::NotDefined => ("/RC:X", Some(100)),
+            Self::Confirmed => ("/RC:C", Some(100)),
+            Self::Reasonable => ("/RC:R", Some(96)),
+            Self::Unknown => ("/RC:U", Some(92)),
         }
     }
 
     #[inline(always)]
     fn read_letter(letter: u8) -> Option<Self> {
         match letter {
-            b'X' => Some(ReportConfidence::NotDefined),
-            b'C' => Some(ReportConfidence::Confirmed),
-            b'R' => Some(ReportConfidence::Reasonable),
-            b'U' => Some(ReportConfidence::Unknown),
+            b'X' => Some(Self::NotDefined),
+            b'C' => Some(Self::Confirmed),
+            b'R' => Some(Self::Reasonable),
+            b'U' => Some(Self::Unknown),
             _ => None,
         }
     }
 }
 
 impl Metric for ReportConfidence {
-    const TYPE: MetricType = MetricType::RC;
-
-    ghost TYPE = { RC };
-
-    ghost law = { record { told = refl; covers = λ x. (x, refl); ordered = Prim.search rules } };
-
-    ghost by_value = { Prim.search rules };
+    ghost law = { Prim.search rules };
 }
 
 impl fmt::Display for ReportConfidence {
@@ -176,6 +164,6 @@ impl fmt::Display for ReportConfidence {
     ghost styled_output = { λ metric _. Some (metric_component RC metric) };
 
     fn fmt<W: fmt::Write>(&self, f: &mut fmt::Formatter<W>) -> fmt::Result {
-        write_component(self.row().0, f)
+        write_component(self.slashed(), f)
     }
 }

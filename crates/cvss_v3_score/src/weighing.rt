@@ -13,8 +13,8 @@ use cvss_v3_metric::environmental::{Modifiable, Modified, ModifiedScope};
 /// The weight of a value in hundredths, or another where the metric is absent.
 #[inline(always)]
 pub fn weight<M: Spelled>(value: Option<M>, absent: u64) -> u64
-    ensures value { result ≡ weight_or (λ metric. weight_of M.kind (M.value metric)) value absent }
-    ensures bound { (most : ℕ) → WeighsAtMost most M.kind → absent ≤ most → result ≤ most }
+    ensures value { result ≡ weight_or (λ metric. weight_of M.TYPE (M.value metric)) value absent }
+    ensures bound { (most : ℕ) → WeighsAtMost most M.TYPE → absent ≤ most → result ≤ most }
 {
     match value {
         Some(metric) => metric.hundredths().unwrap_or(0),

@@ -12,7 +12,7 @@ use Rattle.cvss_v3_metric.specs.declared.environmental.requirement.Confidentiali
 use Rattle.cvss_v3_metric.specs.declared.environmental.requirement.IntegrityRequirement.TheVariants as integrity_requirement
 use Rattle.cvss_v3_metric.specs.declared.environmental.requirement.AvailabilityRequirement.TheVariants as availability_requirement
 use Rattle.cvss_v3_metric.specs.declared.environmental.modified.Modified.TheVariants.{NotDefined}
-use Rattle.cvss_v3_metric.specs.declared.environmental.modified_scope.ModifiedScope.TheVariants as modified_scope
+use Rattle.cvss_v3_metric.specs.declared.environmental.modified.ModifiedScope.TheVariants as modified_scope
 use Rattle.cvss_v3.specs.declared.vector.Vector.{Vector}
 use Rattle.cvss_laws.specs.v3.ScoreLaws.{DefineTheSame}
 use Rattle.cvss_v3.specs.Vector.{value_at}

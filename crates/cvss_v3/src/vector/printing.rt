@@ -1,13 +1,15 @@
 //! How a vector is printed.
 
-ghost use Rattle.std.specs.Prelude.{◌≡◌, ◌++◌, Some, codes, drop, option_map, take};
+ghost use Rattle.std.specs.Prelude.{◌≡◌, ◌++◌, Some, codes, option_map, take};
 ghost use Rattle.std.specs.Fmt.{WritesOnOk};
 ghost use Rattle.std.specs.Option.{option_copied};
+ghost use Rattle.cvss_grammar.specs.Text.{component};
 ghost use Rattle.cvss_grammar.specs.Version.{numeral, canonical_text, component_of, held, version_piece};
+ghost use Rattle.cvss_name.specs.V3Types.{name_of};
 ghost use Rattle.cvss_text.specs.private.Printing.{slashed, slashed_texts};
 ghost use Rattle.cvss_v3_metric.specs.Table.{spelling_of, printed};
 ghost use Rattle.cvss_v3.specs.Vector.{v3};
-ghost use Rattle.cvss_v3.specs.private.Slashed.{slashed_value, value_component};
+ghost use Rattle.cvss_v3.specs.private.Shown.{shown};
 
 use crate::vector::Vector;
 use cvss_text::print::{Printed, write_slashed};
@@ -46,9 +48,9 @@ impl Printed for Vector {
 impl Vector {
     /// A slash and the component of the value that the vector has for a metric.
     fn slashed_at<M: Spelled>(&self, kind: MetricType, value: Option<M>) -> Option<&'static str>
-        requires kind { kind ≡ M.kind }
-        requires value { held v3 self.now M.kind
-            ≡ option_map (λ metric. spelling_of M.kind (M.value metric)) value }
+        requires kind { kind ≡ M.TYPE }
+        requires value { held v3 self.now M.TYPE
+            ≡ option_map (λ metric. spelling_of M.TYPE (M.value metric)) value }
         ensures { option_copied result ≡ slashed (component_of v3 self.now kind) }
     {
         slashed_value(value)
@@ -60,14 +62,15 @@ fn write_value<M: Spelled, W: fmt::Write>(
     value: Option<M>,
     f: &mut fmt::Formatter<W>,
 ) -> fmt::Result
-    ensures { WritesOnOk W.write_str_gives f.old result (slashed_value M.kind M.value value) f.new }
+    ensures { WritesOnOk W.write_str_gives f.old result (shown M.TYPE M.value value) f.new }
 {
     write_slashed(slashed_value(value), f)
 }
 
 /// A slash and the component of a value.
 fn slashed_value<M: Spelled>(value: Option<M>) -> Option<&'static str>
-    ensures { option_copied result ≡ slashed (value_component M.kind M.value value) }
+    ensures { option_copied result ≡ slashed (option_map (component (name_of M.TYPE))
+        (option_map (λ metric. spelling_of M.TYPE (M.value metric)) value)) }
 {
     let metric = value?;
     Some(metric.slashed())
@@ -81,9 +84,9 @@ fn write_four<K: Spelled, L: Spelled, M: Spelled, N: Spelled, W: fmt::Write>(
     fourth: &Option<N>,
     f: &mut fmt::Formatter<W>,
 ) -> fmt::Result
-    ensures { WritesOnOk W.write_str_gives f.old result (slashed_value K.kind K.value first.now
-        ++ slashed_value L.kind L.value second.now ++ slashed_value M.kind M.value third.now
-        ++ slashed_value N.kind N.value fourth.now) f.new }
+    ensures { WritesOnOk W.write_str_gives f.old result
+        (shown K.TYPE K.value first.now ++ shown L.TYPE L.value second.now
+        ++ shown M.TYPE M.value third.now ++ shown N.TYPE N.value fourth.now) f.new }
 {
     write_value(*first, f)?;
     write_value(*second, f)?;
@@ -114,24 +117,16 @@ impl Vector {
         write_four(&self.s, &self.c, &self.i, &self.a, f)
     }
 
-    /// Writes the optional metrics, each with a slash before it.
-    fn write_optional<W: fmt::Write>(&self, f: &mut fmt::Formatter<W>) -> fmt::Result
-        ensures { WritesOnOk W.write_str_gives f.old result
-            (slashed_texts v3 self.now (drop 8 printed)) f.new }
-    {
-        write_four(&self.e, &self.rl, &self.rc, &self.cr, f)?;
-        write_four(&self.ir, &self.ar, &self.mav, &self.mac, f)?;
-        write_four(&self.mpr, &self.mui, &self.ms, &self.mc, f)?;
-        write_value(self.mi, f)?;
-        write_value(self.ma, f)
-    }
-
     /// Writes all metrics, each with a slash before it.
     fn write_metrics<W: fmt::Write>(&self, f: &mut fmt::Formatter<W>) -> fmt::Result
         ensures { WritesOnOk W.write_str_gives f.old result (slashed_texts v3 self.now printed) f.new }
     {
         self.write_base(f)?;
-        self.write_optional(f)
+        write_four(&self.e, &self.rl, &self.rc, &self.cr, f)?;
+        write_four(&self.ir, &self.ar, &self.mav, &self.mac, f)?;
+        write_four(&self.mpr, &self.mui, &self.ms, &self.mc, f)?;
+        write_value(self.mi, f)?;
+        write_value(self.ma, f)
     }
 }
 

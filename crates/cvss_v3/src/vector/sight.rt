@@ -2,22 +2,17 @@
 //! printed, so that the text is gone through once, with no cutting and no searching. The other
 //! way, by components in any order and any case, is `reading`.
 
-ghost use Rattle.std.specs.Prelude.{◌≡◌, IfSome, Contains, ◌∷◌, ◌++◌, codes};
+ghost use Rattle.std.specs.Prelude.{◌≡◌, IfSome, Contains, ◌∷◌, ◌++◌, [], codes, drop, take};
+ghost use Rattle.cvss_grammar.specs.Text.{slash};
 ghost use Rattle.cvss_grammar.specs.Version.{numeral, canonical_text, version_piece, IsWellFormed};
 ghost use Rattle.cvss_text.specs.private.Printing.{slashed_texts};
-ghost use Rattle.cvss_grammar.specs.Text.{slash};
 ghost use Rattle.cvss_v3_metric.specs.Table.{metric_component, printed};
 ghost use Rattle.cvss_v3.specs.Vector.{v3};
-ghost use Rattle.cvss_v3.specs.private.Slashed.{slashed_value};
-
-mod base;
-mod optional;
+ghost use Rattle.cvss_v3.specs.private.Shown.{shown};
 
 use crate::vector::Vector;
-use base::base_at_sight;
 use cvss_text::sight::{behind_four, behind_name, put_read};
-use cvss_v3_metric::{MetricType, Spelled};
-use optional::others_at_sight;
+use cvss_v3_metric::Spelled;
 
 impl Vector {
     /// The vector whose canonical text this is, where that is seen at once: `None` tells nothing of
@@ -53,11 +48,7 @@ fn metrics_at_sight(minor_version: usize, text: &[u8]) -> Option<Vector>
     ensures text { IfSome result (λ vector. text.now ≡ slashed_texts v3 vector printed) }
     ensures version { IfSome result (λ vector. vector.minor_version ≡ minor_version) }
 {
-    let empty = Vector {
-        minor_version,
-        ..Vector::default()
-    };
-    let (base, text) = base_at_sight(empty, text)?;
+    let (base, text) = base_at_sight(minor_version, text)?;
     if text.is_empty() {
         return Some(base);
     }
@@ -66,25 +57,106 @@ fn metrics_at_sight(minor_version: usize, text: &[u8]) -> Option<Vector>
     if rest.is_empty() { Some(vector) } else { None }
 }
 
+/// The vector of the base metrics with which a text begins, if all of them do.
+#[inline(always)]
+fn base_at_sight(minor_version: usize, text: &[u8]) -> Option<(Vector, &[u8])>
+    ensures text { IfSome result (λ read. text.now
+        ≡ slashed_texts v3 read.0 (take 8 printed) ++ read.1.now) }
+    ensures version { IfSome result (λ read. read.0.minor_version ≡ minor_version) }
+    ensures bare { IfSome result (λ read. slashed_texts v3 read.0 (drop 8 printed) ≡ []) }
+{
+    // No eight base metrics are shorter, so their lengths are compared once.
+    if text.len() < 36 {
+        return None;
+    }
+    let (av, ac, pr, ui, text) = four_at_sight(text)?;
+    let (s, c, i, a, text) = four_at_sight(text)?;
+    let base = Vector {
+        minor_version,
+        av: Some(av),
+        ac: Some(ac),
+        pr: Some(pr),
+        ui: Some(ui),
+        s: Some(s),
+        c: Some(c),
+        i: Some(i),
+        a: Some(a),
+        ..Vector::default()
+    };
+    Some((base, text))
+}
+
+/// Puts the optional metrics with which a text begins into the vector, and gives what stands behind
+/// them.
+// A call of its own keeps the vector in memory, where each metric is stored once.
+#[inline(never)]
+fn others_at_sight<'a>(vector: &mut Vector, text: &'a [u8]) -> &'a [u8]
+    ensures text { text.now ≡ slashed_texts v3 vector.new (drop 8 printed) ++ result.now }
+    ensures version { vector.new.minor_version ≡ vector.old.minor_version }
+    ensures base { slashed_texts v3 vector.new (take 8 printed)
+        ≡ slashed_texts v3 vector.old (take 8 printed) }
+{
+    let text = put_three_at_sight(&mut vector.e, &mut vector.rl, &mut vector.rc, text);
+    let text = put_three_at_sight(&mut vector.cr, &mut vector.ir, &mut vector.ar, text);
+    let text = put_three_at_sight(&mut vector.mav, &mut vector.mac, &mut vector.mpr, text);
+    let text = put_three_at_sight(&mut vector.mui, &mut vector.ms, &mut vector.mc, text);
+    let text = put_at_sight(&mut vector.mi, text);
+    put_at_sight(&mut vector.ma, text)
+}
+
+/// The values of four metrics, where a text begins with a slash and the component of each, and what
+/// stands behind them.
+#[inline(always)]
+fn four_at_sight<K: Spelled, L: Spelled, M: Spelled, N: Spelled>(
+    text: &[u8],
+) -> Option<(K, L, M, N, &[u8])>
+    ensures { IfSome result (λ read. text.now
+        ≡ slash ∷ metric_component K.TYPE (K.value read.0)
+        ++ slash ∷ metric_component L.TYPE (L.value read.1)
+        ++ slash ∷ metric_component M.TYPE (M.value read.2)
+        ++ slash ∷ metric_component N.TYPE (N.value read.3) ++ read.4.now) }
+{
+    let (first, text) = component_at_sight(text)?;
+    let (second, text) = component_at_sight(text)?;
+    let (third, text) = component_at_sight(text)?;
+    let (fourth, text) = component_at_sight(text)?;
+    Some((first, second, third, fourth, text))
+}
+
+/// Puts the values of three metrics into their places, as far as a text begins with their components,
+/// and gives what stands behind these.
+#[inline(always)]
+fn put_three_at_sight<'a, K: Spelled, L: Spelled, M: Spelled>(
+    first: &mut Option<K>,
+    second: &mut Option<L>,
+    third: &mut Option<M>,
+    text: &'a [u8],
+) -> &'a [u8]
+    ensures { text.now ≡ shown K.TYPE K.value first.new ++ shown L.TYPE L.value second.new
+        ++ shown M.TYPE M.value third.new ++ result.now }
+{
+    let text = put_at_sight(first, text);
+    let text = put_at_sight(second, text);
+    put_at_sight(third, text)
+}
+
 /// Puts the value of a metric into its place, if a text begins with a slash and its component, and
 /// gives what stands behind that; else no value, and the text.
 #[inline(always)]
-fn put_at_sight<'a, M: Spelled>(kind: MetricType, place: &mut Option<M>, text: &'a [u8]) -> &'a [u8]
-    requires { kind ≡ M.kind }
-    ensures { text.now ≡ slashed_value M.kind M.value place.new ++ result.now }
+fn put_at_sight<'a, M: Spelled>(place: &mut Option<M>, text: &'a [u8]) -> &'a [u8]
+    ensures { text.now ≡ shown M.TYPE M.value place.new ++ result.now }
 {
-    put_read(place, component_at_sight(kind, text), text)
+    put_read(place, component_at_sight(text), text)
 }
 
 /// The value of a metric, where a text begins with a slash and its component, and what stands
 /// behind that.
 #[inline(always)]
-fn component_at_sight<M: Spelled>(kind: MetricType, text: &[u8]) -> Option<(M, &[u8])>
-    requires { kind ≡ M.kind }
+fn component_at_sight<M: Spelled>(text: &[u8]) -> Option<(M, &[u8])>
     ensures { IfSome result
-        (λ read. text.now ≡ slash ∷ (metric_component M.kind (M.value read.0) ++ read.1.now)) }
+        (λ read. text.now ≡ slash ∷ (metric_component M.TYPE (M.value read.0) ++ read.1.now)) }
 {
-    match behind_name(kind.name(), text)? {
+    match behind_name(M::TYPE.name(), text)? {
         [letter, rest @ ..] => Some((M::read_letter(*letter)?, rest)),
         [] => None,
     }

@@ -9,7 +9,7 @@ use Rattle.cvss_grammar.specs.Equality.{EqualsByValue}
 use Rattle.cvss_name.specs.declared.v3.MetricType.{MetricType}
 use Rattle.cvss_v3_metric.specs.declared.environmental.modified.Modified.{Modified}
 use Rattle.cvss_v3_metric.specs.declared.environmental.modified.Modified.TheVariants.{NotDefined, Modified as Set}
-use Rattle.cvss_v3_metric.specs.Metrics.{IsMetric, IsBaseMetric}
+use Rattle.cvss_v3_metric.specs.Metrics.{IsBaseMetric}
 use Rattle.cvss_v3_metric.specs.Table.{Value, rank_of}
 
 both_first : (m n : ℕ) → m ≡ 0 → n ≡ 0 → Equal ≡ nat_cmp m n
@@ -26,16 +26,16 @@ both_next m n k l next second = grind (arith, common_steps)
 
 -- modified values, the one that is not defined first and the others as the base metric's, compare as
 -- the ranks in the table do
-pub modified_order : {A : Type 0} {type kind modified_kind : MetricType} {value : A → Value kind} {modified : Modified A → Value modified_kind} {compared : A → A → Ordering} (in_turn : Modified A → Modified A → Ordering) → IsMetric type kind value compared → IsBaseMetric kind modified_kind value modified
+pub modified_order : {A : Type 0} {kind modified_kind : MetricType} {value : A → Value kind} {modified : Modified A → Value modified_kind} {compared : A → A → Ordering} (in_turn : Modified A → Modified A → Ordering) → ((x y : A) → compared x y ≡ nat_cmp (rank_of kind (value x)) (rank_of kind (value y))) → IsBaseMetric kind modified_kind value modified
     → in_turn NotDefined NotDefined ≡ Equal
     → ((y : A) → in_turn NotDefined (Set y) ≡ Less)
     → ((x : A) → in_turn (Set x) NotDefined ≡ Greater)
     → ((x y : A) → in_turn (Set x) (Set y) ≡ compared x y)
     → (x y : Modified A) → in_turn x y ≡ nat_cmp (rank_of modified_kind (modified x)) (rank_of modified_kind (modified y))
-modified_order in_turn metric base equal less greater set NotDefined NotDefined = equal ∙ both_first _ _ (base.rank NotDefined) (base.rank NotDefined)
-modified_order in_turn metric base equal less greater set NotDefined (Set y) = less y ∙ before_next _ _ _ (base.rank NotDefined) (base.rank (Set y))
-modified_order in_turn metric base equal less greater set (Set x) NotDefined = greater x ∙ after_first _ _ _ (base.rank (Set x)) (base.rank NotDefined)
-modified_order in_turn metric base equal less greater set (Set x) (Set y) = set x y ∙ metric.ordered x y ∙ both_next _ _ _ _ (base.rank (Set x)) (base.rank (Set y))
+modified_order in_turn ordered base equal less greater set NotDefined NotDefined = equal ∙ both_first _ _ (base.rank NotDefined) (base.rank NotDefined)
+modified_order in_turn ordered base equal less greater set NotDefined (Set y) = less y ∙ before_next _ _ _ (base.rank NotDefined) (base.rank (Set y))
+modified_order in_turn ordered base equal less greater set (Set x) NotDefined = greater x ∙ after_first _ _ _ (base.rank (Set x)) (base.rank NotDefined)
+modified_order in_turn ordered base equal less greater set (Set x) (Set y) = set x y ∙ ordered x y ∙ both_next _ _ _ _ (base.rank (Set x)) (base.rank (Set y))
 
 -- modified values, where those of the base metric are equal by value, are so too
 pub modified_equality : {A : Type 0} {equals : A → A → Bool} (in_turn : Modified A → Modified A → Bool) → EqualsByValue equals

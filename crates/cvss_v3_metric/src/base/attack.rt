@@ -1,12 +1,12 @@
 //! Where the attack comes from and what it depends on (v3.1 specification, sections 2.1.1 and 2.1.2).
 
-ghost use Rattle.std.specs.Prelude.{◌∷◌, ◌≡◌, Some, refl};
+ghost use Rattle.std.specs.Prelude.{◌∷◌, ◌≡◌, Some};
 ghost use Rattle.std.proofs.Common.{rules};
 ghost use Rattle.cvss_name.specs.declared.v3.MetricType.TheVariants.{AV, AC, MAV, MAC};
 ghost use Rattle.cvss_grammar.specs.Text.{slash};
 ghost use Rattle.cvss_v3_metric.specs.Table.{metric_component, default_complexity};
 
-use crate::environmental::{BaseMetric, Modifiable, Modified};
+use crate::environmental::{Modifiable, Modified};
 use crate::metric::{Metric, MetricType, Spelled};
 use cvss_text::print::write_component;
 use std::fmt;
@@ -21,39 +21,35 @@ pub enum AttackVector {
 }
 
 impl Spelled for AttackVector {
-    ghost kind = { AV };
+    const TYPE: MetricType = MetricType::AV;
+
+    ghost TYPE = { AV };
 
     ghost value = { λ metric. metric };
 
     fn row(self) -> (&'static str, Option<u64>) {
         match self {
-            AttackVector::Physical => ("/AV:P", Some(20)),
-            AttackVector::Local => ("/AV:L", Some(55)),
-            AttackVector::Adjacent => ("/AV:A", Some(62)),
-            AttackVector::Network => ("/AV:N", Some(85)),
+            Self::Physical => ("/AV:P", Some(20)),
+            Self::Local => ("/AV:L", Some(55)),
+            Self::Adjacent => ("/AV:A", Some(62)),
+            Self::Network => ("/AV:N", Some(85)),
         }
     }
 
     #[inline(always)]
     fn read_letter(letter: u8) -> Option<Self> {
         match letter {
-            b'P' => Some(AttackVector::Physical),
-            b'L' => Some(AttackVector::Local),
-            b'A' => Some(AttackVector::Adjacent),
-            b'N' => Some(AttackVector::Network),
+            b'P' => Some(Self::Physical),
+            b'L' => Some(Self::Local),
+            b'A' => Some(Self::Adjacent),
+            b'N' => Some(Self::Network),
             _ => None,
         }
     }
 }
 
 impl Metric for AttackVector {
-    const TYPE: MetricType = MetricType::AV;
-
-    ghost TYPE = { AV };
-
-    ghost law = { record { told = refl; covers = λ x. (x, refl); ordered = Prim.search rules } };
-
-    ghost by_value = { Prim.search rules };
+    ghost law = { Prim.search rules };
 }
 
 impl fmt::Display for AttackVector {
@@ -62,14 +58,16 @@ impl fmt::Display for AttackVector {
     ghost styled_output = { λ metric _. Some (metric_component AV metric) };
 
     fn fmt<W: fmt::Write>(&self, f: &mut fmt::Formatter<W>) -> fmt::Result {
-        write_component(self.row().0, f)
+        write_component(self.slashed(), f)
     }
 }
 
 impl Modifiable for AttackVector {
-    ghost modified_kind = { MAV };
+    const MODIFIED: MetricType = MetricType::MAV;
 
-    ghost modified = { λ metric. metric };
+    ghost MODIFIED = { MAV };
+
+    ghost modified_value = { λ metric. metric };
 
     ghost base_law = { Prim.search rules };
 
@@ -78,20 +76,12 @@ impl Modifiable for AttackVector {
     {
         match metric {
             Modified::NotDefined => "/MAV:X",
-            Modified::Modified(AttackVector::Physical) => "/MAV:P",
-            Modified::Modified(AttackVector::Local) => "/MAV:L",
-            Modified::Modified(AttackVector::Adjacent) => "/MAV:A",
-            Modified::Modified(AttackVector::Network) => "/MAV:N",
+            Modified::Modified(Self::Physical) => "/MAV:P",
+            Modified::Modified(Self::Local) => "/MAV:L",
+            Modified::Modified(Self::Adjacent) => "/MAV:A",
+            Modified::Modified(Self::Network) => "/MAV:N",
         }
     }
-}
-
-impl BaseMetric for AttackVector {
-    const MODIFIED_TYPE: MetricType = MetricType::MAV;
-
-    ghost MODIFIED_TYPE = { MAV };
-
-    ghost modified_is = { refl };
 }
 
 /// Whether an attack needs conditions beyond the attacker's control (v3.1 specification, section
@@ -106,40 +96,36 @@ impl Default for AttackComplexity {
     ghost is_default = { λ metric. metric ≡ default_complexity };
 
     fn default() -> Self {
-        AttackComplexity::High
+        Self::High
     }
 }
 
 impl Spelled for AttackComplexity {
-    ghost kind = { AC };
+    const TYPE: MetricType = MetricType::AC;
+
+    ghost TYPE = { AC };
 
     ghost value = { λ metric. metric };
 
     fn row(self) -> (&'static str, Option<u64>) {
         match self {
-            AttackComplexity::High => ("/AC:H", Some(44)),
-            AttackComplexity::Low => ("/AC:L", Some(77)),
+            Self::High => ("/AC:H", Some(44)),
+            Self::Low => ("/AC:L", Some(77)),
         }
     }
 
     #[inline(always)]
     fn read_letter(letter: u8) -> Option<Self> {
         match letter {
-            b'H' => Some(AttackComplexity::High),
-            b'L' => Some(AttackComplexity::Low),
+            b'H' => Some(Self::High),
+            b'L' => Some(Self::Low),
             _ => None,
         }
     }
 }
 
 impl Metric for AttackComplexity {
-    const TYPE: MetricType = MetricType::AC;
-
-    ghost TYPE = { AC };
-
-    ghost law = { record { told = refl; covers = λ x. (x, refl); ordered = Prim.search rules } };
-
-    ghost by_value = { Prim.search rules };
+    ghost law = { Prim.search rules };
 }
 
 impl fmt::Display for AttackComplexity {
@@ -148,14 +134,16 @@ impl fmt::Display for AttackComplexity {
     ghost styled_output = { λ metric _. Some (metric_component AC metric) };
 
     fn fmt<W: fmt::Write>(&self, f: &mut fmt::Formatter<W>) -> fmt::Result {
-        write_component(self.row().0, f)
+        write_component(self.slashed(), f)
     }
 }
 
 impl Modifiable for AttackComplexity {
-    ghost modified_kind = { MAC };
+    const MODIFIED: MetricType = MetricType::MAC;
 
-    ghost modified = { λ metric. metric };
+    ghost MODIFIED = { MAC };
+
+    ghost modified_value = { λ metric. metric };
 
     ghost base_law = { Prim.search rules };
 
@@ -164,16 +152,8 @@ impl Modifiable for AttackComplexity {
     {
         match metric {
             Modified::NotDefined => "/MAC:X",
-            Modified::Modified(AttackComplexity::High) => "/MAC:H",
-            Modified::Modified(AttackComplexity::Low) => "/MAC:L",
+            Modified::Modified(Self::High) => "/MAC:H",
+            Modified::Modified(Self::Low) => "/MAC:L",
         }
     }
-}
-
-impl BaseMetric for AttackComplexity {
-    const MODIFIED_TYPE: MetricType = MetricType::MAC;
-
-    ghost MODIFIED_TYPE = { MAC };
-
-    ghost modified_is = { refl };
 }

@@ -1,12 +1,12 @@
 //! The impact on the component that suffers most (v3.1 specification, section 2.3).
 
-ghost use Rattle.std.specs.Prelude.{◌≡◌, ◌∷◌, Some, refl};
+ghost use Rattle.std.specs.Prelude.{◌≡◌, ◌∷◌, Some};
 ghost use Rattle.std.proofs.Common.{rules};
 ghost use Rattle.cvss_name.specs.declared.v3.MetricType.TheVariants.{C, I, A, MC, MI, MA};
 ghost use Rattle.cvss_grammar.specs.Text.{slash};
 ghost use Rattle.cvss_v3_metric.specs.Table.{metric_component};
 
-use crate::environmental::{BaseMetric, Modifiable, Modified};
+use crate::environmental::{Modifiable, Modified};
 use crate::metric::{Metric, MetricType, Spelled};
 use cvss_text::print::write_component;
 use std::fmt;
@@ -20,37 +20,33 @@ pub enum Confidentiality {
 }
 
 impl Spelled for Confidentiality {
-    ghost kind = { C };
+    const TYPE: MetricType = MetricType::C;
+
+    ghost TYPE = { C };
 
     ghost value = { λ metric. metric };
 
     fn row(self) -> (&'static str, Option<u64>) {
         match self {
-            Confidentiality::None => ("/C:N", Some(0)),
-            Confidentiality::Low => ("/C:L", Some(22)),
-            Confidentiality::High => ("/C:H", Some(56)),
+            Self::None => ("/C:N", Some(0)),
+            Self::Low => ("/C:L", Some(22)),
+            Self::High => ("/C:H", Some(56)),
         }
     }
 
     #[inline(always)]
     fn read_letter(letter: u8) -> Option<Self> {
         match letter {
-            b'N' => Some(Confidentiality::None),
-            b'L' => Some(Confidentiality::Low),
-            b'H' => Some(Confidentiality::High),
+            b'N' => Some(Self::None),
+            b'L' => Some(Self::Low),
+            b'H' => Some(Self::High),
             _ => None,
         }
     }
 }
 
 impl Metric for Confidentiality {
-    const TYPE: MetricType = MetricType::C;
-
-    ghost TYPE = { C };
-
-    ghost law = { record { told = refl; covers = λ x. (x, refl); ordered = Prim.search rules } };
-
-    ghost by_value = { Prim.search rules };
+    ghost law = { Prim.search rules };
 }
 
 impl fmt::Display for Confidentiality {
@@ -59,14 +55,16 @@ impl fmt::Display for Confidentiality {
     ghost styled_output = { λ metric _. Some (metric_component C metric) };
 
     fn fmt<W: fmt::Write>(&self, f: &mut fmt::Formatter<W>) -> fmt::Result {
-        write_component(self.row().0, f)
+        write_component(self.slashed(), f)
     }
 }
 
 impl Modifiable for Confidentiality {
-    ghost modified_kind = { MC };
+    const MODIFIED: MetricType = MetricType::MC;
 
-    ghost modified = { λ metric. metric };
+    ghost MODIFIED = { MC };
+
+    ghost modified_value = { λ metric. metric };
 
     ghost base_law = { Prim.search rules };
 
@@ -75,19 +73,11 @@ impl Modifiable for Confidentiality {
     {
         match metric {
             Modified::NotDefined => "/MC:X",
-            Modified::Modified(Confidentiality::None) => "/MC:N",
-            Modified::Modified(Confidentiality::Low) => "/MC:L",
-            Modified::Modified(Confidentiality::High) => "/MC:H",
+            Modified::Modified(Self::None) => "/MC:N",
+            Modified::Modified(Self::Low) => "/MC:L",
+            Modified::Modified(Self::High) => "/MC:H",
         }
     }
-}
-
-impl BaseMetric for Confidentiality {
-    const MODIFIED_TYPE: MetricType = MetricType::MC;
-
-    ghost MODIFIED_TYPE = { MC };
-
-    ghost modified_is = { refl };
 }
 
 /// What can no longer be trusted to be genuine (v3.1 specification, section 2.3.2).
@@ -99,37 +89,33 @@ pub enum Integrity {
 }
 
 impl Spelled for Integrity {
-    ghost kind = { I };
+    const TYPE: MetricType = MetricType::I;
+
+    ghost TYPE = { I };
 
     ghost value = { λ metric. metric };
 
     fn row(self) -> (&'static str, Option<u64>) {
         match self {
-            Integrity::None => ("/I:N", Some(0)),
-            Integrity::Low => ("/I:L", Some(22)),
-            Integrity::High => ("/I:H", Some(56)),
+            Self::None => ("/I:N", Some(0)),
+            Self::Low => ("/I:L", Some(22)),
+            Self::High => ("/I:H", Some(56)),
         }
     }
 
     #[inline(always)]
     fn read_letter(letter: u8) -> Option<Self> {
         match letter {
-            b'N' => Some(Integrity::None),
-            b'L' => Some(Integrity::Low),
-            b'H' => Some(Integrity::High),
+            b'N' => Some(Self::None),
+            b'L' => Some(Self::Low),
+            b'H' => Some(Self::High),
             _ => None,
         }
     }
 }
 
 impl Metric for Integrity {
-    const TYPE: MetricType = MetricType::I;
-
-    ghost TYPE = { I };
-
-    ghost law = { record { told = refl; covers = λ x. (x, refl); ordered = Prim.search rules } };
-
-    ghost by_value = { Prim.search rules };
+    ghost law = { Prim.search rules };
 }
 
 impl fmt::Display for Integrity {
@@ -138,14 +124,16 @@ impl fmt::Display for Integrity {
     ghost styled_output = { λ metric _. Some (metric_component I metric) };
 
     fn fmt<W: fmt::Write>(&self, f: &mut fmt::Formatter<W>) -> fmt::Result {
-        write_component(self.row().0, f)
+        write_component(self.slashed(), f)
     }
 }
 
 impl Modifiable for Integrity {
-    ghost modified_kind = { MI };
+    const MODIFIED: MetricType = MetricType::MI;
 
-    ghost modified = { λ metric. metric };
+    ghost MODIFIED = { MI };
+
+    ghost modified_value = { λ metric. metric };
 
     ghost base_law = { Prim.search rules };
 
@@ -154,19 +142,11 @@ impl Modifiable for Integrity {
     {
         match metric {
             Modified::NotDefined => "/MI:X",
-            Modified::Modified(Integrity::None) => "/MI:N",
-            Modified::Modified(Integrity::Low) => "/MI:L",
-            Modified::Modified(Integrity::High) => "/MI:H",
+            Modified::Modified(Self::None) => "/MI:N",
+            Modified::Modified(Self::Low) => "/MI:L",
+            Modified::Modified(Self::High) => "/MI:H",
         }
     }
-}
-
-impl BaseMetric for Integrity {
-    const MODIFIED_TYPE: MetricType = MetricType::MI;
-
-    ghost MODIFIED_TYPE = { MI };
-
-    ghost modified_is = { refl };
 }
 
 /// What can no longer be used (v3.1 specification, section 2.3.3).
@@ -178,37 +158,33 @@ pub enum Availability {
 }
 
 impl Spelled for Availability {
-    ghost kind = { A };
+    const TYPE: MetricType = MetricType::A;
+
+    ghost TYPE = { A };
 
     ghost value = { λ metric. metric };
 
     fn row(self) -> (&'static str, Option<u64>) {
         match self {
-            Availability::None => ("/A:N", Some(0)),
-            Availability::Low => ("/A:L", Some(22)),
-            Availability::High => ("/A:H", Some(56)),
+            Self::None => ("/A:N", Some(0)),
+            Self::Low => ("/A:L", Some(22)),
+            Self::High => ("/A:H", Some(56)),
         }
     }
 
     #[inline(always)]
     fn read_letter(letter: u8) -> Option<Self> {
         match letter {
-            b'N' => Some(Availability::None),
-            b'L' => Some(Availability::Low),
-            b'H' => Some(Availability::High),
+            b'N' => Some(Self::None),
+            b'L' => Some(Self::Low),
+            b'H' => Some(Self::High),
             _ => None,
         }
     }
 }
 
 impl Metric for Availability {
-    const TYPE: MetricType = MetricType::A;
-
-    ghost TYPE = { A };
-
-    ghost law = { record { told = refl; covers = λ x. (x, refl); ordered = Prim.search rules } };
-
-    ghost by_value = { Prim.search rules };
+    ghost law = { Prim.search rules };
 }
 
 impl fmt::Display for Availability {
@@ -217,14 +193,16 @@ impl fmt::Display for Availability {
     ghost styled_output = { λ metric _. Some (metric_component A metric) };
 
     fn fmt<W: fmt::Write>(&self, f: &mut fmt::Formatter<W>) -> fmt::Result {
-        write_component(self.row().0, f)
+        write_component(self.slashed(), f)
     }
 }
 
 impl Modifiable for Availability {
-    ghost modified_kind = { MA };
+    const MODIFIED: MetricType = MetricType::MA;
 
-    ghost modified = { λ metric. metric };
+    ghost MODIFIED = { MA };
+
+    ghost modified_value = { λ metric. metric };
 
     ghost base_law = { Prim.search rules };
 
@@ -233,17 +211,9 @@ impl Modifiable for Availability {
     {
         match metric {
             Modified::NotDefined => "/MA:X",
-            Modified::Modified(Availability::None) => "/MA:N",
-            Modified::Modified(Availability::Low) => "/MA:L",
-            Modified::Modified(Availability::High) => "/MA:H",
+            Modified::Modified(Self::None) => "/MA:N",
+            Modified::Modified(Self::Low) => "/MA:L",
+            Modified::Modified(Self::High) => "/MA:H",
         }
     }
-}
-
-impl BaseMetric for Availability {
-    const MODIFIED_TYPE: MetricType = MetricType::MA;
-
-    ghost MODIFIED_TYPE = { MA };
-
-    ghost modified_is = { refl };
 }

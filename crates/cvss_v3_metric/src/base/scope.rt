@@ -1,6 +1,6 @@
 //! How far the impact goes (v3.1 specification, section 2.2).
 
-ghost use Rattle.std.specs.Prelude.{◌≡◌, ◌↔◌, IsTrue, Some, refl};
+ghost use Rattle.std.specs.Prelude.{◌≡◌, ◌↔◌, IsTrue, Some};
 ghost use Rattle.std.proofs.Common.{rules};
 ghost use Rattle.cvss_name.specs.declared.v3.MetricType.TheVariants.{S};
 ghost use Rattle.cvss_v3_metric.specs.Table.{metric_component};
@@ -18,35 +18,31 @@ pub enum Scope {
 }
 
 impl Spelled for Scope {
-    ghost kind = { S };
+    const TYPE: MetricType = MetricType::S;
+
+    ghost TYPE = { S };
 
     ghost value = { λ metric. metric };
 
     fn row(self) -> (&'static str, Option<u64>) {
         match self {
-            Scope::Unchanged => ("/S:U", None),
-            Scope::Changed => ("/S:C", None),
+            Self::Unchanged => ("/S:U", None),
+            Self::Changed => ("/S:C", None),
         }
     }
 
     #[inline(always)]
     fn read_letter(letter: u8) -> Option<Self> {
         match letter {
-            b'U' => Some(Scope::Unchanged),
-            b'C' => Some(Scope::Changed),
+            b'U' => Some(Self::Unchanged),
+            b'C' => Some(Self::Changed),
             _ => None,
         }
     }
 }
 
 impl Metric for Scope {
-    const TYPE: MetricType = MetricType::S;
-
-    ghost TYPE = { S };
-
-    ghost law = { record { told = refl; covers = λ x. (x, refl); ordered = Prim.search rules } };
-
-    ghost by_value = { Prim.search rules };
+    ghost law = { Prim.search rules };
 }
 
 impl fmt::Display for Scope {
@@ -55,7 +51,7 @@ impl fmt::Display for Scope {
     ghost styled_output = { λ metric _. Some (metric_component S metric) };
 
     fn fmt<W: fmt::Write>(&self, f: &mut fmt::Formatter<W>) -> fmt::Result {
-        write_component(self.row().0, f)
+        write_component(self.slashed(), f)
     }
 }
 
@@ -64,6 +60,6 @@ impl Scope {
     pub fn is_changed(self) -> bool
         ensures { IsTrue result ↔ (self ≡ Scope.Changed) }
     {
-        self == Scope::Changed
+        self == Self::Changed
     }
 }

@@ -1,15 +1,17 @@
 //! The modified base metrics (v3.1 specification, section 4.2).
 
 ghost use Rattle.std.specs.Prelude.{◌≡◌, ◌∷◌, ◌*◌, ◌^◌, pos, Some, refl};
+ghost use Rattle.std.proofs.Common.{rules};
 ghost use Rattle.cvss_number.specs.Exact.{IsWithinLimit};
 ghost use Rattle.cvss_grammar.specs.Text.{slash};
 ghost use Rattle.cvss_name.specs.declared.v3.MetricType.{MetricType};
+ghost use Rattle.cvss_name.specs.declared.v3.MetricType.TheVariants.{MS};
 ghost use Rattle.cvss_v3_metric.specs.Table.{scoped_weight, Value, weight_of, metric_component};
 ghost use Rattle.cvss_v3_metric.specs.Metrics.{IsBaseMetric};
 ghost use Rattle.cvss_v3_metric.specs.Modified.{replaced, weight_or};
 
-use crate::base::PrivilegesRequired;
-use crate::metric::{HUNDREDTH, Metric, MetricType, Spelled};
+use crate::base::{PrivilegesRequired, Scope};
+use crate::metric::{Metric, MetricType, Spelled};
 use cvss_text::print::write_component;
 use std::fmt;
 
@@ -24,15 +26,18 @@ pub enum Modified<T> {
 pub trait Modifiable: Spelled {
     ghost use Rattle.cvss_v3_metric.specs.declared.environmental.modified.Modified.{Modified};
 
-    ghost modified_kind: { MetricType };
+    /// The modified metric.
+    const MODIFIED: MetricType;
 
-    ghost modified: { Modified Self → Value modified_kind };
+    ghost MODIFIED: { MetricType };
+
+    ghost modified_value: { Modified Self → Value MODIFIED };
 
     /// A slash and the component that stands for the modified value in a vector.
     fn modified_slashed(metric: Modified<Self>) -> &'static str
-        ensures { result.now ≡ slash ∷ metric_component modified_kind (modified metric) };
+        ensures { result.now ≡ slash ∷ metric_component MODIFIED (modified_value metric) };
 
-    ghost base_law: { IsBaseMetric Self.kind modified_kind Self.value modified };
+    ghost base_law: { IsBaseMetric Self.TYPE MODIFIED Self.value modified_value };
 }
 
 /// A base metric that a modified metric can replace.
@@ -42,13 +47,23 @@ pub trait BaseMetric: Metric + Modifiable {
 
     ghost MODIFIED_TYPE: { MetricType };
 
-    ghost modified_is: { MODIFIED_TYPE ≡ Self.modified_kind };
+    ghost modified_is: { MODIFIED_TYPE ≡ Self.MODIFIED };
+}
+
+impl<T: Metric + Modifiable> BaseMetric for T {
+    const MODIFIED_TYPE: MetricType = T::MODIFIED;
+
+    ghost MODIFIED_TYPE = { T.MODIFIED };
+
+    ghost modified_is = { refl };
 }
 
 impl<T: Modifiable> Spelled for Modified<T> {
-    ghost kind = { T.modified_kind };
+    const TYPE: MetricType = T::MODIFIED;
 
-    ghost value = { T.modified };
+    ghost TYPE = { T.MODIFIED };
+
+    ghost value = { T.modified_value };
 
     fn row(self) -> (&'static str, Option<u64>) {
         (T::modified_slashed(self), Some(0))
@@ -65,29 +80,20 @@ impl<T: Modifiable> Spelled for Modified<T> {
 
 impl<T: BaseMetric> Metric for Modified<T> {
     ghost use Rattle.cvss_v3_metric.specs.private.ModifiedLaws.{modified_order, modified_equality};
-    ghost use Rattle.std.proofs.Common.{rules};
-
-    const TYPE: MetricType = T::MODIFIED_TYPE;
-
-    ghost TYPE = { T.MODIFIED_TYPE };
 
     ghost law = { record {
-      told = T.modified_is;
       covers = T.base_law.covers;
-      ordered = modified_order _ T.law T.base_law refl (λ y. refl) (λ x. refl) (λ x y. refl);
+      ordered = modified_order _ T.law.ordered T.base_law refl (λ y. refl) (λ x. refl) (λ x y. refl);
+      equal = modified_equality _ T.law.equal refl (λ y. refl) (λ x. refl) (λ x y. refl);
+      cloned = Prim.search rules;
+      clonable = Prim.search rules;
     } };
-
-    ghost by_value = { (
-      modified_equality _ T.by_value.0 refl (λ y. refl) (λ x. refl) (λ x y. refl),
-      Prim.search rules,
-      Prim.search rules,
-    ) };
 }
 
 impl<T: Modifiable> fmt::Display for Modified<T> {
-    ghost output = { λ metric. Some (metric_component T.modified_kind (T.modified metric)) };
+    ghost output = { λ metric. Some (metric_component T.MODIFIED (T.modified_value metric)) };
 
-    ghost styled_output = { λ metric _. Some (metric_component T.modified_kind (T.modified metric)) };
+    ghost styled_output = { λ metric _. Some (metric_component T.MODIFIED (T.modified_value metric)) };
 
     fn fmt<W: fmt::Write>(&self, f: &mut fmt::Formatter<W>) -> fmt::Result {
         write_component(T::modified_slashed(*self), f)
@@ -109,7 +115,7 @@ impl<T: Modifiable> Modified<T> {
 impl<T: BaseMetric> Modified<T> {
     /// The weight of the value that is set, and else of the base metric's, in counts of 10^-24.
     pub fn modified_score(self, base: Option<T>) -> i128
-        ensures value { result ≡ pos (weight_or (λ value. weight_of T.kind (T.value value))
+        ensures value { result ≡ pos (weight_or (λ value. weight_of T.TYPE (T.value value))
             (replaced self base) 0 * 10 ^ 22) }
         ensures limit { IsWithinLimit result }
     {
@@ -132,5 +138,50 @@ impl Modified<PrivilegesRequired> {
             Some(value) => value.scoped_score(scope_changed),
             None => 0,
         }
+    }
+}
+
+/// A scope that replaces that of the base metrics, if one is set.
+#[derive(Clone, Copy, Debug, PartialEq, Eq, PartialOrd, Ord)]
+pub enum ModifiedScope {
+    NotDefined,
+    Modified(Scope),
+}
+
+impl Spelled for ModifiedScope {
+    const TYPE: MetricType = MetricType::MS;
+
+    ghost TYPE = { MS };
+
+    ghost value = { λ metric. metric };
+
+    fn row(self) -> (&'static str, Option<u64>) {
+        match self {
+            Self::NotDefined => ("/MS:X", Some(0)),
+            Self::Modified(Scope::Unchanged) => ("/MS:U", None),
+            Self::Modified(Scope::Changed) => ("/MS:C", None),
+        }
+    }
+
+    #[inline(always)]
+    fn read_letter(letter: u8) -> Option<Self> {
+        match letter {
+            b'X' => Some(Self::NotDefined),
+            _ => Some(Self::Modified(Scope::read_letter(letter)?)),
+        }
+    }
+}
+
+impl Metric for ModifiedScope {
+    ghost law = { Prim.search rules };
+}
+
+impl fmt::Display for ModifiedScope {
+    ghost output = { λ metric. Some (metric_component MS metric) };
+
+    ghost styled_output = { λ metric _. Some (metric_component MS metric) };
+
+    fn fmt<W: fmt::Write>(&self, f: &mut fmt::Formatter<W>) -> fmt::Result {
+        write_component(self.slashed(), f)
     }
 }

@@ -1,6 +1,6 @@
 //! The security requirements (v3.1 specification, section 4.1).
 
-ghost use Rattle.std.specs.Prelude.{Some, refl};
+ghost use Rattle.std.specs.Prelude.{Some};
 ghost use Rattle.std.proofs.Common.{rules};
 ghost use Rattle.cvss_name.specs.declared.v3.MetricType.TheVariants.{CR, IR, AR};
 ghost use Rattle.cvss_v3_metric.specs.Table.{metric_component};
@@ -19,39 +19,35 @@ pub enum ConfidentialityRequirement {
 }
 
 impl Spelled for ConfidentialityRequirement {
-    ghost kind = { CR };
+    const TYPE: MetricType = MetricType::CR;
+
+    ghost TYPE = { CR };
 
     ghost value = { λ metric. metric };
 
     fn row(self) -> (&'static str, Option<u64>) {
         match self {
-            ConfidentialityRequirement::NotDefined => ("/CR:X", Some(100)),
-            ConfidentialityRequirement::High => ("/CR:H", Some(150)),
-            ConfidentialityRequirement::Medium => ("/CR:M", Some(100)),
-            ConfidentialityRequirement::Low => ("/CR:L", Some(50)),
+            Self::NotDefined => ("/CR:X", Some(100)),
+            Self::High => ("/CR:H", Some(150)),
+            Self::Medium => ("/CR:M", Some(100)),
+            Self::Low => ("/CR:L", Some(50)),
         }
     }
 
     #[inline(always)]
     fn read_letter(letter: u8) -> Option<Self> {
         match letter {
-            b'X' => Some(ConfidentialityRequirement::NotDefined),
-            b'H' => Some(ConfidentialityRequirement::High),
-            b'M' => Some(ConfidentialityRequirement::Medium),
-            b'L' => Some(ConfidentialityRequirement::Low),
+            b'X' => Some(Self::NotDefined),
+            b'H' => Some(Self::High),
+            b'M' => Some(Self::Medium),
+            b'L' => Some(Self::Low),
             _ => None,
         }
     }
 }
 
 impl Metric for ConfidentialityRequirement {
-    const TYPE: MetricType = MetricType::CR;
-
-    ghost TYPE = { CR };
-
-    ghost law = { record { told = refl; covers = λ x. (x, refl); ordered = Prim.search rules } };
-
-    ghost by_value = { Prim.search rules };
+    ghost law = { Prim.search rules };
 }
 
 impl fmt::Display for ConfidentialityRequirement {
@@ -60,7 +56,7 @@ impl fmt::Display for ConfidentialityRequirement {
     ghost styled_output = { λ metric _. Some (metric_component CR metric) };
 
     fn fmt<W: fmt::Write>(&self, f: &mut fmt::Formatter<W>) -> fmt::Result {
-        write_component(self.row().0, f)
+        write_component(self.slashed(), f)
     }
 }
 
@@ -74,39 +70,35 @@ pub enum IntegrityRequirement {
 }
 
 impl Spelled for IntegrityRequirement {
-    ghost kind = { IR };
+    const TYPE: MetricType = MetricType::IR;
+
+    ghost TYPE = { IR };
 
     ghost value = { λ metric. metric };
 
     fn row(self) -> (&'static str, Option<u64>) {
         match self {
-            IntegrityRequirement::NotDefined => ("/IR:X", Some(100)),
-            IntegrityRequirement::High => ("/IR:H", Some(150)),
-            IntegrityRequirement::Medium => ("/IR:M", Some(100)),
-            IntegrityRequirement::Low => ("/IR:L", Some(50)),
+            Self::NotDefined => ("/IR:X", Some(100)),
+            Self::High => ("/IR:H", Some(150)),
+            Self::Medium => ("/IR:M", Some(100)),
+            Self::Low => ("/IR:L", Some(50)),
         }
     }
 
     #[inline(always)]
     fn read_letter(letter: u8) -> Option<Self> {
         match letter {
-            b'X' => Some(IntegrityRequirement::NotDefined),
-            b'H' => Some(IntegrityRequirement::High),
-            b'M' => Some(IntegrityRequirement::Medium),
-            b'L' => Some(IntegrityRequirement::Low),
+            b'X' => Some(Self::NotDefined),
+            b'H' => Some(Self::High),
+            b'M' => Some(Self::Medium),
+            b'L' => Some(Self::Low),
             _ => None,
         }
     }
 }
 
 impl Metric for IntegrityRequirement {
-    const TYPE: MetricType = MetricType::IR;
-
-    ghost TYPE = { IR };
-
-    ghost law = { record { told = refl; covers = λ x. (x, refl); ordered = Prim.search rules } };
-
-    ghost by_value = { Prim.search rules };
+    ghost law = { Prim.search rules };
 }
 
 impl fmt::Display for IntegrityRequirement {
@@ -115,7 +107,7 @@ impl fmt::Display for IntegrityRequirement {
     ghost styled_output = { λ metric _. Some (metric_component IR metric) };
 
     fn fmt<W: fmt::Write>(&self, f: &mut fmt::Formatter<W>) -> fmt::Result {
-        write_component(self.row().0, f)
+        write_component(self.slashed(), f)
     }
 }
 
@@ -129,39 +121,35 @@ pub enum AvailabilityRequirement {
 }
 
 impl Spelled for AvailabilityRequirement {
-    ghost kind = { AR };
+    const TYPE: MetricType = MetricType::AR;
+
+    ghost TYPE = { AR };
 
     ghost value = { λ metric. metric };
 
     fn row(self) -> (&'static str, Option<u64>) {
         match self {
-            AvailabilityRequirement::NotDefined => ("/AR:X", Some(100)),
-            AvailabilityRequirement::High => ("/AR:H", Some(150)),
-            AvailabilityRequirement::Medium => ("/AR:M", Some(100)),
-            AvailabilityRequirement::Low => ("/AR:L", Some(50)),
+            Self::NotDefined => ("/AR:X", Some(100)),
+            Self::High => ("/AR:H", Some(150)),
+            Self::Medium => ("/AR:M", Some(100)),
+            Self::Low => ("/AR:L", Some(50)),
         }
     }
 
     #[inline(always)]
     fn read_letter(letter: u8) -> Option<Self> {
         match letter {
-            b'X' => Some(AvailabilityRequirement::NotDefined),
-            b'H' => Some(AvailabilityRequirement::High),
-            b'M' => Some(AvailabilityRequirement::Medium),
-            b'L' => Some(AvailabilityRequirement::Low),
+            b'X' => Some(Self::NotDefined),
+            b'H' => Some(Self::High),
+            b'M' => Some(Self::Medium),
+            b'L' => Some(Self::Low),
             _ => None,
         }
     }
 }
 
 impl Metric for AvailabilityRequirement {
-    const TYPE: MetricType = MetricType::AR;
-
-    ghost TYPE = { AR };
-
-    ghost law = { record { told = refl; covers = λ x. (x, refl); ordered = Prim.search rules } };
-
-    ghost by_value = { Prim.search rules };
+    ghost law = { Prim.search rules };
 }
 
 impl fmt::Display for AvailabilityRequirement {
@@ -170,6 +158,6 @@ impl fmt::Display for AvailabilityRequirement {
     ghost styled_output = { λ metric _. Some (metric_component AR metric) };
 
     fn fmt<W: fmt::Write>(&self, f: &mut fmt::Formatter<W>) -> fmt::Result {
-        write_component(self.row().0, f)
+        write_component(self.slashed(), f)
     }
 }

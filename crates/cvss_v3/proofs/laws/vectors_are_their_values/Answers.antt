@@ -1,10 +1,10 @@
 use Rattle.std.proofs.Common.{◌≡◌, Bool, true, false, Option, rules, arith, refl}
 use Rattle.std.specs.Option.{option_eq}
 use Rattle.cvss_name.specs.declared.v3.MetricType.TheVariants.{A}
-use Rattle.cvss_v3_metric.specs.contracts.environmental.modified_scope.ModifiedScopePartialEq.TheImpl.{ghosts}
+use Rattle.cvss_v3_metric.specs.contracts.environmental.modified.ModifiedScopePartialEq.TheImpl.{ghosts}
 use Rattle.cvss_v3_metric.specs.declared.environmental.modified.Modified.{Modified}
 use Rattle.cvss_v3_metric.specs.declared.environmental.modified.Modified.TheVariants.{NotDefined, Modified as Set}
-use Rattle.cvss_v3_metric.specs.declared.environmental.modified_scope.ModifiedScope.{ModifiedScope}
+use Rattle.cvss_v3_metric.specs.declared.environmental.modified.ModifiedScope.{ModifiedScope}
 use Rattle.cvss_v3_metric.specs.private.ModifiedLaws.{modified_equality}
 use Rattle.cvss_base.proofs.EqualLemmas.{Tells, Telling, options, comparisons}
 use Rattle.cvss_v3.specs.contracts.vector.VectorEq.TheImpl.Laws.{laws-law}
