@@ -1,10 +1,12 @@
 -- A canonical text is the components of its vector, each behind a slash, but for the first slash.
-use Rattle.std.proofs.Common.{◌≡◌, ℕ, List, [], ◌∷◌, ◌++◌, drop, Option, Some, None, IsSome, option_map, unwrap_or, refl, sym, ap, ◌∙◌, lit<}
+use Rattle.std.proofs.Common.{◌≡◌, ℕ, List, [], ◌∷◌, ◌++◌, drop, Option, Some, None, IfSome, IsSome, option_map, unwrap_or, refl, sym, ap, ◌∙◌, lit<}
 use Rattle.cvss_text.specs.private.Printing.{slashed, slashed_texts}
 use Rattle.cvss_grammar.specs.Text.{slash, component}
 use Rattle.cvss_name.specs.V2Types.{name_of}
 use Rattle.cvss_name.specs.declared.v2.MetricType.TheVariants.{AV}
+use Rattle.cvss_text.proofs.MissingLemmas.{IsComplete-from}
 use Rattle.cvss_text.proofs.PrintLemmas.{joined-slashed}
+use Rattle.cvss_text.specs.private.Walk.{first_missing}
 use Rattle.cvss_v2_metric.specs.declared.base.access.AccessVector.{AccessVector}
 use Rattle.cvss_v2_metric.specs.Table.{metric_component, spelling_of, printed}
 use Rattle.cvss_grammar.specs.Version.{canonical_text, IsComplete}
@@ -22,7 +24,12 @@ first_held vector (Some av) held some =
     ap (λ value. drop 1 (unwrap_or (slashed (option_map (component (name_of AV)) (option_map (spelling_of AV) value))) [] ++ slashed_texts v2 vector (drop 1 printed))) held
     ∙ text_from_first vector av (slash ∷ metric_component AV av) held refl
 
--- a text that is the components of a complete vector, each behind a slash, but for the first slash
-pub text_without_slash : (text : List ℕ) (vector : Vector) → IsComplete v2 vector → slash ∷ text ≡ slashed_texts v2 vector printed → text ≡ canonical_text v2 vector
-text_without_slash text vector complete same =
-    ap (drop 1) same ∙ first_held vector vector.av refl (complete.present AV (0, lit< tt, refl))
+-- a vector that lacks no base metric is complete
+pub complete : (vector : Vector) → first_missing v2 vector ≡ None → IsComplete v2 vector
+complete = IsComplete-from v2
+
+-- a text that is the components of such a vector, each behind a slash, but for the first slash
+pub text_without_slash : (text begun : List ℕ) (seen : Option Vector) → slash ∷ text ≡ begun → IfSome seen (λ vector. first_missing v2 vector ≡ None) → IfSome seen (λ vector. begun ≡ slashed_texts v2 vector printed) → IfSome seen (λ vector. text ≡ canonical_text v2 vector)
+text_without_slash text begun None begins present whole = tt
+text_without_slash text begun (Some vector) begins present whole =
+    ap (drop 1) (begins ∙ whole) ∙ first_held vector vector.av refl ((complete vector present).present AV (0, lit< tt, refl))

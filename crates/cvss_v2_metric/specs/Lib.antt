@@ -1,2 +1,3 @@
+pub mod Metrics
 pub mod Table
 pub mod private

@@ -1,6 +1,6 @@
 //! The temporal metrics (guide, section 2.2).
 
-ghost use Rattle.std.specs.Prelude.{Some, refl};
+ghost use Rattle.std.specs.Prelude.{Some};
 ghost use Rattle.std.proofs.Common.{rules};
 ghost use Rattle.cvss_name.specs.declared.v2.MetricType.TheVariants.{E, RL, RC};
 ghost use Rattle.cvss_v2_metric.specs.Table.{metric_component};
@@ -20,44 +20,35 @@ pub enum Exploitability {
 }
 
 impl Spelled for Exploitability {
-    ghost kind = { E };
+    const TYPE: MetricType = MetricType::E;
+
+    ghost TYPE = { E };
 
     ghost value = { λ metric. metric };
 
-    fn row(self) -> (&'static str, u64) {
-        match self {
-            Exploitability::Unproven => ("/E:U", 850),
-            Exploitability::ProofOfConcept => ("/E:POC", 900),
-            Exploitability::Functional => ("/E:F", 950),
-            Exploitability::High => ("/E:H", 1000),
-            Exploitability::NotDefined => ("/E:ND", 1000),
-        }
+    fn values() -> &'static [Self] {
+        &[
+            Self::Unproven,
+            Self::ProofOfConcept,
+            Self::Functional,
+            Self::High,
+            Self::NotDefined,
+        ]
     }
 
-    fn read_bytes(text: &[u8]) -> Option<Self> {
-        match text {
-            b"U" => Some(Exploitability::Unproven),
-            b"POC" => Some(Exploitability::ProofOfConcept),
-            b"F" => Some(Exploitability::Functional),
-            b"H" => Some(Exploitability::High),
-            b"ND" => Some(Exploitability::NotDefined),
-            _ => None,
+    fn row(self) -> (&'static str, u64) {
+        match self {
+            Self::Unproven => ("/E:U", 850),
+            Self::ProofOfConcept => ("/E:POC", 900),
+            Self::Functional => ("/E:F", 950),
+            Self::High => ("/E:H", 1000),
+            Self::NotDefined => ("/E:ND", 1000),
         }
     }
 }
 
 impl Metric for Exploitability {
-    const TYPE: MetricType = MetricType::E;
-
-    ghost TYPE = { E };
-
-    ghost type_is = { refl };
-
-    ghost covers = { λ x. (x, refl) };
-
-    ghost ordered = { Prim.search rules };
-
-    ghost by_value = { Prim.search rules };
+    ghost law = { Prim.search rules };
 }
 
 impl fmt::Display for Exploitability {
@@ -81,44 +72,35 @@ pub enum RemediationLevel {
 }
 
 impl Spelled for RemediationLevel {
-    ghost kind = { RL };
+    const TYPE: MetricType = MetricType::RL;
+
+    ghost TYPE = { RL };
 
     ghost value = { λ metric. metric };
 
-    fn row(self) -> (&'static str, u64) {
-        match self {
-            RemediationLevel::OfficialFix => ("/RL:OF", 870),
-            RemediationLevel::TemporaryFix => ("/RL:TF", 900),
-            RemediationLevel::Workaround => ("/RL:W", 950),
-            RemediationLevel::Unavailable => ("/RL:U", 1000),
-            RemediationLevel::NotDefined => ("/RL:ND", 1000),
-        }
+    fn values() -> &'static [Self] {
+        &[
+            Self::OfficialFix,
+            Self::TemporaryFix,
+            Self::Workaround,
+            Self::Unavailable,
+            Self::NotDefined,
+        ]
     }
 
-    fn read_bytes(text: &[u8]) -> Option<Self> {
-        match text {
-            b"OF" => Some(RemediationLevel::OfficialFix),
-            b"TF" => Some(RemediationLevel::TemporaryFix),
-            b"W" => Some(RemediationLevel::Workaround),
-            b"U" => Some(RemediationLevel::Unavailable),
-            b"ND" => Some(RemediationLevel::NotDefined),
-            _ => None,
+    fn row(self) -> (&'static str, u64) {
+        match self {
+            Self::OfficialFix => ("/RL:OF", 870),
+            Self::TemporaryFix => ("/RL:TF", 900),
+            Self::Workaround => ("/RL:W", 950),
+            Self::Unavailable => ("/RL:U", 1000),
+            Self::NotDefined => ("/RL:ND", 1000),
         }
     }
 }
 
 impl Metric for RemediationLevel {
-    const TYPE: MetricType = MetricType::RL;
-
-    ghost TYPE = { RL };
-
-    ghost type_is = { refl };
-
-    ghost covers = { λ x. (x, refl) };
-
-    ghost ordered = { Prim.search rules };
-
-    ghost by_value = { Prim.search rules };
+    ghost law = { Prim.search rules };
 }
 
 impl fmt::Display for RemediationLevel {
@@ -141,42 +123,33 @@ pub enum ReportConfidence {
 }
 
 impl Spelled for ReportConfidence {
-    ghost kind = { RC };
+    const TYPE: MetricType = MetricType::RC;
+
+    ghost TYPE = { RC };
 
     ghost value = { λ metric. metric };
 
-    fn row(self) -> (&'static str, u64) {
-        match self {
-            ReportConfidence::Unconfirmed => ("/RC:UC", 900),
-            ReportConfidence::Uncorroborated => ("/RC:UR", 950),
-            ReportConfidence::Confirmed => ("/RC:C", 1000),
-            ReportConfidence::NotDefined => ("/RC:ND", 1000),
-        }
+    fn values() -> &'static [Self] {
+        &[
+            Self::Unconfirmed,
+            Self::Uncorroborated,
+            Self::Confirmed,
+            Self::NotDefined,
+        ]
     }
 
-    fn read_bytes(text: &[u8]) -> Option<Self> {
-        match text {
-            b"UC" => Some(ReportConfidence::Unconfirmed),
-            b"UR" => Some(ReportConfidence::Uncorroborated),
-            b"C" => Some(ReportConfidence::Confirmed),
-            b"ND" => Some(ReportConfidence::NotDefined),
-            _ => None,
+    fn row(self) -> (&'static str, u64) {
+        match self {
+            Self::Unconfirmed => ("/RC:UC", 900),
+            Self::Uncorroborated => ("/RC:UR", 950),
+            Self::Confirmed => ("/RC:C", 1000),
+            Self::NotDefined => ("/RC:ND", 1000),
         }
     }
 }
 
 impl Metric for ReportConfidence {
-    const TYPE: MetricType = MetricType::RC;
-
-    ghost TYPE = { RC };
-
-    ghost type_is = { refl };
-
-    ghost covers = { λ x. (x, refl) };
-
-    ghost ordered = { Prim.search rules };
-
-    ghost by_value = { Prim.search rules };
+    ghost law = { Prim.search rules };
 }
 
 impl fmt::Display for ReportConfidence {

@@ -6,11 +6,7 @@ use Rattle.cvss_name.specs.V2Types.{name_of}
 use Rattle.cvss_name.specs.declared.v2.MetricType.{MetricType}
 use Rattle.cvss_v2_metric.specs.Table.{Value, spelling_of}
 
--- the component of a value of the table, if there is one
-abbrev pub value_component : {M : Type 0} (kind : MetricType) → (M → Value kind) → Option M → Option (List ℕ)
-value_component kind value_of value =
-    option_map (component (name_of kind)) (option_map (λ metric. spelling_of kind (value_of metric)) value)
-
--- a slash and the component, or nothing
+-- a slash and the component of a value of the table, and nothing where there is none
 abbrev pub slashed_value : {M : Type 0} (kind : MetricType) → (M → Value kind) → Option M → List ℕ
-slashed_value kind value_of value = unwrap_or (slashed (value_component kind value_of value)) []
+slashed_value kind value_of value =
+    unwrap_or (slashed (option_map (component (name_of kind)) (option_map (λ metric. spelling_of kind (value_of metric)) value))) []

@@ -31,7 +31,7 @@ impl Vector {
         ensures limit { IsWithinLimit result }
     {
         let factor = base_score::factor(self.impact_units());
-        Score::new(i128::from(factor) * 1_000_000_000_000_000_000_000)
+        Score::new(i128::from(factor) * THOUSANDTH)
     }
 
     /// What the base score is the rounding of (guide, section 3.2.1), which is exact and may be

@@ -11,21 +11,10 @@ use cvss_v2_metric::MetricType;
 pub(super) fn cut_named(piece: &[u8]) -> Option<(MetricType, &[u8])>
     ensures { IfSome result (λ cut. piece.now ≡ name_of cut.0 ++ (colon ∷ cut.1.now)) }
 {
-    match cut_one(piece) {
-        Some(cut) => Some(cut),
-        None => match cut_two(piece) {
-            Some(cut) => Some(cut),
-            None => cut_three(piece),
-        },
-    }
-}
-
-#[inline(always)]
-fn cut_one(piece: &[u8]) -> Option<(MetricType, &[u8])>
-    ensures { IfSome result (λ cut. piece.now ≡ name_of cut.0 ++ (colon ∷ cut.1.now)) }
-{
     match piece {
         [first, b':', value @ ..] => Some((one_letter(*first)?, value)),
+        [first, second, b':', value @ ..] => Some((two_letters(*first, *second)?, value)),
+        [b'C', b'D', b'P', b':', value @ ..] => Some((MetricType::CDP, value)),
         _ => None,
     }
 }
@@ -44,16 +33,6 @@ fn one_letter(first: u8) -> Option<MetricType>
 }
 
 #[inline(always)]
-fn cut_two(piece: &[u8]) -> Option<(MetricType, &[u8])>
-    ensures { IfSome result (λ cut. piece.now ≡ name_of cut.0 ++ (colon ∷ cut.1.now)) }
-{
-    match piece {
-        [first, second, b':', value @ ..] => Some((two_letters(*first, *second)?, value)),
-        _ => None,
-    }
-}
-
-#[inline(always)]
 fn two_letters(first: u8, second: u8) -> Option<MetricType>
     ensures { IfSome result (λ kind. name_of kind ≡ first ∷ second ∷ []) }
 {
@@ -67,16 +46,6 @@ fn two_letters(first: u8, second: u8) -> Option<MetricType>
         (b'C', b'R') => Some(MetricType::CR),
         (b'I', b'R') => Some(MetricType::IR),
         (b'A', b'R') => Some(MetricType::AR),
-        _ => None,
-    }
-}
-
-#[inline(always)]
-fn cut_three(piece: &[u8]) -> Option<(MetricType, &[u8])>
-    ensures { IfSome result (λ cut. piece.now ≡ name_of cut.0 ++ (colon ∷ cut.1.now)) }
-{
-    match piece {
-        [b'C', b'D', b'P', b':', value @ ..] => Some((MetricType::CDP, value)),
         _ => None,
     }
 }

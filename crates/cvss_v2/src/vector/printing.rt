@@ -7,10 +7,10 @@ ghost use Rattle.cvss_text.specs.private.Printing.{slashed, slashed_texts};
 ghost use Rattle.cvss_grammar.specs.Version.{canonical_text, component_of, held};
 ghost use Rattle.cvss_v2_metric.specs.Table.{spelling_of, printed};
 ghost use Rattle.cvss_v2.specs.Vector.{v2};
-ghost use Rattle.cvss_v2.specs.private.Slashed.{slashed_value, value_component};
+ghost use Rattle.cvss_v2.specs.private.Slashed.{slashed_value};
 
 use crate::vector::Vector;
-use cvss_text::print::{Printed, write_component, write_components, write_slashed};
+use cvss_text::print::{Printed, write_component, write_components};
 use cvss_v2_metric::{MetricType, Spelled};
 use std::fmt;
 
@@ -38,21 +38,13 @@ impl Printed for Vector {
 impl Vector {
     /// A slash and the component of the value that the vector has for a metric.
     fn slashed_at<M: Spelled>(&self, kind: MetricType, value: Option<M>) -> Option<&'static str>
-        requires kind { kind ≡ M.kind }
-        requires value { held v2 self.now M.kind
-            ≡ option_map (λ metric. spelling_of M.kind (M.value metric)) value }
+        requires kind { kind ≡ M.TYPE }
+        requires value { held v2 self.now M.TYPE
+            ≡ option_map (λ metric. spelling_of M.TYPE (M.value metric)) value }
         ensures { option_copied result ≡ slashed (component_of v2 self.now kind) }
     {
-        slashed_value(value)
+        Some(value?.slashed())
     }
-}
-
-/// A slash and the component of a value.
-fn slashed_value<M: Spelled>(value: Option<M>) -> Option<&'static str>
-    ensures { option_copied result ≡ slashed (value_component M.kind M.value value) }
-{
-    let metric = value?;
-    Some(metric.slashed())
 }
 
 /// Writes a slash and the component of a value, if there is one.
@@ -60,20 +52,23 @@ fn write_value<M: Spelled, W: fmt::Write>(
     value: Option<M>,
     f: &mut fmt::Formatter<W>,
 ) -> fmt::Result
-    ensures { WritesOnOk W.write_str_gives f.old result (slashed_value M.kind M.value value) f.new }
+    ensures { WritesOnOk W.write_str_gives f.old result (slashed_value M.TYPE M.value value) f.new }
 {
-    write_slashed(slashed_value(value), f)
+    match value {
+        Some(metric) => f.write_str(metric.slashed()),
+        None => Ok(()),
+    }
 }
 
 /// Writes a slash and the component of each of three values that there is.
-fn write_three<K: Spelled, M: Spelled, N: Spelled, W: fmt::Write>(
+fn write_three<K: Spelled, L: Spelled, M: Spelled, W: fmt::Write>(
     first: &Option<K>,
-    second: &Option<M>,
-    third: &Option<N>,
+    second: &Option<L>,
+    third: &Option<M>,
     f: &mut fmt::Formatter<W>,
 ) -> fmt::Result
-    ensures { WritesOnOk W.write_str_gives f.old result (slashed_value K.kind K.value first.now
-        ++ slashed_value M.kind M.value second.now ++ slashed_value N.kind N.value third.now) f.new }
+    ensures { WritesOnOk W.write_str_gives f.old result (slashed_value K.TYPE K.value first.now
+        ++ slashed_value L.TYPE L.value second.now ++ slashed_value M.TYPE M.value third.now) f.new }
 {
     write_value(*first, f)?;
     write_value(*second, f)?;

@@ -17,12 +17,13 @@ mod base;
 use crate::vector::Vector;
 use base::base_at_sight;
 use cvss_text::sight::{behind_name, put_read};
-use cvss_v2_metric::{MetricType, Spelled};
+use cvss_v2_metric::Spelled;
 
 impl Vector {
     /// The vector whose canonical text this is, where that is seen at once: `None` tells nothing of
     /// the text. It takes no memory.
     #[inline(always)]
+    #[tactic(auto, using(crate::proofs::TextLemmas::complete))]
     pub fn read_canonical(text: &[u8]) -> Option<Vector>
         ensures canonical { IfSome result (λ vector. text.now ≡ canonical_text v2 vector) }
         ensures complete { IfSome result (λ vector. IsComplete v2 vector) }
@@ -67,71 +68,47 @@ fn others_at_sight<'a>(vector: &mut Vector, text: &'a [u8]) -> &'a [u8]
       ar = vector.new.ar;
     } }
 {
-    let text = temporal_at_sight(vector, text);
-    environmental_at_sight(vector, text)
+    let text = put_three_at_sight(&mut vector.e, &mut vector.rl, &mut vector.rc, text);
+    let text = put_at_sight(&mut vector.cdp, text);
+    let text = put_at_sight(&mut vector.td, text);
+    put_three_at_sight(&mut vector.cr, &mut vector.ir, &mut vector.ar, text)
 }
 
-/// Puts the temporal metrics with which a text begins into the vector, and gives what stands behind
-/// them.
+/// Puts the values of three metrics into their places, as far as a text begins with their components,
+/// and gives what stands behind these.
 #[inline(always)]
-fn temporal_at_sight<'a>(vector: &mut Vector, text: &'a [u8]) -> &'a [u8]
-    ensures text { text.now
-        ≡ slashed_texts v2 vector.new (E ∷ RL ∷ RC ∷ []) ++ result.now }
-    ensures kept { vector.new ≡ record vector.old {
-      e = vector.new.e;
-      rl = vector.new.rl;
-      rc = vector.new.rc;
-    } }
+fn put_three_at_sight<'a, K: Spelled, L: Spelled, M: Spelled>(
+    first: &mut Option<K>,
+    second: &mut Option<L>,
+    third: &mut Option<M>,
+    text: &'a [u8],
+) -> &'a [u8]
+    ensures { text.now ≡ slashed_value K.TYPE K.value first.new
+        ++ slashed_value L.TYPE L.value second.new ++ slashed_value M.TYPE M.value third.new
+        ++ result.now }
 {
-    let text = optional_at_sight(MetricType::E, &mut vector.e, text);
-    let text = optional_at_sight(MetricType::RL, &mut vector.rl, text);
-    optional_at_sight(MetricType::RC, &mut vector.rc, text)
-}
-
-/// Puts the environmental metrics with which a text begins into the vector, and gives what stands
-/// behind them.
-#[inline(always)]
-fn environmental_at_sight<'a>(vector: &mut Vector, text: &'a [u8]) -> &'a [u8]
-    ensures text { text.now
-        ≡ slashed_texts v2 vector.new (CDP ∷ TD ∷ CR ∷ IR ∷ AR ∷ []) ++ result.now }
-    ensures kept { vector.new ≡ record vector.old {
-      cdp = vector.new.cdp;
-      td = vector.new.td;
-      cr = vector.new.cr;
-      ir = vector.new.ir;
-      ar = vector.new.ar;
-    } }
-{
-    let text = optional_at_sight(MetricType::CDP, &mut vector.cdp, text);
-    let text = optional_at_sight(MetricType::TD, &mut vector.td, text);
-    let text = optional_at_sight(MetricType::CR, &mut vector.cr, text);
-    let text = optional_at_sight(MetricType::IR, &mut vector.ir, text);
-    optional_at_sight(MetricType::AR, &mut vector.ar, text)
+    let text = put_at_sight(first, text);
+    let text = put_at_sight(second, text);
+    put_at_sight(third, text)
 }
 
 /// Puts the value of a metric into its place, if a text begins with a slash and its component, and
 /// gives what stands behind that; else no value, and the text.
 #[inline(always)]
-fn optional_at_sight<'a, M: Spelled>(
-    kind: MetricType,
-    place: &mut Option<M>,
-    text: &'a [u8],
-) -> &'a [u8]
-    requires { kind ≡ M.kind }
-    ensures { text.now ≡ slashed_value M.kind M.value place.new ++ result.now }
+fn put_at_sight<'a, M: Spelled>(place: &mut Option<M>, text: &'a [u8]) -> &'a [u8]
+    ensures { text.now ≡ slashed_value M.TYPE M.value place.new ++ result.now }
 {
-    put_read(place, component_at_sight(kind, text), text)
+    put_read(place, component_at_sight(text), text)
 }
 
 /// The value of a metric, where a text begins with a slash and its component, and what stands
 /// behind that.
 #[inline(always)]
-fn component_at_sight<M: Spelled>(kind: MetricType, text: &[u8]) -> Option<(M, &[u8])>
-    requires { kind ≡ M.kind }
+fn component_at_sight<M: Spelled>(text: &[u8]) -> Option<(M, &[u8])>
     ensures { IfSome result
-        (λ read. text.now ≡ slash ∷ (metric_component M.kind (M.value read.0) ++ read.1.now)) }
+        (λ read. text.now ≡ slash ∷ (metric_component M.TYPE (M.value read.0) ++ read.1.now)) }
 {
-    value_at_sight(behind_name(kind.name(), text)?)
+    value_at_sight(behind_name(M::TYPE.name(), text)?)
 }
 
 /// The value of a metric, where a text begins with its spelling up to a slash, and what stands
@@ -139,13 +116,25 @@ fn component_at_sight<M: Spelled>(kind: MetricType, text: &[u8]) -> Option<(M, &
 #[inline(always)]
 fn value_at_sight<M: Spelled>(text: &[u8]) -> Option<(M, &[u8])>
     ensures { IfSome result
-        (λ read. text.now ≡ spelling_of M.kind (M.value read.0) ++ read.1.now) }
+        (λ read. text.now ≡ spelling_of M.TYPE (M.value read.0) ++ read.1.now) }
 {
     let (value, rest) = match text {
-        [_] | [_, b'/', ..] => text.split_at(1),
+        [] | [_] | [_, b'/', ..] => return letter_at_sight(text),
         [_, _] | [_, _, b'/', ..] => text.split_at(2),
         [_, _, _, ..] => text.split_at(3),
-        [] => return None,
     };
     Some((M::read_bytes(value)?, rest))
+}
+
+/// The value of a metric, where a text begins with the letter that spells it, and what stands behind
+/// that.
+#[inline(always)]
+fn letter_at_sight<M: Spelled>(text: &[u8]) -> Option<(M, &[u8])>
+    ensures { IfSome result
+        (λ read. text.now ≡ spelling_of M.TYPE (M.value read.0) ++ read.1.now) }
+{
+    match text {
+        [letter, rest @ ..] => Some((M::read_bytes(&[*letter])?, rest)),
+        [] => None,
+    }
 }

@@ -36,13 +36,13 @@ impl Vector {
     /// The weight of the value that the vector has for a metric, or that of the absent metric.
     #[inline(always)]
     fn weight_at<M: Spelled>(&self, metric: MetricType, value: Option<M>, absent: u64) -> u64
-        requires metric { metric ≡ M.kind }
-        requires value { option_map (weight_of M.kind) (value_at self.now M.kind)
-            ≡ option_map (λ held. weight_of M.kind (M.value held)) value }
-        requires absent { absent ≡ absent_weight M.kind }
-        requires least { absent ≤ greatest_weight M.kind }
+        requires metric { metric ≡ M.TYPE }
+        requires value { option_map (weight_of M.TYPE) (value_at self.now M.TYPE)
+            ≡ option_map (λ held. weight_of M.TYPE (M.value held)) value }
+        requires absent { absent ≡ absent_weight M.TYPE }
+        requires least { absent ≤ greatest_weight M.TYPE }
         ensures weight { result ≡ weight_in self.now metric }
-        ensures bound { result ≤ greatest_weight M.kind }
+        ensures bound { result ≤ greatest_weight M.TYPE }
     {
         weight(value, absent)
     }
@@ -51,10 +51,10 @@ impl Vector {
 /// The weight of a value in thousandths, or that of an absent metric.
 #[inline(always)]
 pub(super) fn weight<M: Spelled>(value: Option<M>, absent: u64) -> u64
-    requires { absent ≤ greatest_weight M.kind }
+    requires { absent ≤ greatest_weight M.TYPE }
     ensures weight { result
-        ≡ unwrap_or (option_map (λ metric. weight_of M.kind (M.value metric)) value) absent }
-    ensures bound { result ≤ greatest_weight M.kind }
+        ≡ unwrap_or (option_map (λ metric. weight_of M.TYPE (M.value metric)) value) absent }
+    ensures bound { result ≤ greatest_weight M.TYPE }
 {
     match value {
         Some(metric) => metric.thousandths(),

@@ -1,6 +1,6 @@
 //! How an attacker gets at the component (guide, sections 2.1.1 to 2.1.3).
 
-ghost use Rattle.std.specs.Prelude.{Some, refl};
+ghost use Rattle.std.specs.Prelude.{Some};
 ghost use Rattle.std.proofs.Common.{rules};
 ghost use Rattle.cvss_name.specs.declared.v2.MetricType.TheVariants.{AV, AC, Au};
 ghost use Rattle.cvss_v2_metric.specs.Table.{metric_component};
@@ -18,40 +18,27 @@ pub enum AccessVector {
 }
 
 impl Spelled for AccessVector {
-    ghost kind = { AV };
+    const TYPE: MetricType = MetricType::AV;
+
+    ghost TYPE = { AV };
 
     ghost value = { λ metric. metric };
 
-    fn row(self) -> (&'static str, u64) {
-        match self {
-            AccessVector::Local => ("/AV:L", 395),
-            AccessVector::AdjacentNetwork => ("/AV:A", 646),
-            AccessVector::Network => ("/AV:N", 1000),
-        }
+    fn values() -> &'static [Self] {
+        &[Self::Local, Self::AdjacentNetwork, Self::Network]
     }
 
-    fn read_bytes(text: &[u8]) -> Option<Self> {
-        match text {
-            b"L" => Some(AccessVector::Local),
-            b"A" => Some(AccessVector::AdjacentNetwork),
-            b"N" => Some(AccessVector::Network),
-            _ => None,
+    fn row(self) -> (&'static str, u64) {
+        match self {
+            Self::Local => ("/AV:L", 395),
+            Self::AdjacentNetwork => ("/AV:A", 646),
+            Self::Network => ("/AV:N", 1000),
         }
     }
 }
 
 impl Metric for AccessVector {
-    const TYPE: MetricType = MetricType::AV;
-
-    ghost TYPE = { AV };
-
-    ghost type_is = { refl };
-
-    ghost covers = { λ x. (x, refl) };
-
-    ghost ordered = { Prim.search rules };
-
-    ghost by_value = { Prim.search rules };
+    ghost law = { Prim.search rules };
 }
 
 impl fmt::Display for AccessVector {
@@ -73,40 +60,27 @@ pub enum AccessComplexity {
 }
 
 impl Spelled for AccessComplexity {
-    ghost kind = { AC };
+    const TYPE: MetricType = MetricType::AC;
+
+    ghost TYPE = { AC };
 
     ghost value = { λ metric. metric };
 
-    fn row(self) -> (&'static str, u64) {
-        match self {
-            AccessComplexity::High => ("/AC:H", 350),
-            AccessComplexity::Medium => ("/AC:M", 610),
-            AccessComplexity::Low => ("/AC:L", 710),
-        }
+    fn values() -> &'static [Self] {
+        &[Self::High, Self::Medium, Self::Low]
     }
 
-    fn read_bytes(text: &[u8]) -> Option<Self> {
-        match text {
-            b"H" => Some(AccessComplexity::High),
-            b"M" => Some(AccessComplexity::Medium),
-            b"L" => Some(AccessComplexity::Low),
-            _ => None,
+    fn row(self) -> (&'static str, u64) {
+        match self {
+            Self::High => ("/AC:H", 350),
+            Self::Medium => ("/AC:M", 610),
+            Self::Low => ("/AC:L", 710),
         }
     }
 }
 
 impl Metric for AccessComplexity {
-    const TYPE: MetricType = MetricType::AC;
-
-    ghost TYPE = { AC };
-
-    ghost type_is = { refl };
-
-    ghost covers = { λ x. (x, refl) };
-
-    ghost ordered = { Prim.search rules };
-
-    ghost by_value = { Prim.search rules };
+    ghost law = { Prim.search rules };
 }
 
 impl fmt::Display for AccessComplexity {
@@ -128,40 +102,27 @@ pub enum Authentication {
 }
 
 impl Spelled for Authentication {
-    ghost kind = { Au };
+    const TYPE: MetricType = MetricType::Au;
+
+    ghost TYPE = { Au };
 
     ghost value = { λ metric. metric };
 
-    fn row(self) -> (&'static str, u64) {
-        match self {
-            Authentication::Multiple => ("/Au:M", 450),
-            Authentication::Single => ("/Au:S", 560),
-            Authentication::None => ("/Au:N", 704),
-        }
+    fn values() -> &'static [Self] {
+        &[Self::Multiple, Self::Single, Self::None]
     }
 
-    fn read_bytes(text: &[u8]) -> Option<Self> {
-        match text {
-            b"M" => Some(Authentication::Multiple),
-            b"S" => Some(Authentication::Single),
-            b"N" => Some(Authentication::None),
-            _ => None,
+    fn row(self) -> (&'static str, u64) {
+        match self {
+            Self::Multiple => ("/Au:M", 450),
+            Self::Single => ("/Au:S", 560),
+            Self::None => ("/Au:N", 704),
         }
     }
 }
 
 impl Metric for Authentication {
-    const TYPE: MetricType = MetricType::Au;
-
-    ghost TYPE = { Au };
-
-    ghost type_is = { refl };
-
-    ghost covers = { λ x. (x, refl) };
-
-    ghost ordered = { Prim.search rules };
-
-    ghost by_value = { Prim.search rules };
+    ghost law = { Prim.search rules };
 }
 
 impl fmt::Display for Authentication {

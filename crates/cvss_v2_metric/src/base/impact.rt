@@ -1,6 +1,6 @@
 //! What an attack does to the component (guide, sections 2.1.4 to 2.1.6).
 
-ghost use Rattle.std.specs.Prelude.{Some, refl};
+ghost use Rattle.std.specs.Prelude.{Some};
 ghost use Rattle.std.proofs.Common.{rules};
 ghost use Rattle.cvss_name.specs.declared.v2.MetricType.TheVariants.{C, I, A};
 ghost use Rattle.cvss_v2_metric.specs.Table.{metric_component};
@@ -18,40 +18,27 @@ pub enum ConfidentialityImpact {
 }
 
 impl Spelled for ConfidentialityImpact {
-    ghost kind = { C };
+    const TYPE: MetricType = MetricType::C;
+
+    ghost TYPE = { C };
 
     ghost value = { λ metric. metric };
 
-    fn row(self) -> (&'static str, u64) {
-        match self {
-            ConfidentialityImpact::None => ("/C:N", 0),
-            ConfidentialityImpact::Partial => ("/C:P", 275),
-            ConfidentialityImpact::Complete => ("/C:C", 660),
-        }
+    fn values() -> &'static [Self] {
+        &[Self::None, Self::Partial, Self::Complete]
     }
 
-    fn read_bytes(text: &[u8]) -> Option<Self> {
-        match text {
-            b"N" => Some(ConfidentialityImpact::None),
-            b"P" => Some(ConfidentialityImpact::Partial),
-            b"C" => Some(ConfidentialityImpact::Complete),
-            _ => None,
+    fn row(self) -> (&'static str, u64) {
+        match self {
+            Self::None => ("/C:N", 0),
+            Self::Partial => ("/C:P", 275),
+            Self::Complete => ("/C:C", 660),
         }
     }
 }
 
 impl Metric for ConfidentialityImpact {
-    const TYPE: MetricType = MetricType::C;
-
-    ghost TYPE = { C };
-
-    ghost type_is = { refl };
-
-    ghost covers = { λ x. (x, refl) };
-
-    ghost ordered = { Prim.search rules };
-
-    ghost by_value = { Prim.search rules };
+    ghost law = { Prim.search rules };
 }
 
 impl fmt::Display for ConfidentialityImpact {
@@ -73,40 +60,27 @@ pub enum IntegrityImpact {
 }
 
 impl Spelled for IntegrityImpact {
-    ghost kind = { I };
+    const TYPE: MetricType = MetricType::I;
+
+    ghost TYPE = { I };
 
     ghost value = { λ metric. metric };
 
-    fn row(self) -> (&'static str, u64) {
-        match self {
-            IntegrityImpact::None => ("/I:N", 0),
-            IntegrityImpact::Partial => ("/I:P", 275),
-            IntegrityImpact::Complete => ("/I:C", 660),
-        }
+    fn values() -> &'static [Self] {
+        &[Self::None, Self::Partial, Self::Complete]
     }
 
-    fn read_bytes(text: &[u8]) -> Option<Self> {
-        match text {
-            b"N" => Some(IntegrityImpact::None),
-            b"P" => Some(IntegrityImpact::Partial),
-            b"C" => Some(IntegrityImpact::Complete),
-            _ => None,
+    fn row(self) -> (&'static str, u64) {
+        match self {
+            Self::None => ("/I:N", 0),
+            Self::Partial => ("/I:P", 275),
+            Self::Complete => ("/I:C", 660),
         }
     }
 }
 
 impl Metric for IntegrityImpact {
-    const TYPE: MetricType = MetricType::I;
-
-    ghost TYPE = { I };
-
-    ghost type_is = { refl };
-
-    ghost covers = { λ x. (x, refl) };
-
-    ghost ordered = { Prim.search rules };
-
-    ghost by_value = { Prim.search rules };
+    ghost law = { Prim.search rules };
 }
 
 impl fmt::Display for IntegrityImpact {
@@ -128,40 +102,27 @@ pub enum AvailabilityImpact {
 }
 
 impl Spelled for AvailabilityImpact {
-    ghost kind = { A };
+    const TYPE: MetricType = MetricType::A;
+
+    ghost TYPE = { A };
 
     ghost value = { λ metric. metric };
 
-    fn row(self) -> (&'static str, u64) {
-        match self {
-            AvailabilityImpact::None => ("/A:N", 0),
-            AvailabilityImpact::Partial => ("/A:P", 275),
-            AvailabilityImpact::Complete => ("/A:C", 660),
-        }
+    fn values() -> &'static [Self] {
+        &[Self::None, Self::Partial, Self::Complete]
     }
 
-    fn read_bytes(text: &[u8]) -> Option<Self> {
-        match text {
-            b"N" => Some(AvailabilityImpact::None),
-            b"P" => Some(AvailabilityImpact::Partial),
-            b"C" => Some(AvailabilityImpact::Complete),
-            _ => None,
+    fn row(self) -> (&'static str, u64) {
+        match self {
+            Self::None => ("/A:N", 0),
+            Self::Partial => ("/A:P", 275),
+            Self::Complete => ("/A:C", 660),
         }
     }
 }
 
 impl Metric for AvailabilityImpact {
-    const TYPE: MetricType = MetricType::A;
-
-    ghost TYPE = { A };
-
-    ghost type_is = { refl };
-
-    ghost covers = { λ x. (x, refl) };
-
-    ghost ordered = { Prim.search rules };
-
-    ghost by_value = { Prim.search rules };
+    ghost law = { Prim.search rules };
 }
 
 impl fmt::Display for AvailabilityImpact {

@@ -1,6 +1,6 @@
 //! How much may be lost, and how often (guide, sections 2.3.1 and 2.3.2).
 
-ghost use Rattle.std.specs.Prelude.{Some, refl};
+ghost use Rattle.std.specs.Prelude.{Some};
 ghost use Rattle.std.proofs.Common.{rules};
 ghost use Rattle.cvss_name.specs.declared.v2.MetricType.TheVariants.{CDP, TD};
 ghost use Rattle.cvss_v2_metric.specs.Table.{metric_component};
@@ -21,46 +21,37 @@ pub enum CollateralDamagePotential {
 }
 
 impl Spelled for CollateralDamagePotential {
-    ghost kind = { CDP };
+    const TYPE: MetricType = MetricType::CDP;
+
+    ghost TYPE = { CDP };
 
     ghost value = { λ metric. metric };
 
-    fn row(self) -> (&'static str, u64) {
-        match self {
-            CollateralDamagePotential::None => ("/CDP:N", 0),
-            CollateralDamagePotential::Low => ("/CDP:L", 100),
-            CollateralDamagePotential::LowMedium => ("/CDP:LM", 300),
-            CollateralDamagePotential::MediumHigh => ("/CDP:MH", 400),
-            CollateralDamagePotential::High => ("/CDP:H", 500),
-            CollateralDamagePotential::NotDefined => ("/CDP:ND", 0),
-        }
+    fn values() -> &'static [Self] {
+        &[
+            Self::None,
+            Self::Low,
+            Self::LowMedium,
+            Self::MediumHigh,
+            Self::High,
+            Self::NotDefined,
+        ]
     }
 
-    fn read_bytes(text: &[u8]) -> Option<Self> {
-        match text {
-            b"N" => Some(CollateralDamagePotential::None),
-            b"L" => Some(CollateralDamagePotential::Low),
-            b"LM" => Some(CollateralDamagePotential::LowMedium),
-            b"MH" => Some(CollateralDamagePotential::MediumHigh),
-            b"H" => Some(CollateralDamagePotential::High),
-            b"ND" => Some(CollateralDamagePotential::NotDefined),
-            _ => None,
+    fn row(self) -> (&'static str, u64) {
+        match self {
+            Self::None => ("/CDP:N", 0),
+            Self::Low => ("/CDP:L", 100),
+            Self::LowMedium => ("/CDP:LM", 300),
+            Self::MediumHigh => ("/CDP:MH", 400),
+            Self::High => ("/CDP:H", 500),
+            Self::NotDefined => ("/CDP:ND", 0),
         }
     }
 }
 
 impl Metric for CollateralDamagePotential {
-    const TYPE: MetricType = MetricType::CDP;
-
-    ghost TYPE = { CDP };
-
-    ghost type_is = { refl };
-
-    ghost covers = { λ x. (x, refl) };
-
-    ghost ordered = { Prim.search rules };
-
-    ghost by_value = { Prim.search rules };
+    ghost law = { Prim.search rules };
 }
 
 impl fmt::Display for CollateralDamagePotential {
@@ -84,44 +75,35 @@ pub enum TargetDistribution {
 }
 
 impl Spelled for TargetDistribution {
-    ghost kind = { TD };
+    const TYPE: MetricType = MetricType::TD;
+
+    ghost TYPE = { TD };
 
     ghost value = { λ metric. metric };
 
-    fn row(self) -> (&'static str, u64) {
-        match self {
-            TargetDistribution::None => ("/TD:N", 0),
-            TargetDistribution::Low => ("/TD:L", 250),
-            TargetDistribution::Medium => ("/TD:M", 750),
-            TargetDistribution::High => ("/TD:H", 1000),
-            TargetDistribution::NotDefined => ("/TD:ND", 1000),
-        }
+    fn values() -> &'static [Self] {
+        &[
+            Self::None,
+            Self::Low,
+            Self::Medium,
+            Self::High,
+            Self::NotDefined,
+        ]
     }
 
-    fn read_bytes(text: &[u8]) -> Option<Self> {
-        match text {
-            b"N" => Some(TargetDistribution::None),
-            b"L" => Some(TargetDistribution::Low),
-            b"M" => Some(TargetDistribution::Medium),
-            b"H" => Some(TargetDistribution::High),
-            b"ND" => Some(TargetDistribution::NotDefined),
-            _ => None,
+    fn row(self) -> (&'static str, u64) {
+        match self {
+            Self::None => ("/TD:N", 0),
+            Self::Low => ("/TD:L", 250),
+            Self::Medium => ("/TD:M", 750),
+            Self::High => ("/TD:H", 1000),
+            Self::NotDefined => ("/TD:ND", 1000),
         }
     }
 }
 
 impl Metric for TargetDistribution {
-    const TYPE: MetricType = MetricType::TD;
-
-    ghost TYPE = { TD };
-
-    ghost type_is = { refl };
-
-    ghost covers = { λ x. (x, refl) };
-
-    ghost ordered = { Prim.search rules };
-
-    ghost by_value = { Prim.search rules };
+    ghost law = { Prim.search rules };
 }
 
 impl fmt::Display for TargetDistribution {

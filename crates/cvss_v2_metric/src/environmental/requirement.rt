@@ -1,6 +1,6 @@
 //! What matters to the user (guide, section 2.3.3).
 
-ghost use Rattle.std.specs.Prelude.{Some, refl};
+ghost use Rattle.std.specs.Prelude.{Some};
 ghost use Rattle.std.proofs.Common.{rules};
 ghost use Rattle.cvss_name.specs.declared.v2.MetricType.TheVariants.{CR, IR, AR};
 ghost use Rattle.cvss_v2_metric.specs.Table.{metric_component};
@@ -19,42 +19,28 @@ pub enum ConfidentialityRequirement {
 }
 
 impl Spelled for ConfidentialityRequirement {
-    ghost kind = { CR };
+    const TYPE: MetricType = MetricType::CR;
+
+    ghost TYPE = { CR };
 
     ghost value = { λ metric. metric };
 
-    fn row(self) -> (&'static str, u64) {
-        match self {
-            ConfidentialityRequirement::Low => ("/CR:L", 500),
-            ConfidentialityRequirement::Medium => ("/CR:M", 1000),
-            ConfidentialityRequirement::High => ("/CR:H", 1510),
-            ConfidentialityRequirement::NotDefined => ("/CR:ND", 1000),
-        }
+    fn values() -> &'static [Self] {
+        &[Self::Low, Self::Medium, Self::High, Self::NotDefined]
     }
 
-    fn read_bytes(text: &[u8]) -> Option<Self> {
-        match text {
-            b"L" => Some(ConfidentialityRequirement::Low),
-            b"M" => Some(ConfidentialityRequirement::Medium),
-            b"H" => Some(ConfidentialityRequirement::High),
-            b"ND" => Some(ConfidentialityRequirement::NotDefined),
-            _ => None,
+    fn row(self) -> (&'static str, u64) {
+        match self {
+            Self::Low => ("/CR:L", 500),
+            Self::Medium => ("/CR:M", 1000),
+            Self::High => ("/CR:H", 1510),
+            Self::NotDefined => ("/CR:ND", 1000),
         }
     }
 }
 
 impl Metric for ConfidentialityRequirement {
-    const TYPE: MetricType = MetricType::CR;
-
-    ghost TYPE = { CR };
-
-    ghost type_is = { refl };
-
-    ghost covers = { λ x. (x, refl) };
-
-    ghost ordered = { Prim.search rules };
-
-    ghost by_value = { Prim.search rules };
+    ghost law = { Prim.search rules };
 }
 
 impl fmt::Display for ConfidentialityRequirement {
@@ -77,42 +63,28 @@ pub enum IntegrityRequirement {
 }
 
 impl Spelled for IntegrityRequirement {
-    ghost kind = { IR };
+    const TYPE: MetricType = MetricType::IR;
+
+    ghost TYPE = { IR };
 
     ghost value = { λ metric. metric };
 
-    fn row(self) -> (&'static str, u64) {
-        match self {
-            IntegrityRequirement::Low => ("/IR:L", 500),
-            IntegrityRequirement::Medium => ("/IR:M", 1000),
-            IntegrityRequirement::High => ("/IR:H", 1510),
-            IntegrityRequirement::NotDefined => ("/IR:ND", 1000),
-        }
+    fn values() -> &'static [Self] {
+        &[Self::Low, Self::Medium, Self::High, Self::NotDefined]
     }
 
-    fn read_bytes(text: &[u8]) -> Option<Self> {
-        match text {
-            b"L" => Some(IntegrityRequirement::Low),
-            b"M" => Some(IntegrityRequirement::Medium),
-            b"H" => Some(IntegrityRequirement::High),
-            b"ND" => Some(IntegrityRequirement::NotDefined),
-            _ => None,
+    fn row(self) -> (&'static str, u64) {
+        match self {
+            Self::Low => ("/IR:L", 500),
+            Self::Medium => ("/IR:M", 1000),
+            Self::High => ("/IR:H", 1510),
+            Self::NotDefined => ("/IR:ND", 1000),
         }
     }
 }
 
 impl Metric for IntegrityRequirement {
-    const TYPE: MetricType = MetricType::IR;
-
-    ghost TYPE = { IR };
-
-    ghost type_is = { refl };
-
-    ghost covers = { λ x. (x, refl) };
-
-    ghost ordered = { Prim.search rules };
-
-    ghost by_value = { Prim.search rules };
+    ghost law = { Prim.search rules };
 }
 
 impl fmt::Display for IntegrityRequirement {
@@ -135,42 +107,28 @@ pub enum AvailabilityRequirement {
 }
 
 impl Spelled for AvailabilityRequirement {
-    ghost kind = { AR };
+    const TYPE: MetricType = MetricType::AR;
+
+    ghost TYPE = { AR };
 
     ghost value = { λ metric. metric };
 
-    fn row(self) -> (&'static str, u64) {
-        match self {
-            AvailabilityRequirement::Low => ("/AR:L", 500),
-            AvailabilityRequirement::Medium => ("/AR:M", 1000),
-            AvailabilityRequirement::High => ("/AR:H", 1510),
-            AvailabilityRequirement::NotDefined => ("/AR:ND", 1000),
-        }
+    fn values() -> &'static [Self] {
+        &[Self::Low, Self::Medium, Self::High, Self::NotDefined]
     }
 
-    fn read_bytes(text: &[u8]) -> Option<Self> {
-        match text {
-            b"L" => Some(AvailabilityRequirement::Low),
-            b"M" => Some(AvailabilityRequirement::Medium),
-            b"H" => Some(AvailabilityRequirement::High),
-            b"ND" => Some(AvailabilityRequirement::NotDefined),
-            _ => None,
+    fn row(self) -> (&'static str, u64) {
+        match self {
+            Self::Low => ("/AR:L", 500),
+            Self::Medium => ("/AR:M", 1000),
+            Self::High => ("/AR:H", 1510),
+            Self::NotDefined => ("/AR:ND", 1000),
         }
     }
 }
 
 impl Metric for AvailabilityRequirement {
-    const TYPE: MetricType = MetricType::AR;
-
-    ghost TYPE = { AR };
-
-    ghost type_is = { refl };
-
-    ghost covers = { λ x. (x, refl) };
-
-    ghost ordered = { Prim.search rules };
-
-    ghost by_value = { Prim.search rules };
+    ghost law = { Prim.search rules };
 }
 
 impl fmt::Display for AvailabilityRequirement {
