@@ -10,6 +10,7 @@ pub mod PieceLemmas
 pub mod PrintLemmas
 pub mod PutLemmas
 pub mod RefusalLemmas
+pub mod SightLemmas
 pub mod SlashedLemmas
 pub mod SpellingLemmas
 pub mod TextLemmas

@@ -1,4 +1,3 @@
 mod CompleteLemmas
 mod OverridingLemmas
-mod SightLemmas
 mod TextLemmas

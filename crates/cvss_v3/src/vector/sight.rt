@@ -111,10 +111,10 @@ fn four_at_sight<K: Spelled, L: Spelled, M: Spelled, N: Spelled>(
     text: &[u8],
 ) -> Option<(K, L, M, N, &[u8])>
     ensures { IfSome result (λ read. text.now
-        ≡ slash ∷ metric_component K.TYPE (K.value read.0)
-        ++ slash ∷ metric_component L.TYPE (L.value read.1)
-        ++ slash ∷ metric_component M.TYPE (M.value read.2)
-        ++ slash ∷ metric_component N.TYPE (N.value read.3) ++ read.4.now) }
+        ≡ slash ∷ (metric_component K.TYPE (K.value read.0)
+        ++ (slash ∷ (metric_component L.TYPE (L.value read.1)
+        ++ (slash ∷ (metric_component M.TYPE (M.value read.2)
+        ++ (slash ∷ (metric_component N.TYPE (N.value read.3) ++ read.4.now)))))))) }
 {
     let (first, text) = component_at_sight(text)?;
     let (second, text) = component_at_sight(text)?;
@@ -132,8 +132,8 @@ fn put_three_at_sight<'a, K: Spelled, L: Spelled, M: Spelled>(
     third: &mut Option<M>,
     text: &'a [u8],
 ) -> &'a [u8]
-    ensures { text.now ≡ shown K.TYPE K.value first.new ++ shown L.TYPE L.value second.new
-        ++ shown M.TYPE M.value third.new ++ result.now }
+    ensures { text.now ≡ shown K.TYPE K.value first.new ++ (shown L.TYPE L.value second.new
+        ++ (shown M.TYPE M.value third.new ++ result.now)) }
 {
     let text = put_at_sight(first, text);
     let text = put_at_sight(second, text);

@@ -3,7 +3,7 @@ use Rattle.cvss_text.specs.private.Printing.{slashed_text}
 use Rattle.cvss_v4_metric.specs.Table.{printed}
 use Rattle.cvss_v4.specs.Vector.{v4}
 use Rattle.cvss_v4.specs.declared.vector.Vector.{Vector}
-use Rattle.cvss_v4.proofs.SightLemmas.{texts_in_turn}
+use Rattle.cvss_text.proofs.SightLemmas.{texts_in_turn}
 use Rattle.cvss_v4.proofs.vector.sight.base_at_sight.Goals as goal
 
 pub returns-clause-text : goal.returns-clause-text

@@ -1,14 +1,16 @@
-use Rattle.std.specs.Prelude.{drop, take}
+use Rattle.std.proofs.Common.{drop, take, refl, sym, ◌∙◌}
+use Rattle.std.proofs.lemmas.Bool.{eqb-true}
+use Rattle.std.proofs.lemmas.List.{nil_from_length}
+use Rattle.cvss_text.proofs.SightLemmas.{joined}
 use Rattle.cvss_v4_metric.specs.Table.{printed}
-use Rattle.cvss_v4.proofs.SightLemmas.{first_alone}
 use Rattle.cvss_v4.specs.Vector.{v4}
 use Rattle.cvss_v4.proofs.vector.sight.metrics_at_sight.Goals as goal
 
 pub returns-then-is_empty-clause-text : goal.returns-then-is_empty-clause-text
 returns-then-is_empty-clause-text c =
     let base = c.in_ok-base in
-    first_alone v4 base.base (take 11 printed) (drop 11 printed) c.args.text.now base.rest.now base.ensures.text
-    c.if-is_empty.ensures base.ensures.bare
+    joined v4 base.base base.base (take 11 printed) (drop 11 printed) c.args.text.now base.rest.now base.ensures.text
+    (nil_from_length _ (eqb-true _ 0 (sym c.if-is_empty.ensures)) ∙ sym base.ensures.bare) refl
 
 pub returns-else-is_empty-clause-text : goal.returns-else-is_empty-clause-text
 returns-else-is_empty-clause-text c = rw c.in_ok-base.ensures.text c.whole_at_sight.ensures.text

@@ -1,16 +1,21 @@
-use Rattle.std.proofs.Common.{◌∙◌}
-use Rattle.std.specs.Prelude.{drop, take}
+use Rattle.std.proofs.Common.{◌∷◌, [], drop, take, refl, sym, ◌∙◌}
+use Rattle.std.proofs.lemmas.List.{append-nil}
 use Rattle.cvss_name.specs.declared.v4.MetricType.TheVariants.{U}
 use Rattle.cvss_v4_metric.specs.Table.{printed}
-use Rattle.cvss_v4.proofs.SightLemmas.{in_three}
+use Rattle.cvss_text.proofs.SightLemmas.{joined}
+use Rattle.cvss_text.specs.private.Printing.{slashed_text}
+use Rattle.cvss_v4.specs.declared.vector.Vector.{Vector}
 use Rattle.cvss_v4.specs.Vector.{v4}
 use Rattle.cvss_v4.proofs.vector.sight.whole_at_sight.Goals as goal
 
 pub returns-clause-text : goal.returns-clause-text
 returns-clause-text c =
     let others = c.others_at_sight-rest in
-    in_three v4 (record others.new.vector { u = c.in_ok-u.u }) (take 11 printed) (take 20 (drop 11 printed))
-    c.args.base U c.args.text.now others.result.now others.ensures.text others.ensures.base c.in_ok-u.ensures
+    let vector : Vector = record others.new.vector { u = c.in_ok-u.u } in
+    joined v4 c.args.base vector (take 11 printed) (drop 11 printed) _ c.args.text.now refl
+    (joined v4 vector vector (take 20 (drop 11 printed)) (U ∷ []) c.args.text.now others.result.now others.ensures.text
+    (c.in_ok-u.ensures ∙ sym (append-nil (slashed_text v4 vector U))) refl)
+    others.ensures.base
 
 pub returns-clause-version : goal.returns-clause-version
 returns-clause-version c = c.others_at_sight-rest.ensures.version
