@@ -19,19 +19,7 @@ pub(super) fn cut_named(piece: &[u8]) -> Option<(MetricType, &[u8])>
     }
 }
 
-#[inline(always)]
-fn one_letter(first: u8) -> Option<MetricType>
-    ensures { IfSome result (λ kind. name_of kind ≡ first ∷ []) }
-{
-    match first {
-        b'C' => Some(MetricType::C),
-        b'I' => Some(MetricType::I),
-        b'A' => Some(MetricType::A),
-        b'E' => Some(MetricType::E),
-        _ => None,
-    }
-}
-
+/// The metric with a name of two letters.
 #[inline(always)]
 fn two_letters(first: u8, second: u8) -> Option<MetricType>
     ensures { IfSome result (λ kind. name_of kind ≡ first ∷ second ∷ []) }
@@ -46,6 +34,20 @@ fn two_letters(first: u8, second: u8) -> Option<MetricType>
         (b'C', b'R') => Some(MetricType::CR),
         (b'I', b'R') => Some(MetricType::IR),
         (b'A', b'R') => Some(MetricType::AR),
+        _ => None,
+    }
+}
+
+/// The metric with a name of one letter.
+#[inline(always)]
+fn one_letter(first: u8) -> Option<MetricType>
+    ensures { IfSome result (λ kind. name_of kind ≡ first ∷ []) }
+{
+    match first {
+        b'C' => Some(MetricType::C),
+        b'I' => Some(MetricType::I),
+        b'A' => Some(MetricType::A),
+        b'E' => Some(MetricType::E),
         _ => None,
     }
 }
