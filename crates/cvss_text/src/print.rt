@@ -1,6 +1,6 @@
 //! How a vector's components are printed, once for all versions.
 
-ghost use Rattle.std.specs.Prelude.{◌≡◌, ◌↔◌, IsTrue, Some, [], drop, unwrap_or, if◌then◌else◌};
+ghost use Rattle.std.specs.Prelude.{◌≡◌, ◌↔◌, IsTrue, Some, drop, if◌then◌else◌};
 ghost use Rattle.std.specs.Option.{option_copied};
 ghost use Rattle.std.specs.Fmt.{DisplaysOnOk, WritesOnOk, WritesStyledOnOk};
 ghost use Rattle.cvss_grammar.specs.Text.{joined};
@@ -27,19 +27,6 @@ pub fn write_component<W: fmt::Write>(
     ensures styled { WritesStyledOnOk W.write_str_gives f.old result (drop 1 slashed.now) f.new }
 {
     f.write_str(&slashed[1..])
-}
-
-/// Writes a component with the slash before it, if there is one.
-pub fn write_slashed<W: fmt::Write>(
-    slashed: Option<&'static str>,
-    f: &mut fmt::Formatter<W>,
-) -> fmt::Result
-    ensures { WritesOnOk W.write_str_gives f.old result (unwrap_or (option_copied slashed.entry) []) f.new }
-{
-    match slashed {
-        Some(text) => f.write_str(text),
-        None => Ok(()),
-    }
 }
 
 /// Writes a component, and the slash before it unless it is the first.

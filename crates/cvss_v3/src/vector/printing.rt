@@ -3,16 +3,14 @@
 ghost use Rattle.std.specs.Prelude.{◌≡◌, ◌++◌, Some, codes, option_map, take};
 ghost use Rattle.std.specs.Fmt.{WritesOnOk};
 ghost use Rattle.std.specs.Option.{option_copied};
-ghost use Rattle.cvss_grammar.specs.Text.{component};
 ghost use Rattle.cvss_grammar.specs.Version.{numeral, canonical_text, component_of, held, version_piece};
-ghost use Rattle.cvss_name.specs.V3Types.{name_of};
 ghost use Rattle.cvss_text.specs.private.Printing.{slashed, slashed_texts};
 ghost use Rattle.cvss_v3_metric.specs.Table.{spelling_of, printed};
 ghost use Rattle.cvss_v3.specs.Vector.{v3};
 ghost use Rattle.cvss_v3.specs.private.Shown.{shown};
 
 use crate::vector::Vector;
-use cvss_text::print::{Printed, write_slashed};
+use cvss_text::print::Printed;
 use cvss_v3_metric::{MetricType, Spelled};
 use std::fmt;
 
@@ -53,7 +51,7 @@ impl Vector {
             ≡ option_map (λ metric. spelling_of M.TYPE (M.value metric)) value }
         ensures { option_copied result ≡ slashed (component_of v3 self.now kind) }
     {
-        slashed_value(value)
+        Some(value?.slashed())
     }
 }
 
@@ -64,16 +62,10 @@ fn write_value<M: Spelled, W: fmt::Write>(
 ) -> fmt::Result
     ensures { WritesOnOk W.write_str_gives f.old result (shown M.TYPE M.value value) f.new }
 {
-    write_slashed(slashed_value(value), f)
-}
-
-/// A slash and the component of a value.
-fn slashed_value<M: Spelled>(value: Option<M>) -> Option<&'static str>
-    ensures { option_copied result ≡ slashed (option_map (component (name_of M.TYPE))
-        (option_map (λ metric. spelling_of M.TYPE (M.value metric)) value)) }
-{
-    let metric = value?;
-    Some(metric.slashed())
+    match value {
+        Some(metric) => f.write_str(metric.slashed()),
+        None => Ok(()),
+    }
 }
 
 /// Writes a slash and the component of each of four values that there is.

@@ -5,14 +5,12 @@ ghost use Rattle.std.specs.Fmt.{WritesOnOk};
 ghost use Rattle.std.specs.Option.{option_copied};
 ghost use Rattle.cvss_grammar.specs.Version.{numeral, canonical_text, component_of, held, version_piece};
 ghost use Rattle.cvss_text.specs.private.Printing.{slashed, slashed_texts};
-ghost use Rattle.cvss_grammar.specs.Text.{component};
-ghost use Rattle.cvss_name.specs.V4Types.{name_of};
 ghost use Rattle.cvss_v4_metric.specs.Table.{printed, spelling_at};
 ghost use Rattle.cvss_v4.specs.Vector.{v4};
 ghost use Rattle.cvss_v4.specs.private.Shown.{shown};
 
 use crate::vector::Vector;
-use cvss_text::print::{Printed, write_slashed};
+use cvss_text::print::Printed;
 use cvss_v4_metric::{MetricType, Spelled};
 use std::fmt;
 
@@ -63,17 +61,8 @@ impl Vector {
             ≡ option_map (λ x. spelling_at M.TYPE (M.rank x)) value }
         ensures { option_copied result ≡ slashed (component_of v4 self.now kind) }
     {
-        slashed_value(value)
+        Some(value?.slashed())
     }
-}
-
-/// A slash and the component of a value.
-fn slashed_value<M: Spelled>(value: Option<M>) -> Option<&'static str>
-    ensures { option_copied result
-        ≡ slashed (option_map (component (name_of M.TYPE)) (option_map (λ x. spelling_at M.TYPE (M.rank x)) value)) }
-{
-    let metric = value?;
-    Some(metric.slashed())
 }
 
 /// Writes a slash and the component of a value, if there is one.
@@ -83,7 +72,10 @@ fn write_value<M: Spelled, W: fmt::Write>(
 ) -> fmt::Result
     ensures { WritesOnOk W.write_str_gives f.old result (shown M.TYPE M.rank value) f.new }
 {
-    write_slashed(slashed_value(value), f)
+    match value {
+        Some(metric) => f.write_str(metric.slashed()),
+        None => Ok(()),
+    }
 }
 
 /// Writes a slash and the component of each of three values that is there.
