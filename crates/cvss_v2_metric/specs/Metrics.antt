@@ -1,4 +1,4 @@
--- What holds of each enum of metric values.
+-- What holds of each enum of metric values: CVSS v2 guide, sections 2.1 to 2.3.
 use Rattle.std.specs.Prelude.{◌≡◌, Bool}
 use Rattle.std.specs.Ordering.{nat_cmp}
 use Rattle.std.specs.declared.cmp.Ordering.{Ordering}

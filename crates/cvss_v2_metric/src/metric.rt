@@ -1,6 +1,6 @@
 //! What all metrics of CVSS v2 have in common.
 
-ghost use Rattle.std.specs.Prelude.{◌≡◌, ◌∷◌, ◌*◌, ◌^◌, pos, IfSome, IfOk, IfErr, Some, bytes_eq, find};
+ghost use Rattle.std.specs.Prelude.{◌≡◌, ◌∷◌, ◌*◌, ◌^◌, pos, IfSome, IfOk, IfErr, Some, bytes_eq, find, map};
 ghost use Rattle.cvss_grammar.specs.Refusal.{BadValue};
 ghost use Rattle.cvss_grammar.specs.Text.{slash};
 ghost use Rattle.cvss_name.specs.Told.{Tells};
@@ -8,7 +8,7 @@ ghost use Rattle.cvss_name.specs.V2Types.{v2_reason, name_of};
 ghost use Rattle.cvss_name.specs.declared.v2.MetricType.{MetricType};
 ghost use Rattle.cvss_number.specs.Exact.{IsWithinLimit};
 ghost use Rattle.cvss_v2_metric.specs.Metrics.{IsMetric};
-ghost use Rattle.cvss_v2_metric.specs.Table.{Value, spelling_of, weight_of, metric_component};
+ghost use Rattle.cvss_v2_metric.specs.Table.{Value, spelling_of, weight_of, metric_component, rows_of};
 
 use cvss_name::Error;
 pub use cvss_name::v2::MetricType;
@@ -29,9 +29,11 @@ pub trait Spelled: Copy + 'static {
 
     ghost value: { Self → Value TYPE };
 
-    /// The values, each of which is the first with its spelling.
+    /// The values, the least first, each of which is the first with its spelling.
     fn values() -> &'static [Self]
-        ensures { (metric : Self) → find (λ other. bytes_eq (spelling_of TYPE (value other))
+        ensures rows { map (λ metric. spelling_of TYPE (value metric)) result.now
+            ≡ map (λ row. row.0) (rows_of TYPE) }
+        ensures first { (metric : Self) → find (λ other. bytes_eq (spelling_of TYPE (value other))
             (spelling_of TYPE (value metric))) result.now ≡ Some metric };
 
     /// A slash and the component that stands for the value in a vector, and the value's weight in
