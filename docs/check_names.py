@@ -14,6 +14,8 @@ import re
 import sys
 from pathlib import Path
 
+from check_shelves import pages
+
 ROOT = Path(__file__).resolve().parent.parent
 DOCUMENTS = [*(ROOT / f"{name}.md" for name in ("README", "CONTRIBUTING", "SECURITY", "CHANGELOG")),
              *sorted((ROOT / "docs").glob("*.md")), ROOT / "conformance/README.md", ROOT / "bindings/python/README.md"]
@@ -81,11 +83,11 @@ def main():
     files = "\n".join(os.path.join(folder, name) for folder, _, names in folders for name in names)
     wrong = [f"{path.name}: {name} is not there" for path in DOCUMENTS for name in wrong_names(path, files)]
     text = (ROOT / "docs/DEFINITIONS.md").read_text(encoding="utf-8")
-    told = {*pages_in(text), *re.findall(r"crates/(\w+)/specs/(\w+)\.antt", text)}
-    for page in sorted(ROOT.glob("crates/*/specs/[A-Z]*.antt")):
-        crate = page.parent.parent.name
-        if page.stem != "Lib" and crate not in WITHOUT_PROMISES and (crate, page.stem) not in told:
-            wrong.append(f"DEFINITIONS.md does not name {crate} specs/{page.stem}")
+    told = {*pages_in(text), *re.findall(r"crates/(\w+)/specs/((?:v\d/)?\w+)\.antt", text)}
+    for path in pages():
+        crate, page = re.search(r"crates/(\w+)/specs/(.*)\.antt$", str(path)).groups()
+        if page != "Lib" and crate not in WITHOUT_PROMISES and (crate, page) not in told:
+            wrong.append(f"DEFINITIONS.md does not name {crate} specs/{page}")
     sys.exit("\n".join([*wrong, *wrong_links()]) or None)
 
 

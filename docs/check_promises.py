@@ -15,7 +15,7 @@ import sys
 from check_shelves import ROOT, WITHOUT_PROMISES, signatures, sources
 
 # effective values and classes of v4, which have a path for a test alone
-SCORING = "cvss_v4_score/src/scoring"
+SCORING = "cvss_score/src/v4/scoring"
 
 DERIVED = re.compile(r"^#\[derive\(([^)]*)\)\]\n(?:#\[[^\n]*\n)*pub (?:struct|enum) (\w+)", re.M)
 LAW = re.compile(r"⟦<(?:\w+::)?(\w+)(?:<'static>)? as (?:PartialEq|Clone)>⟧\.(eq|is_clone|is_infallible)")
@@ -27,18 +27,18 @@ def crates():
     return sorted({path.name for path in (ROOT / "crates").iterdir()} - WITHOUT_PROMISES)
 
 
-def laws_of(crate):
-    """Which words of which types the laws of a crate cite."""
-    path = ROOT / "crates" / crate / "src" / "laws.rt"
-    return set(LAW.findall(path.read_text(encoding="utf-8"))) if path.exists() else set()
+def laws_for(path):
+    """Which words of which types the laws cite that stand in the crate of a file, or there beside it."""
+    above = [folder / "laws.rt" for folder in path.parents if "src" in folder.parts]
+    return {law for laws in above if laws.exists() for law in LAW.findall(laws.read_text(encoding="utf-8"))}
 
 
 def without_law():
     """Each public type of which a law is lacking."""
     for crate in [*crates(), "cvss_bytes"]:
         files, exported = sources(crate)
-        found = laws_of(crate) | laws_of("cvss")
         for path, is_public, text in files:
+            found = laws_for(path) | laws_for(ROOT / "crates/cvss/src/lib.rt")
             metrics = re.findall(r"^impl(?:<[^>]*>)? Metric for (\w+)", text, re.M)
             for traits, name in DERIVED.findall(text):
                 if SCORING in str(path) or name in metrics or not (is_public or name in exported):

@@ -12,8 +12,9 @@ from pathlib import Path
 
 ROOT = Path(__file__).resolve().parent.parent
 # parts of versions and of the calls for C, which have no path in `cvss`, and callers that are proved from laws too
-WITHOUT_PROMISES = {"cvss_text", "cvss_base", "cvss_bytes", "cvss_examples"}
+WITHOUT_PROMISES = {"cvss_text", "cvss_bytes", "cvss_examples"}
 
+OTHER_SHELF = re.compile(r"\.specs\.(?:v\d\.)?(?:laws|private)\.")
 USE = re.compile(r"^ *(?:pub |ghost )?use Rattle\.([\w.]+?)(?:\.\{([^}]*)\})?(?: as (\w+))?;?$", re.M)
 MODULE = re.compile(r"^(pub )?mod (\w+);", re.M)
 EXPORT = re.compile(r"^pub use [^;]+;", re.M)
@@ -32,11 +33,17 @@ def aliases():
     return given
 
 
+def pages():
+    """The pages right in `specs/`, or in the folder of a version there, which in `cvss_laws` is one of laws."""
+    return sorted([*ROOT.glob("crates/*/specs/[A-Z]*.antt"),
+                   *(page for page in ROOT.glob("crates/*/specs/v?/[A-Z]*.antt") if "cvss_laws" not in page.parts)])
+
+
 def words(text, given):
     """The words that a file takes from the shelves of laws and of private code, each with its page."""
     for page, names, alias in USE.findall(text):
         page = given.get(page, page)
-        if ".specs.laws." in page or ".specs.private." in page:
+        if OTHER_SHELF.search(page):
             for name in re.findall(r"[^,{}\n]+", names) or [alias or page.rsplit(".", 1)[1]]:
                 yield name.split(" as ")[-1].strip(), page
 
@@ -56,18 +63,19 @@ def names_given(uses):
 
 
 def sources(crate):
-    """The files of a crate, each with whether it is public and its text, and the names that a `pub use` gives. Of a
-    crate of equations that is public which the version's crate or `cvss` passes on."""
+    """The files of a crate, each with whether it is public and its text, and the names that a `pub use` gives. Of the
+    crate of equations that is public which a version's crate or `cvss` passes on."""
     folder = ROOT / "crates" / crate / "src"
     root = next(path for path in (folder / "lib.rt", folder / "main.rt") if path.exists())
     files = [(path, is_public, path.read_text(encoding="utf-8")) for path, is_public in modules(root, True)]
     uses = [use for _, _, text in files for use in EXPORT.findall(text)]
-    if not crate.endswith("_score"):
+    if crate != "cvss_score":
         return files, names_given(uses)
-    above = [path.read_text(encoding="utf-8") for name in (crate[:-6], "cvss")
+    above = [path.read_text(encoding="utf-8") for name in ("cvss_v2", "cvss_v3", "cvss_v4", "cvss")
              for path in (folder.parents[1] / name / "src").rglob("*.rt")]
     passed_on = names_given(use for text in above for use in EXPORT.findall(text) if f"{crate}::" in use)
-    return [(path, is_public and path.relative_to(folder).parts[0].split(".")[0] in passed_on, text)
+    return [(path, is_public and path.relative_to(folder).parts[1:2] and
+             path.relative_to(folder).parts[1].split(".")[0] in passed_on, text)
             for path, is_public, text in files], passed_on
 
 
@@ -98,12 +106,12 @@ def wrong_clauses():
         files, exported = sources(crate)
         for path, is_public, text in files:
             foreign = {word: page for word, page in words(text, given)
-                       if "laws" not in (path.stem, crate[5:]) or ".specs.private." in page}
+                       if "laws" not in (path.stem, crate[5:]) or ".private." in page}
             for name, signature in signatures(text, is_public, exported):
                 for word, page in sorted(foreign.items()):
                     if re.search(rf"(?<!\w){re.escape(word)}(?!\w)", signature):
                         yield f"{path.relative_to(ROOT)}: {name} cites {word} of {page}"
-    for path in sorted(ROOT.glob("crates/*/specs/[A-Z]*.antt")):
+    for path in pages():
         if path.stem != "Lib":
             for word, page in words(path.read_text(encoding="utf-8"), given):
                 yield f"{path.relative_to(ROOT)} stands on {page}"

@@ -11,13 +11,12 @@ import re
 import sys
 from pathlib import Path
 
-from check_shelves import wrong_clauses
+from check_shelves import pages, wrong_clauses
 
 ROOT = Path(__file__).resolve().parent.parent
 PAGE = ROOT / "docs" / "DEFINITIONS.md"
-CRATES = ["grammar", "number", "text", "name", "base", "v2_metric", "v2", "v2_score", "v3_metric", "v3", "v3_score", "v4_metric", "v4",
-          "v4_score"]
-ROW = re.compile(r"(\| \[[^]]+\]\(\.\./(crates/\w+/specs/\w+\.antt)\) \| )\d+( \|)")
+CRATES = {"cvss_base", "cvss_text", "cvss_metric", "cvss_score", "cvss_v2", "cvss_v3", "cvss_v4"}
+ROW = re.compile(r"(\| \[[^]]+\]\(\.\./(crates/\w+/specs/(?:v\d/)?\w+\.antt)\) \| )\d+( \|)")
 HEAD = re.compile(r"^(### .*, )\d+( lines)$", re.M)
 
 
@@ -40,19 +39,17 @@ def counted(text):
     return "".join(HEAD.sub(rf"\g<1>{count}\2", part) for part, count in zip(parts, sums))
 
 
-def pages():
+def to_be_listed():
     """The pages that are to be listed."""
-    for crate in CRATES:
-        for path in (ROOT / "crates" / f"cvss_{crate}" / "specs").glob("*.antt"):
-            if path.stem not in ("Lib", "laws", "private"):
-                yield str(path.relative_to(ROOT))
+    paths = [path.relative_to(ROOT) for path in pages() if path.stem != "Lib"]
+    return [str(path) for path in paths if path.parts[1] in CRATES]
 
 
 def main():
     text = PAGE.read_text(encoding="utf-8")
     listed = [row[2] for row in ROW.finditer(text)]
-    for path in sorted({*pages(), *listed}):
-        if listed.count(path) != 1 or path not in pages():
+    for path in sorted({*to_be_listed(), *listed}):
+        if listed.count(path) != 1 or path not in to_be_listed():
             sys.exit(f"{PAGE.name} lists {path} {listed.count(path)} times")
     if "--check" not in sys.argv[1:]:
         PAGE.write_text(counted(text), encoding="utf-8")

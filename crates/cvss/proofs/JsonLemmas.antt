@@ -1,8 +1,8 @@
 -- How a reason for refusing a text is told of the JSON string of the text.
 use Rattle.std.specs.Prelude.{◌≡◌, ℕ, List, Result, IfErr, IsErrAnd}
 use Rattle.std.proofs.lemmas.Result.{err_from_is_err_and}
-use Rattle.cvss_name.specs.declared.error.Error.{Error}
-use Rattle.cvss_name.specs.declared.error.Error.TheVariants.{OutOfMemory}
+use Rattle.cvss_base.specs.declared.error.Error.{Error}
+use Rattle.cvss_base.specs.declared.error.Error.TheVariants.{OutOfMemory}
 use Rattle.cvss.specs.declared.json.JsonError.{JsonError}
 use Rattle.cvss.specs.Json.{TellsWhy, told_as}
 use Rattle.serde_json.specs.Data.{Data, string}

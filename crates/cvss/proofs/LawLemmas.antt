@@ -2,8 +2,8 @@
 use Rattle.std.proofs.Common.{◌≡◌, ◌≢◌, ◌↔◌, ℕ, List, [], ◌∷◌, ◌++◌, codes, length, refl, sym, ap, ◌∙◌, arith, lit<}
 use Rattle.std.specs.List.{Contains}
 use Rattle.std.proofs.lemmas.List.{length-append}
-use Rattle.cvss_grammar.specs.Version.{numeral, components_of, version_piece, IsWellFormed}
-use Rattle.cvss_grammar.specs.Text.{slash, joined}
+use Rattle.cvss_base.specs.Version.{numeral, components_of, version_piece, IsWellFormed}
+use Rattle.cvss_base.specs.Text.{slash, joined}
 use Rattle.cvss_text.proofs.CanonicalLemmas.{canonical_text-denotes}
 use Rattle.cvss_v2.specs.Vector.{v2}
 use Rattle.cvss_v2.specs.private.VectorLaws.{v2_is_lawful}

@@ -1,8 +1,8 @@
 -- A text has at most one first refusal, by the rules of each version and of all.
 use Rattle.std.proofs.Common.{◌≡◌, ℕ, List, sym, ap, ◌∙◌}
-use Rattle.cvss_grammar.specs.Text.{pieces}
-use Rattle.cvss_grammar.specs.Refusal.{Refusal, IsFirstReason, IsFirstRefusal, IsReasonBehind, IsFirstRefusalBehind}
-use Rattle.cvss_grammar.specs.Version.{Version}
+use Rattle.cvss_base.specs.Text.{pieces}
+use Rattle.cvss_base.specs.Refusal.{Refusal, IsFirstReason, IsFirstRefusal, IsReasonBehind, IsFirstRefusalBehind}
+use Rattle.cvss_base.specs.Version.{Version}
 use Rattle.cvss_text.specs.private.Walk.{IsLawful}
 use Rattle.cvss_text.proofs.RefusalLemmas.{reasons_same, reasons_behind_same, refusals_same}
 use Rattle.cvss_v2.specs.Vector.{v2}

@@ -1,7 +1,7 @@
 -- JSON values that stand for vectors, severities and nomenclatures: RFC 8259, sections 3 and 7.
 use Rattle.std.specs.Prelude.{◌≡◌, ◌≢◌, ℕ, List, codes}
-use Rattle.cvss_name.specs.ErrorText.{error_text}
-use Rattle.cvss_name.specs.declared.error.Error.{Error}
+use Rattle.cvss_base.specs.ErrorText.{error_text}
+use Rattle.cvss_base.specs.declared.error.Error.{Error}
 use Rattle.cvss.specs.declared.json.JsonError.{JsonError}
 use Rattle.cvss.specs.declared.json.JsonError.TheVariants.{NotAString, Invalid, OutOfMemory}
 use Rattle.serde_json.specs.Data.{Data, string}

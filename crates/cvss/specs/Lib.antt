@@ -11,58 +11,58 @@ pub use Rattle.cvss_any.specs.declared.bytes_error.BytesError as BytesErrorType
 pub use Rattle.cvss_any.specs.declared.published.Bounds as BoundsType
 pub use Rattle.cvss_any.specs.declared.published.Published as PublishedType
 pub use Rattle.cvss_any.specs.declared.metric_type.MetricType as MetricTypeAny
-pub use Rattle.cvss_grammar.specs.Equality
-pub use Rattle.cvss_name.specs.ErrorText
-pub use Rattle.cvss_number.specs.Exact
-pub use Rattle.cvss_name.specs.Groups
+pub use Rattle.cvss_base.specs.Equality
+pub use Rattle.cvss_base.specs.ErrorText
+pub use Rattle.cvss_base.specs.Exact
+pub use Rattle.cvss_base.specs.Groups
 pub use Rattle.cvss_text.specs.Listing
 pub use Rattle.cvss_base.specs.Rating
-pub use Rattle.cvss_grammar.specs.Refusal
-pub use Rattle.cvss_number.specs.Rounding
-pub use Rattle.cvss_name.specs.SeverityText
-pub use Rattle.cvss_number.specs.Tenths
-pub use Rattle.cvss_grammar.specs.Text
-pub use Rattle.cvss_name.specs.Told
-pub use Rattle.cvss_name.specs.V2Types as TypesV2
-pub use Rattle.cvss_name.specs.V3Types as TypesV3
-pub use Rattle.cvss_name.specs.V4Types as TypesV4
-pub use Rattle.cvss_grammar.specs.Version
-pub use Rattle.cvss_name.specs.declared.error.Error as ErrorType
-pub use Rattle.cvss_name.specs.declared.group.MetricGroup as MetricGroupType
-pub use Rattle.cvss_name.specs.declared.severity.Severity as SeverityType
-pub use Rattle.cvss_name.specs.declared.v2.MetricType as MetricTypeV2
-pub use Rattle.cvss_name.specs.declared.v3.MetricType as MetricTypeV3
-pub use Rattle.cvss_name.specs.declared.v4.MetricType as MetricTypeV4
-pub use Rattle.cvss_v2_score.specs.Rating as RatingV2
-pub use Rattle.cvss_v2_score.specs.Scores as ScoresV2
-pub use Rattle.cvss_v2_metric.specs.Table as TableV2
+pub use Rattle.cvss_base.specs.Refusal
+pub use Rattle.cvss_base.specs.Rounding
+pub use Rattle.cvss_base.specs.SeverityText
+pub use Rattle.cvss_base.specs.Tenths
+pub use Rattle.cvss_base.specs.Text
+pub use Rattle.cvss_base.specs.Told
+pub use Rattle.cvss_base.specs.V2Types as TypesV2
+pub use Rattle.cvss_base.specs.V3Types as TypesV3
+pub use Rattle.cvss_base.specs.V4Types as TypesV4
+pub use Rattle.cvss_base.specs.Version
+pub use Rattle.cvss_base.specs.declared.error.Error as ErrorType
+pub use Rattle.cvss_base.specs.declared.group.MetricGroup as MetricGroupType
+pub use Rattle.cvss_base.specs.declared.severity.Severity as SeverityType
+pub use Rattle.cvss_base.specs.declared.v2.MetricType as MetricTypeV2
+pub use Rattle.cvss_base.specs.declared.v3.MetricType as MetricTypeV3
+pub use Rattle.cvss_base.specs.declared.v4.MetricType as MetricTypeV4
+pub use Rattle.cvss_score.specs.v2.Rating as RatingV2
+pub use Rattle.cvss_score.specs.v2.Scores as ScoresV2
+pub use Rattle.cvss_metric.specs.v2.Table as TableV2
 pub use Rattle.cvss_v2.specs.Vector as VectorV2
 pub use Rattle.cvss_v2.specs.Weights as WeightsV2
 pub use Rattle.cvss_v2.specs.declared.vector.Vector as VectorTypeV2
-pub use Rattle.cvss_v2_score.specs.declared.weights.Weights as WeightsTypeV2
-pub use Rattle.cvss_v3_metric.specs.Metrics as MetricsV3
-pub use Rattle.cvss_v3_metric.specs.Modified as ModifiedV3
-pub use Rattle.cvss_v3_metric.specs.Table as TableV3
-pub use Rattle.cvss_v3_metric.specs.declared.environmental.modified.Modified as ModifiedTypeV3
-pub use Rattle.cvss_v3_score.specs.Certainty as CertaintyV3
-pub use Rattle.cvss_v3_score.specs.Scores as ScoresV3
-pub use Rattle.cvss_v3_score.specs.Weighing as WeighingV3
-pub use Rattle.cvss_v3_score.specs.declared.weights.Weights as WeightsTypeV3
+pub use Rattle.cvss_score.specs.declared.v2.weights.Weights as WeightsTypeV2
+pub use Rattle.cvss_metric.specs.v3.Metrics as MetricsV3
+pub use Rattle.cvss_metric.specs.v3.Modified as ModifiedV3
+pub use Rattle.cvss_metric.specs.v3.Table as TableV3
+pub use Rattle.cvss_metric.specs.declared.v3.environmental.modified.Modified as ModifiedTypeV3
+pub use Rattle.cvss_score.specs.v3.Certainty as CertaintyV3
+pub use Rattle.cvss_score.specs.v3.Scores as ScoresV3
+pub use Rattle.cvss_score.specs.v3.Weighing as WeighingV3
+pub use Rattle.cvss_score.specs.declared.v3.weights.Weights as WeightsTypeV3
 pub use Rattle.cvss_v3.specs.Vector as VectorV3
 pub use Rattle.cvss_v3.specs.VectorWeights as WeightsV3
 pub use Rattle.cvss_v3.specs.declared.vector.Vector as VectorTypeV3
-pub use Rattle.cvss_v4_metric.specs.Metrics as MetricsV4
-pub use Rattle.cvss_v4_metric.specs.Reading as ReadingV4
-pub use Rattle.cvss_v4_metric.specs.Ranks as RanksV4
-pub use Rattle.cvss_v4_metric.specs.Table as TableV4
-pub use Rattle.cvss_v4_score.specs.AsSevere as AsSevereV4
-pub use Rattle.cvss_v4_score.specs.Classes as ClassesV4
-pub use Rattle.cvss_v4_score.specs.Distance as DistanceV4
-pub use Rattle.cvss_v4_score.specs.Gap as GapV4
-pub use Rattle.cvss_v4_score.specs.Scores as ScoresV4
-pub use Rattle.cvss_v4_score.specs.Values as ValuesV4
-pub use Rattle.cvss_v4_score.specs.declared.nomenclature.Nomenclature as NomenclatureTypeV4
-pub use Rattle.cvss_v4_score.specs.declared.scoring.effective.Effective as EffectiveTypeV4
+pub use Rattle.cvss_metric.specs.v4.Metrics as MetricsV4
+pub use Rattle.cvss_metric.specs.v4.Reading as ReadingV4
+pub use Rattle.cvss_metric.specs.v4.Ranks as RanksV4
+pub use Rattle.cvss_metric.specs.v4.Table as TableV4
+pub use Rattle.cvss_score.specs.v4.AsSevere as AsSevereV4
+pub use Rattle.cvss_score.specs.v4.Classes as ClassesV4
+pub use Rattle.cvss_score.specs.v4.Distance as DistanceV4
+pub use Rattle.cvss_score.specs.v4.Gap as GapV4
+pub use Rattle.cvss_score.specs.v4.Scores as ScoresV4
+pub use Rattle.cvss_score.specs.v4.Values as ValuesV4
+pub use Rattle.cvss_score.specs.declared.v4.nomenclature.Nomenclature as NomenclatureTypeV4
+pub use Rattle.cvss_score.specs.declared.v4.scoring.effective.Effective as EffectiveTypeV4
 pub use Rattle.cvss_v4.specs.Merging as MergingV4
 pub use Rattle.cvss_v4.specs.Nomenclature as NomenclatureV4
 pub use Rattle.cvss_v4.specs.Overriding as OverridingV4

@@ -1,19 +1,19 @@
 //! Vectors, severities and nomenclatures as JSON strings (RFC 8259, section 7).
 
 ghost use Rattle.std.specs.Prelude.{◌≡◌, ◌≢◌, ℕ, List, IfOk, IfErr, Some, Ok, Err, refl};
-ghost use Rattle.cvss_name.specs.SeverityText as severity;
-ghost use Rattle.cvss_name.specs.Told.{TellsFirst, TellsNoSeverity};
-ghost use Rattle.cvss_v4_score.specs.Nomenclature.{TellsNoNomenclature};
-ghost use Rattle.cvss_name.specs.V2Types.{v2_reason};
-ghost use Rattle.cvss_name.specs.V3Types.{v3_reason};
-ghost use Rattle.cvss_name.specs.V4Types.{v4_reason};
-ghost use Rattle.cvss_grammar.specs.Refusal.{IsFirstRefusal, IsFirstRefusalBehind};
-ghost use Rattle.cvss_grammar.specs.Version.{canonical_text, Denotes, IsComplete, IsWellFormed};
-ghost use Rattle.cvss_name.specs.declared.error.Error.{Error};
-ghost use Rattle.cvss_name.specs.declared.error.Error.TheVariants.{OutOfMemory as LacksMemory};
+ghost use Rattle.cvss_base.specs.SeverityText as severity;
+ghost use Rattle.cvss_base.specs.Told.{TellsFirst, TellsNoSeverity};
+ghost use Rattle.cvss_score.specs.v4.Nomenclature.{TellsNoNomenclature};
+ghost use Rattle.cvss_base.specs.V2Types.{v2_reason};
+ghost use Rattle.cvss_base.specs.V3Types.{v3_reason};
+ghost use Rattle.cvss_base.specs.V4Types.{v4_reason};
+ghost use Rattle.cvss_base.specs.Refusal.{IsFirstRefusal, IsFirstRefusalBehind};
+ghost use Rattle.cvss_base.specs.Version.{canonical_text, Denotes, IsComplete, IsWellFormed};
+ghost use Rattle.cvss_base.specs.declared.error.Error.{Error};
+ghost use Rattle.cvss_base.specs.declared.error.Error.TheVariants.{OutOfMemory as LacksMemory};
 ghost use Rattle.cvss_v2.specs.Vector.{v2};
 ghost use Rattle.cvss_v3.specs.Vector.{v3};
-ghost use Rattle.cvss_v4_score.specs.Nomenclature as nomenclature;
+ghost use Rattle.cvss_score.specs.v4.Nomenclature as nomenclature;
 ghost use Rattle.cvss_v4.specs.Vector.{v4};
 ghost use Rattle.cvss_any.specs.Answers.{text_of};
 ghost use Rattle.cvss_any.specs.Dispatch.{DenotesCvss, IsFirstRefusalCvss, cvss_reason};

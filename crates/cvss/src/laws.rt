@@ -2,13 +2,13 @@
 //! needs a law calls it.
 
 ghost use Rattle.std.specs.Prelude.{◌≡◌, ◌↔◌, ℕ, List, IsTrue};
-ghost use Rattle.cvss_name.specs.declared.v2.MetricType as type_v2;
-ghost use Rattle.cvss_name.specs.declared.v3.MetricType as type_v3;
-ghost use Rattle.cvss_name.specs.declared.v4.MetricType as type_v4;
-ghost use Rattle.cvss_name.specs.laws.Errors as same;
-ghost use Rattle.cvss_grammar.specs.Equality.{EqualsByValue, ClonesByValue, ClonesAlways};
-ghost use Rattle.cvss_grammar.specs.Refusal.{Refusal, IsFirstRefusal, IsFirstRefusalBehind};
-ghost use Rattle.cvss_number.specs.laws.Rounding.{IsOneCount};
+ghost use Rattle.cvss_base.specs.declared.v2.MetricType as type_v2;
+ghost use Rattle.cvss_base.specs.declared.v3.MetricType as type_v3;
+ghost use Rattle.cvss_base.specs.declared.v4.MetricType as type_v4;
+ghost use Rattle.cvss_base.specs.laws.Errors as same;
+ghost use Rattle.cvss_base.specs.Equality.{EqualsByValue, ClonesByValue, ClonesAlways};
+ghost use Rattle.cvss_base.specs.Refusal.{Refusal, IsFirstRefusal, IsFirstRefusalBehind};
+ghost use Rattle.cvss_base.specs.laws.Rounding.{IsOneCount};
 ghost use Rattle.cvss_v2.specs.Vector as of_v2;
 ghost use Rattle.cvss_v3.specs.Vector as of_v3;
 ghost use Rattle.cvss_v4.specs.Vector as of_v4;
@@ -63,7 +63,7 @@ pub fn equality_is_that_of_values()
         ↔ of_bytes.TellTheSame x y }
     ensures error { (x y : Error) → IsTrue (⟦<Error as PartialEq>⟧.eq x y) ↔ same.TellTheSame x y }
 {
-    cvss_name::laws::equality_is_that_of_values();
+    cvss_base::laws::equality_is_that_of_values();
     v2::laws::vectors_are_their_values();
     v3::laws::vectors_are_their_values();
     v4::laws::equality_is_that_of_values();
@@ -84,7 +84,7 @@ pub fn clones_are_equal()
     ensures error { (x clone : Error) → ⟦<Error as Clone>⟧.is_clone x clone
         → same.TellTheSame x clone }
 {
-    cvss_name::laws::clones_are_equal();
+    cvss_base::laws::clones_are_equal();
 }
 
 /// To clone a vector, a metric, what is published or a count takes no memory, so it is never refused.

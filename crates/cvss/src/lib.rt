@@ -12,6 +12,6 @@ pub mod v3;
 pub mod v4;
 
 pub use cvss_any::{Bounds, BytesError, Cvss, MetricType, Metrics, Published};
-pub use cvss_grammar::PREFIX;
-pub use cvss_name::{Error, MetricGroup, Severity};
-pub use cvss_number::{LIMIT, ONE, OneDecimal, tenths};
+pub use cvss_base::PREFIX;
+pub use cvss_base::{Error, MetricGroup, Severity};
+pub use cvss_base::{LIMIT, ONE, OneDecimal, tenths};

@@ -2,5 +2,5 @@
 
 pub use cvss_laws::v2 as laws;
 pub use cvss_v2::{Metrics, Score, Vector};
-pub use cvss_v2_metric as metric;
-pub use cvss_v2_metric::{Metric, MetricType};
+pub use cvss_metric::v2 as metric;
+pub use cvss_metric::v2::{Metric, MetricType};

@@ -2,5 +2,5 @@
 
 pub use cvss_laws::v3 as laws;
 pub use cvss_v3::{Metrics, Score, Vector};
-pub use cvss_v3_metric as metric;
-pub use cvss_v3_metric::{Metric, MetricType};
+pub use cvss_metric::v3 as metric;
+pub use cvss_metric::v3::{Metric, MetricType};

@@ -4,11 +4,11 @@ use Rattle.std.proofs.Common.{◌≡◌, ℕ, zero, suc, ◌+◌, ◌*◌, ◌^�
 use Rattle.std.proofs.Math.Nat.{mul-le-mul_right, mul-pos}
 use Rattle.std.proofs.lemmas.Int.{ints}
 use borrow.Author.Differences.{up, down}
-use Rattle.cvss_number.proofs.ExactLemmas.{at_most_below}
-use Rattle.cvss_number.specs.Exact.{Exact, of_count, smaller, whole, ◌over◌, ◌⊕◌, ◌≈◌}
-use Rattle.cvss_v3_score.specs.Closeness.{IsCloseTo}
-use Rattle.cvss_v3_score.specs.Scores.{base_number, changed_impact, changed_modified_impact, environmental_number, exploitability, first_number, impact, impact_of, iss, miss, modified_exploitability, modified_impact, modified_impact_of, power, rules_of, total_of}
-use Rattle.cvss_v3_score.specs.declared.weights.Weights.{Weights}
+use Rattle.cvss_base.proofs.ExactLemmas.{at_most_below}
+use Rattle.cvss_base.specs.Exact.{Exact, of_count, smaller, whole, ◌over◌, ◌⊕◌, ◌≈◌}
+use Rattle.cvss_score.specs.v3.Closeness.{IsCloseTo}
+use Rattle.cvss_score.specs.v3.Scores.{base_number, changed_impact, changed_modified_impact, environmental_number, exploitability, first_number, impact, impact_of, iss, miss, modified_exploitability, modified_impact, modified_impact_of, power, rules_of, total_of}
+use Rattle.cvss_score.specs.declared.v3.weights.Weights.{Weights}
 use Rattle.cvss_account.proofs.NearLemmas.{near_equal}
 use Rattle.cvss_account.specs.Near.{AreNearest, IsWithinMillionth, ten_millionths}
 use Rattle.cvss_account.specs.NumbersV3.{IsNearBy}

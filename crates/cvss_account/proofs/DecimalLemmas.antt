@@ -1,7 +1,7 @@
 -- The ten millionths that are nearest to a fraction are near.
 use Rattle.std.proofs.Common.{ℕ, arith, pos}
 use Rattle.std.proofs.lemmas.Int.{ints}
-use Rattle.cvss_number.specs.Exact.{◌over◌}
+use Rattle.cvss_base.specs.Exact.{◌over◌}
 use Rattle.cvss_account.specs.Decimal.{nearest_to}
 use Rattle.cvss_account.specs.Near.{IsNear}
 

@@ -1,10 +1,10 @@
 -- The nearest ten millionths are near.
 use Rattle.std.proofs.Common.{◌≡◌, ◌<◌, ℤ, arith}
 use Rattle.std.proofs.lemmas.Int.{ints}
-use Rattle.cvss_number.proofs.ExactLemmas.{at_most_below, below_at_most, equal_at_most, equal_sym, equal_trans, sum_at_most}
-use Rattle.cvss_number.specs.Exact.{Exact, of_count, ◌over◌, ◌⊕◌, ◌≈◌}
+use Rattle.cvss_base.proofs.ExactLemmas.{at_most_below, below_at_most, equal_at_most, equal_sym, equal_trans, sum_at_most}
+use Rattle.cvss_base.specs.Exact.{Exact, of_count, ◌over◌, ◌⊕◌, ◌≈◌}
 use Rattle.cvss_account.specs.Near.{AreNearest, IsNear, IsTenth, ten_millionths}
-use Rattle.cvss_number.specs.Tenths.{IsInTenths}
+use Rattle.cvss_base.specs.Tenths.{IsInTenths}
 
 -- the ten millionths of the only count that is so many of them
 settled : (c k m : ℤ) → AreNearest c k → of_count c ≈ ten_millionths m → k ≡ m

@@ -2,20 +2,20 @@
 use Rattle.std.specs.Prelude.{ℕ, List, [], ◌∷◌, ◌++◌, codes}
 use Rattle.cvss_record.specs.Objects.{Member}
 use Rattle.serde_json.specs.Data.{string}
-use Rattle.cvss_name.specs.declared.v4.MetricType.TheVariants.{AC, AT, AV, PR, UI}
-use Rattle.cvss_v4_metric.specs.Ranks as place
-use Rattle.cvss_v4_metric.specs.Table.{spelling_at}
-use Rattle.cvss_v4_score.specs.declared.scoring.effective.Effective.{Effective}
-use Rattle.cvss_v4_score.specs.declared.scoring.effective.VulnerableImpact.{VulnerableImpact}
-use Rattle.cvss_v4_score.specs.declared.scoring.effective.VulnerableImpact.TheVariants as vulnerable_impact
-use Rattle.cvss_v4_score.specs.declared.scoring.effective.SubsequentImpact.{SubsequentImpact}
-use Rattle.cvss_v4_score.specs.declared.scoring.effective.SubsequentImpact.TheVariants as subsequent_impact
-use Rattle.cvss_v4_score.specs.declared.scoring.effective.SafetyImpact.{SafetyImpact}
-use Rattle.cvss_v4_score.specs.declared.scoring.effective.SafetyImpact.TheVariants as safety_impact
-use Rattle.cvss_v4_score.specs.declared.scoring.effective.Requirement.{Requirement}
-use Rattle.cvss_v4_score.specs.declared.scoring.effective.Requirement.TheVariants as requirement
-use Rattle.cvss_v4_score.specs.declared.scoring.effective.ExploitMaturity.{ExploitMaturity}
-use Rattle.cvss_v4_score.specs.declared.scoring.effective.ExploitMaturity.TheVariants as exploit_maturity
+use Rattle.cvss_base.specs.declared.v4.MetricType.TheVariants.{AC, AT, AV, PR, UI}
+use Rattle.cvss_metric.specs.v4.Ranks as place
+use Rattle.cvss_metric.specs.v4.Table.{spelling_at}
+use Rattle.cvss_score.specs.declared.v4.scoring.effective.Effective.{Effective}
+use Rattle.cvss_score.specs.declared.v4.scoring.effective.VulnerableImpact.{VulnerableImpact}
+use Rattle.cvss_score.specs.declared.v4.scoring.effective.VulnerableImpact.TheVariants as vulnerable_impact
+use Rattle.cvss_score.specs.declared.v4.scoring.effective.SubsequentImpact.{SubsequentImpact}
+use Rattle.cvss_score.specs.declared.v4.scoring.effective.SubsequentImpact.TheVariants as subsequent_impact
+use Rattle.cvss_score.specs.declared.v4.scoring.effective.SafetyImpact.{SafetyImpact}
+use Rattle.cvss_score.specs.declared.v4.scoring.effective.SafetyImpact.TheVariants as safety_impact
+use Rattle.cvss_score.specs.declared.v4.scoring.effective.Requirement.{Requirement}
+use Rattle.cvss_score.specs.declared.v4.scoring.effective.Requirement.TheVariants as requirement
+use Rattle.cvss_score.specs.declared.v4.scoring.effective.ExploitMaturity.{ExploitMaturity}
+use Rattle.cvss_score.specs.declared.v4.scoring.effective.ExploitMaturity.TheVariants as exploit_maturity
 
 -- VC, VI and VA
 abbrev pub vulnerable_impact_letter : VulnerableImpact → List ℕ

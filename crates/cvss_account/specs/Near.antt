@@ -1,6 +1,6 @@
 -- Numbers of at most seven places that are near to exact ones.
 use Rattle.std.specs.Prelude.{◌≡◌, ℕ, ◌*◌, ◌^◌, ℤ, pos, ◌+ℤ◌, ◌*ℤ◌, ◌≤ℤ◌, ◌<ℤ◌}
-use Rattle.cvss_number.specs.Exact.{Exact, ratio, ◌over◌, ◌⊕◌, ◌≈◌, ◌⊏◌}
+use Rattle.cvss_base.specs.Exact.{Exact, ratio, ◌over◌, ◌⊕◌, ◌≈◌, ◌⊏◌}
 
 -- so many ten millionths
 abbrev pub ten_millionths : ℤ → Exact

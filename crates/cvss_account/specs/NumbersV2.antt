@@ -1,8 +1,8 @@
 -- The numbers that accounts of CVSS v2 tell: guide, section 3.2.
 use Rattle.std.specs.Prelude.{ℤ}
-use Rattle.cvss_number.specs.Exact.{tenths, thousandths}
-use Rattle.cvss_v2_score.specs.Scores as scores
-use Rattle.cvss_v2_score.specs.declared.weights.Weights.{Weights}
+use Rattle.cvss_base.specs.Exact.{tenths, thousandths}
+use Rattle.cvss_score.specs.v2.Scores as scores
+use Rattle.cvss_score.specs.declared.v2.weights.Weights.{Weights}
 use Rattle.cvss_account.specs.Near.{IsNear, IsTenth, count_of}
 use Rattle.cvss_account.specs.declared.v2.numbers.BaseNumbers.{BaseNumbers}
 use Rattle.cvss_account.specs.declared.v2.numbers.EnvironmentalNumbers.{EnvironmentalNumbers}

@@ -1,9 +1,9 @@
 -- The numbers that accounts of CVSS v3 tell: v3.1 specification, section 7; v3.0 specification, section 8.
 use Rattle.std.specs.Prelude.{◌≡◌, ℕ, ℤ, Bool, false}
-use Rattle.cvss_number.specs.Exact.{Exact}
-use Rattle.cvss_number.specs.Tenths.{IsInTenths}
-use Rattle.cvss_v3_score.specs.Scores as scores
-use Rattle.cvss_v3_score.specs.declared.weights.Weights.{Weights}
+use Rattle.cvss_base.specs.Exact.{Exact}
+use Rattle.cvss_base.specs.Tenths.{IsInTenths}
+use Rattle.cvss_score.specs.v3.Scores as scores
+use Rattle.cvss_score.specs.declared.v3.weights.Weights.{Weights}
 use Rattle.cvss_account.specs.Near.{IsNear, IsWithinMillionth, count_of}
 use Rattle.cvss_account.specs.declared.v3.numbers.BaseNumbers.{BaseNumbers}
 use Rattle.cvss_account.specs.declared.v3.numbers.EnvironmentalNumbers.{EnvironmentalNumbers}

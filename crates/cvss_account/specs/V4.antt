@@ -6,13 +6,13 @@ use Rattle.cvss_record.specs.Objects.{Member, object_of}
 use Rattle.cvss_record.specs.Record.{score_value}
 use Rattle.serde_json.specs.Data.{Data, array, null, number, string, unsigned}
 use Rattle.serde_json.specs.View.{items_of}
-use Rattle.cvss_v4_score.specs.Account.{IsAccount}
+use Rattle.cvss_score.specs.v4.Account.{IsAccount}
 use Rattle.cvss_v4.specs.Merging.{effective_of}
-use Rattle.cvss_v4_score.specs.declared.scoring.account.Account.{Account}
-use Rattle.cvss_v4_score.specs.declared.scoring.account.GroupAccount.{GroupAccount}
-use Rattle.cvss_v4_score.specs.declared.scoring.account.GroupAccounts.{GroupAccounts}
-use Rattle.cvss_v4_score.specs.declared.scoring.classes.MacroVector.{MacroVector}
-use Rattle.cvss_v4_score.specs.declared.scoring.next.NextClass.{NextClass}
+use Rattle.cvss_score.specs.declared.v4.scoring.account.Account.{Account}
+use Rattle.cvss_score.specs.declared.v4.scoring.account.GroupAccount.{GroupAccount}
+use Rattle.cvss_score.specs.declared.v4.scoring.account.GroupAccounts.{GroupAccounts}
+use Rattle.cvss_score.specs.declared.v4.scoring.classes.MacroVector.{MacroVector}
+use Rattle.cvss_score.specs.declared.v4.scoring.next.NextClass.{NextClass}
 use Rattle.cvss_v4.specs.declared.vector.Vector.{Vector}
 use Rattle.cvss_account.specs.Decimal.{decimal_value, nearest_to}
 use Rattle.cvss_account.specs.LettersV4.{effective_members}

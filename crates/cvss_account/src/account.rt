@@ -10,7 +10,7 @@ ghost use Rattle.serde_json.specs.View.{members_view};
 
 use crate::{v2, v3, v4};
 use cvss::Cvss;
-use cvss_number::TENTH;
+use cvss_base::TENTH;
 use cvss_record::score_value;
 use serde_json::{Map, Value, put};
 use std::alloc::{AllocError, Global};

@@ -1,7 +1,7 @@
 //! Laws of accounts, each the contract of a function that does nothing.
 
 ghost use Rattle.std.specs.Prelude.{ℕ, pos};
-ghost use Rattle.cvss_number.specs.Exact.{◌over◌};
+ghost use Rattle.cvss_base.specs.Exact.{◌over◌};
 ghost use Rattle.cvss_account.specs.Decimal.{nearest_to};
 ghost use Rattle.cvss_account.specs.Near.{IsNear};
 

@@ -1,9 +1,9 @@
 //! Counts of 10^-24 in ten millionths.
 
 ghost use Rattle.cvss_account.specs.Near.{AreNearest};
-ghost use Rattle.cvss_number.specs.Exact.{IsWithinLimit};
+ghost use Rattle.cvss_base.specs.Exact.{IsWithinLimit};
 
-use cvss_number::LIMIT;
+use cvss_base::LIMIT;
 
 /// A ten millionth, in counts of 10^-24.
 const TEN_MILLIONTH: i128 = 100_000_000_000_000_000;

@@ -14,7 +14,7 @@ use crate::decimal::decimal_value;
 use crate::near::ten_millionths;
 use crate::parts::put_parts;
 use cvss::v3::{MetricType, Score, Vector};
-use cvss_number::TENTH;
+use cvss_base::TENTH;
 use cvss_record::score_value;
 use cvss_text::metrics::Listed;
 use numbers::{BaseNumbers, EnvironmentalNumbers, Scored};

@@ -6,7 +6,7 @@ ghost use Rattle.cvss.specs.Version.{IsComplete};
 ghost use Rattle.cvss_account.specs.V4.{AreAccountMembers, class_members, class_text, group_values, metric_members, number_members};
 ghost use Rattle.cvss_account.specs.private.Puts.{PutsNumbers};
 ghost use Rattle.cvss_record.specs.Objects.{with_members};
-ghost use Rattle.cvss_v4_score.specs.Account.{AreInRange, GroupsAreInRange};
+ghost use Rattle.cvss_score.specs.v4.Account.{AreInRange, GroupsAreInRange};
 ghost use Rattle.serde_json.specs.View.{members_view, view};
 
 mod effective;

@@ -10,7 +10,7 @@ use Rattle.cvss_any.specs.declared.published.Bounds.{Bounds}
 use Rattle.cvss_any.specs.declared.published.Bounds.TheVariants.{OfV2, SinceV3}
 use Rattle.cvss_any.specs.declared.published.Published.{Published}
 use Rattle.cvss_base.specs.Rating.{rating_of_score}
-use Rattle.cvss_v2_score.specs.Rating.{rating_of}
+use Rattle.cvss_score.specs.v2.Rating.{rating_of}
 use Rattle.cvss_lines.specs.Answers.{Accepted, WritesAnswer, written_text}
 use Rattle.cvss_lines.proofs.TextsLemmas.{one_text}
 use Rattle.cvss_answer.specs.Answers.{IsAnswer, rated_line, score_line}

@@ -1,13 +1,13 @@
 -- The answers that the program writes to the lines of its input.
 use Rattle.std.specs.Prelude.{◌≡◌, ℕ, ◌⊎◌, List, [], ◌∷◌, ◌++◌, codes}
 use Rattle.std.specs.Str.{IsUtf8}
-use Rattle.cvss_name.specs.declared.error.Error.{Error}
+use Rattle.cvss_base.specs.declared.error.Error.{Error}
 use Rattle.cvss_any.specs.declared.vector.Cvss.{Cvss}
-use Rattle.cvss_name.specs.ErrorText.{error_text}
+use Rattle.cvss_base.specs.ErrorText.{error_text}
 use Rattle.cvss_any.specs.Answers.{IsScoreOf, rating_text, score_of_tenths, vector_answer}
 use Rattle.cvss_any.specs.Dispatch.{DenotesCvss, IsFirstRefusalCvss, cvss_reason}
 use Rattle.cvss_any.specs.Published.{rating_within}
-use Rattle.cvss_name.specs.Told.{TellsFirst}
+use Rattle.cvss_base.specs.Told.{TellsFirst}
 use Rattle.cvss_any.specs.declared.published.Bounds.{Bounds}
 use Rattle.cvss_any.specs.declared.published.Published.{Published}
 use Rattle.cvss_lines.specs.Answers.{Answer, Accepted, Refused, written_text}

@@ -8,8 +8,8 @@ use Rattle.std.proofs.lemmas.List.Elements.{All-head}
 use Rattle.std.proofs.lemmas.List.Splits.{length-slice_split, slice_split-cons_no}
 use Rattle.std.proofs.lemmas.List.{take_rest}
 use Rattle.std.proofs.Math.Seq.{split_at}
-use Rattle.cvss_grammar.specs.Version.{version_piece}
-use Rattle.cvss_grammar.specs.Text.{pieces, component, has, colon, slash}
+use Rattle.cvss_base.specs.Version.{version_piece}
+use Rattle.cvss_base.specs.Text.{pieces, component, has, colon, slash}
 use Rattle.cvss_text.specs.private.Pieces.{AreParts}
 use Rattle.cvss_text.proofs.PieceLemmas.{IsUtf8-pieces}
 use Rattle.cvss_any.specs.Route.{Route, route_of, route_of_pieces, route_of_parts}

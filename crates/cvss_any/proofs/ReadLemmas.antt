@@ -1,7 +1,7 @@
 -- What reading a text answers, from what a version answers of it.
 use Rattle.std.proofs.Common.{◌≡◌, List, ℕ, Ok, Err, refl, sym, ap, ◌∙◌, subst}
 use Rattle.std.specs.Str.{IsUtf8}
-use Rattle.cvss_grammar.specs.Refusal.{Refusal}
+use Rattle.cvss_base.specs.Refusal.{Refusal}
 use Rattle.cvss_any.specs.Answers.{HasScore}
 use Rattle.cvss_any.specs.Route.{Route, route_of}
 use Rattle.cvss_any.specs.Dispatch.{DenotesCvss, IsFirstRefusalCvss, IsFirstReasonAt, IsReasonOf, wrapped}

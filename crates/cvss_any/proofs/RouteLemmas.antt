@@ -3,20 +3,20 @@ use Rattle.std.proofs.Common.{◌≡◌, ◌≢◌, ◌⊎◌, inl, inr, ℕ, �
 use Rattle.std.specs.List.{Contains}
 use Rattle.std.proofs.lemmas.Bool.{cases_order}
 use Rattle.std.proofs.lemmas.List.Elements.{All-nil}
-use Rattle.cvss_grammar.specs.Version.{numeral, version_piece, Denotes, IsWellFormed}
-use Rattle.cvss_grammar.specs.Refusal.{piece_at}
-use Rattle.cvss_grammar.specs.Text.{pieces, component, has, dot}
-use Rattle.cvss_name.specs.V2Types.{name_of}
-use Rattle.cvss_name.specs.declared.v2.MetricType as type_v2
-use Rattle.cvss_name.specs.declared.v2.MetricType.TheVariants as kind_v2
-use Rattle.cvss_name.specs.declared.v4.MetricType.TheVariants as kind_v4
+use Rattle.cvss_base.specs.Version.{numeral, version_piece, Denotes, IsWellFormed}
+use Rattle.cvss_base.specs.Refusal.{piece_at}
+use Rattle.cvss_base.specs.Text.{pieces, component, has, dot}
+use Rattle.cvss_base.specs.V2Types.{name_of}
+use Rattle.cvss_base.specs.declared.v2.MetricType as type_v2
+use Rattle.cvss_base.specs.declared.v2.MetricType.TheVariants as kind_v2
+use Rattle.cvss_base.specs.declared.v4.MetricType.TheVariants as kind_v4
 use Rattle.cvss_text.proofs.ComponentLemmas.{piece_held, held_stands}
 use Rattle.cvss_text.proofs.DenotesLemmas.{pieces_of_complete}
 use Rattle.cvss_text.proofs.FrontLemmas.{pieces_denoted_behind}
 use Rattle.cvss_text.proofs.NumeralLemmas.{numeral-injective, numeral-plain}
 use Rattle.cvss_text.proofs.TextLemmas.{IsPart}
 use Rattle.cvss_text.proofs.WalkLemmas.{value_from}
-use Rattle.cvss_v2_metric.specs.private.TableLaws.{undotted_spelling}
+use Rattle.cvss_metric.specs.v2.private.TableLaws.{undotted_spelling}
 use Rattle.cvss_v2.specs.Vector.{v2}
 use Rattle.cvss_v2.specs.private.VectorLaws.{v2_is_lawful}
 use Rattle.cvss_v2.specs.declared.vector.Vector as vector_v2

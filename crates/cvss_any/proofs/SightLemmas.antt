@@ -3,7 +3,7 @@ use Rattle.std.proofs.Common.{◌≡◌, ℕ, List, [], codes, refl, sym, ◌∙
 use Rattle.std.specs.List.{All}
 use Rattle.std.specs.Str.{IsUtf8}
 use Rattle.std.proofs.lemmas.List.Elements.{All-nil, All-cons}
-use Rattle.cvss_grammar.specs.Version.{Version, canonical_text, version_piece}
+use Rattle.cvss_base.specs.Version.{Version, canonical_text, version_piece}
 use Rattle.cvss_text.specs.private.Walk.{IsLawful, IsLawfulFront}
 use Rattle.cvss_text.proofs.CanonicalLemmas.{canonical_text-denotes}
 use Rattle.cvss_text.proofs.JoinLemmas.{IsUtf8-denoting}

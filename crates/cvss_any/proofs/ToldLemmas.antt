@@ -1,12 +1,12 @@
 -- A version's error tells of all metrics what it tells of that version's.
 use Rattle.std.proofs.Common.{◌≡◌, inl, inr, Some, Option, IfSome, refl, subst, ◌∙◌, rules}
-use Rattle.cvss_grammar.specs.Refusal.{Refusal, BadComponent, carries_text}
-use Rattle.cvss_name.specs.Told.{Tells, reason_told}
-use Rattle.cvss_name.specs.V2Types.{v2_reason}
-use Rattle.cvss_name.specs.V3Types.{v3_reason}
-use Rattle.cvss_name.specs.V4Types.{v4_reason}
-use Rattle.cvss_name.specs.declared.error.Error.{Error}
-use Rattle.cvss_name.specs.declared.error.Error.TheVariants.{InvalidComponent}
+use Rattle.cvss_base.specs.Refusal.{Refusal, BadComponent, carries_text}
+use Rattle.cvss_base.specs.Told.{Tells, reason_told}
+use Rattle.cvss_base.specs.V2Types.{v2_reason}
+use Rattle.cvss_base.specs.V3Types.{v3_reason}
+use Rattle.cvss_base.specs.V4Types.{v4_reason}
+use Rattle.cvss_base.specs.declared.error.Error.{Error}
+use Rattle.cvss_base.specs.declared.error.Error.TheVariants.{InvalidComponent}
 use Rattle.cvss_any.specs.Dispatch.{wrapped, cvss_reason}
 use Rattle.cvss_any.specs.declared.metric_type.MetricType.{MetricType}
 use Rattle.cvss_any.specs.declared.metric_type.MetricType.TheVariants.{V2, V3, V4}

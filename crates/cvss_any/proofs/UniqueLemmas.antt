@@ -2,19 +2,19 @@
 use Rattle.std.proofs.Common.{◌≡◌, ℕ, List, refl, sym, ap, ◌∙◌}
 use Rattle.cvss_text.proofs.CanonicalLemmas.{denoted_once}
 use Rattle.cvss_text.proofs.FrontLemmas.{denoted_once_behind}
-use Rattle.cvss_number.proofs.TenthsLemmas.{in_tenths_once}
-use Rattle.cvss_number.specs.laws.Rounding.{IsOneCount}
-use Rattle.cvss_v2_score.proofs.UniqueLemmas.{base_score_once}
+use Rattle.cvss_base.proofs.TenthsLemmas.{in_tenths_once}
+use Rattle.cvss_base.specs.laws.Rounding.{IsOneCount}
+use Rattle.cvss_score.proofs.v2_lemmas.UniqueLemmas.{base_score_once}
 use Rattle.cvss_v2.specs.Vector.{v2}
 use Rattle.cvss_v2.specs.private.VectorLaws.{v2_is_lawful}
 use Rattle.cvss_v2.specs.Weights.{weights_of}
-use Rattle.cvss_v3_score.proofs.LawLemmas as law_v3
+use Rattle.cvss_score.proofs.v3_lemmas.LawLemmas as law_v3
 use Rattle.cvss_v3.specs.Vector.{v3}
 use Rattle.cvss_v3.specs.private.VectorLaws.{v3_is_lawful, v3_fronts_are_lawful}
 use Rattle.cvss_v3.specs.VectorWeights as weights_v3
-use Rattle.cvss_v4_score.proofs.ScoreLawLemmas.{one_score}
+use Rattle.cvss_score.proofs.v4_lemmas.ScoreLawLemmas.{one_score}
 use Rattle.cvss_v4.specs.Merging.{effective_of}
-use Rattle.cvss_v4_score.specs.Scores.{IsScore}
+use Rattle.cvss_score.specs.v4.Scores.{IsScore}
 use Rattle.cvss_v4.specs.Vector.{v4}
 use Rattle.cvss_v4.specs.private.VectorLaws.{v4_is_lawful, v4_fronts_are_lawful}
 use Rattle.cvss_any.specs.Answers.{IsScoreOf}

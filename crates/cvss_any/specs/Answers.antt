@@ -2,22 +2,22 @@
 use Rattle.std.specs.Prelude.{◌≡◌, ℕ, ◌*◌, ◌^◌, List, ◌++◌, codes, map, ℤ, pos, ⊤}
 use Rattle.cvss_text.specs.Listing.{listed_metrics}
 use Rattle.cvss_base.specs.Rating.{rating_of_score}
-use Rattle.cvss_name.specs.SeverityText.{text_of as severity_text}
-use Rattle.cvss_number.specs.Tenths.{IsInTenths, tenths_text}
-use Rattle.cvss_name.specs.V4Types.{declared}
-use Rattle.cvss_grammar.specs.Version.{canonical_text, IsComplete}
-use Rattle.cvss_name.specs.declared.severity.Severity.{Severity}
-use Rattle.cvss_v2_score.specs.Rating.{rating_of}
-use Rattle.cvss_v2_score.specs.Scores as scores_v2
-use Rattle.cvss_v2_metric.specs.Table as table_v2
+use Rattle.cvss_base.specs.SeverityText.{text_of as severity_text}
+use Rattle.cvss_base.specs.Tenths.{IsInTenths, tenths_text}
+use Rattle.cvss_base.specs.V4Types.{declared}
+use Rattle.cvss_base.specs.Version.{canonical_text, IsComplete}
+use Rattle.cvss_base.specs.declared.severity.Severity.{Severity}
+use Rattle.cvss_score.specs.v2.Rating.{rating_of}
+use Rattle.cvss_score.specs.v2.Scores as scores_v2
+use Rattle.cvss_metric.specs.v2.Table as table_v2
 use Rattle.cvss_v2.specs.Vector.{v2}
 use Rattle.cvss_v2.specs.Weights as weights_v2
-use Rattle.cvss_v3_score.specs.Scores as scores_v3
-use Rattle.cvss_v3_metric.specs.Table as table_v3
+use Rattle.cvss_score.specs.v3.Scores as scores_v3
+use Rattle.cvss_metric.specs.v3.Table as table_v3
 use Rattle.cvss_v3.specs.Vector.{v3}
 use Rattle.cvss_v3.specs.VectorWeights as weights_v3
 use Rattle.cvss_v4.specs.Merging.{effective_of}
-use Rattle.cvss_v4_score.specs.Scores.{IsScore}
+use Rattle.cvss_score.specs.v4.Scores.{IsScore}
 use Rattle.cvss_v4.specs.Vector.{v4}
 use Rattle.cvss_any.specs.declared.vector.Cvss.{Cvss}
 use Rattle.cvss_any.specs.declared.vector.Cvss.TheVariants.{CvssV20, CvssV30, CvssV31, CvssV40}

@@ -1,9 +1,9 @@
 -- Why bytes are the text of no vector: they are no text, or the text is refused.
 use Rattle.std.specs.Prelude.{ℕ, List, codes}
 use Rattle.std.specs.Str.{IsUtf8}
-use Rattle.cvss_name.specs.ErrorText.{error_text}
-use Rattle.cvss_grammar.specs.Refusal.{Refusal}
-use Rattle.cvss_name.specs.Told.{Tells, TellsFirst}
+use Rattle.cvss_base.specs.ErrorText.{error_text}
+use Rattle.cvss_base.specs.Refusal.{Refusal}
+use Rattle.cvss_base.specs.Told.{Tells, TellsFirst}
 use Rattle.cvss_any.specs.Dispatch.{IsFirstRefusalCvss, cvss_reason}
 use Rattle.cvss_any.specs.declared.bytes_error.BytesError.{BytesError}
 use Rattle.cvss_any.specs.declared.bytes_error.BytesError.TheVariants.{NotUtf8, Invalid}

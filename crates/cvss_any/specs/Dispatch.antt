@@ -2,10 +2,10 @@
 -- section 2.4; v3.1 specification, section 6; v4.0 specification, section 7.
 use Rattle.std.specs.Prelude.{◌≡◌, ◌≢◌, ℕ, List, codes, Option, Some, None}
 use Rattle.std.specs.String.{string_bytes}
-use Rattle.cvss_grammar.specs.Refusal.{Refusal, BadComponent, WrongPrefix, WrongVersion, UnknownName, BadValue, Repeated, Missing, IsFirstRefusal, IsFirstRefusalBehind}
-use Rattle.cvss_grammar.specs.Version.{Denotes, IsComplete, IsWellFormed}
-use Rattle.cvss_name.specs.declared.error.Error.{Error}
-use Rattle.cvss_name.specs.declared.error.Error.TheVariants.{InvalidMetricV2, DuplicateMetricV2, MissingMandatoryMetricV2, InvalidMetricV3, DuplicateMetricV3, InvalidMetricV4, DuplicateMetricV4, MissingMandatoryMetricV4}
+use Rattle.cvss_base.specs.Refusal.{Refusal, BadComponent, WrongPrefix, WrongVersion, UnknownName, BadValue, Repeated, Missing, IsFirstRefusal, IsFirstRefusalBehind}
+use Rattle.cvss_base.specs.Version.{Denotes, IsComplete, IsWellFormed}
+use Rattle.cvss_base.specs.declared.error.Error.{Error}
+use Rattle.cvss_base.specs.declared.error.Error.TheVariants.{InvalidMetricV2, DuplicateMetricV2, MissingMandatoryMetricV2, InvalidMetricV3, DuplicateMetricV3, InvalidMetricV4, DuplicateMetricV4, MissingMandatoryMetricV4}
 use Rattle.cvss_any.specs.Route.{NoVersion, OnePiece, OtherPrefix, OtherVersion, Route, ToV20, ToV30, ToV31, ToV40, ToNone, route_of}
 use Rattle.cvss_v2.specs.Vector.{v2}
 use Rattle.cvss_v2.specs.declared.vector.Vector as vector_v2

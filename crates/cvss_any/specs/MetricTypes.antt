@@ -1,9 +1,9 @@
 -- The metrics of all versions, by their abbreviations and their names: CVSS v2 guide, section 2; v3.1
 -- specification, sections 2 to 4; v4.0 specification, sections 2 to 5.
 use Rattle.std.specs.Prelude.{ℕ, List}
-use Rattle.cvss_name.specs.V2Types as of_v2
-use Rattle.cvss_name.specs.V3Types as of_v3
-use Rattle.cvss_name.specs.V4Types as of_v4
+use Rattle.cvss_base.specs.V2Types as of_v2
+use Rattle.cvss_base.specs.V3Types as of_v3
+use Rattle.cvss_base.specs.V4Types as of_v4
 use Rattle.cvss_any.specs.declared.metric_type.MetricType.{MetricType}
 use Rattle.cvss_any.specs.declared.metric_type.MetricType.TheVariants.{V2, V3, V4}
 

@@ -2,8 +2,8 @@
 use Rattle.std.specs.Prelude.{◌≡◌, ℕ, ◌≤◌, List, ℤ}
 use Rattle.std.specs.Str.{IsUtf8}
 use Rattle.cvss_base.specs.Rating.{rating_of_score}
-use Rattle.cvss_name.specs.declared.severity.Severity.{Severity}
-use Rattle.cvss_v2_score.specs.Rating.{rating_of}
+use Rattle.cvss_base.specs.declared.severity.Severity.{Severity}
+use Rattle.cvss_score.specs.v2.Rating.{rating_of}
 use Rattle.cvss_any.specs.Answers.{text_of, IsScoreOf, score_of_tenths, rating_by}
 use Rattle.cvss_any.specs.Dispatch.{DenotesCvss}
 use Rattle.cvss_any.specs.declared.published.Published.{Published}

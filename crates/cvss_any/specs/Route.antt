@@ -1,7 +1,7 @@
 -- By the rules of which version a text is read: CVSS v2 guide, section 2.4; v3.1 specification, section 6; v4.0
 -- specification, section 7.
 use Rattle.std.specs.Prelude.{ℕ, List, [], ◌∷◌, codes, if◌then◌else◌, bytes_eq}
-use Rattle.cvss_grammar.specs.Text.{pieces, name_part, value_part, has, colon, dot}
+use Rattle.cvss_base.specs.Text.{pieces, name_part, value_part, has, colon, dot}
 
 -- why a text tells no version that is read: it has one piece or its first piece has no colon; another prefix stands
 -- before a version; another version is told

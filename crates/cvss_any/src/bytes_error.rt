@@ -3,7 +3,7 @@
 ghost use Rattle.std.specs.Prelude.{Some};
 ghost use Rattle.cvss_any.specs.Bytes.{bytes_error_text};
 
-use cvss_name::Error;
+use cvss_base::Error;
 use std::fmt;
 
 /// Why bytes are no vector's text.

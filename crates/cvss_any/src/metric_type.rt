@@ -3,7 +3,7 @@
 ghost use Rattle.std.specs.Prelude.{◌≡◌};
 ghost use Rattle.cvss_any.specs.MetricTypes.{name_of, description_of};
 
-use cvss_name::{v2, v3, v4};
+use cvss_base::{v2, v3, v4};
 
 /// A metric of one of the versions.
 #[derive(Clone, Copy, Debug, PartialEq, Eq)]

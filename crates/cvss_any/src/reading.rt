@@ -3,9 +3,9 @@
 
 ghost use Rattle.std.specs.Prelude.{◌≡◌, ◌∷◌, codes};
 ghost use Rattle.std.specs.Str.{IsUtf8};
-ghost use Rattle.cvss_grammar.specs.Text.{pieces};
-ghost use Rattle.cvss_name.specs.Told.{Tells};
-ghost use Rattle.cvss_grammar.specs.Version.{version_piece};
+ghost use Rattle.cvss_base.specs.Text.{pieces};
+ghost use Rattle.cvss_base.specs.Told.{Tells};
+ghost use Rattle.cvss_base.specs.Version.{version_piece};
 ghost use Rattle.cvss_text.specs.private.Pieces.{pieces_left};
 ghost use Rattle.cvss_text.specs.private.Walk.{IsTellable, reason_of};
 ghost use Rattle.cvss_any.specs.Bytes.{IsRefusedAs};
@@ -21,8 +21,8 @@ use crate::bytes_error::BytesError;
 use crate::route::{NoVersion, Route, route_of_text};
 use crate::vector::Cvss;
 use crate::{v2, v3, v4};
-use cvss_base::refusing;
-use cvss_name::Error;
+use cvss_text::refusing;
+use cvss_base::Error;
 use cvss_text::front::{Fronted, read_started};
 use cvss_text::pieces::Pieces;
 use cvss_text::walk::{Fault, read_vector};
@@ -32,9 +32,9 @@ use std::alloc::Global;
 /// no version is said as CVSS v2 says it.
 #[derive(Drop)]
 pub(crate) enum ReadFault<'a> {
-    V2(Fault<'a, cvss_name::v2::MetricType>),
-    V3(Fault<'a, cvss_name::v3::MetricType>),
-    V4(Fault<'a, cvss_name::v4::MetricType>),
+    V2(Fault<'a, cvss_base::v2::MetricType>),
+    V3(Fault<'a, cvss_base::v3::MetricType>),
+    V4(Fault<'a, cvss_base::v4::MetricType>),
 }
 
 /// The vector that a text denotes, or the first reason why there is none.
@@ -51,7 +51,7 @@ pub(crate) fn read(text: &[u8]) -> Result<Cvss, ReadFault<'_>>
 }
 
 /// The fault that a text tells no version.
-fn fault_of<'a>(why: NoVersion<'a>) -> Fault<'a, cvss_name::v2::MetricType>
+fn fault_of<'a>(why: NoVersion<'a>) -> Fault<'a, cvss_base::v2::MetricType>
     ensures reason { wrapped V2 (reason_of v2 result) ≡ untold (why_of why.entry) }
     ensures tellable { is_told.IsTellable why.entry → IsTellable v2 result }
 {

@@ -2,13 +2,13 @@
 
 ghost use Rattle.std.specs.Prelude.{◌≡◌, ◌∷◌, ◌++◌, IfSome, codes, true, false};
 ghost use Rattle.std.specs.Str.{IsUtf8};
-ghost use Rattle.cvss_grammar.specs.Text.{component, dot, has, pieces, slash};
-ghost use Rattle.cvss_grammar.specs.Version.{version_piece};
+ghost use Rattle.cvss_base.specs.Text.{component, dot, has, pieces, slash};
+ghost use Rattle.cvss_base.specs.Version.{version_piece};
 ghost use Rattle.cvss_text.specs.private.Pieces.{pieces_left};
 ghost use Rattle.cvss_any.specs.Route.{route_of, route_of_parts};
 ghost use Rattle.cvss_any.specs.private.Views.{IsBehindVersion, IsTellableRoute, as_route};
 
-use cvss_grammar::PREFIX;
+use cvss_base::PREFIX;
 use cvss_text::pieces::{Pieces, front_of, parts_of, pieces_of};
 use cvss_text::sight::behind_five;
 

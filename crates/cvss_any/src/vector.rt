@@ -8,10 +8,7 @@ use crate::metrics::Metrics;
 use crate::published::{Bounds, Published};
 use crate::reading::{bytes_error_of, error_of, read};
 use crate::{v2, v3, v4};
-use cvss_base::severity_of_score;
-use cvss_name::{Error, Severity};
-use cvss_number::TENTH;
-use cvss_number::tenths::text_of as text_of_tenths;
+use cvss_base::{Error, Severity, TENTH, severity_of_score, tenths::text_of as text_of_tenths};
 use std::alloc::Global;
 use std::fmt;
 
@@ -30,9 +27,9 @@ pub enum Cvss {
 
 impl Cvss {
     ghost use Rattle.std.specs.Str.{IsUtf8};
-    ghost use Rattle.cvss_grammar.specs.Refusal.{Refusal};
-    ghost use Rattle.cvss_number.specs.Tenths.{IsInTenths, IsFromZeroToTen};
-    ghost use Rattle.cvss_name.specs.Told.{Tells, TellsFirst};
+    ghost use Rattle.cvss_base.specs.Refusal.{Refusal};
+    ghost use Rattle.cvss_base.specs.Tenths.{IsInTenths, IsFromZeroToTen};
+    ghost use Rattle.cvss_base.specs.Told.{Tells, TellsFirst};
     ghost use Rattle.cvss_any.specs.Answers.{HasScore, IsScoreOf, IsScoreText, score_of_tenths, rating_by, metrics_of};
     ghost use Rattle.cvss_any.specs.Bytes.{IsRefusedAs, TellsWhyNot};
     ghost use Rattle.cvss_any.specs.Dispatch.{DenotesCvss, IsFirstRefusalCvss, cvss_reason};

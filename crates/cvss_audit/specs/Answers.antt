@@ -5,7 +5,7 @@ use Rattle.std.specs.Str.{IsUtf8}
 use Rattle.cvss.specs.Dispatch.{DenotesCvss, IsFirstRefusalCvss, cvss_reason}
 use Rattle.cvss.specs.ErrorText.{error_text}
 use Rattle.cvss.specs.ErrorType.{Error}
-use Rattle.cvss_name.specs.declared.error.Error.TheVariants.{OutOfMemory}
+use Rattle.cvss_base.specs.declared.error.Error.TheVariants.{OutOfMemory}
 use Rattle.cvss.specs.Told.{TellsFirst}
 use Rattle.cvss.specs.CvssType.{Cvss}
 use Rattle.cvss_lines.specs.Answers.{Answer, Accepted, Refused, written_text}

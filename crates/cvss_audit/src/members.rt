@@ -14,7 +14,7 @@ use crate::differs::put_differences;
 use crate::missing::put_missing;
 use crate::source::Source;
 use cvss::{Cvss, v4};
-use cvss_number::TENTH;
+use cvss_base::TENTH;
 use cvss_object::{Tree, put_tree};
 use cvss_record::{Difference, Place, Scores, score_value};
 use serde_json::{Map, Value, put};

@@ -1,1 +1,10 @@
-pub mod EqualLemmas
+mod DigitLemmas
+pub mod EqualityLemmas
+pub mod ExactLemmas
+pub mod FindLemmas
+mod NamedLemmas
+mod OrderLemmas
+pub mod PrintedLemmas
+pub mod RoundingLemmas
+pub mod TenthsLemmas
+pub mod TestLemmas

@@ -1,1 +1,17 @@
+pub mod Equality
+pub mod ErrorText
+pub mod Exact
+pub mod Groups
 pub mod Rating
+pub mod Refusal
+pub mod Rounding
+pub mod SeverityText
+pub mod Tenths
+pub mod Text
+pub mod Told
+pub mod V2Types
+pub mod V3Types
+pub mod V4Types
+pub mod Version
+pub mod laws
+pub mod private

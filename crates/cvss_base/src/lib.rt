@@ -1,8 +1,27 @@
-//! Where texts, names and numbers meet: the errors by which a refusal is told, and the rating of a
-//! score.
+//! What all that reads, prints and scores stands on: what the text of a vector is and why a text is
+//! none (in `specs/`), the names of metrics, errors and severities, and exact numbers with their
+//! roundings and ratings.
 #![tactic(auto)]
 
+mod error;
+mod group;
+pub mod laws;
+mod named;
+mod number;
+mod one_decimal;
 mod rating;
-pub mod refusing;
+mod severity;
+pub mod tenths;
+pub mod v2;
+pub mod v3;
+pub mod v4;
 
+pub use error::Error;
+pub use group::MetricGroup;
+pub use number::{LIMIT, ONE, TENTH};
+pub use one_decimal::OneDecimal;
 pub use rating::severity_of_score;
+pub use severity::Severity;
+
+/// The word that begins the text of a vector, from version 3.0 on (v3.1 specification, section 6).
+pub const PREFIX: &str = "CVSS";

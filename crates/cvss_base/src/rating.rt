@@ -4,8 +4,7 @@
 ghost use Rattle.std.specs.Prelude.{◌≡◌};
 ghost use Rattle.cvss_base.specs.Rating.{rating_of_score};
 
-use cvss_name::Severity;
-use cvss_number::{ONE, TENTH};
+use crate::{ONE, Severity, TENTH};
 
 /// The rating of a count of 10^-24 of a score point: none below 0.1, low below 4.0, medium below
 /// 7.0, high below 9.0, and critical from there.

@@ -22,11 +22,11 @@ use Rattle.cvss_account.specs.V3 as v3
 use Rattle.cvss_account.specs.V4 as v4
 use Rattle.cvss_bytes.proofs.DepthLemmas.{AreWithin, object_within, within-append}
 use Rattle.cvss_record.specs.Objects.{Member, object_of}
-use Rattle.cvss_v4_score.specs.declared.scoring.account.GroupAccount.{GroupAccount}
-use Rattle.cvss_v4_score.specs.declared.scoring.account.GroupAccounts.{GroupAccounts}
-use Rattle.cvss_v4_score.specs.declared.scoring.classes.MacroVector.{MacroVector}
-use Rattle.cvss_v4_score.specs.declared.scoring.effective.Effective.{Effective}
-use Rattle.cvss_v4_score.specs.declared.scoring.next.NextClass.{NextClass}
+use Rattle.cvss_score.specs.declared.v4.scoring.account.GroupAccount.{GroupAccount}
+use Rattle.cvss_score.specs.declared.v4.scoring.account.GroupAccounts.{GroupAccounts}
+use Rattle.cvss_score.specs.declared.v4.scoring.classes.MacroVector.{MacroVector}
+use Rattle.cvss_score.specs.declared.v4.scoring.effective.Effective.{Effective}
+use Rattle.cvss_score.specs.declared.v4.scoring.next.NextClass.{NextClass}
 use Rattle.cvss_v4.specs.declared.vector.Vector.{Vector as VectorV4}
 use Rattle.serde_json.specs.Data.{Members, Num, depth, items_depth, null, number, object}
 use Rattle.serde_json.specs.Find.{of_float}

@@ -1,11 +1,11 @@
 -- The parts that a canonical text is written in.
 use Rattle.std.proofs.Common.{◌≡◌, ℕ, zero, suc, ◌-◌, List, [], ◌∷◌, ◌++◌, codes, length, take, drop, Some, Contains, sym, ap, ◌∙◌, arith}
 use Rattle.std.proofs.lemmas.List.{take_rest}
-use Rattle.cvss_grammar.specs.Version.{Version, canonical_text, component_of, version_piece}
+use Rattle.cvss_base.specs.Version.{Version, canonical_text, component_of, version_piece}
 use Rattle.cvss_text.specs.private.Printing.{slashed_texts}
-use Rattle.cvss_grammar.specs.Text.{slash}
-use Rattle.cvss_name.specs.declared.v2.MetricType.{MetricType}
-use Rattle.cvss_name.specs.declared.v2.MetricType.TheVariants.{AV}
+use Rattle.cvss_base.specs.Text.{slash}
+use Rattle.cvss_base.specs.declared.v2.MetricType.{MetricType}
+use Rattle.cvss_base.specs.declared.v2.MetricType.TheVariants.{AV}
 use Rattle.cvss_text.proofs.PrintLemmas.{joined-slashed}
 use Rattle.cvss.specs.VectorTypeV2 as vector_v2
 use Rattle.cvss.specs.VectorTypeV4 as vector_v4

@@ -4,12 +4,12 @@ use Rattle.std.specs.List.{filter_map, cons_option}
 use Rattle.std.specs.Option.{option_map, option_and_then}
 use Rattle.std.proofs.lemmas.List.{take_rest}
 use Rattle.cvss_text.specs.private.Printing.{slashed, slashed_text, slashed_texts}
-use Rattle.cvss_grammar.specs.Text.{component, joined, slash}
-use Rattle.cvss_grammar.specs.Version.{Version, canonical_text, component_of, components_of, held}
-use Rattle.cvss_name.specs.declared.v2.MetricType.{MetricType}
-use Rattle.cvss_name.specs.declared.v2.MetricType.TheVariants.{AV}
-use Rattle.cvss_v2_metric.specs.declared.base.access.AccessVector.{AccessVector}
-use Rattle.cvss_v2_metric.specs.declared.base.access.AccessVector.TheVariants as access_vector
+use Rattle.cvss_base.specs.Text.{component, joined, slash}
+use Rattle.cvss_base.specs.Version.{Version, canonical_text, component_of, components_of, held}
+use Rattle.cvss_base.specs.declared.v2.MetricType.{MetricType}
+use Rattle.cvss_base.specs.declared.v2.MetricType.TheVariants.{AV}
+use Rattle.cvss_metric.specs.declared.v2.base.access.AccessVector.{AccessVector}
+use Rattle.cvss_metric.specs.declared.v2.base.access.AccessVector.TheVariants as access_vector
 use Rattle.cvss.specs.VectorTypeV2 as vector_v2
 use Rattle.cvss.specs.VectorV2.{v2}
 use Rattle.cvss_bytes.specs.Defined.{defined_component, if_defined, or_if_none, text_less}

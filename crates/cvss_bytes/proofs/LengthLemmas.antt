@@ -4,8 +4,8 @@ use Rattle.std.specs.List.{sum_by}
 use Rattle.std.proofs.lemmas.List.{length-map}
 use Rattle.std.proofs.lemmas.List.Sorted.{sum_by-IsPermutation}
 use Rattle.std.proofs.lemmas.List.Sums.{sum_by-cons, sum_by-append}
-use Rattle.cvss_grammar.specs.Text.{slash, joined, read_as}
-use Rattle.cvss_grammar.specs.Version.{AreComponentsOf, Version, read, components_of, canonical_text, Denotes}
+use Rattle.cvss_base.specs.Text.{slash, joined, read_as}
+use Rattle.cvss_base.specs.Version.{AreComponentsOf, Version, read, components_of, canonical_text, Denotes}
 use Rattle.cvss.specs.Answers.{text_of}
 use Rattle.cvss.specs.Dispatch.{DenotesCvss}
 use Rattle.cvss.specs.VectorV2.{v2}

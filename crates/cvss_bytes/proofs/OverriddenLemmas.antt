@@ -11,7 +11,7 @@ use Rattle.cvss.specs.VectorTypeV4.{Vector}
 use Rattle.cvss.specs.VectorV4.{v4}
 use Rattle.cvss.specs.Version.{canonical_text, version_piece}
 use Rattle.cvss.specs.CvssType.{Cvss}
-use Rattle.cvss_grammar.specs.Version.{numeral}
+use Rattle.cvss_base.specs.Version.{numeral}
 use Rattle.cvss_text.specs.private.Printing.{slashed, slashed_text, slashed_texts}
 use Rattle.cvss_bytes.specs.Overriding.{IsWithOverrides, overrides_in}
 use Rattle.cvss_bytes.proofs.CanonicalLemmas.{front_v40, text_from_front}

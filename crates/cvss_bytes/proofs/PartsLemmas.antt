@@ -1,7 +1,7 @@
 -- For each vector there is one with its defined metrics and no others.
 use Rattle.std.proofs.Common.{◌≡◌, ℕ, Bool, true, false, List, codes, Option, Some, None, bytes_eq, if◌then◌else◌, refl, ap, ◌∙◌}
 use Rattle.std.specs.Option.{option_map, option_and_then}
-use Rattle.cvss_grammar.specs.Version.{Version}
+use Rattle.cvss_base.specs.Version.{Version}
 use Rattle.cvss.specs.VectorTypeV2 as vector_v2
 use Rattle.cvss.specs.VectorTypeV3 as vector_v3
 use Rattle.cvss.specs.VectorTypeV4 as vector_v4

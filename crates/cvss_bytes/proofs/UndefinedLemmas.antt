@@ -4,8 +4,8 @@ use Rattle.std.specs.Bool.{Decides}
 use Rattle.std.specs.List.{filter_map, cons_option}
 use Rattle.std.specs.Option.{option_map, option_map_or, option_and_then}
 use Rattle.std.proofs.lemmas.Slice.Eq.{bytes_eq-Decides}
-use Rattle.cvss_grammar.specs.Text.{component, joined}
-use Rattle.cvss_grammar.specs.Version.{Version, component_of, components_of}
+use Rattle.cvss_base.specs.Text.{component, joined}
+use Rattle.cvss_base.specs.Version.{Version, component_of, components_of}
 use Rattle.cvss_bytes.specs.Defined.{defined_component, if_defined, or_if_none}
 use Rattle.cvss_bytes.specs.laws.DefinedParts.{HasDefinedOf, IsPrintedAsLess}
 

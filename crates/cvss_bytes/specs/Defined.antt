@@ -3,8 +3,8 @@
 use Rattle.std.specs.Prelude.{ℕ, List, [], ◌∷◌, ◌++◌, codes, bytes_eq, if◌then◌else◌, Option, Some, None, option_map}
 use Rattle.std.specs.List.{filter_map}
 use Rattle.std.specs.Option.{option_and_then}
-use Rattle.cvss_grammar.specs.Text.{component, joined}
-use Rattle.cvss_grammar.specs.Version.{Version, components_of, held}
+use Rattle.cvss_base.specs.Text.{component, joined}
+use Rattle.cvss_base.specs.Version.{Version, components_of, held}
 use Rattle.cvss.specs.VectorV2.{v2}
 use Rattle.cvss.specs.VectorV3.{v3}
 use Rattle.cvss.specs.VectorV4.{v4}

@@ -1,7 +1,7 @@
 -- The metrics of a vector as C sees them.
 use Rattle.std.specs.Prelude.{ℕ, List, [], ◌∷◌, take, flat_map, option_map}
 use Rattle.std.specs.Option.{option_to_list}
-use Rattle.cvss_grammar.specs.Version.{Version, held}
+use Rattle.cvss_base.specs.Version.{Version, held}
 use Rattle.cvss.specs.VectorV2.{v2}
 use Rattle.cvss.specs.VectorV3.{v3}
 use Rattle.cvss.specs.VectorV4.{v4}

@@ -11,8 +11,8 @@ use Rattle.cvss.specs.RatingV2.{rating_of}
 use Rattle.cvss.specs.ScoresV2 as scores_v2
 use Rattle.cvss.specs.ScoresV3 as scores_v3
 use Rattle.cvss.specs.ScoresV4.{IsScore}
-use Rattle.cvss_name.specs.declared.severity.Severity.{Severity}
-use Rattle.cvss_name.specs.declared.severity.Severity.TheVariants.{None, Low, Medium, High, Critical}
+use Rattle.cvss_base.specs.declared.severity.Severity.{Severity}
+use Rattle.cvss_base.specs.declared.severity.Severity.TheVariants.{None, Low, Medium, High, Critical}
 use Rattle.cvss.specs.Tenths.{IsInTenths, IsFromZeroToTen}
 use Rattle.cvss.specs.VectorTypeV2 as vector_v2
 use Rattle.cvss.specs.VectorTypeV3 as vector_v3

@@ -1,7 +1,7 @@
 //! Texts in a buffer of the caller, and items in an array, without memory.
 
 ghost use Rattle.std.specs.Prelude.{◌≡◌, ◌≤◌, ◌+◌, ◌++◌, ◌∷◌, [], length};
-ghost use Rattle.cvss_grammar.specs.Version.{canonical_text};
+ghost use Rattle.cvss_base.specs.Version.{canonical_text};
 ghost use Rattle.cvss_text.specs.private.Printing.{slashed_texts};
 ghost use Rattle.cvss_bytes.specs.Buffer.{HasPut, IsWritten};
 ghost use Rattle.cvss_bytes.specs.private.Steps.{Puts};

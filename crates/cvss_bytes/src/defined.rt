@@ -6,7 +6,7 @@ ghost use Rattle.cvss.specs.Version.{IsComplete};
 ghost use Rattle.cvss.specs.VectorV2.{v2};
 ghost use Rattle.cvss.specs.Dispatch.{DenotesCvss};
 ghost use Rattle.cvss_text.specs.private.Printing.{slashed};
-ghost use Rattle.cvss_grammar.specs.Version.{canonical_text};
+ghost use Rattle.cvss_base.specs.Version.{canonical_text};
 ghost use Rattle.cvss_bytes.specs.Buffer.{IsWritten};
 ghost use Rattle.cvss_bytes.specs.Defined.{defined_component, text_less, text_without_undefined};
 ghost use Rattle.cvss_bytes.specs.private.Steps.{Puts, defined_texts};

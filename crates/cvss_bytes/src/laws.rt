@@ -10,7 +10,7 @@ ghost use Rattle.cvss.specs.VectorV3.{v3};
 ghost use Rattle.cvss.specs.VectorV4.{v4};
 ghost use Rattle.cvss.specs.WeightsV2 as weights_v2;
 ghost use Rattle.cvss.specs.WeightsV3 as weights_v3;
-ghost use Rattle.cvss_grammar.specs.Equality.{ClonesAlways, ClonesByValue};
+ghost use Rattle.cvss_base.specs.Equality.{ClonesAlways, ClonesByValue};
 ghost use Rattle.cvss_bytes.specs.laws.DefinedParts.{HasDefinedOf, IsPrintedAsLess};
 
 use crate::{CvssMetric, CvssScores};

@@ -2,7 +2,7 @@
 
 ghost use Rattle.std.specs.Prelude.{◌≡◌, length};
 ghost use Rattle.std.specs.Option.{option_copied};
-ghost use Rattle.cvss_grammar.specs.Version.{held};
+ghost use Rattle.cvss_base.specs.Version.{held};
 ghost use Rattle.cvss_bytes.specs.Buffer.{IsWritten};
 ghost use Rattle.cvss_bytes.specs.Metrics.{metric_of, metrics_at, metrics_in_order, padded as padded_text};
 

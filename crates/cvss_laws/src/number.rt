@@ -1,10 +1,10 @@
 //! Laws of roundings, each the contract of a function that does nothing. A proof that needs a law
 //! calls it.
 
-ghost use Rattle.cvss_number.specs.Rounding.{IsRoundedV2, IsRoundedV30, IsRoundedV31, IsRoundedV4};
-ghost use Rattle.cvss_number.specs.laws.Rounding.{RoundsOneWay, IsNearestEven};
+ghost use Rattle.cvss_base.specs.Rounding.{IsRoundedV2, IsRoundedV30, IsRoundedV31, IsRoundedV4};
+ghost use Rattle.cvss_base.specs.laws.Rounding.{RoundsOneWay, IsNearestEven};
 
-pub use cvss_number::laws::constants_are_as_documented;
+pub use cvss_base::laws::constants_are_as_documented;
 
 /// Equal numbers have at most one rounding of each kind.
 pub fn roundings_are_unique()

@@ -2,20 +2,20 @@
 //! calls it.
 
 ghost use Rattle.std.specs.Prelude.{◌≡◌, ◌↔◌, ℕ, ℤ, List};
-ghost use Rattle.cvss_grammar.specs.Version.{canonical_text, Denotes};
+ghost use Rattle.cvss_base.specs.Version.{canonical_text, Denotes};
 ghost use Rattle.cvss_laws.specs.v2.NotDefined.{DefineTheSame};
-ghost use Rattle.cvss_number.specs.Exact.{of_count};
-ghost use Rattle.cvss_number.specs.Rounding.{IsNearestAway};
-ghost use Rattle.cvss_number.specs.Tenths.{IsInTenths};
-ghost use Rattle.cvss_number.specs.laws.Rounding.{IsOneCount};
+ghost use Rattle.cvss_base.specs.Exact.{of_count};
+ghost use Rattle.cvss_base.specs.Rounding.{IsNearestAway};
+ghost use Rattle.cvss_base.specs.Tenths.{IsInTenths};
+ghost use Rattle.cvss_base.specs.laws.Rounding.{IsOneCount};
 ghost use Rattle.cvss_v2.specs.Vector.{v2};
 ghost use Rattle.cvss_v2.specs.Weights.{weights_of};
 ghost use Rattle.cvss_v2.specs.declared.vector.Vector.{Vector};
-ghost use Rattle.cvss_v2_score.specs.Scores.{IsTemporal, IsBaseScore, IsTemporalScore, IsEnvironmentalScore, IsBaseScoreBy, IsTemporalScoreBy, IsEnvironmentalScoreBy};
-ghost use Rattle.cvss_v2_score.specs.declared.weights.Weights.{Weights};
+ghost use Rattle.cvss_score.specs.v2.Scores.{IsTemporal, IsBaseScore, IsTemporalScore, IsEnvironmentalScore, IsBaseScoreBy, IsTemporalScoreBy, IsEnvironmentalScoreBy};
+ghost use Rattle.cvss_score.specs.declared.v2.weights.Weights.{Weights};
 
 pub use cvss_v2::laws::{values_are_cloned_without_memory, vectors_are_their_values};
-pub use cvss_v2_score::laws::scores_compare_as_counts;
+pub use cvss_score::v2::laws::scores_compare_as_counts;
 
 /// A canonical text denotes its vector, and a text denotes at most one vector. So what is printed
 /// of a complete vector is read as that vector.

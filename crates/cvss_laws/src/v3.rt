@@ -2,15 +2,15 @@
 //! calls it.
 
 ghost use Rattle.std.specs.Prelude.{◌≡◌, ℕ, List, ℤ, pos, ◌≤◌, ◌≤ℤ◌};
-ghost use Rattle.cvss_grammar.specs.Version.{canonical_text, Denotes};
+ghost use Rattle.cvss_base.specs.Version.{canonical_text, Denotes};
 ghost use Rattle.cvss_laws.specs.v3.FifthDecimals.{IsSameWhenCut};
 ghost use Rattle.cvss_laws.specs.v3.ScoreLaws.{DefineTheSame, with_modified_as_base};
-ghost use Rattle.cvss_number.specs.laws.Rounding.{IsOneCount};
+ghost use Rattle.cvss_base.specs.laws.Rounding.{IsOneCount};
 ghost use Rattle.cvss_v3.specs.Vector.{v3};
 ghost use Rattle.cvss_v3.specs.VectorWeights.{weights_of};
 ghost use Rattle.cvss_v3.specs.declared.vector.Vector.{Vector};
-ghost use Rattle.cvss_v3_score.specs.Scores.{base_number, environmental_number, temporal_number, IsBaseScore, IsTemporalScore, IsEnvironmentalScore};
-ghost use Rattle.cvss_v3_score.specs.declared.weights.Weights.{Weights};
+ghost use Rattle.cvss_score.specs.v3.Scores.{base_number, environmental_number, temporal_number, IsBaseScore, IsTemporalScore, IsEnvironmentalScore};
+ghost use Rattle.cvss_score.specs.declared.v3.weights.Weights.{Weights};
 
 pub use cvss_v3::laws::{
     scores_compare_as_counts, values_are_cloned_without_memory, vectors_are_their_values,

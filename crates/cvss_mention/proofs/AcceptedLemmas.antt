@@ -3,17 +3,17 @@ use Rattle.std.proofs.Common.{◌≡◌, ℕ, ◌≤◌, true, rules, List, [], 
 use Rattle.std.specs.List.{All}
 use Rattle.std.proofs.lemmas.List.Elements.{All-from_get_or}
 use Rattle.cvss_any.specs.Dispatch.{DenotesCvss, DenotesV2, DenotesV3, DenotesV4}
-use Rattle.cvss_grammar.specs.Text.{component, joined, slash}
-use Rattle.cvss_grammar.specs.Version.{AreComponentsOf, Version, numeral, read, version_piece}
+use Rattle.cvss_base.specs.Text.{component, joined, slash}
+use Rattle.cvss_base.specs.Version.{AreComponentsOf, Version, numeral, read, version_piece}
 use Rattle.cvss_any.specs.declared.vector.Cvss.{Cvss}
 use Rattle.cvss_any.specs.declared.vector.Cvss.TheVariants.{CvssV20, CvssV30, CvssV31, CvssV40}
-use Rattle.cvss_grammar.specs.Refusal.{piece_at}
-use Rattle.cvss_name.specs.declared.v2.MetricType.{MetricType as KindV2}
-use Rattle.cvss_name.specs.declared.v2.MetricType.TheVariants as kind_v2
-use Rattle.cvss_name.specs.declared.v3.MetricType.{MetricType as KindV3}
-use Rattle.cvss_name.specs.declared.v3.MetricType.TheVariants as kind_v3
-use Rattle.cvss_name.specs.declared.v4.MetricType.{MetricType as KindV4}
-use Rattle.cvss_name.specs.declared.v4.MetricType.TheVariants as kind_v4
+use Rattle.cvss_base.specs.Refusal.{piece_at}
+use Rattle.cvss_base.specs.declared.v2.MetricType.{MetricType as KindV2}
+use Rattle.cvss_base.specs.declared.v2.MetricType.TheVariants as kind_v2
+use Rattle.cvss_base.specs.declared.v3.MetricType.{MetricType as KindV3}
+use Rattle.cvss_base.specs.declared.v3.MetricType.TheVariants as kind_v3
+use Rattle.cvss_base.specs.declared.v4.MetricType.{MetricType as KindV4}
+use Rattle.cvss_base.specs.declared.v4.MetricType.TheVariants as kind_v4
 use Rattle.cvss_text.proofs.ComponentLemmas.{piece_held}
 use Rattle.cvss_text.specs.private.Walk.{IsLawful}
 use Rattle.cvss_v2.specs.Vector.{v2}

@@ -4,7 +4,7 @@ use Rattle.std.proofs.lemmas.Bool.{ne_eqb, or_parts}
 use Rattle.std.proofs.lemmas.List.{length-take-le, take-append-drop, take-take, drop-drop, get_or-take}
 use Rattle.std.proofs.lemmas.List.Elements.{All-nil, All-cons, All-from_get_or}
 use Rattle.std.proofs.lemmas.List.Folds.{list_any-append, list_any_none}
-use Rattle.cvss_grammar.specs.Text.{has, slash}
+use Rattle.cvss_base.specs.Text.{has, slash}
 use Rattle.cvss_mention.proofs.EndLemmas.{before_and_last}
 use Rattle.cvss_mention.specs.Parts.{is_vector_byte, less_dividers, parts_of}
 use Rattle.cvss_mention.specs.Mentions.{IsFound, placed_from}

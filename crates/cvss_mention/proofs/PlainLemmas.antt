@@ -7,7 +7,7 @@ use Rattle.std.proofs.lemmas.Bool.{and_parts, or_parts, eqb-true, eq-eqb}
 use Rattle.std.proofs.lemmas.Bool.Decides.{nat_tests}
 use Rattle.std.proofs.lemmas.List.Elements.{All-head, All-tail}
 use Rattle.std.proofs.lemmas.List.Folds.{list_all-append}
-use Rattle.cvss_grammar.specs.Text.{joined, raised, read_as, slash}
+use Rattle.cvss_base.specs.Text.{joined, raised, read_as, slash}
 use Rattle.cvss_mention.specs.Parts.{begins_with_prefix, is_divider, is_vector_byte, less_dividers}
 use Rattle.cvss_mention.specs.laws.Whole.{IsWhole, has_second_prefix}
 use Rattle.cvss_mention.proofs.WholeLemmas.{starts_before}

@@ -4,7 +4,7 @@ use Rattle.std.proofs.Math.Bool.{or-true}
 use Rattle.std.proofs.lemmas.List.{length-append}
 use Rattle.std.proofs.lemmas.List.Folds.{list_any-append}
 use Rattle.cvss_any.specs.Dispatch.{DenotesCvss}
-use Rattle.cvss_grammar.specs.Text.{has, joined, slash}
+use Rattle.cvss_base.specs.Text.{has, joined, slash}
 use Rattle.cvss_any.specs.declared.vector.Cvss.{Cvss}
 use Rattle.cvss_any.specs.declared.vector.Cvss.TheVariants.{CvssV20, CvssV30, CvssV31, CvssV40}
 use Rattle.cvss_v3.specs.Vector.{v3}

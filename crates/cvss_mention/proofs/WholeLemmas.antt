@@ -5,7 +5,7 @@ use Rattle.std.specs.List.{Contains, list_all, starts_with}
 use Rattle.std.proofs.lemmas.Bool.{and_parts, or_parts, eqb-true}
 use Rattle.std.proofs.lemmas.List.{length-append}
 use Rattle.std.proofs.lemmas.List.Elements.{Contains-append_right}
-use Rattle.cvss_grammar.specs.Text.{has}
+use Rattle.cvss_base.specs.Text.{has}
 use Rattle.cvss_mention.specs.Parts.{begins_part, begins_with_prefix, is_vector_byte, less_dividers, onto_first, parts_of}
 use Rattle.cvss_mention.specs.Mentions.{Placed, mentions_of, placed_from}
 use Rattle.cvss_mention.specs.laws.Whole.{IsMentionedBetween, IsWhole, has_second_prefix, is_other, last_byte}

@@ -1,7 +1,7 @@
 -- The mentions of vectors in a text of any bytes, each with its place, and which of them are found.
 use Rattle.std.specs.Prelude.{◌≡◌, ℕ, ◌+◌, ◌⊎◌, true, List, [], ◌∷◌, length, ⊤}
 use Rattle.cvss_any.specs.Dispatch.{DenotesCvss}
-use Rattle.cvss_grammar.specs.Text.{has, slash}
+use Rattle.cvss_base.specs.Text.{has, slash}
 use Rattle.cvss_any.specs.declared.vector.Cvss.{Cvss}
 use Rattle.cvss_mention.specs.Parts.{begins_with_prefix, less_dividers, parts_of}
 

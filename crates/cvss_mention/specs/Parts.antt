@@ -2,7 +2,7 @@
 use Rattle.std.specs.Prelude.{ℕ, ◌||◌, ◌==◌, Bool, false, List, [], ◌∷◌, codes, not, if◌then◌else◌, nat_eq}
 use Rattle.std.specs.Char.{is_ascii_alphanumeric}
 use Rattle.std.specs.List.{list_all, starts_with}
-use Rattle.cvss_grammar.specs.Text.{colon, dot, slash}
+use Rattle.cvss_base.specs.Text.{colon, dot, slash}
 
 -- a byte with which no mention of a vector ends: `.`, `/` or `:`
 abbrev pub is_divider : ℕ → Bool

@@ -2,7 +2,7 @@
 //! found.
 
 ghost use Rattle.std.specs.Prelude.{◌≡◌, ◌≢◌, ℕ, ◌++◌, ◌<◌, ◌≤◌, false, true, length, slice_index, take, drop};
-ghost use Rattle.cvss_grammar.specs.Text.{has, slash};
+ghost use Rattle.cvss_base.specs.Text.{has, slash};
 ghost use Rattle.cvss_mention.specs.laws.Whole.{is_other, last_byte};
 ghost use Rattle.cvss_mention.specs.Parts.{parts_of};
 

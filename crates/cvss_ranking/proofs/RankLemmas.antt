@@ -1,8 +1,8 @@
 -- Texts whose rows are made one after another.
 use Rattle.std.proofs.Common.{◌≡◌, inl, inr, ℕ, ◌+◌, List, [], ◌∷◌, ◌++◌, below_more}
 use Rattle.std.proofs.lemmas.Bool.{cases_order}
-use Rattle.cvss_name.specs.declared.v4.MetricType.{MetricType}
-use Rattle.cvss_grammar.specs.Refusal.{Refusal, piece_at, IsFirstRefusalBehind}
+use Rattle.cvss_base.specs.declared.v4.MetricType.{MetricType}
+use Rattle.cvss_base.specs.Refusal.{Refusal, piece_at, IsFirstRefusalBehind}
 use Rattle.cvss_v4.specs.declared.vector.Vector.{Vector}
 use Rattle.cvss_v4.specs.Vector.{v4}
 use Rattle.cvss_ranking.specs.Faults.{HasNoRefusalBefore, IsFirstRefused}

@@ -1,13 +1,13 @@
 -- The first fault of overrides and texts, and the error that tells it.
 use Rattle.std.specs.Prelude.{◌≡◌, ◌⊎◌, ℕ, ◌<◌, true, Some, List, length, ◌++◌, codes}
 use Rattle.std.specs.Fmt.{decimal}
-use Rattle.cvss_name.specs.ErrorText.{error_text}
-use Rattle.cvss_name.specs.declared.error.Error.{Error}
-use Rattle.cvss_name.specs.declared.v4.MetricType.{MetricType}
+use Rattle.cvss_base.specs.ErrorText.{error_text}
+use Rattle.cvss_base.specs.declared.error.Error.{Error}
+use Rattle.cvss_base.specs.declared.v4.MetricType.{MetricType}
 use Rattle.cvss_v4.specs.Overriding.{Objection, OfOtherGroup, OfText, HasNoObjectionBefore, IsFirstObjection}
-use Rattle.cvss_grammar.specs.Refusal.{Refusal, carries_text, piece_at, IsFirstRefusalBehind}
-use Rattle.cvss_name.specs.Told.{reason_told}
-use Rattle.cvss_name.specs.V4Types.{v4_reason}
+use Rattle.cvss_base.specs.Refusal.{Refusal, carries_text, piece_at, IsFirstRefusalBehind}
+use Rattle.cvss_base.specs.Told.{reason_told}
+use Rattle.cvss_base.specs.V4Types.{v4_reason}
 use Rattle.cvss_v4.specs.Vector.{v4}
 use Rattle.cvss_ranking.specs.declared.error.TriageError.{TriageError}
 use Rattle.cvss_ranking.specs.declared.error.TriageError.TheVariants.{Override, NotEnvironmental, Text, OutOfMemory}

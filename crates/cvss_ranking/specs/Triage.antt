@@ -6,11 +6,11 @@ use Rattle.std.specs.Ordering.{ordering_then, int_cmp, nat_cmp}
 use Rattle.std.specs.declared.cmp.Ordering.{Ordering}
 use Rattle.cvss_v4.specs.Merging.{effective_of}
 use Rattle.cvss_v4.specs.Overriding.{AreOverrides, IsOverridden}
-use Rattle.cvss_v4_score.specs.Scores.{IsScore}
-use Rattle.cvss_number.specs.Tenths.{IsInTenths, IsFromZeroToTen}
+use Rattle.cvss_score.specs.v4.Scores.{IsScore}
+use Rattle.cvss_base.specs.Tenths.{IsInTenths, IsFromZeroToTen}
 use Rattle.cvss_v4.specs.declared.vector.Vector.{Vector}
 use Rattle.cvss_v4.specs.Vector.{v4}
-use Rattle.cvss_grammar.specs.Version.{canonical_text, Denotes, IsWellFormed}
+use Rattle.cvss_base.specs.Version.{canonical_text, Denotes, IsWellFormed}
 use Rattle.cvss_ranking.specs.declared.row.Row.{Row}
 
 -- the row has the text as it was given, and the canonical text and the score of the vector, which is a

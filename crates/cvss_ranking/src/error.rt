@@ -2,14 +2,14 @@
 
 ghost use Rattle.std.specs.Prelude.{◌≡◌, ℕ, Some};
 ghost use Rattle.cvss_v4.specs.Overriding.{Objection, TellsObjection};
-ghost use Rattle.cvss_grammar.specs.Refusal.{Refusal};
-ghost use Rattle.cvss_name.specs.Told.{Tells};
-ghost use Rattle.cvss_name.specs.V4Types.{v4_reason};
-ghost use Rattle.cvss_name.specs.declared.v4.MetricType.{MetricType};
+ghost use Rattle.cvss_base.specs.Refusal.{Refusal};
+ghost use Rattle.cvss_base.specs.Told.{Tells};
+ghost use Rattle.cvss_base.specs.V4Types.{v4_reason};
+ghost use Rattle.cvss_base.specs.declared.v4.MetricType.{MetricType};
 ghost use Rattle.cvss_ranking.specs.Faults.{InOverride, InText, TellsFault, triage_error_text};
 ghost use Rattle.cvss_ranking.specs.declared.error.TriageError.TheVariants.{OutOfMemory};
 
-use cvss_name::Error;
+use cvss_base::Error;
 use cvss_v4::OverrideError;
 use std::alloc::{AllocError, AllocFailed};
 use std::fmt;

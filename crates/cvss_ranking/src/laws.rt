@@ -6,7 +6,7 @@ ghost use Rattle.cvss_ranking.specs.Triage.{AreTheSame};
 
 use crate::error::TriageError;
 use crate::row::Row;
-use cvss_name::laws;
+use cvss_base::laws;
 
 /// Two rows are equal exactly if their texts and scores are, and two errors exactly if they tell
 /// the same.

@@ -1,8 +1,8 @@
 //! The rows of texts under overrides, in order.
 
 ghost use Rattle.std.specs.Prelude.{◌≡◌, ◌⊎◌, ℕ, IfOk, IfErr, OnOk, IsErrAnd, length, map};
-ghost use Rattle.cvss_name.specs.declared.v4.MetricType.{MetricType};
-ghost use Rattle.cvss_grammar.specs.Refusal.{Refusal};
+ghost use Rattle.cvss_base.specs.declared.v4.MetricType.{MetricType};
+ghost use Rattle.cvss_base.specs.Refusal.{Refusal};
 ghost use Rattle.cvss_ranking.specs.Faults.{Fault, InText, IsFirstFault, IsFirstRefused, HasNoRefusalBefore, TellsFault, TellsFirstFault, TellsFirstRefused};
 ghost use Rattle.cvss_ranking.specs.Triage.{AreRanked, AreRows};
 ghost use Rattle.cvss_ranking.specs.declared.error.TriageError.TheVariants.{OutOfMemory};

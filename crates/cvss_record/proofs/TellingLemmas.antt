@@ -7,9 +7,9 @@ use Rattle.cvss.specs.laws.GivenBack.{IsGivenBack}
 use Rattle.cvss.specs.MetricTypeAny.{MetricType}
 use Rattle.cvss.specs.MetricTypeAny.TheVariants.{V2, V3, V4}
 use Rattle.cvss.specs.CvssType.{Cvss}
-use Rattle.cvss_name.specs.declared.v2.MetricType.TheVariants as metric_v2
-use Rattle.cvss_name.specs.declared.v3.MetricType.TheVariants as metric_v3
-use Rattle.cvss_name.specs.declared.v4.MetricType.TheVariants as metric_v4
+use Rattle.cvss_base.specs.declared.v2.MetricType.TheVariants as metric_v2
+use Rattle.cvss_base.specs.declared.v3.MetricType.TheVariants as metric_v3
+use Rattle.cvss_base.specs.declared.v4.MetricType.TheVariants as metric_v4
 use Rattle.serde_json.proofs.Views.{get_member-put, get_member-put_other}
 use Rattle.serde_json.specs.Data.{Data, Members, no_members, put, string}
 use Rattle.serde_json.specs.Find.{as_str, get, get_member}

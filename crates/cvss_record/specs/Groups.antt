@@ -18,8 +18,8 @@ use Rattle.cvss.specs.WeightsV2 as weights_v2
 use Rattle.cvss.specs.WeightsV3 as weights_v3
 use Rattle.cvss.specs.CvssType.{Cvss}
 use Rattle.cvss.specs.CvssType.TheVariants.{CvssV20, CvssV30, CvssV31, CvssV40}
-use Rattle.cvss_name.specs.declared.group.MetricGroup.{MetricGroup}
-use Rattle.cvss_name.specs.declared.group.MetricGroup.TheVariants as metrics
+use Rattle.cvss_base.specs.declared.group.MetricGroup.{MetricGroup}
+use Rattle.cvss_base.specs.declared.group.MetricGroup.TheVariants as metrics
 use Rattle.cvss_record.specs.declared.group.Group.{Group}
 use Rattle.cvss_record.specs.declared.group.Group.TheVariants.{Base, Temporal, Environmental}
 use Rattle.cvss_record.specs.declared.score.Scores.{Scores}

@@ -4,7 +4,7 @@
 ghost use Rattle.std.specs.Prelude.{◌≡◌, All};
 ghost use Rattle.cvss.specs.laws.GivenBack.{IsGivenBack};
 ghost use Rattle.cvss.specs.CvssType.{Cvss};
-ghost use Rattle.cvss_grammar.specs.Equality.{ClonesAlways, ClonesByValue, EqualsByValue};
+ghost use Rattle.cvss_base.specs.Equality.{ClonesAlways, ClonesByValue, EqualsByValue};
 ghost use Rattle.cvss_record.specs.Places.{places_in};
 ghost use Rattle.cvss_record.specs.Record.{IsRecordOf};
 ghost use Rattle.cvss_record.specs.laws.Pointers.{HasNamesOnce, LeadsTo};

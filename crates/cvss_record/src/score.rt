@@ -11,7 +11,7 @@ ghost use Rattle.cvss_record.specs.Record.{rating_word, score_number};
 use crate::group::Group;
 use cvss::tenths::tenths_of;
 use cvss::{Cvss, Severity, v2, v3, v4};
-use cvss_number::TENTH;
+use cvss_base::TENTH;
 
 /// The scores of a vector in tenths, from 0 to 100 each.
 #[derive(Clone, Copy, Debug, PartialEq, Eq)]

@@ -4,8 +4,8 @@ use Rattle.std.specs.List.{All, count_by}
 use Rattle.std.proofs.lemmas.List.{append_cancel_left, length-append}
 use Rattle.std.proofs.lemmas.List.Elements.{All-head}
 use Rattle.std.proofs.lemmas.List.Sorted.{IsPermutation-refl}
-use Rattle.cvss_grammar.specs.Text.{slash, pieces, joined}
-use Rattle.cvss_grammar.specs.Version.{Version, components_of, canonical_text, AreComponentsOf, Denotes}
+use Rattle.cvss_base.specs.Text.{slash, pieces, joined}
+use Rattle.cvss_base.specs.Version.{Version, components_of, canonical_text, AreComponentsOf, Denotes}
 use Rattle.cvss_text.specs.private.Walk.{IsLawful}
 use Rattle.cvss_text.proofs.DenotesLemmas.{vectors_same}
 use Rattle.cvss_text.proofs.TextLemmas.{is_colon, IsPart}

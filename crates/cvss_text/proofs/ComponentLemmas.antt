@@ -6,9 +6,9 @@ use Rattle.std.specs.Option.{option_map}
 use Rattle.std.proofs.lemmas.List.{map-append, length-map, get_or-map}
 use Rattle.std.proofs.lemmas.List.Elements.{All-nil, All-cons, All-head, All-tail, All-map, All-get_or, Contains-append_right, filter_map-append}
 use Rattle.std.proofs.lemmas.List.Sorted.{IsPermutation-middle, IsPermutation-cons, IsPermutation-to_front, IsPermutation-sym, IsPermutation-trans, All-permutation, Contains-permutation}
-use Rattle.cvss_grammar.specs.Text.{IsComponent, name_part, value_part, component}
-use Rattle.cvss_grammar.specs.Version.{Version, read, component_of, components_of, AreComponentsOf}
-use Rattle.cvss_grammar.specs.Refusal.{piece_at}
+use Rattle.cvss_base.specs.Text.{IsComponent, name_part, value_part, component}
+use Rattle.cvss_base.specs.Version.{Version, read, component_of, components_of, AreComponentsOf}
+use Rattle.cvss_base.specs.Refusal.{piece_at}
 use Rattle.cvss_text.specs.private.Walk.{IsLawful, Adds}
 use Rattle.cvss_text.proofs.TextLemmas.{read-component, component-parts}
 use Rattle.cvss_text.proofs.LawLemmas.{IsCutAt, component_read, printed_once}

@@ -5,9 +5,9 @@ use Rattle.std.specs.List.{All, filter_map, count_by}
 use Rattle.std.proofs.lemmas.List.{take_all, length-map, get_or-map, take-take}
 use Rattle.std.proofs.lemmas.List.Elements.{All-append}
 use Rattle.std.proofs.lemmas.Option.{slice_get_within, get_or_from_slice_get}
-use Rattle.cvss_grammar.specs.Text.{pieces, name_part, value_part, component}
-use Rattle.cvss_grammar.specs.Version.{Version, read, AreComponentsOf, Denotes, IsComplete, reading, component_of, components_of}
-use Rattle.cvss_grammar.specs.Refusal.{Refusal, UnknownName, BadValue, Repeated, Missing, Spells, piece_at, name_at, FaultAt, IsFirstReason}
+use Rattle.cvss_base.specs.Text.{pieces, name_part, value_part, component}
+use Rattle.cvss_base.specs.Version.{Version, read, AreComponentsOf, Denotes, IsComplete, reading, component_of, components_of}
+use Rattle.cvss_base.specs.Refusal.{Refusal, UnknownName, BadValue, Repeated, Missing, Spells, piece_at, name_at, FaultAt, IsFirstReason}
 use Rattle.cvss_text.specs.private.Walk.{IsLawful}
 use Rattle.cvss_text.proofs.TextLemmas.{IsPart, name_part-component, value_part-component, name_part-read, count_by-none}
 use Rattle.cvss_text.proofs.LawLemmas.{name_plain, names_differ, printed_once}

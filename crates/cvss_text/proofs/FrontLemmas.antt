@@ -8,9 +8,9 @@ use Rattle.std.proofs.lemmas.List.{take-append-drop, take_at, drop_at, get_or-ma
 use Rattle.std.proofs.lemmas.List.Elements.{All-append, All-nil, All-cons}
 use Rattle.std.proofs.lemmas.List.Splits.{join_with_byte-slice_split}
 use Rattle.cvss_text.specs.declared.walk.Fault.{Fault}
-use Rattle.cvss_grammar.specs.Text.{slash, pieces, joined, value_part, IsComponent}
-use Rattle.cvss_grammar.specs.Version.{Version, Denotes, IsComplete, AreComponentsOf, version_piece, IsSupported}
-use Rattle.cvss_grammar.specs.Refusal.{Refusal, BadComponent, BadPiecesFirst, WrongPrefix, WrongVersion, AreComponentsBefore, IsFirstBadPiece, piece_at, IsReasonBehind, IsFirstRefusalBehind, TellsVersion}
+use Rattle.cvss_base.specs.Text.{slash, pieces, joined, value_part, IsComponent}
+use Rattle.cvss_base.specs.Version.{Version, Denotes, IsComplete, AreComponentsOf, version_piece, IsSupported}
+use Rattle.cvss_base.specs.Refusal.{Refusal, BadComponent, BadPiecesFirst, WrongPrefix, WrongVersion, AreComponentsBefore, IsFirstBadPiece, piece_at, IsReasonBehind, IsFirstRefusalBehind, TellsVersion}
 use Rattle.cvss_text.specs.private.Walk.{IsLawful, IsFirstOfPieces, HasRead, reason_of, IsLawfulFront, IsAnswerBehind, IsFrontFault, IsStarted, IsTellable, foreign_bytes}
 use Rattle.cvss_text.proofs.DenotesLemmas.{vectors_same, pieces_of_complete, no_reason, pieces_of_denoted}
 use Rattle.cvss_text.proofs.JoinLemmas.{are_parts, IsUtf8-parts}

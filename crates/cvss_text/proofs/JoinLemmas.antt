@@ -7,9 +7,9 @@ use Rattle.std.proofs.lemmas.Str.{IsUtf8-nil, IsUtf8-append, IsUtf8-from_ascii}
 use Rattle.std.proofs.lemmas.Str.Ascii.{IsAscii-from_all}
 use Rattle.std.proofs.lemmas.List.Elements.{All-append, All-head, All-tail, All-weaker, All-from_get_or}
 use Rattle.std.proofs.lemmas.List.Splits.{slice_split_none, slice_split_at}
-use Rattle.cvss_grammar.specs.Text.{slash, pieces, joined, IsComponent}
-use Rattle.cvss_grammar.specs.Version.{Version, AreComponentsOf}
-use Rattle.cvss_grammar.specs.Refusal.{piece_at}
+use Rattle.cvss_base.specs.Text.{slash, pieces, joined, IsComponent}
+use Rattle.cvss_base.specs.Version.{Version, AreComponentsOf}
+use Rattle.cvss_base.specs.Refusal.{piece_at}
 use Rattle.cvss_text.specs.private.Walk.{IsLawful}
 use Rattle.cvss_text.proofs.TextLemmas.{is_slash, IsPart, IsPart-read, IsPart-component, All-from_count, foreign_bytes-read, foreign_sorts}
 use Rattle.cvss_text.proofs.LawLemmas.{name_plain}

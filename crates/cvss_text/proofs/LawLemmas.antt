@@ -7,10 +7,10 @@ use Rattle.std.proofs.lemmas.List.{take-append-drop, drop_more, get_or-take, get
 use Rattle.std.proofs.lemmas.List.FromFn.{get_or-range_with_len}
 use Rattle.std.proofs.lemmas.Option.{slice_get-map, slice_get_within, get_or_from_slice_get, same_Some}
 use Rattle.std.proofs.lemmas.Slice.Eq.{bytes_eq-Decides}
-use Rattle.cvss_grammar.specs.Text.{component, name_part, value_part}
-use Rattle.cvss_grammar.specs.Version.{Version, read}
+use Rattle.cvss_base.specs.Text.{component, name_part, value_part}
+use Rattle.cvss_base.specs.Version.{Version, read}
 use Rattle.cvss_text.specs.private.Walk.{IsLawful, IsCut, foreign_bytes, place_of}
-use Rattle.cvss_grammar.proofs.FindLemmas.{found_passes, not_found}
+use Rattle.cvss_base.proofs.FindLemmas.{found_passes, not_found}
 use Rattle.cvss_text.proofs.TextLemmas.{read-component, foreign_bytes-read, name_part-component, value_part-component}
 
 -- the printing order, cut at one metric, which stands nowhere else

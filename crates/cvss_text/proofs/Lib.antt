@@ -1,6 +1,7 @@
 pub mod CanonicalLemmas
 pub mod ComponentLemmas
 pub mod DenotesLemmas
+pub mod EqualLemmas
 pub mod FrontLemmas
 pub mod JoinLemmas
 pub mod LawLemmas

@@ -1,9 +1,9 @@
 -- The first mandatory metric that a vector lacks, by its place.
 use Rattle.std.proofs.Common.{◌≡◌, true, false, Option, Some, None, IsSome, Contains, is_none, refl, subst}
 use Rattle.std.proofs.lemmas.Option.{slice_get_within, get_or_from_slice_get}
-use Rattle.cvss_grammar.specs.Version.{Version, IsComplete}
+use Rattle.cvss_base.specs.Version.{Version, IsComplete}
 use Rattle.cvss_text.specs.private.Walk.{first_missing, LacksFirst}
-use Rattle.cvss_grammar.proofs.FindLemmas.{found_first, not_found}
+use Rattle.cvss_base.proofs.FindLemmas.{found_first, not_found}
 
 is_none_true : {X : Type 0} (o : Option X) → is_none o ≡ true → o ≡ None
 is_none_true None is = refl

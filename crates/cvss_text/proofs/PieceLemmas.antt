@@ -11,12 +11,12 @@ use Rattle.std.proofs.lemmas.List.Splits.{slice_split_none, slice_split_first, l
 use Rattle.std.proofs.lemmas.List.Sums.{fails_before_first}
 use Rattle.std.proofs.lemmas.Option.{cond_some}
 use Rattle.cvss_text.specs.private.Pieces.{AreParts, IsWithoutColon}
-use Rattle.cvss_grammar.specs.Text.{pieces, slash, colon, joined, component}
+use Rattle.cvss_base.specs.Text.{pieces, slash, colon, joined, component}
 use Rattle.cvss_text.proofs.TextLemmas.{is_slash, is_colon, position-within, colon-parts}
 use Rattle.std.specs.Str.{IsUtf8}
 use Rattle.std.proofs.lemmas.List.Elements.{All-nil, All-cons}
 use Rattle.std.proofs.lemmas.Str.{IsUtf8-take, IsUtf8-drop, IsCharBoundary-before_ascii, IsCharBoundary-after_ascii}
-use Rattle.cvss_grammar.specs.Refusal.{IsFirstBadPiece}
+use Rattle.cvss_base.specs.Refusal.{IsFirstBadPiece}
 
 none-false : (b : Bool) (x : ℕ) → cond b (Some x) None ≡ None → b ≡ false
 none-false true x none = cc

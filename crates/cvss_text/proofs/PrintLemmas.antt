@@ -5,8 +5,8 @@ use Rattle.std.specs.Fmt.{HasWritten, IsPlainFormatter}
 use Rattle.std.specs.declared.fmt.Formatter.{Formatter}
 use Rattle.std.proofs.Output.{has_written_append, has_written_of_eq}
 use Rattle.std.proofs.lemmas.List.{take_more, take_all, flat_map_more}
-use Rattle.cvss_grammar.specs.Text.{joined, slash}
-use Rattle.cvss_grammar.specs.Version.{Version, component_of}
+use Rattle.cvss_base.specs.Text.{joined, slash}
+use Rattle.cvss_base.specs.Version.{Version, component_of}
 use Rattle.cvss_text.specs.private.Printing.{StartsWithSlash, slashed, slashed_text, slashed_texts}
 
 -- whether there is no byte

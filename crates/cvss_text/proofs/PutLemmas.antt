@@ -1,6 +1,6 @@
 -- Filling the place of one metric puts its value into the vector.
 use Rattle.std.proofs.Common.{◌≡◌, ◌⊎◌, ℕ, List, Result, Ok, Err, OnOk}
-use Rattle.cvss_grammar.specs.Version.{Version, reading}
+use Rattle.cvss_base.specs.Version.{Version, reading}
 use Rattle.cvss_text.specs.private.Walk.{Fills, IsFilled, Puts, IsPut}
 use Rattle.cvss_text.specs.declared.walk.Slip.{Slip}
 

@@ -3,8 +3,8 @@ use Rattle.std.proofs.Common.{◌≡◌, inl, inr, ℕ, ◌<◌, List, Contains,
 use Rattle.std.specs.List.{slice_get}
 use Rattle.std.proofs.lemmas.Bool.{cases_order}
 use Rattle.std.proofs.lemmas.Option.{same_Some}
-use Rattle.cvss_grammar.specs.Version.{Version, reading}
-use Rattle.cvss_grammar.specs.Refusal.{Refusal, BadComponent, WrongPrefix, WrongVersion, UnknownName, BadValue, Repeated, Missing, Spells, piece_at, name_at, value_at, FaultAt, IsFirstBadPiece, IsFirstFault, IsFirstMissing, IsFirstReason, IsReasonBehind, BadPiecesFirst}
+use Rattle.cvss_base.specs.Version.{Version, reading}
+use Rattle.cvss_base.specs.Refusal.{Refusal, BadComponent, WrongPrefix, WrongVersion, UnknownName, BadValue, Repeated, Missing, Spells, piece_at, name_at, value_at, FaultAt, IsFirstBadPiece, IsFirstFault, IsFirstMissing, IsFirstReason, IsReasonBehind, BadPiecesFirst}
 use Rattle.cvss_text.specs.private.Walk.{IsLawful}
 use Rattle.cvss_text.proofs.LawLemmas.{names_differ}
 

@@ -2,7 +2,7 @@
 use Rattle.std.proofs.Common.{◌≡◌, ℕ, List, [], ◌∷◌, ◌++◌, flat_map, refl, sym, ap, ◌∙◌}
 use Rattle.std.proofs.lemmas.Grind.{flat_map-append}
 use Rattle.std.proofs.lemmas.List.{append_assoc}
-use Rattle.cvss_grammar.specs.Version.{Version}
+use Rattle.cvss_base.specs.Version.{Version}
 use Rattle.cvss_text.specs.private.Printing.{slashed_text, slashed_texts}
 
 -- the text of each metric before those of the metrics behind it, and the rest

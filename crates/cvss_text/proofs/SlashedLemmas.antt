@@ -3,7 +3,7 @@ use Rattle.std.proofs.Common.{◌≡◌, ℕ, ◌+◌, ◌<◌, List, ◌∷◌,
 use Rattle.std.proofs.lemmas.Grind.{common_steps}
 use Rattle.std.proofs.lemmas.Str.{IsCharBoundary-after_ascii}
 use Rattle.std.specs.Str.{IsUtf8, IsCharBoundary}
-use Rattle.cvss_grammar.specs.Text.{slash, colon, component}
+use Rattle.cvss_base.specs.Text.{slash, colon, component}
 
 colon_at : (name value : List ℕ) → get_or (slash ∷ component name value) (length name + 1) 0 ≡ colon
 colon_at name value = grind (arith, common_steps)

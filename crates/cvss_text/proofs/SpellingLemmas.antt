@@ -4,7 +4,7 @@ use Rattle.std.specs.List.{list_any}
 use Rattle.std.specs.Str.{str_eq_ignore_ascii_case, str_to_ascii_lowercase}
 use Rattle.std.proofs.lemmas.Slice.Eq.{bytes_eq-Decides}
 use Rattle.std.proofs.Math.Seq.{drop-append-add}
-use Rattle.cvss_grammar.specs.Text.{slash, colon, component}
+use Rattle.cvss_base.specs.Text.{slash, colon, component}
 
 -- what is found by one test is found by a narrower one that it passes
 find_narrower : {X : Type 0} (wide narrow : X → Bool) (items : List X) (found : X) → find wide items ≡ Some found → narrow found ≡ true

@@ -10,7 +10,7 @@ use Rattle.std.proofs.lemmas.List.Folds.{fold-map}
 use Rattle.std.proofs.lemmas.List.Sums.{sum_by-cons, sum_by-append, get_or-le-sum_by, split_at_first, passes_at_first, fails_before_first, position_or_len_is}
 use Rattle.std.specs.Str.{bytes_eq}
 use Rattle.std.proofs.lemmas.Slice.Eq.{bytes_eq-Decides}
-use Rattle.cvss_grammar.specs.Text.{slash, colon, IsComponent, name_part, value_part, component, raised, read_as}
+use Rattle.cvss_base.specs.Text.{slash, colon, IsComponent, name_part, value_part, component, raised, read_as}
 use Rattle.cvss_text.specs.private.Walk.{is_foreign, foreign_bytes}
 
 abbrev pub is_slash : ℕ → Bool

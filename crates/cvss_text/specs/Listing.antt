@@ -3,7 +3,7 @@ use Rattle.std.specs.Prelude.{ℕ, List, option_map, drop}
 use Rattle.std.specs.List.{filter_map}
 use Rattle.std.specs.Borrow.{Bor}
 use Rattle.cvss_text.specs.declared.metrics.Metrics.{Metrics}
-use Rattle.cvss_grammar.specs.Version.{Version, held}
+use Rattle.cvss_base.specs.Version.{Version, held}
 
 -- those of these metrics that the vector has, in their order, each with the spelling of its value
 abbrev pub listed_metrics : {V K : Type 0} → Version V K → V → List K → List (K × List ℕ)

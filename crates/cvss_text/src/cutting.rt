@@ -5,9 +5,9 @@ ghost use Rattle.std.specs.Prelude.{◌≡◌, ◌↔◌, IsTrue, bytes_eq, find
 ghost use Rattle.std.specs.List.{All};
 ghost use Rattle.std.specs.Str.{IsUtf8};
 ghost use Rattle.cvss_text.specs.private.Pieces.{pieces_left};
-ghost use Rattle.cvss_grammar.specs.Text.{IsComponent, pieces, raised, read_as};
-ghost use Rattle.cvss_grammar.specs.Version.{read};
-ghost use Rattle.cvss_grammar.specs.Refusal.{piece_at};
+ghost use Rattle.cvss_base.specs.Text.{IsComponent, pieces, raised, read_as};
+ghost use Rattle.cvss_base.specs.Version.{read};
+ghost use Rattle.cvss_base.specs.Refusal.{piece_at};
 ghost use Rattle.cvss_text.specs.private.Walk.{IsCutAnswer, IsCutFirst, IsFaultOf, IsTellable, reason_of};
 
 use crate::pieces::{Pieces, front_of, parts_of};

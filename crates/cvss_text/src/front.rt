@@ -2,13 +2,13 @@
 
 ghost use Rattle.std.specs.Prelude.{IfSome, IfNone, IfOk, IfErr, Contains};
 ghost use Rattle.std.specs.Str.{IsUtf8};
-ghost use Rattle.cvss_grammar.specs.Text.{IsComponent};
+ghost use Rattle.cvss_base.specs.Text.{IsComponent};
 ghost use Rattle.cvss_text.specs.private.Pieces.{pieces_left};
 ghost use Rattle.cvss_text.specs.private.Walk.{Starts, StartsWith, IsStarted, IsAnswerBehind, IsFrontFault, IsTellable, IsLawfulFront, reason_of};
 
 use crate::pieces::{Pieces, first_bad_piece, front_of, parts_of};
 use crate::walk::{Components, Fault, read_complete};
-use cvss_grammar::PREFIX;
+use cvss_base::PREFIX;
 
 /// A vector of some version, whose text begins with the piece that tells the version.
 pub trait Fronted: Components {

@@ -1,5 +1,6 @@
 //! How the text of a vector is read and printed, once for all versions: pieces, the walk over them,
-//! the version piece, printing, listing, and recognising a canonical text.
+//! the version piece, printing, listing, recognising a canonical
+//! text, and the errors that tell why a text is no vector.
 #![tactic(auto)]
 
 pub mod cutting;
@@ -7,6 +8,7 @@ pub mod front;
 pub mod metrics;
 pub mod pieces;
 pub mod print;
+pub mod refusing;
 pub mod sight;
 pub mod text;
 pub mod walk;

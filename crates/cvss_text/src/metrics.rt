@@ -3,8 +3,8 @@
 ghost use Rattle.std.specs.Prelude.{◌≡◌, List};
 ghost use Rattle.std.specs.Option.{option_copied};
 ghost use Rattle.std.specs.Iterator.{YieldsFirstBy, item_count};
-ghost use Rattle.cvss_grammar.specs.Text.{value_part};
-ghost use Rattle.cvss_grammar.specs.Version.{held};
+ghost use Rattle.cvss_base.specs.Text.{value_part};
+ghost use Rattle.cvss_base.specs.Version.{held};
 ghost use Rattle.cvss_text.specs.Listing.{listed_metrics, metrics_left, as_listed};
 
 use crate::print::Printed;

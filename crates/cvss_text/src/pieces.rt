@@ -3,9 +3,9 @@
 ghost use Rattle.std.specs.Prelude.{◌≡◌, ◌↔◌, ◌∷◌, [], IsTrue, IfSome, MatchOption, Some, length, ◌==◌};
 ghost use Rattle.std.specs.Iterator.{YieldsFirstRef, item_count};
 ghost use Rattle.std.specs.List.{position};
-ghost use Rattle.cvss_grammar.specs.Text.{IsComponent, component, pieces};
+ghost use Rattle.cvss_base.specs.Text.{IsComponent, component, pieces};
 ghost use Rattle.cvss_text.specs.private.Pieces.{pieces_left, AreParts, IsWithoutColon};
-ghost use Rattle.cvss_grammar.specs.Refusal.{AreComponentsBefore, IsFirstBadPiece};
+ghost use Rattle.cvss_base.specs.Refusal.{AreComponentsBefore, IsFirstBadPiece};
 
 /// The pieces of a text, cut at each slash.
 #[derive(Clone, Copy)]

@@ -3,8 +3,8 @@
 ghost use Rattle.std.specs.Prelude.{◌≡◌, ◌↔◌, IsTrue, Some, drop, if◌then◌else◌};
 ghost use Rattle.std.specs.Option.{option_copied};
 ghost use Rattle.std.specs.Fmt.{DisplaysOnOk, WritesOnOk, WritesStyledOnOk};
-ghost use Rattle.cvss_grammar.specs.Text.{joined};
-ghost use Rattle.cvss_grammar.specs.Version.{component_of, components_of, canonical_text};
+ghost use Rattle.cvss_base.specs.Text.{joined};
+ghost use Rattle.cvss_base.specs.Version.{component_of, components_of, canonical_text};
 ghost use Rattle.cvss_text.specs.private.Printing.{slashed, StartsWithSlash};
 
 use crate::walk::Components;

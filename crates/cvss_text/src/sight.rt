@@ -1,7 +1,7 @@
 //! How a canonical text is recognised, as far as the versions share it.
 
 ghost use Rattle.std.specs.Prelude.{◌≡◌, ◌∷◌, ◌++◌, IsTrue, IfSome, IfNone, Some, None};
-ghost use Rattle.cvss_grammar.specs.Text.{slash, colon};
+ghost use Rattle.cvss_base.specs.Text.{slash, colon};
 
 /// Puts the value that was read of a text into its place, and gives what stands behind it; if none
 /// was read, no value, and the text.

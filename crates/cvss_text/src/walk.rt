@@ -5,9 +5,9 @@ ghost use Rattle.std.specs.Prelude.{◌≡◌, ℕ, List, IfSome, IfOk, IfErr, O
 ghost use Rattle.std.specs.List.{All};
 ghost use Rattle.std.specs.Str.{IsUtf8};
 ghost use Rattle.cvss_text.specs.private.Pieces.{pieces_left};
-ghost use Rattle.cvss_grammar.specs.Text.{IsComponent, pieces};
-ghost use Rattle.cvss_grammar.specs.Version.{Version, read, Denotes, IsComplete};
-ghost use Rattle.cvss_grammar.specs.Refusal.{AreComponentsBefore, Refusal, piece_at, IsFirstRefusal};
+ghost use Rattle.cvss_base.specs.Text.{IsComponent, pieces};
+ghost use Rattle.cvss_base.specs.Version.{Version, read, Denotes, IsComplete};
+ghost use Rattle.cvss_base.specs.Refusal.{AreComponentsBefore, Refusal, piece_at, IsFirstRefusal};
 ghost use Rattle.cvss_text.specs.private.Walk.{HasNoValue, IsEmpty, IsFilled, IsPut, IsCut, IsReadFirst, IsLawful, Puts, Adds, HasRead, IsFaultOf, IsFirstOfPieces, first_missing, IsTellable, reason_of};
 
 use crate::cutting::{cut_component, cut_first};

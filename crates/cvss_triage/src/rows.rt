@@ -1,10 +1,10 @@
 //! How rows are written.
 
 ghost use Rattle.std.specs.Prelude.{◌≡◌, ◌++◌, IfOk, OnOk, flat_map, string_bytes};
-ghost use Rattle.cvss_number.specs.Tenths.{score_text};
+ghost use Rattle.cvss_base.specs.Tenths.{score_text};
 ghost use Rattle.cvss_triage.specs.Rows.{row_text};
 
-use cvss_number::OneDecimal;
+use cvss_base::OneDecimal;
 use cvss_ranking::Row;
 use std::alloc::{AllocError, Global};
 

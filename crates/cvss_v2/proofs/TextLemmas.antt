@@ -1,15 +1,15 @@
 -- A canonical text is the components of its vector, each behind a slash, but for the first slash.
 use Rattle.std.proofs.Common.{◌≡◌, ℕ, List, [], ◌∷◌, ◌++◌, drop, Option, Some, None, IfSome, IsSome, option_map, unwrap_or, refl, sym, ap, ◌∙◌, lit<}
 use Rattle.cvss_text.specs.private.Printing.{slashed, slashed_texts}
-use Rattle.cvss_grammar.specs.Text.{slash, component}
-use Rattle.cvss_name.specs.V2Types.{name_of}
-use Rattle.cvss_name.specs.declared.v2.MetricType.TheVariants.{AV}
+use Rattle.cvss_base.specs.Text.{slash, component}
+use Rattle.cvss_base.specs.V2Types.{name_of}
+use Rattle.cvss_base.specs.declared.v2.MetricType.TheVariants.{AV}
 use Rattle.cvss_text.proofs.MissingLemmas.{IsComplete-from}
 use Rattle.cvss_text.proofs.PrintLemmas.{joined-slashed}
 use Rattle.cvss_text.specs.private.Walk.{first_missing}
-use Rattle.cvss_v2_metric.specs.declared.base.access.AccessVector.{AccessVector}
-use Rattle.cvss_v2_metric.specs.Table.{metric_component, spelling_of, printed}
-use Rattle.cvss_grammar.specs.Version.{canonical_text, IsComplete}
+use Rattle.cvss_metric.specs.declared.v2.base.access.AccessVector.{AccessVector}
+use Rattle.cvss_metric.specs.v2.Table.{metric_component, spelling_of, printed}
+use Rattle.cvss_base.specs.Version.{canonical_text, IsComplete}
 use Rattle.cvss_v2.specs.declared.vector.Vector.{Vector}
 use Rattle.cvss_v2.specs.Vector.{v2}
 

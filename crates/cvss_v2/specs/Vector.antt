@@ -1,11 +1,11 @@
 -- A vector of CVSS v2 as a map from metrics to values: guide, section 2.4.
 use Rattle.std.specs.Prelude.{false, [], Option}
-use Rattle.cvss_name.specs.V2Types.{name_of}
-use Rattle.cvss_grammar.specs.Version.{Version}
-use Rattle.cvss_name.specs.declared.v2.MetricType.{MetricType}
-use Rattle.cvss_name.specs.declared.v2.MetricType.TheVariants.{A, AC, AV, Au, C, I, E, RL, RC, CDP, TD, CR, IR, AR}
+use Rattle.cvss_base.specs.V2Types.{name_of}
+use Rattle.cvss_base.specs.Version.{Version}
+use Rattle.cvss_base.specs.declared.v2.MetricType.{MetricType}
+use Rattle.cvss_base.specs.declared.v2.MetricType.TheVariants.{A, AC, AV, Au, C, I, E, RL, RC, CDP, TD, CR, IR, AR}
 use Rattle.cvss_v2.specs.declared.vector.Vector.{Vector}
-use Rattle.cvss_v2_metric.specs.Table.{Value, spelling_of, printed, mandatory}
+use Rattle.cvss_metric.specs.v2.Table.{Value, spelling_of, printed, mandatory}
 
 -- the vector's value for a metric
 abbrev pub value_at : Vector → (kind : MetricType) → Option (Value kind)

@@ -1,10 +1,10 @@
 -- The weights of the CVSS v2 guide, 3.2, in thousandths.
 use Rattle.std.specs.Prelude.{ℕ, option_map, unwrap_or}
-use Rattle.cvss_name.specs.declared.v2.MetricType.{MetricType}
-use Rattle.cvss_name.specs.declared.v2.MetricType.TheVariants.{A, AC, AV, Au, C, I, E, RL, RC, CDP, TD, CR, IR, AR}
+use Rattle.cvss_base.specs.declared.v2.MetricType.{MetricType}
+use Rattle.cvss_base.specs.declared.v2.MetricType.TheVariants.{A, AC, AV, Au, C, I, E, RL, RC, CDP, TD, CR, IR, AR}
 use Rattle.cvss_v2.specs.declared.vector.Vector.{Vector}
-use Rattle.cvss_v2_score.specs.declared.weights.Weights.{Weights}
-use Rattle.cvss_v2_metric.specs.Table.{weight_of, absent_weight}
+use Rattle.cvss_score.specs.declared.v2.weights.Weights.{Weights}
+use Rattle.cvss_metric.specs.v2.Table.{weight_of, absent_weight}
 use Rattle.cvss_v2.specs.Vector.{value_at}
 
 -- the weight of a vector's metric

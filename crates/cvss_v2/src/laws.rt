@@ -2,12 +2,12 @@
 //! needs a law calls it.
 
 ghost use Rattle.std.specs.Prelude.{◌≡◌, None};
-ghost use Rattle.cvss_grammar.specs.Equality.{EqualsByValue, ClonesByValue, ClonesAlways};
-ghost use Rattle.cvss_name.specs.declared.v2.MetricType.{MetricType};
+ghost use Rattle.cvss_base.specs.Equality.{EqualsByValue, ClonesByValue, ClonesAlways};
+ghost use Rattle.cvss_base.specs.declared.v2.MetricType.{MetricType};
 ghost use Rattle.cvss_v2.specs.Vector.{value_at};
 
 use crate::{Score, Vector};
-pub use cvss_v2_score::laws::scores_compare_as_counts;
+pub use cvss_score::v2::laws::scores_compare_as_counts;
 
 /// Two vectors are equal exactly if they are one; a clone is the vector, and the default vector has
 /// no metric.

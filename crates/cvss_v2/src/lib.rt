@@ -4,5 +4,5 @@
 pub mod laws;
 mod vector;
 
-pub use cvss_v2_score::Score;
+pub use cvss_score::v2::Score;
 pub use vector::{Metrics, Vector};

@@ -13,19 +13,19 @@ mod sight;
 mod units;
 mod weighing;
 
-use cvss_base::refusing::vector_of;
-use cvss_name::Error;
+use cvss_text::refusing::vector_of;
+use cvss_base::Error;
 use cvss_text::print::same_components;
 use cvss_text::walk::read_vector;
-use cvss_v2_metric::base::{
+use cvss_metric::v2::base::{
     AccessComplexity, AccessVector, Authentication, AvailabilityImpact, ConfidentialityImpact,
     IntegrityImpact,
 };
-use cvss_v2_metric::environmental::{
+use cvss_metric::v2::environmental::{
     AvailabilityRequirement, CollateralDamagePotential, ConfidentialityRequirement,
     IntegrityRequirement, TargetDistribution,
 };
-use cvss_v2_metric::temporal::{Exploitability, RemediationLevel, ReportConfidence};
+use cvss_metric::v2::temporal::{Exploitability, RemediationLevel, ReportConfidence};
 pub use listing::Metrics;
 use std::alloc::Global;
 
@@ -52,12 +52,12 @@ pub struct Vector {
 
 impl Vector {
     ghost use Rattle.std.specs.Str.{IsUtf8};
-    ghost use Rattle.cvss_grammar.specs.Refusal.{Refusal, IsFirstRefusal};
-    ghost use Rattle.cvss_name.specs.Told.{Tells, TellsFirst};
-    ghost use Rattle.cvss_name.specs.V2Types.{v2_reason};
-    ghost use Rattle.cvss_grammar.specs.Version.{canonical_text, Denotes, IsComplete};
+    ghost use Rattle.cvss_base.specs.Refusal.{Refusal, IsFirstRefusal};
+    ghost use Rattle.cvss_base.specs.Told.{Tells, TellsFirst};
+    ghost use Rattle.cvss_base.specs.V2Types.{v2_reason};
+    ghost use Rattle.cvss_base.specs.Version.{canonical_text, Denotes, IsComplete};
     ghost use Rattle.cvss_text.specs.private.Walk.{IsEmpty};
-    ghost use Rattle.cvss_name.specs.declared.v2.MetricType.{MetricType};
+    ghost use Rattle.cvss_base.specs.declared.v2.MetricType.{MetricType};
     ghost use Rattle.cvss_v2.specs.Vector.{v2};
 
     /// The vector that a text denotes: its components in any order, each once, with slashes between

@@ -4,11 +4,11 @@ use Rattle.std.specs.Bool.{⊤}
 use Rattle.std.specs.List.{list_all}
 use Rattle.std.proofs.Common.{◌≡◌, ℕ, suc, ◌+◌, ◌-◌, ◌<◌, ◌≤◌, List, [], ◌∷◌, ◌++◌, length, get_or, take, drop, Bool, true, IsTrue, not, eqb, ◌||◌, bit_and, arith, refl, ap, subst, ◌∙◌, sym, inl, inr, take_all, drop-cons, length-drop, take-append-drop}
 use Rattle.std.proofs.lemmas.Bool.{and_parts, or_cases, eqb-true}
-use Rattle.cvss_number.proofs.TestLemmas.{all_below, below_passes}
-use Rattle.cvss_grammar.specs.Text.{raised}
-use Rattle.cvss_name.specs.V3Types.{name_of}
-use Rattle.cvss_name.specs.declared.v3.MetricType.{MetricType}
-use Rattle.cvss_name.specs.declared.v3.MetricType.TheVariants.{A}
+use Rattle.cvss_base.proofs.TestLemmas.{all_below, below_passes}
+use Rattle.cvss_base.specs.Text.{raised}
+use Rattle.cvss_base.specs.V3Types.{name_of}
+use Rattle.cvss_base.specs.declared.v3.MetricType.{MetricType}
+use Rattle.cvss_base.specs.declared.v3.MetricType.TheVariants.{A}
 use Rattle.cvss_text.specs.private.Walk.{IsCut}
 use Rattle.cvss_text.proofs.LawLemmas.{IsCut_named}
 use Rattle.cvss_v3.specs.Vector.{v3}

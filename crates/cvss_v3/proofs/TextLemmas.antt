@@ -1,12 +1,12 @@
 -- Vectors of two minor versions have two texts, and a version piece with components behind slashes is a canonical text.
 use Rattle.std.proofs.Common.{◌≡◌, ◌≢◌, ◌↔◌, ℕ, IsTrue, nat_eq, List, ◌++◌, codes, Option, Some, None, IfSome, subst, sym, ap, ◌∙◌}
 use Rattle.std.proofs.lemmas.Bool.Decides.{Decides-eqb}
-use Rattle.cvss_grammar.specs.Version.{numeral, canonical_text, version_piece, Denotes}
+use Rattle.cvss_base.specs.Version.{numeral, canonical_text, version_piece, Denotes}
 use Rattle.cvss_text.specs.private.Printing.{slashed_texts}
 use Rattle.cvss_text.proofs.CanonicalLemmas.{canonical_text-denotes}
 use Rattle.cvss_text.proofs.FrontLemmas.{fronts_same}
 use Rattle.cvss_text.proofs.PrintLemmas.{joined-slashed}
-use Rattle.cvss_v3_metric.specs.Table.{printed}
+use Rattle.cvss_metric.specs.v3.Table.{printed}
 use Rattle.cvss_v3.specs.declared.vector.Vector.{Vector}
 use Rattle.cvss_v3.specs.Vector.{v3}
 use Rattle.cvss_v3.specs.private.VectorLaws.{v3_is_lawful, v3_fronts_are_lawful, one_minor_version}

@@ -1,10 +1,10 @@
 -- A vector of CVSS v3.0 or v3.1 as a map from metrics to values: v3.1 specification, section 6.
 use Rattle.std.specs.Prelude.{true, [], ◌∷◌, ◌++◌, codes, Option}
-use Rattle.cvss_grammar.specs.Version.{numeral, Version, version_piece}
-use Rattle.cvss_name.specs.V3Types.{name_of}
-use Rattle.cvss_name.specs.declared.v3.MetricType.{MetricType}
-use Rattle.cvss_name.specs.declared.v3.MetricType.TheVariants.{A, AC, AV, C, I, PR, S, UI, E, RL, RC, CR, IR, AR, MAV, MAC, MPR, MUI, MS, MC, MI, MA}
-use Rattle.cvss_v3_metric.specs.Table.{Value, spelling_of, printed, blamed}
+use Rattle.cvss_base.specs.Version.{numeral, Version, version_piece}
+use Rattle.cvss_base.specs.V3Types.{name_of}
+use Rattle.cvss_base.specs.declared.v3.MetricType.{MetricType}
+use Rattle.cvss_base.specs.declared.v3.MetricType.TheVariants.{A, AC, AV, C, I, PR, S, UI, E, RL, RC, CR, IR, AR, MAV, MAC, MPR, MUI, MS, MC, MI, MA}
+use Rattle.cvss_metric.specs.v3.Table.{Value, spelling_of, printed, blamed}
 use Rattle.cvss_v3.specs.declared.vector.Vector.{Vector}
 
 -- the vector's value for a metric

@@ -1,10 +1,10 @@
 -- The weights of a vector: v3.1 specification, sections 2.1 to 4.2 (a metric that is Not Defined is
 -- skipped by the equations, a modified metric replaces its base metric) and 7.4.
 use Rattle.std.specs.Prelude.{ℕ, Option, Some, None}
-use Rattle.cvss_name.specs.declared.v3.MetricType.{MetricType}
-use Rattle.cvss_name.specs.declared.v3.MetricType.TheVariants.{A, AC, AV, C, I, PR, S, UI, E, RL, RC, CR, IR, AR, MAV, MAC, MPR, MUI, MS, MC, MI, MA}
-use Rattle.cvss_v3_score.specs.Weighing.{weight_at, privileges_weight, effective, effective_scope, is_changed}
-use Rattle.cvss_v3_score.specs.declared.weights.Weights.{Weights}
+use Rattle.cvss_base.specs.declared.v3.MetricType.{MetricType}
+use Rattle.cvss_base.specs.declared.v3.MetricType.TheVariants.{A, AC, AV, C, I, PR, S, UI, E, RL, RC, CR, IR, AR, MAV, MAC, MPR, MUI, MS, MC, MI, MA}
+use Rattle.cvss_score.specs.v3.Weighing.{weight_at, privileges_weight, effective, effective_scope, is_changed}
+use Rattle.cvss_score.specs.declared.v3.weights.Weights.{Weights}
 use Rattle.cvss_v3.specs.declared.vector.Vector.{Vector}
 
 -- the weights of a vector's metrics

@@ -3,8 +3,8 @@
 
 ghost use Rattle.std.specs.Prelude.{◌≡◌, ℤ, pos, Some, None};
 ghost use Rattle.std.specs.Ordering.{int_cmp};
-ghost use Rattle.cvss_grammar.specs.Equality.{EqualsByValue, ClonesByValue, ClonesAlways};
-ghost use Rattle.cvss_name.specs.declared.v3.MetricType.{MetricType};
+ghost use Rattle.cvss_base.specs.Equality.{EqualsByValue, ClonesByValue, ClonesAlways};
+ghost use Rattle.cvss_base.specs.declared.v3.MetricType.{MetricType};
 ghost use Rattle.cvss_v3.specs.Vector.{value_at};
 
 use crate::{Score, Vector};

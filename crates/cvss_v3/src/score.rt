@@ -1,16 +1,14 @@
 //! A score of CVSS v3.
 
 ghost use Rattle.std.specs.Prelude.{◌≡◌, ◌≤◌, ◌*ℤ◌, ◌^◌, ℤ, pos, Some};
-ghost use Rattle.cvss_number.specs.Exact.{of_count, IsWithinLimit};
+ghost use Rattle.cvss_base.specs.Exact.{of_count, IsWithinLimit};
 ghost use Rattle.cvss_base.specs.Rating.{rating_of_score};
-ghost use Rattle.cvss_number.specs.Tenths.{score_text, IsInTenths, IsFromZeroToTen};
-ghost use Rattle.cvss_v3_score.specs.Scores.{IsRounded};
+ghost use Rattle.cvss_base.specs.Tenths.{score_text, IsInTenths, IsFromZeroToTen};
+ghost use Rattle.cvss_score.specs.v3.Scores.{IsRounded};
 
-use cvss_base::severity_of_score;
-use cvss_name::Severity;
-use cvss_number::{OneDecimal, TENTH};
-use cvss_v3_score::Rules;
-use cvss_v3_score::rounding::round_count;
+use cvss_base::{OneDecimal, Severity, TENTH, severity_of_score};
+use cvss_score::v3::Rules;
+use cvss_score::v3::rounding::round_count;
 use std::fmt;
 use std::marker::Model;
 

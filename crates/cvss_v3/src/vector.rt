@@ -12,19 +12,19 @@ mod scores;
 mod sight;
 mod units;
 
-use cvss_base::refusing::vector_behind;
-use cvss_name::Error;
+use cvss_text::refusing::vector_behind;
+use cvss_base::Error;
 use cvss_text::front::read_behind;
 use cvss_text::print::same_components;
-use cvss_v3_metric::base::{
+use cvss_metric::v3::base::{
     AttackComplexity, AttackVector, Availability, Confidentiality, Integrity, PrivilegesRequired,
     Scope, UserInteraction,
 };
-use cvss_v3_metric::environmental::{
+use cvss_metric::v3::environmental::{
     AvailabilityRequirement, ConfidentialityRequirement, IntegrityRequirement, Modified,
     ModifiedScope,
 };
-use cvss_v3_metric::temporal::{ExploitCodeMaturity, RemediationLevel, ReportConfidence};
+use cvss_metric::v3::temporal::{ExploitCodeMaturity, RemediationLevel, ReportConfidence};
 pub use listing::Metrics;
 use std::alloc::Global;
 
@@ -60,11 +60,11 @@ pub struct Vector {
 
 impl Vector {
     ghost use Rattle.std.specs.Str.{IsUtf8};
-    ghost use Rattle.cvss_grammar.specs.Refusal.{Refusal, IsFirstRefusalBehind};
-    ghost use Rattle.cvss_name.specs.Told.{Tells, TellsFirst};
-    ghost use Rattle.cvss_name.specs.V3Types.{v3_reason};
-    ghost use Rattle.cvss_grammar.specs.Version.{canonical_text, Denotes, IsWellFormed};
-    ghost use Rattle.cvss_name.specs.declared.v3.MetricType.{MetricType};
+    ghost use Rattle.cvss_base.specs.Refusal.{Refusal, IsFirstRefusalBehind};
+    ghost use Rattle.cvss_base.specs.Told.{Tells, TellsFirst};
+    ghost use Rattle.cvss_base.specs.V3Types.{v3_reason};
+    ghost use Rattle.cvss_base.specs.Version.{canonical_text, Denotes, IsWellFormed};
+    ghost use Rattle.cvss_base.specs.declared.v3.MetricType.{MetricType};
     ghost use Rattle.cvss_v3.specs.Vector.{v3};
 
     /// The vector that a text denotes: `CVSS:3.0` or `CVSS:3.1` and then, each behind a slash, its

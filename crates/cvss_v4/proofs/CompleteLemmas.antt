@@ -1,6 +1,6 @@
 -- A vector is complete where it lacks no mandatory metric.
 use Rattle.std.proofs.Common.{◌≡◌, ◌↔◌, Bool, true, false, not, Option, Some, None, is_some, IsSome, IsTrue, refl, sym}
-use Rattle.cvss_grammar.specs.Version.{Version, IsComplete}
+use Rattle.cvss_base.specs.Version.{Version, IsComplete}
 use Rattle.cvss_text.specs.private.Walk.{first_missing}
 use Rattle.cvss_text.proofs.MissingLemmas.{LacksFirst-from, IsComplete-from, Contains-missing}
 

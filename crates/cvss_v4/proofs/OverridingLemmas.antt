@@ -2,15 +2,15 @@
 use Rattle.std.proofs.Common.{◌≡◌, true, true≢false, inl, inr, ℕ, ◌+◌, ◌<◌, Option, List, [], ◌∷◌, ◌++◌, codes, length, IsSome, Contains, below_more, refl, sym, ap, ◌∙◌, subst, arith}
 use Rattle.std.specs.Option.{option_or}
 use Rattle.std.proofs.lemmas.List.Elements.{All-contains, filter_passes}
-use Rattle.cvss_grammar.specs.Refusal.{Refusal, BadComponent, Repeated, piece_at, name_at, FaultAt}
-use Rattle.cvss_grammar.specs.Text.{IsComponent, name_part}
-use Rattle.cvss_name.specs.Groups.{same_group}
-use Rattle.cvss_name.specs.V4Types.{name_of, group_of, declared}
-use Rattle.cvss_grammar.specs.Version.{numeral, read, version_piece, IsComplete}
+use Rattle.cvss_base.specs.Refusal.{Refusal, BadComponent, Repeated, piece_at, name_at, FaultAt}
+use Rattle.cvss_base.specs.Text.{IsComponent, name_part}
+use Rattle.cvss_base.specs.Groups.{same_group}
+use Rattle.cvss_base.specs.V4Types.{name_of, group_of, declared}
+use Rattle.cvss_base.specs.Version.{numeral, read, version_piece, IsComplete}
 use Rattle.cvss_text.specs.private.Walk.{HasNoValue, IsFaultOf}
-use Rattle.cvss_name.specs.declared.group.MetricGroup.{MetricGroup}
-use Rattle.cvss_name.specs.declared.group.MetricGroup.TheVariants.{Base, Environmental}
-use Rattle.cvss_name.specs.declared.v4.MetricType.{MetricType}
+use Rattle.cvss_base.specs.declared.group.MetricGroup.{MetricGroup}
+use Rattle.cvss_base.specs.declared.group.MetricGroup.TheVariants.{Base, Environmental}
+use Rattle.cvss_base.specs.declared.v4.MetricType.{MetricType}
 use Rattle.cvss_text.proofs.ComponentLemmas.{piece_held}
 use Rattle.cvss_text.proofs.DenotesLemmas.{no_fault_held, vectors_same}
 use Rattle.cvss_text.proofs.JoinLemmas.{piece_is_component}
@@ -18,7 +18,7 @@ use Rattle.cvss_text.proofs.LawLemmas.{names_differ}
 use Rattle.cvss_text.proofs.RefusalLemmas.{same_place, faults_same}
 use Rattle.cvss_text.proofs.WalkLemmas.{fault_at, name_from, AreComponentsOf-all, HasRead-none, HasRead-more}
 use Rattle.cvss_v4.proofs.CompleteLemmas.{none_is_none}
-use Rattle.cvss_v4_metric.specs.Table.{mandatory}
+use Rattle.cvss_metric.specs.v4.Table.{mandatory}
 use Rattle.cvss_v4.specs.Overriding.{AreOverrides, IsOverridden, NamesOther, Objection, OfOtherGroup, OfText, ObjectionAt, IsFirstObjection}
 use Rattle.cvss_v4.specs.private.OverridingSteps.{AddsOverride, IsObjectionTo, HasReadOverrides}
 use Rattle.cvss_v4.specs.Table.{Value, value_at}

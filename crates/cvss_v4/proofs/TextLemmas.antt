@@ -1,14 +1,14 @@
 -- The canonical text of a vector, and the vector that it denotes.
 use Rattle.std.proofs.Common.{◌≡◌, ◌≢◌, ◌↔◌, ℕ, IsTrue, nat_eq, List, [], ◌∷◌, ◌++◌, codes, Option, Some, None, IfSome, refl, sym, ap, ◌∙◌, lit<, subst}
 use Rattle.std.proofs.lemmas.Bool.Decides.{Decides-eqb}
-use Rattle.cvss_grammar.specs.Version.{numeral, canonical_text, version_piece, Denotes, IsSupported, IsWellFormed}
+use Rattle.cvss_base.specs.Version.{numeral, canonical_text, version_piece, Denotes, IsSupported, IsWellFormed}
 use Rattle.cvss_text.specs.private.Printing.{slashed_texts}
 use Rattle.cvss_text.specs.private.Walk.{first_missing}
 use Rattle.cvss_text.proofs.CanonicalLemmas.{canonical_text-denotes}
 use Rattle.cvss_text.proofs.FrontLemmas.{fronts_same}
 use Rattle.cvss_text.proofs.MissingLemmas.{IsComplete-from}
 use Rattle.cvss_text.proofs.PrintLemmas.{joined-slashed}
-use Rattle.cvss_v4_metric.specs.Table.{printed}
+use Rattle.cvss_metric.specs.v4.Table.{printed}
 use Rattle.cvss_v4.specs.declared.vector.Vector.{Vector}
 use Rattle.cvss_v4.specs.Vector.{v4}
 use Rattle.cvss_v4.specs.private.VectorLaws.{v4_is_lawful, v4_fronts_are_lawful, one_minor_version}

@@ -1,16 +1,16 @@
 -- Which groups of metrics a vector has: CVSS v4.0 specification, section 1.3.
 use Rattle.std.specs.Prelude.{Bool, ◌&&◌, is_some}
 use Rattle.std.specs.List.{list_any}
-use Rattle.cvss_name.specs.Groups.{same_group}
-use Rattle.cvss_name.specs.V4Types.{group_of}
-use Rattle.cvss_name.specs.declared.group.MetricGroup.{MetricGroup}
-use Rattle.cvss_name.specs.declared.group.MetricGroup.TheVariants.{Threat, Environmental}
-use Rattle.cvss_v4_metric.specs.Table.{printed}
+use Rattle.cvss_base.specs.Groups.{same_group}
+use Rattle.cvss_base.specs.V4Types.{group_of}
+use Rattle.cvss_base.specs.declared.group.MetricGroup.{MetricGroup}
+use Rattle.cvss_base.specs.declared.group.MetricGroup.TheVariants.{Threat, Environmental}
+use Rattle.cvss_metric.specs.v4.Table.{printed}
 use Rattle.cvss_v4.specs.Table.{value_at}
 use Rattle.cvss_v4.specs.declared.vector.Vector.{Vector}
-use Rattle.cvss_v4_score.specs.declared.nomenclature.Nomenclature.{Nomenclature}
+use Rattle.cvss_score.specs.declared.v4.nomenclature.Nomenclature.{Nomenclature}
 -- what is said of nomenclatures without a vector is passed on
-pub use Rattle.cvss_v4_score.specs.Nomenclature.{text_of, nomenclature_with, named_score_text, TellsNoNomenclature}
+pub use Rattle.cvss_score.specs.v4.Nomenclature.{text_of, nomenclature_with, named_score_text, TellsNoNomenclature}
 
 -- the vector has a value for a metric of the group, be it that the metric is not defined
 abbrev pub has_group : Vector → MetricGroup → Bool

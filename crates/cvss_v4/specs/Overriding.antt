@@ -2,15 +2,15 @@
 use Rattle.std.specs.Prelude.{◌++◌, codes, ◌≡◌, ℕ, ◌<◌, List, length, IsSome}
 use Rattle.std.specs.Fmt.{decimal}
 use Rattle.std.specs.Option.{option_or}
-use Rattle.cvss_name.specs.ErrorText.{error_text}
-use Rattle.cvss_grammar.specs.Refusal.{Refusal, BadComponent, piece_at, name_at, FaultAt}
-use Rattle.cvss_grammar.specs.Text.{IsComponent}
-use Rattle.cvss_name.specs.Told.{Tells}
-use Rattle.cvss_name.specs.V4Types.{v4_reason, name_of, group_of}
-use Rattle.cvss_grammar.specs.Version.{AreComponentsOf}
-use Rattle.cvss_name.specs.declared.error.Error.{Error}
-use Rattle.cvss_name.specs.declared.group.MetricGroup.TheVariants.{Environmental}
-use Rattle.cvss_name.specs.declared.v4.MetricType.{MetricType}
+use Rattle.cvss_base.specs.ErrorText.{error_text}
+use Rattle.cvss_base.specs.Refusal.{Refusal, BadComponent, piece_at, name_at, FaultAt}
+use Rattle.cvss_base.specs.Text.{IsComponent}
+use Rattle.cvss_base.specs.Told.{Tells}
+use Rattle.cvss_base.specs.V4Types.{v4_reason, name_of, group_of}
+use Rattle.cvss_base.specs.Version.{AreComponentsOf}
+use Rattle.cvss_base.specs.declared.error.Error.{Error}
+use Rattle.cvss_base.specs.declared.group.MetricGroup.TheVariants.{Environmental}
+use Rattle.cvss_base.specs.declared.v4.MetricType.{MetricType}
 use Rattle.cvss_v4.specs.Table.{value_at}
 use Rattle.cvss_v4.specs.Vector.{v4}
 use Rattle.cvss_v4.specs.declared.vector.Vector.{Vector}

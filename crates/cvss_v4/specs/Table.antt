@@ -1,10 +1,10 @@
 -- The metrics of CVSS v4.0 with the types of their values: v4.0 specification, sections 2 (base), 3
 -- (threat), 4 (environmental) and 5 (supplemental).
 use Rattle.std.specs.Prelude.{ℕ, List, Option}
-use Rattle.cvss_name.specs.declared.v4.MetricType.{MetricType}
-use Rattle.cvss_name.specs.declared.v4.MetricType.TheVariants as metric
-use Rattle.cvss_v4_metric.specs.Ranks as place
-use Rattle.cvss_v4_metric.specs.Table.{spelling_at}
+use Rattle.cvss_base.specs.declared.v4.MetricType.{MetricType}
+use Rattle.cvss_base.specs.declared.v4.MetricType.TheVariants as metric
+use Rattle.cvss_metric.specs.v4.Ranks as place
+use Rattle.cvss_metric.specs.v4.Table.{spelling_at}
 use Rattle.cvss_v4.specs.declared.vector.Vector.{Vector}
 
 -- a type of values, the place of each among the spellings of its metric, and the value that a vector has

@@ -2,15 +2,15 @@
 //! needs a law calls it.
 
 ghost use Rattle.std.specs.Prelude.{◌≡◌, ◌↔◌, IsTrue, None};
-ghost use Rattle.cvss_grammar.specs.Equality.{EqualsByValue, ClonesByValue, ClonesAlways};
-ghost use Rattle.cvss_name.specs.declared.v4.MetricType.{MetricType};
+ghost use Rattle.cvss_base.specs.Equality.{EqualsByValue, ClonesByValue, ClonesAlways};
+ghost use Rattle.cvss_base.specs.declared.v4.MetricType.{MetricType};
 ghost use Rattle.cvss_v4.specs.laws.OverridingLaws.{AreAlike};
 ghost use Rattle.cvss_v4.specs.Table.{value_at};
 ghost use Rattle.cvss_v4.specs.declared.vector.Vector.{Vector};
 ghost use Rattle.cvss_v4.specs.declared.vector.overriding.OverrideError.{OverrideError};
 
 use crate::vector::{OverrideError, Vector};
-use cvss_v4_score::{Nomenclature, Score};
+use cvss_score::v4::{Nomenclature, Score};
 
 /// Two vectors, scores or nomenclatures are equal exactly if they are one value, and two errors of
 /// overrides exactly if they are of one kind, at one place, and tell the same.
@@ -21,8 +21,8 @@ pub fn equality_is_that_of_values()
     ensures override_error { (x y : OverrideError) → IsTrue (⟦<OverrideError as PartialEq>⟧.eq x y)
         ↔ AreAlike x y }
 {
-    cvss_name::laws::equality_is_that_of_values();
-    cvss_v4_score::laws::equality_is_that_of_values();
+    cvss_base::laws::equality_is_that_of_values();
+    cvss_score::v4::laws::equality_is_that_of_values();
 }
 
 /// A clone of a vector, a score or a nomenclature is that value, and a clone of an error of overrides
@@ -35,8 +35,8 @@ pub fn clones_are_equal()
         → ⟦<OverrideError as Clone>⟧.is_clone x clone
         → AreAlike x clone }
 {
-    cvss_name::laws::clones_are_equal();
-    cvss_v4_score::laws::clones_are_equal();
+    cvss_base::laws::clones_are_equal();
+    cvss_score::v4::laws::clones_are_equal();
 }
 
 /// To clone a vector, a score or a nomenclature takes no memory, so it is never refused.

@@ -4,6 +4,6 @@
 pub mod laws;
 mod vector;
 
-pub use cvss_v4_score::scoring::account::Account;
-pub use cvss_v4_score::{Nomenclature, Score};
+pub use cvss_score::v4::scoring::account::Account;
+pub use cvss_score::v4::{Nomenclature, Score};
 pub use vector::{Metrics, OverrideError, Vector};

@@ -12,12 +12,12 @@ mod refusing;
 mod scores;
 mod sight;
 
-use cvss_base::refusing::vector_behind;
-use cvss_name::Error;
+use cvss_text::refusing::vector_behind;
+use cvss_base::Error;
 use cvss_text::front::read_behind;
 use cvss_text::print::same_components;
 use cvss_text::walk::Components;
-use cvss_v4_metric::{base, environmental, supplemental, threat};
+use cvss_metric::v4::{base, environmental, supplemental, threat};
 pub use listing::Metrics;
 pub use overriding::OverrideError;
 use std::alloc::Global;
@@ -64,11 +64,11 @@ pub struct Vector {
 
 impl Vector {
     ghost use Rattle.std.specs.Str.{IsUtf8};
-    ghost use Rattle.cvss_grammar.specs.Refusal.{Refusal, IsFirstRefusalBehind};
-    ghost use Rattle.cvss_name.specs.Told.{Tells, TellsFirst};
-    ghost use Rattle.cvss_name.specs.V4Types.{v4_reason};
-    ghost use Rattle.cvss_grammar.specs.Version.{canonical_text, Denotes, IsComplete, IsWellFormed};
-    ghost use Rattle.cvss_name.specs.declared.v4.MetricType.{MetricType};
+    ghost use Rattle.cvss_base.specs.Refusal.{Refusal, IsFirstRefusalBehind};
+    ghost use Rattle.cvss_base.specs.Told.{Tells, TellsFirst};
+    ghost use Rattle.cvss_base.specs.V4Types.{v4_reason};
+    ghost use Rattle.cvss_base.specs.Version.{canonical_text, Denotes, IsComplete, IsWellFormed};
+    ghost use Rattle.cvss_base.specs.declared.v4.MetricType.{MetricType};
     ghost use Rattle.cvss_v4.specs.Vector.{v4};
 
     /// The vector that a text denotes: `CVSS:4.0` and then, each behind a slash, its components,

@@ -1,13 +1,13 @@
 -- The rows of words are those of the metrics' values, checked by computing.
 use Rattle.std.proofs.Common.{map, refl, rules}
-use Rattle.cvss_name.specs.declared.v2.MetricType as kind_v2
-use Rattle.cvss_name.specs.declared.v2.MetricType.TheVariants as metric_v2
-use Rattle.cvss_name.specs.declared.v3.MetricType as kind_v3
-use Rattle.cvss_name.specs.declared.v3.MetricType.TheVariants as metric_v3
-use Rattle.cvss_name.specs.declared.v4.MetricType as kind_v4
-use Rattle.cvss_v2_metric.specs.Table as table_v2
-use Rattle.cvss_v3_metric.specs.Table as table_v3
-use Rattle.cvss_v4_metric.specs.Table as table_v4
+use Rattle.cvss_base.specs.declared.v2.MetricType as kind_v2
+use Rattle.cvss_base.specs.declared.v2.MetricType.TheVariants as metric_v2
+use Rattle.cvss_base.specs.declared.v3.MetricType as kind_v3
+use Rattle.cvss_base.specs.declared.v3.MetricType.TheVariants as metric_v3
+use Rattle.cvss_base.specs.declared.v4.MetricType as kind_v4
+use Rattle.cvss_metric.specs.v2.Table as table_v2
+use Rattle.cvss_metric.specs.v3.Table as table_v3
+use Rattle.cvss_metric.specs.v4.Table as table_v4
 use Rattle.cvss_words.specs.Words.{AreRowsOf}
 use Rattle.cvss_words.specs.WordsV2 as v2
 use Rattle.cvss_words.specs.WordsV3 as v3

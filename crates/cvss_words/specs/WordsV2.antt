@@ -1,8 +1,8 @@
 -- The members and words of FIRST's JSON schema of CVSS v2, metric by metric in the order of the guide,
 -- section 2.
 use Rattle.std.specs.Prelude.{ℕ, List, [], ◌∷◌, codes}
-use Rattle.cvss_name.specs.declared.v2.MetricType.{MetricType}
-use Rattle.cvss_name.specs.declared.v2.MetricType.TheVariants.{AV, AC, Au, C, I, A, E, RL, RC, CDP, TD, CR, IR, AR}
+use Rattle.cvss_base.specs.declared.v2.MetricType.{MetricType}
+use Rattle.cvss_base.specs.declared.v2.MetricType.TheVariants.{AV, AC, Au, C, I, A, E, RL, RC, CDP, TD, CR, IR, AR}
 use Rattle.cvss_words.specs.Words.{Row, not_defined}
 
 -- words that several metrics have

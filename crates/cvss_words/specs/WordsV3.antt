@@ -1,8 +1,8 @@
 -- The members and words of FIRST's JSON schemas of CVSS v3.0 and v3.1, metric by metric in the order of
 -- the v3.1 specification, sections 2 to 4.
 use Rattle.std.specs.Prelude.{ℕ, List, [], ◌∷◌, codes}
-use Rattle.cvss_name.specs.declared.v3.MetricType.{MetricType}
-use Rattle.cvss_name.specs.declared.v3.MetricType.TheVariants.{AV, AC, PR, UI, S, C, I, A, E, RL, RC, CR, IR, AR, MAV, MAC, MPR, MUI, MS, MC, MI, MA}
+use Rattle.cvss_base.specs.declared.v3.MetricType.{MetricType}
+use Rattle.cvss_base.specs.declared.v3.MetricType.TheVariants.{AV, AC, PR, UI, S, C, I, A, E, RL, RC, CR, IR, AR, MAV, MAC, MPR, MUI, MS, MC, MI, MA}
 use Rattle.cvss_words.specs.Words.{Row, not_defined}
 
 -- words that several metrics have

@@ -1,8 +1,8 @@
 -- The members and words of FIRST's JSON schema of CVSS v4.0, metric by metric in the order of the v4.0
 -- specification, sections 2 to 5.
 use Rattle.std.specs.Prelude.{ℕ, List, [], ◌∷◌, ◌++◌, codes}
-use Rattle.cvss_name.specs.declared.v4.MetricType.{MetricType}
-use Rattle.cvss_name.specs.declared.v4.MetricType.TheVariants as metric
+use Rattle.cvss_base.specs.declared.v4.MetricType.{MetricType}
+use Rattle.cvss_base.specs.declared.v4.MetricType.TheVariants as metric
 use Rattle.cvss_words.specs.Words.{Row, not_defined}
 
 -- words that several metrics have

@@ -1,12 +1,12 @@
 //! Laws of the tables, each the contract of a function that does nothing.
 
 ghost use Rattle.std.specs.Prelude.{map};
-ghost use Rattle.cvss_name.specs.declared.v2.MetricType as kind_v2;
-ghost use Rattle.cvss_name.specs.declared.v3.MetricType as kind_v3;
-ghost use Rattle.cvss_name.specs.declared.v4.MetricType as kind_v4;
-ghost use Rattle.cvss_v2_metric.specs.Table as table_v2;
-ghost use Rattle.cvss_v3_metric.specs.Table as table_v3;
-ghost use Rattle.cvss_v4_metric.specs.Table as table_v4;
+ghost use Rattle.cvss_base.specs.declared.v2.MetricType as kind_v2;
+ghost use Rattle.cvss_base.specs.declared.v3.MetricType as kind_v3;
+ghost use Rattle.cvss_base.specs.declared.v4.MetricType as kind_v4;
+ghost use Rattle.cvss_metric.specs.v2.Table as table_v2;
+ghost use Rattle.cvss_metric.specs.v3.Table as table_v3;
+ghost use Rattle.cvss_metric.specs.v4.Table as table_v4;
 ghost use Rattle.cvss_words.specs.Words.{AreRowsOf, HaveOneName};
 ghost use Rattle.cvss_words.specs.WordsV2 as v2;
 ghost use Rattle.cvss_words.specs.WordsV3 as v3;

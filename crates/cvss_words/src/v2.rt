@@ -9,7 +9,7 @@ use crate::rows::{
     ADJACENT_NETWORK, CONFIRMED, FUNCTIONAL, HIGH, LOCAL, LOW, MEDIUM, NETWORK, NONE, Row,
     UNAVAILABLE, UNPROVEN, WORKAROUND, word_in,
 };
-use cvss_name::v2::MetricType;
+use cvss_base::v2::MetricType;
 
 // Rows that this version alone has.
 const MULTIPLE: Row = ("M", "MULTIPLE");

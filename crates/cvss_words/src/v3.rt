@@ -8,7 +8,7 @@ use crate::rows::{
     ADJACENT_NETWORK, CONFIRMED, FUNCTIONAL, HIGH, LOCAL, LOW, MEDIUM, NETWORK, NONE, PHYSICAL,
     PROOF_OF_CONCEPT, Row, UNAVAILABLE, UNPROVEN, WORKAROUND, X, word_in,
 };
-use cvss_name::v3::MetricType;
+use cvss_base::v3::MetricType;
 
 // Rows that this version alone has.
 const REQUIRED: Row = ("R", "REQUIRED");

@@ -7,7 +7,7 @@ ghost use Rattle.cvss_words.specs.WordsV4.{entry_of, member_of, words_of};
 use crate::rows::{
     HIGH, LOCAL, LOW, MEDIUM, NETWORK, NONE, PHYSICAL, PROOF_OF_CONCEPT, Row, X, word_in,
 };
-use cvss_name::v4::MetricType;
+use cvss_base::v4::MetricType;
 
 // Rows that this version alone has.
 const ADJACENT: Row = ("A", "ADJACENT");

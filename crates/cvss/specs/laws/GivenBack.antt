@@ -1,6 +1,6 @@
 -- When a vector of any version is given back by its own text.
 use Rattle.std.specs.Prelude.{◌≡◌, ◌≢◌, ℕ, []}
-use Rattle.cvss_grammar.specs.Version.{components_of, IsComplete, IsWellFormed}
+use Rattle.cvss_base.specs.Version.{components_of, IsComplete, IsWellFormed}
 use Rattle.cvss_v2.specs.Vector.{v2}
 use Rattle.cvss_v3.specs.Vector.{v3}
 use Rattle.cvss_v3.specs.declared.vector.Vector.{Vector}

@@ -3,12 +3,12 @@
 ghost use Rattle.std.specs.Prelude.{◌≡◌};
 ghost use Rattle.cvss_account.specs.Near.{AreNearest, count_of};
 ghost use Rattle.cvss_account.specs.NumbersV2.{AreBaseNumbers, AreEnvironmentalNumbers, AreTemporalNumbers};
-ghost use Rattle.cvss_number.specs.Exact.{IsWithinLimit};
-ghost use Rattle.cvss_number.specs.Tenths.{IsFromZeroToTen, IsInTenths};
+ghost use Rattle.cvss_base.specs.Exact.{IsWithinLimit};
+ghost use Rattle.cvss_base.specs.Tenths.{IsFromZeroToTen, IsInTenths};
 ghost use Rattle.cvss_v2.specs.Weights.{weights_of};
 
 use crate::near::ten_millionths;
-use cvss_number::tenths::tenths_of;
+use cvss_base::tenths::tenths_of;
 use cvss_v2::{Score, Vector};
 
 /// The numbers of the base score in ten millionths, and the score in tenths.

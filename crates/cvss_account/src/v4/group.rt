@@ -3,7 +3,7 @@
 ghost use Rattle.std.specs.Prelude.{◌≡◌, IfOk, OnOk, string_bytes};
 ghost use Rattle.cvss_account.specs.V4.{group_value, next_members};
 ghost use Rattle.cvss_record.specs.Objects.{with_members};
-ghost use Rattle.cvss_v4_score.specs.Account.{IsInRange};
+ghost use Rattle.cvss_score.specs.v4.Account.{IsInRange};
 ghost use Rattle.serde_json.specs.View.{members_view, view};
 
 use super::class_text;

@@ -2,7 +2,7 @@
 use Rattle.std.specs.Prelude.{◌≡◌, ℕ, List, Result, Ok, OnOk, IfOk, IfErr, IsErrAnd}
 use Rattle.std.specs.Str.{IsUtf8}
 use Rattle.cvss_text.specs.private.Walk as walk
-use Rattle.cvss_grammar.specs.Refusal.{Refusal}
+use Rattle.cvss_base.specs.Refusal.{Refusal}
 use Rattle.cvss_any.specs.Dispatch as spec
 use Rattle.cvss_any.specs.declared.metric_type.MetricType.{MetricType}
 use Rattle.cvss_v2.specs.Vector.{v2}

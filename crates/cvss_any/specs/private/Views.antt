@@ -1,7 +1,7 @@
 -- What the private code of routing holds, in the words of its page.
 use Rattle.std.specs.Prelude.{◌≡◌, ℕ, List, ◌∷◌, codes, ⊤}
 use Rattle.std.specs.Str.{IsUtf8}
-use Rattle.cvss_grammar.specs.Version.{version_piece}
+use Rattle.cvss_base.specs.Version.{version_piece}
 use Rattle.cvss_text.specs.private.Pieces.{pieces_left}
 use Rattle.cvss_any.specs.Route as spec
 use Rattle.cvss_any.specs.declared.route.NoVersion.{NoVersion}

@@ -1,7 +1,7 @@
 -- What a vector is that has another's defined metrics, and no others.
 use Rattle.std.specs.Prelude.{◌≡◌, ◌≢◌, ℕ, List, []}
 use Rattle.std.specs.Option.{option_and_then}
-use Rattle.cvss_grammar.specs.Version.{Version, canonical_text, components_of, held}
+use Rattle.cvss_base.specs.Version.{Version, canonical_text, components_of, held}
 use Rattle.cvss_bytes.specs.Defined.{if_defined, text_less}
 
 -- the second vector has the first's defined metrics, and no others

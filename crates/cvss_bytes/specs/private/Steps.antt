@@ -3,8 +3,8 @@ use Rattle.std.specs.Prelude.{◌≡◌, ◌≢◌, ℕ, ◌<◌, ◌≤◌, Lis
 use Rattle.cvss.specs.Answers.{rating_text}
 use Rattle.cvss.specs.Dispatch.{DenotesCvss}
 use Rattle.cvss.specs.CvssType.{Cvss}
-use Rattle.cvss_grammar.specs.Version.{Version}
-use Rattle.cvss_name.specs.declared.severity.Severity.{Severity}
+use Rattle.cvss_base.specs.Version.{Version}
+use Rattle.cvss_base.specs.declared.severity.Severity.{Severity}
 use Rattle.cvss_text.specs.private.Printing.{slashed}
 use Rattle.cvss_bytes.specs.Buffer.{HasPut}
 use Rattle.cvss_bytes.specs.Defined.{defined_component}

@@ -1,11 +1,11 @@
 -- Of two numbers in order, their nearest even tenths are in this order. So equal numbers have one.
 use Rattle.std.proofs.Common.{◌≡◌, ℤ, pos, ◌+ℤ◌, arith, lit<}
 use Rattle.std.proofs.lemmas.Int.{ints, by_lt_z}
-use Rattle.cvss_number.specs.Exact.{◌⊑◌}
-use Rattle.cvss_number.specs.Rounding.{half_below, half_above}
-use Rattle.cvss_number.specs.laws.Rounding.{IsEven, IsNearestEven, RoundsInOrder, RoundsOneWay}
-use Rattle.cvss_number.proofs.ExactLemmas.{equal_from_at_most, at_most_trans}
-use Rattle.cvss_number.proofs.RoundingLemmas.{unique_if_ordered}
+use Rattle.cvss_base.specs.Exact.{◌⊑◌}
+use Rattle.cvss_base.specs.Rounding.{half_below, half_above}
+use Rattle.cvss_base.specs.laws.Rounding.{IsEven, IsNearestEven, RoundsInOrder, RoundsOneWay}
+use Rattle.cvss_base.proofs.ExactLemmas.{equal_from_at_most, at_most_trans}
+use Rattle.cvss_base.proofs.RoundingLemmas.{unique_if_ordered}
 
 -- two tenths in a row are not both even
 next_not_even : (r s : ℤ) → IsEven r → IsEven s → ¬ (r ≡ s +ℤ pos 1)

@@ -1,9 +1,9 @@
 -- Roundings that the specifications print, and some at their ties, so that a wrong rule does not check.
 use Rattle.std.proofs.Common.{ℤ, pos, negsuc, ◌^◌, arith, rules}
 use Rattle.std.proofs.lemmas.Int.{ints}
-use Rattle.cvss_number.specs.Exact.{Exact, ratio, ◌over◌, whole, ◌⊕◌, ◌⊗◌, ◌⊑◌}
-use Rattle.cvss_number.specs.Rounding.{IsRoundedV2, IsRoundedV30, IsFloor, IsRoundedV30, IsRoundedV31, IsRoundedV4}
-use Rattle.cvss_number.specs.laws.Rounding.{IsNearestEven}
+use Rattle.cvss_base.specs.Exact.{Exact, ratio, ◌over◌, whole, ◌⊕◌, ◌⊗◌, ◌⊑◌}
+use Rattle.cvss_base.specs.Rounding.{IsRoundedV2, IsRoundedV30, IsFloor, IsRoundedV30, IsRoundedV31, IsRoundedV4}
+use Rattle.cvss_base.specs.laws.Rounding.{IsNearestEven}
 
 -- v3.0 specification, 8.1: Round up (4.02) is 4.1, and Round up (4.00) is 4.0
 pub v30_examples : IsRoundedV30 (402 over 100) (pos 41) × IsRoundedV30 (400 over 100) (pos 40)

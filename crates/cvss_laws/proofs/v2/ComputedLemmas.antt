@@ -7,14 +7,14 @@ use Rattle.std.specs.Prelude.{unsigned_abs}
 use Rattle.std.proofs.Common.{◌≡◌, ◌≢◌, ℕ, ◌^◌, ◌<◌, ℤ, pos, ◌+ℤ◌, ◌-ℤ◌, Bool, true, ◌&&◌, ◌||◌, eqb, ltb, not, inl, inr, arith, refl, rules, subst, lit<}
 use Rattle.std.proofs.lemmas.Bool.{and_parts, or_cases, eqb-true, eqb-false, ltb-true, not-true}
 use Rattle.std.proofs.lemmas.Bool.Decides.{Decides-int_eq}
-use Rattle.cvss_number.specs.Exact.{Exact, ◌over◌, whole, thousandths, tenths, smaller}
-use Rattle.cvss_number.specs.Rounding.{IsNearestAway, IsRoundedV2}
-use Rattle.cvss_number.proofs.RoundingLemmas.{nearest_of, nearest_tenths, nearest_is, v2_tenths, v2_is}
-use Rattle.cvss_name.specs.declared.v2.MetricType.TheVariants.{A, C, I, E, RL, RC, CDP, TD, CR, IR, AR}
-use Rattle.cvss_v2_score.specs.Scores.{impact_of, impact, adjusted_impact, exploitability, base_number, temporal_number, environmental_number}
+use Rattle.cvss_base.specs.Exact.{Exact, ◌over◌, whole, thousandths, tenths, smaller}
+use Rattle.cvss_base.specs.Rounding.{IsNearestAway, IsRoundedV2}
+use Rattle.cvss_base.proofs.RoundingLemmas.{nearest_of, nearest_tenths, nearest_is, v2_tenths, v2_is}
+use Rattle.cvss_base.specs.declared.v2.MetricType.TheVariants.{A, C, I, E, RL, RC, CDP, TD, CR, IR, AR}
+use Rattle.cvss_score.specs.v2.Scores.{impact_of, impact, adjusted_impact, exploitability, base_number, temporal_number, environmental_number}
 use Rattle.cvss_v2.specs.declared.vector.Vector.{Vector}
 use Rattle.cvss_v2.specs.Weights.{weights_of}
-use Rattle.cvss_number.proofs.TestLemmas.{passes, passes_two, passes_three, all_below, below_passes}
+use Rattle.cvss_base.proofs.TestLemmas.{passes, passes_two, passes_three, all_below, below_passes}
 use Rattle.cvss_laws.proofs.v2.TableLemmas.{weights, weight_listed, weighted_impacts, weighted_listed, exploitabilities, exploitability_listed}
 
 -- so many tenths above -0.8, than which no adjusted base score is less

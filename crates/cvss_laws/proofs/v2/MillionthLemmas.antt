@@ -2,14 +2,14 @@
 use Rattle.std.specs.Prelude.{◌↔◌}
 use Rattle.std.specs.Int.{int_max}
 use Rattle.std.proofs.Common.{◌≡◌, ◌^◌, ℤ, pos, ◌*ℤ◌, ap, ◌∙◌, refl, sym, lit<}
-use Rattle.cvss_number.specs.Rounding.{IsNearestAway, IsRoundedV2}
-use Rattle.cvss_number.specs.laws.Rounding.{IsOneCount}
-use Rattle.cvss_number.proofs.RoundingLemmas.{v2-unique, nearest_away-unique, v2_tenths, v2_is, nearest_tenths, nearest_is}
+use Rattle.cvss_base.specs.Rounding.{IsNearestAway, IsRoundedV2}
+use Rattle.cvss_base.specs.laws.Rounding.{IsOneCount}
+use Rattle.cvss_base.proofs.RoundingLemmas.{v2-unique, nearest_away-unique, v2_tenths, v2_is, nearest_tenths, nearest_is}
 use Rattle.cvss_v2.specs.declared.vector.Vector.{Vector}
-use Rattle.cvss_v2_score.specs.Scores.{impact, adjusted_impact, exploitability, base_number, IsPublished, IsBaseBy, IsTemporalBy, IsEnvironmentalBy, IsBaseScore, IsTemporalScore, IsEnvironmentalScore, IsBaseScoreBy, IsTemporalScoreBy, IsEnvironmentalScoreBy}
+use Rattle.cvss_score.specs.v2.Scores.{impact, adjusted_impact, exploitability, base_number, IsPublished, IsBaseBy, IsTemporalBy, IsEnvironmentalBy, IsBaseScore, IsTemporalScore, IsEnvironmentalScore, IsBaseScoreBy, IsTemporalScoreBy, IsEnvironmentalScoreBy}
 use Rattle.cvss_v2.specs.Weights.{weights_of}
 use Rattle.cvss_laws.proofs.v2.ComputedLemmas.{above_least, place, base_is_alike, adjusted_base_is_alike, temporal_from, temporal_is_alike, environmental_from, environmental_is_alike}
-use Rattle.cvss_v2_score.proofs.UniqueLemmas.{base_once, temporal_once, environmental_once}
+use Rattle.cvss_score.proofs.v2_lemmas.UniqueLemmas.{base_once, temporal_once, environmental_once}
 
 -- what is published of the one number of tenths is published of another that gives the same
 published_as : (IsNumber IsOther : ℤ → Type 0) → IsOneCount IsNumber → (r s : ℤ) → IsNumber r → IsOther s

@@ -1,9 +1,9 @@
 -- The first example of the CVSS v2 guide, 3.3.1, so that a wrong equation does not check, and one that is not in the guide.
 use Rattle.std.proofs.Common.{pos, negsuc, refl, rules}
-use Rattle.cvss_number.specs.Exact.{◌over◌, ◌≈◌}
-use Rattle.cvss_number.specs.Rounding.{IsNearestAway}
-use Rattle.cvss_v2_score.specs.declared.weights.Weights.{Weights}
-use Rattle.cvss_v2_score.specs.Scores.{impact, exploitability, adjusted_impact, IsBase, IsTemporal, IsEnvironmental, IsEnvironmentalBy}
+use Rattle.cvss_base.specs.Exact.{◌over◌, ◌≈◌}
+use Rattle.cvss_base.specs.Rounding.{IsNearestAway}
+use Rattle.cvss_score.specs.declared.v2.weights.Weights.{Weights}
+use Rattle.cvss_score.specs.v2.Scores.{impact, exploitability, adjusted_impact, IsBase, IsTemporal, IsEnvironmental, IsEnvironmentalBy}
 
 -- CVE-2002-0392: AV:N/AC:L/Au:N/C:N/I:N/A:C/E:F/RL:OF/RC:C/CDP:H/TD:H/CR:M/IR:M/AR:H
 abbrev apache : Weights

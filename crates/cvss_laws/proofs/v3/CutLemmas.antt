@@ -3,18 +3,18 @@ use Rattle.std.specs.List.{list_all}
 use Rattle.std.proofs.Common.{◌≡◌, ℕ, ◌+◌, ◌*◌, ◌/◌, ◌^◌, ◌<◌, ◌≤◌, ℤ, pos, ◌-ℤ◌, ◌+ℤ◌, Bool, true, inl, inr, leb, arith, refl, lit<, subst, sym}
 use Rattle.std.proofs.lemmas.Int.{ints}
 use Rattle.std.proofs.lemmas.Bool.{leb-true}
-use Rattle.cvss_number.specs.Exact.{Exact, ratio, ◌over◌, whole, tenths, ◌⊕◌, ◌⊗◌, ◌≈◌, ◌⊑◌}
-use Rattle.cvss_number.specs.Rounding.{IsRoundedV31}
-use Rattle.cvss_number.proofs.ExactLemmas.{above_itself, at_most_trans, at_most_below, equal_at_most, equal_trans, scaled_at_most}
-use Rattle.cvss_number.proofs.TestLemmas.{passes_three, all_below, below_passes}
-use Rattle.cvss_v3_score.specs.Scores.{iss, exploitability, first_number, base_number, environmental_number, temporal_number}
-use Rattle.cvss_v3_score.specs.private.Weights.{exploit_code_maturities, remediation_levels, report_confidences}
-use Rattle.cvss_v3_score.specs.declared.rules.Rules.{Rules}
-use Rattle.cvss_v3_score.specs.declared.rules.Rules.TheVariants.{V30, V31}
-use Rattle.cvss_v3_score.proofs.CountLemmas.{AreParts, base_parts, modified_parts}
-use Rattle.cvss_v3_score.proofs.EqualLemmas.{impact_is, rounds_equal}
-use Rattle.cvss_v3_score.proofs.NumberLemmas.{number_of, bottom, own_bottom, equal, settled, own_rounded, none_equal}
-use Rattle.cvss_v3_score.proofs.RoundLemmas.{between_jumps, rounded_v31}
+use Rattle.cvss_base.specs.Exact.{Exact, ratio, ◌over◌, whole, tenths, ◌⊕◌, ◌⊗◌, ◌≈◌, ◌⊑◌}
+use Rattle.cvss_base.specs.Rounding.{IsRoundedV31}
+use Rattle.cvss_base.proofs.ExactLemmas.{above_itself, at_most_trans, at_most_below, equal_at_most, equal_trans, scaled_at_most}
+use Rattle.cvss_base.proofs.TestLemmas.{passes_three, all_below, below_passes}
+use Rattle.cvss_score.specs.v3.Scores.{iss, exploitability, first_number, base_number, environmental_number, temporal_number}
+use Rattle.cvss_score.specs.v3.private.Weights.{exploit_code_maturities, remediation_levels, report_confidences}
+use Rattle.cvss_score.specs.declared.v3.rules.Rules.{Rules}
+use Rattle.cvss_score.specs.declared.v3.rules.Rules.TheVariants.{V30, V31}
+use Rattle.cvss_score.proofs.v3_lemmas.CountLemmas.{AreParts, base_parts, modified_parts}
+use Rattle.cvss_score.proofs.v3_lemmas.EqualLemmas.{impact_is, rounds_equal}
+use Rattle.cvss_score.proofs.v3_lemmas.NumberLemmas.{number_of, bottom, own_bottom, equal, settled, own_rounded, none_equal}
+use Rattle.cvss_score.proofs.v3_lemmas.RoundLemmas.{between_jumps, rounded_v31}
 use Rattle.cvss_laws.specs.v3.FifthDecimals.{IsSameWhenCut}
 use Rattle.cvss_v3.specs.VectorWeights.{weights_of}
 use Rattle.cvss_v3.specs.declared.vector.Vector.{Vector}

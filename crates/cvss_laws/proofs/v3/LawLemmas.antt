@@ -2,18 +2,18 @@
 use Rattle.std.proofs.Common.{◌≡◌, ℕ, zero, suc, ◌*◌, ◌^◌, ◌<◌, ◌≤◌, ℤ, pos, negsuc, ◌≤ℤ◌, Bool, inl, inr, arith, refl, subst, lit<}
 use Rattle.std.proofs.lemmas.Int.{ints}
 use Rattle.std.proofs.Math.Nat.{mul-le-mul, le_refl}
-use Rattle.cvss_number.specs.Exact.{Exact, ◌over◌, whole, ◌⊑◌}
-use Rattle.cvss_number.proofs.ExactLemmas.{at_most_trans, equal_at_most}
-use Rattle.cvss_number.proofs.RoundingLemmas.{least_tenth-ordered, v31-ordered}
-use Rattle.cvss_v3_score.specs.Scores.{iss, exploitability, first_number, base_number, temporal_number, IsRounded, IsBaseScore, IsTemporalScore}
-use Rattle.cvss_v3_score.specs.private.Weights.{exploit_code_maturities, remediation_levels, report_confidences}
-use Rattle.cvss_v3_score.specs.declared.rules.Rules.TheVariants.{V30}
-use Rattle.cvss_v3_score.proofs.CountLemmas.{AreParts, base_parts}
-use Rattle.cvss_v3_score.proofs.EqualLemmas.{base_bottom, impact_is}
-use Rattle.cvss_v3_score.proofs.LawLemmas.{base_once}
-use Rattle.cvss_v3_score.proofs.NumberLemmas.{number_of, own_bottom, equal, settled, none_equal}
-use Rattle.cvss_v3_score.proofs.RoundLemmas.{between_jumps}
-use Rattle.cvss_v3_score.proofs.SubScoreLemmas.{weight_bound}
+use Rattle.cvss_base.specs.Exact.{Exact, ◌over◌, whole, ◌⊑◌}
+use Rattle.cvss_base.proofs.ExactLemmas.{at_most_trans, equal_at_most}
+use Rattle.cvss_base.proofs.RoundingLemmas.{least_tenth-ordered, v31-ordered}
+use Rattle.cvss_score.specs.v3.Scores.{iss, exploitability, first_number, base_number, temporal_number, IsRounded, IsBaseScore, IsTemporalScore}
+use Rattle.cvss_score.specs.v3.private.Weights.{exploit_code_maturities, remediation_levels, report_confidences}
+use Rattle.cvss_score.specs.declared.v3.rules.Rules.TheVariants.{V30}
+use Rattle.cvss_score.proofs.v3_lemmas.CountLemmas.{AreParts, base_parts}
+use Rattle.cvss_score.proofs.v3_lemmas.EqualLemmas.{base_bottom, impact_is}
+use Rattle.cvss_score.proofs.v3_lemmas.LawLemmas.{base_once}
+use Rattle.cvss_score.proofs.v3_lemmas.NumberLemmas.{number_of, own_bottom, equal, settled, none_equal}
+use Rattle.cvss_score.proofs.v3_lemmas.RoundLemmas.{between_jumps}
+use Rattle.cvss_score.proofs.v3_lemmas.SubScoreLemmas.{weight_bound}
 use Rattle.cvss_v3.specs.VectorWeights.{weights_of}
 use Rattle.cvss_v3.specs.declared.vector.Vector.{Vector}
 use Rattle.cvss_v3.proofs.TableLemmas.{weights_listed}

@@ -1,11 +1,11 @@
 -- Scores of vectors by both specifications, and roundings, so that a wrong equation does not check.
 use Rattle.std.proofs.Common.{◌≡◌, ℕ, ◌^◌, ◌<◌, ℤ, pos, ◌-ℤ◌, true, false, refl, lit<}
-use Rattle.cvss_number.specs.Exact.{Exact, ◌over◌, tenths, ◌⊕◌, ◌≈◌}
-use Rattle.cvss_number.specs.Rounding.{IsRoundedV30, IsRoundedV31}
-use Rattle.cvss_v3_score.specs.Scores.{power, changed_impact, changed_modified_impact, base_number, environmental_number, temporal_number, miss, IsRounded, IsBase, IsTemporal, IsEnvironmental}
-use Rattle.cvss_v3_score.specs.declared.weights.Weights.{Weights}
-use Rattle.cvss_v3_score.proofs.RoundLemmas.{jump, between_jumps}
-use Rattle.cvss_number.proofs.TestLemmas.{is_below, is_at_most, below_if, at_most_if}
+use Rattle.cvss_base.specs.Exact.{Exact, ◌over◌, tenths, ◌⊕◌, ◌≈◌}
+use Rattle.cvss_base.specs.Rounding.{IsRoundedV30, IsRoundedV31}
+use Rattle.cvss_score.specs.v3.Scores.{power, changed_impact, changed_modified_impact, base_number, environmental_number, temporal_number, miss, IsRounded, IsBase, IsTemporal, IsEnvironmental}
+use Rattle.cvss_score.specs.declared.v3.weights.Weights.{Weights}
+use Rattle.cvss_score.proofs.v3_lemmas.RoundLemmas.{jump, between_jumps}
+use Rattle.cvss_base.proofs.TestLemmas.{is_below, is_at_most, below_if, at_most_if}
 
 v30_if : (x : Exact) (r : ℤ) → is_at_most x (tenths r) ≡ true → is_below (tenths (r -ℤ pos 1)) x ≡ true → IsRoundedV30 x r
 v30_if x r at_most below = record { not_below = at_most_if x (tenths r) at_most; least = below_if (tenths (r -ℤ pos 1)) x below }

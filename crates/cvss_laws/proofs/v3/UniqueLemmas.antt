@@ -1,11 +1,11 @@
 -- Weights have one temporal and one environmental score.
 use Rattle.std.proofs.Common.{◌≡◌, ℕ, ℤ, subst, lit<}
-use Rattle.cvss_number.specs.laws.Rounding.{IsOneCount}
-use Rattle.cvss_number.proofs.TenthsLemmas.{in_tenths_once}
-use Rattle.cvss_v3_score.specs.Scores.{temporal_number, IsRounded, IsTemporal, IsEnvironmental, IsTemporalScore, IsEnvironmentalScore}
-use Rattle.cvss_v3_score.specs.declared.weights.Weights.{Weights}
-use Rattle.cvss_v3_score.proofs.EqualLemmas.{rounded_once}
-use Rattle.cvss_v3_score.proofs.LawLemmas.{base_once, first_once}
+use Rattle.cvss_base.specs.laws.Rounding.{IsOneCount}
+use Rattle.cvss_base.proofs.TenthsLemmas.{in_tenths_once}
+use Rattle.cvss_score.specs.v3.Scores.{temporal_number, IsRounded, IsTemporal, IsEnvironmental, IsTemporalScore, IsEnvironmentalScore}
+use Rattle.cvss_score.specs.declared.v3.weights.Weights.{Weights}
+use Rattle.cvss_score.proofs.v3_lemmas.EqualLemmas.{rounded_once}
+use Rattle.cvss_score.proofs.v3_lemmas.LawLemmas.{base_once, first_once}
 
 -- of equal tenths the products with E, RL and RC have one rounding
 product_once : (minor : ℕ) (w : Weights) (m n r s : ℤ) → m ≡ n → IsRounded minor (temporal_number m w) r

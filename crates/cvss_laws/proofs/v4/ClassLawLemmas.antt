@@ -6,9 +6,9 @@ use Rattle.std.proofs.lemmas.Bool.Decides.{nat_tests}
 use Rattle.std.proofs.lemmas.List.Folds.{Any-from_list_any}
 use Rattle.std.proofs.lemmas.List.Sums.{AllPass-from_list_all}
 use Rattle.cvss_laws.specs.v4.ClassLaws.{IsDominated, HaveLeastSum}
-use Rattle.cvss_v4_score.specs.AsSevere.{IsAtMost}
-use Rattle.cvss_v4_score.proofs.LeastLemmas.{Scale, Classes}
-use Rattle.cvss_v4_score.proofs.TestLemmas.{Finite}
+use Rattle.cvss_score.specs.v4.AsSevere.{IsAtMost}
+use Rattle.cvss_score.proofs.v4_lemmas.LeastLemmas.{Scale, Classes}
+use Rattle.cvss_score.proofs.v4_lemmas.TestLemmas.{Finite}
 
 -- no level is above that of the same place of as many, as a test
 abbrev pub is_at_most : List ℕ → List ℕ → Bool

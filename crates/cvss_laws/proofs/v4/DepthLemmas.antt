@@ -3,19 +3,19 @@ use Rattle.std.proofs.Common.{◌≡◌, ℕ, zero, suc, ◌+◌, Bool, true, �
 use Rattle.std.proofs.lemmas.Bool.{and_parts, eqb-true}
 use Rattle.std.proofs.lemmas.Int.{ints}
 use Rattle.cvss_laws.specs.v4.ClassLaws.{IsDepth}
-use Rattle.cvss_v4_score.specs.declared.scoring.effective.Effective.{Effective}
-use Rattle.cvss_v4_metric.specs.declared.base.attack.AttackVector.TheVariants as attack_vector
-use Rattle.cvss_v4_metric.specs.declared.base.access.PrivilegesRequired.TheVariants as privileges_required
-use Rattle.cvss_v4_metric.specs.declared.base.access.UserInteraction.TheVariants as user_interaction
-use Rattle.cvss_v4_metric.specs.declared.base.attack.AttackComplexity.TheVariants as attack_complexity
-use Rattle.cvss_v4_metric.specs.declared.base.attack.AttackRequirements.TheVariants as attack_requirements
-use Rattle.cvss_v4_score.specs.declared.scoring.effective.VulnerableImpact.TheVariants as impact
-use Rattle.cvss_v4_score.specs.declared.scoring.effective.SubsequentImpact.TheVariants as subsequent
-use Rattle.cvss_v4_score.specs.declared.scoring.effective.SafetyImpact.TheVariants as safety
-use Rattle.cvss_v4_score.specs.declared.scoring.effective.Requirement.TheVariants as requirement
-use Rattle.cvss_v4_score.specs.declared.scoring.effective.ExploitMaturity.TheVariants as exploit_maturity
-use Rattle.cvss_v4_score.proofs.DistanceLemmas.{distance}
-use Rattle.cvss_v4_score.proofs.LeastLemmas.{Scale, IsScale, Classes, from_least, below_depth}
+use Rattle.cvss_score.specs.declared.v4.scoring.effective.Effective.{Effective}
+use Rattle.cvss_metric.specs.declared.v4.base.attack.AttackVector.TheVariants as attack_vector
+use Rattle.cvss_metric.specs.declared.v4.base.access.PrivilegesRequired.TheVariants as privileges_required
+use Rattle.cvss_metric.specs.declared.v4.base.access.UserInteraction.TheVariants as user_interaction
+use Rattle.cvss_metric.specs.declared.v4.base.attack.AttackComplexity.TheVariants as attack_complexity
+use Rattle.cvss_metric.specs.declared.v4.base.attack.AttackRequirements.TheVariants as attack_requirements
+use Rattle.cvss_score.specs.declared.v4.scoring.effective.VulnerableImpact.TheVariants as impact
+use Rattle.cvss_score.specs.declared.v4.scoring.effective.SubsequentImpact.TheVariants as subsequent
+use Rattle.cvss_score.specs.declared.v4.scoring.effective.SafetyImpact.TheVariants as safety
+use Rattle.cvss_score.specs.declared.v4.scoring.effective.Requirement.TheVariants as requirement
+use Rattle.cvss_score.specs.declared.v4.scoring.effective.ExploitMaturity.TheVariants as exploit_maturity
+use Rattle.cvss_score.proofs.v4_lemmas.DistanceLemmas.{distance}
+use Rattle.cvss_score.proofs.v4_lemmas.LeastLemmas.{Scale, IsScale, Classes, from_least, below_depth}
 
 -- values with the highest level of each metric
 abbrev pub mildest : Effective

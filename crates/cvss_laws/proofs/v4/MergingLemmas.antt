@@ -1,8 +1,8 @@
 use Rattle.std.proofs.Common.{◌≡◌, ◌⊎◌, inl, inr, ◌++◌, codes, refl, ap, ◌∙◌}
-use Rattle.cvss_name.specs.V4Types.{name_of}
-use Rattle.cvss_name.specs.declared.v4.MetricType.{MetricType}
-use Rattle.cvss_name.specs.declared.v4.MetricType.TheVariants.{AC, AT, AV, PR, SA, SC, SI, UI, VA, VC, VI, E, AR, CR, IR, MAC, MAT, MAV, MPR, MSA, MSC, MSI, MUI, MVA, MVC, MVI}
-use Rattle.cvss_v4_score.specs.Effective.{meaning, attack_vectors, privileges, user_interactions, attack_complexities, all_attack_requirements, vulnerable_impacts, subsequent_impacts, safety_impacts, requirements, exploit_maturities}
+use Rattle.cvss_base.specs.V4Types.{name_of}
+use Rattle.cvss_base.specs.declared.v4.MetricType.{MetricType}
+use Rattle.cvss_base.specs.declared.v4.MetricType.TheVariants.{AC, AT, AV, PR, SA, SC, SI, UI, VA, VC, VI, E, AR, CR, IR, MAC, MAT, MAV, MPR, MSA, MSC, MSI, MUI, MVA, MVC, MVI}
+use Rattle.cvss_score.specs.v4.Effective.{meaning, attack_vectors, privileges, user_interactions, attack_complexities, all_attack_requirements, vulnerable_impacts, subsequent_impacts, safety_impacts, requirements, exploit_maturities}
 use Rattle.cvss_v4.specs.Merging.{letter_at, replaced, merged, effective_of}
 use Rattle.cvss_laws.specs.v4.MergingLaws.{IsWrittenAsBase, IsKept, HasModifiedAsBase}
 use Rattle.cvss_v4.specs.declared.vector.Vector.{Vector}

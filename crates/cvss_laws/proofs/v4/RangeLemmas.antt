@@ -2,14 +2,14 @@
 use Rattle.std.proofs.Common.{◌≡◌, ℕ, zero, suc, ◌≤◌, true, List, [], ◌∷◌, Option, Some, None, IfSome, refl, arith, lit<}
 use Rattle.std.specs.List.{All}
 use Rattle.std.proofs.lemmas.Int.{ints}
-use Rattle.cvss_number.specs.Exact.{◌over◌, whole, ◌⊑◌}
-use Rattle.cvss_number.proofs.ExactLemmas.{equal_sym, equal_at_most, at_most_trans}
-use Rattle.cvss_v4_score.specs.Gap.{Group, next_lower}
-use Rattle.cvss_v4_score.specs.Scores.{has_impact, number}
-use Rattle.cvss_v4_score.specs.declared.scoring.effective.Effective.{Effective}
-use Rattle.cvss_v4_score.proofs.GroupLemmas.{table_value_listed}
-use Rattle.cvss_v4_score.proofs.MeanLemmas.{AreSound}
-use Rattle.cvss_v4_score.proofs.ScoreLawLemmas.{count_of, mean_taken, count_with_impact}
+use Rattle.cvss_base.specs.Exact.{◌over◌, whole, ◌⊑◌}
+use Rattle.cvss_base.proofs.ExactLemmas.{equal_sym, equal_at_most, at_most_trans}
+use Rattle.cvss_score.specs.v4.Gap.{Group, next_lower}
+use Rattle.cvss_score.specs.v4.Scores.{has_impact, number}
+use Rattle.cvss_score.specs.declared.v4.scoring.effective.Effective.{Effective}
+use Rattle.cvss_score.proofs.v4_lemmas.GroupLemmas.{table_value_listed}
+use Rattle.cvss_score.proofs.v4_lemmas.MeanLemmas.{AreSound}
+use Rattle.cvss_score.proofs.v4_lemmas.ScoreLawLemmas.{count_of, mean_taken, count_with_impact}
 use Rattle.cvss_laws.specs.v4.ScoreLaws.{IsFromTenthToTen}
 
 -- what holds of each value that is there

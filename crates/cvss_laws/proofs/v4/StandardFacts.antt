@@ -1,21 +1,21 @@
 -- Classes and scores that the public calculators of CVSS v4.0 give, so that a wrong rule does not check.
 use Rattle.std.proofs.Common.{◌≡◌, Some, None, pos, refl, rules}
-use Rattle.cvss_v4_score.specs.Classes.{macro_vector}
-use Rattle.cvss_v4_score.specs.Distance.{eq1_least, eq2_least, eq3_eq6_least, eq4_least}
-use Rattle.cvss_v4_score.specs.Gap.{eq3_eq6_group, eq3_eq6_next, next_lower}
-use Rattle.cvss_v4_score.specs.Scores.{number, IsScore}
-use Rattle.cvss_v4_score.specs.Values.{rows, listed_value}
-use Rattle.cvss_v4_score.specs.declared.scoring.effective.Effective.{Effective}
-use Rattle.cvss_v4_metric.specs.declared.base.attack.AttackVector.TheVariants as attack_vector
-use Rattle.cvss_v4_metric.specs.declared.base.access.PrivilegesRequired.TheVariants as privileges
-use Rattle.cvss_v4_metric.specs.declared.base.access.UserInteraction.TheVariants as interaction
-use Rattle.cvss_v4_metric.specs.declared.base.attack.AttackComplexity.TheVariants as complexity
-use Rattle.cvss_v4_metric.specs.declared.base.attack.AttackRequirements.TheVariants as conditions
-use Rattle.cvss_v4_score.specs.declared.scoring.effective.VulnerableImpact.TheVariants as impact
-use Rattle.cvss_v4_score.specs.declared.scoring.effective.SubsequentImpact.TheVariants as subsequent
-use Rattle.cvss_v4_score.specs.declared.scoring.effective.SafetyImpact.TheVariants as safety
-use Rattle.cvss_v4_score.specs.declared.scoring.effective.Requirement.TheVariants as requirement
-use Rattle.cvss_v4_score.specs.declared.scoring.effective.ExploitMaturity.TheVariants as exploit
+use Rattle.cvss_score.specs.v4.Classes.{macro_vector}
+use Rattle.cvss_score.specs.v4.Distance.{eq1_least, eq2_least, eq3_eq6_least, eq4_least}
+use Rattle.cvss_score.specs.v4.Gap.{eq3_eq6_group, eq3_eq6_next, next_lower}
+use Rattle.cvss_score.specs.v4.Scores.{number, IsScore}
+use Rattle.cvss_score.specs.v4.Values.{rows, listed_value}
+use Rattle.cvss_score.specs.declared.v4.scoring.effective.Effective.{Effective}
+use Rattle.cvss_metric.specs.declared.v4.base.attack.AttackVector.TheVariants as attack_vector
+use Rattle.cvss_metric.specs.declared.v4.base.access.PrivilegesRequired.TheVariants as privileges
+use Rattle.cvss_metric.specs.declared.v4.base.access.UserInteraction.TheVariants as interaction
+use Rattle.cvss_metric.specs.declared.v4.base.attack.AttackComplexity.TheVariants as complexity
+use Rattle.cvss_metric.specs.declared.v4.base.attack.AttackRequirements.TheVariants as conditions
+use Rattle.cvss_score.specs.declared.v4.scoring.effective.VulnerableImpact.TheVariants as impact
+use Rattle.cvss_score.specs.declared.v4.scoring.effective.SubsequentImpact.TheVariants as subsequent
+use Rattle.cvss_score.specs.declared.v4.scoring.effective.SafetyImpact.TheVariants as safety
+use Rattle.cvss_score.specs.declared.v4.scoring.effective.Requirement.TheVariants as requirement
+use Rattle.cvss_score.specs.declared.v4.scoring.effective.ExploitMaturity.TheVariants as exploit
 use Rattle.cvss_laws.proofs.v4.DepthLemmas.{mildest}
 
 -- AV:N/AC:L/AT:N/PR:N/UI:N with no impact

@@ -1,8 +1,8 @@
 -- Rounding a number that is cut to five decimals: v3.1 specification, Appendix A, whose Roundup takes the nearest fifth
 -- decimal, where calculators are known that cut.
 use Rattle.std.specs.Prelude.{ℤ}
-use Rattle.cvss_number.specs.Exact.{Exact, ratio, whole, ◌⊗◌}
-use Rattle.cvss_number.specs.Rounding.{IsFloor, IsRoundedV30, IsRoundedV31}
+use Rattle.cvss_base.specs.Exact.{Exact, ratio, whole, ◌⊗◌}
+use Rattle.cvss_base.specs.Rounding.{IsFloor, IsRoundedV30, IsRoundedV31}
 
 -- r is the least tenth that is not below x, cut to five decimals
 pub record IsRoundedCut (x : Exact) (r : ℤ) : Type 0 where

@@ -1,11 +1,11 @@
 -- What the laws of the scores speak of: v3.1 specification, sections 3 and 4 (the value Not Defined
 -- has no effect on the score, and a modified metric overrides its base metric).
 use Rattle.std.specs.Prelude.{◌≡◌, ◌⊎◌, IfSome, None, codes}
-use Rattle.cvss_name.specs.declared.v3.MetricType.{MetricType}
-use Rattle.cvss_v3_metric.specs.Table.{spelling_of}
+use Rattle.cvss_base.specs.declared.v3.MetricType.{MetricType}
+use Rattle.cvss_metric.specs.v3.Table.{spelling_of}
 use Rattle.cvss_v3.specs.declared.vector.Vector.{Vector}
 use Rattle.cvss_v3.specs.Vector.{value_at}
-use Rattle.cvss_v3_score.specs.Weighing.{effective, effective_scope}
+use Rattle.cvss_score.specs.v3.Weighing.{effective, effective_scope}
 
 -- the vector has no value for the metric, or the value X
 abbrev pub IsNotDefined : Vector → MetricType → Type 0

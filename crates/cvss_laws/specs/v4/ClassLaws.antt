@@ -1,8 +1,8 @@
 -- What the laws of the classes of CVSS v4 say: v4.0 specification, section 8.2.
 use Rattle.std.specs.Prelude.{◌≡◌, ℕ, List, ℤ, pos, ◌+ℤ◌, ◌<ℤ◌}
 use Rattle.std.specs.List.{All, Any}
-use Rattle.cvss_v4_score.specs.AsSevere.{IsAtMost}
-use Rattle.cvss_v4_score.specs.declared.scoring.effective.Effective.{Effective}
+use Rattle.cvss_score.specs.v4.AsSevere.{IsAtMost}
+use Rattle.cvss_score.specs.declared.v4.scoring.effective.Effective.{Effective}
 
 -- some listed values have no level above that of these
 abbrev pub IsDominated : {V : Type 0} → (V → List ℕ) → List V → V → Type 0

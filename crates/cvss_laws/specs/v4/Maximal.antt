@@ -1,17 +1,17 @@
 -- The most severe effective values of each class, which the specification calls its highest severity vectors: CVSS
 -- v4.0 specification, section 8.2.
 use Rattle.std.specs.Prelude.{ℕ, zero, suc, List, [], ◌∷◌}
-use Rattle.cvss_v4_score.specs.Classes.{Eq1Values, Eq2Values, Eq3Eq6Values, Eq4Values}
-use Rattle.cvss_v4_score.specs.Levels.{attack_vector_level, privileges_level, interaction_level, complexity_level, requirements_level, vulnerable_level, subsequent_level, safety_level, requirement_level}
-use Rattle.cvss_v4_metric.specs.declared.base.attack.AttackVector.TheVariants.{Network, Adjacent, Physical}
-use Rattle.cvss_v4_metric.specs.declared.base.access.PrivilegesRequired.TheVariants as pr
-use Rattle.cvss_v4_metric.specs.declared.base.access.UserInteraction.TheVariants as ui
-use Rattle.cvss_v4_metric.specs.declared.base.attack.AttackComplexity.TheVariants as ac
-use Rattle.cvss_v4_metric.specs.declared.base.attack.AttackRequirements.TheVariants as at
-use Rattle.cvss_v4_score.specs.declared.scoring.effective.VulnerableImpact.TheVariants as impact
-use Rattle.cvss_v4_score.specs.declared.scoring.effective.SubsequentImpact.TheVariants as sc
-use Rattle.cvss_v4_score.specs.declared.scoring.effective.SafetyImpact.TheVariants as safety
-use Rattle.cvss_v4_score.specs.declared.scoring.effective.Requirement.TheVariants as requirement
+use Rattle.cvss_score.specs.v4.Classes.{Eq1Values, Eq2Values, Eq3Eq6Values, Eq4Values}
+use Rattle.cvss_score.specs.v4.Levels.{attack_vector_level, privileges_level, interaction_level, complexity_level, requirements_level, vulnerable_level, subsequent_level, safety_level, requirement_level}
+use Rattle.cvss_metric.specs.declared.v4.base.attack.AttackVector.TheVariants.{Network, Adjacent, Physical}
+use Rattle.cvss_metric.specs.declared.v4.base.access.PrivilegesRequired.TheVariants as pr
+use Rattle.cvss_metric.specs.declared.v4.base.access.UserInteraction.TheVariants as ui
+use Rattle.cvss_metric.specs.declared.v4.base.attack.AttackComplexity.TheVariants as ac
+use Rattle.cvss_metric.specs.declared.v4.base.attack.AttackRequirements.TheVariants as at
+use Rattle.cvss_score.specs.declared.v4.scoring.effective.VulnerableImpact.TheVariants as impact
+use Rattle.cvss_score.specs.declared.v4.scoring.effective.SubsequentImpact.TheVariants as sc
+use Rattle.cvss_score.specs.declared.v4.scoring.effective.SafetyImpact.TheVariants as safety
+use Rattle.cvss_score.specs.declared.v4.scoring.effective.Requirement.TheVariants as requirement
 
 -- the levels of AV, PR and UI
 abbrev pub eq1_levels : Eq1Values → List ℕ

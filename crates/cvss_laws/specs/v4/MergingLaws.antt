@@ -1,9 +1,9 @@
 -- Vectors with the same effective values: CVSS v4.0 specification, section 4.2.
 use Rattle.std.specs.Prelude.{◌≡◌, ◌⊎◌, ◌++◌, codes}
-use Rattle.cvss_name.specs.V4Types.{name_of, group_of}
-use Rattle.cvss_name.specs.declared.group.MetricGroup.TheVariants.{Supplemental}
-use Rattle.cvss_name.specs.declared.v4.MetricType.{MetricType}
-use Rattle.cvss_name.specs.declared.v4.MetricType.TheVariants.{E, AR, CR, IR}
+use Rattle.cvss_base.specs.V4Types.{name_of, group_of}
+use Rattle.cvss_base.specs.declared.group.MetricGroup.TheVariants.{Supplemental}
+use Rattle.cvss_base.specs.declared.v4.MetricType.{MetricType}
+use Rattle.cvss_base.specs.declared.v4.MetricType.TheVariants.{E, AR, CR, IR}
 use Rattle.cvss_v4.specs.Merging.{letter_at, merged}
 use Rattle.cvss_v4.specs.Table.{value_at}
 use Rattle.cvss_v4.specs.declared.vector.Vector.{Vector}

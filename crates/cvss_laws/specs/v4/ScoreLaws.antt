@@ -1,5 +1,5 @@
 -- What the laws of v4 scores speak of.
-use Rattle.cvss_number.specs.Exact.{Exact, ◌over◌, whole, ◌⊑◌}
+use Rattle.cvss_base.specs.Exact.{Exact, ◌over◌, whole, ◌⊑◌}
 
 -- from 0.1 to 10
 pub record IsFromTenthToTen (x : Exact) : Type 0 where

@@ -1,6 +1,6 @@
 -- What equality of the errors of triage means: that of what they tell.
 use Rattle.std.specs.Prelude.{◌≡◌, ⊤}
-use Rattle.cvss_name.specs.laws.Errors as same
+use Rattle.cvss_base.specs.laws.Errors as same
 use Rattle.cvss_ranking.specs.declared.error.TriageError.{TriageError}
 use Rattle.cvss_ranking.specs.declared.error.TriageError.TheVariants.{Override, NotEnvironmental, Text, OutOfMemory}
 

@@ -1,15 +1,15 @@
 //! Callers that are proved from the contracts of the score and of the laws alone.
 
 ghost use Rattle.std.specs.Prelude.{◌≡◌, ◌≤◌, pos};
-ghost use Rattle.cvss_number.specs.Exact.{◌over◌, ◌⊕◌};
-ghost use Rattle.cvss_number.specs.Rounding.{IsRoundedV4};
-ghost use Rattle.cvss_v4_score.specs.AsSevere.{IsAsSevere};
-ghost use Rattle.cvss_v4_score.specs.Scores.{number};
+ghost use Rattle.cvss_base.specs.Exact.{◌over◌, ◌⊕◌};
+ghost use Rattle.cvss_base.specs.Rounding.{IsRoundedV4};
+ghost use Rattle.cvss_score.specs.v4.AsSevere.{IsAsSevere};
+ghost use Rattle.cvss_score.specs.v4.Scores.{number};
 
 use super::samples::{HARMLESS, LEAST, WORST};
 use cvss_laws::v4::{a_millionth_changes_no_score, scores_are_unique, severe_values_score_no_less};
-use cvss_v4_score::scoring::effective::Effective;
-use cvss_v4_score::scoring::score_tenths;
+use cvss_score::v4::scoring::effective::Effective;
+use cvss_score::v4::scoring::score_tenths;
 use std::test::Fail;
 
 /// The score, taken twice.

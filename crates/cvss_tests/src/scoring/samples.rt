@@ -1,6 +1,6 @@
 //! Effective values that tests score.
 
-use cvss_v4_score::scoring::effective::{
+use cvss_score::v4::scoring::effective::{
     AttackComplexity, AttackRequirements, AttackVector, Effective, ExploitMaturity,
     PrivilegesRequired, Requirement, SafetyImpact, SubsequentImpact, UserInteraction,
     VulnerableImpact,

@@ -4,9 +4,9 @@ use super::samples::{
     ADJACENT, CONFIDENTIAL, HARMLESS, HIGHLY_PRIVILEGED, INTEGRITY, LEAST, LOW_CONFIDENTIALITY,
     PRIVILEGED, UNSAFE, UNSAFE_INTEGRITY, WORST,
 };
-use cvss_v4_score::scoring::classes::MacroVector;
-use cvss_v4_score::scoring::effective::Effective;
-use cvss_v4_score::scoring::score_tenths;
+use cvss_score::v4::scoring::classes::MacroVector;
+use cvss_score::v4::scoring::effective::Effective;
+use cvss_score::v4::scoring::score_tenths;
 
 /// Effective values with their scores in tenths.
 const SCORES: [(Effective, u8); 11] = [

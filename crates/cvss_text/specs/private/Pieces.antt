@@ -2,7 +2,7 @@
 use Rattle.std.specs.Prelude.{◌≡◌, ℕ, false, List, []}
 use Rattle.std.specs.Option.{option_map_or}
 use Rattle.cvss_text.specs.declared.pieces.Pieces.{Pieces}
-use Rattle.cvss_grammar.specs.Text.{pieces, has, colon, IsComponent, component, name_part, value_part}
+use Rattle.cvss_base.specs.Text.{pieces, has, colon, IsComponent, component, name_part, value_part}
 
 -- the pieces that are still to come
 abbrev pub pieces_left : Pieces → List (List ℕ)

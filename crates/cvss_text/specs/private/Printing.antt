@@ -1,7 +1,7 @@
 -- How a vector is printed component by component: each with the slash that stands before it.
 use Rattle.std.specs.Prelude.{◌≡◌, ℕ, List, [], ◌∷◌, flat_map, unwrap_or, Option, option_map}
-use Rattle.cvss_grammar.specs.Text.{slash}
-use Rattle.cvss_grammar.specs.Version.{Version, component_of}
+use Rattle.cvss_base.specs.Text.{slash}
+use Rattle.cvss_base.specs.Version.{Version, component_of}
 
 -- a component behind a slash
 abbrev pub slashed : Option (List ℕ) → Option (List ℕ)

@@ -8,10 +8,10 @@ use Rattle.cvss_text.specs.declared.walk.Slip.{Slip}
 use Rattle.cvss_text.specs.declared.walk.Slip.TheVariants.{Invalid, Repeated as Twice}
 use Rattle.cvss_text.specs.declared.walk.Fault.{Fault}
 use Rattle.cvss_text.specs.declared.walk.Fault.TheVariants.{InvalidComponent, InvalidPrefix, UnsupportedVersion, UnknownMetric, InvalidMetric, DuplicateMetric, MissingMandatoryMetric}
-use Rattle.cvss_grammar.specs.laws.Order.{place_in}
-use Rattle.cvss_grammar.specs.Text.{slash, colon, pieces, IsComponent, name_part, value_part, component}
-use Rattle.cvss_grammar.specs.Version.{Version, read, reading, version_piece, AreComponentsOf, Denotes, IsWellFormed}
-use Rattle.cvss_grammar.specs.Refusal.{Refusal, BadComponent, WrongPrefix, WrongVersion, UnknownName, BadValue, Repeated, Missing, Spells, HasNoFaultBefore, IsFirstReason, BadPiecesFirst, IsFirstRefusalBehind, IsWrongPrefix, IsWrongVersion}
+use Rattle.cvss_base.specs.laws.Order.{place_in}
+use Rattle.cvss_base.specs.Text.{slash, colon, pieces, IsComponent, name_part, value_part, component}
+use Rattle.cvss_base.specs.Version.{Version, read, reading, version_piece, AreComponentsOf, Denotes, IsWellFormed}
+use Rattle.cvss_base.specs.Refusal.{Refusal, BadComponent, WrongPrefix, WrongVersion, UnknownName, BadValue, Repeated, Missing, Spells, HasNoFaultBefore, IsFirstReason, BadPiecesFirst, IsFirstRefusalBehind, IsWrongPrefix, IsWrongVersion}
 
 -- a byte that no name and no spelling has: it divides, or is not ASCII
 abbrev pub is_foreign : ℕ → Bool

@@ -1,16 +1,16 @@
 //! The numbers on the way to the scores of a vector.
 
 ghost use Rattle.std.specs.Prelude.{◌≡◌, ◌*◌, ◌^◌, ℤ, pos};
-ghost use Rattle.cvss_number.specs.Exact.{of_count, tenths, thousandths, ◌≈◌, IsWithinLimit};
-ghost use Rattle.cvss_number.specs.Tenths.{IsInTenths};
-ghost use Rattle.cvss_v2_score.specs.Scores.{impact, adjusted_impact, exploitability, f, base_number, temporal_number, environmental_number, IsBase, IsTemporal};
+ghost use Rattle.cvss_base.specs.Exact.{of_count, tenths, thousandths, ◌≈◌, IsWithinLimit};
+ghost use Rattle.cvss_base.specs.Tenths.{IsInTenths};
+ghost use Rattle.cvss_score.specs.v2.Scores.{impact, adjusted_impact, exploitability, f, base_number, temporal_number, environmental_number, IsBase, IsTemporal};
 ghost use Rattle.cvss_v2.specs.Weights.{weight_in, weights_of};
 
 use super::weighing::weight;
 use crate::vector::Vector;
-use cvss_v2_metric::MetricType;
-use cvss_v2_score::score::of_tenths;
-use cvss_v2_score::{Score, base_score, equations};
+use cvss_metric::v2::MetricType;
+use cvss_score::v2::score::of_tenths;
+use cvss_score::v2::{Score, base_score, equations};
 
 /// A thousandth, in counts of 10^-24.
 const THOUSANDTH: i128 = 1_000_000_000_000_000_000_000;

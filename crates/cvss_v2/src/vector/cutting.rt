@@ -1,10 +1,10 @@
 //! How a piece is cut behind the name of a metric, where it is as long as a name.
 
 ghost use Rattle.std.specs.Prelude.{◌≡◌, ◌∷◌, [], ◌++◌, IfSome};
-ghost use Rattle.cvss_grammar.specs.Text.{colon};
-ghost use Rattle.cvss_name.specs.V2Types.{name_of};
+ghost use Rattle.cvss_base.specs.Text.{colon};
+ghost use Rattle.cvss_base.specs.V2Types.{name_of};
 
-use cvss_v2_metric::MetricType;
+use cvss_metric::v2::MetricType;
 
 /// The metric with whose name and a colon a piece begins, and what stands behind these.
 #[inline(always)]

@@ -4,14 +4,14 @@ ghost use Rattle.std.specs.Prelude.{◌≡◌, ◌++◌, Some, drop, option_map}
 ghost use Rattle.std.specs.Fmt.{WritesOnOk};
 ghost use Rattle.std.specs.Option.{option_copied};
 ghost use Rattle.cvss_text.specs.private.Printing.{slashed, slashed_texts};
-ghost use Rattle.cvss_grammar.specs.Version.{canonical_text, component_of, held};
-ghost use Rattle.cvss_v2_metric.specs.Table.{spelling_of, printed};
+ghost use Rattle.cvss_base.specs.Version.{canonical_text, component_of, held};
+ghost use Rattle.cvss_metric.specs.v2.Table.{spelling_of, printed};
 ghost use Rattle.cvss_v2.specs.Vector.{v2};
 ghost use Rattle.cvss_v2.specs.private.Slashed.{slashed_value};
 
 use crate::vector::Vector;
 use cvss_text::print::{Printed, write_component, write_components};
-use cvss_v2_metric::{MetricType, Spelled};
+use cvss_metric::v2::{MetricType, Spelled};
 use std::fmt;
 
 impl Printed for Vector {

@@ -1,15 +1,15 @@
 //! The scores of a vector.
 
 ghost use Rattle.std.specs.Prelude.{◌*◌, ◌≤◌, ◌≤ℤ◌, ◌*ℤ◌, ◌^◌, pos};
-ghost use Rattle.cvss_number.specs.Exact.{of_count, ◌≈◌, IsWithinLimit};
-ghost use Rattle.cvss_v2_score.specs.Scores.{impact, adjusted_impact, exploitability, IsTemporal, IsBaseScore, IsTemporalScore, IsEnvironmentalScore};
-ghost use Rattle.cvss_number.specs.Tenths.{IsInTenths, IsFromZeroToTen};
+ghost use Rattle.cvss_base.specs.Exact.{of_count, ◌≈◌, IsWithinLimit};
+ghost use Rattle.cvss_score.specs.v2.Scores.{impact, adjusted_impact, exploitability, IsTemporal, IsBaseScore, IsTemporalScore, IsEnvironmentalScore};
+ghost use Rattle.cvss_base.specs.Tenths.{IsInTenths, IsFromZeroToTen};
 ghost use Rattle.cvss_v2.specs.Weights.{weights_of};
 
 use super::weighing::weight;
 use crate::vector::Vector;
-use cvss_v2_score::score::{of_tenths, published};
-use cvss_v2_score::{Score, equations, scores};
+use cvss_score::v2::score::{of_tenths, published};
+use cvss_score::v2::{Score, equations, scores};
 
 impl Vector {
     /// The impact sub-score (guide, section 3.2.1), which is exact, from 0 to 10.001.

@@ -5,10 +5,10 @@
 ghost use Rattle.std.specs.Prelude.{◌≡◌, IfSome, None, [], ◌∷◌, ◌++◌};
 ghost use Rattle.cvss_text.specs.private.Printing.{slashed_texts};
 ghost use Rattle.cvss_text.specs.private.Walk.{first_missing};
-ghost use Rattle.cvss_grammar.specs.Text.{slash};
-ghost use Rattle.cvss_grammar.specs.Version.{canonical_text, IsComplete};
-ghost use Rattle.cvss_name.specs.declared.v2.MetricType.TheVariants.{A, AC, AV, Au, C, I, E, RL, RC, CDP, TD, CR, IR, AR};
-ghost use Rattle.cvss_v2_metric.specs.Table.{spelling_of, metric_component, printed};
+ghost use Rattle.cvss_base.specs.Text.{slash};
+ghost use Rattle.cvss_base.specs.Version.{canonical_text, IsComplete};
+ghost use Rattle.cvss_base.specs.declared.v2.MetricType.TheVariants.{A, AC, AV, Au, C, I, E, RL, RC, CDP, TD, CR, IR, AR};
+ghost use Rattle.cvss_metric.specs.v2.Table.{spelling_of, metric_component, printed};
 ghost use Rattle.cvss_v2.specs.Vector.{v2};
 ghost use Rattle.cvss_v2.specs.private.Slashed.{slashed_value};
 
@@ -17,7 +17,7 @@ mod base;
 use crate::vector::Vector;
 use base::base_at_sight;
 use cvss_text::sight::{behind_name, put_read};
-use cvss_v2_metric::Spelled;
+use cvss_metric::v2::Spelled;
 
 impl Vector {
     /// The vector whose canonical text this is, where that is seen at once: `None` tells nothing of

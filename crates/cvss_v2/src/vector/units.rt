@@ -1,14 +1,14 @@
 //! The numbers of a vector's equations in whole numbers of small units.
 
 ghost use Rattle.std.specs.Prelude.{◌*◌, ◌^◌, ◌≤◌, ◌≤ℤ◌, ℤ, pos, neg_ℤ};
-ghost use Rattle.cvss_number.specs.Exact.{ratio, of_count, ◌≈◌, IsWithinLimit};
-ghost use Rattle.cvss_v2_score.specs.Scores.{impact, exploitability, IsBase, IsTemporal};
+ghost use Rattle.cvss_base.specs.Exact.{ratio, of_count, ◌≈◌, IsWithinLimit};
+ghost use Rattle.cvss_score.specs.v2.Scores.{impact, exploitability, IsBase, IsTemporal};
 ghost use Rattle.cvss_v2.specs.Weights.{weights_of};
-ghost use Rattle.cvss_v2_score.specs.private.Bounds.{IsImpactCount, IsOnScale};
+ghost use Rattle.cvss_score.specs.v2.private.Bounds.{IsImpactCount, IsOnScale};
 
 use super::weighing::weight;
 use crate::vector::Vector;
-use cvss_v2_score::{Score, base_score, equations, scores};
+use cvss_score::v2::{Score, base_score, equations, scores};
 
 impl Vector {
     /// Impact in 10^-11.

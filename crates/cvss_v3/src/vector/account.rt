@@ -1,19 +1,19 @@
 //! The numbers on the way to the scores of a vector.
 
 ghost use Rattle.std.specs.Prelude.{◌≡◌, ◌≤◌, ◌*◌, ◌^◌, ℤ, pos, false, option_map, IfSome};
-ghost use Rattle.cvss_number.specs.Exact.{of_count, ◌≈◌, IsWithinLimit};
-ghost use Rattle.cvss_number.specs.Tenths.{IsInTenths, IsFromZeroToTen};
-ghost use Rattle.cvss_v3_score.specs.Closeness.{IsCloseTo};
-ghost use Rattle.cvss_v3_score.specs.Scores.{impact, miss, modified_impact, modified_exploitability, base_number, environmental_number, temporal_number, IsRounded, IsBase};
+ghost use Rattle.cvss_base.specs.Exact.{of_count, ◌≈◌, IsWithinLimit};
+ghost use Rattle.cvss_base.specs.Tenths.{IsInTenths, IsFromZeroToTen};
+ghost use Rattle.cvss_score.specs.v3.Closeness.{IsCloseTo};
+ghost use Rattle.cvss_score.specs.v3.Scores.{impact, miss, modified_impact, modified_exploitability, base_number, environmental_number, temporal_number, IsRounded, IsBase};
 ghost use Rattle.cvss_v3.specs.VectorWeights.{weights_of, weight_in};
 
 use crate::score::Score;
 use crate::vector::Vector;
-use cvss_v3_metric::MetricType;
-use cvss_v3_score::weighing::{
+use cvss_metric::v3::MetricType;
+use cvss_score::v3::weighing::{
     effective, effective_scope, is_changed, modified_privileges, scoped_weight, weight,
 };
-use cvss_v3_score::{Rules, equations};
+use cvss_score::v3::{Rules, equations};
 
 /// 10^-2, 10^-7, 10^-11 and 10^-13 in counts of 10^-24.
 const HUNDREDTH: i128 = 10_000_000_000_000_000_000_000;

@@ -2,11 +2,11 @@
 
 ghost use Rattle.std.specs.Prelude.{◌≡◌, ◌∷◌, [], IsTrue, IfSome};
 ghost use Rattle.std.specs.Char.{to_ascii_uppercase, is_ascii_uppercase};
-ghost use Rattle.cvss_name.specs.V3Types.{name_of};
+ghost use Rattle.cvss_base.specs.V3Types.{name_of};
 ghost use Rattle.cvss_text.specs.private.Walk.{IsCut};
 ghost use Rattle.cvss_v3.specs.Vector.{v3};
 
-use cvss_v3_metric::MetricType;
+use cvss_metric::v3::MetricType;
 
 /// The metric with whose name and a colon a piece begins, and what stands behind these.
 #[inline(always)]

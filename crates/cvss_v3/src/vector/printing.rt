@@ -3,15 +3,15 @@
 ghost use Rattle.std.specs.Prelude.{◌≡◌, ◌++◌, Some, codes, option_map, take};
 ghost use Rattle.std.specs.Fmt.{WritesOnOk};
 ghost use Rattle.std.specs.Option.{option_copied};
-ghost use Rattle.cvss_grammar.specs.Version.{numeral, canonical_text, component_of, held, version_piece};
+ghost use Rattle.cvss_base.specs.Version.{numeral, canonical_text, component_of, held, version_piece};
 ghost use Rattle.cvss_text.specs.private.Printing.{slashed, slashed_texts};
-ghost use Rattle.cvss_v3_metric.specs.Table.{spelling_of, printed};
+ghost use Rattle.cvss_metric.specs.v3.Table.{spelling_of, printed};
 ghost use Rattle.cvss_v3.specs.Vector.{v3};
 ghost use Rattle.cvss_v3.specs.private.Shown.{shown};
 
 use crate::vector::Vector;
 use cvss_text::print::Printed;
-use cvss_v3_metric::{MetricType, Spelled};
+use cvss_metric::v3::{MetricType, Spelled};
 use std::fmt;
 
 impl Printed for Vector {

@@ -1,9 +1,9 @@
 //! How a vector is filled from its components.
 
 ghost use Rattle.std.specs.Prelude.{◌≡◌};
-ghost use Rattle.cvss_grammar.specs.Text.{raised};
+ghost use Rattle.cvss_base.specs.Text.{raised};
 ghost use Rattle.cvss_text.specs.private.Walk.{HasNoValue, IsFilled};
-ghost use Rattle.cvss_v3_metric.specs.Table.{spelling_of};
+ghost use Rattle.cvss_metric.specs.v3.Table.{spelling_of};
 ghost use Rattle.cvss_v3.specs.Vector.{v3};
 ghost use Rattle.cvss_v3.specs.private.VectorLaws.{v3_is_lawful, v3_fronts_are_lawful};
 
@@ -12,7 +12,7 @@ use crate::vector::Vector;
 use MetricType::*;
 use cvss_text::front::Fronted;
 use cvss_text::walk::{Components, Slip, fill_place};
-use cvss_v3_metric::{MetricType, Spelled, blamed};
+use cvss_metric::v3::{MetricType, Spelled, blamed};
 
 /// The metrics in printing order (v3.1 specification, section 6).
 const PRINTED: [MetricType; 22] = [

@@ -1,17 +1,17 @@
 //! The scores of a vector.
 
 ghost use Rattle.std.specs.Prelude.{◌≡◌, ◌≤◌, ◌*ℤ◌, ◌^◌, ℤ, pos, IsTrue};
-ghost use Rattle.cvss_number.specs.Exact.{of_count, whole, ◌≈◌, ◌⊏◌, IsWithinLimit};
-ghost use Rattle.cvss_number.specs.Tenths.{IsInTenths, IsFromZeroToTen};
-ghost use Rattle.cvss_v3_score.specs.Certainty.{IsCertain};
-ghost use Rattle.cvss_v3_score.specs.Scores.{iss, impact, modified_impact, exploitability, base_number, environmental_number, IsBaseScore, IsTemporalScore, IsEnvironmentalScore};
+ghost use Rattle.cvss_base.specs.Exact.{of_count, whole, ◌≈◌, ◌⊏◌, IsWithinLimit};
+ghost use Rattle.cvss_base.specs.Tenths.{IsInTenths, IsFromZeroToTen};
+ghost use Rattle.cvss_score.specs.v3.Certainty.{IsCertain};
+ghost use Rattle.cvss_score.specs.v3.Scores.{iss, impact, modified_impact, exploitability, base_number, environmental_number, IsBaseScore, IsTemporalScore, IsEnvironmentalScore};
 ghost use Rattle.cvss_v3.specs.VectorWeights.{weights_of};
 ghost use Rattle.cvss_base.specs.Rating.{rating_of_score};
 
 use crate::score::Score;
 use crate::vector::Vector;
-use cvss_name::Severity;
-use cvss_v3_score::rounding::is_certain;
+use cvss_base::Severity;
+use cvss_score::v3::rounding::is_certain;
 
 impl Vector {
     /// The base score (v3.1 specification, section 7.1; v3.0 specification, section 8.1).

@@ -2,16 +2,16 @@
 
 ghost use Rattle.std.specs.Prelude.{◌≡◌, ◌⊎◌, ◌≤◌, ◌*◌, ◌^◌, ℕ, pos};
 ghost use Rattle.std.specs.List.{Contains};
-ghost use Rattle.cvss_number.specs.Exact.{◌over◌, ◌≈◌};
-ghost use Rattle.cvss_v3_score.specs.private.Near.{StandsFor};
-ghost use Rattle.cvss_v3_score.specs.Scores.{iss, miss, exploitability, modified_exploitability, base_number, environmental_number, temporal_number, IsRounded, IsBase};
+ghost use Rattle.cvss_base.specs.Exact.{◌over◌, ◌≈◌};
+ghost use Rattle.cvss_score.specs.v3.private.Near.{StandsFor};
+ghost use Rattle.cvss_score.specs.v3.Scores.{iss, miss, exploitability, modified_exploitability, base_number, environmental_number, temporal_number, IsRounded, IsBase};
 ghost use Rattle.cvss_v3.specs.VectorWeights.{weights_of};
-ghost use Rattle.cvss_v3_score.specs.private.SubScores.{IsSubScore, exploitabilities};
+ghost use Rattle.cvss_score.specs.v3.private.SubScores.{IsSubScore, exploitabilities};
 
 use crate::vector::Vector;
-use cvss_v3_score::rounding::round_tenths;
-use cvss_v3_score::weighing::{effective, is_changed, modified_privileges, scoped_weight, weight};
-use cvss_v3_score::{Rules, equations};
+use cvss_score::v3::rounding::round_tenths;
+use cvss_score::v3::weighing::{effective, is_changed, modified_privileges, scoped_weight, weight};
+use cvss_score::v3::{Rules, equations};
 
 impl Vector {
     /// ISS, the impact sub-score, in millionths.

@@ -1,6 +1,6 @@
 -- When two errors of overrides tell the same.
 use Rattle.std.specs.Prelude.{◌≡◌}
-use Rattle.cvss_name.specs.laws.Errors.{TellTheSame}
+use Rattle.cvss_base.specs.laws.Errors.{TellTheSame}
 use Rattle.cvss_v4.specs.declared.vector.overriding.OverrideError.{OverrideError}
 use Rattle.cvss_v4.specs.declared.vector.overriding.OverrideError.TheVariants.{NotEnvironmental, Refused}
 

@@ -1,11 +1,11 @@
 -- What the private code that reads overrides does at each step. No public clause cites it.
 use Rattle.std.specs.Prelude.{◌≡◌, ℕ, List, ⊤}
-use Rattle.cvss_grammar.specs.Refusal.{BadComponent}
-use Rattle.cvss_grammar.specs.Text.{IsComponent, name_part}
-use Rattle.cvss_grammar.specs.Version.{read}
+use Rattle.cvss_base.specs.Refusal.{BadComponent}
+use Rattle.cvss_base.specs.Text.{IsComponent, name_part}
+use Rattle.cvss_base.specs.Version.{read}
 use Rattle.cvss_text.specs.private.Walk.{Adds, HasRead, IsFaultOf, IsTellable, reason_of}
-use Rattle.cvss_name.specs.V4Types.{group_of}
-use Rattle.cvss_name.specs.declared.group.MetricGroup.TheVariants.{Environmental}
+use Rattle.cvss_base.specs.V4Types.{group_of}
+use Rattle.cvss_base.specs.declared.group.MetricGroup.TheVariants.{Environmental}
 use Rattle.cvss_v4.specs.Overriding.{IsEnvironmental, NamesOther, Objection, OfOtherGroup, OfText, HasNoObjectionBefore}
 use Rattle.cvss_v4.specs.Vector.{v4}
 use Rattle.cvss_v4.specs.declared.vector.Vector.{Vector}

@@ -1,10 +1,10 @@
 -- What holds of each value of a metric of CVSS v4.0, checked value by value.
 use Rattle.std.specs.Prelude.{◌≡◌}
 use Rattle.std.proofs.Common.{rules}
-use Rattle.cvss_grammar.specs.Text.{raised}
+use Rattle.cvss_base.specs.Text.{raised}
 use Rattle.cvss_text.specs.private.Walk.{foreign_bytes}
-use Rattle.cvss_name.specs.declared.v4.MetricType.{MetricType}
-use Rattle.cvss_name.specs.declared.v4.MetricType.TheVariants.{AC}
+use Rattle.cvss_base.specs.declared.v4.MetricType.{MetricType}
+use Rattle.cvss_base.specs.declared.v4.MetricType.TheVariants.{AC}
 use Rattle.cvss_v4.specs.Table.{Value, spelling_of}
 
 -- no spelling has a slash or a colon

@@ -1,9 +1,9 @@
 -- What the walk over a text needs to know of CVSS v4.0.
 use Rattle.std.specs.Prelude.{◌≡◌, ℕ, ◌++◌, codes, Option, refl}
 use Rattle.cvss_text.specs.private.Walk.{IsLawful, IsLawfulFront}
-use Rattle.cvss_grammar.specs.Version.{numeral}
-use Rattle.cvss_name.specs.declared.v4.MetricType.{MetricType}
-use Rattle.cvss_name.specs.declared.v4.MetricType.TheVariants as metric
+use Rattle.cvss_base.specs.Version.{numeral}
+use Rattle.cvss_base.specs.declared.v4.MetricType.{MetricType}
+use Rattle.cvss_base.specs.declared.v4.MetricType.TheVariants as metric
 use Rattle.cvss_text.proofs.NumeralLemmas.{numeral-injective, numeral-plain}
 use Rattle.cvss_v4.specs.private.TableLaws.{plain_spelling, one_value}
 use Rattle.cvss_v4.specs.declared.vector.Vector.{Vector}

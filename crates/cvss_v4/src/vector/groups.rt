@@ -1,11 +1,11 @@
 //! Which groups of metrics a vector has (v4.0 specification, section 1.3).
 
 ghost use Rattle.std.specs.Prelude.{◌≡◌};
-ghost use Rattle.cvss_name.specs.declared.group.MetricGroup.TheVariants.{Environmental};
+ghost use Rattle.cvss_base.specs.declared.group.MetricGroup.TheVariants.{Environmental};
 ghost use Rattle.cvss_v4.specs.Nomenclature.{has_group, nomenclature_of};
 
 use crate::vector::Vector;
-use cvss_v4_score::{Nomenclature, nomenclature_of_groups};
+use cvss_score::v4::{Nomenclature, nomenclature_of_groups};
 
 impl Vector {
     /// The groups of metrics that the vector has, besides the supplemental ones. A metric that is

@@ -2,12 +2,12 @@
 
 ghost use Rattle.std.specs.Prelude.{◌≡◌};
 ghost use Rattle.cvss_text.specs.Listing.{listed_metrics, metrics_left};
-ghost use Rattle.cvss_name.specs.V4Types.{declared};
+ghost use Rattle.cvss_base.specs.V4Types.{declared};
 ghost use Rattle.cvss_v4.specs.Vector.{v4};
 
 use crate::vector::Vector;
 use cvss_text::metrics::{self, Listed};
-use cvss_v4_metric::MetricType;
+use cvss_metric::v4::MetricType;
 
 /// The metrics that a vector has, each with the spelling of its value; at most 32.
 pub type Metrics = metrics::Metrics<Vector>;

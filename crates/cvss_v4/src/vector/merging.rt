@@ -1,8 +1,8 @@
 //! The effective values of a vector (v4.0 specification, sections 4.2 and 8.2).
 
 ghost use Rattle.std.specs.Prelude.{◌≡◌};
-ghost use Rattle.cvss_name.specs.declared.v4.MetricType.TheVariants.{AR, CR, E, IR};
-ghost use Rattle.cvss_v4_score.specs.Effective.{meaning, requirements, exploit_maturities};
+ghost use Rattle.cvss_base.specs.declared.v4.MetricType.TheVariants.{AR, CR, E, IR};
+ghost use Rattle.cvss_score.specs.v4.Effective.{meaning, requirements, exploit_maturities};
 ghost use Rattle.cvss_v4.specs.Merging.{letter_of, effective_of};
 
 mod attack;
@@ -13,11 +13,11 @@ use crate::vector::Vector;
 use attack::{
     attack_complexity, attack_requirements, attack_vector, privileges_required, user_interaction,
 };
-use cvss_v4_metric::environmental::{
+use cvss_metric::v4::environmental::{
     AvailabilityRequirements, ConfidentialityRequirements, IntegrityRequirements,
 };
-use cvss_v4_metric::threat::ExploitMaturity;
-use cvss_v4_score::scoring::effective::{self, Effective};
+use cvss_metric::v4::threat::ExploitMaturity;
+use cvss_score::v4::scoring::effective::{self, Effective};
 use subsequent::{
     availability_impact_to_the_subsequent_system, confidentiality_impact_to_the_subsequent_system,
     integrity_impact_to_the_subsequent_system,

@@ -3,22 +3,22 @@
 
 ghost use Rattle.std.specs.Prelude.{◌≡◌, ◌↔◌, IsTrue, Some, IfOk, IfErr, OnOk, IsOk, IsErrAnd, Ok, ℕ, length, map};
 ghost use Rattle.std.specs.Str.{IsUtf8};
-ghost use Rattle.cvss_grammar.specs.Text.{IsComponent};
-ghost use Rattle.cvss_grammar.specs.Version.{IsComplete};
-ghost use Rattle.cvss_name.specs.V4Types.{group_of};
-ghost use Rattle.cvss_name.specs.declared.group.MetricGroup.TheVariants.{Environmental};
+ghost use Rattle.cvss_base.specs.Text.{IsComponent};
+ghost use Rattle.cvss_base.specs.Version.{IsComplete};
+ghost use Rattle.cvss_base.specs.V4Types.{group_of};
+ghost use Rattle.cvss_base.specs.declared.group.MetricGroup.TheVariants.{Environmental};
 ghost use Rattle.cvss_v4.specs.Overriding.{AreOverrides, IsOverridden, Objection, HasNoObjectionBefore, IsFirstObjection, TellsObjection, TellsFirstObjection, override_error_text};
 ghost use Rattle.cvss_v4.specs.private.OverridingSteps.{AddsOverride, IsObjectionTo, IsTellableFault, objection_of};
 ghost use Rattle.cvss_v4.specs.Vector.{v4};
 ghost use Rattle.cvss_v4.specs.declared.vector.overriding.OverrideFault.TheVariants.{Component};
 
 use crate::vector::Vector;
-use cvss_base::refusing::error_of;
-use cvss_name::{Error, MetricGroup};
+use cvss_text::refusing::error_of;
+use cvss_base::{Error, MetricGroup};
 use cvss_text::cutting::cut_component;
 use cvss_text::pieces::is_component;
 use cvss_text::walk::{Fault, read_component};
-use cvss_v4_metric::MetricType;
+use cvss_metric::v4::MetricType;
 use std::alloc::Global;
 use std::fmt;
 

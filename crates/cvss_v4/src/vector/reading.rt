@@ -1,10 +1,10 @@
 //! How a vector is filled from its components.
 
 ghost use Rattle.std.specs.Prelude.{◌≡◌, IfSome, [], ◌∷◌, ◌++◌, codes};
-ghost use Rattle.cvss_grammar.specs.Text.{raised};
-ghost use Rattle.cvss_name.specs.V4Types.{name_of};
+ghost use Rattle.cvss_base.specs.Text.{raised};
+ghost use Rattle.cvss_base.specs.V4Types.{name_of};
 ghost use Rattle.cvss_text.specs.private.Walk.{HasNoValue, IsFilled};
-ghost use Rattle.cvss_v4_metric.specs.Table.{spelling_at};
+ghost use Rattle.cvss_metric.specs.v4.Table.{spelling_at};
 ghost use Rattle.cvss_v4.specs.Vector.{v4};
 ghost use Rattle.cvss_v4.specs.private.VectorLaws.{v4_is_lawful, v4_fronts_are_lawful};
 
@@ -14,7 +14,7 @@ use MetricType::*;
 use cvss_text::front::Fronted;
 use cvss_text::pieces::cut_short_name;
 use cvss_text::walk::{Components, Slip, fill_place};
-use cvss_v4_metric::{MetricType, Spelled};
+use cvss_metric::v4::{MetricType, Spelled};
 
 /// The metrics in printing order (v4.0 specification, section 7).
 const PRINTED: [MetricType; 32] = [

@@ -1,11 +1,11 @@
 //! The errors that tell why a text is no vector.
 
-ghost use Rattle.cvss_name.specs.V4Types.{v4_reason};
+ghost use Rattle.cvss_base.specs.V4Types.{v4_reason};
 
 use crate::vector::Vector;
-use cvss_base::refusing::Refused;
-use cvss_name::Error;
-use cvss_v4_metric::MetricType;
+use cvss_text::refusing::Refused;
+use cvss_base::Error;
+use cvss_metric::v4::MetricType;
 
 impl Refused for Vector {
     ghost reason = { v4_reason };

@@ -1,22 +1,22 @@
 //! The score of a vector.
 
 ghost use Rattle.std.specs.Prelude.{◌≡◌, ◌≤◌, ◌^◌, ◌*ℤ◌, ◌≤ℤ◌, ℤ, pos, IsTrue};
-ghost use Rattle.cvss_number.specs.Exact.{◌over◌, ◌⊕◌};
-ghost use Rattle.cvss_number.specs.Rounding.{IsRoundedV4};
-ghost use Rattle.cvss_number.specs.Tenths.{IsInTenths, IsFromZeroToTen};
-ghost use Rattle.cvss_grammar.specs.Version.{IsComplete};
-ghost use Rattle.cvss_v4_score.specs.Account.{AreInRange, IsAccount};
+ghost use Rattle.cvss_base.specs.Exact.{◌over◌, ◌⊕◌};
+ghost use Rattle.cvss_base.specs.Rounding.{IsRoundedV4};
+ghost use Rattle.cvss_base.specs.Tenths.{IsInTenths, IsFromZeroToTen};
+ghost use Rattle.cvss_base.specs.Version.{IsComplete};
+ghost use Rattle.cvss_score.specs.v4.Account.{AreInRange, IsAccount};
 ghost use Rattle.cvss_v4.specs.Merging.{effective_of};
 ghost use Rattle.cvss_v4.specs.Nomenclature.{nomenclature_of};
-ghost use Rattle.cvss_v4_score.specs.AsSevere.{IsAsSevere};
-ghost use Rattle.cvss_v4_score.specs.Scores.{has_impact, number, IsScore};
+ghost use Rattle.cvss_score.specs.v4.AsSevere.{IsAsSevere};
+ghost use Rattle.cvss_score.specs.v4.Scores.{has_impact, number, IsScore};
 ghost use Rattle.cvss_v4.specs.Vector.{v4};
-ghost use Rattle.cvss_v4_score.specs.declared.scoring.effective.Effective.{Effective};
+ghost use Rattle.cvss_score.specs.declared.v4.scoring.effective.Effective.{Effective};
 
 use crate::vector::Vector;
-use cvss_v4_score::scoring::account::Account;
-use cvss_v4_score::scoring::score_tenths;
-use cvss_v4_score::{Score, score_of};
+use cvss_score::v4::scoring::account::Account;
+use cvss_score::v4::scoring::score_tenths;
+use cvss_score::v4::{Score, score_of};
 
 impl Vector {
     /// The score (v4.0 specification, section 8.2) of a complete vector, with its nomenclature: the

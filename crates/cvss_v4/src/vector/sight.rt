@@ -5,19 +5,19 @@
 ghost use Rattle.std.specs.Prelude.{◌≡◌, IfSome, None, [], ◌∷◌, ◌++◌, codes, drop, take, option_map, unwrap_or};
 ghost use Rattle.cvss_text.specs.private.Printing.{slashed, slashed_texts};
 ghost use Rattle.cvss_text.specs.private.Walk.{first_missing};
-ghost use Rattle.cvss_grammar.specs.Text.{slash, component};
-ghost use Rattle.cvss_name.specs.V4Types.{name_of};
-ghost use Rattle.cvss_grammar.specs.Version.{canonical_text, version_piece, IsWellFormed};
-ghost use Rattle.cvss_name.specs.declared.v4.MetricType.TheVariants.{U};
-ghost use Rattle.cvss_v4_metric.specs.Table.{metric_component, printed};
+ghost use Rattle.cvss_base.specs.Text.{slash, component};
+ghost use Rattle.cvss_base.specs.V4Types.{name_of};
+ghost use Rattle.cvss_base.specs.Version.{canonical_text, version_piece, IsWellFormed};
+ghost use Rattle.cvss_base.specs.declared.v4.MetricType.TheVariants.{U};
+ghost use Rattle.cvss_metric.specs.v4.Table.{metric_component, printed};
 ghost use Rattle.cvss_v4.specs.Table.{spelling_of};
 ghost use Rattle.cvss_v4.specs.Vector.{v4};
 ghost use Rattle.cvss_v4.specs.private.Shown.{shown};
 
 use crate::vector::Vector;
 use cvss_text::sight::{behind_name, put_read};
-use cvss_v4_metric::Spelled;
-use cvss_v4_metric::supplemental::ProviderUrgency;
+use cvss_metric::v4::Spelled;
+use cvss_metric::v4::supplemental::ProviderUrgency;
 
 impl Vector {
     /// The vector whose canonical text this is, where that is seen at once: `None` tells nothing of

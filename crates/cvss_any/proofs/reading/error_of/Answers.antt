@@ -1,9 +1,9 @@
 use Rattle.std.proofs.Common.{subst, sym}
-use Rattle.cvss_name.specs.Told.{Tells}
+use Rattle.cvss_base.specs.Told.{Tells}
 use Rattle.cvss_text.specs.private.Walk.{reason_of}
-use Rattle.cvss_name.specs.V2Types.{v2_reason}
-use Rattle.cvss_name.specs.V3Types.{v3_reason}
-use Rattle.cvss_name.specs.V4Types.{v4_reason}
+use Rattle.cvss_base.specs.V2Types.{v2_reason}
+use Rattle.cvss_base.specs.V3Types.{v3_reason}
+use Rattle.cvss_base.specs.V4Types.{v4_reason}
 use Rattle.cvss_v2.specs.Vector.{v2}
 use Rattle.cvss_v3.specs.Vector.{v3}
 use Rattle.cvss_v4.specs.Vector.{v4}

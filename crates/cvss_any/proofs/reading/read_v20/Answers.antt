@@ -1,5 +1,5 @@
 use Rattle.std.proofs.Common.{refl, rules}
-use Rattle.cvss_name.specs.declared.v2.MetricType.TheVariants.{A}
+use Rattle.cvss_base.specs.declared.v2.MetricType.TheVariants.{A}
 use Rattle.cvss_text.specs.private.Walk.{reason_of}
 use Rattle.cvss_v2.specs.Vector.{v2}
 use Rattle.cvss_any.specs.declared.metric_type.MetricType.TheVariants.{V2}

@@ -1,7 +1,7 @@
 use Rattle.std.proofs.Common.{◌≡◌, ℕ, ◌+◌, ◌++◌, codes, length, sym, ap, ◌∙◌, arith, append_assoc, length-append}
 use Rattle.cvss.specs.Answers.{text_of, IsScoreOf, rating_by, rating_text, score_of_tenths}
 use Rattle.cvss.specs.CvssType.{Cvss}
-use Rattle.cvss_name.specs.declared.severity.Severity.{Severity}
+use Rattle.cvss_base.specs.declared.severity.Severity.{Severity}
 use Rattle.cvss_bytes.specs.Answers.{IsAnswerOf}
 use Rattle.cvss_bytes.specs.private.Steps.{rating_behind}
 use Rattle.cvss_bytes.proofs.BufferLemmas.{IsWritten-put, IsWritten-left}

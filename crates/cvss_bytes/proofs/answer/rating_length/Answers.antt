@@ -1,8 +1,8 @@
 use Rattle.std.proofs.Common.{◌/◌, ◌%◌, ◌≤◌, length, ap, arith, length-append}
 use Rattle.std.proofs.lemmas.Fmt.{decimal_digit, length-decimal-le}
 use Rattle.cvss.specs.SeverityText.{text_of as severity_text}
-use Rattle.cvss_name.specs.declared.severity.Severity.{Severity}
-use Rattle.cvss_name.specs.declared.severity.Severity.TheVariants.{Critical}
+use Rattle.cvss_base.specs.declared.severity.Severity.{Severity}
+use Rattle.cvss_base.specs.declared.severity.Severity.TheVariants.{Critical}
 use Rattle.cvss_bytes.proofs.answer.rating_length.Goals as goal
 
 -- no word for a rating is longer than that for the highest

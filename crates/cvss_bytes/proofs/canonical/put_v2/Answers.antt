@@ -1,5 +1,5 @@
 use Rattle.std.proofs.Common.{length, refl, ap, ◌∙◌, arith, rules}
-use Rattle.cvss_name.specs.declared.v2.MetricType.TheVariants.{AV}
+use Rattle.cvss_base.specs.declared.v2.MetricType.TheVariants.{AV}
 use Rattle.cvss_bytes.proofs.CanonicalLemmas.{text_from_first}
 use Rattle.cvss_bytes.proofs.canonical.put_v2.Goals as goal
 

@@ -1,5 +1,5 @@
 use Rattle.std.proofs.Common.{◌∷◌, [], arith}
-use Rattle.cvss_grammar.specs.Version.{canonical_text}
+use Rattle.cvss_base.specs.Version.{canonical_text}
 use Rattle.cvss_bytes.proofs.BufferLemmas.{IsWritten-left, IsWritten-put}
 use Rattle.cvss_bytes.proofs.DefinedLemmas.{defined_texts-within, text_less-none, text_less-some}
 use Rattle.cvss_bytes.proofs.defined.put_less.Goals as goal

@@ -1,5 +1,5 @@
 use Rattle.std.proofs.Common.{length, refl, ap, ◌∙◌, arith, rules, length-append, take, drop, ◌-◌, codes}
-use Rattle.cvss_name.specs.declared.v2.MetricType.TheVariants.{AV}
+use Rattle.cvss_base.specs.declared.v2.MetricType.TheVariants.{AV}
 use Rattle.cvss.specs.VectorV2.{v2}
 use Rattle.cvss_text.specs.private.Printing.{slashed_texts}
 use Rattle.cvss_bytes.proofs.CanonicalLemmas.{text_from_first}

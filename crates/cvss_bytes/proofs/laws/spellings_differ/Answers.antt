@@ -1,5 +1,5 @@
 use Rattle.std.proofs.Common.{ap}
-use Rattle.cvss_grammar.specs.Version.{read}
+use Rattle.cvss_base.specs.Version.{read}
 use Rattle.cvss_bytes.proofs.laws.spellings_differ.Goals as goal
 
 pub returns : goal.returns

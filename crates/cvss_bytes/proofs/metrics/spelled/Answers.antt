@@ -2,8 +2,8 @@ use Rattle.std.proofs.Common.{◌≡◌, ℕ, ◌+◌, List, ◌∷◌, ◌++◌
 use Rattle.std.proofs.Math.Seq.{drop-append_seam}
 use Rattle.std.proofs.lemmas.List.{drop-drop, take_rest}
 use Rattle.std.specs.Option.{option_map}
-use Rattle.cvss_grammar.specs.Text.{colon, slash, component}
-use Rattle.cvss_grammar.specs.Version.{held}
+use Rattle.cvss_base.specs.Text.{colon, slash, component}
+use Rattle.cvss_base.specs.Version.{held}
 use Rattle.cvss_text.specs.private.Printing.{slashed}
 use Rattle.cvss_bytes.proofs.metrics.spelled.Goals as goal
 

@@ -1,4 +1,4 @@
-use Rattle.cvss_number.proofs.RoundingLemmas.{v2-unique, v30-unique, v31-unique, v4-unique}
+use Rattle.cvss_base.proofs.RoundingLemmas.{v2-unique, v30-unique, v31-unique, v4-unique}
 use Rattle.cvss_laws.proofs.number.EvenLemmas.{nearest_even-unique}
 use Rattle.cvss_laws.proofs.number.roundings_are_unique.Goals as goal
 

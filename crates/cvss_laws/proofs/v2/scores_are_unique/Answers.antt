@@ -1,10 +1,10 @@
 use Rattle.std.proofs.Common.{lit<}
-use Rattle.cvss_number.specs.Exact.{of_count}
-use Rattle.cvss_number.specs.Rounding.{IsRoundedV2}
-use Rattle.cvss_number.proofs.RoundingLemmas.{v2-unique}
-use Rattle.cvss_number.proofs.TenthsLemmas.{in_tenths_once}
-use Rattle.cvss_v2_score.specs.Scores.{impact, IsTemporal, IsEnvironmental}
-use Rattle.cvss_v2_score.proofs.UniqueLemmas.{base_score_once, published_once, temporal_alone, environmental_once}
+use Rattle.cvss_base.specs.Exact.{of_count}
+use Rattle.cvss_base.specs.Rounding.{IsRoundedV2}
+use Rattle.cvss_base.proofs.RoundingLemmas.{v2-unique}
+use Rattle.cvss_base.proofs.TenthsLemmas.{in_tenths_once}
+use Rattle.cvss_score.specs.v2.Scores.{impact, IsTemporal, IsEnvironmental}
+use Rattle.cvss_score.proofs.v2_lemmas.UniqueLemmas.{base_score_once, published_once, temporal_alone, environmental_once}
 use Rattle.cvss_laws.proofs.v2.scores_are_unique.Goals as goal
 
 pub returns : goal.returns

@@ -1,4 +1,4 @@
-use Rattle.cvss_v3_score.proofs.LawLemmas.{base_score_once}
+use Rattle.cvss_score.proofs.v3_lemmas.LawLemmas.{base_score_once}
 use Rattle.cvss_laws.proofs.v3.UniqueLemmas.{temporal_score_once, environmental_score_once}
 use Rattle.cvss_laws.proofs.v3.scores_are_unique.Goals as goal
 

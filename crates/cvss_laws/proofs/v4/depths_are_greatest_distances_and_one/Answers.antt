@@ -1,7 +1,7 @@
 use Rattle.std.proofs.Common.{refl}
-use Rattle.cvss_v4_score.specs.Distance.{eq1_least, eq2_least, eq3_eq6_least, eq4_least}
+use Rattle.cvss_score.specs.v4.Distance.{eq1_least, eq2_least, eq3_eq6_least, eq4_least}
 use Rattle.cvss_laws.proofs.v4.DepthLemmas.{eq1_farthest, eq2_farthest, eq3_eq6_farthest, eq4_farthest, depth}
-use Rattle.cvss_v4_score.proofs.LeastLemmas.{numbers, pairs, eq1_scale, eq1_is_scale, eq2_scale, eq2_is_scale, eq3_eq6_scale, eq3_eq6_is_scale, eq4_scale, eq4_is_scale}
+use Rattle.cvss_score.proofs.v4_lemmas.LeastLemmas.{numbers, pairs, eq1_scale, eq1_is_scale, eq2_scale, eq2_is_scale, eq3_eq6_scale, eq3_eq6_is_scale, eq4_scale, eq4_is_scale}
 use Rattle.cvss_laws.proofs.v4.depths_are_greatest_distances_and_one.Goals as goal
 
 pub returns : goal.returns

@@ -1,7 +1,7 @@
-use Rattle.cvss_v4_score.proofs.GroupLemmas.{table_value_listed, groups_sound}
+use Rattle.cvss_score.proofs.v4_lemmas.GroupLemmas.{table_value_listed, groups_sound}
 use Rattle.cvss_laws.proofs.v4.RangeLemmas.{sound_fall}
-use Rattle.cvss_v4_score.specs.Gap.{groups}
-use Rattle.cvss_v4_score.specs.Values.{table_value}
+use Rattle.cvss_score.specs.v4.Gap.{groups}
+use Rattle.cvss_score.specs.v4.Values.{table_value}
 use Rattle.cvss_laws.proofs.v4.gaps_are_not_negative.Goals as goal
 
 pub returns : goal.returns

@@ -1,8 +1,8 @@
 use Rattle.std.proofs.Common.{refl}
-use Rattle.cvss_v4_score.specs.Classes.{eq1, eq2, eq3, eq4, eq6}
+use Rattle.cvss_score.specs.v4.Classes.{eq1, eq2, eq3, eq4, eq6}
 use Rattle.cvss_laws.specs.v4.Maximal.{eq1_levels, eq1_maximal, eq2_levels, eq2_maximal, eq3_eq6_levels, eq3_eq6_maximal, eq4_levels, eq4_maximal}
 use Rattle.cvss_laws.proofs.v4.ClassLawLemmas.{dominated}
-use Rattle.cvss_v4_score.proofs.TestLemmas.{each_eq1, each_eq2, each_eq3_eq6, each_eq4}
+use Rattle.cvss_score.proofs.v4_lemmas.TestLemmas.{each_eq1, each_eq2, each_eq3_eq6, each_eq4}
 use Rattle.cvss_laws.proofs.v4.highest_severity_vectors_dominate.Goals as goal
 
 pub returns : goal.returns

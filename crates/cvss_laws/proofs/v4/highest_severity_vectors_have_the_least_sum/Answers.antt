@@ -1,8 +1,8 @@
 use Rattle.std.proofs.Common.{refl}
-use Rattle.cvss_v4_score.specs.Distance.{eq1_least, eq2_least, eq3_eq6_least, eq4_least}
+use Rattle.cvss_score.specs.v4.Distance.{eq1_least, eq2_least, eq3_eq6_least, eq4_least}
 use Rattle.cvss_laws.specs.v4.Maximal.{eq1_maximal, eq2_maximal, eq3_eq6_maximal, eq4_maximal}
 use Rattle.cvss_laws.proofs.v4.ClassLawLemmas.{have_least}
-use Rattle.cvss_v4_score.proofs.LeastLemmas.{numbers, pairs, eq1_scale, eq2_scale, eq3_eq6_scale, eq4_scale}
+use Rattle.cvss_score.proofs.v4_lemmas.LeastLemmas.{numbers, pairs, eq1_scale, eq2_scale, eq3_eq6_scale, eq4_scale}
 use Rattle.cvss_laws.proofs.v4.highest_severity_vectors_have_the_least_sum.Goals as goal
 
 pub returns : goal.returns

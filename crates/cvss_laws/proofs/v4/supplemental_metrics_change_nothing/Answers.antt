@@ -1,8 +1,8 @@
 use Rattle.std.proofs.Common.{◌≡◌, Option, refl, ap}
-use Rattle.cvss_name.specs.V4Types.{group_of}
-use Rattle.cvss_name.specs.declared.group.MetricGroup.{MetricGroup}
-use Rattle.cvss_name.specs.declared.group.MetricGroup.TheVariants.{Supplemental}
-use Rattle.cvss_name.specs.declared.v4.MetricType.{MetricType}
+use Rattle.cvss_base.specs.V4Types.{group_of}
+use Rattle.cvss_base.specs.declared.group.MetricGroup.{MetricGroup}
+use Rattle.cvss_base.specs.declared.group.MetricGroup.TheVariants.{Supplemental}
+use Rattle.cvss_base.specs.declared.v4.MetricType.{MetricType}
 use Rattle.cvss_v4.specs.Merging.{effective_of}
 use Rattle.cvss_v4.specs.Nomenclature.{nomenclature_of}
 use Rattle.cvss_v4.specs.Table.{Value, value_at}

@@ -1,8 +1,8 @@
 use Rattle.std.proofs.Common.{◌≡◌, ◌<◌, inr, slice_index_or, ℕ, List, [], length, map, take, Bor, sym, subst, arith}
 use Rattle.std.proofs.lemmas.List.{length-map, get_or-map, take_more}
-use Rattle.cvss_grammar.specs.Refusal.{piece_at, IsFirstRefusalBehind}
+use Rattle.cvss_base.specs.Refusal.{piece_at, IsFirstRefusalBehind}
 use Rattle.cvss_v4.specs.Vector.{v4}
-use Rattle.cvss_grammar.specs.Version.{Denotes}
+use Rattle.cvss_base.specs.Version.{Denotes}
 use Rattle.cvss_ranking.specs.Faults.{InText, HasNoRefusalBefore, IsFirstRefused, TellsFault}
 use Rattle.cvss_ranking.specs.Triage.{IsRow, IsRowOf}
 use Rattle.cvss_ranking.proofs.RankLemmas.{AreRows-push, HasNoRefusalBefore-more, first_place_same}

@@ -1,6 +1,6 @@
 use Rattle.std.proofs.Common.{ap, sym, ◌∙◌}
-use Rattle.cvss_grammar.specs.Text.{component}
-use Rattle.cvss_grammar.specs.Version.{read}
+use Rattle.cvss_base.specs.Text.{component}
+use Rattle.cvss_base.specs.Version.{read}
 use Rattle.cvss_text.proofs.LawLemmas.{named_known, named_unknown}
 use Rattle.cvss_text.proofs.PieceLemmas.{IsUtf8-name}
 use Rattle.cvss_text.proofs.cutting.cut_at_colon.Goals as goal

@@ -3,7 +3,7 @@ use Rattle.std.specs.List.{All}
 use Rattle.std.specs.Str.{IsUtf8}
 use Rattle.std.proofs.lemmas.List.Elements.{All-head}
 use Rattle.std.proofs.lemmas.Result.{err_from_is_err_and}
-use Rattle.cvss_grammar.specs.Refusal.{piece_at}
+use Rattle.cvss_base.specs.Refusal.{piece_at}
 use Rattle.cvss_text.proofs.WalkLemmas.{IsCutFirst-behind}
 use Rattle.cvss_text.proofs.cutting.cut_first.Goals as goal
 

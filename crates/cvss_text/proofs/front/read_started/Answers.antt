@@ -1,8 +1,8 @@
 use Rattle.std.specs.Str.{IsUtf8}
 use Rattle.std.proofs.lemmas.List.Elements.{All-tail}
-use Rattle.cvss_grammar.specs.Refusal.{IsReasonBehind}
-use Rattle.cvss_grammar.specs.Text.{pieces}
-use Rattle.cvss_grammar.specs.Version.{IsSupported}
+use Rattle.cvss_base.specs.Refusal.{IsReasonBehind}
+use Rattle.cvss_base.specs.Text.{pieces}
+use Rattle.cvss_base.specs.Version.{IsSupported}
 use Rattle.cvss_text.specs.private.Pieces.{pieces_left}
 use Rattle.cvss_text.proofs.FrontLemmas.{IsAnswered-read}
 use Rattle.cvss_text.proofs.FrontLemmas.{fronts, begun_behind, IsAnswerBehind-from, IsUtf8-cut}

@@ -1,7 +1,7 @@
 use Rattle.std.proofs.Common.{◌≡◌, ℕ, List, ◌∷◌, Option, Some, None, ap, arith}
 use Rattle.std.specs.Option.{option_map}
-use Rattle.cvss_grammar.specs.Text.{slash, component, value_part}
-use Rattle.cvss_grammar.specs.Version.{held}
+use Rattle.cvss_base.specs.Text.{slash, component, value_part}
+use Rattle.cvss_base.specs.Version.{held}
 use Rattle.cvss_text.specs.private.Printing.{slashed}
 use Rattle.cvss_text.specs.private.Walk.{foreign_bytes}
 use Rattle.cvss_text.proofs.LawLemmas.{name_plain}

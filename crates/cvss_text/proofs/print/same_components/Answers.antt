@@ -1,8 +1,8 @@
 use Rattle.std.proofs.Common.{◌≡◌, refl, sym, ap, ◌∙◌, ℕ, ◌+◌, ◌<◌, ◌≤◌, List, ◌∷◌, ◌++◌, length, get_or, Option, Some, None, below_more, arith}
 use Rattle.cvss_text.specs.private.Printing.{slashed}
-use Rattle.cvss_grammar.specs.Version.{component_of, Version, components_of, canonical_text}
+use Rattle.cvss_base.specs.Version.{component_of, Version, components_of, canonical_text}
 use Rattle.std.proofs.lemmas.List.{get_or_default}
-use Rattle.cvss_grammar.specs.Text.{joined, slash}
+use Rattle.cvss_base.specs.Text.{joined, slash}
 use Rattle.cvss_text.specs.private.Walk.{IsLawful}
 use Rattle.cvss_text.proofs.CanonicalLemmas.{canonical_text-same}
 use Rattle.cvss_text.proofs.ComponentLemmas.{filter_map-agree}

@@ -1,5 +1,5 @@
 use Rattle.std.proofs.Common.{◌≡◌, ℕ, ◌<◌, get_or}
-use Rattle.cvss_grammar.specs.Version.{component_of}
+use Rattle.cvss_base.specs.Version.{component_of}
 use Rattle.cvss_text.proofs.print.same_components.Given as goal
 
 abbrev pub invariant-loop-kind : goal.invariant-loop-kind

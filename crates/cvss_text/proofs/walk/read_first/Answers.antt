@@ -3,7 +3,7 @@ use Rattle.std.specs.List.{All}
 use Rattle.std.specs.Str.{IsUtf8}
 use Rattle.std.proofs.lemmas.List.Elements.{All-head}
 use Rattle.std.proofs.lemmas.Result.{err_from_is_err_and}
-use Rattle.cvss_grammar.specs.Version.{read}
+use Rattle.cvss_base.specs.Version.{read}
 use Rattle.cvss_text.specs.private.Walk.{Puts}
 use Rattle.cvss_text.proofs.PieceLemmas.{IsUtf8-value}
 use Rattle.cvss_text.proofs.WalkLemmas.{IsComponent-read}

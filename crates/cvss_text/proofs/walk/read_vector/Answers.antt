@@ -1,12 +1,12 @@
 use Rattle.std.proofs.Common.{[], ◌≡◌, ℕ, List, length, sym, ap, ◌∙◌, subst}
-use Rattle.cvss_grammar.specs.Refusal.{IsFirstReason}
-use Rattle.cvss_grammar.specs.Text.{pieces}
+use Rattle.cvss_base.specs.Refusal.{IsFirstReason}
+use Rattle.cvss_base.specs.Text.{pieces}
 use Rattle.cvss_text.specs.private.Pieces.{pieces_left}
 use Rattle.cvss_text.proofs.FrontLemmas.{IsAnswered-read, AreFronts, IsBegun}
 use Rattle.cvss_text.proofs.PieceLemmas.{IsUtf8-pieces}
 use Rattle.std.specs.List.{All}
 use Rattle.std.proofs.lemmas.List.Elements.{All-nil}
-use Rattle.cvss_grammar.specs.Version.{Version}
+use Rattle.cvss_base.specs.Version.{Version}
 use Rattle.cvss_text.specs.private.Walk.{IsLawful, IsFirstOfPieces}
 use Rattle.cvss_text.proofs.DenotesLemmas.{no_reason}
 use Rattle.cvss_text.proofs.RefusalLemmas.{reasons_same}

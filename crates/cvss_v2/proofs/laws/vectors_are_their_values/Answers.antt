@@ -1,6 +1,6 @@
 use Rattle.std.proofs.Common.{rules, arith}
-use Rattle.cvss_name.specs.declared.v2.MetricType.TheVariants.{A}
-use Rattle.cvss_base.proofs.EqualLemmas.{Telling, comparisons}
+use Rattle.cvss_base.specs.declared.v2.MetricType.TheVariants.{A}
+use Rattle.cvss_text.proofs.EqualLemmas.{Telling, comparisons}
 use Rattle.cvss_v2.specs.contracts.vector.VectorEq.TheImpl.Laws.{laws-law}
 use Rattle.cvss_v2.proofs.laws.vectors_are_their_values.Goals as goal
 

@@ -3,16 +3,16 @@
 ghost use Rattle.std.specs.Prelude.{◌≡◌, IfSome, None, [], ◌∷◌, ◌++◌};
 ghost use Rattle.cvss_text.specs.private.Printing.{slashed_texts};
 ghost use Rattle.cvss_text.specs.private.Walk.{first_missing};
-ghost use Rattle.cvss_grammar.specs.Text.{slash};
-ghost use Rattle.cvss_name.specs.declared.v2.MetricType.TheVariants.{A, AC, AV, Au, C, I, E, RL, RC, CDP, TD, CR, IR, AR};
-ghost use Rattle.cvss_v2_metric.specs.Table.{metric_component};
+ghost use Rattle.cvss_base.specs.Text.{slash};
+ghost use Rattle.cvss_base.specs.declared.v2.MetricType.TheVariants.{A, AC, AV, Au, C, I, E, RL, RC, CDP, TD, CR, IR, AR};
+ghost use Rattle.cvss_metric.specs.v2.Table.{metric_component};
 ghost use Rattle.cvss_v2.specs.Vector.{v2};
 
 use super::letter_at_sight;
 use crate::vector::Vector;
 use cvss_text::sight::behind_name;
-use cvss_v2_metric::Spelled;
-use cvss_v2_metric::base::AccessVector;
+use cvss_metric::v2::Spelled;
+use cvss_metric::v2::base::AccessVector;
 
 /// The vector of the base metrics with which a text begins, each value spelled by one letter.
 #[inline(always)]

@@ -1,5 +1,5 @@
 use Rattle.std.proofs.Common.{arith}
-use Rattle.cvss_base.proofs.EqualLemmas.{Telling, comparisons}
+use Rattle.cvss_text.proofs.EqualLemmas.{Telling, comparisons}
 use Rattle.cvss_v4.specs.contracts.vector.VectorEq.TheImpl.Laws.{laws-law}
 use Rattle.cvss_v4.proofs.laws.equality_is_that_of_values.Goals as goal
 

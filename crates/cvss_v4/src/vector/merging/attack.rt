@@ -1,14 +1,14 @@
 //! The effective values of the metrics of the attack (v4.0 specification, sections 2.1 and 4.2).
 
 ghost use Rattle.std.specs.Prelude.{◌≡◌};
-ghost use Rattle.cvss_name.specs.declared.v4.MetricType.TheVariants.{AC, AT, AV, MAC, MAT, MAV, MPR, MUI, PR, UI};
-ghost use Rattle.cvss_v4_score.specs.Effective.{meaning, attack_vectors, privileges, user_interactions, attack_complexities, all_attack_requirements};
+ghost use Rattle.cvss_base.specs.declared.v4.MetricType.TheVariants.{AC, AT, AV, MAC, MAT, MAV, MPR, MUI, PR, UI};
+ghost use Rattle.cvss_score.specs.v4.Effective.{meaning, attack_vectors, privileges, user_interactions, attack_complexities, all_attack_requirements};
 ghost use Rattle.cvss_v4.specs.Merging.{letter_of, replaced};
 
-use cvss_v4_metric::base::{
+use cvss_metric::v4::base::{
     AttackComplexity, AttackRequirements, AttackVector, PrivilegesRequired, UserInteraction,
 };
-use cvss_v4_metric::environmental::{
+use cvss_metric::v4::environmental::{
     ModifiedAttackComplexity, ModifiedAttackRequirements, ModifiedAttackVector,
     ModifiedPrivilegesRequired, ModifiedUserInteraction,
 };

@@ -3,20 +3,20 @@
 //! A modified impact may be Negligible, which is None, and those on integrity and availability Safety.
 
 ghost use Rattle.std.specs.Prelude.{◌≡◌};
-ghost use Rattle.cvss_name.specs.declared.v4.MetricType.TheVariants.{MSA, MSC, MSI, SA, SC, SI};
-ghost use Rattle.cvss_v4_score.specs.Effective.{meaning, subsequent_impacts, safety_impacts};
+ghost use Rattle.cvss_base.specs.declared.v4.MetricType.TheVariants.{MSA, MSC, MSI, SA, SC, SI};
+ghost use Rattle.cvss_score.specs.v4.Effective.{meaning, subsequent_impacts, safety_impacts};
 ghost use Rattle.cvss_v4.specs.Merging.{letter_of, replaced};
 
-use cvss_v4_metric::base::{
+use cvss_metric::v4::base::{
     AvailabilityImpactToTheSubsequentSystem, ConfidentialityImpactToTheSubsequentSystem,
     IntegrityImpactToTheSubsequentSystem,
 };
-use cvss_v4_metric::environmental::{
+use cvss_metric::v4::environmental::{
     ModifiedAvailabilityImpactToTheSubsequentSystem,
     ModifiedConfidentialityImpactToTheSubsequentSystem,
     ModifiedIntegrityImpactToTheSubsequentSystem,
 };
-use cvss_v4_score::scoring::effective;
+use cvss_score::v4::scoring::effective;
 
 /// The effective value of an impact that may be Safety, by one table for the types of both.
 macro_rules! safety_impact {

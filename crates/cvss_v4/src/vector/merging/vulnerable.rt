@@ -1,20 +1,20 @@
 //! The effective values of the impacts on the vulnerable system (v4.0 specification, sections 2.2 and 4.2).
 
 ghost use Rattle.std.specs.Prelude.{◌≡◌};
-ghost use Rattle.cvss_name.specs.declared.v4.MetricType.TheVariants.{MVA, MVC, MVI, VA, VC, VI};
-ghost use Rattle.cvss_v4_score.specs.Effective.{meaning, vulnerable_impacts};
+ghost use Rattle.cvss_base.specs.declared.v4.MetricType.TheVariants.{MVA, MVC, MVI, VA, VC, VI};
+ghost use Rattle.cvss_score.specs.v4.Effective.{meaning, vulnerable_impacts};
 ghost use Rattle.cvss_v4.specs.Merging.{letter_of, replaced};
 
-use cvss_v4_metric::base::{
+use cvss_metric::v4::base::{
     AvailabilityImpactToTheVulnerableSystem, ConfidentialityImpactToTheVulnerableSystem,
     IntegrityImpactToTheVulnerableSystem,
 };
-use cvss_v4_metric::environmental::{
+use cvss_metric::v4::environmental::{
     ModifiedAvailabilityImpactToTheVulnerableSystem,
     ModifiedConfidentialityImpactToTheVulnerableSystem,
     ModifiedIntegrityImpactToTheVulnerableSystem,
 };
-use cvss_v4_score::scoring::effective;
+use cvss_score::v4::scoring::effective;
 
 /// The effective value of an impact, by one table for the types of all three.
 macro_rules! vulnerable_impact {

@@ -2,7 +2,7 @@ use Rattle.std.specs.Int.{w128}
 use Rattle.std.proofs.Common.{lit<, rules}
 use Rattle.std.proofs.lemmas.Int.{to_z-of_z}
 use Rattle.cvss_v2.specs.Weights.{weights_of}
-use Rattle.cvss_v2_score.proofs.ScoreLemmas.{temporal_equal}
+use Rattle.cvss_score.proofs.v2_lemmas.ScoreLemmas.{temporal_equal}
 use Rattle.cvss_v2.proofs.vector.Vector.adjusted_temporal.Goals as goal
 
 pub returns-clause-value : goal.returns-clause-value

@@ -1,7 +1,7 @@
 use Rattle.std.proofs.Common.{arith, lit<}
 use Rattle.std.proofs.lemmas.Int.{ints}
-use Rattle.cvss_number.proofs.ExactLemmas.{equal_trans}
-use Rattle.cvss_v2_score.proofs.ScoreLemmas.{base_number_equal}
+use Rattle.cvss_base.proofs.ExactLemmas.{equal_trans}
+use Rattle.cvss_score.proofs.v2_lemmas.ScoreLemmas.{base_number_equal}
 use Rattle.cvss_v2.proofs.vector.Vector.base_number.Goals as goal
 
 pub returns-clause-value : goal.returns-clause-value

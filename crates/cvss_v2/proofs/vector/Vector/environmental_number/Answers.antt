@@ -1,11 +1,11 @@
 use Rattle.std.specs.Int.{w128}
 use Rattle.std.proofs.Common.{arith, lit<, rules}
 use Rattle.std.proofs.lemmas.Int.{ints, to_z-of_z}
-use Rattle.cvss_number.proofs.ExactLemmas.{equal_trans}
-use Rattle.cvss_v2_score.specs.Scores.{adjusted_impact}
+use Rattle.cvss_base.proofs.ExactLemmas.{equal_trans}
+use Rattle.cvss_score.specs.v2.Scores.{adjusted_impact}
 use Rattle.cvss_v2.specs.Weights.{weights_of}
-use Rattle.cvss_v2_score.proofs.ScoreLemmas.{temporal_equal}
-use Rattle.cvss_v2_score.proofs.UniqueLemmas.{temporal_alone}
+use Rattle.cvss_score.proofs.v2_lemmas.ScoreLemmas.{temporal_equal}
+use Rattle.cvss_score.proofs.v2_lemmas.UniqueLemmas.{temporal_alone}
 use Rattle.cvss_v2.proofs.vector.Vector.environmental_number.Goals as goal
 
 pub returns-clause-value : goal.returns-clause-value

@@ -1,7 +1,7 @@
 use Rattle.std.proofs.Common.{arith}
 use Rattle.std.proofs.lemmas.Int.{ints}
 use Rattle.cvss_v2.specs.Weights.{weights_of}
-use Rattle.cvss_v2_score.proofs.ScoreLemmas.{own_base_is}
+use Rattle.cvss_score.proofs.v2_lemmas.ScoreLemmas.{own_base_is}
 use Rattle.cvss_v2.proofs.vector.Vector.own_base.Goals as goal
 
 pub returns-clause-value : goal.returns-clause-value

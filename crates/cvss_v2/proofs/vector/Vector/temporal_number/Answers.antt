@@ -1,11 +1,11 @@
 use Rattle.std.specs.Int.{w128}
 use Rattle.std.proofs.Common.{arith, lit<, rules}
 use Rattle.std.proofs.lemmas.Int.{ints, to_z-of_z}
-use Rattle.cvss_number.proofs.ExactLemmas.{equal_trans}
-use Rattle.cvss_v2_score.specs.Scores.{impact}
+use Rattle.cvss_base.proofs.ExactLemmas.{equal_trans}
+use Rattle.cvss_score.specs.v2.Scores.{impact}
 use Rattle.cvss_v2.specs.Weights.{weights_of}
-use Rattle.cvss_v2_score.proofs.ScoreLemmas.{base_equal}
-use Rattle.cvss_v2_score.proofs.UniqueLemmas.{base_alone}
+use Rattle.cvss_score.proofs.v2_lemmas.ScoreLemmas.{base_equal}
+use Rattle.cvss_score.proofs.v2_lemmas.UniqueLemmas.{base_alone}
 use Rattle.cvss_v2.proofs.vector.Vector.temporal_number.Goals as goal
 
 pub returns-clause-value : goal.returns-clause-value

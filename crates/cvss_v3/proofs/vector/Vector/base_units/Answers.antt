@@ -1,11 +1,11 @@
 use Rattle.std.proofs.Common.{◌^◌, subst, lit<}
-use Rattle.cvss_number.specs.Exact.{◌over◌}
-use Rattle.cvss_v3_score.specs.Scores.{iss, exploitability, first_number}
+use Rattle.cvss_base.specs.Exact.{◌over◌}
+use Rattle.cvss_score.specs.v3.Scores.{iss, exploitability, first_number}
 use Rattle.cvss_v3.specs.VectorWeights.{weights_of}
-use Rattle.cvss_v3_score.specs.declared.rules.Rules.TheVariants.{V30}
-use Rattle.cvss_v3_score.specs.private.Near.{StandsFor}
-use Rattle.cvss_v3_score.proofs.EqualLemmas.{impact_is}
-use Rattle.cvss_v3_score.proofs.NumberLemmas.{stands_of}
+use Rattle.cvss_score.specs.declared.v3.rules.Rules.TheVariants.{V30}
+use Rattle.cvss_score.specs.v3.private.Near.{StandsFor}
+use Rattle.cvss_score.proofs.v3_lemmas.EqualLemmas.{impact_is}
+use Rattle.cvss_score.proofs.v3_lemmas.NumberLemmas.{stands_of}
 use Rattle.cvss_v3.proofs.vector.Vector.base_units.Goals as goal
 
 pub returns-clause-value : goal.returns-clause-value

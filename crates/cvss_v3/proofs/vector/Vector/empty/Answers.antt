@@ -1,5 +1,5 @@
 use Rattle.std.proofs.Common.{rules}
-use Rattle.cvss_name.specs.declared.v3.MetricType.TheVariants.{A}
+use Rattle.cvss_base.specs.declared.v3.MetricType.TheVariants.{A}
 use Rattle.cvss_v3.proofs.vector.Vector.empty.Goals as goal
 
 pub returns-clause-valueless : goal.returns-clause-valueless

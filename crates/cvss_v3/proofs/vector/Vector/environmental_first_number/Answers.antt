@@ -1,10 +1,10 @@
 use Rattle.std.proofs.Common.{◌^◌, arith, lit<}
 use Rattle.std.proofs.lemmas.Int.{ints}
-use Rattle.cvss_number.specs.Exact.{◌over◌, of_count, ◌≈◌}
-use Rattle.cvss_number.proofs.ExactLemmas.{equal_refl}
+use Rattle.cvss_base.specs.Exact.{◌over◌, of_count, ◌≈◌}
+use Rattle.cvss_base.proofs.ExactLemmas.{equal_refl}
 use Rattle.cvss_v3.specs.VectorWeights.{weights_of}
-use Rattle.cvss_v3_score.proofs.EqualLemmas.{environmental_bottom}
-use Rattle.cvss_v3_score.proofs.NearLemmas.{still_approximates}
+use Rattle.cvss_score.proofs.v3_lemmas.EqualLemmas.{environmental_bottom}
+use Rattle.cvss_score.proofs.v3_lemmas.NearLemmas.{still_approximates}
 use Rattle.cvss_v3.proofs.vector.Vector.environmental_first_number.Goals as goal
 
 pub returns : goal.returns

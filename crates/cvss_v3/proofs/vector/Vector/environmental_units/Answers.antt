@@ -1,7 +1,7 @@
 use Rattle.std.proofs.Common.{lit<}
-use Rattle.cvss_v3_score.specs.Scores.{miss, modified_exploitability}
+use Rattle.cvss_score.specs.v3.Scores.{miss, modified_exploitability}
 use Rattle.cvss_v3.specs.VectorWeights.{weights_of}
-use Rattle.cvss_v3_score.proofs.NumberLemmas.{stands_of}
+use Rattle.cvss_score.proofs.v3_lemmas.NumberLemmas.{stands_of}
 use Rattle.cvss_v3.proofs.vector.Vector.environmental_units.Goals as goal
 
 pub returns-clause-value : goal.returns-clause-value

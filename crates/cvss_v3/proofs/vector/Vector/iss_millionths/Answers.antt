@@ -1,10 +1,10 @@
 use Rattle.std.proofs.Common.{◌≡◌, ◌⊎◌, sym, subst, ◌∙◌}
-use Rattle.cvss_number.specs.Exact.{◌over◌, ◌≈◌}
-use Rattle.cvss_v3_score.specs.Scores.{iss}
+use Rattle.cvss_base.specs.Exact.{◌over◌, ◌≈◌}
+use Rattle.cvss_score.specs.v3.Scores.{iss}
 use Rattle.cvss_v3.specs.VectorWeights.{weights_of}
-use Rattle.cvss_v3_score.specs.private.SubScores.{IsSubScore}
-use Rattle.cvss_v3_score.specs.private.Units.{millionths_of}
-use Rattle.cvss_v3_score.proofs.CountLemmas.{base_parts}
+use Rattle.cvss_score.specs.v3.private.SubScores.{IsSubScore}
+use Rattle.cvss_score.specs.v3.private.Units.{millionths_of}
+use Rattle.cvss_score.proofs.v3_lemmas.CountLemmas.{base_parts}
 use Rattle.cvss_v3.proofs.TableLemmas.{weights_listed}
 use Rattle.cvss_v3.proofs.vector.Vector.iss_millionths.Goals as goal
 

@@ -1,9 +1,9 @@
 use Rattle.std.proofs.Common.{◌≡◌, ◌⊎◌, sym, subst}
-use Rattle.cvss_number.specs.Exact.{◌over◌, ◌≈◌}
-use Rattle.cvss_v3_score.specs.Scores.{miss}
+use Rattle.cvss_base.specs.Exact.{◌over◌, ◌≈◌}
+use Rattle.cvss_score.specs.v3.Scores.{miss}
 use Rattle.cvss_v3.specs.VectorWeights.{weights_of}
-use Rattle.cvss_v3_score.specs.private.SubScores.{IsSubScore}
-use Rattle.cvss_v3_score.proofs.CountLemmas.{miss_millionths, modified_parts}
+use Rattle.cvss_score.specs.v3.private.SubScores.{IsSubScore}
+use Rattle.cvss_score.proofs.v3_lemmas.CountLemmas.{miss_millionths, modified_parts}
 use Rattle.cvss_v3.proofs.TableLemmas.{weights_listed}
 use Rattle.cvss_v3.proofs.vector.Vector.miss_millionths.Goals as goal
 

@@ -1,9 +1,9 @@
 use Rattle.std.proofs.Common.{◌^◌, arith, lit<}
 use Rattle.std.proofs.lemmas.Int.{ints}
-use Rattle.cvss_number.specs.Exact.{ratio, of_count, ◌≈◌}
-use Rattle.cvss_v3_score.specs.Scores.{rules_of, miss}
+use Rattle.cvss_base.specs.Exact.{ratio, of_count, ◌≈◌}
+use Rattle.cvss_score.specs.v3.Scores.{rules_of, miss}
 use Rattle.cvss_v3.specs.VectorWeights.{weights_of}
-use Rattle.cvss_v3_score.proofs.NumberLemmas.{impact_of_parts}
+use Rattle.cvss_score.proofs.v3_lemmas.NumberLemmas.{impact_of_parts}
 use Rattle.cvss_v3.proofs.vector.Vector.modified_impact.Goals as goal
 
 pub returns : goal.returns

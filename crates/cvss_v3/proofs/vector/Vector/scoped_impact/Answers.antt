@@ -1,12 +1,12 @@
 use Rattle.std.proofs.Common.{◌^◌, arith, lit<, subst}
 use Rattle.std.proofs.lemmas.Int.{ints}
-use Rattle.cvss_number.specs.Exact.{Exact, ratio, of_count, ◌≈◌}
-use Rattle.cvss_v3_score.specs.Scores.{iss}
+use Rattle.cvss_base.specs.Exact.{Exact, ratio, of_count, ◌≈◌}
+use Rattle.cvss_score.specs.v3.Scores.{iss}
 use Rattle.cvss_v3.specs.VectorWeights.{weights_of}
-use Rattle.cvss_v3_score.specs.declared.rules.Rules.TheVariants.{V30}
-use Rattle.cvss_v3_score.specs.private.Near.{Approximates}
-use Rattle.cvss_v3_score.proofs.EqualLemmas.{impact_is}
-use Rattle.cvss_v3_score.proofs.NumberLemmas.{impact_of_parts}
+use Rattle.cvss_score.specs.declared.v3.rules.Rules.TheVariants.{V30}
+use Rattle.cvss_score.specs.v3.private.Near.{Approximates}
+use Rattle.cvss_score.proofs.v3_lemmas.EqualLemmas.{impact_is}
+use Rattle.cvss_score.proofs.v3_lemmas.NumberLemmas.{impact_of_parts}
 use Rattle.cvss_v3.proofs.vector.Vector.scoped_impact.Goals as goal
 
 pub returns : goal.returns

@@ -1,7 +1,7 @@
 use Rattle.std.proofs.Common.{ap, ◌∙◌}
 use Rattle.cvss_base.specs.Rating.{rating_of_score}
 use Rattle.cvss_v3.specs.VectorWeights.{weights_of}
-use Rattle.cvss_v3_score.proofs.LawLemmas.{base_score_once}
+use Rattle.cvss_score.proofs.v3_lemmas.LawLemmas.{base_score_once}
 use Rattle.cvss_v3.proofs.vector.Vector.severity.Goals as goal
 
 pub returns : goal.returns

@@ -1,10 +1,10 @@
 use Rattle.std.proofs.Common.{ℤ, pos, arith, lit<, subst}
 use Rattle.std.proofs.lemmas.Int.{ints}
-use Rattle.cvss_number.specs.Exact.{of_count, ◌≈◌}
-use Rattle.cvss_number.proofs.ExactLemmas.{equal_trans}
-use Rattle.cvss_v3_score.specs.Scores.{temporal_number}
+use Rattle.cvss_base.specs.Exact.{of_count, ◌≈◌}
+use Rattle.cvss_base.proofs.ExactLemmas.{equal_trans}
+use Rattle.cvss_score.specs.v3.Scores.{temporal_number}
 use Rattle.cvss_v3.specs.VectorWeights.{weights_of}
-use Rattle.cvss_v3_score.proofs.LawLemmas.{base_once}
+use Rattle.cvss_score.proofs.v3_lemmas.LawLemmas.{base_once}
 use Rattle.cvss_v3.proofs.vector.Vector.temporal_number.Goals as goal
 
 pub returns-clause-value : goal.returns-clause-value

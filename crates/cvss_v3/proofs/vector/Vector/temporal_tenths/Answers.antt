@@ -1,7 +1,7 @@
 use Rattle.std.proofs.Common.{arith, lit<}
 use Rattle.std.proofs.lemmas.Int.{ints}
-use Rattle.cvss_number.proofs.ExactLemmas.{equal_trans}
-use Rattle.cvss_v3_score.proofs.EqualLemmas.{rounds_equal}
+use Rattle.cvss_base.proofs.ExactLemmas.{equal_trans}
+use Rattle.cvss_score.proofs.v3_lemmas.EqualLemmas.{rounds_equal}
 use Rattle.cvss_v3.proofs.vector.Vector.temporal_tenths.Goals as goal
 
 pub returns-clause-value : goal.returns-clause-value

@@ -1,7 +1,7 @@
 use Rattle.std.specs.Prelude.{Some, take}
 use Rattle.cvss_text.specs.private.Printing.{slashed_text}
 use Rattle.cvss_text.proofs.SightLemmas.{texts_in_turn}
-use Rattle.cvss_v3_metric.specs.Table.{printed}
+use Rattle.cvss_metric.specs.v3.Table.{printed}
 use Rattle.cvss_v3.specs.Vector.{v3}
 use Rattle.cvss_v3.specs.declared.vector.Vector.{Vector}
 use Rattle.cvss_v3.proofs.vector.sight.base_at_sight.Goals as goal

@@ -3,7 +3,7 @@ use Rattle.std.proofs.lemmas.List.{nil_from_length, append-nil}
 use Rattle.std.proofs.lemmas.Bool.{eqb-true}
 use Rattle.cvss_text.specs.private.Printing.{slashed_texts}
 use Rattle.cvss_text.proofs.SightLemmas.{joined}
-use Rattle.cvss_v3_metric.specs.Table.{printed}
+use Rattle.cvss_metric.specs.v3.Table.{printed}
 use Rattle.cvss_v3.specs.Vector.{v3}
 use Rattle.cvss_v3.proofs.vector.sight.metrics_at_sight.Goals as goal
 

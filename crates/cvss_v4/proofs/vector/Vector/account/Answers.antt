@@ -1,5 +1,5 @@
 use Rattle.std.proofs.Common.{subst}
-use Rattle.cvss_v4_score.specs.Account.{IsAccount}
+use Rattle.cvss_score.specs.v4.Account.{IsAccount}
 use Rattle.cvss_v4.proofs.vector.Vector.account.Goals as goal
 
 pub returns-clause-account : goal.returns-clause-account

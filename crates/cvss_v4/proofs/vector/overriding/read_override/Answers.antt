@@ -3,8 +3,8 @@ use Rattle.std.proofs.lemmas.Result.{err_from_is_err_and}
 use Rattle.cvss_text.specs.private.Walk.{reason_of}
 use Rattle.cvss_text.proofs.LawLemmas.{names_differ}
 use Rattle.std.specs.Prelude.{◌≡◌}
-use Rattle.cvss_name.specs.V4Types.{group_of}
-use Rattle.cvss_name.specs.declared.group.MetricGroup.TheVariants.{Environmental}
+use Rattle.cvss_base.specs.V4Types.{group_of}
+use Rattle.cvss_base.specs.declared.group.MetricGroup.TheVariants.{Environmental}
 use Rattle.cvss_v4.proofs.OverridingLemmas.{names_no_other, component_objection}
 use Rattle.cvss_v4.specs.Vector.{v4}
 use Rattle.cvss_v4.specs.private.VectorLaws.{v4_is_lawful}

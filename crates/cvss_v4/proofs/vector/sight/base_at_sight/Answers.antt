@@ -1,6 +1,6 @@
 use Rattle.std.specs.Prelude.{Some, take}
 use Rattle.cvss_text.specs.private.Printing.{slashed_text}
-use Rattle.cvss_v4_metric.specs.Table.{printed}
+use Rattle.cvss_metric.specs.v4.Table.{printed}
 use Rattle.cvss_v4.specs.Vector.{v4}
 use Rattle.cvss_v4.specs.declared.vector.Vector.{Vector}
 use Rattle.cvss_text.proofs.SightLemmas.{texts_in_turn}

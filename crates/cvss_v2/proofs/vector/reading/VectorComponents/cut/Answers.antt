@@ -1,6 +1,6 @@
 use Rattle.std.proofs.Common.{refl}
 use Rattle.cvss_text.proofs.LawLemmas.{IsCut_named}
-use Rattle.cvss_name.specs.V2Types.{name_of}
+use Rattle.cvss_base.specs.V2Types.{name_of}
 use Rattle.cvss_v2.specs.Vector.{v2}
 use Rattle.cvss_v2.specs.private.VectorLaws.{v2_is_lawful}
 use Rattle.cvss_v2.proofs.vector.reading.VectorComponents.cut.Goals as goal

@@ -1,6 +1,6 @@
 use Rattle.std.proofs.Common.{inl, inr, refl}
 use Rattle.cvss_text.proofs.PutLemmas.{put_at}
-use Rattle.cvss_name.specs.declared.v3.MetricType.TheVariants.{A, AC, AV, C, I, PR, S, UI, E, RL, RC, CR, IR, AR, MAV, MAC, MPR, MUI, MS, MC, MI, MA}
+use Rattle.cvss_base.specs.declared.v3.MetricType.TheVariants.{A, AC, AV, C, I, PR, S, UI, E, RL, RC, CR, IR, AR, MAV, MAC, MPR, MUI, MS, MC, MI, MA}
 use Rattle.cvss_v3.specs.Vector.{v3}
 use Rattle.cvss_v3.proofs.vector.reading.VectorComponents.put.Goals as goal
 

@@ -1,6 +1,6 @@
 use Rattle.std.proofs.Common.{inl, inr, refl}
 use Rattle.cvss_text.proofs.PutLemmas.{put_at}
-use Rattle.cvss_name.specs.declared.v4.MetricType.TheVariants as metric
+use Rattle.cvss_base.specs.declared.v4.MetricType.TheVariants as metric
 use Rattle.cvss_v4.specs.Vector.{v4}
 use Rattle.cvss_v4.proofs.vector.reading.VectorComponents.put.Goals as goal
 

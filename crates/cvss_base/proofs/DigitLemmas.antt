@@ -1,0 +1,37 @@
+-- The numbers from 0 to 10 in decimal, and with one decimal, each at its place in a list.
+use Rattle.std.proofs.Common.{◌≡◌, ℕ, ◌<◌, true, List, [], map, Bor, refl, sym, slice_index_or}
+use Rattle.std.specs.Fmt.{decimal, digits}
+use Rattle.std.specs.Str.{bytes_eq}
+use Rattle.std.proofs.Math.ListN.{get_or-map}
+use Rattle.std.proofs.lemmas.Slice.Eq.{bytes_eq-Decides}
+use Rattle.cvss_base.specs.Tenths.{tenths_text}
+use Rattle.cvss_base.specs.declared.tenths.TheConstants.{DIGITS, TEXTS}
+use Rattle.cvss_base.proofs.TestLemmas.{all_below, below_passes}
+
+-- the text behind an element of a list
+pub index-now : (texts : List (Bor (List ℕ))) (place : ℕ) (none : Bor (List ℕ))
+    → (slice_index_or texts place none).now ≡ slice_index_or (map (λ text. text.now) texts) place none.now
+index-now texts place none = sym (get_or-map (λ text. text.now) texts place none)
+
+-- whether each number below the count has its text at its place
+abbrev Tells : (ℕ → List ℕ) → List (List ℕ) → ℕ → Type 0
+Tells text_of texts count = all_below (λ number. bytes_eq (slice_index_or texts number []) (text_of number)) count ≡ true
+
+text_told : (text_of : ℕ → List ℕ) (texts : List (List ℕ)) (count number : ℕ) → Tells text_of texts count
+    → number < count → slice_index_or texts number [] ≡ text_of number
+text_told text_of texts count number all below =
+    (bytes_eq-Decides _ _).0 (below_passes (λ number. bytes_eq (slice_index_or texts number []) (text_of number)) count number all below)
+
+each_digit : Tells decimal (map (λ text. text.now) DIGITS) 11
+unfolding all_below digits
+each_digit = refl
+
+pub digit_told : (number : ℕ) → number < 11 → slice_index_or (map (λ text. text.now) DIGITS) number [] ≡ decimal number
+digit_told number = text_told decimal (map (λ text. text.now) DIGITS) 11 number each_digit
+
+each_tenth : Tells tenths_text (map (λ text. text.now) TEXTS) 101
+unfolding all_below digits
+each_tenth = refl
+
+pub tenth_told : (tenths : ℕ) → tenths < 101 → slice_index_or (map (λ text. text.now) TEXTS) tenths [] ≡ tenths_text tenths
+tenth_told tenths = text_told tenths_text (map (λ text. text.now) TEXTS) 101 tenths each_tenth

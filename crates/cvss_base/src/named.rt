@@ -1,0 +1,48 @@
+//! The names of a metric type, and the type that is looked up by its name, once for all versions.
+
+ghost use Rattle.std.specs.Prelude.{◌≡◌, IfOk, IfErr, IfSome, Some, Ok, ℕ, List, find, bytes_eq};
+ghost use Rattle.cvss_base.specs.declared.group.MetricGroup.{MetricGroup};
+ghost use Rattle.cvss_base.specs.private.Unknown.{TellsUnknown};
+
+use crate::error::Error;
+use crate::group::MetricGroup;
+use std::alloc::Global;
+
+/// A metric type of some version.
+pub trait Named: Copy + 'static {
+    ghost row_of: { Self → List ℕ × List ℕ × MetricGroup };
+
+    ghost declared: { List Self };
+
+    /// The abbreviation, the name in words and the group.
+    fn row(self) -> (&'static str, &'static str, MetricGroup)
+        ensures abbreviation { result.0.now ≡ (row_of self).0 }
+        ensures words { result.1.now ≡ (row_of self).1 }
+        ensures group { result.2 ≡ (row_of self).2 };
+
+    // Each is the first of its abbreviation.
+    ghost first: { (kind : Self)
+        → find (λ other. bytes_eq (row_of other).0 (row_of kind).0) declared ≡ Some kind };
+}
+
+/// The metric type with this name, exactly as it is written, where all metric types are given.
+fn kind_of<N: Named>(all: &[N], name: &str) -> Option<N>
+    requires { all.now ≡ N.declared }
+    ensures { result ≡ find (λ kind. bytes_eq (N.row_of kind).0 name.now) N.declared }
+{
+    all.iter().copied().find(|kind| kind.row().0 == name)
+}
+
+/// The metric type with this name, exactly as it is written, or the error that there is none, where
+/// all metric types are given.
+pub(crate) fn from_name<N: Named>(alloc: Global, all: &[N], name: &str) -> Result<N, Error>
+    requires { all.now ≡ N.declared }
+    ensures named { IfOk result (λ kind. (N.row_of kind).0 ≡ name.now) }
+    ensures read { (kind : N) → (N.row_of kind).0 ≡ name.now → result ≡ Ok kind }
+    ensures refused { IfErr result (TellsUnknown name.now) }
+{
+    match kind_of(all, name) {
+        Some(kind) => Ok(kind),
+        None => Err(Error::unknown_metric(alloc, name)),
+    }
+}

@@ -1,5 +1,0 @@
-pub mod Equality
-pub mod Refusal
-pub mod Text
-pub mod Version
-pub mod laws

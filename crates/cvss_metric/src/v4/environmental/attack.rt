@@ -1,0 +1,151 @@
+//! Where the attack comes from and what it depends on, in the user's own environment (v4.0
+//! specification, section 4.2).
+
+ghost use Rattle.std.specs.Prelude.{Some};
+ghost use Rattle.std.proofs.Common.{rules};
+ghost use Rattle.cvss_base.specs.declared.v4.MetricType.TheVariants as metric;
+ghost use Rattle.cvss_metric.specs.v4.Ranks as place;
+ghost use Rattle.cvss_metric.specs.v4.Table.{metric_component};
+
+use crate::v4::metric::{Metric, MetricType, Spelled};
+use cvss_text::print::write_component;
+use std::fmt;
+
+/// What Attack Vector is in the user's own environment (v4.0 specification, section 4.2).
+#[derive(Clone, Copy, Debug, Default, PartialEq, Eq, PartialOrd, Ord)]
+pub enum ModifiedAttackVector {
+    Physical,
+    Local,
+    Adjacent,
+    Network,
+    #[default]
+    NotDefined,
+}
+
+impl Spelled for ModifiedAttackVector {
+    const TYPE: MetricType = MetricType::MAV;
+
+    ghost TYPE = { metric.MAV };
+
+    ghost rank = { place.MAV };
+
+    fn values() -> &'static [Self] {
+        &[
+            Self::Physical,
+            Self::Local,
+            Self::Adjacent,
+            Self::Network,
+            Self::NotDefined,
+        ]
+    }
+
+    fn slashed(self) -> &'static str {
+        match self {
+            Self::Physical => "/MAV:P",
+            Self::Local => "/MAV:L",
+            Self::Adjacent => "/MAV:A",
+            Self::Network => "/MAV:N",
+            Self::NotDefined => "/MAV:X",
+        }
+    }
+}
+
+impl Metric for ModifiedAttackVector {
+    ghost law = { Prim.search rules };
+}
+
+impl fmt::Display for ModifiedAttackVector {
+    ghost output = { λ value. Some (metric_component metric.MAV (place.MAV value)) };
+
+    ghost styled_output = { λ value _. Some (metric_component metric.MAV (place.MAV value)) };
+
+    fn fmt<W: fmt::Write>(&self, f: &mut fmt::Formatter<W>) -> fmt::Result {
+        write_component(self.slashed(), f)
+    }
+}
+
+/// What Attack Complexity is in the user's own environment (v4.0 specification, section 4.2).
+#[derive(Clone, Copy, Debug, Default, PartialEq, Eq, PartialOrd, Ord)]
+pub enum ModifiedAttackComplexity {
+    #[default]
+    NotDefined,
+    High,
+    Low,
+}
+
+impl Spelled for ModifiedAttackComplexity {
+    const TYPE: MetricType = MetricType::MAC;
+
+    ghost TYPE = { metric.MAC };
+
+    ghost rank = { place.MAC };
+
+    fn values() -> &'static [Self] {
+        &[Self::NotDefined, Self::High, Self::Low]
+    }
+
+    fn slashed(self) -> &'static str {
+        match self {
+            Self::NotDefined => "/MAC:X",
+            Self::High => "/MAC:H",
+            Self::Low => "/MAC:L",
+        }
+    }
+}
+
+impl Metric for ModifiedAttackComplexity {
+    ghost law = { Prim.search rules };
+}
+
+impl fmt::Display for ModifiedAttackComplexity {
+    ghost output = { λ value. Some (metric_component metric.MAC (place.MAC value)) };
+
+    ghost styled_output = { λ value _. Some (metric_component metric.MAC (place.MAC value)) };
+
+    fn fmt<W: fmt::Write>(&self, f: &mut fmt::Formatter<W>) -> fmt::Result {
+        write_component(self.slashed(), f)
+    }
+}
+
+/// What Attack Requirements is in the user's own environment (v4.0 specification, section 4.2).
+#[derive(Clone, Copy, Debug, Default, PartialEq, Eq, PartialOrd, Ord)]
+pub enum ModifiedAttackRequirements {
+    #[default]
+    NotDefined,
+    Present,
+    None,
+}
+
+impl Spelled for ModifiedAttackRequirements {
+    const TYPE: MetricType = MetricType::MAT;
+
+    ghost TYPE = { metric.MAT };
+
+    ghost rank = { place.MAT };
+
+    fn values() -> &'static [Self] {
+        &[Self::NotDefined, Self::Present, Self::None]
+    }
+
+    fn slashed(self) -> &'static str {
+        match self {
+            Self::NotDefined => "/MAT:X",
+            Self::Present => "/MAT:P",
+            Self::None => "/MAT:N",
+        }
+    }
+}
+
+impl Metric for ModifiedAttackRequirements {
+    ghost law = { Prim.search rules };
+}
+
+impl fmt::Display for ModifiedAttackRequirements {
+    ghost output = { λ value. Some (metric_component metric.MAT (place.MAT value)) };
+
+    ghost styled_output = { λ value _. Some (metric_component metric.MAT (place.MAT value)) };
+
+    fn fmt<W: fmt::Write>(&self, f: &mut fmt::Formatter<W>) -> fmt::Result {
+        write_component(self.slashed(), f)
+    }
+}

@@ -1,0 +1,97 @@
+//! What an attacker can reach (v4.0 specification, sections 5.2 and 5.5).
+
+ghost use Rattle.std.specs.Prelude.{Some};
+ghost use Rattle.std.proofs.Common.{rules};
+ghost use Rattle.cvss_base.specs.declared.v4.MetricType.TheVariants as metric;
+ghost use Rattle.cvss_metric.specs.v4.Ranks as place;
+ghost use Rattle.cvss_metric.specs.v4.Table.{metric_component};
+
+use crate::v4::metric::{Metric, MetricType, Spelled};
+use cvss_text::print::write_component;
+use std::fmt;
+
+/// Whether attacks on many targets can be automated (v4.0 specification, section 5.2).
+#[derive(Clone, Copy, Debug, Default, PartialEq, Eq, PartialOrd, Ord)]
+pub enum Automatable {
+    #[default]
+    NotDefined,
+    Yes,
+    No,
+}
+
+impl Spelled for Automatable {
+    const TYPE: MetricType = MetricType::AU;
+
+    ghost TYPE = { metric.AU };
+
+    ghost rank = { place.AU };
+
+    fn values() -> &'static [Self] {
+        &[Self::NotDefined, Self::Yes, Self::No]
+    }
+
+    fn slashed(self) -> &'static str {
+        match self {
+            Self::NotDefined => "/AU:X",
+            Self::Yes => "/AU:Y",
+            Self::No => "/AU:N",
+        }
+    }
+}
+
+impl Metric for Automatable {
+    ghost law = { Prim.search rules };
+}
+
+impl fmt::Display for Automatable {
+    ghost output = { λ value. Some (metric_component metric.AU (place.AU value)) };
+
+    ghost styled_output = { λ value _. Some (metric_component metric.AU (place.AU value)) };
+
+    fn fmt<W: fmt::Write>(&self, f: &mut fmt::Formatter<W>) -> fmt::Result {
+        write_component(self.slashed(), f)
+    }
+}
+
+/// How many resources the attacker gains by one attack (v4.0 specification, section 5.5).
+#[derive(Clone, Copy, Debug, Default, PartialEq, Eq, PartialOrd, Ord)]
+pub enum ValueDensity {
+    #[default]
+    NotDefined,
+    Diffuse,
+    Concentrated,
+}
+
+impl Spelled for ValueDensity {
+    const TYPE: MetricType = MetricType::V;
+
+    ghost TYPE = { metric.V };
+
+    ghost rank = { place.V };
+
+    fn values() -> &'static [Self] {
+        &[Self::NotDefined, Self::Diffuse, Self::Concentrated]
+    }
+
+    fn slashed(self) -> &'static str {
+        match self {
+            Self::NotDefined => "/V:X",
+            Self::Diffuse => "/V:D",
+            Self::Concentrated => "/V:C",
+        }
+    }
+}
+
+impl Metric for ValueDensity {
+    ghost law = { Prim.search rules };
+}
+
+impl fmt::Display for ValueDensity {
+    ghost output = { λ value. Some (metric_component metric.V (place.V value)) };
+
+    ghost styled_output = { λ value _. Some (metric_component metric.V (place.V value)) };
+
+    fn fmt<W: fmt::Write>(&self, f: &mut fmt::Formatter<W>) -> fmt::Result {
+        write_component(self.slashed(), f)
+    }
+}

@@ -1,9 +1,0 @@
-pub mod ErrorText
-pub mod Groups
-pub mod SeverityText
-pub mod Told
-pub mod V2Types
-pub mod V3Types
-pub mod V4Types
-pub mod laws
-pub mod private

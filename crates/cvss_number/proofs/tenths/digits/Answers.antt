@@ -1,6 +1,0 @@
-use Rattle.std.proofs.Common.{arith}
-use Rattle.cvss_number.proofs.DigitLemmas.{index-now, digit_told}
-use Rattle.cvss_number.proofs.tenths.digits.Goals as goal
-
-pub returns : goal.returns
-returns c = rw (index-now _ c.args.number _) (digit_told c.args.number (omega (arith, c.requires)))

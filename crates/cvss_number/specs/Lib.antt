@@ -1,4 +1,0 @@
-pub mod Exact
-pub mod Rounding
-pub mod Tenths
-pub mod laws

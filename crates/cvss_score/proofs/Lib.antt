@@ -1,0 +1,3 @@
+pub mod v2_lemmas
+pub mod v3_lemmas
+pub mod v4_lemmas

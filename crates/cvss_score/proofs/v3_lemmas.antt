@@ -1,0 +1,9 @@
+pub mod CapLemmas
+pub mod CountLemmas
+pub mod EqualLemmas
+pub mod LawLemmas
+pub mod NearLemmas
+pub mod NumberLemmas
+pub mod RoundLemmas
+pub mod SettledLemmas
+pub mod SubScoreLemmas

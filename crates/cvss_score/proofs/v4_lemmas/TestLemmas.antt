@@ -1,0 +1,104 @@
+-- A test that computes to true for all values of a type, or all numbers below a limit, holds of each.
+use Rattle.std.proofs.Common.{◌≡◌, ℕ, zero, suc, ◌-◌, ◌<◌, Bool, true, ◌&&◌, List, [], ◌∷◌, Some, slice_get, refl, arith, ap, sym, ◌∙◌, inl, inr}
+use Rattle.std.specs.List.{list_all}
+use Rattle.std.proofs.lemmas.Bool.{and_parts, cases_eq}
+use Rattle.cvss_score.specs.v4.Effective.{attack_vectors, privileges, user_interactions, attack_complexities, all_attack_requirements, vulnerable_impacts, subsequent_impacts, safety_impacts, requirements, values}
+use Rattle.cvss_score.specs.v4.Levels.{attack_vector_level, privileges_level, interaction_level, complexity_level, requirements_level, vulnerable_level, subsequent_level, safety_level, requirement_level}
+use Rattle.cvss_score.specs.v4.Classes.{Eq1Values, Eq2Values, Eq3Eq6Values, Eq4Values}
+use Rattle.cvss_metric.specs.declared.v4.base.access as access
+use Rattle.cvss_metric.specs.declared.v4.base.attack as attack
+use Rattle.cvss_score.specs.declared.v4.scoring.effective as effective
+
+-- a test that is true for all of a list is true for each
+pub at_place : {A : Type 0} (p : A → Bool) (xs : List A) (x : A) (k : ℕ) → list_all p xs ≡ true → slice_get xs k ≡ Some x
+    → p x ≡ true
+at_place p [] x zero all here = cc
+at_place p [] x (suc k) all here = cc
+at_place p (y ∷ ys) x zero all here = let same : y ≡ x = cc in ap p (sym same) ∙ (and_parts (p y) (list_all p ys) all).0
+at_place p (y ∷ ys) x (suc k) all here = at_place p ys x k (and_parts (p y) (list_all p ys) all).1 here
+
+-- a type of few values: a test of all of them, and that it holds of each
+pub record Finite (A : Type 0) : Type 0 where
+  pub every : (A → Bool) → Bool
+  pub each : (p : A → Bool) → every p ≡ true → (x : A) → p x ≡ true
+
+-- the values of a list, in which each has its place
+abbrev listed : {A : Type 0} (xs : List A) (place : A → ℕ) → ((x : A) → slice_get xs (place x) ≡ Some x) → Finite A
+listed xs place here = record {
+  every = λ p. list_all p xs;
+  each = λ p h x. at_place p xs x (place x) h (here x);
+}
+
+-- two, three and six values together
+abbrev two : {A B : Type 0} → Finite A → Finite B → Finite (A × B)
+two a b = record {
+  every = λ p. a.every (λ x. b.every (λ y. p (x, y)));
+  each = λ p h v. b.each (λ y. p (v.0, y)) (a.each (λ x. b.every (λ y. p (x, y))) h v.0) v.1;
+}
+
+abbrev three : {A B C : Type 0} → Finite A → Finite B → Finite C → Finite (A × B × C)
+three a b c = record {
+  every = λ p. a.every (λ x. (two b c).every (λ v. p (x, v.0, v.1)));
+  each = λ p h v. (two b c).each (λ w. p (v.0, w.0, w.1)) (a.each (λ x. (two b c).every (λ w. p (x, w.0, w.1))) h v.0) (v.1, v.2);
+}
+
+abbrev six : {A B : Type 0} → Finite A → Finite B → Finite (A × A × A × B × B × B)
+six a b = record {
+  every = λ p. (three a a a).every (λ v. (three b b b).every (λ w. p (v.0, v.1, v.2, w.0, w.1, w.2)));
+  each = λ p h v. (three b b b).each (λ w. p (v.0, v.1, v.2, w.0, w.1, w.2))
+      ((three a a a).each (λ u. (three b b b).every (λ w. p (u.0, u.1, u.2, w.0, w.1, w.2))) h (v.0, v.1, v.2)) (v.3, v.4, v.5);
+}
+
+abbrev each_attack_vector : Finite attack.AttackVector.AttackVector
+each_attack_vector = listed (values attack_vectors) attack_vector_level (elim [ attack.AttackVector.TheVariants.Network ↦ refl | _ ↦ refl ])
+
+abbrev each_privileges_required : Finite access.PrivilegesRequired.PrivilegesRequired
+each_privileges_required = listed (values privileges) privileges_level (elim [ access.PrivilegesRequired.TheVariants.None ↦ refl | _ ↦ refl ])
+
+abbrev each_user_interaction : Finite access.UserInteraction.UserInteraction
+each_user_interaction = listed (values user_interactions) interaction_level (elim [ access.UserInteraction.TheVariants.None ↦ refl | _ ↦ refl ])
+
+abbrev each_attack_complexity : Finite attack.AttackComplexity.AttackComplexity
+each_attack_complexity = listed (values attack_complexities) complexity_level (elim [ attack.AttackComplexity.TheVariants.Low ↦ refl | _ ↦ refl ])
+
+abbrev each_attack_requirements : Finite attack.AttackRequirements.AttackRequirements
+each_attack_requirements = listed (values all_attack_requirements) requirements_level (elim [ attack.AttackRequirements.TheVariants.None ↦ refl | _ ↦ refl ])
+
+abbrev each_vulnerable_impact : Finite effective.VulnerableImpact.VulnerableImpact
+each_vulnerable_impact = listed (values vulnerable_impacts) vulnerable_level (elim [ effective.VulnerableImpact.TheVariants.High ↦ refl | _ ↦ refl ])
+
+abbrev each_subsequent_impact : Finite effective.SubsequentImpact.SubsequentImpact
+each_subsequent_impact = listed (values subsequent_impacts) (λ x. subsequent_level x - 1) (elim [ effective.SubsequentImpact.TheVariants.High ↦ refl | _ ↦ refl ])
+
+abbrev each_safety_impact : Finite effective.SafetyImpact.SafetyImpact
+each_safety_impact = listed (values safety_impacts) safety_level (elim [ effective.SafetyImpact.TheVariants.High ↦ refl | _ ↦ refl ])
+
+abbrev each_requirement : Finite effective.Requirement.Requirement
+each_requirement = listed (values requirements) requirement_level (elim [ effective.Requirement.TheVariants.High ↦ refl | _ ↦ refl ])
+
+-- the values of the metrics of each group
+abbrev pub each_eq1 : Finite Eq1Values
+each_eq1 = three each_attack_vector each_privileges_required each_user_interaction
+
+abbrev pub each_eq2 : Finite Eq2Values
+each_eq2 = two each_attack_complexity each_attack_requirements
+
+abbrev pub each_eq3_eq6 : Finite Eq3Eq6Values
+each_eq3_eq6 = six each_vulnerable_impact each_requirement
+
+abbrev pub each_eq4 : Finite Eq4Values
+each_eq4 = three each_subsequent_impact each_safety_impact each_safety_impact
+
+-- each number below a limit passes
+abbrev pub below : (ℕ → Bool) → ℕ → Bool
+below p zero = true
+below p (suc n) = p n && below p n
+
+pub each_below : (p : ℕ → Bool) (n k : ℕ) → k < n → below p n ≡ true → p k ≡ true
+each_below p zero k h all = absurd (omega arith)
+each_below p (suc n) k h all =
+    let parts = and_parts (p n) (below p n) all in
+    elim (cases_eq k n) as (λ _. p k ≡ true) [
+      | inl same ↦ ap p same ∙ parts.0
+      | inr other ↦ each_below p n k (omega arith) parts.1
+    ]

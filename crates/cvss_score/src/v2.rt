@@ -1,0 +1,10 @@
+//! The equations of CVSS v2: scores from weights.
+
+pub mod base_score;
+pub mod equations;
+pub mod laws;
+pub mod score;
+pub mod scores;
+mod weights;
+
+pub use score::Score;

@@ -1,0 +1,10 @@
+//! The scores of CVSS v3.0 and v3.1 in whole numbers of small units: weights, equations, roundings.
+
+pub mod equations;
+mod power;
+pub mod rounding;
+mod rules;
+pub mod weighing;
+mod weights;
+
+pub use rules::Rules;

@@ -1,0 +1,130 @@
+//! The equations of both specifications in whole numbers of small units.
+
+ghost use Rattle.std.specs.Prelude.{◌≡◌, ◌⊎◌, ◌≤◌, ◌*◌, ◌/◌, ◌^◌, ◌≤ℤ◌, ℕ, pos, neg_ℤ};
+ghost use Rattle.std.specs.List.{Contains};
+ghost use Rattle.cvss_base.specs.Exact.{ratio, ◌over◌, ◌⊗◌, ◌≈◌};
+ghost use Rattle.cvss_score.specs.v3.Scores.{hundredths, first_number, modified_impact_of};
+ghost use Rattle.cvss_score.specs.v3.private.Near.{Approximates, StandsFor};
+ghost use Rattle.cvss_score.specs.v3.private.SubScores.{IsSubScore, exploitabilities};
+ghost use Rattle.cvss_score.specs.v3.private.Units.{millionths_of, impact_units, total_units};
+
+use crate::v3::power::{changed_impact, changed_modified_impact};
+use crate::v3::rules::Rules;
+
+/// An impact times its requirement, cut to hundredths.
+#[inline(always)]
+pub fn weighted(requirement: u64, impact: u64) -> u64
+    requires requirement { requirement ≤ 150 }
+    requires impact { impact ≤ 56 }
+    ensures value { result ≡ requirement * impact / 100 }
+    ensures bound { result ≤ 84 }
+{
+    requirement * impact / 100
+}
+
+/// 1 - (1 - C) * (1 - I) * (1 - A) in millionths, of three weights in hundredths.
+#[inline(always)]
+pub fn sub_score(c: u64, i: u64, a: u64) -> u64
+    requires c { c ≤ 100 }
+    requires i { i ≤ 100 }
+    requires a { a ≤ 100 }
+    ensures value { result ≡ millionths_of c i a }
+    ensures bound { result ≤ 1_000_000 }
+{
+    1_000_000 - (100 - c) * (100 - i) * (100 - a)
+}
+
+/// Exploitability in 10^-10, of four weights in hundredths.
+#[inline(always)]
+#[tactic(auto, using(crate::proofs::v3_lemmas::CountLemmas::four_bound))]
+pub fn exploitability(av: u64, ac: u64, pr: u64, ui: u64) -> u64
+    requires av { av ≤ 100 }
+    requires ac { ac ≤ 100 }
+    requires pr { pr ≤ 100 }
+    requires ui { ui ≤ 100 }
+    ensures value { result ≡ 822 * av * ac * pr * ui }
+    ensures bound { result ≤ 822 * 10 ^ 8 }
+{
+    822 * av * ac * pr * ui
+}
+
+/// So many tenths times three weights in hundredths, in 10^-7.
+#[inline(always)]
+pub fn temporal(tenths: u64, e: u64, rl: u64, rc: u64) -> u64
+    requires tenths { tenths ≤ 100 }
+    requires e { e ≤ 100 }
+    requires rl { rl ≤ 100 }
+    requires rc { rc ≤ 100 }
+    ensures value { result over (10 ^ 7)
+        ≈ ratio (pos tenths) 10 ⊗ hundredths e ⊗ hundredths rl ⊗ hundredths rc }
+    ensures to_ten { result ≤ 10 ^ 8 }
+{
+    tenths * (e * rl * rc)
+}
+
+/// Modified Impact in 10^-11, of a sub-score in millionths that is not 0. Impact is that of v3.0.
+#[inline(always)]
+fn impact(sub_score: u64, changed: bool, rules: Rules) -> u64
+    requires { IsSubScore sub_score }
+    ensures value { result ≡ impact_units rules changed sub_score }
+    ensures bound { result ≤ 10 ^ 12 }
+{
+    match (changed, rules) {
+        (false, _) => 642_000 * sub_score,
+        (true, Rules::V30) => changed_impact(sub_score),
+        (true, Rules::V31) => changed_modified_impact(sub_score),
+    }
+}
+
+/// Modified Impact in 10^-11, of a sub-score in millionths. Without one it is below 0 where the
+/// scope is changed. Impact is that of v3.0.
+pub fn signed_impact(sub_score: u64, changed: bool, rules: Rules) -> i64
+    requires { (sub_score ≡ 0) ⊎ IsSubScore sub_score }
+    ensures value { Approximates changed (ratio result (10 ^ 11))
+        (modified_impact_of rules changed (sub_score over 1_000_000)) }
+    ensures low { neg_ℤ (pos (10 ^ 12)) ≤ℤ result }
+    ensures high { result ≤ℤ pos (10 ^ 12) }
+{
+    if sub_score != 0 {
+        return impact(sub_score, changed, rules) as i64;
+    }
+    if changed { WITHOUT_IMPACT } else { 0 }
+}
+
+/// 7.52 * (0 - 0.029) in 10^-11, whose power is nearer to 0 than that.
+const WITHOUT_IMPACT: i64 = -21_808_000_000;
+
+/// What a score is the rounding of, in 10^-13: of a sub-score in millionths and an exploitability in
+/// 10^-10.
+#[inline(always)]
+pub fn first_number(sub_score: u64, exploitability: u64, changed: bool, rules: Rules) -> u64
+    requires sub_score { (sub_score ≡ 0) ⊎ IsSubScore sub_score }
+    requires listed { Contains (exploitabilities changed) exploitability }
+    requires exploitability { exploitability ≤ 822 * 10 ^ 8 }
+    ensures value { (minor : ℕ) → StandsFor minor changed (result over (10 ^ 13))
+        (first_number changed (modified_impact_of rules changed (sub_score over 1_000_000))
+        (exploitability over (10 ^ 10))) }
+    ensures to_ten { result ≤ 10 ^ 14 }
+{
+    if sub_score == 0 {
+        return 0;
+    }
+    total(impact(sub_score, changed, rules), exploitability, changed)
+}
+
+/// What a score is the rounding of, in 10^-13: of an impact in 10^-11 and an exploitability in
+/// 10^-10.
+#[inline(always)]
+fn total(impact: u64, exploitability: u64, changed: bool) -> u64
+    requires impact { impact ≤ 10 ^ 12 }
+    requires exploitability { exploitability ≤ 822 * 10 ^ 8 }
+    ensures value { result ≡ total_units changed impact exploitability }
+    ensures to_ten { result ≤ 10 ^ 14 }
+{
+    let total = impact + 10 * exploitability;
+    if changed {
+        (108 * total).min(100_000_000_000_000)
+    } else {
+        (100 * total).min(100_000_000_000_000)
+    }
+}

@@ -1,0 +1,25 @@
+//! Laws of the types of a score of CVSS v4.0, each the contract of a function that does nothing. A
+//! proof that needs a law calls it.
+
+ghost use Rattle.cvss_base.specs.Equality.{EqualsByValue, ClonesByValue, ClonesAlways};
+
+use crate::v4::nomenclature::Nomenclature;
+use crate::v4::score::Score;
+
+/// Two scores or nomenclatures are equal exactly if they are one value.
+pub fn equality_is_that_of_values()
+    ensures score { EqualsByValue ⟦<Score as PartialEq>⟧.eq }
+    ensures nomenclature { EqualsByValue ⟦<Nomenclature as PartialEq>⟧.eq }
+{}
+
+/// A clone of a score or a nomenclature is that value.
+pub fn clones_are_equal()
+    ensures score { ClonesByValue ⟦<Score as Clone>⟧.is_clone }
+    ensures nomenclature { ClonesByValue ⟦<Nomenclature as Clone>⟧.is_clone }
+{}
+
+/// To clone a score or a nomenclature takes no memory, so it is never refused.
+pub fn values_are_cloned_without_memory()
+    ensures score { ClonesAlways ⟦<Score as Clone>⟧.is_infallible }
+    ensures nomenclature { ClonesAlways ⟦<Nomenclature as Clone>⟧.is_infallible }
+{}

@@ -1,3 +1,0 @@
-mod CountLemmas
-pub mod ScoreLemmas
-pub mod UniqueLemmas

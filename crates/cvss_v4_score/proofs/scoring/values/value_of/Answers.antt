@@ -1,7 +1,0 @@
-use Rattle.cvss_v4_score.proofs.TableLemmas.{value_at_place}
-use Rattle.cvss_v4_score.proofs.scoring.values.value_of.Goals as goal
-
-pub returns : goal.returns
-returns c =
-    let placed = c.args.placed.now in
-    rw placed.at_place (value_at_place placed.class placed.is_class)
