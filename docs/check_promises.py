@@ -3,7 +3,7 @@
 
 Each public type that derives PartialEq or Clone has a law of it: that two values are equal exactly if they are one, or
 tell the same, and that a clone is that value; and of one that is Copy, that no clone is refused. A law is a clause of a
-module `laws` that names the type's impl, or the law of the trait `Metric`.
+module `laws` that names the type's impl, or the law of the trait `Spelled`.
 
 docs/CONTRACTS.md lists exactly the public calls that ask for something, by the last part of their names.
 
@@ -39,7 +39,7 @@ def without_law():
         files, exported = sources(crate)
         for path, is_public, text in files:
             found = laws_for(path) | laws_for(ROOT / "crates/cvss/src/lib.rt")
-            metrics = re.findall(r"^impl(?:<[^>]*>)? Metric for (\w+)", text, re.M)
+            metrics = re.findall(r"^impl(?:<[^>]*>)? Spelled for (\w+)", text, re.M)
             for traits, name in DERIVED.findall(text):
                 if SCORING in str(path) or name in metrics or not (is_public or name in exported):
                     continue

@@ -12,6 +12,4 @@ pub mod v3;
 pub mod v4;
 
 pub use cvss_any::{Bounds, BytesError, Cvss, MetricType, Metrics, Published};
-pub use cvss_base::PREFIX;
-pub use cvss_base::{Error, MetricGroup, Severity};
-pub use cvss_base::{LIMIT, ONE, OneDecimal, tenths};
+pub use cvss_base::{Error, LIMIT, MetricGroup, ONE, OneDecimal, PREFIX, Severity, tenths};

@@ -5,13 +5,12 @@ ghost use Rattle.cvss.specs.Answers.{HasScore};
 ghost use Rattle.cvss_account.specs.Account.{AreNumbersOf, IsAccountOf, score_members};
 ghost use Rattle.cvss_account.specs.private.Puts.{PutsNumbers};
 ghost use Rattle.cvss_record.specs.Objects.{with_members};
-ghost use Rattle.cvss_record.specs.Record.{version_of};
 ghost use Rattle.serde_json.specs.View.{members_view};
 
 use crate::{v2, v3, v4};
 use cvss::Cvss;
 use cvss_base::TENTH;
-use cvss_record::score_value;
+use cvss_record::{score_value, version};
 use serde_json::{Map, Value, put};
 use std::alloc::{AllocError, Global};
 
@@ -66,17 +65,5 @@ fn put_numbers(
         Cvss::CvssV20(vector) => v2::put_account(members, alloc, vector),
         Cvss::CvssV30(vector) | Cvss::CvssV31(vector) => v3::put_account(members, alloc, vector),
         Cvss::CvssV40(vector) => v4::put_account(members, alloc, vector),
-    }
-}
-
-/// The version of the vector.
-fn version(cvss: &Cvss) -> &'static str
-    ensures { result.now ≡ version_of cvss.now }
-{
-    match cvss {
-        Cvss::CvssV20(_) => "2.0",
-        Cvss::CvssV30(_) => "3.0",
-        Cvss::CvssV31(_) => "3.1",
-        Cvss::CvssV40(_) => "4.0",
     }
 }

@@ -5,7 +5,6 @@ mod account;
 mod decimal;
 pub mod laws;
 mod near;
-mod parts;
 mod v2;
 mod v3;
 mod v4;

@@ -9,12 +9,11 @@ mod numbers;
 
 use crate::decimal::decimal_value;
 use crate::near::ten_millionths;
-use crate::parts::put_parts;
 use cvss::v2::{MetricType, Vector};
 use cvss_record::score_value;
 use cvss_text::metrics::Listed;
 use numbers::{BaseNumbers, EnvironmentalNumbers, TemporalNumbers};
-use serde_json::{Map, Value, put};
+use serde_json::{Map, Value, json, put};
 use std::alloc::{AllocError, Global};
 
 /// Puts the weights and the numbers on the way to the scores.
@@ -26,11 +25,13 @@ pub(crate) fn put_account(
     ensures { OnOk result (PutsNumbers (AreAccountMembers vector.now)
         (members_view members.old.entries) (members_view members.new.entries)) }
 {
-    let weights = weights_value(alloc, vector)?;
     let base = base_value(alloc, &BaseNumbers::of(vector))?;
     let temporal = temporal_value(alloc, &TemporalNumbers::of(vector))?;
     let environmental = environmental_value(alloc, &EnvironmentalNumbers::of(vector))?;
-    put_parts(members, alloc, weights, base, temporal, environmental)
+    put(members, alloc, "weights", weights_value(alloc, vector)?)?;
+    put(members, alloc, "base", base)?;
+    put(members, alloc, "temporal", temporal)?;
+    put(members, alloc, "environmental", environmental)
 }
 
 /// What each metric weighs.
@@ -60,54 +61,34 @@ fn weight_value(vector: &Vector, kind: MetricType) -> Value
 fn base_value(alloc: Global, numbers: &BaseNumbers) -> Result<Value, AllocError>
     ensures { IfOk result (λ value. view value ≡ base_value numbers.now) }
 {
-    let mut members = Map::new(alloc);
-    put(&mut members, alloc, "impact", decimal_value(numbers.impact))?;
-    put(
-        &mut members,
-        alloc,
-        "exploitability",
-        decimal_value(numbers.exploitability),
-    )?;
-    put(&mut members, alloc, "f", decimal_value(numbers.f))?;
-    put(&mut members, alloc, "number", decimal_value(numbers.number))?;
-    put(&mut members, alloc, "score", score_value(numbers.score))?;
-    Ok(Value::Object(members))
+    json!(in alloc; {
+        "impact": decimal_value(numbers.impact),
+        "exploitability": decimal_value(numbers.exploitability),
+        "f": decimal_value(numbers.f),
+        "number": decimal_value(numbers.number),
+        "score": score_value(numbers.score),
+    })
 }
 
 /// The object of the temporal score.
 fn temporal_value(alloc: Global, numbers: &TemporalNumbers) -> Result<Value, AllocError>
     ensures { IfOk result (λ value. view value ≡ temporal_value numbers.now) }
 {
-    let mut members = Map::new(alloc);
-    put(&mut members, alloc, "number", decimal_value(numbers.number))?;
-    put(&mut members, alloc, "score", score_value(numbers.score))?;
-    Ok(Value::Object(members))
+    json!(in alloc; {
+        "number": decimal_value(numbers.number),
+        "score": score_value(numbers.score),
+    })
 }
 
 /// The object of the environmental score.
 fn environmental_value(alloc: Global, numbers: &EnvironmentalNumbers) -> Result<Value, AllocError>
     ensures { IfOk result (λ value. view value ≡ environmental_value numbers.now) }
 {
-    let mut members = Map::new(alloc);
-    put(
-        &mut members,
-        alloc,
-        "adjustedImpact",
-        decimal_value(numbers.adjusted_impact),
-    )?;
-    put(
-        &mut members,
-        alloc,
-        "adjustedBase",
-        decimal_value(numbers.adjusted_base),
-    )?;
-    put(
-        &mut members,
-        alloc,
-        "adjustedTemporal",
-        decimal_value(numbers.adjusted_temporal),
-    )?;
-    put(&mut members, alloc, "number", decimal_value(numbers.number))?;
-    put(&mut members, alloc, "score", score_value(numbers.score))?;
-    Ok(Value::Object(members))
+    json!(in alloc; {
+        "adjustedImpact": decimal_value(numbers.adjusted_impact),
+        "adjustedBase": decimal_value(numbers.adjusted_base),
+        "adjustedTemporal": decimal_value(numbers.adjusted_temporal),
+        "number": decimal_value(numbers.number),
+        "score": score_value(numbers.score),
+    })
 }

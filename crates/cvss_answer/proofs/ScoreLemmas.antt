@@ -1,9 +1,8 @@
 -- The line of each score stands at its place.
-use Rattle.std.proofs.Common.{◌≡◌, ℕ, zero, suc, ◌+◌, ◌*◌, ◌^◌, ◌<◌, ◌≤◌, pos, int_lt, true, false, [], ◌∷◌, ◌++◌, List, codes, map, Some, slice_get, unwrap_or, refl, sym, ap, ◌∙◌, append_assoc, arith}
+use Rattle.std.proofs.Common.{◌≡◌, ℕ, zero, suc, ◌+◌, ◌*◌, ◌^◌, ◌<◌, ◌≤◌, pos, int_lt, true, false, [], ◌∷◌, ◌++◌, List, codes, map, Some, slice_get, unwrap_or, refl, sym, ap, ◌∙◌, append_assoc, arith, option_map}
 use Rattle.std.proofs.lemmas.Bool.Decides.{nat_tests}
 use Rattle.std.proofs.lemmas.Option.{slice_get-map}
 use Rattle.std.specs.List.{range_with_len}
-use Rattle.std.specs.Option.{option_map}
 use Rattle.cvss_any.specs.Answers.{rating_by, rating_text, score_of_tenths, text_of, vector_answer}
 use Rattle.cvss_any.specs.Published.{IsPublishedOf}
 use Rattle.cvss_any.specs.declared.published.Bounds.{Bounds}

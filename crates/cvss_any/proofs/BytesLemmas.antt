@@ -1,6 +1,5 @@
 -- Why bytes are refused, by the first reason.
-use Rattle.std.proofs.Common.{◌≡◌, ℕ, List, refl}
-use Rattle.std.specs.Str.{IsUtf8}
+use Rattle.std.proofs.Common.{◌≡◌, ℕ, List, refl, IsUtf8}
 use Rattle.cvss_base.specs.Refusal.{Refusal}
 use Rattle.cvss_any.specs.Bytes.{IsRefusedAs, TellsWhyNot}
 use Rattle.cvss_any.specs.Dispatch.{IsFirstRefusalCvss}

@@ -1,11 +1,10 @@
 -- How a text is cut at its first slash, and its first piece at its first colon.
-use Rattle.std.proofs.Common.{◌≡◌, ◌≢◌, ℕ, ◌<◌, ◌-◌, suc, true, false, eqb, ◌||◌, List, [], ◌∷◌, ◌++◌, codes, length, get_or, take, drop, refl, sym, ap, ◌∙◌, subst, arith}
-use Rattle.std.specs.List.{All, onto_first}
-use Rattle.std.specs.Str.{IsUtf8}
-use Rattle.std.proofs.lemmas.Bool.{or_parts}
+use Rattle.std.proofs.Common.{◌≡◌, ◌≢◌, ℕ, ◌<◌, ◌-◌, suc, true, false, eqb, ◌||◌, List, [], ◌∷◌, ◌++◌, codes, length, get_or, take, drop, refl, sym, ap, ◌∙◌, subst, arith, All, IsUtf8}
+use Rattle.std.proofs.lemmas.Bool.{false_from_ne_true}
+use Rattle.std.proofs.lemmas.List.Folds.{list_any_at}
 use Rattle.std.proofs.Math.Bool.{or-true}
 use Rattle.std.proofs.lemmas.List.Elements.{All-head}
-use Rattle.std.proofs.lemmas.List.Splits.{length-slice_split, slice_split-cons_no}
+use Rattle.std.proofs.lemmas.List.Splits.{length-slice_split, slice_split_at}
 use Rattle.std.proofs.lemmas.List.{take_rest}
 use Rattle.std.proofs.Math.Seq.{split_at}
 use Rattle.cvss_base.specs.Version.{version_piece}
@@ -41,10 +40,8 @@ some_piece text none = omega (arith, ap length none, length-slice_split (λ byte
 
 -- a text that begins with a piece and a slash
 pieces_behind : (piece rest : List ℕ) → has slash piece ≡ false → pieces (piece ++ (slash ∷ rest)) ≡ piece ∷ pieces rest
-pieces_behind [] rest none = refl
-pieces_behind (byte ∷ piece) rest none =
-    let apart = or_parts (eqb byte slash) (has slash piece) none in
-    slice_split-cons_no (λ each. eqb each slash) byte (piece ++ (slash ∷ rest)) apart.0 ∙ ap (onto_first byte) (pieces_behind piece rest apart.1)
+pieces_behind piece rest none = slice_split_at (λ each. eqb each slash) piece slash rest
+    (λ k d inside. false_from_ne_true _ (λ yes. let found = list_any_at (λ each. eqb each slash) piece k d inside yes in cc)) refl
 
 -- a text that begins with the piece that tells the version, and a slash
 pub version_first : (text told rest : List ℕ) (left : List (List ℕ)) → text ≡ version_piece told ++ (slash ∷ rest) → has slash told ≡ false → left ≡ pieces rest → pieces text ≡ version_piece told ∷ left

@@ -1,4 +1,3 @@
-mod AnswerLemmas
 mod BytesLemmas
 mod CutLemmas
 mod ReadLemmas

@@ -1,7 +1,5 @@
 -- A text that is seen to be canonical is UTF-8, and what is published of it.
-use Rattle.std.proofs.Common.{◌≡◌, ℕ, List, [], codes, refl, sym, ◌∙◌, subst}
-use Rattle.std.specs.List.{All}
-use Rattle.std.specs.Str.{IsUtf8}
+use Rattle.std.proofs.Common.{◌≡◌, ℕ, List, [], codes, refl, sym, ◌∙◌, subst, All, IsUtf8}
 use Rattle.std.proofs.lemmas.List.Elements.{All-nil, All-cons}
 use Rattle.cvss_base.specs.Version.{Version, canonical_text, version_piece}
 use Rattle.cvss_text.specs.private.Walk.{IsLawful, IsLawfulFront}

@@ -21,22 +21,14 @@ use Rattle.cvss_any.specs.Answers.{IsScoreOf}
 use Rattle.cvss_any.specs.Dispatch.{DenotesCvss}
 use Rattle.cvss_any.specs.declared.vector.Cvss.{Cvss}
 use Rattle.cvss_any.specs.declared.vector.Cvss.TheVariants.{CvssV20, CvssV30, CvssV31, CvssV40}
-use Rattle.cvss_any.proofs.AnswerLemmas.{of_v20, of_v30, of_v31, of_v40}
-use Rattle.cvss_any.proofs.RouteLemmas.{v20_routed, v30_routed, v31_routed, v40_routed}
+use Rattle.cvss_any.proofs.RouteLemmas.{denoted_routed, route_for}
 
 pub one_vector : (text : List ℕ) (left right : Cvss) → DenotesCvss text left → DenotesCvss text right → left ≡ right
-one_vector text (CvssV20 v) right left_is right_is =
-    let of = of_v20 text (v20_routed text v left_is) right right_is in
-    ap CvssV20 (denoted_once v2 v2_is_lawful v of.vector text refl left_is.denoted of.denoted.denoted) ∙ sym of.is
-one_vector text (CvssV30 v) right left_is right_is =
-    let of = of_v30 text (v30_routed text v left_is) right right_is in
-    ap CvssV30 (denoted_once_behind v3 v3_is_lawful v3_fronts_are_lawful text v of.vector left_is.denoted of.denoted.denoted) ∙ sym of.is
-one_vector text (CvssV31 v) right left_is right_is =
-    let of = of_v31 text (v31_routed text v left_is) right right_is in
-    ap CvssV31 (denoted_once_behind v3 v3_is_lawful v3_fronts_are_lawful text v of.vector left_is.denoted of.denoted.denoted) ∙ sym of.is
-one_vector text (CvssV40 v) right left_is right_is =
-    let of = of_v40 text (v40_routed text v left_is) right right_is in
-    ap CvssV40 (denoted_once_behind v4 v4_is_lawful v4_fronts_are_lawful text v of.vector left_is.denoted of.denoted.denoted) ∙ sym of.is
+one_vector text (CvssV20 v) (CvssV20 w) left right = ap CvssV20 (denoted_once v2 v2_is_lawful v w text refl left.denoted right.denoted)
+one_vector text (CvssV30 v) (CvssV30 w) left right = ap CvssV30 (denoted_once_behind v3 v3_is_lawful v3_fronts_are_lawful text v w left.denoted right.denoted)
+one_vector text (CvssV31 v) (CvssV31 w) left right = ap CvssV31 (denoted_once_behind v3 v3_is_lawful v3_fronts_are_lawful text v w left.denoted right.denoted)
+one_vector text (CvssV40 v) (CvssV40 w) left right = ap CvssV40 (denoted_once_behind v4 v4_is_lawful v4_fronts_are_lawful text v w left.denoted right.denoted)
+one_vector text v w left right = let no : route_for v ≡ route_for w = sym (denoted_routed text v left) ∙ denoted_routed text w right in absurd cc
 
 pub score_once : (cvss : Cvss) → IsOneCount (IsScoreOf cvss)
 score_once (CvssV20 v) = base_score_once (weights_of v)

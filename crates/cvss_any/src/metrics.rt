@@ -24,18 +24,15 @@ impl Iterator for Metrics {
 
     fn next(&mut self) -> Option<(MetricType, &'static str)> {
         match self {
-            Metrics::V2(metrics) => {
-                let (kind, spelling) = metrics.next()?;
-                Some((MetricType::V2(kind), spelling))
-            }
-            Metrics::V3(metrics) => {
-                let (kind, spelling) = metrics.next()?;
-                Some((MetricType::V3(kind), spelling))
-            }
-            Metrics::V4(metrics) => {
-                let (kind, spelling) = metrics.next()?;
-                Some((MetricType::V4(kind), spelling))
-            }
+            Metrics::V2(metrics) => metrics
+                .next()
+                .map(|(kind, spelling)| (MetricType::V2(kind), spelling)),
+            Metrics::V3(metrics) => metrics
+                .next()
+                .map(|(kind, spelling)| (MetricType::V3(kind), spelling)),
+            Metrics::V4(metrics) => metrics
+                .next()
+                .map(|(kind, spelling)| (MetricType::V4(kind), spelling)),
         }
     }
 }

@@ -1,8 +1,7 @@
 //! How a text is read by the rules of the version that it tells. It takes no memory: a fault borrows
 //! the part of the text that it names.
 
-ghost use Rattle.std.specs.Prelude.{◌≡◌, ◌∷◌, codes};
-ghost use Rattle.std.specs.Str.{IsUtf8};
+ghost use Rattle.std.specs.Prelude.{◌≡◌, ◌∷◌, codes, IsUtf8};
 ghost use Rattle.cvss_base.specs.Text.{pieces};
 ghost use Rattle.cvss_base.specs.Told.{Tells};
 ghost use Rattle.cvss_base.specs.Version.{version_piece};
@@ -21,10 +20,10 @@ use crate::bytes_error::BytesError;
 use crate::route::{NoVersion, Route, route_of_text};
 use crate::vector::Cvss;
 use crate::{v2, v3, v4};
-use cvss_text::refusing;
 use cvss_base::Error;
 use cvss_text::front::{Fronted, read_started};
 use cvss_text::pieces::Pieces;
+use cvss_text::refusing;
 use cvss_text::walk::{Fault, read_vector};
 use std::alloc::Global;
 

@@ -1,7 +1,6 @@
 //! By the rules of which version a text is read.
 
-ghost use Rattle.std.specs.Prelude.{◌≡◌, ◌∷◌, ◌++◌, IfSome, codes, true, false};
-ghost use Rattle.std.specs.Str.{IsUtf8};
+ghost use Rattle.std.specs.Prelude.{◌≡◌, ◌∷◌, ◌++◌, IfSome, codes, true, false, IsUtf8};
 ghost use Rattle.cvss_base.specs.Text.{component, dot, has, pieces, slash};
 ghost use Rattle.cvss_base.specs.Version.{version_piece};
 ghost use Rattle.cvss_text.specs.private.Pieces.{pieces_left};

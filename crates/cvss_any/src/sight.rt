@@ -1,7 +1,6 @@
 //! Canonical texts of any version, recognised at sight.
 
-ghost use Rattle.std.specs.Prelude.{◌≡◌, IfSome, IsSome};
-ghost use Rattle.std.specs.Str.{IsUtf8};
+ghost use Rattle.std.specs.Prelude.{◌≡◌, IfSome, IsSome, IsUtf8};
 ghost use Rattle.cvss_any.specs.Answers.{HasScore, text_of};
 ghost use Rattle.cvss_any.specs.Dispatch.{DenotesCvss};
 ghost use Rattle.cvss_any.specs.Published.{IsPublishedOf};

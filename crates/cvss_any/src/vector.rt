@@ -8,7 +8,8 @@ use crate::metrics::Metrics;
 use crate::published::{Bounds, Published};
 use crate::reading::{bytes_error_of, error_of, read};
 use crate::{v2, v3, v4};
-use cvss_base::{Error, Severity, TENTH, severity_of_score, tenths::text_of as text_of_tenths};
+use cvss_base::tenths::text_of as text_of_tenths;
+use cvss_base::{Error, Severity, TENTH, severity_of_score};
 use std::alloc::Global;
 use std::fmt;
 

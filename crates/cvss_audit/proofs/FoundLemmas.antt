@@ -57,11 +57,6 @@ module _ (source : Source) (places : List Place) where
     together = sym (append-nil old);
   }
 
-  -- where all places are seen
-  pub StreamsFound-end : (left : List Place) (old new : List ℕ) (w w' : Option (List ℕ)) (agree : Bool) → left ≡ []
-      → StreamsFound source places left old new w w' agree → StreamsFound source places [] old new w w' agree
-  StreamsFound-end left old new w w' agree none = subst (λ each. StreamsFound source places each old new w w' agree) none
-
   -- the places that are seen with one more, and those that are left
   split_more : (seen : List Place) (place : Place) (left left' : List Place) → places ≡ seen ++ left → left ≡ place ∷ left'
       → places ≡ (seen ++ place ∷ []) ++ left'
@@ -118,15 +113,6 @@ module _ (source : Source) (places : List Place) where
         together = ap (λ bytes. (before.passed ++ middle) ++ bytes) flushed.0 ∙ append-nil (before.passed ++ middle) ∙ all;
       }
 
-  -- memory was refused between two places
-  pub StopsFound-memory : (left : List Place) (old waits : List ℕ) (w w' : Option (List ℕ)) (agree : Bool) (fault : RunFault)
-      → StreamsFound source places left old waits w w' agree → fault ≡ Memory → StopsFound source places old w w' fault
-  StopsFound-memory left old waits w w' agree fault before is = record {
-    no_read = λ read. absurd (cc);
-    memory = λ _. record { passed = before.passed; pass = before.pass; appended = before.appended };
-    write = λ write. absurd (cc);
-  }
-
   -- a write failed behind one more place
   pub StopsFound-write : (place : Place) (left left' : List Place) (old waits middle : List ℕ) (w w' w'' : Option (List ℕ)) (agree agrees : Bool) (fault : RunFault)
       → left ≡ place ∷ left' → StreamsFound source places left old waits w w' agree → WritesPlace source place waits middle agrees
@@ -146,17 +132,15 @@ module _ (source : Source) (places : List Place) where
   }
 
 -- whether the answer to a document accepts it, and what is written for it
-pub told_answer : (found : List Found) → all_agree found ≡ is_accepted (answer_of found)
+told_answer : (found : List Found)
+    → (all_agree found ≡ is_accepted (answer_of found)) × (flat_map written_text (texts_of found) ≡ written_answer (answer_of found))
 told_answer found = told (all_agree found) where
-  told : (b : Bool) → b ≡ is_accepted (if b then Accepted (texts_of found) else Refused (texts_of found))
-  told true = refl
-  told false = refl
+  answer : Bool → Answer
+  answer b = if b then Accepted (texts_of found) else Refused (texts_of found)
 
-pub written_answer_of : (found : List Found) → flat_map written_text (texts_of found) ≡ written_answer (answer_of found)
-written_answer_of found = written (all_agree found) where
-  written : (b : Bool) → flat_map written_text (texts_of found) ≡ written_answer (if b then Accepted (texts_of found) else Refused (texts_of found))
-  written true = refl
-  written false = refl
+  told : (b : Bool) → (b ≡ is_accepted (answer b)) × (flat_map written_text (texts_of found) ≡ written_answer (answer b))
+  told true = (refl, refl)
+  told false = (refl, refl)
 
 -- what may be written of a document
 pass_document : (number : ℕ) (line old passed : List ℕ) (document : Data) → read line ≡ Some document
@@ -180,11 +164,11 @@ Streams-document number line old new w w' agree document utf8 reads streams = re
     are_found = subst (λ seen. AreFound (number, id_of document) seen streams.found) (sym (streams.split ∙ append-nil streams.seen)) streams.are_found;
     is = refl;
   })));
-  told = streams.told ∙ told_answer streams.found;
+  told = streams.told ∙ (told_answer streams.found).0;
   passed = streams.passed;
   is_passed = pass_document number line old streams.passed document reads streams.pass;
   appended = streams.appended;
-  together = streams.together ∙ ap (λ bytes. old ++ bytes) (written_answer_of streams.found);
+  together = streams.together ∙ ap (λ bytes. old ++ bytes) (told_answer streams.found).1;
 }
 
 -- a fault in the midst of a document

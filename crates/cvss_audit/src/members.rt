@@ -17,7 +17,7 @@ use cvss::{Cvss, v4};
 use cvss_base::TENTH;
 use cvss_object::{Tree, put_tree};
 use cvss_record::{Difference, Place, Scores, score_value};
-use serde_json::{Map, Value, put};
+use serde_json::{Map, Value, json, put};
 use std::alloc::{AllocError, Global};
 
 /// Puts the number of a line.
@@ -155,16 +155,10 @@ fn put_score(
 fn v4_score(alloc: Global, vector: &v4::Vector, tenths: u8) -> Result<Value, AllocError>
     ensures { IfOk result (λ value. view value ≡ object_of (v4_members vector.now tenths)) }
 {
-    let mut members = Map::new(alloc);
-    let nomenclature = vector.nomenclature().to_string(alloc)?;
-    put(
-        &mut members,
-        alloc,
-        "nomenclature",
-        Value::String(nomenclature),
-    )?;
-    put(&mut members, alloc, "score", score_value(tenths))?;
-    Ok(Value::Object(members))
+    json!(in alloc; {
+        "nomenclature": vector.nomenclature().to_string(alloc)?,
+        "score": score_value(tenths),
+    })
 }
 
 /// Puts a list of values under a name, if there are some.

@@ -1,7 +1,6 @@
 //! The base metrics that a vector lacks.
 
 ghost use Rattle.std.specs.Prelude.{◌≡◌, IfOk, OnOk, map, option_map};
-ghost use Rattle.std.specs.List.{filter_map};
 ghost use Rattle.cvss_audit.specs.Objects.{missing_at, missing_members, missing_v3};
 ghost use Rattle.cvss_object.specs.Trees.{members_view, tree_view};
 ghost use Rattle.cvss_record.specs.Objects.{with_members};
@@ -33,26 +32,14 @@ pub(crate) fn put_missing<'a>(
     }
 }
 
+/// The names of the base metrics that a vector lacks.
 fn missing_v3<'a>(alloc: Global, vector: &v3::Vector) -> Result<Vec<Tree<'a>>, AllocError>
     ensures { IfOk result (λ missing. map tree_view missing.items ≡ missing_v3 vector.now) }
 {
-    missing_among(alloc, vector, v3::Vector::printed())
-}
-
-/// The names of those of these metrics that are base metrics and that a vector lacks.
-fn missing_among<'a>(
-    alloc: Global,
-    vector: &v3::Vector,
-    kinds: &[v3::MetricType],
-) -> Result<Vec<Tree<'a>>, AllocError>
-    ensures { IfOk result (λ missing. map tree_view missing.items
-        ≡ filter_map (missing_at vector.now) kinds.now) }
-{
     let mut missing = Vec::new(alloc);
-    for kind in kinds {
-        match missing_at(vector, *kind) {
-            Some(name) => missing.push(name)?,
-            None => {}
+    for kind in v3::Vector::printed() {
+        if let Some(name) = missing_at(vector, *kind) {
+            missing.push(name)?;
         }
     }
     Ok(missing)

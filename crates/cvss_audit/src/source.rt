@@ -31,27 +31,16 @@ impl Source<'_> {
 fn id_of(document: &Value) -> Option<&str>
     ensures { option_map (λ id. id.now) result ≡ id_of (view document.now) }
 {
-    if let Some(id) = string_at(document, "/cve/id") {
-        return Some(id);
-    }
-    if let Some(id) = string_at(document, "/cveMetadata/cveId") {
-        return Some(id);
-    }
-    if let Some(id) = string_at(document, "/ghsa_id") {
-        return Some(id);
-    }
-    if let Some(id) = string_at(document, "/id") {
-        return Some(id);
-    }
-    string_at(document, "/cve")
+    string_at(document, "/cve/id")
+        .or_else(|| string_at(document, "/cveMetadata/cveId"))
+        .or_else(|| string_at(document, "/ghsa_id"))
+        .or_else(|| string_at(document, "/id"))
+        .or_else(|| string_at(document, "/cve"))
 }
 
 /// The string that a JSON Pointer leads to.
 fn string_at<'a>(document: &'a Value, pointer: &str) -> Option<&'a str>
     ensures { option_map (λ text. text.now) result ≡ string_at pointer.now (view document.now) }
 {
-    match document.pointer(pointer) {
-        Some(value) => value.as_str(),
-        None => None,
-    }
+    document.pointer(pointer)?.as_str()
 }

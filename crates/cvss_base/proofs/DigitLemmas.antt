@@ -1,7 +1,6 @@
 -- The numbers from 0 to 10 in decimal, and with one decimal, each at its place in a list.
-use Rattle.std.proofs.Common.{◌≡◌, ℕ, ◌<◌, true, List, [], map, Bor, refl, sym, slice_index_or}
+use Rattle.std.proofs.Common.{◌≡◌, ℕ, ◌<◌, true, List, [], map, Bor, refl, sym, slice_index_or, bytes_eq}
 use Rattle.std.specs.Fmt.{decimal, digits}
-use Rattle.std.specs.Str.{bytes_eq}
 use Rattle.std.proofs.Math.ListN.{get_or-map}
 use Rattle.std.proofs.lemmas.Slice.Eq.{bytes_eq-Decides}
 use Rattle.cvss_base.specs.Tenths.{tenths_text}

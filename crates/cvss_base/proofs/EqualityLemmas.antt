@@ -1,7 +1,6 @@
 -- What the equality of a whole says of its parts.
-use Rattle.std.specs.Prelude.{◌↔◌, Bool, true, false, ◌&&◌, IsTrue, Some, None, refl}
 use Rattle.std.specs.Option.{option_eq}
-use Rattle.std.proofs.Common.{ap}
+use Rattle.std.proofs.Common.{ap, ◌↔◌, Bool, true, false, ◌&&◌, IsTrue, Some, None, refl}
 use Rattle.cvss_base.specs.Equality.{EqualsByValue}
 
 pub both : {P Q : Type 0} {a b : Bool} → IsTrue a ↔ P → IsTrue b ↔ Q → IsTrue (a && b) ↔ (P × Q)

@@ -1,6 +1,5 @@
 -- Order and equality of exact numbers, and what sums, differences and products do to them.
-use Rattle.std.proofs.Common.{◌≡◌, ℕ, zero, suc, ◌+◌, ◌-◌, ◌*◌, ◌<◌, ◌≤◌, ℤ, pos, negsuc, ◌+ℤ◌, ◌-ℤ◌, ◌*ℤ◌, ◌≤ℤ◌, neg_ℤ, ap, arith, refl, sym, ◌∙◌}
-use Rattle.std.proofs.Math.Nat.{mul-le-mul, mul-le-mul_right, le_of_mul-le-mul_right, lt_of_mul-lt-mul_right, mul-lt-mul_of_pos_right}
+use Rattle.std.proofs.Common.{◌≡◌, ℕ, zero, suc, ◌+◌, ◌-◌, ◌*◌, ◌<◌, ◌≤◌, ℤ, pos, negsuc, ◌+ℤ◌, ◌-ℤ◌, ◌*ℤ◌, ◌≤ℤ◌, neg_ℤ, ap, arith, refl, sym, ◌∙◌, mul-le-mul, mul-le-mul_right, le_of_mul-le-mul_right}
 use Rattle.std.proofs.Math.IntN.{*ℤ_comm}
 use Rattle.std.proofs.lemmas.Int.{ints, by_lt_z}
 use borrow.Author.Differences.{up, down, sum_is_lem, neg_is, product_is}
@@ -33,38 +32,20 @@ module _ (a a' p b b' q c c' s : ℕ) where
       omega (arith, mul-le-mul_right s left, mul-le-mul_right p right) in
       le_of_mul-le-mul_right products positive
 
-  chained_below : 0 < p → a * q + b' * p ≤ b * p + a' * q → b * s + c' * q < c * q + b' * s
-      → a * s + c' * p < c * p + a' * s
-  chained_below positive left right =
-      let products : (a * s + c' * p) * q < (c * p + a' * s) * q =
-      omega (arith, mul-le-mul_right s left, mul-lt-mul_of_pos_right right positive) in
-      lt_of_mul-lt-mul_right q products
-
-  below_chained : 0 < s → a * q + b' * p < b * p + a' * q → b * s + c' * q ≤ c * q + b' * s
-      → a * s + c' * p < c * p + a' * s
-  below_chained positive left right =
-      let products : (a * s + c' * p) * q < (c * p + a' * s) * q =
-      omega (arith, mul-lt-mul_of_pos_right left positive, mul-le-mul_right p right) in
-      lt_of_mul-lt-mul_right q products
+pub at_most_trans : (x y z : Exact) → 0 < y.bottom → x ⊑ y → y ⊑ z → x ⊑ z
+at_most_trans x y z positive left right =
+    let step = chained (up x.top) (down x.top) x.bottom (up y.top) (down y.top) y.bottom
+    (up z.top) (down z.top) z.bottom positive (omega (arith, ints)) (omega (arith, ints)) in
+    record { at_most = omega (arith, ints, step) }
 
 module _ (x y z : Exact) where
-  pub at_most_trans : 0 < y.bottom → x ⊑ y → y ⊑ z → x ⊑ z
-  at_most_trans positive left right =
-      let step = chained (up x.top) (down x.top) x.bottom (up y.top) (down y.top) y.bottom
-      (up z.top) (down z.top) z.bottom positive (omega (arith, ints)) (omega (arith, ints)) in
-      record { at_most = omega (arith, ints, step) }
-
   pub at_most_below : 0 < x.bottom → x ⊑ y → y ⊏ z → x ⊏ z
   at_most_below positive left right =
-      let step = chained_below (up x.top) (down x.top) x.bottom (up y.top) (down y.top) y.bottom
-      (up z.top) (down z.top) z.bottom positive (omega (arith, ints)) (omega (arith, ints)) in
-      record { below = omega (arith, ints, step) }
+      by_below x z (λ below. below) (λ back. let no = at_most_trans z x y positive back left in absurd (omega (arith, ints)))
 
   pub below_at_most : 0 < z.bottom → x ⊏ y → y ⊑ z → x ⊏ z
   below_at_most positive left right =
-      let step = below_chained (up x.top) (down x.top) x.bottom (up y.top) (down y.top) y.bottom
-      (up z.top) (down z.top) z.bottom positive (omega (arith, ints)) (omega (arith, ints)) in
-      record { below = omega (arith, ints, step) }
+      by_below x z (λ below. below) (λ back. let no = at_most_trans y z x positive right back in absurd (omega (arith, ints)))
 
 pub equal_trans : {x y z : Exact} → 0 < y.bottom → x ≈ y → y ≈ z → x ≈ z
 equal_trans {x} {y} {z} positive left right =
@@ -78,12 +59,7 @@ pub by_sign : (P : ℤ → ℤ → Type 0) → P (pos 0) (pos 0) → ((m n : ℕ
 by_sign P none above below (pos zero) (pos zero) p q some_p some_q same = none
 by_sign P none above below (pos (suc m)) (pos (suc n)) p q some_p some_q same = above m n
 by_sign P none above below (negsuc m) (negsuc n) p q some_p some_q same = below m n
-by_sign P none above below (pos zero) (pos (suc n)) p q some_p some_q same = absurd (omega (arith, ints))
-by_sign P none above below (pos zero) (negsuc n) p q some_p some_q same = absurd (omega (arith, ints))
-by_sign P none above below (pos (suc m)) (pos zero) p q some_p some_q same = absurd (omega (arith, ints))
-by_sign P none above below (pos (suc m)) (negsuc n) p q some_p some_q same = absurd (omega (arith, ints))
-by_sign P none above below (negsuc m) (pos zero) p q some_p some_q same = absurd (omega (arith, ints))
-by_sign P none above below (negsuc m) (pos (suc n)) p q some_p some_q same = absurd (omega (arith, ints))
+by_sign P none above below _ _ p q some_p some_q same = absurd (omega (arith, ints))
 
 -- a factor goes into a sum
 pub times_sum : (a b : ℤ) (n : ℕ) → (a +ℤ b) *ℤ pos n ≡ a *ℤ pos n +ℤ b *ℤ pos n

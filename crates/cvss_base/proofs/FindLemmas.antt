@@ -1,5 +1,10 @@
 -- The first item of a list that passes a test, by its place.
-use Rattle.std.proofs.Common.{◌≡◌, ℕ, zero, suc, ◌<◌, Bool, true, false, List, [], ◌∷◌, length, get_or, Some, None, find, slice_get, cond, refl, subst, arith}
+use Rattle.std.proofs.Common.{◌≡◌, ℕ, ◌<◌, Bool, true, false, List, length, get_or, Some, None, find, slice_get, inl, inr, sym, ap, ◌∙◌, subst, arith}
+use Rattle.std.specs.List.{position_or_len}
+use Rattle.std.proofs.lemmas.Bool.{cases_lt}
+use Rattle.std.proofs.lemmas.List.Folds.{find_at}
+use Rattle.std.proofs.lemmas.List.Sums.{fails_before_first, passes_at_first, position_or_len_is}
+use Rattle.std.proofs.lemmas.Option.{get_or_from_slice_get, none-some, slice_get-get_or, slice_get_within}
 
 -- an item that passes a test, and none before it does
 pub record IsFirstPassing {K : Type 0} (test : K → Bool) (items : List K) (item : K) : Type 0 where
@@ -8,39 +13,32 @@ pub record IsFirstPassing {K : Type 0} (test : K → Bool) (items : List K) (ite
   pub passes : test item ≡ true
   pub earlier : (before : ℕ) (other : K) → before < place → slice_get items before ≡ Some other → test other ≡ false
 
-module _ {K : Type 0} (test : K → Bool) where
-  first_here : (item : K) (items : List K) (found : K) → test item ≡ true → Some item ≡ Some found → IsFirstPassing test (item ∷ items) found
-  first_here item items found passes is =
-      let same : item ≡ found = cc in
-      record { place = 0; is = is; passes = subst (λ x. test x ≡ true) same passes; earlier = λ before other below. absurd (omega arith) }
+module _ {K : Type 0} (test : K → Bool) (items : List K) where
+  pub found_first : (found : K) → find test items ≡ Some found → IsFirstPassing test items found
+  found_first found is =
+      let place = position_or_len test items in
+      let here = sym (find_at test items) ∙ is in
+      record {
+        place = place;
+        is = here;
+        passes = subst (λ x. test x ≡ true) (get_or_from_slice_get items place found found here) (passes_at_first test items found (slice_get_within items place found here));
+        earlier = λ before other below at. subst (λ x. test x ≡ false) (get_or_from_slice_get items before other other at) (fails_before_first test items before other below);
+      }
 
-  first_later : (item : K) (items : List K) (found : K) → test item ≡ false → IsFirstPassing test items found → IsFirstPassing test (item ∷ items) found
-  first_later item items found fails rest = record {
-    place = suc rest.place;
-    is = rest.is;
-    passes = rest.passes;
-    earlier = later;
-  } where
-    later : (before : ℕ) (other : K) → before < suc rest.place → slice_get (item ∷ items) before ≡ Some other → test other ≡ false
-    later zero other below is = let same : item ≡ other = cc in subst (λ x. test x ≡ false) same fails
-    later (suc before) other below is = rest.earlier before other (omega arith) is
+  pub not_found : (place : ℕ) (default : K) → find test items ≡ None → place < length items → test (get_or items place default) ≡ false
+  not_found place default none within = elim (cases_lt place (position_or_len test items)) [
+    | inl before ↦ fails_before_first test items place default before
+    | inr past ↦ absurd (none-some _ (sym none ∙ (find_at test items ∙ slice_get-get_or items _ default (omega arith))))
+  ]
 
-  pub found_first : (items : List K) (found : K) → find test items ≡ Some found → IsFirstPassing test items found
-  found_first [] found is = absurd cc
-  found_first (item ∷ items) found is = by_test (test item) refl is (found_first items found)
-    where
-      by_test : (b : Bool) → test item ≡ b → cond b (Some item) (find test items) ≡ Some found → (find test items ≡ Some found → IsFirstPassing test items found) → IsFirstPassing test (item ∷ items) found
-      by_test true passes here rest = first_here item items found passes here
-      by_test false fails later rest = first_later item items found fails (rest later)
+  pub found_passes : (found : K) → find test items ≡ Some found → test found ≡ true
+  found_passes found is = (found_first found is).passes
 
-  pub not_found : (items : List K) (place : ℕ) (default : K) → find test items ≡ None → place < length items → test (get_or items place default) ≡ false
-  not_found [] place default none within = absurd (omega arith)
-  not_found (item ∷ items) place default none within = by_test (test item) refl place none within (λ at. not_found items at default)
-    where
-      by_test : (b : Bool) → test item ≡ b → (at : ℕ) → cond b (Some item) (find test items) ≡ None → at < length (item ∷ items) → ((later : ℕ) → find test items ≡ None → later < length items → test (get_or items later default) ≡ false) → test (get_or (item ∷ items) at default) ≡ false
-      by_test true passes at some inside rest = absurd cc
-      by_test false fails zero nothing inside rest = fails
-      by_test false fails (suc at) nothing inside rest = rest at nothing (omega arith)
-
-  pub found_passes : (items : List K) (found : K) → find test items ≡ Some found → test found ≡ true
-  found_passes items found is = (found_first items found is).passes
+  -- and such an item is found
+  pub found_from : {found : K} → IsFirstPassing test items found → find test items ≡ Some found
+  found_from {found} first =
+      let within = slice_get_within items first.place found first.is in
+      let place = position_or_len_is test items first.place found (omega arith)
+      (λ k below. first.earlier k (get_or items k found) below (slice_get-get_or items k found (omega arith)))
+      (λ _. rw (get_or_from_slice_get items first.place found found first.is) first.passes) in
+      find_at test items ∙ (ap (slice_get items) place ∙ first.is)

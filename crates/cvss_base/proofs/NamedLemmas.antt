@@ -1,6 +1,5 @@
 -- What is found by its name has that name, and the first of its name is found.
-use Rattle.std.specs.Prelude.{◌≡◌, ℕ, List, Some, find, bytes_eq}
-use Rattle.std.proofs.Common.{subst}
+use Rattle.std.proofs.Common.{subst, ◌≡◌, ℕ, List, Some, find, bytes_eq}
 use Rattle.std.proofs.lemmas.Slice.Eq.{bytes_eq-Decides}
 use Rattle.cvss_base.proofs.FindLemmas.{found_passes}
 

@@ -1,9 +1,6 @@
 -- The order that is derived for an enum without fields goes by the places of its variants.
-use Rattle.std.proofs.Common.{◌≡◌, ℕ, suc, List, [], ◌∷◌, refl, ◌∙◌, inl, inr, arith}
+use Rattle.std.proofs.Common.{◌≡◌, ℕ, List, [], ◌∷◌, refl, ◌∙◌, inl, inr, arith, nat_cmp, Ordering, Less, Equal, Greater}
 use Rattle.std.proofs.lemmas.Bool.Decides.{nat_tests}
-use Rattle.std.specs.Ordering.{nat_cmp}
-use Rattle.std.specs.declared.cmp.Ordering.{Ordering}
-use Rattle.std.specs.declared.cmp.Ordering.TheVariants.{Less, Equal, Greater}
 use denote.Struct.Field.{Field}
 use denote.Enum.Compared.{Each, by}
 use denote.Enum.Declared.{Record, Choice, declared, rowss, intoss, tag_of}
@@ -18,16 +15,13 @@ equals (fields ∷ parts) = (λ _ _. Equal, equals parts)
 abbrev place : (parts : List (List Field)) → Choice parts → ℕ
 place parts x = tag (rowss parts) (intoss parts x)
 
-shifted : (x y : ℕ) → nat_cmp x y ≡ nat_cmp (suc x) (suc y)
-shifted x y = grind (arith, nat_tests)
-
 by_place : (parts : List (List Field)) (x y : Choice parts)
     → by Less Greater parts (equals parts) x y ≡ nat_cmp (place parts x) (place parts y)
 by_place [] x y = absurd x
 by_place (fields ∷ parts) (inl x) (inl y) = refl
 by_place (fields ∷ parts) (inl x) (inr y) = grind (arith, nat_tests)
 by_place (fields ∷ parts) (inr x) (inl y) = grind (arith, nat_tests)
-by_place (fields ∷ parts) (inr x) (inr y) = by_place parts x y ∙ shifted (place parts x) (place parts y)
+by_place (fields ∷ parts) (inr x) (inr y) = by_place parts x y ∙ grind (arith, nat_tests)
 
 -- so it is that of a list in which each variant stands at its place
 pub compares : (enum : Record) (text : enum.D → List ℕ) (items : List enum.D)

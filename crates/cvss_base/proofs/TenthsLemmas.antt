@@ -1,6 +1,5 @@
 -- What one number of tenths counts.
-use Rattle.std.specs.Prelude.{◌^◌}
-use Rattle.std.proofs.Common.{ℤ, pos, ◌*ℤ◌, sym, ap, ◌∙◌}
+use Rattle.std.proofs.Common.{ℤ, pos, ◌*ℤ◌, sym, ap, ◌∙◌, ◌^◌}
 use Rattle.cvss_base.specs.Tenths.{IsInTenths}
 use Rattle.cvss_base.specs.laws.Rounding.{IsOneCount}
 

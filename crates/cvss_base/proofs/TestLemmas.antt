@@ -1,13 +1,10 @@
 -- What tests that compute say of exact numbers and of the members of a list.
-use Rattle.std.specs.Prelude.{slice_index_or}
 use Rattle.std.specs.List.{list_all, list_any, Contains}
-use Rattle.std.proofs.Common.{◌≡◌, ℕ, zero, suc, ◌<◌, ◌≤◌, pos, ◌*ℤ◌, List, Bool, true, eqb, ◌&&◌, inl, inr, arith, subst, sym}
+use Rattle.std.proofs.Common.{◌≡◌, ℕ, zero, suc, ◌<◌, ◌≤◌, pos, ◌*ℤ◌, List, Bool, true, eqb, ◌&&◌, inl, inr, arith, subst, sym, slice_index_or, eq-or-lt_of_le, T}
 use Rattle.std.proofs.lemmas.Bool.{and_parts, eqb-true}
 use Rattle.std.proofs.lemmas.List.Elements.{All-contains}
 use Rattle.std.proofs.lemmas.List.Sums.{AllPass-from_list_all}
 use Rattle.std.proofs.lemmas.List.Folds.{Any-from_list_any}
-use Rattle.std.proofs.Math.Nat.{eq-or-lt_of_le}
-use lib.Dec.{T}
 use lib.Signed.{lt_z, le_z, lt_z_yes, le_z_yes}
 use Rattle.cvss_base.specs.Exact.{Exact, ◌⊑◌, ◌⊏◌}
 

@@ -9,7 +9,6 @@ pub mod laws;
 mod named;
 mod number;
 mod one_decimal;
-mod rating;
 mod severity;
 pub mod tenths;
 pub mod v2;
@@ -20,8 +19,7 @@ pub use error::Error;
 pub use group::MetricGroup;
 pub use number::{LIMIT, ONE, TENTH};
 pub use one_decimal::OneDecimal;
-pub use rating::severity_of_score;
-pub use severity::Severity;
+pub use severity::{Severity, severity_of_score};
 
 /// The word that begins the text of a vector, from version 3.0 on (v3.1 specification, section 6).
 pub const PREFIX: &str = "CVSS";

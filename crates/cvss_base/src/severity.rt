@@ -1,10 +1,12 @@
 //! The qualitative severity ratings (v3.1 specification, section 5; v4.0 specification, section 6).
 
 ghost use Rattle.std.specs.Prelude.{◌≡◌, IfOk, IfErr, IfSome, Some};
+ghost use Rattle.cvss_base.specs.Rating.{rating_of_score};
 ghost use Rattle.cvss_base.specs.SeverityText.{text_of, lowered};
 ghost use Rattle.cvss_base.specs.Told.{TellsNoSeverity};
 
 use crate::error::Error;
+use crate::number::{ONE, TENTH};
 use std::alloc::Global;
 use std::fmt;
 
@@ -77,5 +79,23 @@ impl fmt::Display for Severity {
 
     fn fmt<W: fmt::Write>(&self, f: &mut fmt::Formatter<W>) -> fmt::Result {
         f.write_str(self.as_str())
+    }
+}
+
+/// The rating of a count of 10^-24 of a score point: none below 0.1, low below 4.0, medium below
+/// 7.0, high below 9.0, and critical from there.
+pub fn severity_of_score(count: i128) -> Severity
+    ensures { result ≡ rating_of_score count }
+{
+    if count < TENTH {
+        Severity::None
+    } else if count < 4 * ONE {
+        Severity::Low
+    } else if count < 7 * ONE {
+        Severity::Medium
+    } else if count < 9 * ONE {
+        Severity::High
+    } else {
+        Severity::Critical
     }
 }

@@ -1,7 +1,6 @@
 //! Published scores as whole tenths, and how they are written.
 
-ghost use Rattle.std.specs.Prelude.{◌≡◌, ◌*◌, ◌^◌, ◌≤◌, pos};
-ghost use Rattle.std.specs.Fmt.{decimal};
+ghost use Rattle.std.specs.Prelude.{◌≡◌, ◌*◌, ◌^◌, ◌≤◌, pos, decimal};
 ghost use Rattle.cvss_base.specs.Tenths.{IsInTenths, IsFromZeroToTen, tenths_text};
 
 const FIVE_TO_23: u64 = 11_920_928_955_078_125;

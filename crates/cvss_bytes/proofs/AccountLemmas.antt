@@ -1,8 +1,7 @@
 -- Accounts nest no deeper than a reader goes.
 use Rattle.std.proofs.Common.{◌≤◌, ℕ, ℤ, pos, List, [], ◌∷◌, ◌++◌, map, Option, Some, None, option_map, unwrap_or, ap, arith}
-use Rattle.std.specs.Fmt.{decimal}
 use Rattle.std.specs.List.{cons_option}
-use Rattle.std.specs.Prelude.{codes, filter_map}
+use Rattle.std.specs.Prelude.{filter_map}
 use Rattle.cvss.specs.MetricTypeV2.{MetricType as MetricTypeV2}
 use Rattle.cvss.specs.MetricTypeV3.{MetricType as MetricTypeV3}
 use Rattle.cvss.specs.TableV2.{listed as listed_v2}
@@ -16,7 +15,6 @@ use Rattle.cvss.specs.CvssType.{Cvss}
 use Rattle.cvss.specs.CvssType.TheVariants.{CvssV20, CvssV30, CvssV31, CvssV40}
 use Rattle.cvss_account.specs.Account.{AreNumbersOf, IsAccountOf, score_members}
 use Rattle.cvss_account.specs.Decimal.{decimal_number, decimal_value, nearest_to}
-use Rattle.cvss_account.specs.LettersV4.{effective_members}
 use Rattle.cvss_account.specs.V2 as v2
 use Rattle.cvss_account.specs.V3 as v3
 use Rattle.cvss_account.specs.V4 as v4
@@ -25,7 +23,6 @@ use Rattle.cvss_record.specs.Objects.{Member, object_of}
 use Rattle.cvss_score.specs.declared.v4.scoring.account.GroupAccount.{GroupAccount}
 use Rattle.cvss_score.specs.declared.v4.scoring.account.GroupAccounts.{GroupAccounts}
 use Rattle.cvss_score.specs.declared.v4.scoring.classes.MacroVector.{MacroVector}
-use Rattle.cvss_score.specs.declared.v4.scoring.effective.Effective.{Effective}
 use Rattle.cvss_score.specs.declared.v4.scoring.next.NextClass.{NextClass}
 use Rattle.cvss_v4.specs.declared.vector.Vector.{Vector as VectorV4}
 use Rattle.serde_json.specs.Data.{Members, Num, depth, items_depth, null, number, object}
@@ -48,18 +45,8 @@ weights_v2 vector (kind ∷ kinds) = (decimal_flat _, weights_v2 vector kinds)
 
 within_v2 : (vector : VectorV2) (members : List Member) → v2.AreAccountMembers vector members → AreWithin 2 members
 within_v2 vector members are =
-    let base = are.base in
-    let adjusted = are.environmental in
-    rw are.are (
-      omega (arith, object_within 0 (map (v2.weight_member vector) listed_v2) (weights_v2 vector listed_v2)),
-      (
-        omega (arith, decimal_flat base.impact, decimal_flat base.exploitability, decimal_flat base.f, decimal_flat base.number),
-        (
-          omega (arith, decimal_flat are.temporal.number),
-          (omega (arith, decimal_flat adjusted.adjusted_impact, decimal_flat adjusted.adjusted_base, decimal_flat adjusted.adjusted_temporal, decimal_flat adjusted.number), tt),
-        ),
-      ),
-    )
+    let weights = object_within 0 (map (v2.weight_member vector) listed_v2) (weights_v2 vector listed_v2) in
+    rw are.are (omega (arith, weights), (omega (arith, decimal_flat), (omega (arith, decimal_flat), (omega (arith, decimal_flat), tt))))
 
 -- v3: letters, weights, and three objects of numbers
 weight_v3 : (kind : MetricTypeV3) (weight : Option ℕ) (rest : List Member) → AreWithin 0 rest
@@ -74,24 +61,8 @@ weights_v3 w (kind ∷ kinds) = weight_v3 kind (weight_in w kind) (filter_map (v
 within_v3 : (vector : VectorV3) (members : List Member) → v3.AreAccountMembers vector members → AreWithin 2 members
 within_v3 vector members are =
     let w = weights_of vector in
-    let base = are.base in
-    let modified = are.environmental in
-    rw are.are (
-      omega arith,
-      (
-        omega arith,
-        (
-          omega (arith, object_within 0 (filter_map (v3.weight_member w) listed_v3) (weights_v3 w listed_v3)),
-          (
-            omega (arith, decimal_flat base.iss, decimal_flat base.impact, decimal_flat base.exploitability, decimal_flat base.scored.number),
-            (
-              omega (arith, decimal_flat are.temporal.number),
-              (omega (arith, decimal_flat modified.miss, decimal_flat modified.impact, decimal_flat modified.exploitability, decimal_flat modified.first.number, decimal_flat modified.scored.number), tt),
-            ),
-          ),
-        ),
-      ),
-    )
+    let weights = object_within 0 (filter_map (v3.weight_member w) listed_v3) (weights_v3 w listed_v3) in
+    rw are.are (omega arith, (omega arith, (omega (arith, weights), (omega (arith, decimal_flat), (omega (arith, decimal_flat), (omega (arith, decimal_flat), tt))))))
 
 -- v4: effective values, and groups in an array
 next_flat : (value : ℕ) (next : Option NextClass) (taken : ℕ) → AreWithin 0 (v4.next_members value next taken)
@@ -105,41 +76,13 @@ group_within name class value group =
 
 groups_within : (class : MacroVector) (value : ℕ) (groups : Option GroupAccounts) → items_depth (items_of (v4.group_values class value groups)) ≤ 1
 groups_within class value None = omega arith
-groups_within class value (Some groups) =
-    omega (
-      arith,
-      group_within (codes "EQ1") (decimal class.eq1) value groups.eq1,
-      group_within (codes "EQ2") (decimal class.eq2) value groups.eq2,
-      group_within (codes "EQ3+EQ6") (decimal class.eq3 ++ decimal class.eq6) value groups.eq3_eq6,
-      group_within (codes "EQ4") (decimal class.eq4) value groups.eq4,
-      group_within (codes "EQ5") (decimal class.eq5) value groups.eq5,
-    )
-
-effective_within : (v : Effective) → depth (object_of (effective_members v)) ≤ 1
-effective_within v = omega arith
+groups_within class value (Some groups) = omega (arith, group_within)
 
 within_v4 : (vector : VectorV4) (members : List Member) → v4.AreAccountMembers vector members → AreWithin 2 members
 within_v4 vector members are =
     let account = are.account in
-    rw are.are (
-      omega arith,
-      (
-        omega (arith, effective_within account.effective),
-        (
-          omega arith,
-          (
-            omega arith,
-            (
-              omega (arith, groups_within account.class account.value account.groups),
-              (
-                omega (arith, decimal_flat (pos (nearest_to account.mean 504_000))),
-                (omega (arith, decimal_flat (pos (nearest_to account.number 504_000))), tt),
-              ),
-            ),
-          ),
-        ),
-      ),
-    )
+    let groups = groups_within account.class account.value account.groups in
+    rw are.are (omega arith, (omega arith, (omega arith, (omega arith, (omega (arith, groups), (omega (arith, decimal_flat), (omega (arith, decimal_flat), tt)))))))
 
 numbers_within : (cvss : Cvss) (members : List Member) → AreNumbersOf cvss members → AreWithin 2 members
 numbers_within (CvssV20 vector) = within_v2 vector

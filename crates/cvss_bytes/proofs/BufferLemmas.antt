@@ -1,5 +1,6 @@
 -- A buffer, as one text after another is written into it.
-use Rattle.std.proofs.Common.{◌≡◌, ℕ, ◌+◌, ◌<◌, ◌≤◌, List, [], length, get_or, take, flat_map, Option, Some, unwrap_or, refl, sym, ap, subst}
+use Rattle.std.proofs.Common.{◌≡◌, ℕ, ◌+◌, ◌<◌, ◌≤◌, List, [], ◌++◌, length, get_or, take, drop, flat_map, Option, Some, unwrap_or, refl, sym, ap, ◌∙◌, subst, arith, length-append}
+use Rattle.std.proofs.Math.Seq.{take-append_seam}
 use Rattle.std.proofs.lemmas.List.Folds.{length-flat_map-take}
 use Rattle.std.proofs.lemmas.Bool.{le-leb, lt-leb}
 use Rattle.cvss_bytes.specs.Buffer.{HasPut, IsWritten}
@@ -15,6 +16,14 @@ present o text is = ap (λ o. unwrap_or o []) is
 -- no text is written yet
 pub nothing_put : {X : Type 0} (old : List X) → HasPut old [] old 0
 nothing_put old = record { begins = refl; place_is = refl }
+
+-- what was put stands up to the place
+pub text_put : {X : Type 0} (old text now : List X) (place : ℕ) → HasPut old text now place → take place now ≡ text
+text_put old text now place put =
+    ap (take place) put.begins ∙ ap (λ n. take n (text ++ drop (length text) old)) put.place_is ∙ take-append_seam text (drop (length text) old)
+
+pub put_within : {X : Type 0} (old text now : List X) (place : ℕ) → HasPut old text now place → place ≤ length now
+put_within old text now place put = omega (arith, put.place_is, ap length put.begins, length-append text (drop (length text) old))
 
 -- a text that fits, and stands there
 pub IsWritten-put : {X : Type 0} (text old now : List X) (place told : ℕ) → length text ≤ length old → told ≡ length text → HasPut old text now place → IsWritten text old now told

@@ -1,20 +1,14 @@
 -- A vector's text without its undefined metrics.
-use Rattle.std.proofs.Common.{◌≡◌, ◌≤◌, ◌<◌, ℕ, ◌+◌, ◌-◌, Bool, true, false, List, [], ◌∷◌, ◌++◌, codes, length, take, drop, Option, Some, None, unwrap_or, bytes_eq, if◌then◌else◌, refl, sym, ap, ◌∙◌, append_assoc, append-nil, arith, length-append}
+use Rattle.std.proofs.Common.{◌≡◌, ◌≤◌, ◌<◌, ℕ, ◌+◌, Bool, true, false, List, [], ◌∷◌, ◌++◌, length, Option, Some, None, unwrap_or, bytes_eq, if◌then◌else◌, refl, sym, ap, ◌∙◌, append_assoc, append-nil, arith, length-append}
 use Rattle.std.specs.List.{filter_map, cons_option}
 use Rattle.std.specs.Option.{option_map, option_and_then}
-use Rattle.std.proofs.lemmas.List.{take_rest}
 use Rattle.cvss_text.specs.private.Printing.{slashed, slashed_text, slashed_texts}
+use Rattle.cvss_text.proofs.PrintLemmas.{joined-slashed}
 use Rattle.cvss_base.specs.Text.{component, joined, slash}
-use Rattle.cvss_base.specs.Version.{Version, canonical_text, component_of, components_of, held}
-use Rattle.cvss_base.specs.declared.v2.MetricType.{MetricType}
-use Rattle.cvss_base.specs.declared.v2.MetricType.TheVariants.{AV}
-use Rattle.cvss_metric.specs.declared.v2.base.access.AccessVector.{AccessVector}
-use Rattle.cvss_metric.specs.declared.v2.base.access.AccessVector.TheVariants as access_vector
-use Rattle.cvss.specs.VectorTypeV2 as vector_v2
-use Rattle.cvss.specs.VectorV2.{v2}
+use Rattle.cvss_base.specs.Version.{Version, components_of, held}
+use Rattle.cvss_bytes.specs.Buffer.{HasPut, begun}
 use Rattle.cvss_bytes.specs.Defined.{defined_component, if_defined, or_if_none, text_less}
-use Rattle.cvss_bytes.specs.private.Steps.{defined_texts}
-use Rattle.cvss_bytes.proofs.CanonicalLemmas.{text_from_front}
+use Rattle.cvss_bytes.specs.private.Steps.{defined_texts, front_of, kept_parts, text_behind}
 
 -- a component that may be left out is no longer than it is
 left_out : (name spelling : List ℕ) (out : Bool) → length (unwrap_or (slashed (option_map (component name) (if out then None else Some spelling))) []) ≤ length (slash ∷ component name spelling)
@@ -63,53 +57,32 @@ module _ {V K : Type 0} (version : Version V K) (undefined : List ℕ) (v : V) w
       ∙ joined-defined (first ++ unwrap_or (slashed part) []) kinds
       ∙ append_assoc first (unwrap_or (slashed part) []) (defined_texts version undefined v kinds)
 
-  module _ (piece : List ℕ) (kinds : List K) (front : version.front v ≡ piece ∷ []) (in_order : kinds ≡ version.printed) where
-    -- the whole text has room for the piece and the defined components
-    pub defined_texts-within : length piece + length (defined_texts version undefined v kinds) ≤ length (canonical_text version v)
-    defined_texts-within =
-        omega (
-          arith,
-          defined_texts-short kinds,
-          length-append piece (slashed_texts version v kinds),
-          ap length (text_from_front version v piece kinds front in_order),
-        )
-
-    -- behind a piece, where a metric is defined: the defined components
-    pub text_less-some : 0 < length (defined_texts version undefined v kinds) → piece ++ defined_texts version undefined v kinds ≡ text_less version undefined v
-    text_less-some some =
-        let kept = or_if_none-some (filter_map (defined_component version undefined v) kinds) (components_of version v)
-        (defined_texts version undefined v kinds) (joined-defined [] kinds) some in
-        sym (joined-defined piece kinds)
-        ∙ ap (λ parts. joined (piece ∷ parts)) (sym kept)
-        ∙ ap (λ all. joined (piece ∷ or_if_none (filter_map (defined_component version undefined v) all) (components_of version v))) in_order
-        ∙ ap (λ pieces. joined (pieces ++ or_if_none (filter_map (defined_component version undefined v) version.printed) (components_of version v))) (sym front)
+  module _ (first : List ℕ) where
+    -- where a metric is defined: the defined components
+    pub kept-some : 0 < length (defined_texts version undefined v version.printed) → first ++ defined_texts version undefined v version.printed ≡ joined (first ∷ kept_parts version undefined v)
+    kept-some some =
+        sym (joined-defined first version.printed)
+        ∙ ap (λ parts. joined (first ∷ parts)) (sym (or_if_none-some _ (components_of version v) _ (joined-defined [] version.printed) some))
 
     -- and where none is: all
-    pub text_less-none : length (defined_texts version undefined v kinds) ≤ 0 → canonical_text version v ≡ text_less version undefined v
-    text_less-none none =
-        let all = or_if_none-none (filter_map (defined_component version undefined v) kinds) (components_of version v)
-        (defined_texts version undefined v kinds) (joined-defined [] kinds) none in
-        ap (λ parts. joined (version.front v ++ parts)) (sym all)
-        ∙ ap (λ order. joined (version.front v ++ or_if_none (filter_map (defined_component version undefined v) order) (components_of version v))) in_order
+    pub kept-none : length (defined_texts version undefined v version.printed) ≤ 0 → first ++ slashed_texts version v version.printed ≡ joined (first ∷ kept_parts version undefined v)
+    kept-none none =
+        sym (joined-slashed version v first version.printed)
+        ∙ ap (λ parts. joined (first ∷ parts)) (sym (or_if_none-none _ (components_of version v) _ (joined-defined [] version.printed) none))
 
--- each value of the first metric of CVSS v2 is defined
-always_defined : (value : AccessVector) → bytes_eq (v2.spelling AV value) (codes "ND") ≡ false
-always_defined access_vector.Local = refl
-always_defined _ = refl
+  joined_behind : (piece : List ℕ) (parts : List (List ℕ)) → text_behind piece (joined (piece ∷ parts)) ≡ joined (front_of piece ++ parts)
+  joined_behind [] [] = refl
+  joined_behind [] (part ∷ parts) = refl
+  joined_behind (byte ∷ bytes) parts = refl
 
-first_defined : (vector : vector_v2.Vector) (piece : List ℕ) (av : Option AccessVector) → option_map (component (v2.name AV)) (option_map (v2.spelling AV) av) ≡ Some piece → option_map (component (v2.name AV)) (option_and_then (if_defined (codes "ND")) (option_map (v2.spelling AV) av)) ≡ Some piece
-first_defined vector piece None is = is
-first_defined vector piece (Some av) is =
-    ap (λ out. option_map (component (v2.name AV)) (if out then None else Some (v2.spelling AV av))) (always_defined av) ∙ is
+  pub text_less_behind : (piece : List ℕ) → version.front v ≡ front_of piece → text_behind piece (joined (piece ∷ kept_parts version undefined v)) ≡ text_less version undefined v
+  text_less_behind piece front =
+      joined_behind piece (kept_parts version undefined v) ∙ ap (λ pieces. joined (pieces ++ kept_parts version undefined v)) (sym front)
 
--- of CVSS v2: the first component without its slash, and the other defined ones behind slashes
-pub text_less_from_first : (vector : vector_v2.Vector) (piece text : List ℕ) (kinds : List MetricType) → text ≡ slash ∷ piece → component_of v2 vector AV ≡ Some piece → kinds ≡ v2.printed → take (length text - 1) (drop 1 text) ++ defined_texts v2 (codes "ND") vector (take (length kinds - 1) (drop 1 kinds)) ≡ text_less v2 (codes "ND") vector
-text_less_from_first vector piece text kinds is present in_order =
-    let rest = drop 1 v2.printed in
-    let others = filter_map (defined_component v2 (codes "ND") vector) rest in
-    ap (λ first. first ++ defined_texts v2 (codes "ND") vector (take (length kinds - 1) (drop 1 kinds))) (take_rest text 1)
-    ∙ ap (λ behind. drop 1 text ++ defined_texts v2 (codes "ND") vector behind) (take_rest kinds 1)
-    ∙ ap (λ whole. drop 1 whole ++ defined_texts v2 (codes "ND") vector (drop 1 kinds)) is
-    ∙ ap (λ all. piece ++ defined_texts v2 (codes "ND") vector (drop 1 all)) in_order
-    ∙ sym (joined-defined v2 (codes "ND") vector piece rest)
-    ∙ ap (λ first. joined (or_if_none (cons_option first others) (components_of v2 vector))) (sym (first_defined vector piece vector.av present))
+-- a text of no bytes is put nowhere
+pub none_put : (old first text now : List ℕ) (place end : ℕ) → length text ≤ 0 → end ≡ place + length text → HasPut old (first ++ text) now end → HasPut old first now place
+none_put old first [] now place end none is put = record {
+  begins = put.begins ∙ ap (λ text. begun text old) (append-nil first);
+  place_is = omega (arith, is, put.place_is, length-append first []);
+}
+none_put old first (byte ∷ bytes) now place end none is put = absurd (omega (arith, none))

@@ -11,5 +11,6 @@ pub mod PartLemmas
 pub mod PartsLemmas
 pub mod ReasonLemmas
 pub mod RecordLemmas
+pub mod ShortLemmas
 pub mod UndefinedLemmas
 pub mod WordLemmas

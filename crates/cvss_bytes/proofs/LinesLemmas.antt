@@ -4,7 +4,6 @@ use Rattle.std.proofs.lemmas.List.{flat_map_more}
 use Rattle.std.proofs.lemmas.List.Elements.{All-push, All-nil}
 use Rattle.cvss_bytes.specs.Buffer.{HasPut}
 use Rattle.cvss_bytes.specs.Lines.{AreAnswers, AnswersLines, IsLast, IsLineAnswer, ended}
-use Rattle.cvss_bytes.specs.private.Steps.{Puts}
 use Rattle.cvss_bytes.proofs.BufferLemmas.{nothing_put}
 
 -- some lines are answered, and the rest stands behind them
@@ -35,13 +34,13 @@ AreAnswers-push lines answers line answer all one = record {
 }
 
 -- after one line more
-pub HasAnswered-line : (texts rest line behind old now next answer : List ℕ) (written end : ℕ) → HasAnswered texts rest old now written → rest ≡ line ++ 10 ∷ behind → IsLineAnswer line answer → Puts (ended answer) now written next end → HasAnswered texts behind old next end
-HasAnswered-line texts rest line behind old now next answer written end done rest_is one puts = record {
+pub HasAnswered-line : (texts rest line behind old now next answer : List ℕ) (written end : ℕ) → (done : HasAnswered texts rest old now written) → rest ≡ line ++ 10 ∷ behind → IsLineAnswer line answer → HasPut old (done.answers ++ ended answer) next end → HasAnswered texts behind old next end
+HasAnswered-line texts rest line behind old now next answer written end done rest_is one put = record {
   lines = done.lines ++ ended line;
   texts_are = done.texts_are ∙ ap (λ r. done.lines ++ r) (rest_is ∙ sym (append_assoc line (10 ∷ []) behind)) ∙ sym (append_assoc done.lines (ended line) behind);
   answers = done.answers ++ ended answer;
   answered = AreAnswers-push done.lines done.answers line answer done.answered one;
-  put = puts old done.answers done.put;
+  put = put;
 }
 
 -- at the end

@@ -32,8 +32,8 @@ module _ (buffer : List ℕ) (place size : ℕ) where
   part_kept part same = ap (put_mid place size buffer) same ∙ put_same place size buffer
 
   -- a text at the beginning of the part stands behind what stands before the part
-  pub part_begun : (old first text part : List ℕ) (told : ℕ) → HasPut old first buffer place → told ≡ length text → length text ≤ size → place + size ≤ length buffer → part ≡ begun text (mid_of place size buffer) → HasPut old (first ++ text) (put_mid place size buffer part) (place + told)
-  part_begun old first text part told put told_is fits within part_is =
+  pub part_begun : (old first text part : List ℕ) (end : ℕ) → HasPut old first buffer place → end ≡ place + length text → length text ≤ size → place + size ≤ length buffer → part ≡ begun text (mid_of place size buffer) → HasPut old (first ++ text) (put_mid place size buffer part) end
+  part_begun old first text part end put end_is fits within part_is =
       let rest = drop (length first) old in
       let before : take place buffer ≡ first = ap (take place) put.begins ∙ ap (λ n. take n (first ++ rest)) put.place_is ∙ take-append_seam first rest in
       let behind : drop place buffer ≡ rest = ap (drop place) put.begins ∙ ap (λ n. drop n (first ++ rest)) put.place_is ∙ drop-append_seam first rest in
@@ -47,5 +47,5 @@ module _ (buffer : List ℕ) (place size : ℕ) where
             ∙ ap (λ l. first ++ l) (append_assoc text (drop (length text) (take size rest)) (drop size rest) ∙ ap (λ l. text ++ l) kept)
             ∙ sym (append_assoc first text (drop (length text) rest))
             ∙ ap (λ l. (first ++ text) ++ l) (drop-drop (length text) (length first) old ∙ ap (λ n. drop n old) (sym (length-append first text)));
-        place_is = omega (arith, put.place_is, told_is, length-append first text);
+        place_is = omega (arith, put.place_is, end_is, length-append first text);
       }

@@ -1,6 +1,8 @@
 -- How a reason that was found is told: by its error, or as want of memory where it carries a part of the text.
 use Rattle.std.proofs.Common.{◌≡◌, ◌≤◌, ℕ, List, ◌++◌, codes, true, Option, IfSome, inl, inr, refl, sym, ap, ◌∙◌, subst, append_assoc, true≢false, rules}
 use Rattle.std.specs.Fmt.{decimal}
+use Rattle.cvss.specs.Bytes.{TellsWhyNot}
+use Rattle.cvss.specs.BytesErrorType.TheVariants.{Invalid}
 use Rattle.cvss.specs.Dispatch.{cvss_reason}
 use Rattle.cvss.specs.ErrorType.{Error}
 use Rattle.cvss.specs.ErrorType.TheVariants.{DuplicateMetricV4, MissingMandatoryMetricV4}
@@ -16,6 +18,7 @@ use Rattle.cvss.specs.MetricTypeAny.TheVariants.{V4}
 use Rattle.cvss.specs.CvssType.{Cvss}
 use Rattle.cvss.specs.CvssType.TheVariants.{CvssV40}
 use Rattle.cvss_bytes.specs.Overriding.{IsOverrideReason}
+use Rattle.cvss_bytes.specs.Refusals.{IsSaid, IsSaidOf}
 use Rattle.cvss_bytes.specs.declared.overriding.Unfit.TheVariants.{Override}
 use Rattle.cvss_bytes.specs.private.Overridden.{IsUnfit, place_of}
 use Rattle.cvss_bytes.specs.private.Reasons.{CarriesText, IsOverrideErrorTold, IsToldAs, override_words}
@@ -29,6 +32,11 @@ module _ {K : Type 0} (own : Error → Option (Refusal K)) (error told : Error) 
 pub tells_reason : (error told : Error) (reason : Refusal MetricType) → IsToldAs error told → Tells cvss_reason reason error → Tells cvss_reason reason told
 tells_reason error told reason same tells =
     tells_same cvss_reason error told reason (λ carries tells. carries reason tells) same tells
+
+-- what is said of each reason that an error tells is said of the first, which it tells
+pub said_of_first : {X : Type 0} (of_reason : Refusal MetricType → X) (without of_no_text : X) (text : List ℕ) (error : Error) (said : X) → TellsWhyNot text (Invalid error) → ((reason : Refusal MetricType) → Tells cvss_reason reason error → IsSaid of_reason without reason said) → IsSaidOf of_reason without of_no_text text said
+said_of_first of_reason without of_no_text text error said (utf8, first) says =
+    inr (record { utf8 = utf8; reason = first.reason; first = first.first; is = says first.reason first.told })
 
 -- an error of CVSS v4.0 of which each reason carries a part of the text
 carried : (error : Error) → CarriesText error → IfSome (reason_told v4_reason error) (λ reason. carries_text reason ≡ true)

@@ -1,17 +1,17 @@
 //! The line that the program answers to a text.
 
-ghost use Rattle.std.specs.Prelude.{◌≡◌, ◌≤◌, ◌+◌, ℕ, List, length};
-ghost use Rattle.cvss.specs.Answers.{HasScore, IsScoreOf, rating_by, score_of_tenths};
+ghost use Rattle.std.specs.Prelude.{◌≤◌, ◌+◌, ◌++◌, ℕ, List, codes, length};
+ghost use Rattle.cvss.specs.Answers.{HasScore};
 ghost use Rattle.cvss.specs.Dispatch.{DenotesCvss};
 ghost use Rattle.cvss_bytes.specs.Answers.{IsAnswer, IsAnswerOf};
 ghost use Rattle.cvss_bytes.specs.Buffer.{IsWritten};
-ghost use Rattle.cvss_bytes.specs.private.Steps.{Puts, rating_behind};
+ghost use Rattle.cvss_bytes.specs.private.Steps.{IsRated, Puts};
 
 use crate::buffer::put;
 use crate::canonical::put_canonical;
 use crate::reason::put_reason;
-use cvss::tenths::{digits, tenths_of};
-use cvss::{Cvss, Severity};
+use cvss::Cvss;
+use cvss::tenths::{tenths_of, text_of};
 use std::alloc::Global;
 
 /// Writes the answer to a text at the beginning of a buffer where it fits, and tells its length.
@@ -32,45 +32,33 @@ fn put_answer(cvss: &Cvss, text: &[u8], buffer: &mut [u8]) -> usize
     ensures { (answer : List ℕ) × IsAnswerOf answer cvss.now
         × IsWritten answer buffer.old buffer.new result }
 {
-    let (tenths, severity) = rated(cvss);
-    let length = text.len() + rating_length(tenths, severity);
+    let (score, rating) = rated(cvss);
+    let length = text.len() + score.len() + rating.len() + 2;
     if length <= buffer.len() {
         let place = put_canonical(cvss, buffer);
-        put_rating(tenths, severity, buffer, place);
+        put_rating(score, rating, buffer, place);
     }
     length
 }
 
-/// The tenths of the score of a vector that has one, and the score's rating.
-fn rated(cvss: &Cvss) -> (u8, Severity)
+/// Writes a score and its rating, each behind a blank.
+fn put_rating(score: &str, rating: &str, buffer: &mut [u8], place: usize) -> usize
+    requires { place + length score.now + length rating.now + 2 ≤ length buffer.old }
+    ensures { Puts (codes " " ++ (score.now ++ codes " " ++ rating.now)) buffer.old place
+        buffer.new result }
+{
+    let place = put(" ".as_bytes(), buffer, place);
+    let place = put(score.as_bytes(), buffer, place);
+    let place = put(" ".as_bytes(), buffer, place);
+    put(rating.as_bytes(), buffer, place)
+}
+
+/// The score of a vector that has one, with one decimal, and the score's rating.
+fn rated(cvss: &Cvss) -> (&'static str, &'static str)
     requires { HasScore cvss.now }
-    ensures scored { IsScoreOf cvss.now (score_of_tenths result.0) }
-    ensures rating { result.1 ≡ rating_by cvss.now (score_of_tenths result.0) }
-    ensures bound { result.0 ≤ 100 }
+    ensures rated { IsRated cvss.now result.0.now result.1.now }
+    ensures bound { length result.0.now + length result.1.now ≤ 12 }
 {
     let score = cvss.score();
-    (tenths_of(score), cvss.severity_of(score))
-}
-
-/// How long a score and its rating are, each behind a blank.
-fn rating_length(tenths: u8, severity: Severity) -> usize
-    requires { tenths ≤ 100 }
-    ensures length { result ≡ length (rating_behind tenths severity) }
-    ensures bound { result ≤ 16 }
-{
-    digits(tenths / 10).len() + severity.as_str().len() + 4
-}
-
-/// Writes a score and its rating, each behind a blank.
-fn put_rating(tenths: u8, severity: Severity, buffer: &mut [u8], place: usize) -> usize
-    requires tenths { tenths ≤ 100 }
-    requires room { place + length (rating_behind tenths severity) ≤ length buffer.old }
-    ensures { Puts (rating_behind tenths severity) buffer.old place buffer.new result }
-{
-    let place = put(" ".as_bytes(), buffer, place);
-    let place = put(digits(tenths / 10).as_bytes(), buffer, place);
-    let place = put(".".as_bytes(), buffer, place);
-    let place = put(digits(tenths % 10).as_bytes(), buffer, place);
-    let place = put(" ".as_bytes(), buffer, place);
-    put(severity.as_str().as_bytes(), buffer, place)
+    (text_of(tenths_of(score)), cvss.severity_of(score).as_str())
 }

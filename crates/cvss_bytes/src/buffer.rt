@@ -8,6 +8,10 @@ ghost use Rattle.cvss_bytes.specs.private.Steps.{Puts};
 
 use cvss_text::print::Printed;
 
+/// No canonical text is longer than this: eight bytes that tell a version, and ten for each of 32
+/// metrics.
+pub(crate) const LONGEST: usize = 328;
+
 /// Writes a text, or items, from a place in a buffer on, and tells the place behind it.
 pub(crate) fn put<T: Copy>(text: &[T], buffer: &mut [T], place: usize) -> usize
     requires room { place + length text.now ≤ length buffer.old }

@@ -1,22 +1,16 @@
 //! A vector's text without the metrics that are not defined.
 
-ghost use Rattle.std.specs.Prelude.{◌≡◌, ◌≤◌, ◌+◌, ◌++◌, ◌∷◌, [], codes, length};
+ghost use Rattle.std.specs.Prelude.{◌≡◌, ◌≤◌, ◌+◌, length};
 ghost use Rattle.std.specs.Option.{option_copied};
-ghost use Rattle.cvss.specs.Version.{IsComplete};
-ghost use Rattle.cvss.specs.VectorV2.{v2};
-ghost use Rattle.cvss.specs.Dispatch.{DenotesCvss};
-ghost use Rattle.cvss_text.specs.private.Printing.{slashed};
-ghost use Rattle.cvss_base.specs.Version.{canonical_text};
+ghost use Rattle.cvss_text.specs.private.Printing.{slashed, slashed_texts};
 ghost use Rattle.cvss_bytes.specs.Buffer.{IsWritten};
 ghost use Rattle.cvss_bytes.specs.Defined.{defined_component, text_less, text_without_undefined};
-ghost use Rattle.cvss_bytes.specs.private.Steps.{Puts, defined_texts};
+ghost use Rattle.cvss_bytes.specs.private.Steps.{IsRead, Puts, PutsParts, defined_texts, front_of, kept_parts, text_behind};
 
-use crate::buffer::{put, put_printed};
+use crate::buffer::{LONGEST, put, put_both, put_components};
 use crate::metrics::spelled;
-use cvss::v2::metric::Spelled;
-use cvss::{Cvss, v2};
+use cvss::Cvss;
 use cvss_text::print::Printed;
-use cvss_text::walk::Components;
 
 /// How a metric of CVSS v2 is spelled that is not defined.
 const NOT_DEFINED_V2: [u8; 2] = *b"ND";
@@ -25,77 +19,58 @@ const NOT_DEFINED_V2: [u8; 2] = *b"ND";
 const NOT_DEFINED: [u8; 1] = *b"X";
 
 /// Writes the text of a vector without its undefined metrics at the beginning of a buffer where it
-/// fits, and tells its length. The vector's text is given.
-pub fn put_without_undefined(cvss: &Cvss, text: &[u8], buffer: &mut [u8]) -> usize
-    requires { DenotesCvss text.now cvss.now }
+/// fits, and tells its length.
+pub fn put_without_undefined(cvss: &Cvss, buffer: &mut [u8]) -> usize
+    requires { IsRead cvss.now }
     ensures { IsWritten (text_without_undefined cvss.now) buffer.old buffer.new result }
 {
-    let whole = text.len();
     match cvss {
-        Cvss::CvssV20(vector) => put_v2(vector, whole, buffer),
-        Cvss::CvssV30(vector) => put_less("CVSS:3.0".as_bytes(), vector, whole, buffer),
-        Cvss::CvssV31(vector) => put_less("CVSS:3.1".as_bytes(), vector, whole, buffer),
-        Cvss::CvssV40(vector) => put_less("CVSS:4.0".as_bytes(), vector, whole, buffer),
+        Cvss::CvssV20(vector) => put_less(&[], vector, &NOT_DEFINED_V2, buffer),
+        Cvss::CvssV30(vector) => put_less("CVSS:3.0".as_bytes(), vector, &NOT_DEFINED, buffer),
+        Cvss::CvssV31(vector) => put_less("CVSS:3.1".as_bytes(), vector, &NOT_DEFINED, buffer),
+        Cvss::CvssV40(vector) => put_less("CVSS:4.0".as_bytes(), vector, &NOT_DEFINED, buffer),
     }
 }
 
-/// Writes the text of a vector of CVSS v2 without its undefined metrics, where no slash stands before
-/// the first component.
-fn put_v2(vector: &v2::Vector, whole: usize, buffer: &mut [u8]) -> usize
-    requires complete { IsComplete v2 vector.now }
-    requires whole { whole ≡ length (canonical_text v2 vector.now) }
-    ensures { IsWritten (text_less v2 (codes "ND") vector.now) buffer.old buffer.new result }
+/// Writes the text of a vector without its undefined metrics, of which the piece that tells the
+/// version is given, or none. Without one no slash stands before the first component.
+fn put_less<V: Printed>(piece: &[u8], vector: &V, undefined: &[u8], buffer: &mut [u8]) -> usize
+    requires front { V.version.front vector.now ≡ front_of piece.now }
+    requires room { length piece.now
+        + length (slashed_texts V.version vector.now V.version.printed) ≤ 328 }
+    ensures { IsWritten (text_less V.version undefined.now vector.now) buffer.old buffer.new
+        result }
 {
-    let Some(av) = vector.av else { unreachable!() };
-    put_defined_behind(
-        &av.slashed().as_bytes()[1..],
-        vector,
-        &v2::Vector::printed()[1..],
-        &NOT_DEFINED_V2,
-        whole,
-        buffer,
-    )
+    let mut whole = [0; LONGEST];
+    let place = put(piece, &mut whole, 0);
+    let end = put_kept(vector, undefined, &mut whole, place);
+    put_both(&[], text_behind(piece, &whole[..end]), buffer)
 }
 
-/// Writes the text of a vector without its undefined metrics behind the piece that tells the version.
-/// All metrics are kept where none is defined.
-fn put_less<V: Printed>(piece: &[u8], vector: &V, whole: usize, buffer: &mut [u8]) -> usize
-    requires front { V.version.front vector.now ≡ piece.now ∷ [] }
-    requires whole { whole ≡ length (canonical_text V.version vector.now) }
-    ensures { IsWritten (text_less V.version (codes "X") vector.now) buffer.old buffer.new result }
+/// The text behind such a piece.
+fn text_behind<'a>(piece: &[u8], whole: &'a [u8]) -> &'a [u8]
+    ensures { result.now ≡ text_behind piece.now whole.now }
 {
-    let kinds = V::printed();
-    if defined_length(vector, kinds, &NOT_DEFINED, whole) > 0 {
-        return put_defined_behind(piece, vector, kinds, &NOT_DEFINED, whole, buffer);
+    match (piece, whole) {
+        ([], [_, text @ ..]) => text,
+        _ => whole,
     }
-    if whole <= buffer.len() {
-        put_printed(piece, vector, buffer);
-    }
-    whole
 }
 
-/// Writes a first text and the defined components behind it at the beginning of a buffer where they
-/// fit, and tells their length, which is bounded.
-fn put_defined_behind<V: Printed>(
-    first: &[u8],
-    vector: &V,
-    kinds: &[V::Kind],
-    undefined: &[u8],
-    bound: usize,
-    buffer: &mut [u8],
-) -> usize
-    requires { length first.now
-        + length (defined_texts V.version undefined.now vector.now kinds.now) ≤ bound }
-    ensures { IsWritten
-        (first.now ++ defined_texts V.version undefined.now vector.now kinds.now)
-        buffer.old buffer.new result }
+/// Writes the components that a vector has for its defined metrics, each with a slash before it; all
+/// components where no metric is defined.
+fn put_kept<V: Printed>(vector: &V, undefined: &[u8], buffer: &mut [u8], place: usize) -> usize
+    requires room { place + length (slashed_texts V.version vector.now V.version.printed)
+        ≤ length buffer.old }
+    ensures parts { PutsParts (kept_parts V.version undefined.now vector.now) buffer.old place
+        buffer.new result }
+    ensures within { result ≤ length buffer.old }
 {
-    let length = first.len() + defined_length(vector, kinds, undefined, bound);
-    if length <= buffer.len() {
-        let place = put(first, buffer, 0);
-        put_defined(vector, kinds, undefined, buffer, place);
+    let end = put_defined(vector, V::printed(), undefined, buffer, place);
+    if end > place {
+        return end;
     }
-    length
+    put_components(vector, V::printed(), buffer, place)
 }
 
 /// Writes the components that a vector has for those of these metrics that are defined, each with a
@@ -121,25 +96,6 @@ fn put_defined<V: Printed>(
         }
     }
     end
-}
-
-/// How long they are. It is bounded.
-fn defined_length<V: Printed>(
-    vector: &V,
-    kinds: &[V::Kind],
-    undefined: &[u8],
-    bound: usize,
-) -> usize
-    requires { length (defined_texts V.version undefined.now vector.now kinds.now) ≤ bound }
-    ensures { result ≡ length (defined_texts V.version undefined.now vector.now kinds.now) }
-{
-    let mut length = 0;
-    for kind in kinds {
-        if let Some(text) = defined(vector, *kind, undefined) {
-            length += text.len();
-        }
-    }
-    length
 }
 
 /// The component that a vector has for a metric, with a slash before it, unless this is not defined.

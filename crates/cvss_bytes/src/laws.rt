@@ -18,6 +18,7 @@ use cvss::{v2, v3, v4};
 use cvss_text::walk::Components;
 
 /// For each vector there is one that has its defined metrics, and no others.
+#[tactic(auto, using(crate::proofs::PartsLemmas::defined_part_v2, crate::proofs::PartsLemmas::defined_part_v3, crate::proofs::PartsLemmas::defined_part_v4))]
 pub fn vectors_have_defined_parts()
     ensures v2 { (v : vector_v2.Vector)
         → (w : vector_v2.Vector) × HasDefinedOf v2 (codes "ND") v w }

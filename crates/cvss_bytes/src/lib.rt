@@ -4,7 +4,6 @@
 //! printing take no memory; telling why a text is refused does.
 #![tactic(auto)]
 
-pub mod account;
 pub mod answer;
 pub mod buffer;
 pub mod canonical;
@@ -14,9 +13,9 @@ pub mod lines;
 pub mod mentioned;
 pub mod metrics;
 pub mod numbers;
+pub mod objects;
 pub mod overriding;
 pub mod reason;
-pub mod record;
 pub mod refusal;
 pub mod scores;
 

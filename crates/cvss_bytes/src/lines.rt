@@ -3,7 +3,8 @@
 ghost use Rattle.std.specs.Prelude.{◌≡◌, ◌+◌, ◌<◌, ◌≤◌, ℕ, ◌++◌, ◌∷◌, List, MatchOption, length};
 ghost use Rattle.cvss_bytes.specs.Answers.{IsAnswer};
 ghost use Rattle.cvss_bytes.specs.Lines.{AnswersLines, HasNoEnd, ended, text_of_line};
-ghost use Rattle.cvss_bytes.specs.private.Steps.{IsFirstEnd, Puts};
+ghost use Rattle.cvss_bytes.specs.Buffer.{HasPut};
+ghost use Rattle.cvss_bytes.specs.private.Steps.{IsFirstEnd};
 
 use crate::answer::put_answer_to;
 use crate::buffer::put;
@@ -17,45 +18,28 @@ pub fn put_answers(alloc: Global, texts: &[u8], buffer: &mut [u8]) -> (usize, us
     let mut rest = texts;
     let mut written = 0;
     while let Some((line, behind)) = cut_line(rest) {
-        let Some(end) = put_line(alloc, line, buffer, written) else {
+        let Some(length) = put_line(alloc, line, &mut buffer[written..]) else {
             return (written, texts.len() - rest.len());
         };
-        written = end;
+        written += length;
         rest = behind;
     }
     (written, texts.len() - rest.len())
 }
 
-/// Writes the answer to a line, and a byte 10, from a place in a buffer on, and tells the place
-/// behind them; nothing where there is no room.
-fn put_line(alloc: Global, line: &[u8], buffer: &mut [u8], place: usize) -> Option<usize>
-    requires { place ≤ length buffer.old }
+/// Writes the answer to a line, and a byte 10, at the beginning of a part of the buffer, and tells
+/// their length; nothing where there is no room.
+fn put_line(alloc: Global, line: &[u8], part: &mut [u8]) -> Option<usize>
     ensures { (answer : List ℕ) × IsAnswer (text_of_line line.now) answer × MatchOption result
-        ((length buffer.old < place + length (ended answer)) × (buffer.new ≡ buffer.old))
-        (λ end. Puts (ended answer) buffer.old place buffer.new end) }
+        ((length part.old < length (ended answer)) × (part.new ≡ part.old))
+        (λ told. (told ≤ length part.old) × HasPut part.old (ended answer) part.new told) }
 {
-    let length = put_answer_before_end(alloc, text_of_line(line), buffer, place);
-    if length >= buffer.len() - place {
+    let room = part.len().saturating_sub(1);
+    let length = put_answer_to(alloc, text_of_line(line), &mut part[..room]);
+    if length >= part.len() {
         return None;
     }
-    Some(put(&[b'\n'], buffer, place + length))
-}
-
-/// Writes the answer to a text from a place in a buffer on, where that leaves room for one byte
-/// more, and tells its length.
-fn put_answer_before_end(alloc: Global, text: &[u8], buffer: &mut [u8], place: usize) -> usize
-    requires { place ≤ length buffer.old }
-    ensures { (answer : List ℕ) × IsAnswer text.now answer × (result ≡ length answer)
-        × (place + length answer < length buffer.old
-        → Puts answer buffer.old place buffer.new (place + result))
-        × (length buffer.old ≤ place + length answer → buffer.new ≡ buffer.old) }
-{
-    let end = if place < buffer.len() {
-        buffer.len() - 1
-    } else {
-        place
-    };
-    put_answer_to(alloc, text, &mut buffer[place..end])
+    Some(put(&[b'\n'], part, length))
 }
 
 /// The bytes before and after the first byte 10.

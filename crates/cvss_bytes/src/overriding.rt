@@ -5,19 +5,16 @@ ghost use Rattle.cvss.specs.OverridingV4.{AreOverrides, TellsFirstObjection};
 ghost use Rattle.cvss.specs.VectorTypeV4.{Vector};
 ghost use Rattle.cvss.specs.VectorV4.{v4};
 ghost use Rattle.cvss.specs.Version.{canonical_text};
-ghost use Rattle.cvss_text.specs.private.Printing.{slashed_texts};
 ghost use Rattle.cvss.specs.Dispatch.{DenotesCvss};
 ghost use Rattle.cvss_bytes.specs.Buffer.{IsLeft, IsWritten};
 ghost use Rattle.cvss_bytes.specs.Overriding.{AnswersOverridden, IsOverrideReason, IsWithOverrides, overrides_in};
 ghost use Rattle.cvss_bytes.specs.private.Overridden.{IsUnfit, place_of};
 ghost use Rattle.cvss_bytes.specs.private.Reasons.{IsOverrideErrorTold, override_words};
 
-use crate::buffer::{put_both, put_printed};
+use crate::buffer::{LONGEST, put_both, put_printed};
 use crate::reason::put_error;
 use cvss::v4::OverrideError;
 use cvss::{Cvss, v4};
-use cvss_text::print::Printed;
-use cvss_text::walk::Components;
 use std::alloc::Global;
 
 /// One override more than a vector has environmental metrics is too many.
@@ -184,25 +181,7 @@ fn put_vector(vector: &v4::Vector, buffer: &mut [u8]) -> usize
     requires { v4.front vector.now ≡ codes "CVSS:4.0" ∷ [] }
     ensures { IsWritten (canonical_text v4 vector.now) buffer.old buffer.new result }
 {
-    let piece = "CVSS:4.0".as_bytes();
-    let length = piece.len() + components_length(vector, v4::Vector::printed(), 320);
-    if length <= buffer.len() {
-        put_printed(piece, vector, buffer);
-    }
-    length
-}
-
-/// How long the components are that a vector has for these metrics, each with a slash before it. It
-/// is bounded.
-fn components_length<V: Printed>(vector: &V, kinds: &[V::Kind], bound: usize) -> usize
-    requires { length (slashed_texts V.version vector.now kinds.now) ≤ bound }
-    ensures { result ≡ length (slashed_texts V.version vector.now kinds.now) }
-{
-    let mut length = 0;
-    for kind in kinds {
-        if let Some(text) = vector.slashed(*kind) {
-            length += text.len();
-        }
-    }
-    length
+    let mut whole = [0; LONGEST];
+    let length = put_printed("CVSS:4.0".as_bytes(), vector, &mut whole);
+    put_both(&[], &whole[..length], buffer)
 }

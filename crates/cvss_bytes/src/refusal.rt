@@ -8,7 +8,7 @@ ghost use Rattle.cvss.specs.MetricTypeAny.{MetricType};
 ghost use Rattle.cvss_bytes.specs.Answers.{IsRefused};
 ghost use Rattle.cvss_bytes.specs.Refusals.{IsBlamed, IsKind, IsSaid, blamed_name, kind_number as number_of_kind, no_memory};
 
-use cvss::{Cvss, Error};
+use cvss::{BytesError, Cvss, Error};
 use std::alloc::Global;
 
 /// The number of a text that denotes a vector.
@@ -23,12 +23,10 @@ pub fn kind_of(alloc: Global, text: &[u8]) -> i32
     requires { IsRefused text.now }
     ensures { IsKind text.now result }
 {
-    let Ok(text) = str::from_utf8(text) else {
-        return NOT_UTF8;
-    };
-    match Cvss::from_str(alloc, text) {
+    match Cvss::from_bytes(alloc, text) {
         Ok(_) => unreachable!(),
-        Err(error) => kind_number(&error),
+        Err(BytesError::NotUtf8) => NOT_UTF8,
+        Err(BytesError::Invalid(error)) => kind_number(&error),
     }
 }
 
@@ -37,12 +35,10 @@ pub fn blamed_by(alloc: Global, text: &[u8]) -> &'static str
     requires { IsRefused text.now }
     ensures { IsBlamed text.now result.now }
 {
-    let Ok(text) = str::from_utf8(text) else {
-        return "";
-    };
-    match Cvss::from_str(alloc, text) {
+    match Cvss::from_bytes(alloc, text) {
         Ok(_) => unreachable!(),
-        Err(error) => blamed_name(&error),
+        Err(BytesError::NotUtf8) => "",
+        Err(BytesError::Invalid(error)) => blamed_name(&error),
     }
 }
 

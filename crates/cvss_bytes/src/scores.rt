@@ -62,9 +62,9 @@ impl CvssScores {
         let environmental = vector.environmental_score();
         CvssScores {
             version: 20,
-            base: tenths_v2(base),
-            temporal: tenths_v2(temporal),
-            environmental: tenths_v2(environmental),
+            base: tenths(base.value()),
+            temporal: tenths(temporal.value()),
+            environmental: tenths(environmental.value()),
             severity: severity_number(base.severity()),
             temporal_severity: severity_number(temporal.severity()),
             environmental_severity: severity_number(environmental.severity()),
@@ -82,14 +82,14 @@ impl CvssScores {
         let environmental = vector.environmental_score();
         CvssScores {
             version,
-            base: tenths_v3(base_score),
-            temporal: tenths_v3(temporal),
-            environmental: tenths_v3(environmental),
+            base: tenths(base_score.value()),
+            temporal: tenths(temporal.value()),
+            environmental: tenths(environmental.value()),
             severity: severity_number(base_score.severity()),
             temporal_severity: severity_number(temporal.severity()),
             environmental_severity: severity_number(environmental.severity()),
             nomenclature: NOTHING,
-            is_complete: completeness(vector),
+            is_complete: i32::from(has_base_metrics(vector)),
             reserved: [0; 7],
         }
     }
@@ -101,7 +101,7 @@ impl CvssScores {
         let score = vector.score();
         CvssScores {
             version: 40,
-            base: signed_tenths(score.value()),
+            base: tenths(score.value()),
             temporal: NOTHING,
             environmental: NOTHING,
             severity: severity_number(score.severity()),
@@ -114,13 +114,7 @@ impl CvssScores {
     }
 }
 
-/// 1 where a vector of CVSS v3 has all base metrics, else 0.
-fn completeness(vector: &v3::Vector) -> i32
-    ensures { IsFlag result (HasBaseMetrics vector.now) }
-{
-    if has_base_metrics(vector) { 1 } else { 0 }
-}
-
+/// Whether a vector of CVSS v3 has all base metrics.
 fn has_base_metrics(vector: &v3::Vector) -> bool
     ensures { IsTrue result ↔ HasBaseMetrics vector.now }
 {
@@ -134,24 +128,8 @@ fn has_base_metrics(vector: &v3::Vector) -> bool
         && vector.a.is_some()
 }
 
-fn tenths_v2(score: v2::Score) -> i32
-    requires { IsInTenths IsFromZeroToTen score }
-    ensures count { score ≡ count_of result }
-    ensures range { IsFromZeroToTen result }
-{
-    signed_tenths(score.value())
-}
-
-fn tenths_v3(score: v3::Score) -> i32
-    requires { IsInTenths IsFromZeroToTen score }
-    ensures count { score ≡ count_of result }
-    ensures range { IsFromZeroToTen result }
-{
-    signed_tenths(score.value())
-}
-
 /// The tenths of a published score, of which it is the count of 10^-24.
-fn signed_tenths(count: i128) -> i32
+fn tenths(count: i128) -> i32
     requires { IsInTenths IsFromZeroToTen count }
     ensures count { count ≡ count_of result }
     ensures range { IsFromZeroToTen result }

@@ -16,13 +16,12 @@ ghost use Rattle.cvss_bytes.specs.Records.{IsRecordTold};
 ghost use Rattle.cvss_bytes.specs.Scores.{AreScoresOf, nothing, version_number as number_of_version};
 
 use cvss::Cvss;
-use cvss_bytes::account::put_account;
 use cvss_bytes::canonical::put_canonical_of;
 use cvss_bytes::defined::put_without_undefined;
 use cvss_bytes::metrics::put_metrics;
 use cvss_bytes::numbers::{NOTHING, version_number};
+use cvss_bytes::objects::{put_account, put_record};
 use cvss_bytes::overriding::put_overridden;
-use cvss_bytes::record::put_record;
 use cvss_bytes::{CvssMetric, CvssScores};
 use std::alloc::Global;
 
@@ -116,7 +115,7 @@ pub extern "C" fn cvss_without_undefined(text: &[u8], buffer: &mut [u8]) -> usiz
         (IsLeft buffer.old buffer.new result) }
 {
     match Cvss::read_bytes(text) {
-        Some(cvss) => put_without_undefined(&cvss, text, buffer),
+        Some(cvss) => put_without_undefined(&cvss, buffer),
         None => 0,
     }
 }

@@ -1,7 +1,7 @@
 -- A vector that a text denotes is given back by its own text, and so by its JSON value.
 use Rattle.std.proofs.Common.{◌≡◌, ◌≢◌, ◌↔◌, ℕ, List, [], ◌∷◌, ◌++◌, codes, length, map, refl, sym, ap, ◌∙◌, subst, arith}
 use Rattle.std.specs.List.{join_with_byte}
-use Rattle.std.specs.Prelude.{Result, IfOk, IfErr, IsErrAnd, Ok, Err}
+use Rattle.std.specs.Prelude.{Result, IfErr, IsErrAnd, Ok, Err}
 use Rattle.std.proofs.lemmas.List.{length-map}
 use Rattle.std.proofs.lemmas.Result.{err_from_is_err_and}
 use Rattle.std.proofs.lemmas.List.Sorted.{length_permutation}
@@ -68,7 +68,7 @@ string_text : Data → List ℕ
 string_text (string text) = text
 string_text _ = []
 
-converted : ((cvss : Cvss) → (DenotesCvss (text_of cvss) cvss ↔ IsGivenBack cvss))
+pub converted : ((cvss : Cvss) → (DenotesCvss (text_of cvss) cvss ↔ IsGivenBack cvss))
     → ((text : List ℕ) (left right : Cvss) → DenotesCvss text left → DenotesCvss text right → left ≡ right)
     → (text : List ℕ) (value : Data) (back : List ℕ) → IsValueOf text value → IsTextOf value back → IsCanonicalText text back
 unfolding string_text
@@ -79,24 +79,15 @@ converted own one text value back first second =
     let same = one (text_of first.vector) first.vector second.vector of_first denoted in
     record { vector = first.vector; denoted = first.denoted; is = second.is ∙ ap text_of (sym same) }
 
-pub converted_ok : {T E : Type 0} (bytes : T → List ℕ) (result : Result T E)
-    → ((cvss : Cvss) → (DenotesCvss (text_of cvss) cvss ↔ IsGivenBack cvss))
-    → ((text : List ℕ) (left right : Cvss) → DenotesCvss text left → DenotesCvss text right → left ≡ right)
-    → (text : List ℕ) (value : Data) → IsValueOf text value → IfOk result (λ back. IsTextOf value (bytes back)) → IfOk result (λ back. IsCanonicalText text (bytes back))
-converted_ok bytes (Ok back) own one text value first second = converted own one text value (bytes back) first second
-converted_ok bytes (Err error) own one text value first second = tt
-
 -- the string of a text is that of no other
 one_string : {text other : List ℕ} → string text ≡ string other → text ≡ other
 unfolding string_text
 one_string same = ap string_text same
 
 -- what the string of a text stands for, the text denotes
-pub read_as : (result : Result Cvss JsonError) (text : List ℕ) (value : Data) → value ≡ string text
-    → IfOk result (StandsFor DenotesCvss value) → IfOk result (λ read. DenotesCvss text read)
-read_as (Ok read) text value is stands =
+pub read_as : (text : List ℕ) (value : Data) (read : Cvss) → value ≡ string text → StandsFor DenotesCvss value read → DenotesCvss text read
+read_as text value read is stands =
     subst (λ each. DenotesCvss each read) (one_string (sym stands.is_string ∙ is)) stands.holds
-read_as (Err error) text value is stands = tt
 
 tells_no_text : (text : List ℕ) (value : Data) → value ≡ string text → (error : JsonError)
     → TellsWhy (λ each. TellsFirst cvss_reason (IsFirstRefusalCvss each)) value error → error ≢ Invalid OutOfMemory → TellsNoText text error
@@ -113,11 +104,6 @@ pub refused_as : (result : Result Cvss JsonError) (text : List ℕ) (value : Dat
     → IfErr result (λ error. error ≢ Invalid OutOfMemory) → IfErr result (TellsNoText text)
 refused_as (Ok read) text value is why told = tt
 refused_as (Err error) text value is why told = tells_no_text text value is error why told
-
--- want of memory alone says nothing of a text
-pub memory_alone : {T : Type 0} (result : Result T JsonError) (text : List ℕ) → IfErr result (λ error. error ≡ NoMemory) → IfErr result (TellsNoText text)
-memory_alone (Ok value) text lacks = tt
-memory_alone (Err error) text lacks = subst (TellsNoText text) (sym lacks) tt
 
 told_as_tells : (text : List ℕ) (error : Error) → TellsFirst cvss_reason (IsFirstRefusalCvss text) error → TellsNoText text (told_as error)
 told_as_tells text OutOfMemory first = tt

@@ -1,4 +1,3 @@
-mod AuditLemmas
 mod ConversionLemmas
 mod CountLemmas
 mod EqualLemmas

@@ -14,8 +14,8 @@ ghost use Rattle.cvss_v2.specs.declared.vector.Vector.{Vector};
 ghost use Rattle.cvss_score.specs.v2.Scores.{IsTemporal, IsBaseScore, IsTemporalScore, IsEnvironmentalScore, IsBaseScoreBy, IsTemporalScoreBy, IsEnvironmentalScoreBy};
 ghost use Rattle.cvss_score.specs.declared.v2.weights.Weights.{Weights};
 
-pub use cvss_v2::laws::{values_are_cloned_without_memory, vectors_are_their_values};
 pub use cvss_score::v2::laws::scores_compare_as_counts;
+pub use cvss_v2::laws::{values_are_cloned_without_memory, vectors_are_their_values};
 
 /// A canonical text denotes its vector, and a text denotes at most one vector. So what is printed
 /// of a complete vector is read as that vector.
@@ -39,6 +39,7 @@ pub fn scores_are_unique()
 /// zero. Before it is raised to 0 a number may differ: the environmental one of
 /// `AV:L/AC:H/Au:M/C:P/I:N/A:N/TD:L/CR:L` is -0.05, whose rounding is 0 and whose nearest tenth is
 /// -0.1.
+#[tactic(auto, using(crate::proofs::v2::MillionthLemmas::same_base_score, crate::proofs::v2::MillionthLemmas::same_temporal_score, crate::proofs::v2::MillionthLemmas::same_environmental_score))]
 pub fn a_millionth_changes_no_score()
     ensures base { (vector : Vector) → (count : ℤ) → IsBaseScore (weights_of vector) count
         ↔ IsBaseScoreBy IsNearestAway (weights_of vector) count }
@@ -51,6 +52,7 @@ pub fn a_millionth_changes_no_score()
 
 /// A metric that is `ND` and one that is absent weigh the same, so that all scores are the same
 /// (guide, sections 2.2 and 2.3).
+#[tactic(auto, using(crate::proofs::v2::WeightLemmas::one_weights))]
 pub fn not_defined_weighs_as_absent()
     ensures { (left right : Vector) → DefineTheSame left right
         → weights_of left ≡ weights_of right }

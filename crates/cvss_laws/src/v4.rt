@@ -58,6 +58,7 @@ pub fn spellings_have_effective_values()
 
 /// Vectors whose metrics have the same letters, where an absent metric counts as Not Defined, have
 /// the same effective values and so the same score.
+#[tactic(auto, using(crate::proofs::v4::MergingLemmas::letters_alike))]
 pub fn not_defined_scores_as_absent()
     ensures { (v w : Vector) → ((kind : MetricType) → letter_at v kind ≡ letter_at w kind)
         → effective_of v ≡ effective_of w }
@@ -73,6 +74,7 @@ pub fn supplemental_metrics_change_nothing()
 
 /// A modified metric gives the effective value that its base metric gives with the same letter, each
 /// by itself: those that stay modified, as `MSI:S` and `MSA:S` have to, do not matter to the others.
+#[tactic(auto, using(crate::proofs::v4::MergingLemmas::modified_as_base))]
 pub fn modified_metrics_score_as_base_metrics()
     ensures { (v w : Vector) → HasModifiedAsBase v w → effective_of w ≡ effective_of v }
 {}
@@ -145,11 +147,13 @@ pub fn numbers_lie_from_a_tenth_to_ten()
 {}
 
 /// Effective values have one score.
+#[tactic(auto, using(cvss_score::proofs::v4_lemmas::ScoreLawLemmas::one_score))]
 pub fn scores_are_unique()
     ensures { (v : Effective) → (r s : ℤ) → IsScore v r → IsScore v s → r ≡ s }
 {}
 
 /// Within a class, values with no higher level in any metric score no less.
+#[tactic(auto, using(cvss_score::proofs::v4_lemmas::SevereLemmas::severe_score))]
 pub fn severe_values_score_no_less()
     ensures { (v w : Effective) → (r s : ℤ) → IsAsSevere v w
         → IsScore v r → IsScore w s → s ≤ℤ r }

@@ -1,5 +1,5 @@
 -- How the lines of an input follow from its parts.
-use Rattle.std.proofs.Common.{◌≡◌, ◌≢◌, ℕ, ◌<◌, false, List, [], ◌∷◌, ◌++◌, length, map, refl, sym, ap, ◌∙◌, subst, append_assoc, append-nil, slice_index_or, All, arith, inl, inr}
+use Rattle.std.proofs.Common.{◌≡◌, ◌≢◌, ℕ, ◌<◌, false, List, [], ◌∷◌, ◌++◌, length, map, refl, sym, ap, ◌∙◌, subst, append_assoc, append-nil, slice_index_or, All, length-append, arith, inl, inr}
 use Rattle.std.specs.List.{slice_split}
 use Rattle.std.proofs.lemmas.Grind.{common_steps}
 use Rattle.std.proofs.lemmas.List.Elements.{All-append, All-push, All-nil}
@@ -93,5 +93,8 @@ one_line bytes none some =
     ap (λ ls. ls ++ last_line (unended_piece bytes)) own.0 ∙ ap last_line own.1 ∙ last_line-some bytes some
 
 -- a line comes off an input, and the lines behind it are left
-pub line_off : (piece behind : List ℕ) → NoLineEnd piece → lines (piece ++ 10 ∷ behind) ≡ line_text piece ∷ lines behind
-line_off piece behind none = let cut = Cut-line piece behind none in cc
+pub line_off : (input piece behind : List ℕ) → NoLineEnd piece → input ≡ piece ++ 10 ∷ behind
+    → (lines input ≡ line_text piece ∷ lines behind) × (length behind < length input)
+line_off input piece behind none is =
+    let cut = Cut-line piece behind none in
+    (cc, omega (arith, ap length is, length-append piece (10 ∷ behind)))

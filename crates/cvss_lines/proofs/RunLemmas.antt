@@ -1,6 +1,5 @@
 -- What a run has read and written at each of its ends.
-use Rattle.std.proofs.Common.{◌≡◌, ℕ, ◌+◌, List, [], ◌++◌, ◌⊎◌, length, take, Option, Result, Ok, Err, ◌<◌, refl, sym, ap, ◌∙◌, subst, append-nil, inl, inr, arith}
-use Rattle.std.specs.Prelude.{IsErrAnd}
+use Rattle.std.proofs.Common.{◌≡◌, ℕ, ◌+◌, List, [], ◌++◌, ◌⊎◌, length, take, Option, Result, Ok, Err, ◌<◌, refl, sym, ap, ◌∙◌, subst, append-nil, inl, inr, arith, IsErrAnd}
 use Rattle.std.specs.Io.KnownBytes.{Appends, Consumes, Keeps, IsAtEnd}
 use Rattle.std.proofs.KnownBytes.{Appends-nil, Appends-trans, Consumes-nil, Consumes-trans, Consumes-kept}
 use Rattle.cvss_lines.specs.Answers.{IsAnswers, Rule}

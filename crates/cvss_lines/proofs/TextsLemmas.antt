@@ -1,9 +1,19 @@
--- What is written for an answer of one text.
-use Rattle.std.proofs.Common.{◌≡◌, ℕ, List, [], ◌∷◌, ◌++◌, sym, ap, ◌∙◌, append-nil}
-use Rattle.std.specs.List.{flat_map}
+-- What is written of an answer.
+use Rattle.std.proofs.Common.{◌≡◌, ℕ, List, [], ◌∷◌, ◌++◌, OnOk, Result, sym, ap, ◌∙◌, append-nil, flat_map}
+use Rattle.std.specs.Fmt.{WritesInCalls}
+use Rattle.std.proofs.lemmas.Fmt.{contents_after_writes}
+use Rattle.std.proofs.lemmas.Result.{on_ok_weaker}
 use Rattle.cvss_lines.specs.Answers.{written_text}
+use Rattle.cvss_lines.specs.declared.gathered.Gathered.{Gathered}
 
 -- a text that is written alone is that of the answer
 pub one_text : (old text new : List ℕ) → new ≡ old ++ written_text text
     → new ≡ old ++ flat_map written_text (text ∷ [])
 one_text old text new is = is ∙ ap (λ bytes. old ++ bytes) (sym (append-nil (written_text text)))
+
+-- what is written in some calls stands behind what waited
+pub appended : {T E : Type 0} (result : Result T E) (old new : Gathered) (bytes : List ℕ)
+    → OnOk result (WritesInCalls (λ (old : Gathered) (text : List ℕ) (new : Gathered). new.bytes.items ≡ old.bytes.items ++ text) old bytes new)
+    → OnOk result (new.bytes.items ≡ old.bytes.items ++ bytes)
+appended result old new bytes = on_ok_weaker result
+    (contents_after_writes _ (λ (answers : Gathered). answers.bytes.items) (λ old bytes new is. is) old bytes new)

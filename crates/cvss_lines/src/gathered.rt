@@ -1,14 +1,14 @@
-//! The answers that aren't written yet.
+//! The answers that aren't written yet, and how they are written.
 
 ghost use Rattle.std.specs.Io.KnownBytes.{Appends};
-ghost use Rattle.std.specs.Prelude.{◌≡◌, ◌<◌, ◌++◌, ℕ, [], IfErr, OnOk, take, vec_len};
+ghost use Rattle.std.specs.Prelude.{◌≡◌, ◌<◌, ◌++◌, ℕ, [], IfErr, IsOk, OnOk, length, take, vec_len};
 ghost use Rattle.cvss_lines.specs.Streaming.{WritesWaiting};
 ghost use Rattle.cvss_lines.specs.declared.fault.RunFault.TheVariants.{Write as WriteFault};
 
-use crate::{RunFault, write_whole};
+use crate::RunFault;
 use std::alloc::{AllocError, Global};
 use std::fmt;
-use std::io::Write;
+use std::io::{ErrorKind, Write};
 
 /// From how many bytes on answers are written in the midst of a line.
 const FULL: usize = 64 * 1024;
@@ -78,4 +78,27 @@ impl fmt::Write for Gathered {
         self.push(text.as_bytes())?;
         Ok(())
     }
+}
+
+/// Writes all of the bytes, and again where a signal interrupts it. Where the writer fails, it has
+/// a beginning of them.
+pub fn write_whole<W: Write>(writer: &mut W, bytes: &[u8]) -> Result<(), RunFault>
+    ensures ok { OnOk result (Appends (W.contents writer.old) (W.contents writer.new) bytes.now) }
+    ensures err { IfErr result (λ fault. (fault ≡ WriteFault) × ((count : ℕ)
+        × Appends (W.contents writer.old) (W.contents writer.new) (take count bytes.now))) }
+    ensures none { length bytes.now ≡ 0 → IsOk result }
+{
+    let mut written = 0;
+    for _ in 0..u64::MAX {
+        if written >= bytes.len() {
+            return Ok(());
+        }
+        match writer.write(&bytes[written..]) {
+            Ok(0) => return Err(RunFault::Write),
+            Ok(count) => written += count,
+            Err(error) if error.kind() == ErrorKind::Interrupted => {}
+            Err(_) => return Err(RunFault::Write),
+        }
+    }
+    Err(RunFault::Write)
 }

@@ -4,7 +4,6 @@
 #![tactic(auto)]
 
 mod answering;
-mod exit;
 mod fault;
 mod gathered;
 pub mod laws;
@@ -15,14 +14,11 @@ mod running;
 mod search;
 mod streaming;
 mod summary;
-mod write;
 
 pub use answering::Answering;
-pub use exit::exit_status;
 pub use fault::RunFault;
-pub use gathered::Gathered;
+pub use gathered::{Gathered, write_whole};
 pub use lines::first_line;
 pub use running::{run, run_streaming};
 pub use streaming::{Streaming, Whole};
-pub use summary::Summary;
-pub use write::write_whole;
+pub use summary::{Summary, exit_status};

@@ -1,7 +1,10 @@
 ghost use Rattle.std.specs.Prelude.{◌≡◌, []};
 ghost use Rattle.cvss_lines.specs.Answers.{Answer, is_accepted};
+ghost use Rattle.cvss_lines.specs.Exit.{exit_status as status_of};
 ghost use Rattle.cvss_lines.specs.Runs.{summary_of};
 ghost use Rattle.cvss_lines.specs.private.Steps.{Counts};
+
+use crate::RunFault;
 
 /// How many lines a run accepted and refused. Each count stops at `u64::MAX`.
 #[derive(Clone, Copy, Debug, PartialEq, Eq)]
@@ -35,5 +38,16 @@ impl Summary {
                 ..self
             }
         }
+    }
+}
+
+/// The exit status of a run: 0 if no line was refused, 1 if some were, 2 after a fault.
+pub fn exit_status(outcome: &Result<Summary, RunFault>) -> u8
+    ensures { result ≡ status_of outcome.now }
+{
+    match outcome {
+        Ok(summary) if summary.refused == 0 => 0,
+        Ok(_) => 1,
+        Err(_) => 2,
     }
 }

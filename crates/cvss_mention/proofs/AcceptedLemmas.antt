@@ -1,6 +1,5 @@
 -- What is accepted as a vector is whole.
-use Rattle.std.proofs.Common.{◌≡◌, ℕ, ◌≤◌, true, rules, List, [], ◌∷◌, ◌++◌, codes, length, refl, sym, ap, ◌∙◌, subst, arith}
-use Rattle.std.specs.List.{All}
+use Rattle.std.proofs.Common.{◌≡◌, ℕ, ◌≤◌, true, rules, List, [], ◌∷◌, ◌++◌, codes, length, refl, sym, ap, ◌∙◌, subst, arith, All}
 use Rattle.std.proofs.lemmas.List.Elements.{All-from_get_or}
 use Rattle.cvss_any.specs.Dispatch.{DenotesCvss, DenotesV2, DenotesV3, DenotesV4}
 use Rattle.cvss_base.specs.Text.{component, joined, slash}

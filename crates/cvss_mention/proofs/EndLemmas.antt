@@ -1,24 +1,17 @@
 -- How the end of a part is taken off.
-use Rattle.std.proofs.Common.{◌≡◌, ℕ, suc, ◌-◌, ◌≤◌, get_or, length, take, Bool, true, false, cond, ◌&&◌, List, [], ◌∷◌, ◌++◌, refl, sym, ap, ◌∙◌, arith}
+use Rattle.std.proofs.Common.{◌≡◌, ℕ, suc, ◌-◌, ◌≤◌, get_or, length, take, true, false, cond, ◌&&◌, List, [], ◌∷◌, ◌++◌, sym, ap, ◌∙◌, arith}
+use Rattle.std.proofs.Math.Bool.{and-false, and-true}
 use Rattle.std.proofs.Math.Seq.{split_at}
 use Rattle.std.proofs.lemmas.List.{drop_all}
 use Rattle.std.specs.List.{list_all}
 use Rattle.std.proofs.lemmas.List.Folds.{list_all-append}
 use Rattle.cvss_mention.specs.Parts.{is_divider, less_dividers}
 
-and_true : (b : Bool) → (b && (true && true)) ≡ b
-and_true true = refl
-and_true false = refl
-
-and_false : (b : Bool) → (b && (false && true)) ≡ false
-and_false true = refl
-and_false false = refl
-
 all_more : (text : List ℕ) (last : ℕ) → is_divider last ≡ true → list_all is_divider (text ++ last ∷ []) ≡ list_all is_divider text
-all_more text last is = list_all-append is_divider text (last ∷ []) ∙ ap (λ b. list_all is_divider text && (b && true)) is ∙ and_true (list_all is_divider text)
+all_more text last is = list_all-append is_divider text (last ∷ []) ∙ ap (λ b. list_all is_divider text && (b && true)) is ∙ and-true (list_all is_divider text)
 
 not_all : (text : List ℕ) (last : ℕ) → is_divider last ≡ false → list_all is_divider (text ++ last ∷ []) ≡ false
-not_all text last is = list_all-append is_divider text (last ∷ []) ∙ ap (λ b. list_all is_divider text && (b && true)) is ∙ and_false (list_all is_divider text)
+not_all text last is = list_all-append is_divider text (last ∷ []) ∙ ap (λ b. list_all is_divider text && (b && true)) is ∙ and-false (list_all is_divider text)
 
 -- a divider at the end is taken off
 pub less_dividers-more : (text : List ℕ) (last : ℕ) → is_divider last ≡ true → less_dividers (text ++ last ∷ []) ≡ less_dividers text

@@ -1,6 +1,6 @@
 -- How the first part of a text is found byte by byte.
 use Rattle.std.proofs.Common.{◌≡◌, ℕ, ◌<◌, ◌≤◌, ◌-◌, get_or, Bool, true, false, not, cond, ◌||◌, if◌then◌else◌, List, [], ◌∷◌, ◌++◌, length, take, drop, refl, sym, ap, ◌∙◌, subst, append_assoc, arith}
-use Rattle.std.proofs.lemmas.Bool.{or_parts}
+use Rattle.std.proofs.lemmas.Bool.{not-false, or_parts}
 use Rattle.std.proofs.lemmas.List.{length-append, take_at, drop_at, take_rest}
 use Rattle.cvss_mention.specs.Parts.{begins_part, begins_with_prefix, is_vector_byte, onto_first, parts_of}
 
@@ -35,24 +35,10 @@ within_run : (byte : ℕ) (rest : List ℕ) → is_vector_byte byte ≡ true
     → parts_of (byte ∷ rest) ≡ cond (begins_part rest) ((byte ∷ []) ∷ parts_of rest) (onto_first byte (parts_of rest))
 within_run byte rest vector = ap (λ is. cond (not is || begins_part rest) ((byte ∷ []) ∷ parts_of rest) (onto_first byte (parts_of rest))) vector
 
--- a text is not cut before a byte of vectors alone
-vector_byte : (is : Bool) → not is ≡ false → is ≡ true
-vector_byte true none = refl
-vector_byte false none = cc
-
--- behind its first byte
-pub IsWithinFirst-start : (text : List ℕ) (byte : ℕ) (rest : List ℕ) → text ≡ byte ∷ rest → is_vector_byte byte ≡ true → IsWithinFirst text rest
-IsWithinFirst-start text byte rest is vector = record {
-  front = byte ∷ [];
-  some = omega arith;
-  is = is;
-  parts = ap parts_of is ∙ within_run byte rest vector ∙ one_byte (begins_part rest) byte (parts_of rest);
-}
-
 -- behind one byte more, before which the text is not cut
 pub IsWithinFirst-byte : (text : List ℕ) (byte : ℕ) (behind : List ℕ) → IsWithinFirst text (byte ∷ behind) → begins_part (byte ∷ behind) ≡ false → IsWithinFirst text behind
 IsWithinFirst-byte text byte behind so_far uncut =
-    let vector = vector_byte (is_vector_byte byte) (or_parts (not (is_vector_byte byte)) (begins_with_prefix (byte ∷ behind)) uncut).0 in
+    let vector = not-false (is_vector_byte byte) (or_parts (not (is_vector_byte byte)) (begins_with_prefix (byte ∷ behind)) uncut).0 in
     record {
       front = so_far.front ++ byte ∷ [];
       some = omega (arith, so_far.some, length-append so_far.front (byte ∷ []));
@@ -102,8 +88,13 @@ pub first_and_rest : (text : List ℕ) → 1 ≤ length text → text ≡ get_or
 first_and_rest [] some = absurd (omega (arith, some))
 first_and_rest (byte ∷ rest) some = ap (λ more. byte ∷ more) (sym (take_rest (byte ∷ rest) 1))
 
+-- behind the first byte of a text
 pub IsWithinFirst_first : (text : List ℕ) → 1 ≤ length text → is_vector_byte (get_or text 0 0) ≡ true → IsWithinFirst text (take (length text - 1) (drop 1 text))
-IsWithinFirst_first text some vector = IsWithinFirst-start text (get_or text 0 0) _ (first_and_rest text some) vector
+IsWithinFirst_first text some vector =
+    let byte = get_or text 0 0 in
+    let rest = take (length text - 1) (drop 1 text) in
+    let is = first_and_rest text some in
+    record { front = byte ∷ []; some = omega arith; is = is; parts = ap parts_of is ∙ within_run byte rest vector ∙ one_byte (begins_part rest) byte (parts_of rest) }
 
 pub IsWithinFirst_next : (text left : List ℕ) → IsWithinFirst text left → 1 ≤ length left → begins_part left ≡ false → IsWithinFirst text (take (length left - 1) (drop 1 left))
 IsWithinFirst_next text left within some uncut =

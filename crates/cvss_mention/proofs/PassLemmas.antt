@@ -1,7 +1,6 @@
 -- Why what has no slash is passed over.
-use Rattle.std.proofs.Common.{◌≡◌, ◌≢◌, ℕ, ◌+◌, ◌-◌, ◌<◌, ◌≤◌, true, false, not, eqb, List, [], ◌∷◌, ◌++◌, get_or, length, take, drop, refl, sym, ap, ◌∙◌, subst, arith}
+use Rattle.std.proofs.Common.{◌≡◌, ◌≢◌, ℕ, ◌+◌, ◌-◌, ◌<◌, ◌≤◌, true, false, not, eqb, List, [], ◌∷◌, ◌++◌, get_or, length, take, drop, refl, sym, ap, ◌∙◌, subst, arith, length-take-le, take-append-drop, take-take, drop-drop, get_or-take}
 use Rattle.std.proofs.lemmas.Bool.{ne_eqb, or_parts}
-use Rattle.std.proofs.lemmas.List.{length-take-le, take-append-drop, take-take, drop-drop, get_or-take}
 use Rattle.std.proofs.lemmas.List.Elements.{All-nil, All-cons, All-from_get_or}
 use Rattle.std.proofs.lemmas.List.Folds.{list_any-append, list_any_none}
 use Rattle.cvss_base.specs.Text.{has, slash}

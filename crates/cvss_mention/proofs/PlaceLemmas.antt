@@ -1,7 +1,6 @@
 -- Where the mentions of a text stand.
-use Rattle.std.proofs.Common.{◌≡◌, ℕ, ◌+◌, ◌≤◌, Bool, true, false, cond, not, ◌||◌, List, [], ◌∷◌, ◌++◌, length, take, drop, refl, sym, ap, ◌∙◌, append_assoc, arith}
+use Rattle.std.proofs.Common.{◌≡◌, ℕ, ◌+◌, ◌≤◌, Bool, true, false, cond, not, ◌||◌, List, [], ◌∷◌, ◌++◌, length, take, drop, refl, sym, ap, ◌∙◌, append_assoc, arith, length-append, take_at, drop_at}
 use Rattle.std.specs.List.{All, list_all}
-use Rattle.std.proofs.lemmas.List.{length-append, take_at, drop_at}
 use Rattle.std.proofs.lemmas.List.Elements.{All-nil, All-cons}
 use Rattle.cvss_mention.specs.Parts.{begins_part, is_divider, is_vector_byte, less_dividers, onto_first, parts_of}
 use Rattle.cvss_mention.specs.Mentions.{mentions_of, placed_from}
@@ -12,13 +11,10 @@ abbrev pub joined : List (List ℕ) → List ℕ
 joined [] = []
 joined (part ∷ parts) = part ++ joined parts
 
-joined-onto_first : (byte : ℕ) (parts : List (List ℕ)) → joined (onto_first byte parts) ≡ byte ∷ joined parts
-joined-onto_first byte [] = refl
-joined-onto_first byte (part ∷ parts) = refl
-
 joined_either : (cut : Bool) (byte : ℕ) (parts : List (List ℕ)) → joined (cond cut ((byte ∷ []) ∷ parts) (onto_first byte parts)) ≡ byte ∷ joined parts
 joined_either true byte parts = refl
-joined_either false byte parts = joined-onto_first byte parts
+joined_either false byte [] = refl
+joined_either false byte (part ∷ parts) = refl
 
 -- are the text
 pub joined-parts : (text : List ℕ) → joined (parts_of text) ≡ text

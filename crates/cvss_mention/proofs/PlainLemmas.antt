@@ -1,9 +1,9 @@
 -- Texts of vector bytes in which `CVSS:` stands nowhere, and that do not end with a divider.
-use Rattle.std.proofs.Common.{◌≡◌, ℕ, Bool, true, false, cond, not, eqb, ◌||◌, ◌&&◌, List, [], ◌∷◌, ◌++◌, codes, refl, sym, ap, ap₂, ◌∙◌, arith}
+use Rattle.std.proofs.Common.{◌≡◌, ℕ, Bool, true, false, cond, not, ◌||◌, ◌&&◌, List, [], ◌∷◌, ◌++◌, codes, refl, sym, ap, ap₂, ◌∙◌, arith}
 use Rattle.std.specs.Char.{to_ascii_uppercase}
-use Rattle.std.specs.List.{All, list_all, starts_with}
+use Rattle.std.specs.List.{All, list_all}
 use Rattle.std.proofs.Math.Bool.{and-false}
-use Rattle.std.proofs.lemmas.Bool.{and_parts, or_parts, eqb-true, eq-eqb}
+use Rattle.std.proofs.lemmas.Bool.{and_parts, or_parts, not-true}
 use Rattle.std.proofs.lemmas.Bool.Decides.{nat_tests}
 use Rattle.std.proofs.lemmas.List.Elements.{All-head, All-tail}
 use Rattle.std.proofs.lemmas.List.Folds.{list_all-append}
@@ -31,15 +31,11 @@ pub record IsPlain (text : List ℕ) : Type 0 where
   pub free : has_prefix text ≡ false
   pub ended : ends_whole text ≡ true
 
-not_true : (b : Bool) → not b ≡ true → b ≡ false
-not_true true is = cc
-not_true false is = refl
-
 pub IsPlain-from : (text : List ℕ) → is_plain text ≡ true → IsPlain text
 IsPlain-from text is =
     let both = and_parts (list_all is_vector_byte text) (not (has_prefix text) && ends_whole text) is in
     let rest = and_parts (not (has_prefix text)) (ends_whole text) both.1 in
-    record { written = both.0; free = not_true (has_prefix text) rest.0; ended = rest.1 }
+    record { written = both.0; free = not-true (has_prefix text) rest.0; ended = rest.1 }
 
 -- with a slash between them
 written_slashed : (front rest : List ℕ) → list_all is_vector_byte front ≡ true → list_all is_vector_byte rest ≡ true → list_all is_vector_byte (front ++ slash ∷ rest) ≡ true
@@ -85,28 +81,20 @@ ends_raised [] = refl
 ends_raised (byte ∷ []) = ap not (raised_divider byte)
 ends_raised (byte ∷ next ∷ text) = ends_raised (next ∷ text)
 
--- a capital that is not there when raised is not there
-raised_same : (capital byte : ℕ) → eqb (to_ascii_uppercase capital) capital ≡ true → eqb capital byte ≡ true → eqb capital (to_ascii_uppercase byte) ≡ true
-raised_same capital byte kept same =
-    eq-eqb capital (to_ascii_uppercase byte) (sym (eqb-true (to_ascii_uppercase capital) capital kept) ∙ ap to_ascii_uppercase (eqb-true capital byte same))
-
-and_fails : (a a' b b' : Bool) → (a ≡ true → a' ≡ true) → (b' ≡ false → b ≡ false) → (a' && b') ≡ false → (a && b) ≡ false
-and_fails false a' b b' first then none = refl
-and_fails true a' b b' first then none = then (sym (ap (λ each. each && b') (first refl)) ∙ none)
-
-raised_starts : (needle text : List ℕ) → list_all (λ byte. eqb (to_ascii_uppercase byte) byte) needle ≡ true → starts_with eqb (raised text) needle ≡ false → starts_with eqb text needle ≡ false
-raised_starts [] text kept none = none
-raised_starts (byte ∷ needle) [] kept none = refl
-raised_starts (byte ∷ needle) (first ∷ text) kept none =
-    let both = and_parts (eqb (to_ascii_uppercase byte) byte) (list_all (λ each. eqb (to_ascii_uppercase each) each) needle) kept in
-    and_fails (eqb byte first) (eqb byte (to_ascii_uppercase first)) (starts_with eqb text needle) (starts_with eqb (raised text) needle)
-    (raised_same byte first both.0) (raised_starts needle text both.1) none
+-- what is not there when raised is not there
+raised_starts : (text : List ℕ) → begins_with_prefix (raised text) ≡ false → begins_with_prefix text ≡ false
+raised_starts [] none = none
+raised_starts (a ∷ []) none = grind (arith, nat_tests)
+raised_starts (a ∷ b ∷ []) none = grind (arith, nat_tests)
+raised_starts (a ∷ b ∷ c ∷ []) none = grind (arith, nat_tests)
+raised_starts (a ∷ b ∷ c ∷ d ∷ []) none = grind (arith, nat_tests)
+raised_starts (a ∷ b ∷ c ∷ d ∷ e ∷ text) none = grind (arith, nat_tests)
 
 free_raised : (text : List ℕ) → has_prefix (raised text) ≡ false → has_prefix text ≡ false
 free_raised [] none = refl
 free_raised (byte ∷ text) none =
     let parts = or_parts (begins_with_prefix (raised (byte ∷ text))) (has_prefix (raised text)) none in
-    ap₂ (λ (a b : Bool). a || b) (raised_starts (codes "CVSS:") (byte ∷ text) refl parts.0) (free_raised text parts.1)
+    ap₂ (λ (a b : Bool). a || b) (raised_starts (byte ∷ text) parts.0) (free_raised text parts.1)
 
 pub IsPlain-read : (any_case : Bool) (text : List ℕ) → IsPlain (read_as any_case text) → IsPlain text
 IsPlain-read true text is = record { written = sym (written_raised text) ∙ is.written; free = free_raised text is.free; ended = sym (ends_raised text) ∙ is.ended }
@@ -119,7 +107,7 @@ second_prefix byte (next ∷ rest) = ap (λ more. begins_with_prefix (next ∷ r
 
 not_dividers : (text : List ℕ) → ends_whole text ≡ true → list_all is_divider text ≡ false
 not_dividers [] ends = cc
-not_dividers (byte ∷ []) ends = ap (λ divides. divides && true) (not_true (is_divider byte) ends)
+not_dividers (byte ∷ []) ends = ap (λ divides. divides && true) (not-true (is_divider byte) ends)
 not_dividers (byte ∷ next ∷ rest) ends = ap (λ all. is_divider byte && all) (not_dividers (next ∷ rest) ends) ∙ and-false (is_divider byte)
 
 less_nothing : (text : List ℕ) → ends_whole text ≡ true → less_dividers text ≡ text

@@ -1,9 +1,8 @@
 -- Texts that are mentions as a whole, wherever they stand.
-use Rattle.std.proofs.Common.{◌≡◌, ◌≢◌, ℕ, ◌+◌, ◌≤◌, Bool, true, false, cond, not, eqb, ◌||◌, ◌&&◌, List, [], ◌∷◌, ◌++◌, codes, length, take, refl, sym, ap, ap₂, ◌∙◌, subst, append_assoc, append-nil, arith}
+use Rattle.std.proofs.Common.{◌≡◌, ◌≢◌, ℕ, ◌+◌, ◌≤◌, Bool, true, false, cond, not, eqb, ◌||◌, ◌&&◌, List, [], ◌∷◌, ◌++◌, codes, length, take, refl, sym, ap, ap₂, ◌∙◌, subst, append-nil, arith, length-append}
 use Rattle.std.specs.Cmp.Lexicographic.{pointwise}
 use Rattle.std.specs.List.{Contains, list_all, starts_with}
-use Rattle.std.proofs.lemmas.Bool.{and_parts, or_parts, eqb-true}
-use Rattle.std.proofs.lemmas.List.{length-append}
+use Rattle.std.proofs.lemmas.Bool.{and_parts, or_parts, ne_eqb}
 use Rattle.std.proofs.lemmas.List.Elements.{Contains-append_right}
 use Rattle.cvss_base.specs.Text.{has}
 use Rattle.cvss_mention.specs.Parts.{begins_part, begins_with_prefix, is_vector_byte, less_dividers, onto_first, parts_of}
@@ -12,12 +11,8 @@ use Rattle.cvss_mention.specs.laws.Whole.{IsMentionedBetween, IsWhole, has_secon
 use Rattle.cvss_mention.proofs.PlaceLemmas.{joined, joined-parts}
 
 -- a byte with which no vector is written is none of those with which they are
-differ : (a b : ℕ) → is_vector_byte a ≡ true → not (is_vector_byte b) ≡ true → (same : Bool) → eqb a b ≡ same → same ≡ false
-differ a b written other false is = refl
-differ a b written other true is =
-    let one : a ≡ b = eqb-true a b is in
-    let no : not (is_vector_byte a) ≡ true = subst (λ byte. not (is_vector_byte byte) ≡ true) (sym one) other in
-    absurd (let both : not true ≡ true = subst (λ w. not w ≡ true) written no in cc)
+differ : (a b : ℕ) → is_vector_byte a ≡ true → not (is_vector_byte b) ≡ true → eqb a b ≡ false
+differ a b written other = ne_eqb a b (λ one. let no : not (is_vector_byte a) ≡ true = rw one other in cc)
 
 -- whether a text begins with some bytes is not told by what stands behind a byte that is none of them
 pub starts_before : (needle text : List ℕ) (other : ℕ) (rest : List ℕ) → has other needle ≡ false
@@ -31,7 +26,7 @@ starts_before (byte ∷ needle) (first ∷ text) other rest none =
 none_of : (needle : List ℕ) (other : ℕ) → list_all is_vector_byte needle ≡ true → not (is_vector_byte other) ≡ true → has other needle ≡ false
 none_of [] other written is = refl
 none_of (byte ∷ needle) other written is =
-    ap₂ (λ (a b : Bool). a || b) (differ byte other (and_parts _ _ written).0 is (eqb byte other) refl) (none_of needle other (and_parts _ _ written).1 is)
+    ap₂ (λ (a b : Bool). a || b) (differ byte other (and_parts _ _ written).0 is) (none_of needle other (and_parts _ _ written).1 is)
 
 begins_before : (text : List ℕ) (other : ℕ) (rest : List ℕ) → not (is_vector_byte other) ≡ true → begins_with_prefix (text ++ other ∷ rest) ≡ begins_with_prefix text
 begins_before text other rest is = starts_before (codes "CVSS:") text other rest (none_of (codes "CVSS:") other refl is)
@@ -63,44 +58,24 @@ whole_first (byte ∷ next ∷ text) behind some written once is =
     ap₂ (λ (in_vectors : Bool) (cut : Bool). cond (not in_vectors || cut) ((byte ∷ []) ∷ parts_of rest) (onto_first byte (parts_of rest))) bytes.0 uncut
     ∙ ap (onto_first byte) (whole_first (next ∷ text) behind (λ none. cc none) bytes.1 inside.1 is)
 
--- a text that ends with such a byte
-record EndsOther (text : List ℕ) : Type 0 where
-  front : List ℕ
-  other : ℕ
-  is : text ≡ front ++ other ∷ []
-  is_not : not (is_vector_byte other) ≡ true
-
-ends_other : (byte : ℕ) (text : List ℕ) → is_other (last_byte (byte ∷ text)) ≡ true → EndsOther (byte ∷ text)
-ends_other byte [] is = record { front = []; other = byte; is = refl; is_not = is }
-ends_other byte (next ∷ text) is =
-    let ends = ends_other next text is in
-    record { front = byte ∷ ends.front; other = ends.other; is = ap (λ rest. byte ∷ rest) ends.is; is_not = ends.is_not }
-
-begins_ended : (byte : ℕ) (text rest : List ℕ) → is_other (last_byte (byte ∷ text)) ≡ true → begins_with_prefix ((byte ∷ text) ++ rest) ≡ begins_with_prefix (byte ∷ text)
-begins_ended byte text rest is =
-    let ends = ends_other byte text is in
-    ap (λ front. begins_with_prefix (front ++ rest)) ends.is
-    ∙ ap begins_with_prefix (append_assoc ends.front (ends.other ∷ []) rest)
-    ∙ begins_before ends.front ends.other rest ends.is_not
-    ∙ sym (begins_before ends.front ends.other [] ends.is_not)
-    ∙ sym (ap begins_with_prefix ends.is)
-
-onto_both : (byte : ℕ) (parts behind : List (List ℕ)) → 1 ≤ length parts → onto_first byte (parts ++ behind) ≡ onto_first byte parts ++ behind
-onto_both byte [] behind some = absurd (omega (arith, some))
-onto_both byte (part ∷ parts) behind some = refl
+-- nor by what stands behind a text that ends with such a byte
+starts_ended : (needle : List ℕ) (byte : ℕ) (text rest : List ℕ) → list_all is_vector_byte needle ≡ true → is_other (last_byte (byte ∷ text)) ≡ true
+    → starts_with eqb ((byte ∷ text) ++ rest) needle ≡ starts_with eqb (byte ∷ text) needle
+starts_ended [] byte text rest written is = refl
+starts_ended (first ∷ needle) byte [] rest written is = rw (differ first byte (and_parts _ _ written).0 is) refl
+starts_ended (first ∷ needle) byte (next ∷ text) rest written is =
+    ap (λ same. eqb first byte && same) (starts_ended needle next text rest (and_parts _ _ written).1 is)
 
 either_both : (cut : Bool) (byte : ℕ) (parts behind : List (List ℕ)) → 1 ≤ length parts
     → cond cut ((byte ∷ []) ∷ (parts ++ behind)) (onto_first byte (parts ++ behind)) ≡ cond cut ((byte ∷ []) ∷ parts) (onto_first byte parts) ++ behind
 either_both true byte parts behind some = refl
-either_both false byte parts behind some = onto_both byte parts behind some
-
-onto_some : (byte : ℕ) (parts : List (List ℕ)) → 1 ≤ length (onto_first byte parts)
-onto_some byte [] = omega arith
-onto_some byte (part ∷ parts) = omega arith
+either_both false byte [] behind some = absurd (omega (arith, some))
+either_both false byte (part ∷ parts) behind some = refl
 
 either_some : (cut : Bool) (byte : ℕ) (parts : List (List ℕ)) → 1 ≤ length (cond cut ((byte ∷ []) ∷ parts) (onto_first byte parts))
 either_some true byte parts = omega arith
-either_some false byte parts = onto_some byte parts
+either_some false byte [] = omega arith
+either_some false byte (part ∷ parts) = omega arith
 
 parts_some : (byte : ℕ) (rest : List ℕ) → 1 ≤ length (parts_of (byte ∷ rest))
 parts_some byte rest = either_some (not (is_vector_byte byte) || begins_part rest) byte (parts_of rest)
@@ -113,7 +88,7 @@ parts_behind (byte ∷ []) rest is =
     ∙ sym (ap (λ other. cond (other || false) ((byte ∷ []) ∷ []) ((byte ∷ []) ∷ []) ++ parts_of rest) is)
 parts_behind (byte ∷ next ∷ before) rest is =
     let cut_is : begins_part (next ∷ (before ++ rest)) ≡ begins_part (next ∷ before) =
-    ap (λ prefix. not (is_vector_byte next) || prefix) (begins_ended next before rest is) in
+    ap (λ prefix. not (is_vector_byte next) || prefix) (starts_ended (codes "CVSS:") next before rest refl is) in
     ap₂ (λ (cut : Bool) (parts : List (List ℕ)). cond (not (is_vector_byte byte) || cut) ((byte ∷ []) ∷ parts) (onto_first byte parts)) cut_is (parts_behind (next ∷ before) rest is)
     ∙ either_both (not (is_vector_byte byte) || begins_part (next ∷ before)) byte (parts_of (next ∷ before)) (parts_of rest) (parts_some next before)
 

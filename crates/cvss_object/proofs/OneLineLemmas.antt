@@ -8,7 +8,7 @@ use Rattle.std.proofs.lemmas.List.Folds.{list_all-append}
 use Rattle.std.proofs.lemmas.List.Sums.{AllPass-from_list_all}
 use Rattle.json.specs.Lex.{tokens}
 use Rattle.json.specs.Print.{ArePrintableOrBad, IsNumber, escape, escape_byte, ends, print, print_from, quoted, separator, token_text, begins, IsPrintableOrBad}
-use Rattle.json.specs.Token.{Token, begin_object, end_object, begin_array, end_array, key, string, number, boolean, null, bad}
+use Rattle.json.specs.Token.{Token, key, string, number, boolean}
 use Rattle.json.specs.Word.{after_digits, after_exponent, after_fraction, after_minus, after_number, after_sign, after_whole, head}
 use Rattle.json.proofs.Numbered.{ArePrintableOrBad-tokens}
 use Rattle.json.proofs.Printed.Strings.{escape_byte_plain}
@@ -109,17 +109,12 @@ quoted-clean s = clean-append (escape s) (34 ∷ []) (escape-clean s) refl
 -- ---- tokens
 
 token-clean : (t : Token) → IsPrintableOrBad t → clean (token_text t) ≡ true
-token-clean begin_object is = refl
-token-clean end_object is = refl
-token-clean begin_array is = refl
-token-clean end_array is = refl
 token-clean (key s) is = clean-append (quoted s) (58 ∷ []) (quoted-clean s) refl
 token-clean (string s) is = quoted-clean s
 token-clean (number s) is = number_clean s is
 token-clean (boolean true) is = refl
 token-clean (boolean false) is = refl
-token-clean null is = refl
-token-clean bad is = refl
+token-clean _ is = refl
 
 separator-clean : (b : Bool) → clean (cond b (44 ∷ []) []) ≡ true
 separator-clean true = refl

@@ -10,7 +10,7 @@ use Rattle.json.specs.Print.{ends, print, print_from, quoted}
 use Rattle.json.specs.Token.{Token, key}
 use Rattle.json.specs.Tree as tree
 use Rattle.json.specs.Tree.{HasNumbers, items_tokens, json_tokens, members_tokens}
-use Rattle.serde_json.specs.Data.{Data, array, object, Items, no_items, item, Members, no_members, member, depth, items_depth, members_depth, null, boolean, number, string}
+use Rattle.serde_json.specs.Data.{Data, array, object, Items, no_items, item, Members, no_members, member, depth, items_depth, members_depth}
 use Rattle.serde_json.specs.Read.{max_depth, of_json, read}
 use Rattle.serde_json.specs.Written.{blank, blank_items, blank_members, comma_if, items_outline, members_outline, outline}
 use Rattle.cvss_object.specs.Texts.{IsTextOf}
@@ -20,12 +20,9 @@ use Rattle.cvss_object.proofs.OneLineLemmas.{one_line}
 
 mutual
   depth-blank : (j : json.Json) → tree.depth (blank j) ≡ tree.depth j
-  depth-blank json.null = refl
-  depth-blank (json.boolean b) = refl
-  depth-blank (json.number s) = refl
-  depth-blank (json.string s) = refl
   depth-blank (json.array js) = omega (arith, depth-blank_items js)
   depth-blank (json.object ms) = omega (arith, depth-blank_members ms)
+  depth-blank _ = refl
 
   depth-blank_items : (js : json.Items) → tree.items_depth (blank_items js) ≡ tree.items_depth js
   depth-blank_items json.no_items = refl
@@ -37,12 +34,9 @@ mutual
 
 mutual
   depth-outline : (d : Data) → tree.depth (outline d) ≡ depth d
-  depth-outline null = refl
-  depth-outline (boolean b) = refl
-  depth-outline (number n) = refl
-  depth-outline (string s) = refl
   depth-outline (array ds) = omega (arith, depth-items_outline ds)
   depth-outline (object ms) = omega (arith, depth-members_outline ms)
+  depth-outline _ = refl
 
   depth-items_outline : (ds : Items) → tree.items_depth (items_outline ds) ≡ items_depth ds
   depth-items_outline no_items = refl
@@ -105,12 +99,9 @@ ended = fold (λ _ t. ends t)
 
 mutual
   ended-json : (b : Bool) (j : json.Json) → ended b (json_tokens j) ≡ true
-  ended-json b json.null = refl
-  ended-json b (json.boolean x) = refl
-  ended-json b (json.number s) = refl
-  ended-json b (json.string s) = refl
   ended-json b (json.array js) = ended-items false js
   ended-json b (json.object ms) = ended-members false ms
+  ended-json b _ = refl
 
   ended-items : (b : Bool) (js : json.Items) → ended b (items_tokens js) ≡ true
   ended-items b json.no_items = refl
@@ -124,11 +115,7 @@ mutual
 print_later : (later : Bool) (j : json.Json) → print_from later (json_tokens j) ≡ comma_if later ++ print (json_tokens j)
 unfolding print_from
 print_later true json.null = refl
-print_later true (json.boolean x) = refl
-print_later true (json.number s) = refl
-print_later true (json.string s) = refl
-print_later true (json.array js) = refl
-print_later true (json.object ms) = refl
+print_later true _ = refl
 print_later false j = refl
 
 pub print_before : (later : Bool) (j : json.Json) (after : List Token)

@@ -6,7 +6,3 @@ use Rattle.cvss_record.specs.Objects.{Member, with_members}
 pub with_members-append : (first second : List Member) (old : Members) → with_members (first ++ second) old ≡ with_members second (with_members first old)
 with_members-append [] second old = refl
 with_members-append (each ∷ rest) second old = with_members-append rest second (put each.0 each.1 old)
-
--- a list is put, and then another one
-pub put_next : (first second : List Member) (old middle new : Members) → middle ≡ with_members first old → new ≡ with_members second middle → new ≡ with_members (first ++ second) old
-put_next first second old middle new is next = rw (next, is, with_members-append first second old) refl

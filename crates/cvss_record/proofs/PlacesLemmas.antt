@@ -1,19 +1,19 @@
 -- What a step of the walk over a document does, wherever the level stands in which it is taken.
-use Rattle.std.proofs.Common.{◌≡◌, ℕ, ◌+◌, ◌<◌, ◌≤◌, List, [], ◌∷◌, ◌++◌, drop, map, Option, None, Some, option_map, Bor, BTreeMap, Global, String, string_bytes, refl, sym, ap, ap₂, ◌∙◌, subst, append_assoc, append-nil, arith}
+use Rattle.std.proofs.Common.{◌≡◌, ℕ, ◌+◌, ◌≤◌, List, [], ◌∷◌, ◌++◌, map, Option, None, option_map, Bor, BTreeMap, Global, String, refl, sym, ap, ap₂, ◌∙◌, append_assoc, append-nil, arith}
 use Rattle.std.proofs.lemmas.Grind.{flat_map-append}
 use Rattle.std.proofs.lemmas.List.{map-append, map-id}
-use Rattle.serde_json.specs.Data.{array, object, item, member}
+use Rattle.serde_json.specs.Data.{array, object}
 use Rattle.serde_json.specs.View.{items_view, members_view, view}
 use Rattle.serde_json.specs.declared.value.Value.{Value}
-use Rattle.cvss_record.specs.Places.{Place, around_view, place_of, places_in, places_in_items, places_in_members, places_within}
+use Rattle.cvss_record.specs.Places.{Place, around_view, place_of, places_in, places_in_members, places_within}
 use Rattle.cvss_record.specs.PlacesLeft.{places_in_levels, places_in_rest, step_text, under}
-use Rattle.cvss_record.specs.private.Walking.{Visits, level_of, pointer_to, steps_in, steps_in_items, steps_in_members, steps_in_rest, steps_left}
+use Rattle.cvss_record.specs.private.Walking.{Visits, level_of, pointer_to, steps_in, steps_in_members, steps_in_rest, steps_left}
 use Rattle.cvss_record.specs.declared.place.Around.{Around}
 use Rattle.cvss_record.specs.declared.places.Level.{Level}
 use Rattle.cvss_record.specs.declared.places.Rest.{Rest}
 use Rattle.cvss_record.specs.declared.places.Rest.TheVariants.{Whole, Items, Members}
 use Rattle.cvss_record.specs.declared.pointer.Step.{Step}
-use Rattle.cvss_record.specs.declared.pointer.Step.TheVariants.{Document, Member, Item}
+use Rattle.cvss_record.specs.declared.pointer.Step.TheVariants.{Document}
 
 -- a place under a pointer and a step
 under_both : (step pointer : List ℕ) (places : List Place)
@@ -35,22 +35,17 @@ places_behind (level ∷ front) old new given is =
     ∙ map-append (under step) seen (left ++ places_in_rest level.rest)
     ∙ ap (λ places. places ++ map (under step) (left ++ places_in_rest level.rest)) (under_both step (pointer_to front) given)
 
-steps_behind : (front old new : List Level) → steps_left new < steps_left old → steps_left (front ++ new) < steps_left (front ++ old)
-steps_behind [] old new fewer = fewer
-steps_behind (level ∷ front) old new fewer = omega (arith, steps_behind front old new fewer)
-
-steps_over : (front : List Level) (old now : Level) → steps_in_rest now.rest ≤ steps_in_rest old.rest
-    → steps_left (front ++ now ∷ []) ≤ steps_left (front ++ old ∷ [])
-steps_over [] old now fewer = omega (arith, fewer)
-steps_over (level ∷ front) old now fewer = omega (arith, steps_over front old now fewer)
+steps-append : (front levels : List Level) → steps_left (front ++ levels) ≡ steps_left front + steps_left levels
+steps-append [] levels = omega arith
+steps-append (level ∷ front) levels = omega (arith, steps-append front levels)
 
 -- a step in the innermost levels
-pub Visits-at : (front old new levels : List Level) (given places : List Place) → Visits old given new
+Visits-at : (front old new levels : List Level) (given places : List Place) → Visits old given new
     → places ≡ map (under (pointer_to front)) given → levels ≡ front ++ new → Visits (front ++ old) places levels
 Visits-at front old new levels given places visits seen are = record {
   places = places_behind front old new given visits.places
       ∙ ap₂ (λ here left. here ++ places_in_levels left) (sym seen) (sym are);
-  fewer = subst (λ left. steps_left left < steps_left (front ++ old)) (sym are) (steps_behind front old new visits.fewer);
+  fewer = omega (arith, visits.fewer, ap steps_left are, steps-append front old, steps-append front new);
 }
 
 -- before the first step
@@ -60,79 +55,39 @@ places_of_document document none levels is are =
     ap places_in_levels (are ∙ ap (λ before. before ++ level_of Document (Whole document None) ∷ []) is)
     ∙ map-id (places_in (view document.now))
 
-module _ (step : Step) where
-  -- a value with nothing in it
-  pub visits_scalar : (around : Option Around) (value : Bor Value) → places_within (option_map around_view around) (view value.now) ≡ []
-      → steps_in (view value.now) ≡ 1 → Visits (level_of step (Whole value around) ∷ []) [] []
-  visits_scalar around value none one = record {
-    places = ap (map (under (step_text step))) none;
-    fewer = omega (arith, one);
-  }
+-- a step that leaves nothing of a level
+pub Visits-nothing : (front levels : List Level) (step : Step) (old : Rest) → places_in_rest old ≡ [] → steps_in_rest old ≡ 1
+    → levels ≡ front → Visits (front ++ level_of step old ∷ []) [] levels
+Visits-nothing front levels step old none one are =
+    Visits-at front (level_of step old ∷ []) [] levels [] []
+    (record { places = ap (map (under (step_text step))) none; fewer = omega (arith, one) })
+    refl (are ∙ sym (append-nil front))
 
-  -- an array: its items are next
-  pub visits_array : (around : Option Around) (value : Bor Value) (items : Bor (List Value)) → view value.now ≡ array (items_view items.now)
-      → Visits (level_of step (Whole value around) ∷ []) [] (level_of step (Items items 0) ∷ [])
-  visits_array around value items is = record {
-    places = ap (λ seen. map (under (step_text step)) (places_within (option_map around_view around) seen)) is;
-    fewer = omega (arith, ap steps_in is);
-  }
+-- an array: its items are next
+pub Visits-array : (front levels : List Level) (step : Step) (around : Option Around) (value : Bor Value) (items : Bor (List Value))
+    → view value.now ≡ array (items_view items.now) → levels ≡ front ++ level_of step (Items items 0) ∷ []
+    → Visits (front ++ level_of step (Whole value around) ∷ []) [] levels
+Visits-array front levels step around value items is are =
+    Visits-at front (level_of step (Whole value around) ∷ []) _ levels [] [] (record {
+      places = ap (λ seen. map (under (step_text step)) (places_within (option_map around_view around) seen)) is;
+      fewer = omega (arith, ap steps_in is);
+    }) refl are
 
-  -- an object: its own place is given, and its members are next
-  pub visits_object : (around : Option Around) (value : Bor Value) (holder : Bor (BTreeMap (String Global) Value)) (members : List (String Global × Value))
-      → view value.now ≡ object (members_view holder.now.entries) → members ≡ holder.now.entries
-      → Visits (level_of step (Whole value around) ∷ [])
-      (map (under (step_text step)) (place_of (option_map around_view around) (members_view holder.now.entries)))
-      (level_of step (Members holder members) ∷ [])
-  visits_object around value holder members is all =
-      let inside : List (String Global × Value) → List Place = λ entries. places_in_members (members_view holder.now.entries) (members_view entries) in
-      let own : List Place = place_of (option_map around_view around) (members_view holder.now.entries) in
-      record {
-        places = ap (λ seen. map (under (step_text step)) (places_within (option_map around_view around) seen)) is
-            ∙ map-append (under (step_text step)) own (inside holder.now.entries)
-            ∙ ap (λ entries. map (under (step_text step)) own ++ map (under (step_text step)) (inside entries)) (sym all);
-        fewer = omega (arith, ap steps_in is, ap (λ entries. steps_in_members (members_view entries)) all);
-      }
-
-  -- the next item, and those behind it
-  pub visits_item : (items : Bor (List Value)) (index : ℕ) (value : Bor Value) (rest : List Value) → drop index items.now ≡ value.now ∷ rest
-      → drop (index + 1) items.now ≡ rest
-      → Visits (level_of step (Items items index) ∷ []) [] (level_of step (Items items (index + 1)) ∷ level_of (Item index) (Whole value None) ∷ [])
-  visits_item items index value rest is next =
-      let before : items_view (drop index items.now) ≡ item (view value.now) (items_view (drop (index + 1) items.now)) =
-      ap items_view is ∙ ap (λ left. item (view value.now) (items_view left)) (sym next) in
-      record {
-        places = ap (λ left. map (under (step_text step)) (places_in_items index left)) before;
-        fewer = omega (arith, ap steps_in_items before);
-      }
-
-  -- no item is left
-  pub visits_no_item : (items : Bor (List Value)) (index : ℕ) → drop index items.now ≡ [] → Visits (level_of step (Items items index) ∷ []) [] []
-  visits_no_item items index none = record {
-    places = ap (λ left. map (under (step_text step)) (places_in_items index (items_view left))) none;
-    fewer = omega (arith, ap (λ left. steps_in_items (items_view left)) none);
-  }
-
-  -- the next member, and those behind it
-  pub visits_member : (holder : Bor (BTreeMap (String Global) Value)) (before behind : List (String Global × Value)) (key : String Global)
-      (name : Bor (List ℕ)) (value : Bor Value) → before ≡ (key, value.now) ∷ behind → name.now ≡ string_bytes key
-      → Visits (level_of step (Members holder before) ∷ []) []
-      (level_of step (Members holder behind) ∷ level_of (Member name) (Whole value (Some (record { name = name; object = holder }))) ∷ [])
-  visits_member holder before behind key name value is named =
-      let all = members_view holder.now.entries in
-      let left : members_view before ≡ member name.now (view value.now) (members_view behind) =
-      ap members_view is ∙ ap (λ text. member text (view value.now) (members_view behind)) (sym named) in
-      record {
-        places = ap (λ members. map (under (step_text step)) (places_in_members all members)) left;
-        fewer = omega (arith, ap steps_in_members left);
-      }
-
-  -- no member is left
-  pub visits_no_member : (holder : Bor (BTreeMap (String Global) Value)) (members : List (String Global × Value)) → members ≡ []
-      → Visits (level_of step (Members holder members) ∷ []) [] []
-  visits_no_member holder members none = record {
-    places = ap (λ left. map (under (step_text step)) (places_in_members (members_view holder.now.entries) (members_view left))) none;
-    fewer = omega (arith, ap (λ left. steps_in_members (members_view left)) none);
-  }
+-- an object: its own place is given, and its members are next
+visits_object : (step : Step) (around : Option Around) (value : Bor Value) (holder : Bor (BTreeMap (String Global) Value)) (members : List (String Global × Value))
+    → view value.now ≡ object (members_view holder.now.entries) → members ≡ holder.now.entries
+    → Visits (level_of step (Whole value around) ∷ [])
+    (map (under (step_text step)) (place_of (option_map around_view around) (members_view holder.now.entries)))
+    (level_of step (Members holder members) ∷ [])
+visits_object step around value holder members is all =
+    let inside : List (String Global × Value) → List Place = λ entries. places_in_members (members_view holder.now.entries) (members_view entries) in
+    let own : List Place = place_of (option_map around_view around) (members_view holder.now.entries) in
+    record {
+      places = ap (λ seen. map (under (step_text step)) (places_within (option_map around_view around) seen)) is
+          ∙ map-append (under (step_text step)) own (inside holder.now.entries)
+          ∙ ap (λ entries. map (under (step_text step)) own ++ map (under (step_text step)) (inside entries)) (sym all);
+      fewer = omega (arith, ap steps_in is, ap (λ entries. steps_in_members (members_view entries)) all);
+    }
 
 -- values without a place are passed over, and no step more is to come
 pub record PassesOver (places : List Place) (steps : ℕ) (left : List Place) (fewer_steps : ℕ) : Type 0 where
@@ -145,7 +100,7 @@ pub Visits-over : (front levels : List Level) (step : Step) (old now : Rest)
     → Visits (front ++ level_of step now ∷ []) [] levels → Visits (front ++ level_of step old ∷ []) [] levels
 Visits-over front levels step old now over visits = record {
   places = places_behind front (level_of step old ∷ []) (level_of step now ∷ []) [] (ap (map (under (step_text step))) over.same) ∙ visits.places;
-  fewer = omega (arith, visits.fewer, steps_over front (level_of step old) (level_of step now) over.fewer);
+  fewer = omega (arith, visits.fewer, over.fewer, steps-append front (level_of step old ∷ []), steps-append front (level_of step now ∷ []));
 }
 
 -- an object's own place, by the pointer to its members' level
@@ -163,15 +118,13 @@ Visits-own front levels step around value holder members places is all own are =
     Visits-at front _ _ levels _ places (visits_object step around value holder members is all)
     (own ∙ ap (λ text. map (under text) given) pointer ∙ sym (under_both (pointer_to front) (step_text step) given)) are
 
--- a step that leaves a level and one in it
-pub Visits-two : (front middle levels : List Level) (old level inner : Level)
-    → Visits (old ∷ []) [] (level ∷ inner ∷ []) → middle ≡ front ++ level ∷ [] → levels ≡ middle ++ inner ∷ []
-    → Visits (front ++ old ∷ []) [] levels
-Visits-two front middle levels old level inner visits first second =
-    Visits-at front (old ∷ []) (level ∷ inner ∷ []) levels [] [] visits refl
-    (second ∙ ap (λ before. before ++ inner ∷ []) first ∙ append_assoc front (level ∷ []) (inner ∷ []))
-
--- a step that leaves nothing of a level
-pub Visits-none : (front levels : List Level) (old : Level) → Visits (old ∷ []) [] [] → levels ≡ front
-    → Visits (front ++ old ∷ []) [] levels
-Visits-none front levels old visits are = Visits-at front (old ∷ []) [] levels [] [] visits refl (are ∙ sym (append-nil front))
+-- a step that leaves what is behind a value, and the value in it
+pub Visits-inner : (front middle levels : List Level) (step : Step) (old behind : Rest) (inner : Level)
+    → places_in_rest old ≡ places_in_levels (inner ∷ []) ++ places_in_rest behind
+    → steps_in_rest old ≡ 1 + steps_in_rest inner.rest + steps_in_rest behind
+    → middle ≡ front ++ level_of step behind ∷ [] → levels ≡ middle ++ inner ∷ []
+    → Visits (front ++ level_of step old ∷ []) [] levels
+Visits-inner front middle levels step old behind inner places steps first second =
+    Visits-at front (level_of step old ∷ []) (level_of step behind ∷ inner ∷ []) levels [] []
+    (record { places = ap (map (under (step_text step))) places; fewer = omega (arith, steps) }) refl
+    (second ∙ ap (λ before. before ++ inner ∷ []) first ∙ append_assoc front (level_of step behind ∷ []) (inner ∷ []))

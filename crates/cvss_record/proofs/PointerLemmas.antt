@@ -8,7 +8,7 @@ use Rattle.std.specs.Cmp.Lexicographic.{slice_cmp}
 use Rattle.std.specs.Fmt.{decimal}
 use Rattle.std.specs.Option.{option_to_list}
 use Rattle.std.specs.Ordering.{match_ordering}
-use Rattle.serde_json.specs.Data.{Data, null, boolean, number, string, array, object, Items, no_items, item, Members, no_members, member}
+use Rattle.serde_json.specs.Data.{Data, array, object, Items, no_items, item, Members, no_members, member}
 use Rattle.serde_json.specs.Find.{get_item, get_member}
 use Rattle.cvss_record.specs.Places.{Around, Place, below, escaped, place_of, places_in, places_in_items, places_in_members, places_within, vector_in}
 use Rattle.cvss_record.specs.laws.Pointers.{LeadsTo, here, by_item, by_member, HasNamesOnce, ItemsHaveNamesOnce, MembersHaveNamesOnce}
@@ -39,15 +39,12 @@ own_place around own (Some found) Q each = All-cons Q _ [] (each found.0 found.1
 mutual
   in_data : (around : Option Around) (value : Data) → HasNamesOnce value → (Q : Place → Type 0)
       → ((place : Place) → LeadsTo place.0 value (object place.3) → Q place) → All Q (places_within around value)
-  in_data around null once Q each = All-nil Q
-  in_data around (boolean _) once Q each = All-nil Q
-  in_data around (number _) once Q each = All-nil Q
-  in_data around (string _) once Q each = All-nil Q
   in_data around (array items) once Q each = in_items items items 0 (λ index found is. ap (λ sought. get_item sought items) (zero-add index) ∙ is) once Q each
   in_data around (object members) once Q each =
       All-append Q (place_of around members) (places_in_members members members)
       (own_place around members (vector_in members) Q (λ form text. each ([], form, text, members, around) (here (object members))))
       (in_members members members (λ name found is. is) once Q each)
+  in_data around _ once Q each = All-nil Q
 
   in_items : (all rest : Items) (start : ℕ)
       → ((index : ℕ) (found : Data) → get_item index rest ≡ Some found → get_item (start + index) all ≡ Some found)

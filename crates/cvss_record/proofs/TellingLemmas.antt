@@ -13,84 +13,67 @@ use Rattle.cvss_base.specs.declared.v4.MetricType.TheVariants as metric_v4
 use Rattle.serde_json.proofs.Views.{get_member-put, get_member-put_other}
 use Rattle.serde_json.specs.Data.{Data, Members, no_members, put, string}
 use Rattle.serde_json.specs.Find.{as_str, get, get_member}
-use Rattle.cvss_record.specs.Groups.{has_group, severity_member}
+use Rattle.cvss_record.specs.Groups.{has_group, score_member, severity_member}
 use Rattle.cvss_record.specs.Members.{member_of}
 use Rattle.cvss_record.specs.Objects.{Member, with_members}
-use Rattle.cvss_record.specs.Record.{IsRecordOf, group_members, is_rated, metric_member, optional_members, record_members, vector_members, version_of}
+use Rattle.cvss_record.specs.Record.{IsRecordOf, group_members, is_rated, metric_member, optional_members, record_members, version_of}
 use Rattle.cvss_record.specs.declared.group.Group.{Group}
 use Rattle.cvss_record.specs.declared.group.Group.TheVariants.{Base, Temporal, Environmental}
 use Rattle.cvss_record.specs.declared.score.Scores.{Scores}
 use Rattle.cvss_record.proofs.ObjectLemmas.{with_members-append}
 
 -- the name of the member that holds the text
-text_name : List ℕ
+abbrev text_name : List ℕ
 text_name = codes "vectorString"
 
--- no member of the list has this name
-Avoids : List Member → Type 0
-Avoids [] = Unit {0}
-Avoids (each ∷ rest) = (bytes_eq text_name each.0 ≡ false) × Avoids rest
+-- what is put leaves what stands there
+record Leaves (members : List Member) : Type 0 where
+  same : (old : Members) → get_member text_name (with_members members old) ≡ get_member text_name old
 
-avoids-append : (first second : List Member) → Avoids first → Avoids second → Avoids (first ++ second)
-unfolding Avoids
-avoids-append [] second of_first of_second = of_second
-avoids-append (each ∷ rest) second of_first of_second = (of_first.0, avoids-append rest second of_first.1 of_second)
+leaves-none : Leaves []
+leaves-none = record { same = λ old. refl }
 
--- members that avoid the name leave what stands there
-kept : (members : List Member) (old : Members) → Avoids members → get_member text_name (with_members members old) ≡ get_member text_name old
-unfolding Avoids
-kept [] old avoids = refl
-kept (each ∷ rest) old avoids =
-    kept rest (put each.0 each.1 old) avoids.1
-    ∙ get_member-put_other text_name each.0 each.1 old (λ same. true≢false (sym ((bytes_eq-Decides text_name each.0).1 same) ∙ avoids.0))
+leaves-append : (first second : List Member) → Leaves first → Leaves second → Leaves (first ++ second)
+leaves-append first second of_first of_second = record {
+  same = λ old. ap (get_member text_name) (with_members-append first second old) ∙ of_second.same (with_members first old) ∙ of_first.same old;
+}
 
-metric_avoids : (metric : MetricType) → bytes_eq text_name (member_of metric) ≡ false
-unfolding text_name
-metric_avoids (V2 kind) = elim kind as (λ k. bytes_eq text_name (member_of (V2 k)) ≡ false) [ metric_v2.AV ↦ refl | _ ↦ refl ]
-metric_avoids (V3 kind) = elim kind as (λ k. bytes_eq text_name (member_of (V3 k)) ≡ false) [ metric_v3.AV ↦ refl | _ ↦ refl ]
-metric_avoids (V4 kind) = elim kind as (λ k. bytes_eq text_name (member_of (V4 k)) ≡ false) [ metric_v4.AV ↦ refl | _ ↦ refl ]
+leaves-other : (name : List ℕ) (value : Data) (rest : List Member) → bytes_eq text_name name ≡ false → Leaves rest → Leaves ((name, value) ∷ rest)
+leaves-other name value rest other of_rest = record {
+  same = λ old. of_rest.same (put name value old)
+      ∙ get_member-put_other text_name name value old (λ same. true≢false (sym ((bytes_eq-Decides text_name name).1 same) ∙ other));
+}
 
-metrics_avoid : (items : List (MetricType × List ℕ)) → Avoids (map metric_member items)
-unfolding Avoids
-metrics_avoid [] = tt
-metrics_avoid (item ∷ rest) = (metric_avoids item.0, metrics_avoid rest)
+leaves-if : (b : Bool) (members : List Member) → Leaves members → Leaves (cond b members [])
+leaves-if true members leaves = leaves
+leaves-if false members leaves = leaves-none
 
-rated_avoids : (rated : Bool) (name : List ℕ) (value : Data) → bytes_eq text_name name ≡ false → Avoids (cond rated ((name, value) ∷ []) [])
-unfolding Avoids
-rated_avoids true name value avoids = (avoids, tt)
-rated_avoids false name value avoids = tt
+metric_other : (metric : MetricType) → bytes_eq text_name (member_of metric) ≡ false
+metric_other (V2 kind) = elim kind as (λ k. bytes_eq text_name (member_of (V2 k)) ≡ false) [ metric_v2.AV ↦ refl | _ ↦ refl ]
+metric_other (V3 kind) = elim kind as (λ k. bytes_eq text_name (member_of (V3 k)) ≡ false) [ metric_v3.AV ↦ refl | _ ↦ refl ]
+metric_other (V4 kind) = elim kind as (λ k. bytes_eq text_name (member_of (V4 k)) ≡ false) [ metric_v4.AV ↦ refl | _ ↦ refl ]
 
-group_avoids : (cvss : Cvss) (group : Group) (tenths : ℕ) → Avoids (group_members cvss group tenths)
-unfolding Avoids text_name rated_avoids
-group_avoids cvss Base tenths = (refl, rated_avoids (is_rated cvss) (severity_member Base) _ refl)
-group_avoids cvss Temporal tenths = (refl, rated_avoids (is_rated cvss) (severity_member Temporal) _ refl)
-group_avoids cvss Environmental tenths = (refl, rated_avoids (is_rated cvss) (severity_member Environmental) _ refl)
+metrics_leave : (items : List (MetricType × List ℕ)) → Leaves (map metric_member items)
+metrics_leave [] = leaves-none
+metrics_leave (item ∷ rest) = leaves-other _ _ (map metric_member rest) (metric_other item.0) (metrics_leave rest)
 
-present_avoids : (present : Bool) (members : List Member) → Avoids members → Avoids (cond present members [])
-unfolding Avoids
-present_avoids true members avoids = avoids
-present_avoids false members avoids = tt
+groups_other : (group : Group) → (bytes_eq text_name (score_member group) ≡ false) × (bytes_eq text_name (severity_member group) ≡ false)
+groups_other = elim [ Base ↦ (refl, refl) | _ ↦ (refl, refl) ]
 
-optional_avoids : (cvss : Cvss) (group : Group) (tenths : Option ℕ) → Avoids (optional_members cvss group tenths)
-unfolding Avoids
-optional_avoids cvss group None = tt
-optional_avoids cvss group (Some tenths) =
-    present_avoids (has_group cvss group) (group_members cvss group tenths) (group_avoids cvss group tenths)
+group_leaves : (cvss : Cvss) (group : Group) (tenths : ℕ) → Leaves (group_members cvss group tenths)
+group_leaves cvss group tenths =
+    leaves-other _ _ _ (groups_other group).0 (leaves-if (is_rated cvss) _ (leaves-other _ _ [] (groups_other group).1 leaves-none))
+
+optional_leaves : (cvss : Cvss) (group : Group) (tenths : Option ℕ) → Leaves (optional_members cvss group tenths)
+optional_leaves cvss group None = leaves-none
+optional_leaves cvss group (Some tenths) = leaves-if (has_group cvss group) _ (group_leaves cvss group tenths)
 
 text_held : (cvss : Cvss) (scores : Scores) → get_member text_name (with_members (record_members cvss scores) no_members) ≡ Some (string (text_of cvss))
-unfolding text_name
 text_held cvss scores =
-    let temporal = optional_members cvss Temporal scores.temporal in
-    let environmental = optional_members cvss Environmental scores.environmental in
-    let base = group_members cvss Base scores.base in
-    let metrics = map metric_member (metrics_of cvss) in
-    let optional = avoids-append temporal environmental (optional_avoids cvss Temporal scores.temporal) (optional_avoids cvss Environmental scores.environmental) in
-    let scored = avoids-append base (temporal ++ environmental) (group_avoids cvss Base scores.base) optional in
-    let told = avoids-append metrics (base ++ (temporal ++ environmental)) (metrics_avoid (metrics_of cvss)) scored in
-    let rest = metrics ++ (base ++ (temporal ++ environmental)) in
-    ap (get_member text_name) (with_members-append (vector_members cvss) rest no_members)
-    ∙ kept rest (with_members (vector_members cvss) no_members) told
-    ∙ get_member-put text_name (string (text_of cvss)) (put (codes "version") (string (version_of cvss)) no_members)
+    let before = put (codes "version") (string (version_of cvss)) no_members in
+    let rest = leaves-append _ _ (metrics_leave (metrics_of cvss)) (leaves-append _ _ (group_leaves cvss Base scores.base)
+    (leaves-append _ _ (optional_leaves cvss Temporal scores.temporal) (optional_leaves cvss Environmental scores.environmental))) in
+    rest.same (put text_name (string (text_of cvss)) before) ∙ get_member-put text_name (string (text_of cvss)) before
 
 told_text : (cvss : Cvss) (value : Data) → IsRecordOf cvss value → get text_name value ≡ Some (string (text_of cvss))
 told_text cvss value record_is = rw record_is.is (text_held cvss record_is.scores)

@@ -1,7 +1,10 @@
 //! What each member of a record should say of a vector.
 
-ghost use Rattle.std.specs.Prelude.{◌≡◌, List, ℕ, bytes_eq, option_map, IfOk};
+ghost use Rattle.std.specs.Prelude.{◌≡◌, bytes_eq, option_map, IfOk};
 ghost use Rattle.std.specs.List.{list_any};
+ghost use Rattle.cvss_base.specs.V4Types.{declared};
+ghost use Rattle.cvss_metric.specs.v2.Table as table_v2;
+ghost use Rattle.cvss_metric.specs.v3.Table as table_v3;
 ghost use Rattle.cvss_record.specs.Due.{agrees, due_at, due_value, group_due, is_metric_member, is_number, is_text, metric_due, version_due, word_at};
 ghost use Rattle.cvss_record.specs.private.Views.{due_view};
 ghost use Rattle.cvss_words.specs.WordsV2 as words_v2;
@@ -15,7 +18,7 @@ use crate::record::{is_rated, score_value, version};
 use crate::score::{Scores, rating, score_number};
 use cvss::{Cvss, v2, v3, v4};
 use cvss_text::metrics::Listed;
-use cvss_words::NOT_DEFINED;
+use cvss_words::{NOT_DEFINED, v2 as words_v2, v3 as words_v3, v4 as words_v4};
 use serde_json::Value;
 use std::alloc::{AllocError, Global};
 
@@ -57,19 +60,13 @@ impl Due {
 fn is_text(due: &str, said: &Value) -> bool
     ensures { result ≡ is_text due.now (view said.now) }
 {
-    match said.as_str() {
-        Some(text) => text == due,
-        None => false,
-    }
+    said.as_str().is_some_and(|text| text == due)
 }
 
 fn is_number(due: f64, said: &Value) -> bool
     ensures { result ≡ is_number due (view said.now) }
 {
-    match said.as_f64() {
-        Some(number) => number == due,
-        None => false,
-    }
+    said.as_f64().is_some_and(|number| number == due)
 }
 
 /// What the member of this name should say of a vector, if it is one that the version's records
@@ -77,19 +74,11 @@ fn is_number(due: f64, said: &Value) -> bool
 pub(crate) fn due_at(cvss: &Cvss, scores: &Scores, name: &str) -> Option<Due>
     ensures { option_map due_view result ≡ due_at cvss.now scores.now name.now }
 {
-    if let Some(due) = version_due(cvss, name) {
-        return Some(due);
-    }
-    if let Some(due) = group_due(cvss, scores, name, Group::Base) {
-        return Some(due);
-    }
-    if let Some(due) = group_due(cvss, scores, name, Group::Temporal) {
-        return Some(due);
-    }
-    if let Some(due) = group_due(cvss, scores, name, Group::Environmental) {
-        return Some(due);
-    }
-    metric_due(cvss, name)
+    version_due(cvss, name)
+        .or_else(|| group_due(cvss, scores, name, Group::Base))
+        .or_else(|| group_due(cvss, scores, name, Group::Temporal))
+        .or_else(|| group_due(cvss, scores, name, Group::Environmental))
+        .or_else(|| metric_due(cvss, name))
 }
 
 fn version_due(cvss: &Cvss, name: &str) -> Option<Due>
@@ -143,52 +132,32 @@ fn is_metric_member(cvss: &Cvss, name: &str) -> bool
     ensures { result ≡ is_metric_member cvss.now name.now }
 {
     match cvss {
-        Cvss::CvssV20(_) => is_member::<v2::Vector>(name),
-        Cvss::CvssV30(_) | Cvss::CvssV31(_) => is_member::<v3::Vector>(name),
-        Cvss::CvssV40(_) => is_member::<v4::Vector>(name),
+        Cvss::CvssV20(_) => is_member_v2(name),
+        Cvss::CvssV30(_) | Cvss::CvssV31(_) => is_member_v3(name),
+        Cvss::CvssV40(_) => is_member_v4(name),
     }
 }
 
-/// Vectors of a version that records tell of.
-trait Recorded: Listed {
-    ghost member: { Self.Kind → List ℕ };
-
-    /// The name of the member that holds the metric's value.
-    fn member(kind: Self::Kind) -> &'static str
-        ensures { result.now ≡ member kind };
-}
-
-impl Recorded for v2::Vector {
-    ghost member = { words_v2.member_of };
-
-    fn member(kind: v2::MetricType) -> &'static str {
-        cvss_words::v2::member(kind)
-    }
-}
-
-impl Recorded for v3::Vector {
-    ghost member = { words_v3.member_of };
-
-    fn member(kind: v3::MetricType) -> &'static str {
-        cvss_words::v3::member(kind)
-    }
-}
-
-impl Recorded for v4::Vector {
-    ghost member = { words_v4.member_of };
-
-    fn member(kind: v4::MetricType) -> &'static str {
-        cvss_words::v4::member(kind)
-    }
-}
-
-fn is_member<V: Recorded>(name: &str) -> bool
-    ensures { result ≡ list_any (λ kind. bytes_eq (V.Recorded.member kind) name.now) V.order }
+fn is_member_v2(name: &str) -> bool
+    ensures { result ≡ list_any (λ kind. bytes_eq (words_v2.member_of kind) name.now) table_v2.listed }
 {
-    for kind in V::listed() {
-        if V::member(*kind) == name {
-            return true;
-        }
-    }
-    false
+    v2::Vector::listed()
+        .iter()
+        .any(|kind| words_v2::entry(*kind).0 == name)
+}
+
+fn is_member_v3(name: &str) -> bool
+    ensures { result ≡ list_any (λ kind. bytes_eq (words_v3.member_of kind) name.now) table_v3.listed }
+{
+    v3::Vector::listed()
+        .iter()
+        .any(|kind| words_v3::entry(*kind).0 == name)
+}
+
+fn is_member_v4(name: &str) -> bool
+    ensures { result ≡ list_any (λ kind. bytes_eq (words_v4.member_of kind) name.now) declared }
+{
+    v4::Vector::listed()
+        .iter()
+        .any(|kind| words_v4::entry(*kind).0 == name)
 }

@@ -21,5 +21,5 @@ pub use difference::{Difference, Said, differences, differences_at};
 pub use group::Group;
 pub use place::{Around, Form, Place};
 pub use places::{Places, vectors_in};
-pub use record::{record_of, score_value};
+pub use record::{record_of, score_value, version};
 pub use score::{Scores, score_number};

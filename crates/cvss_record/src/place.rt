@@ -80,10 +80,7 @@ fn text_at<'a>(members: &'a Map<String, Value>, name: &str) -> Option<&'a str>
     ensures { option_map (λ text. text.now) result
         ≡ text_at name.now (members_view members.now.entries) }
 {
-    match member(members, name) {
-        Some(value) => value.as_str(),
-        None => None,
-    }
+    member(members, name)?.as_str()
 }
 
 /// The value of the member with this name, unless it is null.
@@ -91,11 +88,7 @@ fn given_at<'a>(members: &'a Map<String, Value>, name: &str) -> Option<&'a Value
     ensures { option_map (λ value. view value.now) result
         ≡ given_at name.now (members_view members.now.entries) }
 {
-    let value = member(members, name)?;
-    if value.is_null() {
-        return None;
-    }
-    Some(value)
+    member(members, name).filter(|value| !value.is_null())
 }
 
 /// The value of the member with this name.

@@ -41,7 +41,7 @@ pub fn record_of(alloc: Global, cvss: &Cvss) -> Result<Value, AllocError>
 }
 
 /// The version that a vector's record tells.
-pub(crate) fn version(cvss: &Cvss) -> &'static str
+pub fn version(cvss: &Cvss) -> &'static str
     ensures { result.now ≡ version_of cvss.now }
 {
     match cvss {

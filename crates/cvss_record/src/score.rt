@@ -2,15 +2,12 @@
 
 ghost use Rattle.std.specs.Prelude.{◌≡◌};
 ghost use Rattle.cvss.specs.Answers.{HasScore, rating_by, score_of_tenths};
-ghost use Rattle.cvss.specs.CvssType.TheVariants.{CvssV20, CvssV30, CvssV40};
-ghost use Rattle.cvss.specs.VectorV4.{v4};
-ghost use Rattle.cvss.specs.Version.{IsComplete};
 ghost use Rattle.cvss_record.specs.Groups.{AreScoresOf, tenths_at};
 ghost use Rattle.cvss_record.specs.Record.{rating_word, score_number};
 
 use crate::group::Group;
 use cvss::tenths::tenths_of;
-use cvss::{Cvss, Severity, v2, v3, v4};
+use cvss::{Cvss, Severity};
 use cvss_base::TENTH;
 
 /// The scores of a vector in tenths, from 0 to 100 each.
@@ -31,40 +28,21 @@ impl Scores {
         ensures { AreScoresOf cvss.now result }
     {
         match cvss {
-            Cvss::CvssV20(vector) => Scores::of_v2(vector),
-            Cvss::CvssV30(vector) | Cvss::CvssV31(vector) => Scores::of_v3(vector),
-            Cvss::CvssV40(vector) => Scores::of_v4(vector),
-        }
-    }
-
-    fn of_v2(vector: &v2::Vector) -> Scores
-        ensures { AreScoresOf (CvssV20 vector.now) result }
-    {
-        Scores {
-            base: tenths_of(vector.score().value()),
-            temporal: Some(tenths_of(vector.temporal_score().value())),
-            environmental: Some(tenths_of(vector.environmental_score().value())),
-        }
-    }
-
-    fn of_v3(vector: &v3::Vector) -> Scores
-        ensures { AreScoresOf (CvssV30 vector.now) result }
-    {
-        Scores {
-            base: tenths_of(vector.base_score().value()),
-            temporal: Some(tenths_of(vector.temporal_score().value())),
-            environmental: Some(tenths_of(vector.environmental_score().value())),
-        }
-    }
-
-    fn of_v4(vector: &v4::Vector) -> Scores
-        requires { IsComplete v4 vector.now }
-        ensures { AreScoresOf (CvssV40 vector.now) result }
-    {
-        Scores {
-            base: tenths_of(vector.score().value()),
-            temporal: None,
-            environmental: None,
+            Cvss::CvssV20(vector) => Scores {
+                base: tenths_of(vector.score().value()),
+                temporal: Some(tenths_of(vector.temporal_score().value())),
+                environmental: Some(tenths_of(vector.environmental_score().value())),
+            },
+            Cvss::CvssV30(vector) | Cvss::CvssV31(vector) => Scores {
+                base: tenths_of(vector.base_score().value()),
+                temporal: Some(tenths_of(vector.temporal_score().value())),
+                environmental: Some(tenths_of(vector.environmental_score().value())),
+            },
+            Cvss::CvssV40(vector) => Scores {
+                base: tenths_of(vector.score().value()),
+                temporal: None,
+                environmental: None,
+            },
         }
     }
 

@@ -1,12 +1,10 @@
 pub mod AccountLemmas
 pub mod ClassLemmas
 pub mod CountLemmas
-pub mod DistanceLemmas
 pub mod GroupLemmas
 pub mod LeastLemmas
 pub mod MeanLemmas
 pub mod NextLemmas
-pub mod PlaceLemmas
 pub mod RoundedLemmas
 pub mod ScoreLawLemmas
 pub mod ScoreLemmas

@@ -4,7 +4,6 @@ pub mod base_score;
 pub mod equations;
 pub mod laws;
 pub mod score;
-pub mod scores;
 mod weights;
 
 pub use score::Score;

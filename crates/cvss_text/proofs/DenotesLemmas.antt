@@ -1,7 +1,6 @@
 -- A text denotes at most one vector, no two pieces of whose components have one name, and has no
 -- refusal where that vector is complete.
-use Rattle.std.proofs.Common.{◌≡◌, ℕ, ◌<◌, List, [], ◌∷◌, ◌++◌, length, Option, Some, None, refl, sym, ap, ◌∙◌, subst, arith, ◌≢◌, ◌+◌, ◌≤◌, Bool, true, false, cond, get_or, take, map}
-use Rattle.std.specs.List.{All, filter_map, count_by}
+use Rattle.std.proofs.Common.{◌≡◌, ℕ, ◌<◌, List, [], ◌∷◌, ◌++◌, length, Option, Some, None, refl, sym, ap, ◌∙◌, subst, arith, ◌≢◌, ◌+◌, ◌≤◌, Bool, true, false, cond, get_or, take, map, All, filter_map, count_by, bytes_eq}
 use Rattle.std.proofs.lemmas.List.{take_all, length-map, get_or-map, take-take}
 use Rattle.std.proofs.lemmas.List.Elements.{All-append}
 use Rattle.std.proofs.lemmas.Option.{slice_get_within, get_or_from_slice_get}
@@ -14,7 +13,6 @@ use Rattle.cvss_text.proofs.LawLemmas.{name_plain, names_differ, printed_once}
 use Rattle.cvss_text.proofs.ComponentLemmas.{IsHeldAs, held_stands, piece_held, holds_of_components, components_with}
 use Rattle.cvss_text.proofs.JoinLemmas.{pieces-joined, are_parts}
 use Rattle.cvss_text.proofs.WalkLemmas.{value_from, name_from, value_from_piece, held_is_named}
-use Rattle.std.specs.Str.{bytes_eq}
 use Rattle.std.proofs.lemmas.Bool.{false_from_ne_true}
 use Rattle.std.proofs.lemmas.List.Sorted.{sum_by-IsPermutation}
 use Rattle.std.proofs.lemmas.List.Sums.{sum_by-cons, sum_by-append, sum_by-take-le, count_by_more_yes}

@@ -1,115 +1,93 @@
 -- What a reader of a whole text answers, whether a version piece stands before the components or not;
 -- and texts behind a version piece.
-use Rattle.std.proofs.Common.{◌≡◌, ℕ, List, [], ◌++◌, length, take, drop, Result, Ok, Err, IfOk, IfErr, OnOk, sym, ap, ◌∙◌, subst, zero, suc, ◌∷◌, get_or, codes, refl, arith}
-use Rattle.std.specs.List.{All, Contains}
-use Rattle.std.specs.Result.{IsErrAnd}
-use Rattle.std.specs.Str.{IsUtf8}
+use Rattle.std.proofs.Common.{◌≡◌, ℕ, List, [], ◌++◌, length, take, drop, Result, Ok, Err, IfOk, IfErr, sym, ap, ◌∙◌, subst, zero, suc, ◌∷◌, get_or, codes, refl, arith, All, Contains, IsUtf8}
 use Rattle.std.proofs.lemmas.List.{take-append-drop, take_at, drop_at, get_or-map, get_or-take}
 use Rattle.std.proofs.lemmas.List.Elements.{All-append, All-nil, All-cons}
 use Rattle.std.proofs.lemmas.List.Splits.{join_with_byte-slice_split}
 use Rattle.cvss_text.specs.declared.walk.Fault.{Fault}
 use Rattle.cvss_base.specs.Text.{slash, pieces, joined, value_part, IsComponent}
-use Rattle.cvss_base.specs.Version.{Version, Denotes, IsComplete, AreComponentsOf, version_piece, IsSupported}
+use Rattle.cvss_base.specs.Version.{Version, Denotes, IsComplete, AreComponentsOf, version_piece, IsWellFormed}
 use Rattle.cvss_base.specs.Refusal.{Refusal, BadComponent, BadPiecesFirst, WrongPrefix, WrongVersion, AreComponentsBefore, IsFirstBadPiece, piece_at, IsReasonBehind, IsFirstRefusalBehind, TellsVersion}
-use Rattle.cvss_text.specs.private.Walk.{IsLawful, IsFirstOfPieces, HasRead, reason_of, IsLawfulFront, IsAnswerBehind, IsFrontFault, IsStarted, IsTellable, foreign_bytes}
+use Rattle.cvss_text.specs.private.Walk.{IsLawful, IsFirstOfPieces, HasRead, reason_of, IsLawfulFront, IsAnswer, IsFrontFault, IsStarted, IsTellable, foreign_bytes}
 use Rattle.cvss_text.proofs.DenotesLemmas.{vectors_same, pieces_of_complete, no_reason, pieces_of_denoted}
 use Rattle.cvss_text.proofs.JoinLemmas.{are_parts, IsUtf8-parts}
 use Rattle.cvss_text.proofs.RefusalLemmas.{refusals_same, reasons_behind_same}
 use Rattle.cvss_text.proofs.TextLemmas.{IsPart, IsPart-component, name_part-component, value_part-component}
 use Rattle.cvss_text.proofs.WalkLemmas.{AreComponentsOf-all}
-use Rattle.std.proofs.lemmas.Result.{IfOk-weaker}
 use Rattle.cvss_text.proofs.CanonicalLemmas.{denoted_once}
 use Rattle.cvss_text.proofs.PieceLemmas.{IsUtf8-pieces}
 
--- the text is a front of this many pieces, as IsFront has it, and the components of a complete vector
-pub record IsText {V K : Type 0} (version : Version V K) (IsFront : V → Type 0) (size : ℕ) (text : List ℕ) (v : V) : Type 0 where
-  pub front : IsFront v
+-- the text is a front of this many pieces, and the components of a vector that is formed so
+pub record IsText {V K : Type 0} (version : Version V K) (IsFormed : V → Type 0) (size : ℕ) (text : List ℕ) (v : V) : Type 0 where
+  pub formed : IsFormed v
   pub cut : take size (pieces text) ≡ version.front v
   pub components : AreComponentsOf version (drop size (pieces text)) v
-  pub complete : IsComplete version v
 
--- how such fronts are; and a text is refused for one reason, and for none where it is such a text
-pub record AreFronts {V K : Type 0} (version : Version V K) (IsFront : V → Type 0) (size : ℕ) (text : List ℕ) (IsReason : Refusal K → Type 0) : Type 0 where
-  pub parts : (v : V) → IsFront v → All IsPart (version.front v)
-  pub sizes : (v : V) → IsFront v → length (version.front v) ≡ size
+-- how vectors are that are formed so; and a text is refused for one reason, and for none where it is such a text
+pub record AreFormed {V K : Type 0} (version : Version V K) (IsFormed : V → Type 0) (size : ℕ) (text : List ℕ) (IsReason : Refusal K → Type 0) : Type 0 where
+  pub complete : (v : V) → IsFormed v → IsComplete version v
+  pub parts : (v : V) → IsFormed v → All IsPart (version.front v)
+  pub sizes : (v : V) → IsFormed v → length (version.front v) ≡ size
   pub one_reason : (one two : Refusal K) → IsReason one → IsReason two → one ≡ two
-  pub no_reason : (v : V) → IsText version IsFront size text v → (reason : Refusal K) → IsReason reason → ⊥
+  pub no_reason : (v : V) → IsText version IsFormed size text v → (reason : Refusal K) → IsReason reason → ⊥
 
 -- the front of a text is read, and these pieces are left
-pub record IsBegun {V K : Type 0} (version : Version V K) (IsFront : V → Type 0) (size : ℕ) (text : List ℕ) (IsReason : Refusal K → Type 0) (left : List (List ℕ)) (empty : V) : Type 0 where
-  pub front : (v : V) → version.front v ≡ version.front empty → IsFront v
+pub record IsBegun {V K : Type 0} (version : Version V K) (IsFormed : V → Type 0) (size : ℕ) (text : List ℕ) (IsReason : Refusal K → Type 0) (left : List (List ℕ)) (empty : V) : Type 0 where
+  pub formed : (v : V) → version.front v ≡ version.front empty → IsComplete version v → IsFormed v
   pub taken : take size (pieces text) ≡ version.front empty
   pub left_is : left ≡ drop size (pieces text)
   pub reasons : (reason : Refusal K) → IsFirstOfPieces version left reason → BadPiecesFirst IsReason (pieces text) reason
 
--- what is promised of the answer
-pub record IsAnswered {V K : Type 0} (version : Version V K) (IsFront : V → Type 0) (text : List ℕ) (IsReason : Refusal K → Type 0) (answer : Result V (Fault K)) : Type 0 where
-  pub denoted : IfOk answer (λ v. Denotes version text v)
-  pub formed : IfOk answer (λ v. IsFront v × IsComplete version v)
-  pub accepts : (v : V) → Denotes version text v → IsFront v → IsComplete version v → answer ≡ Ok v
-  pub utf8 : OnOk answer (IsUtf8 text)
-  pub refused : IfErr answer (λ fault. BadPiecesFirst IsReason (pieces text) (reason_of version fault))
-  pub refuses : (reason : Refusal K) → BadPiecesFirst IsReason (pieces text) reason → IsErrAnd answer (λ fault. reason_of version fault ≡ reason)
-
-module _ {V K : Type 0} (version : Version V K) (lawful : IsLawful version) (IsFront : V → Type 0) (size : ℕ) (text : List ℕ) (IsReason : Refusal K → Type 0) (fronts : AreFronts version IsFront size text IsReason) where
-  module _ (v : V) (is : IsText version IsFront size text v) where
+module _ {V K : Type 0} {version : Version V K} (lawful : IsLawful version) {IsFormed : V → Type 0} {size : ℕ} {text : List ℕ} {IsReason : Refusal K → Type 0} (are : AreFormed version IsFormed size text IsReason) where
+  module _ (v : V) (is : IsText version IsFormed size text v) where
     pieces_are : pieces text ≡ version.front v ++ drop size (pieces text)
     pieces_are = sym (take-append-drop size (pieces text)) ∙ ap (λ front. front ++ drop size (pieces text)) is.cut
 
     all_parts : All IsPart (pieces text)
-    all_parts = subst (All IsPart) (sym pieces_are) (All-append IsPart (version.front v) (drop size (pieces text)) (fronts.parts v is.front) (are_parts version lawful v _ is.components))
-
-    utf8 : IsUtf8 text
-    utf8 = subst IsUtf8 (join_with_byte-slice_split slash text) (IsUtf8-parts (pieces text) all_parts)
-
-    denoted : Denotes version text v
-    denoted = record { parts = drop size (pieces text); text_is = sym (join_with_byte-slice_split slash text) ∙ ap joined pieces_are; components = is.components }
-
-    same : (w : V) → IsText version IsFront size text w → v ≡ w
-    same w other = vectors_same version lawful v w (drop size (pieces text)) (sym is.cut ∙ other.cut) is.components other.components
+    all_parts = subst (All IsPart) (sym pieces_are) (All-append IsPart (version.front v) (drop size (pieces text)) (are.parts v is.formed) (are_parts version lawful v _ is.components))
 
     no_refusal : (reason : Refusal K) → BadPiecesFirst IsReason (pieces text) reason → ⊥
     no_refusal (BadComponent piece) bad = bad.bad (rw bad.is (record { one_colon = (all_parts bad.place [] bad.within).one_colon }))
-    no_refusal reason (_, reasoned) = fronts.no_reason v is reason reasoned
+    no_refusal reason (_, reasoned) = are.no_reason v is reason reasoned
 
-  text_from : (v : V) → Denotes version text v → IsFront v → IsComplete version v → IsText version IsFront size text v
-  text_from v denotes front complete =
-      let are = pieces_of_complete version lawful v text denotes (fronts.parts v front) complete in
+  text_from : (v : V) → Denotes version text v → IsFormed v → IsText version IsFormed size text v
+  text_from v denotes formed =
+      let cut = pieces_of_complete version lawful v text denotes (are.parts v formed) (are.complete v formed) in
       record {
-        front = front;
-        cut = ap (take size) are ∙ take_at (version.front v) denotes.parts size (fronts.sizes v front);
-        components = subst (λ list. AreComponentsOf version list v) (sym (ap (drop size) are ∙ drop_at (version.front v) denotes.parts size (fronts.sizes v front))) denotes.components;
-        complete = complete;
+        formed = formed;
+        cut = ap (take size) cut ∙ take_at (version.front v) denotes.parts size (are.sizes v formed);
+        components = subst (λ list. AreComponentsOf version list v) (sym (ap (drop size) cut ∙ drop_at (version.front v) denotes.parts size (are.sizes v formed))) denotes.components;
       }
 
-  pub IsAnswered-refused : (fault : Fault K) → BadPiecesFirst IsReason (pieces text) (reason_of version fault) → IsAnswered version IsFront text IsReason (Err fault)
-  IsAnswered-refused fault first = record {
+  pub IsAnswer-refused : (fault : Fault K) → BadPiecesFirst IsReason (pieces text) (reason_of version fault) → (IsUtf8 text → IsTellable version fault) → IsAnswer version IsFormed IsReason text (Err fault)
+  IsAnswer-refused fault first tellable = record {
     denoted = tt;
-    formed = tt;
-    accepts = λ w denotes front complete. absurd (no_refusal w (text_from w denotes front complete) (reason_of version fault) first);
+    well_formed = tt;
+    accepts = λ w denotes formed. absurd (no_refusal w (text_from w denotes formed) (reason_of version fault) first);
     utf8 = tt;
     refused = first;
-    refuses = λ reason other. refusals_same IsReason (pieces text) fronts.one_reason (reason_of version fault) reason first other;
+    refuses = λ reason other. refusals_same IsReason (pieces text) are.one_reason (reason_of version fault) reason first other;
+    tellable = tellable;
   }
 
-  pub IsAnswered-read : {left : List (List ℕ)} {empty : V} → IsBegun version IsFront size text IsReason left empty → (answer : Result V (Fault K)) → IfOk answer (λ v. HasRead version left (length left) v) → IfOk answer (λ v. version.front v ≡ version.front empty) → IfOk answer (λ v. IsComplete version v) → IfErr answer (λ fault. IsFirstOfPieces version left (reason_of version fault)) → IsAnswered version IsFront text IsReason answer
-  IsAnswered-read {left = left} begun (Ok v) all front complete refused =
-      let components = AreComponentsOf-all version lawful left v all in
-      let is : IsText version IsFront size text v = record {
-        front = begun.front v front;
+  pub IsAnswer-read : {left : List (List ℕ)} {empty : V} → IsBegun version IsFormed size text IsReason left empty → (answer : Result V (Fault K)) → IfOk answer (λ v. HasRead version left (length left) v) → IfOk answer (λ v. version.front v ≡ version.front empty) → IfOk answer (λ v. IsComplete version v) → IfErr answer (λ fault. IsFirstOfPieces version left (reason_of version fault)) → (IsUtf8 text → IfErr answer (IsTellable version)) → IsAnswer version IsFormed IsReason text answer
+  IsAnswer-read {left = left} begun (Ok v) all front complete refused tellable =
+      let joined_are = join_with_byte-slice_split slash text in
+      let is : IsText version IsFormed size text v = record {
+        formed = begun.formed v front complete;
         cut = begun.taken ∙ sym front;
-        components = subst (λ list. AreComponentsOf version list v) begun.left_is components;
-        complete = complete;
+        components = subst (λ list. AreComponentsOf version list v) begun.left_is (AreComponentsOf-all version lawful left v all);
       } in
       record {
-        denoted = denoted v is;
-        formed = (is.front, complete);
-        accepts = λ w denotes front complete. ap Ok (same v is w (text_from w denotes front complete));
-        utf8 = utf8 v is;
+        denoted = record { parts = drop size (pieces text); text_is = sym joined_are ∙ ap joined (pieces_are v is); components = is.components };
+        well_formed = is.formed;
+        accepts = λ w denotes formed. let other = text_from w denotes formed in ap Ok (vectors_same version lawful v w (drop size (pieces text)) (sym is.cut ∙ other.cut) is.components other.components);
+        utf8 = subst IsUtf8 joined_are (IsUtf8-parts (pieces text) (all_parts v is));
         refused = tt;
         refuses = λ reason first. absurd (no_refusal v is reason first);
+        tellable = tellable;
       }
-  IsAnswered-read begun (Err fault) all front complete refused = IsAnswered-refused fault (begun.reasons (reason_of version fault) refused)
+  IsAnswer-read begun (Err fault) all front complete refused tellable = IsAnswer-refused fault (begun.reasons (reason_of version fault) refused) tellable
 
 module _ {V K : Type 0} (version : Version V K) where
   front_parts : (v : V) (told : List ℕ) → version.front v ≡ version_piece told ∷ [] → foreign_bytes told ≡ 0 → All IsPart (version.front v)
@@ -150,40 +128,25 @@ module _ {V K : Type 0} (version : Version V K) (lawful : IsLawful version) (fro
   denoted_once_behind v w of_v of_w = denoted_once version lawful v w text (fronts_same v w of_v of_w) of_v of_w
 
   -- a text that is read has no reason to be refused
-  no_reason_behind : (v : V) → IsText version (IsSupported version) 1 text v → (reason : Refusal K) → IsReasonBehind version (pieces text) reason → ⊥
+  no_reason_behind : (v : V) → IsText version (IsWellFormed version) 1 text v → (reason : Refusal K) → IsReasonBehind version (pieces text) reason → ⊥
   no_reason_behind v is =
-      let supported = is.front in
+      let supported = is.formed.supported in
       let first : version_piece supported.told ≡ piece_at (pieces text) 0 = sym (ap (λ list. piece_at list 0) (is.cut ∙ supported.front_is)) ∙ get_or-take 1 (pieces text) 0 [] (omega arith) in
       let tells = subst (TellsVersion version) first (piece_tells version supported.told supported.supported) in
       elim [
         | WrongPrefix prefix ↦ λ wrong. wrong.wrong (wrong.is ∙ tells.prefix)
         | WrongVersion told ↦ λ wrong. wrong.wrong (subst (Contains version.supported) (sym wrong.is) tells.supported)
-        | reason ↦ λ behind. no_reason version lawful v (drop 1 (pieces text)) is.components is.complete reason behind.1
+        | reason ↦ λ behind. no_reason version lawful v (drop 1 (pieces text)) is.components is.formed.complete reason behind.1
       ]
 
-  pub fronts : AreFronts version (IsSupported version) 1 text (IsReasonBehind version (pieces text))
-  fronts = record {
-    parts = λ v is. front_parts version v is.told is.front_is (told_plain version front is.told is.supported);
-    sizes = λ v is. ap length is.front_is;
+  pub are_formed : AreFormed version (IsWellFormed version) 1 text (IsReasonBehind version (pieces text))
+  are_formed = record {
+    complete = λ v formed. formed.complete;
+    parts = λ v formed. let is = formed.supported in front_parts version v is.told is.front_is (told_plain version front is.told is.supported);
+    sizes = λ v formed. ap length formed.supported.front_is;
     one_reason = reasons_behind_same version lawful (pieces text);
     no_reason = no_reason_behind;
   }
-
-  -- so this one answer is all that a reader promises
-  pub IsAnswerBehind-from : (answer : Result V (Fault K)) → IsAnswered version (IsSupported version) text (IsReasonBehind version (pieces text)) answer → (IsUtf8 text → IfErr answer (IsTellable version)) → IsAnswerBehind version text answer
-  IsAnswerBehind-from answer is tellable = record {
-    denoted = is.denoted;
-    well_formed = IfOk-weaker answer _ _ (λ v formed. record { complete = formed.1; supported = formed.0 }) is.formed;
-    accepts = λ v denotes formed. is.accepts v denotes formed.supported formed.complete;
-    utf8 = is.utf8;
-    refused = is.refused;
-    refuses = is.refuses;
-    tellable = tellable;
-  }
-
-  pub IsAnswerBehind-refused : (fault : Fault K) → IsFirstRefusalBehind version text (reason_of version fault) → (IsUtf8 text → IsTellable version fault) → IsAnswerBehind version text (Err fault)
-  IsAnswerBehind-refused fault first tellable =
-      IsAnswerBehind-from (Err fault) (IsAnswered-refused version lawful (IsSupported version) 1 text (IsReasonBehind version (pieces text)) fronts fault first) tellable
 
 pub IsUtf8-cut : (text piece : List ℕ) (parts : List (List ℕ)) → pieces text ≡ piece ∷ parts → IsUtf8 text → All IsUtf8 (piece ∷ parts)
 IsUtf8-cut text piece parts cut is = subst (All IsUtf8) cut (IsUtf8-pieces text is)
@@ -221,14 +184,14 @@ module _ {V K : Type 0} (version : Version V K) (text piece : List ℕ) (parts :
 
 -- a text whose first piece starts a vector is read from behind it
 module _ {V K : Type 0} (version : Version V K) (plain : IsLawfulFront version) (text : List ℕ) (left : List (List ℕ)) (empty : V) where
-  pub begun_behind : IsStarted version text left empty → IsBegun version (IsSupported version) 1 text (IsReasonBehind version (pieces text)) left empty
+  pub begun_behind : IsStarted version text left empty → IsBegun version (IsWellFormed version) 1 text (IsReasonBehind version (pieces text)) left empty
   begun_behind started =
       let told = value_part started.piece in
       let starts = started.starts.starts in
       let is_component : IsComponent (version_piece told) = record { one_colon = (IsPart-component (codes "CVSS") told refl (told_plain version plain told starts.supported)).one_colon } in
       let cut = started.cut ∙ ap (λ piece. piece ∷ left) started.starts.is in
       record {
-        front = λ v same. record { told = told; front_is = same ∙ starts.front_is; supported = starts.supported };
+        formed = λ v same complete. record { complete = complete; supported = record { told = told; front_is = same ∙ starts.front_is; supported = starts.supported } };
         taken = ap (take 1) cut ∙ sym starts.front_is;
         left_is = sym (ap (drop 1) cut);
         reasons = reason_behind version text (version_piece told) left cut is_component (piece_tells version told starts.supported);

@@ -1,26 +1,21 @@
 -- How pieces come off a text, and that those of a text in UTF-8 are UTF-8.
-use Rattle.std.proofs.Common.{◌≡◌, ◌↔◌, IsTrue, not, ℕ, ◌+◌, ◌<◌, ◌≤◌, Bool, true, false, cond, ltb, List, [], ◌∷◌, inl, inr, length, take, drop, Option, Some, None, refl, sym, ap, ◌∙◌, Bor, arith, ◌++◌, subst}
+use Rattle.std.proofs.Common.{◌≡◌, ◌↔◌, IsTrue, not, ℕ, ◌+◌, ◌<◌, ◌≤◌, Bool, true, false, cond, ltb, List, [], ◌∷◌, inl, inr, length, take, drop, Option, Some, None, refl, sym, ap, ◌∙◌, Bor, arith, ◌++◌, subst, ltb-true, ltb-false, IsUtf8}
 use Rattle.std.specs.Iterator.{MakesProgress, item_count}
 use Rattle.std.specs.List.{position, position_or_len, All}
 use Rattle.std.specs.Option.{option_map_or, unwrap_or, is_some}
 use Rattle.std.specs.Slice.{IsGetRangeResult}
-use Rattle.std.proofs.lemmas.Bool.{ltb-true, ltb-false}
+use Rattle.std.proofs.lemmas.Bool.{false_from_ne_true}
 use Rattle.std.proofs.lemmas.List.Folds.{list_any_none}
 use Rattle.std.proofs.lemmas.List.{take_all, take_rest, length-append, get_or_at, take_at, drop_at, drop-drop}
 use Rattle.std.proofs.lemmas.List.Splits.{slice_split_none, slice_split_first, length-slice_split, join_with_byte-slice_split}
 use Rattle.std.proofs.lemmas.List.Sums.{fails_before_first}
-use Rattle.std.proofs.lemmas.Option.{cond_some}
+use Rattle.std.proofs.lemmas.Option.{cond_some, none-some}
 use Rattle.cvss_text.specs.private.Pieces.{AreParts, IsWithoutColon}
 use Rattle.cvss_base.specs.Text.{pieces, slash, colon, joined, component}
 use Rattle.cvss_text.proofs.TextLemmas.{is_slash, is_colon, position-within, colon-parts}
-use Rattle.std.specs.Str.{IsUtf8}
 use Rattle.std.proofs.lemmas.List.Elements.{All-nil, All-cons}
 use Rattle.std.proofs.lemmas.Str.{IsUtf8-take, IsUtf8-drop, IsCharBoundary-before_ascii, IsCharBoundary-after_ascii}
 use Rattle.cvss_base.specs.Refusal.{IsFirstBadPiece}
-
-none-false : (b : Bool) (x : ℕ) → cond b (Some x) None ≡ None → b ≡ false
-none-false true x none = cc
-none-false false x none = refl
 
 -- the place of the first byte that passes a test
 module _ (p : ℕ → Bool) (text : List ℕ) where
@@ -30,7 +25,9 @@ module _ (p : ℕ → Bool) (text : List ℕ) where
       (ltb-true _ _ parts.0, parts.1)
 
   first_nowhere : position p text ≡ None → length text ≤ position_or_len p text
-  first_nowhere none = omega (arith, ltb-false _ _ (none-false (ltb (position_or_len p text) (length text)) (position_or_len p text) none))
+  first_nowhere none =
+      let past = false_from_ne_true (ltb (position_or_len p text) (length text)) (λ within. none-some _ (sym none ∙ ap (λ b. cond b (Some (position_or_len p text)) None) within)) in
+      omega (arith, ltb-false _ _ past)
 
 -- the first piece ends at the first slash
 pub pieces-first : (text : List ℕ) (at : ℕ) → position is_slash text ≡ Some at → pieces text ≡ take at text ∷ pieces (drop (at + 1) text)
@@ -61,15 +58,11 @@ without_colon piece none = record {
   no_component = λ is. omega (arith, first_nowhere is_colon piece none, position-within is_colon piece is.one_colon);
 }
 
-differ : (none : Bool) → true ≡ not none → none ≡ true → ⊥
-differ true is holds = cc
-differ false is holds = cc
-
 -- a text has a first piece, so that none is left where no text is
 pub none_left : (rest : Option (Bor (List ℕ))) (none : Bool) → is_some rest ≡ not none → IsTrue none ↔ (option_map_or (λ text. pieces text.now) rest [] ≡ [])
 none_left None true is = (λ _. refl, λ _. refl)
 none_left None false is = (λ _. refl, λ _. is)
-none_left (Some text) none is = (λ holds. absurd (differ none is holds), λ empty. absurd (omega (arith, ap length empty, length-slice_split is_slash text.now)))
+none_left (Some text) none is = (λ holds. let same = ap not holds in absurd cc, λ empty. absurd (omega (arith, ap length empty, length-slice_split is_slash text.now)))
 
 -- a call that takes the first of what is left comes nearer to the end
 pub MakesProgress-first : {S A B : Type 0} (rest : S → List B) (s t : S) (x : A) (y : B) → rest s ≡ y ∷ rest t → MakesProgress (λ _. Unit {0}) (item_count rest) s (Some x) t

@@ -1,7 +1,5 @@
 -- A text has at most one first refusal.
-use Rattle.std.proofs.Common.{◌≡◌, inl, inr, ℕ, ◌<◌, List, Contains, drop, sym, ap, ◌∙◌, subst}
-use Rattle.std.specs.List.{slice_get}
-use Rattle.std.proofs.lemmas.Bool.{cases_order}
+use Rattle.std.proofs.Common.{◌≡◌, ℕ, ◌<◌, List, Contains, drop, arith, sym, ap, ◌∙◌, subst, slice_get}
 use Rattle.std.proofs.lemmas.Option.{same_Some}
 use Rattle.cvss_base.specs.Version.{Version, reading}
 use Rattle.cvss_base.specs.Refusal.{Refusal, BadComponent, WrongPrefix, WrongVersion, UnknownName, BadValue, Repeated, Missing, Spells, piece_at, name_at, value_at, FaultAt, IsFirstBadPiece, IsFirstFault, IsFirstMissing, IsFirstReason, IsReasonBehind, BadPiecesFirst}
@@ -10,8 +8,7 @@ use Rattle.cvss_text.proofs.LawLemmas.{names_differ}
 
 -- of two least places with a fact, neither is before the other
 pub same_place : (p q : ℕ) → (p < q → ⊥) → (q < p → ⊥) → p ≡ q
-same_place p q not_before not_after =
-    elim (cases_order p q) [ inl same ↦ same | inr apart ↦ elim apart [ inl before ↦ absurd (not_before before) | inr after ↦ absurd (not_after after) ] ]
+same_place p q not_before not_after = omega arith
 
 bad_pieces_same : (parts : List (List ℕ)) (piece other : List ℕ) → IsFirstBadPiece parts piece → IsFirstBadPiece parts other → piece ≡ other
 bad_pieces_same parts piece other first second =

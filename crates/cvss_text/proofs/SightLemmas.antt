@@ -1,7 +1,6 @@
 -- A text that is recognised part by part is the components of all the metrics.
-use Rattle.std.proofs.Common.{◌≡◌, ℕ, List, [], ◌∷◌, ◌++◌, flat_map, refl, sym, ap, ◌∙◌}
+use Rattle.std.proofs.Common.{◌≡◌, ℕ, List, [], ◌∷◌, ◌++◌, flat_map, refl, sym, ap, ◌∙◌, append_assoc}
 use Rattle.std.proofs.lemmas.Grind.{flat_map-append}
-use Rattle.std.proofs.lemmas.List.{append_assoc}
 use Rattle.cvss_base.specs.Version.{Version}
 use Rattle.cvss_text.specs.private.Printing.{slashed_text, slashed_texts}
 

@@ -1,8 +1,7 @@
 -- Where the text of a slash, a name, a colon and a value may be cut: behind the colon.
-use Rattle.std.proofs.Common.{◌≡◌, ℕ, ◌+◌, ◌<◌, List, ◌∷◌, length, get_or, arith, subst}
+use Rattle.std.proofs.Common.{◌≡◌, ℕ, ◌+◌, ◌<◌, List, ◌∷◌, length, get_or, arith, subst, IsUtf8, IsCharBoundary}
 use Rattle.std.proofs.lemmas.Grind.{common_steps}
 use Rattle.std.proofs.lemmas.Str.{IsCharBoundary-after_ascii}
-use Rattle.std.specs.Str.{IsUtf8, IsCharBoundary}
 use Rattle.cvss_base.specs.Text.{slash, colon, component}
 
 colon_at : (name value : List ℕ) → get_or (slash ∷ component name value) (length name + 1) 0 ≡ colon

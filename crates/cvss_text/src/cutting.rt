@@ -1,9 +1,7 @@
 //! How a component is cut into the metric that it names and the value behind its colon, once for all
 //! versions.
 
-ghost use Rattle.std.specs.Prelude.{◌≡◌, ◌↔◌, IsTrue, bytes_eq, find, IfOk, IfErr};
-ghost use Rattle.std.specs.List.{All};
-ghost use Rattle.std.specs.Str.{IsUtf8};
+ghost use Rattle.std.specs.Prelude.{◌≡◌, ◌↔◌, IsTrue, bytes_eq, find, IfOk, IfErr, All, IsUtf8};
 ghost use Rattle.cvss_text.specs.private.Pieces.{pieces_left};
 ghost use Rattle.cvss_base.specs.Text.{IsComponent, pieces, raised, read_as};
 ghost use Rattle.cvss_base.specs.Version.{read};

@@ -1,7 +1,6 @@
 //! Texts that begin with a piece that tells their version, once for all versions that have one.
 
-ghost use Rattle.std.specs.Prelude.{IfSome, IfNone, IfOk, IfErr, Contains};
-ghost use Rattle.std.specs.Str.{IsUtf8};
+ghost use Rattle.std.specs.Prelude.{IfSome, IfNone, IfOk, IfErr, Contains, IsUtf8};
 ghost use Rattle.cvss_base.specs.Text.{IsComponent};
 ghost use Rattle.cvss_text.specs.private.Pieces.{pieces_left};
 ghost use Rattle.cvss_text.specs.private.Walk.{Starts, StartsWith, IsStarted, IsAnswerBehind, IsFrontFault, IsTellable, IsLawfulFront, reason_of};

@@ -10,5 +10,4 @@ pub mod pieces;
 pub mod print;
 pub mod refusing;
 pub mod sight;
-pub mod text;
 pub mod walk;

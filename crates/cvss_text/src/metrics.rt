@@ -1,7 +1,6 @@
 //! The metrics that a vector has, once for all versions.
 
-ghost use Rattle.std.specs.Prelude.{◌≡◌, List};
-ghost use Rattle.std.specs.Option.{option_copied};
+ghost use Rattle.std.specs.Prelude.{◌≡◌, List, option_copied};
 ghost use Rattle.std.specs.Iterator.{YieldsFirstBy, item_count};
 ghost use Rattle.cvss_base.specs.Text.{value_part};
 ghost use Rattle.cvss_base.specs.Version.{held};

@@ -1,8 +1,7 @@
 //! How the text of a vector is cut into pieces, and a component into its name and its value.
 
-ghost use Rattle.std.specs.Prelude.{◌≡◌, ◌↔◌, ◌∷◌, [], IsTrue, IfSome, MatchOption, Some, length, ◌==◌};
+ghost use Rattle.std.specs.Prelude.{◌≡◌, ◌↔◌, ◌∷◌, [], IsTrue, IfSome, MatchOption, Some, length, ◌==◌, position};
 ghost use Rattle.std.specs.Iterator.{YieldsFirstRef, item_count};
-ghost use Rattle.std.specs.List.{position};
 ghost use Rattle.cvss_base.specs.Text.{IsComponent, component, pieces};
 ghost use Rattle.cvss_text.specs.private.Pieces.{pieces_left, AreParts, IsWithoutColon};
 ghost use Rattle.cvss_base.specs.Refusal.{AreComponentsBefore, IsFirstBadPiece};

@@ -1,11 +1,10 @@
 //! How a vector's components are printed, once for all versions.
 
-ghost use Rattle.std.specs.Prelude.{◌≡◌, ◌↔◌, IsTrue, Some, drop, if◌then◌else◌};
-ghost use Rattle.std.specs.Option.{option_copied};
+ghost use Rattle.std.specs.Prelude.{◌≡◌, ◌↔◌, IsTrue, Some, drop, filter_map, All, option_copied};
 ghost use Rattle.std.specs.Fmt.{DisplaysOnOk, WritesOnOk, WritesStyledOnOk};
 ghost use Rattle.cvss_base.specs.Text.{joined};
 ghost use Rattle.cvss_base.specs.Version.{component_of, components_of, canonical_text};
-ghost use Rattle.cvss_text.specs.private.Printing.{slashed, StartsWithSlash};
+ghost use Rattle.cvss_text.specs.private.Printing.{slashed, slashed_texts, StartsWithSlash};
 
 use crate::walk::Components;
 use std::fmt;
@@ -29,23 +28,6 @@ pub fn write_component<W: fmt::Write>(
     f.write_str(&slashed[1..])
 }
 
-/// Writes a component, and the slash before it unless it is the first.
-fn write_in_turn<W: fmt::Write>(
-    slashed: &'static str,
-    is_first: bool,
-    f: &mut fmt::Formatter<W>,
-) -> fmt::Result
-    requires { StartsWithSlash slashed.now }
-    ensures { WritesOnOk W.write_str_gives f.old result
-        (if is_first then drop 1 slashed.now else slashed.now) f.new }
-{
-    if is_first {
-        write_component(slashed, f)
-    } else {
-        f.write_str(slashed)
-    }
-}
-
 /// Writes the components of a vector in printing order, with a slash between each two.
 pub fn write_components<V: Printed, W: fmt::Write>(
     vector: &V,
@@ -54,14 +36,46 @@ pub fn write_components<V: Printed, W: fmt::Write>(
     ensures { DisplaysOnOk W.write_str_gives f.old result
         (Some (joined (components_of V.version vector.now))) f.new }
 {
-    let mut is_first = true;
-    for kind in V::printed() {
-        if let Some(text) = vector.slashed(*kind) {
-            write_in_turn(text, is_first, f)?;
-            is_first = false;
+    write_joined(vector, V::printed(), f)
+}
+
+/// Writes the components that a vector has for these metrics, with a slash between each two.
+fn write_joined<V: Printed, W: fmt::Write>(
+    vector: &V,
+    kinds: &[V::Kind],
+    f: &mut fmt::Formatter<W>,
+) -> fmt::Result
+    ensures { WritesOnOk W.write_str_gives f.old result
+        (joined (filter_map (component_of V.version vector.now) kinds.now)) f.new }
+{
+    let [first, rest @ ..] = kinds else {
+        return Ok(());
+    };
+    match vector.slashed(*first) {
+        Some(text) => {
+            write_component(text, f)?;
+            write_slashed(vector, rest, f)
         }
+        None => write_joined(vector, rest, f),
     }
-    Ok(())
+}
+
+/// Writes the components that a vector has for these metrics, each behind a slash.
+fn write_slashed<V: Printed, W: fmt::Write>(
+    vector: &V,
+    kinds: &[V::Kind],
+    f: &mut fmt::Formatter<W>,
+) -> fmt::Result
+    ensures { WritesOnOk W.write_str_gives f.old result
+        (slashed_texts V.version vector.now kinds.now) f.new }
+{
+    let [first, rest @ ..] = kinds else {
+        return Ok(());
+    };
+    if let Some(text) = vector.slashed(*first) {
+        f.write_str(text)?;
+    }
+    write_slashed(vector, rest, f)
 }
 
 /// Whether two vectors of one front have the same components, which is whether their texts are the
@@ -72,12 +86,15 @@ pub fn same_components<V: Printed>(left: &V, right: &V) -> bool
         ↔ (canonical_text V.version left.now ≡ canonical_text V.version right.now) }
     ensures vectors { IsTrue result ↔ (left.now ≡ right.now) }
 {
-    for kind in V::printed() {
-        if !same_text(left.slashed(*kind), right.slashed(*kind)) {
-            return false;
-        }
-    }
-    true
+    same_slashed(left, right)
+}
+
+/// Whether two vectors have the same component for each metric.
+fn same_slashed<V: Printed>(left: &V, right: &V) -> bool
+    ensures { IsTrue result ↔ All (λ kind. slashed (component_of V.version left.now kind)
+        ≡ slashed (component_of V.version right.now kind)) V.version.printed }
+{
+    V::printed().iter().all(|kind| same_text(left.slashed(*kind), right.slashed(*kind)))
 }
 
 fn same_text(left: Option<&'static str>, right: Option<&'static str>) -> bool

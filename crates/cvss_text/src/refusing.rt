@@ -1,7 +1,6 @@
 //! The errors that tell why a text is no vector, and the parsers that answer them.
 
-ghost use Rattle.std.specs.Prelude.{◌≡◌, true, Some, IfOk, IfErr, OnErr, IsErrAnd, IsSomeAnd, Contains, Ok, Option, [], string_bytes};
-ghost use Rattle.std.specs.Str.{IsUtf8};
+ghost use Rattle.std.specs.Prelude.{◌≡◌, true, Some, IfOk, IfErr, OnErr, IsErrAnd, IsSomeAnd, Contains, Ok, Option, [], string_bytes, IsUtf8};
 ghost use Rattle.cvss_base.specs.declared.error.Error.{Error};
 ghost use Rattle.cvss_base.specs.Refusal.{Refusal, BadValue, Repeated, Missing, carries_text, IsFirstRefusal, IsFirstRefusalBehind};
 ghost use Rattle.cvss_base.specs.Told.{Tells, TellsFirst, reason_told};
@@ -9,7 +8,6 @@ ghost use Rattle.cvss_base.specs.Version.{read, Denotes, IsComplete, IsWellForme
 ghost use Rattle.cvss_text.specs.private.Walk.{IsEmpty, IsTellable, reason_of};
 
 use crate::front::{Fronted, read_behind};
-use crate::text::copied_text;
 use crate::walk::{Components, Fault, read_vector};
 use cvss_base::Error;
 use std::alloc::{AllocError, Global};
@@ -118,4 +116,11 @@ fn text_as_read<V: Components>(alloc: Global, part: &[u8]) -> Result<String, All
         text.make_ascii_uppercase();
     }
     Ok(text)
+}
+
+/// A copy of a part of a text. What is no UTF-8 is replaced, and a part of a text never is.
+fn copied_text(alloc: Global, part: &[u8]) -> Result<String, AllocError>
+    ensures { IfOk result (λ text. IsUtf8 part.now → string_bytes text ≡ part.now) }
+{
+    String::from_utf8_lossy(alloc, part)
 }

@@ -1,14 +1,12 @@
 //! The walk over a vector's components, once for all versions. It takes no memory: a fault borrows
 //! the part of the text that it names.
 
-ghost use Rattle.std.specs.Prelude.{◌≡◌, ℕ, List, IfSome, IfOk, IfErr, OnOk, IsErrAnd, Some, Ok, [], length};
-ghost use Rattle.std.specs.List.{All};
-ghost use Rattle.std.specs.Str.{IsUtf8};
+ghost use Rattle.std.specs.Prelude.{◌≡◌, ℕ, List, IfSome, IfOk, IfErr, OnOk, Some, length, All, IsUtf8};
 ghost use Rattle.cvss_text.specs.private.Pieces.{pieces_left};
 ghost use Rattle.cvss_base.specs.Text.{IsComponent, pieces};
-ghost use Rattle.cvss_base.specs.Version.{Version, read, Denotes, IsComplete};
-ghost use Rattle.cvss_base.specs.Refusal.{AreComponentsBefore, Refusal, piece_at, IsFirstRefusal};
-ghost use Rattle.cvss_text.specs.private.Walk.{HasNoValue, IsEmpty, IsFilled, IsPut, IsCut, IsReadFirst, IsLawful, Puts, Adds, HasRead, IsFaultOf, IsFirstOfPieces, first_missing, IsTellable, reason_of};
+ghost use Rattle.cvss_base.specs.Version.{Version, read, IsComplete};
+ghost use Rattle.cvss_base.specs.Refusal.{AreComponentsBefore, piece_at};
+ghost use Rattle.cvss_text.specs.private.Walk.{HasNoValue, IsAnswerBare, IsEmpty, IsFilled, IsPut, IsCut, IsReadFirst, IsLawful, Puts, Adds, HasRead, IsFaultOf, IsFirstOfPieces, first_missing, IsTellable, reason_of};
 
 use crate::cutting::{cut_component, cut_first};
 use crate::pieces::{Pieces, first_bad_piece, pieces_of};
@@ -207,19 +205,7 @@ pub(crate) fn read_complete<'a, V: Components>(
 /// Reads a text of components into an empty vector, or finds the first reason why it is refused.
 pub fn read_vector<'a, V: Components>(text: &'a [u8], empty: V) -> Result<V, Fault<'a, V::Kind>>
     requires { IsEmpty V.version empty }
-    // Accepted: what is given is what the text denotes, and each such vector is given.
-    ensures denoted { IfOk result (λ v. Denotes V.version text.now v) }
-    ensures complete { IfOk result (λ v. IsComplete V.version v) }
-    ensures accepts { (v : V) → V.version.front v ≡ [] → Denotes V.version text.now v
-        → IsComplete V.version v → result ≡ Ok v }
-    ensures utf8 { OnOk result (IsUtf8 text.now) }
-    // Refused: for the first reason, and wherever there is one.
-    ensures refused { IfErr result
-        (λ fault. IsFirstRefusal V.version text.now (reason_of V.version fault)) }
-    ensures refuses { (reason : Refusal V.Kind) → IsFirstRefusal V.version text.now reason
-        → IsErrAnd result (λ fault. reason_of V.version fault ≡ reason) }
-    // A refusal can be told.
-    ensures tellable { IsUtf8 text.now → IfErr result (IsTellable V.version) }
+    ensures { IsAnswerBare V.version text.now result }
 {
     read_complete(pieces_of(text), empty)
 }

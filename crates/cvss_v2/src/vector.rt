@@ -13,10 +13,7 @@ mod sight;
 mod units;
 mod weighing;
 
-use cvss_text::refusing::vector_of;
 use cvss_base::Error;
-use cvss_text::print::same_components;
-use cvss_text::walk::read_vector;
 use cvss_metric::v2::base::{
     AccessComplexity, AccessVector, Authentication, AvailabilityImpact, ConfidentialityImpact,
     IntegrityImpact,
@@ -26,6 +23,9 @@ use cvss_metric::v2::environmental::{
     IntegrityRequirement, TargetDistribution,
 };
 use cvss_metric::v2::temporal::{Exploitability, RemediationLevel, ReportConfidence};
+use cvss_text::print::same_components;
+use cvss_text::refusing::vector_of;
+use cvss_text::walk::read_vector;
 pub use listing::Metrics;
 use std::alloc::Global;
 

@@ -4,6 +4,7 @@ use Rattle.std.specs.Bool.{⊤}
 use Rattle.std.specs.List.{list_all}
 use Rattle.std.proofs.Common.{◌≡◌, ℕ, suc, ◌+◌, ◌-◌, ◌<◌, ◌≤◌, List, [], ◌∷◌, ◌++◌, length, get_or, take, drop, Bool, true, IsTrue, not, eqb, ◌||◌, bit_and, arith, refl, ap, subst, ◌∙◌, sym, inl, inr, take_all, drop-cons, length-drop, take-append-drop}
 use Rattle.std.proofs.lemmas.Bool.{and_parts, or_cases, eqb-true}
+use Rattle.std.proofs.lemmas.List.{get_or_past}
 use Rattle.cvss_base.proofs.TestLemmas.{all_below, below_passes}
 use Rattle.cvss_base.specs.Text.{raised}
 use Rattle.cvss_base.specs.V3Types.{name_of}
@@ -47,11 +48,12 @@ name_letters : (kind : MetricType) → list_all is_ascii_uppercase (name_of kind
 name_letters = elim [ A ↦ refl | _ ↦ refl ]
 
 -- a piece is cut behind a name and a colon
-pub cut_behind : (piece letters : List ℕ) (kind : MetricType) → length letters < length piece → get_or piece (length letters) 0 ≡ 58
+pub cut_behind : (piece letters : List ℕ) (kind : MetricType) → get_or piece (length letters) 0 ≡ 58
     → RaisesTo 0 piece letters → name_of kind ≡ letters
     → IsCut v3 piece kind (take (length piece - suc (length letters)) (drop (suc (length letters)) piece))
-cut_behind piece letters kind within colon raises named =
+cut_behind piece letters kind colon raises named =
     let n = length letters in
+    let within : n < length piece = grind (arith, get_or_past piece n 0) in
     let rest = drop (suc n) piece in
     let is_name = raised_from 0 piece letters (omega (arith, within)) raises (subst (λ name. list_all is_ascii_uppercase name ≡ true) named (name_letters kind)) in
     let value_is : take (length piece - suc n) rest ≡ rest = take_all (length piece - suc n) rest (omega (arith, length-drop (suc n) piece)) in

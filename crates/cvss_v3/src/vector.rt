@@ -12,10 +12,7 @@ mod scores;
 mod sight;
 mod units;
 
-use cvss_text::refusing::vector_behind;
 use cvss_base::Error;
-use cvss_text::front::read_behind;
-use cvss_text::print::same_components;
 use cvss_metric::v3::base::{
     AttackComplexity, AttackVector, Availability, Confidentiality, Integrity, PrivilegesRequired,
     Scope, UserInteraction,
@@ -25,6 +22,9 @@ use cvss_metric::v3::environmental::{
     ModifiedScope,
 };
 use cvss_metric::v3::temporal::{ExploitCodeMaturity, RemediationLevel, ReportConfidence};
+use cvss_text::front::read_behind;
+use cvss_text::print::same_components;
+use cvss_text::refusing::vector_behind;
 pub use listing::Metrics;
 use std::alloc::Global;
 
@@ -105,6 +105,7 @@ impl Vector {
     }
 
     /// Whether two vectors have one canonical text, which is whether they are equal.
+    #[tactic(auto, using(crate::proofs::TextLemmas::versions_apart))]
     pub fn same_text(&self, other: &Vector) -> bool
         ensures vectors { IsTrue result ↔ (self.now ≡ other.now) }
         ensures texts { IsTrue result

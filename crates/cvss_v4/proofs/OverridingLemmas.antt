@@ -95,34 +95,25 @@ no_objection_held texts v place are within =
     let named : name_of held.kind ≡ name_at v4 texts place = sym (name_from v4 v4_is_lawful (piece_at texts place) held.kind _ held.is) in
     no_objection_at texts place held.kind (piece_is_component v4 v4_is_lawful v texts are.components place within) named (are.environmental.each held.kind (rw held.held)) (no_fault_held v4 v4_is_lawful v texts place are.components within)
 
-module _ (texts : List (List ℕ)) where
-  -- which of the three kinds of objection one is
-  data IsSort (place : ℕ) : Objection → Type 0 where
-    other_group : IsComponent (piece_at texts place) → NamesOther (name_at v4 texts place) → IsSort place OfOtherGroup
-    bad_piece : {piece : List ℕ} → piece ≡ piece_at texts place → (IsComponent (piece_at texts place) → ⊥) → IsSort place (OfText (BadComponent piece))
-    fault : {reason : Refusal MetricType} → IsComponent (piece_at texts place) → (NamesOther (name_at v4 texts place) → ⊥) → FaultAt v4 texts place reason → IsSort place (OfText reason)
+-- one objection at a place
+objections_same : (texts : List (List ℕ)) (place : ℕ) (one other : Objection) → ObjectionAt texts place one
+    → ObjectionAt texts place other → one ≡ other
+objections_same texts place OfOtherGroup OfOtherGroup a b = refl
+objections_same texts place OfOtherGroup (OfText (BadComponent _)) a b = absurd (b.1 a.0)
+objections_same texts place OfOtherGroup (OfText _) a b = absurd (b.1 a.1)
+objections_same texts place (OfText (BadComponent _)) OfOtherGroup a b = absurd (a.1 b.0)
+objections_same texts place (OfText (BadComponent _)) (OfText (BadComponent _)) a b = ap (λ piece. OfText (BadComponent piece)) (a.0 ∙ sym b.0)
+objections_same texts place (OfText (BadComponent _)) (OfText _) a b = absurd (a.1 b.0)
+objections_same texts place (OfText _) OfOtherGroup a b = absurd (a.1 b.1)
+objections_same texts place (OfText _) (OfText (BadComponent _)) a b = absurd (b.1 a.0)
+objections_same texts place (OfText one) (OfText other) a b = ap OfText (faults_same v4 v4_is_lawful texts place one other a.2 b.2)
 
-  sort_of : (place : ℕ) (objection : Objection) → ObjectionAt texts place objection → IsSort place objection
-  sort_of place OfOtherGroup at = other_group at.0 at.1
-  sort_of place (OfText (BadComponent piece)) at = bad_piece at.0 at.1
-  sort_of place (OfText reason) at = fault at.0 at.1 at.2
-
-  sorts_same : (place : ℕ) (one other : Objection) → IsSort place one → IsSort place other → one ≡ other
-  sorts_same place _ _ (other_group _ _) (other_group _ _) = refl
-  sorts_same place _ _ (other_group is _) (bad_piece _ bad) = absurd (bad is)
-  sorts_same place _ _ (other_group _ other) (fault _ none _) = absurd (none other)
-  sorts_same place _ _ (bad_piece _ bad) (other_group is _) = absurd (bad is)
-  sorts_same place _ _ (bad_piece first _) (bad_piece second _) = ap (λ piece. OfText (BadComponent piece)) (first ∙ sym second)
-  sorts_same place _ _ (bad_piece _ bad) (fault is _ _) = absurd (bad is)
-  sorts_same place _ _ (fault _ none _) (other_group _ other) = absurd (none other)
-  sorts_same place _ _ (fault is _ _) (bad_piece _ bad) = absurd (bad is)
-  sorts_same place _ _ (fault _ _ first) (fault _ _ second) = ap OfText (faults_same v4 v4_is_lawful texts place _ _ first second)
-
-  -- two first objections are one
-  pub first_objections_same : (p q : ℕ) (one other : Objection) → IsFirstObjection texts p one → IsFirstObjection texts q other → (p ≡ q) × (one ≡ other)
-  first_objections_same p q one other first second =
-      let same = same_place p q (λ before. second.earlier.none p one before first.is) (λ before. first.earlier.none q other before second.is) in
-      (same, sorts_same q one other (sort_of q one (subst (λ place. ObjectionAt texts place one) same first.is)) (sort_of q other second.is))
+-- two first objections are one
+pub first_objections_same : (texts : List (List ℕ)) (p q : ℕ) (one other : Objection) → IsFirstObjection texts p one
+    → IsFirstObjection texts q other → (p ≡ q) × (one ≡ other)
+first_objections_same texts p q one other first second =
+    let same = same_place p q (λ before. second.earlier.none p one before first.is) (λ before. first.earlier.none q other before second.is) in
+    (same, objections_same texts q one other (subst (λ place. ObjectionAt texts place one) same first.is) second.is)
 
 -- a metric that each vector has is a base metric
 mandatory_is_base : (kind : MetricType) → Contains mandatory kind → same_group (group_of kind) Base ≡ true

@@ -12,12 +12,12 @@ mod refusing;
 mod scores;
 mod sight;
 
-use cvss_text::refusing::vector_behind;
 use cvss_base::Error;
+use cvss_metric::v4::{base, environmental, supplemental, threat};
 use cvss_text::front::read_behind;
 use cvss_text::print::same_components;
+use cvss_text::refusing::vector_behind;
 use cvss_text::walk::Components;
-use cvss_metric::v4::{base, environmental, supplemental, threat};
 pub use listing::Metrics;
 pub use overriding::OverrideError;
 use std::alloc::Global;
@@ -115,6 +115,7 @@ impl Vector {
     }
 
     /// Whether two vectors have one canonical text, which is whether they are equal.
+    #[tactic(auto, using(crate::proofs::TextLemmas::versions_apart))]
     pub fn same_text(&self, other: &Vector) -> bool
         ensures vectors { IsTrue result ↔ (self.now ≡ other.now) }
         ensures texts { IsTrue result

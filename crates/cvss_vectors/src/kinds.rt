@@ -1,30 +1,11 @@
 //! Metrics by their names.
 
-use crate::shown::{Word, show};
+use crate::shown::show;
 use crate::{first_word, values2, values3, values4};
 use cvss::{v2, v3, v4};
-use std::alloc::Global;
 use std::{fmt, io};
 
 const NO_VERSION: &str = "no such version";
-
-impl Word for v2::MetricType {
-    fn read(alloc: Global, word: &str) -> Option<v2::MetricType> {
-        v2::MetricType::from_str(alloc, word).ok()
-    }
-}
-
-impl Word for v3::MetricType {
-    fn read(alloc: Global, word: &str) -> Option<v3::MetricType> {
-        v3::MetricType::from_str(alloc, word).ok()
-    }
-}
-
-impl Word for v4::MetricType {
-    fn read(alloc: Global, word: &str) -> Option<v4::MetricType> {
-        v4::MetricType::from_str(alloc, word).ok()
-    }
-}
 
 /// What is asked of a metric: its name, one of its values, or each of some.
 #[derive(Clone, Copy)]
@@ -51,10 +32,11 @@ where
 /// Metrics beside each other.
 pub(crate) fn each_kind(rt: &HostRuntime, asked: &str) -> io::Result<()> {
     let (version, words) = first_word(asked);
+    let alloc = rt.alloc();
     match version {
-        "2" => show::<v2::MetricType>(rt, words),
-        "3" => show::<v3::MetricType>(rt, words),
-        "4" => show::<v4::MetricType>(rt, words),
+        "2" => show(rt, words, |word| v2::MetricType::from_str(alloc, word).ok()),
+        "3" => show(rt, words, |word| v3::MetricType::from_str(alloc, word).ok()),
+        "4" => show(rt, words, |word| v4::MetricType::from_str(alloc, word).ok()),
         _ => println!(rt; "{NO_VERSION}"),
     }
 }

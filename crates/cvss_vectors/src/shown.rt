@@ -3,84 +3,31 @@
 use crate::first_word;
 use crate::kinds::{each_kind, each_value};
 use cvss::v4::Nomenclature;
-use cvss::{Cvss, Error, Severity, v2, v3, v4};
+use cvss::{Cvss, Severity, v2, v3, v4};
 use std::alloc::{AllocError, Global};
 use std::{fmt, io};
-
-/// A type as whose values words are read.
-pub(crate) trait Word: fmt::Display + Clone + PartialEq + Drop {
-    /// The value of a word.
-    fn read(alloc: Global, word: &str) -> Option<Self>;
-}
-
-impl Word for Cvss {
-    fn read(_alloc: Global, word: &str) -> Option<Cvss> {
-        Cvss::read_bytes(word.as_bytes())
-    }
-}
-
-impl Word for v2::Vector {
-    fn read(_alloc: Global, word: &str) -> Option<v2::Vector> {
-        v2::Vector::read_bytes(word.as_bytes())
-    }
-}
-
-impl Word for v3::Vector {
-    fn read(_alloc: Global, word: &str) -> Option<v3::Vector> {
-        v3::Vector::read_bytes(word.as_bytes())
-    }
-}
-
-impl Word for v4::Vector {
-    fn read(_alloc: Global, word: &str) -> Option<v4::Vector> {
-        v4::Vector::read_bytes(word.as_bytes())
-    }
-}
-
-impl Word for Severity {
-    fn read(alloc: Global, word: &str) -> Option<Severity> {
-        Severity::from_str(alloc, word).ok()
-    }
-}
-
-impl Word for Nomenclature {
-    fn read(alloc: Global, word: &str) -> Option<Nomenclature> {
-        Nomenclature::from_str(alloc, word).ok()
-    }
-}
-
-/// Why a word is no vector.
-impl Word for Error {
-    fn read(alloc: Global, word: &str) -> Option<Error> {
-        Cvss::from_str(alloc, word).err()
-    }
-}
 
 /// Of the words that are read, the values.
 pub(crate) fn each(rt: &HostRuntime, asked: &str) -> io::Result<()> {
     let (kind, words) = first_word(asked);
+    let alloc = rt.alloc();
     match kind {
         "kind" => each_kind(rt, words),
         "value" => each_value(rt, words),
-        "vector" => show::<Cvss>(rt, words),
-        "v2" => show::<v2::Vector>(rt, words),
-        "v3" => show::<v3::Vector>(rt, words),
-        "v4" => show::<v4::Vector>(rt, words),
-        "rating" => show::<Severity>(rt, words),
-        "nomenclature" => show::<Nomenclature>(rt, words),
-        "error" => show::<Error>(rt, words),
+        "vector" => show(rt, words, |word| Cvss::read_bytes(word.as_bytes())),
+        "v2" => show(rt, words, |word| v2::Vector::read_bytes(word.as_bytes())),
+        "v3" => show(rt, words, |word| v3::Vector::read_bytes(word.as_bytes())),
+        "v4" => show(rt, words, |word| v4::Vector::read_bytes(word.as_bytes())),
+        "rating" => show(rt, words, |word| Severity::from_str(alloc, word).ok()),
+        "nomenclature" => show(rt, words, |word| Nomenclature::from_str(alloc, word).ok()),
+        "error" => show(rt, words, |word| Cvss::from_str(alloc, word).err()),
         _ => println!(rt; "no such type"),
     }
 }
 
-/// Of the words that a type reads, the values beside each other.
-pub(crate) fn show<T: Word>(rt: &HostRuntime, words: &str) -> io::Result<()> {
-    show_read(rt, words, |word| T::read(rt.alloc(), word))
-}
-
 /// Of the words that a function reads, a copy of each value, how many of them it equals, and how many
 /// not.
-pub(crate) fn show_read<T, F>(rt: &HostRuntime, words: &str, read: F) -> io::Result<()>
+pub(crate) fn show<T, F>(rt: &HostRuntime, words: &str, read: F) -> io::Result<()>
 where
     T: fmt::Display + Clone + PartialEq + Drop,
     F: Fn(&str) -> Option<T>,

@@ -1,7 +1,7 @@
 //! Values of the metrics of CVSS v2.
 
 use crate::kinds::{Asked, print_with};
-use crate::shown::{print_error, print_value, show_read};
+use crate::shown::{print_error, print_value, show};
 use cvss::v2::metric::{base, environmental, temporal};
 use cvss::v2::{Metric, MetricType};
 use std::io;
@@ -37,7 +37,7 @@ fn told<M: Metric + Drop>(rt: &HostRuntime, kind: MetricType, asked: Asked<'_>) 
     match asked {
         Asked::Name => print_with(rt, &kind, kind.name(), kind.description()),
         Asked::One(text) => one::<M>(rt, text),
-        Asked::Each(words) => show_read(rt, words, |word| M::read(word)),
+        Asked::Each(words) => show(rt, words, |word| M::read(word)),
     }
 }
 

@@ -1,9 +1,13 @@
 //! Values of the metrics of CVSS v4.
 
 use crate::kinds::{Asked, print_with};
-use crate::shown::{print_error, show_read};
+use crate::shown::{print_error, show};
 use cvss::v4::MetricType;
-use cvss::v4::metric::{Metric, base, environmental, supplemental, threat};
+use cvss::v4::metric::Metric;
+use cvss::v4::metric::base::*;
+use cvss::v4::metric::environmental::*;
+use cvss::v4::metric::supplemental::*;
+use cvss::v4::metric::threat::*;
 use std::io;
 
 /// Tells of the metric of a name, or of its values.
@@ -16,50 +20,42 @@ pub(crate) fn answer(rt: &HostRuntime, name: &str, asked: Asked<'_>) -> io::Resu
 
 fn answer_of(rt: &HostRuntime, kind: MetricType, asked: Asked<'_>) -> io::Result<()> {
     match kind {
-        MetricType::AC => told::<base::AttackComplexity>(rt, kind, asked),
-        MetricType::AT => told::<base::AttackRequirements>(rt, kind, asked),
-        MetricType::AV => told::<base::AttackVector>(rt, kind, asked),
-        MetricType::PR => told::<base::PrivilegesRequired>(rt, kind, asked),
-        MetricType::SA => told::<base::AvailabilityImpactToTheSubsequentSystem>(rt, kind, asked),
-        MetricType::SC => told::<base::ConfidentialityImpactToTheSubsequentSystem>(rt, kind, asked),
-        MetricType::SI => told::<base::IntegrityImpactToTheSubsequentSystem>(rt, kind, asked),
-        MetricType::UI => told::<base::UserInteraction>(rt, kind, asked),
-        MetricType::VA => told::<base::AvailabilityImpactToTheVulnerableSystem>(rt, kind, asked),
-        MetricType::VC => told::<base::ConfidentialityImpactToTheVulnerableSystem>(rt, kind, asked),
-        MetricType::VI => told::<base::IntegrityImpactToTheVulnerableSystem>(rt, kind, asked),
-        MetricType::E => told::<threat::ExploitMaturity>(rt, kind, asked),
-        MetricType::AR => told::<environmental::AvailabilityRequirements>(rt, kind, asked),
-        MetricType::CR => told::<environmental::ConfidentialityRequirements>(rt, kind, asked),
-        MetricType::IR => told::<environmental::IntegrityRequirements>(rt, kind, asked),
-        MetricType::MAC => told::<environmental::ModifiedAttackComplexity>(rt, kind, asked),
-        MetricType::MAT => told::<environmental::ModifiedAttackRequirements>(rt, kind, asked),
-        MetricType::MAV => told::<environmental::ModifiedAttackVector>(rt, kind, asked),
-        MetricType::MPR => told::<environmental::ModifiedPrivilegesRequired>(rt, kind, asked),
-        MetricType::MSA => told::<environmental::ModifiedAvailabilityImpactToTheSubsequentSystem>(
+        MetricType::AC => told::<AttackComplexity>(rt, kind, asked),
+        MetricType::AT => told::<AttackRequirements>(rt, kind, asked),
+        MetricType::AV => told::<AttackVector>(rt, kind, asked),
+        MetricType::PR => told::<PrivilegesRequired>(rt, kind, asked),
+        MetricType::SA => told::<AvailabilityImpactToTheSubsequentSystem>(rt, kind, asked),
+        MetricType::SC => told::<ConfidentialityImpactToTheSubsequentSystem>(rt, kind, asked),
+        MetricType::SI => told::<IntegrityImpactToTheSubsequentSystem>(rt, kind, asked),
+        MetricType::UI => told::<UserInteraction>(rt, kind, asked),
+        MetricType::VA => told::<AvailabilityImpactToTheVulnerableSystem>(rt, kind, asked),
+        MetricType::VC => told::<ConfidentialityImpactToTheVulnerableSystem>(rt, kind, asked),
+        MetricType::VI => told::<IntegrityImpactToTheVulnerableSystem>(rt, kind, asked),
+        MetricType::E => told::<ExploitMaturity>(rt, kind, asked),
+        MetricType::AR => told::<AvailabilityRequirements>(rt, kind, asked),
+        MetricType::CR => told::<ConfidentialityRequirements>(rt, kind, asked),
+        MetricType::IR => told::<IntegrityRequirements>(rt, kind, asked),
+        MetricType::MAC => told::<ModifiedAttackComplexity>(rt, kind, asked),
+        MetricType::MAT => told::<ModifiedAttackRequirements>(rt, kind, asked),
+        MetricType::MAV => told::<ModifiedAttackVector>(rt, kind, asked),
+        MetricType::MPR => told::<ModifiedPrivilegesRequired>(rt, kind, asked),
+        MetricType::MSA => told::<ModifiedAvailabilityImpactToTheSubsequentSystem>(rt, kind, asked),
+        MetricType::MSC => told::<ModifiedConfidentialityImpactToTheSubsequentSystem>(
             rt, kind, asked,
         ),
-        MetricType::MSC => told::<
-            environmental::ModifiedConfidentialityImpactToTheSubsequentSystem,
-        >(rt, kind, asked),
-        MetricType::MSI => told::<environmental::ModifiedIntegrityImpactToTheSubsequentSystem>(
+        MetricType::MSI => told::<ModifiedIntegrityImpactToTheSubsequentSystem>(rt, kind, asked),
+        MetricType::MUI => told::<ModifiedUserInteraction>(rt, kind, asked),
+        MetricType::MVA => told::<ModifiedAvailabilityImpactToTheVulnerableSystem>(rt, kind, asked),
+        MetricType::MVC => told::<ModifiedConfidentialityImpactToTheVulnerableSystem>(
             rt, kind, asked,
         ),
-        MetricType::MUI => told::<environmental::ModifiedUserInteraction>(rt, kind, asked),
-        MetricType::MVA => told::<environmental::ModifiedAvailabilityImpactToTheVulnerableSystem>(
-            rt, kind, asked,
-        ),
-        MetricType::MVC => told::<
-            environmental::ModifiedConfidentialityImpactToTheVulnerableSystem,
-        >(rt, kind, asked),
-        MetricType::MVI => told::<environmental::ModifiedIntegrityImpactToTheVulnerableSystem>(
-            rt, kind, asked,
-        ),
-        MetricType::AU => told::<supplemental::Automatable>(rt, kind, asked),
-        MetricType::R => told::<supplemental::Recovery>(rt, kind, asked),
-        MetricType::RE => told::<supplemental::VulnerabilityResponseEffort>(rt, kind, asked),
-        MetricType::S => told::<supplemental::Safety>(rt, kind, asked),
-        MetricType::U => told::<supplemental::ProviderUrgency>(rt, kind, asked),
-        MetricType::V => told::<supplemental::ValueDensity>(rt, kind, asked),
+        MetricType::MVI => told::<ModifiedIntegrityImpactToTheVulnerableSystem>(rt, kind, asked),
+        MetricType::AU => told::<Automatable>(rt, kind, asked),
+        MetricType::R => told::<Recovery>(rt, kind, asked),
+        MetricType::RE => told::<VulnerabilityResponseEffort>(rt, kind, asked),
+        MetricType::S => told::<Safety>(rt, kind, asked),
+        MetricType::U => told::<ProviderUrgency>(rt, kind, asked),
+        MetricType::V => told::<ValueDensity>(rt, kind, asked),
     }
 }
 
@@ -67,7 +63,7 @@ fn told<M: Metric + Drop>(rt: &HostRuntime, kind: MetricType, asked: Asked<'_>) 
     match asked {
         Asked::Name => print_with(rt, &kind, kind.name(), kind.description()),
         Asked::One(text) => one::<M>(rt, text),
-        Asked::Each(words) => show_read(rt, words, |word| M::read(word)),
+        Asked::Each(words) => show(rt, words, |word| M::read(word)),
     }
 }
 

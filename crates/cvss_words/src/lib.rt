@@ -8,5 +8,7 @@ pub mod v2;
 pub mod v3;
 pub mod v4;
 
+pub use rows::{Row, word_in};
+
 /// The word of a value that is not defined, spelled `ND` in CVSS v2 and `X` in v3 and v4.0.
 pub const NOT_DEFINED: &str = "NOT_DEFINED";

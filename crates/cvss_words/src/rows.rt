@@ -6,7 +6,7 @@ ghost use Rattle.cvss_words.specs.Words.{word_in};
 use crate::NOT_DEFINED;
 
 /// How a value is spelled, and its word.
-pub(crate) type Row = (&'static str, &'static str);
+pub type Row = (&'static str, &'static str);
 
 pub(crate) const LOCAL: Row = ("L", "LOCAL");
 
@@ -39,7 +39,7 @@ pub(crate) const X: Row = ("X", NOT_DEFINED);
 pub(crate) const PROOF_OF_CONCEPT: Row = ("P", "PROOF_OF_CONCEPT");
 
 /// The word of the value with this spelling; empty where no row has it.
-pub(crate) fn word_in(rows: &[Row], spelling: &str) -> &'static str
+pub fn word_in(rows: &[Row], spelling: &str) -> &'static str
     ensures { result.now
         ≡ word_in (map (λ row. (row.0.now, row.1.now)) rows.now) spelling.now }
 {

@@ -1,13 +1,12 @@
 //! The members and words of FIRST's JSON schema of CVSS v2.
 
 ghost use Rattle.std.specs.Prelude.{◌≡◌, map};
-ghost use Rattle.cvss_words.specs.Words.{word_in};
-ghost use Rattle.cvss_words.specs.WordsV2.{entry_of, member_of, words_of};
+ghost use Rattle.cvss_words.specs.WordsV2.{entry_of};
 
 use crate::NOT_DEFINED;
 use crate::rows::{
     ADJACENT_NETWORK, CONFIRMED, FUNCTIONAL, HIGH, LOCAL, LOW, MEDIUM, NETWORK, NONE, Row,
-    UNAVAILABLE, UNPROVEN, WORKAROUND, word_in,
+    UNAVAILABLE, UNPROVEN, WORKAROUND,
 };
 use cvss_base::v2::MetricType;
 
@@ -38,7 +37,7 @@ const MEDIUM_HIGH: Row = ("MH", "MEDIUM_HIGH");
 
 /// The name of the member that holds the metric's value, and how its values are spelled, each
 /// with its word.
-fn entry(kind: MetricType) -> (&'static str, &'static [Row])
+pub fn entry(kind: MetricType) -> (&'static str, &'static [Row])
     ensures { (result.0.now, map (λ row. (row.0.now, row.1.now)) result.1.now) ≡ entry_of kind }
 {
     match kind {
@@ -69,18 +68,4 @@ fn entry(kind: MetricType) -> (&'static str, &'static [Row])
         MetricType::IR => ("integrityRequirement", &[LOW, MEDIUM, HIGH, ND]),
         MetricType::AR => ("availabilityRequirement", &[LOW, MEDIUM, HIGH, ND]),
     }
-}
-
-/// The name of the member that holds the metric's value.
-pub fn member(kind: MetricType) -> &'static str
-    ensures { result.now ≡ member_of kind }
-{
-    entry(kind).0
-}
-
-/// The word of the metric's value with this spelling; empty where it has no such value.
-pub fn word(kind: MetricType, spelling: &str) -> &'static str
-    ensures { result.now ≡ word_in (words_of kind) spelling.now }
-{
-    word_in(entry(kind).1, spelling)
 }

@@ -1,12 +1,11 @@
 //! The members and words of FIRST's JSON schemas of CVSS v3.0 and v3.1.
 
 ghost use Rattle.std.specs.Prelude.{◌≡◌, map};
-ghost use Rattle.cvss_words.specs.Words.{word_in};
-ghost use Rattle.cvss_words.specs.WordsV3.{entry_of, member_of, words_of};
+ghost use Rattle.cvss_words.specs.WordsV3.{entry_of};
 
 use crate::rows::{
     ADJACENT_NETWORK, CONFIRMED, FUNCTIONAL, HIGH, LOCAL, LOW, MEDIUM, NETWORK, NONE, PHYSICAL,
-    PROOF_OF_CONCEPT, Row, UNAVAILABLE, UNPROVEN, WORKAROUND, X, word_in,
+    PROOF_OF_CONCEPT, Row, UNAVAILABLE, UNPROVEN, WORKAROUND, X,
 };
 use cvss_base::v3::MetricType;
 
@@ -27,7 +26,7 @@ const UNKNOWN: Row = ("U", "UNKNOWN");
 
 /// The name of the member that holds the metric's value, and how its values are spelled, each
 /// with its word.
-fn entry(kind: MetricType) -> (&'static str, &'static [Row])
+pub fn entry(kind: MetricType) -> (&'static str, &'static [Row])
     ensures { (result.0.now, map (λ row. (row.0.now, row.1.now)) result.1.now) ≡ entry_of kind }
 {
     match kind {
@@ -66,18 +65,4 @@ fn entry(kind: MetricType) -> (&'static str, &'static [Row])
         MetricType::MI => ("modifiedIntegrityImpact", &[X, NONE, LOW, HIGH]),
         MetricType::MA => ("modifiedAvailabilityImpact", &[X, NONE, LOW, HIGH]),
     }
-}
-
-/// The name of the member that holds the metric's value.
-pub fn member(kind: MetricType) -> &'static str
-    ensures { result.now ≡ member_of kind }
-{
-    entry(kind).0
-}
-
-/// The word of the metric's value with this spelling; empty where it has no such value.
-pub fn word(kind: MetricType, spelling: &str) -> &'static str
-    ensures { result.now ≡ word_in (words_of kind) spelling.now }
-{
-    word_in(entry(kind).1, spelling)
 }

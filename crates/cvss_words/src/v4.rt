@@ -1,12 +1,9 @@
 //! The members and words of FIRST's JSON schema of CVSS v4.0.
 
 ghost use Rattle.std.specs.Prelude.{◌≡◌, map};
-ghost use Rattle.cvss_words.specs.Words.{word_in};
-ghost use Rattle.cvss_words.specs.WordsV4.{entry_of, member_of, words_of};
+ghost use Rattle.cvss_words.specs.WordsV4.{entry_of};
 
-use crate::rows::{
-    HIGH, LOCAL, LOW, MEDIUM, NETWORK, NONE, PHYSICAL, PROOF_OF_CONCEPT, Row, X, word_in,
-};
+use crate::rows::{HIGH, LOCAL, LOW, MEDIUM, NETWORK, NONE, PHYSICAL, PROOF_OF_CONCEPT, Row, X};
 use cvss_base::v4::MetricType;
 
 // Rows that this version alone has.
@@ -52,7 +49,7 @@ const CLEAR: Row = ("Clear", "CLEAR");
 
 /// The name of the member that holds the metric's value, and how its values are spelled, each
 /// with its word.
-fn entry(kind: MetricType) -> (&'static str, &'static [Row])
+pub fn entry(kind: MetricType) -> (&'static str, &'static [Row])
     ensures { (result.0.now, map (λ row. (row.0.now, row.1.now)) result.1.now) ≡ entry_of kind }
 {
     match kind {
@@ -104,18 +101,4 @@ fn entry(kind: MetricType) -> (&'static str, &'static [Row])
         MetricType::RE => ("vulnerabilityResponseEffort", &[X, LOW, MODERATE, HIGH]),
         MetricType::U => ("providerUrgency", &[X, RED, AMBER, GREEN, CLEAR]),
     }
-}
-
-/// The name of the member that holds the metric's value.
-pub fn member(kind: MetricType) -> &'static str
-    ensures { result.now ≡ member_of kind }
-{
-    entry(kind).0
-}
-
-/// The word of the metric's value with this spelling; empty where it has no such value.
-pub fn word(kind: MetricType, spelling: &str) -> &'static str
-    ensures { result.now ≡ word_in (words_of kind) spelling.now }
-{
-    word_in(entry(kind).1, spelling)
 }

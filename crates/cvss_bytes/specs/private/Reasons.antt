@@ -10,14 +10,15 @@ use Rattle.cvss.specs.OverrideErrorTypeV4.TheVariants.{NotEnvironmental, Refused
 use Rattle.cvss.specs.Refusal.{Refusal, carries_text}
 use Rattle.cvss.specs.Told.{Tells}
 use Rattle.cvss.specs.MetricTypeAny.{MetricType}
+use Rattle.cvss.specs.MetricTypes.{name_of, description_of}
 
 -- each reason that the error tells carries a part of the text
 abbrev pub CarriesText : Error → Type 0
 CarriesText error = (reason : Refusal MetricType) → Tells cvss_reason reason error → carries_text reason ≡ true
 
 -- what is said of a metric: some words, its abbreviation, and its name in parentheses
-abbrev pub metric_text : List ℕ → List ℕ → List ℕ → List ℕ
-metric_text words name description = words ++ (name ++ codes " (" ++ description ++ codes ")") ++ codes " metric"
+abbrev pub metric_text : List ℕ → MetricType → List ℕ
+metric_text words metric = words ++ (name_of metric ++ codes " (" ++ description_of metric ++ codes ")") ++ codes " metric"
 
 -- the error is told itself, or that there was no memory where each reason that it tells carries a part of the text
 abbrev pub IsToldAs : Error → Error → Type 0

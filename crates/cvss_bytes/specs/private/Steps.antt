@@ -1,13 +1,16 @@
 -- Words of the private code: vectors that were read, and texts that are written one behind another.
-use Rattle.std.specs.Prelude.{◌≡◌, ◌≢◌, ℕ, ◌<◌, ◌≤◌, List, [], ◌++◌, codes, length, slice_index, flat_map, unwrap_or}
-use Rattle.cvss.specs.Answers.{rating_text}
+use Rattle.std.specs.Prelude.{◌≡◌, ◌≢◌, ℕ, ◌<◌, ◌≤◌, List, [], ◌∷◌, ◌++◌, drop, length, slice_index, flat_map, unwrap_or}
+use Rattle.std.specs.List.{filter_map}
+use Rattle.cvss.specs.Answers.{IsScoreOf, rating_by, score_of_tenths}
+use Rattle.cvss.specs.SeverityText.{text_of as severity_text}
+use Rattle.cvss.specs.Tenths.{tenths_text}
 use Rattle.cvss.specs.Dispatch.{DenotesCvss}
 use Rattle.cvss.specs.CvssType.{Cvss}
-use Rattle.cvss_base.specs.Version.{Version}
-use Rattle.cvss_base.specs.declared.severity.Severity.{Severity}
+use Rattle.cvss_base.specs.Text.{joined}
+use Rattle.cvss_base.specs.Version.{Version, components_of}
 use Rattle.cvss_text.specs.private.Printing.{slashed}
 use Rattle.cvss_bytes.specs.Buffer.{HasPut}
-use Rattle.cvss_bytes.specs.Defined.{defined_component}
+use Rattle.cvss_bytes.specs.Defined.{defined_component, or_if_none}
 
 -- the vector was read from a text
 pub record IsRead (cvss : Cvss) : Type 0 where
@@ -27,9 +30,32 @@ defined_text version undefined v kind = unwrap_or (slashed (defined_component ve
 abbrev pub defined_texts : {V K : Type 0} → Version V K → List ℕ → V → List K → List ℕ
 defined_texts version undefined v kinds = flat_map (defined_text version undefined v) kinds
 
--- what stands behind the vector's text: the score and its rating, each behind a blank
-abbrev pub rating_behind : ℕ → Severity → List ℕ
-rating_behind tenths severity = codes " " ++ rating_text tenths severity
+-- where a first text stands up to the first place, the text and these parts, joined, stand up to the second
+abbrev pub PutsParts : List (List ℕ) → List ℕ → ℕ → List ℕ → ℕ → Type 0
+PutsParts parts before from after to =
+    (old first : List ℕ) → HasPut old first before from → HasPut old (joined (first ∷ parts)) after to
+
+-- the components of a vector that its text less the undefined metrics has
+abbrev pub kept_parts : {V K : Type 0} → Version V K → List ℕ → V → List (List ℕ)
+kept_parts version undefined v =
+    or_if_none (filter_map (defined_component version undefined v) version.printed) (components_of version v)
+
+-- the front of a vector: the piece that tells its version, or none
+abbrev pub front_of : List ℕ → List (List ℕ)
+front_of [] = []
+front_of (byte ∷ bytes) = (byte ∷ bytes) ∷ []
+
+-- what such a piece and components behind slashes are as a text: without a piece, the first slash is none of it
+abbrev pub text_behind : List ℕ → List ℕ → List ℕ
+text_behind [] whole = drop 1 whole
+text_behind (byte ∷ bytes) whole = whole
+
+-- the texts are that of the vector's score, with one decimal, and that of the score's rating
+pub record IsRated (cvss : Cvss) (score rating : List ℕ) : Type 0 where
+  pub tenths : ℕ
+  pub scored : IsScoreOf cvss (score_of_tenths tenths)
+  pub score_is : score ≡ tenths_text tenths
+  pub rating_is : rating ≡ severity_text (rating_by cvss (score_of_tenths tenths))
 
 -- the place of the first byte 10, or the length where there is none
 pub record IsFirstEnd (bytes : List ℕ) (place : ℕ) : Type 0 where

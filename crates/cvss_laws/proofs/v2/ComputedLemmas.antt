@@ -5,7 +5,7 @@ use Rattle.std.specs.List.{list_all}
 use Rattle.std.specs.Ordering.{int_eq}
 use Rattle.std.specs.Prelude.{unsigned_abs}
 use Rattle.std.proofs.Common.{◌≡◌, ◌≢◌, ℕ, ◌^◌, ◌<◌, ℤ, pos, ◌+ℤ◌, ◌-ℤ◌, Bool, true, ◌&&◌, ◌||◌, eqb, ltb, not, inl, inr, arith, refl, rules, subst, lit<}
-use Rattle.std.proofs.lemmas.Bool.{and_parts, or_cases, eqb-true, eqb-false, ltb-true, not-true}
+use Rattle.std.proofs.lemmas.Bool.{or_cases, eqb-true, eqb-false, ltb-true, not-true}
 use Rattle.std.proofs.lemmas.Bool.Decides.{Decides-int_eq}
 use Rattle.cvss_base.specs.Exact.{Exact, ◌over◌, whole, thousandths, tenths, smaller}
 use Rattle.cvss_base.specs.Rounding.{IsNearestAway, IsRoundedV2}
@@ -25,20 +25,23 @@ above_least n = pos n -ℤ pos 8
 abbrev pub place : Exact → ℕ
 place x = unsigned_abs (nearest_tenths x +ℤ pos 8)
 
--- whether x and x + 10^-6 have one nearest tenth, from -0.8 to 10
-unfoldable rounds_alike : Exact → Bool
-rounds_alike x =
-    ltb (place x) 109 && (int_eq (v2_tenths x) (above_least (place x)) && int_eq (nearest_tenths x) (above_least (place x)))
+-- whether x and x + 10^-6 have one nearest tenth, from -0.8 to 10 but for one
+unfoldable rounds_alike : ℕ → Exact → Bool
+rounds_alike left_out x =
+    (not (eqb (place x) left_out) && ltb (place x) 109)
+    && (int_eq (v2_tenths x) (above_least (place x)) && int_eq (nearest_tenths x) (above_least (place x)))
 
 -- so many tenths above -0.8, at most 10, are the v2 rounding of x and its nearest tenth
-pub record IsAlike (x : Exact) (n : ℕ) : Type 0 where
+pub record IsAlike (left_out : ℕ) (x : Exact) (n : ℕ) : Type 0 where
+  pub other : n ≢ left_out
   pub to_ten : n < 109
   pub by_v2 : IsRoundedV2 x (above_least n)
   pub plain : IsNearestAway x (above_least n)
 
-alike_if : (x : Exact) → 0 < x.bottom → rounds_alike x ≡ true → IsAlike x (place x)
+alike_if : (left_out : ℕ) (x : Exact) → 0 < x.bottom → rounds_alike left_out x ≡ true → IsAlike left_out x (place x)
 unfolding rounds_alike
-alike_if x some holds = record {
+alike_if left_out x some holds = record {
+  other = eqb-false (place x) left_out (not-true (eqb (place x) left_out) (search rules));
   to_ten = ltb-true (place x) 109 (search rules);
   by_v2 = subst (λ (r : ℤ). IsRoundedV2 x r) ((Decides-int_eq _ _).0 (search rules)) (v2_is x some);
   plain = subst (λ (r : ℤ). IsNearestAway x r) ((Decides-int_eq _ _).0 (search rules)) (nearest_is x some);
@@ -47,9 +50,7 @@ alike_if x some holds = record {
 -- whether the base number rounds alike, and not to -0.5, of which some products with E, RL and RC do not, with each
 -- exploitability
 unfoldable bases_alike : Exact → Bool
-bases_alike impact = list_all (λ x.
-    let number = base_number impact (x over (10 ^ 9)) in
-    not (eqb (place number) 3) && rounds_alike number) exploitabilities
+bases_alike impact = list_all (λ x. rounds_alike 3 (base_number impact (x over (10 ^ 9)))) exploitabilities
 
 -- with each impact
 impacts_alike : list_all (λ c. list_all (λ i. list_all (λ a.
@@ -68,7 +69,7 @@ adjusted_impacts_alike = refl
 -- whether so many tenths above -0.8, times weights, round alike, where they are not -0.5
 unfoldable temporal_alike : ℕ → ℕ → ℕ → ℕ → Bool
 temporal_alike e rl rc n =
-    eqb n 3 || rounds_alike (temporal_number (tenths (above_least n)) (thousandths e) (thousandths rl) (thousandths rc))
+    eqb n 3 || rounds_alike 109 (temporal_number (tenths (above_least n)) (thousandths e) (thousandths rl) (thousandths rc))
 
 -- with all weights, from -0.8 to 10
 temporals_alike : list_all (λ e. list_all (λ rl. list_all (λ rc. all_below (temporal_alike e rl rc) 109)
@@ -89,23 +90,16 @@ unfolding all_below environmental_alike nearest_of
 environmentals_alike = refl
 
 -- a base number rounds alike, and not to -0.5
-pub record IsBaseAlike (number : Exact) : Type 0 where
-  pub other : place number ≢ 3
-  pub alike : IsAlike number (place number)
+abbrev pub IsBaseAlike : Exact → Type 0
+IsBaseAlike number = IsAlike 3 number (place number)
 
 -- with the exploitability of a vector
 of_exploitability : (v : Vector) (impact : Exact) → 0 < impact.bottom → bases_alike impact ≡ true
     → IsBaseAlike (base_number impact (exploitability (weights_of v)))
 unfolding bases_alike
 of_exploitability v impact some holds =
-    let number = base_number impact (exploitability (weights_of v)) in
-    let parts = and_parts (not (eqb (place number) 3)) _ (passes (λ x.
-    let number = base_number impact (x over (10 ^ 9)) in
-    not (eqb (place number) 3) && rounds_alike number) exploitabilities _ holds (exploitability_listed v)) in
-    record {
-      other = eqb-false (place number) 3 (not-true (eqb (place number) 3) parts.0);
-      alike = alike_if number (omega arith) parts.1;
-    }
+    alike_if 3 (base_number impact (exploitability (weights_of v))) (omega arith)
+    (passes (λ x. rounds_alike 3 (base_number impact (x over (10 ^ 9)))) exploitabilities _ holds (exploitability_listed v))
 
 pub base_is_alike : (v : Vector) → IsBaseAlike (base_number (impact (weights_of v)) (exploitability (weights_of v)))
 base_is_alike v =
@@ -131,15 +125,15 @@ temporal_from v n =
     let w = weights_of v in
     temporal_number (tenths (above_least n)) (thousandths w.e) (thousandths w.rl) (thousandths w.rc)
 
-pub temporal_is_alike : (v : Vector) (n : ℕ) → n < 109 → n ≢ 3 → IsAlike (temporal_from v n) (place (temporal_from v n))
+pub temporal_is_alike : (v : Vector) (n : ℕ) → n < 109 → n ≢ 3 → IsAlike 109 (temporal_from v n) (place (temporal_from v n))
 unfolding temporal_alike
 temporal_is_alike v n to_ten other =
     let w = weights_of v in
     let all = passes_three (λ e rl rc. all_below (temporal_alike e rl rc) 109) (weights E) (weights RL) (weights RC)
     w.e w.rl w.rc temporals_alike (weight_listed v E) (weight_listed v RL) (weight_listed v RC) in
-    elim (or_cases (eqb n 3) (rounds_alike (temporal_from v n)) (below_passes (temporal_alike w.e w.rl w.rc) 109 n all to_ten)) [
+    elim (or_cases (eqb n 3) (rounds_alike 109 (temporal_from v n)) (below_passes (temporal_alike w.e w.rl w.rc) 109 n all to_ten)) [
       | inl is_other ↦ absurd (other (eqb-true n 3 is_other))
-      | inr alike ↦ alike_if (temporal_from v n) (lit< tt) alike
+      | inr alike ↦ alike_if 109 (temporal_from v n) (lit< tt) alike
     ]
 
 -- what the environmental score is the rounding of, with these tenths in the place of the temporal

@@ -32,7 +32,7 @@ pub same_base_score : (v : Vector) (count : ℤ)
     → IsBaseScore (weights_of v) count ↔ IsBaseScoreBy IsNearestAway (weights_of v) count
 same_base_score v =
     let w = weights_of v in
-    let alike = (base_is_alike v).alike in
+    let alike = base_is_alike v in
     let r = above_least (place (base_number (impact w) (exploitability w))) in
     same_published (IsBaseBy IsRoundedV2 w (impact w)) (IsBaseBy IsNearestAway w (impact w))
     (base_once IsRoundedV2 v2-unique w (impact w) (lit< tt)) (base_once IsNearestAway nearest_away-unique w (impact w) (lit< tt))
@@ -44,12 +44,12 @@ same_temporal_score v =
     let w = weights_of v in
     let base = base_is_alike v in
     let n = place (base_number (impact w) (exploitability w)) in
-    let alike = temporal_is_alike v n base.alike.to_ten base.other in
+    let alike = temporal_is_alike v n base.to_ten base.other in
     let r = above_least (place (temporal_from v n)) in
     same_published (IsTemporalBy IsRoundedV2 w (impact w)) (IsTemporalBy IsNearestAway w (impact w))
     (temporal_once IsRoundedV2 v2-unique w (impact w) (lit< tt)) (temporal_once IsNearestAway nearest_away-unique w (impact w) (lit< tt))
-    r r (record { base = above_least n; is_base = base.alike.by_v2; is_rounded = alike.by_v2 })
-    (record { base = above_least n; is_base = base.alike.plain; is_rounded = alike.plain }) refl
+    r r (record { base = above_least n; is_base = base.by_v2; is_rounded = alike.by_v2 })
+    (record { base = above_least n; is_base = base.plain; is_rounded = alike.plain }) refl
 
 pub same_environmental_score : (v : Vector) (count : ℤ)
     → IsEnvironmentalScore (weights_of v) count ↔ IsEnvironmentalScoreBy IsNearestAway (weights_of v) count
@@ -57,7 +57,7 @@ same_environmental_score v =
     let w = weights_of v in
     let base = adjusted_base_is_alike v in
     let n = place (base_number (adjusted_impact w) (exploitability w)) in
-    let temporal = temporal_is_alike v n base.alike.to_ten base.other in
+    let temporal = temporal_is_alike v n base.to_ten base.other in
     let m = place (temporal_from v n) in
     let x = environmental_from v m in
     same_published (IsEnvironmentalBy IsRoundedV2 w) (IsEnvironmentalBy IsNearestAway w)
@@ -65,11 +65,11 @@ same_environmental_score v =
     (v2_tenths x) (nearest_tenths x)
     (record {
       adjusted_temporal = above_least m;
-      is_temporal = record { base = above_least n; is_base = base.alike.by_v2; is_rounded = temporal.by_v2 };
+      is_temporal = record { base = above_least n; is_base = base.by_v2; is_rounded = temporal.by_v2 };
       is_rounded = v2_is x (lit< tt);
     })
     (record {
       adjusted_temporal = above_least m;
-      is_temporal = record { base = above_least n; is_base = base.alike.plain; is_rounded = temporal.plain };
+      is_temporal = record { base = above_least n; is_base = base.plain; is_rounded = temporal.plain };
       is_rounded = nearest_is x (lit< tt);
     }) (environmental_is_alike v m temporal.to_ten)

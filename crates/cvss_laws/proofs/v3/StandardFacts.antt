@@ -1,8 +1,8 @@
 -- Scores of vectors by both specifications, and roundings, so that a wrong equation does not check.
 use Rattle.std.proofs.Common.{◌≡◌, ℕ, ◌^◌, ◌<◌, ℤ, pos, ◌-ℤ◌, true, false, refl, lit<}
-use Rattle.cvss_base.specs.Exact.{Exact, ◌over◌, tenths, ◌⊕◌, ◌≈◌}
+use Rattle.cvss_base.specs.Exact.{Exact, ◌over◌, tenths, ◌≈◌}
 use Rattle.cvss_base.specs.Rounding.{IsRoundedV30, IsRoundedV31}
-use Rattle.cvss_score.specs.v3.Scores.{power, changed_impact, changed_modified_impact, base_number, environmental_number, temporal_number, miss, IsRounded, IsBase, IsTemporal, IsEnvironmental}
+use Rattle.cvss_score.specs.v3.Scores.{power, changed_impact, changed_modified_impact, base_number, environmental_number, miss, IsRounded, IsBase, IsEnvironmental}
 use Rattle.cvss_score.specs.declared.v3.weights.Weights.{Weights}
 use Rattle.cvss_score.proofs.v3_lemmas.RoundLemmas.{jump, between_jumps}
 use Rattle.cvss_base.proofs.TestLemmas.{is_below, is_at_most, below_if, at_most_if}
@@ -80,19 +80,12 @@ scope_modified_scores = (
   record { first = pos 88; is_first = v31_if _ _ 88 (lit< tt) refl refl; is_rounded = v31_if _ _ 88 (lit< tt) refl refl },
 )
 
--- AV:N/AC:L/PR:N/UI:N/S:C/C:H/I:H/A:H/E:H/RL:U/RC:U by v3.0, whose temporal number is exactly 9.2: of a millionth more the
--- rounding is 9.3
-abbrev on_a_jump : Weights
-on_a_jump = record worst_unchanged { changed = true; rc = 92; modified_changed = true }
-
-pub on_a_jump_temporal : IsTemporal 0 on_a_jump (pos 92)
-    × IsRounded 0 (temporal_number (pos 100) on_a_jump ⊕ 1 over 1_000_000) (pos 93)
-unfolding changed_impact power
-on_a_jump_temporal = (
-  record { base = pos 100; is_base = v30_if _ (pos 100) refl refl; is_rounded = v30_if _ (pos 92) refl refl },
-  v30_if _ (pos 93) refl refl,
+-- v3.1 specification, 7 and Appendix A: 4.02 and 4.00; and Roundup takes the nearest fifth decimal first
+pub roundings : IsRounded 1 (402 over 100) (pos 41) × IsRounded 1 (400 over 100) (pos 40)
+    × IsRounded 1 (4_000_004 over 1_000_000) (pos 40) × IsRounded 1 (4_000_005 over 1_000_000) (pos 41)
+roundings = (
+  v31_if _ _ 41 (lit< tt) refl refl,
+  v31_if _ _ 40 (lit< tt) refl refl,
+  v31_if _ _ 40 (lit< tt) refl refl,
+  v31_if _ _ 41 (lit< tt) refl refl,
 )
-
--- Roundup of v3.1 takes the nearest fifth decimal first
-pub roundings : IsRounded 1 (4_000_004 over 1_000_000) (pos 40) × IsRounded 1 (4_000_005 over 1_000_000) (pos 41)
-roundings = (v31_if _ _ 40 (lit< tt) refl refl, v31_if _ _ 41 (lit< tt) refl refl)

@@ -5,8 +5,8 @@ use Rattle.std.proofs.lemmas.Int.{ints}
 use Rattle.cvss_laws.specs.v4.ClassLaws.{IsDepth}
 use Rattle.cvss_score.specs.declared.v4.scoring.effective.Effective.{Effective}
 use Rattle.cvss_metric.specs.declared.v4.base.attack.AttackVector.TheVariants as attack_vector
-use Rattle.cvss_metric.specs.declared.v4.base.access.PrivilegesRequired.TheVariants as privileges_required
-use Rattle.cvss_metric.specs.declared.v4.base.access.UserInteraction.TheVariants as user_interaction
+use Rattle.cvss_metric.specs.declared.v4.base.attack.PrivilegesRequired.TheVariants as privileges_required
+use Rattle.cvss_metric.specs.declared.v4.base.attack.UserInteraction.TheVariants as user_interaction
 use Rattle.cvss_metric.specs.declared.v4.base.attack.AttackComplexity.TheVariants as attack_complexity
 use Rattle.cvss_metric.specs.declared.v4.base.attack.AttackRequirements.TheVariants as attack_requirements
 use Rattle.cvss_score.specs.declared.v4.scoring.effective.VulnerableImpact.TheVariants as impact
@@ -14,8 +14,9 @@ use Rattle.cvss_score.specs.declared.v4.scoring.effective.SubsequentImpact.TheVa
 use Rattle.cvss_score.specs.declared.v4.scoring.effective.SafetyImpact.TheVariants as safety
 use Rattle.cvss_score.specs.declared.v4.scoring.effective.Requirement.TheVariants as requirement
 use Rattle.cvss_score.specs.declared.v4.scoring.effective.ExploitMaturity.TheVariants as exploit_maturity
-use Rattle.cvss_score.proofs.v4_lemmas.DistanceLemmas.{distance}
-use Rattle.cvss_score.proofs.v4_lemmas.LeastLemmas.{Scale, IsScale, Classes, from_least, below_depth}
+use Rattle.cvss_score.proofs.v4_lemmas.LeastLemmas.{Scale, IsScale, distance}
+use Rattle.cvss_score.proofs.v4_lemmas.TestLemmas.{Classes}
+use Rattle.cvss_laws.proofs.v4.ClassLawLemmas.{Same}
 
 -- values with the highest level of each metric
 abbrev pub mildest : Effective
@@ -57,25 +58,25 @@ eq3_eq6_farthest (suc zero, suc _) = record mildest { vc = impact.High }
 eq3_eq6_farthest (suc (suc _), _) = mildest
 
 -- the depth of a class is above each distance in it, so it is known by one that it is 1 above
-module _ {V C : Type 0} (scale : Scale V C) {IsClass : C → Type 0} {AreSame : C → C → Type 0} (classes : Classes IsClass AreSame) (is : IsScale scale IsClass) (values : Effective → V) (farthest : C → Effective) where
+module _ {V C : Type 0} (scale : Scale V C) {IsClass : C → Type 0} {AreSame : C → C → Type 0} (classes : Classes IsClass) (are : Same AreSame) (is : IsScale scale IsClass) (values : Effective → V) (farthest : C → Effective) where
   abbrev pub is_farthest : C → Bool
   is_farthest class =
       let v = values (farthest class) in
-      classes.same (scale.class v) class && (scale.sum v + 1 == scale.least class + scale.depth class)
+      are.same (scale.class v) class && (scale.sum v + 1 == scale.least class + scale.depth class)
 
   pub depth : classes.every is_farthest ≡ true → (class : C) → IsClass class
       → IsDepth (λ v. AreSame (scale.class (values v)) class) (λ v. distance scale (values v)) (scale.depth class)
   depth h class is_class =
       let v = values (farthest class) in
-      let parts = and_parts (classes.same (scale.class v) class) (scale.sum v + 1 == scale.least class + scale.depth class)
+      let parts = and_parts (are.same (scale.class v) class) (scale.sum v + 1 == scale.least class + scale.depth class)
       (classes.each is_farthest h class is_class) in
-      let of_class = classes.same_tells (scale.class v) class parts.0 in
-      let one_least = ap scale.least (classes.one (scale.class v) class of_class) in
+      let of_class = are.tells (scale.class v) class parts.0 in
+      let one_least = ap scale.least (are.one (scale.class v) class of_class) in
       let next = eqb-true (scale.sum v + 1) (scale.least class + scale.depth class) parts.1 in
       record {
         above = λ w same.
-            subst (λ (class : C). distance scale (values w) <ℤ pos (scale.depth class)) (classes.one (scale.class (values w)) class same)
-            (omega (arith, ints, from_least scale is (values w), below_depth scale is (values w)));
+            subst (λ (class : C). distance scale (values w) <ℤ pos (scale.depth class)) (are.one (scale.class (values w)) class same)
+            (let within = is.within (values w) in omega (arith, ints, within.is_sum, within.from_least, within.to_depth));
         farthest = farthest class;
         of_class = of_class;
         next = omega (arith, ints, one_least, next);

@@ -9,7 +9,9 @@ use Rattle.cvss_score.specs.v4.Scores.{has_impact, number}
 use Rattle.cvss_score.specs.declared.v4.scoring.effective.Effective.{Effective}
 use Rattle.cvss_score.proofs.v4_lemmas.GroupLemmas.{table_value_listed}
 use Rattle.cvss_score.proofs.v4_lemmas.MeanLemmas.{AreSound}
-use Rattle.cvss_score.proofs.v4_lemmas.ScoreLawLemmas.{count_of, mean_taken, count_with_impact}
+use Rattle.cvss_score.proofs.v4_lemmas.ScoreLawLemmas.{count_if, by_impact}
+use Rattle.cvss_score.proofs.v4_lemmas.ScoreLemmas.{mean_left}
+use Rattle.cvss_score.specs.v4.Values.{table_value}
 use Rattle.cvss_laws.specs.v4.ScoreLaws.{IsFromTenthToTen}
 
 -- what holds of each value that is there
@@ -28,10 +30,10 @@ sound_fall value (group ∷ rest) are_sound (suc k) d in_list = sound_fall value
 -- the number lies from 0.1 to 10
 pub from_tenth_to_ten : (v : Effective) → has_impact v ≡ true → IsFromTenthToTen (number v)
 from_tenth_to_ten v with_impact =
-    let counted = count_with_impact v with_impact in
-    let n = count_of v over 504000 in
+    let counted = by_impact v true with_impact in
+    let n = count_if true v over 504000 in
     let value = table_value_listed v in
-    let from_tenth : 1 over 10 ⊑ n = record { at_most = omega (arith, ints, mean_taken v, value.from_one) } in
+    let from_tenth : 1 over 10 ⊑ n = record { at_most = omega (arith, ints, mean_left v (table_value v) value, value.from_one) } in
     let to_ten : n ⊑ whole 10 = record { at_most = omega (arith, ints, value.to_hundred) } in
     record {
       from_tenth = at_most_trans (1 over 10) n (number v) (lit< tt) from_tenth (equal_at_most n (number v) (equal_sym counted.0));

@@ -7,8 +7,8 @@ use Rattle.cvss_score.specs.v4.Scores.{number, IsScore}
 use Rattle.cvss_score.specs.v4.Values.{rows, listed_value}
 use Rattle.cvss_score.specs.declared.v4.scoring.effective.Effective.{Effective}
 use Rattle.cvss_metric.specs.declared.v4.base.attack.AttackVector.TheVariants as attack_vector
-use Rattle.cvss_metric.specs.declared.v4.base.access.PrivilegesRequired.TheVariants as privileges
-use Rattle.cvss_metric.specs.declared.v4.base.access.UserInteraction.TheVariants as interaction
+use Rattle.cvss_metric.specs.declared.v4.base.attack.PrivilegesRequired.TheVariants as privileges
+use Rattle.cvss_metric.specs.declared.v4.base.attack.UserInteraction.TheVariants as interaction
 use Rattle.cvss_metric.specs.declared.v4.base.attack.AttackComplexity.TheVariants as complexity
 use Rattle.cvss_metric.specs.declared.v4.base.attack.AttackRequirements.TheVariants as conditions
 use Rattle.cvss_score.specs.declared.v4.scoring.effective.VulnerableImpact.TheVariants as impact
@@ -16,7 +16,6 @@ use Rattle.cvss_score.specs.declared.v4.scoring.effective.SubsequentImpact.TheVa
 use Rattle.cvss_score.specs.declared.v4.scoring.effective.SafetyImpact.TheVariants as safety
 use Rattle.cvss_score.specs.declared.v4.scoring.effective.Requirement.TheVariants as requirement
 use Rattle.cvss_score.specs.declared.v4.scoring.effective.ExploitMaturity.TheVariants as exploit
-use Rattle.cvss_laws.proofs.v4.DepthLemmas.{mildest}
 
 -- AV:N/AC:L/AT:N/PR:N/UI:N with no impact
 abbrev harmless : Effective
@@ -42,21 +41,11 @@ harmless = record {
 abbrev integrity : Effective
 integrity = record harmless { vi = impact.High; e = exploit.ProofOfConcept }
 
--- AV:A/AC:H/AT:N/PR:N/UI:P/VC:L/VI:N/VA:H/SC:N/SI:L/SA:S/E:U/CR:L/AR:L
-abbrev unsafe_availability : Effective
-unsafe_availability =
-    let attack = record harmless { av = attack_vector.Adjacent; ui = interaction.Passive; ac = complexity.High; e = exploit.Unreported } in
-    record attack { vc = impact.Low; va = impact.High; si = safety.Low; sa = safety.Safety; cr = requirement.Low; ar = requirement.Low }
-
 -- AV:A/AC:H/AT:N/PR:N/UI:N/VC:H/VI:H/VA:N/E:U/CR:H/IR:L/AR:L
 abbrev adjacent : Effective
 adjacent =
     let attack = record harmless { av = attack_vector.Adjacent; ac = complexity.High; e = exploit.Unreported } in
     record attack { vc = impact.High; vi = impact.High; ir = requirement.Low; ar = requirement.Low }
-
--- AV:P/AC:H/AT:P/PR:H/UI:A/VA:L/E:U/CR:L/IR:L/AR:L
-abbrev least_severe : Effective
-least_severe = record mildest { va = impact.Low }
 
 -- all six impacts H
 abbrev most_severe : Effective
@@ -75,16 +64,13 @@ pub table_values : (listed_value (record { eq1 = 0; eq2 = 0; eq3 = 0; eq4 = 0; e
 unfolding rows listed_value
 table_values = (refl, refl, refl, refl)
 
--- of the classes with the values 3.0 and 2.4 that with the larger is the next lower one, and the least severe class has
--- none
+-- of the classes with the values 3.0 and 2.4 that with the larger is the next lower one
 pub next_lower_classes : (eq3_eq6_next (macro_vector adjacent) ≡ Some (record { eq1 = 1; eq2 = 1; eq3 = 0; eq4 = 2; eq5 = 2; eq6 = 1 }))
     × (next_lower (eq3_eq6_group adjacent) ≡ Some 30)
-    × (eq3_eq6_next (macro_vector least_severe) ≡ None)
 unfolding rows listed_value
-next_lower_classes = (refl, refl, refl)
+next_lower_classes = (refl, refl)
 
--- the scores of four of these, and of one without impact
-pub scores : IsScore integrity (pos 77) × IsScore unsafe_availability (pos 42) × IsScore harmless (pos 0)
-    × IsScore most_severe (pos 100) × IsScore adjacent (pos 43)
+-- the scores of these
+pub scores : IsScore integrity (pos 77) × IsScore harmless (pos 0) × IsScore most_severe (pos 100) × IsScore adjacent (pos 43)
 unfolding number rows listed_value eq1_least eq2_least eq3_eq6_least eq4_least
-scores = (search rules, search rules, search rules, search rules, search rules)
+scores = (search rules, search rules, search rules, search rules)

@@ -7,10 +7,10 @@ use Rattle.cvss_metric.specs.declared.v4.base.attack.AttackComplexity.{AttackCom
 use Rattle.cvss_metric.specs.declared.v4.base.attack.AttackComplexity.TheVariants as attack_complexity
 use Rattle.cvss_metric.specs.declared.v4.base.attack.AttackRequirements.{AttackRequirements}
 use Rattle.cvss_metric.specs.declared.v4.base.attack.AttackRequirements.TheVariants as attack_requirements
-use Rattle.cvss_metric.specs.declared.v4.base.access.PrivilegesRequired.{PrivilegesRequired}
-use Rattle.cvss_metric.specs.declared.v4.base.access.PrivilegesRequired.TheVariants as privileges_required
-use Rattle.cvss_metric.specs.declared.v4.base.access.UserInteraction.{UserInteraction}
-use Rattle.cvss_metric.specs.declared.v4.base.access.UserInteraction.TheVariants as user_interaction
+use Rattle.cvss_metric.specs.declared.v4.base.attack.PrivilegesRequired.{PrivilegesRequired}
+use Rattle.cvss_metric.specs.declared.v4.base.attack.PrivilegesRequired.TheVariants as privileges_required
+use Rattle.cvss_metric.specs.declared.v4.base.attack.UserInteraction.{UserInteraction}
+use Rattle.cvss_metric.specs.declared.v4.base.attack.UserInteraction.TheVariants as user_interaction
 use Rattle.cvss_metric.specs.declared.v4.base.vulnerable.ConfidentialityImpactToTheVulnerableSystem.{ConfidentialityImpactToTheVulnerableSystem}
 use Rattle.cvss_metric.specs.declared.v4.base.vulnerable.ConfidentialityImpactToTheVulnerableSystem.TheVariants as confidentiality_impact_to_the_vulnerable_system
 use Rattle.cvss_metric.specs.declared.v4.base.vulnerable.IntegrityImpactToTheVulnerableSystem.{IntegrityImpactToTheVulnerableSystem}
@@ -37,10 +37,10 @@ use Rattle.cvss_metric.specs.declared.v4.environmental.attack.ModifiedAttackComp
 use Rattle.cvss_metric.specs.declared.v4.environmental.attack.ModifiedAttackComplexity.TheVariants as modified_attack_complexity
 use Rattle.cvss_metric.specs.declared.v4.environmental.attack.ModifiedAttackRequirements.{ModifiedAttackRequirements}
 use Rattle.cvss_metric.specs.declared.v4.environmental.attack.ModifiedAttackRequirements.TheVariants as modified_attack_requirements
-use Rattle.cvss_metric.specs.declared.v4.environmental.access.ModifiedPrivilegesRequired.{ModifiedPrivilegesRequired}
-use Rattle.cvss_metric.specs.declared.v4.environmental.access.ModifiedPrivilegesRequired.TheVariants as modified_privileges_required
-use Rattle.cvss_metric.specs.declared.v4.environmental.access.ModifiedUserInteraction.{ModifiedUserInteraction}
-use Rattle.cvss_metric.specs.declared.v4.environmental.access.ModifiedUserInteraction.TheVariants as modified_user_interaction
+use Rattle.cvss_metric.specs.declared.v4.environmental.attack.ModifiedPrivilegesRequired.{ModifiedPrivilegesRequired}
+use Rattle.cvss_metric.specs.declared.v4.environmental.attack.ModifiedPrivilegesRequired.TheVariants as modified_privileges_required
+use Rattle.cvss_metric.specs.declared.v4.environmental.attack.ModifiedUserInteraction.{ModifiedUserInteraction}
+use Rattle.cvss_metric.specs.declared.v4.environmental.attack.ModifiedUserInteraction.TheVariants as modified_user_interaction
 use Rattle.cvss_metric.specs.declared.v4.environmental.vulnerable.ModifiedConfidentialityImpactToTheVulnerableSystem.{ModifiedConfidentialityImpactToTheVulnerableSystem}
 use Rattle.cvss_metric.specs.declared.v4.environmental.vulnerable.ModifiedConfidentialityImpactToTheVulnerableSystem.TheVariants as modified_confidentiality_impact_to_the_vulnerable_system
 use Rattle.cvss_metric.specs.declared.v4.environmental.vulnerable.ModifiedIntegrityImpactToTheVulnerableSystem.{ModifiedIntegrityImpactToTheVulnerableSystem}
@@ -55,12 +55,12 @@ use Rattle.cvss_metric.specs.declared.v4.environmental.subsequent.ModifiedAvaila
 use Rattle.cvss_metric.specs.declared.v4.environmental.subsequent.ModifiedAvailabilityImpactToTheSubsequentSystem.TheVariants as modified_availability_impact_to_the_subsequent_system
 use Rattle.cvss_metric.specs.declared.v4.supplemental.consequence.Safety.{Safety}
 use Rattle.cvss_metric.specs.declared.v4.supplemental.consequence.Safety.TheVariants as safety
-use Rattle.cvss_metric.specs.declared.v4.supplemental.attack.Automatable.{Automatable}
-use Rattle.cvss_metric.specs.declared.v4.supplemental.attack.Automatable.TheVariants as automatable
+use Rattle.cvss_metric.specs.declared.v4.supplemental.consequence.Automatable.{Automatable}
+use Rattle.cvss_metric.specs.declared.v4.supplemental.consequence.Automatable.TheVariants as automatable
 use Rattle.cvss_metric.specs.declared.v4.supplemental.consequence.Recovery.{Recovery}
 use Rattle.cvss_metric.specs.declared.v4.supplemental.consequence.Recovery.TheVariants as recovery
-use Rattle.cvss_metric.specs.declared.v4.supplemental.attack.ValueDensity.{ValueDensity}
-use Rattle.cvss_metric.specs.declared.v4.supplemental.attack.ValueDensity.TheVariants as value_density
+use Rattle.cvss_metric.specs.declared.v4.supplemental.consequence.ValueDensity.{ValueDensity}
+use Rattle.cvss_metric.specs.declared.v4.supplemental.consequence.ValueDensity.TheVariants as value_density
 use Rattle.cvss_metric.specs.declared.v4.supplemental.response.VulnerabilityResponseEffort.{VulnerabilityResponseEffort}
 use Rattle.cvss_metric.specs.declared.v4.supplemental.response.VulnerabilityResponseEffort.TheVariants as vulnerability_response_effort
 use Rattle.cvss_metric.specs.declared.v4.supplemental.response.ProviderUrgency.{ProviderUrgency}

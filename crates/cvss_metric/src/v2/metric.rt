@@ -18,10 +18,9 @@ use std::fmt;
 /// A thousandth, in counts of 10^-24.
 const THOUSANDTH: i128 = 1_000_000_000_000_000_000_000;
 
-/// What stands in vectors as a component: how values are spelled, read from their spelling and
-/// weighed. Code that reads, prints and weighs any metric asks for no more, so that its proof rests on
-/// nothing else of the enums.
-pub trait Spelled: Copy + 'static {
+/// What stands in vectors as a component: how values are spelled, read from their spelling, weighed
+/// and compared. Each such enum that can be shown is a metric.
+pub trait Spelled: Copy + Eq + Ord + 'static {
     /// Which metric this is.
     const TYPE: MetricType;
 
@@ -41,6 +40,9 @@ pub trait Spelled: Copy + 'static {
     fn row(self) -> (&'static str, u64)
         ensures text { result.0.now ≡ slash ∷ metric_component TYPE (value self) }
         ensures weight { result.1 ≡ weight_of TYPE (value self) };
+
+    ghost law: { IsMetric TYPE value ⟦<Self as Ord>⟧.cmp ⟦<Self as PartialEq>⟧.eq
+        ⟦<Self as Clone>⟧.is_clone ⟦<Self as Clone>⟧.is_infallible };
 
     /// A slash and the component that stands for the value in a vector.
     final fn slashed(self) -> &'static str
@@ -71,8 +73,9 @@ pub trait Spelled: Copy + 'static {
 }
 
 /// A metric: an enum of the values that the guide gives for its type.
-pub trait Metric: Spelled + Copy + Clone + fmt::Debug + fmt::Display + Eq + Ord {
+pub trait Metric: Spelled + fmt::Debug + fmt::Display {
     /// How the value is spelled in a vector.
+    #[tactic(auto, using(cvss_text::proofs::SlashedLemmas::behind_colon))]
     final fn as_str(self) -> &'static str
         ensures { result.now ≡ spelling_of Self.TYPE (Self.value self) }
     {
@@ -125,10 +128,9 @@ pub trait Metric: Spelled + Copy + Clone + fmt::Debug + fmt::Display + Eq + Ord 
     {
         Self::TYPE.name()
     }
-
-    ghost law: { IsMetric Self.TYPE Self.value ⟦<Self as Ord>⟧.cmp ⟦<Self as PartialEq>⟧.eq
-        ⟦<Self as Clone>⟧.is_clone ⟦<Self as Clone>⟧.is_infallible };
 }
+
+impl<M: Spelled + fmt::Debug + fmt::Display> Metric for M {}
 
 /// How a value is spelled in a vector.
 #[inline(always)]

@@ -5,7 +5,7 @@ ghost use Rattle.std.proofs.Common.{rules};
 ghost use Rattle.cvss_base.specs.declared.v2.MetricType.TheVariants.{E, RL, RC};
 ghost use Rattle.cvss_metric.specs.v2.Table.{metric_component};
 
-use crate::v2::metric::{Metric, MetricType, Spelled};
+use crate::v2::metric::{MetricType, Spelled};
 use cvss_text::print::write_component;
 use std::fmt;
 
@@ -26,6 +26,8 @@ impl Spelled for Exploitability {
 
     ghost value = { λ metric. metric };
 
+    ghost law = { Prim.search rules };
+
     fn values() -> &'static [Self] {
         &[
             Self::Unproven,
@@ -45,10 +47,6 @@ impl Spelled for Exploitability {
             Self::NotDefined => ("/E:ND", 1000),
         }
     }
-}
-
-impl Metric for Exploitability {
-    ghost law = { Prim.search rules };
 }
 
 impl fmt::Display for Exploitability {
@@ -78,6 +76,8 @@ impl Spelled for RemediationLevel {
 
     ghost value = { λ metric. metric };
 
+    ghost law = { Prim.search rules };
+
     fn values() -> &'static [Self] {
         &[
             Self::OfficialFix,
@@ -97,10 +97,6 @@ impl Spelled for RemediationLevel {
             Self::NotDefined => ("/RL:ND", 1000),
         }
     }
-}
-
-impl Metric for RemediationLevel {
-    ghost law = { Prim.search rules };
 }
 
 impl fmt::Display for RemediationLevel {
@@ -129,6 +125,8 @@ impl Spelled for ReportConfidence {
 
     ghost value = { λ metric. metric };
 
+    ghost law = { Prim.search rules };
+
     fn values() -> &'static [Self] {
         &[
             Self::Unconfirmed,
@@ -146,10 +144,6 @@ impl Spelled for ReportConfidence {
             Self::NotDefined => ("/RC:ND", 1000),
         }
     }
-}
-
-impl Metric for ReportConfidence {
-    ghost law = { Prim.search rules };
 }
 
 impl fmt::Display for ReportConfidence {

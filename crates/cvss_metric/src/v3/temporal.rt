@@ -5,7 +5,7 @@ ghost use Rattle.std.proofs.Common.{rules};
 ghost use Rattle.cvss_base.specs.declared.v3.MetricType.TheVariants.{E, RL, RC};
 ghost use Rattle.cvss_metric.specs.v3.Table.{metric_component};
 
-use crate::v3::metric::{Metric, MetricType, Spelled};
+use crate::v3::metric::{MetricType, Spelled};
 use cvss_text::print::write_component;
 use std::fmt;
 
@@ -25,6 +25,8 @@ impl Spelled for ExploitCodeMaturity {
     ghost TYPE = { E };
 
     ghost value = { λ metric. metric };
+
+    ghost law = { Prim.search rules };
 
     fn row(self) -> (&'static str, Option<u64>) {
         match self {
@@ -47,10 +49,6 @@ impl Spelled for ExploitCodeMaturity {
             _ => None,
         }
     }
-}
-
-impl Metric for ExploitCodeMaturity {
-    ghost law = { Prim.search rules };
 }
 
 impl fmt::Display for ExploitCodeMaturity {
@@ -80,6 +78,8 @@ impl Spelled for RemediationLevel {
 
     ghost value = { λ metric. metric };
 
+    ghost law = { Prim.search rules };
+
     fn row(self) -> (&'static str, Option<u64>) {
         match self {
             Self::NotDefined => ("/RL:X", Some(100)),
@@ -101,10 +101,6 @@ impl Spelled for RemediationLevel {
             _ => None,
         }
     }
-}
-
-impl Metric for RemediationLevel {
-    ghost law = { Prim.search rules };
 }
 
 impl fmt::Display for RemediationLevel {
@@ -133,6 +129,8 @@ impl Spelled for ReportConfidence {
 
     ghost value = { λ metric. metric };
 
+    ghost law = { Prim.search rules };
+
     fn row(self) -> (&'static str, Option<u64>) {
         match self {
             Self::NotDefined => ("/RC:X", Some(100)),
@@ -152,10 +150,6 @@ impl Spelled for ReportConfidence {
             _ => None,
         }
     }
-}
-
-impl Metric for ReportConfidence {
-    ghost law = { Prim.search rules };
 }
 
 impl fmt::Display for ReportConfidence {

@@ -1,13 +1,14 @@
 //! The environmental metrics (v4.0 specification, section 4).
 
-mod access;
 mod attack;
 mod requirement;
 mod subsequent;
 mod vulnerable;
 
-pub use access::{ModifiedPrivilegesRequired, ModifiedUserInteraction};
-pub use attack::{ModifiedAttackComplexity, ModifiedAttackRequirements, ModifiedAttackVector};
+pub use attack::{
+    ModifiedAttackComplexity, ModifiedAttackRequirements, ModifiedAttackVector,
+    ModifiedPrivilegesRequired, ModifiedUserInteraction,
+};
 pub use requirement::{
     AvailabilityRequirements, ConfidentialityRequirements, IntegrityRequirements,
 };

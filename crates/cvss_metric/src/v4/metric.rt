@@ -17,10 +17,9 @@ use cvss_text::cutting::is_raised_as;
 use std::alloc::Global;
 use std::fmt;
 
-/// What stands in vectors as a component: how values are spelled, and read from their spelling. Code
-/// that reads and prints any metric asks for no more, so that its proof rests on nothing else of the
-/// enums.
-pub trait Spelled: Copy + 'static {
+/// What stands in vectors as a component: how values are spelled, read from their spelling, and
+/// compared. Each such enum that can be shown is a metric.
+pub trait Spelled: Copy + Eq + Ord + Default + 'static {
     /// Which metric this is.
     const TYPE: MetricType;
 
@@ -36,6 +35,9 @@ pub trait Spelled: Copy + 'static {
     /// A slash and the component that stands for the value in a vector.
     fn slashed(self) -> &'static str
         ensures { result.now ≡ slash ∷ metric_component TYPE (rank self) };
+
+    ghost law: { IsMetric TYPE rank ⟦<Self as Default>⟧.is_default ⟦<Self as Ord>⟧.cmp
+        ⟦<Self as PartialEq>⟧.eq ⟦<Self as Clone>⟧.is_clone ⟦<Self as Clone>⟧.is_infallible };
 
     /// The value that this letter spells, exactly as it is written.
     #[inline(always)]
@@ -66,15 +68,7 @@ pub trait Spelled: Copy + 'static {
 }
 
 /// A metric: an enum of the values that the specification gives for its type.
-pub trait Metric: Spelled
-    + Copy
-    + Clone
-    + fmt::Debug
-    + fmt::Display
-    + Eq
-    + Ord
-    + Default
-    + 'static {
+pub trait Metric: Spelled + fmt::Debug + fmt::Display {
     /// How the value is spelled in a vector.
     final fn as_str(self) -> &'static str
         ensures { result.now ≡ spelling_at Self.TYPE (Self.rank self) }
@@ -140,11 +134,9 @@ pub trait Metric: Spelled
     {
         Self::TYPE.name()
     }
-
-    ghost law: { IsMetric Self.TYPE Self.rank ⟦<Self as Default>⟧.is_default
-        ⟦<Self as Ord>⟧.cmp ⟦<Self as PartialEq>⟧.eq ⟦<Self as Clone>⟧.is_clone
-        ⟦<Self as Clone>⟧.is_infallible };
 }
+
+impl<M: Spelled + fmt::Debug + fmt::Display> Metric for M {}
 
 /// How a value is spelled in a vector.
 #[inline(always)]

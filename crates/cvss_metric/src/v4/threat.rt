@@ -6,7 +6,7 @@ ghost use Rattle.cvss_base.specs.declared.v4.MetricType.TheVariants as metric;
 ghost use Rattle.cvss_metric.specs.v4.Ranks as place;
 ghost use Rattle.cvss_metric.specs.v4.Table.{metric_component};
 
-use crate::v4::metric::{Metric, MetricType, Spelled};
+use crate::v4::metric::{MetricType, Spelled};
 use cvss_text::print::write_component;
 use std::fmt;
 
@@ -27,13 +27,11 @@ impl Spelled for ExploitMaturity {
 
     ghost rank = { place.E };
 
+    ghost law = { Prim.search rules };
+
     fn values() -> &'static [Self] {
-        &[
-            Self::NotDefined,
-            Self::Unreported,
-            Self::ProofOfConcept,
-            Self::Attacked,
-        ]
+        use ExploitMaturity::*;
+        &[NotDefined, Unreported, ProofOfConcept, Attacked]
     }
 
     fn slashed(self) -> &'static str {
@@ -44,10 +42,6 @@ impl Spelled for ExploitMaturity {
             Self::Attacked => "/E:A",
         }
     }
-}
-
-impl Metric for ExploitMaturity {
-    ghost law = { Prim.search rules };
 }
 
 impl fmt::Display for ExploitMaturity {

@@ -10,7 +10,7 @@ use Rattle.cvss_score.proofs.v3_lemmas.CapLemmas.{by_smaller}
 use Rattle.cvss_score.specs.declared.v3.weights.Weights.{Weights}
 use Rattle.cvss_score.specs.v3.Scores.{hundredths, rest, sub_score_of, iss, miss, exploitability, modified_exploitability}
 use Rattle.cvss_score.specs.v3.private.SubScores.{weighted_impacts, exploitabilities, IsSubScore}
-use Rattle.cvss_score.specs.v3.private.Units.{millionths_of}
+use Rattle.cvss_score.specs.v3.private.Units.{millionths_of, base_parts as parts_of_base, modified_parts as parts_of_first, ArePossible}
 use Rattle.cvss_score.specs.v3.private.Weights.{impacts, requirements, AreOfTables}
 use Rattle.cvss_score.proofs.v3_lemmas.SubScoreLemmas.{weight_bound, weighted_listed, weighted_whole, iss_listed, miss_listed, exploitability_listed}
 
@@ -64,10 +64,6 @@ weighted requirement impact is_requirement is_impact =
     let whole = weighted_whole requirement impact is_requirement is_impact in
     record { listed = listed; bound = weight_bound weighted_impacts _ 100 refl listed; exact = record { equal = omega (arith, ints, whole) } }
 
--- MISS in millionths
-abbrev pub miss_millionths : Weights → ℕ
-miss_millionths w = min (millionths_of (w.cr * w.mc / 100) (w.ir * w.mi / 100) (w.ar * w.ma / 100)) 915_000
-
 -- of a sub-score s in millionths and an exploitability e in 10^-10, which are those of the equations
 pub record AreParts (changed : Bool) (s : ℕ) (S : Exact) (e : ℕ) (E : Exact) : Type 0 where
   pub is_S : s over 1_000_000 ≈ S
@@ -78,7 +74,7 @@ pub record AreParts (changed : Bool) (s : ℕ) (S : Exact) (e : ℕ) (E : Exact)
   pub listed : Contains (exploitabilities changed) e
 
 module _ (w : Weights) (are : AreOfTables w) where
-  pub base_parts : AreParts w.changed (millionths_of w.c w.i w.a) (iss w) (822 * w.av * w.ac * w.pr * w.ui) (exploitability w)
+  pub base_parts : AreParts w.changed (parts_of_base w).sub_score (iss w) (parts_of_base w).exploitability (exploitability w)
   base_parts = record {
     is_S = millionths_are w.c w.i w.a (weight_bound impacts w.c 100 refl are.c) (weight_bound impacts w.i 100 refl are.i) (weight_bound impacts w.a 100 refl are.a);
     is_E = equal_refl (exploitability w);
@@ -88,7 +84,7 @@ module _ (w : Weights) (are : AreOfTables w) where
     listed = exploitability_listed w.changed w.av w.ac w.pr w.ui are.av are.ac are.pr are.ui;
   }
 
-  pub modified_parts : AreParts w.modified_changed (miss_millionths w) (miss w) (822 * w.mav * w.mac * w.mpr * w.mui) (modified_exploitability w)
+  pub modified_parts : AreParts w.modified_changed (parts_of_first w).sub_score (miss w) (parts_of_first w).exploitability (modified_exploitability w)
   modified_parts =
       let c = weighted w.cr w.mc are.cr are.mc in
       let i = weighted w.ir w.mi are.ir are.mi in
@@ -102,3 +98,7 @@ module _ (w : Weights) (are : AreOfTables w) where
         sub_score = miss_listed _ _ _ c.listed i.listed a.listed;
         listed = exploitability_listed w.modified_changed w.mav w.mac w.mpr w.mui are.mav are.mac are.mpr are.mui;
       }
+
+-- such parts are possible
+pub possible : {changed : Bool} {s e : ℕ} {S E : Exact} → AreParts changed s S e E → ArePossible (record { sub_score = s; exploitability = e; changed = changed })
+possible parts = record { sub_score = parts.sub_score; listed = parts.listed }

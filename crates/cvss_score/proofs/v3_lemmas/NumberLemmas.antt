@@ -1,9 +1,8 @@
 -- The number of the code stands for the first number of the equations, which is certain where there is impact.
-use Rattle.std.specs.List.{Contains}
-use Rattle.std.proofs.Common.{◌≡◌, ℕ, ◌^◌, ◌<◌, ℤ, pos, negsuc, Bool, true, false, inl, inr, arith, refl, sym, subst, lit<}
+use Rattle.std.proofs.Common.{◌≡◌, ℕ, ◌^◌, ◌<◌, ℤ, pos, negsuc, Bool, true, false, if◌then◌else◌, inl, inr, arith, refl, subst, lit<}
 use Rattle.std.proofs.lemmas.Int.{ints}
 use Rattle.cvss_base.specs.Exact.{Exact, ratio, ◌over◌, whole, ◌⊕◌, ◌⊖◌, ◌≈◌, ◌⊏◌, ◌⊑◌}
-use Rattle.cvss_base.proofs.ExactLemmas.{equal_refl, equal_sym, equal_at_most, at_most_trans, below_at_most, sum_equal, difference_equal}
+use Rattle.cvss_base.proofs.ExactLemmas.{equal_refl, equal_sym, equal_at_most, at_most_trans, below_at_most, sum_equal, difference_equal, equal_trans}
 use Rattle.cvss_base.proofs.TestLemmas.{at_most_if}
 use Rattle.cvss_score.proofs.v3_lemmas.CapLemmas.{not_below_cap}
 use Rattle.cvss_score.proofs.v3_lemmas.CountLemmas.{AreParts, base_parts, modified_parts}
@@ -11,13 +10,13 @@ use Rattle.cvss_score.proofs.v3_lemmas.EqualLemmas.{impact_is, impact_equal, imp
 use Rattle.cvss_score.proofs.v3_lemmas.NearLemmas.{still_approximates, equal_stands, number_stands}
 use Rattle.cvss_score.proofs.v3_lemmas.SettledLemmas.{error, is_near, near_if, IsSettled, settled_tenths, settled_rounding, settles}
 use Rattle.cvss_score.specs.v3.Certainty.{IsCertain}
-use Rattle.cvss_score.specs.v3.Scores.{power, changed_impact, changed_modified_impact, iss, impact, modified_impact, modified_impact_of, exploitability, first_number, base_number, environmental_number, rules_of, IsRounded}
+use Rattle.cvss_score.specs.v3.Scores.{power, unchanged_impact, changed_impact, changed_modified_impact, iss, impact, modified_impact, modified_impact_of, exploitability, first_number, base_number, environmental_number, rules_of, IsRounded}
 use Rattle.cvss_score.specs.declared.v3.rules.Rules.{Rules}
 use Rattle.cvss_score.specs.declared.v3.rules.Rules.TheVariants.{V30, V31}
 use Rattle.cvss_score.specs.declared.v3.weights.Weights.{Weights}
 use Rattle.cvss_score.specs.v3.private.Near.{Approximates, StandsFor}
-use Rattle.cvss_score.specs.v3.private.SubScores.{IsSubScore, exploitabilities}
-use Rattle.cvss_score.specs.v3.private.Units.{impact_units, total_units}
+use Rattle.cvss_score.specs.v3.private.SubScores.{IsSubScore}
+use Rattle.cvss_score.specs.v3.private.Units.{impact_units, total_units, base_parts as parts_of_base, IsImpact, IsNumber}
 use Rattle.cvss_score.specs.v3.private.Weights.{AreOfTables}
 
 -- the first number by the rules, of a sub-score and an exploitability, and that of the parts of the code
@@ -45,18 +44,13 @@ none_impact rules false = at_most_if _ (whole 0) refl
 none_impact V30 true = at_most_if (changed_impact (0 over 1_000_000)) (whole 0) refl
 none_impact V31 true = at_most_if (changed_modified_impact (0 over 1_000_000)) (whole 0) refl
 
--- what the code gives for them where the scope is changed
-abbrev pub without_impact : Exact
-without_impact = ratio (negsuc 21_807_999_999) (10 ^ 11)
-
-none_close : (rules : Rules) → Approximates true without_impact (modified_impact_of rules true (0 over 1_000_000))
+-- what the code gives for them is close
+none_close : (rules : Rules) (changed : Bool)
+    → Approximates changed (ratio (if changed then negsuc 21_807_999_999 else pos 0) (10 ^ 11)) (modified_impact_of rules changed (0 over 1_000_000))
 unfolding is_near power changed_impact changed_modified_impact
-none_close V30 = near_if true without_impact (changed_impact (0 over 1_000_000)) refl
-none_close V31 = near_if true without_impact (changed_modified_impact (0 over 1_000_000)) refl
-
-pub none_approximates : (rules : Rules) (s : ℕ) (changed : Bool) → changed ≡ true → s ≡ 0
-    → Approximates changed without_impact (modified_impact_of rules changed (s over 1_000_000))
-none_approximates rules s changed is_changed is_zero = rw (is_changed, is_zero) (none_close rules)
+none_close rules false = near_if false (0 over (10 ^ 11)) (unchanged_impact (0 over 1_000_000)) refl
+none_close V30 true = near_if true (ratio (negsuc 21_807_999_999) (10 ^ 11)) (changed_impact (0 over 1_000_000)) refl
+none_close V31 true = near_if true (ratio (negsuc 21_807_999_999) (10 ^ 11)) (changed_modified_impact (0 over 1_000_000)) refl
 
 -- and their first number
 none_number : (rules : Rules) (changed : Bool) (E : Exact) → number_of rules changed (0 over 1_000_000) E ≡ whole 0
@@ -64,32 +58,6 @@ unfolding power changed_impact changed_modified_impact
 none_number rules false E = refl
 none_number V30 true E = refl
 none_number V31 true E = refl
-
--- the code's number 0 stands for it
-pub none_stands : (minor : ℕ) (rules : Rules) (changed : Bool) (s e : ℕ) → s ≡ 0 → StandsFor minor changed (0 over (10 ^ 13)) (own_number rules changed s e)
-none_stands minor rules changed s e is_zero =
-    let stands = equal_stands minor changed {x = 0 over (10 ^ 13)} {n = whole 0} (lit< tt) (lit< tt) (record { equal = refl }) in
-    rw is_zero (subst (StandsFor minor changed (0 over (10 ^ 13))) (sym (none_number rules changed (e over (10 ^ 10)))) stands)
-
--- with impact, its numbers are those of the listed parts
-pub some_approximates : (rules : Rules) (s : ℕ) (changed : Bool) (top : ℤ) → IsSubScore s → top ≡ pos (impact_units rules changed s)
-    → Approximates changed (ratio top (10 ^ 11)) (modified_impact_of rules changed (s over 1_000_000))
-some_approximates rules s changed top sub_score is =
-    subst (λ n. Approximates changed (ratio n (10 ^ 11)) (modified_impact_of rules changed (s over 1_000_000))) (sym is) (settles rules changed s sub_score).near
-
-pub some_stands : (minor : ℕ) (rules : Rules) (n s e : ℕ) (changed : Bool) → IsSubScore s → Contains (exploitabilities changed) e
-    → n ≡ total_units changed (impact_units rules changed s) e → StandsFor minor changed (n over (10 ^ 13)) (own_number rules changed s e)
-some_stands minor rules n s e changed sub_score listed is =
-    let m = own_number rules changed s e in
-    let x = total_units changed (impact_units rules changed s) e over (10 ^ 13) in
-    let settled = (settles rules changed s sub_score).number e listed in
-    let some = number_bottom rules changed (s over 1_000_000) (e over (10 ^ 10)) (lit< tt) (lit< tt) in
-    let rounded = settled_rounding minor m x.top x.bottom settled.at some (lit< tt) settled.within in
-    subst (λ y. StandsFor minor changed (y over (10 ^ 13)) m) (sym is) (record {
-      rounds = λ r is_r. subst (λ z. IsRounded minor m z) (rounded_once minor x (settled_tenths minor m) r (lit< tt) rounded is_r)
-          (settled_rounding minor m m.top m.bottom settled.at some some settled.itself);
-      near = settled.near;
-    })
 
 -- the first number of the equations equals that of the listed parts
 module _ (rules : Rules) (changed : Bool) (s : ℕ) (S : Exact) (e : ℕ) (E : Exact) (parts : AreParts changed s S e E) where
@@ -101,6 +69,16 @@ module _ (rules : Rules) (changed : Bool) (s : ℕ) (S : Exact) (e : ℕ) (E : E
 
   pub equal : own_number rules changed s e ≈ number_of rules changed S E
   equal = number_equal rules changed (lit< tt) parts.some_S (lit< tt) parts.some_E parts.is_S parts.is_E
+
+  -- what equals the code's impact approximates that of the equations
+  pub approximates : (n : ℤ) {x : Exact} → x ≈ ratio n (10 ^ 11) → IsImpact rules (record { sub_score = s; exploitability = e; changed = changed }) n
+      → Approximates changed x (modified_impact_of rules changed S)
+  approximates n same is =
+      still_approximates changed (lit< tt) (impact_bottom rules changed (s over 1_000_000) (lit< tt)) same (impact_equal rules changed parts.is_S)
+      (elim parts.sub_score as (λ _. Approximates changed (ratio n (10 ^ 11)) (modified_impact_of rules changed (s over 1_000_000))) [
+        | inl is_zero ↦ rw (is.none is_zero, is_zero) (none_close rules changed)
+        | inr sub_score ↦ rw (is.some sub_score) (settles rules changed s sub_score).near
+      ])
 
   -- of a settled one
   module _ (sub_score : IsSubScore s) where
@@ -132,6 +110,22 @@ module _ (rules : Rules) (changed : Bool) (s : ℕ) (S : Exact) (e : ℕ) (E : E
   pub none_equal : s ≡ 0 → whole 0 ≈ number_of rules changed S E
   none_equal is_zero = rw (none_number rules changed (e over (10 ^ 10))) at (rw is_zero at equal)
 
+  -- and what it gives for the number stands for it
+  pub stands : (minor n : ℕ) → IsNumber rules (record { sub_score = s; exploitability = e; changed = changed }) n
+      → StandsFor minor changed (n over (10 ^ 13)) (number_of rules changed S E)
+  stands minor n is = elim parts.sub_score as (λ _. StandsFor minor changed (n over (10 ^ 13)) (number_of rules changed S E)) [
+    | inl is_zero ↦ rw (is.none is_zero)
+        (equal_stands minor changed (lit< tt) bottom (equal_trans (lit< tt) (record { equal = refl }) (none_equal is_zero)))
+    | inr sub_score ↦
+        let x = total_units changed (impact_units rules changed s) e over (10 ^ 13) in
+        let m = own_number rules changed s e in
+        let rounded = settled_rounding minor m x.top x.bottom (settled sub_score).at own_bottom (lit< tt) (settled sub_score).within in
+        rw (is.some sub_score) (number_stands minor changed (lit< tt) own_bottom bottom equal (record {
+          rounds = λ r is_r. subst (λ z. IsRounded minor m z) (rounded_once minor x (settled_tenths minor m) r (lit< tt) rounded is_r) (own_rounded sub_score minor);
+          near = (settled sub_score).near;
+        }))
+  ]
+
   pub certain : (minor : ℕ) → whole 0 ⊏ modified_impact_of rules changed S → IsCertain minor (number_of rules changed S E)
   certain minor above = elim parts.sub_score as (λ _. IsCertain minor (number_of rules changed S E)) [
     | inl is_zero ↦
@@ -145,21 +139,17 @@ module _ (rules : Rules) (changed : Bool) (s : ℕ) (S : Exact) (e : ℕ) (E : E
     | inr sub_score ↦ some_certain sub_score minor
   ]
 
--- a number that stands for the first number of the code's parts stands for that of the equations' parts
-pub stands_of : (minor : ℕ) (rules : Rules) (n s e : ℕ) (c d : Bool) (S E : Exact) → 0 < S.bottom → 0 < E.bottom → c ≡ d
-    → s over 1_000_000 ≈ S → e over (10 ^ 10) ≈ E
-    → StandsFor minor c (n over (10 ^ 13)) (own_number rules c s e) → StandsFor minor d (n over (10 ^ 13)) (number_of rules d S E)
-stands_of minor rules n s e c d S E some_S some_E same is_S is_E stands =
-    let own = subst (λ b. StandsFor minor b (n over (10 ^ 13)) (own_number rules b s e)) same stands in
-    number_stands minor d (lit< tt) (number_bottom rules d (s over 1_000_000) (e over (10 ^ 10)) (lit< tt) (lit< tt))
-    (number_bottom rules d S E some_S some_E) (number_equal rules d (lit< tt) some_S (lit< tt) some_E is_S is_E) own
+-- what the code gives for the parts of weights
+pub base_stands : (minor n : ℕ) (w : Weights) → AreOfTables w → IsNumber V30 (parts_of_base w) n
+    → StandsFor minor w.changed (n over (10 ^ 13)) (base_number w)
+base_stands minor n w are is =
+    subst (λ m. StandsFor minor w.changed (n over (10 ^ 13)) (first_number w.changed m (exploitability w))) (impact_is w.changed (iss w))
+    (stands V30 w.changed _ _ _ _ (base_parts w are) minor n is)
 
--- and so an impact approximates
-pub impact_of_parts : (rules : Rules) (s : ℕ) (c d : Bool) (S x y : Exact) → 0 < x.bottom → y ≈ x → c ≡ d → s over 1_000_000 ≈ S
-    → Approximates c x (modified_impact_of rules c (s over 1_000_000)) → Approximates d y (modified_impact_of rules d S)
-impact_of_parts rules s c d S x y some_x is_x same is_S near =
-    let own = subst (λ b. Approximates b x (modified_impact_of rules b (s over 1_000_000))) same near in
-    still_approximates d some_x (impact_bottom rules d (s over 1_000_000) (lit< tt)) is_x (impact_equal rules d is_S) own
+pub base_approximates : (n : ℤ) {x : Exact} (w : Weights) → AreOfTables w → x ≈ ratio n (10 ^ 11) → IsImpact V30 (parts_of_base w) n
+    → Approximates w.changed x (impact w)
+base_approximates n {x} w are same is =
+    subst (Approximates w.changed x) (impact_is w.changed (iss w)) (approximates V30 w.changed _ _ _ _ (base_parts w are) n same is)
 
 pub base_certain : (minor : ℕ) (w : Weights) → AreOfTables w → whole 0 ⊏ impact w → IsCertain minor (base_number w)
 base_certain minor w are =

@@ -7,12 +7,11 @@ use Rattle.cvss_score.specs.v4.Classes.{macro_vector}
 use Rattle.cvss_score.specs.v4.Gap.{Group, next_lower}
 use Rattle.cvss_score.specs.v4.Scores.{proportion}
 use Rattle.cvss_score.specs.v4.Values.{listed_value, table_value, IsListed}
-use Rattle.cvss_score.specs.v4.private.Shares.{AreTerms, taken}
+use Rattle.cvss_score.specs.v4.private.Shares.{AreTerms, taken, taken_by}
 use Rattle.cvss_score.specs.declared.v4.scoring.account.GroupAccount.{GroupAccount}
 use Rattle.cvss_score.specs.declared.v4.scoring.effective.Effective.{Effective}
 use Rattle.cvss_score.specs.declared.v4.scoring.shares.Terms.{Terms}
 use Rattle.cvss_score.proofs.v4_lemmas.MeanLemmas.{IsSound, part_of}
-use Rattle.cvss_score.proofs.v4_lemmas.ShareLemmas.{taken_is}
 
 -- what is taken of a gap, where there is one
 taken_where : (next : Option ℕ) (number : ℕ → Exact) (part : ℕ → ℕ)
@@ -37,13 +36,12 @@ few_taken value taken (suc (suc more)) to_hundred one bound = absurd (omega arit
 pub is_told : (v : Effective) (value : ℕ) (group : Group) (terms : Terms) (told : GroupAccount)
     → IsListed (listed_value (macro_vector v)) value → IsSound (table_value v) group → AreTerms value group terms
     → told.next ≡ terms.next → told.distance ≡ terms.distance → told.depth ≡ 840 / terms.part
-    → told.taken ≡ unwrap_or (option_map (λ next. (value - next.value) * terms.distance * terms.part) terms.next) 0
-    → IsGroupAccount (table_value v) group told
+    → told.taken ≡ taken_by value terms → IsGroupAccount (table_value v) group told
 is_told v value group terms told listed sound are is_next is_distance is_depth is_taken =
     let is_value : value ≡ table_value v = rw listed.is_value refl in
     record {
       next = is_next ∙ are.next;
       distance = ap pos is_distance ∙ are.distance;
       depth = is_depth ∙ are.depth;
-      taken = rw (is_taken ∙ taken_is value group terms are ∙ ap (λ n. taken n group) is_value) (taken_of (table_value v) group sound);
+      taken = rw (is_taken ∙ are.taken ∙ ap (λ n. taken n group) is_value) (taken_of (table_value v) group sound);
     }

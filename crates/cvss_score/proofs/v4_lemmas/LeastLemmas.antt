@@ -1,97 +1,102 @@
 -- The groups of metrics with levels, and what holds of the level sums of each class.
-use Rattle.std.proofs.Common.{◌≡◌, ℕ, zero, suc, ◌+◌, ◌*◌, ◌/◌, ◌<◌, ◌≤◌, min, Bool, true, ◌&&◌, ◌||◌, ◌==◌, leb, ltb, List, [], ◌∷◌, slice_index, refl, arith}
-use Rattle.std.specs.List.{list_all}
+use Rattle.std.proofs.Common.{◌≡◌, ℕ, ◌+◌, ◌-◌, ◌*◌, ◌/◌, ◌<◌, ◌≤◌, min, Bool, true, ◌&&◌, ◌==◌, leb, ltb, slice_index, refl, arith, ℤ, pos, ◌-ℤ◌}
 use Rattle.std.proofs.lemmas.Bool.{and_parts, eqb-true}
 use Rattle.std.proofs.lemmas.Bool.Decides.{nat_tests}
-use Rattle.cvss_score.specs.v4.Classes.{eq1, eq2, eq3, eq4, eq6, IsPair, Eq1Values, Eq2Values, Eq3Eq6Values, Eq4Values}
+use denote.Enum.Declared.{tag_of}
+use Rattle.cvss_metric.specs.contracts.v4.base.attack as attack
+use Rattle.cvss_score.specs.contracts.v4.scoring.effective as effective
+use Rattle.cvss_score.specs.declared.v4.scoring.effective.ExploitMaturity.{ExploitMaturity}
+use Rattle.cvss_score.specs.declared.v4.scoring.shares.TheConstants.{EQ1_LEAST, EQ1_PARTS, EQ2_LEAST, EQ2_PARTS, EQ3_EQ6_LEAST, EQ3_EQ6_PARTS, EQ4_LEAST, EQ4_PARTS}
+use Rattle.cvss_score.specs.v4.Classes.{eq1, eq2, eq3, eq4, eq5, eq6, Eq1Values, Eq2Values, Eq3Eq6Values, Eq4Values}
 use Rattle.cvss_score.specs.v4.Distance.{eq1_sum, eq1_least, eq2_sum, eq2_least, eq3_eq6_sum, eq3_eq6_least, eq4_sum, eq4_least}
 use Rattle.cvss_score.specs.v4.Gap.{eq1_depth, eq2_depth, eq3_eq6_depth, eq4_depth}
-use Rattle.cvss_score.proofs.v4_lemmas.TestLemmas.{at_place, Finite, each_eq1, each_eq2, each_eq3_eq6, each_eq4, below, each_below}
+use Rattle.cvss_score.proofs.v4_lemmas.TestLemmas.{Finite, each_eq1, each_eq2, each_eq3_eq6, each_eq4, each_exploit_maturity, Classes, at_least, up_to, numbers, IsPairOf, pairs}
 
 -- what a group says of its values and of its classes: the class and the level sum of values, and the least sum of a
--- class, the constant that the code has for it, and the depth
+-- class and its depth; and what the code has in their place: the sum by the places of the values, the least sum, and
+-- the part of 840
 pub record Scale (V C : Type 0) : Type 0 where
   pub class : V → C
   pub sum : V → ℕ
   pub least : C → ℕ
-  pub constant : C → ℕ
   pub depth : C → ℕ
+  pub found : V → ℕ
+  pub constant : C → ℕ
+  pub part : C → ℕ
 
--- the class is one, and the sum is from its constant on and less than the depth above it
-pub record IsWithin (IsClass : Type 0) (constant sum depth : ℕ) : Type 0 where
-  pub is_class : IsClass
-  pub from_constant : constant ≤ sum
-  pub to_depth : sum < constant + depth
+-- the code finds the sum, which is from the least sum of the class on and less than the depth above it
+pub record IsWithin (found sum least depth : ℕ) : Type 0 where
+  pub is_sum : found ≡ sum
+  pub from_least : least ≤ found
+  pub to_depth : found < least + depth
 
--- so it is of all values, the constants are the least sums, and the depths divide 840
+within_is : (found sum least depth : ℕ) → ((found == sum) && (leb least found && ltb found (least + depth))) ≡ true
+    → IsWithin found sum least depth
+within_is found sum least depth h =
+    record { is_sum = grind (arith, nat_tests); from_least = grind (arith, nat_tests); to_depth = grind (arith, nat_tests) }
+
+-- the code has the least sum and the part of a class
+pub record IsTabled (least constant part depth : ℕ) : Type 0 where
+  pub is_least : least ≡ constant
+  pub is_part : part ≡ 840 / depth
+  pub is_depth : 840 / part ≡ depth
+  pub divides : depth * part ≡ 840
+  pub some : 84 ≤ part
+
+tabled_is : (least constant part depth : ℕ)
+    → ((least == constant) && ((part == 840 / depth) && ((840 / part == depth) && ((depth * part == 840) && leb 84 part)))) ≡ true
+    → IsTabled least constant part depth
+tabled_is least constant part depth h =
+    let one = and_parts (least == constant) _ h in
+    let two = and_parts (part == 840 / depth) _ one.1 in
+    let three = and_parts (840 / part == depth) _ two.1 in
+    let four = and_parts (depth * part == 840) _ three.1 in
+    record {
+      is_least = eqb-true _ _ one.0;
+      is_part = eqb-true _ _ two.0;
+      is_depth = eqb-true _ _ three.0;
+      divides = eqb-true _ _ four.0;
+      some = at_least _ _ four.1;
+    }
+
+-- so it is of all values and all classes
 pub record IsScale {V C : Type 0} (scale : Scale V C) (IsClass : C → Type 0) : Type 0 where
-  pub within : (v : V) → IsWithin (IsClass (scale.class v)) (scale.constant (scale.class v)) (scale.sum v) (scale.depth (scale.class v))
-  pub is_least : (class : C) → IsClass class → scale.least class ≡ scale.constant class
-  pub divides : (class : C) → scale.depth class * (840 / scale.depth class) ≡ 840
-
--- the classes of a group: which numbers are one, when two are the same, and tests of that and of all of them
-pub record Classes {C : Type 0} (IsClass : C → Type 0) (AreSame : C → C → Type 0) : Type 0 where
-  pub every : (C → Bool) → Bool
-  pub each : (p : C → Bool) → every p ≡ true → (class : C) → IsClass class → p class ≡ true
-  pub is_class : C → Bool
-  pub tells : (class : C) → is_class class ≡ true → IsClass class
-  pub same : C → C → Bool
-  pub same_tells : (x y : C) → same x y ≡ true → AreSame x y
-  pub one : (x y : C) → AreSame x y → x ≡ y
+  pub is_class : (v : V) → IsClass (scale.class v)
+  pub within : (v : V) → IsWithin (scale.found v) (scale.sum v) (scale.least (scale.class v)) (scale.depth (scale.class v))
+  pub tabled : (class : C) → IsClass class → IsTabled (scale.least class) (scale.constant class) (scale.part class) (scale.depth class)
 
 module _ {V C : Type 0} (scale : Scale V C) where
+  -- the distance of values
+  abbrev pub distance : V → ℤ
+  distance v = pos (scale.sum v) -ℤ pos (scale.least (scale.class v))
+
   -- what holds of values and of classes, as tests
-  abbrev is_within : (C → Bool) → V → Bool
-  is_within is_class v =
-      let class = scale.class v in
-      is_class class && (leb (scale.constant class) (scale.sum v) && ltb (scale.sum v) (scale.constant class + scale.depth class))
+  abbrev is_within : V → Bool
+  is_within v =
+      let low = scale.constant (scale.class v) in
+      (scale.found v == scale.sum v) && (leb low (scale.found v) && ltb (scale.found v) (low + scale.depth (scale.class v)))
 
-  abbrev is_least : C → Bool
-  is_least class = scale.least class == scale.constant class
+  abbrev is_tabled : C → Bool
+  is_tabled class =
+      let part = scale.part class in
+      let depth = scale.depth class in
+      (scale.least class == scale.constant class)
+      && ((part == 840 / depth) && ((840 / part == depth) && ((depth * part == 840) && leb 84 part)))
 
-  pub is_scale : {IsClass : C → Type 0} {AreSame : C → C → Type 0} (values : Finite V) (classes : Classes IsClass AreSame)
-      → values.every (is_within classes.is_class) ≡ true → classes.every is_least ≡ true
-      → ((class : C) → scale.depth class * (840 / scale.depth class) ≡ 840) → IsScale scale IsClass
-  is_scale values classes within least divides = record {
-    within = λ v.
-        let class = scale.class v in
-        let low = leb (scale.constant class) (scale.sum v) in
-        let high = ltb (scale.sum v) (scale.constant class + scale.depth class) in
-        let outer = and_parts (classes.is_class class) (low && high) (values.each (is_within classes.is_class) within v) in
-        let inner = and_parts low high outer.1 in
-        record { is_class = classes.tells class outer.0; from_constant = grind (arith, nat_tests); to_depth = grind (arith, nat_tests) };
-    is_least = λ class is. eqb-true _ _ (classes.each is_least least class is);
-    divides = divides;
-  }
-
-  pub from_least : {IsClass : C → Type 0} → IsScale scale IsClass → (v : V) → scale.least (scale.class v) ≤ scale.sum v
-  from_least is v =
-      let within = is.within v in
-      omega (arith, is.is_least (scale.class v) within.is_class, within.from_constant)
-
-  pub below_depth : {IsClass : C → Type 0} → IsScale scale IsClass → (v : V)
-      → scale.sum v < scale.least (scale.class v) + scale.depth (scale.class v)
-  below_depth is v =
-      let within = is.within v in
-      omega (arith, is.is_least (scale.class v) within.is_class, within.to_depth)
-
--- a class is a number up to a limit
-abbrev up_to : ℕ → ℕ → Type 0
-up_to limit class = class ≤ limit
-
-pub is_up_to : (limit class : ℕ) → leb class limit ≡ true → class ≤ limit
-is_up_to limit class h = grind (arith, nat_tests)
-
-abbrev pub numbers : (limit : ℕ) → Classes (up_to limit) (λ x y. x ≡ y)
-numbers limit = record {
-  every = λ p. below p (suc limit);
-  each = λ p h class is. each_below p (suc limit) class (omega (arith, is)) h;
-  is_class = λ class. leb class limit;
-  tells = is_up_to limit;
-  same = λ x y. x == y;
-  same_tells = λ x y h. eqb-true x y h;
-  one = λ x y same. same;
-}
+  pub is_scale : {IsClass : C → Type 0} (values : Finite V) (classes : Classes IsClass)
+      → values.every (λ v. classes.is_class (scale.class v) && is_within v) ≡ true → classes.every is_tabled ≡ true
+      → IsScale scale IsClass
+  is_scale {IsClass = IsClass} values classes within tabled =
+      let of_class : (class : C) → IsClass class → IsTabled (scale.least class) (scale.constant class) (scale.part class) (scale.depth class) =
+      λ class is. tabled_is _ _ _ _ (classes.each is_tabled tabled class is) in
+      let of_values : (v : V) → (classes.is_class (scale.class v) ≡ true) × (is_within v ≡ true) =
+      λ v. and_parts (classes.is_class (scale.class v)) (is_within v) (values.each _ within v) in
+      let is_class : (v : V) → IsClass (scale.class v) = λ v. classes.tells (scale.class v) (of_values v).0 in
+      record {
+        is_class = is_class;
+        within = λ v. rw (of_class (scale.class v) (is_class v)).is_least (within_is _ _ _ _ (of_values v).1);
+        tabled = of_class;
+      }
 
 -- EQ1
 abbrev pub eq1_scale : Scale Eq1Values ℕ
@@ -99,13 +104,15 @@ eq1_scale = record {
   class = λ v. eq1 v.0 v.1 v.2;
   sum = λ v. eq1_sum v.0 v.1 v.2;
   least = eq1_least;
-  constant = slice_index (0 ∷ 1 ∷ 3 ∷ []);
   depth = eq1_depth;
+  found = λ v. 3 - tag_of attack.AttackVector.the_type v.0 + (2 - tag_of attack.PrivilegesRequired.the_type v.1) + (2 - tag_of attack.UserInteraction.the_type v.2);
+  constant = slice_index EQ1_LEAST;
+  part = slice_index EQ1_PARTS;
 }
 
 pub eq1_is_scale : IsScale eq1_scale (up_to 2)
 unfolding eq1_least
-eq1_is_scale = is_scale eq1_scale each_eq1 (numbers 2) refl refl (elim [ zero ↦ refl | suc zero ↦ refl | suc (suc _) ↦ refl ])
+eq1_is_scale = is_scale eq1_scale each_eq1 (numbers 2) refl refl
 
 -- EQ2
 abbrev pub eq2_scale : Scale Eq2Values ℕ
@@ -113,13 +120,15 @@ eq2_scale = record {
   class = λ v. eq2 v.0 v.1;
   sum = λ v. eq2_sum v.0 v.1;
   least = eq2_least;
-  constant = slice_index (0 ∷ 1 ∷ []);
   depth = eq2_depth;
+  found = λ v. 1 - tag_of attack.AttackComplexity.the_type v.0 + (1 - tag_of attack.AttackRequirements.the_type v.1);
+  constant = slice_index EQ2_LEAST;
+  part = slice_index EQ2_PARTS;
 }
 
 pub eq2_is_scale : IsScale eq2_scale (up_to 1)
 unfolding eq2_least
-eq2_is_scale = is_scale eq2_scale each_eq2 (numbers 1) refl refl (elim [ zero ↦ refl | suc _ ↦ refl ])
+eq2_is_scale = is_scale eq2_scale each_eq2 (numbers 1) refl refl
 
 -- EQ4
 abbrev pub eq4_scale : Scale Eq4Values ℕ
@@ -127,72 +136,37 @@ eq4_scale = record {
   class = λ v. eq4 v.0 v.1 v.2;
   sum = λ v. eq4_sum v.0 v.1 v.2;
   least = eq4_least;
-  constant = slice_index (1 ∷ 3 ∷ 6 ∷ []);
   depth = eq4_depth;
+  found = λ v. 1 + tag_of effective.SubsequentImpact.the_type v.0 + tag_of effective.SafetyImpact.the_type v.1 + tag_of effective.SafetyImpact.the_type v.2;
+  constant = slice_index EQ4_LEAST;
+  part = slice_index EQ4_PARTS;
 }
 
 pub eq4_is_scale : IsScale eq4_scale (up_to 2)
 unfolding eq4_least
-eq4_is_scale = is_scale eq4_scale each_eq4 (numbers 2) refl refl (elim [ zero ↦ refl | suc zero ↦ refl | suc (suc _) ↦ refl ])
+eq4_is_scale = is_scale eq4_scale each_eq4 (numbers 2) refl refl
 
--- EQ3 with EQ6, whose constants stand in the order of their classes
+-- EQ5, each of whose classes has one value
+abbrev pub eq5_scale : Scale ExploitMaturity ℕ
+eq5_scale = record { class = eq5; sum = λ _. 0; least = λ _. 0; depth = λ _. 1; found = λ _. 0; constant = λ _. 0; part = λ _. 840 }
+
+pub eq5_is_scale : IsScale eq5_scale (up_to 2)
+eq5_is_scale = is_scale eq5_scale each_exploit_maturity (numbers 2) refl refl
+
+-- EQ3 with EQ6, whose classes have their places
 abbrev pub eq3_eq6_scale : Scale Eq3Eq6Values (ℕ × ℕ)
 eq3_eq6_scale = record {
   class = λ v. (eq3 v.0 v.1 v.2, eq6 v.0 v.1 v.2 v.3 v.4 v.5);
   sum = λ v. eq3_eq6_sum v.0 v.1 v.2 v.3 v.4 v.5;
   least = λ class. eq3_eq6_least class.0 class.1;
-  constant = λ class. slice_index (0 ∷ 3 ∷ 1 ∷ 3 ∷ 3 ∷ []) (min (2 * class.0 + class.1) 4);
   depth = λ class. eq3_eq6_depth class.0 class.1;
+  found = λ v.
+      tag_of effective.VulnerableImpact.the_type v.0 + tag_of effective.VulnerableImpact.the_type v.1 + tag_of effective.VulnerableImpact.the_type v.2
+      + (tag_of effective.Requirement.the_type v.3 + tag_of effective.Requirement.the_type v.4 + tag_of effective.Requirement.the_type v.5);
+  constant = λ class. slice_index EQ3_EQ6_LEAST (min (2 * class.0 + class.1) 4);
+  part = λ class. slice_index EQ3_EQ6_PARTS (min (2 * class.0 + class.1) 4);
 }
-
-abbrev IsPairOf : ℕ × ℕ → Type 0
-IsPairOf class = IsPair class.0 class.1
-
-abbrev all_pairs : List (ℕ × ℕ)
-all_pairs = (0, 0) ∷ (0, 1) ∷ (1, 0) ∷ (1, 1) ∷ (2, 1) ∷ []
-
-pub each_pair : (p : ℕ × ℕ → Bool) → list_all p all_pairs ≡ true → (class : ℕ × ℕ) → IsPairOf class → p class ≡ true
-each_pair p h (zero, zero) is = at_place p all_pairs (0, 0) 0 h refl
-each_pair p h (zero, suc zero) is = at_place p all_pairs (0, 1) 1 h refl
-each_pair p h (suc zero, zero) is = at_place p all_pairs (1, 0) 2 h refl
-each_pair p h (suc zero, suc zero) is = at_place p all_pairs (1, 1) 3 h refl
-each_pair p h (suc (suc zero), suc zero) is = at_place p all_pairs (2, 1) 4 h refl
-each_pair p h (class3, class6) is = absurd (omega arith)
-
--- there is such a class, as a test
-abbrev is_pair : ℕ × ℕ → Bool
-is_pair class = leb class.0 2 && (leb class.1 1 && (ltb class.0 2 || (class.1 == 1)))
-
-either_one : (class3 class6 : ℕ) → (ltb class3 2 || (class6 == 1)) ≡ true → class3 ≡ 2 → class6 ≡ 1
-either_one class3 class6 h two = grind (arith, nat_tests)
-
-pub pair : (class : ℕ × ℕ) → is_pair class ≡ true → IsPairOf class
-pair (class3, class6) h =
-    let outer = and_parts (leb class3 2) (leb class6 1 && (ltb class3 2 || (class6 == 1))) h in
-    let inner = and_parts (leb class6 1) (ltb class3 2 || (class6 == 1)) outer.1 in
-    record {
-      eq3 = grind (arith, nat_tests);
-      eq6 = grind (arith, nat_tests);
-      both = λ two. either_one class3 class6 inner.1 two;
-    }
-
-abbrev pub pairs : Classes IsPairOf (λ x y. (x.0 ≡ y.0) × (x.1 ≡ y.1))
-pairs = record {
-  every = λ p. list_all p all_pairs;
-  each = each_pair;
-  is_class = is_pair;
-  tells = pair;
-  same = λ x y. (x.0 == y.0) && (x.1 == y.1);
-  same_tells = λ x y h. let parts = and_parts (x.0 == y.0) (x.1 == y.1) h in (eqb-true x.0 y.0 parts.0, eqb-true x.1 y.1 parts.1);
-  one = λ x y same i. (same.0 i, same.1 i);
-}
-
-eq3_eq6_divides : (class : ℕ × ℕ) → eq3_eq6_scale.depth class * (840 / eq3_eq6_scale.depth class) ≡ 840
-eq3_eq6_divides (zero, zero) = refl
-eq3_eq6_divides (zero, suc _) = refl
-eq3_eq6_divides (suc zero, _) = refl
-eq3_eq6_divides (suc (suc _), _) = refl
 
 pub eq3_eq6_is_scale : IsScale eq3_eq6_scale IsPairOf
 unfolding eq3_eq6_least
-eq3_eq6_is_scale = is_scale eq3_eq6_scale each_eq3_eq6 pairs refl refl eq3_eq6_divides
+eq3_eq6_is_scale = is_scale eq3_eq6_scale each_eq3_eq6 pairs refl refl

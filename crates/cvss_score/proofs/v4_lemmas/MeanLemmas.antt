@@ -3,8 +3,8 @@ use Rattle.std.proofs.Common.{◌≡◌, ℕ, zero, suc, ◌+◌, ◌-◌, ◌*�
 use Rattle.std.specs.List.{cons_option, filter_map}
 use Rattle.std.proofs.Math.Nat.{mul-pos}
 use Rattle.std.proofs.lemmas.Int.{ints}
-use Rattle.cvss_base.specs.Exact.{Exact, ratio, ◌over◌, tenths, ◌⊕◌, ◌⊖◌, ◌⊗◌, ◌≈◌}
-use Rattle.cvss_base.proofs.ExactLemmas.{equal_refl, equal_trans, sum_equal, difference_equal, product_equal}
+use Rattle.cvss_base.specs.Exact.{Exact, ratio, ◌over◌, tenths, ◌⊕◌, ◌⊗◌, ◌≈◌}
+use Rattle.cvss_base.proofs.ExactLemmas.{equal_refl, equal_trans, sum_equal, product_equal}
 use Rattle.cvss_score.specs.v4.Gap.{Group, next_lower}
 use Rattle.cvss_score.specs.v4.Scores.{proportion, total, mean}
 use Rattle.cvss_score.specs.v4.private.Shares.{taken, counted}
@@ -111,15 +111,3 @@ mean_is (x ∷ rest) sum count few is_total =
     let counted_shares : total all ⊗ 1 over length all ≈ (sum over 8400) ⊗ 1 over count =
     subst (λ (n : ℕ). total all ⊗ 1 over length all ≈ (sum over 8400) ⊗ 1 over n) is_total.is_count shares in
     (equal_trans (omega arith) counted_shares (divided sum count some few), mul-pos is_total.some (omega arith))
-
--- a value less the mean, in 504000ths
-pub less_mean : (value : ℕ) (xs : List Exact) (sum count : ℕ) → count ≤ 5 → IsTotal xs sum count
-    → sum * (60 / max count 1) ≤ value * 50400
-    → (tenths (pos value) ⊖ mean xs ≈ (value * 50400 - sum * (60 / max count 1)) over 504000)
-    × (0 < (tenths (pos value) ⊖ mean xs).bottom)
-less_mean value xs sum count few is_total bound =
-    let mean = mean_is xs sum count few is_total in
-    let less = difference_equal (equal_refl (tenths (pos value))) mean.0 in
-    let whole : tenths (pos value) ⊖ (sum * (60 / max count 1)) over 504000
-    ≈ (value * 50400 - sum * (60 / max count 1)) over 504000 = record { equal = omega (arith, ints, bound) } in
-    (equal_trans (lit< tt) less whole, mul-pos (lit< tt) mean.1)

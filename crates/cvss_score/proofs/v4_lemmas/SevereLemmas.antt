@@ -4,11 +4,12 @@ use Rattle.std.specs.Option.{option_and_then}
 use Rattle.std.proofs.Math.Nat.{mul-le-mul_left, mul-le-mul_right}
 use Rattle.std.proofs.lemmas.Bool.Decides.{nat_tests}
 use Rattle.std.proofs.lemmas.Int.{ints}
-use Rattle.cvss_base.specs.Exact.{◌over◌, whole, ◌⊑◌}
+use Rattle.cvss_base.specs.Exact.{◌over◌, ◌⊑◌}
 use Rattle.cvss_base.proofs.ExactLemmas.{equal_at_most, equal_sym, at_most_trans}
 use Rattle.cvss_base.proofs.RoundingLemmas.{v4-ordered}
 use Rattle.cvss_score.specs.v4.Distance.{eq1_sum, eq2_sum, eq3_eq6_sum, eq4_sum}
-use Rattle.cvss_score.specs.v4.Gap.{Group, eq1_group, eq2_group, eq3_eq6_group, eq4_group, eq5_group, eq1_next, eq2_next, eq3_eq6_next, eq4_next, eq5_next, groups, next_lower}
+use Rattle.cvss_score.specs.v4.Classes.{macro_vector}
+use Rattle.cvss_score.specs.v4.Gap.{Group, groups, next_lower}
 use Rattle.cvss_score.specs.v4.Levels.{vulnerable_level, subsequent_level, safety_level}
 use Rattle.cvss_score.specs.v4.Scores.{has_impact, is_vulnerable_impact, is_subsequent_impact, is_safety_impact, number, IsScore}
 use Rattle.cvss_score.specs.v4.AsSevere.{IsAtMost, levels, IsAsSevere}
@@ -21,11 +22,9 @@ use Rattle.cvss_score.specs.declared.v4.scoring.effective.SubsequentImpact.{Subs
 use Rattle.cvss_score.specs.declared.v4.scoring.effective.SubsequentImpact.TheVariants as subsequent
 use Rattle.cvss_score.specs.declared.v4.scoring.effective.SafetyImpact.{SafetyImpact}
 use Rattle.cvss_score.specs.declared.v4.scoring.effective.SafetyImpact.TheVariants as safety
-use Rattle.cvss_score.proofs.v4_lemmas.DistanceLemmas.{distance}
-use Rattle.cvss_score.proofs.v4_lemmas.LeastLemmas.{Scale, IsScale, from_least, eq1_scale, eq1_is_scale, eq2_scale, eq2_is_scale, eq3_eq6_scale, eq3_eq6_is_scale, eq4_scale, eq4_is_scale}
+use Rattle.cvss_score.proofs.v4_lemmas.GroupLemmas.{Graded, eq1, eq2, eq3_eq6, eq4, eq5, group_of, number_distance, distance_is}
 use Rattle.cvss_score.proofs.v4_lemmas.MeanLemmas.{all_taken, all_counted}
-use Rattle.cvss_score.proofs.v4_lemmas.ScoreLawLemmas.{count_of, count_with_impact, in_504000ths}
-use Rattle.cvss_score.proofs.v4_lemmas.ScoreLemmas.{number_without_impact}
+use Rattle.cvss_score.proofs.v4_lemmas.ScoreLawLemmas.{count_if, count_of, in_504000ths}
 
 -- of a greater distance at least as much is taken
 part_ordered : (value near far depth : ℕ) (next : Option ℕ) → near ≤ far
@@ -54,22 +53,18 @@ counted_alike : (near far : Group) → IsFarther near far → counted near ≡ c
 counted_alike near far farther = ap (λ next. unwrap_or (option_map (λ _. 1) (option_and_then listed_value next)) 0) farther.one_next
 
 -- so it is of values of one class whose level sums are in order
-farther : {V C : Type 0} (scale : Scale V C) {IsClass : C → Type 0} → IsScale scale IsClass → (v w : V) (near far : Group)
-    → near.distance ≡ distance scale v → far.distance ≡ distance scale w → near.depth ≡ scale.depth (scale.class v)
-    → far.depth ≡ scale.depth (scale.class w) → scale.class v ≡ scale.class w → scale.sum v ≤ scale.sum w
-    → near.next ≡ far.next → IsFarther near far
-farther scale is v w near far is_near is_far near_depth far_depth one_class order one_next =
-    let near_low = from_least scale is v in
-    let far_low = from_least scale is w in
-    let one_least = ap scale.least one_class in
+farther : (g : Graded) (v w : Effective) → macro_vector v ≡ macro_vector w → g.scale.sum (g.values v) ≤ g.scale.sum (g.values w)
+    → IsFarther (group_of g v) (group_of g w)
+farther g v w one order =
+    let class : g.scale.class (g.values v) ≡ g.scale.class (g.values w) = sym (g.numbered v) ∙ ap g.number one ∙ g.numbered w in
     record {
-      near_distance = scale.sum v - scale.least (scale.class v);
-      far_distance = scale.sum w - scale.least (scale.class w);
-      is_near = is_near ∙ omega (arith, ints, near_low);
-      is_far = is_far ∙ omega (arith, ints, far_low);
-      order = omega (arith, order, one_least, near_low, far_low);
-      one_next = one_next;
-      one_depth = near_depth ∙ ap scale.depth one_class ∙ sym far_depth;
+      near_distance = number_distance g v;
+      far_distance = number_distance g w;
+      is_near = distance_is g v;
+      is_far = distance_is g w;
+      order = omega (arith, order, ap g.scale.least class);
+      one_next = ap g.next one;
+      one_depth = ap g.scale.depth class;
     }
 
 -- an impact is there where its level is below that of none
@@ -95,33 +90,18 @@ either_kept false y false b left right h = right h
 rests_ordered : (n near far share : ℕ) → near ≤ far → n - far * share ≤ n - near * share
 rests_ordered n near far share order = omega (arith, mul-le-mul_right share order)
 
--- no number is negative
-not_negative : (v : Effective) → whole 0 ⊑ number v
-not_negative v =
-    let found = in_504000ths v in
-    let n = found.0 over 504000 in
-    let from_zero : whole 0 ⊑ n = record { at_most = omega (arith, ints) } in
-    at_most_trans (whole 0) n (number v) (lit< tt) from_zero (equal_at_most n (number v) (equal_sym found.1))
-
 -- two lists of groups of one class each, the second at no smaller distances
-abbrev AreFarther : List Group → List Group → Type 0
-AreFarther [] [] = Unit {0}
-AreFarther [] (far ∷ fars) = ⊥
-AreFarther (near ∷ nears) [] = ⊥
-AreFarther (near ∷ nears) (far ∷ fars) = IsFarther near far × AreFarther nears fars
+data AreFarther : List Group → List Group → Type 0 where
+  none : AreFarther [] []
+  more : {near far : Group} {nears fars : List Group} → IsFarther near far → AreFarther nears fars → AreFarther (near ∷ nears) (far ∷ fars)
 
 all_ordered : (value : ℕ) (nears fars : List Group) → AreFarther nears fars → all_taken value nears ≤ all_taken value fars
-all_ordered value [] [] are = omega arith
-all_ordered value [] (far ∷ fars) are = absurd are
-all_ordered value (near ∷ nears) [] are = absurd are
-all_ordered value (near ∷ nears) (far ∷ fars) are =
-    omega (arith, taken_ordered value near far are.0, all_ordered value nears fars are.1)
+all_ordered value _ _ none = omega arith
+all_ordered value _ _ (more is are) = omega (arith, taken_ordered value _ _ is, all_ordered value _ _ are)
 
 all_alike : (nears fars : List Group) → AreFarther nears fars → all_counted nears ≡ all_counted fars
-all_alike [] [] are = refl
-all_alike [] (far ∷ fars) are = absurd are
-all_alike (near ∷ nears) [] are = absurd are
-all_alike (near ∷ nears) (far ∷ fars) are = omega (arith, counted_alike near far are.0, all_alike nears fars are.1)
+all_alike _ _ none = refl
+all_alike _ _ (more is are) = omega (arith, counted_alike _ _ is, all_alike _ _ are)
 
 -- what the levels of values say that are at least as severe as others
 record AreOrdered (v w : Effective) : Type 0 where
@@ -149,46 +129,32 @@ module _ (v w : Effective) (severe : IsAsSevere v w) where
   all_farther : AreFarther (groups v) (groups w)
   all_farther =
       let ordered = are_ordered v w severe.levels in
-      let class = severe.one_class in
-      let eq1 = farther eq1_scale eq1_is_scale (v.av, v.pr, v.ui) (w.av, w.pr, w.ui) (eq1_group v) (eq1_group w) refl refl refl refl
-      (ap (λ m. m.eq1) class) ordered.eq1 (ap eq1_next class) in
-      let eq2 = farther eq2_scale eq2_is_scale (v.ac, v.at) (w.ac, w.at) (eq2_group v) (eq2_group w) refl refl refl refl
-      (ap (λ m. m.eq2) class) ordered.eq2 (ap eq2_next class) in
-      let eq3_eq6 = farther eq3_eq6_scale eq3_eq6_is_scale (v.vc, v.vi, v.va, v.cr, v.ir, v.ar) (w.vc, w.vi, w.va, w.cr, w.ir, w.ar)
-      (eq3_eq6_group v) (eq3_eq6_group w) refl refl refl refl (ap (λ m. (m.eq3, m.eq6)) class) ordered.eq3_eq6 (ap eq3_eq6_next class) in
-      let eq4 = farther eq4_scale eq4_is_scale (v.sc, v.si, v.sa) (w.sc, w.si, w.sa) (eq4_group v) (eq4_group w) refl refl refl refl
-      (ap (λ m. m.eq4) class) ordered.eq4 (ap eq4_next class) in
-      let eq5 : IsFarther (eq5_group v) (eq5_group w) =
-      record { near_distance = 0; far_distance = 0; is_near = refl; is_far = refl; order = omega arith; one_next = ap eq5_next class; one_depth = refl } in
-      (eq1, (eq2, (eq3_eq6, (eq4, (eq5, tt)))))
+      let one = severe.one_class in
+      more (farther eq1 v w one ordered.eq1) (more (farther eq2 v w one ordered.eq2) (more (farther eq3_eq6 v w one ordered.eq3_eq6)
+      (more (farther eq4 v w one ordered.eq4) (more (farther eq5 v w one (omega arith)) none))))
 
   one_value : table_value v ≡ table_value w
   one_value = ap (λ m. unwrap_or (listed_value m) 0) severe.one_class
 
-  counts_ordered : count_of w ≤ count_of v
-  counts_ordered =
+  counts_ordered : (b c : Bool) → has_impact v ≡ b → has_impact w ≡ c → count_if c w ≤ count_if b v
+  counts_ordered b false some_v none_w = omega arith
+  counts_ordered false true none_v some_w = let some_v = (are_ordered v w severe.levels).impact some_w in cc
+  counts_ordered true true some_v some_w =
       let near = all_taken (table_value v) (groups v) in
       let far = all_taken (table_value v) (groups w) in
       let share = 60 / max (all_counted (groups v)) 1 in
-      subst (λ (n : ℕ). n * 50400 - all_taken n (groups w) * (60 / max (all_counted (groups w)) 1) ≤ count_of v) one_value
-      (subst (λ (n : ℕ). table_value v * 50400 - far * (60 / max n 1) ≤ count_of v) (all_alike (groups v) (groups w) all_farther)
-      (rests_ordered (table_value v * 50400) near far share (all_ordered (table_value v) (groups v) (groups w) all_farther)))
-
-  by_impacts : (b c : Bool) → has_impact v ≡ b → has_impact w ≡ c → number w ⊑ number v
-  by_impacts true true some_v some_w =
-      let of_v = count_with_impact v some_v in
-      let of_w = count_with_impact w some_w in
-      let upper = count_of v over 504000 in
-      let lower = count_of w over 504000 in
-      let order : lower ⊑ upper = record { at_most = omega (arith, ints, counts_ordered) } in
-      let to_upper = at_most_trans (number w) lower upper (lit< tt) (equal_at_most (number w) lower of_w.0) order in
-      at_most_trans (number w) upper (number v) (lit< tt) to_upper (equal_at_most upper (number v) (equal_sym of_v.0))
-  by_impacts false true none_v some_w = let some_v = (are_ordered v w severe.levels).impact some_w in cc
-  by_impacts b false is_v none_w = rw (number_without_impact w none_w) (not_negative v)
+      subst (λ (n : ℕ). 50400 * n - all_taken n (groups w) * (60 / max (all_counted (groups w)) 1) ≤ count_if true v) one_value
+      (subst (λ (n : ℕ). 50400 * table_value v - far * (60 / max n 1) ≤ count_if true v) (all_alike (groups v) (groups w) all_farther)
+      (rests_ordered (50400 * table_value v) near far share (all_ordered (table_value v) (groups v) (groups w) all_farther)))
 
   number_ordered : number w ⊑ number v
-  number_ordered = by_impacts (has_impact v) (has_impact w) refl refl
+  number_ordered =
+      let upper = count_of v over 504000 in
+      let lower = count_of w over 504000 in
+      let order : lower ⊑ upper = record { at_most = omega (arith, ints, counts_ordered (has_impact v) (has_impact w) refl refl) } in
+      let to_upper = at_most_trans (number w) lower upper (lit< tt) (equal_at_most (number w) lower (in_504000ths w).0) order in
+      at_most_trans (number w) upper (number v) (lit< tt) to_upper (equal_at_most upper (number v) (equal_sym (in_504000ths v).0))
 
 pub severe_score : (v w : Effective) (r s : ℤ) → IsAsSevere v w → IsScore v r → IsScore w s → s ≤ℤ r
 severe_score v w r s severe is_r is_s =
-    v4-ordered (number w) (number v) s r (in_504000ths w).2 (in_504000ths v).2 (number_ordered v w severe) is_s is_r
+    v4-ordered (number w) (number v) s r (in_504000ths w).1 (in_504000ths v).1 (number_ordered v w severe) is_s is_r

@@ -1,5 +1,5 @@
 -- The values of the code are those of the table, and no class has a smaller value than its next lower ones.
-use Rattle.std.proofs.Common.{◌≡◌, ℕ, ◌≤◌, Bool, true, false, ◌&&◌, ◌||◌, ◌==◌, leb, slice_index, Option, Some, None, refl, arith, ap}
+use Rattle.std.proofs.Common.{◌≡◌, ℕ, ◌≤◌, Bool, true, false, ◌&&◌, ◌==◌, leb, slice_index, Option, Some, None, refl, arith, ap}
 use Rattle.std.proofs.lemmas.Bool.{and_parts}
 use Rattle.std.specs.Option.{option_and_then}
 use Rattle.std.proofs.lemmas.Bool.Decides.{nat_tests}
@@ -9,46 +9,27 @@ use Rattle.cvss_score.specs.v4.private.Places.{place_of}
 use Rattle.cvss_score.specs.v4.Values.{rows, listed_value, IsListed}
 use Rattle.cvss_score.specs.declared.v4.scoring.classes.MacroVector.{MacroVector}
 use Rattle.cvss_score.specs.declared.v4.scoring.values.TheConstants.{VALUES}
-use Rattle.cvss_score.proofs.v4_lemmas.TestLemmas.{below, each_below}
+use Rattle.cvss_score.proofs.v4_lemmas.TestLemmas.{Classes, both, numbers, IsPairOf, pairs}
+
+-- the numbers of a class, with EQ3 and EQ6 together
+abbrev Numbers : Type 0
+Numbers = ℕ × (ℕ × ((ℕ × ℕ) × (ℕ × ℕ)))
+
+abbrev class_of : Numbers → MacroVector
+class_of v = record { eq1 = v.0; eq2 = v.1.0; eq3 = v.1.1.0.0; eq4 = v.1.1.1.0; eq5 = v.1.1.1.1; eq6 = v.1.1.0.1 }
+
+abbrev all_numbers : Classes (λ (v : Numbers). (v.0 ≤ 2) × ((v.1.0 ≤ 1) × (IsPairOf v.1.1.0 × ((v.1.1.1.0 ≤ 2) × (v.1.1.1.1 ≤ 2)))))
+all_numbers = both (numbers 2) (both (numbers 1) (both pairs (both (numbers 2) (numbers 2))))
 
 -- a test that is true for all classes is true for each
 module _ (p : MacroVector → Bool) where
-  abbrev at_numbers : ℕ → ℕ → ℕ → ℕ → ℕ → ℕ → Bool
-  at_numbers class1 class2 class3 class4 class5 class6 =
-      ((class3 == 2) && (class6 == 0))
-      || p (record { eq1 = class1; eq2 = class2; eq3 = class3; eq4 = class4; eq5 = class5; eq6 = class6 })
-
-  abbrev of_eq1_to_5 : ℕ → ℕ → ℕ → ℕ → ℕ → Bool
-  of_eq1_to_5 class1 class2 class3 class4 class5 = below (at_numbers class1 class2 class3 class4 class5) 2
-
-  abbrev of_eq1_to_4 : ℕ → ℕ → ℕ → ℕ → Bool
-  of_eq1_to_4 class1 class2 class3 class4 = below (of_eq1_to_5 class1 class2 class3 class4) 3
-
-  abbrev of_eq1_to_3 : ℕ → ℕ → ℕ → Bool
-  of_eq1_to_3 class1 class2 class3 = below (of_eq1_to_4 class1 class2 class3) 3
-
-  abbrev of_eq1_to_2 : ℕ → ℕ → Bool
-  of_eq1_to_2 class1 class2 = below (of_eq1_to_3 class1 class2) 3
-
-  abbrev of_eq1 : ℕ → Bool
-  of_eq1 class1 = below (of_eq1_to_2 class1) 2
-
   abbrev pub all_classes : Bool
-  all_classes = below of_eq1 3
-
-  not_excluded : (class3 class6 : ℕ) (b : Bool) → (class3 ≡ 2 → class6 ≡ 1)
-      → (((class3 == 2) && (class6 == 0)) || b) ≡ true → b ≡ true
-  not_excluded class3 class6 b rule h = grind (arith, nat_tests)
+  all_classes = all_numbers.every (λ v. p (class_of v))
 
   pub each_class : all_classes ≡ true → (m : MacroVector) → IsMacroVector m → p m ≡ true
-  each_class h m is_class =
-      let step1 = each_below of_eq1 3 m.eq1 (omega arith) h in
-      let step2 = each_below (of_eq1_to_2 m.eq1) 2 m.eq2 (omega arith) step1 in
-      let step3 = each_below (of_eq1_to_3 m.eq1 m.eq2) 3 m.eq3 (omega arith) step2 in
-      let step4 = each_below (of_eq1_to_4 m.eq1 m.eq2 m.eq3) 3 m.eq4 (omega arith) step3 in
-      let step5 = each_below (of_eq1_to_5 m.eq1 m.eq2 m.eq3 m.eq4) 3 m.eq5 (omega arith) step4 in
-      let step6 = each_below (at_numbers m.eq1 m.eq2 m.eq3 m.eq4 m.eq5) 2 m.eq6 (omega arith) step5 in
-      not_excluded m.eq3 m.eq6 (p m) is_class.eq3_eq6 step6
+  each_class h m is =
+      all_numbers.each (λ v. p (class_of v)) h (m.eq1, (m.eq2, ((m.eq3, m.eq6), (m.eq4, m.eq5))))
+      (is.eq1, (is.eq2, (record { eq3 = is.eq3; eq6 = is.eq6; both = is.eq3_eq6 }, (is.eq4, is.eq5))))
 
 -- the value is there, and is this one, from 1 to 100
 abbrev is_listed : Option ℕ → ℕ → Bool

@@ -1,11 +1,11 @@
 -- A test that computes to true for all values of a type, or all numbers below a limit, holds of each.
-use Rattle.std.proofs.Common.{◌≡◌, ℕ, zero, suc, ◌-◌, ◌<◌, Bool, true, ◌&&◌, List, [], ◌∷◌, Some, slice_get, refl, arith, ap, sym, ◌∙◌, inl, inr}
+use Rattle.std.proofs.Common.{◌≡◌, ℕ, zero, suc, ◌-◌, ◌<◌, ◌≤◌, Bool, true, not, ◌&&◌, ◌||◌, ◌==◌, leb, List, [], ◌∷◌, Some, slice_get, refl, arith, ap, sym, ◌∙◌, inl, inr}
 use Rattle.std.specs.List.{list_all}
 use Rattle.std.proofs.lemmas.Bool.{and_parts, cases_eq}
-use Rattle.cvss_score.specs.v4.Effective.{attack_vectors, privileges, user_interactions, attack_complexities, all_attack_requirements, vulnerable_impacts, subsequent_impacts, safety_impacts, requirements, values}
+use Rattle.std.proofs.lemmas.Bool.Decides.{nat_tests}
+use Rattle.cvss_score.specs.v4.Effective.{attack_vectors, privileges, user_interactions, attack_complexities, all_attack_requirements, vulnerable_impacts, subsequent_impacts, safety_impacts, requirements, exploit_maturities, values}
 use Rattle.cvss_score.specs.v4.Levels.{attack_vector_level, privileges_level, interaction_level, complexity_level, requirements_level, vulnerable_level, subsequent_level, safety_level, requirement_level}
-use Rattle.cvss_score.specs.v4.Classes.{Eq1Values, Eq2Values, Eq3Eq6Values, Eq4Values}
-use Rattle.cvss_metric.specs.declared.v4.base.access as access
+use Rattle.cvss_score.specs.v4.Classes.{eq5, IsPair, Eq1Values, Eq2Values, Eq3Eq6Values, Eq4Values}
 use Rattle.cvss_metric.specs.declared.v4.base.attack as attack
 use Rattle.cvss_score.specs.declared.v4.scoring.effective as effective
 
@@ -52,11 +52,11 @@ six a b = record {
 abbrev each_attack_vector : Finite attack.AttackVector.AttackVector
 each_attack_vector = listed (values attack_vectors) attack_vector_level (elim [ attack.AttackVector.TheVariants.Network ↦ refl | _ ↦ refl ])
 
-abbrev each_privileges_required : Finite access.PrivilegesRequired.PrivilegesRequired
-each_privileges_required = listed (values privileges) privileges_level (elim [ access.PrivilegesRequired.TheVariants.None ↦ refl | _ ↦ refl ])
+abbrev each_privileges_required : Finite attack.PrivilegesRequired.PrivilegesRequired
+each_privileges_required = listed (values privileges) privileges_level (elim [ attack.PrivilegesRequired.TheVariants.None ↦ refl | _ ↦ refl ])
 
-abbrev each_user_interaction : Finite access.UserInteraction.UserInteraction
-each_user_interaction = listed (values user_interactions) interaction_level (elim [ access.UserInteraction.TheVariants.None ↦ refl | _ ↦ refl ])
+abbrev each_user_interaction : Finite attack.UserInteraction.UserInteraction
+each_user_interaction = listed (values user_interactions) interaction_level (elim [ attack.UserInteraction.TheVariants.None ↦ refl | _ ↦ refl ])
 
 abbrev each_attack_complexity : Finite attack.AttackComplexity.AttackComplexity
 each_attack_complexity = listed (values attack_complexities) complexity_level (elim [ attack.AttackComplexity.TheVariants.Low ↦ refl | _ ↦ refl ])
@@ -75,6 +75,9 @@ each_safety_impact = listed (values safety_impacts) safety_level (elim [ effecti
 
 abbrev each_requirement : Finite effective.Requirement.Requirement
 each_requirement = listed (values requirements) requirement_level (elim [ effective.Requirement.TheVariants.High ↦ refl | _ ↦ refl ])
+
+abbrev pub each_exploit_maturity : Finite effective.ExploitMaturity.ExploitMaturity
+each_exploit_maturity = listed (values exploit_maturities) eq5 (elim [ effective.ExploitMaturity.TheVariants.Attacked ↦ refl | _ ↦ refl ])
 
 -- the values of the metrics of each group
 abbrev pub each_eq1 : Finite Eq1Values
@@ -102,3 +105,60 @@ each_below p (suc n) k h all =
       | inl same ↦ ap p same ∙ parts.0
       | inr other ↦ each_below p n k (omega arith) parts.1
     ]
+
+-- the classes of a group: which numbers are one, and tests of that and of all of them
+pub record Classes {C : Type 0} (IsClass : C → Type 0) : Type 0 where
+  pub every : (C → Bool) → Bool
+  pub each : (p : C → Bool) → every p ≡ true → (class : C) → IsClass class → p class ≡ true
+  pub is_class : C → Bool
+  pub tells : (class : C) → is_class class ≡ true → IsClass class
+
+-- the classes of two groups together
+abbrev pub both : {A B : Type 0} {IsA : A → Type 0} {IsB : B → Type 0} → Classes IsA → Classes IsB → Classes (λ (v : A × B). IsA v.0 × IsB v.1)
+both a b = record {
+  every = λ p. a.every (λ x. b.every (λ y. p (x, y)));
+  each = λ p h v is. b.each (λ y. p (v.0, y)) (a.each (λ x. b.every (λ y. p (x, y))) h v.0 is.0) v.1 is.1;
+  is_class = λ v. a.is_class v.0 && b.is_class v.1;
+  tells = λ v h. let parts = and_parts (a.is_class v.0) (b.is_class v.1) h in (a.tells v.0 parts.0, b.tells v.1 parts.1);
+}
+
+pub at_least : (limit number : ℕ) → leb limit number ≡ true → limit ≤ number
+at_least limit number h = grind (arith, nat_tests)
+
+-- a class is a number up to a limit
+abbrev pub up_to : ℕ → ℕ → Type 0
+up_to limit class = class ≤ limit
+
+abbrev pub numbers : (limit : ℕ) → Classes (up_to limit)
+numbers limit = record {
+  every = λ p. below p (suc limit);
+  each = λ p h class is. each_below p (suc limit) class (omega (arith, is)) h;
+  is_class = λ class. leb class limit;
+  tells = λ class h. at_least class limit h;
+}
+
+-- the pairs of EQ3 and EQ6, of which 2,0 is none
+abbrev pub IsPairOf : ℕ × ℕ → Type 0
+IsPairOf class = IsPair class.0 class.1
+
+abbrev pub is_none : ℕ × ℕ → Bool
+is_none class = (class.0 == 2) && (class.1 == 0)
+
+pub not_none : (class3 class6 : ℕ) (b : Bool) → (class3 ≡ 2 → class6 ≡ 1) → (((class3 == 2) && (class6 == 0)) || b) ≡ true → b ≡ true
+not_none class3 class6 b rule h = grind (arith, nat_tests)
+
+pub second : (class3 class6 : ℕ) → class6 ≤ 1 → not ((class3 == 2) && (class6 == 0)) ≡ true → class3 ≡ 2 → class6 ≡ 1
+second class3 class6 limit h two = grind (arith, nat_tests)
+
+abbrev pub pairs : Classes IsPairOf
+pairs =
+    let all = both (numbers 2) (numbers 1) in
+    record {
+      every = λ p. all.every (λ class. is_none class || p class);
+      each = λ p h class is. not_none class.0 class.1 (p class) is.both (all.each (λ class. is_none class || p class) h class (is.eq3, is.eq6));
+      is_class = λ class. all.is_class class && not (is_none class);
+      tells = λ class h.
+          let parts = and_parts (all.is_class class) (not (is_none class)) h in
+          let limits = all.tells class parts.0 in
+          record { eq3 = limits.0; eq6 = limits.1; both = second class.0 class.1 limits.1 parts.1 };
+    }

@@ -7,8 +7,8 @@ use Rattle.cvss_score.specs.v4.Levels.{attack_vector_level, privileges_level, in
 use Rattle.cvss_score.specs.v4.Classes.{eq1, eq2, eq3, eq4, eq6}
 use Rattle.cvss_score.specs.declared.v4.scoring.effective.Effective.{Effective}
 use Rattle.cvss_metric.specs.declared.v4.base.attack.AttackVector.{AttackVector}
-use Rattle.cvss_metric.specs.declared.v4.base.access.PrivilegesRequired.{PrivilegesRequired}
-use Rattle.cvss_metric.specs.declared.v4.base.access.UserInteraction.{UserInteraction}
+use Rattle.cvss_metric.specs.declared.v4.base.attack.PrivilegesRequired.{PrivilegesRequired}
+use Rattle.cvss_metric.specs.declared.v4.base.attack.UserInteraction.{UserInteraction}
 use Rattle.cvss_metric.specs.declared.v4.base.attack.AttackComplexity.{AttackComplexity}
 use Rattle.cvss_metric.specs.declared.v4.base.attack.AttackRequirements.{AttackRequirements}
 use Rattle.cvss_score.specs.declared.v4.scoring.effective.VulnerableImpact.{VulnerableImpact}

@@ -3,10 +3,10 @@
 use Rattle.std.specs.Prelude.{ℕ}
 use Rattle.cvss_metric.specs.declared.v4.base.attack.AttackVector.{AttackVector}
 use Rattle.cvss_metric.specs.declared.v4.base.attack.AttackVector.TheVariants as attack_vector
-use Rattle.cvss_metric.specs.declared.v4.base.access.PrivilegesRequired.{PrivilegesRequired}
-use Rattle.cvss_metric.specs.declared.v4.base.access.PrivilegesRequired.TheVariants as privileges_required
-use Rattle.cvss_metric.specs.declared.v4.base.access.UserInteraction.{UserInteraction}
-use Rattle.cvss_metric.specs.declared.v4.base.access.UserInteraction.TheVariants as user_interaction
+use Rattle.cvss_metric.specs.declared.v4.base.attack.PrivilegesRequired.{PrivilegesRequired}
+use Rattle.cvss_metric.specs.declared.v4.base.attack.PrivilegesRequired.TheVariants as privileges_required
+use Rattle.cvss_metric.specs.declared.v4.base.attack.UserInteraction.{UserInteraction}
+use Rattle.cvss_metric.specs.declared.v4.base.attack.UserInteraction.TheVariants as user_interaction
 use Rattle.cvss_metric.specs.declared.v4.base.attack.AttackComplexity.{AttackComplexity}
 use Rattle.cvss_metric.specs.declared.v4.base.attack.AttackComplexity.TheVariants as attack_complexity
 use Rattle.cvss_metric.specs.declared.v4.base.attack.AttackRequirements.{AttackRequirements}

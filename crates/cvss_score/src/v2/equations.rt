@@ -32,7 +32,7 @@ pub fn adjusted_impact_count(c: u64, i: u64, a: u64) -> i128
 }
 
 /// The base score in tenths, of an impact and an exploitability in 10^-24.
-pub(crate) fn base_tenths(impact: i128, exploitability: i128) -> i128
+pub fn base_tenths(impact: i128, exploitability: i128) -> i128
     requires impact { IsWithinLimit impact }
     requires from_zero { pos 0 ≤ℤ exploitability }
     requires to_ten { exploitability ≤ℤ pos (10 ^ 25) }
@@ -63,6 +63,7 @@ fn base_number(impact: i128, exploitability: i128) -> i128
 
 /// What the temporal score is the rounding of in 10^-10, of a base score in tenths.
 #[inline(always)]
+#[tactic(auto, using(crate::proofs::v2_lemmas::CountLemmas::temporal_is, crate::proofs::v2_lemmas::CountLemmas::product_low, crate::proofs::v2_lemmas::CountLemmas::product_high))]
 pub fn temporal_number(base: i128, e: u64, rl: u64, rc: u64) -> i128
     requires low { neg_ℤ (pos (10 ^ 7)) ≤ℤ base }
     requires high { base ≤ℤ pos (10 ^ 7) }
@@ -79,7 +80,7 @@ pub fn temporal_number(base: i128, e: u64, rl: u64, rc: u64) -> i128
 }
 
 /// The temporal score in tenths, of a base score in tenths.
-pub(crate) fn temporal_tenths(base: i128, e: u64, rl: u64, rc: u64) -> i128
+pub fn temporal_tenths(base: i128, e: u64, rl: u64, rc: u64) -> i128
     requires low { neg_ℤ (pos (10 ^ 7)) ≤ℤ base }
     requires high { base ≤ℤ pos (10 ^ 7) }
     requires e { e ≤ 1000 }
@@ -111,7 +112,7 @@ pub fn environmental_number(temporal: i128, cdp: u64, td: u64) -> i128
 }
 
 /// The environmental score in tenths, of an adjusted temporal score in tenths.
-pub(crate) fn environmental_tenths(temporal: i128, cdp: u64, td: u64) -> i128
+pub fn environmental_tenths(temporal: i128, cdp: u64, td: u64) -> i128
     requires temporal { IsOnScale temporal }
     requires cdp { cdp ≤ 1000 }
     requires td { td ≤ 1000 }
@@ -146,6 +147,7 @@ fn weighted(number: i128, weights: u64) -> i128
 }
 
 /// The v2 rounding to tenths, of a number of 10^-28.
+#[tactic(auto, using(crate::proofs::v2_lemmas::CountLemmas::rounded_low, crate::proofs::v2_lemmas::CountLemmas::rounded_high))]
 pub(crate) fn round_tenths(number: i128) -> i128
     requires low { neg_ℤ (pos (10 ^ 34)) ≤ℤ number }
     requires high { number ≤ℤ pos (10 ^ 34) }

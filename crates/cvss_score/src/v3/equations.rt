@@ -1,15 +1,22 @@
 //! The equations of both specifications in whole numbers of small units.
 
-ghost use Rattle.std.specs.Prelude.{◌≡◌, ◌⊎◌, ◌≤◌, ◌*◌, ◌/◌, ◌^◌, ◌≤ℤ◌, ℕ, pos, neg_ℤ};
-ghost use Rattle.std.specs.List.{Contains};
+ghost use Rattle.std.specs.Prelude.{◌≡◌, ◌≤◌, ◌*◌, ◌/◌, ◌^◌, ◌≤ℤ◌, pos, neg_ℤ};
 ghost use Rattle.cvss_base.specs.Exact.{ratio, ◌over◌, ◌⊗◌, ◌≈◌};
-ghost use Rattle.cvss_score.specs.v3.Scores.{hundredths, first_number, modified_impact_of};
-ghost use Rattle.cvss_score.specs.v3.private.Near.{Approximates, StandsFor};
-ghost use Rattle.cvss_score.specs.v3.private.SubScores.{IsSubScore, exploitabilities};
-ghost use Rattle.cvss_score.specs.v3.private.Units.{millionths_of, impact_units, total_units};
+ghost use Rattle.cvss_score.specs.v3.Scores.{hundredths};
+ghost use Rattle.cvss_score.specs.v3.private.SubScores.{IsSubScore};
+ghost use Rattle.cvss_score.specs.v3.private.Units.{millionths_of, impact_units, total_units, ArePossible, IsImpact, IsNumber};
 
 use crate::v3::power::{changed_impact, changed_modified_impact};
 use crate::v3::rules::Rules;
+
+/// What the number is made of that a score is the rounding of: a sub-score in millionths, an
+/// exploitability in 10^-10, and whether the scope is changed.
+#[derive(Clone, Copy)]
+pub struct Parts {
+    pub sub_score: u64,
+    pub exploitability: u64,
+    pub changed: bool,
+}
 
 /// An impact times its requirement, cut to hundredths.
 #[inline(always)]
@@ -76,40 +83,37 @@ fn impact(sub_score: u64, changed: bool, rules: Rules) -> u64
     }
 }
 
-/// Modified Impact in 10^-11, of a sub-score in millionths. Without one it is below 0 where the
-/// scope is changed. Impact is that of v3.0.
-pub fn signed_impact(sub_score: u64, changed: bool, rules: Rules) -> i64
-    requires { (sub_score ≡ 0) ⊎ IsSubScore sub_score }
-    ensures value { Approximates changed (ratio result (10 ^ 11))
-        (modified_impact_of rules changed (sub_score over 1_000_000)) }
+/// Modified Impact in 10^-11. Without a sub-score it is below 0 where the scope is changed. Impact is
+/// that of v3.0.
+pub fn signed_impact(parts: Parts, rules: Rules) -> i64
+    requires { ArePossible parts }
+    ensures value { IsImpact rules parts result }
     ensures low { neg_ℤ (pos (10 ^ 12)) ≤ℤ result }
     ensures high { result ≤ℤ pos (10 ^ 12) }
 {
-    if sub_score != 0 {
-        return impact(sub_score, changed, rules) as i64;
+    match parts.sub_score {
+        0 if parts.changed => WITHOUT_IMPACT,
+        0 => 0,
+        sub_score => impact(sub_score, parts.changed, rules) as i64,
     }
-    if changed { WITHOUT_IMPACT } else { 0 }
 }
 
 /// 7.52 * (0 - 0.029) in 10^-11, whose power is nearer to 0 than that.
 const WITHOUT_IMPACT: i64 = -21_808_000_000;
 
-/// What a score is the rounding of, in 10^-13: of a sub-score in millionths and an exploitability in
-/// 10^-10.
+/// What a score is the rounding of, in 10^-13.
 #[inline(always)]
-pub fn first_number(sub_score: u64, exploitability: u64, changed: bool, rules: Rules) -> u64
-    requires sub_score { (sub_score ≡ 0) ⊎ IsSubScore sub_score }
-    requires listed { Contains (exploitabilities changed) exploitability }
-    requires exploitability { exploitability ≤ 822 * 10 ^ 8 }
-    ensures value { (minor : ℕ) → StandsFor minor changed (result over (10 ^ 13))
-        (first_number changed (modified_impact_of rules changed (sub_score over 1_000_000))
-        (exploitability over (10 ^ 10))) }
+pub fn first_number(parts: Parts, rules: Rules) -> u64
+    requires possible { ArePossible parts }
+    requires exploitability { parts.exploitability ≤ 822 * 10 ^ 8 }
+    ensures value { IsNumber rules parts result }
     ensures to_ten { result ≤ 10 ^ 14 }
 {
-    if sub_score == 0 {
+    if parts.sub_score == 0 {
         return 0;
     }
-    total(impact(sub_score, changed, rules), exploitability, changed)
+    let impact = impact(parts.sub_score, parts.changed, rules);
+    total(impact, parts.exploitability, parts.changed)
 }
 
 /// What a score is the rounding of, in 10^-13: of an impact in 10^-11 and an exploitability in

@@ -3,8 +3,6 @@
 pub mod account;
 pub mod classes;
 mod classified;
-mod depths;
-mod distances;
 pub mod effective;
 mod next;
 mod placed;

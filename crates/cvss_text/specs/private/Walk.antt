@@ -10,8 +10,8 @@ use Rattle.cvss_text.specs.declared.walk.Fault.{Fault}
 use Rattle.cvss_text.specs.declared.walk.Fault.TheVariants.{InvalidComponent, InvalidPrefix, UnsupportedVersion, UnknownMetric, InvalidMetric, DuplicateMetric, MissingMandatoryMetric}
 use Rattle.cvss_base.specs.laws.Order.{place_in}
 use Rattle.cvss_base.specs.Text.{slash, colon, pieces, IsComponent, name_part, value_part, component}
-use Rattle.cvss_base.specs.Version.{Version, read, reading, version_piece, AreComponentsOf, Denotes, IsWellFormed}
-use Rattle.cvss_base.specs.Refusal.{Refusal, BadComponent, WrongPrefix, WrongVersion, UnknownName, BadValue, Repeated, Missing, Spells, HasNoFaultBefore, IsFirstReason, BadPiecesFirst, IsFirstRefusalBehind, IsWrongPrefix, IsWrongVersion}
+use Rattle.cvss_base.specs.Version.{Version, read, reading, version_piece, AreComponentsOf, Denotes, IsComplete, IsWellFormed}
+use Rattle.cvss_base.specs.Refusal.{Refusal, BadComponent, WrongPrefix, WrongVersion, UnknownName, BadValue, Repeated, Missing, Spells, HasNoFaultBefore, IsFirstReason, BadPiecesFirst, IsReasonBehind, IsWrongPrefix, IsWrongVersion}
 
 -- a byte that no name and no spelling has: it divides, or is not ASCII
 abbrev pub is_foreign : ℕ → Bool
@@ -200,14 +200,27 @@ pub record IsCutAnswer {V K : Type 0} (version : Version V K) (piece : List ℕ)
   pub unnamed : OnErr answer (IsComponent piece → (kind : K) → version.name kind ≢ read version (name_part piece))
   pub tellable : IsUtf8 piece → IfErr answer (IsTellable version)
 
--- what reading a text that begins with a version piece answers
-pub record IsAnswerBehind {V K : Type 0} (version : Version V K) (text : List ℕ) (answer : Result V (Fault K)) : Type 0 where
+-- what a reader of the whole text promises, where vectors are formed so and such are the reasons to refuse it
+pub record IsAnswer {V K : Type 0} (version : Version V K) (IsFormed : V → Type 0) (IsReason : Refusal K → Type 0) (text : List ℕ) (answer : Result V (Fault K)) : Type 0 where
   -- accepted: what is given is what the text denotes, and each such vector is given
   pub denoted : IfOk answer (λ v. Denotes version text v)
-  pub well_formed : IfOk answer (λ v. IsWellFormed version v)
-  pub accepts : (v : V) → Denotes version text v → IsWellFormed version v → answer ≡ Ok v
+  pub well_formed : IfOk answer IsFormed
+  pub accepts : (v : V) → Denotes version text v → IsFormed v → answer ≡ Ok v
   pub utf8 : OnOk answer (IsUtf8 text)
   -- refused: for the first reason, and wherever there is one, which can be told
-  pub refused : IfErr answer (λ fault. IsFirstRefusalBehind version text (reason_of version fault))
-  pub refuses : (reason : Refusal K) → IsFirstRefusalBehind version text reason → IsErrAnd answer (λ fault. reason_of version fault ≡ reason)
+  pub refused : IfErr answer (λ fault. BadPiecesFirst IsReason (pieces text) (reason_of version fault))
+  pub refuses : (reason : Refusal K) → BadPiecesFirst IsReason (pieces text) reason → IsErrAnd answer (λ fault. reason_of version fault ≡ reason)
   pub tellable : IsUtf8 text → IfErr answer (IsTellable version)
+
+-- a complete vector without a version piece
+pub record IsBare {V K : Type 0} (version : Version V K) (v : V) : Type 0 where
+  pub frontless : version.front v ≡ []
+  pub complete : IsComplete version v
+
+-- what a reader of a text of components promises
+abbrev pub IsAnswerBare : {V K : Type 0} → Version V K → List ℕ → Result V (Fault K) → Type 0
+IsAnswerBare version text = IsAnswer version (IsBare version) (IsFirstReason version (pieces text)) text
+
+-- and one of a text that begins with a version piece
+abbrev pub IsAnswerBehind : {V K : Type 0} → Version V K → List ℕ → Result V (Fault K) → Type 0
+IsAnswerBehind version text = IsAnswer version (IsWellFormed version) (IsReasonBehind version (pieces text)) text

@@ -10,8 +10,8 @@ ghost use Rattle.cvss_v2.specs.Vector.{v2};
 ghost use Rattle.cvss_v2.specs.private.Slashed.{slashed_value};
 
 use crate::vector::Vector;
-use cvss_text::print::{Printed, write_component, write_components};
 use cvss_metric::v2::{MetricType, Spelled};
+use cvss_text::print::{Printed, write_component, write_components};
 use std::fmt;
 
 impl Printed for Vector {

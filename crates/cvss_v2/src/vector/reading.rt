@@ -8,8 +8,8 @@ ghost use Rattle.cvss_v2.specs.private.VectorLaws.{v2_is_lawful};
 use super::cutting::cut_named;
 use crate::vector::Vector;
 use MetricType::*;
-use cvss_text::walk::{Components, Slip, fill_place};
 use cvss_metric::v2::{MetricType, Spelled};
+use cvss_text::walk::{Components, Slip, fill_place};
 
 /// The metrics in printing order (guide, section 2.4).
 const PRINTED: [MetricType; 14] = [AV, AC, Au, C, I, A, E, RL, RC, CDP, TD, CR, IR, AR];
@@ -37,6 +37,7 @@ impl Components for Vector {
         kind
     }
 
+    #[tactic(auto, using(cvss_text::proofs::LawLemmas::IsCut_named))]
     fn cut(piece: &[u8]) -> Option<(MetricType, &[u8])> {
         let (kind, value) = cut_named(piece)?;
         Some((kind, value))

@@ -9,10 +9,11 @@ ghost use Rattle.cvss_v2.specs.Weights.{weights_of};
 use super::weighing::weight;
 use crate::vector::Vector;
 use cvss_score::v2::score::{of_tenths, published};
-use cvss_score::v2::{Score, equations, scores};
+use cvss_score::v2::{Score, equations};
 
 impl Vector {
     /// The impact sub-score (guide, section 3.2.1), which is exact, from 0 to 10.001.
+    #[tactic(auto, using(cvss_base::proofs::ExactLemmas::equal_trans))]
     pub fn impact(&self) -> Score
         ensures value { of_count result ≈ impact (weights_of self.now) }
         ensures limit { IsWithinLimit result }
@@ -23,6 +24,7 @@ impl Vector {
     }
 
     /// The exploitability sub-score (guide, section 3.2.1), which is exact, from 0 to 10.
+    #[tactic(auto, using(cvss_base::proofs::ExactLemmas::equal_trans))]
     pub fn exploitability(&self) -> Score
         ensures value { of_count result ≈ exploitability (weights_of self.now) }
         ensures limit { IsWithinLimit result }
@@ -76,14 +78,9 @@ impl Vector {
         ensures value { IsEnvironmentalScore (weights_of self.now) result }
         ensures range { IsInTenths IsFromZeroToTen result }
     {
-        let impact = self.adjusted_impact();
-        let exploitability = self.exploitability();
-        let e = weight(self.e, 1000);
-        let rl = weight(self.rl, 1000);
-        let rc = weight(self.rc, 1000);
+        let temporal = self.temporal_of(self.adjusted_impact());
         let cdp = weight(self.cdp, 0);
-        let td = weight(self.td, 1000);
-        scores::environmental_score(impact, exploitability, e, rl, rc, cdp, td)
+        published(equations::environmental_tenths(temporal, cdp, weight(self.td, 1000)))
     }
 
     /// The temporal score with another impact in the place of the vector's own, which may be

@@ -16,8 +16,8 @@ mod base;
 
 use crate::vector::Vector;
 use base::base_at_sight;
-use cvss_text::sight::{behind_name, put_read};
 use cvss_metric::v2::Spelled;
+use cvss_text::sight::{behind_name, put_read};
 
 impl Vector {
     /// The vector whose canonical text this is, where that is seen at once: `None` tells nothing of

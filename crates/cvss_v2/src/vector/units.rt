@@ -8,7 +8,7 @@ ghost use Rattle.cvss_score.specs.v2.private.Bounds.{IsImpactCount, IsOnScale};
 
 use super::weighing::weight;
 use crate::vector::Vector;
-use cvss_score::v2::{Score, base_score, equations, scores};
+use cvss_score::v2::{Score, base_score, equations};
 
 impl Vector {
     /// Impact in 10^-11.
@@ -37,7 +37,7 @@ impl Vector {
         ensures high { result ≤ℤ pos (10 ^ 7) }
         ensures on_scale { IsImpactCount impact → IsOnScale result }
     {
-        scores::base_score(impact, self.exploitability())
+        equations::base_tenths(impact.value(), self.exploitability().value())
     }
 
     /// The temporal score of an impact, in tenths.
@@ -50,8 +50,7 @@ impl Vector {
     {
         let e = weight(self.e, 1000);
         let rl = weight(self.rl, 1000);
-        let rc = weight(self.rc, 1000);
-        scores::temporal_score(impact, self.exploitability(), e, rl, rc)
+        equations::temporal_tenths(self.base_of(impact), e, rl, weight(self.rc, 1000))
     }
 
     /// The base score in tenths, before it is raised to 0.

@@ -93,8 +93,7 @@ impl Vector {
             → of_count result ≈ impact (weights_of self.now) }
         ensures limit { IsWithinLimit result }
     {
-        let changed = self.is_scope_changed();
-        let impact = equations::signed_impact(self.iss_millionths(), changed, Rules::V30);
+        let impact = equations::signed_impact(self.base_parts(), Rules::V30);
         Score::new(i128::from(impact) * ELEVENTH)
     }
 
@@ -128,7 +127,8 @@ impl Vector {
         ensures value { of_count result ≈ miss (weights_of self.now) }
         ensures limit { IsWithinLimit result }
     {
-        Score::new(i128::from(self.miss_millionths()) * 1_000_000_000_000_000_000)
+        let miss = self.modified_parts().sub_score;
+        Score::new(i128::from(miss) * 1_000_000_000_000_000_000)
     }
 
     /// Modified Impact by the modified scope (v3.1 specification, section 7.3; v3.0 specification,
@@ -141,9 +141,8 @@ impl Vector {
             → of_count result ≈ modified_impact self.now.minor_version (weights_of self.now) }
         ensures limit { IsWithinLimit result }
     {
-        let changed = self.is_modified_scope_changed();
-        let miss = self.miss_millionths();
-        let impact = equations::signed_impact(miss, changed, Rules::of(self.minor_version));
+        let rules = Rules::of(self.minor_version);
+        let impact = equations::signed_impact(self.modified_parts(), rules);
         Score::new(i128::from(impact) * ELEVENTH)
     }
 
@@ -153,7 +152,8 @@ impl Vector {
         ensures value { of_count result ≈ modified_exploitability (weights_of self.now) }
         ensures limit { IsWithinLimit result }
     {
-        Score::new(i128::from(self.modified_exploitability_units()) * 100_000_000_000_000)
+        let exploitability = self.modified_parts().exploitability;
+        Score::new(i128::from(exploitability) * 100_000_000_000_000)
     }
 
     /// What the environmental score is first the rounding of (v3.1 specification, section 7.3; v3.0

@@ -13,45 +13,16 @@ use cvss_metric::v3::MetricType;
 pub(super) fn cut_named(piece: &[u8]) -> Option<(MetricType, &[u8])>
     ensures { IfSome result (λ cut. IsCut v3 piece.now cut.0 cut.1.now) }
 {
-    match cut_one(piece) {
-        Some(cut) => Some(cut),
-        None => match cut_two(piece) {
-            Some(cut) => Some(cut),
-            None => cut_three(piece),
-        },
-    }
-}
-
-#[inline(always)]
-fn cut_one(piece: &[u8]) -> Option<(MetricType, &[u8])>
-    ensures { IfSome result (λ cut. IsCut v3 piece.now cut.0 cut.1.now) }
-{
     match piece {
         [first, b':', value @ ..] => Some((one_letter(upper(*first))?, value)),
-        _ => None,
-    }
-}
-
-#[inline(always)]
-fn cut_two(piece: &[u8]) -> Option<(MetricType, &[u8])>
-    ensures { IfSome result (λ cut. IsCut v3 piece.now cut.0 cut.1.now) }
-{
-    match piece {
         [first, second, b':', value @ ..] => {
             Some((two_letters(upper(*first), upper(*second))?, value))
         }
-        _ => None,
-    }
-}
-
-#[inline(always)]
-fn cut_three(piece: &[u8]) -> Option<(MetricType, &[u8])>
-    ensures { IfSome result (λ cut. IsCut v3 piece.now cut.0 cut.1.now) }
-{
-    match piece {
         [first, second, third, b':', value @ ..] => {
-            let kind = three_letters(upper(*first), upper(*second), upper(*third))?;
-            Some((kind, value))
+            Some((
+                three_letters(upper(*first), upper(*second), upper(*third))?,
+                value,
+            ))
         }
         _ => None,
     }

@@ -7,8 +7,8 @@ ghost use Rattle.cvss_v3.specs.Vector.{v3};
 
 use crate::vector::Vector;
 use MetricType::*;
-use cvss_text::metrics::{self, Listed};
 use cvss_metric::v3::MetricType;
+use cvss_text::metrics::{self, Listed};
 
 /// The metrics that a vector has, each with the spelling of its value; at most 22.
 pub type Metrics = metrics::Metrics<Vector>;

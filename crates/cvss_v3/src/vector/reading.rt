@@ -10,9 +10,9 @@ ghost use Rattle.cvss_v3.specs.private.VectorLaws.{v3_is_lawful, v3_fronts_are_l
 use super::cutting::cut_named;
 use crate::vector::Vector;
 use MetricType::*;
+use cvss_metric::v3::{MetricType, Spelled, blamed};
 use cvss_text::front::Fronted;
 use cvss_text::walk::{Components, Slip, fill_place};
-use cvss_metric::v3::{MetricType, Spelled, blamed};
 
 /// The metrics in printing order (v3.1 specification, section 6).
 const PRINTED: [MetricType; 22] = [

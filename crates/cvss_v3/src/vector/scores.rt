@@ -62,7 +62,7 @@ impl Vector {
         ensures value { of_count result ≈ exploitability (weights_of self.now) }
         ensures limit { IsWithinLimit result }
     {
-        Score::new(i128::from(self.exploitability_units()) * 100_000_000_000_000)
+        Score::new(i128::from(self.base_parts().exploitability) * 100_000_000_000_000)
     }
 
     /// ISS, the impact sub-score of the base metrics, which is exact (v3.1 specification, section
@@ -71,7 +71,7 @@ impl Vector {
         ensures value { of_count result ≈ iss (weights_of self.now) }
         ensures limit { IsWithinLimit result }
     {
-        Score::new(i128::from(self.iss_millionths()) * 1_000_000_000_000_000_000)
+        Score::new(i128::from(self.base_parts().sub_score) * 1_000_000_000_000_000_000)
     }
 
     /// The rating of the base score (v3.1 specification, section 5).

@@ -11,8 +11,8 @@ ghost use Rattle.cvss_v3.specs.Vector.{v3};
 ghost use Rattle.cvss_v3.specs.private.Shown.{shown};
 
 use crate::vector::Vector;
-use cvss_text::sight::{behind_four, behind_name, put_read};
 use cvss_metric::v3::Spelled;
+use cvss_text::sight::{behind_four, behind_name, put_read};
 
 impl Vector {
     /// The vector whose canonical text this is, where that is seen at once: `None` tells nothing of

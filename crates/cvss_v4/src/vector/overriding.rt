@@ -13,12 +13,12 @@ ghost use Rattle.cvss_v4.specs.Vector.{v4};
 ghost use Rattle.cvss_v4.specs.declared.vector.overriding.OverrideFault.TheVariants.{Component};
 
 use crate::vector::Vector;
-use cvss_text::refusing::error_of;
 use cvss_base::{Error, MetricGroup};
+use cvss_metric::v4::MetricType;
 use cvss_text::cutting::cut_component;
 use cvss_text::pieces::is_component;
+use cvss_text::refusing::error_of;
 use cvss_text::walk::{Fault, read_component};
-use cvss_metric::v4::MetricType;
 use std::alloc::Global;
 use std::fmt;
 

@@ -10,8 +10,8 @@ ghost use Rattle.cvss_v4.specs.Vector.{v4};
 ghost use Rattle.cvss_v4.specs.private.Shown.{shown};
 
 use crate::vector::Vector;
-use cvss_text::print::Printed;
 use cvss_metric::v4::{MetricType, Spelled};
+use cvss_text::print::Printed;
 use std::fmt;
 
 impl Printed for Vector {

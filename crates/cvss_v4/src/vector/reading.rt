@@ -11,10 +11,10 @@ ghost use Rattle.cvss_v4.specs.private.VectorLaws.{v4_is_lawful, v4_fronts_are_l
 use crate::laws::default_vectors_have_no_metric;
 use crate::vector::Vector;
 use MetricType::*;
+use cvss_metric::v4::{MetricType, Spelled};
 use cvss_text::front::Fronted;
 use cvss_text::pieces::cut_short_name;
 use cvss_text::walk::{Components, Slip, fill_place};
-use cvss_metric::v4::{MetricType, Spelled};
 
 /// The metrics in printing order (v4.0 specification, section 7).
 const PRINTED: [MetricType; 32] = [

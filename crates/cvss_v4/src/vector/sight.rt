@@ -15,9 +15,9 @@ ghost use Rattle.cvss_v4.specs.Vector.{v4};
 ghost use Rattle.cvss_v4.specs.private.Shown.{shown};
 
 use crate::vector::Vector;
-use cvss_text::sight::{behind_name, put_read};
 use cvss_metric::v4::Spelled;
 use cvss_metric::v4::supplemental::ProviderUrgency;
+use cvss_text::sight::{behind_name, put_read};
 
 impl Vector {
     /// The vector whose canonical text this is, where that is seen at once: `None` tells nothing of

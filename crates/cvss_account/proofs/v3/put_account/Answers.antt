@@ -1,19 +1,12 @@
 use Rattle.std.proofs.Common.{◌∙◌, refl}
 use Rattle.std.proofs.lemmas.Result.{on_ok_weaker}
 use Rattle.cvss.specs.WeightsV3.{weights_of}
-use Rattle.cvss_account.specs.Parts.{part_members}
 use Rattle.cvss_account.specs.V3.{account_members}
-use Rattle.cvss_record.specs.Objects.{with_members}
 use Rattle.cvss_account.proofs.v3.put_account.Goals as goal
 
 pub returns : goal.returns
 returns c =
-    let weights = c.in_ok-weights.ensures in
-    let base = c.in_ok-base.ensures in
-    let temporal = c.in_ok-temporal.ensures in
-    let environmental = c.in_ok-environmental.ensures in
-    let scopes = c.in_ok-put_scopes.ensures in
-    on_ok_weaker c.put_parts.result
+    on_ok_weaker c.put-6.result
     (λ put. record {
       members = account_members (weights_of c.args.vector.now) c.of.result c.temporal.result c.of-2.result;
       are = record {
@@ -25,6 +18,9 @@ returns c =
         are_environmental = c.of-2.ensures;
         are = refl;
       };
-      put = put ∙ (λ i. with_members (part_members (weights i) (base i) (temporal i) (environmental i)) (scopes i));
+      put = put ∙ rw (c.in_ok-put-5.ensures.ok, c.in_ok-put-4.ensures.ok, c.in_ok-put-3.ensures.ok, c.in_ok-put-2.ensures.ok, c.in_ok-put.ensures.ok)
+          (rw (c.in_ok-scope.ensures, c.scope_letter.ensures, c.is_scope_changed.ensures)
+          (rw (c.in_ok-modified.ensures, c.scope_letter-2.ensures, c.is_modified_scope_changed.ensures)
+          (rw (c.in_ok-weights_value.ensures, c.in_ok-base.ensures, c.in_ok-temporal.ensures, c.in_ok-environmental.ensures) refl)));
     })
-    c.put_parts.ensures
+    c.put-6.ensures.ok

@@ -1,20 +1,23 @@
-use Rattle.std.proofs.Common.{◌++◌, refl}
+use Rattle.std.proofs.Common.{◌≡◌, ◌∙◌, refl, string_bytes}
 use Rattle.std.proofs.lemmas.Result.{on_ok_weaker}
-use Rattle.cvss_account.specs.V4.{account_members, class_members, metric_members, number_members}
-use Rattle.cvss_record.proofs.ObjectLemmas.{put_next}
-use Rattle.serde_json.specs.View.{members_view}
+use Rattle.cvss_account.specs.V4.{account_members}
+use Rattle.serde_json.specs.Data.{string}
+use Rattle.serde_json.specs.View.{view}
+use Rattle.serde_json.specs.declared.value.Value.{String, the_lemmas}
 use Rattle.cvss_account.proofs.v4.put_account.Goals as goal
 
 pub returns : goal.returns
 returns c =
     let account = c.account-account.result in
-    let metrics = metric_members c.args.vector.now account in
-    let of_metrics = members_view c.put_metrics.new.members.entries in
-    on_ok_weaker c.put_numbers.result
+    let named : view (String c.in_ok-nomenclature.nomenclature) ≡ string (string_bytes c.in_ok-nomenclature.nomenclature) = search the_lemmas in
+    let classed : view (String c.in_ok-class.class) ≡ string (string_bytes c.in_ok-class.class) = search the_lemmas in
+    on_ok_weaker c.put-7.result
     (λ put. record {
       members = account_members c.args.vector.now account;
       are = record { account = account; is_account = c.account-account.ensures.account; are = refl };
-      put = put_next metrics (class_members account ++ number_members account) (members_view c.args.members.now.entries) of_metrics _ c.in_ok-put_metrics.ensures
-          (put_next (class_members account) (number_members account) of_metrics _ _ c.in_ok-put_class.ensures put);
+      put = put
+          ∙ rw (c.in_ok-put-6.ensures.ok, c.in_ok-put-5.ensures.ok, c.in_ok-put-4.ensures.ok, c.in_ok-put-3.ensures.ok, c.in_ok-put-2.ensures.ok)
+          (rw (c.in_ok-put.ensures.ok, named, c.in_ok-nomenclature.ensures.ok, c.nomenclature.ensures, c.in_ok-effective_value.ensures)
+          (rw (classed, c.in_ok-class.ensures, c.score_value.ensures, c.in_ok-groups_value.ensures, c.of_parts.ensures, c.of_parts-2.ensures) refl));
     })
-    c.put_numbers.ensures
+    c.put-7.ensures.ok

@@ -1,8 +1,7 @@
 use Rattle.std.proofs.Common.{◌∙◌, sym}
 use Rattle.cvss_any.specs.private.Views.{why_of}
 use Rattle.cvss_any.specs.declared.reading.ReadFault.TheVariants as told
-use Rattle.cvss_any.proofs.AnswerLemmas.{of_none}
-use Rattle.cvss_any.proofs.ReadLemmas.{IsRead-fault}
+use Rattle.cvss_any.proofs.ReadLemmas.{IsRead-fault, of_none}
 use Rattle.cvss_any.proofs.reading.read.Goals as goal
 
 pub returns-in-Untold : goal.returns-in-Untold

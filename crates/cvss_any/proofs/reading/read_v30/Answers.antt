@@ -1,20 +1,8 @@
-use Rattle.cvss_text.specs.private.Walk.{reason_of}
-use Rattle.cvss_v3.specs.Vector.{v3}
-use Rattle.cvss_any.specs.declared.metric_type.MetricType.TheVariants.{V3}
-use Rattle.cvss_any.proofs.AnswerLemmas.{of_v30}
-use Rattle.cvss_any.proofs.RouteLemmas.{v30_denoted}
-use Rattle.cvss_any.proofs.ReadLemmas.{IsRead-vector, IsRead-fault, none_wrapped, is_wrapped, one_wrapped}
+use Rattle.cvss_any.proofs.ReadLemmas.{v30_ok, v30_err}
 use Rattle.cvss_any.proofs.reading.read_v30.Goals as goal
 
 pub returns-in-Ok : goal.returns-in-Ok
-returns-in-Ok c =
-    let read = c.in-Ok.ensures in
-    IsRead-vector c.requires.routed _ (v30_denoted _ _ c.requires.routed read.denoted read.well_formed) tt read.utf8 (none_wrapped V3 _ read.refuses)
+returns-in-Ok c = v30_ok _ _ c.requires.routed c.in-Ok.ensures
 
 pub returns-in-Err : goal.returns-in-Err
-returns-in-Err c =
-    let read = c.in-Err.ensures in
-    let own = reason_of v3 c.in-Err.fault in
-    IsRead-fault c.requires.routed _
-    (λ cvss denotes. let of = of_v30 _ c.requires.routed cvss denotes in let no = read.accepts of.vector of.denoted.denoted of.denoted.well_formed in cc)
-    (is_wrapped V3 _ own read.refused) (one_wrapped V3 _ own read.refuses) read.tellable
+returns-in-Err c = v30_err _ _ c.requires.routed c.in-Err.ensures

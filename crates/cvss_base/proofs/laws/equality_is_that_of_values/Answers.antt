@@ -1,6 +1,4 @@
-use Rattle.std.specs.Prelude.{◌≡◌, ◌↔◌, true, false, IsTrue, refl}
-use Rattle.std.specs.String.{string_bytes, string_eq}
-use Rattle.std.proofs.Common.{rules, String, Global}
+use Rattle.std.proofs.Common.{rules, String, Global, ◌≡◌, ◌↔◌, true, false, IsTrue, refl, string_bytes, string_eq}
 use Rattle.cvss_base.specs.declared.error.Error.TheVariants.{InvalidComponent, InvalidPrefix, UnsupportedVersion, InvalidMetricV2, DuplicateMetricV2, MissingMandatoryMetricV2, InvalidMetricV3, DuplicateMetricV3, InvalidMetricV4, DuplicateMetricV4, MissingMandatoryMetricV4, InvalidNomenclatureV4, InvalidSeverity, UnknownMetric, OutOfMemory}
 use Rattle.cvss_base.proofs.EqualityLemmas.{both}
 use Rattle.cvss_base.proofs.laws.equality_is_that_of_values.Goals as goal

@@ -1,6 +1,5 @@
-use Rattle.std.specs.Prelude.{◌≡◌, ℕ, List, [], ◌∷◌, refl, if◌then◌else◌}
 use Rattle.std.specs.Hash.{le_bytes, usize}
-use Rattle.std.proofs.Common.{eqb, ap, sym, ◌∙◌}
+use Rattle.std.proofs.Common.{eqb, ap, sym, ◌∙◌, ◌≡◌, ℕ, List, [], ◌∷◌, refl, if◌then◌else◌}
 use denote.Enum.Declared.{tag_of}
 use Rattle.cvss_base.specs.contracts.severity.Severity.{the_type}
 use Rattle.cvss_base.specs.declared.severity.Severity.{Severity}

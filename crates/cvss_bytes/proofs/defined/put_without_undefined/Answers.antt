@@ -1,19 +1,18 @@
-use Rattle.std.proofs.Common.{sym}
-use Rattle.cvss_bytes.proofs.LengthLemmas.{length-denoted_cvss}
+use Rattle.std.proofs.Common.{ap, arith, length}
+use Rattle.cvss.specs.VectorV2.{v2}
+use Rattle.cvss.specs.VectorV3.{v3}
+use Rattle.cvss.specs.VectorV4.{v4}
+use Rattle.cvss_bytes.proofs.ShortLemmas.{fits, short_v2, short_v3, short_v4}
 use Rattle.cvss_bytes.proofs.defined.put_without_undefined.Goals as goal
 
-pub put_v2-requires-clause-whole : goal.put_v2-requires-clause-whole
-put_v2-requires-clause-whole c =
-    rw c.in-CvssV20.is at (sym (length-denoted_cvss c.args.text.now c.args.cvss.now c.requires))
+pub put_less-requires-clause-room : goal.put_less-requires-clause-room
+put_less-requires-clause-room c κs = omega (arith, fits v2 short_v2 c.in-CvssV20.vector (omega arith))
 
-pub put_less-requires-clause-whole : goal.put_less-requires-clause-whole
-put_less-requires-clause-whole c κs =
-    rw c.in-CvssV30.is at (sym (length-denoted_cvss c.args.text.now c.args.cvss.now c.requires))
+pub put_less-requires-in-CvssV30-clause-room : goal.put_less-requires-in-CvssV30-clause-room
+put_less-requires-in-CvssV30-clause-room c κs = omega (arith, fits v3 short_v3 c.in-CvssV30.vector (omega arith), ap length c.as_bytes.ensures.value)
 
-pub put_less-requires-in-CvssV31-clause-whole : goal.put_less-requires-in-CvssV31-clause-whole
-put_less-requires-in-CvssV31-clause-whole c κs =
-    rw c.in-CvssV31.is at (sym (length-denoted_cvss c.args.text.now c.args.cvss.now c.requires))
+pub put_less-requires-in-CvssV31-clause-room : goal.put_less-requires-in-CvssV31-clause-room
+put_less-requires-in-CvssV31-clause-room c κs = omega (arith, fits v3 short_v3 c.in-CvssV31.vector (omega arith), ap length c.as_bytes-in-CvssV31.ensures.value)
 
-pub put_less-requires-in-CvssV40-clause-whole : goal.put_less-requires-in-CvssV40-clause-whole
-put_less-requires-in-CvssV40-clause-whole c κs =
-    rw c.in-CvssV40.is at (sym (length-denoted_cvss c.args.text.now c.args.cvss.now c.requires))
+pub put_less-requires-in-CvssV40-clause-room : goal.put_less-requires-in-CvssV40-clause-room
+put_less-requires-in-CvssV40-clause-room c κs = omega (arith, fits v4 short_v4 c.in-CvssV40.vector (omega arith), ap length c.as_bytes-in-CvssV40.ensures.value)

@@ -1,17 +1,21 @@
-use Rattle.std.proofs.Common.{rules, inr}
+use Rattle.std.proofs.Common.{inr}
+use Rattle.cvss.specs.Bytes.{TellsWhyNot}
+use Rattle.cvss.specs.BytesErrorType.TheVariants.{Invalid}
 use Rattle.cvss_bytes.proofs.ReasonLemmas.{tells_reason}
 use Rattle.cvss_bytes.proofs.reason.put_reason.Goals as goal
 
-pub returns : goal.returns
-returns c =
+pub returns-in-Err-Invalid : goal.returns-in-Err-Invalid
+returns-in-Err-Invalid c =
     let told = c.put_error.ensures in
-    let first = c.in-Err.ensures.refused in (
+    let error = c.in-Err-Invalid.error in
+    let why : TellsWhyNot c.args.text.now (Invalid error) = rw c.in-Err-Invalid.field-0-is at c.in-Err-Invalid.ensures.refused in
+    let first = why.1 in (
       told.0,
       inr (record {
-        utf8 = search rules;
+        utf8 = why.0;
         told = record {
           error = told.1.told;
-          told = record { reason = first.reason; first = search rules; told = tells_reason c.in-Err.error told.1.told first.reason told.1.same first.told };
+          told = record { reason = first.reason; first = first.first; told = tells_reason error told.1.told first.reason told.1.same first.told };
           is = told.1.is;
         };
       }),

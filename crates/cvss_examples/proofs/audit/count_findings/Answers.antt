@@ -1,9 +1,8 @@
-use Rattle.std.proofs.Common.{◌≤◌, ◌<◌, ℕ, List, [], ◌∷◌, ◌++◌, Bor, length, map, take, ap, sym, ◌∙◌, arith, rules}
+use Rattle.std.proofs.Common.{◌≡◌, ◌≤◌, ◌<◌, ℕ, Some, subst, List, [], ◌∷◌, ◌++◌, Bor, length, map, take, ap, sym, ◌∙◌, arith, rules}
 use Rattle.std.proofs.lemmas.List.{get_or-map, length-map, length-take-le, take_more}
 use Rattle.cvss_examples.specs.Counts.{IsCountOf}
-use Rattle.cvss_examples.specs.Findings.{IsFinding, IsNoVector}
-use Rattle.cvss_examples.proofs.AuditLemmas.{counts_finding, counts_other, counts_refused}
-use Rattle.cvss_examples.proofs.CountLemmas.{IsCountOf-le-length}
+use Rattle.cvss_examples.specs.Findings.{IsAtOrAbove, IsFinding, IsNoVector}
+use Rattle.cvss_examples.proofs.CountLemmas.{IsCountOf-le-length, IsCountOf-push, IsCountOf-skip}
 use Rattle.cvss_examples.proofs.audit.count_findings.Goals.{in-Some, in-Some+else-is_rated, in-None}
 use Rattle.cvss_examples.proofs.audit.count_findings.Goals as goal
 
@@ -39,7 +38,25 @@ loop-text-preserved c =
     let more = take_more (texts_of texts) index [] (within texts index c.loop-text-test.true) ∙ ap (λ each. before ++ each ∷ []) (sym here) in
     let counted = c.loop-text.invariant in
     elim c.match-read_bytes.branch [
-      | in-Some w ↦ rw (more, w.findings-is, w.refused-is) (counts_finding level before text c.loop-text.findings c.loop-text.refused counted w.in-Some.cvss w.in-Some.ensures.denoted (w.is_rated.ensures.0 w.if-is_rated.true))
-      | in-Some+else-is_rated w ↦ rw (more, w.findings-is, w.refused-is) (counts_other level before text c.loop-text.findings c.loop-text.refused counted w.in-Some.cvss w.in-Some.ensures.denoted w.in-Some.ensures.accepts (λ is. search (rules, w.is_rated.ensures.1 is, w.if-is_rated.false)))
-      | in-None w ↦ rw (more, w.findings-is, w.refused-is) (counts_refused level before text c.loop-text.findings c.loop-text.refused counted (λ vector is. search (rules, w.in-None.ensures.accepts vector is)))
+      | in-Some w ↦
+          let denoted = w.in-Some.ensures.denoted in
+          rw (more, w.findings-is, w.refused-is) (
+            IsCountOf-push (IsFinding level) before text _ counted.0 (record { vector = w.in-Some.cvss; denoted = denoted; rated = w.is_rated.ensures.0 w.if-is_rated.true }),
+            IsCountOf-skip IsNoVector before text _ counted.1 (λ none. none w.in-Some.cvss denoted),
+          )
+      | in-Some+else-is_rated w ↦
+          let read = w.in-Some.ensures in
+          rw (more, w.findings-is, w.refused-is) (
+            IsCountOf-skip (IsFinding level) before text _ counted.0 (λ is.
+                let some : Some w.in-Some.cvss ≡ Some is.vector = read.accepts is.vector is.denoted in
+                let one : is.vector ≡ w.in-Some.cvss = cc in
+                search (rules, w.is_rated.ensures.1 (subst (IsAtOrAbove level) one is.rated), w.if-is_rated.false)),
+            IsCountOf-skip IsNoVector before text _ counted.1 (λ none. none w.in-Some.cvss read.denoted),
+          )
+      | in-None w ↦
+          let refused : IsNoVector text = λ vector is. search (rules, w.in-None.ensures.accepts vector is) in
+          rw (more, w.findings-is, w.refused-is) (
+            IsCountOf-skip (IsFinding level) before text _ counted.0 (λ is. refused is.vector is.denoted),
+            IsCountOf-push IsNoVector before text _ counted.1 refused,
+          )
     ]

@@ -1,4 +1,5 @@
 use Rattle.std.proofs.Common.{inl}
+use Rattle.std.proofs.lemmas.Result.{IfOk-weaker}
 use Rattle.cvss.specs.Answers.{text_of}
 use Rattle.cvss_examples.proofs.ConversionLemmas.{read_as, refused_as}
 use Rattle.cvss_examples.proofs.json.written_and_read.Goals as goal
@@ -13,7 +14,8 @@ returns-clause-given_back c =
     }))
 
 pub returns-clause-read : goal.returns-clause-read
-returns-clause-read c = read_as c.from_value.result (text_of c.args.cvss.now) _ c.in_ok-value.ensures.written c.from_value.ensures.stands
+returns-clause-read c =
+    IfOk-weaker _ _ _ (λ read. read_as (text_of c.args.cvss.now) _ read c.in_ok-value.ensures.written) c.from_value.ensures.stands
 
 pub returns-clause-refused : goal.returns-clause-refused
 returns-clause-refused c =

@@ -1,4 +1,4 @@
-use Rattle.std.proofs.Common.{refl, subst}
+use Rattle.std.proofs.Common.{refl}
 use Rattle.cvss.specs.ScoresV2.{IsBaseScore, IsTemporalScore, IsEnvironmentalScore}
 use Rattle.cvss.specs.WeightsV2.{weights_of}
 use Rattle.cvss_examples.proofs.EqualLemmas.{equal_counts}
@@ -10,8 +10,7 @@ returns c =
     let once = c.scores_are_unique.ensures in
     let left = c.scores_of.ensures in
     let right = c.scores_of-2.ensures in
-    let of_right = weights_of c.args.right.now in
-    let base = equal_counts (once.base of_right) (λ count. subst (λ w. IsBaseScore w count) weights) left.base right.base refl in
-    let temporal = equal_counts (once.temporal of_right) (λ count. subst (λ w. IsTemporalScore w count) weights) left.temporal right.temporal refl in
-    let environmental = equal_counts (once.environmental of_right) (λ count. subst (λ w. IsEnvironmentalScore w count) weights) left.environmental right.environmental refl in
+    let base = equal_counts IsBaseScore weights (once.base (weights_of c.args.right.now)) _ _ left.base right.base in
+    let temporal = equal_counts IsTemporalScore weights (once.temporal (weights_of c.args.right.now)) _ _ left.temporal right.temporal in
+    let environmental = equal_counts IsEnvironmentalScore weights (once.environmental (weights_of c.args.right.now)) _ _ left.environmental right.environmental in
     rw (c.eq.ensures, base, temporal, environmental) refl

@@ -1,6 +1,5 @@
-use Rattle.std.proofs.Common.{◌++◌, codes, ap, ◌∙◌}
+use Rattle.std.proofs.Common.{◌++◌, codes, ap, ◌∙◌, decimal}
 use Rattle.std.proofs.lemmas.Fmt.{contents_after_writes}
-use Rattle.std.specs.Fmt.{decimal}
 use Rattle.cvss_find.proofs.TellingLemmas.{first_place}
 use Rattle.cvss_lines.specs.declared.gathered.Gathered.{Gathered}
 use Rattle.cvss_find.proofs.telling.write_first_place.Goals as goal

@@ -1,5 +1,4 @@
-use Rattle.std.proofs.Common.{take, arith, ◌∙◌}
-use Rattle.std.proofs.lemmas.List.{take_at}
+use Rattle.std.proofs.Common.{take, arith, ◌∙◌, take_at}
 use Rattle.std.proofs.KnownBytes.{Keeps-refl}
 use Rattle.cvss_lines.proofs.RunLemmas.{Between-chunk, Between-start, StreamEnds-cut, StreamEnds-stopped, StreamEnds-told, StreamEnds-unread, StreamEnds-well, at_end, behind_chunk, ended_in}
 use Rattle.cvss_lines.proofs.StepsLemmas.{Stops-memory}

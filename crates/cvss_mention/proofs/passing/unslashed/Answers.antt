@@ -1,5 +1,4 @@
-use Rattle.std.proofs.Common.{arith}
-use Rattle.std.proofs.lemmas.List.{length-take-le}
+use Rattle.std.proofs.Common.{arith, length-take-le}
 use Rattle.cvss_mention.proofs.PassLemmas.{none_before, parts_at_start}
 use Rattle.cvss_mention.proofs.passing.unslashed.Goals as goal
 

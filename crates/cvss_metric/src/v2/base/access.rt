@@ -5,7 +5,7 @@ ghost use Rattle.std.proofs.Common.{rules};
 ghost use Rattle.cvss_base.specs.declared.v2.MetricType.TheVariants.{AV, AC, Au};
 ghost use Rattle.cvss_metric.specs.v2.Table.{metric_component};
 
-use crate::v2::metric::{Metric, MetricType, Spelled};
+use crate::v2::metric::{MetricType, Spelled};
 use cvss_text::print::write_component;
 use std::fmt;
 
@@ -24,6 +24,8 @@ impl Spelled for AccessVector {
 
     ghost value = { λ metric. metric };
 
+    ghost law = { Prim.search rules };
+
     fn values() -> &'static [Self] {
         &[Self::Local, Self::AdjacentNetwork, Self::Network]
     }
@@ -35,10 +37,6 @@ impl Spelled for AccessVector {
             Self::Network => ("/AV:N", 1000),
         }
     }
-}
-
-impl Metric for AccessVector {
-    ghost law = { Prim.search rules };
 }
 
 impl fmt::Display for AccessVector {
@@ -66,6 +64,8 @@ impl Spelled for AccessComplexity {
 
     ghost value = { λ metric. metric };
 
+    ghost law = { Prim.search rules };
+
     fn values() -> &'static [Self] {
         &[Self::High, Self::Medium, Self::Low]
     }
@@ -77,10 +77,6 @@ impl Spelled for AccessComplexity {
             Self::Low => ("/AC:L", 710),
         }
     }
-}
-
-impl Metric for AccessComplexity {
-    ghost law = { Prim.search rules };
 }
 
 impl fmt::Display for AccessComplexity {
@@ -108,6 +104,8 @@ impl Spelled for Authentication {
 
     ghost value = { λ metric. metric };
 
+    ghost law = { Prim.search rules };
+
     fn values() -> &'static [Self] {
         &[Self::Multiple, Self::Single, Self::None]
     }
@@ -119,10 +117,6 @@ impl Spelled for Authentication {
             Self::None => ("/Au:N", 704),
         }
     }
-}
-
-impl Metric for Authentication {
-    ghost law = { Prim.search rules };
 }
 
 impl fmt::Display for Authentication {

@@ -5,7 +5,7 @@ ghost use Rattle.std.proofs.Common.{rules};
 ghost use Rattle.cvss_base.specs.declared.v2.MetricType.TheVariants.{C, I, A};
 ghost use Rattle.cvss_metric.specs.v2.Table.{metric_component};
 
-use crate::v2::metric::{Metric, MetricType, Spelled};
+use crate::v2::metric::{MetricType, Spelled};
 use cvss_text::print::write_component;
 use std::fmt;
 
@@ -24,6 +24,8 @@ impl Spelled for ConfidentialityImpact {
 
     ghost value = { λ metric. metric };
 
+    ghost law = { Prim.search rules };
+
     fn values() -> &'static [Self] {
         &[Self::None, Self::Partial, Self::Complete]
     }
@@ -35,10 +37,6 @@ impl Spelled for ConfidentialityImpact {
             Self::Complete => ("/C:C", 660),
         }
     }
-}
-
-impl Metric for ConfidentialityImpact {
-    ghost law = { Prim.search rules };
 }
 
 impl fmt::Display for ConfidentialityImpact {
@@ -66,6 +64,8 @@ impl Spelled for IntegrityImpact {
 
     ghost value = { λ metric. metric };
 
+    ghost law = { Prim.search rules };
+
     fn values() -> &'static [Self] {
         &[Self::None, Self::Partial, Self::Complete]
     }
@@ -77,10 +77,6 @@ impl Spelled for IntegrityImpact {
             Self::Complete => ("/I:C", 660),
         }
     }
-}
-
-impl Metric for IntegrityImpact {
-    ghost law = { Prim.search rules };
 }
 
 impl fmt::Display for IntegrityImpact {
@@ -108,6 +104,8 @@ impl Spelled for AvailabilityImpact {
 
     ghost value = { λ metric. metric };
 
+    ghost law = { Prim.search rules };
+
     fn values() -> &'static [Self] {
         &[Self::None, Self::Partial, Self::Complete]
     }
@@ -119,10 +117,6 @@ impl Spelled for AvailabilityImpact {
             Self::Complete => ("/A:C", 660),
         }
     }
-}
-
-impl Metric for AvailabilityImpact {
-    ghost law = { Prim.search rules };
 }
 
 impl fmt::Display for AvailabilityImpact {

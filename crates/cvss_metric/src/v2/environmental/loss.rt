@@ -5,7 +5,7 @@ ghost use Rattle.std.proofs.Common.{rules};
 ghost use Rattle.cvss_base.specs.declared.v2.MetricType.TheVariants.{CDP, TD};
 ghost use Rattle.cvss_metric.specs.v2.Table.{metric_component};
 
-use crate::v2::metric::{Metric, MetricType, Spelled};
+use crate::v2::metric::{MetricType, Spelled};
 use cvss_text::print::write_component;
 use std::fmt;
 
@@ -26,6 +26,8 @@ impl Spelled for CollateralDamagePotential {
     ghost TYPE = { CDP };
 
     ghost value = { λ metric. metric };
+
+    ghost law = { Prim.search rules };
 
     fn values() -> &'static [Self] {
         &[
@@ -48,10 +50,6 @@ impl Spelled for CollateralDamagePotential {
             Self::NotDefined => ("/CDP:ND", 0),
         }
     }
-}
-
-impl Metric for CollateralDamagePotential {
-    ghost law = { Prim.search rules };
 }
 
 impl fmt::Display for CollateralDamagePotential {
@@ -81,6 +79,8 @@ impl Spelled for TargetDistribution {
 
     ghost value = { λ metric. metric };
 
+    ghost law = { Prim.search rules };
+
     fn values() -> &'static [Self] {
         &[
             Self::None,
@@ -100,10 +100,6 @@ impl Spelled for TargetDistribution {
             Self::NotDefined => ("/TD:ND", 1000),
         }
     }
-}
-
-impl Metric for TargetDistribution {
-    ghost law = { Prim.search rules };
 }
 
 impl fmt::Display for TargetDistribution {

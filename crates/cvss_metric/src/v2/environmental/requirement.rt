@@ -5,7 +5,7 @@ ghost use Rattle.std.proofs.Common.{rules};
 ghost use Rattle.cvss_base.specs.declared.v2.MetricType.TheVariants.{CR, IR, AR};
 ghost use Rattle.cvss_metric.specs.v2.Table.{metric_component};
 
-use crate::v2::metric::{Metric, MetricType, Spelled};
+use crate::v2::metric::{MetricType, Spelled};
 use cvss_text::print::write_component;
 use std::fmt;
 
@@ -25,6 +25,8 @@ impl Spelled for ConfidentialityRequirement {
 
     ghost value = { λ metric. metric };
 
+    ghost law = { Prim.search rules };
+
     fn values() -> &'static [Self] {
         &[Self::Low, Self::Medium, Self::High, Self::NotDefined]
     }
@@ -37,10 +39,6 @@ impl Spelled for ConfidentialityRequirement {
             Self::NotDefined => ("/CR:ND", 1000),
         }
     }
-}
-
-impl Metric for ConfidentialityRequirement {
-    ghost law = { Prim.search rules };
 }
 
 impl fmt::Display for ConfidentialityRequirement {
@@ -69,6 +67,8 @@ impl Spelled for IntegrityRequirement {
 
     ghost value = { λ metric. metric };
 
+    ghost law = { Prim.search rules };
+
     fn values() -> &'static [Self] {
         &[Self::Low, Self::Medium, Self::High, Self::NotDefined]
     }
@@ -81,10 +81,6 @@ impl Spelled for IntegrityRequirement {
             Self::NotDefined => ("/IR:ND", 1000),
         }
     }
-}
-
-impl Metric for IntegrityRequirement {
-    ghost law = { Prim.search rules };
 }
 
 impl fmt::Display for IntegrityRequirement {
@@ -113,6 +109,8 @@ impl Spelled for AvailabilityRequirement {
 
     ghost value = { λ metric. metric };
 
+    ghost law = { Prim.search rules };
+
     fn values() -> &'static [Self] {
         &[Self::Low, Self::Medium, Self::High, Self::NotDefined]
     }
@@ -125,10 +123,6 @@ impl Spelled for AvailabilityRequirement {
             Self::NotDefined => ("/AR:ND", 1000),
         }
     }
-}
-
-impl Metric for AvailabilityRequirement {
-    ghost law = { Prim.search rules };
 }
 
 impl fmt::Display for AvailabilityRequirement {

@@ -7,7 +7,7 @@ ghost use Rattle.cvss_base.specs.Text.{slash};
 ghost use Rattle.cvss_metric.specs.v3.Table.{metric_component, default_complexity};
 
 use crate::v3::environmental::{Modifiable, Modified};
-use crate::v3::metric::{Metric, MetricType, Spelled};
+use crate::v3::metric::{MetricType, Spelled};
 use cvss_text::print::write_component;
 use std::fmt;
 
@@ -26,6 +26,8 @@ impl Spelled for AttackVector {
     ghost TYPE = { AV };
 
     ghost value = { λ metric. metric };
+
+    ghost law = { Prim.search rules };
 
     fn row(self) -> (&'static str, Option<u64>) {
         match self {
@@ -46,10 +48,6 @@ impl Spelled for AttackVector {
             _ => None,
         }
     }
-}
-
-impl Metric for AttackVector {
-    ghost law = { Prim.search rules };
 }
 
 impl fmt::Display for AttackVector {
@@ -107,6 +105,8 @@ impl Spelled for AttackComplexity {
 
     ghost value = { λ metric. metric };
 
+    ghost law = { Prim.search rules };
+
     fn row(self) -> (&'static str, Option<u64>) {
         match self {
             Self::High => ("/AC:H", Some(44)),
@@ -122,10 +122,6 @@ impl Spelled for AttackComplexity {
             _ => None,
         }
     }
-}
-
-impl Metric for AttackComplexity {
-    ghost law = { Prim.search rules };
 }
 
 impl fmt::Display for AttackComplexity {

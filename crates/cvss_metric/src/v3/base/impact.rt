@@ -7,7 +7,7 @@ ghost use Rattle.cvss_base.specs.Text.{slash};
 ghost use Rattle.cvss_metric.specs.v3.Table.{metric_component};
 
 use crate::v3::environmental::{Modifiable, Modified};
-use crate::v3::metric::{Metric, MetricType, Spelled};
+use crate::v3::metric::{MetricType, Spelled};
 use cvss_text::print::write_component;
 use std::fmt;
 
@@ -26,6 +26,8 @@ impl Spelled for Confidentiality {
 
     ghost value = { λ metric. metric };
 
+    ghost law = { Prim.search rules };
+
     fn row(self) -> (&'static str, Option<u64>) {
         match self {
             Self::None => ("/C:N", Some(0)),
@@ -43,10 +45,6 @@ impl Spelled for Confidentiality {
             _ => None,
         }
     }
-}
-
-impl Metric for Confidentiality {
-    ghost law = { Prim.search rules };
 }
 
 impl fmt::Display for Confidentiality {
@@ -95,6 +93,8 @@ impl Spelled for Integrity {
 
     ghost value = { λ metric. metric };
 
+    ghost law = { Prim.search rules };
+
     fn row(self) -> (&'static str, Option<u64>) {
         match self {
             Self::None => ("/I:N", Some(0)),
@@ -112,10 +112,6 @@ impl Spelled for Integrity {
             _ => None,
         }
     }
-}
-
-impl Metric for Integrity {
-    ghost law = { Prim.search rules };
 }
 
 impl fmt::Display for Integrity {
@@ -164,6 +160,8 @@ impl Spelled for Availability {
 
     ghost value = { λ metric. metric };
 
+    ghost law = { Prim.search rules };
+
     fn row(self) -> (&'static str, Option<u64>) {
         match self {
             Self::None => ("/A:N", Some(0)),
@@ -181,10 +179,6 @@ impl Spelled for Availability {
             _ => None,
         }
     }
-}
-
-impl Metric for Availability {
-    ghost law = { Prim.search rules };
 }
 
 impl fmt::Display for Availability {

@@ -5,7 +5,7 @@ ghost use Rattle.std.proofs.Common.{rules};
 ghost use Rattle.cvss_base.specs.declared.v3.MetricType.TheVariants.{S};
 ghost use Rattle.cvss_metric.specs.v3.Table.{metric_component};
 
-use crate::v3::metric::{Metric, MetricType, Spelled};
+use crate::v3::metric::{MetricType, Spelled};
 use cvss_text::print::write_component;
 use std::fmt;
 
@@ -24,6 +24,8 @@ impl Spelled for Scope {
 
     ghost value = { λ metric. metric };
 
+    ghost law = { Prim.search rules };
+
     fn row(self) -> (&'static str, Option<u64>) {
         match self {
             Self::Unchanged => ("/S:U", None),
@@ -39,10 +41,6 @@ impl Spelled for Scope {
             _ => None,
         }
     }
-}
-
-impl Metric for Scope {
-    ghost law = { Prim.search rules };
 }
 
 impl fmt::Display for Scope {

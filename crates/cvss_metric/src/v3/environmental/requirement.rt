@@ -5,7 +5,7 @@ ghost use Rattle.std.proofs.Common.{rules};
 ghost use Rattle.cvss_base.specs.declared.v3.MetricType.TheVariants.{CR, IR, AR};
 ghost use Rattle.cvss_metric.specs.v3.Table.{metric_component};
 
-use crate::v3::metric::{Metric, MetricType, Spelled};
+use crate::v3::metric::{MetricType, Spelled};
 use cvss_text::print::write_component;
 use std::fmt;
 
@@ -24,6 +24,8 @@ impl Spelled for ConfidentialityRequirement {
     ghost TYPE = { CR };
 
     ghost value = { λ metric. metric };
+
+    ghost law = { Prim.search rules };
 
     fn row(self) -> (&'static str, Option<u64>) {
         match self {
@@ -44,10 +46,6 @@ impl Spelled for ConfidentialityRequirement {
             _ => None,
         }
     }
-}
-
-impl Metric for ConfidentialityRequirement {
-    ghost law = { Prim.search rules };
 }
 
 impl fmt::Display for ConfidentialityRequirement {
@@ -76,6 +74,8 @@ impl Spelled for IntegrityRequirement {
 
     ghost value = { λ metric. metric };
 
+    ghost law = { Prim.search rules };
+
     fn row(self) -> (&'static str, Option<u64>) {
         match self {
             Self::NotDefined => ("/IR:X", Some(100)),
@@ -95,10 +95,6 @@ impl Spelled for IntegrityRequirement {
             _ => None,
         }
     }
-}
-
-impl Metric for IntegrityRequirement {
-    ghost law = { Prim.search rules };
 }
 
 impl fmt::Display for IntegrityRequirement {
@@ -127,6 +123,8 @@ impl Spelled for AvailabilityRequirement {
 
     ghost value = { λ metric. metric };
 
+    ghost law = { Prim.search rules };
+
     fn row(self) -> (&'static str, Option<u64>) {
         match self {
             Self::NotDefined => ("/AR:X", Some(100)),
@@ -146,10 +144,6 @@ impl Spelled for AvailabilityRequirement {
             _ => None,
         }
     }
-}
-
-impl Metric for AvailabilityRequirement {
-    ghost law = { Prim.search rules };
 }
 
 impl fmt::Display for AvailabilityRequirement {

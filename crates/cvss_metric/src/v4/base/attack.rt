@@ -1,5 +1,5 @@
-//! Where the attack comes from and what it depends on (v4.0 specification, sections 2.1.1 to
-//! 2.1.3).
+//! Where the attack comes from, what it depends on and what it needs of others (v4.0 specification,
+//! section 2.1).
 
 ghost use Rattle.std.specs.Prelude.{Some};
 ghost use Rattle.std.proofs.Common.{rules};
@@ -7,7 +7,7 @@ ghost use Rattle.cvss_base.specs.declared.v4.MetricType.TheVariants as metric;
 ghost use Rattle.cvss_metric.specs.v4.Ranks as place;
 ghost use Rattle.cvss_metric.specs.v4.Table.{metric_component};
 
-use crate::v4::metric::{Metric, MetricType, Spelled};
+use crate::v4::metric::{MetricType, Spelled};
 use cvss_text::print::write_component;
 use std::fmt;
 
@@ -28,6 +28,8 @@ impl Spelled for AttackVector {
 
     ghost rank = { place.AV };
 
+    ghost law = { Prim.search rules };
+
     fn values() -> &'static [Self] {
         &[Self::Physical, Self::Local, Self::Adjacent, Self::Network]
     }
@@ -40,10 +42,6 @@ impl Spelled for AttackVector {
             Self::Network => "/AV:N",
         }
     }
-}
-
-impl Metric for AttackVector {
-    ghost law = { Prim.search rules };
 }
 
 impl fmt::Display for AttackVector {
@@ -72,6 +70,8 @@ impl Spelled for AttackComplexity {
 
     ghost rank = { place.AC };
 
+    ghost law = { Prim.search rules };
+
     fn values() -> &'static [Self] {
         &[Self::High, Self::Low]
     }
@@ -82,10 +82,6 @@ impl Spelled for AttackComplexity {
             Self::Low => "/AC:L",
         }
     }
-}
-
-impl Metric for AttackComplexity {
-    ghost law = { Prim.search rules };
 }
 
 impl fmt::Display for AttackComplexity {
@@ -114,6 +110,8 @@ impl Spelled for AttackRequirements {
 
     ghost rank = { place.AT };
 
+    ghost law = { Prim.search rules };
+
     fn values() -> &'static [Self] {
         &[Self::Present, Self::None]
     }
@@ -126,14 +124,92 @@ impl Spelled for AttackRequirements {
     }
 }
 
-impl Metric for AttackRequirements {
-    ghost law = { Prim.search rules };
-}
-
 impl fmt::Display for AttackRequirements {
     ghost output = { λ value. Some (metric_component metric.AT (place.AT value)) };
 
     ghost styled_output = { λ value _. Some (metric_component metric.AT (place.AT value)) };
+
+    fn fmt<W: fmt::Write>(&self, f: &mut fmt::Formatter<W>) -> fmt::Result {
+        write_component(self.slashed(), f)
+    }
+}
+
+/// Which privileges the attacker needs before the attack (v4.0 specification, section 2.1.4).
+#[derive(Clone, Copy, Debug, Default, PartialEq, Eq, PartialOrd, Ord)]
+pub enum PrivilegesRequired {
+    High,
+    Low,
+    #[default]
+    None,
+}
+
+impl Spelled for PrivilegesRequired {
+    const TYPE: MetricType = MetricType::PR;
+
+    ghost TYPE = { metric.PR };
+
+    ghost rank = { place.PR };
+
+    ghost law = { Prim.search rules };
+
+    fn values() -> &'static [Self] {
+        &[Self::High, Self::Low, Self::None]
+    }
+
+    fn slashed(self) -> &'static str {
+        match self {
+            Self::High => "/PR:H",
+            Self::Low => "/PR:L",
+            Self::None => "/PR:N",
+        }
+    }
+}
+
+impl fmt::Display for PrivilegesRequired {
+    ghost output = { λ value. Some (metric_component metric.PR (place.PR value)) };
+
+    ghost styled_output = { λ value _. Some (metric_component metric.PR (place.PR value)) };
+
+    fn fmt<W: fmt::Write>(&self, f: &mut fmt::Formatter<W>) -> fmt::Result {
+        write_component(self.slashed(), f)
+    }
+}
+
+/// Whether somebody other than the attacker has to take part (v4.0 specification, section 2.1.5).
+#[derive(Clone, Copy, Debug, Default, PartialEq, Eq, PartialOrd, Ord)]
+pub enum UserInteraction {
+    Active,
+    Passive,
+    #[default]
+    None,
+}
+
+impl Spelled for UserInteraction {
+    const TYPE: MetricType = MetricType::UI;
+
+    ghost TYPE = { metric.UI };
+
+    ghost rank = { place.UI };
+
+    ghost law = { Prim.search rules };
+
+    fn values() -> &'static [Self] {
+        &[Self::Active, Self::Passive, Self::None]
+    }
+
+    fn slashed(self) -> &'static str {
+        match self {
+            Self::Active => "/UI:A",
+            Self::Passive => "/UI:P",
+            Self::None => "/UI:N",
+        }
+    }
+}
+
+impl fmt::Display for UserInteraction {
+    ghost output = { λ value. Some (metric_component metric.UI (place.UI value)) };
+
+    ghost styled_output = { λ value _. Some (metric_component metric.UI (place.UI value)) };
 
     fn fmt<W: fmt::Write>(&self, f: &mut fmt::Formatter<W>) -> fmt::Result {
         write_component(self.slashed(), f)

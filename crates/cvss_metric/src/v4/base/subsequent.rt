@@ -6,7 +6,7 @@ ghost use Rattle.cvss_base.specs.declared.v4.MetricType.TheVariants as metric;
 ghost use Rattle.cvss_metric.specs.v4.Ranks as place;
 ghost use Rattle.cvss_metric.specs.v4.Table.{metric_component};
 
-use crate::v4::metric::{Metric, MetricType, Spelled};
+use crate::v4::metric::{MetricType, Spelled};
 use cvss_text::print::write_component;
 use std::fmt;
 
@@ -27,6 +27,8 @@ impl Spelled for ConfidentialityImpactToTheSubsequentSystem {
 
     ghost rank = { place.SC };
 
+    ghost law = { Prim.search rules };
+
     fn values() -> &'static [Self] {
         &[Self::None, Self::Low, Self::High]
     }
@@ -38,10 +40,6 @@ impl Spelled for ConfidentialityImpactToTheSubsequentSystem {
             Self::High => "/SC:H",
         }
     }
-}
-
-impl Metric for ConfidentialityImpactToTheSubsequentSystem {
-    ghost law = { Prim.search rules };
 }
 
 impl fmt::Display for ConfidentialityImpactToTheSubsequentSystem {
@@ -70,6 +68,8 @@ impl Spelled for IntegrityImpactToTheSubsequentSystem {
 
     ghost rank = { place.SI };
 
+    ghost law = { Prim.search rules };
+
     fn values() -> &'static [Self] {
         &[Self::None, Self::Low, Self::High]
     }
@@ -81,10 +81,6 @@ impl Spelled for IntegrityImpactToTheSubsequentSystem {
             Self::High => "/SI:H",
         }
     }
-}
-
-impl Metric for IntegrityImpactToTheSubsequentSystem {
-    ghost law = { Prim.search rules };
 }
 
 impl fmt::Display for IntegrityImpactToTheSubsequentSystem {
@@ -114,6 +110,8 @@ impl Spelled for AvailabilityImpactToTheSubsequentSystem {
 
     ghost rank = { place.SA };
 
+    ghost law = { Prim.search rules };
+
     fn values() -> &'static [Self] {
         &[Self::None, Self::Low, Self::High]
     }
@@ -125,10 +123,6 @@ impl Spelled for AvailabilityImpactToTheSubsequentSystem {
             Self::High => "/SA:H",
         }
     }
-}
-
-impl Metric for AvailabilityImpactToTheSubsequentSystem {
-    ghost law = { Prim.search rules };
 }
 
 impl fmt::Display for AvailabilityImpactToTheSubsequentSystem {

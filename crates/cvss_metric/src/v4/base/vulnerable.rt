@@ -6,7 +6,7 @@ ghost use Rattle.cvss_base.specs.declared.v4.MetricType.TheVariants as metric;
 ghost use Rattle.cvss_metric.specs.v4.Ranks as place;
 ghost use Rattle.cvss_metric.specs.v4.Table.{metric_component};
 
-use crate::v4::metric::{Metric, MetricType, Spelled};
+use crate::v4::metric::{MetricType, Spelled};
 use cvss_text::print::write_component;
 use std::fmt;
 
@@ -26,6 +26,8 @@ impl Spelled for ConfidentialityImpactToTheVulnerableSystem {
 
     ghost rank = { place.VC };
 
+    ghost law = { Prim.search rules };
+
     fn values() -> &'static [Self] {
         &[Self::None, Self::Low, Self::High]
     }
@@ -37,10 +39,6 @@ impl Spelled for ConfidentialityImpactToTheVulnerableSystem {
             Self::High => "/VC:H",
         }
     }
-}
-
-impl Metric for ConfidentialityImpactToTheVulnerableSystem {
-    ghost law = { Prim.search rules };
 }
 
 impl fmt::Display for ConfidentialityImpactToTheVulnerableSystem {
@@ -69,6 +67,8 @@ impl Spelled for IntegrityImpactToTheVulnerableSystem {
 
     ghost rank = { place.VI };
 
+    ghost law = { Prim.search rules };
+
     fn values() -> &'static [Self] {
         &[Self::None, Self::Low, Self::High]
     }
@@ -80,10 +80,6 @@ impl Spelled for IntegrityImpactToTheVulnerableSystem {
             Self::High => "/VI:H",
         }
     }
-}
-
-impl Metric for IntegrityImpactToTheVulnerableSystem {
-    ghost law = { Prim.search rules };
 }
 
 impl fmt::Display for IntegrityImpactToTheVulnerableSystem {
@@ -112,6 +108,8 @@ impl Spelled for AvailabilityImpactToTheVulnerableSystem {
 
     ghost rank = { place.VA };
 
+    ghost law = { Prim.search rules };
+
     fn values() -> &'static [Self] {
         &[Self::None, Self::Low, Self::High]
     }
@@ -123,10 +121,6 @@ impl Spelled for AvailabilityImpactToTheVulnerableSystem {
             Self::High => "/VA:H",
         }
     }
-}
-
-impl Metric for AvailabilityImpactToTheVulnerableSystem {
-    ghost law = { Prim.search rules };
 }
 
 impl fmt::Display for AvailabilityImpactToTheVulnerableSystem {

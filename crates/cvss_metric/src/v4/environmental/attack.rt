@@ -1,5 +1,5 @@
-//! Where the attack comes from and what it depends on, in the user's own environment (v4.0
-//! specification, section 4.2).
+//! Where the attack comes from, what it depends on and what it needs of others, in the user's own
+//! environment (v4.0 specification, section 4.2).
 
 ghost use Rattle.std.specs.Prelude.{Some};
 ghost use Rattle.std.proofs.Common.{rules};
@@ -7,7 +7,7 @@ ghost use Rattle.cvss_base.specs.declared.v4.MetricType.TheVariants as metric;
 ghost use Rattle.cvss_metric.specs.v4.Ranks as place;
 ghost use Rattle.cvss_metric.specs.v4.Table.{metric_component};
 
-use crate::v4::metric::{Metric, MetricType, Spelled};
+use crate::v4::metric::{MetricType, Spelled};
 use cvss_text::print::write_component;
 use std::fmt;
 
@@ -29,14 +29,11 @@ impl Spelled for ModifiedAttackVector {
 
     ghost rank = { place.MAV };
 
+    ghost law = { Prim.search rules };
+
     fn values() -> &'static [Self] {
-        &[
-            Self::Physical,
-            Self::Local,
-            Self::Adjacent,
-            Self::Network,
-            Self::NotDefined,
-        ]
+        use ModifiedAttackVector::*;
+        &[Physical, Local, Adjacent, Network, NotDefined]
     }
 
     fn slashed(self) -> &'static str {
@@ -48,10 +45,6 @@ impl Spelled for ModifiedAttackVector {
             Self::NotDefined => "/MAV:X",
         }
     }
-}
-
-impl Metric for ModifiedAttackVector {
-    ghost law = { Prim.search rules };
 }
 
 impl fmt::Display for ModifiedAttackVector {
@@ -80,6 +73,8 @@ impl Spelled for ModifiedAttackComplexity {
 
     ghost rank = { place.MAC };
 
+    ghost law = { Prim.search rules };
+
     fn values() -> &'static [Self] {
         &[Self::NotDefined, Self::High, Self::Low]
     }
@@ -91,10 +86,6 @@ impl Spelled for ModifiedAttackComplexity {
             Self::Low => "/MAC:L",
         }
     }
-}
-
-impl Metric for ModifiedAttackComplexity {
-    ghost law = { Prim.search rules };
 }
 
 impl fmt::Display for ModifiedAttackComplexity {
@@ -123,6 +114,8 @@ impl Spelled for ModifiedAttackRequirements {
 
     ghost rank = { place.MAT };
 
+    ghost law = { Prim.search rules };
+
     fn values() -> &'static [Self] {
         &[Self::NotDefined, Self::Present, Self::None]
     }
@@ -136,14 +129,96 @@ impl Spelled for ModifiedAttackRequirements {
     }
 }
 
-impl Metric for ModifiedAttackRequirements {
-    ghost law = { Prim.search rules };
-}
-
 impl fmt::Display for ModifiedAttackRequirements {
     ghost output = { λ value. Some (metric_component metric.MAT (place.MAT value)) };
 
     ghost styled_output = { λ value _. Some (metric_component metric.MAT (place.MAT value)) };
+
+    fn fmt<W: fmt::Write>(&self, f: &mut fmt::Formatter<W>) -> fmt::Result {
+        write_component(self.slashed(), f)
+    }
+}
+
+/// What Privileges Required is in the user's own environment (v4.0 specification, section 4.2).
+#[derive(Clone, Copy, Debug, Default, PartialEq, Eq, PartialOrd, Ord)]
+pub enum ModifiedPrivilegesRequired {
+    #[default]
+    NotDefined,
+    High,
+    Low,
+    None,
+}
+
+impl Spelled for ModifiedPrivilegesRequired {
+    const TYPE: MetricType = MetricType::MPR;
+
+    ghost TYPE = { metric.MPR };
+
+    ghost rank = { place.MPR };
+
+    ghost law = { Prim.search rules };
+
+    fn values() -> &'static [Self] {
+        &[Self::NotDefined, Self::High, Self::Low, Self::None]
+    }
+
+    fn slashed(self) -> &'static str {
+        match self {
+            Self::NotDefined => "/MPR:X",
+            Self::High => "/MPR:H",
+            Self::Low => "/MPR:L",
+            Self::None => "/MPR:N",
+        }
+    }
+}
+
+impl fmt::Display for ModifiedPrivilegesRequired {
+    ghost output = { λ value. Some (metric_component metric.MPR (place.MPR value)) };
+
+    ghost styled_output = { λ value _. Some (metric_component metric.MPR (place.MPR value)) };
+
+    fn fmt<W: fmt::Write>(&self, f: &mut fmt::Formatter<W>) -> fmt::Result {
+        write_component(self.slashed(), f)
+    }
+}
+
+/// What User Interaction is in the user's own environment (v4.0 specification, section 4.2).
+#[derive(Clone, Copy, Debug, Default, PartialEq, Eq, PartialOrd, Ord)]
+pub enum ModifiedUserInteraction {
+    #[default]
+    NotDefined,
+    Active,
+    Passive,
+    None,
+}
+
+impl Spelled for ModifiedUserInteraction {
+    const TYPE: MetricType = MetricType::MUI;
+
+    ghost TYPE = { metric.MUI };
+
+    ghost rank = { place.MUI };
+
+    ghost law = { Prim.search rules };
+
+    fn values() -> &'static [Self] {
+        &[Self::NotDefined, Self::Active, Self::Passive, Self::None]
+    }
+
+    fn slashed(self) -> &'static str {
+        match self {
+            Self::NotDefined => "/MUI:X",
+            Self::Active => "/MUI:A",
+            Self::Passive => "/MUI:P",
+            Self::None => "/MUI:N",
+        }
+    }
+}
+
+impl fmt::Display for ModifiedUserInteraction {
+    ghost output = { λ value. Some (metric_component metric.MUI (place.MUI value)) };
+
+    ghost styled_output = { λ value _. Some (metric_component metric.MUI (place.MUI value)) };
 
     fn fmt<W: fmt::Write>(&self, f: &mut fmt::Formatter<W>) -> fmt::Result {
         write_component(self.slashed(), f)

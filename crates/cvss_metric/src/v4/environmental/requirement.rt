@@ -7,7 +7,7 @@ ghost use Rattle.cvss_base.specs.declared.v4.MetricType.TheVariants as metric;
 ghost use Rattle.cvss_metric.specs.v4.Ranks as place;
 ghost use Rattle.cvss_metric.specs.v4.Table.{metric_component};
 
-use crate::v4::metric::{Metric, MetricType, Spelled};
+use crate::v4::metric::{MetricType, Spelled};
 use cvss_text::print::write_component;
 use std::fmt;
 
@@ -28,6 +28,8 @@ impl Spelled for ConfidentialityRequirements {
 
     ghost rank = { place.CR };
 
+    ghost law = { Prim.search rules };
+
     fn values() -> &'static [Self] {
         &[Self::NotDefined, Self::Low, Self::Medium, Self::High]
     }
@@ -40,10 +42,6 @@ impl Spelled for ConfidentialityRequirements {
             Self::High => "/CR:H",
         }
     }
-}
-
-impl Metric for ConfidentialityRequirements {
-    ghost law = { Prim.search rules };
 }
 
 impl fmt::Display for ConfidentialityRequirements {
@@ -73,6 +71,8 @@ impl Spelled for IntegrityRequirements {
 
     ghost rank = { place.IR };
 
+    ghost law = { Prim.search rules };
+
     fn values() -> &'static [Self] {
         &[Self::NotDefined, Self::Low, Self::Medium, Self::High]
     }
@@ -85,10 +85,6 @@ impl Spelled for IntegrityRequirements {
             Self::High => "/IR:H",
         }
     }
-}
-
-impl Metric for IntegrityRequirements {
-    ghost law = { Prim.search rules };
 }
 
 impl fmt::Display for IntegrityRequirements {
@@ -118,6 +114,8 @@ impl Spelled for AvailabilityRequirements {
 
     ghost rank = { place.AR };
 
+    ghost law = { Prim.search rules };
+
     fn values() -> &'static [Self] {
         &[Self::NotDefined, Self::Low, Self::Medium, Self::High]
     }
@@ -130,10 +128,6 @@ impl Spelled for AvailabilityRequirements {
             Self::High => "/AR:H",
         }
     }
-}
-
-impl Metric for AvailabilityRequirements {
-    ghost law = { Prim.search rules };
 }
 
 impl fmt::Display for AvailabilityRequirements {

@@ -7,7 +7,7 @@ ghost use Rattle.cvss_base.specs.declared.v4.MetricType.TheVariants as metric;
 ghost use Rattle.cvss_metric.specs.v4.Ranks as place;
 ghost use Rattle.cvss_metric.specs.v4.Table.{metric_component};
 
-use crate::v4::metric::{Metric, MetricType, Spelled};
+use crate::v4::metric::{MetricType, Spelled};
 use cvss_text::print::write_component;
 use std::fmt;
 
@@ -29,6 +29,8 @@ impl Spelled for ModifiedConfidentialityImpactToTheSubsequentSystem {
 
     ghost rank = { place.MSC };
 
+    ghost law = { Prim.search rules };
+
     fn values() -> &'static [Self] {
         &[Self::NotDefined, Self::Negligible, Self::Low, Self::High]
     }
@@ -41,10 +43,6 @@ impl Spelled for ModifiedConfidentialityImpactToTheSubsequentSystem {
             Self::High => "/MSC:H",
         }
     }
-}
-
-impl Metric for ModifiedConfidentialityImpactToTheSubsequentSystem {
-    ghost law = { Prim.search rules };
 }
 
 impl fmt::Display for ModifiedConfidentialityImpactToTheSubsequentSystem {
@@ -76,14 +74,11 @@ impl Spelled for ModifiedIntegrityImpactToTheSubsequentSystem {
 
     ghost rank = { place.MSI };
 
+    ghost law = { Prim.search rules };
+
     fn values() -> &'static [Self] {
-        &[
-            Self::NotDefined,
-            Self::Negligible,
-            Self::Low,
-            Self::High,
-            Self::Safety,
-        ]
+        use ModifiedIntegrityImpactToTheSubsequentSystem::*;
+        &[NotDefined, Negligible, Low, High, Safety]
     }
 
     fn slashed(self) -> &'static str {
@@ -95,10 +90,6 @@ impl Spelled for ModifiedIntegrityImpactToTheSubsequentSystem {
             Self::Safety => "/MSI:S",
         }
     }
-}
-
-impl Metric for ModifiedIntegrityImpactToTheSubsequentSystem {
-    ghost law = { Prim.search rules };
 }
 
 impl fmt::Display for ModifiedIntegrityImpactToTheSubsequentSystem {
@@ -130,14 +121,11 @@ impl Spelled for ModifiedAvailabilityImpactToTheSubsequentSystem {
 
     ghost rank = { place.MSA };
 
+    ghost law = { Prim.search rules };
+
     fn values() -> &'static [Self] {
-        &[
-            Self::NotDefined,
-            Self::Negligible,
-            Self::Low,
-            Self::High,
-            Self::Safety,
-        ]
+        use ModifiedAvailabilityImpactToTheSubsequentSystem::*;
+        &[NotDefined, Negligible, Low, High, Safety]
     }
 
     fn slashed(self) -> &'static str {
@@ -149,10 +137,6 @@ impl Spelled for ModifiedAvailabilityImpactToTheSubsequentSystem {
             Self::Safety => "/MSA:S",
         }
     }
-}
-
-impl Metric for ModifiedAvailabilityImpactToTheSubsequentSystem {
-    ghost law = { Prim.search rules };
 }
 
 impl fmt::Display for ModifiedAvailabilityImpactToTheSubsequentSystem {

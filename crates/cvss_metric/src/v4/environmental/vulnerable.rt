@@ -7,7 +7,7 @@ ghost use Rattle.cvss_base.specs.declared.v4.MetricType.TheVariants as metric;
 ghost use Rattle.cvss_metric.specs.v4.Ranks as place;
 ghost use Rattle.cvss_metric.specs.v4.Table.{metric_component};
 
-use crate::v4::metric::{Metric, MetricType, Spelled};
+use crate::v4::metric::{MetricType, Spelled};
 use cvss_text::print::write_component;
 use std::fmt;
 
@@ -29,6 +29,8 @@ impl Spelled for ModifiedConfidentialityImpactToTheVulnerableSystem {
 
     ghost rank = { place.MVC };
 
+    ghost law = { Prim.search rules };
+
     fn values() -> &'static [Self] {
         &[Self::NotDefined, Self::None, Self::Low, Self::High]
     }
@@ -41,10 +43,6 @@ impl Spelled for ModifiedConfidentialityImpactToTheVulnerableSystem {
             Self::High => "/MVC:H",
         }
     }
-}
-
-impl Metric for ModifiedConfidentialityImpactToTheVulnerableSystem {
-    ghost law = { Prim.search rules };
 }
 
 impl fmt::Display for ModifiedConfidentialityImpactToTheVulnerableSystem {
@@ -75,6 +73,8 @@ impl Spelled for ModifiedIntegrityImpactToTheVulnerableSystem {
 
     ghost rank = { place.MVI };
 
+    ghost law = { Prim.search rules };
+
     fn values() -> &'static [Self] {
         &[Self::NotDefined, Self::None, Self::Low, Self::High]
     }
@@ -87,10 +87,6 @@ impl Spelled for ModifiedIntegrityImpactToTheVulnerableSystem {
             Self::High => "/MVI:H",
         }
     }
-}
-
-impl Metric for ModifiedIntegrityImpactToTheVulnerableSystem {
-    ghost law = { Prim.search rules };
 }
 
 impl fmt::Display for ModifiedIntegrityImpactToTheVulnerableSystem {
@@ -121,6 +117,8 @@ impl Spelled for ModifiedAvailabilityImpactToTheVulnerableSystem {
 
     ghost rank = { place.MVA };
 
+    ghost law = { Prim.search rules };
+
     fn values() -> &'static [Self] {
         &[Self::NotDefined, Self::None, Self::Low, Self::High]
     }
@@ -133,10 +131,6 @@ impl Spelled for ModifiedAvailabilityImpactToTheVulnerableSystem {
             Self::High => "/MVA:H",
         }
     }
-}
-
-impl Metric for ModifiedAvailabilityImpactToTheVulnerableSystem {
-    ghost law = { Prim.search rules };
 }
 
 impl fmt::Display for ModifiedAvailabilityImpactToTheVulnerableSystem {

@@ -1,4 +1,5 @@
-//! What comes of an attack (v4.0 specification, sections 5.1 and 5.4).
+//! What an attacker can reach, and what comes of an attack (v4.0 specification, sections 5.1, 5.2,
+//! 5.4 and 5.5).
 
 ghost use Rattle.std.specs.Prelude.{Some};
 ghost use Rattle.std.proofs.Common.{rules};
@@ -6,7 +7,7 @@ ghost use Rattle.cvss_base.specs.declared.v4.MetricType.TheVariants as metric;
 ghost use Rattle.cvss_metric.specs.v4.Ranks as place;
 ghost use Rattle.cvss_metric.specs.v4.Table.{metric_component};
 
-use crate::v4::metric::{Metric, MetricType, Spelled};
+use crate::v4::metric::{MetricType, Spelled};
 use cvss_text::print::write_component;
 use std::fmt;
 
@@ -26,6 +27,8 @@ impl Spelled for Safety {
 
     ghost rank = { place.S };
 
+    ghost law = { Prim.search rules };
+
     fn values() -> &'static [Self] {
         &[Self::NotDefined, Self::Present, Self::Negligible]
     }
@@ -37,10 +40,6 @@ impl Spelled for Safety {
             Self::Negligible => "/S:N",
         }
     }
-}
-
-impl Metric for Safety {
-    ghost law = { Prim.search rules };
 }
 
 impl fmt::Display for Safety {
@@ -70,13 +69,11 @@ impl Spelled for Recovery {
 
     ghost rank = { place.R };
 
+    ghost law = { Prim.search rules };
+
     fn values() -> &'static [Self] {
-        &[
-            Self::NotDefined,
-            Self::Automatic,
-            Self::User,
-            Self::Irrecoverable,
-        ]
+        use Recovery::*;
+        &[NotDefined, Automatic, User, Irrecoverable]
     }
 
     fn slashed(self) -> &'static str {
@@ -89,14 +86,92 @@ impl Spelled for Recovery {
     }
 }
 
-impl Metric for Recovery {
-    ghost law = { Prim.search rules };
-}
-
 impl fmt::Display for Recovery {
     ghost output = { λ value. Some (metric_component metric.R (place.R value)) };
 
     ghost styled_output = { λ value _. Some (metric_component metric.R (place.R value)) };
+
+    fn fmt<W: fmt::Write>(&self, f: &mut fmt::Formatter<W>) -> fmt::Result {
+        write_component(self.slashed(), f)
+    }
+}
+
+/// Whether attacks on many targets can be automated (v4.0 specification, section 5.2).
+#[derive(Clone, Copy, Debug, Default, PartialEq, Eq, PartialOrd, Ord)]
+pub enum Automatable {
+    #[default]
+    NotDefined,
+    Yes,
+    No,
+}
+
+impl Spelled for Automatable {
+    const TYPE: MetricType = MetricType::AU;
+
+    ghost TYPE = { metric.AU };
+
+    ghost rank = { place.AU };
+
+    ghost law = { Prim.search rules };
+
+    fn values() -> &'static [Self] {
+        &[Self::NotDefined, Self::Yes, Self::No]
+    }
+
+    fn slashed(self) -> &'static str {
+        match self {
+            Self::NotDefined => "/AU:X",
+            Self::Yes => "/AU:Y",
+            Self::No => "/AU:N",
+        }
+    }
+}
+
+impl fmt::Display for Automatable {
+    ghost output = { λ value. Some (metric_component metric.AU (place.AU value)) };
+
+    ghost styled_output = { λ value _. Some (metric_component metric.AU (place.AU value)) };
+
+    fn fmt<W: fmt::Write>(&self, f: &mut fmt::Formatter<W>) -> fmt::Result {
+        write_component(self.slashed(), f)
+    }
+}
+
+/// How many resources the attacker gains by one attack (v4.0 specification, section 5.5).
+#[derive(Clone, Copy, Debug, Default, PartialEq, Eq, PartialOrd, Ord)]
+pub enum ValueDensity {
+    #[default]
+    NotDefined,
+    Diffuse,
+    Concentrated,
+}
+
+impl Spelled for ValueDensity {
+    const TYPE: MetricType = MetricType::V;
+
+    ghost TYPE = { metric.V };
+
+    ghost rank = { place.V };
+
+    ghost law = { Prim.search rules };
+
+    fn values() -> &'static [Self] {
+        &[Self::NotDefined, Self::Diffuse, Self::Concentrated]
+    }
+
+    fn slashed(self) -> &'static str {
+        match self {
+            Self::NotDefined => "/V:X",
+            Self::Diffuse => "/V:D",
+            Self::Concentrated => "/V:C",
+        }
+    }
+}
+
+impl fmt::Display for ValueDensity {
+    ghost output = { λ value. Some (metric_component metric.V (place.V value)) };
+
+    ghost styled_output = { λ value _. Some (metric_component metric.V (place.V value)) };
 
     fn fmt<W: fmt::Write>(&self, f: &mut fmt::Formatter<W>) -> fmt::Result {
         write_component(self.slashed(), f)

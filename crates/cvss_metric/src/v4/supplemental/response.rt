@@ -6,7 +6,7 @@ ghost use Rattle.cvss_base.specs.declared.v4.MetricType.TheVariants as metric;
 ghost use Rattle.cvss_metric.specs.v4.Ranks as place;
 ghost use Rattle.cvss_metric.specs.v4.Table.{metric_component};
 
-use crate::v4::metric::{Metric, MetricType, Spelled};
+use crate::v4::metric::{MetricType, Spelled};
 use cvss_text::print::write_component;
 use std::fmt;
 
@@ -27,6 +27,8 @@ impl Spelled for VulnerabilityResponseEffort {
 
     ghost rank = { place.RE };
 
+    ghost law = { Prim.search rules };
+
     fn values() -> &'static [Self] {
         &[Self::NotDefined, Self::Low, Self::Moderate, Self::High]
     }
@@ -39,10 +41,6 @@ impl Spelled for VulnerabilityResponseEffort {
             Self::High => "/RE:H",
         }
     }
-}
-
-impl Metric for VulnerabilityResponseEffort {
-    ghost law = { Prim.search rules };
 }
 
 impl fmt::Display for VulnerabilityResponseEffort {
@@ -74,14 +72,11 @@ impl Spelled for ProviderUrgency {
 
     ghost rank = { place.U };
 
+    ghost law = { Prim.search rules };
+
     fn values() -> &'static [Self] {
-        &[
-            Self::NotDefined,
-            Self::Red,
-            Self::Amber,
-            Self::Green,
-            Self::Clear,
-        ]
+        use ProviderUrgency::*;
+        &[NotDefined, Red, Amber, Green, Clear]
     }
 
     fn slashed(self) -> &'static str {
@@ -93,10 +88,6 @@ impl Spelled for ProviderUrgency {
             Self::Clear => "/U:Clear",
         }
     }
-}
-
-impl Metric for ProviderUrgency {
-    ghost law = { Prim.search rules };
 }
 
 impl fmt::Display for ProviderUrgency {

@@ -20,13 +20,20 @@ pub record IsPart (value lower distance part : ℕ) : Type 0 where
   pub to_value : lower ≤ value
   pub within : distance * part ≤ 840
 
--- the terms are those of a group below a value: the next lower class with its value, the distance, and 840 divided by
--- the depth
+-- what the terms take from a value, and whether they count
+abbrev pub taken_by : ℕ → Terms → ℕ
+taken_by value terms = unwrap_or (option_map (λ next. (value - next.value) * terms.distance * terms.part) terms.next) 0
+
+abbrev pub counted_by : Terms → ℕ
+counted_by terms = unwrap_or (option_map (λ _. 1) terms.next) 0
+
+-- the terms are those of a group below a value: the next lower class with its value, the distance, the depth by which
+-- 840 is divided, and so what the group takes
 pub record AreTerms (value : ℕ) (group : Group) (terms : Terms) : Type 0 where
   pub next : terms.next ≡ option_map with_value group.next
-  pub lower : next_lower group ≡ option_map (λ next. next.value) terms.next
   pub distance : pos terms.distance ≡ group.distance
-  pub part : terms.part ≡ 840 / group.depth
   pub depth : 840 / terms.part ≡ group.depth
   pub least : 84 ≤ terms.part
   pub takes : IfSome terms.next (λ next. IsPart value next.value terms.distance terms.part)
+  pub taken : taken_by value terms ≡ taken value group
+  pub counted : counted_by terms ≡ counted group

@@ -1,12 +1,11 @@
 //! The account of a score: the numbers on its way (v4.0 specification, section 8.2).
 
-ghost use Rattle.std.specs.Prelude.{◌≡◌, ◌-◌, ◌*◌, ◌/◌, ◌≤◌, IfSome, option_map, unwrap_or};
+ghost use Rattle.std.specs.Prelude.{◌≡◌, ◌/◌, ◌≤◌, IfSome};
 ghost use Rattle.cvss_score.specs.v4.Account.{AreGroupAccounts, AreInRange, GroupsAreInRange, IsAccount, IsInRange};
-ghost use Rattle.cvss_score.specs.v4.private.Shares.{IsPart};
+ghost use Rattle.cvss_score.specs.v4.private.Shares.{IsPart, taken_by};
 
 use crate::v4::scoring::classes::MacroVector;
 use crate::v4::scoring::classified::Classified;
-use crate::v4::scoring::depths::depth_of;
 use crate::v4::scoring::effective::Effective;
 use crate::v4::scoring::next::NextClass;
 use crate::v4::scoring::score::{has_impact, less_mean, mean_taken};
@@ -107,14 +106,13 @@ impl GroupAccount {
         ensures next { result.next ≡ terms.next }
         ensures distance { result.distance ≡ terms.distance }
         ensures depth { result.depth ≡ 840 / terms.part }
-        ensures taken { result.taken ≡ unwrap_or (option_map
-            (λ next. (value - next.value) * terms.distance * terms.part) terms.next) 0 }
+        ensures taken { result.taken ≡ taken_by value terms }
         ensures range { IsInRange value result }
     {
         GroupAccount {
             next: terms.next,
             distance: terms.distance,
-            depth: depth_of(terms.part),
+            depth: (840 / terms.part) as u8,
             taken: terms.share(value).taken,
         }
     }

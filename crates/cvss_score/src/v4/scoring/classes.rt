@@ -117,6 +117,7 @@ fn eq6(effective: &Effective) -> u8
 impl MacroVector {
     /// The class of effective values.
     #[inline(always)]
+    #[tactic(auto, using(crate::proofs::v4_lemmas::ClassLemmas::macro_vector_is))]
     pub fn of(effective: &Effective) -> Self
         ensures value { result ≡ macro_vector effective.now }
         ensures valid { IsMacroVector result }

@@ -3,7 +3,9 @@
 ghost use Rattle.std.specs.Prelude.{◌≡◌, IfSome, option_map, nat_lt, if◌then◌else◌};
 ghost use Rattle.cvss_score.specs.v4.Account.{with_value};
 ghost use Rattle.cvss_score.specs.v4.Gap.{eq1_next, eq2_next, eq3_eq6_next, eq4_next, eq5_next};
+ghost use Rattle.cvss_score.specs.v4.Classes.{IsMacroVector};
 ghost use Rattle.cvss_score.specs.v4.private.Next.{IsInTable};
+ghost use Rattle.cvss_score.specs.v4.private.Places.{place_of};
 
 use crate::v4::scoring::classes::MacroVector;
 use crate::v4::scoring::placed::PlacedClass;
@@ -32,16 +34,16 @@ pub struct NextClass {
 }
 
 impl NextClass {
-    /// A class with its value.
+    /// The class that stands at a place, with its value.
     #[inline(always)]
-    fn of(placed: PlacedClass) -> Self
-        ensures value { result ≡ with_value placed.class }
+    fn at(class: MacroVector, place: usize) -> Self
+        requires class { IsMacroVector class }
+        requires place { place ≡ place_of class }
+        ensures value { result ≡ with_value class }
         ensures listed { IsInTable result }
     {
-        NextClass {
-            value: value_of(&placed),
-            class: placed.class,
-        }
+        let value = value_of(&PlacedClass { class, place });
+        NextClass { class, value }
     }
 }
 
@@ -52,16 +54,12 @@ pub fn eq1_next(placed: &PlacedClass) -> Option<NextClass>
     ensures listed { IfSome result IsInTable }
 {
     let class = placed.class;
-    if class.eq1 == 2 {
+    let eq1 = class.eq1 + 1;
+    if eq1 > 2 {
         return None;
     }
-    Some(NextClass::of(PlacedClass {
-        class: MacroVector {
-            eq1: class.eq1 + 1,
-            ..class
-        },
-        place: placed.place + EQ1_STEP,
-    }))
+    let place = placed.place + EQ1_STEP;
+    Some(NextClass::at(MacroVector { eq1, ..class }, place))
 }
 
 /// The next lower class in EQ2.
@@ -71,13 +69,12 @@ pub fn eq2_next(placed: &PlacedClass) -> Option<NextClass>
     ensures listed { IfSome result IsInTable }
 {
     let class = placed.class;
-    if class.eq2 == 1 {
+    let eq2 = class.eq2 + 1;
+    if eq2 > 1 {
         return None;
     }
-    Some(NextClass::of(PlacedClass {
-        class: MacroVector { eq2: 1, ..class },
-        place: placed.place + EQ2_STEP,
-    }))
+    let place = placed.place + EQ2_STEP;
+    Some(NextClass::at(MacroVector { eq2, ..class }, place))
 }
 
 /// The next lower class in EQ3 with EQ6, of two pairs that with the larger value.
@@ -87,31 +84,18 @@ pub fn eq3_eq6_next(placed: &PlacedClass) -> Option<NextClass>
     ensures listed { IfSome result IsInTable }
 {
     let class = placed.class;
-    if class.eq3 == 2 {
-        return None;
+    let place = placed.place + PAIR_STEP;
+    match (class.eq3, class.eq6) {
+        (0, 0) => {
+            let first = NextClass::at(MacroVector { eq6: 1, ..class }, place);
+            let second = NextClass::at(MacroVector { eq3: 1, ..class }, place + PAIR_STEP);
+            Some(of_larger_value(first, second))
+        }
+        (0, _) => Some(NextClass::at(MacroVector { eq3: 1, ..class }, place + PAIR_STEP)),
+        (1, 0) => Some(NextClass::at(MacroVector { eq6: 1, ..class }, place)),
+        (1, _) => Some(NextClass::at(MacroVector { eq3: 2, ..class }, place)),
+        _ => None,
     }
-    if class.eq3 == 1 {
-        return Some(NextClass::of(PlacedClass {
-            class: MacroVector {
-                eq3: class.eq6 + 1,
-                eq6: 1,
-                ..class
-            },
-            place: placed.place + PAIR_STEP,
-        }));
-    }
-    let second = NextClass::of(PlacedClass {
-        class: MacroVector { eq3: 1, ..class },
-        place: placed.place + 2 * PAIR_STEP,
-    });
-    if class.eq6 == 1 {
-        return Some(second);
-    }
-    let first = NextClass::of(PlacedClass {
-        class: MacroVector { eq6: 1, ..class },
-        place: placed.place + PAIR_STEP,
-    });
-    Some(of_larger_value(first, second))
 }
 
 /// Of two classes the one with the larger value, of two with equal values the first.
@@ -133,16 +117,12 @@ pub fn eq4_next(placed: &PlacedClass) -> Option<NextClass>
     ensures listed { IfSome result IsInTable }
 {
     let class = placed.class;
-    if class.eq4 == 2 {
+    let eq4 = class.eq4 + 1;
+    if eq4 > 2 {
         return None;
     }
-    Some(NextClass::of(PlacedClass {
-        class: MacroVector {
-            eq4: class.eq4 + 1,
-            ..class
-        },
-        place: placed.place + EQ4_STEP,
-    }))
+    let place = placed.place + EQ4_STEP;
+    Some(NextClass::at(MacroVector { eq4, ..class }, place))
 }
 
 /// The next lower class in EQ5.
@@ -152,14 +132,10 @@ pub fn eq5_next(placed: &PlacedClass) -> Option<NextClass>
     ensures listed { IfSome result IsInTable }
 {
     let class = placed.class;
-    if class.eq5 == 2 {
+    let eq5 = class.eq5 + 1;
+    if eq5 > 2 {
         return None;
     }
-    Some(NextClass::of(PlacedClass {
-        class: MacroVector {
-            eq5: class.eq5 + 1,
-            ..class
-        },
-        place: placed.place + EQ5_STEP,
-    }))
+    let place = placed.place + EQ5_STEP;
+    Some(NextClass::at(MacroVector { eq5, ..class }, place))
 }

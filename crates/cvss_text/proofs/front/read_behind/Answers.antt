@@ -1,20 +1,24 @@
-use Rattle.std.specs.Str.{IsUtf8}
+use Rattle.std.proofs.Common.{IsUtf8}
 use Rattle.std.proofs.lemmas.List.Elements.{All-head}
 use Rattle.cvss_text.specs.declared.walk.Fault.TheVariants.{InvalidComponent}
 use Rattle.cvss_text.specs.private.Walk.{reason_of}
-use Rattle.cvss_text.proofs.FrontLemmas.{IsAnswerBehind-refused, front_fault_first, IsUtf8-cut}
+use Rattle.cvss_text.proofs.FrontLemmas.{IsAnswer-refused, are_formed, front_fault_first, IsUtf8-cut}
 use Rattle.cvss_text.proofs.PieceLemmas.{IsUtf8-bad_piece}
 use Rattle.cvss_text.proofs.front.read_behind.Goals as goal
 
 pub returns-in-Some : goal.returns-in-Some
 returns-in-Some g c =
-    IsAnswerBehind-refused g.V.Components.version g.met.V.Components.lawful g.met.V.Fronted.plain c.args.text.now (InvalidComponent c.in-Some.piece) c.in-Some.ensures
-    (IsUtf8-bad_piece c.args.text.now c.in-Some.piece.now c.in-Some.ensures)
+    let lawful = g.met.V.Components.lawful in
+    let text = c.args.text.now in
+    IsAnswer-refused lawful (are_formed g.V.Components.version lawful g.met.V.Fronted.plain text) (InvalidComponent c.in-Some.piece) c.in-Some.ensures
+    (IsUtf8-bad_piece text c.in-Some.piece.now c.in-Some.ensures)
 
 pub returns-in-None : goal.returns-in-None
 returns-in-None g c =
     let version = g.V.Components.version in
+    let lawful = g.met.V.Components.lawful in
+    let text = c.args.text.now in
     let fault = c.in-Err.ensures in
-    IsAnswerBehind-refused version g.met.V.Components.lawful g.met.V.Fronted.plain c.args.text.now c.in-Err.fault
-    (front_fault_first version c.args.text.now _ _ c.front_of.ensures c.in-None.ensures (reason_of version c.in-Err.fault) fault.refused)
-    (λ is. fault.tellable (All-head IsUtf8 _ _ (IsUtf8-cut c.args.text.now _ _ c.front_of.ensures is)))
+    IsAnswer-refused lawful (are_formed version lawful g.met.V.Fronted.plain text) c.in-Err.fault
+    (front_fault_first version text _ _ c.front_of.ensures c.in-None.ensures (reason_of version c.in-Err.fault) fault.refused)
+    (λ is. fault.tellable (All-head IsUtf8 _ _ (IsUtf8-cut text _ _ c.front_of.ensures is)))

@@ -1,11 +1,6 @@
-use Rattle.std.specs.Str.{IsUtf8}
+use Rattle.std.proofs.Common.{IsUtf8}
 use Rattle.std.proofs.lemmas.List.Elements.{All-tail}
-use Rattle.cvss_base.specs.Refusal.{IsReasonBehind}
-use Rattle.cvss_base.specs.Text.{pieces}
-use Rattle.cvss_base.specs.Version.{IsSupported}
-use Rattle.cvss_text.specs.private.Pieces.{pieces_left}
-use Rattle.cvss_text.proofs.FrontLemmas.{IsAnswered-read}
-use Rattle.cvss_text.proofs.FrontLemmas.{fronts, begun_behind, IsAnswerBehind-from, IsUtf8-cut}
+use Rattle.cvss_text.proofs.FrontLemmas.{IsAnswer-read, are_formed, begun_behind, IsUtf8-cut}
 use Rattle.cvss_text.proofs.front.read_started.Goals as goal
 
 pub returns : goal.returns
@@ -15,8 +10,5 @@ returns g c =
     let plain = g.met.V.Fronted.plain in
     let text = c.args.text.now in
     let read = c.read_complete.ensures in
-    let begun = begun_behind version plain text (pieces_left c.args.left) c.args.empty c.requires in
-    let all = fronts version lawful plain text in
-    let is = IsAnswered-read version lawful (IsSupported version) 1 text (IsReasonBehind version (pieces text)) all begun _ read.read read.front read.complete read.refused in
-    IsAnswerBehind-from version lawful plain text c.read_complete.result is
+    IsAnswer-read lawful (are_formed version lawful plain text) (begun_behind version plain text _ c.args.empty c.requires) _ read.read read.front read.complete read.refused
     (λ utf8. read.tellable (All-tail IsUtf8 _ _ (IsUtf8-cut text _ _ c.requires.cut utf8)))

@@ -1,5 +1,4 @@
-use Rattle.std.proofs.Common.{◌≡◌, ℕ, List, ◌∷◌, Option, Some, None, ap, arith}
-use Rattle.std.specs.Option.{option_map}
+use Rattle.std.proofs.Common.{◌≡◌, ℕ, List, ◌∷◌, Option, Some, None, ap, arith, option_map}
 use Rattle.cvss_base.specs.Text.{slash, component, value_part}
 use Rattle.cvss_base.specs.Version.{held}
 use Rattle.cvss_text.specs.private.Printing.{slashed}

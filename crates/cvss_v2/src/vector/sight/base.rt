@@ -10,9 +10,9 @@ ghost use Rattle.cvss_v2.specs.Vector.{v2};
 
 use super::letter_at_sight;
 use crate::vector::Vector;
-use cvss_text::sight::behind_name;
 use cvss_metric::v2::Spelled;
 use cvss_metric::v2::base::AccessVector;
+use cvss_text::sight::behind_name;
 
 /// The vector of the base metrics with which a text begins, each value spelled by one letter.
 #[inline(always)]

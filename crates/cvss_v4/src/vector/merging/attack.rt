@@ -3,8 +3,9 @@
 ghost use Rattle.std.specs.Prelude.{◌≡◌};
 ghost use Rattle.cvss_base.specs.declared.v4.MetricType.TheVariants.{AC, AT, AV, MAC, MAT, MAV, MPR, MUI, PR, UI};
 ghost use Rattle.cvss_score.specs.v4.Effective.{meaning, attack_vectors, privileges, user_interactions, attack_complexities, all_attack_requirements};
-ghost use Rattle.cvss_v4.specs.Merging.{letter_of, replaced};
+ghost use Rattle.cvss_v4.specs.Merging.{merged};
 
+use crate::vector::Vector;
 use cvss_metric::v4::base::{
     AttackComplexity, AttackRequirements, AttackVector, PrivilegesRequired, UserInteraction,
 };
@@ -13,85 +14,73 @@ use cvss_metric::v4::environmental::{
     ModifiedPrivilegesRequired, ModifiedUserInteraction,
 };
 
-/// The effective value of AV, which MAV replaces where it is defined.
-pub(super) fn attack_vector(
-    modified: Option<ModifiedAttackVector>,
-    base: Option<AttackVector>,
-) -> AttackVector
-    ensures { result ≡ meaning attack_vectors
-        (replaced (letter_of MAV modified) (letter_of AV base)) }
-{
-    match modified {
-        None | Some(ModifiedAttackVector::NotDefined) => base.unwrap_or(AttackVector::Network),
-        Some(ModifiedAttackVector::Network) => AttackVector::Network,
-        Some(ModifiedAttackVector::Adjacent) => AttackVector::Adjacent,
-        Some(ModifiedAttackVector::Local) => AttackVector::Local,
-        Some(ModifiedAttackVector::Physical) => AttackVector::Physical,
+impl Vector {
+    /// The effective value of AV, which MAV replaces where it is defined.
+    pub(super) fn attack_vector(&self) -> AttackVector
+        ensures { result ≡ meaning attack_vectors (merged self.now MAV AV) }
+    {
+        match self.mav {
+            None | Some(ModifiedAttackVector::NotDefined) => self
+                .av
+                .unwrap_or(AttackVector::Network),
+            Some(ModifiedAttackVector::Network) => AttackVector::Network,
+            Some(ModifiedAttackVector::Adjacent) => AttackVector::Adjacent,
+            Some(ModifiedAttackVector::Local) => AttackVector::Local,
+            Some(ModifiedAttackVector::Physical) => AttackVector::Physical,
+        }
     }
-}
 
-/// The effective value of AC, which MAC replaces where it is defined.
-pub(super) fn attack_complexity(
-    modified: Option<ModifiedAttackComplexity>,
-    base: Option<AttackComplexity>,
-) -> AttackComplexity
-    ensures { result ≡ meaning attack_complexities
-        (replaced (letter_of MAC modified) (letter_of AC base)) }
-{
-    match modified {
-        None | Some(ModifiedAttackComplexity::NotDefined) => base.unwrap_or(AttackComplexity::Low),
-        Some(ModifiedAttackComplexity::Low) => AttackComplexity::Low,
-        Some(ModifiedAttackComplexity::High) => AttackComplexity::High,
+    /// The effective value of AC, which MAC replaces where it is defined.
+    pub(super) fn attack_complexity(&self) -> AttackComplexity
+        ensures { result ≡ meaning attack_complexities (merged self.now MAC AC) }
+    {
+        match self.mac {
+            None | Some(ModifiedAttackComplexity::NotDefined) => self
+                .ac
+                .unwrap_or(AttackComplexity::Low),
+            Some(ModifiedAttackComplexity::Low) => AttackComplexity::Low,
+            Some(ModifiedAttackComplexity::High) => AttackComplexity::High,
+        }
     }
-}
 
-/// The effective value of AT, which MAT replaces where it is defined.
-pub(super) fn attack_requirements(
-    modified: Option<ModifiedAttackRequirements>,
-    base: Option<AttackRequirements>,
-) -> AttackRequirements
-    ensures { result ≡ meaning all_attack_requirements
-        (replaced (letter_of MAT modified) (letter_of AT base)) }
-{
-    match modified {
-        None | Some(ModifiedAttackRequirements::NotDefined) => base.unwrap_or(
-            AttackRequirements::None,
-        ),
-        Some(ModifiedAttackRequirements::None) => AttackRequirements::None,
-        Some(ModifiedAttackRequirements::Present) => AttackRequirements::Present,
+    /// The effective value of AT, which MAT replaces where it is defined.
+    pub(super) fn attack_requirements(&self) -> AttackRequirements
+        ensures { result ≡ meaning all_attack_requirements (merged self.now MAT AT) }
+    {
+        match self.mat {
+            None | Some(ModifiedAttackRequirements::NotDefined) => self
+                .at
+                .unwrap_or(AttackRequirements::None),
+            Some(ModifiedAttackRequirements::None) => AttackRequirements::None,
+            Some(ModifiedAttackRequirements::Present) => AttackRequirements::Present,
+        }
     }
-}
 
-/// The effective value of PR, which MPR replaces where it is defined.
-pub(super) fn privileges_required(
-    modified: Option<ModifiedPrivilegesRequired>,
-    base: Option<PrivilegesRequired>,
-) -> PrivilegesRequired
-    ensures { result ≡ meaning privileges
-        (replaced (letter_of MPR modified) (letter_of PR base)) }
-{
-    match modified {
-        None | Some(ModifiedPrivilegesRequired::NotDefined) => base.unwrap_or(
-            PrivilegesRequired::None,
-        ),
-        Some(ModifiedPrivilegesRequired::None) => PrivilegesRequired::None,
-        Some(ModifiedPrivilegesRequired::Low) => PrivilegesRequired::Low,
-        Some(ModifiedPrivilegesRequired::High) => PrivilegesRequired::High,
+    /// The effective value of PR, which MPR replaces where it is defined.
+    pub(super) fn privileges_required(&self) -> PrivilegesRequired
+        ensures { result ≡ meaning privileges (merged self.now MPR PR) }
+    {
+        match self.mpr {
+            None | Some(ModifiedPrivilegesRequired::NotDefined) => self
+                .pr
+                .unwrap_or(PrivilegesRequired::None),
+            Some(ModifiedPrivilegesRequired::None) => PrivilegesRequired::None,
+            Some(ModifiedPrivilegesRequired::Low) => PrivilegesRequired::Low,
+            Some(ModifiedPrivilegesRequired::High) => PrivilegesRequired::High,
+        }
     }
-}
 
-/// The effective value of UI, which MUI replaces where it is defined.
-pub(super) fn user_interaction(
-    modified: Option<ModifiedUserInteraction>,
-    base: Option<UserInteraction>,
-) -> UserInteraction
-    ensures { result ≡ meaning user_interactions
-        (replaced (letter_of MUI modified) (letter_of UI base)) }
-{
-    match modified {
-        None | Some(ModifiedUserInteraction::NotDefined) => base.unwrap_or(UserInteraction::None),
-        Some(ModifiedUserInteraction::None) => UserInteraction::None,
-        Some(ModifiedUserInteraction::Passive) => UserInteraction::Passive,
-        Some(ModifiedUserInteraction::Active) => UserInteraction::Active,
+    /// The effective value of UI, which MUI replaces where it is defined.
+    pub(super) fn user_interaction(&self) -> UserInteraction
+        ensures { result ≡ meaning user_interactions (merged self.now MUI UI) }
+    {
+        match self.mui {
+            None | Some(ModifiedUserInteraction::NotDefined) => self
+                .ui
+                .unwrap_or(UserInteraction::None),
+            Some(ModifiedUserInteraction::None) => UserInteraction::None,
+            Some(ModifiedUserInteraction::Passive) => UserInteraction::Passive,
+            Some(ModifiedUserInteraction::Active) => UserInteraction::Active,
+        }
     }
 }

@@ -5,8 +5,9 @@
 ghost use Rattle.std.specs.Prelude.{◌≡◌};
 ghost use Rattle.cvss_base.specs.declared.v4.MetricType.TheVariants.{MSA, MSC, MSI, SA, SC, SI};
 ghost use Rattle.cvss_score.specs.v4.Effective.{meaning, subsequent_impacts, safety_impacts};
-ghost use Rattle.cvss_v4.specs.Merging.{letter_of, replaced};
+ghost use Rattle.cvss_v4.specs.Merging.{merged};
 
+use crate::vector::Vector;
 use cvss_metric::v4::base::{
     AvailabilityImpactToTheSubsequentSystem, ConfidentialityImpactToTheSubsequentSystem,
     IntegrityImpactToTheSubsequentSystem,
@@ -20,7 +21,7 @@ use cvss_score::v4::scoring::effective;
 
 /// The effective value of an impact that may be Safety, by one table for the types of both.
 macro_rules! safety_impact {
-    ($modified:ident: $modified_type:ident, $base:ident: $base_type:ident) => {{
+    ($modified:expr, $modified_type:ident, $base:expr, $base_type:ident) => {{
         let unmodified = match $base {
             None | Some($base_type::High) => effective::SafetyImpact::High,
             Some($base_type::Low) => effective::SafetyImpact::Low,
@@ -36,55 +37,54 @@ macro_rules! safety_impact {
     }};
 }
 
-/// The effective value of SC, which MSC replaces where it is defined.
-pub(super) fn confidentiality_impact_to_the_subsequent_system(
-    modified: Option<ModifiedConfidentialityImpactToTheSubsequentSystem>,
-    base: Option<ConfidentialityImpactToTheSubsequentSystem>,
-) -> effective::SubsequentImpact
-    ensures { result ≡ meaning subsequent_impacts
-        (replaced (letter_of MSC modified) (letter_of SC base)) }
-{
-    let unmodified = match base {
-        None | Some(ConfidentialityImpactToTheSubsequentSystem::High) =>
-            effective::SubsequentImpact::High,
-        Some(ConfidentialityImpactToTheSubsequentSystem::Low) => effective::SubsequentImpact::Low,
-        Some(ConfidentialityImpactToTheSubsequentSystem::None) => effective::SubsequentImpact::None,
-    };
-    match modified {
-        None | Some(ModifiedConfidentialityImpactToTheSubsequentSystem::NotDefined) => unmodified,
-        Some(ModifiedConfidentialityImpactToTheSubsequentSystem::High) =>
-            effective::SubsequentImpact::High,
-        Some(ModifiedConfidentialityImpactToTheSubsequentSystem::Low) =>
-            effective::SubsequentImpact::Low,
-        Some(ModifiedConfidentialityImpactToTheSubsequentSystem::Negligible) =>
-            effective::SubsequentImpact::None,
+impl Vector {
+    /// The effective value of SC, which MSC replaces where it is defined.
+    pub(super) fn confidentiality_impact_to_the_subsequent_system(
+        &self,
+    ) -> effective::SubsequentImpact
+        ensures { result ≡ meaning subsequent_impacts (merged self.now MSC SC) }
+    {
+        let unmodified = match self.sc {
+            None | Some(ConfidentialityImpactToTheSubsequentSystem::High) =>
+                effective::SubsequentImpact::High,
+            Some(ConfidentialityImpactToTheSubsequentSystem::Low) =>
+                effective::SubsequentImpact::Low,
+            Some(ConfidentialityImpactToTheSubsequentSystem::None) =>
+                effective::SubsequentImpact::None,
+        };
+        match self.msc {
+            None | Some(ModifiedConfidentialityImpactToTheSubsequentSystem::NotDefined) =>
+                unmodified,
+            Some(ModifiedConfidentialityImpactToTheSubsequentSystem::High) =>
+                effective::SubsequentImpact::High,
+            Some(ModifiedConfidentialityImpactToTheSubsequentSystem::Low) =>
+                effective::SubsequentImpact::Low,
+            Some(ModifiedConfidentialityImpactToTheSubsequentSystem::Negligible) =>
+                effective::SubsequentImpact::None,
+        }
     }
-}
 
-/// The effective value of SI, which MSI replaces where it is defined.
-pub(super) fn integrity_impact_to_the_subsequent_system(
-    modified: Option<ModifiedIntegrityImpactToTheSubsequentSystem>,
-    base: Option<IntegrityImpactToTheSubsequentSystem>,
-) -> effective::SafetyImpact
-    ensures { result ≡ meaning safety_impacts
-        (replaced (letter_of MSI modified) (letter_of SI base)) }
-{
-    safety_impact!(
-        modified: ModifiedIntegrityImpactToTheSubsequentSystem,
-        base: IntegrityImpactToTheSubsequentSystem
-    )
-}
+    /// The effective value of SI, which MSI replaces where it is defined.
+    pub(super) fn integrity_impact_to_the_subsequent_system(&self) -> effective::SafetyImpact
+        ensures { result ≡ meaning safety_impacts (merged self.now MSI SI) }
+    {
+        safety_impact!(
+            self.msi,
+            ModifiedIntegrityImpactToTheSubsequentSystem,
+            self.si,
+            IntegrityImpactToTheSubsequentSystem
+        )
+    }
 
-/// The effective value of SA, which MSA replaces where it is defined.
-pub(super) fn availability_impact_to_the_subsequent_system(
-    modified: Option<ModifiedAvailabilityImpactToTheSubsequentSystem>,
-    base: Option<AvailabilityImpactToTheSubsequentSystem>,
-) -> effective::SafetyImpact
-    ensures { result ≡ meaning safety_impacts
-        (replaced (letter_of MSA modified) (letter_of SA base)) }
-{
-    safety_impact!(
-        modified: ModifiedAvailabilityImpactToTheSubsequentSystem,
-        base: AvailabilityImpactToTheSubsequentSystem
-    )
+    /// The effective value of SA, which MSA replaces where it is defined.
+    pub(super) fn availability_impact_to_the_subsequent_system(&self) -> effective::SafetyImpact
+        ensures { result ≡ meaning safety_impacts (merged self.now MSA SA) }
+    {
+        safety_impact!(
+            self.msa,
+            ModifiedAvailabilityImpactToTheSubsequentSystem,
+            self.sa,
+            AvailabilityImpactToTheSubsequentSystem
+        )
+    }
 }

@@ -3,8 +3,9 @@
 ghost use Rattle.std.specs.Prelude.{◌≡◌};
 ghost use Rattle.cvss_base.specs.declared.v4.MetricType.TheVariants.{MVA, MVC, MVI, VA, VC, VI};
 ghost use Rattle.cvss_score.specs.v4.Effective.{meaning, vulnerable_impacts};
-ghost use Rattle.cvss_v4.specs.Merging.{letter_of, replaced};
+ghost use Rattle.cvss_v4.specs.Merging.{merged};
 
+use crate::vector::Vector;
 use cvss_metric::v4::base::{
     AvailabilityImpactToTheVulnerableSystem, ConfidentialityImpactToTheVulnerableSystem,
     IntegrityImpactToTheVulnerableSystem,
@@ -18,7 +19,7 @@ use cvss_score::v4::scoring::effective;
 
 /// The effective value of an impact, by one table for the types of all three.
 macro_rules! vulnerable_impact {
-    ($modified:ident: $modified_type:ident, $base:ident: $base_type:ident) => {{
+    ($modified:expr, $modified_type:ident, $base:expr, $base_type:ident) => {{
         let unmodified = match $base {
             None | Some($base_type::High) => effective::VulnerableImpact::High,
             Some($base_type::Low) => effective::VulnerableImpact::Low,
@@ -33,44 +34,42 @@ macro_rules! vulnerable_impact {
     }};
 }
 
-/// The effective value of VC, which MVC replaces where it is defined.
-pub(super) fn confidentiality_impact_to_the_vulnerable_system(
-    modified: Option<ModifiedConfidentialityImpactToTheVulnerableSystem>,
-    base: Option<ConfidentialityImpactToTheVulnerableSystem>,
-) -> effective::VulnerableImpact
-    ensures { result ≡ meaning vulnerable_impacts
-        (replaced (letter_of MVC modified) (letter_of VC base)) }
-{
-    vulnerable_impact!(
-        modified: ModifiedConfidentialityImpactToTheVulnerableSystem,
-        base: ConfidentialityImpactToTheVulnerableSystem
-    )
-}
+impl Vector {
+    /// The effective value of VC, which MVC replaces where it is defined.
+    pub(super) fn confidentiality_impact_to_the_vulnerable_system(
+        &self,
+    ) -> effective::VulnerableImpact
+        ensures { result ≡ meaning vulnerable_impacts (merged self.now MVC VC) }
+    {
+        vulnerable_impact!(
+            self.mvc,
+            ModifiedConfidentialityImpactToTheVulnerableSystem,
+            self.vc,
+            ConfidentialityImpactToTheVulnerableSystem
+        )
+    }
 
-/// The effective value of VI, which MVI replaces where it is defined.
-pub(super) fn integrity_impact_to_the_vulnerable_system(
-    modified: Option<ModifiedIntegrityImpactToTheVulnerableSystem>,
-    base: Option<IntegrityImpactToTheVulnerableSystem>,
-) -> effective::VulnerableImpact
-    ensures { result ≡ meaning vulnerable_impacts
-        (replaced (letter_of MVI modified) (letter_of VI base)) }
-{
-    vulnerable_impact!(
-        modified: ModifiedIntegrityImpactToTheVulnerableSystem,
-        base: IntegrityImpactToTheVulnerableSystem
-    )
-}
+    /// The effective value of VI, which MVI replaces where it is defined.
+    pub(super) fn integrity_impact_to_the_vulnerable_system(&self) -> effective::VulnerableImpact
+        ensures { result ≡ meaning vulnerable_impacts (merged self.now MVI VI) }
+    {
+        vulnerable_impact!(
+            self.mvi,
+            ModifiedIntegrityImpactToTheVulnerableSystem,
+            self.vi,
+            IntegrityImpactToTheVulnerableSystem
+        )
+    }
 
-/// The effective value of VA, which MVA replaces where it is defined.
-pub(super) fn availability_impact_to_the_vulnerable_system(
-    modified: Option<ModifiedAvailabilityImpactToTheVulnerableSystem>,
-    base: Option<AvailabilityImpactToTheVulnerableSystem>,
-) -> effective::VulnerableImpact
-    ensures { result ≡ meaning vulnerable_impacts
-        (replaced (letter_of MVA modified) (letter_of VA base)) }
-{
-    vulnerable_impact!(
-        modified: ModifiedAvailabilityImpactToTheVulnerableSystem,
-        base: AvailabilityImpactToTheVulnerableSystem
-    )
+    /// The effective value of VA, which MVA replaces where it is defined.
+    pub(super) fn availability_impact_to_the_vulnerable_system(&self) -> effective::VulnerableImpact
+        ensures { result ≡ meaning vulnerable_impacts (merged self.now MVA VA) }
+    {
+        vulnerable_impact!(
+            self.mva,
+            ModifiedAvailabilityImpactToTheVulnerableSystem,
+            self.va,
+            AvailabilityImpactToTheVulnerableSystem
+        )
+    }
 }

@@ -14,7 +14,7 @@ returns-clause-value c =
     let listed = rw c.of-values.ensures at values.listed in
     let is_mean = rw c.of-values.ensures at c.mean_taken.ensures.value in
     let left = number_less_mean v values.value count (grind arith) listed is_mean c.mean_taken.ensures.bound in
-    v4-equal ((50400 * values.value - count) over 504000) (number v) (pos c.rounded.result) (lit< tt) (in_504000ths v).2 left
+    v4-equal ((50400 * values.value - count) over 504000) (number v) (pos c.rounded.result) (lit< tt) (in_504000ths v).1 left
     (rw c.less_mean.ensures.value at c.rounded.ensures.value)
 
 pub returns-then-not-has_impact-clause-value : goal.returns-then-not-has_impact-clause-value

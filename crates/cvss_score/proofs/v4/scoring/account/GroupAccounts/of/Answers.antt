@@ -1,6 +1,6 @@
 use Rattle.cvss_score.specs.v4.Gap.{eq1_group, eq2_group, eq3_eq6_group, eq4_group, eq5_group}
 use Rattle.cvss_score.proofs.v4_lemmas.AccountLemmas.{is_told}
-use Rattle.cvss_score.proofs.v4_lemmas.GroupLemmas.{eq1_sound, eq2_sound, eq3_eq6_sound, eq4_sound, eq5_sound}
+use Rattle.cvss_score.proofs.v4_lemmas.GroupLemmas as group
 use Rattle.cvss_score.proofs.v4.scoring.account.GroupAccounts.of.Goals as goal
 
 pub returns-clause-value : goal.returns-clause-value
@@ -14,9 +14,9 @@ returns-clause-value c =
     let eq4 = c.of-4.ensures in
     let eq5 = c.of-5.ensures in
     record {
-      eq1 = told (eq1_group v) _ _ listed (eq1_sound v) c.eq1_terms.ensures eq1.next eq1.distance eq1.depth eq1.taken;
-      eq2 = told (eq2_group v) _ _ listed (eq2_sound v) c.eq2_terms.ensures eq2.next eq2.distance eq2.depth eq2.taken;
-      eq3_eq6 = told (eq3_eq6_group v) _ _ listed (eq3_eq6_sound v) c.eq3_eq6_terms.ensures eq3_eq6.next eq3_eq6.distance eq3_eq6.depth eq3_eq6.taken;
-      eq4 = told (eq4_group v) _ _ listed (eq4_sound v) c.eq4_terms.ensures eq4.next eq4.distance eq4.depth eq4.taken;
-      eq5 = told (eq5_group v) _ _ listed (eq5_sound v) c.eq5_terms.ensures eq5.next eq5.distance eq5.depth eq5.taken;
+      eq1 = told (eq1_group v) _ _ listed (group.sound group.eq1 v) c.eq1_terms.ensures eq1.next eq1.distance eq1.depth eq1.taken;
+      eq2 = told (eq2_group v) _ _ listed (group.sound group.eq2 v) c.eq2_terms.ensures eq2.next eq2.distance eq2.depth eq2.taken;
+      eq3_eq6 = told (eq3_eq6_group v) _ _ listed (group.sound group.eq3_eq6 v) c.eq3_eq6_terms.ensures eq3_eq6.next eq3_eq6.distance eq3_eq6.depth eq3_eq6.taken;
+      eq4 = told (eq4_group v) _ _ listed (group.sound group.eq4 v) c.eq4_terms.ensures eq4.next eq4.distance eq4.depth eq4.taken;
+      eq5 = told (eq5_group v) _ _ listed (group.sound group.eq5 v) c.eq5_terms.ensures eq5.next eq5.distance eq5.depth eq5.taken;
     }

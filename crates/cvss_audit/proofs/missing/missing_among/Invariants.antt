@@ -1,9 +1,0 @@
-use Rattle.std.proofs.Common.{◌≡◌, ◌++◌, drop, map}
-use Rattle.std.specs.List.{filter_map}
-use Rattle.cvss_audit.specs.Objects.{missing_at}
-use Rattle.cvss_object.specs.Trees.{tree_view}
-use Rattle.cvss_audit.proofs.missing.missing_among.Given as goal
-
-abbrev pub invariant-loop-kind : goal.invariant-loop-kind
-invariant-loop-kind l =
-    map tree_view l.missing.items ++ filter_map (missing_at l.vector) (drop l.kind-index l.kinds) ≡ filter_map (missing_at l.vector) l.kinds

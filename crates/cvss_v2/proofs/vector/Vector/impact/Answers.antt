@@ -1,7 +1,0 @@
-use Rattle.std.proofs.Common.{arith, lit<}
-use Rattle.std.proofs.lemmas.Int.{ints}
-use Rattle.cvss_base.proofs.ExactLemmas.{equal_trans}
-use Rattle.cvss_v2.proofs.vector.Vector.impact.Goals as goal
-
-pub returns-clause-value : goal.returns-clause-value
-returns-clause-value c = equal_trans (lit< tt) (record { equal = omega (arith, ints) }) c.impact_units.ensures.value

@@ -1,8 +1,0 @@
-use Rattle.std.proofs.Common.{◌∷◌, [], arith}
-use Rattle.cvss_v3.proofs.NameLemmas.{cut_behind}
-use Rattle.cvss_v3.proofs.vector.cutting.cut_two.Goals as goal
-
-pub returns-in_ok-two_letters-in-58 : goal.returns-in_ok-two_letters-in-58
-returns-in_ok-two_letters-in-58 c =
-    cut_behind c.args.piece.now (c.upper.result ∷ c.upper-in-58.result ∷ []) c.in_ok-two_letters-in-58.field-0
-    (omega (arith, c.in-58.len_at_least)) (omega arith) (c.upper.ensures, (c.upper-in-58.ensures, tt)) c.in_ok-two_letters-in-58.ensures
