@@ -13,7 +13,3 @@ options_by_value items None None = (λ _. refl, λ _. refl)
 options_by_value items None (Some y) = (λ e. absurd cc, λ e. absurd cc)
 options_by_value items (Some x) None = (λ e. absurd cc, λ e. absurd cc)
 options_by_value items (Some x) (Some y) = (λ e. ap Some ((items x y).0 e), λ e. (items x y).1 cc)
-
--- one equivalence after another
-pub through : {P Q R : Type 0} → Q ↔ R → P ↔ Q → P ↔ R
-through second first = (λ p. second.0 (first.0 p), λ r. first.1 (second.1 r))

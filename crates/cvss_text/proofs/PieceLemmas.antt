@@ -1,6 +1,5 @@
 -- How pieces come off a text, and that those of a text in UTF-8 are UTF-8.
 use Rattle.std.proofs.Common.{◌≡◌, ◌↔◌, IsTrue, not, ℕ, ◌+◌, ◌<◌, ◌≤◌, Bool, true, false, cond, ltb, List, [], ◌∷◌, inl, inr, length, take, drop, Option, Some, None, refl, sym, ap, ◌∙◌, Bor, arith, ◌++◌, subst, ltb-true, ltb-false, IsUtf8}
-use Rattle.std.specs.Iterator.{MakesProgress, item_count}
 use Rattle.std.specs.List.{position, position_or_len, All}
 use Rattle.std.specs.Option.{option_map_or, unwrap_or, is_some}
 use Rattle.std.specs.Slice.{IsGetRangeResult}
@@ -63,10 +62,6 @@ pub none_left : (rest : Option (Bor (List ℕ))) (none : Bool) → is_some rest 
 none_left None true is = (λ _. refl, λ _. refl)
 none_left None false is = (λ _. refl, λ _. is)
 none_left (Some text) none is = (λ holds. let same = ap not holds in absurd cc, λ empty. absurd (omega (arith, ap length empty, length-slice_split is_slash text.now)))
-
--- a call that takes the first of what is left comes nearer to the end
-pub MakesProgress-first : {S A B : Type 0} (rest : S → List B) (s t : S) (x : A) (y : B) → rest s ≡ y ∷ rest t → MakesProgress (λ _. Unit {0}) (item_count rest) s (Some x) t
-MakesProgress-first rest s t x y step = record { on = λ finite. (tt, tt, omega (arith, ap length step)); keeps = tt; rests = λ finite. tt }
 
 -- a text cut at an ASCII byte
 cut_at_ascii : (front rest : List ℕ) (byte : ℕ) → byte < 128 → IsUtf8 (front ++ byte ∷ rest) → IsUtf8 front × IsUtf8 rest

@@ -36,11 +36,6 @@ sub_score_if s holds = elim (or_cases (eqb s 0) (is_listed sub_scores s) holds) 
       inr (record { listed = is; low = low; high = weight_bound sub_scores s 915_000 refl is })
 ]
 
--- a sub-score that is not 0 is listed
-pub some_sub_score : (s : ℕ) → (s ≡ 0) ⊎ IsSubScore s → ¬ (s ≡ 0) → IsSubScore s
-some_sub_score s (inl is_zero) some = absurd (some is_zero)
-some_sub_score s (inr sub_score) some = sub_score
-
 pub iss_listed : (c i a : ℕ) → Contains impacts c → Contains impacts i → Contains impacts a
     → (millionths_of c i a ≡ 0) ⊎ IsSubScore (millionths_of c i a)
 iss_listed c i a is_c is_i is_a =
