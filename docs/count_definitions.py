@@ -15,7 +15,8 @@ from check_shelves import pages, wrong_clauses
 
 ROOT = Path(__file__).resolve().parent.parent
 PAGE = ROOT / "docs" / "DEFINITIONS.md"
-CRATES = {"cvss_base", "cvss_text", "cvss_metric", "cvss_score", "cvss_v2", "cvss_v3", "cvss_v4"}
+CRATES = {"cvss_base", "cvss_text", "cvss_score"}
+CRATES |= {f"cvss_{version}{part}" for version in ("v2", "v3", "v4") for part in ("", "_metric")}
 ROW = re.compile(r"(\| \[[^]]+\]\(\.\./(crates/\w+/specs/(?:v\d/)?\w+\.antt)\) \| )\d+( \|)")
 HEAD = re.compile(r"^(### .*, )\d+( lines)$", re.M)
 

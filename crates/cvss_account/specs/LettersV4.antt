@@ -3,8 +3,8 @@ use Rattle.std.specs.Prelude.{ℕ, List, [], ◌∷◌, ◌++◌, codes}
 use Rattle.cvss_record.specs.Objects.{Member}
 use Rattle.serde_json.specs.Data.{string}
 use Rattle.cvss_base.specs.declared.v4.MetricType.TheVariants.{AC, AT, AV, PR, UI}
-use Rattle.cvss_metric.specs.v4.Ranks as place
-use Rattle.cvss_metric.specs.v4.Table.{spelling_at}
+use Rattle.cvss_v4_metric.specs.Ranks as place
+use Rattle.cvss_v4_metric.specs.Table.{spelling_at}
 use Rattle.cvss_score.specs.declared.v4.scoring.effective.Effective.{Effective}
 use Rattle.cvss_score.specs.declared.v4.scoring.effective.VulnerableImpact.{VulnerableImpact}
 use Rattle.cvss_score.specs.declared.v4.scoring.effective.VulnerableImpact.TheVariants as vulnerable_impact

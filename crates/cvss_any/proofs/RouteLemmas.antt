@@ -15,7 +15,7 @@ use Rattle.cvss_text.proofs.FrontLemmas.{pieces_denoted_behind}
 use Rattle.cvss_text.proofs.NumeralLemmas.{numeral-injective, numeral-plain}
 use Rattle.cvss_text.proofs.TextLemmas.{IsPart}
 use Rattle.cvss_text.proofs.WalkLemmas.{value_from}
-use Rattle.cvss_metric.specs.v2.private.TableLaws.{undotted_spelling}
+use Rattle.cvss_v2_metric.specs.private.TableLaws.{undotted_spelling}
 use Rattle.cvss_v2.specs.Vector.{v2}
 use Rattle.cvss_v2.specs.private.VectorLaws.{v2_is_lawful}
 use Rattle.cvss_v2.specs.declared.vector.Vector as vector_v2

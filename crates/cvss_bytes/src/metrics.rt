@@ -48,8 +48,7 @@ pub fn put_metrics(cvss: &Cvss, metrics: &mut [CvssMetric]) -> usize
 {
     match cvss {
         Cvss::CvssV20(vector) => put_metrics_of(vector, metrics),
-        Cvss::CvssV30(vector) => put_metrics_of(vector, metrics),
-        Cvss::CvssV31(vector) => put_metrics_of(vector, metrics),
+        Cvss::CvssV30(vector) | Cvss::CvssV31(vector) => put_metrics_of(vector, metrics),
         Cvss::CvssV40(vector) => put_metrics_of(vector, metrics),
     }
 }

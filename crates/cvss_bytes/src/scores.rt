@@ -5,7 +5,7 @@ ghost use Rattle.cvss.specs.Tenths.{IsInTenths, IsFromZeroToTen};
 ghost use Rattle.cvss.specs.Version.{IsComplete};
 ghost use Rattle.cvss.specs.VectorV2.{v2};
 ghost use Rattle.cvss.specs.VectorV4.{v4};
-ghost use Rattle.cvss_bytes.specs.Scores.{AreScoresOf, AreScoresV2, AreScoresV3, AreScoresV4, HasBaseMetrics, IsFlag, count_of};
+ghost use Rattle.cvss_bytes.specs.Scores.{AreScoresOf, AreScoresV2, AreScoresV3, AreScoresV4, HasBaseMetrics, count_of};
 ghost use Rattle.cvss_bytes.specs.private.Steps.{IsRead};
 
 use crate::numbers::{NOTHING, nomenclature_number, severity_number};

@@ -7,8 +7,8 @@ use Rattle.cvss.specs.Answers.{metrics_of, rating_by, score_of_tenths}
 use Rattle.cvss.specs.CvssType.{Cvss}
 use Rattle.cvss.specs.CvssType.TheVariants.{CvssV20, CvssV30, CvssV31, CvssV40}
 use Rattle.cvss_base.specs.V4Types.{declared}
-use Rattle.cvss_metric.specs.v2.Table as table_v2
-use Rattle.cvss_metric.specs.v3.Table as table_v3
+use Rattle.cvss_v2_metric.specs.Table as table_v2
+use Rattle.cvss_v3_metric.specs.Table as table_v3
 use Rattle.cvss_words.specs.WordsV2 as words_v2
 use Rattle.cvss_words.specs.WordsV3 as words_v3
 use Rattle.cvss_words.specs.WordsV4 as words_v4

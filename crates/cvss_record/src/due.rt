@@ -3,8 +3,8 @@
 ghost use Rattle.std.specs.Prelude.{◌≡◌, bytes_eq, option_map, IfOk};
 ghost use Rattle.std.specs.List.{list_any};
 ghost use Rattle.cvss_base.specs.V4Types.{declared};
-ghost use Rattle.cvss_metric.specs.v2.Table as table_v2;
-ghost use Rattle.cvss_metric.specs.v3.Table as table_v3;
+ghost use Rattle.cvss_v2_metric.specs.Table as table_v2;
+ghost use Rattle.cvss_v3_metric.specs.Table as table_v3;
 ghost use Rattle.cvss_record.specs.Due.{agrees, due_at, due_value, group_due, is_metric_member, is_number, is_text, metric_due, version_due, word_at};
 ghost use Rattle.cvss_record.specs.private.Views.{due_view};
 ghost use Rattle.cvss_words.specs.WordsV2 as words_v2;

@@ -1,6 +1,10 @@
 -- The text of a vector's components, joined by slashes.
-use Rattle.std.proofs.Common.{◌≡◌, ℕ, ◌≤◌, List, [], ◌∷◌, ◌++◌, ◌-◌, length, get_or, take, drop, Option, Some, None, unwrap_or, refl, sym, ap, ◌∙◌, append_assoc, append-nil, filter_map, arith}
+use Rattle.std.proofs.Common.{◌≡◌, ℕ, ◌≤◌, List, [], ◌∷◌, ◌++◌, ◌-◌, length, get_or, take, drop, Option, Some, None, unwrap_or, refl, sym, ap, ◌∙◌, append_assoc, append-nil, filter_map, Result, arith}
+use Rattle.std.specs.Fmt.{HasWritten, IsPlainFormatter, WritesOnOk}
 use Rattle.std.specs.List.{cons_option}
+use Rattle.std.specs.declared.fmt.Error.{Error}
+use Rattle.std.specs.declared.fmt.Formatter.{Formatter}
+use Rattle.std.proofs.Output.{has_written_append}
 use Rattle.std.proofs.lemmas.List.{drop_more, take_rest}
 use Rattle.cvss_base.specs.Text.{joined, slash}
 use Rattle.cvss_base.specs.Version.{Version, component_of}
@@ -32,3 +36,10 @@ module _ {V K : Type 0} (version : Version V K) (v : V) where
       let kinds_are : kinds ≡ kind ∷ drop 1 kinds = drop_more kinds 0 kind (omega arith) ∙ ap (λ each. each ∷ drop 1 kinds) (sym first) in
       rw (take_rest kinds 1) (joined_from text (component_of version v kind) (drop 1 kinds) is)
       ∙ ap (λ all. joined (filter_map (component_of version v) all)) (sym kinds_are)
+
+-- a text that is written, and one behind it
+pub written_then : {W : Type 0} (took : W → List ℕ → W → Type 0) (f g h : Formatter W) (s : Result (Unit {0}) Error) (a b : List ℕ)
+    → (IsPlainFormatter f → HasWritten took f a g) → WritesOnOk took g s b h → WritesOnOk took f s (a ++ b) h
+written_then took f g h s a b first second = λ plain ok.
+    let one = first plain in
+    has_written_append took f _ _ _ _ one (second one.plain ok)

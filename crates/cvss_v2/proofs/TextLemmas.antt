@@ -7,22 +7,22 @@ use Rattle.cvss_base.specs.declared.v2.MetricType.TheVariants.{AV}
 use Rattle.cvss_text.proofs.MissingLemmas.{IsComplete-from}
 use Rattle.cvss_text.proofs.PrintLemmas.{joined-slashed}
 use Rattle.cvss_text.specs.private.Walk.{first_missing}
-use Rattle.cvss_metric.specs.declared.v2.base.access.AccessVector.{AccessVector}
-use Rattle.cvss_metric.specs.v2.Table.{metric_component, spelling_of, printed}
+use Rattle.cvss_v2_metric.specs.declared.base.access.AccessVector.{AccessVector}
+use Rattle.cvss_v2_metric.specs.Table.{metric_component, spelling_of, printed}
 use Rattle.cvss_base.specs.Version.{canonical_text, IsComplete}
 use Rattle.cvss_v2.specs.declared.vector.Vector.{Vector}
 use Rattle.cvss_v2.specs.Vector.{v2}
 
 -- the component of the first metric, and those of the others behind slashes
-pub text_from_first : (vector : Vector) (av : AccessVector) (text : List ℕ) → vector.av ≡ Some av → text ≡ slash ∷ metric_component AV av → drop 1 text ++ slashed_texts v2 vector (drop 1 printed) ≡ canonical_text v2 vector
-text_from_first vector av text held is =
-    rw (is, held) (sym (joined-slashed v2 vector (metric_component AV av) (drop 1 printed)))
+pub text_from_first : (vector : Vector) (av : AccessVector) → vector.av ≡ Some av → metric_component AV av ++ slashed_texts v2 vector (drop 1 printed) ≡ canonical_text v2 vector
+text_from_first vector av held =
+    rw held (sym (joined-slashed v2 vector (metric_component AV av) (drop 1 printed)))
 
 first_held : (vector : Vector) (av : Option AccessVector) → vector.av ≡ av → IsSome av → drop 1 (slashed_texts v2 vector printed) ≡ canonical_text v2 vector
 first_held vector None held some = absurd cc
 first_held vector (Some av) held some =
     ap (λ value. drop 1 (unwrap_or (slashed (option_map (component (name_of AV)) (option_map (spelling_of AV) value))) [] ++ slashed_texts v2 vector (drop 1 printed))) held
-    ∙ text_from_first vector av (slash ∷ metric_component AV av) held refl
+    ∙ text_from_first vector av held
 
 -- a vector that lacks no base metric is complete
 pub complete : (vector : Vector) → first_missing v2 vector ≡ None → IsComplete v2 vector

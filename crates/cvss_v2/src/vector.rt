@@ -14,18 +14,18 @@ mod units;
 mod weighing;
 
 use cvss_base::Error;
-use cvss_metric::v2::base::{
-    AccessComplexity, AccessVector, Authentication, AvailabilityImpact, ConfidentialityImpact,
-    IntegrityImpact,
-};
-use cvss_metric::v2::environmental::{
-    AvailabilityRequirement, CollateralDamagePotential, ConfidentialityRequirement,
-    IntegrityRequirement, TargetDistribution,
-};
-use cvss_metric::v2::temporal::{Exploitability, RemediationLevel, ReportConfidence};
 use cvss_text::print::same_components;
 use cvss_text::refusing::vector_of;
 use cvss_text::walk::read_vector;
+use cvss_v2_metric::base::{
+    AccessComplexity, AccessVector, Authentication, AvailabilityImpact, ConfidentialityImpact,
+    IntegrityImpact,
+};
+use cvss_v2_metric::environmental::{
+    AvailabilityRequirement, CollateralDamagePotential, ConfidentialityRequirement,
+    IntegrityRequirement, TargetDistribution,
+};
+use cvss_v2_metric::temporal::{Exploitability, RemediationLevel, ReportConfidence};
 pub use listing::Metrics;
 use std::alloc::Global;
 

@@ -6,7 +6,7 @@ use Rattle.cvss_text.specs.private.Printing.{slashed_texts}
 use Rattle.cvss_text.proofs.CanonicalLemmas.{canonical_text-denotes}
 use Rattle.cvss_text.proofs.FrontLemmas.{fronts_same}
 use Rattle.cvss_text.proofs.PrintLemmas.{joined-slashed}
-use Rattle.cvss_metric.specs.v3.Table.{printed}
+use Rattle.cvss_v3_metric.specs.Table.{printed}
 use Rattle.cvss_v3.specs.declared.vector.Vector.{Vector}
 use Rattle.cvss_v3.specs.Vector.{v3}
 use Rattle.cvss_v3.specs.private.VectorLaws.{v3_is_lawful, v3_fronts_are_lawful, one_minor_version}

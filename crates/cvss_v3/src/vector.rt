@@ -13,18 +13,18 @@ mod sight;
 mod units;
 
 use cvss_base::Error;
-use cvss_metric::v3::base::{
-    AttackComplexity, AttackVector, Availability, Confidentiality, Integrity, PrivilegesRequired,
-    Scope, UserInteraction,
-};
-use cvss_metric::v3::environmental::{
-    AvailabilityRequirement, ConfidentialityRequirement, IntegrityRequirement, Modified,
-    ModifiedScope,
-};
-use cvss_metric::v3::temporal::{ExploitCodeMaturity, RemediationLevel, ReportConfidence};
 use cvss_text::front::read_behind;
 use cvss_text::print::same_components;
 use cvss_text::refusing::vector_behind;
+use cvss_v3_metric::base::{
+    AttackComplexity, AttackVector, Availability, Confidentiality, Integrity, PrivilegesRequired,
+    Scope, UserInteraction,
+};
+use cvss_v3_metric::environmental::{
+    AvailabilityRequirement, ConfidentialityRequirement, IntegrityRequirement, Modified,
+    ModifiedScope,
+};
+use cvss_v3_metric::temporal::{ExploitCodeMaturity, RemediationLevel, ReportConfidence};
 pub use listing::Metrics;
 use std::alloc::Global;
 

@@ -18,7 +18,7 @@ use Rattle.cvss_text.proofs.LawLemmas.{names_differ}
 use Rattle.cvss_text.proofs.RefusalLemmas.{same_place, faults_same}
 use Rattle.cvss_text.proofs.WalkLemmas.{fault_at, name_from, AreComponentsOf-all, HasRead-none, HasRead-more}
 use Rattle.cvss_v4.proofs.CompleteLemmas.{none_is_none}
-use Rattle.cvss_metric.specs.v4.Table.{mandatory}
+use Rattle.cvss_v4_metric.specs.Table.{mandatory}
 use Rattle.cvss_v4.specs.Overriding.{AreOverrides, IsOverridden, NamesOther, Objection, OfOtherGroup, OfText, ObjectionAt, IsFirstObjection}
 use Rattle.cvss_v4.specs.private.OverridingSteps.{AddsOverride, IsObjectionTo, HasReadOverrides}
 use Rattle.cvss_v4.specs.Table.{Value, value_at}

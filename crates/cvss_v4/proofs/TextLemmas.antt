@@ -8,7 +8,7 @@ use Rattle.cvss_text.proofs.CanonicalLemmas.{canonical_text-denotes}
 use Rattle.cvss_text.proofs.FrontLemmas.{fronts_same}
 use Rattle.cvss_text.proofs.MissingLemmas.{IsComplete-from}
 use Rattle.cvss_text.proofs.PrintLemmas.{joined-slashed}
-use Rattle.cvss_metric.specs.v4.Table.{printed}
+use Rattle.cvss_v4_metric.specs.Table.{printed}
 use Rattle.cvss_v4.specs.declared.vector.Vector.{Vector}
 use Rattle.cvss_v4.specs.Vector.{v4}
 use Rattle.cvss_v4.specs.private.VectorLaws.{v4_is_lawful, v4_fronts_are_lawful, one_minor_version}

@@ -13,11 +13,11 @@ mod scores;
 mod sight;
 
 use cvss_base::Error;
-use cvss_metric::v4::{base, environmental, supplemental, threat};
 use cvss_text::front::read_behind;
 use cvss_text::print::same_components;
 use cvss_text::refusing::vector_behind;
 use cvss_text::walk::Components;
+use cvss_v4_metric::{base, environmental, supplemental, threat};
 pub use listing::Metrics;
 pub use overriding::OverrideError;
 use std::alloc::Global;

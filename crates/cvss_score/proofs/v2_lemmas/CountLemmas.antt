@@ -1,9 +1,10 @@
 -- What the whole numbers of the code say of the exact numbers of the equations.
-use Rattle.std.proofs.Common.{◌≡◌, ℕ, ◌+◌, ◌-◌, ◌*◌, ◌^◌, ◌≤◌, ℤ, pos, ◌+ℤ◌, ◌-ℤ◌, ◌*ℤ◌, ◌≤ℤ◌, neg_ℤ, arith, refl, ap, ◌∙◌, lit<, zero, suc, negsuc, ◌≢◌, subst, sym}
+use Rattle.std.proofs.Common.{◌≡◌, ℕ, ◌+◌, ◌-◌, ◌*◌, ◌^◌, ◌≤◌, ℤ, pos, ◌+ℤ◌, ◌-ℤ◌, ◌*ℤ◌, ◌≤ℤ◌, neg_ℤ, arith, refl, ap, ◌∙◌, lit<, rules, zero, suc, negsuc, ◌≢◌, subst, sym}
+use Rattle.std.proofs.Math.IntN.{*ℤ_comm}
 use Rattle.std.proofs.lemmas.Int.{ints}
 use Rattle.std.proofs.Math.Nat.{mul-le-mul_right}
 use borrow.Author.Differences.{up, down}
-use Rattle.cvss_base.specs.Exact.{ratio, ◌over◌, of_count, thousandths, tenths, ◌⊕◌, ◌⊖◌, ◌⊗◌, ◌≈◌}
+use Rattle.cvss_base.specs.Exact.{ratio, whole, ◌over◌, of_count, thousandths, tenths, ◌⊕◌, ◌⊖◌, ◌⊗◌, ◌≈◌}
 use Rattle.cvss_base.specs.Rounding.{IsRoundedV2}
 use Rattle.cvss_base.proofs.ExactLemmas.{rests_are, rests_bound, times_times, times_sum, times_difference}
 use Rattle.cvss_base.proofs.RoundingLemmas.{v2-equal}
@@ -42,6 +43,13 @@ base_rounded impact exploitability {number} some is_number same rounded =
     let is_base = subst (λ (n : ℕ). ratio number (10 ^ 28) ≈ sum ⊗ thousandths n)
     (sym (f_with_impact impact some)) is_product in
     v2-equal (lit< tt) (lit< tt) is_base same rounded
+
+-- without impact it is 0
+pub none_rounded : (exploitability : ℤ) → IsRoundedV2 (base_number (of_count (pos 0)) (of_count exploitability)) (pos 0)
+none_rounded exploitability =
+    let product = *ℤ_comm (6 over 10 ⊗ of_count (pos 0) ⊕ 4 over 10 ⊗ of_count exploitability ⊖ 15 over 10).top (pos 0) in
+    let none : whole 0 ≈ base_number (of_count (pos 0)) (of_count exploitability) = record { equal = omega (arith, ints, product) } in
+    v2-equal (lit< tt) (lit< tt) none refl (search rules)
 
 -- what the temporal score is the rounding of, in 10^-10
 pub temporal_is : (base : ℤ) (e rl rc : ℕ) {product number : ℤ} {weights : ℕ}

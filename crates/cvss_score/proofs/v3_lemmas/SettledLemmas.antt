@@ -1,7 +1,8 @@
 -- No rounding jumps near to the first number, for each value of the sub-scores, and the code's number lies near to it.
 use Rattle.std.specs.Prelude.{unsigned_abs}
 use Rattle.std.specs.List.{list_all, Contains}
-use Rattle.std.proofs.Common.{◌≡◌, ℕ, zero, suc, ◌+◌, ◌-◌, ◌*◌, ◌/◌, ◌^◌, ◌<◌, ℤ, pos, negsuc, ◌-ℤ◌, Bool, true, false, ◌&&◌, ◌||◌, arith, refl, rules}
+use Rattle.std.proofs.Common.{◌≡◌, ℕ, zero, suc, ◌+◌, ◌-◌, ◌*◌, ◌/◌, ◌^◌, ◌<◌, ℤ, pos, negsuc, ◌-ℤ◌, Bool, true, false, ◌&&◌, ◌||◌, arith, refl, rules, lit<}
+use Rattle.std.proofs.Math.Nat.{mul-pos}
 use Rattle.std.proofs.lemmas.Int.{ints}
 use Rattle.std.proofs.lemmas.Bool.{and_parts}
 use Rattle.cvss_base.specs.Exact.{Exact, ratio, ◌over◌, whole, tenths, ◌⊕◌, ◌⊖◌, ◌⊑◌, ◌⊏◌}
@@ -49,10 +50,10 @@ within_if n x holds = record { low = at_most_if (n ⊖ error) x (search rules); 
 -- more above the tenth before s
 unfoldable is_settled_at : Exact → ℕ → ℕ → Bool
 is_settled_at n r s =
-    (is_at_most (whole 0) n && is_at_most (tenths (pos s -ℤ pos 1) ⊕ 1 over 100_000) n)
+    is_at_most (whole 0) n && (is_at_most (tenths (pos s -ℤ pos 1) ⊕ 1 over 100_000) n
     && (is_at_most (whole 0) (n ⊖ error) && (is_below (tenths (pos r -ℤ pos 1)) (n ⊖ error)
     && (is_at_most (capped (n ⊕ error)) (tenths (pos r)) && (is_at_most (jump (pos s -ℤ pos 1)) (n ⊖ error)
-    && is_below (capped (n ⊕ error)) (jump (pos s))))))
+    && is_below (capped (n ⊕ error)) (jump (pos s)))))))
 
 pub record IsSettledAt (n : Exact) (r s : ℕ) : Type 0 where
   pub from_zero : whole 0 ⊑ n ⊖ error
@@ -66,15 +67,20 @@ pub record IsSettledAt (n : Exact) (r s : ℕ) : Type 0 where
 settled_at : (n : Exact) (r s : ℕ) → is_settled_at n r s ≡ true → IsSettledAt n r s
 unfolding is_settled_at
 settled_at n r s settled =
-    let parts = and_parts (is_at_most (whole 0) n && is_at_most (tenths (pos s -ℤ pos 1) ⊕ 1 over 100_000) n) _ settled in
+    let least = and_parts _ _ settled in
+    let cut = and_parts _ _ least.1 in
+    let zero = and_parts _ _ cut.1 in
+    let above = and_parts _ _ zero.1 in
+    let tenth = and_parts _ _ above.1 in
+    let jumps = and_parts _ _ tenth.1 in
     record {
-      from_zero = at_most_if (whole 0) (n ⊖ error) (search rules);
-      above_tenth = below_if (tenths (pos r -ℤ pos 1)) (n ⊖ error) (search rules);
-      to_tenth = at_most_if (capped (n ⊕ error)) (tenths (pos r)) (search rules);
-      from_jump = at_most_if (jump (pos s -ℤ pos 1)) (n ⊖ error) (search rules);
-      below_jump = below_if (capped (n ⊕ error)) (jump (pos s)) (search rules);
-      not_negative = at_most_if (whole 0) n (search rules);
-      from_cut = at_most_if _ n (search rules);
+      from_zero = at_most_if (whole 0) (n ⊖ error) zero.0;
+      above_tenth = below_if (tenths (pos r -ℤ pos 1)) (n ⊖ error) above.0;
+      to_tenth = at_most_if (capped (n ⊕ error)) (tenths (pos r)) tenth.0;
+      from_jump = at_most_if (jump (pos s -ℤ pos 1)) (n ⊖ error) jumps.0;
+      below_jump = below_if (capped (n ⊕ error)) (jump (pos s)) jumps.1;
+      not_negative = at_most_if (whole 0) n least.0;
+      from_cut = at_most_if _ n cut.0;
     }
 
 -- the least tenth that is not below n
@@ -98,12 +104,16 @@ is_settled changed n x =
 
 settled_if : (changed : Bool) (n x : Exact) → is_settled changed n x ≡ true → IsSettled changed n x
 unfolding is_settled
-settled_if changed n x settled = record {
-  at = settled_at n (tenth_above n) (jump_above n) (search rules);
-  itself = within_if n n (search rules);
-  within = within_if n x (search rules);
-  near = near_if changed x n (search rules);
-}
+settled_if changed n x settled =
+    let parts = and_parts (is_settled_at n (tenth_above n) (jump_above n)) _ settled in
+    let itself = and_parts (is_within n n) _ parts.1 in
+    let rest = and_parts (is_within n x) _ itself.1 in
+    record {
+      at = settled_at n (tenth_above n) (jump_above n) parts.0;
+      itself = within_if n n itself.0;
+      within = within_if n x rest.0;
+      near = near_if changed x n rest.1;
+    }
 
 -- the tenths to which a settled number is rounded by a minor version
 abbrev pub settled_tenths : ℕ → Exact → ℤ
@@ -113,16 +123,16 @@ settled_tenths (suc minor) n = pos (jump_above n)
 pub settled_rounding : (minor : ℕ) (n : Exact) (top : ℤ) (q : ℕ) → IsSettledAt n (tenth_above n) (jump_above n) → 0 < n.bottom → 0 < q
     → IsWithin n (ratio top q) → IsRounded minor (ratio top q) (settled_tenths minor n)
 settled_rounding zero n top q at some some_q within = record {
-  not_below = at_most_trans (ratio top q) (capped (n ⊕ error)) (tenths (pos (tenth_above n))) (omega arith) within.high at.to_tenth;
-  least = below_at_most (tenths (pos (tenth_above n) -ℤ pos 1)) (n ⊖ error) (ratio top q) (omega arith) at.above_tenth within.low;
+  not_below = at_most_trans (ratio top q) (capped (n ⊕ error)) (tenths (pos (tenth_above n))) (mul-pos (mul-pos some (lit< tt)) (lit< tt)) within.high at.to_tenth;
+  least = below_at_most (tenths (pos (tenth_above n) -ℤ pos 1)) (n ⊖ error) (ratio top q) some_q at.above_tenth within.low;
 }
 settled_rounding (suc minor) n (pos t) q at some some_q within =
     let s = jump_above n in
     between_jumps t q s some_q
-    (at_most_trans (jump (pos s -ℤ pos 1)) (n ⊖ error) (t over q) (omega arith) at.from_jump within.low)
-    (at_most_below (t over q) (capped (n ⊕ error)) (jump (pos s)) (omega arith) within.high at.below_jump)
+    (at_most_trans (jump (pos s -ℤ pos 1)) (n ⊖ error) (t over q) (mul-pos some (lit< tt)) at.from_jump within.low)
+    (at_most_below (t over q) (capped (n ⊕ error)) (jump (pos s)) some_q within.high at.below_jump)
 settled_rounding (suc minor) n (negsuc t) q at some some_q within =
-    let order = at_most_trans (whole 0) (n ⊖ error) (ratio (negsuc t) q) (omega arith) at.from_zero within.low in
+    let order = at_most_trans (whole 0) (n ⊖ error) (ratio (negsuc t) q) (mul-pos some (lit< tt)) at.from_zero within.low in
     absurd (omega (arith, ints, order.at_most))
 
 -- whether that holds with each exploitability, and the impact is close to the exact one

@@ -2,14 +2,14 @@
 -- (a metric that is Not Defined is skipped by the equations, a modified metric replaces its base metric) and 7.4.
 use Rattle.std.specs.Prelude.{ℕ, Bool, true, false, Option, Some, None}
 use Rattle.cvss_base.specs.declared.v3.MetricType.{MetricType}
-use Rattle.cvss_metric.specs.v3.Modified.{replaced, weight_or}
-use Rattle.cvss_metric.specs.v3.Table.{Value, weight_of, absent_weight, scoped_weight}
-use Rattle.cvss_metric.specs.declared.v3.base.access.PrivilegesRequired.{PrivilegesRequired}
-use Rattle.cvss_metric.specs.declared.v3.base.scope.Scope.{Scope}
-use Rattle.cvss_metric.specs.declared.v3.base.scope.Scope.TheVariants as scope
-use Rattle.cvss_metric.specs.declared.v3.environmental.modified.Modified.{Modified}
-use Rattle.cvss_metric.specs.declared.v3.environmental.modified.ModifiedScope.{ModifiedScope}
-use Rattle.cvss_metric.specs.declared.v3.environmental.modified.ModifiedScope.TheVariants as modified_scope
+use Rattle.cvss_v3_metric.specs.Modified.{replaced, weight_or}
+use Rattle.cvss_v3_metric.specs.Table.{Value, weight_of, absent_weight, scoped_weight}
+use Rattle.cvss_v3_metric.specs.declared.base.access.PrivilegesRequired.{PrivilegesRequired}
+use Rattle.cvss_v3_metric.specs.declared.base.scope.Scope.{Scope}
+use Rattle.cvss_v3_metric.specs.declared.base.scope.Scope.TheVariants as scope
+use Rattle.cvss_v3_metric.specs.declared.environmental.modified.Modified.{Modified}
+use Rattle.cvss_v3_metric.specs.declared.environmental.modified.ModifiedScope.{ModifiedScope}
+use Rattle.cvss_v3_metric.specs.declared.environmental.modified.ModifiedScope.TheVariants as modified_scope
 
 -- the weight of a value of a metric: where there is none that of Not Defined, and 0 of a base metric
 abbrev pub weight_at : (kind : MetricType) → Option (Value kind) → ℕ

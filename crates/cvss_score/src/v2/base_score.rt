@@ -6,7 +6,6 @@ ghost use Rattle.cvss_score.specs.v2.Scores.{impact_of, f_thousandths, base_numb
 ghost use Rattle.cvss_score.specs.v2.private.Bounds.{IsOnScale, IsOnScaleOf};
 
 /// Impact in 10^-11, of three weights in thousandths.
-#[tactic(auto, using(crate::proofs::v2_lemmas::CountLemmas::own_impact_is))]
 pub fn impact(c: u64, i: u64, a: u64) -> u64
     requires c { c ≤ 660 }
     requires i { i ≤ 660 }

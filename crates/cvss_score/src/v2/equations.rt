@@ -63,7 +63,6 @@ fn base_number(impact: i128, exploitability: i128) -> i128
 
 /// What the temporal score is the rounding of in 10^-10, of a base score in tenths.
 #[inline(always)]
-#[tactic(auto, using(crate::proofs::v2_lemmas::CountLemmas::temporal_is, crate::proofs::v2_lemmas::CountLemmas::product_low, crate::proofs::v2_lemmas::CountLemmas::product_high))]
 pub fn temporal_number(base: i128, e: u64, rl: u64, rc: u64) -> i128
     requires low { neg_ℤ (pos (10 ^ 7)) ≤ℤ base }
     requires high { base ≤ℤ pos (10 ^ 7) }

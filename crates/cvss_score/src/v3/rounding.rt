@@ -48,7 +48,6 @@ pub fn round_count(count: i128, rules: Rules) -> i128
 /// impact, the environmental score is first the rounding of leaves that rounding as it is, as long
 /// as the number stays at most 10: it always does (v3.1 specification, Appendix A, on numbers that
 /// are computed in floating point).
-#[tactic(auto, using(crate::proofs::v3_lemmas::NumberLemmas::base_certain, crate::proofs::v3_lemmas::NumberLemmas::environmental_certain))]
 pub fn is_certain() -> bool
     ensures always { IsTrue result }
     ensures base { IsTrue result → (minor : ℕ) → (w : Weights) → AreOfTables w

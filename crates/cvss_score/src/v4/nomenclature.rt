@@ -4,7 +4,7 @@ ghost use Rattle.std.specs.Prelude.{◌≡◌, IfOk, IfErr, Ok, Some, is_some};
 ghost use Rattle.cvss_score.specs.v4.Nomenclature.{text_of, nomenclature_with, TellsNoNomenclature};
 
 use cvss_base::Error;
-use cvss_metric::v4::threat::ExploitMaturity;
+use cvss_v4_metric::threat::ExploitMaturity;
 use std::alloc::Global;
 use std::fmt;
 

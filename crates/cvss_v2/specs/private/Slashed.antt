@@ -4,7 +4,7 @@ use Rattle.cvss_text.specs.private.Printing.{slashed}
 use Rattle.cvss_base.specs.Text.{component}
 use Rattle.cvss_base.specs.V2Types.{name_of}
 use Rattle.cvss_base.specs.declared.v2.MetricType.{MetricType}
-use Rattle.cvss_metric.specs.v2.Table.{Value, spelling_of}
+use Rattle.cvss_v2_metric.specs.Table.{Value, spelling_of}
 
 -- a slash and the component of a value of the table, and nothing where there is none
 abbrev pub slashed_value : {M : Type 0} (kind : MetricType) → (M → Value kind) → Option M → List ℕ

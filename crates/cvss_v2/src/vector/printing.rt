@@ -5,13 +5,13 @@ ghost use Rattle.std.specs.Fmt.{WritesOnOk};
 ghost use Rattle.std.specs.Option.{option_copied};
 ghost use Rattle.cvss_text.specs.private.Printing.{slashed, slashed_texts};
 ghost use Rattle.cvss_base.specs.Version.{canonical_text, component_of, held};
-ghost use Rattle.cvss_metric.specs.v2.Table.{spelling_of, printed};
+ghost use Rattle.cvss_v2_metric.specs.Table.{spelling_of, printed};
 ghost use Rattle.cvss_v2.specs.Vector.{v2};
 ghost use Rattle.cvss_v2.specs.private.Slashed.{slashed_value};
 
 use crate::vector::Vector;
-use cvss_metric::v2::{MetricType, Spelled};
-use cvss_text::print::{Printed, write_component, write_components};
+use cvss_text::print::{Printed, write_components};
+use cvss_v2_metric::{MetricType, Spelled};
 use std::fmt;
 
 impl Printed for Vector {
@@ -68,7 +68,7 @@ fn write_three<K: Spelled, L: Spelled, M: Spelled, W: fmt::Write>(
     f: &mut fmt::Formatter<W>,
 ) -> fmt::Result
     ensures { WritesOnOk W.write_str_gives f.old result (slashed_value K.TYPE K.value first.now
-        ++ slashed_value L.TYPE L.value second.now ++ slashed_value M.TYPE M.value third.now) f.new }
+        ++ (slashed_value L.TYPE L.value second.now ++ slashed_value M.TYPE M.value third.now)) f.new }
 {
     write_value(*first, f)?;
     write_value(*second, f)?;
@@ -94,7 +94,7 @@ impl fmt::Display for Vector {
         let Some(av) = self.av else {
             return write_components(self, f);
         };
-        write_component(av.slashed(), f)?;
+        av.write(f)?;
         write_others(self, f)
     }
 }

@@ -1,15 +1,15 @@
 //! How a vector is filled from its components.
 
 ghost use Rattle.cvss_text.specs.private.Walk.{IsFilled};
-ghost use Rattle.cvss_metric.specs.v2.Table.{spelling_of};
+ghost use Rattle.cvss_v2_metric.specs.Table.{spelling_of};
 ghost use Rattle.cvss_v2.specs.Vector.{v2};
 ghost use Rattle.cvss_v2.specs.private.VectorLaws.{v2_is_lawful};
 
 use super::cutting::cut_named;
 use crate::vector::Vector;
 use MetricType::*;
-use cvss_metric::v2::{MetricType, Spelled};
 use cvss_text::walk::{Components, Slip, fill_place};
+use cvss_v2_metric::{MetricType, Spelled};
 
 /// The metrics in printing order (guide, section 2.4).
 const PRINTED: [MetricType; 14] = [AV, AC, Au, C, I, A, E, RL, RC, CDP, TD, CR, IR, AR];

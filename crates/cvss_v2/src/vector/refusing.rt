@@ -4,8 +4,8 @@ ghost use Rattle.cvss_base.specs.V2Types.{v2_reason};
 
 use crate::vector::Vector;
 use cvss_base::Error;
-use cvss_metric::v2::MetricType;
 use cvss_text::refusing::Refused;
+use cvss_v2_metric::MetricType;
 
 impl Refused for Vector {
     ghost reason = { v2_reason };

@@ -8,7 +8,7 @@ ghost use Rattle.cvss_text.specs.private.Walk.{first_missing};
 ghost use Rattle.cvss_base.specs.Text.{slash};
 ghost use Rattle.cvss_base.specs.Version.{canonical_text, IsComplete};
 ghost use Rattle.cvss_base.specs.declared.v2.MetricType.TheVariants.{A, AC, AV, Au, C, I, E, RL, RC, CDP, TD, CR, IR, AR};
-ghost use Rattle.cvss_metric.specs.v2.Table.{spelling_of, metric_component, printed};
+ghost use Rattle.cvss_v2_metric.specs.Table.{spelling_of, metric_component, printed};
 ghost use Rattle.cvss_v2.specs.Vector.{v2};
 ghost use Rattle.cvss_v2.specs.private.Slashed.{slashed_value};
 
@@ -16,14 +16,13 @@ mod base;
 
 use crate::vector::Vector;
 use base::base_at_sight;
-use cvss_metric::v2::Spelled;
 use cvss_text::sight::{behind_name, put_read};
+use cvss_v2_metric::Spelled;
 
 impl Vector {
     /// The vector whose canonical text this is, where that is seen at once: `None` tells nothing of
     /// the text. It takes no memory.
     #[inline(always)]
-    #[tactic(auto, using(crate::proofs::TextLemmas::complete))]
     pub fn read_canonical(text: &[u8]) -> Option<Vector>
         ensures canonical { IfSome result (λ vector. text.now ≡ canonical_text v2 vector) }
         ensures complete { IfSome result (λ vector. IsComplete v2 vector) }
@@ -84,8 +83,8 @@ fn put_three_at_sight<'a, K: Spelled, L: Spelled, M: Spelled>(
     text: &'a [u8],
 ) -> &'a [u8]
     ensures { text.now ≡ slashed_value K.TYPE K.value first.new
-        ++ slashed_value L.TYPE L.value second.new ++ slashed_value M.TYPE M.value third.new
-        ++ result.now }
+        ++ (slashed_value L.TYPE L.value second.new ++ (slashed_value M.TYPE M.value third.new
+        ++ result.now)) }
 {
     let text = put_at_sight(first, text);
     let text = put_at_sight(second, text);

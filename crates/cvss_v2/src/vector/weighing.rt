@@ -1,13 +1,13 @@
 //! What the metrics of a vector weigh, in thousandths.
 
 ghost use Rattle.std.specs.Prelude.{◌≡◌, ◌≤◌, option_map, unwrap_or};
-ghost use Rattle.cvss_metric.specs.v2.Table.{weight_of, absent_weight};
+ghost use Rattle.cvss_v2_metric.specs.Table.{weight_of, absent_weight};
 ghost use Rattle.cvss_v2.specs.Vector.{value_at};
 ghost use Rattle.cvss_v2.specs.Weights.{weight_in};
 ghost use Rattle.cvss_v2.specs.private.Bounds.{greatest_weight};
 
 use crate::vector::Vector;
-use cvss_metric::v2::{MetricType, Spelled};
+use cvss_v2_metric::{MetricType, Spelled};
 
 impl Vector {
     /// What a metric weighs in this vector, in thousandths.

@@ -9,11 +9,11 @@ ghost use Rattle.cvss_v3.specs.VectorWeights.{weights_of, weight_in};
 
 use crate::score::Score;
 use crate::vector::Vector;
-use cvss_metric::v3::MetricType;
 use cvss_score::v3::weighing::{
     effective, effective_scope, is_changed, modified_privileges, scoped_weight, weight,
 };
 use cvss_score::v3::{Rules, equations};
+use cvss_v3_metric::MetricType;
 
 /// 10^-2, 10^-7, 10^-11 and 10^-13 in counts of 10^-24.
 const HUNDREDTH: i128 = 10_000_000_000_000_000_000_000;

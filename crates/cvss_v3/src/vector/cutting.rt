@@ -6,7 +6,7 @@ ghost use Rattle.cvss_base.specs.V3Types.{name_of};
 ghost use Rattle.cvss_text.specs.private.Walk.{IsCut};
 ghost use Rattle.cvss_v3.specs.Vector.{v3};
 
-use cvss_metric::v3::MetricType;
+use cvss_v3_metric::MetricType;
 
 /// The metric with whose name and a colon a piece begins, and what stands behind these.
 #[inline(always)]

@@ -2,13 +2,13 @@
 
 ghost use Rattle.std.specs.Prelude.{◌≡◌};
 ghost use Rattle.cvss_text.specs.Listing.{listed_metrics, metrics_left};
-ghost use Rattle.cvss_metric.specs.v3.Table.{listed};
+ghost use Rattle.cvss_v3_metric.specs.Table.{listed};
 ghost use Rattle.cvss_v3.specs.Vector.{v3};
 
 use crate::vector::Vector;
 use MetricType::*;
-use cvss_metric::v3::MetricType;
 use cvss_text::metrics::{self, Listed};
+use cvss_v3_metric::MetricType;
 
 /// The metrics that a vector has, each with the spelling of its value; at most 22.
 pub type Metrics = metrics::Metrics<Vector>;

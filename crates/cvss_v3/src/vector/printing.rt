@@ -5,13 +5,13 @@ ghost use Rattle.std.specs.Fmt.{WritesOnOk};
 ghost use Rattle.std.specs.Option.{option_copied};
 ghost use Rattle.cvss_base.specs.Version.{numeral, canonical_text, component_of, held, version_piece};
 ghost use Rattle.cvss_text.specs.private.Printing.{slashed, slashed_texts};
-ghost use Rattle.cvss_metric.specs.v3.Table.{spelling_of, printed};
+ghost use Rattle.cvss_v3_metric.specs.Table.{spelling_of, printed};
 ghost use Rattle.cvss_v3.specs.Vector.{v3};
 ghost use Rattle.cvss_v3.specs.private.Shown.{shown};
 
 use crate::vector::Vector;
-use cvss_metric::v3::{MetricType, Spelled};
 use cvss_text::print::Printed;
+use cvss_v3_metric::{MetricType, Spelled};
 use std::fmt;
 
 impl Printed for Vector {
@@ -77,8 +77,8 @@ fn write_four<K: Spelled, L: Spelled, M: Spelled, N: Spelled, W: fmt::Write>(
     f: &mut fmt::Formatter<W>,
 ) -> fmt::Result
     ensures { WritesOnOk W.write_str_gives f.old result
-        (shown K.TYPE K.value first.now ++ shown L.TYPE L.value second.now
-        ++ shown M.TYPE M.value third.now ++ shown N.TYPE N.value fourth.now) f.new }
+        (shown K.TYPE K.value first.now ++ (shown L.TYPE L.value second.now
+        ++ (shown M.TYPE M.value third.now ++ shown N.TYPE N.value fourth.now))) f.new }
 {
     write_value(*first, f)?;
     write_value(*second, f)?;

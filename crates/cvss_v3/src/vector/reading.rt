@@ -3,16 +3,16 @@
 ghost use Rattle.std.specs.Prelude.{◌≡◌};
 ghost use Rattle.cvss_base.specs.Text.{raised};
 ghost use Rattle.cvss_text.specs.private.Walk.{HasNoValue, IsFilled};
-ghost use Rattle.cvss_metric.specs.v3.Table.{spelling_of};
+ghost use Rattle.cvss_v3_metric.specs.Table.{spelling_of};
 ghost use Rattle.cvss_v3.specs.Vector.{v3};
 ghost use Rattle.cvss_v3.specs.private.VectorLaws.{v3_is_lawful, v3_fronts_are_lawful};
 
 use super::cutting::cut_named;
 use crate::vector::Vector;
 use MetricType::*;
-use cvss_metric::v3::{MetricType, Spelled, blamed};
 use cvss_text::front::Fronted;
 use cvss_text::walk::{Components, Slip, fill_place};
+use cvss_v3_metric::{MetricType, Spelled, blamed};
 
 /// The metrics in printing order (v3.1 specification, section 6).
 const PRINTED: [MetricType; 22] = [
@@ -82,12 +82,13 @@ impl Fronted for Vector {
     ghost plain = { v3_fronts_are_lawful };
 
     fn start(told: &[u8]) -> Option<Vector> {
-        let minor_version = match told {
-            b"3.0" => 0,
-            b"3.1" => 1,
-            _ => return None,
-        };
-        Some(Vector::empty(minor_version))
+        if told == b"3.0".as_slice() {
+            Some(Vector::empty(0))
+        } else if told == b"3.1".as_slice() {
+            Some(Vector::empty(1))
+        } else {
+            None
+        }
     }
 }
 

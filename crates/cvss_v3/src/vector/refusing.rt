@@ -4,8 +4,8 @@ ghost use Rattle.cvss_base.specs.V3Types.{v3_reason};
 
 use crate::vector::Vector;
 use cvss_base::Error;
-use cvss_metric::v3::MetricType;
 use cvss_text::refusing::Refused;
+use cvss_v3_metric::MetricType;
 
 impl Refused for Vector {
     ghost reason = { v3_reason };

@@ -6,13 +6,13 @@ ghost use Rattle.std.specs.Prelude.{◌≡◌, IfSome, Contains, ◌∷◌, ◌+
 ghost use Rattle.cvss_base.specs.Text.{slash};
 ghost use Rattle.cvss_base.specs.Version.{numeral, canonical_text, version_piece, IsWellFormed};
 ghost use Rattle.cvss_text.specs.private.Printing.{slashed_texts};
-ghost use Rattle.cvss_metric.specs.v3.Table.{metric_component, printed};
+ghost use Rattle.cvss_v3_metric.specs.Table.{metric_component, printed};
 ghost use Rattle.cvss_v3.specs.Vector.{v3};
 ghost use Rattle.cvss_v3.specs.private.Shown.{shown};
 
 use crate::vector::Vector;
-use cvss_metric::v3::Spelled;
 use cvss_text::sight::{behind_four, behind_name, put_read};
+use cvss_v3_metric::Spelled;
 
 impl Vector {
     /// The vector whose canonical text this is, where that is seen at once: `None` tells nothing of

@@ -4,7 +4,7 @@ use Rattle.cvss_base.specs.Text.{component}
 use Rattle.cvss_base.specs.V4Types.{name_of}
 use Rattle.cvss_base.specs.declared.v4.MetricType.{MetricType}
 use Rattle.cvss_text.specs.private.Printing.{slashed}
-use Rattle.cvss_metric.specs.v4.Table.{spelling_at}
+use Rattle.cvss_v4_metric.specs.Table.{spelling_at}
 
 -- a slash and the component of a value that has a place among those of its metric, and nothing where there is none
 abbrev pub shown : {M : Type 0} → MetricType → (M → ℕ) → Option M → List ℕ

@@ -6,8 +6,8 @@ ghost use Rattle.cvss_base.specs.V4Types.{declared};
 ghost use Rattle.cvss_v4.specs.Vector.{v4};
 
 use crate::vector::Vector;
-use cvss_metric::v4::MetricType;
 use cvss_text::metrics::{self, Listed};
+use cvss_v4_metric::MetricType;
 
 /// The metrics that a vector has, each with the spelling of its value; at most 32.
 pub type Metrics = metrics::Metrics<Vector>;

@@ -10,18 +10,17 @@ mod subsequent;
 mod vulnerable;
 
 use crate::vector::Vector;
-use cvss_metric::v4::environmental::{
+use cvss_score::v4::scoring::effective::{self, Effective};
+use cvss_v4_metric::environmental::{
     AvailabilityRequirements, ConfidentialityRequirements, IntegrityRequirements,
 };
-use cvss_metric::v4::threat::ExploitMaturity;
-use cvss_score::v4::scoring::effective::{self, Effective};
+use cvss_v4_metric::threat::ExploitMaturity;
 
 /// The effective value of a requirement, by one table for the types of all three.
 macro_rules! requirement {
     ($value:expr, $value_type:ident) => {
         match $value {
-            None | Some($value_type::NotDefined) => effective::Requirement::High,
-            Some($value_type::High) => effective::Requirement::High,
+            None | Some($value_type::NotDefined | $value_type::High) => effective::Requirement::High,
             Some($value_type::Medium) => effective::Requirement::Medium,
             Some($value_type::Low) => effective::Requirement::Low,
         }

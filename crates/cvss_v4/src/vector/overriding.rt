@@ -14,11 +14,11 @@ ghost use Rattle.cvss_v4.specs.declared.vector.overriding.OverrideFault.TheVaria
 
 use crate::vector::Vector;
 use cvss_base::{Error, MetricGroup};
-use cvss_metric::v4::MetricType;
 use cvss_text::cutting::cut_component;
 use cvss_text::pieces::is_component;
 use cvss_text::refusing::error_of;
 use cvss_text::walk::{Fault, read_component};
+use cvss_v4_metric::MetricType;
 use std::alloc::Global;
 use std::fmt;
 

@@ -5,13 +5,13 @@ ghost use Rattle.std.specs.Fmt.{WritesOnOk};
 ghost use Rattle.std.specs.Option.{option_copied};
 ghost use Rattle.cvss_base.specs.Version.{numeral, canonical_text, component_of, held, version_piece};
 ghost use Rattle.cvss_text.specs.private.Printing.{slashed, slashed_texts};
-ghost use Rattle.cvss_metric.specs.v4.Table.{printed, spelling_at};
+ghost use Rattle.cvss_v4_metric.specs.Table.{printed, spelling_at};
 ghost use Rattle.cvss_v4.specs.Vector.{v4};
 ghost use Rattle.cvss_v4.specs.private.Shown.{shown};
 
 use crate::vector::Vector;
-use cvss_metric::v4::{MetricType, Spelled};
 use cvss_text::print::Printed;
+use cvss_v4_metric::{MetricType, Spelled};
 use std::fmt;
 
 impl Printed for Vector {

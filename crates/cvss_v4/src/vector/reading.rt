@@ -4,17 +4,17 @@ ghost use Rattle.std.specs.Prelude.{◌≡◌, IfSome, [], ◌∷◌, ◌++◌, 
 ghost use Rattle.cvss_base.specs.Text.{raised};
 ghost use Rattle.cvss_base.specs.V4Types.{name_of};
 ghost use Rattle.cvss_text.specs.private.Walk.{HasNoValue, IsFilled};
-ghost use Rattle.cvss_metric.specs.v4.Table.{spelling_at};
+ghost use Rattle.cvss_v4_metric.specs.Table.{spelling_at};
 ghost use Rattle.cvss_v4.specs.Vector.{v4};
 ghost use Rattle.cvss_v4.specs.private.VectorLaws.{v4_is_lawful, v4_fronts_are_lawful};
 
 use crate::laws::default_vectors_have_no_metric;
 use crate::vector::Vector;
 use MetricType::*;
-use cvss_metric::v4::{MetricType, Spelled};
 use cvss_text::front::Fronted;
 use cvss_text::pieces::cut_short_name;
 use cvss_text::walk::{Components, Slip, fill_place};
+use cvss_v4_metric::{MetricType, Spelled};
 
 /// The metrics in printing order (v4.0 specification, section 7).
 const PRINTED: [MetricType; 32] = [
@@ -109,9 +109,10 @@ impl Fronted for Vector {
     ghost plain = { v4_fronts_are_lawful };
 
     fn start(told: &[u8]) -> Option<Vector> {
-        match told {
-            b"4.0" => Some(Vector::empty()),
-            _ => None,
+        if told == b"4.0".as_slice() {
+            Some(Vector::empty())
+        } else {
+            None
         }
     }
 }

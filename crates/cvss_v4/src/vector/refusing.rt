@@ -4,8 +4,8 @@ ghost use Rattle.cvss_base.specs.V4Types.{v4_reason};
 
 use crate::vector::Vector;
 use cvss_base::Error;
-use cvss_metric::v4::MetricType;
 use cvss_text::refusing::Refused;
+use cvss_v4_metric::MetricType;
 
 impl Refused for Vector {
     ghost reason = { v4_reason };

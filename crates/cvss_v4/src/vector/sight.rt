@@ -9,15 +9,15 @@ ghost use Rattle.cvss_base.specs.Text.{slash, component};
 ghost use Rattle.cvss_base.specs.V4Types.{name_of};
 ghost use Rattle.cvss_base.specs.Version.{canonical_text, version_piece, IsWellFormed};
 ghost use Rattle.cvss_base.specs.declared.v4.MetricType.TheVariants.{U};
-ghost use Rattle.cvss_metric.specs.v4.Table.{metric_component, printed};
+ghost use Rattle.cvss_v4_metric.specs.Table.{metric_component, printed};
 ghost use Rattle.cvss_v4.specs.Table.{spelling_of};
 ghost use Rattle.cvss_v4.specs.Vector.{v4};
 ghost use Rattle.cvss_v4.specs.private.Shown.{shown};
 
 use crate::vector::Vector;
-use cvss_metric::v4::Spelled;
-use cvss_metric::v4::supplemental::ProviderUrgency;
 use cvss_text::sight::{behind_name, put_read};
+use cvss_v4_metric::Spelled;
+use cvss_v4_metric::supplemental::ProviderUrgency;
 
 impl Vector {
     /// The vector whose canonical text this is, where that is seen at once: `None` tells nothing of

@@ -5,14 +5,14 @@ ghost use Rattle.cvss_text.specs.private.Printing.{slashed_texts};
 ghost use Rattle.cvss_text.specs.private.Walk.{first_missing};
 ghost use Rattle.cvss_base.specs.Text.{slash};
 ghost use Rattle.cvss_base.specs.declared.v2.MetricType.TheVariants.{A, AC, AV, Au, C, I, E, RL, RC, CDP, TD, CR, IR, AR};
-ghost use Rattle.cvss_metric.specs.v2.Table.{metric_component};
+ghost use Rattle.cvss_v2_metric.specs.Table.{metric_component};
 ghost use Rattle.cvss_v2.specs.Vector.{v2};
 
 use super::letter_at_sight;
 use crate::vector::Vector;
-use cvss_metric::v2::Spelled;
-use cvss_metric::v2::base::AccessVector;
 use cvss_text::sight::behind_name;
+use cvss_v2_metric::Spelled;
+use cvss_v2_metric::base::AccessVector;
 
 /// The vector of the base metrics with which a text begins, each value spelled by one letter.
 #[inline(always)]
@@ -48,9 +48,9 @@ pub(super) fn base_at_sight(text: &[u8]) -> Option<(Vector, &[u8])>
 #[inline(always)]
 fn three_at_sight<K: Spelled, L: Spelled, M: Spelled>(text: &[u8]) -> Option<(K, L, M, &[u8])>
     ensures { IfSome result (λ read. text.now
-        ≡ slash ∷ metric_component K.TYPE (K.value read.0)
-        ++ slash ∷ metric_component L.TYPE (L.value read.1)
-        ++ slash ∷ metric_component M.TYPE (M.value read.2) ++ read.3.now) }
+        ≡ slash ∷ (metric_component K.TYPE (K.value read.0)
+        ++ (slash ∷ (metric_component L.TYPE (L.value read.1)
+        ++ (slash ∷ (metric_component M.TYPE (M.value read.2) ++ read.3.now)))))) }
 {
     let (first, text) = base_component_at_sight(text)?;
     let (second, text) = base_component_at_sight(text)?;

@@ -6,10 +6,10 @@ ghost use Rattle.cvss_score.specs.v4.Effective.{meaning, attack_vectors, privile
 ghost use Rattle.cvss_v4.specs.Merging.{merged};
 
 use crate::vector::Vector;
-use cvss_metric::v4::base::{
+use cvss_v4_metric::base::{
     AttackComplexity, AttackRequirements, AttackVector, PrivilegesRequired, UserInteraction,
 };
-use cvss_metric::v4::environmental::{
+use cvss_v4_metric::environmental::{
     ModifiedAttackComplexity, ModifiedAttackRequirements, ModifiedAttackVector,
     ModifiedPrivilegesRequired, ModifiedUserInteraction,
 };
@@ -19,10 +19,9 @@ impl Vector {
     pub(super) fn attack_vector(&self) -> AttackVector
         ensures { result ≡ meaning attack_vectors (merged self.now MAV AV) }
     {
+        let unmodified = self.av.unwrap_or(AttackVector::Network);
         match self.mav {
-            None | Some(ModifiedAttackVector::NotDefined) => self
-                .av
-                .unwrap_or(AttackVector::Network),
+            None | Some(ModifiedAttackVector::NotDefined) => unmodified,
             Some(ModifiedAttackVector::Network) => AttackVector::Network,
             Some(ModifiedAttackVector::Adjacent) => AttackVector::Adjacent,
             Some(ModifiedAttackVector::Local) => AttackVector::Local,
@@ -34,10 +33,9 @@ impl Vector {
     pub(super) fn attack_complexity(&self) -> AttackComplexity
         ensures { result ≡ meaning attack_complexities (merged self.now MAC AC) }
     {
+        let unmodified = self.ac.unwrap_or(AttackComplexity::Low);
         match self.mac {
-            None | Some(ModifiedAttackComplexity::NotDefined) => self
-                .ac
-                .unwrap_or(AttackComplexity::Low),
+            None | Some(ModifiedAttackComplexity::NotDefined) => unmodified,
             Some(ModifiedAttackComplexity::Low) => AttackComplexity::Low,
             Some(ModifiedAttackComplexity::High) => AttackComplexity::High,
         }
@@ -47,10 +45,9 @@ impl Vector {
     pub(super) fn attack_requirements(&self) -> AttackRequirements
         ensures { result ≡ meaning all_attack_requirements (merged self.now MAT AT) }
     {
+        let unmodified = self.at.unwrap_or(AttackRequirements::None);
         match self.mat {
-            None | Some(ModifiedAttackRequirements::NotDefined) => self
-                .at
-                .unwrap_or(AttackRequirements::None),
+            None | Some(ModifiedAttackRequirements::NotDefined) => unmodified,
             Some(ModifiedAttackRequirements::None) => AttackRequirements::None,
             Some(ModifiedAttackRequirements::Present) => AttackRequirements::Present,
         }
@@ -60,10 +57,9 @@ impl Vector {
     pub(super) fn privileges_required(&self) -> PrivilegesRequired
         ensures { result ≡ meaning privileges (merged self.now MPR PR) }
     {
+        let unmodified = self.pr.unwrap_or(PrivilegesRequired::None);
         match self.mpr {
-            None | Some(ModifiedPrivilegesRequired::NotDefined) => self
-                .pr
-                .unwrap_or(PrivilegesRequired::None),
+            None | Some(ModifiedPrivilegesRequired::NotDefined) => unmodified,
             Some(ModifiedPrivilegesRequired::None) => PrivilegesRequired::None,
             Some(ModifiedPrivilegesRequired::Low) => PrivilegesRequired::Low,
             Some(ModifiedPrivilegesRequired::High) => PrivilegesRequired::High,
@@ -74,10 +70,9 @@ impl Vector {
     pub(super) fn user_interaction(&self) -> UserInteraction
         ensures { result ≡ meaning user_interactions (merged self.now MUI UI) }
     {
+        let unmodified = self.ui.unwrap_or(UserInteraction::None);
         match self.mui {
-            None | Some(ModifiedUserInteraction::NotDefined) => self
-                .ui
-                .unwrap_or(UserInteraction::None),
+            None | Some(ModifiedUserInteraction::NotDefined) => unmodified,
             Some(ModifiedUserInteraction::None) => UserInteraction::None,
             Some(ModifiedUserInteraction::Passive) => UserInteraction::Passive,
             Some(ModifiedUserInteraction::Active) => UserInteraction::Active,

@@ -8,16 +8,16 @@ ghost use Rattle.cvss_score.specs.v4.Effective.{meaning, subsequent_impacts, saf
 ghost use Rattle.cvss_v4.specs.Merging.{merged};
 
 use crate::vector::Vector;
-use cvss_metric::v4::base::{
+use cvss_score::v4::scoring::effective;
+use cvss_v4_metric::base::{
     AvailabilityImpactToTheSubsequentSystem, ConfidentialityImpactToTheSubsequentSystem,
     IntegrityImpactToTheSubsequentSystem,
 };
-use cvss_metric::v4::environmental::{
+use cvss_v4_metric::environmental::{
     ModifiedAvailabilityImpactToTheSubsequentSystem,
     ModifiedConfidentialityImpactToTheSubsequentSystem,
     ModifiedIntegrityImpactToTheSubsequentSystem,
 };
-use cvss_score::v4::scoring::effective;
 
 /// The effective value of an impact that may be Safety, by one table for the types of both.
 macro_rules! safety_impact {
@@ -44,23 +44,18 @@ impl Vector {
     ) -> effective::SubsequentImpact
         ensures { result ≡ meaning subsequent_impacts (merged self.now MSC SC) }
     {
+        use ConfidentialityImpactToTheSubsequentSystem as Base;
+        use ModifiedConfidentialityImpactToTheSubsequentSystem as Modified;
         let unmodified = match self.sc {
-            None | Some(ConfidentialityImpactToTheSubsequentSystem::High) =>
-                effective::SubsequentImpact::High,
-            Some(ConfidentialityImpactToTheSubsequentSystem::Low) =>
-                effective::SubsequentImpact::Low,
-            Some(ConfidentialityImpactToTheSubsequentSystem::None) =>
-                effective::SubsequentImpact::None,
+            None | Some(Base::High) => effective::SubsequentImpact::High,
+            Some(Base::Low) => effective::SubsequentImpact::Low,
+            Some(Base::None) => effective::SubsequentImpact::None,
         };
         match self.msc {
-            None | Some(ModifiedConfidentialityImpactToTheSubsequentSystem::NotDefined) =>
-                unmodified,
-            Some(ModifiedConfidentialityImpactToTheSubsequentSystem::High) =>
-                effective::SubsequentImpact::High,
-            Some(ModifiedConfidentialityImpactToTheSubsequentSystem::Low) =>
-                effective::SubsequentImpact::Low,
-            Some(ModifiedConfidentialityImpactToTheSubsequentSystem::Negligible) =>
-                effective::SubsequentImpact::None,
+            None | Some(Modified::NotDefined) => unmodified,
+            Some(Modified::High) => effective::SubsequentImpact::High,
+            Some(Modified::Low) => effective::SubsequentImpact::Low,
+            Some(Modified::Negligible) => effective::SubsequentImpact::None,
         }
     }
 

@@ -6,16 +6,16 @@ ghost use Rattle.cvss_score.specs.v4.Effective.{meaning, vulnerable_impacts};
 ghost use Rattle.cvss_v4.specs.Merging.{merged};
 
 use crate::vector::Vector;
-use cvss_metric::v4::base::{
+use cvss_score::v4::scoring::effective;
+use cvss_v4_metric::base::{
     AvailabilityImpactToTheVulnerableSystem, ConfidentialityImpactToTheVulnerableSystem,
     IntegrityImpactToTheVulnerableSystem,
 };
-use cvss_metric::v4::environmental::{
+use cvss_v4_metric::environmental::{
     ModifiedAvailabilityImpactToTheVulnerableSystem,
     ModifiedConfidentialityImpactToTheVulnerableSystem,
     ModifiedIntegrityImpactToTheVulnerableSystem,
 };
-use cvss_score::v4::scoring::effective;
 
 /// The effective value of an impact, by one table for the types of all three.
 macro_rules! vulnerable_impact {

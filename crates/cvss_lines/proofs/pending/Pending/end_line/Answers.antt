@@ -1,8 +1,8 @@
-use Rattle.std.proofs.Common.{◌≡◌, [], ◌∷◌, ◌++◌, OnOk, ap, sym, ◌∙◌, subst, arith}
+use Rattle.std.proofs.Common.{◌≡◌, [], ◌∷◌, ◌++◌, OnOk, IfErr, ap, sym, ◌∙◌, subst, arith}
 use Rattle.std.proofs.lemmas.Bool.Decides.{nat_tests}
 use Rattle.std.proofs.lemmas.List.{nil_from_length}
 use Rattle.cvss_lines.specs.Lines.{line_text}
-use Rattle.cvss_lines.specs.private.Steps.{Answers}
+use Rattle.cvss_lines.specs.private.Steps.{Answers, StopsAnswering}
 use Rattle.cvss_lines.specs.declared.fault.RunFault.TheVariants.{Memory}
 use Rattle.cvss_lines.proofs.StepsLemmas.{StopsAnswering-memory, told_fault}
 use Rattle.cvss_lines.proofs.pending.Pending.end_line.Goals as goal
@@ -19,3 +19,11 @@ pub returns-in_err-extend_from_slice-clause-stopped : goal.returns-in_err-extend
 returns-in_err-extend_from_slice-clause-stopped g c =
     told_fault c.from_residual.result Memory _ c.from_residual.ensures.1
     (StopsAnswering-memory g.A.Streaming.rule g.A.Streaming.beginning _ _ c.args.self.now.progress)
+
+pub returns-then-is_empty-clause-stopped : goal.returns-then-is_empty-clause-stopped
+returns-then-is_empty-clause-stopped g c =
+    let none : c.args.self.now.cut.items ≡ [] = nil_from_length _ (grind (arith, nat_tests)) in
+    subst
+    (λ line. IfErr c.answer_line.result (StopsAnswering g.A.Streaming.rule g.A.Streaming.beginning (line ∷ [])
+    (g.W.Write.contents c.args.writer.now) (g.W.Write.contents c.answer_line.new.writer) c.args.self.now.progress))
+    (c.line_text.ensures ∙ ap (λ cut. line_text (cut ++ c.args.piece.now)) (sym none)) c.answer_line.ensures.stopped

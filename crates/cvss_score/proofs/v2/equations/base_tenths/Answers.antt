@@ -1,7 +1,7 @@
 use Rattle.std.specs.Int.{w128}
-use Rattle.std.proofs.Common.{arith, refl}
+use Rattle.std.proofs.Common.{◌≡◌, pos, arith, refl}
 use Rattle.std.proofs.lemmas.Int.{ints, to_z-of_z}
-use Rattle.cvss_score.proofs.v2_lemmas.CountLemmas.{base_rounded}
+use Rattle.cvss_score.proofs.v2_lemmas.CountLemmas.{base_rounded, none_rounded}
 use Rattle.cvss_score.proofs.v2.equations.base_tenths.Goals as goal
 
 pub returns : goal.returns
@@ -17,3 +17,8 @@ returns c =
           let own = simp (to_z-of_z w128 c.args.impact c.ranges.impact) at number.on_scale in
           tenths.on_scale (simp (to_z-of_z w128 c.base_number.result (record { sfits = c.base_number.type_inv })) (own is_impact));
     })
+
+pub returns-then-impact-eq0-clause-value : goal.returns-then-impact-eq0-clause-value
+returns-then-impact-eq0-clause-value c =
+    let none : c.args.impact ≡ pos 0 = omega (arith, ints) in
+    rw none (none_rounded c.args.exploitability)

@@ -14,3 +14,6 @@ returns-clause-value c =
       c.weight-5.ensures.weight,
       c.weight-6.ensures.weight,
     ) at c.adjusted_impact_count.ensures.value)
+
+pub returns-clause-limit : goal.returns-clause-limit
+returns-clause-limit c = record { from_lowest = omega (arith, ints, c.adjusted_impact_count.ensures.bound.from_zero); to_highest = omega (arith, ints, c.adjusted_impact_count.ensures.bound.to_highest) }

@@ -17,3 +17,6 @@ returns-clause-value c = λ temporal is_temporal.
     equal_trans (lit< tt) (record { equal = omega (arith, ints) })
     (simp (same, c.weight-cdp.ensures.weight, c.weight.ensures.weight)
     at (simp (to_z-of_z w128 own.result (search rules)) at c.environmental_number-number.ensures.value))
+
+pub returns-clause-limit : goal.returns-clause-limit
+returns-clause-limit c = record { from_lowest = omega (arith, ints, c.environmental_number-number.ensures.on_scale.low); to_highest = omega (arith, ints, c.environmental_number-number.ensures.on_scale.high) }

@@ -18,3 +18,6 @@ returns-clause-value c =
       };
       is_count = simp (to_z-of_z w128 c.environmental_tenths.result (search rules)) at c.published.ensures.value;
     }
+
+pub returns-clause-range : goal.returns-clause-range
+returns-clause-range c = c.published.ensures.range

@@ -11,3 +11,6 @@ returns-clause-value c = record {
   is_number = temporal_equal (weights_of c.args.self.now) (lit< tt) (lit< tt) c.impact.ensures.value c.temporal_of.ensures.value;
   is_count = simp (to_z-of_z w128 c.temporal_of.result (search rules)) at c.published.ensures.value;
 }
+
+pub returns-clause-range : goal.returns-clause-range
+returns-clause-range c = c.published.ensures.range

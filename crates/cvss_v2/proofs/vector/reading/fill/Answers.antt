@@ -1,4 +1,4 @@
-use Rattle.cvss_metric.specs.v2.Table.{spelling_of}
+use Rattle.cvss_v2_metric.specs.Table.{spelling_of}
 use Rattle.cvss_v2.proofs.vector.reading.fill.Goals as goal
 
 pub returns : goal.returns

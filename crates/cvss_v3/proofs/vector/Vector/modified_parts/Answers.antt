@@ -10,3 +10,6 @@ returns-clause-possible c =
     let v = c.args.self.now in
     let is : record { sub_score = c.min.result; exploitability = c.exploitability.result; changed = c.is_modified_scope_changed.result } ≡ parts_of_first (weights_of v) = cc in
     subst ArePossible (sym is) (possible (modified_parts (weights_of v) (weights_listed v)))
+
+pub returns-clause-value : goal.returns-clause-value
+returns-clause-value c = cc

@@ -1,8 +1,8 @@
 use Rattle.std.proofs.Common.{sym, ◌∙◌}
 use Rattle.std.proofs.lemmas.Option.{IfSome_then}
 use Rattle.cvss_base.specs.Text.{raised}
-use Rattle.cvss_metric.specs.v3.Table.{spelling_of}
-use Rattle.cvss_metric.specs.v3.private.TableLaws.{raised_spelling}
+use Rattle.cvss_v3_metric.specs.Table.{spelling_of}
+use Rattle.cvss_v3_metric.specs.private.TableLaws.{raised_spelling}
 use Rattle.cvss_v3.proofs.vector.reading.fill.Goals as goal
 
 pub returns : goal.returns

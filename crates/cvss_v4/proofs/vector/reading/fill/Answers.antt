@@ -1,5 +1,5 @@
 use Rattle.cvss_base.specs.Text.{raised}
-use Rattle.cvss_metric.specs.v4.Table.{spelling_at}
+use Rattle.cvss_v4_metric.specs.Table.{spelling_at}
 use Rattle.cvss_v4.proofs.vector.reading.fill.Goals as goal
 
 pub returns : goal.returns

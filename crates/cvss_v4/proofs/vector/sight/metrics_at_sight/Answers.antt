@@ -2,7 +2,7 @@ use Rattle.std.proofs.Common.{drop, take, refl, sym, ◌∙◌}
 use Rattle.std.proofs.lemmas.Bool.{eqb-true}
 use Rattle.std.proofs.lemmas.List.{nil_from_length}
 use Rattle.cvss_text.proofs.SightLemmas.{joined}
-use Rattle.cvss_metric.specs.v4.Table.{printed}
+use Rattle.cvss_v4_metric.specs.Table.{printed}
 use Rattle.cvss_v4.specs.Vector.{v4}
 use Rattle.cvss_v4.proofs.vector.sight.metrics_at_sight.Goals as goal
 

@@ -1,7 +1,7 @@
 use Rattle.std.proofs.Common.{◌∷◌, [], drop, take, refl, sym, ◌∙◌}
 use Rattle.std.proofs.lemmas.List.{append-nil}
 use Rattle.cvss_base.specs.declared.v4.MetricType.TheVariants.{U}
-use Rattle.cvss_metric.specs.v4.Table.{printed}
+use Rattle.cvss_v4_metric.specs.Table.{printed}
 use Rattle.cvss_text.proofs.SightLemmas.{joined}
 use Rattle.cvss_text.specs.private.Printing.{slashed_text}
 use Rattle.cvss_v4.specs.declared.vector.Vector.{Vector}

@@ -1,1 +1,0 @@
-pub mod v4_lemmas

@@ -1,3 +1,0 @@
-pub mod v2
-pub mod v3
-pub mod v4

@@ -1,0 +1,6 @@
+use Rattle.std.proofs.Common.{arith}
+use Rattle.std.proofs.lemmas.Int.{ints}
+use Rattle.cvss_v2.proofs.vector.Vector.temporal_score_internal.Goals as goal
+
+pub returns-clause-limit : goal.returns-clause-limit
+returns-clause-limit c = record { from_lowest = omega (arith, ints, c.temporal_of.ensures.low); to_highest = omega (arith, ints, c.temporal_of.ensures.high) }

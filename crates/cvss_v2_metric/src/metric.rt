@@ -1,0 +1,169 @@
+//! What all metrics of CVSS v2 have in common.
+
+ghost use Rattle.std.specs.Prelude.{◌≡◌, ◌∷◌, ◌*◌, ◌^◌, pos, IfSome, IfOk, IfErr, Some, bytes_eq, find, map};
+ghost use Rattle.std.specs.Fmt.{WritesOnOk, WritesStyledOnOk};
+ghost use Rattle.cvss_base.specs.Refusal.{BadValue};
+ghost use Rattle.cvss_base.specs.Text.{slash};
+ghost use Rattle.cvss_base.specs.Told.{Tells};
+ghost use Rattle.cvss_base.specs.V2Types.{v2_reason, name_of};
+ghost use Rattle.cvss_base.specs.declared.v2.MetricType.{MetricType};
+ghost use Rattle.cvss_base.specs.Exact.{IsWithinLimit};
+ghost use Rattle.cvss_v2_metric.specs.Metrics.{IsMetric};
+ghost use Rattle.cvss_v2_metric.specs.Table.{Value, spelling_of, weight_of, metric_component, rows_of};
+
+use cvss_base::Error;
+pub use cvss_base::v2::MetricType;
+use cvss_text::print::write_component;
+use std::alloc::Global;
+use std::fmt;
+
+/// A thousandth, in counts of 10^-24.
+const THOUSANDTH: i128 = 1_000_000_000_000_000_000_000;
+
+/// What stands in vectors as a component: how values are spelled, read from their spelling, weighed
+/// and compared. Each such enum that can be shown is a metric.
+pub trait Spelled: Copy + Eq + Ord + 'static {
+    /// Which metric this is.
+    const TYPE: MetricType;
+
+    ghost TYPE: { MetricType };
+
+    ghost value: { Self → Value TYPE };
+
+    /// The values, the least first, each of which is the first with its spelling.
+    fn values() -> &'static [Self]
+        ensures rows { map (λ metric. spelling_of TYPE (value metric)) result.now
+            ≡ map (λ row. row.0) (rows_of TYPE) }
+        ensures first { (metric : Self) → find (λ other. bytes_eq (spelling_of TYPE (value other))
+            (spelling_of TYPE (value metric))) result.now ≡ Some metric };
+
+    /// A slash and the component that stands for the value in a vector, and the value's weight in
+    /// thousandths (guide, section 3.2).
+    fn row(self) -> (&'static str, u64)
+        ensures text { result.0.now ≡ slash ∷ metric_component TYPE (value self) }
+        ensures weight { result.1 ≡ weight_of TYPE (value self) };
+
+    ghost law: { IsMetric TYPE value ⟦<Self as Ord>⟧.cmp ⟦<Self as PartialEq>⟧.eq
+        ⟦<Self as Clone>⟧.is_clone ⟦<Self as Clone>⟧.is_infallible };
+
+    /// A slash and the component that stands for the value in a vector.
+    final fn slashed(self) -> &'static str
+        ensures { result.now ≡ slash ∷ metric_component TYPE (value self) }
+    {
+        self.row().0
+    }
+
+    /// Writes the component that stands for the value in a vector, and the same under any options.
+    final fn write<W: fmt::Write>(self, f: &mut fmt::Formatter<W>) -> fmt::Result
+        ensures plain { WritesOnOk W.write_str_gives f.old result
+            (metric_component TYPE (value self)) f.new }
+        ensures styled { WritesStyledOnOk W.write_str_gives f.old result
+            (metric_component TYPE (value self)) f.new }
+    {
+        write_component(self.slashed(), f)
+    }
+
+    /// The value's weight in thousandths (guide, section 3.2).
+    final fn thousandths(self) -> u64
+        ensures { result ≡ weight_of TYPE (value self) }
+    {
+        self.row().1
+    }
+
+    /// The value with this spelling.
+    #[inline(always)]
+    final fn read_bytes(text: &[u8]) -> Option<Self>
+        ensures spelled { IfSome result (λ metric. spelling_of TYPE (value metric) ≡ text.now) }
+        ensures read { (metric : Self) → spelling_of TYPE (value metric) ≡ text.now
+            → result ≡ Some metric }
+    {
+        Self::values()
+            .iter()
+            .copied()
+            .find(|value| are_alike(spelling(*value), text))
+    }
+}
+
+/// A metric: an enum of the values that the guide gives for its type.
+pub trait Metric: Spelled + fmt::Debug + fmt::Display {
+    /// How the value is spelled in a vector.
+    #[tactic(auto, using(cvss_text::proofs::SlashedLemmas::behind_colon))]
+    final fn as_str(self) -> &'static str
+        ensures { result.now ≡ spelling_of Self.TYPE (Self.value self) }
+    {
+        &self.slashed()[Self::TYPE.name().len() + 2..]
+    }
+
+    /// The value with this spelling.
+    final fn read(text: &str) -> Option<Self>
+        ensures spelled { IfSome result (λ metric. spelling_of Self.TYPE (Self.value metric) ≡ text.now) }
+        ensures read { (metric : Self) → spelling_of Self.TYPE (Self.value metric) ≡ text.now
+            → result ≡ Some metric }
+    {
+        Self::read_bytes(text.as_bytes())
+    }
+
+    /// The value with this spelling.
+    ///
+    /// # Errors
+    ///
+    /// `InvalidMetricV2` with the text where the metric has no such value.
+    final fn from_str(alloc: Global, text: &str) -> Result<Self, Error>
+        ensures spelled { IfOk result (λ metric. spelling_of Self.TYPE (Self.value metric) ≡ text.now) }
+        ensures read { (metric : Self) → spelling_of Self.TYPE (Self.value metric) ≡ text.now
+            → result ≡ Ok metric }
+        ensures refused { IfErr result (Tells v2_reason (BadValue Self.TYPE text.now)) }
+    {
+        match Self::read(text) {
+            Some(metric) => Ok(metric),
+            None => {
+                let value = String::from_str(alloc, text)?;
+                Err(Error::InvalidMetricV2 {
+                    metric_type: Self::TYPE,
+                    value,
+                })
+            }
+        }
+    }
+
+    /// The value's weight, in counts of 10^-24 (guide, section 3.2).
+    final fn score(self) -> i128
+        ensures value { result ≡ pos (weight_of Self.TYPE (Self.value self) * 10 ^ 21) }
+        ensures limit { IsWithinLimit result }
+    {
+        i128::from(self.thousandths()) * THOUSANDTH
+    }
+
+    /// The metric's abbreviation.
+    final fn name() -> &'static str
+        ensures { result.now ≡ name_of Self.TYPE }
+    {
+        Self::TYPE.name()
+    }
+}
+
+impl<M: Spelled + fmt::Debug + fmt::Display> Metric for M {}
+
+/// How a value is spelled in a vector.
+#[inline(always)]
+#[tactic(auto, using(cvss_text::proofs::SpellingLemmas::spelling_behind))]
+fn spelling<M: Spelled>(value: M) -> &'static [u8]
+    ensures { result.now ≡ spelling_of M.TYPE (M.value value) }
+{
+    value
+        .slashed()
+        .as_bytes()
+        .get(M::TYPE.name().len() + 2..)
+        .unwrap_or(&[])
+}
+
+/// Whether two texts are alike. Most are one letter.
+#[inline(always)]
+fn are_alike(text: &[u8], other: &[u8]) -> bool
+    ensures { result ≡ bytes_eq text.now other.now }
+{
+    match (text, other) {
+        ([letter], [same]) => letter == same,
+        _ => text == other,
+    }
+}

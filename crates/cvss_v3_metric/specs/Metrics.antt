@@ -1,0 +1,34 @@
+-- What holds of each enum of metric values.
+use Rattle.std.specs.Prelude.{◌≡◌, ◌≢◌, Bool, codes, IsSome, Some}
+use Rattle.std.specs.Ordering.{nat_cmp}
+use Rattle.std.specs.declared.cmp.Ordering.{Ordering}
+use Rattle.cvss_base.specs.Equality.{EqualsByValue, ClonesByValue, ClonesAlways}
+use Rattle.cvss_base.specs.declared.v3.MetricType.{MetricType}
+use Rattle.cvss_v3_metric.specs.declared.environmental.modified.Modified.{Modified}
+use Rattle.cvss_v3_metric.specs.declared.environmental.modified.Modified.TheVariants.{NotDefined, Modified as Set}
+use Rattle.cvss_v3_metric.specs.Modified.{modified_rank}
+use Rattle.cvss_v3_metric.specs.Table.{Value, spelling_of, weight_of, rank_of}
+
+-- the enum has the values of the metric in the table
+pub record IsMetric {A : Type 0} (kind : MetricType) (value : A → Value kind) (compared : A → A → Ordering) (same : A → A → Bool) (is_clone : A → A → Type 0) (is_infallible : A → Type 0) : Type 0 where
+  -- each value of the table is a value of the enum
+  pub covers : (x : Value kind) → (metric : A) × value metric ≡ x
+  -- two values compare as their places in the table do
+  pub ordered : (x y : A) → compared x y ≡ nat_cmp (rank_of kind (value x)) (rank_of kind (value y))
+  -- two values are found equal where they are one value
+  pub equal : EqualsByValue same
+  -- a clone is the value itself, and is never refused
+  pub cloned : ClonesByValue is_clone
+  pub clonable : ClonesAlways is_infallible
+
+-- the enum has the values of a base metric, which the modified metric can replace
+pub record IsBaseMetric {A : Type 0} (kind modified_kind : MetricType) (value : A → Value kind) (modified : Modified A → Value modified_kind) : Type 0 where
+  -- each value has a weight, and none is spelled X
+  pub weighed : (x : A) → IsSome (weight_of kind (value x))
+  pub defined : (x : A) → spelling_of kind (value x) ≢ codes "X"
+  -- the modified metric has the same values and X, in the same order, and none weighs of its own
+  pub undefined : spelling_of modified_kind (modified NotDefined) ≡ codes "X"
+  pub spelled : (x : A) → spelling_of modified_kind (modified (Set x)) ≡ spelling_of kind (value x)
+  pub weightless : (x : Modified A) → weight_of modified_kind (modified x) ≡ Some 0
+  pub covers : (x : Value modified_kind) → (metric : Modified A) × modified metric ≡ x
+  pub rank : (x : Modified A) → rank_of modified_kind (modified x) ≡ modified_rank (λ y. rank_of kind (value y)) x

@@ -1,0 +1,33 @@
+-- What holds of each value in the table of CVSS v3, checked value by value.
+use Rattle.std.specs.Prelude.{◌≡◌, ◌≢◌, Bool, false, codes, bytes_eq}
+use Rattle.std.specs.List.{list_any}
+use Rattle.std.proofs.Common.{rules}
+use Rattle.cvss_base.specs.Text.{raised}
+use Rattle.cvss_text.specs.private.Walk.{foreign_bytes}
+use Rattle.cvss_base.specs.declared.v3.MetricType.{MetricType}
+use Rattle.cvss_base.specs.declared.v3.MetricType.TheVariants.{A}
+use Rattle.cvss_v3_metric.specs.Table.{Value, rows_of, spelling_of}
+
+-- whether the metric has the value X
+abbrev pub has_undefined : MetricType → Bool
+has_undefined kind = list_any (λ row. bytes_eq row.0 (codes "X")) (rows_of kind)
+
+-- a spelling is its own raised text
+pub raised_spelling : (kind : MetricType) (value : Value kind) → raised (spelling_of kind value) ≡ spelling_of kind value
+raised_spelling A = search rules
+raised_spelling _ = search rules
+
+-- no spelling has a slash or a colon
+pub plain_spelling : (kind : MetricType) (value : Value kind) → foreign_bytes (spelling_of kind value) ≡ 0
+plain_spelling A = search rules
+plain_spelling _ = search rules
+
+-- two values with one spelling, as it is read, are one
+pub one_value : (kind : MetricType) (x y : Value kind) → raised (spelling_of kind x) ≡ raised (spelling_of kind y) → x ≡ y
+one_value A = search rules
+one_value _ = search rules
+
+-- no value is X where the metric has no X
+pub none_undefined : (kind : MetricType) (value : Value kind) → has_undefined kind ≡ false → spelling_of kind value ≢ codes "X"
+none_undefined A = search rules
+none_undefined _ = search rules

@@ -1,0 +1,166 @@
+//! What the attack needs of others: privileges, and somebody who takes part (v3.1 specification,
+//! sections 2.1.3 and 2.1.4).
+
+ghost use Rattle.std.specs.Prelude.{◌∷◌, ◌≡◌, ◌*◌, ◌^◌, pos, Some};
+ghost use Rattle.std.proofs.Common.{rules};
+ghost use Rattle.cvss_base.specs.Exact.{IsWithinLimit};
+ghost use Rattle.cvss_base.specs.declared.v3.MetricType.TheVariants.{PR, UI, MPR, MUI};
+ghost use Rattle.cvss_base.specs.Text.{slash};
+ghost use Rattle.cvss_v3_metric.specs.Table.{scoped_weight, metric_component};
+
+use crate::environmental::{Modifiable, Modified};
+use crate::metric::{HUNDREDTH, Metric, MetricType, Spelled};
+use std::fmt;
+
+/// The privileges that the attacker has to have before the attack (v3.1 specification, section
+/// 2.1.3).
+#[derive(Clone, Copy, Debug, PartialEq, Eq, PartialOrd, Ord)]
+pub enum PrivilegesRequired {
+    High,
+    Low,
+    None,
+}
+
+impl Spelled for PrivilegesRequired {
+    const TYPE: MetricType = MetricType::PR;
+
+    ghost TYPE = { PR };
+
+    ghost value = { λ metric. metric };
+
+    ghost law = { Prim.search rules };
+
+    fn row(self) -> (&'static str, Option<u64>) {
+        match self {
+            Self::High => ("/PR:H", Some(27)),
+            Self::Low => ("/PR:L", Some(62)),
+            Self::None => ("/PR:N", Some(85)),
+        }
+    }
+
+    #[inline(always)]
+    fn read_letter(letter: u8) -> Option<Self> {
+        match letter {
+            b'H' => Some(Self::High),
+            b'L' => Some(Self::Low),
+            b'N' => Some(Self::None),
+            _ => None,
+        }
+    }
+}
+
+impl fmt::Display for PrivilegesRequired {
+    ghost output = { λ metric. Some (metric_component PR metric) };
+
+    ghost styled_output = { λ metric _. Some (metric_component PR metric) };
+
+    fn fmt<W: fmt::Write>(&self, f: &mut fmt::Formatter<W>) -> fmt::Result {
+        self.write(f)
+    }
+}
+
+impl Modifiable for PrivilegesRequired {
+    const MODIFIED: MetricType = MetricType::MPR;
+
+    ghost MODIFIED = { MPR };
+
+    ghost modified_value = { λ metric. metric };
+
+    ghost base_law = { Prim.search rules };
+
+    fn modified_slashed(metric: Modified<Self>) -> &'static str
+        ensures { result.now ≡ slash ∷ metric_component MPR metric }
+    {
+        match metric {
+            Modified::NotDefined => "/MPR:X",
+            Modified::Modified(Self::High) => "/MPR:H",
+            Modified::Modified(Self::Low) => "/MPR:L",
+            Modified::Modified(Self::None) => "/MPR:N",
+        }
+    }
+}
+
+impl PrivilegesRequired {
+    /// The value's weight in hundredths, which is higher where the scope changes (v3.1 specification,
+    /// section 7.4).
+    pub fn scoped_hundredths(self, scope_changed: bool) -> u64
+        ensures { result ≡ scoped_weight scope_changed self }
+    {
+        match (self, scope_changed) {
+            (Self::High, true) => 50,
+            (Self::Low, true) => 68,
+            _ => self.hundredths().unwrap(),
+        }
+    }
+
+    /// The value's weight in counts of 10^-24, which is higher where the scope changes.
+    pub fn scoped_score(self, scope_change: bool) -> i128
+        ensures value { result ≡ pos (scoped_weight scope_change self * 10 ^ 22) }
+        ensures limit { IsWithinLimit result }
+    {
+        i128::from(self.scoped_hundredths(scope_change)) * HUNDREDTH
+    }
+}
+
+/// Whether a person other than the attacker has to take part (v3.1 specification, section 2.1.4).
+#[derive(Clone, Copy, Debug, PartialEq, Eq, PartialOrd, Ord)]
+pub enum UserInteraction {
+    Required,
+    None,
+}
+
+impl Spelled for UserInteraction {
+    const TYPE: MetricType = MetricType::UI;
+
+    ghost TYPE = { UI };
+
+    ghost value = { λ metric. metric };
+
+    ghost law = { Prim.search rules };
+
+    fn row(self) -> (&'static str, Option<u64>) {
+        match self {
+            Self::Required => ("/UI:R", Some(62)),
+            Self::None => ("/UI:N", Some(85)),
+        }
+    }
+
+    #[inline(always)]
+    fn read_letter(letter: u8) -> Option<Self> {
+        match letter {
+            b'R' => Some(Self::Required),
+            b'N' => Some(Self::None),
+            _ => None,
+        }
+    }
+}
+
+impl fmt::Display for UserInteraction {
+    ghost output = { λ metric. Some (metric_component UI metric) };
+
+    ghost styled_output = { λ metric _. Some (metric_component UI metric) };
+
+    fn fmt<W: fmt::Write>(&self, f: &mut fmt::Formatter<W>) -> fmt::Result {
+        self.write(f)
+    }
+}
+
+impl Modifiable for UserInteraction {
+    const MODIFIED: MetricType = MetricType::MUI;
+
+    ghost MODIFIED = { MUI };
+
+    ghost modified_value = { λ metric. metric };
+
+    ghost base_law = { Prim.search rules };
+
+    fn modified_slashed(metric: Modified<Self>) -> &'static str
+        ensures { result.now ≡ slash ∷ metric_component MUI metric }
+    {
+        match metric {
+            Modified::NotDefined => "/MUI:X",
+            Modified::Modified(Self::Required) => "/MUI:R",
+            Modified::Modified(Self::None) => "/MUI:N",
+        }
+    }
+}

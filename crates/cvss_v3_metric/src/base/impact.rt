@@ -1,0 +1,212 @@
+//! The impact on the component that suffers most (v3.1 specification, section 2.3).
+
+ghost use Rattle.std.specs.Prelude.{◌≡◌, ◌∷◌, Some};
+ghost use Rattle.std.proofs.Common.{rules};
+ghost use Rattle.cvss_base.specs.declared.v3.MetricType.TheVariants.{C, I, A, MC, MI, MA};
+ghost use Rattle.cvss_base.specs.Text.{slash};
+ghost use Rattle.cvss_v3_metric.specs.Table.{metric_component};
+
+use crate::environmental::{Modifiable, Modified};
+use crate::metric::{MetricType, Spelled};
+use std::fmt;
+
+/// What becomes known to those who may not know it (v3.1 specification, section 2.3.1).
+#[derive(Clone, Copy, Debug, PartialEq, Eq, PartialOrd, Ord)]
+pub enum Confidentiality {
+    None,
+    Low,
+    High,
+}
+
+impl Spelled for Confidentiality {
+    const TYPE: MetricType = MetricType::C;
+
+    ghost TYPE = { C };
+
+    ghost value = { λ metric. metric };
+
+    ghost law = { Prim.search rules };
+
+    fn row(self) -> (&'static str, Option<u64>) {
+        match self {
+            Self::None => ("/C:N", Some(0)),
+            Self::Low => ("/C:L", Some(22)),
+            Self::High => ("/C:H", Some(56)),
+        }
+    }
+
+    #[inline(always)]
+    fn read_letter(letter: u8) -> Option<Self> {
+        match letter {
+            b'N' => Some(Self::None),
+            b'L' => Some(Self::Low),
+            b'H' => Some(Self::High),
+            _ => None,
+        }
+    }
+}
+
+impl fmt::Display for Confidentiality {
+    ghost output = { λ metric. Some (metric_component C metric) };
+
+    ghost styled_output = { λ metric _. Some (metric_component C metric) };
+
+    fn fmt<W: fmt::Write>(&self, f: &mut fmt::Formatter<W>) -> fmt::Result {
+        self.write(f)
+    }
+}
+
+impl Modifiable for Confidentiality {
+    const MODIFIED: MetricType = MetricType::MC;
+
+    ghost MODIFIED = { MC };
+
+    ghost modified_value = { λ metric. metric };
+
+    ghost base_law = { Prim.search rules };
+
+    fn modified_slashed(metric: Modified<Self>) -> &'static str
+        ensures { result.now ≡ slash ∷ metric_component MC metric }
+    {
+        match metric {
+            Modified::NotDefined => "/MC:X",
+            Modified::Modified(Self::None) => "/MC:N",
+            Modified::Modified(Self::Low) => "/MC:L",
+            Modified::Modified(Self::High) => "/MC:H",
+        }
+    }
+}
+
+/// What can no longer be trusted to be genuine (v3.1 specification, section 2.3.2).
+#[derive(Clone, Copy, Debug, PartialEq, Eq, PartialOrd, Ord)]
+pub enum Integrity {
+    None,
+    Low,
+    High,
+}
+
+impl Spelled for Integrity {
+    const TYPE: MetricType = MetricType::I;
+
+    ghost TYPE = { I };
+
+    ghost value = { λ metric. metric };
+
+    ghost law = { Prim.search rules };
+
+    fn row(self) -> (&'static str, Option<u64>) {
+        match self {
+            Self::None => ("/I:N", Some(0)),
+            Self::Low => ("/I:L", Some(22)),
+            Self::High => ("/I:H", Some(56)),
+        }
+    }
+
+    #[inline(always)]
+    fn read_letter(letter: u8) -> Option<Self> {
+        match letter {
+            b'N' => Some(Self::None),
+            b'L' => Some(Self::Low),
+            b'H' => Some(Self::High),
+            _ => None,
+        }
+    }
+}
+
+impl fmt::Display for Integrity {
+    ghost output = { λ metric. Some (metric_component I metric) };
+
+    ghost styled_output = { λ metric _. Some (metric_component I metric) };
+
+    fn fmt<W: fmt::Write>(&self, f: &mut fmt::Formatter<W>) -> fmt::Result {
+        self.write(f)
+    }
+}
+
+impl Modifiable for Integrity {
+    const MODIFIED: MetricType = MetricType::MI;
+
+    ghost MODIFIED = { MI };
+
+    ghost modified_value = { λ metric. metric };
+
+    ghost base_law = { Prim.search rules };
+
+    fn modified_slashed(metric: Modified<Self>) -> &'static str
+        ensures { result.now ≡ slash ∷ metric_component MI metric }
+    {
+        match metric {
+            Modified::NotDefined => "/MI:X",
+            Modified::Modified(Self::None) => "/MI:N",
+            Modified::Modified(Self::Low) => "/MI:L",
+            Modified::Modified(Self::High) => "/MI:H",
+        }
+    }
+}
+
+/// What can no longer be used (v3.1 specification, section 2.3.3).
+#[derive(Clone, Copy, Debug, PartialEq, Eq, PartialOrd, Ord)]
+pub enum Availability {
+    None,
+    Low,
+    High,
+}
+
+impl Spelled for Availability {
+    const TYPE: MetricType = MetricType::A;
+
+    ghost TYPE = { A };
+
+    ghost value = { λ metric. metric };
+
+    ghost law = { Prim.search rules };
+
+    fn row(self) -> (&'static str, Option<u64>) {
+        match self {
+            Self::None => ("/A:N", Some(0)),
+            Self::Low => ("/A:L", Some(22)),
+            Self::High => ("/A:H", Some(56)),
+        }
+    }
+
+    #[inline(always)]
+    fn read_letter(letter: u8) -> Option<Self> {
+        match letter {
+            b'N' => Some(Self::None),
+            b'L' => Some(Self::Low),
+            b'H' => Some(Self::High),
+            _ => None,
+        }
+    }
+}
+
+impl fmt::Display for Availability {
+    ghost output = { λ metric. Some (metric_component A metric) };
+
+    ghost styled_output = { λ metric _. Some (metric_component A metric) };
+
+    fn fmt<W: fmt::Write>(&self, f: &mut fmt::Formatter<W>) -> fmt::Result {
+        self.write(f)
+    }
+}
+
+impl Modifiable for Availability {
+    const MODIFIED: MetricType = MetricType::MA;
+
+    ghost MODIFIED = { MA };
+
+    ghost modified_value = { λ metric. metric };
+
+    ghost base_law = { Prim.search rules };
+
+    fn modified_slashed(metric: Modified<Self>) -> &'static str
+        ensures { result.now ≡ slash ∷ metric_component MA metric }
+    {
+        match metric {
+            Modified::NotDefined => "/MA:X",
+            Modified::Modified(Self::None) => "/MA:N",
+            Modified::Modified(Self::Low) => "/MA:L",
+            Modified::Modified(Self::High) => "/MA:H",
+        }
+    }
+}

@@ -1,0 +1,186 @@
+//! What all metrics of CVSS v3 have in common.
+
+ghost use Rattle.std.specs.Prelude.{◌≡◌, [], ◌∷◌, ◌*◌, ◌^◌, ◌↔◌, pos, IsTrue, IsSome, IfSome, IfOk, IfErr, Some, unwrap_or};
+ghost use Rattle.std.specs.Fmt.{WritesOnOk, WritesStyledOnOk};
+ghost use Rattle.cvss_base.specs.Refusal.{BadValue};
+ghost use Rattle.cvss_base.specs.Told.{Tells};
+ghost use Rattle.cvss_base.specs.V3Types.{v3_reason, name_of};
+ghost use Rattle.cvss_base.specs.Exact.{IsWithinLimit};
+ghost use Rattle.cvss_base.specs.declared.v3.MetricType.{MetricType};
+ghost use Rattle.cvss_base.specs.Text.{slash, raised};
+ghost use Rattle.cvss_v3_metric.specs.Table.{Value, spelling_of, weight_of, metric_component, blamed};
+ghost use Rattle.cvss_v3_metric.specs.Metrics.{IsMetric};
+
+use cvss_base::Error;
+pub use cvss_base::v3::MetricType;
+use cvss_text::print::write_component;
+use std::alloc::Global;
+use std::fmt;
+
+/// A hundredth, in counts of 10^-24.
+pub(crate) const HUNDREDTH: i128 = 10_000_000_000_000_000_000_000;
+
+/// What stands in vectors as a component: how values are spelled, read from their spelling, weighed
+/// and compared. Each such enum that can be shown is a metric.
+pub trait Spelled: Copy + Eq + Ord + 'static {
+    /// Which metric this is.
+    const TYPE: MetricType;
+
+    ghost TYPE: { MetricType };
+
+    ghost value: { Self → Value TYPE };
+
+    /// A slash and the component that stands for the value in a vector, and the value's weight in
+    /// hundredths, if it has one (v3.1 specification, section 7.4).
+    fn row(self) -> (&'static str, Option<u64>)
+        ensures text { result.0.now ≡ slash ∷ metric_component TYPE (value self) }
+        ensures weight { result.1 ≡ weight_of TYPE (value self) };
+
+    /// The value that is spelled by this letter, exactly as it is written: each value is spelled by
+    /// one letter.
+    fn read_letter(letter: u8) -> Option<Self>
+        ensures spelled { IfSome result (λ metric. spelling_of TYPE (value metric) ≡ letter ∷ []) }
+        ensures read { (metric : Self) → spelling_of TYPE (value metric) ≡ letter ∷ []
+            → result ≡ Some metric };
+
+    ghost law: { IsMetric TYPE value ⟦<Self as Ord>⟧.cmp ⟦<Self as PartialEq>⟧.eq
+        ⟦<Self as Clone>⟧.is_clone ⟦<Self as Clone>⟧.is_infallible };
+
+    /// A slash and the component that stands for the value in a vector.
+    final fn slashed(self) -> &'static str
+        ensures { result.now ≡ slash ∷ metric_component TYPE (value self) }
+    {
+        self.row().0
+    }
+
+    /// Writes the component that stands for the value in a vector, and the same under any options.
+    final fn write<W: fmt::Write>(self, f: &mut fmt::Formatter<W>) -> fmt::Result
+        ensures plain { WritesOnOk W.write_str_gives f.old result
+            (metric_component TYPE (value self)) f.new }
+        ensures styled { WritesStyledOnOk W.write_str_gives f.old result
+            (metric_component TYPE (value self)) f.new }
+    {
+        write_component(self.slashed(), f)
+    }
+
+    /// The value's weight in hundredths, if it has one (v3.1 specification, section 7.4).
+    final fn hundredths(self) -> Option<u64>
+        ensures { result ≡ weight_of TYPE (value self) }
+    {
+        self.row().1
+    }
+
+    /// The value with this spelling, in any ASCII case.
+    final fn read_bytes(text: &[u8]) -> Option<Self>
+        ensures spelled { IfSome result
+            (λ metric. spelling_of TYPE (value metric) ≡ raised text.now) }
+        ensures read { (metric : Self) → spelling_of TYPE (value metric) ≡ raised text.now
+            → result ≡ Some metric }
+    {
+        match text {
+            [letter] => Self::read_letter(letter.to_ascii_uppercase()),
+            _ => None,
+        }
+    }
+}
+
+/// A metric: an enum of the values that the specification gives for its type.
+pub trait Metric: Spelled + fmt::Debug + fmt::Display {
+    /// How the value is spelled in a vector.
+    #[tactic(auto, using(cvss_text::proofs::SlashedLemmas::behind_colon))]
+    final fn as_str(self) -> &'static str
+        ensures { result.now ≡ spelling_of Self.TYPE (Self.value self) }
+    {
+        &self.slashed()[Self::TYPE.name().len() + 2..]
+    }
+
+    /// The value with this spelling, in any ASCII case.
+    final fn read_raised(text: &str) -> Option<Self>
+        ensures spelled { IfSome result
+            (λ metric. spelling_of Self.TYPE (Self.value metric) ≡ raised text.now) }
+        ensures read { (metric : Self) → spelling_of Self.TYPE (Self.value metric) ≡ raised text.now
+            → result ≡ Some metric }
+    {
+        Self::read_bytes(text.as_bytes())
+    }
+
+    /// The value with this spelling, exactly as it is written.
+    #[tactic(auto, using(crate::specs::private::TableLaws::raised_spelling))]
+    final fn read(text: &str) -> Option<Self>
+        ensures spelled { IfSome result (λ metric. spelling_of Self.TYPE (Self.value metric) ≡ text.now) }
+        ensures read { (metric : Self) → spelling_of Self.TYPE (Self.value metric) ≡ text.now
+            → result ≡ Some metric }
+    {
+        let metric = Self::read_raised(text)?;
+        if metric.as_str() == text {
+            Some(metric)
+        } else {
+            None
+        }
+    }
+
+    /// The value with this spelling, exactly as it is written.
+    ///
+    /// # Errors
+    ///
+    /// `InvalidMetricV3` with the text where the metric has no such value.
+    final fn from_str(alloc: Global, text: &str) -> Result<Self, Error>
+        ensures spelled { IfOk result (λ metric. spelling_of Self.TYPE (Self.value metric) ≡ text.now) }
+        ensures read { (metric : Self) → spelling_of Self.TYPE (Self.value metric) ≡ text.now
+            → result ≡ Ok metric }
+        ensures refused { IfErr result (Tells v3_reason (BadValue (blamed Self.TYPE) text.now)) }
+    {
+        match Self::read(text) {
+            Some(metric) => Ok(metric),
+            None => {
+                let value = String::from_str(alloc, text)?;
+                Err(Error::InvalidMetricV3 {
+                    metric_type: blamed(Self::TYPE),
+                    value,
+                })
+            }
+        }
+    }
+
+    /// Whether the value has a weight.
+    final fn has_score(self) -> bool
+        ensures { IsTrue result ↔ IsSome (weight_of Self.TYPE (Self.value self)) }
+    {
+        self.hundredths().is_some()
+    }
+
+    /// The value's weight in counts of 10^-24 (v3.1 specification, section 7.4).
+    final fn score(self) -> i128
+        requires { IsSome (weight_of Self.TYPE (Self.value self)) }
+        ensures value { result ≡ pos (unwrap_or (weight_of Self.TYPE (Self.value self)) 0 * 10 ^ 22) }
+        ensures limit { IsWithinLimit result }
+    {
+        i128::from(self.hundredths().unwrap()) * HUNDREDTH
+    }
+
+    /// The metric's abbreviation.
+    final fn name() -> &'static str
+        ensures { result.now ≡ name_of Self.TYPE }
+    {
+        Self::TYPE.name()
+    }
+}
+
+impl<M: Spelled + fmt::Debug + fmt::Display> Metric for M {}
+
+/// The metric that a refused value is reported under: of a modified metric its base metric.
+pub fn blamed(kind: MetricType) -> MetricType
+    ensures { result ≡ blamed kind }
+{
+    match kind {
+        MetricType::MAV => MetricType::AV,
+        MetricType::MAC => MetricType::AC,
+        MetricType::MPR => MetricType::PR,
+        MetricType::MUI => MetricType::UI,
+        MetricType::MS => MetricType::S,
+        MetricType::MC => MetricType::C,
+        MetricType::MI => MetricType::I,
+        MetricType::MA => MetricType::A,
+        kind => kind,
+    }
+}

@@ -1,0 +1,13 @@
+use Rattle.std.proofs.Common.{◌∷◌, sym, ap, ◌∙◌}
+use Rattle.cvss_base.specs.Text.{slash, component}
+use Rattle.cvss_base.specs.V4Types.{name_of}
+use Rattle.cvss_text.proofs.SlashedLemmas.{behind_colon}
+use Rattle.cvss_v4_metric.specs.Table.{spelling_at}
+use Rattle.cvss_v4_metric.proofs.metric.Metric.as_str.Goals as goal
+
+pub range_from-requires : goal.range_from-requires
+range_from-requires g c =
+    let value = spelling_at g.Self.Spelled.TYPE (g.Self.Spelled.rank c.args.self) in
+    let named = sym (c.name.ensures ∙ ap name_of c.TYPE.ensures) in
+    λ _. behind_colon c.slashed.result.now c.name.result.now value
+    (c.slashed.ensures ∙ ap (λ name. slash ∷ component name value) named) c.slashed.utf8

@@ -1,0 +1,135 @@
+//! What systems behind the vulnerable one lose (v4.0 specification, section 2.2).
+
+ghost use Rattle.std.specs.Prelude.{Some};
+ghost use Rattle.std.proofs.Common.{rules};
+ghost use Rattle.cvss_base.specs.declared.v4.MetricType.TheVariants as metric;
+ghost use Rattle.cvss_v4_metric.specs.Ranks as place;
+ghost use Rattle.cvss_v4_metric.specs.Table.{metric_component};
+
+use crate::metric::{MetricType, Spelled};
+use std::fmt;
+
+/// How much confidentiality systems behind the vulnerable one lose (v4.0 specification, section
+/// 2.2.1).
+#[derive(Clone, Copy, Debug, Default, PartialEq, Eq, PartialOrd, Ord)]
+pub enum ConfidentialityImpactToTheSubsequentSystem {
+    None,
+    Low,
+    #[default]
+    High,
+}
+
+impl Spelled for ConfidentialityImpactToTheSubsequentSystem {
+    const TYPE: MetricType = MetricType::SC;
+
+    ghost TYPE = { metric.SC };
+
+    ghost rank = { place.SC };
+
+    ghost law = { Prim.search rules };
+
+    fn values() -> &'static [Self] {
+        &[Self::None, Self::Low, Self::High]
+    }
+
+    fn slashed(self) -> &'static str {
+        match self {
+            Self::None => "/SC:N",
+            Self::Low => "/SC:L",
+            Self::High => "/SC:H",
+        }
+    }
+}
+
+impl fmt::Display for ConfidentialityImpactToTheSubsequentSystem {
+    ghost output = { λ value. Some (metric_component metric.SC (place.SC value)) };
+
+    ghost styled_output = { λ value _. Some (metric_component metric.SC (place.SC value)) };
+
+    fn fmt<W: fmt::Write>(&self, f: &mut fmt::Formatter<W>) -> fmt::Result {
+        self.write(f)
+    }
+}
+
+/// How much integrity systems behind the vulnerable one lose (v4.0 specification, section 2.2.2).
+#[derive(Clone, Copy, Debug, Default, PartialEq, Eq, PartialOrd, Ord)]
+pub enum IntegrityImpactToTheSubsequentSystem {
+    None,
+    Low,
+    #[default]
+    High,
+}
+
+impl Spelled for IntegrityImpactToTheSubsequentSystem {
+    const TYPE: MetricType = MetricType::SI;
+
+    ghost TYPE = { metric.SI };
+
+    ghost rank = { place.SI };
+
+    ghost law = { Prim.search rules };
+
+    fn values() -> &'static [Self] {
+        &[Self::None, Self::Low, Self::High]
+    }
+
+    fn slashed(self) -> &'static str {
+        match self {
+            Self::None => "/SI:N",
+            Self::Low => "/SI:L",
+            Self::High => "/SI:H",
+        }
+    }
+}
+
+impl fmt::Display for IntegrityImpactToTheSubsequentSystem {
+    ghost output = { λ value. Some (metric_component metric.SI (place.SI value)) };
+
+    ghost styled_output = { λ value _. Some (metric_component metric.SI (place.SI value)) };
+
+    fn fmt<W: fmt::Write>(&self, f: &mut fmt::Formatter<W>) -> fmt::Result {
+        self.write(f)
+    }
+}
+
+/// How much availability systems behind the vulnerable one lose (v4.0 specification, section
+/// 2.2.3).
+#[derive(Clone, Copy, Debug, Default, PartialEq, Eq, PartialOrd, Ord)]
+pub enum AvailabilityImpactToTheSubsequentSystem {
+    None,
+    Low,
+    #[default]
+    High,
+}
+
+impl Spelled for AvailabilityImpactToTheSubsequentSystem {
+    const TYPE: MetricType = MetricType::SA;
+
+    ghost TYPE = { metric.SA };
+
+    ghost rank = { place.SA };
+
+    ghost law = { Prim.search rules };
+
+    fn values() -> &'static [Self] {
+        &[Self::None, Self::Low, Self::High]
+    }
+
+    fn slashed(self) -> &'static str {
+        match self {
+            Self::None => "/SA:N",
+            Self::Low => "/SA:L",
+            Self::High => "/SA:H",
+        }
+    }
+}
+
+impl fmt::Display for AvailabilityImpactToTheSubsequentSystem {
+    ghost output = { λ value. Some (metric_component metric.SA (place.SA value)) };
+
+    ghost styled_output = { λ value _. Some (metric_component metric.SA (place.SA value)) };
+
+    fn fmt<W: fmt::Write>(&self, f: &mut fmt::Formatter<W>) -> fmt::Result {
+        self.write(f)
+    }
+}

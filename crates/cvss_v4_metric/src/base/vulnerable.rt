@@ -1,0 +1,133 @@
+//! What the vulnerable system loses (v4.0 specification, section 2.2).
+
+ghost use Rattle.std.specs.Prelude.{Some};
+ghost use Rattle.std.proofs.Common.{rules};
+ghost use Rattle.cvss_base.specs.declared.v4.MetricType.TheVariants as metric;
+ghost use Rattle.cvss_v4_metric.specs.Ranks as place;
+ghost use Rattle.cvss_v4_metric.specs.Table.{metric_component};
+
+use crate::metric::{MetricType, Spelled};
+use std::fmt;
+
+/// How much confidentiality the vulnerable system loses (v4.0 specification, section 2.2.1).
+#[derive(Clone, Copy, Debug, Default, PartialEq, Eq, PartialOrd, Ord)]
+pub enum ConfidentialityImpactToTheVulnerableSystem {
+    None,
+    Low,
+    #[default]
+    High,
+}
+
+impl Spelled for ConfidentialityImpactToTheVulnerableSystem {
+    const TYPE: MetricType = MetricType::VC;
+
+    ghost TYPE = { metric.VC };
+
+    ghost rank = { place.VC };
+
+    ghost law = { Prim.search rules };
+
+    fn values() -> &'static [Self] {
+        &[Self::None, Self::Low, Self::High]
+    }
+
+    fn slashed(self) -> &'static str {
+        match self {
+            Self::None => "/VC:N",
+            Self::Low => "/VC:L",
+            Self::High => "/VC:H",
+        }
+    }
+}
+
+impl fmt::Display for ConfidentialityImpactToTheVulnerableSystem {
+    ghost output = { λ value. Some (metric_component metric.VC (place.VC value)) };
+
+    ghost styled_output = { λ value _. Some (metric_component metric.VC (place.VC value)) };
+
+    fn fmt<W: fmt::Write>(&self, f: &mut fmt::Formatter<W>) -> fmt::Result {
+        self.write(f)
+    }
+}
+
+/// How much integrity the vulnerable system loses (v4.0 specification, section 2.2.2).
+#[derive(Clone, Copy, Debug, Default, PartialEq, Eq, PartialOrd, Ord)]
+pub enum IntegrityImpactToTheVulnerableSystem {
+    None,
+    Low,
+    #[default]
+    High,
+}
+
+impl Spelled for IntegrityImpactToTheVulnerableSystem {
+    const TYPE: MetricType = MetricType::VI;
+
+    ghost TYPE = { metric.VI };
+
+    ghost rank = { place.VI };
+
+    ghost law = { Prim.search rules };
+
+    fn values() -> &'static [Self] {
+        &[Self::None, Self::Low, Self::High]
+    }
+
+    fn slashed(self) -> &'static str {
+        match self {
+            Self::None => "/VI:N",
+            Self::Low => "/VI:L",
+            Self::High => "/VI:H",
+        }
+    }
+}
+
+impl fmt::Display for IntegrityImpactToTheVulnerableSystem {
+    ghost output = { λ value. Some (metric_component metric.VI (place.VI value)) };
+
+    ghost styled_output = { λ value _. Some (metric_component metric.VI (place.VI value)) };
+
+    fn fmt<W: fmt::Write>(&self, f: &mut fmt::Formatter<W>) -> fmt::Result {
+        self.write(f)
+    }
+}
+
+/// How much availability the vulnerable system loses (v4.0 specification, section 2.2.3).
+#[derive(Clone, Copy, Debug, Default, PartialEq, Eq, PartialOrd, Ord)]
+pub enum AvailabilityImpactToTheVulnerableSystem {
+    None,
+    Low,
+    #[default]
+    High,
+}
+
+impl Spelled for AvailabilityImpactToTheVulnerableSystem {
+    const TYPE: MetricType = MetricType::VA;
+
+    ghost TYPE = { metric.VA };
+
+    ghost rank = { place.VA };
+
+    ghost law = { Prim.search rules };
+
+    fn values() -> &'static [Self] {
+        &[Self::None, Self::Low, Self::High]
+    }
+
+    fn slashed(self) -> &'static str {
+        match self {
+            Self::None => "/VA:N",
+            Self::Low => "/VA:L",
+            Self::High => "/VA:H",
+        }
+    }
+}
+
+impl fmt::Display for AvailabilityImpactToTheVulnerableSystem {
+    ghost output = { λ value. Some (metric_component metric.VA (place.VA value)) };
+
+    ghost styled_output = { λ value _. Some (metric_component metric.VA (place.VA value)) };
+
+    fn fmt<W: fmt::Write>(&self, f: &mut fmt::Formatter<W>) -> fmt::Result {
+        self.write(f)
+    }
+}

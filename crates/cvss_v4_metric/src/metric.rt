@@ -1,0 +1,195 @@
+//! What all metrics of CVSS v4.0 have in common.
+
+ghost use Rattle.std.specs.Prelude.{◌≡◌, ◌↔◌, [], ◌∷◌, ℕ, IsTrue, IfSome, IfOk, IfErr, Some, bytes_eq, map, slice_get};
+ghost use Rattle.std.specs.Fmt.{WritesOnOk, WritesStyledOnOk};
+ghost use Rattle.std.specs.Str.{str_eq_ignore_ascii_case};
+ghost use Rattle.cvss_base.specs.Refusal.{BadValue};
+ghost use Rattle.cvss_base.specs.Text.{slash, raised};
+ghost use Rattle.cvss_base.specs.Told.{Tells};
+ghost use Rattle.cvss_base.specs.V4Types.{v4_reason, name_of};
+ghost use Rattle.cvss_base.specs.declared.v4.MetricType.{MetricType};
+ghost use Rattle.cvss_v4_metric.specs.Metrics.{IsMetric};
+ghost use Rattle.cvss_v4_metric.specs.Reading.{IsReading};
+ghost use Rattle.cvss_v4_metric.specs.Table.{spelling_at, spellings_of, metric_component};
+
+use cvss_base::Error;
+pub use cvss_base::v4::MetricType;
+use cvss_text::cutting::is_raised_as;
+use cvss_text::print::write_component;
+use std::alloc::Global;
+use std::fmt;
+
+/// What stands in vectors as a component: how values are spelled, read from their spelling, and
+/// compared. Each such enum that can be shown is a metric.
+pub trait Spelled: Copy + Eq + Ord + Default + 'static {
+    /// Which metric this is.
+    const TYPE: MetricType;
+
+    ghost TYPE: { MetricType };
+
+    ghost rank: { Self → ℕ };
+
+    /// The values, the least first.
+    fn values() -> &'static [Self]
+        ensures rows { map (λ metric. spelling_at TYPE (rank metric)) result.now ≡ spellings_of TYPE }
+        ensures covers { (metric : Self) → slice_get result.now (rank metric) ≡ Some metric };
+
+    /// A slash and the component that stands for the value in a vector.
+    fn slashed(self) -> &'static str
+        ensures { result.now ≡ slash ∷ metric_component TYPE (rank self) };
+
+    ghost law: { IsMetric TYPE rank ⟦<Self as Default>⟧.is_default ⟦<Self as Ord>⟧.cmp
+        ⟦<Self as PartialEq>⟧.eq ⟦<Self as Clone>⟧.is_clone ⟦<Self as Clone>⟧.is_infallible };
+
+    /// Writes the component that stands for the value in a vector, and the same under any options.
+    final fn write<W: fmt::Write>(self, f: &mut fmt::Formatter<W>) -> fmt::Result
+        ensures plain { WritesOnOk W.write_str_gives f.old result
+            (metric_component TYPE (rank self)) f.new }
+        ensures styled { WritesStyledOnOk W.write_str_gives f.old result
+            (metric_component TYPE (rank self)) f.new }
+    {
+        write_component(self.slashed(), f)
+    }
+
+    /// The value that this letter spells, exactly as it is written.
+    #[inline(always)]
+    final fn read_letter(letter: u8) -> Option<Self>
+        ensures spelled { IfSome result (λ metric. spelling_at TYPE (rank metric) ≡ letter ∷ []) }
+        ensures read { (metric : Self) → spelling_at TYPE (rank metric) ≡ letter ∷ []
+            → result ≡ Some metric }
+    {
+        Self::values()
+            .iter()
+            .copied()
+            .find(|value| is_letter(spelling(*value), letter))
+    }
+
+    /// The value with this spelling, in any ASCII case.
+    #[inline(always)]
+    final fn read_bytes(text: &[u8]) -> Option<Self>
+        ensures spelled { IfSome result
+            (λ metric. raised (spelling_at TYPE (rank metric)) ≡ raised text.now) }
+        ensures read { (metric : Self) → raised (spelling_at TYPE (rank metric)) ≡ raised text.now
+            → result ≡ Some metric }
+    {
+        Self::values()
+            .iter()
+            .copied()
+            .find(|value| is_alike(spelling(*value), text))
+    }
+}
+
+/// A metric: an enum of the values that the specification gives for its type.
+pub trait Metric: Spelled + fmt::Debug + fmt::Display {
+    /// How the value is spelled in a vector.
+    final fn as_str(self) -> &'static str
+        ensures { result.now ≡ spelling_at Self.TYPE (Self.rank self) }
+    {
+        &self.slashed()[Self::TYPE.name().len() + 2..]
+    }
+
+    /// The value that `read` gives for the text in upper case.
+    #[tactic(auto, using(crate::proofs::ReadingLemmas::read_alike))]
+    final fn read_raised(text: &str) -> Option<Self>
+        ensures spelled { IfSome result
+            (λ metric. IsReading (spelling_at Self.TYPE (Self.rank metric)) (raised text.now)) }
+        ensures read { (metric : Self)
+            → IsReading (spelling_at Self.TYPE (Self.rank metric)) (raised text.now)
+            → result ≡ Some metric }
+    {
+        Self::read_bytes(text.as_bytes())
+    }
+
+    /// The value with this spelling, as it is printed or in upper case.
+    #[tactic(auto, using(crate::proofs::ReadingLemmas::read_alike))]
+    final fn read(text: &str) -> Option<Self>
+        ensures spelled { IfSome result
+            (λ metric. IsReading (spelling_at Self.TYPE (Self.rank metric)) text.now) }
+        ensures read { (metric : Self) → IsReading (spelling_at Self.TYPE (Self.rank metric)) text.now
+            → result ≡ Some metric }
+    {
+        let metric = Self::read_bytes(text.as_bytes())?;
+        if is_reading(metric.as_str(), text) {
+            Some(metric)
+        } else {
+            None
+        }
+    }
+
+    /// The value with this spelling, as it is printed or in upper case.
+    ///
+    /// # Errors
+    ///
+    /// `InvalidMetricV4` with the text where the metric has no such value.
+    final fn from_str(alloc: Global, text: &str) -> Result<Self, Error>
+        ensures spelled { IfOk result
+            (λ metric. IsReading (spelling_at Self.TYPE (Self.rank metric)) text.now) }
+        ensures read { (metric : Self) → IsReading (spelling_at Self.TYPE (Self.rank metric)) text.now
+            → result ≡ Ok metric }
+        ensures refused { IfErr result (Tells v4_reason (BadValue Self.TYPE text.now)) }
+    {
+        match Self::read(text) {
+            Some(metric) => Ok(metric),
+            None => {
+                let value = String::from_str(alloc, text)?;
+                Err(Error::InvalidMetricV4 {
+                    metric_type: Self::TYPE,
+                    value,
+                })
+            }
+        }
+    }
+
+    /// The metric's abbreviation.
+    final fn name() -> &'static str
+        ensures { result.now ≡ name_of Self.TYPE }
+    {
+        Self::TYPE.name()
+    }
+}
+
+impl<M: Spelled + fmt::Debug + fmt::Display> Metric for M {}
+
+/// How a value is spelled in a vector.
+#[inline(always)]
+#[tactic(auto, using(cvss_text::proofs::SpellingLemmas::spelling_behind))]
+fn spelling<M: Spelled>(value: M) -> &'static [u8]
+    ensures { result.now ≡ spelling_at M.TYPE (M.rank value) }
+{
+    value
+        .slashed()
+        .as_bytes()
+        .get(M::TYPE.name().len() + 2..)
+        .unwrap_or(&[])
+}
+
+/// Whether a text is this letter.
+#[inline(always)]
+fn is_letter(text: &[u8], letter: u8) -> bool
+    ensures { result ≡ bytes_eq text.now (letter ∷ []) }
+{
+    match text {
+        [only] => *only == letter,
+        _ => false,
+    }
+}
+
+/// Whether two texts are alike but for the case of their ASCII letters. Most are one letter.
+#[inline(always)]
+#[tactic(auto, using(cvss_text::proofs::TextLemmas::bytes_eq_when))]
+fn is_alike(text: &[u8], other: &[u8]) -> bool
+    ensures { result ≡ str_eq_ignore_ascii_case text.now other.now }
+{
+    match (text, other) {
+        ([letter], [same]) => letter.to_ascii_lowercase() == same.to_ascii_lowercase(),
+        _ => text.eq_ignore_ascii_case(other),
+    }
+}
+
+/// Whether a text is a spelling as it is printed or in upper case, given that it is so in some case.
+fn is_reading(spelling: &str, text: &str) -> bool
+    requires { raised spelling.now ≡ raised text.now }
+    ensures { IsTrue result ↔ IsReading spelling.now text.now }
+{
+    spelling == text || is_raised_as(text.as_bytes(), text.as_bytes())
+}

@@ -1,0 +1,100 @@
+//! How to respond to the vulnerability (v4.0 specification, sections 5.3 and 5.6).
+
+ghost use Rattle.std.specs.Prelude.{Some};
+ghost use Rattle.std.proofs.Common.{rules};
+ghost use Rattle.cvss_base.specs.declared.v4.MetricType.TheVariants as metric;
+ghost use Rattle.cvss_v4_metric.specs.Ranks as place;
+ghost use Rattle.cvss_v4_metric.specs.Table.{metric_component};
+
+use crate::metric::{MetricType, Spelled};
+use std::fmt;
+
+/// How hard it is to respond to the vulnerability (v4.0 specification, section 5.6).
+#[derive(Clone, Copy, Debug, Default, PartialEq, Eq, PartialOrd, Ord)]
+pub enum VulnerabilityResponseEffort {
+    #[default]
+    NotDefined,
+    Low,
+    Moderate,
+    High,
+}
+
+impl Spelled for VulnerabilityResponseEffort {
+    const TYPE: MetricType = MetricType::RE;
+
+    ghost TYPE = { metric.RE };
+
+    ghost rank = { place.RE };
+
+    ghost law = { Prim.search rules };
+
+    fn values() -> &'static [Self] {
+        &[Self::NotDefined, Self::Low, Self::Moderate, Self::High]
+    }
+
+    fn slashed(self) -> &'static str {
+        match self {
+            Self::NotDefined => "/RE:X",
+            Self::Low => "/RE:L",
+            Self::Moderate => "/RE:M",
+            Self::High => "/RE:H",
+        }
+    }
+}
+
+impl fmt::Display for VulnerabilityResponseEffort {
+    ghost output = { λ value. Some (metric_component metric.RE (place.RE value)) };
+
+    ghost styled_output = { λ value _. Some (metric_component metric.RE (place.RE value)) };
+
+    fn fmt<W: fmt::Write>(&self, f: &mut fmt::Formatter<W>) -> fmt::Result {
+        self.write(f)
+    }
+}
+
+/// How urgent the provider of the product takes the vulnerability to be (v4.0 specification,
+/// section 5.3).
+#[derive(Clone, Copy, Debug, Default, PartialEq, Eq, PartialOrd, Ord)]
+pub enum ProviderUrgency {
+    #[default]
+    NotDefined,
+    Red,
+    Amber,
+    Green,
+    Clear,
+}
+
+impl Spelled for ProviderUrgency {
+    const TYPE: MetricType = MetricType::U;
+
+    ghost TYPE = { metric.U };
+
+    ghost rank = { place.U };
+
+    ghost law = { Prim.search rules };
+
+    fn values() -> &'static [Self] {
+        use ProviderUrgency::*;
+        &[NotDefined, Red, Amber, Green, Clear]
+    }
+
+    fn slashed(self) -> &'static str {
+        match self {
+            Self::NotDefined => "/U:X",
+            Self::Red => "/U:Red",
+            Self::Amber => "/U:Amber",
+            Self::Green => "/U:Green",
+            Self::Clear => "/U:Clear",
+        }
+    }
+}
+
+impl fmt::Display for ProviderUrgency {
+    ghost output = { λ value. Some (metric_component metric.U (place.U value)) };
+
+    ghost styled_output = { λ value _. Some (metric_component metric.U (place.U value)) };
+
+    fn fmt<W: fmt::Write>(&self, f: &mut fmt::Formatter<W>) -> fmt::Result {
+        self.write(f)
+    }
+}

@@ -1,0 +1,54 @@
+//! The threat metric (v4.0 specification, section 3).
+
+ghost use Rattle.std.specs.Prelude.{Some};
+ghost use Rattle.std.proofs.Common.{rules};
+ghost use Rattle.cvss_base.specs.declared.v4.MetricType.TheVariants as metric;
+ghost use Rattle.cvss_v4_metric.specs.Ranks as place;
+ghost use Rattle.cvss_v4_metric.specs.Table.{metric_component};
+
+use crate::metric::{MetricType, Spelled};
+use std::fmt;
+
+/// How far attacks or code to exploit are known (v4.0 specification, section 3.1).
+#[derive(Clone, Copy, Debug, Default, PartialEq, Eq, PartialOrd, Ord)]
+pub enum ExploitMaturity {
+    #[default]
+    NotDefined,
+    Unreported,
+    ProofOfConcept,
+    Attacked,
+}
+
+impl Spelled for ExploitMaturity {
+    const TYPE: MetricType = MetricType::E;
+
+    ghost TYPE = { metric.E };
+
+    ghost rank = { place.E };
+
+    ghost law = { Prim.search rules };
+
+    fn values() -> &'static [Self] {
+        use ExploitMaturity::*;
+        &[NotDefined, Unreported, ProofOfConcept, Attacked]
+    }
+
+    fn slashed(self) -> &'static str {
+        match self {
+            Self::NotDefined => "/E:X",
+            Self::Unreported => "/E:U",
+            Self::ProofOfConcept => "/E:P",
+            Self::Attacked => "/E:A",
+        }
+    }
+}
+
+impl fmt::Display for ExploitMaturity {
+    ghost output = { λ value. Some (metric_component metric.E (place.E value)) };
+
+    ghost styled_output = { λ value _. Some (metric_component metric.E (place.E value)) };
+
+    fn fmt<W: fmt::Write>(&self, f: &mut fmt::Formatter<W>) -> fmt::Result {
+        self.write(f)
+    }
+}
