@@ -1,17 +1,17 @@
 //! Where an object says otherwise than the vector's record.
 
-ghost use Rattle.std.specs.Prelude.{◌≡◌, ◌++◌, IfOk, OnOk, map, option_map};
+ghost use Rattle.std.specs.Prelude.{◌≡◌, IfOk, OnOk, map};
 ghost use Rattle.std.specs.Option.{option_to_list};
 ghost use Rattle.cvss.specs.Answers.{HasScore};
 ghost use Rattle.cvss_record.specs.Differences.{AreDifferences, AreDifferencesAt, difference_at, difference_from, difference_view, github_difference, member_differences, osv_type, record_differences, score_differences, type_differences};
 ghost use Rattle.cvss_record.specs.Places.{place_view};
-ghost use Rattle.cvss_record.specs.private.Views.{due_view};
+ghost use Rattle.cvss_record.specs.private.Views.{Adds, due_view};
 ghost use Rattle.serde_json.specs.View.{members_view, view};
 
 use crate::due::{Due, due_at};
 use crate::place::{Form, Place, member};
 use crate::score::Scores;
-use crate::surroundings::{name_difference, rating_difference};
+use crate::surroundings::push_around;
 use cvss::Cvss;
 use serde_json::{Map, Value};
 use std::alloc::{AllocError, Global};
@@ -53,25 +53,8 @@ pub fn differences<'a>(
     ensures { IfOk result (λ found. AreDifferences cvss.now (members_view object.now.entries)
         (map difference_view found.items)) }
 {
-    record_differences(alloc, cvss, &Scores::of(cvss), object)
-}
-
-fn record_differences<'a>(
-    alloc: Global,
-    cvss: &Cvss,
-    scores: &Scores,
-    object: &'a Map<String, Value>,
-) -> Result<Vec<Difference<'a>>, AllocError>
-    ensures { IfOk result (λ found. map difference_view found.items
-        ≡ record_differences cvss.now scores.now (members_view object.now.entries)) }
-{
     let mut found = Vec::new(alloc);
-    for (name, said) in object.iter() {
-        push_if_some(
-            &mut found,
-            difference_at(alloc, cvss, scores, name.as_str(), said)?,
-        )?;
-    }
+    push_members(&mut found, alloc, cvss, &Scores::of(cvss), object)?;
     Ok(found)
 }
 
@@ -93,62 +76,76 @@ pub fn differences_at<'a>(
         (map difference_view found.items)) }
 {
     let scores = Scores::of(cvss);
-    let mut found = member_differences(alloc, cvss, &scores, place)?;
-    if let Some(around) = place.around {
-        push_if_some(&mut found, name_difference(alloc, cvss, around.name)?)?;
-        push_if_some(
-            &mut found,
-            rating_difference(alloc, cvss, scores.base, around)?,
-        )?;
-    }
+    let mut found = Vec::new(alloc);
+    push_object(&mut found, alloc, cvss, &scores, place)?;
+    push_around(&mut found, alloc, cvss, &scores, place.around)?;
     Ok(found)
 }
 
-fn member_differences<'a>(
+/// Adds the differences of the object that holds the vector.
+fn push_object<'a>(
+    found: &mut Vec<Difference<'a>>,
     alloc: Global,
     cvss: &Cvss,
     scores: &Scores,
     place: &Place<'a>,
-) -> Result<Vec<Difference<'a>>, AllocError>
-    ensures { IfOk result (λ found. map difference_view found.items
-        ≡ member_differences cvss.now scores.now place.now.form
-        (members_view place.now.object.now.entries)) }
+) -> Result<(), AllocError>
+    ensures { OnOk result (Adds found.old.items (member_differences cvss.now scores.now place.now.form
+        (members_view place.now.object.now.entries)) found.new.items) }
 {
     match place.form {
-        Form::Record => record_differences(alloc, cvss, scores, place.object),
-        Form::GitHub => score_differences(alloc, scores, place.object),
-        Form::Osv => type_differences(alloc, cvss, place.object),
+        Form::Record => push_members(found, alloc, cvss, scores, place.object),
+        Form::GitHub => push_score(found, alloc, scores, place.object),
+        Form::Osv => push_type(found, alloc, cvss, place.object),
     }
 }
 
-fn score_differences<'a>(
+/// Adds the differences of all members of an object.
+fn push_members<'a>(
+    found: &mut Vec<Difference<'a>>,
+    alloc: Global,
+    cvss: &Cvss,
+    scores: &Scores,
+    object: &'a Map<String, Value>,
+) -> Result<(), AllocError>
+    ensures { OnOk result (Adds found.old.items
+        (record_differences cvss.now scores.now (members_view object.now.entries)) found.new.items) }
+{
+    for (name, said) in object.iter() {
+        push_member(found, alloc, cvss, scores, name.as_str(), said)?;
+    }
+    Ok(())
+}
+
+/// Adds the difference of the number at `score`, if there is one.
+fn push_score<'a>(
+    found: &mut Vec<Difference<'a>>,
     alloc: Global,
     scores: &Scores,
     object: &'a Map<String, Value>,
-) -> Result<Vec<Difference<'a>>, AllocError>
-    ensures { IfOk result (λ found. map difference_view found.items
-        ≡ score_differences scores.now (members_view object.now.entries)) }
+) -> Result<(), AllocError>
+    ensures { OnOk result (Adds found.old.items
+        (score_differences scores.now (members_view object.now.entries)) found.new.items) }
 {
     match member(object, "score") {
-        Some(said) => listed(alloc, score_difference(alloc, scores.base, said)?),
-        None => Ok(Vec::new(alloc)),
+        Some(said) => push_if_number(found, alloc, scores.base, said),
+        None => Ok(()),
     }
 }
 
-fn type_differences<'a>(
+/// Adds the difference of the `type` that OSV has.
+fn push_type<'a>(
+    found: &mut Vec<Difference<'a>>,
     alloc: Global,
     cvss: &Cvss,
     object: &'a Map<String, Value>,
-) -> Result<Vec<Difference<'a>>, AllocError>
-    ensures { IfOk result (λ found. map difference_view found.items
-        ≡ type_differences cvss.now (members_view object.now.entries)) }
+) -> Result<(), AllocError>
+    ensures { OnOk result (Adds found.old.items
+        (type_differences cvss.now (members_view object.now.entries)) found.new.items) }
 {
     match member(object, "type") {
-        Some(said) => {
-            let due = Due::Text(osv_type(cvss));
-            listed(alloc, difference_from(alloc, "type", said, due)?)
-        }
-        None => Ok(Vec::new(alloc)),
+        Some(said) => push_if_other(found, alloc, "type", said, Due::Text(osv_type(cvss))),
+        None => Ok(()),
     }
 }
 
@@ -163,83 +160,63 @@ fn osv_type(cvss: &Cvss) -> &'static str
     }
 }
 
-/// The difference of a number at `score`, as GitHub has it.
-fn score_difference<'a>(
-    alloc: Global,
-    tenths: u8,
-    said: &'a Value,
-) -> Result<Option<Difference<'a>>, AllocError>
-    ensures { IfOk result (λ found. option_map difference_view found
-        ≡ github_difference tenths (view said.now)) }
-{
-    if said.is_number() {
-        difference_from(alloc, "score", said, Due::Score(tenths))
-    } else {
-        Ok(None)
-    }
-}
-
-fn push_if_some<'a>(
+/// Adds the difference of a member, if it says otherwise than the vector's record or score.
+fn push_member<'a>(
     found: &mut Vec<Difference<'a>>,
-    difference: Option<Difference<'a>>,
-) -> Result<(), AllocError>
-    ensures { OnOk result (map difference_view found.new.items ≡ map difference_view found.old.items
-        ++ option_to_list (option_map difference_view difference.entry)) }
-{
-    if let Some(difference) = difference {
-        found.push(difference)?;
-    }
-    Ok(())
-}
-
-fn listed<'a>(
-    alloc: Global,
-    difference: Option<Difference<'a>>,
-) -> Result<Vec<Difference<'a>>, AllocError>
-    ensures { IfOk result (λ found. map difference_view found.items
-        ≡ option_to_list (option_map difference_view difference.entry)) }
-{
-    let mut found = Vec::new(alloc);
-    push_if_some(&mut found, difference)?;
-    Ok(found)
-}
-
-/// The difference of a member, if it says otherwise than the vector's record or score.
-fn difference_at<'a>(
     alloc: Global,
     cvss: &Cvss,
     scores: &Scores,
     name: &'a str,
     said: &'a Value,
-) -> Result<Option<Difference<'a>>, AllocError>
-    ensures { IfOk result (λ found. option_map difference_view found
-        ≡ difference_at cvss.now scores.now (name.now, view said.now)) }
+) -> Result<(), AllocError>
+    ensures { OnOk result (Adds found.old.items
+        (option_to_list (difference_at cvss.now scores.now (name.now, view said.now)))
+        found.new.items) }
 {
     if name == "score" {
-        return score_difference(alloc, scores.base, said);
+        return push_if_number(found, alloc, scores.base, said);
     }
     match due_at(cvss, scores, name) {
-        Some(due) => difference_from(alloc, name, said, due),
-        None => Ok(None),
+        Some(due) => push_if_other(found, alloc, name, said, due),
+        None => Ok(()),
     }
 }
 
-/// The difference between what is said and what is due.
-pub(crate) fn difference_from<'a>(
+/// Adds the difference of what stands at `score`, if it is a number.
+fn push_if_number<'a>(
+    found: &mut Vec<Difference<'a>>,
     alloc: Global,
-    name: &'a str,
+    tenths: u8,
+    said: &'a Value,
+) -> Result<(), AllocError>
+    ensures { OnOk result (Adds found.old.items
+        (option_to_list (github_difference tenths (view said.now))) found.new.items) }
+{
+    if said.is_number() {
+        push_if_other(found, alloc, "score", said, Due::Score(tenths))
+    } else {
+        Ok(())
+    }
+}
+
+/// Adds the difference between what is said and what is due, if there is one.
+pub(crate) fn push_if_other<'a>(
+    found: &mut Vec<Difference<'a>>,
+    alloc: Global,
+    member: &'a str,
     said: &'a Value,
     due: Due,
-) -> Result<Option<Difference<'a>>, AllocError>
-    ensures { IfOk result (λ found. option_map difference_view found
-        ≡ difference_from (name.now, view said.now) (due_view due)) }
+) -> Result<(), AllocError>
+    ensures { OnOk result (Adds found.old.items
+        (option_to_list (difference_from (member.now, view said.now) (due_view due)))
+        found.new.items) }
 {
-    if due.agrees(said) {
-        return Ok(None);
+    if !due.agrees(said) {
+        found.push(Difference {
+            member,
+            says: Said::Value(said),
+            is: due.value(alloc)?,
+        })?;
     }
-    Ok(Some(Difference {
-        member: name,
-        says: Said::Value(said),
-        is: due.value(alloc)?,
-    }))
+    Ok(())
 }

@@ -5,7 +5,7 @@ ghost use Rattle.std.specs.List.{list_any};
 ghost use Rattle.cvss_base.specs.V4Types.{declared};
 ghost use Rattle.cvss_v2_metric.specs.Table as table_v2;
 ghost use Rattle.cvss_v3_metric.specs.Table as table_v3;
-ghost use Rattle.cvss_record.specs.Due.{agrees, due_at, due_value, group_due, is_metric_member, is_number, is_text, metric_due, version_due, word_at};
+ghost use Rattle.cvss_record.specs.Due.{agrees, due_at, due_value, group_due, is_metric_member, metric_due, version_due, word_at};
 ghost use Rattle.cvss_record.specs.private.Views.{due_view};
 ghost use Rattle.cvss_words.specs.WordsV2 as words_v2;
 ghost use Rattle.cvss_words.specs.WordsV3 as words_v3;
@@ -39,9 +39,9 @@ impl Due {
         ensures { result ≡ agrees (due_view self) (view said.now) }
     {
         match self {
-            Due::Text(text) => is_text(text, said),
-            Due::Score(tenths) => is_number(score_number(tenths), said),
-            Due::Nothing => is_text(NOT_DEFINED, said),
+            Due::Text(text) => said.as_str() == Some(text),
+            Due::Score(tenths) => said.as_f64() == Some(score_number(tenths)),
+            Due::Nothing => said.as_str() == Some(NOT_DEFINED),
         }
     }
 
@@ -57,27 +57,15 @@ impl Due {
     }
 }
 
-fn is_text(due: &str, said: &Value) -> bool
-    ensures { result ≡ is_text due.now (view said.now) }
-{
-    said.as_str().is_some_and(|text| text == due)
-}
-
-fn is_number(due: f64, said: &Value) -> bool
-    ensures { result ≡ is_number due (view said.now) }
-{
-    said.as_f64().is_some_and(|number| number == due)
-}
-
 /// What the member of this name should say of a vector, if it is one that the version's records
 /// have.
 pub(crate) fn due_at(cvss: &Cvss, scores: &Scores, name: &str) -> Option<Due>
     ensures { option_map due_view result ≡ due_at cvss.now scores.now name.now }
 {
     version_due(cvss, name)
-        .or_else(|| group_due(cvss, scores, name, Group::Base))
-        .or_else(|| group_due(cvss, scores, name, Group::Temporal))
-        .or_else(|| group_due(cvss, scores, name, Group::Environmental))
+        .or(group_due(cvss, scores, name, Group::Base))
+        .or(group_due(cvss, scores, name, Group::Temporal))
+        .or(group_due(cvss, scores, name, Group::Environmental))
         .or_else(|| metric_due(cvss, name))
 }
 

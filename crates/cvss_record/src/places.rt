@@ -49,12 +49,11 @@ pub(crate) enum Rest<'a> {
 pub fn vectors_in(alloc: Global, document: &Value) -> Result<Places<'_>, AllocError>
     ensures { IfOk result (λ places. places_left places ≡ places_in (view document.now)) }
 {
-    let mut levels = Vec::new(alloc);
-    levels.push(Level {
-        step: Step::Document,
-        rest: Rest::Whole(document, None),
-    })?;
-    Ok(Places { levels })
+    let mut places = Places {
+        levels: Vec::new(alloc),
+    };
+    places.push(Step::Document, Rest::Whole(document, None))?;
+    Ok(places)
 }
 
 impl<'a> Places<'a> {

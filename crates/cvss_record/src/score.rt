@@ -27,19 +27,20 @@ impl Scores {
         requires { HasScore cvss.now }
         ensures { AreScoresOf cvss.now result }
     {
+        let base = cvss.tenths();
         match cvss {
             Cvss::CvssV20(vector) => Scores {
-                base: tenths_of(vector.score().value()),
+                base,
                 temporal: Some(tenths_of(vector.temporal_score().value())),
                 environmental: Some(tenths_of(vector.environmental_score().value())),
             },
             Cvss::CvssV30(vector) | Cvss::CvssV31(vector) => Scores {
-                base: tenths_of(vector.base_score().value()),
+                base,
                 temporal: Some(tenths_of(vector.temporal_score().value())),
                 environmental: Some(tenths_of(vector.environmental_score().value())),
             },
-            Cvss::CvssV40(vector) => Scores {
-                base: tenths_of(vector.score().value()),
+            Cvss::CvssV40(_) => Scores {
+                base,
                 temporal: None,
                 environmental: None,
             },

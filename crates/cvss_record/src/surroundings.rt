@@ -1,38 +1,55 @@
 //! Where the surroundings of a record say otherwise than its vector: the name of the member that the
 //! record is, and the rating beside it.
 
-ghost use Rattle.std.specs.Prelude.{◌≡◌, IfOk, option_map};
-ghost use Rattle.std.specs.Option.{option_to_list};
-ghost use Rattle.cvss_record.specs.Differences.{difference_view, is_among, name_differences, names_of, rating_differences, severity_differences, version_names};
+ghost use Rattle.std.specs.Prelude.{◌≡◌, OnOk, option_map};
+ghost use Rattle.cvss_record.specs.Differences.{around_differences, is_among, name_differences, names_of, rating_differences, version_names};
 ghost use Rattle.cvss_record.specs.Places.{around_view};
-ghost use Rattle.serde_json.specs.View.{members_view};
+ghost use Rattle.cvss_record.specs.private.Views.{Adds};
 
-use crate::difference::{Difference, Said, difference_from};
+use crate::difference::{Difference, Said, push_if_other};
 use crate::due::Due;
 use crate::place::{Around, member};
 use crate::record::{is_rated, version};
-use crate::score::rating;
+use crate::score::{Scores, rating};
 use cvss::Cvss;
-use serde_json::{Map, Value};
+use serde_json::Value;
 use std::alloc::{AllocError, Global};
 
-/// The difference of the name of a member, if it tells another version than the vector's.
-pub(crate) fn name_difference<'a>(
+/// Adds the differences of what is around an object.
+pub(crate) fn push_around<'a>(
+    found: &mut Vec<Difference<'a>>,
+    alloc: Global,
+    cvss: &Cvss,
+    scores: &Scores,
+    around: Option<Around<'a>>,
+) -> Result<(), AllocError>
+    ensures { OnOk result (Adds found.old.items
+        (around_differences cvss.now scores.now (option_map around_view around.entry)) found.new.items) }
+{
+    let Some(around) = around else {
+        return Ok(());
+    };
+    push_name(found, alloc, cvss, around.name)?;
+    push_rating(found, alloc, cvss, scores.base, around)
+}
+
+/// Adds the difference of the name of a member, if it tells another version than the vector's.
+fn push_name<'a>(
+    found: &mut Vec<Difference<'a>>,
     alloc: Global,
     cvss: &Cvss,
     name: &'a str,
-) -> Result<Option<Difference<'a>>, AllocError>
-    ensures { IfOk result (λ found. option_to_list (option_map difference_view found)
-        ≡ name_differences cvss.now name.now) }
+) -> Result<(), AllocError>
+    ensures { OnOk result (Adds found.old.items (name_differences cvss.now name.now) found.new.items) }
 {
     if tells_version(name) && !tells_version_of(cvss, name) {
-        return Ok(Some(Difference {
+        found.push(Difference {
             member: name,
             says: Said::Name(name),
             is: Value::try_from_str(alloc, version(cvss))?,
-        }));
+        })?;
     }
-    Ok(None)
+    Ok(())
 }
 
 /// Whether a member of this name tells the version of what it holds.
@@ -57,37 +74,26 @@ fn tells_version_of(cvss: &Cvss, name: &str) -> bool
     }
 }
 
-/// The difference of the rating that NVD tells of a vector of CVSS v2 beside its record.
-pub(crate) fn rating_difference<'a>(
+/// Adds the difference of the rating that NVD tells of a vector of CVSS v2 beside its record, if it is
+/// another one than that of so many tenths.
+fn push_rating<'a>(
+    found: &mut Vec<Difference<'a>>,
     alloc: Global,
     cvss: &Cvss,
     tenths: u8,
     around: Around<'a>,
-) -> Result<Option<Difference<'a>>, AllocError>
-    ensures { IfOk result (λ found. option_to_list (option_map difference_view found)
-        ≡ rating_differences cvss.now tenths (around_view around.entry)) }
+) -> Result<(), AllocError>
+    ensures { OnOk result (Adds found.old.items
+        (rating_differences cvss.now tenths (around_view around.entry)) found.new.items) }
 {
-    if !is_rated(cvss) && around.name == "cvssData" {
-        return severity_difference(alloc, cvss, tenths, around.object);
+    if is_rated(cvss) || around.name != "cvssData" {
+        return Ok(());
     }
-    Ok(None)
-}
-
-/// The difference of `baseSeverity`, if it is another rating than that of so many tenths.
-fn severity_difference<'a>(
-    alloc: Global,
-    cvss: &Cvss,
-    tenths: u8,
-    object: &'a Map<String, Value>,
-) -> Result<Option<Difference<'a>>, AllocError>
-    ensures { IfOk result (λ found. option_to_list (option_map difference_view found)
-        ≡ severity_differences cvss.now tenths (members_view object.now.entries)) }
-{
-    match member(object, "baseSeverity") {
+    match member(around.object, "baseSeverity") {
         Some(said) => {
             let due = Due::Text(rating(cvss, tenths));
-            difference_from(alloc, "baseSeverity", said, due)
+            push_if_other(found, alloc, "baseSeverity", said, due)
         }
-        None => Ok(None),
+        None => Ok(()),
     }
 }
