@@ -1,16 +1,16 @@
 //! The account of a vector's score.
 
-ghost use Rattle.std.specs.Prelude.{◌≡◌, IfOk, OnOk};
+ghost use Rattle.std.specs.Prelude.{IfOk, OnOk};
 ghost use Rattle.cvss.specs.Answers.{HasScore};
-ghost use Rattle.cvss_account.specs.Account.{AreNumbersOf, IsAccountOf, score_members};
-ghost use Rattle.cvss_account.specs.private.Puts.{PutsNumbers};
-ghost use Rattle.cvss_record.specs.Objects.{with_members};
+ghost use Rattle.cvss_account.specs.Account.{AreNumbersOf, IsAccountOf};
+ghost use Rattle.cvss_account.specs.private.Told.{PutsNumbers};
 ghost use Rattle.serde_json.specs.View.{members_view};
 
+use crate::told::{self, Members, Told, put_told};
 use crate::{v2, v3, v4};
 use cvss::Cvss;
 use cvss_base::TENTH;
-use cvss_record::{score_value, version};
+use cvss_record::version;
 use serde_json::{Map, Value, put};
 use std::alloc::{AllocError, Global};
 
@@ -25,38 +25,22 @@ pub fn account_of(alloc: Global, cvss: &Cvss) -> Result<Map<String, Value>, Allo
     ensures { IfOk result (λ members. IsAccountOf cvss.now (members_view members.entries)) }
 {
     let tenths = cvss.tenths();
+    let severity = cvss.severity_of(i128::from(tenths) * TENTH);
+    let scored = [
+        ("version", Told::Text(version(cvss))),
+        ("score", Told::Tenths(tenths)),
+        ("severity", Told::Text(severity.as_str())),
+    ];
     let mut members = Map::new(alloc);
-    put_score(&mut members, alloc, cvss, tenths)?;
+    let text = Value::String(cvss.to_string(alloc)?);
+    put(&mut members, alloc, "vector", text)?;
+    put_told(&mut members, alloc, &scored)?;
     put_numbers(&mut members, alloc, cvss)?;
     Ok(members)
 }
 
-/// Puts the vector's text and version, so many tenths as its score, and their rating.
-fn put_score(
-    members: &mut Map<String, Value>,
-    alloc: Global,
-    cvss: &Cvss,
-    tenths: u8,
-) -> Result<(), AllocError>
-    ensures { OnOk result (members_view members.new.entries
-        ≡ with_members (score_members cvss.now tenths) (members_view members.old.entries)) }
-{
-    let text = cvss.to_string(alloc)?;
-    let version = Value::try_from_str(alloc, version(cvss))?;
-    let severity = cvss.severity_of(i128::from(tenths) * TENTH);
-    put(members, alloc, "vector", Value::String(text))?;
-    put(members, alloc, "version", version)?;
-    put(members, alloc, "score", score_value(tenths))?;
-    let rating = Value::try_from_str(alloc, severity.as_str())?;
-    put(members, alloc, "severity", rating)
-}
-
 /// Puts the numbers on the way to the score.
-fn put_numbers(
-    members: &mut Map<String, Value>,
-    alloc: Global,
-    cvss: &Cvss,
-) -> Result<(), AllocError>
+fn put_numbers(members: &mut Members, alloc: Global, cvss: &Cvss) -> told::Result<()>
     requires { HasScore cvss.now }
     ensures { OnOk result (PutsNumbers (AreNumbersOf cvss.now)
         (members_view members.old.entries) (members_view members.new.entries)) }

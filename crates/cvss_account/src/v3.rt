@@ -1,47 +1,42 @@
 //! The accounts of the scores of CVSS v3 (v3.1 specification, section 7; v3.0 specification, section 8).
 
 ghost use Rattle.std.specs.Prelude.{◌≡◌, IfOk, OnOk, option_map};
-ghost use Rattle.cvss.specs.Answers.{score_of_tenths};
-ghost use Rattle.cvss.specs.Rating.{rating_of_score};
-ghost use Rattle.cvss.specs.SeverityText.{text_of as severity_text};
 ghost use Rattle.cvss.specs.TypesV3.{name_of};
 ghost use Rattle.cvss.specs.WeightsV3.{weights_of};
 ghost use Rattle.cvss_account.specs.V3.{AreAccountMembers, base_value, environmental_value, scope_letter, temporal_value, weight_member, weights_value};
-ghost use Rattle.cvss_account.specs.private.Puts.{PutsNumbers};
+ghost use Rattle.cvss_account.specs.private.Told.{PutsNumbers, rating_text, told_object};
 ghost use Rattle.serde_json.specs.View.{members_view, view};
 
 mod numbers;
 
-use crate::decimal::decimal_value;
-use crate::near::ten_millionths;
+use crate::decimal::{decimal_value, ten_millionths};
+use crate::told::{Member, Members, Result, Told, object, put_told};
 use cvss::v3::{MetricType, Score, Vector};
 use cvss_base::TENTH;
-use cvss_record::score_value;
 use cvss_text::metrics::Listed;
 use numbers::{BaseNumbers, EnvironmentalNumbers, Scored};
-use serde_json::{Map, Value, json, put};
-use std::alloc::{AllocError, Global};
+use serde_json::{Map, Value, put};
+use std::alloc::Global;
 
 /// Puts the scopes, the weights and the numbers on the way to the scores.
-pub(crate) fn put_account(
-    members: &mut Map<String, Value>,
-    alloc: Global,
-    vector: &Vector,
-) -> Result<(), AllocError>
+pub(crate) fn put_account(members: &mut Members, alloc: Global, vector: &Vector) -> Result<()>
     ensures { OnOk result (PutsNumbers (AreAccountMembers vector.now)
         (members_view members.old.entries) (members_view members.new.entries)) }
 {
-    let scope = Value::try_from_str(alloc, scope_letter(vector.is_scope_changed()))?;
-    let modified = Value::try_from_str(alloc, scope_letter(vector.is_modified_scope_changed()))?;
-    let base = base_value(alloc, &BaseNumbers::of(vector))?;
-    let temporal = temporal_value(alloc, Scored::temporal(vector))?;
-    let environmental = environmental_value(alloc, &EnvironmentalNumbers::of(vector))?;
-    put(members, alloc, "scope", scope)?;
-    put(members, alloc, "modifiedScope", modified)?;
+    let scope = scope_letter(vector.is_scope_changed());
+    let modified_scope = scope_letter(vector.is_modified_scope_changed());
+    let scopes = [
+        ("scope", Told::Text(scope)),
+        ("modifiedScope", Told::Text(modified_scope)),
+    ];
+    let base = base_members(BaseNumbers::of(vector));
+    let temporal = temporal_members(Scored::temporal(vector));
+    let modified = environmental_members(EnvironmentalNumbers::of(vector));
+    put_told(members, alloc, &scopes)?;
     put(members, alloc, "weights", weights_value(alloc, vector)?)?;
-    put(members, alloc, "base", base)?;
-    put(members, alloc, "temporal", temporal)?;
-    put(members, alloc, "environmental", environmental)
+    put(members, alloc, "base", object(alloc, &base)?)?;
+    put(members, alloc, "temporal", object(alloc, &temporal)?)?;
+    put(members, alloc, "environmental", object(alloc, &modified)?)
 }
 
 fn scope_letter(changed: bool) -> &'static str
@@ -51,7 +46,7 @@ fn scope_letter(changed: bool) -> &'static str
 }
 
 /// What each metric weighs, which the scopes don't.
-fn weights_value(alloc: Global, vector: &Vector) -> Result<Value, AllocError>
+fn weights_value(alloc: Global, vector: &Vector) -> Result<Value>
     ensures { IfOk result (λ value. view value ≡ weights_value (weights_of vector.now)) }
 {
     let mut members = Map::new(alloc);
@@ -74,52 +69,53 @@ fn weight_value(vector: &Vector, kind: MetricType) -> Option<Value>
     }
 }
 
-/// The object of the base score.
-fn base_value(alloc: Global, numbers: &BaseNumbers) -> Result<Value, AllocError>
-    ensures { IfOk result (λ value. view value ≡ base_value numbers.now) }
+/// What is told of the base score.
+fn base_members(numbers: BaseNumbers) -> [Member<'static>; 6]
+    ensures { told_object result ≡ base_value numbers }
 {
     let scored = numbers.scored;
-    json!(in alloc; {
-        "iss": decimal_value(numbers.iss),
-        "impact": decimal_value(numbers.impact),
-        "exploitability": decimal_value(numbers.exploitability),
-        "number": decimal_value(scored.number),
-        "score": score_value(scored.score),
-        "severity": rating(scored.score),
-    })
+    [
+        ("iss", Told::Decimal(numbers.iss)),
+        ("impact", Told::Decimal(numbers.impact)),
+        ("exploitability", Told::Decimal(numbers.exploitability)),
+        ("number", Told::Decimal(scored.number)),
+        ("score", Told::Tenths(scored.score)),
+        ("severity", Told::Text(rating(scored.score))),
+    ]
 }
 
-/// The object of the temporal score.
-fn temporal_value(alloc: Global, scored: Scored) -> Result<Value, AllocError>
-    ensures { IfOk result (λ value. view value ≡ temporal_value scored) }
+/// What is told of the temporal score.
+fn temporal_members(scored: Scored) -> [Member<'static>; 3]
+    ensures { told_object result ≡ temporal_value scored }
 {
-    json!(in alloc; {
-        "number": decimal_value(scored.number),
-        "score": score_value(scored.score),
-        "severity": rating(scored.score),
-    })
+    [
+        ("number", Told::Decimal(scored.number)),
+        ("score", Told::Tenths(scored.score)),
+        ("severity", Told::Text(rating(scored.score))),
+    ]
 }
 
-/// The object of the environmental score.
-fn environmental_value(alloc: Global, numbers: &EnvironmentalNumbers) -> Result<Value, AllocError>
-    ensures { IfOk result (λ value. view value ≡ environmental_value numbers.now) }
+/// What is told of the environmental score.
+fn environmental_members(numbers: EnvironmentalNumbers) -> [Member<'static>; 8]
+    ensures { told_object result ≡ environmental_value numbers }
 {
     let (first, scored) = (numbers.first, numbers.scored);
-    json!(in alloc; {
-        "miss": decimal_value(numbers.miss),
-        "modifiedImpact": decimal_value(numbers.impact),
-        "modifiedExploitability": decimal_value(numbers.exploitability),
-        "firstNumber": decimal_value(first.number),
-        "firstScore": score_value(first.score),
-        "number": decimal_value(scored.number),
-        "score": score_value(scored.score),
-        "severity": rating(scored.score),
-    })
+    let exploitability = numbers.exploitability;
+    [
+        ("miss", Told::Decimal(numbers.miss)),
+        ("modifiedImpact", Told::Decimal(numbers.impact)),
+        ("modifiedExploitability", Told::Decimal(exploitability)),
+        ("firstNumber", Told::Decimal(first.number)),
+        ("firstScore", Told::Tenths(first.score)),
+        ("number", Told::Decimal(scored.number)),
+        ("score", Told::Tenths(scored.score)),
+        ("severity", Told::Text(rating(scored.score))),
+    ]
 }
 
 /// The rating of a score of so many tenths.
 fn rating(tenths: u8) -> &'static str
-    ensures { result.now ≡ severity_text (rating_of_score (score_of_tenths tenths)) }
+    ensures { result.now ≡ rating_text tenths }
 {
     Score::new(i128::from(tenths) * TENTH).severity().as_str()
 }

@@ -7,7 +7,7 @@ ghost use Rattle.cvss_base.specs.Exact.{IsWithinLimit};
 ghost use Rattle.cvss_base.specs.Tenths.{IsFromZeroToTen, IsInTenths};
 ghost use Rattle.cvss_v2.specs.Weights.{weights_of};
 
-use crate::near::ten_millionths;
+use crate::decimal::ten_millionths;
 use cvss_base::tenths::tenths_of;
 use cvss_v2::{Score, Vector};
 

@@ -1,38 +1,36 @@
 //! The letters of effective values.
 
-ghost use Rattle.std.specs.Prelude.{◌≡◌, IfOk};
+ghost use Rattle.std.specs.Prelude.{◌≡◌};
 ghost use Rattle.cvss_account.specs.LettersV4.{vulnerable_impact_letter, subsequent_impact_letter, safety_impact_letter, requirement_letter, exploit_maturity_letter, effective_members};
-ghost use Rattle.cvss_record.specs.Objects.{object_of};
-ghost use Rattle.serde_json.specs.View.{view};
+ghost use Rattle.cvss_account.specs.private.Told.{told_members};
 
+use crate::told::{Member, Told};
 use cvss::v4::metric::Metric;
 use cvss::v4::scoring::effective::{
     Effective, ExploitMaturity, Requirement, SafetyImpact, SubsequentImpact, VulnerableImpact,
 };
-use serde_json::{Value, json};
-use std::alloc::{AllocError, Global};
 
-/// The object of the effective values, by the metrics' names.
-pub(super) fn effective_value(alloc: Global, effective: &Effective) -> Result<Value, AllocError>
-    ensures { IfOk result (λ value. view value ≡ object_of (effective_members effective.now)) }
+/// What is told of the effective values, by the metrics' names.
+pub(super) fn effective_told(effective: &Effective) -> [Member<'static>; 15]
+    ensures { told_members result ≡ effective_members effective.now }
 {
-    json!(in alloc; {
-        "AV": effective.av.as_str(),
-        "PR": effective.pr.as_str(),
-        "UI": effective.ui.as_str(),
-        "AC": effective.ac.as_str(),
-        "AT": effective.at.as_str(),
-        "VC": vulnerable_impact(effective.vc),
-        "VI": vulnerable_impact(effective.vi),
-        "VA": vulnerable_impact(effective.va),
-        "SC": subsequent_impact(effective.sc),
-        "SI": safety_impact(effective.si),
-        "SA": safety_impact(effective.sa),
-        "CR": requirement(effective.cr),
-        "IR": requirement(effective.ir),
-        "AR": requirement(effective.ar),
-        "E": exploit_maturity(effective.e),
-    })
+    [
+        ("AV", Told::Text(effective.av.as_str())),
+        ("PR", Told::Text(effective.pr.as_str())),
+        ("UI", Told::Text(effective.ui.as_str())),
+        ("AC", Told::Text(effective.ac.as_str())),
+        ("AT", Told::Text(effective.at.as_str())),
+        ("VC", Told::Text(vulnerable_impact(effective.vc))),
+        ("VI", Told::Text(vulnerable_impact(effective.vi))),
+        ("VA", Told::Text(vulnerable_impact(effective.va))),
+        ("SC", Told::Text(subsequent_impact(effective.sc))),
+        ("SI", Told::Text(safety_impact(effective.si))),
+        ("SA", Told::Text(safety_impact(effective.sa))),
+        ("CR", Told::Text(requirement(effective.cr))),
+        ("IR", Told::Text(requirement(effective.ir))),
+        ("AR", Told::Text(requirement(effective.ar))),
+        ("E", Told::Text(exploit_maturity(effective.e))),
+    ]
 }
 
 /// The letter of VC, VI or VA.

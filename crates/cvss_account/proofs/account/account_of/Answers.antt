@@ -1,5 +1,6 @@
-use Rattle.std.proofs.Common.{◌++◌, refl}
+use Rattle.std.proofs.Common.{◌++◌, refl, rules}
 use Rattle.cvss_account.specs.Account.{score_members}
+use Rattle.serde_json.specs.declared.value.Value.{the_lemmas}
 use Rattle.cvss_account.proofs.account.account_of.Goals as goal
 
 pub returns : goal.returns
@@ -14,5 +15,6 @@ returns c =
         are_numbers = numbers.are;
         are = refl;
       };
-      is = rw (numbers.put, c.in_ok-put_score.ensures, c.new-members.ensures.empty) refl;
+      is = rw (numbers.put, c.in_ok-put_told.ensures, c.in_ok-put.ensures.ok, c.new-members.ensures.empty)
+          (search (rules, the_lemmas, c.in_ok-to_string.ensures.ok, c.severity_of-severity.ensures));
     }

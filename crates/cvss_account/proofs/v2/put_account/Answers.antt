@@ -17,7 +17,8 @@ returns c =
         are_environmental = c.of-3.ensures;
         are = refl;
       };
-      put = put ∙ rw (c.in_ok-put-3.ensures.ok, c.in_ok-put-2.ensures.ok, c.in_ok-put.ensures.ok)
-          (rw (c.in_ok-weights_value.ensures, c.in_ok-base.ensures, c.in_ok-temporal.ensures, c.in_ok-environmental.ensures) refl);
+      put = put ∙ rw (c.in_ok-put-3.ensures.ok, c.in_ok-put-2.ensures.ok, c.in_ok-put.ensures.ok, c.in_ok-weights_value.ensures)
+          (rw (c.in_ok-object.ensures, c.in_ok-object-2.ensures, c.in_ok-object-3.ensures)
+          (rw (c.base_members-base.ensures, c.temporal_members-temporal.ensures, c.environmental_members-adjusted.ensures) refl));
     })
     c.put-4.ensures.ok

@@ -1,5 +1,7 @@
-use Rattle.std.proofs.Common.{◌≡◌, ◌∙◌, refl, string_bytes}
+use Rattle.std.proofs.Common.{◌≡◌, ◌∙◌, refl, rules, string_bytes}
+use Rattle.std.proofs.lemmas.Int.{to_z-of_z}
 use Rattle.std.proofs.lemmas.Result.{on_ok_weaker}
+use Rattle.std.specs.Int.{w64}
 use Rattle.cvss_account.specs.V4.{account_members}
 use Rattle.serde_json.specs.Data.{string}
 use Rattle.serde_json.specs.View.{view}
@@ -10,14 +12,14 @@ pub returns : goal.returns
 returns c =
     let account = c.account-account.result in
     let named : view (String c.in_ok-nomenclature.nomenclature) ≡ string (string_bytes c.in_ok-nomenclature.nomenclature) = search the_lemmas in
-    let classed : view (String c.in_ok-class.class) ≡ string (string_bytes c.in_ok-class.class) = search the_lemmas in
-    on_ok_weaker c.put-7.result
+    on_ok_weaker c.put_told-2.result
     (λ put. record {
       members = account_members c.args.vector.now account;
       are = record { account = account; is_account = c.account-account.ensures.account; are = refl };
       put = put
-          ∙ rw (c.in_ok-put-6.ensures.ok, c.in_ok-put-5.ensures.ok, c.in_ok-put-4.ensures.ok, c.in_ok-put-3.ensures.ok, c.in_ok-put-2.ensures.ok)
-          (rw (c.in_ok-put.ensures.ok, named, c.in_ok-nomenclature.ensures.ok, c.nomenclature.ensures, c.in_ok-effective_value.ensures)
-          (rw (classed, c.in_ok-class.ensures, c.score_value.ensures, c.in_ok-groups_value.ensures, c.of_parts.ensures, c.of_parts-2.ensures) refl));
+          ∙ rw (c.in_ok-put-3.ensures.ok, c.in_ok-put_told.ensures, c.in_ok-put-2.ensures.ok, c.in_ok-put.ensures.ok)
+          (rw (named, c.in_ok-nomenclature.ensures.ok, c.nomenclature.ensures, c.in_ok-object.ensures, c.effective_told-effective.ensures)
+          (rw (to_z-of_z w64 c.of_parts.result (search rules), to_z-of_z w64 c.of_parts-2.result (search rules))
+          (rw (c.in_ok-groups_value.ensures, c.of_parts.ensures, c.of_parts-2.ensures) refl)));
     })
-    c.put-7.ensures.ok
+    c.put_told-2.ensures

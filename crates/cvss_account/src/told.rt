@@ -1,0 +1,81 @@
+//! Members whose values are plain: what they tell, and the objects of them.
+
+ghost use Rattle.std.specs.Prelude.{◌≡◌, IfOk, OnOk};
+ghost use Rattle.cvss_account.specs.private.Told.{told_members, told_object, told_value};
+ghost use Rattle.cvss_record.specs.Objects.{with_members};
+ghost use Rattle.serde_json.specs.View.{members_view, view};
+
+use crate::decimal::decimal_value;
+use cvss::v4::scoring::classes::MacroVector;
+use cvss_record::score_value;
+use serde_json::{Map, Value, put};
+use std::alloc::{AllocError, Global};
+
+/// What may end for want of memory.
+pub(crate) type Result<T> = std::result::Result<T, AllocError>;
+
+/// The members of an object.
+pub(crate) type Members = Map<String, Value>;
+
+/// A member's name, and what it tells.
+pub(crate) type Member<'a> = (&'a str, Told<'a>);
+
+/// What a member tells.
+#[derive(Clone, Copy)]
+pub enum Told<'a> {
+    /// Nothing, which is null.
+    Nothing,
+    /// So many ten millionths.
+    Decimal(i64),
+    /// A score in tenths.
+    Tenths(u8),
+    /// A whole number.
+    Count(u8),
+    /// A text.
+    Text(&'a str),
+    /// The digit of a part of a class, or those of two parts.
+    Digits(u8, Option<u8>),
+    /// The six digits of a class.
+    Class(MacroVector),
+}
+
+impl Told<'_> {
+    /// The value that tells it.
+    fn value(&self, alloc: Global) -> Result<Value>
+        ensures { IfOk result (λ value. view value ≡ told_value self.now) }
+    {
+        match self {
+            Told::Nothing => Ok(Value::Null),
+            Told::Decimal(count) => Ok(decimal_value(*count)),
+            Told::Tenths(tenths) => Ok(score_value(*tenths)),
+            Told::Count(count) => Ok(Value::from(*count)),
+            Told::Text(text) => Value::try_from_str(alloc, text),
+            Told::Digits(one, None) => Ok(Value::String(format!(in alloc; "{one}")?)),
+            Told::Digits(one, Some(two)) => Ok(Value::String(format!(in alloc; "{one}{two}")?)),
+            Told::Class(m) => Ok(Value::String(format!(in alloc;
+                "{}{}{}{}{}{}",
+                m.eq1, m.eq2, m.eq3, m.eq4, m.eq5, m.eq6
+            )?)),
+        }
+    }
+}
+
+/// Puts these members into an object.
+pub(crate) fn put_told(members: &mut Members, alloc: Global, told: &[Member<'_>]) -> Result<()>
+    ensures { OnOk result (members_view members.new.entries
+        ≡ with_members (told_members told.now) (members_view members.old.entries)) }
+{
+    for (name, each) in told {
+        put(members, alloc, name, each.value(alloc)?)?;
+    }
+    Ok(())
+}
+
+/// The object of these members.
+pub(crate) fn object(alloc: Global, told: &[Member<'_>]) -> Result<Value>
+    ensures { IfOk result (λ value. view value ≡ told_object told.now) }
+{
+    let mut members = Map::new(alloc);
+    put_told(&mut members, alloc, told)?;
+    Ok(Value::Object(members))
+}
