@@ -3,6 +3,7 @@
 //! roundings and ratings.
 #![tactic(auto)]
 
+pub mod component;
 mod error;
 mod group;
 pub mod laws;

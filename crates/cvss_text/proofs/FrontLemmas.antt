@@ -8,7 +8,8 @@ use Rattle.cvss_text.specs.declared.walk.Fault.{Fault}
 use Rattle.cvss_base.specs.Text.{slash, pieces, joined, value_part, IsComponent}
 use Rattle.cvss_base.specs.Version.{Version, Denotes, IsComplete, AreComponentsOf, version_piece, IsWellFormed}
 use Rattle.cvss_base.specs.Refusal.{Refusal, BadComponent, BadPiecesFirst, WrongPrefix, WrongVersion, AreComponentsBefore, IsFirstBadPiece, piece_at, IsReasonBehind, IsFirstRefusalBehind, TellsVersion}
-use Rattle.cvss_text.specs.private.Walk.{IsLawful, IsFirstOfPieces, HasRead, reason_of, IsLawfulFront, IsAnswer, IsFrontFault, IsStarted, IsTellable, foreign_bytes}
+use Rattle.cvss_base.specs.private.Component.{foreign_bytes}
+use Rattle.cvss_text.specs.private.Walk.{IsLawful, IsFirstOfPieces, HasRead, reason_of, IsLawfulFront, IsAnswer, IsFrontFault, IsStarted, IsTellable}
 use Rattle.cvss_text.proofs.DenotesLemmas.{vectors_same, pieces_of_complete, no_reason, pieces_of_denoted}
 use Rattle.cvss_text.proofs.JoinLemmas.{are_parts, IsUtf8-parts}
 use Rattle.cvss_text.proofs.RefusalLemmas.{refusals_same, reasons_behind_same}

@@ -1,13 +1,14 @@
 -- What a version's laws say of its names and of its printing order.
-use Rattle.std.proofs.Common.{◌≡◌, ◌≢◌, ℕ, ◌+◌, ◌<◌, true, false, List, ◌∷◌, ◌++◌, length, get_or, take, drop, map, find, Some, None, sym, ap, ◌∙◌, arith, option_map, bytes_eq}
-use Rattle.std.specs.List.{slice_get, position_or_len, All}
-use Rattle.std.proofs.lemmas.List.{take-append-drop, drop_more, get_or-take, get_or-drop, get_or-map, length-take-le, length-drop}
-use Rattle.std.proofs.lemmas.List.FromFn.{get_or-range_with_len}
+use Rattle.std.proofs.Common.{◌≡◌, ◌≢◌, ℕ, suc, ◌+◌, ◌-◌, ◌<◌, true, false, List, ◌∷◌, ◌++◌, length, get_or, take, drop, map, find, Some, None, sym, ap, ◌∙◌, arith, option_map, bytes_eq, drop-cons}
+use Rattle.std.specs.List.{slice_get, position_or_len, range_with_len, All}
+use Rattle.std.proofs.lemmas.List.{take-append-drop, drop_more, get_or-take, get_or-drop, get_or-map, get_or_past, length-take-le, length-drop, take_all}
+use Rattle.std.proofs.lemmas.List.FromFn.{get_or-range_with_len, fill_by_all}
 use Rattle.std.proofs.lemmas.Option.{slice_get-map, slice_get_within, get_or_from_slice_get, same_Some}
 use Rattle.std.proofs.lemmas.Slice.Eq.{bytes_eq-Decides}
 use Rattle.cvss_base.specs.Text.{component, name_part, value_part}
 use Rattle.cvss_base.specs.Version.{Version, read}
-use Rattle.cvss_text.specs.private.Walk.{IsLawful, IsCut, foreign_bytes, place_of}
+use Rattle.cvss_base.specs.private.Component.{foreign_bytes}
+use Rattle.cvss_text.specs.private.Walk.{IsLawful, IsCut, place_of}
 use Rattle.cvss_base.proofs.FindLemmas.{found_passes, not_found}
 use Rattle.cvss_text.proofs.TextLemmas.{read-component, foreign_bytes-read, name_part-component, value_part-component}
 
@@ -85,3 +86,16 @@ module _ {V K : Type 0} (version : Version V K) (lawful : IsLawful version) wher
         value_is = sym (ap value_part is ∙ value_part-component name value plain);
         cut = is ∙ ap (λ each. component each value) (sym is_name);
       }
+
+  -- a piece is cut at a colon behind so many bytes, which are a metric's name
+  pub IsCut_at : (piece : List ℕ) (n : ℕ) (kind : K) → get_or piece n 0 ≡ 58 → version.name kind ≡ read version (map (λ k. get_or piece k 0) (range_with_len 0 n))
+      → IsCut version piece kind (take (length piece - suc n) (drop (suc n) piece))
+  IsCut_at piece n kind colon named =
+      let within : n < length piece = grind (arith, get_or_past piece n 0) in
+      let rest = drop (suc n) piece in
+      let name_is : take n piece ≡ map (λ k. get_or piece k 0) (range_with_len 0 n) =
+          fill_by_all (λ k. get_or piece k 0) (take n piece) n 0 (length-take-le n piece (omega arith)) (λ k inside. get_or-take n piece k 0 inside) in
+      let value_is : take (length piece - suc n) rest ≡ rest = take_all (length piece - suc n) rest (omega (arith, length-drop (suc n) piece)) in
+      let is_cut : piece ≡ take n piece ++ (58 ∷ take (length piece - suc n) rest) =
+          sym (take-append-drop n piece) ∙ ap (λ l. take n piece ++ l) (drop-cons piece n 0 within ∙ (λ at. colon at ∷ sym value_is at)) in
+      IsCut_named piece (take n piece) (take (length piece - suc n) rest) kind is_cut (named ∙ ap (read version) (sym name_is))

@@ -12,7 +12,5 @@ pub mod PrintLemmas
 pub mod PutLemmas
 pub mod RefusalLemmas
 pub mod SightLemmas
-pub mod SlashedLemmas
-pub mod SpellingLemmas
 pub mod TextLemmas
 pub mod WalkLemmas

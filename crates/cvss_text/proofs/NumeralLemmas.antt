@@ -5,7 +5,7 @@ use Rattle.std.proofs.lemmas.Bool.Decides.{nat_tests}
 use Rattle.std.proofs.lemmas.Fmt.{decimal_digit, decimal-digits_of}
 use Rattle.std.proofs.lemmas.Int.Digits.{all_below_base_digits_of, number_digits_of}
 use Rattle.cvss_base.specs.Version.{numeral}
-use Rattle.cvss_text.specs.private.Walk.{is_foreign, foreign_bytes}
+use Rattle.cvss_base.specs.private.Component.{is_foreign, foreign_bytes}
 use Rattle.cvss_text.proofs.TextLemmas.{count_by-cons}
 
 -- what std writes of a number

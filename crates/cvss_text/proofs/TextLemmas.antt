@@ -1,5 +1,5 @@
 -- Texts as they are read, and components cut at their colon.
-use Rattle.std.proofs.Common.{◌≡◌, ℕ, ◌+◌, ◌<◌, Bool, true, false, cond, IsTrue, ◌↔◌, eqb, ltb, inl, inr, List, [], ◌∷◌, ◌++◌, length, drop, refl, sym, ap, ◌∙◌, arith, bytes_eq}
+use Rattle.std.proofs.Common.{◌≡◌, ℕ, ◌+◌, ◌<◌, Bool, true, false, cond, eqb, ltb, inl, inr, List, [], ◌∷◌, ◌++◌, length, drop, refl, sym, ap, ◌∙◌, arith}
 use Rattle.std.specs.Char.{to_ascii_uppercase}
 use Rattle.std.specs.List.{All, count_by, position_or_len}
 use Rattle.std.proofs.lemmas.Bool.{eqb-true, false_from_ne_true, cases_lt}
@@ -8,9 +8,8 @@ use Rattle.std.proofs.lemmas.List.{map-append, take-map, drop-map, take_at, drop
 use Rattle.std.proofs.lemmas.List.Elements.{All-head, All-tail}
 use Rattle.std.proofs.lemmas.List.Folds.{fold-map}
 use Rattle.std.proofs.lemmas.List.Sums.{sum_by-cons, sum_by-append, get_or-le-sum_by, split_at_first, passes_at_first, fails_before_first, position_or_len_is}
-use Rattle.std.proofs.lemmas.Slice.Eq.{bytes_eq-Decides}
 use Rattle.cvss_base.specs.Text.{slash, colon, IsComponent, name_part, value_part, component, raised, read_as}
-use Rattle.cvss_text.specs.private.Walk.{is_foreign, foreign_bytes}
+use Rattle.cvss_base.specs.private.Component.{is_foreign, foreign_bytes}
 
 abbrev pub is_slash : ℕ → Bool
 is_slash byte = eqb byte slash
@@ -132,9 +131,3 @@ colon-parts piece within = split_at_first is_colon piece 0 within ∙ rw (eqb-tr
 
 pub component-parts : (piece : List ℕ) → IsComponent piece → piece ≡ component (name_part piece) (value_part piece)
 component-parts piece is = colon-parts piece (position-within is_colon piece is.one_colon)
-
--- a test that tells whether two texts are one is their comparison
-pub bytes_eq_when : (test : Bool) (text other : List ℕ) → (IsTrue test ↔ (text ≡ other)) → test ≡ bytes_eq text other
-bytes_eq_when true text other same = sym ((bytes_eq-Decides text other).1 (same.0 refl))
-bytes_eq_when false text other same =
-    sym (false_from_ne_true (bytes_eq text other) (λ found. let no : false ≡ true = same.1 ((bytes_eq-Decides text other).0 found) in cc))

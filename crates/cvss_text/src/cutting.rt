@@ -1,15 +1,16 @@
 //! How a component is cut into the metric that it names and the value behind its colon, once for all
 //! versions.
 
-ghost use Rattle.std.specs.Prelude.{◌≡◌, ◌↔◌, IsTrue, bytes_eq, find, IfOk, IfErr, All, IsUtf8};
+ghost use Rattle.std.specs.Prelude.{◌≡◌, bytes_eq, find, IfOk, IfErr, All, IsUtf8};
 ghost use Rattle.cvss_text.specs.private.Pieces.{pieces_left};
-ghost use Rattle.cvss_base.specs.Text.{IsComponent, pieces, raised, read_as};
+ghost use Rattle.cvss_base.specs.Text.{IsComponent, pieces, read_as};
 ghost use Rattle.cvss_base.specs.Version.{read};
 ghost use Rattle.cvss_base.specs.Refusal.{piece_at};
 ghost use Rattle.cvss_text.specs.private.Walk.{IsCutAnswer, IsCutFirst, IsFaultOf, IsTellable, reason_of};
 
 use crate::pieces::{Pieces, front_of, parts_of};
 use crate::walk::{Components, Fault};
+use cvss_base::component::is_raised_as;
 
 /// The metric with this name.
 fn kind_named<V: Components>(name: &[u8]) -> Option<V::Kind>
@@ -72,7 +73,7 @@ pub(crate) fn cut_first<'a, V: Components>(
 }
 
 /// Whether a text is read as this name.
-#[tactic(auto, using(crate::proofs::TextLemmas::bytes_eq_when))]
+#[tactic(auto, using(cvss_base::proofs::EqualityLemmas::bytes_eq_when))]
 fn is_read_as(any_case: bool, text: &[u8], name: &[u8]) -> bool
     ensures { result ≡ bytes_eq (read_as any_case text.now) name.now }
 {
@@ -81,15 +82,4 @@ fn is_read_as(any_case: bool, text: &[u8], name: &[u8]) -> bool
     } else {
         text == name
     }
-}
-
-/// Whether a text is this name once its ASCII letters are raised.
-pub fn is_raised_as(text: &[u8], name: &[u8]) -> bool
-    ensures { IsTrue result ↔ (raised text.now ≡ name.now) }
-{
-    text.len() == name.len()
-        && text
-            .iter()
-            .zip(name)
-            .all(|(byte, letter)| byte.to_ascii_uppercase() == *letter)
 }

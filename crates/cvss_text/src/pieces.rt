@@ -2,7 +2,7 @@
 
 ghost use Rattle.std.specs.Prelude.{◌≡◌, ◌↔◌, ◌∷◌, [], IsTrue, IfSome, MatchOption, Some, length, ◌==◌, position};
 ghost use Rattle.std.specs.Iterator.{YieldsFirstRef, item_count};
-ghost use Rattle.cvss_base.specs.Text.{IsComponent, component, pieces};
+ghost use Rattle.cvss_base.specs.Text.{IsComponent, pieces};
 ghost use Rattle.cvss_text.specs.private.Pieces.{pieces_left, AreParts, IsWithoutColon};
 ghost use Rattle.cvss_base.specs.Refusal.{AreComponentsBefore, IsFirstBadPiece};
 
@@ -90,28 +90,4 @@ pub fn parts_of(piece: &[u8]) -> Option<(&[u8], &[u8])>
 {
     let at = first_place(piece, b':')?;
     Some((&piece[..at], &piece[at + 1..]))
-}
-
-/// The texts before and after a colon that stands behind one to three bytes.
-pub fn cut_short_name(piece: &[u8]) -> Option<(&[u8], &[u8])>
-    ensures { IfSome result (λ parts. piece.now ≡ component parts.0.now parts.1.now) }
-{
-    match cut_at(piece, 2) {
-        Some(parts) => Some(parts),
-        None => match cut_at(piece, 1) {
-            Some(parts) => Some(parts),
-            None => cut_at(piece, 3),
-        },
-    }
-}
-
-/// The texts before and after a colon at this place.
-#[inline(always)]
-fn cut_at(piece: &[u8], at: usize) -> Option<(&[u8], &[u8])>
-    ensures { IfSome result (λ parts. piece.now ≡ component parts.0.now parts.1.now) }
-{
-    match piece.get(at) {
-        Some(b':') => Some((&piece[..at], &piece[at + 1..])),
-        _ => None,
-    }
 }

@@ -1,12 +1,13 @@
 //! How a vector's components are printed, once for all versions.
 
-ghost use Rattle.std.specs.Prelude.{◌≡◌, ◌↔◌, IsTrue, Some, drop, filter_map, All, option_copied};
-ghost use Rattle.std.specs.Fmt.{DisplaysOnOk, WritesOnOk, WritesStyledOnOk};
+ghost use Rattle.std.specs.Prelude.{◌≡◌, ◌↔◌, IsTrue, Some, filter_map, All, option_copied};
+ghost use Rattle.std.specs.Fmt.{DisplaysOnOk, WritesOnOk};
 ghost use Rattle.cvss_base.specs.Text.{joined};
 ghost use Rattle.cvss_base.specs.Version.{component_of, components_of, canonical_text};
-ghost use Rattle.cvss_text.specs.private.Printing.{slashed, slashed_texts, StartsWithSlash};
+ghost use Rattle.cvss_text.specs.private.Printing.{slashed, slashed_texts};
 
 use crate::walk::Components;
+use cvss_base::component::write_component;
 use std::fmt;
 
 /// A vector of some version, as it is printed.
@@ -14,18 +15,6 @@ pub trait Printed: Components {
     /// A slash and the vector's component for a metric.
     fn slashed(&self, kind: Self::Kind) -> Option<&'static str>
         ensures { option_copied result ≡ slashed (component_of Self.version self.now kind) };
-}
-
-/// Writes a component that has a slash before it, without the slash, and the same under any options.
-pub fn write_component<W: fmt::Write>(
-    slashed: &'static str,
-    f: &mut fmt::Formatter<W>,
-) -> fmt::Result
-    requires { StartsWithSlash slashed.now }
-    ensures plain { WritesOnOk W.write_str_gives f.old result (drop 1 slashed.now) f.new }
-    ensures styled { WritesStyledOnOk W.write_str_gives f.old result (drop 1 slashed.now) f.new }
-{
-    f.write_str(&slashed[1..])
 }
 
 /// Writes the components of a vector in printing order, with a slash between each two.

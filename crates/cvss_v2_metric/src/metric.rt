@@ -13,7 +13,7 @@ ghost use Rattle.cvss_v2_metric.specs.Table.{Value, spelling_of, weight_of, metr
 
 use cvss_base::Error;
 pub use cvss_base::v2::MetricType;
-use cvss_text::print::write_component;
+use cvss_base::component::write_component;
 use std::alloc::Global;
 use std::fmt;
 
@@ -87,7 +87,7 @@ pub trait Spelled: Copy + Eq + Ord + 'static {
 /// A metric: an enum of the values that the guide gives for its type.
 pub trait Metric: Spelled + fmt::Debug + fmt::Display {
     /// How the value is spelled in a vector.
-    #[tactic(auto, using(cvss_text::proofs::SlashedLemmas::behind_colon))]
+    #[tactic(auto, using(cvss_base::proofs::SlashedLemmas::behind_colon))]
     final fn as_str(self) -> &'static str
         ensures { result.now ≡ spelling_of Self.TYPE (Self.value self) }
     {
@@ -146,7 +146,7 @@ impl<M: Spelled + fmt::Debug + fmt::Display> Metric for M {}
 
 /// How a value is spelled in a vector.
 #[inline(always)]
-#[tactic(auto, using(cvss_text::proofs::SpellingLemmas::spelling_behind))]
+#[tactic(auto, using(cvss_base::proofs::SpellingLemmas::spelling_behind))]
 fn spelling<M: Spelled>(value: M) -> &'static [u8]
     ensures { result.now ≡ spelling_of M.TYPE (M.value value) }
 {

@@ -9,7 +9,7 @@ use Rattle.cvss_base.proofs.FindLemmas.{found_passes}
 use Rattle.cvss_base.specs.Text.{raised}
 use Rattle.cvss_base.specs.declared.v4.MetricType.{MetricType}
 use Rattle.cvss_base.specs.declared.v4.MetricType.TheVariants.{AC}
-use Rattle.cvss_text.proofs.SpellingLemmas.{differ}
+use Rattle.cvss_base.proofs.SpellingLemmas.{differ}
 use Rattle.cvss_v4_metric.specs.Reading.{IsReading}
 use Rattle.cvss_v4_metric.specs.Table.{spellings_of}
 

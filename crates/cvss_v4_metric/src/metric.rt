@@ -14,8 +14,7 @@ ghost use Rattle.cvss_v4_metric.specs.Table.{spelling_at, spellings_of, metric_c
 
 use cvss_base::Error;
 pub use cvss_base::v4::MetricType;
-use cvss_text::cutting::is_raised_as;
-use cvss_text::print::write_component;
+use cvss_base::component::{is_raised_as, write_component};
 use std::alloc::Global;
 use std::fmt;
 
@@ -152,7 +151,7 @@ impl<M: Spelled + fmt::Debug + fmt::Display> Metric for M {}
 
 /// How a value is spelled in a vector.
 #[inline(always)]
-#[tactic(auto, using(cvss_text::proofs::SpellingLemmas::spelling_behind))]
+#[tactic(auto, using(cvss_base::proofs::SpellingLemmas::spelling_behind))]
 fn spelling<M: Spelled>(value: M) -> &'static [u8]
     ensures { result.now ≡ spelling_at M.TYPE (M.rank value) }
 {
@@ -176,7 +175,7 @@ fn is_letter(text: &[u8], letter: u8) -> bool
 
 /// Whether two texts are alike but for the case of their ASCII letters. Most are one letter.
 #[inline(always)]
-#[tactic(auto, using(cvss_text::proofs::TextLemmas::bytes_eq_when))]
+#[tactic(auto, using(cvss_base::proofs::EqualityLemmas::bytes_eq_when))]
 fn is_alike(text: &[u8], other: &[u8]) -> bool
     ensures { result ≡ str_eq_ignore_ascii_case text.now other.now }
 {

@@ -1,16 +1,11 @@
 -- How a vector is printed component by component: each with the slash that stands before it.
-use Rattle.std.specs.Prelude.{◌≡◌, ℕ, List, [], ◌∷◌, flat_map, unwrap_or, Option, option_map}
+use Rattle.std.specs.Prelude.{ℕ, List, [], ◌∷◌, flat_map, unwrap_or, Option, option_map}
 use Rattle.cvss_base.specs.Text.{slash}
 use Rattle.cvss_base.specs.Version.{Version, component_of}
 
 -- a component behind a slash
 abbrev pub slashed : Option (List ℕ) → Option (List ℕ)
 slashed component = option_map (λ text. slash ∷ text) component
-
--- the text is a slash and some more
-pub record StartsWithSlash (text : List ℕ) : Type 0 where
-  pub behind : List ℕ
-  pub is : text ≡ slash ∷ behind
 
 -- the component that a vector has for a metric, with a slash before it, or nothing
 abbrev pub slashed_text : {V K : Type 0} → Version V K → V → K → List ℕ

@@ -9,17 +9,10 @@ use Rattle.cvss_text.specs.declared.walk.Slip.TheVariants.{Invalid, Repeated as 
 use Rattle.cvss_text.specs.declared.walk.Fault.{Fault}
 use Rattle.cvss_text.specs.declared.walk.Fault.TheVariants.{InvalidComponent, InvalidPrefix, UnsupportedVersion, UnknownMetric, InvalidMetric, DuplicateMetric, MissingMandatoryMetric}
 use Rattle.cvss_base.specs.laws.Order.{place_in}
+use Rattle.cvss_base.specs.private.Component.{foreign_bytes}
 use Rattle.cvss_base.specs.Text.{slash, colon, pieces, IsComponent, name_part, value_part, component}
 use Rattle.cvss_base.specs.Version.{Version, read, reading, version_piece, AreComponentsOf, Denotes, IsComplete, IsWellFormed}
 use Rattle.cvss_base.specs.Refusal.{Refusal, BadComponent, WrongPrefix, WrongVersion, UnknownName, BadValue, Repeated, Missing, Spells, HasNoFaultBefore, IsFirstReason, BadPiecesFirst, IsReasonBehind, IsWrongPrefix, IsWrongVersion}
-
--- a byte that no name and no spelling has: it divides, or is not ASCII
-abbrev pub is_foreign : ℕ → Bool
-is_foreign byte = byte == slash || byte == colon || nat_lt 127 byte
-
--- how many bytes of the text are such
-abbrev pub foreign_bytes : List ℕ → ℕ
-foreign_bytes text = count_by is_foreign text
 
 -- the place of a metric in the printing order, which its name tells
 abbrev pub place_of : {V K : Type 0} → Version V K → K → ℕ

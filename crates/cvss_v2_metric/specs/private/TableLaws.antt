@@ -2,7 +2,7 @@
 use Rattle.std.specs.Prelude.{◌≡◌, false}
 use Rattle.std.proofs.Common.{rules}
 use Rattle.cvss_base.specs.Text.{has, dot}
-use Rattle.cvss_text.specs.private.Walk.{foreign_bytes}
+use Rattle.cvss_base.specs.private.Component.{foreign_bytes}
 use Rattle.cvss_base.specs.declared.v2.MetricType.{MetricType}
 use Rattle.cvss_base.specs.declared.v2.MetricType.TheVariants.{A}
 use Rattle.cvss_v2_metric.specs.Table.{Value, spelling_of}

@@ -3,7 +3,7 @@ use Rattle.std.specs.Prelude.{◌≡◌, ◌≢◌, Bool, false, codes, bytes_eq
 use Rattle.std.specs.List.{list_any}
 use Rattle.std.proofs.Common.{rules}
 use Rattle.cvss_base.specs.Text.{raised}
-use Rattle.cvss_text.specs.private.Walk.{foreign_bytes}
+use Rattle.cvss_base.specs.private.Component.{foreign_bytes}
 use Rattle.cvss_base.specs.declared.v3.MetricType.{MetricType}
 use Rattle.cvss_base.specs.declared.v3.MetricType.TheVariants.{A}
 use Rattle.cvss_v3_metric.specs.Table.{Value, rows_of, spelling_of}

@@ -2,7 +2,7 @@
 use Rattle.std.specs.Prelude.{◌≡◌}
 use Rattle.std.proofs.Common.{rules}
 use Rattle.cvss_base.specs.Text.{raised}
-use Rattle.cvss_text.specs.private.Walk.{foreign_bytes}
+use Rattle.cvss_base.specs.private.Component.{foreign_bytes}
 use Rattle.cvss_base.specs.declared.v4.MetricType.{MetricType}
 use Rattle.cvss_base.specs.declared.v4.MetricType.TheVariants.{AC}
 use Rattle.cvss_v4.specs.Table.{Value, spelling_of}

@@ -12,7 +12,6 @@ use crate::laws::default_vectors_have_no_metric;
 use crate::vector::Vector;
 use MetricType::*;
 use cvss_text::front::Fronted;
-use cvss_text::pieces::cut_short_name;
 use cvss_text::walk::{Components, Slip, fill_place};
 use cvss_v4_metric::{MetricType, Spelled};
 
@@ -42,8 +41,14 @@ impl Components for Vector {
     }
 
     fn cut(piece: &[u8]) -> Option<(MetricType, &[u8])> {
-        let (name, value) = cut_short_name(piece)?;
-        Some((named(name)?, value))
+        match piece {
+            [first, second, b':', value @ ..] => Some((named_by_two(*first, *second)?, value)),
+            [letter, b':', value @ ..] => Some((named_by_one(*letter)?, value)),
+            [b'M' | b'm', first, second, b':', value @ ..] => {
+                Some((modified(*first, *second)?, value))
+            }
+            _ => None,
+        }
     }
 
     fn blamed(kind: MetricType) -> MetricType {
@@ -128,20 +133,7 @@ impl Vector {
     }
 }
 
-/// The metric with this name, in any ASCII case.
-#[inline(always)]
-fn named(name: &[u8]) -> Option<MetricType>
-    ensures { IfSome result (λ kind. name_of kind ≡ raised name.now) }
-{
-    match name {
-        [letter] => named_by_one(*letter),
-        [first, second] => named_by_two(*first, *second),
-        [b'M' | b'm', first, second] => modified(*first, *second),
-        _ => None,
-    }
-}
-
-/// The metric whose name is this letter.
+/// The metric whose name is this letter, in any ASCII case, as in the functions below.
 #[inline(always)]
 fn named_by_one(letter: u8) -> Option<MetricType>
     ensures { IfSome result (λ kind. name_of kind ≡ raised (letter ∷ [])) }

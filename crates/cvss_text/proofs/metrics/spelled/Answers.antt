@@ -2,7 +2,7 @@ use Rattle.std.proofs.Common.{◌≡◌, ℕ, List, ◌∷◌, Option, Some, Non
 use Rattle.cvss_base.specs.Text.{slash, component, value_part}
 use Rattle.cvss_base.specs.Version.{held}
 use Rattle.cvss_text.specs.private.Printing.{slashed}
-use Rattle.cvss_text.specs.private.Walk.{foreign_bytes}
+use Rattle.cvss_base.specs.private.Component.{foreign_bytes}
 use Rattle.cvss_text.proofs.LawLemmas.{name_plain}
 use Rattle.cvss_text.proofs.TextLemmas.{is_colon, foreign_sorts, count_by-cons, value_behind}
 use Rattle.cvss_text.proofs.metrics.spelled.Goals as goal

@@ -1,7 +1,7 @@
 use Rattle.std.proofs.Common.{◌∷◌, sym, ap, ◌∙◌}
 use Rattle.cvss_base.specs.Text.{slash, component}
 use Rattle.cvss_base.specs.V4Types.{name_of}
-use Rattle.cvss_text.proofs.SlashedLemmas.{behind_colon}
+use Rattle.cvss_base.proofs.SlashedLemmas.{behind_colon}
 use Rattle.cvss_v4_metric.specs.Table.{spelling_at}
 use Rattle.cvss_v4_metric.proofs.metric.Metric.as_str.Goals as goal
 

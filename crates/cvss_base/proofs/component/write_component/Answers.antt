@@ -1,6 +1,6 @@
 use Rattle.std.proofs.Common.{arith}
 use Rattle.std.proofs.lemmas.Str.{IsCharBoundary-after_ascii}
-use Rattle.cvss_text.proofs.print.write_component.Goals as goal
+use Rattle.cvss_base.proofs.component.write_component.Goals as goal
 
 pub range_from-requires : goal.range_from-requires
 range_from-requires g c = λ _.

@@ -1,0 +1,31 @@
+//! Components as texts: how one is written, and compared with a name or a spelling.
+
+ghost use Rattle.std.specs.Prelude.{◌≡◌, ◌↔◌, IsTrue, drop};
+ghost use Rattle.std.specs.Fmt.{WritesOnOk, WritesStyledOnOk};
+ghost use Rattle.cvss_base.specs.Text.{raised};
+ghost use Rattle.cvss_base.specs.private.Component.{StartsWithSlash};
+
+use std::fmt;
+
+/// Writes a component that has a slash before it, without the slash, and the same under any options.
+pub fn write_component<W: fmt::Write>(
+    slashed: &'static str,
+    f: &mut fmt::Formatter<W>,
+) -> fmt::Result
+    requires { StartsWithSlash slashed.now }
+    ensures plain { WritesOnOk W.write_str_gives f.old result (drop 1 slashed.now) f.new }
+    ensures styled { WritesStyledOnOk W.write_str_gives f.old result (drop 1 slashed.now) f.new }
+{
+    f.write_str(&slashed[1..])
+}
+
+/// Whether a text is this name once its ASCII letters are raised.
+pub fn is_raised_as(text: &[u8], name: &[u8]) -> bool
+    ensures { IsTrue result ↔ (raised text.now ≡ name.now) }
+{
+    text.len() == name.len()
+        && text
+            .iter()
+            .zip(name)
+            .all(|(byte, letter)| byte.to_ascii_uppercase() == *letter)
+}
