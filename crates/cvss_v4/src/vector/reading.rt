@@ -42,10 +42,10 @@ impl Components for Vector {
 
     fn cut(piece: &[u8]) -> Option<(MetricType, &[u8])> {
         match piece {
-            [first, second, b':', value @ ..] => Some((named_by_two(*first, *second)?, value)),
             [letter, b':', value @ ..] => Some((named_by_one(*letter)?, value)),
-            [b'M' | b'm', first, second, b':', value @ ..] => {
-                Some((modified(*first, *second)?, value))
+            [first, second, b':', value @ ..] => Some((named_by_two(*first, *second)?, value)),
+            [first, second, third, b':', value @ ..] => {
+                Some((named_by_three(*first, *second, *third)?, value))
             }
             _ => None,
         }
@@ -179,6 +179,17 @@ fn named_by_two(first: u8, second: u8) -> Option<MetricType>
         b'C' | b'c' if matches!(second, b'R' | b'r') => Some(MetricType::CR),
         b'I' | b'i' if matches!(second, b'R' | b'r') => Some(MetricType::IR),
         b'R' | b'r' if matches!(second, b'E' | b'e') => Some(MetricType::RE),
+        _ => None,
+    }
+}
+
+/// The metric whose name is these three letters, which is a modified one.
+#[inline(always)]
+fn named_by_three(first: u8, second: u8, third: u8) -> Option<MetricType>
+    ensures { IfSome result (λ kind. name_of kind ≡ raised (first ∷ second ∷ third ∷ [])) }
+{
+    match first {
+        b'M' | b'm' => modified(second, third),
         _ => None,
     }
 }
