@@ -11,7 +11,7 @@ use Rattle.cvss_v3.specs.Vector.{v3}
 use Rattle.cvss_v3.specs.private.VectorLaws.{v3_is_lawful}
 use Rattle.cvss_v4.specs.Vector.{v4}
 use Rattle.cvss_v4.specs.private.VectorLaws.{v4_is_lawful}
-use Rattle.cvss_any.specs.Route.{Route, ToV20, ToV30, ToV31, ToV40, ToNone, route_of}
+use Rattle.cvss_any.specs.Route.{Route, ToV20, ToV30, ToV31, ToV40, ToUntold, route_of}
 use Rattle.cvss_any.specs.Dispatch.{wrapped, IsReasonOf, IsFirstReasonAt, IsFirstRefusalCvss}
 use Rattle.cvss_any.specs.declared.metric_type.MetricType.{MetricType}
 use Rattle.cvss_any.specs.declared.metric_type.MetricType.TheVariants.{V2, V3, V4}
@@ -33,7 +33,7 @@ one_at ToV20 text = one_wrapped V2 (IsFirstRefusal v2 text) (one_refusal v2 v2_i
 one_at ToV30 text = one_wrapped V3 (IsFirstRefusalBehind v3 text) (one_refusal_behind v3 v3_is_lawful text)
 one_at ToV31 text = one_wrapped V3 (IsFirstRefusalBehind v3 text) (one_refusal_behind v3 v3_is_lawful text)
 one_at ToV40 text = one_wrapped V4 (IsFirstRefusalBehind v4 text) (one_refusal_behind v4 v4_is_lawful text)
-one_at (ToNone why) text = λ one other first second. first ∙ sym second
+one_at (ToUntold why) text = λ one other first second. first ∙ sym second
 
 pub one_refusal_of_any : (text : List ℕ) (one other : Refusal MetricType) → IsFirstRefusalCvss text one → IsFirstRefusalCvss text other → one ≡ other
 one_refusal_of_any text = one_at (route_of text) text

@@ -2,7 +2,7 @@
 use Rattle.std.proofs.Common.{◌≡◌, List, ℕ, Ok, Err, refl, sym, ap, ◌∙◌, subst, IsUtf8}
 use Rattle.cvss_base.specs.Refusal.{Refusal}
 use Rattle.cvss_any.specs.Answers.{HasScore}
-use Rattle.cvss_any.specs.Route.{NoVersion, Route, ToV20, ToV30, ToV31, ToV40, ToNone, route_of}
+use Rattle.cvss_any.specs.Route.{NoVersion, Route, ToV20, ToV30, ToV31, ToV40, ToUntold, route_of}
 use Rattle.cvss_any.specs.Dispatch.{DenotesCvss, IsFirstRefusalCvss, IsFirstReasonAt, IsReasonOf, wrapped}
 use Rattle.cvss_any.specs.private.Steps.{IsRead, IsTellableFault, reason_read}
 use Rattle.cvss_any.specs.declared.metric_type.MetricType.{MetricType}
@@ -75,7 +75,7 @@ module _ (text : List ℕ) where
   not_there route cvss denotes = sym route ∙ denoted_routed text cvss denotes
 
   -- a text that no rules read denotes nothing
-  pub of_none : (why : NoVersion) → route_of text ≡ ToNone why → (cvss : Cvss) → DenotesCvss text cvss → ⊥
+  pub of_none : (why : NoVersion) → route_of text ≡ ToUntold why → (cvss : Cvss) → DenotesCvss text cvss → ⊥
   of_none why route (CvssV20 vector) denotes = let no = not_there route (CvssV20 vector) denotes in cc
   of_none why route cvss denotes = let no = not_there route cvss denotes in cc
 

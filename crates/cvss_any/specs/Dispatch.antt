@@ -6,7 +6,7 @@ use Rattle.cvss_base.specs.Refusal.{Refusal, BadComponent, WrongPrefix, WrongVer
 use Rattle.cvss_base.specs.Version.{Denotes, IsComplete, IsWellFormed}
 use Rattle.cvss_base.specs.declared.error.Error.{Error}
 use Rattle.cvss_base.specs.declared.error.Error.TheVariants.{InvalidMetricV2, DuplicateMetricV2, MissingMandatoryMetricV2, InvalidMetricV3, DuplicateMetricV3, InvalidMetricV4, DuplicateMetricV4, MissingMandatoryMetricV4}
-use Rattle.cvss_any.specs.Route.{NoVersion, OnePiece, OtherPrefix, OtherVersion, Route, ToV20, ToV30, ToV31, ToV40, ToNone, route_of}
+use Rattle.cvss_any.specs.Route.{NoVersion, OnePiece, OtherPrefix, OtherVersion, Route, ToV20, ToV30, ToV31, ToV40, ToUntold, route_of}
 use Rattle.cvss_v2.specs.Vector.{v2}
 use Rattle.cvss_v2.specs.declared.vector.Vector as vector_v2
 use Rattle.cvss_v3.specs.Vector.{v3}
@@ -70,7 +70,7 @@ IsFirstReasonAt ToV20 text = IsReasonOf V2 (IsFirstRefusal v2 text)
 IsFirstReasonAt ToV30 text = IsReasonOf V3 (IsFirstRefusalBehind v3 text)
 IsFirstReasonAt ToV31 text = IsReasonOf V3 (IsFirstRefusalBehind v3 text)
 IsFirstReasonAt ToV40 text = IsReasonOf V4 (IsFirstRefusalBehind v4 text)
-IsFirstReasonAt (ToNone why) text = λ reason. reason ≡ untold why
+IsFirstReasonAt (ToUntold why) text = λ reason. reason ≡ untold why
 
 -- the first reason why the text is refused
 abbrev pub IsFirstRefusalCvss : List ℕ → Refusal MetricType → Type 0

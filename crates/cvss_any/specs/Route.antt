@@ -11,7 +11,7 @@ pub data NoVersion : Type 0 where
 -- where a text is read: by the rules of a version, or nowhere, for a reason that comes before them
 pub data Route : Type 0 where
   ToV20 ToV30 ToV31 ToV40 : Route
-  ToNone : NoVersion → Route
+  ToUntold : NoVersion → Route
 
 -- without a dot in what is told, no version is told, which only CVSS v2 allows
 abbrev pub route_of_parts : List ℕ → List ℕ → Route
@@ -20,17 +20,17 @@ route_of_parts prefix told =
     (if bytes_eq prefix (codes "CVSS") then
     (if bytes_eq told (codes "3.0") then ToV30
     else (if bytes_eq told (codes "3.1") then ToV31
-    else (if bytes_eq told (codes "4.0") then ToV40 else ToNone (OtherVersion told))))
-    else ToNone (OtherPrefix prefix))
+    else (if bytes_eq told (codes "4.0") then ToV40 else ToUntold (OtherVersion told))))
+    else ToUntold (OtherPrefix prefix))
     else ToV20
 
 -- the first piece tells the version; a text has two pieces at least
 abbrev pub route_of_pieces : List (List ℕ) → Route
-route_of_pieces [] = ToNone (OnePiece [])
-route_of_pieces (piece ∷ []) = ToNone (OnePiece piece)
+route_of_pieces [] = ToUntold (OnePiece [])
+route_of_pieces (piece ∷ []) = ToUntold (OnePiece piece)
 route_of_pieces (piece ∷ next ∷ more) =
     if has colon piece then route_of_parts (name_part piece) (value_part piece)
-    else ToNone (OnePiece piece)
+    else ToUntold (OnePiece piece)
 
 abbrev pub route_of : List ℕ → Route
 route_of text = route_of_pieces (pieces text)

@@ -10,7 +10,7 @@ use crate::vector::Cvss;
 use crate::{v2, v3, v4};
 
 /// The bytes of `CVSS:3.0` or `CVSS:3.1`, which alone are no vector.
-const VERSION_PIECE: usize = 8;
+const VERSION_PIECE_LENGTH: usize = 8;
 
 impl Cvss {
     /// The vector whose canonical text this is, where that is seen at once: `None` tells nothing of
@@ -89,7 +89,7 @@ fn v3_at_sight(text: &[u8]) -> Option<Cvss>
     ensures utf8 { IsSome result → IsUtf8 text.now }
 {
     let vector = v3::Vector::read_canonical(text)?;
-    if text.len() == VERSION_PIECE {
+    if text.len() == VERSION_PIECE_LENGTH {
         return None;
     }
     match vector.minor_version {

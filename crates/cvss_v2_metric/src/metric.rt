@@ -20,9 +20,9 @@ use std::fmt;
 /// A thousandth, in counts of 10^-24.
 const THOUSANDTH: i128 = 1_000_000_000_000_000_000_000;
 
-/// What stands in vectors as a component: how values are spelled, read from their spelling, weighed
-/// and compared. Each such enum that can be shown is a metric.
-pub trait Spelled: Copy + Eq + Ord + 'static {
+/// What stands in vectors as a component: how values are spelled, read from their spelling, and
+/// weighed.
+pub trait Spelled: Copy + 'static {
     /// Which metric this is.
     const TYPE: MetricType;
 
@@ -42,9 +42,6 @@ pub trait Spelled: Copy + Eq + Ord + 'static {
     fn row(self) -> (&'static str, u64)
         ensures text { result.0.now ≡ slash ∷ metric_component TYPE (value self) }
         ensures weight { result.1 ≡ weight_of TYPE (value self) };
-
-    ghost law: { IsMetric TYPE value ⟦<Self as Ord>⟧.cmp ⟦<Self as PartialEq>⟧.eq
-        ⟦<Self as Clone>⟧.is_clone ⟦<Self as Clone>⟧.is_infallible };
 
     /// A slash and the component that stands for the value in a vector.
     final fn slashed(self) -> &'static str
@@ -84,8 +81,12 @@ pub trait Spelled: Copy + Eq + Ord + 'static {
     }
 }
 
-/// A metric: an enum of the values that the guide gives for its type.
-pub trait Metric: Spelled + fmt::Debug + fmt::Display {
+/// A metric: an enum of the values that the guide gives for its type, which are compared.
+// A trait of its own, so that the proof of whoever reads or prints a vector loads no comparison.
+pub trait Metric: Spelled + Eq + Ord + fmt::Debug + fmt::Display {
+    ghost law: { IsMetric Self.TYPE Self.value ⟦<Self as Ord>⟧.cmp ⟦<Self as PartialEq>⟧.eq
+        ⟦<Self as Clone>⟧.is_clone ⟦<Self as Clone>⟧.is_infallible };
+
     /// How the value is spelled in a vector.
     #[tactic(auto, using(cvss_base::proofs::SlashedLemmas::behind_colon))]
     final fn as_str(self) -> &'static str
@@ -141,8 +142,6 @@ pub trait Metric: Spelled + fmt::Debug + fmt::Display {
         Self::TYPE.name()
     }
 }
-
-impl<M: Spelled + fmt::Debug + fmt::Display> Metric for M {}
 
 /// How a value is spelled in a vector.
 #[inline(always)]

@@ -5,7 +5,7 @@ ghost use Rattle.std.proofs.Common.{rules};
 ghost use Rattle.cvss_base.specs.declared.v2.MetricType.TheVariants.{E, RL, RC};
 ghost use Rattle.cvss_v2_metric.specs.Table.{metric_component};
 
-use crate::metric::{MetricType, Spelled};
+use crate::metric::{Metric, MetricType, Spelled};
 use std::fmt;
 
 /// How far techniques or code to exploit are developed (guide, section 2.2.1).
@@ -25,8 +25,6 @@ impl Spelled for Exploitability {
 
     ghost value = { λ metric. metric };
 
-    ghost law = { Prim.search rules };
-
     fn values() -> &'static [Self] {
         use Exploitability::*;
         &[Unproven, ProofOfConcept, Functional, High, NotDefined]
@@ -41,6 +39,10 @@ impl Spelled for Exploitability {
             Self::NotDefined => ("/E:ND", 1000),
         }
     }
+}
+
+impl Metric for Exploitability {
+    ghost law = { Prim.search rules };
 }
 
 impl fmt::Display for Exploitability {
@@ -70,8 +72,6 @@ impl Spelled for RemediationLevel {
 
     ghost value = { λ metric. metric };
 
-    ghost law = { Prim.search rules };
-
     fn values() -> &'static [Self] {
         use RemediationLevel::*;
         &[
@@ -92,6 +92,10 @@ impl Spelled for RemediationLevel {
             Self::NotDefined => ("/RL:ND", 1000),
         }
     }
+}
+
+impl Metric for RemediationLevel {
+    ghost law = { Prim.search rules };
 }
 
 impl fmt::Display for RemediationLevel {
@@ -120,8 +124,6 @@ impl Spelled for ReportConfidence {
 
     ghost value = { λ metric. metric };
 
-    ghost law = { Prim.search rules };
-
     fn values() -> &'static [Self] {
         use ReportConfidence::*;
         &[Unconfirmed, Uncorroborated, Confirmed, NotDefined]
@@ -135,6 +137,10 @@ impl Spelled for ReportConfidence {
             Self::NotDefined => ("/RC:ND", 1000),
         }
     }
+}
+
+impl Metric for ReportConfidence {
+    ghost law = { Prim.search rules };
 }
 
 impl fmt::Display for ReportConfidence {

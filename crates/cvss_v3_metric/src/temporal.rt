@@ -5,7 +5,7 @@ ghost use Rattle.std.proofs.Common.{rules};
 ghost use Rattle.cvss_base.specs.declared.v3.MetricType.TheVariants.{E, RL, RC};
 ghost use Rattle.cvss_v3_metric.specs.Table.{metric_component};
 
-use crate::metric::{MetricType, Spelled};
+use crate::metric::{Metric, MetricType, Spelled};
 use std::fmt;
 
 /// How far techniques or code to exploit are developed (v3.1 specification, section 3.1).
@@ -24,8 +24,6 @@ impl Spelled for ExploitCodeMaturity {
     ghost TYPE = { E };
 
     ghost value = { λ metric. metric };
-
-    ghost law = { Prim.search rules };
 
     fn row(self) -> (&'static str, Option<u64>) {
         match self {
@@ -48,6 +46,10 @@ impl Spelled for ExploitCodeMaturity {
             _ => None,
         }
     }
+}
+
+impl Metric for ExploitCodeMaturity {
+    ghost law = { Prim.search rules };
 }
 
 impl fmt::Display for ExploitCodeMaturity {
@@ -77,8 +79,6 @@ impl Spelled for RemediationLevel {
 
     ghost value = { λ metric. metric };
 
-    ghost law = { Prim.search rules };
-
     fn row(self) -> (&'static str, Option<u64>) {
         match self {
             Self::NotDefined => ("/RL:X", Some(100)),
@@ -100,6 +100,10 @@ impl Spelled for RemediationLevel {
             _ => None,
         }
     }
+}
+
+impl Metric for RemediationLevel {
+    ghost law = { Prim.search rules };
 }
 
 impl fmt::Display for RemediationLevel {
@@ -128,8 +132,6 @@ impl Spelled for ReportConfidence {
 
     ghost value = { λ metric. metric };
 
-    ghost law = { Prim.search rules };
-
     fn row(self) -> (&'static str, Option<u64>) {
         match self {
             Self::NotDefined => ("/RC:X", Some(100)),
@@ -149,6 +151,10 @@ impl Spelled for ReportConfidence {
             _ => None,
         }
     }
+}
+
+impl Metric for ReportConfidence {
+    ghost law = { Prim.search rules };
 }
 
 impl fmt::Display for ReportConfidence {

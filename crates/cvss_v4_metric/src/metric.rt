@@ -18,9 +18,8 @@ use cvss_base::component::{is_raised_as, write_component};
 use std::alloc::Global;
 use std::fmt;
 
-/// What stands in vectors as a component: how values are spelled, read from their spelling, and
-/// compared. Each such enum that can be shown is a metric.
-pub trait Spelled: Copy + Eq + Ord + Default + 'static {
+/// What stands in vectors as a component: how values are spelled, read from their spelling.
+pub trait Spelled: Copy + 'static {
     /// Which metric this is.
     const TYPE: MetricType;
 
@@ -36,9 +35,6 @@ pub trait Spelled: Copy + Eq + Ord + Default + 'static {
     /// A slash and the component that stands for the value in a vector.
     fn slashed(self) -> &'static str
         ensures { result.now ≡ slash ∷ metric_component TYPE (rank self) };
-
-    ghost law: { IsMetric TYPE rank ⟦<Self as Default>⟧.is_default ⟦<Self as Ord>⟧.cmp
-        ⟦<Self as PartialEq>⟧.eq ⟦<Self as Clone>⟧.is_clone ⟦<Self as Clone>⟧.is_infallible };
 
     /// Writes the component that stands for the value in a vector, and the same under any options.
     final fn write<W: fmt::Write>(self, f: &mut fmt::Formatter<W>) -> fmt::Result
@@ -78,8 +74,12 @@ pub trait Spelled: Copy + Eq + Ord + Default + 'static {
     }
 }
 
-/// A metric: an enum of the values that the specification gives for its type.
-pub trait Metric: Spelled + fmt::Debug + fmt::Display {
+/// A metric: an enum of the values that the specification gives for its type, which are compared.
+// A trait of its own, so that the proof of whoever reads or prints a vector loads no comparison.
+pub trait Metric: Spelled + Eq + Ord + Default + fmt::Debug + fmt::Display {
+    ghost law: { IsMetric Self.TYPE Self.rank ⟦<Self as Default>⟧.is_default ⟦<Self as Ord>⟧.cmp
+        ⟦<Self as PartialEq>⟧.eq ⟦<Self as Clone>⟧.is_clone ⟦<Self as Clone>⟧.is_infallible };
+
     /// How the value is spelled in a vector.
     final fn as_str(self) -> &'static str
         ensures { result.now ≡ spelling_at Self.TYPE (Self.rank self) }
@@ -146,8 +146,6 @@ pub trait Metric: Spelled + fmt::Debug + fmt::Display {
         Self::TYPE.name()
     }
 }
-
-impl<M: Spelled + fmt::Debug + fmt::Display> Metric for M {}
 
 /// How a value is spelled in a vector.
 #[inline(always)]

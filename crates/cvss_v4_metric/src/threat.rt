@@ -6,7 +6,7 @@ ghost use Rattle.cvss_base.specs.declared.v4.MetricType.TheVariants as metric;
 ghost use Rattle.cvss_v4_metric.specs.Ranks as place;
 ghost use Rattle.cvss_v4_metric.specs.Table.{metric_component};
 
-use crate::metric::{MetricType, Spelled};
+use crate::metric::{Metric, MetricType, Spelled};
 use std::fmt;
 
 /// How far attacks or code to exploit are known (v4.0 specification, section 3.1).
@@ -26,8 +26,6 @@ impl Spelled for ExploitMaturity {
 
     ghost rank = { place.E };
 
-    ghost law = { Prim.search rules };
-
     fn values() -> &'static [Self] {
         use ExploitMaturity::*;
         &[NotDefined, Unreported, ProofOfConcept, Attacked]
@@ -41,6 +39,10 @@ impl Spelled for ExploitMaturity {
             Self::Attacked => "/E:A",
         }
     }
+}
+
+impl Metric for ExploitMaturity {
+    ghost law = { Prim.search rules };
 }
 
 impl fmt::Display for ExploitMaturity {

@@ -31,7 +31,7 @@ as_route V20 = spec.ToV20
 as_route (V30 left) = spec.ToV30
 as_route (V31 left) = spec.ToV31
 as_route (V40 left) = spec.ToV40
-as_route (Untold fault) = spec.ToNone (why_of fault)
+as_route (Untold fault) = spec.ToUntold (why_of fault)
 
 -- the pieces of a text that tells its version are the one that tells it, and those with which it is handed on
 abbrev pub IsBehindVersion : List (List ℕ) → Route → Type 0

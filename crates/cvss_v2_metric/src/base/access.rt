@@ -5,7 +5,7 @@ ghost use Rattle.std.proofs.Common.{rules};
 ghost use Rattle.cvss_base.specs.declared.v2.MetricType.TheVariants.{AV, AC, Au};
 ghost use Rattle.cvss_v2_metric.specs.Table.{metric_component};
 
-use crate::metric::{MetricType, Spelled};
+use crate::metric::{Metric, MetricType, Spelled};
 use std::fmt;
 
 /// How near to the component the attacker has to be (guide, section 2.1.1).
@@ -23,8 +23,6 @@ impl Spelled for AccessVector {
 
     ghost value = { λ metric. metric };
 
-    ghost law = { Prim.search rules };
-
     fn values() -> &'static [Self] {
         &[Self::Local, Self::AdjacentNetwork, Self::Network]
     }
@@ -36,6 +34,10 @@ impl Spelled for AccessVector {
             Self::Network => ("/AV:N", 1000),
         }
     }
+}
+
+impl Metric for AccessVector {
+    ghost law = { Prim.search rules };
 }
 
 impl fmt::Display for AccessVector {
@@ -63,8 +65,6 @@ impl Spelled for AccessComplexity {
 
     ghost value = { λ metric. metric };
 
-    ghost law = { Prim.search rules };
-
     fn values() -> &'static [Self] {
         &[Self::High, Self::Medium, Self::Low]
     }
@@ -76,6 +76,10 @@ impl Spelled for AccessComplexity {
             Self::Low => ("/AC:L", 710),
         }
     }
+}
+
+impl Metric for AccessComplexity {
+    ghost law = { Prim.search rules };
 }
 
 impl fmt::Display for AccessComplexity {
@@ -103,8 +107,6 @@ impl Spelled for Authentication {
 
     ghost value = { λ metric. metric };
 
-    ghost law = { Prim.search rules };
-
     fn values() -> &'static [Self] {
         &[Self::Multiple, Self::Single, Self::None]
     }
@@ -116,6 +118,10 @@ impl Spelled for Authentication {
             Self::None => ("/Au:N", 704),
         }
     }
+}
+
+impl Metric for Authentication {
+    ghost law = { Prim.search rules };
 }
 
 impl fmt::Display for Authentication {

@@ -5,7 +5,7 @@ ghost use Rattle.std.proofs.Common.{rules};
 ghost use Rattle.cvss_base.specs.declared.v2.MetricType.TheVariants.{C, I, A};
 ghost use Rattle.cvss_v2_metric.specs.Table.{metric_component};
 
-use crate::metric::{MetricType, Spelled};
+use crate::metric::{Metric, MetricType, Spelled};
 use std::fmt;
 
 /// What an attack discloses (guide, section 2.1.4).
@@ -23,8 +23,6 @@ impl Spelled for ConfidentialityImpact {
 
     ghost value = { λ metric. metric };
 
-    ghost law = { Prim.search rules };
-
     fn values() -> &'static [Self] {
         &[Self::None, Self::Partial, Self::Complete]
     }
@@ -36,6 +34,10 @@ impl Spelled for ConfidentialityImpact {
             Self::Complete => ("/C:C", 660),
         }
     }
+}
+
+impl Metric for ConfidentialityImpact {
+    ghost law = { Prim.search rules };
 }
 
 impl fmt::Display for ConfidentialityImpact {
@@ -63,8 +65,6 @@ impl Spelled for IntegrityImpact {
 
     ghost value = { λ metric. metric };
 
-    ghost law = { Prim.search rules };
-
     fn values() -> &'static [Self] {
         &[Self::None, Self::Partial, Self::Complete]
     }
@@ -76,6 +76,10 @@ impl Spelled for IntegrityImpact {
             Self::Complete => ("/I:C", 660),
         }
     }
+}
+
+impl Metric for IntegrityImpact {
+    ghost law = { Prim.search rules };
 }
 
 impl fmt::Display for IntegrityImpact {
@@ -103,8 +107,6 @@ impl Spelled for AvailabilityImpact {
 
     ghost value = { λ metric. metric };
 
-    ghost law = { Prim.search rules };
-
     fn values() -> &'static [Self] {
         &[Self::None, Self::Partial, Self::Complete]
     }
@@ -116,6 +118,10 @@ impl Spelled for AvailabilityImpact {
             Self::Complete => ("/A:C", 660),
         }
     }
+}
+
+impl Metric for AvailabilityImpact {
+    ghost law = { Prim.search rules };
 }
 
 impl fmt::Display for AvailabilityImpact {

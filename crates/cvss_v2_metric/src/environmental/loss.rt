@@ -5,7 +5,7 @@ ghost use Rattle.std.proofs.Common.{rules};
 ghost use Rattle.cvss_base.specs.declared.v2.MetricType.TheVariants.{CDP, TD};
 ghost use Rattle.cvss_v2_metric.specs.Table.{metric_component};
 
-use crate::metric::{MetricType, Spelled};
+use crate::metric::{Metric, MetricType, Spelled};
 use std::fmt;
 
 /// What loss beside the system may come of it (guide, section 2.3.1).
@@ -26,8 +26,6 @@ impl Spelled for CollateralDamagePotential {
 
     ghost value = { λ metric. metric };
 
-    ghost law = { Prim.search rules };
-
     fn values() -> &'static [Self] {
         use CollateralDamagePotential::*;
         &[None, Low, LowMedium, MediumHigh, High, NotDefined]
@@ -43,6 +41,10 @@ impl Spelled for CollateralDamagePotential {
             Self::NotDefined => ("/CDP:ND", 0),
         }
     }
+}
+
+impl Metric for CollateralDamagePotential {
+    ghost law = { Prim.search rules };
 }
 
 impl fmt::Display for CollateralDamagePotential {
@@ -72,8 +74,6 @@ impl Spelled for TargetDistribution {
 
     ghost value = { λ metric. metric };
 
-    ghost law = { Prim.search rules };
-
     fn values() -> &'static [Self] {
         use TargetDistribution::*;
         &[None, Low, Medium, High, NotDefined]
@@ -88,6 +88,10 @@ impl Spelled for TargetDistribution {
             Self::NotDefined => ("/TD:ND", 1000),
         }
     }
+}
+
+impl Metric for TargetDistribution {
+    ghost law = { Prim.search rules };
 }
 
 impl fmt::Display for TargetDistribution {

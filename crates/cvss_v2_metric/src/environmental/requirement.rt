@@ -5,7 +5,7 @@ ghost use Rattle.std.proofs.Common.{rules};
 ghost use Rattle.cvss_base.specs.declared.v2.MetricType.TheVariants.{CR, IR, AR};
 ghost use Rattle.cvss_v2_metric.specs.Table.{metric_component};
 
-use crate::metric::{MetricType, Spelled};
+use crate::metric::{Metric, MetricType, Spelled};
 use std::fmt;
 
 /// How much confidentiality matters to the user (guide, section 2.3.3).
@@ -24,8 +24,6 @@ impl Spelled for ConfidentialityRequirement {
 
     ghost value = { λ metric. metric };
 
-    ghost law = { Prim.search rules };
-
     fn values() -> &'static [Self] {
         &[Self::Low, Self::Medium, Self::High, Self::NotDefined]
     }
@@ -38,6 +36,10 @@ impl Spelled for ConfidentialityRequirement {
             Self::NotDefined => ("/CR:ND", 1000),
         }
     }
+}
+
+impl Metric for ConfidentialityRequirement {
+    ghost law = { Prim.search rules };
 }
 
 impl fmt::Display for ConfidentialityRequirement {
@@ -66,8 +68,6 @@ impl Spelled for IntegrityRequirement {
 
     ghost value = { λ metric. metric };
 
-    ghost law = { Prim.search rules };
-
     fn values() -> &'static [Self] {
         &[Self::Low, Self::Medium, Self::High, Self::NotDefined]
     }
@@ -80,6 +80,10 @@ impl Spelled for IntegrityRequirement {
             Self::NotDefined => ("/IR:ND", 1000),
         }
     }
+}
+
+impl Metric for IntegrityRequirement {
+    ghost law = { Prim.search rules };
 }
 
 impl fmt::Display for IntegrityRequirement {
@@ -108,8 +112,6 @@ impl Spelled for AvailabilityRequirement {
 
     ghost value = { λ metric. metric };
 
-    ghost law = { Prim.search rules };
-
     fn values() -> &'static [Self] {
         &[Self::Low, Self::Medium, Self::High, Self::NotDefined]
     }
@@ -122,6 +124,10 @@ impl Spelled for AvailabilityRequirement {
             Self::NotDefined => ("/AR:ND", 1000),
         }
     }
+}
+
+impl Metric for AvailabilityRequirement {
+    ghost law = { Prim.search rules };
 }
 
 impl fmt::Display for AvailabilityRequirement {

@@ -28,8 +28,6 @@ impl Spelled for PrivilegesRequired {
 
     ghost value = { λ metric. metric };
 
-    ghost law = { Prim.search rules };
-
     fn row(self) -> (&'static str, Option<u64>) {
         match self {
             Self::High => ("/PR:H", Some(27)),
@@ -47,6 +45,10 @@ impl Spelled for PrivilegesRequired {
             _ => None,
         }
     }
+}
+
+impl Metric for PrivilegesRequired {
+    ghost law = { Prim.search rules };
 }
 
 impl fmt::Display for PrivilegesRequired {
@@ -116,8 +118,6 @@ impl Spelled for UserInteraction {
 
     ghost value = { λ metric. metric };
 
-    ghost law = { Prim.search rules };
-
     fn row(self) -> (&'static str, Option<u64>) {
         match self {
             Self::Required => ("/UI:R", Some(62)),
@@ -133,6 +133,10 @@ impl Spelled for UserInteraction {
             _ => None,
         }
     }
+}
+
+impl Metric for UserInteraction {
+    ghost law = { Prim.search rules };
 }
 
 impl fmt::Display for UserInteraction {

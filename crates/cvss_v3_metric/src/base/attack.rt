@@ -7,7 +7,7 @@ ghost use Rattle.cvss_base.specs.Text.{slash};
 ghost use Rattle.cvss_v3_metric.specs.Table.{metric_component, default_complexity};
 
 use crate::environmental::{Modifiable, Modified};
-use crate::metric::{MetricType, Spelled};
+use crate::metric::{Metric, MetricType, Spelled};
 use std::fmt;
 
 /// How near to the vulnerable component the attacker has to be (v3.1 specification, section 2.1.1).
@@ -25,8 +25,6 @@ impl Spelled for AttackVector {
     ghost TYPE = { AV };
 
     ghost value = { λ metric. metric };
-
-    ghost law = { Prim.search rules };
 
     fn row(self) -> (&'static str, Option<u64>) {
         match self {
@@ -47,6 +45,10 @@ impl Spelled for AttackVector {
             _ => None,
         }
     }
+}
+
+impl Metric for AttackVector {
+    ghost law = { Prim.search rules };
 }
 
 impl fmt::Display for AttackVector {
@@ -104,8 +106,6 @@ impl Spelled for AttackComplexity {
 
     ghost value = { λ metric. metric };
 
-    ghost law = { Prim.search rules };
-
     fn row(self) -> (&'static str, Option<u64>) {
         match self {
             Self::High => ("/AC:H", Some(44)),
@@ -121,6 +121,10 @@ impl Spelled for AttackComplexity {
             _ => None,
         }
     }
+}
+
+impl Metric for AttackComplexity {
+    ghost law = { Prim.search rules };
 }
 
 impl fmt::Display for AttackComplexity {

@@ -7,7 +7,7 @@ ghost use Rattle.cvss_base.specs.Text.{slash};
 ghost use Rattle.cvss_v3_metric.specs.Table.{metric_component};
 
 use crate::environmental::{Modifiable, Modified};
-use crate::metric::{MetricType, Spelled};
+use crate::metric::{Metric, MetricType, Spelled};
 use std::fmt;
 
 /// What becomes known to those who may not know it (v3.1 specification, section 2.3.1).
@@ -24,8 +24,6 @@ impl Spelled for Confidentiality {
     ghost TYPE = { C };
 
     ghost value = { λ metric. metric };
-
-    ghost law = { Prim.search rules };
 
     fn row(self) -> (&'static str, Option<u64>) {
         match self {
@@ -44,6 +42,10 @@ impl Spelled for Confidentiality {
             _ => None,
         }
     }
+}
+
+impl Metric for Confidentiality {
+    ghost law = { Prim.search rules };
 }
 
 impl fmt::Display for Confidentiality {
@@ -92,8 +94,6 @@ impl Spelled for Integrity {
 
     ghost value = { λ metric. metric };
 
-    ghost law = { Prim.search rules };
-
     fn row(self) -> (&'static str, Option<u64>) {
         match self {
             Self::None => ("/I:N", Some(0)),
@@ -111,6 +111,10 @@ impl Spelled for Integrity {
             _ => None,
         }
     }
+}
+
+impl Metric for Integrity {
+    ghost law = { Prim.search rules };
 }
 
 impl fmt::Display for Integrity {
@@ -159,8 +163,6 @@ impl Spelled for Availability {
 
     ghost value = { λ metric. metric };
 
-    ghost law = { Prim.search rules };
-
     fn row(self) -> (&'static str, Option<u64>) {
         match self {
             Self::None => ("/A:N", Some(0)),
@@ -178,6 +180,10 @@ impl Spelled for Availability {
             _ => None,
         }
     }
+}
+
+impl Metric for Availability {
+    ghost law = { Prim.search rules };
 }
 
 impl fmt::Display for Availability {

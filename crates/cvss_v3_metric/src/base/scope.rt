@@ -5,7 +5,7 @@ ghost use Rattle.std.proofs.Common.{rules};
 ghost use Rattle.cvss_base.specs.declared.v3.MetricType.TheVariants.{S};
 ghost use Rattle.cvss_v3_metric.specs.Table.{metric_component};
 
-use crate::metric::{MetricType, Spelled};
+use crate::metric::{Metric, MetricType, Spelled};
 use std::fmt;
 
 /// Whether the impact goes beyond the vulnerable component's security authority (v3.1 specification,
@@ -23,8 +23,6 @@ impl Spelled for Scope {
 
     ghost value = { λ metric. metric };
 
-    ghost law = { Prim.search rules };
-
     fn row(self) -> (&'static str, Option<u64>) {
         match self {
             Self::Unchanged => ("/S:U", None),
@@ -40,6 +38,10 @@ impl Spelled for Scope {
             _ => None,
         }
     }
+}
+
+impl Metric for Scope {
+    ghost law = { Prim.search rules };
 }
 
 impl fmt::Display for Scope {

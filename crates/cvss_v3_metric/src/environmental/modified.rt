@@ -58,21 +58,11 @@ impl<T: Metric + Modifiable> BaseMetric for T {
 }
 
 impl<T: Modifiable> Spelled for Modified<T> {
-    ghost use Rattle.cvss_v3_metric.specs.private.ModifiedLaws.{modified_order, modified_equality};
-
     const TYPE: MetricType = T::MODIFIED;
 
     ghost TYPE = { T.MODIFIED };
 
     ghost value = { T.modified_value };
-
-    ghost law = { record {
-      covers = T.base_law.covers;
-      ordered = modified_order _ T.law.ordered T.base_law refl (λ y. refl) (λ x. refl) (λ x y. refl);
-      equal = modified_equality _ T.law.equal refl (λ y. refl) (λ x. refl) (λ x y. refl);
-      cloned = Prim.search rules;
-      clonable = Prim.search rules;
-    } };
 
     fn row(self) -> (&'static str, Option<u64>) {
         (T::modified_slashed(self), Some(0))
@@ -85,6 +75,18 @@ impl<T: Modifiable> Spelled for Modified<T> {
             _ => Some(Modified::Modified(T::read_letter(letter)?)),
         }
     }
+}
+
+impl<T: BaseMetric> Metric for Modified<T> {
+    ghost use Rattle.cvss_v3_metric.specs.private.ModifiedLaws.{modified_order, modified_equality};
+
+    ghost law = { record {
+      covers = T.base_law.covers;
+      ordered = modified_order _ T.law.ordered T.base_law refl (λ y. refl) (λ x. refl) (λ x y. refl);
+      equal = modified_equality _ T.law.equal refl (λ y. refl) (λ x. refl) (λ x y. refl);
+      cloned = Prim.search rules;
+      clonable = Prim.search rules;
+    } };
 }
 
 impl<T: Modifiable> fmt::Display for Modified<T> {
@@ -152,8 +154,6 @@ impl Spelled for ModifiedScope {
 
     ghost value = { λ metric. metric };
 
-    ghost law = { Prim.search rules };
-
     fn row(self) -> (&'static str, Option<u64>) {
         match self {
             Self::NotDefined => ("/MS:X", Some(0)),
@@ -169,6 +169,10 @@ impl Spelled for ModifiedScope {
             _ => Some(Self::Modified(Scope::read_letter(letter)?)),
         }
     }
+}
+
+impl Metric for ModifiedScope {
+    ghost law = { Prim.search rules };
 }
 
 impl fmt::Display for ModifiedScope {

@@ -5,7 +5,7 @@ ghost use Rattle.std.proofs.Common.{rules};
 ghost use Rattle.cvss_base.specs.declared.v3.MetricType.TheVariants.{CR, IR, AR};
 ghost use Rattle.cvss_v3_metric.specs.Table.{metric_component};
 
-use crate::metric::{MetricType, Spelled};
+use crate::metric::{Metric, MetricType, Spelled};
 use std::fmt;
 
 /// How much confidentiality matters to the user of the component (v3.1 specification, section 4.1).
@@ -23,8 +23,6 @@ impl Spelled for ConfidentialityRequirement {
     ghost TYPE = { CR };
 
     ghost value = { λ metric. metric };
-
-    ghost law = { Prim.search rules };
 
     fn row(self) -> (&'static str, Option<u64>) {
         match self {
@@ -45,6 +43,10 @@ impl Spelled for ConfidentialityRequirement {
             _ => None,
         }
     }
+}
+
+impl Metric for ConfidentialityRequirement {
+    ghost law = { Prim.search rules };
 }
 
 impl fmt::Display for ConfidentialityRequirement {
@@ -73,8 +75,6 @@ impl Spelled for IntegrityRequirement {
 
     ghost value = { λ metric. metric };
 
-    ghost law = { Prim.search rules };
-
     fn row(self) -> (&'static str, Option<u64>) {
         match self {
             Self::NotDefined => ("/IR:X", Some(100)),
@@ -94,6 +94,10 @@ impl Spelled for IntegrityRequirement {
             _ => None,
         }
     }
+}
+
+impl Metric for IntegrityRequirement {
+    ghost law = { Prim.search rules };
 }
 
 impl fmt::Display for IntegrityRequirement {
@@ -122,8 +126,6 @@ impl Spelled for AvailabilityRequirement {
 
     ghost value = { λ metric. metric };
 
-    ghost law = { Prim.search rules };
-
     fn row(self) -> (&'static str, Option<u64>) {
         match self {
             Self::NotDefined => ("/AR:X", Some(100)),
@@ -143,6 +145,10 @@ impl Spelled for AvailabilityRequirement {
             _ => None,
         }
     }
+}
+
+impl Metric for AvailabilityRequirement {
+    ghost law = { Prim.search rules };
 }
 
 impl fmt::Display for AvailabilityRequirement {

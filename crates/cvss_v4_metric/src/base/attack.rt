@@ -7,7 +7,7 @@ ghost use Rattle.cvss_base.specs.declared.v4.MetricType.TheVariants as metric;
 ghost use Rattle.cvss_v4_metric.specs.Ranks as place;
 ghost use Rattle.cvss_v4_metric.specs.Table.{metric_component};
 
-use crate::metric::{MetricType, Spelled};
+use crate::metric::{Metric, MetricType, Spelled};
 use std::fmt;
 
 /// How near to the vulnerable system the attacker has to be (v4.0 specification, section 2.1.1).
@@ -27,8 +27,6 @@ impl Spelled for AttackVector {
 
     ghost rank = { place.AV };
 
-    ghost law = { Prim.search rules };
-
     fn values() -> &'static [Self] {
         &[Self::Physical, Self::Local, Self::Adjacent, Self::Network]
     }
@@ -41,6 +39,10 @@ impl Spelled for AttackVector {
             Self::Network => "/AV:N",
         }
     }
+}
+
+impl Metric for AttackVector {
+    ghost law = { Prim.search rules };
 }
 
 impl fmt::Display for AttackVector {
@@ -69,8 +71,6 @@ impl Spelled for AttackComplexity {
 
     ghost rank = { place.AC };
 
-    ghost law = { Prim.search rules };
-
     fn values() -> &'static [Self] {
         &[Self::High, Self::Low]
     }
@@ -81,6 +81,10 @@ impl Spelled for AttackComplexity {
             Self::Low => "/AC:L",
         }
     }
+}
+
+impl Metric for AttackComplexity {
+    ghost law = { Prim.search rules };
 }
 
 impl fmt::Display for AttackComplexity {
@@ -109,8 +113,6 @@ impl Spelled for AttackRequirements {
 
     ghost rank = { place.AT };
 
-    ghost law = { Prim.search rules };
-
     fn values() -> &'static [Self] {
         &[Self::Present, Self::None]
     }
@@ -121,6 +123,10 @@ impl Spelled for AttackRequirements {
             Self::None => "/AT:N",
         }
     }
+}
+
+impl Metric for AttackRequirements {
+    ghost law = { Prim.search rules };
 }
 
 impl fmt::Display for AttackRequirements {
@@ -149,8 +155,6 @@ impl Spelled for PrivilegesRequired {
 
     ghost rank = { place.PR };
 
-    ghost law = { Prim.search rules };
-
     fn values() -> &'static [Self] {
         &[Self::High, Self::Low, Self::None]
     }
@@ -162,6 +166,10 @@ impl Spelled for PrivilegesRequired {
             Self::None => "/PR:N",
         }
     }
+}
+
+impl Metric for PrivilegesRequired {
+    ghost law = { Prim.search rules };
 }
 
 impl fmt::Display for PrivilegesRequired {
@@ -190,8 +198,6 @@ impl Spelled for UserInteraction {
 
     ghost rank = { place.UI };
 
-    ghost law = { Prim.search rules };
-
     fn values() -> &'static [Self] {
         &[Self::Active, Self::Passive, Self::None]
     }
@@ -203,6 +209,10 @@ impl Spelled for UserInteraction {
             Self::None => "/UI:N",
         }
     }
+}
+
+impl Metric for UserInteraction {
+    ghost law = { Prim.search rules };
 }
 
 impl fmt::Display for UserInteraction {

@@ -6,7 +6,7 @@ ghost use Rattle.cvss_base.specs.declared.v4.MetricType.TheVariants as metric;
 ghost use Rattle.cvss_v4_metric.specs.Ranks as place;
 ghost use Rattle.cvss_v4_metric.specs.Table.{metric_component};
 
-use crate::metric::{MetricType, Spelled};
+use crate::metric::{Metric, MetricType, Spelled};
 use std::fmt;
 
 /// How much confidentiality systems behind the vulnerable one lose (v4.0 specification, section
@@ -26,8 +26,6 @@ impl Spelled for ConfidentialityImpactToTheSubsequentSystem {
 
     ghost rank = { place.SC };
 
-    ghost law = { Prim.search rules };
-
     fn values() -> &'static [Self] {
         &[Self::None, Self::Low, Self::High]
     }
@@ -39,6 +37,10 @@ impl Spelled for ConfidentialityImpactToTheSubsequentSystem {
             Self::High => "/SC:H",
         }
     }
+}
+
+impl Metric for ConfidentialityImpactToTheSubsequentSystem {
+    ghost law = { Prim.search rules };
 }
 
 impl fmt::Display for ConfidentialityImpactToTheSubsequentSystem {
@@ -67,8 +69,6 @@ impl Spelled for IntegrityImpactToTheSubsequentSystem {
 
     ghost rank = { place.SI };
 
-    ghost law = { Prim.search rules };
-
     fn values() -> &'static [Self] {
         &[Self::None, Self::Low, Self::High]
     }
@@ -80,6 +80,10 @@ impl Spelled for IntegrityImpactToTheSubsequentSystem {
             Self::High => "/SI:H",
         }
     }
+}
+
+impl Metric for IntegrityImpactToTheSubsequentSystem {
+    ghost law = { Prim.search rules };
 }
 
 impl fmt::Display for IntegrityImpactToTheSubsequentSystem {
@@ -109,8 +113,6 @@ impl Spelled for AvailabilityImpactToTheSubsequentSystem {
 
     ghost rank = { place.SA };
 
-    ghost law = { Prim.search rules };
-
     fn values() -> &'static [Self] {
         &[Self::None, Self::Low, Self::High]
     }
@@ -122,6 +124,10 @@ impl Spelled for AvailabilityImpactToTheSubsequentSystem {
             Self::High => "/SA:H",
         }
     }
+}
+
+impl Metric for AvailabilityImpactToTheSubsequentSystem {
+    ghost law = { Prim.search rules };
 }
 
 impl fmt::Display for AvailabilityImpactToTheSubsequentSystem {

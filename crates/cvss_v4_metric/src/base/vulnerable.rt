@@ -6,7 +6,7 @@ ghost use Rattle.cvss_base.specs.declared.v4.MetricType.TheVariants as metric;
 ghost use Rattle.cvss_v4_metric.specs.Ranks as place;
 ghost use Rattle.cvss_v4_metric.specs.Table.{metric_component};
 
-use crate::metric::{MetricType, Spelled};
+use crate::metric::{Metric, MetricType, Spelled};
 use std::fmt;
 
 /// How much confidentiality the vulnerable system loses (v4.0 specification, section 2.2.1).
@@ -25,8 +25,6 @@ impl Spelled for ConfidentialityImpactToTheVulnerableSystem {
 
     ghost rank = { place.VC };
 
-    ghost law = { Prim.search rules };
-
     fn values() -> &'static [Self] {
         &[Self::None, Self::Low, Self::High]
     }
@@ -38,6 +36,10 @@ impl Spelled for ConfidentialityImpactToTheVulnerableSystem {
             Self::High => "/VC:H",
         }
     }
+}
+
+impl Metric for ConfidentialityImpactToTheVulnerableSystem {
+    ghost law = { Prim.search rules };
 }
 
 impl fmt::Display for ConfidentialityImpactToTheVulnerableSystem {
@@ -66,8 +68,6 @@ impl Spelled for IntegrityImpactToTheVulnerableSystem {
 
     ghost rank = { place.VI };
 
-    ghost law = { Prim.search rules };
-
     fn values() -> &'static [Self] {
         &[Self::None, Self::Low, Self::High]
     }
@@ -79,6 +79,10 @@ impl Spelled for IntegrityImpactToTheVulnerableSystem {
             Self::High => "/VI:H",
         }
     }
+}
+
+impl Metric for IntegrityImpactToTheVulnerableSystem {
+    ghost law = { Prim.search rules };
 }
 
 impl fmt::Display for IntegrityImpactToTheVulnerableSystem {
@@ -107,8 +111,6 @@ impl Spelled for AvailabilityImpactToTheVulnerableSystem {
 
     ghost rank = { place.VA };
 
-    ghost law = { Prim.search rules };
-
     fn values() -> &'static [Self] {
         &[Self::None, Self::Low, Self::High]
     }
@@ -120,6 +122,10 @@ impl Spelled for AvailabilityImpactToTheVulnerableSystem {
             Self::High => "/VA:H",
         }
     }
+}
+
+impl Metric for AvailabilityImpactToTheVulnerableSystem {
+    ghost law = { Prim.search rules };
 }
 
 impl fmt::Display for AvailabilityImpactToTheVulnerableSystem {

@@ -7,7 +7,7 @@ ghost use Rattle.cvss_base.specs.declared.v4.MetricType.TheVariants as metric;
 ghost use Rattle.cvss_v4_metric.specs.Ranks as place;
 ghost use Rattle.cvss_v4_metric.specs.Table.{metric_component};
 
-use crate::metric::{MetricType, Spelled};
+use crate::metric::{Metric, MetricType, Spelled};
 use std::fmt;
 
 /// What Attack Vector is in the user's own environment (v4.0 specification, section 4.2).
@@ -28,8 +28,6 @@ impl Spelled for ModifiedAttackVector {
 
     ghost rank = { place.MAV };
 
-    ghost law = { Prim.search rules };
-
     fn values() -> &'static [Self] {
         use ModifiedAttackVector::*;
         &[Physical, Local, Adjacent, Network, NotDefined]
@@ -44,6 +42,10 @@ impl Spelled for ModifiedAttackVector {
             Self::NotDefined => "/MAV:X",
         }
     }
+}
+
+impl Metric for ModifiedAttackVector {
+    ghost law = { Prim.search rules };
 }
 
 impl fmt::Display for ModifiedAttackVector {
@@ -72,8 +74,6 @@ impl Spelled for ModifiedAttackComplexity {
 
     ghost rank = { place.MAC };
 
-    ghost law = { Prim.search rules };
-
     fn values() -> &'static [Self] {
         &[Self::NotDefined, Self::High, Self::Low]
     }
@@ -85,6 +85,10 @@ impl Spelled for ModifiedAttackComplexity {
             Self::Low => "/MAC:L",
         }
     }
+}
+
+impl Metric for ModifiedAttackComplexity {
+    ghost law = { Prim.search rules };
 }
 
 impl fmt::Display for ModifiedAttackComplexity {
@@ -113,8 +117,6 @@ impl Spelled for ModifiedAttackRequirements {
 
     ghost rank = { place.MAT };
 
-    ghost law = { Prim.search rules };
-
     fn values() -> &'static [Self] {
         &[Self::NotDefined, Self::Present, Self::None]
     }
@@ -126,6 +128,10 @@ impl Spelled for ModifiedAttackRequirements {
             Self::None => "/MAT:N",
         }
     }
+}
+
+impl Metric for ModifiedAttackRequirements {
+    ghost law = { Prim.search rules };
 }
 
 impl fmt::Display for ModifiedAttackRequirements {
@@ -155,8 +161,6 @@ impl Spelled for ModifiedPrivilegesRequired {
 
     ghost rank = { place.MPR };
 
-    ghost law = { Prim.search rules };
-
     fn values() -> &'static [Self] {
         &[Self::NotDefined, Self::High, Self::Low, Self::None]
     }
@@ -169,6 +173,10 @@ impl Spelled for ModifiedPrivilegesRequired {
             Self::None => "/MPR:N",
         }
     }
+}
+
+impl Metric for ModifiedPrivilegesRequired {
+    ghost law = { Prim.search rules };
 }
 
 impl fmt::Display for ModifiedPrivilegesRequired {
@@ -198,8 +206,6 @@ impl Spelled for ModifiedUserInteraction {
 
     ghost rank = { place.MUI };
 
-    ghost law = { Prim.search rules };
-
     fn values() -> &'static [Self] {
         &[Self::NotDefined, Self::Active, Self::Passive, Self::None]
     }
@@ -212,6 +218,10 @@ impl Spelled for ModifiedUserInteraction {
             Self::None => "/MUI:N",
         }
     }
+}
+
+impl Metric for ModifiedUserInteraction {
+    ghost law = { Prim.search rules };
 }
 
 impl fmt::Display for ModifiedUserInteraction {

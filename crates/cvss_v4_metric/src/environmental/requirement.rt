@@ -7,7 +7,7 @@ ghost use Rattle.cvss_base.specs.declared.v4.MetricType.TheVariants as metric;
 ghost use Rattle.cvss_v4_metric.specs.Ranks as place;
 ghost use Rattle.cvss_v4_metric.specs.Table.{metric_component};
 
-use crate::metric::{MetricType, Spelled};
+use crate::metric::{Metric, MetricType, Spelled};
 use std::fmt;
 
 /// How much confidentiality matters to the user's organisation (v4.0 specification, section 4.1).
@@ -27,8 +27,6 @@ impl Spelled for ConfidentialityRequirements {
 
     ghost rank = { place.CR };
 
-    ghost law = { Prim.search rules };
-
     fn values() -> &'static [Self] {
         &[Self::NotDefined, Self::Low, Self::Medium, Self::High]
     }
@@ -41,6 +39,10 @@ impl Spelled for ConfidentialityRequirements {
             Self::High => "/CR:H",
         }
     }
+}
+
+impl Metric for ConfidentialityRequirements {
+    ghost law = { Prim.search rules };
 }
 
 impl fmt::Display for ConfidentialityRequirements {
@@ -70,8 +72,6 @@ impl Spelled for IntegrityRequirements {
 
     ghost rank = { place.IR };
 
-    ghost law = { Prim.search rules };
-
     fn values() -> &'static [Self] {
         &[Self::NotDefined, Self::Low, Self::Medium, Self::High]
     }
@@ -84,6 +84,10 @@ impl Spelled for IntegrityRequirements {
             Self::High => "/IR:H",
         }
     }
+}
+
+impl Metric for IntegrityRequirements {
+    ghost law = { Prim.search rules };
 }
 
 impl fmt::Display for IntegrityRequirements {
@@ -113,8 +117,6 @@ impl Spelled for AvailabilityRequirements {
 
     ghost rank = { place.AR };
 
-    ghost law = { Prim.search rules };
-
     fn values() -> &'static [Self] {
         &[Self::NotDefined, Self::Low, Self::Medium, Self::High]
     }
@@ -127,6 +129,10 @@ impl Spelled for AvailabilityRequirements {
             Self::High => "/AR:H",
         }
     }
+}
+
+impl Metric for AvailabilityRequirements {
+    ghost law = { Prim.search rules };
 }
 
 impl fmt::Display for AvailabilityRequirements {

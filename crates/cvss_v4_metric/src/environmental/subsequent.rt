@@ -7,7 +7,7 @@ ghost use Rattle.cvss_base.specs.declared.v4.MetricType.TheVariants as metric;
 ghost use Rattle.cvss_v4_metric.specs.Ranks as place;
 ghost use Rattle.cvss_v4_metric.specs.Table.{metric_component};
 
-use crate::metric::{MetricType, Spelled};
+use crate::metric::{Metric, MetricType, Spelled};
 use std::fmt;
 
 /// What Confidentiality Impact to the Subsequent System is in the user's own environment (v4.0
@@ -28,8 +28,6 @@ impl Spelled for ModifiedConfidentialityImpactToTheSubsequentSystem {
 
     ghost rank = { place.MSC };
 
-    ghost law = { Prim.search rules };
-
     fn values() -> &'static [Self] {
         &[Self::NotDefined, Self::Negligible, Self::Low, Self::High]
     }
@@ -42,6 +40,10 @@ impl Spelled for ModifiedConfidentialityImpactToTheSubsequentSystem {
             Self::High => "/MSC:H",
         }
     }
+}
+
+impl Metric for ModifiedConfidentialityImpactToTheSubsequentSystem {
+    ghost law = { Prim.search rules };
 }
 
 impl fmt::Display for ModifiedConfidentialityImpactToTheSubsequentSystem {
@@ -73,8 +75,6 @@ impl Spelled for ModifiedIntegrityImpactToTheSubsequentSystem {
 
     ghost rank = { place.MSI };
 
-    ghost law = { Prim.search rules };
-
     fn values() -> &'static [Self] {
         use ModifiedIntegrityImpactToTheSubsequentSystem::*;
         &[NotDefined, Negligible, Low, High, Safety]
@@ -89,6 +89,10 @@ impl Spelled for ModifiedIntegrityImpactToTheSubsequentSystem {
             Self::Safety => "/MSI:S",
         }
     }
+}
+
+impl Metric for ModifiedIntegrityImpactToTheSubsequentSystem {
+    ghost law = { Prim.search rules };
 }
 
 impl fmt::Display for ModifiedIntegrityImpactToTheSubsequentSystem {
@@ -120,8 +124,6 @@ impl Spelled for ModifiedAvailabilityImpactToTheSubsequentSystem {
 
     ghost rank = { place.MSA };
 
-    ghost law = { Prim.search rules };
-
     fn values() -> &'static [Self] {
         use ModifiedAvailabilityImpactToTheSubsequentSystem::*;
         &[NotDefined, Negligible, Low, High, Safety]
@@ -136,6 +138,10 @@ impl Spelled for ModifiedAvailabilityImpactToTheSubsequentSystem {
             Self::Safety => "/MSA:S",
         }
     }
+}
+
+impl Metric for ModifiedAvailabilityImpactToTheSubsequentSystem {
+    ghost law = { Prim.search rules };
 }
 
 impl fmt::Display for ModifiedAvailabilityImpactToTheSubsequentSystem {

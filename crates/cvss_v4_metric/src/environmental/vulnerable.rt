@@ -7,7 +7,7 @@ ghost use Rattle.cvss_base.specs.declared.v4.MetricType.TheVariants as metric;
 ghost use Rattle.cvss_v4_metric.specs.Ranks as place;
 ghost use Rattle.cvss_v4_metric.specs.Table.{metric_component};
 
-use crate::metric::{MetricType, Spelled};
+use crate::metric::{Metric, MetricType, Spelled};
 use std::fmt;
 
 /// What Confidentiality Impact to the Vulnerable System is in the user's own environment (v4.0
@@ -28,8 +28,6 @@ impl Spelled for ModifiedConfidentialityImpactToTheVulnerableSystem {
 
     ghost rank = { place.MVC };
 
-    ghost law = { Prim.search rules };
-
     fn values() -> &'static [Self] {
         &[Self::NotDefined, Self::None, Self::Low, Self::High]
     }
@@ -42,6 +40,10 @@ impl Spelled for ModifiedConfidentialityImpactToTheVulnerableSystem {
             Self::High => "/MVC:H",
         }
     }
+}
+
+impl Metric for ModifiedConfidentialityImpactToTheVulnerableSystem {
+    ghost law = { Prim.search rules };
 }
 
 impl fmt::Display for ModifiedConfidentialityImpactToTheVulnerableSystem {
@@ -72,8 +74,6 @@ impl Spelled for ModifiedIntegrityImpactToTheVulnerableSystem {
 
     ghost rank = { place.MVI };
 
-    ghost law = { Prim.search rules };
-
     fn values() -> &'static [Self] {
         &[Self::NotDefined, Self::None, Self::Low, Self::High]
     }
@@ -86,6 +86,10 @@ impl Spelled for ModifiedIntegrityImpactToTheVulnerableSystem {
             Self::High => "/MVI:H",
         }
     }
+}
+
+impl Metric for ModifiedIntegrityImpactToTheVulnerableSystem {
+    ghost law = { Prim.search rules };
 }
 
 impl fmt::Display for ModifiedIntegrityImpactToTheVulnerableSystem {
@@ -116,8 +120,6 @@ impl Spelled for ModifiedAvailabilityImpactToTheVulnerableSystem {
 
     ghost rank = { place.MVA };
 
-    ghost law = { Prim.search rules };
-
     fn values() -> &'static [Self] {
         &[Self::NotDefined, Self::None, Self::Low, Self::High]
     }
@@ -130,6 +132,10 @@ impl Spelled for ModifiedAvailabilityImpactToTheVulnerableSystem {
             Self::High => "/MVA:H",
         }
     }
+}
+
+impl Metric for ModifiedAvailabilityImpactToTheVulnerableSystem {
+    ghost law = { Prim.search rules };
 }
 
 impl fmt::Display for ModifiedAvailabilityImpactToTheVulnerableSystem {

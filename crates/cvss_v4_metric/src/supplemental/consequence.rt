@@ -7,7 +7,7 @@ ghost use Rattle.cvss_base.specs.declared.v4.MetricType.TheVariants as metric;
 ghost use Rattle.cvss_v4_metric.specs.Ranks as place;
 ghost use Rattle.cvss_v4_metric.specs.Table.{metric_component};
 
-use crate::metric::{MetricType, Spelled};
+use crate::metric::{Metric, MetricType, Spelled};
 use std::fmt;
 
 /// Whether persons may come to harm (v4.0 specification, section 5.1).
@@ -26,8 +26,6 @@ impl Spelled for Safety {
 
     ghost rank = { place.S };
 
-    ghost law = { Prim.search rules };
-
     fn values() -> &'static [Self] {
         &[Self::NotDefined, Self::Present, Self::Negligible]
     }
@@ -39,6 +37,10 @@ impl Spelled for Safety {
             Self::Negligible => "/S:N",
         }
     }
+}
+
+impl Metric for Safety {
+    ghost law = { Prim.search rules };
 }
 
 impl fmt::Display for Safety {
@@ -68,8 +70,6 @@ impl Spelled for Recovery {
 
     ghost rank = { place.R };
 
-    ghost law = { Prim.search rules };
-
     fn values() -> &'static [Self] {
         use Recovery::*;
         &[NotDefined, Automatic, User, Irrecoverable]
@@ -83,6 +83,10 @@ impl Spelled for Recovery {
             Self::Irrecoverable => "/R:I",
         }
     }
+}
+
+impl Metric for Recovery {
+    ghost law = { Prim.search rules };
 }
 
 impl fmt::Display for Recovery {
@@ -111,8 +115,6 @@ impl Spelled for Automatable {
 
     ghost rank = { place.AU };
 
-    ghost law = { Prim.search rules };
-
     fn values() -> &'static [Self] {
         &[Self::NotDefined, Self::Yes, Self::No]
     }
@@ -124,6 +126,10 @@ impl Spelled for Automatable {
             Self::No => "/AU:N",
         }
     }
+}
+
+impl Metric for Automatable {
+    ghost law = { Prim.search rules };
 }
 
 impl fmt::Display for Automatable {
@@ -152,8 +158,6 @@ impl Spelled for ValueDensity {
 
     ghost rank = { place.V };
 
-    ghost law = { Prim.search rules };
-
     fn values() -> &'static [Self] {
         &[Self::NotDefined, Self::Diffuse, Self::Concentrated]
     }
@@ -165,6 +169,10 @@ impl Spelled for ValueDensity {
             Self::Concentrated => "/V:C",
         }
     }
+}
+
+impl Metric for ValueDensity {
+    ghost law = { Prim.search rules };
 }
 
 impl fmt::Display for ValueDensity {

@@ -6,7 +6,7 @@ ghost use Rattle.cvss_base.specs.declared.v4.MetricType.TheVariants as metric;
 ghost use Rattle.cvss_v4_metric.specs.Ranks as place;
 ghost use Rattle.cvss_v4_metric.specs.Table.{metric_component};
 
-use crate::metric::{MetricType, Spelled};
+use crate::metric::{Metric, MetricType, Spelled};
 use std::fmt;
 
 /// How hard it is to respond to the vulnerability (v4.0 specification, section 5.6).
@@ -26,8 +26,6 @@ impl Spelled for VulnerabilityResponseEffort {
 
     ghost rank = { place.RE };
 
-    ghost law = { Prim.search rules };
-
     fn values() -> &'static [Self] {
         &[Self::NotDefined, Self::Low, Self::Moderate, Self::High]
     }
@@ -40,6 +38,10 @@ impl Spelled for VulnerabilityResponseEffort {
             Self::High => "/RE:H",
         }
     }
+}
+
+impl Metric for VulnerabilityResponseEffort {
+    ghost law = { Prim.search rules };
 }
 
 impl fmt::Display for VulnerabilityResponseEffort {
@@ -71,8 +73,6 @@ impl Spelled for ProviderUrgency {
 
     ghost rank = { place.U };
 
-    ghost law = { Prim.search rules };
-
     fn values() -> &'static [Self] {
         use ProviderUrgency::*;
         &[NotDefined, Red, Amber, Green, Clear]
@@ -87,6 +87,10 @@ impl Spelled for ProviderUrgency {
             Self::Clear => "/U:Clear",
         }
     }
+}
+
+impl Metric for ProviderUrgency {
+    ghost law = { Prim.search rules };
 }
 
 impl fmt::Display for ProviderUrgency {
