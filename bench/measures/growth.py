@@ -42,7 +42,7 @@ INPUTS = {
 PROSE = (b"The service parses the header of a request before its length is known, so a client that "
          b"sends more than 4,096 bytes writes behind the buffer; versions 2.3.1 and/or later are fixed.\n")
 
-# The same for `cvss_find`.
+# The texts of `cvss_find`, each by its size: that many bytes, or what it names that often.
 TEXTS = {
     "prose without a vector": lambda size: (PROSE * (size // len(PROSE) + 1))[:size],
     "`CVSS:` again and again": lambda size: b"CVSS:" * size,
@@ -51,7 +51,7 @@ TEXTS = {
     "slashes": lambda size: b"/" * size,
 }
 
-# The same for `cvss_audit`, in documents of many places.
+# The documents of `cvss_audit`, each by its size in bytes: of what kind it is, and of how many places.
 DOCUMENTS = {
     "vectors in an array under a name of ten letters": lambda size: ("names", 10, size // 46),
     "the same at depth 120": lambda size: ("deep", size // 46),

@@ -140,7 +140,7 @@ static bool is_right(Call *call, const char *text, size_t length, bool may_ask)
     return false;
 }
 
-/* The same of each function and one text, which a newline follows, and whose refusal is of this kind. */
+/* Whether each function is right over one text, which a newline follows, and whose refusal is of this kind. */
 static bool are_right(const char *text, size_t length, int kind)
 {
     bool carries_text = CVSS_INVALID_COMPONENT <= kind && kind <= CVSS_INVALID_VALUE;
@@ -152,7 +152,7 @@ static bool are_right(const char *text, size_t length, int kind)
     return right;
 }
 
-/* The same of each line of standard input, of which some are accepted and some refused. */
+/* Whether each is right over each line of standard input, of which some are accepted and some refused. */
 static bool are_counted(void)
 {
     char *line = NULL;

@@ -72,7 +72,7 @@ impl Cvss {
         Cvss::parse_bytes(text.as_bytes())
     }
 
-    /// The same of a text that need not be UTF-8; what is not is refused.
+    /// Reads a text that need not be UTF-8, as `parse` does; what is not UTF-8 is refused.
     ///
     /// # Errors
     ///

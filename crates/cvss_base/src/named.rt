@@ -1,6 +1,6 @@
 //! The names of a metric type, and the type that is looked up by its name, once for all versions.
 
-ghost use Rattle.std.specs.Prelude.{◌≡◌, IfOk, IfErr, IfSome, Some, Ok, ℕ, List, find, bytes_eq};
+ghost use Rattle.std.specs.Prelude.{◌≡◌, IfOk, IfErr, Some, Ok, ℕ, List, find, bytes_eq};
 ghost use Rattle.cvss_base.specs.declared.group.MetricGroup.{MetricGroup};
 ghost use Rattle.cvss_base.specs.private.Unknown.{TellsUnknown};
 

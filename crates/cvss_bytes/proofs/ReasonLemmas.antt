@@ -48,7 +48,7 @@ carried_v4 : (error : Error) (reason : Refusal metric_v4.MetricType) → Carries
 carried_v4 error reason carries (inl is) = subst (λ each. IfSome each (λ known. carries_text known ≡ true)) is (carried error carries)
 carried_v4 error reason carries (inr lacking) = lacking.1
 
--- the same of what is wrong with an override
+-- an error that is told in place of another tells its objection to an override
 objection_same : (place index : ℕ) (objection : Objection) (error told : Error) → IsToldAs error told → TellsObjection place objection (Refused index error) → TellsObjection place objection (Refused index told)
 objection_same place index OfOtherGroup error told same tells = absurd (cc tells)
 objection_same place index (OfText reason) error told same (own, refused, tells) =

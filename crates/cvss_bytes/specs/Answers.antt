@@ -33,7 +33,7 @@ pub record IsToldFirst (text reason : List ℕ) : Type 0 where
   pub told : TellsFirst cvss_reason (IsFirstRefusalCvss text) error
   pub is : reason ≡ error_text error
 
--- the same of a text in UTF-8
+-- the text is UTF-8, and the reason is that of its first refusal
 pub record IsTold (text reason : List ℕ) : Type 0 where
   pub utf8 : IsUtf8 text
   pub told : IsToldFirst text reason

@@ -36,14 +36,14 @@ abbrev pub IsSaid : {X : Type 0} → (Refusal MetricType → X) → X → Refusa
 IsSaid of_reason without_memory reason said =
     (said ≡ of_reason reason) ⊎ ((said ≡ without_memory) × (carries_text reason ≡ true))
 
--- this is said of the first reason why the text is refused, or that the text is not UTF-8
+-- the text is UTF-8, and this is said of the first reason why it is refused
 pub record IsSaidOfFirst {X : Type 0} (of_reason : Refusal MetricType → X) (without_memory : X) (text : List ℕ) (said : X) : Type 0 where
   pub utf8 : IsUtf8 text
   pub reason : Refusal MetricType
   pub first : IsFirstRefusalCvss text reason
   pub is : IsSaid of_reason without_memory reason said
 
--- the same, or the text is not UTF-8, of which this is said
+-- of a text in UTF-8 this is said of its first refusal, and of any other that it is none
 abbrev pub IsSaidOf : {X : Type 0} → (Refusal MetricType → X) → X → X → List ℕ → X → Type 0
 IsSaidOf of_reason without_memory of_no_text text said =
     (¬ (IsUtf8 text) × (said ≡ of_no_text)) ⊎ IsSaidOfFirst of_reason without_memory text said

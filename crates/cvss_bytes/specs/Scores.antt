@@ -59,7 +59,7 @@ pub record IsScoreInTenths (IsCount : ℤ → Type 0) (tenths : ℤ) : Type 0 wh
   pub is_score : IsCount (count_of tenths)
   pub range : IsFromZeroToTen tenths
 
--- the same, with the number of the score's rating
+-- so many tenths are the score, and this is the number of its rating
 pub record IsRatedScore (IsCount : ℤ → Type 0) (rating : ℤ → Severity) (tenths severity : ℤ) : Type 0 where
   pub score : IsScoreInTenths IsCount tenths
   pub severity_is : severity ≡ severity_number (rating (count_of tenths))

@@ -1,7 +1,7 @@
 -- How the first part of a text is found byte by byte.
 use Rattle.std.proofs.Common.{◌≡◌, ℕ, ◌<◌, ◌≤◌, ◌-◌, get_or, Bool, true, false, not, cond, ◌||◌, if◌then◌else◌, List, [], ◌∷◌, ◌++◌, length, take, drop, refl, sym, ap, ◌∙◌, subst, append_assoc, arith}
 use Rattle.std.proofs.lemmas.Bool.{not-false, or_parts}
-use Rattle.std.proofs.lemmas.List.{length-append, take_at, drop_at, take_rest}
+use Rattle.std.proofs.lemmas.List.{length-append, take_rest}
 use Rattle.cvss_mention.specs.Parts.{begins_part, begins_with_prefix, is_vector_byte, onto_first, parts_of}
 
 -- bytes at the front of the first part
@@ -48,40 +48,6 @@ IsWithinFirst-byte text byte behind so_far uncut =
           ∙ ap (joined_onto so_far.front) (within_run byte behind vector)
           ∙ byte_more (begins_part behind) so_far.front byte (parts_of behind);
     }
-
--- what a part is cut as
-pub record IsFirstPart (text : List ℕ) (end : ℕ) : Type 0 where
-  pub some : 0 < end
-  pub cut : parts_of text ≡ take end text ∷ parts_of (drop end text)
-
-ended : (text front left : List ℕ) (end : ℕ) → 0 < length front → text ≡ front ++ left → end ≡ length front → parts_of text ≡ front ∷ parts_of left → IsFirstPart text end
-ended text front left end some is end_is parts = record {
-  some = rw end_is some;
-  cut = parts
-      ∙ ap (λ first. first ∷ parts_of left) (sym (ap (take end) is ∙ take_at front left end (sym end_is)))
-      ∙ ap (λ rest. take end text ∷ parts_of rest) (sym (ap (drop end) is ∙ drop_at front left end (sym end_is)));
-}
-
-end_is : (text left : List ℕ) (within : IsWithinFirst text left) → length text - length left ≡ length within.front
-end_is text left within = omega (arith, ap length within.is, length-append within.front left)
-
--- at the end of the text, and before bytes that begin a part
-pub IsFirstPart-whole : (text left : List ℕ) → IsWithinFirst text left → left ≡ [] → IsFirstPart text (length text - length left)
-IsFirstPart-whole text left within none =
-    ended text within.front left (length text - length left) within.some within.is (end_is text left within)
-    (within.parts ∙ ap (λ rest. parts_under within.front rest) none ∙ ap (λ rest. within.front ∷ parts_of rest) (sym none))
-
-pub IsFirstPart-cut : (text left : List ℕ) → IsWithinFirst text left → begins_part left ≡ true → IsFirstPart text (length text - length left)
-IsFirstPart-cut text left within cut =
-    ended text within.front left (length text - length left) within.some within.is (end_is text left within)
-    (within.parts ∙ ap (λ is. cond is (within.front ∷ parts_of left) (joined_onto within.front (parts_of left))) cut)
-
--- a byte of no vector is a part
-pub IsFirstPart-byte : (byte : ℕ) (rest : List ℕ) → is_vector_byte byte ≡ false → IsFirstPart (byte ∷ rest) 1
-IsFirstPart-byte byte rest other = record {
-  some = omega arith;
-  cut = ap (λ is. cond (not is || begins_part rest) ((byte ∷ []) ∷ parts_of rest) (onto_first byte (parts_of rest))) other;
-}
 
 -- a text with bytes is its first byte and the rest
 pub first_and_rest : (text : List ℕ) → 1 ≤ length text → text ≡ get_or text 0 0 ∷ take (length text - 1) (drop 1 text)

@@ -77,12 +77,5 @@ parts_at_start text end place before start =
     ap parts_of (sym (take-append-drop place text))
     ∙ parts_behind (take place text) (drop place text) (subst (λ front. is_other (last_byte front) ≡ true) (take-take place end text before) start)
 
--- less its last byte, a front of the text is one
-pub front_less : (text left : List ℕ) → left ≡ take (length left) text → take (length left - 1) left ≡ take (length (take (length left - 1) left)) text
-front_less text left is =
-    ap (take (length left - 1)) is
-    ∙ take-take (length left - 1) (length left) text (omega arith)
-    ∙ ap (λ count. take count text) (sym (length-take-le (length left - 1) left (omega arith)))
-
 pub run_starts : (text left : List ℕ) → left ≡ take (length left) text → 1 ≤ length left → is_vector_byte (get_or left (length left - 1) 0) ≡ false → is_other (last_byte (take (length left) text)) ≡ true
 run_starts text left is some other = subst (λ bytes. is_other (last_byte bytes) ≡ true) is (ends_other left some other)

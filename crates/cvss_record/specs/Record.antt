@@ -59,7 +59,7 @@ group_members cvss group tenths =
     (score_member group, score_value tenths)
     ∷ (if is_rated cvss then (severity_member group, rating_value cvss tenths) ∷ [] else [])
 
--- the same of an optional group, where the vector has a metric of it
+-- the members of an optional group's score, where the vector has a metric of the group
 abbrev pub optional_members : Cvss → Group → Option ℕ → List Member
 optional_members cvss group None = []
 optional_members cvss group (Some tenths) = if has_group cvss group then group_members cvss group tenths else []

@@ -13,7 +13,7 @@ pub record Metric : Type 1 where
   pub rank : Value → ℕ
   pub value : Vector → Option Value
 
--- the same of an enum
+-- a metric whose values are an enum, by their places and the value that a vector has
 abbrev of : {A : Type 0} → (A → ℕ) → (Vector → Option A) → Metric
 of {A} rank value = record { Value = A; rank = rank; value = value }
 

@@ -4,7 +4,7 @@ use Rattle.std.specs.Prelude.{ℕ, List, [], ◌∷◌, ◌++◌, codes, slice_g
 use Rattle.cvss_base.specs.Text.{component}
 use Rattle.cvss_base.specs.Groups.{in_group}
 use Rattle.cvss_base.specs.V4Types.{name_of, group_of, declared}
-use Rattle.cvss_base.specs.declared.group.MetricGroup.TheVariants.{Base, Supplemental}
+use Rattle.cvss_base.specs.declared.group.MetricGroup.TheVariants.{Base}
 use Rattle.cvss_base.specs.declared.v4.MetricType.{MetricType}
 use Rattle.cvss_base.specs.declared.v4.MetricType.TheVariants.{AC, AT, AV, PR, SA, SC, SI, UI, VA, VC, VI, E, AR, CR, IR, MAC, MAT, MAV, MPR, MSA, MSC, MSI, MUI, MVA, MVC, MVI, AU, R, RE, S, U, V}
 
@@ -88,7 +88,3 @@ printed = AV ∷ AC ∷ AT ∷ PR ∷ UI ∷ VC ∷ VI ∷ VA ∷ SC ∷ SI ∷ 
 -- the base metrics, which each vector has, in the order in which they are missed
 abbrev pub mandatory : List MetricType
 mandatory = in_group group_of Base declared
-
--- the supplemental metrics, which are printed last
-abbrev pub supplemental : List MetricType
-supplemental = in_group group_of Supplemental printed

@@ -37,7 +37,7 @@ harmless = record {
   e = exploit.Attacked;
 }
 
--- the same with VI:H/E:P
+-- AV:N/AC:L/AT:N/PR:N/UI:N/VC:N/VI:H/VA:N/SC:N/SI:N/SA:N/E:P
 abbrev integrity : Effective
 integrity = record harmless { vi = impact.High; e = exploit.ProofOfConcept }
 

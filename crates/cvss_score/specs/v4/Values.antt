@@ -57,7 +57,7 @@ listed_value m =
     option_and_then (λ row. option_and_then (λ values. slice_get values m.eq5) (slice_get row.1 m.eq4))
     (find (λ row. row.0 == digits m.eq1 m.eq2 m.eq3 m.eq6) rows)
 
--- the same, where each class that can arise has one
+-- the value of six numbers, each class that can arise having one
 abbrev pub class_value : MacroVector → ℕ
 class_value m = unwrap_or (listed_value m) 0
 

@@ -1,5 +1,5 @@
-//! The impact with the scope changed, where there is some; its power is cut to nine decimals. Of a
-//! number with impact, cut to 10, no rounding jumps so near that this shows in a score.
+//! The impact with the scope changed, where there is some; its power is cut to nine decimals. The cut
+//! never changes a rounded score.
 
 ghost use Rattle.std.specs.Prelude.{◌≡◌, ◌≤◌, ◌*◌, ◌/◌, ◌^◌};
 ghost use Rattle.cvss_score.specs.v3.private.SubScores.{IsSubScore};

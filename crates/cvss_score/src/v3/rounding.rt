@@ -1,7 +1,7 @@
 //! The roundings of v3.0 (section 8.1) and v3.1 (Appendix A) to tenths, and whether the scores' numbers
 //! lie far from where these jump.
 
-ghost use Rattle.std.specs.Prelude.{◌≤◌, ◌*◌, ◌^◌, ℕ, pos, neg_ℤ, ◌≤ℤ◌, IsTrue};
+ghost use Rattle.std.specs.Prelude.{◌≤◌, ◌^◌, ℕ, pos, neg_ℤ, ◌≤ℤ◌, IsTrue};
 ghost use Rattle.cvss_base.specs.Exact.{◌over◌, of_count, whole, ◌⊏◌, IsWithinLimit};
 ghost use Rattle.cvss_score.specs.v3.Certainty.{IsCertain};
 ghost use Rattle.cvss_score.specs.v3.Scores.{IsRoundedBy, impact, modified_impact, base_number, environmental_number};
