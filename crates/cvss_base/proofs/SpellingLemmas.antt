@@ -1,9 +1,11 @@
 -- How a value is found by its spelling.
-use Rattle.std.proofs.Common.{◌≡◌, [], ◌∷◌, ℕ, zero, suc, ◌+◌, ◌<◌, List, Bool, true, false, not, ◌&&◌, Some, find, map, slice_get, length, drop, get_or, refl, arith}
-use Rattle.std.specs.List.{list_any}
+use Rattle.std.proofs.Common.{◌≡◌, [], ◌∷◌, ℕ, zero, suc, ◌+◌, ◌<◌, ◌≤◌, ◌⊎◌, List, Bool, true, false, not, ◌&&◌, Option, None, Some, find, map, slice_get, length, drop, get_or, unwrap_or, refl, ap, ◌∙◌, length-append, length-drop, arith}
+use Rattle.std.specs.Borrow.{Bor}
+use Rattle.std.specs.List.{list_any, slice_range}
+use Rattle.std.specs.Option.{MatchOption}
 use Rattle.std.specs.Str.{str_eq_ignore_ascii_case, str_to_ascii_lowercase}
 use Rattle.std.proofs.lemmas.Bool.{and_parts, false_from_ne_true, not-true}
-use Rattle.std.proofs.lemmas.List.{get_or-map, length-map}
+use Rattle.std.proofs.lemmas.List.{get_or-map, length-map, take_all}
 use Rattle.std.proofs.lemmas.List.Folds.{list_any_at}
 use Rattle.std.proofs.lemmas.Option.{get_or_from_slice_get, slice_get_within}
 use Rattle.std.proofs.lemmas.Slice.Eq.{bytes_eq-Decides}
@@ -17,10 +19,18 @@ differ [] = true
 differ (spelling ∷ others) = not (list_any (str_eq_ignore_ascii_case spelling) others) && differ others
 
 -- the spelling stands behind the slash, the name and the colon
-pub spelling_behind : (name spelling : List ℕ) → drop (length name + 2) (slash ∷ component name spelling) ≡ spelling
+spelling_behind : (name spelling : List ℕ) → drop (length name + 2) (slash ∷ component name spelling) ≡ spelling
 spelling_behind name spelling =
     let one_more : length name + 2 ≡ suc (length name + 1) = omega arith in
     rw one_more (drop-append-add name (colon ∷ spelling) 1)
+
+-- and so `get` gives it from there on
+pub spelling_got : (bytes name spelling : List ℕ) (got : Option (Bor (List ℕ))) (other : Bor (List ℕ)) → bytes ≡ slash ∷ component name spelling
+    → MatchOption got ((length bytes < length name + 2) ⊎ (length bytes < length bytes)) (λ x. (length name + 2 ≤ length bytes) × (length bytes ≤ length bytes) × (x.now ≡ slice_range bytes (length name + 2) (length bytes)) × (length x.now + (length name + 2) ≡ length bytes))
+    → (unwrap_or got other).now ≡ spelling
+spelling_got bytes name spelling None other is past = absurd (omega (arith, past, simp length-append at (ap length is)))
+spelling_got bytes name spelling (Some x) other is found =
+    found.2 ∙ (take_all _ (drop (length name + 2) bytes) (omega (arith, length-drop (length name + 2) bytes)) ∙ rw is (spelling_behind name spelling))
 
 -- a value is found by each test of spellings that it passes, and that no spelling passes which is not alike
 pub read_first : {A : Type 0} (spelling : A → List ℕ) (values : List A) (test : List ℕ → Bool) (value : A)

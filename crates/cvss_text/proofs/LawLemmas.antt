@@ -94,8 +94,8 @@ module _ {V K : Type 0} (version : Version V K) (lawful : IsLawful version) wher
       let within : n < length piece = grind (arith, get_or_past piece n 0) in
       let rest = drop (suc n) piece in
       let name_is : take n piece ≡ map (λ k. get_or piece k 0) (range_with_len 0 n) =
-          fill_by_all (λ k. get_or piece k 0) (take n piece) n 0 (length-take-le n piece (omega arith)) (λ k inside. get_or-take n piece k 0 inside) in
+      fill_by_all (λ k. get_or piece k 0) (take n piece) n 0 (length-take-le n piece (omega arith)) (λ k inside. get_or-take n piece k 0 inside) in
       let value_is : take (length piece - suc n) rest ≡ rest = take_all (length piece - suc n) rest (omega (arith, length-drop (suc n) piece)) in
       let is_cut : piece ≡ take n piece ++ (58 ∷ take (length piece - suc n) rest) =
-          sym (take-append-drop n piece) ∙ ap (λ l. take n piece ++ l) (drop-cons piece n 0 within ∙ (λ at. colon at ∷ sym value_is at)) in
+      sym (take-append-drop n piece) ∙ ap (λ l. take n piece ++ l) (drop-cons piece n 0 within ∙ (λ at. colon at ∷ sym value_is at)) in
       IsCut_named piece (take n piece) (take (length piece - suc n) rest) kind is_cut (named ∙ ap (read version) (sym name_is))

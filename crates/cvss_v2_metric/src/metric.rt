@@ -12,8 +12,8 @@ ghost use Rattle.cvss_v2_metric.specs.Metrics.{IsMetric};
 ghost use Rattle.cvss_v2_metric.specs.Table.{Value, spelling_of, weight_of, metric_component, rows_of};
 
 use cvss_base::Error;
-pub use cvss_base::v2::MetricType;
 use cvss_base::component::write_component;
+pub use cvss_base::v2::MetricType;
 use std::alloc::Global;
 use std::fmt;
 
@@ -145,7 +145,6 @@ pub trait Metric: Spelled + Eq + Ord + fmt::Debug + fmt::Display {
 
 /// How a value is spelled in a vector.
 #[inline(always)]
-#[tactic(auto, using(cvss_base::proofs::SpellingLemmas::spelling_behind))]
 fn spelling<M: Spelled>(value: M) -> &'static [u8]
     ensures { result.now ≡ spelling_of M.TYPE (M.value value) }
 {

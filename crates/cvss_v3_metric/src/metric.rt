@@ -12,8 +12,8 @@ ghost use Rattle.cvss_v3_metric.specs.Table.{Value, spelling_of, weight_of, metr
 ghost use Rattle.cvss_v3_metric.specs.Metrics.{IsMetric};
 
 use cvss_base::Error;
-pub use cvss_base::v3::MetricType;
 use cvss_base::component::write_component;
+pub use cvss_base::v3::MetricType;
 use std::alloc::Global;
 use std::fmt;
 

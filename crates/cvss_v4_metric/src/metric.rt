@@ -13,8 +13,8 @@ ghost use Rattle.cvss_v4_metric.specs.Reading.{IsReading};
 ghost use Rattle.cvss_v4_metric.specs.Table.{spelling_at, spellings_of, metric_component};
 
 use cvss_base::Error;
-pub use cvss_base::v4::MetricType;
 use cvss_base::component::{is_raised_as, write_component};
+pub use cvss_base::v4::MetricType;
 use std::alloc::Global;
 use std::fmt;
 
@@ -100,7 +100,6 @@ pub trait Metric: Spelled + Eq + Ord + Default + fmt::Debug + fmt::Display {
     }
 
     /// The value with this spelling, as it is printed or in upper case.
-    #[tactic(auto, using(crate::proofs::ReadingLemmas::read_alike))]
     final fn read(text: &str) -> Option<Self>
         ensures spelled { IfSome result
             (λ metric. IsReading (spelling_at Self.TYPE (Self.rank metric)) text.now) }
@@ -149,7 +148,6 @@ pub trait Metric: Spelled + Eq + Ord + Default + fmt::Debug + fmt::Display {
 
 /// How a value is spelled in a vector.
 #[inline(always)]
-#[tactic(auto, using(cvss_base::proofs::SpellingLemmas::spelling_behind))]
 fn spelling<M: Spelled>(value: M) -> &'static [u8]
     ensures { result.now ≡ spelling_at M.TYPE (M.rank value) }
 {
