@@ -34,16 +34,17 @@ pub struct NextClass {
 }
 
 impl NextClass {
-    /// The class that stands at a place, with its value.
+    /// A class with its value.
     #[inline(always)]
-    fn at(class: MacroVector, place: usize) -> Self
-        requires class { IsMacroVector class }
-        requires place { place ≡ place_of class }
-        ensures value { result ≡ with_value class }
+    fn at(placed: PlacedClass) -> Self
+        ensures value { result ≡ with_value placed.class }
         ensures listed { IsInTable result }
     {
-        let value = value_of(&PlacedClass { class, place });
-        NextClass { class, value }
+        let value = value_of(&placed);
+        NextClass {
+            class: placed.class,
+            value,
+        }
     }
 }
 
@@ -58,8 +59,11 @@ pub fn eq1_next(placed: &PlacedClass) -> Option<NextClass>
     if eq1 > 2 {
         return None;
     }
-    let place = placed.place + EQ1_STEP;
-    Some(NextClass::at(MacroVector { eq1, ..class }, place))
+    let placed = PlacedClass {
+        class: MacroVector { eq1, ..class },
+        place: placed.place + EQ1_STEP,
+    };
+    Some(NextClass::at(placed))
 }
 
 /// The next lower class in EQ2.
@@ -73,8 +77,11 @@ pub fn eq2_next(placed: &PlacedClass) -> Option<NextClass>
     if eq2 > 1 {
         return None;
     }
-    let place = placed.place + EQ2_STEP;
-    Some(NextClass::at(MacroVector { eq2, ..class }, place))
+    let placed = PlacedClass {
+        class: MacroVector { eq2, ..class },
+        place: placed.place + EQ2_STEP,
+    };
+    Some(NextClass::at(placed))
 }
 
 /// The next lower class in EQ3 with EQ6, of two pairs that with the larger value.
@@ -87,13 +94,28 @@ pub fn eq3_eq6_next(placed: &PlacedClass) -> Option<NextClass>
     let place = placed.place + PAIR_STEP;
     match (class.eq3, class.eq6) {
         (0, 0) => {
-            let first = NextClass::at(MacroVector { eq6: 1, ..class }, place);
-            let second = NextClass::at(MacroVector { eq3: 1, ..class }, place + PAIR_STEP);
+            let first = NextClass::at(PlacedClass {
+                class: MacroVector { eq6: 1, ..class },
+                place,
+            });
+            let second = NextClass::at(PlacedClass {
+                class: MacroVector { eq3: 1, ..class },
+                place: place + PAIR_STEP,
+            });
             Some(of_larger_value(first, second))
         }
-        (0, _) => Some(NextClass::at(MacroVector { eq3: 1, ..class }, place + PAIR_STEP)),
-        (1, 0) => Some(NextClass::at(MacroVector { eq6: 1, ..class }, place)),
-        (1, _) => Some(NextClass::at(MacroVector { eq3: 2, ..class }, place)),
+        (0, _) => Some(NextClass::at(PlacedClass {
+            class: MacroVector { eq3: 1, ..class },
+            place: place + PAIR_STEP,
+        })),
+        (1, 0) => Some(NextClass::at(PlacedClass {
+            class: MacroVector { eq6: 1, ..class },
+            place,
+        })),
+        (1, _) => Some(NextClass::at(PlacedClass {
+            class: MacroVector { eq3: 2, ..class },
+            place,
+        })),
         _ => None,
     }
 }
@@ -121,8 +143,11 @@ pub fn eq4_next(placed: &PlacedClass) -> Option<NextClass>
     if eq4 > 2 {
         return None;
     }
-    let place = placed.place + EQ4_STEP;
-    Some(NextClass::at(MacroVector { eq4, ..class }, place))
+    let placed = PlacedClass {
+        class: MacroVector { eq4, ..class },
+        place: placed.place + EQ4_STEP,
+    };
+    Some(NextClass::at(placed))
 }
 
 /// The next lower class in EQ5.
@@ -136,6 +161,9 @@ pub fn eq5_next(placed: &PlacedClass) -> Option<NextClass>
     if eq5 > 2 {
         return None;
     }
-    let place = placed.place + EQ5_STEP;
-    Some(NextClass::at(MacroVector { eq5, ..class }, place))
+    let placed = PlacedClass {
+        class: MacroVector { eq5, ..class },
+        place: placed.place + EQ5_STEP,
+    };
+    Some(NextClass::at(placed))
 }
