@@ -1,4 +1,5 @@
-use Rattle.std.proofs.Common.{sym, ◌∙◌}
+use Rattle.std.proofs.Common.{Ok, ap, sym, ◌∙◌}
+use Rattle.std.proofs.lemmas.Option.{none-some, same_Some}
 use Rattle.cvss_base.proofs.NamedLemmas.{found, known}
 use Rattle.cvss_base.proofs.named.from_name.Goals as goal
 
@@ -9,9 +10,9 @@ returns-in-Some-clause-named g c =
 pub returns-in-Some-clause-read : goal.returns-in-Some-clause-read
 returns-in-Some-clause-read g c = λ kind same.
     let is_found = found (λ kind. (g.N.Named.row_of kind).0) g.N.Named.declared g.met.N.Named.first kind c.args.name.now same in
-    cc (is_found, c.kind_of.ensures, c.in-Some.is)
+    ap Ok (same_Some _ _ (sym c.in-Some.is ∙ (c.kind_of.ensures ∙ is_found)))
 
 pub returns-in-None-clause-read : goal.returns-in-None-clause-read
 returns-in-None-clause-read g c = λ kind same.
     let is_found = found (λ kind. (g.N.Named.row_of kind).0) g.N.Named.declared g.met.N.Named.first kind c.args.name.now same in
-    absurd (cc (is_found, c.kind_of.ensures, c.in-None.is))
+    absurd (none-some _ (sym c.in-None.is ∙ (c.kind_of.ensures ∙ is_found)))
