@@ -1,1 +1,2 @@
+mod PrintingLemmas
 mod TextLemmas

@@ -1,3 +1,4 @@
 mod NameLemmas
+mod PrintingLemmas
 pub mod TableLemmas
 mod TextLemmas

@@ -1,3 +1,4 @@
 mod CompleteLemmas
+mod PrintingLemmas
 mod OverridingLemmas
 mod TextLemmas
