@@ -18,6 +18,10 @@ pub enum Exploitability {
     NotDefined,
 }
 
+impl Metric for Exploitability {
+    ghost law = { Prim.search rules };
+}
+
 impl Spelled for Exploitability {
     const TYPE: MetricType = MetricType::E;
 
@@ -41,10 +45,6 @@ impl Spelled for Exploitability {
     }
 }
 
-impl Metric for Exploitability {
-    ghost law = { Prim.search rules };
-}
-
 impl fmt::Display for Exploitability {
     ghost output = { λ metric. Some (metric_component E metric) };
 
@@ -63,6 +63,10 @@ pub enum RemediationLevel {
     Workaround,
     Unavailable,
     NotDefined,
+}
+
+impl Metric for RemediationLevel {
+    ghost law = { Prim.search rules };
 }
 
 impl Spelled for RemediationLevel {
@@ -94,10 +98,6 @@ impl Spelled for RemediationLevel {
     }
 }
 
-impl Metric for RemediationLevel {
-    ghost law = { Prim.search rules };
-}
-
 impl fmt::Display for RemediationLevel {
     ghost output = { λ metric. Some (metric_component RL metric) };
 
@@ -115,6 +115,10 @@ pub enum ReportConfidence {
     Uncorroborated,
     Confirmed,
     NotDefined,
+}
+
+impl Metric for ReportConfidence {
+    ghost law = { Prim.search rules };
 }
 
 impl Spelled for ReportConfidence {
@@ -137,10 +141,6 @@ impl Spelled for ReportConfidence {
             Self::NotDefined => ("/RC:ND", 1000),
         }
     }
-}
-
-impl Metric for ReportConfidence {
-    ghost law = { Prim.search rules };
 }
 
 impl fmt::Display for ReportConfidence {

@@ -19,6 +19,10 @@ pub enum ExploitMaturity {
     Attacked,
 }
 
+impl Metric for ExploitMaturity {
+    ghost law = { Prim.search rules };
+}
+
 impl Spelled for ExploitMaturity {
     const TYPE: MetricType = MetricType::E;
 
@@ -39,10 +43,6 @@ impl Spelled for ExploitMaturity {
             Self::Attacked => "/E:A",
         }
     }
-}
-
-impl Metric for ExploitMaturity {
-    ghost law = { Prim.search rules };
 }
 
 impl fmt::Display for ExploitMaturity {

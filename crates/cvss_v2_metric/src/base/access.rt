@@ -16,6 +16,10 @@ pub enum AccessVector {
     Network,
 }
 
+impl Metric for AccessVector {
+    ghost law = { Prim.search rules };
+}
+
 impl Spelled for AccessVector {
     const TYPE: MetricType = MetricType::AV;
 
@@ -36,10 +40,6 @@ impl Spelled for AccessVector {
     }
 }
 
-impl Metric for AccessVector {
-    ghost law = { Prim.search rules };
-}
-
 impl fmt::Display for AccessVector {
     ghost output = { λ metric. Some (metric_component AV metric) };
 
@@ -56,6 +56,10 @@ pub enum AccessComplexity {
     High,
     Medium,
     Low,
+}
+
+impl Metric for AccessComplexity {
+    ghost law = { Prim.search rules };
 }
 
 impl Spelled for AccessComplexity {
@@ -78,10 +82,6 @@ impl Spelled for AccessComplexity {
     }
 }
 
-impl Metric for AccessComplexity {
-    ghost law = { Prim.search rules };
-}
-
 impl fmt::Display for AccessComplexity {
     ghost output = { λ metric. Some (metric_component AC metric) };
 
@@ -98,6 +98,10 @@ pub enum Authentication {
     Multiple,
     Single,
     None,
+}
+
+impl Metric for Authentication {
+    ghost law = { Prim.search rules };
 }
 
 impl Spelled for Authentication {
@@ -118,10 +122,6 @@ impl Spelled for Authentication {
             Self::None => ("/Au:N", 704),
         }
     }
-}
-
-impl Metric for Authentication {
-    ghost law = { Prim.search rules };
 }
 
 impl fmt::Display for Authentication {

@@ -16,6 +16,10 @@ pub enum ConfidentialityImpact {
     Complete,
 }
 
+impl Metric for ConfidentialityImpact {
+    ghost law = { Prim.search rules };
+}
+
 impl Spelled for ConfidentialityImpact {
     const TYPE: MetricType = MetricType::C;
 
@@ -36,10 +40,6 @@ impl Spelled for ConfidentialityImpact {
     }
 }
 
-impl Metric for ConfidentialityImpact {
-    ghost law = { Prim.search rules };
-}
-
 impl fmt::Display for ConfidentialityImpact {
     ghost output = { λ metric. Some (metric_component C metric) };
 
@@ -56,6 +56,10 @@ pub enum IntegrityImpact {
     None,
     Partial,
     Complete,
+}
+
+impl Metric for IntegrityImpact {
+    ghost law = { Prim.search rules };
 }
 
 impl Spelled for IntegrityImpact {
@@ -78,10 +82,6 @@ impl Spelled for IntegrityImpact {
     }
 }
 
-impl Metric for IntegrityImpact {
-    ghost law = { Prim.search rules };
-}
-
 impl fmt::Display for IntegrityImpact {
     ghost output = { λ metric. Some (metric_component I metric) };
 
@@ -98,6 +98,10 @@ pub enum AvailabilityImpact {
     None,
     Partial,
     Complete,
+}
+
+impl Metric for AvailabilityImpact {
+    ghost law = { Prim.search rules };
 }
 
 impl Spelled for AvailabilityImpact {
@@ -118,10 +122,6 @@ impl Spelled for AvailabilityImpact {
             Self::Complete => ("/A:C", 660),
         }
     }
-}
-
-impl Metric for AvailabilityImpact {
-    ghost law = { Prim.search rules };
 }
 
 impl fmt::Display for AvailabilityImpact {

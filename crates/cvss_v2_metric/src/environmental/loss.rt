@@ -19,6 +19,10 @@ pub enum CollateralDamagePotential {
     NotDefined,
 }
 
+impl Metric for CollateralDamagePotential {
+    ghost law = { Prim.search rules };
+}
+
 impl Spelled for CollateralDamagePotential {
     const TYPE: MetricType = MetricType::CDP;
 
@@ -43,10 +47,6 @@ impl Spelled for CollateralDamagePotential {
     }
 }
 
-impl Metric for CollateralDamagePotential {
-    ghost law = { Prim.search rules };
-}
-
 impl fmt::Display for CollateralDamagePotential {
     ghost output = { λ metric. Some (metric_component CDP metric) };
 
@@ -65,6 +65,10 @@ pub enum TargetDistribution {
     Medium,
     High,
     NotDefined,
+}
+
+impl Metric for TargetDistribution {
+    ghost law = { Prim.search rules };
 }
 
 impl Spelled for TargetDistribution {
@@ -88,10 +92,6 @@ impl Spelled for TargetDistribution {
             Self::NotDefined => ("/TD:ND", 1000),
         }
     }
-}
-
-impl Metric for TargetDistribution {
-    ghost law = { Prim.search rules };
 }
 
 impl fmt::Display for TargetDistribution {

@@ -17,6 +17,10 @@ pub enum ConfidentialityRequirement {
     NotDefined,
 }
 
+impl Metric for ConfidentialityRequirement {
+    ghost law = { Prim.search rules };
+}
+
 impl Spelled for ConfidentialityRequirement {
     const TYPE: MetricType = MetricType::CR;
 
@@ -38,10 +42,6 @@ impl Spelled for ConfidentialityRequirement {
     }
 }
 
-impl Metric for ConfidentialityRequirement {
-    ghost law = { Prim.search rules };
-}
-
 impl fmt::Display for ConfidentialityRequirement {
     ghost output = { λ metric. Some (metric_component CR metric) };
 
@@ -59,6 +59,10 @@ pub enum IntegrityRequirement {
     Medium,
     High,
     NotDefined,
+}
+
+impl Metric for IntegrityRequirement {
+    ghost law = { Prim.search rules };
 }
 
 impl Spelled for IntegrityRequirement {
@@ -82,10 +86,6 @@ impl Spelled for IntegrityRequirement {
     }
 }
 
-impl Metric for IntegrityRequirement {
-    ghost law = { Prim.search rules };
-}
-
 impl fmt::Display for IntegrityRequirement {
     ghost output = { λ metric. Some (metric_component IR metric) };
 
@@ -103,6 +103,10 @@ pub enum AvailabilityRequirement {
     Medium,
     High,
     NotDefined,
+}
+
+impl Metric for AvailabilityRequirement {
+    ghost law = { Prim.search rules };
 }
 
 impl Spelled for AvailabilityRequirement {
@@ -124,10 +128,6 @@ impl Spelled for AvailabilityRequirement {
             Self::NotDefined => ("/AR:ND", 1000),
         }
     }
-}
-
-impl Metric for AvailabilityRequirement {
-    ghost law = { Prim.search rules };
 }
 
 impl fmt::Display for AvailabilityRequirement {

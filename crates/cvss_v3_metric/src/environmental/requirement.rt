@@ -17,6 +17,10 @@ pub enum ConfidentialityRequirement {
     Low,
 }
 
+impl Metric for ConfidentialityRequirement {
+    ghost law = { Prim.search rules };
+}
+
 impl Spelled for ConfidentialityRequirement {
     const TYPE: MetricType = MetricType::CR;
 
@@ -45,10 +49,6 @@ impl Spelled for ConfidentialityRequirement {
     }
 }
 
-impl Metric for ConfidentialityRequirement {
-    ghost law = { Prim.search rules };
-}
-
 impl fmt::Display for ConfidentialityRequirement {
     ghost output = { λ metric. Some (metric_component CR metric) };
 
@@ -66,6 +66,10 @@ pub enum IntegrityRequirement {
     High,
     Medium,
     Low,
+}
+
+impl Metric for IntegrityRequirement {
+    ghost law = { Prim.search rules };
 }
 
 impl Spelled for IntegrityRequirement {
@@ -96,10 +100,6 @@ impl Spelled for IntegrityRequirement {
     }
 }
 
-impl Metric for IntegrityRequirement {
-    ghost law = { Prim.search rules };
-}
-
 impl fmt::Display for IntegrityRequirement {
     ghost output = { λ metric. Some (metric_component IR metric) };
 
@@ -117,6 +117,10 @@ pub enum AvailabilityRequirement {
     High,
     Medium,
     Low,
+}
+
+impl Metric for AvailabilityRequirement {
+    ghost law = { Prim.search rules };
 }
 
 impl Spelled for AvailabilityRequirement {
@@ -145,10 +149,6 @@ impl Spelled for AvailabilityRequirement {
             _ => None,
         }
     }
-}
-
-impl Metric for AvailabilityRequirement {
-    ghost law = { Prim.search rules };
 }
 
 impl fmt::Display for AvailabilityRequirement {

@@ -20,6 +20,10 @@ pub enum AttackVector {
     Network,
 }
 
+impl Metric for AttackVector {
+    ghost law = { Prim.search rules };
+}
+
 impl Spelled for AttackVector {
     const TYPE: MetricType = MetricType::AV;
 
@@ -41,10 +45,6 @@ impl Spelled for AttackVector {
     }
 }
 
-impl Metric for AttackVector {
-    ghost law = { Prim.search rules };
-}
-
 impl fmt::Display for AttackVector {
     ghost output = { λ value. Some (metric_component metric.AV (place.AV value)) };
 
@@ -62,6 +62,10 @@ pub enum AttackComplexity {
     High,
     #[default]
     Low,
+}
+
+impl Metric for AttackComplexity {
+    ghost law = { Prim.search rules };
 }
 
 impl Spelled for AttackComplexity {
@@ -83,10 +87,6 @@ impl Spelled for AttackComplexity {
     }
 }
 
-impl Metric for AttackComplexity {
-    ghost law = { Prim.search rules };
-}
-
 impl fmt::Display for AttackComplexity {
     ghost output = { λ value. Some (metric_component metric.AC (place.AC value)) };
 
@@ -104,6 +104,10 @@ pub enum AttackRequirements {
     Present,
     #[default]
     None,
+}
+
+impl Metric for AttackRequirements {
+    ghost law = { Prim.search rules };
 }
 
 impl Spelled for AttackRequirements {
@@ -125,10 +129,6 @@ impl Spelled for AttackRequirements {
     }
 }
 
-impl Metric for AttackRequirements {
-    ghost law = { Prim.search rules };
-}
-
 impl fmt::Display for AttackRequirements {
     ghost output = { λ value. Some (metric_component metric.AT (place.AT value)) };
 
@@ -146,6 +146,10 @@ pub enum PrivilegesRequired {
     Low,
     #[default]
     None,
+}
+
+impl Metric for PrivilegesRequired {
+    ghost law = { Prim.search rules };
 }
 
 impl Spelled for PrivilegesRequired {
@@ -168,10 +172,6 @@ impl Spelled for PrivilegesRequired {
     }
 }
 
-impl Metric for PrivilegesRequired {
-    ghost law = { Prim.search rules };
-}
-
 impl fmt::Display for PrivilegesRequired {
     ghost output = { λ value. Some (metric_component metric.PR (place.PR value)) };
 
@@ -189,6 +189,10 @@ pub enum UserInteraction {
     Passive,
     #[default]
     None,
+}
+
+impl Metric for UserInteraction {
+    ghost law = { Prim.search rules };
 }
 
 impl Spelled for UserInteraction {
@@ -209,10 +213,6 @@ impl Spelled for UserInteraction {
             Self::None => "/UI:N",
         }
     }
-}
-
-impl Metric for UserInteraction {
-    ghost law = { Prim.search rules };
 }
 
 impl fmt::Display for UserInteraction {

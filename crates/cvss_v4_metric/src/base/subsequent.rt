@@ -19,6 +19,10 @@ pub enum ConfidentialityImpactToTheSubsequentSystem {
     High,
 }
 
+impl Metric for ConfidentialityImpactToTheSubsequentSystem {
+    ghost law = { Prim.search rules };
+}
+
 impl Spelled for ConfidentialityImpactToTheSubsequentSystem {
     const TYPE: MetricType = MetricType::SC;
 
@@ -39,10 +43,6 @@ impl Spelled for ConfidentialityImpactToTheSubsequentSystem {
     }
 }
 
-impl Metric for ConfidentialityImpactToTheSubsequentSystem {
-    ghost law = { Prim.search rules };
-}
-
 impl fmt::Display for ConfidentialityImpactToTheSubsequentSystem {
     ghost output = { λ value. Some (metric_component metric.SC (place.SC value)) };
 
@@ -60,6 +60,10 @@ pub enum IntegrityImpactToTheSubsequentSystem {
     Low,
     #[default]
     High,
+}
+
+impl Metric for IntegrityImpactToTheSubsequentSystem {
+    ghost law = { Prim.search rules };
 }
 
 impl Spelled for IntegrityImpactToTheSubsequentSystem {
@@ -82,10 +86,6 @@ impl Spelled for IntegrityImpactToTheSubsequentSystem {
     }
 }
 
-impl Metric for IntegrityImpactToTheSubsequentSystem {
-    ghost law = { Prim.search rules };
-}
-
 impl fmt::Display for IntegrityImpactToTheSubsequentSystem {
     ghost output = { λ value. Some (metric_component metric.SI (place.SI value)) };
 
@@ -106,6 +106,10 @@ pub enum AvailabilityImpactToTheSubsequentSystem {
     High,
 }
 
+impl Metric for AvailabilityImpactToTheSubsequentSystem {
+    ghost law = { Prim.search rules };
+}
+
 impl Spelled for AvailabilityImpactToTheSubsequentSystem {
     const TYPE: MetricType = MetricType::SA;
 
@@ -124,10 +128,6 @@ impl Spelled for AvailabilityImpactToTheSubsequentSystem {
             Self::High => "/SA:H",
         }
     }
-}
-
-impl Metric for AvailabilityImpactToTheSubsequentSystem {
-    ghost law = { Prim.search rules };
 }
 
 impl fmt::Display for AvailabilityImpactToTheSubsequentSystem {
