@@ -18,10 +18,6 @@ pub enum ExploitCodeMaturity {
     Unproven,
 }
 
-impl Metric for ExploitCodeMaturity {
-    ghost law = { Prim.search rules };
-}
-
 impl Spelled for ExploitCodeMaturity {
     const TYPE: MetricType = MetricType::E;
 
@@ -52,6 +48,10 @@ impl Spelled for ExploitCodeMaturity {
     }
 }
 
+impl Metric for ExploitCodeMaturity {
+    ghost law = { Prim.search rules };
+}
+
 impl fmt::Display for ExploitCodeMaturity {
     ghost output = { λ metric. Some (metric_component E metric) };
 
@@ -70,10 +70,6 @@ pub enum RemediationLevel {
     Workaround,
     TemporaryFix,
     OfficialFix,
-}
-
-impl Metric for RemediationLevel {
-    ghost law = { Prim.search rules };
 }
 
 impl Spelled for RemediationLevel {
@@ -106,6 +102,10 @@ impl Spelled for RemediationLevel {
     }
 }
 
+impl Metric for RemediationLevel {
+    ghost law = { Prim.search rules };
+}
+
 impl fmt::Display for RemediationLevel {
     ghost output = { λ metric. Some (metric_component RL metric) };
 
@@ -123,10 +123,6 @@ pub enum ReportConfidence {
     Confirmed,
     Reasonable,
     Unknown,
-}
-
-impl Metric for ReportConfidence {
-    ghost law = { Prim.search rules };
 }
 
 impl Spelled for ReportConfidence {
@@ -155,6 +151,10 @@ impl Spelled for ReportConfidence {
             _ => None,
         }
     }
+}
+
+impl Metric for ReportConfidence {
+    ghost law = { Prim.search rules };
 }
 
 impl fmt::Display for ReportConfidence {

@@ -19,10 +19,6 @@ pub enum ExploitMaturity {
     Attacked,
 }
 
-impl Metric for ExploitMaturity {
-    ghost law = { Prim.search rules };
-}
-
 impl Spelled for ExploitMaturity {
     const TYPE: MetricType = MetricType::E;
 
@@ -43,6 +39,10 @@ impl Spelled for ExploitMaturity {
             Self::Attacked => "/E:A",
         }
     }
+}
+
+impl Metric for ExploitMaturity {
+    ghost law = { Prim.search rules };
 }
 
 impl fmt::Display for ExploitMaturity {

@@ -21,10 +21,6 @@ pub enum PrivilegesRequired {
     None,
 }
 
-impl Metric for PrivilegesRequired {
-    ghost law = { Prim.search rules };
-}
-
 impl Spelled for PrivilegesRequired {
     const TYPE: MetricType = MetricType::PR;
 
@@ -49,6 +45,10 @@ impl Spelled for PrivilegesRequired {
             _ => None,
         }
     }
+}
+
+impl Metric for PrivilegesRequired {
+    ghost law = { Prim.search rules };
 }
 
 impl fmt::Display for PrivilegesRequired {
@@ -111,10 +111,6 @@ pub enum UserInteraction {
     None,
 }
 
-impl Metric for UserInteraction {
-    ghost law = { Prim.search rules };
-}
-
 impl Spelled for UserInteraction {
     const TYPE: MetricType = MetricType::UI;
 
@@ -137,6 +133,10 @@ impl Spelled for UserInteraction {
             _ => None,
         }
     }
+}
+
+impl Metric for UserInteraction {
+    ghost law = { Prim.search rules };
 }
 
 impl fmt::Display for UserInteraction {

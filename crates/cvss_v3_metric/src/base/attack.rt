@@ -19,10 +19,6 @@ pub enum AttackVector {
     Network,
 }
 
-impl Metric for AttackVector {
-    ghost law = { Prim.search rules };
-}
-
 impl Spelled for AttackVector {
     const TYPE: MetricType = MetricType::AV;
 
@@ -49,6 +45,10 @@ impl Spelled for AttackVector {
             _ => None,
         }
     }
+}
+
+impl Metric for AttackVector {
+    ghost law = { Prim.search rules };
 }
 
 impl fmt::Display for AttackVector {
@@ -99,10 +99,6 @@ impl Default for AttackComplexity {
     }
 }
 
-impl Metric for AttackComplexity {
-    ghost law = { Prim.search rules };
-}
-
 impl Spelled for AttackComplexity {
     const TYPE: MetricType = MetricType::AC;
 
@@ -125,6 +121,10 @@ impl Spelled for AttackComplexity {
             _ => None,
         }
     }
+}
+
+impl Metric for AttackComplexity {
+    ghost law = { Prim.search rules };
 }
 
 impl fmt::Display for AttackComplexity {

@@ -18,10 +18,6 @@ pub enum Confidentiality {
     High,
 }
 
-impl Metric for Confidentiality {
-    ghost law = { Prim.search rules };
-}
-
 impl Spelled for Confidentiality {
     const TYPE: MetricType = MetricType::C;
 
@@ -46,6 +42,10 @@ impl Spelled for Confidentiality {
             _ => None,
         }
     }
+}
+
+impl Metric for Confidentiality {
+    ghost law = { Prim.search rules };
 }
 
 impl fmt::Display for Confidentiality {
@@ -87,10 +87,6 @@ pub enum Integrity {
     High,
 }
 
-impl Metric for Integrity {
-    ghost law = { Prim.search rules };
-}
-
 impl Spelled for Integrity {
     const TYPE: MetricType = MetricType::I;
 
@@ -115,6 +111,10 @@ impl Spelled for Integrity {
             _ => None,
         }
     }
+}
+
+impl Metric for Integrity {
+    ghost law = { Prim.search rules };
 }
 
 impl fmt::Display for Integrity {
@@ -156,10 +156,6 @@ pub enum Availability {
     High,
 }
 
-impl Metric for Availability {
-    ghost law = { Prim.search rules };
-}
-
 impl Spelled for Availability {
     const TYPE: MetricType = MetricType::A;
 
@@ -184,6 +180,10 @@ impl Spelled for Availability {
             _ => None,
         }
     }
+}
+
+impl Metric for Availability {
+    ghost law = { Prim.search rules };
 }
 
 impl fmt::Display for Availability {

@@ -16,10 +16,6 @@ pub enum Scope {
     Changed,
 }
 
-impl Metric for Scope {
-    ghost law = { Prim.search rules };
-}
-
 impl Spelled for Scope {
     const TYPE: MetricType = MetricType::S;
 
@@ -42,6 +38,10 @@ impl Spelled for Scope {
             _ => None,
         }
     }
+}
+
+impl Metric for Scope {
+    ghost law = { Prim.search rules };
 }
 
 impl fmt::Display for Scope {

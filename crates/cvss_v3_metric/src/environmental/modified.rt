@@ -147,10 +147,6 @@ pub enum ModifiedScope {
     Modified(Scope),
 }
 
-impl Metric for ModifiedScope {
-    ghost law = { Prim.search rules };
-}
-
 impl Spelled for ModifiedScope {
     const TYPE: MetricType = MetricType::MS;
 
@@ -173,6 +169,10 @@ impl Spelled for ModifiedScope {
             _ => Some(Self::Modified(Scope::read_letter(letter)?)),
         }
     }
+}
+
+impl Metric for ModifiedScope {
+    ghost law = { Prim.search rules };
 }
 
 impl fmt::Display for ModifiedScope {

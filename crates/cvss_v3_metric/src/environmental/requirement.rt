@@ -17,10 +17,6 @@ pub enum ConfidentialityRequirement {
     Low,
 }
 
-impl Metric for ConfidentialityRequirement {
-    ghost law = { Prim.search rules };
-}
-
 impl Spelled for ConfidentialityRequirement {
     const TYPE: MetricType = MetricType::CR;
 
@@ -49,6 +45,10 @@ impl Spelled for ConfidentialityRequirement {
     }
 }
 
+impl Metric for ConfidentialityRequirement {
+    ghost law = { Prim.search rules };
+}
+
 impl fmt::Display for ConfidentialityRequirement {
     ghost output = { λ metric. Some (metric_component CR metric) };
 
@@ -66,10 +66,6 @@ pub enum IntegrityRequirement {
     High,
     Medium,
     Low,
-}
-
-impl Metric for IntegrityRequirement {
-    ghost law = { Prim.search rules };
 }
 
 impl Spelled for IntegrityRequirement {
@@ -100,6 +96,10 @@ impl Spelled for IntegrityRequirement {
     }
 }
 
+impl Metric for IntegrityRequirement {
+    ghost law = { Prim.search rules };
+}
+
 impl fmt::Display for IntegrityRequirement {
     ghost output = { λ metric. Some (metric_component IR metric) };
 
@@ -117,10 +117,6 @@ pub enum AvailabilityRequirement {
     High,
     Medium,
     Low,
-}
-
-impl Metric for AvailabilityRequirement {
-    ghost law = { Prim.search rules };
 }
 
 impl Spelled for AvailabilityRequirement {
@@ -149,6 +145,10 @@ impl Spelled for AvailabilityRequirement {
             _ => None,
         }
     }
+}
+
+impl Metric for AvailabilityRequirement {
+    ghost law = { Prim.search rules };
 }
 
 impl fmt::Display for AvailabilityRequirement {

@@ -20,10 +20,6 @@ pub enum AttackVector {
     Network,
 }
 
-impl Metric for AttackVector {
-    ghost law = { Prim.search rules };
-}
-
 impl Spelled for AttackVector {
     const TYPE: MetricType = MetricType::AV;
 
@@ -45,6 +41,10 @@ impl Spelled for AttackVector {
     }
 }
 
+impl Metric for AttackVector {
+    ghost law = { Prim.search rules };
+}
+
 impl fmt::Display for AttackVector {
     ghost output = { λ value. Some (metric_component metric.AV (place.AV value)) };
 
@@ -62,10 +62,6 @@ pub enum AttackComplexity {
     High,
     #[default]
     Low,
-}
-
-impl Metric for AttackComplexity {
-    ghost law = { Prim.search rules };
 }
 
 impl Spelled for AttackComplexity {
@@ -87,6 +83,10 @@ impl Spelled for AttackComplexity {
     }
 }
 
+impl Metric for AttackComplexity {
+    ghost law = { Prim.search rules };
+}
+
 impl fmt::Display for AttackComplexity {
     ghost output = { λ value. Some (metric_component metric.AC (place.AC value)) };
 
@@ -104,10 +104,6 @@ pub enum AttackRequirements {
     Present,
     #[default]
     None,
-}
-
-impl Metric for AttackRequirements {
-    ghost law = { Prim.search rules };
 }
 
 impl Spelled for AttackRequirements {
@@ -129,6 +125,10 @@ impl Spelled for AttackRequirements {
     }
 }
 
+impl Metric for AttackRequirements {
+    ghost law = { Prim.search rules };
+}
+
 impl fmt::Display for AttackRequirements {
     ghost output = { λ value. Some (metric_component metric.AT (place.AT value)) };
 
@@ -146,10 +146,6 @@ pub enum PrivilegesRequired {
     Low,
     #[default]
     None,
-}
-
-impl Metric for PrivilegesRequired {
-    ghost law = { Prim.search rules };
 }
 
 impl Spelled for PrivilegesRequired {
@@ -172,6 +168,10 @@ impl Spelled for PrivilegesRequired {
     }
 }
 
+impl Metric for PrivilegesRequired {
+    ghost law = { Prim.search rules };
+}
+
 impl fmt::Display for PrivilegesRequired {
     ghost output = { λ value. Some (metric_component metric.PR (place.PR value)) };
 
@@ -189,10 +189,6 @@ pub enum UserInteraction {
     Passive,
     #[default]
     None,
-}
-
-impl Metric for UserInteraction {
-    ghost law = { Prim.search rules };
 }
 
 impl Spelled for UserInteraction {
@@ -213,6 +209,10 @@ impl Spelled for UserInteraction {
             Self::None => "/UI:N",
         }
     }
+}
+
+impl Metric for UserInteraction {
+    ghost law = { Prim.search rules };
 }
 
 impl fmt::Display for UserInteraction {

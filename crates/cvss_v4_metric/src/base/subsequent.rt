@@ -19,10 +19,6 @@ pub enum ConfidentialityImpactToTheSubsequentSystem {
     High,
 }
 
-impl Metric for ConfidentialityImpactToTheSubsequentSystem {
-    ghost law = { Prim.search rules };
-}
-
 impl Spelled for ConfidentialityImpactToTheSubsequentSystem {
     const TYPE: MetricType = MetricType::SC;
 
@@ -43,6 +39,10 @@ impl Spelled for ConfidentialityImpactToTheSubsequentSystem {
     }
 }
 
+impl Metric for ConfidentialityImpactToTheSubsequentSystem {
+    ghost law = { Prim.search rules };
+}
+
 impl fmt::Display for ConfidentialityImpactToTheSubsequentSystem {
     ghost output = { λ value. Some (metric_component metric.SC (place.SC value)) };
 
@@ -60,10 +60,6 @@ pub enum IntegrityImpactToTheSubsequentSystem {
     Low,
     #[default]
     High,
-}
-
-impl Metric for IntegrityImpactToTheSubsequentSystem {
-    ghost law = { Prim.search rules };
 }
 
 impl Spelled for IntegrityImpactToTheSubsequentSystem {
@@ -86,6 +82,10 @@ impl Spelled for IntegrityImpactToTheSubsequentSystem {
     }
 }
 
+impl Metric for IntegrityImpactToTheSubsequentSystem {
+    ghost law = { Prim.search rules };
+}
+
 impl fmt::Display for IntegrityImpactToTheSubsequentSystem {
     ghost output = { λ value. Some (metric_component metric.SI (place.SI value)) };
 
@@ -106,10 +106,6 @@ pub enum AvailabilityImpactToTheSubsequentSystem {
     High,
 }
 
-impl Metric for AvailabilityImpactToTheSubsequentSystem {
-    ghost law = { Prim.search rules };
-}
-
 impl Spelled for AvailabilityImpactToTheSubsequentSystem {
     const TYPE: MetricType = MetricType::SA;
 
@@ -128,6 +124,10 @@ impl Spelled for AvailabilityImpactToTheSubsequentSystem {
             Self::High => "/SA:H",
         }
     }
+}
+
+impl Metric for AvailabilityImpactToTheSubsequentSystem {
+    ghost law = { Prim.search rules };
 }
 
 impl fmt::Display for AvailabilityImpactToTheSubsequentSystem {

@@ -18,10 +18,6 @@ pub enum ConfidentialityImpactToTheVulnerableSystem {
     High,
 }
 
-impl Metric for ConfidentialityImpactToTheVulnerableSystem {
-    ghost law = { Prim.search rules };
-}
-
 impl Spelled for ConfidentialityImpactToTheVulnerableSystem {
     const TYPE: MetricType = MetricType::VC;
 
@@ -42,6 +38,10 @@ impl Spelled for ConfidentialityImpactToTheVulnerableSystem {
     }
 }
 
+impl Metric for ConfidentialityImpactToTheVulnerableSystem {
+    ghost law = { Prim.search rules };
+}
+
 impl fmt::Display for ConfidentialityImpactToTheVulnerableSystem {
     ghost output = { λ value. Some (metric_component metric.VC (place.VC value)) };
 
@@ -59,10 +59,6 @@ pub enum IntegrityImpactToTheVulnerableSystem {
     Low,
     #[default]
     High,
-}
-
-impl Metric for IntegrityImpactToTheVulnerableSystem {
-    ghost law = { Prim.search rules };
 }
 
 impl Spelled for IntegrityImpactToTheVulnerableSystem {
@@ -85,6 +81,10 @@ impl Spelled for IntegrityImpactToTheVulnerableSystem {
     }
 }
 
+impl Metric for IntegrityImpactToTheVulnerableSystem {
+    ghost law = { Prim.search rules };
+}
+
 impl fmt::Display for IntegrityImpactToTheVulnerableSystem {
     ghost output = { λ value. Some (metric_component metric.VI (place.VI value)) };
 
@@ -102,10 +102,6 @@ pub enum AvailabilityImpactToTheVulnerableSystem {
     Low,
     #[default]
     High,
-}
-
-impl Metric for AvailabilityImpactToTheVulnerableSystem {
-    ghost law = { Prim.search rules };
 }
 
 impl Spelled for AvailabilityImpactToTheVulnerableSystem {
@@ -126,6 +122,10 @@ impl Spelled for AvailabilityImpactToTheVulnerableSystem {
             Self::High => "/VA:H",
         }
     }
+}
+
+impl Metric for AvailabilityImpactToTheVulnerableSystem {
+    ghost law = { Prim.search rules };
 }
 
 impl fmt::Display for AvailabilityImpactToTheVulnerableSystem {

@@ -21,10 +21,6 @@ pub enum ModifiedAttackVector {
     NotDefined,
 }
 
-impl Metric for ModifiedAttackVector {
-    ghost law = { Prim.search rules };
-}
-
 impl Spelled for ModifiedAttackVector {
     const TYPE: MetricType = MetricType::MAV;
 
@@ -48,6 +44,10 @@ impl Spelled for ModifiedAttackVector {
     }
 }
 
+impl Metric for ModifiedAttackVector {
+    ghost law = { Prim.search rules };
+}
+
 impl fmt::Display for ModifiedAttackVector {
     ghost output = { λ value. Some (metric_component metric.MAV (place.MAV value)) };
 
@@ -65,10 +65,6 @@ pub enum ModifiedAttackComplexity {
     NotDefined,
     High,
     Low,
-}
-
-impl Metric for ModifiedAttackComplexity {
-    ghost law = { Prim.search rules };
 }
 
 impl Spelled for ModifiedAttackComplexity {
@@ -91,6 +87,10 @@ impl Spelled for ModifiedAttackComplexity {
     }
 }
 
+impl Metric for ModifiedAttackComplexity {
+    ghost law = { Prim.search rules };
+}
+
 impl fmt::Display for ModifiedAttackComplexity {
     ghost output = { λ value. Some (metric_component metric.MAC (place.MAC value)) };
 
@@ -108,10 +108,6 @@ pub enum ModifiedAttackRequirements {
     NotDefined,
     Present,
     None,
-}
-
-impl Metric for ModifiedAttackRequirements {
-    ghost law = { Prim.search rules };
 }
 
 impl Spelled for ModifiedAttackRequirements {
@@ -134,6 +130,10 @@ impl Spelled for ModifiedAttackRequirements {
     }
 }
 
+impl Metric for ModifiedAttackRequirements {
+    ghost law = { Prim.search rules };
+}
+
 impl fmt::Display for ModifiedAttackRequirements {
     ghost output = { λ value. Some (metric_component metric.MAT (place.MAT value)) };
 
@@ -152,10 +152,6 @@ pub enum ModifiedPrivilegesRequired {
     High,
     Low,
     None,
-}
-
-impl Metric for ModifiedPrivilegesRequired {
-    ghost law = { Prim.search rules };
 }
 
 impl Spelled for ModifiedPrivilegesRequired {
@@ -179,6 +175,10 @@ impl Spelled for ModifiedPrivilegesRequired {
     }
 }
 
+impl Metric for ModifiedPrivilegesRequired {
+    ghost law = { Prim.search rules };
+}
+
 impl fmt::Display for ModifiedPrivilegesRequired {
     ghost output = { λ value. Some (metric_component metric.MPR (place.MPR value)) };
 
@@ -197,10 +197,6 @@ pub enum ModifiedUserInteraction {
     Active,
     Passive,
     None,
-}
-
-impl Metric for ModifiedUserInteraction {
-    ghost law = { Prim.search rules };
 }
 
 impl Spelled for ModifiedUserInteraction {
@@ -222,6 +218,10 @@ impl Spelled for ModifiedUserInteraction {
             Self::None => "/MUI:N",
         }
     }
+}
+
+impl Metric for ModifiedUserInteraction {
+    ghost law = { Prim.search rules };
 }
 
 impl fmt::Display for ModifiedUserInteraction {

@@ -20,10 +20,6 @@ pub enum ConfidentialityRequirements {
     High,
 }
 
-impl Metric for ConfidentialityRequirements {
-    ghost law = { Prim.search rules };
-}
-
 impl Spelled for ConfidentialityRequirements {
     const TYPE: MetricType = MetricType::CR;
 
@@ -45,6 +41,10 @@ impl Spelled for ConfidentialityRequirements {
     }
 }
 
+impl Metric for ConfidentialityRequirements {
+    ghost law = { Prim.search rules };
+}
+
 impl fmt::Display for ConfidentialityRequirements {
     ghost output = { λ value. Some (metric_component metric.CR (place.CR value)) };
 
@@ -63,10 +63,6 @@ pub enum IntegrityRequirements {
     Low,
     Medium,
     High,
-}
-
-impl Metric for IntegrityRequirements {
-    ghost law = { Prim.search rules };
 }
 
 impl Spelled for IntegrityRequirements {
@@ -90,6 +86,10 @@ impl Spelled for IntegrityRequirements {
     }
 }
 
+impl Metric for IntegrityRequirements {
+    ghost law = { Prim.search rules };
+}
+
 impl fmt::Display for IntegrityRequirements {
     ghost output = { λ value. Some (metric_component metric.IR (place.IR value)) };
 
@@ -108,10 +108,6 @@ pub enum AvailabilityRequirements {
     Low,
     Medium,
     High,
-}
-
-impl Metric for AvailabilityRequirements {
-    ghost law = { Prim.search rules };
 }
 
 impl Spelled for AvailabilityRequirements {
@@ -133,6 +129,10 @@ impl Spelled for AvailabilityRequirements {
             Self::High => "/AR:H",
         }
     }
+}
+
+impl Metric for AvailabilityRequirements {
+    ghost law = { Prim.search rules };
 }
 
 impl fmt::Display for AvailabilityRequirements {

@@ -21,10 +21,6 @@ pub enum ModifiedConfidentialityImpactToTheSubsequentSystem {
     High,
 }
 
-impl Metric for ModifiedConfidentialityImpactToTheSubsequentSystem {
-    ghost law = { Prim.search rules };
-}
-
 impl Spelled for ModifiedConfidentialityImpactToTheSubsequentSystem {
     const TYPE: MetricType = MetricType::MSC;
 
@@ -44,6 +40,10 @@ impl Spelled for ModifiedConfidentialityImpactToTheSubsequentSystem {
             Self::High => "/MSC:H",
         }
     }
+}
+
+impl Metric for ModifiedConfidentialityImpactToTheSubsequentSystem {
+    ghost law = { Prim.search rules };
 }
 
 impl fmt::Display for ModifiedConfidentialityImpactToTheSubsequentSystem {
@@ -66,10 +66,6 @@ pub enum ModifiedIntegrityImpactToTheSubsequentSystem {
     Low,
     High,
     Safety,
-}
-
-impl Metric for ModifiedIntegrityImpactToTheSubsequentSystem {
-    ghost law = { Prim.search rules };
 }
 
 impl Spelled for ModifiedIntegrityImpactToTheSubsequentSystem {
@@ -95,6 +91,10 @@ impl Spelled for ModifiedIntegrityImpactToTheSubsequentSystem {
     }
 }
 
+impl Metric for ModifiedIntegrityImpactToTheSubsequentSystem {
+    ghost law = { Prim.search rules };
+}
+
 impl fmt::Display for ModifiedIntegrityImpactToTheSubsequentSystem {
     ghost output = { λ value. Some (metric_component metric.MSI (place.MSI value)) };
 
@@ -115,10 +115,6 @@ pub enum ModifiedAvailabilityImpactToTheSubsequentSystem {
     Low,
     High,
     Safety,
-}
-
-impl Metric for ModifiedAvailabilityImpactToTheSubsequentSystem {
-    ghost law = { Prim.search rules };
 }
 
 impl Spelled for ModifiedAvailabilityImpactToTheSubsequentSystem {
@@ -142,6 +138,10 @@ impl Spelled for ModifiedAvailabilityImpactToTheSubsequentSystem {
             Self::Safety => "/MSA:S",
         }
     }
+}
+
+impl Metric for ModifiedAvailabilityImpactToTheSubsequentSystem {
+    ghost law = { Prim.search rules };
 }
 
 impl fmt::Display for ModifiedAvailabilityImpactToTheSubsequentSystem {

@@ -21,10 +21,6 @@ pub enum ModifiedConfidentialityImpactToTheVulnerableSystem {
     High,
 }
 
-impl Metric for ModifiedConfidentialityImpactToTheVulnerableSystem {
-    ghost law = { Prim.search rules };
-}
-
 impl Spelled for ModifiedConfidentialityImpactToTheVulnerableSystem {
     const TYPE: MetricType = MetricType::MVC;
 
@@ -44,6 +40,10 @@ impl Spelled for ModifiedConfidentialityImpactToTheVulnerableSystem {
             Self::High => "/MVC:H",
         }
     }
+}
+
+impl Metric for ModifiedConfidentialityImpactToTheVulnerableSystem {
+    ghost law = { Prim.search rules };
 }
 
 impl fmt::Display for ModifiedConfidentialityImpactToTheVulnerableSystem {
@@ -67,10 +67,6 @@ pub enum ModifiedIntegrityImpactToTheVulnerableSystem {
     High,
 }
 
-impl Metric for ModifiedIntegrityImpactToTheVulnerableSystem {
-    ghost law = { Prim.search rules };
-}
-
 impl Spelled for ModifiedIntegrityImpactToTheVulnerableSystem {
     const TYPE: MetricType = MetricType::MVI;
 
@@ -90,6 +86,10 @@ impl Spelled for ModifiedIntegrityImpactToTheVulnerableSystem {
             Self::High => "/MVI:H",
         }
     }
+}
+
+impl Metric for ModifiedIntegrityImpactToTheVulnerableSystem {
+    ghost law = { Prim.search rules };
 }
 
 impl fmt::Display for ModifiedIntegrityImpactToTheVulnerableSystem {
@@ -113,10 +113,6 @@ pub enum ModifiedAvailabilityImpactToTheVulnerableSystem {
     High,
 }
 
-impl Metric for ModifiedAvailabilityImpactToTheVulnerableSystem {
-    ghost law = { Prim.search rules };
-}
-
 impl Spelled for ModifiedAvailabilityImpactToTheVulnerableSystem {
     const TYPE: MetricType = MetricType::MVA;
 
@@ -136,6 +132,10 @@ impl Spelled for ModifiedAvailabilityImpactToTheVulnerableSystem {
             Self::High => "/MVA:H",
         }
     }
+}
+
+impl Metric for ModifiedAvailabilityImpactToTheVulnerableSystem {
+    ghost law = { Prim.search rules };
 }
 
 impl fmt::Display for ModifiedAvailabilityImpactToTheVulnerableSystem {

@@ -19,10 +19,6 @@ pub enum Safety {
     Negligible,
 }
 
-impl Metric for Safety {
-    ghost law = { Prim.search rules };
-}
-
 impl Spelled for Safety {
     const TYPE: MetricType = MetricType::S;
 
@@ -43,6 +39,10 @@ impl Spelled for Safety {
     }
 }
 
+impl Metric for Safety {
+    ghost law = { Prim.search rules };
+}
+
 impl fmt::Display for Safety {
     ghost output = { λ value. Some (metric_component metric.S (place.S value)) };
 
@@ -61,10 +61,6 @@ pub enum Recovery {
     Automatic,
     User,
     Irrecoverable,
-}
-
-impl Metric for Recovery {
-    ghost law = { Prim.search rules };
 }
 
 impl Spelled for Recovery {
@@ -89,6 +85,10 @@ impl Spelled for Recovery {
     }
 }
 
+impl Metric for Recovery {
+    ghost law = { Prim.search rules };
+}
+
 impl fmt::Display for Recovery {
     ghost output = { λ value. Some (metric_component metric.R (place.R value)) };
 
@@ -106,10 +106,6 @@ pub enum Automatable {
     NotDefined,
     Yes,
     No,
-}
-
-impl Metric for Automatable {
-    ghost law = { Prim.search rules };
 }
 
 impl Spelled for Automatable {
@@ -132,6 +128,10 @@ impl Spelled for Automatable {
     }
 }
 
+impl Metric for Automatable {
+    ghost law = { Prim.search rules };
+}
+
 impl fmt::Display for Automatable {
     ghost output = { λ value. Some (metric_component metric.AU (place.AU value)) };
 
@@ -149,10 +149,6 @@ pub enum ValueDensity {
     NotDefined,
     Diffuse,
     Concentrated,
-}
-
-impl Metric for ValueDensity {
-    ghost law = { Prim.search rules };
 }
 
 impl Spelled for ValueDensity {
@@ -173,6 +169,10 @@ impl Spelled for ValueDensity {
             Self::Concentrated => "/V:C",
         }
     }
+}
+
+impl Metric for ValueDensity {
+    ghost law = { Prim.search rules };
 }
 
 impl fmt::Display for ValueDensity {

@@ -19,10 +19,6 @@ pub enum VulnerabilityResponseEffort {
     High,
 }
 
-impl Metric for VulnerabilityResponseEffort {
-    ghost law = { Prim.search rules };
-}
-
 impl Spelled for VulnerabilityResponseEffort {
     const TYPE: MetricType = MetricType::RE;
 
@@ -42,6 +38,10 @@ impl Spelled for VulnerabilityResponseEffort {
             Self::High => "/RE:H",
         }
     }
+}
+
+impl Metric for VulnerabilityResponseEffort {
+    ghost law = { Prim.search rules };
 }
 
 impl fmt::Display for VulnerabilityResponseEffort {
@@ -66,10 +66,6 @@ pub enum ProviderUrgency {
     Clear,
 }
 
-impl Metric for ProviderUrgency {
-    ghost law = { Prim.search rules };
-}
-
 impl Spelled for ProviderUrgency {
     const TYPE: MetricType = MetricType::U;
 
@@ -91,6 +87,10 @@ impl Spelled for ProviderUrgency {
             Self::Clear => "/U:Clear",
         }
     }
+}
+
+impl Metric for ProviderUrgency {
+    ghost law = { Prim.search rules };
 }
 
 impl fmt::Display for ProviderUrgency {
