@@ -1,3 +1,1 @@
 mod JsonLemmas
-mod LawLemmas
-mod OneRefusalLemmas

@@ -1,10 +1,10 @@
 pub mod BytesErrors
-pub mod GivenBack
 pub mod JsonErrors
 pub use Rattle.cvss_base.specs.laws.Errors
 pub use Rattle.cvss_base.specs.laws.Order
 pub use Rattle.cvss_base.specs.laws.Severities
 pub use Rattle.cvss_base.specs.laws.Rounding as RoundingLaws
+pub use Rattle.cvss_laws.specs.any.GivenBack
 pub use Rattle.cvss_laws.specs.v2.NotDefined as ScoreLawsV2
 pub use Rattle.cvss_laws.specs.v3.ScoreLaws as ScoreLawsV3
 pub use Rattle.cvss_laws.specs.v4.ClassLaws as ClassLawsV4

@@ -1,53 +1,17 @@
 //! Laws of vectors of any version, each the contract of a function that does nothing. A proof that
 //! needs a law calls it.
 
-ghost use Rattle.std.specs.Prelude.{◌≡◌, ◌↔◌, ℕ, List, IsTrue};
-ghost use Rattle.cvss_base.specs.declared.v2.MetricType as type_v2;
-ghost use Rattle.cvss_base.specs.declared.v3.MetricType as type_v3;
-ghost use Rattle.cvss_base.specs.declared.v4.MetricType as type_v4;
+ghost use Rattle.std.specs.Prelude.{◌↔◌, IsTrue};
 ghost use Rattle.cvss_base.specs.laws.Errors as same;
 ghost use Rattle.cvss_base.specs.Equality.{EqualsByValue, ClonesByValue, ClonesAlways};
-ghost use Rattle.cvss_base.specs.Refusal.{Refusal, IsFirstRefusal, IsFirstRefusalBehind};
-ghost use Rattle.cvss_base.specs.laws.Rounding.{IsOneCount};
-ghost use Rattle.cvss_v2.specs.Vector as of_v2;
-ghost use Rattle.cvss_v3.specs.Vector as of_v3;
-ghost use Rattle.cvss_v4.specs.Vector as of_v4;
-ghost use Rattle.cvss_any.specs.Answers.{text_of, IsScoreOf};
-ghost use Rattle.cvss_any.specs.Dispatch.{DenotesCvss, IsFirstRefusalCvss};
 ghost use Rattle.cvss.specs.laws.BytesErrors as of_bytes;
-ghost use Rattle.cvss.specs.laws.GivenBack.{IsGivenBack};
 ghost use Rattle.cvss.specs.laws.JsonErrors.{TellTheSame};
 
 use crate::json::JsonError;
 use crate::{Bounds, BytesError, Cvss, Error, MetricType, OneDecimal, Published, v2, v3, v4};
-
-/// A text denotes at most one vector, and the text that is printed of a vector denotes that vector
-/// exactly where it is well formed and, in CVSS v3, has a metric and the minor version of its
-/// variant. So two such vectors are one if their texts are.
-pub fn texts_denote_one_vector()
-    ensures own { (cvss : Cvss) → (DenotesCvss (text_of cvss) cvss ↔ IsGivenBack cvss) }
-    ensures one { (text : List ℕ) → (left right : Cvss)
-        → DenotesCvss text left → DenotesCvss text right → left ≡ right }
-{}
-
-/// A text has at most one first refusal, by the rules of each version and of all.
-pub fn texts_have_one_first_refusal()
-    ensures v2 { (text : List ℕ) → (one other : Refusal type_v2.MetricType)
-        → IsFirstRefusal of_v2.v2 text one → IsFirstRefusal of_v2.v2 text other → one ≡ other }
-    ensures v3 { (text : List ℕ) → (one other : Refusal type_v3.MetricType)
-        → IsFirstRefusalBehind of_v3.v3 text one → IsFirstRefusalBehind of_v3.v3 text other
-        → one ≡ other }
-    ensures v4 { (text : List ℕ) → (one other : Refusal type_v4.MetricType)
-        → IsFirstRefusalBehind of_v4.v4 text one → IsFirstRefusalBehind of_v4.v4 text other
-        → one ≡ other }
-    ensures any { (text : List ℕ) → (one other : Refusal MetricType)
-        → IsFirstRefusalCvss text one → IsFirstRefusalCvss text other → one ≡ other }
-{}
-
-/// A vector has one score.
-pub fn scores_are_unique()
-    ensures { (cvss : Cvss) → IsOneCount (IsScoreOf cvss) }
-{}
+pub use cvss_laws::any::{
+    scores_are_unique, texts_denote_one_vector, texts_have_one_first_refusal,
+};
 
 /// Two vectors of any version, two metrics, what is published of two vectors, or two counts to be
 /// printed, are equal exactly if they are one value, and two errors exactly if they tell the same.

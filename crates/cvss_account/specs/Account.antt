@@ -1,11 +1,12 @@
 -- The account of a vector's score.
 use Rattle.std.specs.Prelude.{◌≡◌, ℕ, List, [], ◌∷◌, ◌++◌, codes}
-use Rattle.cvss.specs.Answers.{IsScoreOf, rating_by, score_of_tenths, text_of}
-use Rattle.cvss.specs.SeverityText.{text_of as severity_text}
-use Rattle.cvss.specs.CvssType.{Cvss}
-use Rattle.cvss.specs.CvssType.TheVariants.{CvssV20, CvssV30, CvssV31, CvssV40}
-use Rattle.cvss_record.specs.Objects.{Member, with_members}
-use Rattle.cvss_record.specs.Record.{score_value, version_of}
+use Rattle.cvss_any.specs.Answers.{IsScoreOf, rating_by, score_of_tenths, text_of}
+use Rattle.cvss_base.specs.SeverityText.{text_of as severity_text}
+use Rattle.cvss_any.specs.declared.vector.Cvss.{Cvss}
+use Rattle.cvss_any.specs.declared.vector.Cvss.TheVariants.{CvssV20, CvssV30, CvssV31, CvssV40}
+use Rattle.cvss_object.specs.Objects.{Member, with_members}
+use Rattle.cvss_words.specs.Scores.{score_value}
+use Rattle.cvss_words.specs.Versions.{version_of}
 use Rattle.serde_json.specs.Data.{Members, no_members, string}
 use Rattle.cvss_account.specs.V2 as v2
 use Rattle.cvss_account.specs.V3 as v3

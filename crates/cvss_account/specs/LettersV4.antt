@@ -1,6 +1,6 @@
 -- The letters of effective values: CVSS v4.0 specification, sections 2 to 4.
 use Rattle.std.specs.Prelude.{ℕ, List, [], ◌∷◌, ◌++◌, codes}
-use Rattle.cvss_record.specs.Objects.{Member}
+use Rattle.cvss_object.specs.Objects.{Member}
 use Rattle.serde_json.specs.Data.{string}
 use Rattle.cvss_base.specs.declared.v4.MetricType.TheVariants.{AC, AT, AV, PR, UI}
 use Rattle.cvss_v4_metric.specs.Ranks as place

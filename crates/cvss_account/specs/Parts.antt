@@ -1,6 +1,6 @@
 -- The parts that the accounts of CVSS v2 and v3 have in common.
 use Rattle.std.specs.Prelude.{List, [], ◌∷◌, codes}
-use Rattle.cvss_record.specs.Objects.{Member}
+use Rattle.cvss_object.specs.Objects.{Member}
 use Rattle.serde_json.specs.Data.{Data}
 
 -- what the metrics weigh, and the objects of the three scores

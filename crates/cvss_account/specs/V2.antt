@@ -1,18 +1,18 @@
 -- The accounts of the scores of CVSS v2: guide, section 3.2.
 use Rattle.std.specs.Prelude.{◌≡◌, ◌*◌, pos, List, [], ◌∷◌, codes, map}
-use Rattle.cvss.specs.MetricTypeV2.{MetricType}
-use Rattle.cvss.specs.TableV2.{listed}
-use Rattle.cvss.specs.TypesV2.{name_of}
-use Rattle.cvss.specs.VectorTypeV2.{Vector}
-use Rattle.cvss.specs.WeightsV2.{weight_in, weights_of}
+use Rattle.cvss_base.specs.declared.v2.MetricType.{MetricType}
+use Rattle.cvss_v2_metric.specs.Table.{listed}
+use Rattle.cvss_base.specs.V2Types.{name_of}
+use Rattle.cvss_v2.specs.declared.vector.Vector.{Vector}
+use Rattle.cvss_v2.specs.Weights.{weight_in, weights_of}
 use Rattle.cvss_account.specs.Decimal.{decimal_value}
 use Rattle.cvss_account.specs.Parts.{part_members}
 use Rattle.cvss_account.specs.NumbersV2.{AreBaseNumbers, AreEnvironmentalNumbers, AreTemporalNumbers}
 use Rattle.cvss_account.specs.declared.v2.numbers.BaseNumbers.{BaseNumbers}
 use Rattle.cvss_account.specs.declared.v2.numbers.EnvironmentalNumbers.{EnvironmentalNumbers}
 use Rattle.cvss_account.specs.declared.v2.numbers.TemporalNumbers.{TemporalNumbers}
-use Rattle.cvss_record.specs.Objects.{Member, object_of}
-use Rattle.cvss_record.specs.Record.{score_value}
+use Rattle.cvss_object.specs.Objects.{Member, object_of}
+use Rattle.cvss_words.specs.Scores.{score_value}
 use Rattle.serde_json.specs.Data.{Data}
 
 -- what a metric weighs, which is thousandths

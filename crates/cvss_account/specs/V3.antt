@@ -1,22 +1,22 @@
 -- The accounts of the scores of CVSS v3: v3.1 specification, section 7; v3.0 specification, section 8.
 use Rattle.std.specs.Prelude.{◌≡◌, ℕ, ◌*◌, pos, Bool, true, false, List, [], ◌∷◌, ◌++◌, codes, filter_map, option_map, Option}
-use Rattle.cvss.specs.Answers.{score_of_tenths}
-use Rattle.cvss.specs.MetricTypeV3.{MetricType}
-use Rattle.cvss.specs.Rating.{rating_of_score}
-use Rattle.cvss.specs.SeverityText.{text_of as severity_text}
-use Rattle.cvss.specs.TableV3.{listed}
-use Rattle.cvss.specs.TypesV3.{name_of}
-use Rattle.cvss.specs.VectorTypeV3.{Vector}
-use Rattle.cvss.specs.WeightsTypeV3.{Weights}
-use Rattle.cvss.specs.WeightsV3.{weight_in, weights_of}
+use Rattle.cvss_any.specs.Answers.{score_of_tenths}
+use Rattle.cvss_base.specs.declared.v3.MetricType.{MetricType}
+use Rattle.cvss_base.specs.Rating.{rating_of_score}
+use Rattle.cvss_base.specs.SeverityText.{text_of as severity_text}
+use Rattle.cvss_v3_metric.specs.Table.{listed}
+use Rattle.cvss_base.specs.V3Types.{name_of}
+use Rattle.cvss_v3.specs.declared.vector.Vector.{Vector}
+use Rattle.cvss_score.specs.declared.v3.weights.Weights.{Weights}
+use Rattle.cvss_v3.specs.VectorWeights.{weight_in, weights_of}
 use Rattle.cvss_account.specs.Decimal.{decimal_value}
 use Rattle.cvss_account.specs.Parts.{part_members}
 use Rattle.cvss_account.specs.NumbersV3.{AreBaseNumbers, AreEnvironmentalNumbers, AreTemporalNumbers}
 use Rattle.cvss_account.specs.declared.v3.numbers.BaseNumbers.{BaseNumbers}
 use Rattle.cvss_account.specs.declared.v3.numbers.EnvironmentalNumbers.{EnvironmentalNumbers}
 use Rattle.cvss_account.specs.declared.v3.numbers.Scored.{Scored}
-use Rattle.cvss_record.specs.Objects.{Member, object_of}
-use Rattle.cvss_record.specs.Record.{score_value}
+use Rattle.cvss_object.specs.Objects.{Member, object_of}
+use Rattle.cvss_words.specs.Scores.{score_value}
 use Rattle.serde_json.specs.Data.{Data, string}
 
 abbrev pub scope_letter : Bool → List ℕ

@@ -1,9 +1,9 @@
 -- The account of a score of CVSS v4.0: specification, section 8.2.
 use Rattle.std.specs.Prelude.{◌≡◌, ℕ, ◌-◌, List, [], ◌∷◌, ◌++◌, codes, pos, Option, Some, None}
 use Rattle.std.specs.Fmt.{decimal}
-use Rattle.cvss.specs.NomenclatureV4.{nomenclature_of, text_of as nomenclature_text}
-use Rattle.cvss_record.specs.Objects.{Member, object_of}
-use Rattle.cvss_record.specs.Record.{score_value}
+use Rattle.cvss_v4.specs.Nomenclature.{nomenclature_of, text_of as nomenclature_text}
+use Rattle.cvss_object.specs.Objects.{Member, object_of}
+use Rattle.cvss_words.specs.Scores.{score_value}
 use Rattle.serde_json.specs.Data.{Data, array, null, number, string, unsigned}
 use Rattle.serde_json.specs.View.{items_of}
 use Rattle.cvss_score.specs.v4.Account.{IsAccount}

@@ -1,16 +1,16 @@
 //! The account of a vector's score.
 
 ghost use Rattle.std.specs.Prelude.{IfOk, OnOk};
-ghost use Rattle.cvss.specs.Answers.{HasScore};
+ghost use Rattle.cvss_any.specs.Answers.{HasScore};
 ghost use Rattle.cvss_account.specs.Account.{AreNumbersOf, IsAccountOf};
 ghost use Rattle.cvss_account.specs.private.Told.{PutsNumbers};
 ghost use Rattle.serde_json.specs.View.{members_view};
 
 use crate::told::{self, Members, Told, put_told};
 use crate::{v2, v3, v4};
-use cvss::Cvss;
+use cvss_any::Cvss;
 use cvss_base::TENTH;
-use cvss_record::version;
+use cvss_words::version;
 use serde_json::{Map, Value, put};
 use std::alloc::{AllocError, Global};
 

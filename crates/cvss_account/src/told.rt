@@ -2,12 +2,12 @@
 
 ghost use Rattle.std.specs.Prelude.{◌≡◌, IfOk, OnOk};
 ghost use Rattle.cvss_account.specs.private.Told.{told_members, told_object, told_value};
-ghost use Rattle.cvss_record.specs.Objects.{with_members};
+ghost use Rattle.cvss_object.specs.Objects.{with_members};
 ghost use Rattle.serde_json.specs.View.{members_view, view};
 
 use crate::decimal::decimal_value;
-use cvss::v4::scoring::classes::MacroVector;
-use cvss_record::score_value;
+use cvss_score::v4::scoring::classes::MacroVector;
+use cvss_words::score_value;
 use serde_json::{Map, Value, put};
 use std::alloc::{AllocError, Global};
 

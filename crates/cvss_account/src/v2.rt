@@ -9,8 +9,8 @@ mod numbers;
 
 use crate::decimal::{decimal_value, ten_millionths};
 use crate::told::{Member, Members, Result, Told, object};
-use cvss::v2::Vector;
 use cvss_text::metrics::Listed;
+use cvss_v2::Vector;
 use numbers::{BaseNumbers, EnvironmentalNumbers, TemporalNumbers};
 use serde_json::{Map, Value, put};
 use std::alloc::Global;

@@ -1,8 +1,8 @@
 //! The accounts of the scores of CVSS v3 (v3.1 specification, section 7; v3.0 specification, section 8).
 
 ghost use Rattle.std.specs.Prelude.{◌≡◌, IfOk, OnOk, option_map};
-ghost use Rattle.cvss.specs.TypesV3.{name_of};
-ghost use Rattle.cvss.specs.WeightsV3.{weights_of};
+ghost use Rattle.cvss_base.specs.V3Types.{name_of};
+ghost use Rattle.cvss_v3.specs.VectorWeights.{weights_of};
 ghost use Rattle.cvss_account.specs.V3.{AreAccountMembers, base_value, environmental_value, scope_letter, temporal_value, weight_member, weights_value};
 ghost use Rattle.cvss_account.specs.private.Told.{PutsNumbers, rating_text, told_object};
 ghost use Rattle.serde_json.specs.View.{members_view, view};
@@ -11,9 +11,10 @@ mod numbers;
 
 use crate::decimal::{decimal_value, ten_millionths};
 use crate::told::{Member, Members, Result, Told, object, put_told};
-use cvss::v3::{MetricType, Score, Vector};
 use cvss_base::TENTH;
+use cvss_base::v3::MetricType;
 use cvss_text::metrics::Listed;
+use cvss_v3::{Score, Vector};
 use numbers::{BaseNumbers, EnvironmentalNumbers, Scored};
 use serde_json::{Map, Value, put};
 use std::alloc::Global;

@@ -1,8 +1,8 @@
 //! The account of a score of CVSS v4.0 (specification, section 8.2).
 
 ghost use Rattle.std.specs.Prelude.{◌≡◌, IfOk, OnOk};
-ghost use Rattle.cvss.specs.VectorV4.{v4};
-ghost use Rattle.cvss.specs.Version.{IsComplete};
+ghost use Rattle.cvss_v4.specs.Vector.{v4};
+ghost use Rattle.cvss_base.specs.Version.{IsComplete};
 ghost use Rattle.cvss_account.specs.V4.{AreAccountMembers, group_members};
 ghost use Rattle.cvss_account.specs.private.Told.{PutsNumbers, digits_text, groups_value, told_members};
 ghost use Rattle.cvss_score.specs.v4.Account.{AreInRange, IsInRange};
@@ -12,8 +12,8 @@ mod effective;
 
 use crate::decimal::of_parts;
 use crate::told::{Member, Members, Result, Told, object, put_told};
-use cvss::v4::scoring::account::GroupAccount;
-use cvss::v4::{Account, Vector};
+use cvss_score::v4::scoring::account::GroupAccount;
+use cvss_v4::{Account, Vector};
 use effective::effective_told;
 use serde_json::{Value, push, put};
 use std::alloc::Global;

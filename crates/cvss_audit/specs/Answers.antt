@@ -2,17 +2,17 @@
 use Rattle.std.specs.Prelude.{◌≡◌, ◌≢◌, ℕ, ◌==◌, ◌||◌, ◌⊎◌, Bool, true, false, List, [], ◌∷◌, ◌++◌, codes, flat_map, map, if◌then◌else◌, Option, Some, None, ⊤}
 use Rattle.std.specs.List.{list_all}
 use Rattle.std.specs.Str.{IsUtf8}
-use Rattle.cvss.specs.Dispatch.{DenotesCvss, IsFirstRefusalCvss, cvss_reason}
-use Rattle.cvss.specs.ErrorText.{error_text}
-use Rattle.cvss.specs.ErrorType.{Error}
+use Rattle.cvss_any.specs.Dispatch.{DenotesCvss, IsFirstRefusalCvss, cvss_reason}
+use Rattle.cvss_base.specs.ErrorText.{error_text}
+use Rattle.cvss_base.specs.declared.error.Error.{Error}
 use Rattle.cvss_base.specs.declared.error.Error.TheVariants.{OutOfMemory}
-use Rattle.cvss.specs.Told.{TellsFirst}
-use Rattle.cvss.specs.CvssType.{Cvss}
+use Rattle.cvss_base.specs.Told.{TellsFirst}
+use Rattle.cvss_any.specs.declared.vector.Cvss.{Cvss}
 use Rattle.cvss_lines.specs.Answers.{Answer, Accepted, Refused, written_text}
 use Rattle.cvss_object.specs.Texts.{IsTextOf}
 use Rattle.cvss_record.specs.Differences.{AreDifferencesAt, Difference}
 use Rattle.cvss_record.specs.Groups.{AreScoresOf}
-use Rattle.cvss_record.specs.Objects.{object_of}
+use Rattle.cvss_object.specs.Objects.{object_of}
 use Rattle.cvss_record.specs.Places.{Place, places_in}
 use Rattle.cvss_record.specs.declared.score.Scores.{Scores}
 use Rattle.serde_json.specs.Data.{Data}

@@ -2,23 +2,23 @@
 -- no JSON.
 use Rattle.std.specs.Prelude.{ℕ, List, [], ◌∷◌, ◌++◌, codes, map, not, ◌&&◌, if◌then◌else◌, is_some, Option, Some, None}
 use Rattle.std.specs.List.{filter_map}
-use Rattle.cvss.specs.Answers.{rating_by, score_of_tenths, text_of}
-use Rattle.cvss.specs.Groups.{same_group}
-use Rattle.cvss.specs.MetricGroupType.TheVariants.{Base}
-use Rattle.cvss.specs.MetricTypeV3.{MetricType}
-use Rattle.cvss.specs.NomenclatureV4.{nomenclature_of, text_of as nomenclature_text}
-use Rattle.cvss.specs.SeverityText.{text_of as severity_text}
-use Rattle.cvss.specs.TableV3.{printed}
-use Rattle.cvss.specs.TypesV3.{name_of, group_of}
-use Rattle.cvss.specs.VectorTypeV3 as type_v3
-use Rattle.cvss.specs.VectorTypeV4 as type_v4
-use Rattle.cvss.specs.VectorV3.{value_at}
-use Rattle.cvss.specs.CvssType.{Cvss}
-use Rattle.cvss.specs.CvssType.TheVariants.{CvssV20, CvssV30, CvssV31, CvssV40}
+use Rattle.cvss_any.specs.Answers.{rating_by, score_of_tenths, text_of}
+use Rattle.cvss_base.specs.Groups.{same_group}
+use Rattle.cvss_base.specs.declared.group.MetricGroup.TheVariants.{Base}
+use Rattle.cvss_base.specs.declared.v3.MetricType.{MetricType}
+use Rattle.cvss_v4.specs.Nomenclature.{nomenclature_of, text_of as nomenclature_text}
+use Rattle.cvss_base.specs.SeverityText.{text_of as severity_text}
+use Rattle.cvss_v3_metric.specs.Table.{printed}
+use Rattle.cvss_base.specs.V3Types.{name_of, group_of}
+use Rattle.cvss_v3.specs.declared.vector.Vector as type_v3
+use Rattle.cvss_v4.specs.declared.vector.Vector as type_v4
+use Rattle.cvss_v3.specs.Vector.{value_at}
+use Rattle.cvss_any.specs.declared.vector.Cvss.{Cvss}
+use Rattle.cvss_any.specs.declared.vector.Cvss.TheVariants.{CvssV20, CvssV30, CvssV31, CvssV40}
 use Rattle.cvss_record.specs.Differences.{Difference}
-use Rattle.cvss_record.specs.Objects.{Member, object_of}
+use Rattle.cvss_object.specs.Objects.{Member, object_of}
 use Rattle.cvss_record.specs.Places.{Place}
-use Rattle.cvss_record.specs.Record.{score_value}
+use Rattle.cvss_words.specs.Scores.{score_value}
 use Rattle.cvss_record.specs.declared.score.Scores.{Scores}
 use Rattle.serde_json.specs.Data.{Data, unsigned, number, string, array}
 use Rattle.serde_json.specs.View.{items_of}

@@ -6,17 +6,19 @@ ghost use Rattle.cvss_audit.specs.Sources.{source_view};
 ghost use Rattle.cvss_object.specs.Trees as trees;
 ghost use Rattle.cvss_object.specs.Trees.{tree_view};
 ghost use Rattle.cvss_record.specs.Differences.{difference_view};
-ghost use Rattle.cvss_record.specs.Objects.{object_of, with_members};
+ghost use Rattle.cvss_object.specs.Objects.{object_of, with_members};
 ghost use Rattle.cvss_record.specs.Places.{place_view};
 ghost use Rattle.serde_json.specs.View.{members_view, view};
 
 use crate::differs::put_differences;
 use crate::missing::put_missing;
 use crate::source::Source;
-use cvss::{Cvss, v4};
+use cvss_any::Cvss;
 use cvss_base::TENTH;
 use cvss_object::{Tree, put_tree};
-use cvss_record::{Difference, Place, Scores, score_value};
+use cvss_record::{Difference, Place, Scores};
+use cvss_v4::Vector;
+use cvss_words::score_value;
 use serde_json::{Map, Value, json, put};
 use std::alloc::{AllocError, Global};
 
@@ -152,7 +154,7 @@ fn put_score(
 }
 
 /// The score of a vector of CVSS v4.0, and the nomenclature of the groups that it rests on.
-fn v4_score(alloc: Global, vector: &v4::Vector, tenths: u8) -> Result<Value, AllocError>
+fn v4_score(alloc: Global, vector: &Vector, tenths: u8) -> Result<Value, AllocError>
     ensures { IfOk result (λ value. view value ≡ object_of (v4_members vector.now tenths)) }
 {
     json!(in alloc; {

@@ -3,13 +3,16 @@
 ghost use Rattle.std.specs.Prelude.{◌≡◌, IfOk, OnOk, map, option_map};
 ghost use Rattle.cvss_audit.specs.Objects.{missing_at, missing_members, missing_v3};
 ghost use Rattle.cvss_object.specs.Trees.{members_view, tree_view};
-ghost use Rattle.cvss_record.specs.Objects.{with_members};
+ghost use Rattle.cvss_object.specs.Objects.{with_members};
 
 use crate::members::put_list;
-use cvss::{Cvss, MetricGroup, v3};
+use cvss_any::Cvss;
+use cvss_base::MetricGroup;
+use cvss_base::v3::MetricType;
 use cvss_object::Tree;
 use cvss_text::print::Printed;
 use cvss_text::walk::Components;
+use cvss_v3::Vector;
 use serde_json::Map;
 use std::alloc::{AllocError, Global};
 
@@ -33,11 +36,11 @@ pub(crate) fn put_missing<'a>(
 }
 
 /// The names of the base metrics that a vector lacks.
-fn missing_v3<'a>(alloc: Global, vector: &v3::Vector) -> Result<Vec<Tree<'a>>, AllocError>
+fn missing_v3<'a>(alloc: Global, vector: &Vector) -> Result<Vec<Tree<'a>>, AllocError>
     ensures { IfOk result (λ missing. map tree_view missing.items ≡ missing_v3 vector.now) }
 {
     let mut missing = Vec::new(alloc);
-    for kind in v3::Vector::printed() {
+    for kind in Vector::printed() {
         if let Some(name) = missing_at(vector, *kind) {
             missing.push(name)?;
         }
@@ -46,7 +49,7 @@ fn missing_v3<'a>(alloc: Global, vector: &v3::Vector) -> Result<Vec<Tree<'a>>, A
 }
 
 /// The name of a metric, if it is a base metric and a vector lacks it.
-fn missing_at<'a>(vector: &v3::Vector, kind: v3::MetricType) -> Option<Tree<'a>>
+fn missing_at<'a>(vector: &Vector, kind: MetricType) -> Option<Tree<'a>>
     ensures { option_map tree_view result ≡ missing_at vector.now kind }
 {
     match kind.group() {

@@ -10,7 +10,8 @@ ghost use Rattle.serde_json.specs.Data.{object};
 
 use crate::members::{put_accepted, put_place, put_refusal};
 use crate::source::Source;
-use cvss::{Cvss, Error};
+use cvss_any::Cvss;
+use cvss_base::Error;
 use cvss_lines::Gathered;
 use cvss_object::{Tree, write_tree_object};
 use cvss_record::{Place, Scores, differences_at};

@@ -2,24 +2,24 @@
 use Rattle.std.proofs.Common.{◌≤◌, ℕ, ℤ, pos, List, [], ◌∷◌, ◌++◌, map, Option, Some, None, option_map, unwrap_or, ap, arith}
 use Rattle.std.specs.List.{cons_option}
 use Rattle.std.specs.Prelude.{filter_map}
-use Rattle.cvss.specs.MetricTypeV2.{MetricType as MetricTypeV2}
-use Rattle.cvss.specs.MetricTypeV3.{MetricType as MetricTypeV3}
-use Rattle.cvss.specs.TableV2.{listed as listed_v2}
-use Rattle.cvss.specs.TableV3.{listed as listed_v3}
-use Rattle.cvss.specs.TypesV3.{name_of}
-use Rattle.cvss.specs.VectorTypeV2.{Vector as VectorV2}
-use Rattle.cvss.specs.VectorTypeV3.{Vector as VectorV3}
-use Rattle.cvss.specs.WeightsTypeV3.{Weights}
-use Rattle.cvss.specs.WeightsV3.{weight_in, weights_of}
-use Rattle.cvss.specs.CvssType.{Cvss}
-use Rattle.cvss.specs.CvssType.TheVariants.{CvssV20, CvssV30, CvssV31, CvssV40}
+use Rattle.cvss_base.specs.declared.v2.MetricType.{MetricType as MetricTypeV2}
+use Rattle.cvss_base.specs.declared.v3.MetricType.{MetricType as MetricTypeV3}
+use Rattle.cvss_v2_metric.specs.Table.{listed as listed_v2}
+use Rattle.cvss_v3_metric.specs.Table.{listed as listed_v3}
+use Rattle.cvss_base.specs.V3Types.{name_of}
+use Rattle.cvss_v2.specs.declared.vector.Vector.{Vector as VectorV2}
+use Rattle.cvss_v3.specs.declared.vector.Vector.{Vector as VectorV3}
+use Rattle.cvss_score.specs.declared.v3.weights.Weights.{Weights}
+use Rattle.cvss_v3.specs.VectorWeights.{weight_in, weights_of}
+use Rattle.cvss_any.specs.declared.vector.Cvss.{Cvss}
+use Rattle.cvss_any.specs.declared.vector.Cvss.TheVariants.{CvssV20, CvssV30, CvssV31, CvssV40}
 use Rattle.cvss_account.specs.Account.{AreNumbersOf, IsAccountOf, score_members}
 use Rattle.cvss_account.specs.Decimal.{decimal_number, decimal_value, nearest_to}
 use Rattle.cvss_account.specs.V2 as v2
 use Rattle.cvss_account.specs.V3 as v3
 use Rattle.cvss_account.specs.V4 as v4
 use Rattle.cvss_bytes.proofs.DepthLemmas.{AreWithin, object_within, within-append}
-use Rattle.cvss_record.specs.Objects.{Member, object_of}
+use Rattle.cvss_object.specs.Objects.{Member, object_of}
 use Rattle.cvss_score.specs.declared.v4.scoring.account.GroupAccount.{GroupAccount}
 use Rattle.cvss_score.specs.declared.v4.scoring.account.GroupAccounts.{GroupAccounts}
 use Rattle.cvss_score.specs.declared.v4.scoring.classes.MacroVector.{MacroVector}

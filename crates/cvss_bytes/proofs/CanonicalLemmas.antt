@@ -7,11 +7,11 @@ use Rattle.cvss_base.specs.Text.{slash}
 use Rattle.cvss_base.specs.declared.v2.MetricType.{MetricType}
 use Rattle.cvss_base.specs.declared.v2.MetricType.TheVariants.{AV}
 use Rattle.cvss_text.proofs.PrintLemmas.{joined-slashed}
-use Rattle.cvss.specs.VectorTypeV2 as vector_v2
-use Rattle.cvss.specs.VectorTypeV4 as vector_v4
-use Rattle.cvss.specs.VectorV2.{v2}
-use Rattle.cvss.specs.VectorV4.{v4}
-use Rattle.cvss.specs.Dispatch.{DenotesV4}
+use Rattle.cvss_v2.specs.declared.vector.Vector as vector_v2
+use Rattle.cvss_v4.specs.declared.vector.Vector as vector_v4
+use Rattle.cvss_v2.specs.Vector.{v2}
+use Rattle.cvss_v4.specs.Vector.{v4}
+use Rattle.cvss_any.specs.Dispatch.{DenotesV4}
 
 -- of CVSS v2: the first component without its slash, and the others behind slashes
 pub text_from_first : (vector : vector_v2.Vector) (piece text : List ℕ) (kinds : List MetricType) → text ≡ slash ∷ piece → component_of v2 vector AV ≡ Some piece → kinds ≡ v2.printed → take (length text - 1) (drop 1 text) ++ slashed_texts v2 vector (take (length kinds - 1) (drop 1 kinds)) ≡ canonical_text v2 vector

@@ -5,7 +5,7 @@ use Rattle.std.specs.Ordering.{match_ordering, nat_cmp}
 use Rattle.std.specs.Cmp.Lexicographic.{slice_cmp}
 use Rattle.std.specs.declared.cmp.Ordering.{Ordering}
 use Rattle.std.specs.declared.cmp.Ordering.TheVariants.{Less, Equal, Greater}
-use Rattle.cvss_record.specs.Objects.{Member, object_of, with_members}
+use Rattle.cvss_object.specs.Objects.{Member, object_of, with_members}
 use Rattle.serde_json.specs.Data.{Data, Members, no_members, member, put, depth, members_depth}
 
 -- no member's value nests deeper than n

@@ -6,13 +6,13 @@ use Rattle.std.proofs.lemmas.List.Sorted.{sum_by-IsPermutation}
 use Rattle.std.proofs.lemmas.List.Sums.{sum_by-cons, sum_by-append}
 use Rattle.cvss_base.specs.Text.{slash, joined, read_as}
 use Rattle.cvss_base.specs.Version.{AreComponentsOf, Version, read, components_of, canonical_text, Denotes}
-use Rattle.cvss.specs.Answers.{text_of}
-use Rattle.cvss.specs.Dispatch.{DenotesCvss}
-use Rattle.cvss.specs.VectorV2.{v2}
-use Rattle.cvss.specs.VectorV3.{v3}
-use Rattle.cvss.specs.VectorV4.{v4}
-use Rattle.cvss.specs.CvssType.{Cvss}
-use Rattle.cvss.specs.CvssType.TheVariants.{CvssV20, CvssV30, CvssV31, CvssV40}
+use Rattle.cvss_any.specs.Answers.{text_of}
+use Rattle.cvss_any.specs.Dispatch.{DenotesCvss}
+use Rattle.cvss_v2.specs.Vector.{v2}
+use Rattle.cvss_v3.specs.Vector.{v3}
+use Rattle.cvss_v4.specs.Vector.{v4}
+use Rattle.cvss_any.specs.declared.vector.Cvss.{Cvss}
+use Rattle.cvss_any.specs.declared.vector.Cvss.TheVariants.{CvssV20, CvssV30, CvssV31, CvssV40}
 
 -- a piece and the slash before it
 abbrev piece_length : List ℕ → ℕ

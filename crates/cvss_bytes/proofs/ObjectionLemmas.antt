@@ -5,17 +5,17 @@ use Rattle.std.specs.Option.{option_map}
 use Rattle.std.proofs.lemmas.List.{get_or-take, length-map, length-take, length-take-le, take_all}
 use Rattle.std.proofs.lemmas.List.Sorted.{length_permutation}
 use Rattle.std.proofs.lemmas.Bool.{cases_lt}
-use Rattle.cvss.specs.Groups.{same_group}
-use Rattle.cvss.specs.MetricGroupType.TheVariants.{Environmental}
-use Rattle.cvss.specs.MetricTypeV4.{MetricType}
-use Rattle.cvss.specs.OverrideErrorTypeV4.{OverrideError}
-use Rattle.cvss.specs.OverridingV4.{AreOverrides, Objection, NamesOther, ObjectionAt, OfOtherGroup, OfText, TellsFirstObjection, TellsObjection}
-use Rattle.cvss.specs.Refusal.{BadComponent, BadValue, FaultAt, IsNamedBefore, Spells, Missing, Refusal, Repeated, UnknownName, WrongPrefix, WrongVersion, name_at, piece_at, value_at}
-use Rattle.cvss.specs.Text.{IsComponent, name_part, value_part}
-use Rattle.cvss.specs.TypesV4.{group_of}
-use Rattle.cvss.specs.VectorTypeV4.{Vector}
-use Rattle.cvss.specs.VectorV4.{v4}
-use Rattle.cvss.specs.Version.{component_of, components_of, read, reading}
+use Rattle.cvss_base.specs.Groups.{same_group}
+use Rattle.cvss_base.specs.declared.group.MetricGroup.TheVariants.{Environmental}
+use Rattle.cvss_base.specs.declared.v4.MetricType.{MetricType}
+use Rattle.cvss_v4.specs.declared.vector.overriding.OverrideError.{OverrideError}
+use Rattle.cvss_v4.specs.Overriding.{AreOverrides, Objection, NamesOther, ObjectionAt, OfOtherGroup, OfText, TellsFirstObjection, TellsObjection}
+use Rattle.cvss_base.specs.Refusal.{BadComponent, BadValue, FaultAt, IsNamedBefore, Spells, Missing, Refusal, Repeated, UnknownName, WrongPrefix, WrongVersion, name_at, piece_at, value_at}
+use Rattle.cvss_base.specs.Text.{IsComponent, name_part, value_part}
+use Rattle.cvss_base.specs.V4Types.{group_of}
+use Rattle.cvss_v4.specs.declared.vector.Vector.{Vector}
+use Rattle.cvss_v4.specs.Vector.{v4}
+use Rattle.cvss_base.specs.Version.{component_of, components_of, read, reading}
 use Rattle.cvss_bytes.specs.private.Overridden.{place_of}
 
 -- whether a metric is an environmental one

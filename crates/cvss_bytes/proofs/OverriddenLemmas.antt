@@ -1,12 +1,11 @@
 -- Overrides as they are cut, and the vector that has them in place.
 use Rattle.std.proofs.Common.{◌≡◌, ◌<◌, List, [], ◌∷◌, ◌++◌, codes, length, ℕ, refl, ap, ◌∙◌, arith}
-use Rattle.cvss.specs.Dispatch.{DenotesCvss}
-use Rattle.cvss.specs.Text.{pieces}
-use Rattle.cvss.specs.VectorTypeV4.{Vector}
-use Rattle.cvss.specs.VectorV4.{v4}
-use Rattle.cvss.specs.Version.{version_piece}
-use Rattle.cvss.specs.CvssType.{Cvss}
-use Rattle.cvss_base.specs.Version.{numeral}
+use Rattle.cvss_any.specs.Dispatch.{DenotesCvss}
+use Rattle.cvss_base.specs.Text.{pieces}
+use Rattle.cvss_v4.specs.declared.vector.Vector.{Vector}
+use Rattle.cvss_v4.specs.Vector.{v4}
+use Rattle.cvss_base.specs.Version.{numeral, version_piece}
+use Rattle.cvss_any.specs.declared.vector.Cvss.{Cvss}
 use Rattle.cvss_bytes.specs.Overriding.{IsWithOverrides, overrides_in}
 use Rattle.cvss_bytes.proofs.CanonicalLemmas.{front_v40}
 

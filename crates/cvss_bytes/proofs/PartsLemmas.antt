@@ -2,12 +2,12 @@
 use Rattle.std.proofs.Common.{◌≡◌, ℕ, Bool, true, false, List, codes, Option, Some, None, bytes_eq, if◌then◌else◌, refl, ap, ◌∙◌}
 use Rattle.std.specs.Option.{option_map, option_and_then}
 use Rattle.cvss_base.specs.Version.{Version}
-use Rattle.cvss.specs.VectorTypeV2 as vector_v2
-use Rattle.cvss.specs.VectorTypeV3 as vector_v3
-use Rattle.cvss.specs.VectorTypeV4 as vector_v4
-use Rattle.cvss.specs.VectorV2.{v2}
-use Rattle.cvss.specs.VectorV3.{v3}
-use Rattle.cvss.specs.VectorV4.{v4}
+use Rattle.cvss_v2.specs.declared.vector.Vector as vector_v2
+use Rattle.cvss_v3.specs.declared.vector.Vector as vector_v3
+use Rattle.cvss_v4.specs.declared.vector.Vector as vector_v4
+use Rattle.cvss_v2.specs.Vector.{v2}
+use Rattle.cvss_v3.specs.Vector.{v3}
+use Rattle.cvss_v4.specs.Vector.{v4}
 use Rattle.cvss_v2.specs.private.VectorLaws as laws_v2
 use Rattle.cvss_v3.specs.private.VectorLaws as laws_v3
 use Rattle.cvss_v4.specs.private.VectorLaws as laws_v4

@@ -1,22 +1,22 @@
 -- How a reason that was found is told: by its error, or as want of memory where it carries a part of the text.
 use Rattle.std.proofs.Common.{◌≡◌, ◌≤◌, ℕ, List, ◌++◌, codes, true, Option, IfSome, inl, inr, refl, sym, ap, ◌∙◌, subst, append_assoc, true≢false, rules}
 use Rattle.std.specs.Fmt.{decimal}
-use Rattle.cvss.specs.Bytes.{TellsWhyNot}
-use Rattle.cvss.specs.BytesErrorType.TheVariants.{Invalid}
-use Rattle.cvss.specs.Dispatch.{cvss_reason}
-use Rattle.cvss.specs.ErrorType.{Error}
-use Rattle.cvss.specs.ErrorType.TheVariants.{DuplicateMetricV4, MissingMandatoryMetricV4}
-use Rattle.cvss.specs.MetricTypeV4 as metric_v4
-use Rattle.cvss.specs.OverrideErrorTypeV4.{OverrideError}
-use Rattle.cvss.specs.OverrideErrorTypeV4.TheVariants.{NotEnvironmental, Refused}
-use Rattle.cvss.specs.OverridingV4.{Objection, OfOtherGroup, OfText, TellsObjection}
-use Rattle.cvss.specs.Refusal.{Refusal, Repeated, Missing, carries_text}
-use Rattle.cvss.specs.Told.{Tells, reason_told}
-use Rattle.cvss.specs.TypesV4.{v4_reason}
-use Rattle.cvss.specs.MetricTypeAny.{MetricType}
-use Rattle.cvss.specs.MetricTypeAny.TheVariants.{V4}
-use Rattle.cvss.specs.CvssType.{Cvss}
-use Rattle.cvss.specs.CvssType.TheVariants.{CvssV40}
+use Rattle.cvss_any.specs.Bytes.{TellsWhyNot}
+use Rattle.cvss_any.specs.declared.bytes_error.BytesError.TheVariants.{Invalid}
+use Rattle.cvss_any.specs.Dispatch.{cvss_reason}
+use Rattle.cvss_base.specs.declared.error.Error.{Error}
+use Rattle.cvss_base.specs.declared.error.Error.TheVariants.{DuplicateMetricV4, MissingMandatoryMetricV4}
+use Rattle.cvss_base.specs.declared.v4.MetricType as metric_v4
+use Rattle.cvss_v4.specs.declared.vector.overriding.OverrideError.{OverrideError}
+use Rattle.cvss_v4.specs.declared.vector.overriding.OverrideError.TheVariants.{NotEnvironmental, Refused}
+use Rattle.cvss_v4.specs.Overriding.{Objection, OfOtherGroup, OfText, TellsObjection}
+use Rattle.cvss_base.specs.Refusal.{Refusal, Repeated, Missing, carries_text}
+use Rattle.cvss_base.specs.Told.{Tells, reason_told}
+use Rattle.cvss_base.specs.V4Types.{v4_reason}
+use Rattle.cvss_any.specs.declared.metric_type.MetricType.{MetricType}
+use Rattle.cvss_any.specs.declared.metric_type.MetricType.TheVariants.{V4}
+use Rattle.cvss_any.specs.declared.vector.Cvss.{Cvss}
+use Rattle.cvss_any.specs.declared.vector.Cvss.TheVariants.{CvssV40}
 use Rattle.cvss_bytes.specs.Overriding.{IsOverrideReason}
 use Rattle.cvss_bytes.specs.Refusals.{IsSaid, IsSaidOf}
 use Rattle.cvss_bytes.specs.declared.overriding.Unfit.TheVariants.{Override}

@@ -1,8 +1,8 @@
 -- Records nest no deeper than a reader goes.
 use Rattle.std.proofs.Common.{◌≤◌, ℕ, List, [], ◌∷◌, ◌++◌, map, Option, Some, None, ap, arith}
-use Rattle.cvss.specs.Answers.{metrics_of}
-use Rattle.cvss.specs.MetricTypeAny.{MetricType}
-use Rattle.cvss.specs.CvssType.{Cvss}
+use Rattle.cvss_any.specs.Answers.{metrics_of}
+use Rattle.cvss_any.specs.declared.metric_type.MetricType.{MetricType}
+use Rattle.cvss_any.specs.declared.vector.Cvss.{Cvss}
 use Rattle.cvss_bytes.proofs.DepthLemmas.{AreWithin, object_within, within-append, within-if}
 use Rattle.cvss_record.specs.Groups.{has_group, severity_member}
 use Rattle.cvss_record.specs.Record.{IsRecordOf, group_members, is_rated, metric_member, optional_members, rating_value, vector_members}

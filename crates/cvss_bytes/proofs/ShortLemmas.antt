@@ -3,13 +3,13 @@ use Rattle.std.proofs.Common.{◌≡◌, ◌≤◌, ◌*◌, List, [], ◌∷◌
 use Rattle.std.specs.Option.{option_map}
 use Rattle.std.specs.Prelude.{leb}
 use Rattle.std.proofs.lemmas.Bool.Decides.{nat_tests}
-use Rattle.cvss.specs.MetricTypeV2.TheVariants as metric_v2
-use Rattle.cvss.specs.MetricTypeV3.TheVariants as metric_v3
-use Rattle.cvss.specs.MetricTypeV4.TheVariants as metric_v4
-use Rattle.cvss.specs.VectorTypeV4.{Vector}
-use Rattle.cvss.specs.VectorV2.{v2}
-use Rattle.cvss.specs.VectorV3.{v3}
-use Rattle.cvss.specs.VectorV4.{v4}
+use Rattle.cvss_base.specs.declared.v2.MetricType.TheVariants as metric_v2
+use Rattle.cvss_base.specs.declared.v3.MetricType.TheVariants as metric_v3
+use Rattle.cvss_base.specs.declared.v4.MetricType.TheVariants as metric_v4
+use Rattle.cvss_v4.specs.declared.vector.Vector.{Vector}
+use Rattle.cvss_v2.specs.Vector.{v2}
+use Rattle.cvss_v3.specs.Vector.{v3}
+use Rattle.cvss_v4.specs.Vector.{v4}
 use Rattle.cvss_base.specs.Text.{component}
 use Rattle.cvss_base.specs.Version.{Version, canonical_text}
 use Rattle.cvss_text.specs.private.Printing.{slashed, slashed_text, slashed_texts}

@@ -2,7 +2,7 @@
 use Rattle.std.specs.Prelude.{◌≡◌, ◌⊎◌, ℕ, List, Some}
 use Rattle.json.specs.Lex.{tokens}
 use Rattle.json.specs.Print.{print}
-use Rattle.cvss.specs.CvssType.{Cvss}
+use Rattle.cvss_any.specs.declared.vector.Cvss.{Cvss}
 use Rattle.cvss_account.specs.Account.{IsAccountOf}
 use Rattle.cvss_bytes.specs.Records.{no_memory_text}
 use Rattle.serde_json.specs.Data.{Members, object}

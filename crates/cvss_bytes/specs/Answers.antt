@@ -1,12 +1,12 @@
 -- What is answered to a text: something of the vector that it denotes, or why it denotes none.
 use Rattle.std.specs.Prelude.{◌≡◌, ℕ, ◌⊎◌, ◌++◌, List, codes}
 use Rattle.std.specs.Str.{IsUtf8}
-use Rattle.cvss.specs.Answers.{IsScoreOf, score_of_tenths, vector_answer}
-use Rattle.cvss.specs.CvssType.{Cvss}
-use Rattle.cvss.specs.Dispatch.{DenotesCvss, IsFirstRefusalCvss, cvss_reason}
-use Rattle.cvss.specs.ErrorText.{error_text}
-use Rattle.cvss.specs.ErrorType.{Error}
-use Rattle.cvss.specs.Told.{TellsFirst}
+use Rattle.cvss_any.specs.Answers.{IsScoreOf, score_of_tenths, vector_answer}
+use Rattle.cvss_any.specs.declared.vector.Cvss.{Cvss}
+use Rattle.cvss_any.specs.Dispatch.{DenotesCvss, IsFirstRefusalCvss, cvss_reason}
+use Rattle.cvss_base.specs.ErrorText.{error_text}
+use Rattle.cvss_base.specs.declared.error.Error.{Error}
+use Rattle.cvss_base.specs.Told.{TellsFirst}
 
 -- the text denotes a vector, of which this holds
 pub record IsAccepted (text : List ℕ) (IsOf : Cvss → Type 0) : Type 0 where

@@ -5,11 +5,11 @@ use Rattle.std.specs.List.{filter_map}
 use Rattle.std.specs.Option.{option_and_then}
 use Rattle.cvss_base.specs.Text.{component, joined}
 use Rattle.cvss_base.specs.Version.{Version, components_of, held}
-use Rattle.cvss.specs.VectorV2.{v2}
-use Rattle.cvss.specs.VectorV3.{v3}
-use Rattle.cvss.specs.VectorV4.{v4}
-use Rattle.cvss.specs.CvssType.{Cvss}
-use Rattle.cvss.specs.CvssType.TheVariants.{CvssV20, CvssV30, CvssV31, CvssV40}
+use Rattle.cvss_v2.specs.Vector.{v2}
+use Rattle.cvss_v3.specs.Vector.{v3}
+use Rattle.cvss_v4.specs.Vector.{v4}
+use Rattle.cvss_any.specs.declared.vector.Cvss.{Cvss}
+use Rattle.cvss_any.specs.declared.vector.Cvss.TheVariants.{CvssV20, CvssV30, CvssV31, CvssV40}
 
 -- the spelling of a value, unless it says that the metric is not defined
 abbrev pub if_defined : List ℕ → List ℕ → Option (List ℕ)

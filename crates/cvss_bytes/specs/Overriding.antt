@@ -2,12 +2,12 @@
 -- sections 4 and 7.
 use Rattle.std.specs.Prelude.{◌≡◌, ◌⊎◌, ℕ, List, [], ◌∷◌, codes}
 use Rattle.std.specs.Str.{IsUtf8}
-use Rattle.cvss.specs.OverrideErrorTypeV4.{OverrideError}
-use Rattle.cvss.specs.OverridingV4.{AreOverrides, IsOverridden, TellsFirstObjection, override_error_text}
-use Rattle.cvss.specs.Text.{pieces}
-use Rattle.cvss.specs.VectorTypeV4.{Vector}
-use Rattle.cvss.specs.CvssType.{Cvss}
-use Rattle.cvss.specs.CvssType.TheVariants.{CvssV40}
+use Rattle.cvss_v4.specs.declared.vector.overriding.OverrideError.{OverrideError}
+use Rattle.cvss_v4.specs.Overriding.{AreOverrides, IsOverridden, TellsFirstObjection, override_error_text}
+use Rattle.cvss_base.specs.Text.{pieces}
+use Rattle.cvss_v4.specs.declared.vector.Vector.{Vector}
+use Rattle.cvss_any.specs.declared.vector.Cvss.{Cvss}
+use Rattle.cvss_any.specs.declared.vector.Cvss.TheVariants.{CvssV40}
 use Rattle.cvss_bytes.specs.Answers.{IsNoText}
 
 -- the overrides that a text has: its pieces, and none where it is empty

@@ -1,10 +1,10 @@
 -- What kind of refusal a text gets, and of which metric: as numbers and names for C.
 use Rattle.std.specs.Prelude.{◌≡◌, ◌⊎◌, ℕ, ℤ, pos, true, List, []}
 use Rattle.std.specs.Str.{IsUtf8}
-use Rattle.cvss.specs.Dispatch.{IsFirstRefusalCvss}
-use Rattle.cvss.specs.MetricTypes.{name_of}
-use Rattle.cvss.specs.Refusal.{Refusal, BadComponent, WrongPrefix, WrongVersion, UnknownName, BadValue, Repeated, Missing, carries_text}
-use Rattle.cvss.specs.MetricTypeAny.{MetricType}
+use Rattle.cvss_any.specs.Dispatch.{IsFirstRefusalCvss}
+use Rattle.cvss_any.specs.MetricTypes.{name_of}
+use Rattle.cvss_base.specs.Refusal.{Refusal, BadComponent, WrongPrefix, WrongVersion, UnknownName, BadValue, Repeated, Missing, carries_text}
+use Rattle.cvss_any.specs.declared.metric_type.MetricType.{MetricType}
 
 -- the number of a reason's kind
 abbrev pub kind_number : Refusal MetricType → ℤ

@@ -1,27 +1,27 @@
 -- The scores of a vector as C sees them: whole tenths, and numbers for versions, ratings and nomenclatures.
 use Rattle.std.specs.Prelude.{◌≡◌, ◌⊎◌, ◌*ℤ◌, ◌^◌, ℤ, pos, negsuc, [], ◌∷◌, IsSome}
-use Rattle.cvss.specs.CvssType.{Cvss}
-use Rattle.cvss.specs.CvssType.TheVariants.{CvssV20, CvssV30, CvssV31, CvssV40}
-use Rattle.cvss.specs.MergingV4.{effective_of}
-use Rattle.cvss.specs.NomenclatureTypeV4.{Nomenclature}
-use Rattle.cvss.specs.NomenclatureTypeV4.TheVariants.{CvssB, CvssBE, CvssBT, CvssBTE}
-use Rattle.cvss.specs.NomenclatureV4.{nomenclature_of}
-use Rattle.cvss.specs.Rating.{rating_of_score}
-use Rattle.cvss.specs.RatingV2.{rating_of}
-use Rattle.cvss.specs.ScoresV2 as scores_v2
-use Rattle.cvss.specs.ScoresV3 as scores_v3
-use Rattle.cvss.specs.ScoresV4.{IsScore}
+use Rattle.cvss_any.specs.declared.vector.Cvss.{Cvss}
+use Rattle.cvss_any.specs.declared.vector.Cvss.TheVariants.{CvssV20, CvssV30, CvssV31, CvssV40}
+use Rattle.cvss_v4.specs.Merging.{effective_of}
+use Rattle.cvss_score.specs.declared.v4.nomenclature.Nomenclature.{Nomenclature}
+use Rattle.cvss_score.specs.declared.v4.nomenclature.Nomenclature.TheVariants.{CvssB, CvssBE, CvssBT, CvssBTE}
+use Rattle.cvss_v4.specs.Nomenclature.{nomenclature_of}
+use Rattle.cvss_base.specs.Rating.{rating_of_score}
+use Rattle.cvss_score.specs.v2.Rating.{rating_of}
+use Rattle.cvss_score.specs.v2.Scores as scores_v2
+use Rattle.cvss_score.specs.v3.Scores as scores_v3
+use Rattle.cvss_score.specs.v4.Scores.{IsScore}
 use Rattle.cvss_base.specs.declared.severity.Severity.{Severity}
 use Rattle.cvss_base.specs.declared.severity.Severity.TheVariants.{None, Low, Medium, High, Critical}
-use Rattle.cvss.specs.Tenths.{IsInTenths, IsFromZeroToTen}
-use Rattle.cvss.specs.VectorTypeV2 as vector_v2
-use Rattle.cvss.specs.VectorTypeV3 as vector_v3
-use Rattle.cvss.specs.VectorTypeV4 as vector_v4
-use Rattle.cvss.specs.VectorV2.{v2}
-use Rattle.cvss.specs.VectorV4.{v4}
-use Rattle.cvss.specs.Version.{IsComplete}
-use Rattle.cvss.specs.WeightsV2 as weights_v2
-use Rattle.cvss.specs.WeightsV3 as weights_v3
+use Rattle.cvss_base.specs.Tenths.{IsInTenths, IsFromZeroToTen}
+use Rattle.cvss_v2.specs.declared.vector.Vector as vector_v2
+use Rattle.cvss_v3.specs.declared.vector.Vector as vector_v3
+use Rattle.cvss_v4.specs.declared.vector.Vector as vector_v4
+use Rattle.cvss_v2.specs.Vector.{v2}
+use Rattle.cvss_v4.specs.Vector.{v4}
+use Rattle.cvss_base.specs.Version.{IsComplete}
+use Rattle.cvss_v2.specs.Weights as weights_v2
+use Rattle.cvss_v3.specs.VectorWeights as weights_v3
 use Rattle.cvss_bytes.specs.declared.scores.CvssScores.{CvssScores}
 
 -- what stands for nothing: -1

@@ -1,8 +1,8 @@
 //! The line that the program answers to a text.
 
 ghost use Rattle.std.specs.Prelude.{◌≤◌, ◌+◌, ◌++◌, ℕ, List, codes, length};
-ghost use Rattle.cvss.specs.Answers.{HasScore};
-ghost use Rattle.cvss.specs.Dispatch.{DenotesCvss};
+ghost use Rattle.cvss_any.specs.Answers.{HasScore};
+ghost use Rattle.cvss_any.specs.Dispatch.{DenotesCvss};
 ghost use Rattle.cvss_bytes.specs.Answers.{IsAnswer, IsAnswerOf};
 ghost use Rattle.cvss_bytes.specs.Buffer.{IsWritten};
 ghost use Rattle.cvss_bytes.specs.private.Steps.{IsRated, Puts};
@@ -10,8 +10,8 @@ ghost use Rattle.cvss_bytes.specs.private.Steps.{IsRated, Puts};
 use crate::buffer::put;
 use crate::canonical::put_canonical;
 use crate::reason::put_reason;
-use cvss::Cvss;
-use cvss::tenths::{tenths_of, text_of};
+use cvss_any::Cvss;
+use cvss_base::tenths::{tenths_of, text_of};
 use std::alloc::Global;
 
 /// Writes the answer to a text at the beginning of a buffer where it fits, and tells its length.

@@ -1,18 +1,19 @@
 //! The canonical text of a vector that was read.
 
 ghost use Rattle.std.specs.Prelude.{◌≡◌, ◌≤◌, IfNone, IfSome, length};
-ghost use Rattle.cvss.specs.Answers.{HasScore, text_of};
-ghost use Rattle.cvss.specs.Dispatch.{DenotesCvss};
-ghost use Rattle.cvss.specs.Version.{canonical_text, IsComplete};
-ghost use Rattle.cvss.specs.VectorV2.{v2};
+ghost use Rattle.cvss_any.specs.Answers.{HasScore, text_of};
+ghost use Rattle.cvss_any.specs.Dispatch.{DenotesCvss};
+ghost use Rattle.cvss_base.specs.Version.{canonical_text, IsComplete};
+ghost use Rattle.cvss_v2.specs.Vector.{v2};
 ghost use Rattle.cvss_bytes.specs.Answers.{IsRefused};
 ghost use Rattle.cvss_bytes.specs.Buffer.{HasPut, IsWritten};
 ghost use Rattle.cvss_bytes.specs.private.Steps.{IsRead};
 
 use crate::buffer::{put, put_behind, put_printed};
-use cvss::v2::metric::Spelled;
-use cvss::{Cvss, v2};
+use crate::v2;
+use cvss_any::Cvss;
 use cvss_text::walk::Components;
+use cvss_v2_metric::Spelled;
 
 /// The vector that a text denotes, if there is one. Its canonical text, which is as long as the text,
 /// is written at the beginning of a buffer where it fits. It takes no memory.

@@ -9,7 +9,7 @@ ghost use Rattle.cvss_bytes.specs.private.Steps.{IsRead, Puts, PutsParts, define
 
 use crate::buffer::{LONGEST, put, put_both, put_components};
 use crate::metrics::spelled;
-use cvss::Cvss;
+use cvss_any::Cvss;
 use cvss_text::print::Printed;
 
 /// How a metric of CVSS v2 is spelled that is not defined.

@@ -1,20 +1,19 @@
 //! Laws of the calls, each the contract of a function that does nothing.
 
 ghost use Rattle.std.specs.Prelude.{◌≡◌, codes};
-ghost use Rattle.cvss.specs.MergingV4.{effective_of};
-ghost use Rattle.cvss.specs.VectorTypeV2 as vector_v2;
-ghost use Rattle.cvss.specs.VectorTypeV3 as vector_v3;
-ghost use Rattle.cvss.specs.VectorTypeV4 as vector_v4;
-ghost use Rattle.cvss.specs.VectorV2.{v2};
-ghost use Rattle.cvss.specs.VectorV3.{v3};
-ghost use Rattle.cvss.specs.VectorV4.{v4};
-ghost use Rattle.cvss.specs.WeightsV2 as weights_v2;
-ghost use Rattle.cvss.specs.WeightsV3 as weights_v3;
+ghost use Rattle.cvss_v4.specs.Merging.{effective_of};
+ghost use Rattle.cvss_v2.specs.declared.vector.Vector as vector_v2;
+ghost use Rattle.cvss_v3.specs.declared.vector.Vector as vector_v3;
+ghost use Rattle.cvss_v4.specs.declared.vector.Vector as vector_v4;
+ghost use Rattle.cvss_v2.specs.Vector.{v2};
+ghost use Rattle.cvss_v3.specs.Vector.{v3};
+ghost use Rattle.cvss_v4.specs.Vector.{v4};
+ghost use Rattle.cvss_v2.specs.Weights as weights_v2;
+ghost use Rattle.cvss_v3.specs.VectorWeights as weights_v3;
 ghost use Rattle.cvss_base.specs.Equality.{ClonesAlways, ClonesByValue};
 ghost use Rattle.cvss_bytes.specs.laws.DefinedParts.{HasDefinedOf, IsPrintedAsLess};
 
-use crate::{CvssMetric, CvssScores};
-use cvss::{v2, v3, v4};
+use crate::{CvssMetric, CvssScores, v2, v3, v4};
 use cvss_text::walk::Components;
 
 /// For each vector there is one that has its defined metrics, and no others.
@@ -47,9 +46,9 @@ pub fn undefined_metrics_change_no_score()
 {
     spellings_differ::<v2::Vector>();
     spellings_differ::<v3::Vector>();
-    v2::laws::not_defined_weighs_as_absent();
-    v3::laws::not_defined_weighs_as_absent();
-    v4::laws::not_defined_scores_as_absent();
+    cvss_laws::v2::not_defined_weighs_as_absent();
+    cvss_laws::v3::not_defined_weighs_as_absent();
+    cvss_laws::v4::not_defined_scores_as_absent();
 }
 
 /// A clone of scores or of a metric is that value.

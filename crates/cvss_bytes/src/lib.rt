@@ -19,5 +19,8 @@ pub mod reason;
 pub mod refusal;
 pub mod scores;
 
+use cvss_v2 as v2;
+use cvss_v3 as v3;
+use cvss_v4 as v4;
 pub use metrics::CvssMetric;
 pub use scores::CvssScores;

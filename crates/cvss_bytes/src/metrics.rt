@@ -7,7 +7,7 @@ ghost use Rattle.cvss_bytes.specs.Buffer.{IsWritten};
 ghost use Rattle.cvss_bytes.specs.Metrics.{metric_of, metrics_at, metrics_in_order, padded as padded_text};
 
 use crate::buffer::put;
-use cvss::Cvss;
+use cvss_any::Cvss;
 use cvss_text::print::Printed;
 
 /// A metric of a vector. Each text stands in eight bytes, with bytes 0 behind it.

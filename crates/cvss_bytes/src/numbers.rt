@@ -3,8 +3,9 @@
 ghost use Rattle.std.specs.Prelude.{◌≡◌};
 ghost use Rattle.cvss_bytes.specs.Scores.{nomenclature_number as number_of_nomenclature, severity_number as number_of_severity, version_number as number_of_version};
 
-use cvss::v4::Nomenclature;
-use cvss::{Cvss, Severity};
+use cvss_any::Cvss;
+use cvss_base::Severity;
+use cvss_score::v4::Nomenclature;
 
 /// What stands for nothing: a text that is refused has no version, and CVSS v4.0 no temporal score.
 pub const NOTHING: i32 = -1;

@@ -1,14 +1,14 @@
 //! The record of a vector, and the account of its score, as JSON without spaces.
 
 ghost use Rattle.std.specs.Prelude.{ℕ, List, IfOk};
-ghost use Rattle.cvss.specs.Answers.{HasScore};
+ghost use Rattle.cvss_any.specs.Answers.{HasScore};
 ghost use Rattle.cvss_bytes.specs.Accounts.{IsAccountText, IsAccountTold};
 ghost use Rattle.cvss_bytes.specs.Buffer.{IsWritten};
 ghost use Rattle.cvss_bytes.specs.Records.{IsRecordText, IsRecordTold};
 
 use crate::buffer::put_both;
-use cvss::Cvss;
 use cvss_account::account_of;
+use cvss_any::Cvss;
 use cvss_record::record_of;
 use serde_json::Value;
 use std::alloc::{AllocError, Global};

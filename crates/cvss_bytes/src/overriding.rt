@@ -1,11 +1,11 @@
 //! An organisation's own environmental metrics in place of those of a vector of CVSS v4.0.
 
 ghost use Rattle.std.specs.Prelude.{◌≡◌, ◌≤◌, ◌+◌, ◌∷◌, [], ℕ, List, IfOk, IfErr, IsOk, codes, length, map, take};
-ghost use Rattle.cvss.specs.OverridingV4.{AreOverrides, TellsFirstObjection};
-ghost use Rattle.cvss.specs.VectorTypeV4.{Vector};
-ghost use Rattle.cvss.specs.VectorV4.{v4};
-ghost use Rattle.cvss.specs.Version.{canonical_text};
-ghost use Rattle.cvss.specs.Dispatch.{DenotesCvss};
+ghost use Rattle.cvss_v4.specs.Overriding.{AreOverrides, TellsFirstObjection};
+ghost use Rattle.cvss_v4.specs.declared.vector.Vector.{Vector};
+ghost use Rattle.cvss_v4.specs.Vector.{v4};
+ghost use Rattle.cvss_base.specs.Version.{canonical_text};
+ghost use Rattle.cvss_any.specs.Dispatch.{DenotesCvss};
 ghost use Rattle.cvss_bytes.specs.Buffer.{IsLeft, IsWritten};
 ghost use Rattle.cvss_bytes.specs.Overriding.{AnswersOverridden, IsOverrideReason, IsWithOverrides, overrides_in};
 ghost use Rattle.cvss_bytes.specs.private.Overridden.{IsUnfit, place_of};
@@ -13,8 +13,9 @@ ghost use Rattle.cvss_bytes.specs.private.Reasons.{IsOverrideErrorTold, override
 
 use crate::buffer::{LONGEST, put_both, put_printed};
 use crate::reason::put_error;
-use cvss::v4::OverrideError;
-use cvss::{Cvss, v4};
+use crate::v4;
+use cvss_any::Cvss;
+use cvss_v4::OverrideError;
 use std::alloc::Global;
 
 /// One override more than a vector has environmental metrics is too many.

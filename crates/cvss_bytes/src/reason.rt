@@ -1,15 +1,16 @@
 //! Why a text is refused.
 
 ghost use Rattle.std.specs.Prelude.{◌≡◌, ◌≤◌, ◌+◌, ◌++◌, ℕ, List, MatchOption, length};
-ghost use Rattle.cvss.specs.ErrorText.{error_text};
-ghost use Rattle.cvss.specs.MetricTypes.{name_of, description_of};
+ghost use Rattle.cvss_base.specs.ErrorText.{error_text};
+ghost use Rattle.cvss_any.specs.MetricTypes.{name_of, description_of};
 ghost use Rattle.cvss_bytes.specs.Answers.{IsReason, IsRefused};
 ghost use Rattle.cvss_bytes.specs.Buffer.{IsWritten};
 ghost use Rattle.cvss_bytes.specs.private.Reasons.{CarriesText, IsErrorTold, metric_text};
 
 use crate::buffer::{put, put_both};
-use cvss::MetricType::{V2, V3, V4};
-use cvss::{BytesError, Cvss, Error, MetricType};
+use cvss_any::MetricType::{V2, V3, V4};
+use cvss_any::{BytesError, Cvss, MetricType};
+use cvss_base::Error;
 use std::alloc::Global;
 
 /// Writes a first text and the reason behind it at the beginning of a buffer where both fit, and

@@ -1,14 +1,15 @@
 //! What kind of refusal a text gets, and of which metric.
 
 ghost use Rattle.std.specs.Prelude.{[]};
-ghost use Rattle.cvss.specs.Dispatch.{cvss_reason};
-ghost use Rattle.cvss.specs.Refusal.{Refusal};
-ghost use Rattle.cvss.specs.Told.{Tells};
-ghost use Rattle.cvss.specs.MetricTypeAny.{MetricType};
+ghost use Rattle.cvss_any.specs.Dispatch.{cvss_reason};
+ghost use Rattle.cvss_base.specs.Refusal.{Refusal};
+ghost use Rattle.cvss_base.specs.Told.{Tells};
+ghost use Rattle.cvss_any.specs.declared.metric_type.MetricType.{MetricType};
 ghost use Rattle.cvss_bytes.specs.Answers.{IsRefused};
 ghost use Rattle.cvss_bytes.specs.Refusals.{IsBlamed, IsKind, IsSaid, blamed_name, kind_number as number_of_kind, no_memory};
 
-use cvss::{BytesError, Cvss, Error};
+use cvss_any::{BytesError, Cvss};
+use cvss_base::Error;
 use std::alloc::Global;
 
 /// The number of a text that denotes a vector.

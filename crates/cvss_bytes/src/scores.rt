@@ -1,16 +1,17 @@
 //! The scores of a vector, as C sees them.
 
 ghost use Rattle.std.specs.Prelude.{◌≡◌, ◌↔◌, IsTrue};
-ghost use Rattle.cvss.specs.Tenths.{IsInTenths, IsFromZeroToTen};
-ghost use Rattle.cvss.specs.Version.{IsComplete};
-ghost use Rattle.cvss.specs.VectorV2.{v2};
-ghost use Rattle.cvss.specs.VectorV4.{v4};
+ghost use Rattle.cvss_base.specs.Tenths.{IsInTenths, IsFromZeroToTen};
+ghost use Rattle.cvss_base.specs.Version.{IsComplete};
+ghost use Rattle.cvss_v2.specs.Vector.{v2};
+ghost use Rattle.cvss_v4.specs.Vector.{v4};
 ghost use Rattle.cvss_bytes.specs.Scores.{AreScoresOf, AreScoresV2, AreScoresV3, AreScoresV4, HasBaseMetrics, count_of};
 ghost use Rattle.cvss_bytes.specs.private.Steps.{IsRead};
 
 use crate::numbers::{NOTHING, nomenclature_number, severity_number};
-use cvss::tenths::tenths_of;
-use cvss::{Cvss, v2, v3, v4};
+use crate::{v2, v3, v4};
+use cvss_any::Cvss;
+use cvss_base::tenths::tenths_of;
 
 /// The version, the scores and the ratings of a vector. Scores are in tenths, from 0 to 100; ratings
 /// are 0 for none, 1 low, 2 medium, 3 high, 4 critical.

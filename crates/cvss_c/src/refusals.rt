@@ -6,7 +6,7 @@ ghost use Rattle.cvss_bytes.specs.Buffer.{IsLeft, IsWritten};
 ghost use Rattle.cvss_bytes.specs.Overriding.{AnswersOverridden, IsOverrideReason};
 ghost use Rattle.cvss_bytes.specs.Refusals.{IsBlamed, IsKind};
 
-use cvss::Cvss;
+use cvss_any::Cvss;
 use cvss_bytes::buffer::put_both;
 use cvss_bytes::overriding::put_override_reason;
 use cvss_bytes::reason::put_reason;

@@ -1,11 +1,11 @@
 //! What C is told of the vector that a text denotes.
 
 ghost use Rattle.std.specs.Prelude.{◌≡◌, ℕ, List, length, true, false};
-ghost use Rattle.cvss.specs.Answers.{text_of};
-ghost use Rattle.cvss.specs.Dispatch.{DenotesCvss};
-ghost use Rattle.cvss.specs.VectorV4.{v4};
-ghost use Rattle.cvss.specs.Version.{canonical_text};
-ghost use Rattle.cvss.specs.CvssType.{Cvss};
+ghost use Rattle.cvss_any.specs.Answers.{text_of};
+ghost use Rattle.cvss_any.specs.Dispatch.{DenotesCvss};
+ghost use Rattle.cvss_v4.specs.Vector.{v4};
+ghost use Rattle.cvss_base.specs.Version.{canonical_text};
+ghost use Rattle.cvss_any.specs.declared.vector.Cvss.{Cvss};
 ghost use Rattle.cvss_bytes.specs.Accounts.{IsAccountTold};
 ghost use Rattle.cvss_bytes.specs.Answers.{Answers};
 ghost use Rattle.cvss_bytes.specs.Buffer.{IsLeft, IsWritten};
@@ -15,7 +15,7 @@ ghost use Rattle.cvss_bytes.specs.Overriding.{AnswersOverridden};
 ghost use Rattle.cvss_bytes.specs.Records.{IsRecordTold};
 ghost use Rattle.cvss_bytes.specs.Scores.{AreScoresOf, nothing, version_number as number_of_version};
 
-use cvss::Cvss;
+use cvss_any::Cvss;
 use cvss_bytes::canonical::put_canonical_of;
 use cvss_bytes::defined::put_without_undefined;
 use cvss_bytes::metrics::put_metrics;

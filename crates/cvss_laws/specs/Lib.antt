@@ -1,3 +1,4 @@
+pub mod any
 pub mod v2
 pub mod v3
 pub mod v4

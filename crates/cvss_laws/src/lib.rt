@@ -2,6 +2,7 @@
 //! proof that needs a law calls it. No code of the library rests on them.
 #![tactic(auto)]
 
+pub mod any;
 pub mod number;
 pub mod v2;
 pub mod v3;

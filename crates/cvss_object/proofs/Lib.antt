@@ -1,3 +1,4 @@
+pub mod ObjectLemmas
 mod OneLineLemmas
 mod PrintsLemmas
 mod PartsLemmas

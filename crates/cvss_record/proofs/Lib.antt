@@ -1,5 +1,3 @@
-mod FloatLemmas
-pub mod ObjectLemmas
 mod PointerLemmas
 mod PlacesLemmas
 mod TellingLemmas

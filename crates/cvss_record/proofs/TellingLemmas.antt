@@ -1,26 +1,27 @@
 -- A record holds the text of its vector, which no other of its members has the name of.
 use Rattle.std.proofs.Common.{◌≡◌, ◌↔◌, ℕ, List, [], ◌∷◌, ◌++◌, codes, map, Bool, true, false, cond, Option, Some, None, bytes_eq, true≢false, refl, sym, ap, ◌∙◌}
 use Rattle.std.proofs.lemmas.Slice.Eq.{bytes_eq-Decides}
-use Rattle.cvss.specs.Answers.{metrics_of, text_of}
-use Rattle.cvss.specs.Dispatch.{DenotesCvss}
-use Rattle.cvss.specs.laws.GivenBack.{IsGivenBack}
-use Rattle.cvss.specs.MetricTypeAny.{MetricType}
-use Rattle.cvss.specs.MetricTypeAny.TheVariants.{V2, V3, V4}
-use Rattle.cvss.specs.CvssType.{Cvss}
+use Rattle.cvss_any.specs.Answers.{metrics_of, text_of}
+use Rattle.cvss_any.specs.Dispatch.{DenotesCvss}
+use Rattle.cvss_laws.specs.any.GivenBack.{IsGivenBack}
+use Rattle.cvss_any.specs.declared.metric_type.MetricType.{MetricType}
+use Rattle.cvss_any.specs.declared.metric_type.MetricType.TheVariants.{V2, V3, V4}
+use Rattle.cvss_any.specs.declared.vector.Cvss.{Cvss}
 use Rattle.cvss_base.specs.declared.v2.MetricType.TheVariants as metric_v2
 use Rattle.cvss_base.specs.declared.v3.MetricType.TheVariants as metric_v3
 use Rattle.cvss_base.specs.declared.v4.MetricType.TheVariants as metric_v4
+use Rattle.cvss_words.specs.Versions.{version_of}
 use Rattle.serde_json.proofs.Views.{get_member-put, get_member-put_other}
 use Rattle.serde_json.specs.Data.{Data, Members, no_members, put, string}
 use Rattle.serde_json.specs.Find.{as_str, get, get_member}
 use Rattle.cvss_record.specs.Groups.{has_group, score_member, severity_member}
 use Rattle.cvss_record.specs.Members.{member_of}
-use Rattle.cvss_record.specs.Objects.{Member, with_members}
-use Rattle.cvss_record.specs.Record.{IsRecordOf, group_members, is_rated, metric_member, optional_members, record_members, version_of}
+use Rattle.cvss_object.specs.Objects.{Member, with_members}
+use Rattle.cvss_record.specs.Record.{IsRecordOf, group_members, is_rated, metric_member, optional_members, record_members}
 use Rattle.cvss_record.specs.declared.group.Group.{Group}
 use Rattle.cvss_record.specs.declared.group.Group.TheVariants.{Base, Temporal, Environmental}
 use Rattle.cvss_record.specs.declared.score.Scores.{Scores}
-use Rattle.cvss_record.proofs.ObjectLemmas.{with_members-append}
+use Rattle.cvss_object.proofs.ObjectLemmas.{with_members-append}
 
 -- the name of the member that holds the text
 abbrev text_name : List ℕ

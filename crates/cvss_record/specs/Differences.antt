@@ -2,16 +2,17 @@
 use Rattle.std.specs.Prelude.{◌≡◌, ℕ, Bool, not, ◌&&◌, List, [], ◌∷◌, ◌++◌, codes, bytes_eq, if◌then◌else◌, is_some, Option, Some, None, option_and_then}
 use Rattle.std.specs.List.{filter_map, list_any}
 use Rattle.std.specs.Option.{option_to_list}
-use Rattle.cvss.specs.CvssType.{Cvss}
-use Rattle.cvss.specs.CvssType.TheVariants.{CvssV20, CvssV30, CvssV31, CvssV40}
+use Rattle.cvss_any.specs.declared.vector.Cvss.{Cvss}
+use Rattle.cvss_any.specs.declared.vector.Cvss.TheVariants.{CvssV20, CvssV30, CvssV31, CvssV40}
 use Rattle.serde_json.specs.Data.{Data, Members, no_members, member, string}
 use Rattle.serde_json.specs.Find.{as_number, get_member}
 use Rattle.serde_json.specs.View.{view}
 use Rattle.cvss_record.specs.Due.{Due, text, score, agrees, due_at, due_value, rating_due}
 use Rattle.cvss_record.specs.Groups.{AreScoresOf}
-use Rattle.cvss_record.specs.Objects.{Member}
+use Rattle.cvss_object.specs.Objects.{Member}
 use Rattle.cvss_record.specs.Places.{Around, Place}
-use Rattle.cvss_record.specs.Record.{is_rated, version_of}
+use Rattle.cvss_record.specs.Record.{is_rated}
+use Rattle.cvss_words.specs.Versions.{version_of}
 use Rattle.cvss_record.specs.declared.difference.Difference as code
 use Rattle.cvss_record.specs.declared.difference.Said.{Said}
 use Rattle.cvss_record.specs.declared.difference.Said.TheVariants.{Value, Name}

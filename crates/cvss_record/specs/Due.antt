@@ -3,9 +3,9 @@ use Rattle.std.specs.Prelude.{ℕ, Bool, false, ◌&&◌, List, codes, find, byt
 use Rattle.std.specs.Float.Ieee.{eq}
 use Rattle.std.specs.List.{list_any}
 use Rattle.std.specs.Option.{option_or}
-use Rattle.cvss.specs.Answers.{metrics_of, rating_by, score_of_tenths}
-use Rattle.cvss.specs.CvssType.{Cvss}
-use Rattle.cvss.specs.CvssType.TheVariants.{CvssV20, CvssV30, CvssV31, CvssV40}
+use Rattle.cvss_any.specs.Answers.{metrics_of, rating_by, score_of_tenths}
+use Rattle.cvss_any.specs.declared.vector.Cvss.{Cvss}
+use Rattle.cvss_any.specs.declared.vector.Cvss.TheVariants.{CvssV20, CvssV30, CvssV31, CvssV40}
 use Rattle.cvss_base.specs.V4Types.{declared}
 use Rattle.cvss_v2_metric.specs.Table as table_v2
 use Rattle.cvss_v3_metric.specs.Table as table_v3
@@ -16,7 +16,9 @@ use Rattle.serde_json.specs.Data.{Data, null, string}
 use Rattle.serde_json.specs.Find.{as_number, as_str, to_float}
 use Rattle.cvss_record.specs.Groups.{score_member, severity_member, tenths_at}
 use Rattle.cvss_record.specs.Members.{member_of, word_of}
-use Rattle.cvss_record.specs.Record.{is_rated, rating_word, score_number, score_value, version_of}
+use Rattle.cvss_record.specs.Record.{is_rated, rating_word}
+use Rattle.cvss_words.specs.Scores.{score_number, score_value}
+use Rattle.cvss_words.specs.Versions.{version_of}
 use Rattle.cvss_record.specs.declared.group.Group.{Group}
 use Rattle.cvss_record.specs.declared.group.Group.TheVariants.{Base, Temporal, Environmental}
 use Rattle.cvss_record.specs.declared.score.Scores.{Scores}

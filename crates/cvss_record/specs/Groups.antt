@@ -2,22 +2,22 @@
 -- section 7; v4.0 specification, section 8.2.
 use Rattle.std.specs.Prelude.{ℕ, ℤ, Bool, true, false, ◌&&◌, List, codes, Option, Some, None, is_some}
 use Rattle.std.specs.List.{list_any}
-use Rattle.cvss.specs.Answers.{score_of_tenths}
-use Rattle.cvss.specs.MergingV4.{effective_of}
-use Rattle.cvss.specs.ScoresV2 as scores_v2
-use Rattle.cvss.specs.ScoresV3 as scores_v3
-use Rattle.cvss.specs.ScoresV4.{IsScore}
-use Rattle.cvss.specs.TableV2 as table_v2
-use Rattle.cvss.specs.TableV3 as table_v3
-use Rattle.cvss.specs.Tenths.{IsInTenths}
-use Rattle.cvss.specs.TypesV2 as types_v2
-use Rattle.cvss.specs.TypesV3 as types_v3
-use Rattle.cvss.specs.VectorV2 as vector_v2
-use Rattle.cvss.specs.VectorV3 as vector_v3
-use Rattle.cvss.specs.WeightsV2 as weights_v2
-use Rattle.cvss.specs.WeightsV3 as weights_v3
-use Rattle.cvss.specs.CvssType.{Cvss}
-use Rattle.cvss.specs.CvssType.TheVariants.{CvssV20, CvssV30, CvssV31, CvssV40}
+use Rattle.cvss_any.specs.Answers.{score_of_tenths}
+use Rattle.cvss_v4.specs.Merging.{effective_of}
+use Rattle.cvss_score.specs.v2.Scores as scores_v2
+use Rattle.cvss_score.specs.v3.Scores as scores_v3
+use Rattle.cvss_score.specs.v4.Scores.{IsScore}
+use Rattle.cvss_v2_metric.specs.Table as table_v2
+use Rattle.cvss_v3_metric.specs.Table as table_v3
+use Rattle.cvss_base.specs.Tenths.{IsInTenths}
+use Rattle.cvss_base.specs.V2Types as types_v2
+use Rattle.cvss_base.specs.V3Types as types_v3
+use Rattle.cvss_v2.specs.Vector as vector_v2
+use Rattle.cvss_v3.specs.Vector as vector_v3
+use Rattle.cvss_v2.specs.Weights as weights_v2
+use Rattle.cvss_v3.specs.VectorWeights as weights_v3
+use Rattle.cvss_any.specs.declared.vector.Cvss.{Cvss}
+use Rattle.cvss_any.specs.declared.vector.Cvss.TheVariants.{CvssV20, CvssV30, CvssV31, CvssV40}
 use Rattle.cvss_base.specs.declared.group.MetricGroup.{MetricGroup}
 use Rattle.cvss_base.specs.declared.group.MetricGroup.TheVariants as metrics
 use Rattle.cvss_record.specs.declared.group.Group.{Group}

@@ -2,7 +2,6 @@ pub mod Differences
 pub mod Due
 pub mod Groups
 pub mod Members
-pub mod Objects
 pub mod Places
 pub mod PlacesLeft
 pub mod Record

@@ -1,7 +1,7 @@
 -- The members and words of FIRST's JSON schemas for the metrics of all versions.
 use Rattle.std.specs.Prelude.{ℕ, List}
-use Rattle.cvss.specs.MetricTypeAny.{MetricType}
-use Rattle.cvss.specs.MetricTypeAny.TheVariants.{V2, V3, V4}
+use Rattle.cvss_any.specs.declared.metric_type.MetricType.{MetricType}
+use Rattle.cvss_any.specs.declared.metric_type.MetricType.TheVariants.{V2, V3, V4}
 use Rattle.cvss_words.specs.Words.{Row, word_in}
 use Rattle.cvss_words.specs.WordsV2 as words_v2
 use Rattle.cvss_words.specs.WordsV3 as words_v3

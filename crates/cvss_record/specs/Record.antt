@@ -1,27 +1,20 @@
 -- The record of a vector, by FIRST's JSON schemas of CVSS v2.0, v3.0, v3.1 and v4.0.
-use Rattle.std.specs.Prelude.{◌≡◌, ℕ, Bool, true, false, List, [], ◌∷◌, ◌++◌, codes, map, pos, Option, Some, None, Float, if◌then◌else◌}
-use Rattle.std.specs.Float.{binary64}
-use Rattle.std.specs.Float.Ieee.{of_int, div}
-use Rattle.cvss.specs.Answers.{metrics_of, rating_by, score_of_tenths, text_of}
-use Rattle.cvss.specs.SeverityType.{Severity}
-use Rattle.cvss.specs.SeverityType.TheVariants as severity
-use Rattle.cvss.specs.MetricTypeAny.{MetricType}
-use Rattle.cvss.specs.CvssType.{Cvss}
-use Rattle.cvss.specs.CvssType.TheVariants.{CvssV20, CvssV30, CvssV31, CvssV40}
-use Rattle.serde_json.specs.Data.{Data, float, number, string}
+use Rattle.std.specs.Prelude.{◌≡◌, ℕ, Bool, true, false, List, [], ◌∷◌, ◌++◌, codes, map, Option, Some, None, if◌then◌else◌}
+use Rattle.cvss_any.specs.Answers.{metrics_of, rating_by, score_of_tenths, text_of}
+use Rattle.cvss_base.specs.declared.severity.Severity.{Severity}
+use Rattle.cvss_base.specs.declared.severity.Severity.TheVariants as severity
+use Rattle.cvss_any.specs.declared.metric_type.MetricType.{MetricType}
+use Rattle.cvss_any.specs.declared.vector.Cvss.{Cvss}
+use Rattle.cvss_any.specs.declared.vector.Cvss.TheVariants.{CvssV20, CvssV30, CvssV31, CvssV40}
+use Rattle.cvss_words.specs.Scores.{score_value}
+use Rattle.cvss_words.specs.Versions.{version_of}
+use Rattle.serde_json.specs.Data.{Data, string}
 use Rattle.cvss_record.specs.Groups.{AreScoresOf, has_group, score_member, severity_member}
 use Rattle.cvss_record.specs.Members.{member_of, word_of}
-use Rattle.cvss_record.specs.Objects.{Member, object_of}
+use Rattle.cvss_object.specs.Objects.{Member, object_of}
 use Rattle.cvss_record.specs.declared.group.Group.{Group}
 use Rattle.cvss_record.specs.declared.group.Group.TheVariants.{Base, Temporal, Environmental}
 use Rattle.cvss_record.specs.declared.score.Scores.{Scores}
-
--- the version that the record tells
-abbrev pub version_of : Cvss → List ℕ
-version_of (CvssV20 _) = codes "2.0"
-version_of (CvssV30 _) = codes "3.0"
-version_of (CvssV31 _) = codes "3.1"
-version_of (CvssV40 _) = codes "4.0"
 
 -- the records of the version tell ratings
 abbrev pub is_rated : Cvss → Bool
@@ -38,14 +31,7 @@ rating_word severity.Medium = codes "MEDIUM"
 rating_word severity.High = codes "HIGH"
 rating_word severity.Critical = codes "CRITICAL"
 
--- the number of a score of so many tenths: the binary64 that is nearest to it
-abbrev pub score_number : ℕ → Float
-score_number tenths = div binary64 (of_int binary64 (pos tenths)) (of_int binary64 (pos 10))
-
--- a score's value, and that of its rating
-abbrev pub score_value : ℕ → Data
-score_value tenths = number (float (score_number tenths))
-
+-- the value of a score's rating
 abbrev pub rating_value : Cvss → ℕ → Data
 rating_value cvss tenths = string (rating_word (rating_by cvss (score_of_tenths tenths)))
 

@@ -2,7 +2,7 @@
 
 ghost use Rattle.std.specs.Prelude.{◌≡◌, IfOk, OnOk, map};
 ghost use Rattle.std.specs.Option.{option_to_list};
-ghost use Rattle.cvss.specs.Answers.{HasScore};
+ghost use Rattle.cvss_any.specs.Answers.{HasScore};
 ghost use Rattle.cvss_record.specs.Differences.{AreDifferences, AreDifferencesAt, difference_at, difference_from, difference_view, github_difference, member_differences, osv_type, record_differences, score_differences, type_differences};
 ghost use Rattle.cvss_record.specs.Places.{place_view};
 ghost use Rattle.cvss_record.specs.private.Views.{Adds, due_view};
@@ -12,7 +12,7 @@ use crate::due::{Due, due_at};
 use crate::place::{Form, Place, member};
 use crate::score::Scores;
 use crate::surroundings::push_around;
-use cvss::Cvss;
+use cvss_any::Cvss;
 use serde_json::{Map, Value};
 use std::alloc::{AllocError, Global};
 

@@ -14,11 +14,14 @@ ghost use Rattle.serde_json.specs.View.{view};
 
 use crate::group::Group;
 use crate::member::{member, word};
-use crate::record::{is_rated, score_value, version};
-use crate::score::{Scores, rating, score_number};
-use cvss::{Cvss, v2, v3, v4};
+use crate::record::is_rated;
+use crate::score::{Scores, rating};
+use crate::{v2, v3, v4};
+use cvss_any::Cvss;
 use cvss_text::metrics::Listed;
-use cvss_words::{NOT_DEFINED, v2 as words_v2, v3 as words_v3, v4 as words_v4};
+use cvss_words::{
+    NOT_DEFINED, score_number, score_value, v2 as words_v2, v3 as words_v3, v4 as words_v4, version,
+};
 use serde_json::Value;
 use std::alloc::{AllocError, Global};
 

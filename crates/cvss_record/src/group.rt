@@ -2,10 +2,12 @@
 //! 7).
 
 ghost use Rattle.std.specs.Prelude.{◌≡◌};
-ghost use Rattle.cvss.specs.CvssType.TheVariants.{CvssV20, CvssV30};
+ghost use Rattle.cvss_any.specs.declared.vector.Cvss.TheVariants.{CvssV20, CvssV30};
 ghost use Rattle.cvss_record.specs.Groups.{has_group, is_given_by, score_member, severity_member};
 
-use cvss::{Cvss, MetricGroup, v2, v3};
+use crate::{v2, v3};
+use cvss_any::Cvss;
+use cvss_base::MetricGroup;
 use cvss_text::print::Printed;
 use cvss_text::walk::Components;
 

@@ -2,8 +2,8 @@
 //! it.
 
 ghost use Rattle.std.specs.Prelude.{◌≡◌, All};
-ghost use Rattle.cvss.specs.laws.GivenBack.{IsGivenBack};
-ghost use Rattle.cvss.specs.CvssType.{Cvss};
+ghost use Rattle.cvss_laws.specs.any.GivenBack.{IsGivenBack};
+ghost use Rattle.cvss_any.specs.declared.vector.Cvss.{Cvss};
 ghost use Rattle.cvss_base.specs.Equality.{ClonesAlways, ClonesByValue, EqualsByValue};
 ghost use Rattle.cvss_record.specs.Places.{places_in};
 ghost use Rattle.cvss_record.specs.Record.{IsRecordOf};
@@ -11,7 +11,7 @@ ghost use Rattle.cvss_record.specs.laws.Pointers.{HasNamesOnce, LeadsTo};
 ghost use Rattle.serde_json.specs.Data.{Data, object};
 
 use crate::{Around, Form, Group, Scores};
-use cvss::laws::texts_denote_one_vector;
+use cvss_laws::any::texts_denote_one_vector;
 
 /// A record tells its vector: two vectors that their own texts give back, as each vector is that was
 /// read from a text, are equal if one value is the record of both.

@@ -17,9 +17,13 @@ mod record;
 mod score;
 mod surroundings;
 
+use cvss_v2 as v2;
+use cvss_v3 as v3;
+use cvss_v4 as v4;
+pub use cvss_words::{score_number, score_value, version};
 pub use difference::{Difference, Said, differences, differences_at};
 pub use group::Group;
 pub use place::{Around, Form, Place};
 pub use places::{Places, vectors_in};
-pub use record::{record_of, score_value, version};
-pub use score::{Scores, score_number};
+pub use record::record_of;
+pub use score::Scores;

@@ -3,7 +3,7 @@
 ghost use Rattle.std.specs.Prelude.{◌≡◌, map};
 ghost use Rattle.cvss_record.specs.Members.{member_of, word_of, words_of};
 
-use cvss::MetricType;
+use cvss_any::MetricType;
 use cvss_words::{Row, v2, v3, v4, word_in};
 
 /// The name of the member that holds the metric's value, and the words of its values.

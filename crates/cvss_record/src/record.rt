@@ -1,16 +1,17 @@
 //! The record of a vector.
 
 ghost use Rattle.std.specs.Prelude.{◌≡◌, IfOk, OnOk, map};
-ghost use Rattle.cvss.specs.Answers.{HasScore, metrics_of};
-ghost use Rattle.cvss_record.specs.Objects.{with_members};
-ghost use Rattle.cvss_record.specs.Record.{IsRecordOf, group_members, is_rated, metric_member, optional_members, score_value, vector_members, version_of};
+ghost use Rattle.cvss_any.specs.Answers.{HasScore, metrics_of};
+ghost use Rattle.cvss_object.specs.Objects.{with_members};
+ghost use Rattle.cvss_record.specs.Record.{IsRecordOf, group_members, is_rated, metric_member, optional_members, vector_members};
 ghost use Rattle.serde_json.specs.Data.{put as with_member, string};
 ghost use Rattle.serde_json.specs.View.{members_view, view};
 
 use crate::group::Group;
 use crate::member::{member, word};
-use crate::score::{Scores, rating, score_number};
-use cvss::Cvss;
+use crate::score::{Scores, rating};
+use cvss_any::Cvss;
+use cvss_words::{score_value, version};
 use serde_json::{Map, Value, put};
 use std::alloc::{AllocError, Global};
 
@@ -38,18 +39,6 @@ pub fn record_of(alloc: Global, cvss: &Cvss) -> Result<Value, AllocError>
         scores.environmental,
     )?;
     Ok(Value::Object(members))
-}
-
-/// The version that a vector's record tells.
-pub fn version(cvss: &Cvss) -> &'static str
-    ensures { result.now ≡ version_of cvss.now }
-{
-    match cvss {
-        Cvss::CvssV20(_) => "2.0",
-        Cvss::CvssV30(_) => "3.0",
-        Cvss::CvssV31(_) => "3.1",
-        Cvss::CvssV40(_) => "4.0",
-    }
 }
 
 /// Whether records of the vector's version tell ratings.
@@ -138,11 +127,4 @@ fn put_text(
         ≡ with_member name.now (string text.now) (members_view members.old.entries)) }
 {
     put(members, alloc, name, Value::try_from_str(alloc, text)?)
-}
-
-/// The value of a score of so many tenths, as a record has it.
-pub fn score_value(tenths: u8) -> Value
-    ensures { view result ≡ score_value tenths }
-{
-    Value::from(score_number(tenths))
 }

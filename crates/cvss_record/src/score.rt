@@ -1,14 +1,14 @@
 //! The scores of a vector, as a record tells them.
 
 ghost use Rattle.std.specs.Prelude.{◌≡◌};
-ghost use Rattle.cvss.specs.Answers.{HasScore, rating_by, score_of_tenths};
+ghost use Rattle.cvss_any.specs.Answers.{HasScore, rating_by, score_of_tenths};
 ghost use Rattle.cvss_record.specs.Groups.{AreScoresOf, tenths_at};
-ghost use Rattle.cvss_record.specs.Record.{rating_word, score_number};
+ghost use Rattle.cvss_record.specs.Record.{rating_word};
 
 use crate::group::Group;
-use cvss::tenths::tenths_of;
-use cvss::{Cvss, Severity};
-use cvss_base::TENTH;
+use cvss_any::Cvss;
+use cvss_base::tenths::tenths_of;
+use cvss_base::{Severity, TENTH};
 
 /// The scores of a vector in tenths, from 0 to 100 each.
 #[derive(Clone, Copy, Debug, PartialEq, Eq)]
@@ -57,13 +57,6 @@ impl Scores {
             Group::Environmental => self.environmental,
         }
     }
-}
-
-/// The number of a score of so many tenths: the double that is nearest to it.
-pub fn score_number(tenths: u8) -> f64
-    ensures { result ≡ score_number tenths }
-{
-    tenths as f64 / 10.0
 }
 
 /// The rating that the vector's version gives a score of so many tenths, as a record tells it.

@@ -9,9 +9,10 @@ ghost use Rattle.cvss_record.specs.private.Views.{Adds};
 use crate::difference::{Difference, Said, push_if_other};
 use crate::due::Due;
 use crate::place::{Around, member};
-use crate::record::{is_rated, version};
+use crate::record::is_rated;
 use crate::score::{Scores, rating};
-use cvss::Cvss;
+use cvss_any::Cvss;
+use cvss_words::version;
 use serde_json::Value;
 use std::alloc::{AllocError, Global};
 

@@ -2,7 +2,7 @@
 
 use crate::shown::show;
 use crate::{first_word, values2, values3, values4};
-use cvss::{v2, v3, v4};
+use cvss_base::{v2, v3, v4};
 use std::{fmt, io};
 
 const NO_VERSION: &str = "no such version";

@@ -1,8 +1,9 @@
 //! Scores by themselves: how they are printed, rated and rounded.
 
 use crate::shown::print_alike;
-use cvss::v4::Nomenclature;
-use cvss::{LIMIT, OneDecimal, Severity, tenths, v2, v3, v4};
+use crate::{v2, v3, v4};
+use cvss_base::{LIMIT, OneDecimal, Severity, tenths};
+use cvss_score::v4::Nomenclature;
 use std::{fmt, io};
 
 const NO_NUMBER: &str = "no such number";

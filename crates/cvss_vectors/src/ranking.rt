@@ -1,8 +1,8 @@
 //! Triage.
 
 use crate::shown::print_error;
-use cvss::v4::Vector;
 use cvss_ranking::{Row, apply};
+use cvss_v4::Vector;
 use std::io;
 
 /// The rows of the texts, which stand behind `=`, with the overrides, which stand behind `+`.

@@ -1,9 +1,9 @@
 //! Records, what an object says otherwise, and where vectors stand.
 
-ghost use Rattle.cvss.specs.Answers.{HasScore};
+ghost use Rattle.cvss_any.specs.Answers.{HasScore};
 
 use crate::shown::print_error;
-use cvss::Cvss;
+use cvss_any::Cvss;
 use cvss_record::{Difference, Form, Place, differences, differences_at, record_of, vectors_in};
 use serde_json::Value;
 use std::io;

@@ -2,7 +2,8 @@
 
 use crate::numbers::rounded;
 use crate::shown::print_error;
-use cvss::{Cvss, v2, v3};
+use crate::{v2, v3};
+use cvss_any::Cvss;
 use std::io;
 
 /// The score of a vector as it is written, and all of its scores.

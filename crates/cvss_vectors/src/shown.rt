@@ -1,9 +1,10 @@
 //! Values beside each other: how each is printed, copied and told from the others.
 
-use crate::first_word;
 use crate::kinds::{each_kind, each_value};
-use cvss::v4::Nomenclature;
-use cvss::{Cvss, Severity, v2, v3, v4};
+use crate::{first_word, v2, v3, v4};
+use cvss_any::Cvss;
+use cvss_base::Severity;
+use cvss_score::v4::Nomenclature;
 use std::alloc::{AllocError, Global};
 use std::{fmt, io};
 

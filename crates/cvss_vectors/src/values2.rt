@@ -2,8 +2,7 @@
 
 use crate::kinds::{Asked, print_with};
 use crate::shown::{print_error, print_value, show};
-use cvss::v2::metric::{base, environmental, temporal};
-use cvss::v2::{Metric, MetricType};
+use cvss_v2_metric::{Metric, MetricType, base, environmental, temporal};
 use std::io;
 
 /// Tells of the metric of a name, or of its values.

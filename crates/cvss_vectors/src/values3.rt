@@ -2,9 +2,8 @@
 
 use crate::kinds::{Asked, print_with};
 use crate::shown::{print_error, print_value, show};
-use cvss::v3::metric::environmental::Modified;
-use cvss::v3::metric::{base, environmental, temporal};
-use cvss::v3::{Metric, MetricType};
+use cvss_v3_metric::environmental::Modified;
+use cvss_v3_metric::{Metric, MetricType, base, environmental, temporal};
 use std::io;
 
 /// Tells of the metric of a name, or of its values.

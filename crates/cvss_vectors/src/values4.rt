@@ -2,12 +2,11 @@
 
 use crate::kinds::{Asked, print_with};
 use crate::shown::{print_error, show};
-use cvss::v4::MetricType;
-use cvss::v4::metric::Metric;
-use cvss::v4::metric::base::*;
-use cvss::v4::metric::environmental::*;
-use cvss::v4::metric::supplemental::*;
-use cvss::v4::metric::threat::*;
+use cvss_v4_metric::base::*;
+use cvss_v4_metric::environmental::*;
+use cvss_v4_metric::supplemental::*;
+use cvss_v4_metric::threat::*;
+use cvss_v4_metric::{Metric, MetricType};
 use std::io;
 
 /// Tells of the metric of a name, or of its values.

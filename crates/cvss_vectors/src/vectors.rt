@@ -1,7 +1,9 @@
 //! Vectors: their texts, scores, ratings and metrics.
 
 use crate::shown::print_error;
-use cvss::{Bounds, Cvss, MetricType, Severity, v2, v3, v4};
+use crate::{v2, v3, v4};
+use cvss_any::{Bounds, Cvss, MetricType};
+use cvss_base::Severity;
 use std::{fmt, io};
 
 const OTHERWISE: &str = "read_bytes says otherwise";

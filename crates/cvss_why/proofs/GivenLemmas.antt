@@ -1,9 +1,9 @@
 -- The line that an answer tells as given.
 use Rattle.std.proofs.Common.{◌≡◌, ℕ, List, [], ◌∷◌, codes, refl}
 use Rattle.std.specs.Str.{IsUtf8}
-use Rattle.cvss.specs.Bytes.{TellsWhyNot}
-use Rattle.cvss.specs.BytesErrorType.{BytesError}
-use Rattle.cvss.specs.BytesErrorType.TheVariants.{NotUtf8, Invalid}
+use Rattle.cvss_any.specs.Bytes.{TellsWhyNot}
+use Rattle.cvss_any.specs.declared.bytes_error.BytesError.{BytesError}
+use Rattle.cvss_any.specs.declared.bytes_error.BytesError.TheVariants.{NotUtf8, Invalid}
 use Rattle.serde_json.specs.Data.{string}
 use Rattle.cvss_why.specs.Answers.{given_members}
 

@@ -1,15 +1,15 @@
 -- The answers that the program writes to the lines of its input, each of which is the text of a vector.
 use Rattle.std.specs.Prelude.{◌≡◌, ℕ, List, [], ◌∷◌, ◌++◌, codes}
 use Rattle.std.specs.Str.{IsUtf8}
-use Rattle.cvss.specs.Bytes.{TellsWhyNot, bytes_error_text}
-use Rattle.cvss.specs.Dispatch.{DenotesCvss}
-use Rattle.cvss.specs.BytesErrorType.{BytesError}
-use Rattle.cvss.specs.BytesErrorType.TheVariants.{NotUtf8, Invalid}
-use Rattle.cvss.specs.CvssType.{Cvss}
+use Rattle.cvss_any.specs.Bytes.{TellsWhyNot, bytes_error_text}
+use Rattle.cvss_any.specs.Dispatch.{DenotesCvss}
+use Rattle.cvss_any.specs.declared.bytes_error.BytesError.{BytesError}
+use Rattle.cvss_any.specs.declared.bytes_error.BytesError.TheVariants.{NotUtf8, Invalid}
+use Rattle.cvss_any.specs.declared.vector.Cvss.{Cvss}
 use Rattle.cvss_account.specs.Account.{AreMembersOf}
 use Rattle.cvss_lines.specs.Answers.{Answer, Accepted, Refused}
 use Rattle.cvss_object.specs.Texts.{IsTextOf}
-use Rattle.cvss_record.specs.Objects.{Member, object_of}
+use Rattle.cvss_object.specs.Objects.{Member, object_of}
 use Rattle.serde_json.specs.Data.{Data, number as number_value, string, unsigned}
 
 -- the number of the line

@@ -1,16 +1,16 @@
 //! The answer to one line.
 
 ghost use Rattle.std.specs.Prelude.{◌≡◌, OnOk};
-ghost use Rattle.cvss.specs.Answers.{HasScore};
-ghost use Rattle.cvss.specs.Bytes.{TellsWhyNot};
+ghost use Rattle.cvss_any.specs.Answers.{HasScore};
+ghost use Rattle.cvss_any.specs.Bytes.{TellsWhyNot};
 ghost use Rattle.cvss_object.specs.Texts.{WritesObject};
-ghost use Rattle.cvss_record.specs.Objects.{with_members};
+ghost use Rattle.cvss_object.specs.Objects.{with_members};
 ghost use Rattle.cvss_why.specs.Answers.{IsAnswer, given_members, refusal_value};
 ghost use Rattle.cvss_why.specs.private.Writing.{WritesAccount};
 ghost use Rattle.serde_json.specs.View.{members_view};
 
-use cvss::{BytesError, Cvss};
 use cvss_account::account_of;
+use cvss_any::{BytesError, Cvss};
 use cvss_lines::{Answering, Gathered};
 use cvss_object::write_object;
 use serde_json::{Map, Value, put};

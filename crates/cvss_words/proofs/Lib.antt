@@ -1,1 +1,2 @@
+mod FloatLemmas
 mod RowTables

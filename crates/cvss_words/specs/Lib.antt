@@ -1,3 +1,5 @@
+pub mod Scores
+pub mod Versions
 pub mod Words
 pub mod WordsV2
 pub mod WordsV3

@@ -1,14 +1,18 @@
 //! The members and words of FIRST's JSON schemas for the metrics of all versions: `attackVector` for
-//! `AV`, and `NETWORK` for its value `N`.
+//! `AV`, and `NETWORK` for its value `N`; and how the version and a score of a vector are told.
 #![tactic(auto)]
 
 pub mod laws;
 mod rows;
+mod scores;
 pub mod v2;
 pub mod v3;
 pub mod v4;
+mod versions;
 
 pub use rows::{Row, word_in};
+pub use scores::{score_number, score_value};
+pub use versions::version;
 
 /// The word of a value that is not defined, spelled `ND` in CVSS v2 and `X` in v3 and v4.0.
 pub const NOT_DEFINED: &str = "NOT_DEFINED";

@@ -2,15 +2,15 @@
 use Rattle.std.specs.Prelude.{◌≡◌, ℕ, List, ◌++◌, map, Option, Some, None}
 use Rattle.std.specs.Borrow.{Bor}
 use Rattle.std.specs.Fmt.{decimal}
-use Rattle.cvss.specs.Answers.{score_of_tenths}
-use Rattle.cvss.specs.Rating.{rating_of_score}
-use Rattle.cvss.specs.SeverityText.{text_of as severity_text}
+use Rattle.cvss_any.specs.Answers.{score_of_tenths}
+use Rattle.cvss_base.specs.Rating.{rating_of_score}
+use Rattle.cvss_base.specs.SeverityText.{text_of as severity_text}
 use Rattle.cvss_account.specs.Decimal.{decimal_value}
 use Rattle.cvss_account.specs.V4.{class_text, group_values}
 use Rattle.cvss_account.specs.declared.told.Told.{Told}
 use Rattle.cvss_account.specs.declared.told.Told.TheVariants.{Nothing, Decimal, Tenths, Count, Text, Digits, Class}
-use Rattle.cvss_record.specs.Objects.{Member, object_of, with_members}
-use Rattle.cvss_record.specs.Record.{score_value}
+use Rattle.cvss_object.specs.Objects.{Member, object_of, with_members}
+use Rattle.cvss_words.specs.Scores.{score_value}
 use Rattle.cvss_score.specs.declared.v4.scoring.account.Account.{Account}
 use Rattle.serde_json.specs.Data.{Data, Members, array, null, number, string, unsigned}
 use Rattle.serde_json.specs.View.{items_of}

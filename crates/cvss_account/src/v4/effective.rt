@@ -5,10 +5,10 @@ ghost use Rattle.cvss_account.specs.LettersV4.{vulnerable_impact_letter, subsequ
 ghost use Rattle.cvss_account.specs.private.Told.{told_members};
 
 use crate::told::{Member, Told};
-use cvss::v4::metric::Metric;
-use cvss::v4::scoring::effective::{
+use cvss_score::v4::scoring::effective::{
     Effective, ExploitMaturity, Requirement, SafetyImpact, SubsequentImpact, VulnerableImpact,
 };
+use cvss_v4_metric::Metric;
 
 /// What is told of the effective values, by the metrics' names.
 pub(super) fn effective_told(effective: &Effective) -> [Member<'static>; 15]

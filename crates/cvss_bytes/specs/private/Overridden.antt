@@ -1,11 +1,11 @@
 -- Why overrides cannot be put into a vector.
 use Rattle.std.specs.Prelude.{◌≤◌, ℕ, List, ⊤}
 use Rattle.std.specs.Str.{IsUtf8}
-use Rattle.cvss.specs.OverrideErrorTypeV4.{OverrideError}
-use Rattle.cvss.specs.OverrideErrorTypeV4.TheVariants.{NotEnvironmental, Refused}
-use Rattle.cvss.specs.OverridingV4.{TellsFirstObjection}
-use Rattle.cvss.specs.CvssType.{Cvss}
-use Rattle.cvss.specs.CvssType.TheVariants.{CvssV40}
+use Rattle.cvss_v4.specs.declared.vector.overriding.OverrideError.{OverrideError}
+use Rattle.cvss_v4.specs.declared.vector.overriding.OverrideError.TheVariants.{NotEnvironmental, Refused}
+use Rattle.cvss_v4.specs.Overriding.{TellsFirstObjection}
+use Rattle.cvss_any.specs.declared.vector.Cvss.{Cvss}
+use Rattle.cvss_any.specs.declared.vector.Cvss.TheVariants.{CvssV40}
 use Rattle.cvss_bytes.specs.Overriding.{overrides_in}
 use Rattle.cvss_bytes.specs.declared.overriding.Unfit.{Unfit}
 use Rattle.cvss_bytes.specs.declared.overriding.Unfit.TheVariants.{OtherVersion, NotUtf8, Override}

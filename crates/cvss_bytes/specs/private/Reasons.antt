@@ -1,16 +1,16 @@
 -- How an error is told.
 use Rattle.std.specs.Prelude.{◌≡◌, ◌⊎◌, ℕ, true, List, ◌++◌, codes}
 use Rattle.std.specs.Fmt.{decimal}
-use Rattle.cvss.specs.Dispatch.{cvss_reason}
-use Rattle.cvss.specs.ErrorText.{error_text}
-use Rattle.cvss.specs.ErrorType.{Error}
-use Rattle.cvss.specs.ErrorType.TheVariants.{OutOfMemory}
-use Rattle.cvss.specs.OverrideErrorTypeV4.{OverrideError}
-use Rattle.cvss.specs.OverrideErrorTypeV4.TheVariants.{NotEnvironmental, Refused}
-use Rattle.cvss.specs.Refusal.{Refusal, carries_text}
-use Rattle.cvss.specs.Told.{Tells}
-use Rattle.cvss.specs.MetricTypeAny.{MetricType}
-use Rattle.cvss.specs.MetricTypes.{name_of, description_of}
+use Rattle.cvss_any.specs.Dispatch.{cvss_reason}
+use Rattle.cvss_base.specs.ErrorText.{error_text}
+use Rattle.cvss_base.specs.declared.error.Error.{Error}
+use Rattle.cvss_base.specs.declared.error.Error.TheVariants.{OutOfMemory}
+use Rattle.cvss_v4.specs.declared.vector.overriding.OverrideError.{OverrideError}
+use Rattle.cvss_v4.specs.declared.vector.overriding.OverrideError.TheVariants.{NotEnvironmental, Refused}
+use Rattle.cvss_base.specs.Refusal.{Refusal, carries_text}
+use Rattle.cvss_base.specs.Told.{Tells}
+use Rattle.cvss_any.specs.declared.metric_type.MetricType.{MetricType}
+use Rattle.cvss_any.specs.MetricTypes.{name_of, description_of}
 
 -- each reason that the error tells carries a part of the text
 abbrev pub CarriesText : Error → Type 0

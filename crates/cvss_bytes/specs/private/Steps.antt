@@ -1,11 +1,11 @@
 -- Words of the private code: vectors that were read, and texts that are written one behind another.
 use Rattle.std.specs.Prelude.{◌≡◌, ◌≢◌, ℕ, ◌<◌, ◌≤◌, List, [], ◌∷◌, ◌++◌, drop, length, slice_index, flat_map, unwrap_or}
 use Rattle.std.specs.List.{filter_map}
-use Rattle.cvss.specs.Answers.{IsScoreOf, rating_by, score_of_tenths}
-use Rattle.cvss.specs.SeverityText.{text_of as severity_text}
-use Rattle.cvss.specs.Tenths.{tenths_text}
-use Rattle.cvss.specs.Dispatch.{DenotesCvss}
-use Rattle.cvss.specs.CvssType.{Cvss}
+use Rattle.cvss_any.specs.Answers.{IsScoreOf, rating_by, score_of_tenths}
+use Rattle.cvss_base.specs.SeverityText.{text_of as severity_text}
+use Rattle.cvss_base.specs.Tenths.{tenths_text}
+use Rattle.cvss_any.specs.Dispatch.{DenotesCvss}
+use Rattle.cvss_any.specs.declared.vector.Cvss.{Cvss}
 use Rattle.cvss_base.specs.Text.{joined}
 use Rattle.cvss_base.specs.Version.{Version, components_of}
 use Rattle.cvss_text.specs.private.Printing.{slashed}

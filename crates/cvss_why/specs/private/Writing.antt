@@ -1,6 +1,6 @@
 -- What is written for a vector, behind the earlier answers.
 use Rattle.std.specs.Prelude.{◌≡◌, ℕ, List, ◌++◌}
-use Rattle.cvss.specs.CvssType.{Cvss}
+use Rattle.cvss_any.specs.declared.vector.Cvss.{Cvss}
 use Rattle.cvss_lines.specs.Answers.{written_text}
 use Rattle.cvss_object.specs.Texts.{IsTextOf}
 use Rattle.cvss_why.specs.Answers.{IsAccountObject}

@@ -1,7 +1,7 @@
 use Rattle.std.proofs.Common.{◌≡◌, drop, map}
-use Rattle.cvss.specs.TableV2.{listed}
+use Rattle.cvss_v2_metric.specs.Table.{listed}
 use Rattle.cvss_account.specs.V2.{weight_member}
-use Rattle.cvss_record.specs.Objects.{with_members}
+use Rattle.cvss_object.specs.Objects.{with_members}
 use Rattle.serde_json.specs.Data.{no_members}
 use Rattle.serde_json.specs.View.{members_view}
 use Rattle.cvss_account.proofs.v2.weights_value.Given as goal

@@ -1,6 +1,6 @@
 use Rattle.std.proofs.Common.{◌∙◌, refl}
 use Rattle.std.proofs.lemmas.Result.{on_ok_weaker}
-use Rattle.cvss.specs.WeightsV3.{weights_of}
+use Rattle.cvss_v3.specs.VectorWeights.{weights_of}
 use Rattle.cvss_account.specs.V3.{account_members}
 use Rattle.cvss_account.proofs.v3.put_account.Goals as goal
 

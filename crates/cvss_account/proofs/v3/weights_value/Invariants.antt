@@ -1,9 +1,9 @@
 use Rattle.std.proofs.Common.{◌≡◌, drop}
 use Rattle.std.specs.List.{filter_map}
-use Rattle.cvss.specs.TableV3.{listed}
-use Rattle.cvss.specs.WeightsV3.{weights_of}
+use Rattle.cvss_v3_metric.specs.Table.{listed}
+use Rattle.cvss_v3.specs.VectorWeights.{weights_of}
 use Rattle.cvss_account.specs.V3.{weight_member}
-use Rattle.cvss_record.specs.Objects.{with_members}
+use Rattle.cvss_object.specs.Objects.{with_members}
 use Rattle.serde_json.specs.Data.{no_members}
 use Rattle.serde_json.specs.View.{members_view}
 use Rattle.cvss_account.proofs.v3.weights_value.Given as goal

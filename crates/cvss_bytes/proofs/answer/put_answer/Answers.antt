@@ -1,6 +1,6 @@
 use Rattle.std.proofs.Common.{◌++◌, List, ℕ, codes, sym, arith, append_assoc, length-append}
-use Rattle.cvss.specs.Answers.{text_of}
-use Rattle.cvss.specs.CvssType.{Cvss}
+use Rattle.cvss_any.specs.Answers.{text_of}
+use Rattle.cvss_any.specs.declared.vector.Cvss.{Cvss}
 use Rattle.cvss_bytes.specs.Answers.{IsAnswerOf}
 use Rattle.cvss_bytes.specs.private.Steps.{IsRated}
 use Rattle.cvss_bytes.proofs.BufferLemmas.{IsWritten-put, IsWritten-left}

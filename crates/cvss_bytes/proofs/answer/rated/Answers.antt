@@ -2,9 +2,9 @@ use Rattle.std.proofs.Common.{◌≤◌, ◌/◌, ◌%◌, ℕ, length, rules, a
 use Rattle.std.proofs.lemmas.Fmt.{decimal_digit, length-decimal-le}
 use Rattle.std.proofs.lemmas.Int.{to_z-of_z}
 use mir.Syntax.{w128}
-use Rattle.cvss.specs.Answers.{IsScoreOf, rating_by}
-use Rattle.cvss.specs.SeverityText.{text_of as severity_text}
-use Rattle.cvss.specs.Tenths.{tenths_text}
+use Rattle.cvss_any.specs.Answers.{IsScoreOf, rating_by}
+use Rattle.cvss_base.specs.SeverityText.{text_of as severity_text}
+use Rattle.cvss_base.specs.Tenths.{tenths_text}
 use Rattle.cvss_base.specs.declared.severity.Severity.{Severity}
 use Rattle.cvss_base.specs.declared.severity.Severity.TheVariants.{Critical}
 use Rattle.cvss_bytes.proofs.answer.rated.Goals as goal

@@ -1,5 +1,5 @@
 use Rattle.std.proofs.Common.{sym, arith}
-use Rattle.cvss.specs.Answers.{text_of}
+use Rattle.cvss_any.specs.Answers.{text_of}
 use Rattle.cvss_bytes.proofs.BufferLemmas.{IsWritten-put, IsWritten-left}
 use Rattle.cvss_bytes.proofs.LengthLemmas.{length-denoted_cvss}
 use Rattle.cvss_bytes.proofs.canonical.put_in_order.Goals as goal

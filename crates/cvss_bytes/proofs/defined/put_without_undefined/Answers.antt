@@ -1,7 +1,7 @@
 use Rattle.std.proofs.Common.{ap, arith, length}
-use Rattle.cvss.specs.VectorV2.{v2}
-use Rattle.cvss.specs.VectorV3.{v3}
-use Rattle.cvss.specs.VectorV4.{v4}
+use Rattle.cvss_v2.specs.Vector.{v2}
+use Rattle.cvss_v3.specs.Vector.{v3}
+use Rattle.cvss_v4.specs.Vector.{v4}
 use Rattle.cvss_bytes.proofs.ShortLemmas.{fits, short_v2, short_v3, short_v4}
 use Rattle.cvss_bytes.proofs.defined.put_without_undefined.Goals as goal
 

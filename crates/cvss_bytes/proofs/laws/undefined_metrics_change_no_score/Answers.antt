@@ -1,7 +1,7 @@
 use Rattle.std.proofs.Common.{codes}
-use Rattle.cvss.specs.VectorV2.{v2}
-use Rattle.cvss.specs.VectorV3.{v3}
-use Rattle.cvss.specs.VectorV4.{v4}
+use Rattle.cvss_v2.specs.Vector.{v2}
+use Rattle.cvss_v3.specs.Vector.{v3}
+use Rattle.cvss_v4.specs.Vector.{v4}
 use Rattle.cvss_bytes.proofs.UndefinedLemmas.{same_letter, same_or_undefined}
 use Rattle.cvss_bytes.proofs.laws.undefined_metrics_change_no_score.Goals as goal
 

@@ -1,6 +1,6 @@
 use Rattle.std.proofs.Common.{subst, sym}
 use Rattle.std.proofs.lemmas.Result.{IfErr-weaker, IfOk-weaker}
-use Rattle.cvss.specs.OverridingV4.{AreOverrides, TellsFirstObjection}
+use Rattle.cvss_v4.specs.Overriding.{AreOverrides, TellsFirstObjection}
 use Rattle.cvss_bytes.specs.Overriding.{overrides_in}
 use Rattle.cvss_bytes.proofs.ObjectionLemmas.{all_overrides, first_objection, first_overrides, first_place}
 use Rattle.cvss_bytes.proofs.overriding.read_overrides.Goals as goal

@@ -1,5 +1,5 @@
 use Rattle.std.proofs.Common.{inr, refl}
-use Rattle.cvss.specs.ErrorType.TheVariants.{OutOfMemory}
+use Rattle.cvss_base.specs.declared.error.Error.TheVariants.{OutOfMemory}
 use Rattle.cvss_bytes.proofs.reason.put_error.Goals as goal
 
 pub returns-in-Err : goal.returns-in-Err

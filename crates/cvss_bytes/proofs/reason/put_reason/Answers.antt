@@ -1,6 +1,6 @@
 use Rattle.std.proofs.Common.{inr}
-use Rattle.cvss.specs.Bytes.{TellsWhyNot}
-use Rattle.cvss.specs.BytesErrorType.TheVariants.{Invalid}
+use Rattle.cvss_any.specs.Bytes.{TellsWhyNot}
+use Rattle.cvss_any.specs.declared.bytes_error.BytesError.TheVariants.{Invalid}
 use Rattle.cvss_bytes.proofs.ReasonLemmas.{tells_reason}
 use Rattle.cvss_bytes.proofs.reason.put_reason.Goals as goal
 

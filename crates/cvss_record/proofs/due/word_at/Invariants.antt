@@ -1,6 +1,6 @@
 use Rattle.std.proofs.Common.{◌≡◌, bytes_eq, find}
-use Rattle.cvss.specs.Answers.{metrics_of}
-use Rattle.cvss.specs.MetricsLeft.{metrics_left}
+use Rattle.cvss_any.specs.Answers.{metrics_of}
+use Rattle.cvss_any.specs.MetricsLeft.{metrics_left}
 use Rattle.cvss_record.specs.Members.{member_of}
 use Rattle.cvss_record.proofs.due.word_at.Given as goal
 

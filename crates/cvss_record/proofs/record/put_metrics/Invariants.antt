@@ -1,7 +1,7 @@
 use Rattle.std.proofs.Common.{◌≡◌, map}
-use Rattle.cvss.specs.Answers.{metrics_of}
-use Rattle.cvss.specs.MetricsLeft.{metrics_left}
-use Rattle.cvss_record.specs.Objects.{with_members}
+use Rattle.cvss_any.specs.Answers.{metrics_of}
+use Rattle.cvss_any.specs.MetricsLeft.{metrics_left}
+use Rattle.cvss_object.specs.Objects.{with_members}
 use Rattle.cvss_record.specs.Record.{metric_member}
 use Rattle.serde_json.specs.View.{members_view}
 use Rattle.cvss_record.proofs.record.put_metrics.Given as goal

@@ -1,7 +1,7 @@
 use Rattle.std.proofs.Common.{refl, ap, ◌∙◌}
 use Rattle.serde_json.proofs.Views.{view-Object}
 use Rattle.serde_json.specs.Data.{object}
-use Rattle.cvss_record.proofs.ObjectLemmas.{with_members-append}
+use Rattle.cvss_object.proofs.ObjectLemmas.{with_members-append}
 use Rattle.cvss_record.proofs.record.record_of.Goals as goal
 
 pub returns : goal.returns

@@ -1,7 +1,7 @@
 use Rattle.std.proofs.Common.{◌≡◌, [], ◌∷◌, ◌++◌, ap}
 use Rattle.std.proofs.lemmas.Result.{on_ok_weaker}
-use Rattle.cvss_record.proofs.ObjectLemmas.{with_members-append}
-use Rattle.cvss_record.specs.Objects.{with_members}
+use Rattle.cvss_object.proofs.ObjectLemmas.{with_members-append}
+use Rattle.cvss_object.specs.Objects.{with_members}
 use Rattle.serde_json.specs.Data.{no_members, object}
 use Rattle.serde_json.specs.View.{members_view}
 use Rattle.cvss_why.specs.Answers.{line_member}

@@ -1,7 +1,7 @@
 use Rattle.std.proofs.Common.{rules, subst, sym}
 use Rattle.std.proofs.lemmas.Int.{to_z-of_z}
 use mir.Syntax.{w128}
-use Rattle.cvss.specs.Tenths.{IsInTenths, IsFromZeroToTen}
+use Rattle.cvss_base.specs.Tenths.{IsInTenths, IsFromZeroToTen}
 use Rattle.cvss_bytes.proofs.scores.CvssScores.of_v2.Goals as goal
 
 pub tenths-requires-2 : goal.tenths-requires-2

@@ -14,7 +14,7 @@ use Rattle.cvss_v4.specs.Vector.{v4}
 use Rattle.cvss_v4.specs.private.VectorLaws.{v4_is_lawful}
 use Rattle.cvss_any.specs.Answers.{text_of}
 use Rattle.cvss_any.specs.Dispatch.{DenotesCvss, DenotesV3}
-use Rattle.cvss.specs.laws.GivenBack.{IsGivenBack, HasVersionAndMetric}
+use Rattle.cvss_laws.specs.any.GivenBack.{IsGivenBack, HasVersionAndMetric}
 use Rattle.cvss_any.specs.declared.vector.Cvss.{Cvss}
 use Rattle.cvss_any.specs.declared.vector.Cvss.TheVariants.{CvssV20, CvssV30, CvssV31, CvssV40}
 

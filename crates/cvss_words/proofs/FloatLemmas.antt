@@ -7,7 +7,7 @@ use lib.Ieee.{of_int, of_bits, div}
 use Rattle.std.specs.Prelude.{Float, unwrap_or, option_map}
 use Rattle.serde_json.specs.Data.{null, number}
 use Rattle.serde_json.specs.Find.{of_float}
-use Rattle.cvss_record.specs.Record.{score_number, score_value}
+use Rattle.cvss_words.specs.Scores.{score_number, score_value}
 
 is_finite : ℕ → Bool
 is_finite tenths = float_is_finite (score_number tenths)

@@ -1,6 +1,6 @@
 use Rattle.std.proofs.Common.{refl}
 use lib.Ieee.{of_int, of_bits}
-use Rattle.cvss_record.proofs.score.score_number.Goals as goal
+use Rattle.cvss_words.proofs.scores.score_number.Goals as goal
 
 pub returns : goal.returns
 unfolding of_int of_bits

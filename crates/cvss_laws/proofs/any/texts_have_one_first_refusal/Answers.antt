@@ -4,8 +4,8 @@ use Rattle.cvss_v3.specs.Vector.{v3}
 use Rattle.cvss_v3.specs.private.VectorLaws.{v3_is_lawful}
 use Rattle.cvss_v4.specs.Vector.{v4}
 use Rattle.cvss_v4.specs.private.VectorLaws.{v4_is_lawful}
-use Rattle.cvss.proofs.OneRefusalLemmas.{one_refusal, one_refusal_behind, one_refusal_of_any}
-use Rattle.cvss.proofs.laws.texts_have_one_first_refusal.Goals as goal
+use Rattle.cvss_laws.proofs.any.OneRefusalLemmas.{one_refusal, one_refusal_behind, one_refusal_of_any}
+use Rattle.cvss_laws.proofs.any.texts_have_one_first_refusal.Goals as goal
 
 pub returns : goal.returns
 returns c = record {

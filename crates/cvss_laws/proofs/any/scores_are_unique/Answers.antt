@@ -1,5 +1,5 @@
 use Rattle.cvss_any.proofs.UniqueLemmas.{score_once}
-use Rattle.cvss.proofs.laws.scores_are_unique.Goals as goal
+use Rattle.cvss_laws.proofs.any.scores_are_unique.Goals as goal
 
 pub returns : goal.returns
 returns c = score_once

@@ -1,6 +1,6 @@
 use Rattle.cvss_any.proofs.UniqueLemmas.{one_vector}
-use Rattle.cvss.proofs.LawLemmas.{own_text}
-use Rattle.cvss.proofs.laws.texts_denote_one_vector.Goals as goal
+use Rattle.cvss_laws.proofs.any.GivenBackLemmas.{own_text}
+use Rattle.cvss_laws.proofs.any.texts_denote_one_vector.Goals as goal
 
 pub returns-clause-own : goal.returns-clause-own
 returns-clause-own c = own_text

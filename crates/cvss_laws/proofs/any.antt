@@ -1,0 +1,2 @@
+mod GivenBackLemmas
+mod OneRefusalLemmas

@@ -1,0 +1,13 @@
+-- The numbers of scores, as a record tells them.
+use Rattle.std.specs.Prelude.{ℕ, pos, Float}
+use Rattle.std.specs.Float.{binary64}
+use Rattle.std.specs.Float.Ieee.{of_int, div}
+use Rattle.serde_json.specs.Data.{Data, float, number}
+
+-- the number of a score of so many tenths: the binary64 that is nearest to it
+abbrev pub score_number : ℕ → Float
+score_number tenths = div binary64 (of_int binary64 (pos tenths)) (of_int binary64 (pos 10))
+
+-- a score's value
+abbrev pub score_value : ℕ → Data
+score_value tenths = number (float (score_number tenths))
