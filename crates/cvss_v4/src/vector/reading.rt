@@ -3,7 +3,7 @@
 ghost use Rattle.std.specs.Prelude.{◌≡◌, IfSome, [], ◌∷◌, ◌++◌, codes};
 ghost use Rattle.cvss_base.specs.Text.{raised};
 ghost use Rattle.cvss_base.specs.V4Types.{name_of};
-ghost use Rattle.cvss_text.specs.private.Walk.{HasNoValue, IsFilled};
+ghost use Rattle.cvss_text.specs.private.Walk.{HasNoValue, IsCut, IsFilled};
 ghost use Rattle.cvss_v4_metric.specs.Table.{spelling_at};
 ghost use Rattle.cvss_v4.specs.Vector.{v4};
 ghost use Rattle.cvss_v4.specs.private.VectorLaws.{v4_is_lawful, v4_fronts_are_lawful};
@@ -42,12 +42,8 @@ impl Components for Vector {
 
     fn cut(piece: &[u8]) -> Option<(MetricType, &[u8])> {
         match piece {
-            [letter, b':', value @ ..] => Some((named_by_one(*letter)?, value)),
             [first, second, b':', value @ ..] => Some((named_by_two(*first, *second)?, value)),
-            [first, second, third, b':', value @ ..] => {
-                Some((named_by_three(*first, *second, *third)?, value))
-            }
-            _ => None,
+            _ => cut_one_or_three(piece),
         }
     }
 
@@ -130,6 +126,21 @@ impl Vector {
     {
         default_vectors_have_no_metric();
         Vector::default()
+    }
+}
+
+/// The metric with whose name of one or of three letters and a colon a piece begins, and what stands
+/// behind these. Most names have two, which are looked for first.
+#[inline(always)]
+fn cut_one_or_three(piece: &[u8]) -> Option<(MetricType, &[u8])>
+    ensures { IfSome result (λ cut. IsCut v4 piece.now cut.0 cut.1.now) }
+{
+    match piece {
+        [letter, b':', value @ ..] => Some((named_by_one(*letter)?, value)),
+        [first, second, third, b':', value @ ..] => {
+            Some((named_by_three(*first, *second, *third)?, value))
+        }
+        _ => None,
     }
 }
 
