@@ -1,7 +1,7 @@
 #!/usr/bin/env python3
-"""Runs the examples and recipes of docs/BINDINGS.md as they stand there, of docs/PROGRAMS.md those of jobs and of the
-programs, and of README.md the first command and those of Python and Rust. Says where docs/PERFORMANCE.md lacks a figure,
-and docs/BINDINGS.md a name or a command.
+"""Runs the examples and recipes of docs/BINDINGS.md as they stand there, of docs/PROGRAMS.md those of jobs, of README.md
+the first command and those of Python and Rust, and of both those of the programs. Says where docs/PERFORMANCE.md lacks
+a figure, and docs/BINDINGS.md a name or a command.
 
 Usage: documents.py ROOT FOLDER. ROOT is the folder of the checkout, in which bindings/build has made the library; files
 are made in FOLDER alone. An example tells in comments what it prints. What is not on the machine is said, and left out.
@@ -191,10 +191,11 @@ def try_first_command():
 
 
 def try_programs():
-    """The examples of docs/PROGRAMS.md that stand behind a `$`: each prints what stands below it."""
+    """The examples of README.md and docs/PROGRAMS.md that stand behind a `$`: each prints what stands below it."""
     programs = {name: ROOT / f"crates/{name}/out" for name in ("cvss_tool", "cvss_find", "cvss_triage", "cvss_audit")}
     environment = {**os.environ, "PATH": ":".join([*map(str, programs.values()), os.environ["PATH"]])}
-    found = [block for block in blocks(PROGRAMS, "") if block.startswith("$ ")]
+    pages = ((ROOT / "README.md").read_text(), PROGRAMS)
+    found = [block for page in pages for block in blocks(page, "") if block.startswith("$ ")]
     examples = [block for block in found if "> findings" not in block]
     assert all(any(f"| {name}" in block for block in examples) for name in programs if name != "cvss_tool"), examples
     for block in examples:
