@@ -20,8 +20,7 @@ impl Vector {
     fn has_environmental(&self) -> bool
         ensures { result ≡ has_group self.now Environmental }
     {
-        // Field by field, since a loop over the metrics that asks each for its group takes more
-        // instructions.
+        // Field by field, so that no list of metrics is gone through for a score.
         match self {
             Vector { cr: Some(_), .. } => true,
             Vector { ir: Some(_), .. } => true,
