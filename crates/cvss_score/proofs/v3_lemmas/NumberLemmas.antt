@@ -85,7 +85,7 @@ module _ (rules : Rules) (changed : Bool) (s : ℕ) (S : Exact) (e : ℕ) (E : E
     pub settled : IsSettled changed (own_number rules changed s e) (total_units changed (impact_units rules changed s) e over (10 ^ 13))
     settled = (settles rules changed s sub_score).number e parts.listed
 
-    pub own_rounded : (minor : ℕ) → IsRounded minor (own_number rules changed s e) (settled_tenths (own_number rules changed s e))
+    pub own_rounded : (minor : ℕ) → IsRounded minor (own_number rules changed s e) (settled_tenths minor (own_number rules changed s e))
     own_rounded minor =
         let n = own_number rules changed s e in
         settled_rounding minor n n.top n.bottom settled.at own_bottom own_bottom settled.itself
@@ -95,7 +95,7 @@ module _ (rules : Rules) (changed : Bool) (s : ℕ) (S : Exact) (e : ℕ) (E : E
         let n = own_number rules changed s e in
         let m = number_of rules changed S E in
         record {
-          rounding = settled_tenths n;
+          rounding = settled_tenths minor n;
           is_rounding = rounds_equal minor own_bottom bottom equal _ (own_rounded minor);
           same_rounding = λ x some_x low high to_ten.
               let lower = equal_at_most (n ⊖ error) (m ⊖ error) (difference_equal equal (equal_refl error)) in
@@ -121,7 +121,7 @@ module _ (rules : Rules) (changed : Bool) (s : ℕ) (S : Exact) (e : ℕ) (E : E
         let m = own_number rules changed s e in
         let rounded = settled_rounding minor m x.top x.bottom (settled sub_score).at own_bottom (lit< tt) (settled sub_score).within in
         rw (is.some sub_score) (number_stands minor changed (lit< tt) own_bottom bottom equal (record {
-          rounds = λ r is_r. subst (λ z. IsRounded minor m z) (rounded_once minor x (settled_tenths m) r (lit< tt) rounded is_r) (own_rounded sub_score minor);
+          rounds = λ r is_r. subst (λ z. IsRounded minor m z) (rounded_once minor x (settled_tenths minor m) r (lit< tt) rounded is_r) (own_rounded sub_score minor);
           near = (settled sub_score).near;
         }))
   ]

@@ -1,20 +1,20 @@
 -- No rounding jumps near to the first number, for each value of the sub-scores, and the code's number lies near to it.
-use Rattle.std.specs.Prelude.{unsigned_abs, int_lt, if◌then◌else◌}
+use Rattle.std.specs.Prelude.{unsigned_abs}
 use Rattle.std.specs.List.{list_all, Contains}
-use Rattle.std.proofs.Common.{◌≡◌, ℕ, zero, suc, ◌-◌, ◌*◌, ◌/◌, ◌^◌, ◌<◌, ℤ, pos, negsuc, ◌-ℤ◌, ◌*ℤ◌, Bool, true, false, ◌&&◌, ◌||◌, arith, refl, rules, subst, lit<}
+use Rattle.std.proofs.Common.{◌≡◌, ℕ, zero, suc, ◌+◌, ◌-◌, ◌*◌, ◌/◌, ◌^◌, ◌<◌, ℤ, pos, negsuc, ◌-ℤ◌, Bool, true, false, ◌&&◌, ◌||◌, arith, refl, rules, lit<}
 use Rattle.std.proofs.Math.Nat.{mul-pos}
 use Rattle.std.proofs.lemmas.Int.{ints}
 use Rattle.std.proofs.lemmas.Bool.{and_parts}
-use Rattle.cvss_base.specs.Exact.{Exact, ratio, ◌over◌, whole, tenths, ◌⊕◌, ◌⊖◌, ◌⊑◌}
-use Rattle.cvss_base.proofs.ExactLemmas.{above_itself, equal_from_at_most, at_most_trans, at_most_below, below_at_most, times_sum, times_difference, times_times}
-use Rattle.cvss_base.proofs.TestLemmas.{is_at_most, at_most_if, passes}
-use Rattle.cvss_score.specs.v3.Scores.{power, total_of, unchanged_impact, changed_impact, changed_modified_impact, modified_impact_of, first_number, IsRounded}
+use Rattle.cvss_base.specs.Exact.{Exact, ratio, ◌over◌, whole, tenths, ◌⊕◌, ◌⊖◌, ◌⊑◌, ◌⊏◌}
+use Rattle.cvss_base.proofs.ExactLemmas.{equal_from_at_most, at_most_trans, at_most_below, below_at_most}
+use Rattle.cvss_base.proofs.TestLemmas.{is_below, is_at_most, below_if, at_most_if, passes}
+use Rattle.cvss_score.specs.v3.Scores.{power, unchanged_impact, changed_impact, changed_modified_impact, modified_impact_of, first_number, IsRounded}
 use Rattle.cvss_score.specs.declared.v3.rules.Rules.{Rules}
 use Rattle.cvss_score.specs.declared.v3.rules.Rules.TheVariants.{V30, V31}
 use Rattle.cvss_score.specs.v3.private.Near.{Approximates}
 use Rattle.cvss_score.specs.v3.private.SubScores.{sub_scores, exploitabilities, IsSubScore}
 use Rattle.cvss_score.specs.v3.private.Units.{changed_units, changed_modified_units, impact_units, total_units}
-use Rattle.cvss_score.proofs.v3_lemmas.CapLemmas.{capped, capped_to_ten, not_below_cap}
+use Rattle.cvss_score.proofs.v3_lemmas.CapLemmas.{capped}
 use Rattle.cvss_score.proofs.v3_lemmas.NearLemmas.{half}
 use Rattle.cvss_score.proofs.v3_lemmas.RoundLemmas.{jump, between_jumps}
 
@@ -34,85 +34,106 @@ near_if changed x n holds = record {
   exact = λ is_unchanged. equal_from_at_most x n (at_most_if x n (search rules)) (at_most_if n x (search rules));
 }
 
--- x lies within an error of n, and is at most 10
+-- whether x lies within an error of n, at most 10
+unfoldable is_within : Exact → Exact → Bool
+is_within n x = is_at_most (n ⊖ error) x && is_at_most x (capped (n ⊕ error))
+
 pub record IsWithin (n x : Exact) : Type 0 where
   pub low : n ⊖ error ⊑ x
   pub high : x ⊑ capped (n ⊕ error)
 
--- whether what lies within an error of n lies past the jump after p tenths, and not above the next tenth
-unfoldable is_settled_at : Exact → ℕ → Bool
-is_settled_at n p = is_at_most (jump (pos p)) (n ⊖ error) && is_at_most (capped (n ⊕ error)) (tenths (pos (suc p)))
+within_if : (n x : Exact) → is_within n x ≡ true → IsWithin n x
+unfolding is_within
+within_if n x holds = record { low = at_most_if (n ⊖ error) x (search rules); high = at_most_if x (capped (n ⊕ error)) (search rules) }
 
-pub record IsSettledAt (n : Exact) (p : ℕ) : Type 0 where
-  pub from_jump : jump (pos p) ⊑ n ⊖ error
-  pub to_tenth : capped (n ⊕ error) ⊑ tenths (pos (suc p))
+-- whether what lies within an error of n is rounded to r tenths by v3.0, and by v3.1 to s, and n lies a fifth decimal or
+-- more above the tenth before s
+unfoldable is_settled_at : Exact → ℕ → ℕ → Bool
+is_settled_at n r s =
+    is_at_most (whole 0) n && (is_at_most (tenths (pos s -ℤ pos 1) ⊕ 1 over 100_000) n
+    && (is_at_most (whole 0) (n ⊖ error) && (is_below (tenths (pos r -ℤ pos 1)) (n ⊖ error)
+    && (is_at_most (capped (n ⊕ error)) (tenths (pos r)) && (is_at_most (jump (pos s -ℤ pos 1)) (n ⊖ error)
+    && is_below (capped (n ⊕ error)) (jump (pos s)))))))
 
--- the greatest tenth that is below n
-unfoldable pub tenth_below : Exact → ℕ
-tenth_below n = (10 * unsigned_abs n.top - 1) / n.bottom
+pub record IsSettledAt (n : Exact) (r s : ℕ) : Type 0 where
+  pub from_zero : whole 0 ⊑ n ⊖ error
+  pub above_tenth : tenths (pos r -ℤ pos 1) ⊏ n ⊖ error
+  pub to_tenth : capped (n ⊕ error) ⊑ tenths (pos r)
+  pub from_jump : jump (pos s -ℤ pos 1) ⊑ n ⊖ error
+  pub below_jump : capped (n ⊕ error) ⊏ jump (pos s)
+  pub not_negative : whole 0 ⊑ n
+  pub from_cut : tenths (pos s -ℤ pos 1) ⊕ 1 over 100_000 ⊑ n
 
--- what lies within an error of n has one rounding, and x is close
+settled_at : (n : Exact) (r s : ℕ) → is_settled_at n r s ≡ true → IsSettledAt n r s
+unfolding is_settled_at
+settled_at n r s settled =
+    let least = and_parts _ _ settled in
+    let cut = and_parts _ _ least.1 in
+    let zero = and_parts _ _ cut.1 in
+    let above = and_parts _ _ zero.1 in
+    let tenth = and_parts _ _ above.1 in
+    let jumps = and_parts _ _ tenth.1 in
+    record {
+      from_zero = at_most_if (whole 0) (n ⊖ error) zero.0;
+      above_tenth = below_if (tenths (pos r -ℤ pos 1)) (n ⊖ error) above.0;
+      to_tenth = at_most_if (capped (n ⊕ error)) (tenths (pos r)) tenth.0;
+      from_jump = at_most_if (jump (pos s -ℤ pos 1)) (n ⊖ error) jumps.0;
+      below_jump = below_if (capped (n ⊕ error)) (jump (pos s)) jumps.1;
+      not_negative = at_most_if (whole 0) n least.0;
+      from_cut = at_most_if _ n cut.0;
+    }
+
+-- the least tenth that is not below n
+unfoldable pub tenth_above : Exact → ℕ
+tenth_above n = (10 * unsigned_abs n.top + n.bottom - 1) / n.bottom
+
+-- and that on the scale of the jumps
+unfoldable pub jump_above : Exact → ℕ
+jump_above n = (1_000_000 * unsigned_abs n.top + 99_995 * n.bottom) / (100_000 * n.bottom)
+
+-- what lies within an error of n has one rounding, and x lies so and is close
 pub record IsSettled (changed : Bool) (n x : Exact) : Type 0 where
-  pub at : IsSettledAt n (tenth_below n)
+  pub at : IsSettledAt n (tenth_above n) (jump_above n)
   pub itself : IsWithin n n
   pub within : IsWithin n x
   pub near : Approximates changed x n
 
 unfoldable is_settled : Bool → Exact → Exact → Bool
-is_settled changed n x = is_settled_at n (tenth_below n) && is_near changed x n
+is_settled changed n x =
+    is_settled_at n (tenth_above n) (jump_above n) && (is_within n n && (is_within n x && is_near changed x n))
 
--- what is close to n, and at most 10, lies within an error of it
-near_within : (n x : Exact) → n ⊑ x ⊕ half → x ⊑ n ⊕ half → x ⊑ whole 10 → IsWithin n x
-near_within n x low high to_ten =
-    let by = n.bottom in
-    let less = times_difference (n.top *ℤ pos 1_000_000) (pos 1 *ℤ pos by) x.bottom in
-    let more = times_sum (n.top *ℤ pos 1_000_000) (pos 1 *ℤ pos by) x.bottom in
-    let above_x = times_sum (x.top *ℤ pos 10_000_000) (pos 5 *ℤ pos x.bottom) by in
-    let above_n = times_sum (n.top *ℤ pos 10_000_000) (pos 5 *ℤ pos by) x.bottom in
-    let tops = times_times n.top (pos 1_000_000) x.bottom in
-    let tops_n = times_times n.top (pos 10_000_000) x.bottom in
-    let tops_x = times_times x.top (pos 10_000_000) by in
+settled_if : (changed : Bool) (n x : Exact) → is_settled changed n x ≡ true → IsSettled changed n x
+unfolding is_settled
+settled_if changed n x settled =
+    let parts = and_parts (is_settled_at n (tenth_above n) (jump_above n)) _ settled in
+    let itself = and_parts (is_within n n) _ parts.1 in
+    let rest = and_parts (is_within n x) _ itself.1 in
     record {
-      low = record { at_most = omega (arith, ints, low.at_most) };
-      high = not_below_cap x (n ⊕ error) (record { at_most = omega (arith, ints, high.at_most) }) to_ten;
+      at = settled_at n (tenth_above n) (jump_above n) parts.0;
+      itself = within_if n n itself.0;
+      within = within_if n x rest.0;
+      near = near_if changed x n rest.1;
     }
 
-settled_if : (changed : Bool) (n x : Exact) → n ⊑ whole 10 → x ⊑ whole 10 → is_settled changed n x ≡ true → IsSettled changed n x
-unfolding is_settled is_settled_at
-settled_if changed n x n_to_ten x_to_ten settled =
-    let parts = and_parts (is_settled_at n (tenth_below n)) _ settled in
-    let at = and_parts (is_at_most (jump (pos (tenth_below n))) (n ⊖ error)) _ parts.0 in
-    let near = near_if changed x n parts.1 in
-    record {
-      at = record { from_jump = at_most_if _ (n ⊖ error) at.0; to_tenth = at_most_if (capped (n ⊕ error)) _ at.1 };
-      itself = near_within n n (above_itself n 5 10_000_000) (above_itself n 5 10_000_000) n_to_ten;
-      within = near_within n x near.close.not_below near.close.not_above x_to_ten;
-      near = near;
-    }
+-- the tenths to which a settled number is rounded by a minor version
+abbrev pub settled_tenths : ℕ → Exact → ℤ
+settled_tenths zero n = pos (tenth_above n)
+settled_tenths (suc minor) n = pos (jump_above n)
 
--- the tenths to which a settled number is rounded
-abbrev pub settled_tenths : Exact → ℤ
-settled_tenths n = pos (suc (tenth_below n))
-
-pub settled_rounding : (minor : ℕ) (n : Exact) (top : ℤ) (q : ℕ) → IsSettledAt n (tenth_below n) → 0 < n.bottom → 0 < q
-    → IsWithin n (ratio top q) → IsRounded minor (ratio top q) (settled_tenths n)
-settled_rounding zero n top q at some some_q within =
-    let p = tenth_below n in
-    let past = at_most_trans (jump (pos p)) (n ⊖ error) (ratio top q) (mul-pos some (lit< tt)) at.from_jump within.low in
-    record {
-      not_below = at_most_trans (ratio top q) (capped (n ⊕ error)) (tenths (pos (suc p))) (mul-pos (mul-pos some (lit< tt)) (lit< tt)) within.high at.to_tenth;
-      least = below_at_most (tenths (pos (suc p) -ℤ pos 1)) (jump (pos p)) (ratio top q) some_q (record { below = omega (arith, ints) }) past;
-    }
+pub settled_rounding : (minor : ℕ) (n : Exact) (top : ℤ) (q : ℕ) → IsSettledAt n (tenth_above n) (jump_above n) → 0 < n.bottom → 0 < q
+    → IsWithin n (ratio top q) → IsRounded minor (ratio top q) (settled_tenths minor n)
+settled_rounding zero n top q at some some_q within = record {
+  not_below = at_most_trans (ratio top q) (capped (n ⊕ error)) (tenths (pos (tenth_above n))) (mul-pos (mul-pos some (lit< tt)) (lit< tt)) within.high at.to_tenth;
+  least = below_at_most (tenths (pos (tenth_above n) -ℤ pos 1)) (n ⊖ error) (ratio top q) some_q at.above_tenth within.low;
+}
 settled_rounding (suc minor) n (pos t) q at some some_q within =
-    let p = tenth_below n in
-    let previous : pos p ≡ pos (suc p) -ℤ pos 1 = omega (arith, ints) in
-    let past = at_most_trans (jump (pos p)) (n ⊖ error) (t over q) (mul-pos some (lit< tt)) at.from_jump within.low in
-    let to_tenth = at_most_trans (t over q) (capped (n ⊕ error)) (tenths (pos (suc p))) (mul-pos (mul-pos some (lit< tt)) (lit< tt)) within.high at.to_tenth in
-    between_jumps t q (suc p) some_q (subst (λ (z : ℤ). jump z ⊑ t over q) previous past)
-    (at_most_below (t over q) (tenths (pos (suc p))) (jump (pos (suc p))) some_q to_tenth (record { below = omega (arith, ints) }))
+    let s = jump_above n in
+    between_jumps t q s some_q
+    (at_most_trans (jump (pos s -ℤ pos 1)) (n ⊖ error) (t over q) (mul-pos some (lit< tt)) at.from_jump within.low)
+    (at_most_below (t over q) (capped (n ⊕ error)) (jump (pos s)) some_q within.high at.below_jump)
 settled_rounding (suc minor) n (negsuc t) q at some some_q within =
-    let past = at_most_trans (jump (pos (tenth_below n))) (n ⊖ error) (ratio (negsuc t) q) (mul-pos some (lit< tt)) at.from_jump within.low in
-    absurd (omega (arith, ints, past.at_most))
+    let order = at_most_trans (whole 0) (n ⊖ error) (ratio (negsuc t) q) (mul-pos some (lit< tt)) at.from_zero within.low in
+    absurd (omega (arith, ints, order.at_most))
 
 -- whether that holds with each exploitability, and the impact is close to the exact one
 unfoldable settle : Bool → Exact → ℕ → Bool
@@ -120,18 +141,6 @@ settle changed impact units =
     is_near changed (units over (10 ^ 11)) impact && list_all (λ e.
     is_settled changed (first_number changed impact (e over (10 ^ 10))) (total_units changed units e over (10 ^ 13)))
     (exploitabilities changed)
-
--- no first number and no number of the code is above 10
-first_to_ten : (changed : Bool) (impact E : Exact) → first_number changed impact E ⊑ whole 10
-first_to_ten changed impact E =
-    elim (int_lt (pos 0) impact.top) as (λ b. (if b then capped (total_of changed impact E) else whole 0) ⊑ whole 10) [
-      | true ↦ capped_to_ten (total_of changed impact E)
-      | false ↦ at_most_if (whole 0) (whole 10) refl
-    ]
-
-total_to_ten : (changed : Bool) (units e : ℕ) → total_units changed units e over (10 ^ 13) ⊑ whole 10
-total_to_ten true units e = record { at_most = omega (arith, ints) }
-total_to_ten false units e = record { at_most = omega (arith, ints) }
 
 -- what the test says
 pub record Settles (changed : Bool) (impact : Exact) (units : ℕ) : Type 0 where
@@ -143,21 +152,21 @@ settles_if : (changed : Bool) (impact : Exact) (units : ℕ) → settle changed 
 unfolding settle
 settles_if changed impact units holds = record {
   near = near_if changed (units over (10 ^ 11)) impact (search rules);
-  number = λ e listed. settled_if changed _ _ (first_to_ten changed impact _) (total_to_ten changed units e) (passes (λ e.
+  number = λ e listed. settled_if changed _ _ (passes (λ e.
       is_settled changed (first_number changed impact (e over (10 ^ 10))) (total_units changed units e over (10 ^ 13)))
       (exploitabilities changed) e (search rules) listed);
 }
 
 unchanged_settle : list_all (λ s. settle false (unchanged_impact (s over 1_000_000)) (642_000 * s)) sub_scores ≡ true
-unfolding is_near is_settled_at tenth_below is_settled settle
+unfolding is_near is_within is_settled_at tenth_above jump_above is_settled settle
 unchanged_settle = refl
 
 changed_settle : list_all (λ s. settle true (changed_impact (s over 1_000_000)) (changed_units s)) sub_scores ≡ true
-unfolding is_near is_settled_at tenth_below is_settled settle power changed_impact changed_units
+unfolding is_near is_within is_settled_at tenth_above jump_above is_settled settle power changed_impact changed_units
 changed_settle = refl
 
 changed_modified_settle : list_all (λ s. settle true (changed_modified_impact (s over 1_000_000)) (changed_modified_units s)) sub_scores ≡ true
-unfolding is_near is_settled_at tenth_below is_settled settle power changed_modified_impact changed_modified_units
+unfolding is_near is_within is_settled_at tenth_above jump_above is_settled settle power changed_modified_impact changed_modified_units
 changed_modified_settle = refl
 
 pub settles : (rules : Rules) (changed : Bool) (s : ℕ) → IsSubScore s
