@@ -59,10 +59,7 @@ impl<V: Listed> Iterator for Metrics<V> {
 fn spelled<V: Listed>(vector: &V, kind: V::Kind) -> Option<&'static str>
     ensures { option_copied result ≡ held V.version vector.now kind }
 {
-    match vector.slashed(kind) {
-        Some(component) => Some(behind_colon(component)),
-        None => None,
-    }
+    Some(behind_colon(vector.slashed(kind)?))
 }
 
 /// What stands behind the first colon.

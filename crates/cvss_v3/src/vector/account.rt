@@ -63,10 +63,7 @@ impl Vector {
         ensures { result ≡ option_map (λ hundredths. pos (hundredths * 10 ^ 22))
             (weight_in (weights_of self.now) metric) }
     {
-        match self.hundredths(metric) {
-            Some(hundredths) => Some(i128::from(hundredths) * HUNDREDTH),
-            None => None,
-        }
+        Some(i128::from(self.hundredths(metric)?) * HUNDREDTH)
     }
 
     /// Whether the scope is changed, by which the base score is computed.

@@ -14,9 +14,9 @@ held-from_slashed name (Some spelling) text plain is =
     let text_is : text ≡ component (slash ∷ name) spelling = cc in
     rw text_is (ap Some (value_behind (slash ∷ name) spelling (omega (arith, count_by-cons is_colon slash name, foreign_sorts name))))
 
-pub returns-in-Some : goal.returns-in-Some
-returns-in-Some g c =
+pub returns : goal.returns
+returns g c =
     let version = g.V.Components.version in
     rw c.behind_colon.ensures
-    (held-from_slashed (version.name c.args.kind) (held version c.args.vector.now c.args.kind) c.in-Some.component.now
-    (name_plain version g.met.V.Components.lawful c.args.kind) c.in-Some.ensures)
+    (held-from_slashed (version.name c.args.kind) (held version c.args.vector.now c.args.kind) c.in_ok-slashed.field-0.now
+    (name_plain version g.met.V.Components.lawful c.args.kind) c.in_ok-slashed.ensures)
