@@ -193,11 +193,8 @@ fn component_at_sight<M: Spelled>(text: &[u8]) -> Option<(M, &[u8])>
     ensures { IfSome result
         (λ read. text.now ≡ slash ∷ (metric_component M.TYPE (M.rank read.0) ++ read.1.now)) }
 {
-    match behind_name(M::TYPE.name(), text) {
-        Some([letter, rest @ ..]) => match M::read_letter(*letter) {
-            Some(value) => Some((value, rest)),
-            None => None,
-        },
-        _ => None,
+    match behind_name(M::TYPE.name(), text)? {
+        [letter, rest @ ..] => Some((M::read_letter(*letter)?, rest)),
+        [] => None,
     }
 }
