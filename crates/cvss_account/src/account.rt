@@ -6,7 +6,7 @@ ghost use Rattle.cvss_account.specs.Account.{AreNumbersOf, IsAccountOf};
 ghost use Rattle.cvss_account.specs.private.Told.{PutsNumbers};
 ghost use Rattle.serde_json.specs.View.{members_view};
 
-use crate::told::{self, Members, Told, put_told};
+use crate::members::{self, Members, Told, put_told};
 use crate::{v2, v3, v4};
 use cvss_any::Cvss;
 use cvss_base::TENTH;
@@ -40,7 +40,7 @@ pub fn account_of(alloc: Global, cvss: &Cvss) -> Result<Map<String, Value>, Allo
 }
 
 /// Puts the numbers on the way to the score.
-fn put_numbers(members: &mut Members, alloc: Global, cvss: &Cvss) -> told::Result<()>
+fn put_numbers(members: &mut Members, alloc: Global, cvss: &Cvss) -> members::Result<()>
     requires { HasScore cvss.now }
     ensures { OnOk result (PutsNumbers (AreNumbersOf cvss.now)
         (members_view members.old.entries) (members_view members.new.entries)) }

@@ -4,7 +4,7 @@
 mod account;
 mod decimal;
 pub mod laws;
-mod told;
+mod members;
 mod v2;
 mod v3;
 mod v4;

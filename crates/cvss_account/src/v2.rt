@@ -8,7 +8,7 @@ ghost use Rattle.serde_json.specs.View.{members_view, view};
 mod numbers;
 
 use crate::decimal::{decimal_value, ten_millionths};
-use crate::told::{Member, Members, Result, Told, object};
+use crate::members::{Member, Members, Result, Told, object};
 use cvss_text::metrics::Listed;
 use cvss_v2::Vector;
 use numbers::{BaseNumbers, EnvironmentalNumbers, TemporalNumbers};

@@ -10,7 +10,7 @@ ghost use Rattle.serde_json.specs.View.{members_view, view};
 mod numbers;
 
 use crate::decimal::{decimal_value, ten_millionths};
-use crate::told::{Member, Members, Result, Told, object, put_told};
+use crate::members::{Member, Members, Result, Told, object, put_told};
 use cvss_base::TENTH;
 use cvss_base::v3::MetricType;
 use cvss_text::metrics::Listed;
@@ -64,10 +64,7 @@ fn weight_value(vector: &Vector, kind: MetricType) -> Option<Value>
     ensures { option_map (λ value. (name_of kind, view value)) result
         ≡ weight_member (weights_of vector.now) kind }
 {
-    match vector.weight(kind) {
-        Some(weight) => Some(decimal_value(ten_millionths(weight))),
-        None => None,
-    }
+    Some(decimal_value(ten_millionths(vector.weight(kind)?)))
 }
 
 /// What is told of the base score.

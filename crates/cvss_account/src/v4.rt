@@ -11,7 +11,7 @@ ghost use Rattle.serde_json.specs.View.{members_view, view};
 mod effective;
 
 use crate::decimal::of_parts;
-use crate::told::{Member, Members, Result, Told, object, put_told};
+use crate::members::{Member, Members, Result, Told, object, put_told};
 use cvss_score::v4::scoring::account::GroupAccount;
 use cvss_v4::{Account, Vector};
 use effective::effective_told;

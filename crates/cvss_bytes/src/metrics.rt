@@ -88,9 +88,7 @@ fn count_metrics<V: Printed>(vector: &V) -> usize
 pub(crate) fn spelled<V: Printed>(vector: &V, kind: V::Kind) -> Option<&'static [u8]>
     ensures { option_copied result ≡ held V.version vector.now kind }
 {
-    match vector.slashed(kind) {
-        // behind a slash, the name and a colon
-        Some(component) => Some(&component.as_bytes()[V::name(kind).len() + 2..]),
-        None => None,
-    }
+    let component = vector.slashed(kind)?;
+    // behind a slash, the name and a colon
+    Some(&component.as_bytes()[V::name(kind).len() + 2..])
 }

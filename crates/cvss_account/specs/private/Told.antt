@@ -7,8 +7,8 @@ use Rattle.cvss_base.specs.Rating.{rating_of_score}
 use Rattle.cvss_base.specs.SeverityText.{text_of as severity_text}
 use Rattle.cvss_account.specs.Decimal.{decimal_value}
 use Rattle.cvss_account.specs.V4.{class_text, group_values}
-use Rattle.cvss_account.specs.declared.told.Told.{Told}
-use Rattle.cvss_account.specs.declared.told.Told.TheVariants.{Nothing, Decimal, Tenths, Count, Text, Digits, Class}
+use Rattle.cvss_account.specs.declared.members.Told.{Told}
+use Rattle.cvss_account.specs.declared.members.Told.TheVariants.{Nothing, Decimal, Tenths, Count, Text, Digits, Class}
 use Rattle.cvss_object.specs.Objects.{Member, object_of, with_members}
 use Rattle.cvss_words.specs.Scores.{score_value}
 use Rattle.cvss_score.specs.declared.v4.scoring.account.Account.{Account}

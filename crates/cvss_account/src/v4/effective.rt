@@ -4,7 +4,7 @@ ghost use Rattle.std.specs.Prelude.{◌≡◌};
 ghost use Rattle.cvss_account.specs.LettersV4.{vulnerable_impact_letter, subsequent_impact_letter, safety_impact_letter, requirement_letter, exploit_maturity_letter, effective_members};
 ghost use Rattle.cvss_account.specs.private.Told.{told_members};
 
-use crate::told::{Member, Told};
+use crate::members::{Member, Told};
 use cvss_score::v4::scoring::effective::{
     Effective, ExploitMaturity, Requirement, SafetyImpact, SubsequentImpact, VulnerableImpact,
 };

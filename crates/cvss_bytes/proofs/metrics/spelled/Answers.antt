@@ -18,11 +18,11 @@ spelled_behind name (Some spelling) text is =
     ∙ ap (λ n. Some (drop n whole)) place
     ∙ ap Some (sym (drop-drop 1 (length (slash ∷ name)) whole) ∙ ap (drop 1) (drop-append_seam (slash ∷ name) (colon ∷ spelling)))
 
-pub returns-in-Some : goal.returns-in-Some
-returns-in-Some g c =
+pub returns : goal.returns
+returns g c =
     let version = g.V.Components.version in
     let name = c.name.result.now in
     ap Some (take_rest c.as_bytes.result.now (length name + 2))
     ∙ ap (λ text. Some (drop (length name + 2) text)) c.as_bytes.ensures.value
-    ∙ ap (λ n. Some (drop (length n + 2) c.in-Some.component.now)) c.name.ensures
-    ∙ spelled_behind (version.name c.args.kind) (held version c.args.vector.now c.args.kind) c.in-Some.component.now c.in-Some.ensures
+    ∙ ap (λ n. Some (drop (length n + 2) c.in_ok-component.component.now)) c.name.ensures
+    ∙ spelled_behind (version.name c.args.kind) (held version c.args.vector.now c.args.kind) c.in_ok-component.component.now c.in_ok-component.ensures

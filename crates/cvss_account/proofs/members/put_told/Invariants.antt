@@ -2,7 +2,7 @@ use Rattle.std.proofs.Common.{◌≡◌, drop}
 use Rattle.cvss_account.specs.private.Told.{told_members}
 use Rattle.cvss_object.specs.Objects.{with_members}
 use Rattle.serde_json.specs.View.{members_view}
-use Rattle.cvss_account.proofs.told.put_told.Given as goal
+use Rattle.cvss_account.proofs.members.put_told.Given as goal
 
 abbrev pub invariant-loop-name : goal.invariant-loop-name
 invariant-loop-name l =
