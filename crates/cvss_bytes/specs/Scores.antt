@@ -1,18 +1,12 @@
 -- The scores of a vector as C sees them: whole tenths, and numbers for versions, ratings and nomenclatures.
-use Rattle.std.specs.Prelude.{◌≡◌, ◌⊎◌, ◌*ℤ◌, ◌^◌, Bool, not, ◌||◌, ℤ, pos, negsuc, [], ◌∷◌, IsTrue, is_some}
-use Rattle.std.specs.List.{list_all}
+use Rattle.std.specs.Prelude.{◌≡◌, ◌⊎◌, ◌*ℤ◌, ◌^◌, ℤ, pos, negsuc, [], ◌∷◌, IsSome}
 use Rattle.cvss_any.specs.declared.vector.Cvss.{Cvss}
 use Rattle.cvss_any.specs.declared.vector.Cvss.TheVariants.{CvssV20, CvssV30, CvssV31, CvssV40}
 use Rattle.cvss_v4.specs.Merging.{effective_of}
 use Rattle.cvss_score.specs.declared.v4.nomenclature.Nomenclature.{Nomenclature}
 use Rattle.cvss_score.specs.declared.v4.nomenclature.Nomenclature.TheVariants.{CvssB, CvssBE, CvssBT, CvssBTE}
 use Rattle.cvss_v4.specs.Nomenclature.{nomenclature_of}
-use Rattle.cvss_base.specs.Groups.{same_group}
 use Rattle.cvss_base.specs.Rating.{rating_of_score}
-use Rattle.cvss_base.specs.V3Types.{group_of}
-use Rattle.cvss_base.specs.declared.group.MetricGroup.TheVariants.{Base}
-use Rattle.cvss_v3.specs.Vector.{value_at}
-use Rattle.cvss_v3_metric.specs.Table.{printed}
 use Rattle.cvss_score.specs.v2.Rating.{rating_of}
 use Rattle.cvss_score.specs.v2.Scores as scores_v2
 use Rattle.cvss_score.specs.v3.Scores as scores_v3
@@ -79,9 +73,16 @@ pub record IsNoScore (tenths severity : ℤ) : Type 0 where
 abbrev pub IsFlag : ℤ → Type 0 → Type 0
 IsFlag flag Holds = ((flag ≡ pos 1) × Holds) ⊎ ((flag ≡ pos 0) × ¬ Holds)
 
--- whether a vector of CVSS v3 has each metric of the base group, as the specifications ask (v3.1, section 6)
-abbrev pub has_base_metrics : vector_v3.Vector → Bool
-has_base_metrics vector = list_all (λ kind. not (same_group (group_of kind) Base) || is_some (value_at vector kind)) printed
+-- a vector of CVSS v3 has the eight base metrics that the specifications ask for (v3.1, section 6)
+pub record HasBaseMetrics (vector : vector_v3.Vector) : Type 0 where
+  pub attack_vector : IsSome vector.av
+  pub attack_complexity : IsSome vector.ac
+  pub privileges_required : IsSome vector.pr
+  pub user_interaction : IsSome vector.ui
+  pub scope : IsSome vector.s
+  pub confidentiality : IsSome vector.c
+  pub integrity : IsSome vector.i
+  pub availability : IsSome vector.a
 
 -- the version, three scores with their ratings, the nomenclature, and whether all base metrics are there
 pub record AreScores (version : ℤ) (IsBase IsTemporal IsEnvironmental : ℤ → ℤ → Type 0) (nomenclature : ℤ) (HasBase : Type 0) (scores : CvssScores) : Type 0 where
@@ -100,7 +101,7 @@ AreScoresV3 version vector =
     (IsRatedScore (scores_v3.IsBaseScore vector.minor_version (weights_v3.weights_of vector)) rating_of_score)
     (IsRatedScore (scores_v3.IsTemporalScore vector.minor_version (weights_v3.weights_of vector)) rating_of_score)
     (IsRatedScore (scores_v3.IsEnvironmentalScore vector.minor_version (weights_v3.weights_of vector)) rating_of_score)
-    nothing (IsTrue (has_base_metrics vector))
+    nothing (HasBaseMetrics vector)
 
 -- those of CVSS v2
 abbrev pub AreScoresV2 : vector_v2.Vector → CvssScores → Type 0

@@ -1,22 +1,17 @@
 //! The scores of a vector, as C sees them.
 
-ghost use Rattle.std.specs.Prelude.{◌≡◌};
-ghost use Rattle.cvss_base.specs.Groups.{same_group};
-ghost use Rattle.cvss_base.specs.declared.group.MetricGroup.TheVariants.{Base};
+ghost use Rattle.std.specs.Prelude.{◌≡◌, ◌↔◌, IsTrue};
 ghost use Rattle.cvss_base.specs.Tenths.{IsInTenths, IsFromZeroToTen};
 ghost use Rattle.cvss_base.specs.Version.{IsComplete};
 ghost use Rattle.cvss_v2.specs.Vector.{v2};
 ghost use Rattle.cvss_v4.specs.Vector.{v4};
-ghost use Rattle.cvss_bytes.specs.Scores.{AreScoresOf, AreScoresV2, AreScoresV3, AreScoresV4, count_of, has_base_metrics};
+ghost use Rattle.cvss_bytes.specs.Scores.{AreScoresOf, AreScoresV2, AreScoresV3, AreScoresV4, HasBaseMetrics, count_of};
 ghost use Rattle.cvss_bytes.specs.private.Steps.{IsRead};
 
 use crate::numbers::{NOTHING, nomenclature_number, severity_number};
 use crate::{v2, v3, v4};
 use cvss_any::Cvss;
-use cvss_base::MetricGroup;
 use cvss_base::tenths::tenths_of;
-use cvss_text::print::Printed;
-use cvss_text::walk::Components;
 
 /// The version, the scores and the ratings of a vector. Scores are in tenths, from 0 to 100; ratings
 /// are 0 for none, 1 low, 2 medium, 3 high, 4 critical.
@@ -122,16 +117,16 @@ impl CvssScores {
 
 /// Whether a vector of CVSS v3 has all base metrics.
 fn has_base_metrics(vector: &v3::Vector) -> bool
-    ensures { result ≡ has_base_metrics vector.now }
+    ensures { IsTrue result ↔ HasBaseMetrics vector.now }
 {
-    v3::Vector::printed().iter().all(|kind| !is_base(kind.group())
-        || vector.slashed(*kind).is_some())
-}
-
-fn is_base(group: MetricGroup) -> bool
-    ensures { result ≡ same_group group Base }
-{
-    matches!(group, MetricGroup::Base)
+    vector.av.is_some()
+        && vector.ac.is_some()
+        && vector.pr.is_some()
+        && vector.ui.is_some()
+        && vector.s.is_some()
+        && vector.c.is_some()
+        && vector.i.is_some()
+        && vector.a.is_some()
 }
 
 /// The tenths of a published score, of which it is the count of 10^-24.
