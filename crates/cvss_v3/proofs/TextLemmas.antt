@@ -1,5 +1,5 @@
 -- Vectors of two minor versions have two texts, and a version piece with components behind slashes is a canonical text.
-use Rattle.std.proofs.Common.{◌≡◌, ◌≢◌, ◌↔◌, ℕ, IsTrue, nat_eq, List, ◌++◌, codes, Option, Some, None, IfSome, subst, sym, ap, ◌∙◌}
+use Rattle.std.proofs.Common.{◌≡◌, ◌≢◌, ◌↔◌, ℕ, IsTrue, nat_eq, List, ◌++◌, codes, subst, sym, ap, ◌∙◌}
 use Rattle.std.proofs.lemmas.Bool.Decides.{Decides-eqb}
 use Rattle.cvss_base.specs.Version.{numeral, canonical_text, version_piece, Denotes}
 use Rattle.cvss_text.specs.private.Printing.{slashed_texts}
@@ -30,9 +30,7 @@ abbrev front_of : ℕ → List ℕ
 front_of minor = version_piece (codes "3." ++ numeral minor)
 
 -- a text that is a version piece and the vector's components, each behind a slash
-pub text_behind : (text rest : List ℕ) (minor : ℕ) (read : Option Vector) → text ≡ version_piece (codes "3." ++ numeral minor) ++ rest → IfSome read (λ vector. rest ≡ slashed_texts v3 vector printed) → IfSome read (λ vector. vector.minor_version ≡ minor) → IfSome read (λ vector. text ≡ canonical_text v3 vector)
-text_behind text rest minor None is components version = tt
-text_behind text rest minor (Some vector) is components version =
-    is ∙ ap (λ told. front_of told ++ rest) (sym version)
-    ∙ ap (λ behind. front_of vector.minor_version ++ behind) components
+pub text_behind : (text rest : List ℕ) (vector : Vector) → text ≡ version_piece (codes "3." ++ numeral vector.minor_version) ++ rest → rest ≡ slashed_texts v3 vector printed → text ≡ canonical_text v3 vector
+text_behind text rest vector is components =
+    is ∙ ap (λ behind. front_of vector.minor_version ++ behind) components
     ∙ sym (joined-slashed v3 vector (front_of vector.minor_version) printed)

@@ -1,2 +1,3 @@
+pub mod MinorVersion
 pub mod Shown
 pub mod VectorLaws

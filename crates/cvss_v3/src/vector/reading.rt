@@ -5,11 +5,13 @@ ghost use Rattle.cvss_base.specs.Text.{raised};
 ghost use Rattle.cvss_text.specs.private.Walk.{HasNoValue, IsFilled};
 ghost use Rattle.cvss_v3_metric.specs.Table.{spelling_of};
 ghost use Rattle.cvss_v3.specs.Vector.{v3};
+ghost use Rattle.cvss_v3.specs.private.MinorVersion.{minor_version_of};
 ghost use Rattle.cvss_v3.specs.private.VectorLaws.{v3_is_lawful, v3_fronts_are_lawful};
 
 use super::cutting::cut_named;
 use crate::vector::Vector;
 use MetricType::*;
+use cvss_score::v3::Rules;
 use cvss_text::front::Fronted;
 use cvss_text::walk::{Components, Slip, fill_place};
 use cvss_v3_metric::{MetricType, Spelled, blamed};
@@ -83,9 +85,9 @@ impl Fronted for Vector {
 
     fn start(told: &[u8]) -> Option<Vector> {
         if told == b"3.0".as_slice() {
-            Some(Vector::empty(0))
+            Some(Vector::empty(Rules::V30))
         } else if told == b"3.1".as_slice() {
-            Some(Vector::empty(1))
+            Some(Vector::empty(Rules::V31))
         } else {
             None
         }
@@ -93,11 +95,16 @@ impl Fronted for Vector {
 }
 
 impl Vector {
-    /// The vector without metrics.
-    fn empty(minor_version: usize) -> Vector
-        ensures version { result.minor_version ≡ minor_version }
+    /// The vector without metrics, of the minor version with these rules.
+    #[inline(always)]
+    pub(super) fn empty(rules: Rules) -> Vector
+        ensures version { result.minor_version ≡ minor_version_of rules }
         ensures valueless { HasNoValue v3 result }
     {
+        let minor_version = match rules {
+            Rules::V30 => 0,
+            Rules::V31 => 1,
+        };
         Vector {
             minor_version,
             ..Vector::default()

@@ -11,6 +11,7 @@ ghost use Rattle.cvss_v3.specs.Vector.{v3};
 ghost use Rattle.cvss_v3.specs.private.Shown.{shown};
 
 use crate::vector::Vector;
+use cvss_score::v3::Rules;
 use cvss_text::sight::{behind_four, behind_name, put_read};
 use cvss_v3_metric::Spelled;
 
@@ -21,34 +22,37 @@ impl Vector {
         ensures canonical { IfSome result (λ vector. text.now ≡ canonical_text v3 vector) }
         ensures well_formed { IfSome result (λ vector. IsWellFormed v3 vector) }
     {
-        let (minor_version, text) = version_at_sight(text)?;
-        metrics_at_sight(minor_version, text)
+        let (empty, text) = version_at_sight(text)?;
+        let vector = metrics_at_sight(text)?;
+        Some(Vector {
+            minor_version: empty.minor_version,
+            ..vector
+        })
     }
 }
 
-/// The minor version that the piece tells with which a text begins, if it is supported, and what
-/// stands behind that piece.
+/// The vector without metrics of the version that the piece tells with which a text begins, if it is
+/// supported, and what stands behind that piece.
 #[inline(always)]
-fn version_at_sight(text: &[u8]) -> Option<(usize, &[u8])>
+fn version_at_sight(text: &[u8]) -> Option<(Vector, &[u8])>
     ensures piece { IfSome result (λ read. text.now
-        ≡ version_piece (codes "3." ++ numeral read.0) ++ read.1.now) }
+        ≡ version_piece (codes "3." ++ numeral read.0.minor_version) ++ read.1.now) }
     ensures supported { IfSome result
-        (λ read. Contains v3.supported (codes "3." ++ numeral read.0)) }
+        (λ read. Contains v3.supported (codes "3." ++ numeral read.0.minor_version)) }
 {
     let text = behind_four(text, *b"CVSS")?;
     match behind_four(text, *b":3.1") {
-        Some(rest) => Some((1, rest)),
-        None => Some((0, behind_four(text, *b":3.0")?)),
+        Some(rest) => Some((Vector::empty(Rules::V31), rest)),
+        None => Some((Vector::empty(Rules::V30), behind_four(text, *b":3.0")?)),
     }
 }
 
 /// The vector whose components, in printing order and each behind a slash, are the whole text.
 #[inline(always)]
-fn metrics_at_sight(minor_version: usize, text: &[u8]) -> Option<Vector>
-    ensures text { IfSome result (λ vector. text.now ≡ slashed_texts v3 vector printed) }
-    ensures version { IfSome result (λ vector. vector.minor_version ≡ minor_version) }
+fn metrics_at_sight(text: &[u8]) -> Option<Vector>
+    ensures { IfSome result (λ vector. text.now ≡ slashed_texts v3 vector printed) }
 {
-    let (base, text) = base_at_sight(minor_version, text)?;
+    let (base, text) = base_at_sight(text)?;
     if text.is_empty() {
         return Some(base);
     }
@@ -59,10 +63,9 @@ fn metrics_at_sight(minor_version: usize, text: &[u8]) -> Option<Vector>
 
 /// The vector of the base metrics with which a text begins, if all of them do.
 #[inline(always)]
-fn base_at_sight(minor_version: usize, text: &[u8]) -> Option<(Vector, &[u8])>
+fn base_at_sight(text: &[u8]) -> Option<(Vector, &[u8])>
     ensures text { IfSome result (λ read. text.now
         ≡ slashed_texts v3 read.0 (take 8 printed) ++ read.1.now) }
-    ensures version { IfSome result (λ read. read.0.minor_version ≡ minor_version) }
     ensures bare { IfSome result (λ read. slashed_texts v3 read.0 (drop 8 printed) ≡ []) }
 {
     // No eight base metrics are shorter, so their lengths are compared once.
@@ -72,7 +75,6 @@ fn base_at_sight(minor_version: usize, text: &[u8]) -> Option<(Vector, &[u8])>
     let (av, ac, pr, ui, text) = four_at_sight(text)?;
     let (s, c, i, a, text) = four_at_sight(text)?;
     let base = Vector {
-        minor_version,
         av: Some(av),
         ac: Some(ac),
         pr: Some(pr),
@@ -92,7 +94,6 @@ fn base_at_sight(minor_version: usize, text: &[u8]) -> Option<(Vector, &[u8])>
 #[inline(never)]
 fn others_at_sight<'a>(vector: &mut Vector, text: &'a [u8]) -> &'a [u8]
     ensures text { text.now ≡ slashed_texts v3 vector.new (drop 8 printed) ++ result.now }
-    ensures version { vector.new.minor_version ≡ vector.old.minor_version }
     ensures base { slashed_texts v3 vector.new (take 8 printed)
         ≡ slashed_texts v3 vector.old (take 8 printed) }
 {

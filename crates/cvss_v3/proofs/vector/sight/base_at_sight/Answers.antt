@@ -9,7 +9,6 @@ use Rattle.cvss_v3.proofs.vector.sight.base_at_sight.Goals as goal
 pub returns-clause-text : goal.returns-clause-text
 returns-clause-text g =
     let vector : Vector = record g.default.result {
-      minor_version = g.args.minor_version;
       av = Some g.in_ok-av.av;
       ac = Some g.in_ok-av.ac;
       pr = Some g.in_ok-av.pr;

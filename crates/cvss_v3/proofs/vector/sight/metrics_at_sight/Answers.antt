@@ -7,14 +7,14 @@ use Rattle.cvss_v3_metric.specs.Table.{printed}
 use Rattle.cvss_v3.specs.Vector.{v3}
 use Rattle.cvss_v3.proofs.vector.sight.metrics_at_sight.Goals as goal
 
-pub returns-then-is_empty-clause-text : goal.returns-then-is_empty-clause-text
-returns-then-is_empty-clause-text c =
+pub returns-then-is_empty : goal.returns-then-is_empty
+returns-then-is_empty c =
     let base = c.in_ok-base in
     joined v3 base.base base.base (take 8 printed) (drop 8 printed) c.args.text.now base.text.now base.ensures.text
     (nil_from_length _ (eqb-true _ 0 (sym c.if-is_empty.ensures)) ∙ sym base.ensures.bare) refl
 
-pub returns-then-is_empty-2-clause-text : goal.returns-then-is_empty-2-clause-text
-returns-then-is_empty-2-clause-text c =
+pub returns-then-is_empty-2 : goal.returns-then-is_empty-2
+returns-then-is_empty-2 c =
     let base = c.in_ok-base in
     let others = c.others_at_sight-rest in
     let alone = nil_from_length _ (eqb-true _ 0 (sym c.if-is_empty-2.ensures)) in
