@@ -95,19 +95,19 @@ fn write_three<K: Spelled, L: Spelled, M: Spelled, W: fmt::Write>(
     write_value(third, f)
 }
 
-/// Writes the piece that tells the version.
-#[tactic(auto, using(cvss_text::proofs::NumeralLemmas::decimal_numeral))]
-fn write_version<W: fmt::Write>(minor_version: usize, f: &mut fmt::Formatter<W>) -> fmt::Result
-    ensures { WritesOnOk W.write_str_gives f.old result
-        (version_piece (codes "4." ++ numeral minor_version)) f.new }
-{
-    match minor_version {
-        0 => f.write_str("CVSS:4.0"),
-        _ => write!(f, "CVSS:4.{minor_version}"),
-    }
-}
-
 impl Vector {
+    /// Writes the piece that tells the version.
+    #[tactic(auto, using(cvss_text::proofs::NumeralLemmas::decimal_numeral))]
+    fn write_version<W: fmt::Write>(&self, f: &mut fmt::Formatter<W>) -> fmt::Result
+        ensures { WritesOnOk W.write_str_gives f.old result
+            (version_piece (codes "4." ++ numeral self.now.minor_version)) f.new }
+    {
+        match self.minor_version {
+            0 => f.write_str("CVSS:4.0"),
+            other => write!(f, "CVSS:4.{other}"),
+        }
+    }
+
     /// Writes the base metrics, each with a slash before it.
     fn write_base<W: fmt::Write>(&self, f: &mut fmt::Formatter<W>) -> fmt::Result
         ensures { WritesOnOk W.write_str_gives f.old result
@@ -149,7 +149,7 @@ impl fmt::Display for Vector {
     ghost output = { λ vector. Some (canonical_text v4 vector) };
 
     fn fmt<W: fmt::Write>(&self, f: &mut fmt::Formatter<W>) -> fmt::Result {
-        write_version(self.minor_version, f)?;
+        self.write_version(f)?;
         self.write_metrics(f)
     }
 }
