@@ -10,10 +10,10 @@ use std::process::Abort;
 /// Reads values that are no strings.
 fn are_no_strings<T>(rt: &impl Abort, alloc: Global, values: &[Value])
 where
-    T: JsonText + PartialEq + Drop,
+    T: JsonText + Drop,
 {
     for value in values {
-        assert!(rt; T::from_value(alloc, value) == Err(JsonError::NotAString));
+        assert!(rt; matches!(T::from_value(alloc, value), Err(JsonError::NotAString)));
     }
 }
 
@@ -40,6 +40,7 @@ fn values_that_are_no_strings_stand_for_nothing(rt: HostRuntime) -> Tried {
 #[test]
 fn errors_are_printed_and_copied(rt: HostRuntime) -> Tried {
     let alloc = rt.alloc();
+    assert!(rt; matches!(JsonError::from(Error::OutOfMemory), JsonError::OutOfMemory));
     let name = String::from_str(alloc, "lowest")?;
     let other = String::from_str(alloc, "")?;
     let rows = [
@@ -54,6 +55,5 @@ fn errors_are_printed_and_copied(rt: HostRuntime) -> Tried {
         ),
         ("out of memory", JsonError::from(Error::OutOfMemory)),
     ];
-    assert!(rt; rows[3].1 == JsonError::OutOfMemory);
     are_printed(&rt, alloc, &rows)
 }
