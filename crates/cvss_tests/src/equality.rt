@@ -70,8 +70,10 @@ fn vectors_of_v4_print_any_minor_version(rt: HostRuntime) -> Tried {
         ("CVSS:4.1", empty_v4(1)),
         ("CVSS:4.7", empty_v4(7)),
         ("CVSS:4.10", empty_v4(10)),
+        ("CVSS:4.12", empty_v4(12)),
         ("CVSS:4.18446744073709551615", empty_v4(usize::MAX)),
     ];
+    assert!(rt; !empty_v4(12).same_text(&empty_v4(0)));
     are_printed(&rt, rt.alloc(), &rows)
 }
 

@@ -71,22 +71,23 @@ fn passes(rt: &impl Abort, alloc: Global, text: &str, canonical: &str) -> Tried 
 
 /// Compares the text of a JSON value, which is the vector's too.
 fn stands_for(rt: &impl Abort, alloc: Global, value: &Value, canonical: &str) -> Tried {
-    assert!(rt;
-        matches!(value.as_str(), Some(text) if text == canonical),
-        "{canonical}"
-    );
+    assert!(rt; matches!(value.as_str(), Some(text) if text == canonical));
     assert!(rt; text_of(alloc, value)?.as_str() == canonical, "{canonical}");
     Ok(())
 }
 
-/// Writes a text's vector as a JSON value and reads it back.
+/// Converts a text and its vector to JSON values and back.
 fn comes_back(rt: &impl Abort, alloc: Global, text: &str, canonical: &str) -> Tried {
     assert!(rt;
         converted_and_back(alloc, text)?.as_str() == canonical,
         "{text}"
     );
-    let cvss = Cvss::from_str(alloc, text)?;
-    assert!(rt; written_and_read(alloc, &cvss)? == cvss, "{text}");
+    is_given_back(rt, alloc, &Cvss::from_str(alloc, text)?)
+}
+
+/// Writes a vector as a JSON value and reads it back.
+fn is_given_back(rt: &impl Abort, alloc: Global, cvss: &Cvss) -> Tried {
+    assert!(rt; written_and_read(alloc, cvss)? == *cvss);
     Ok(())
 }
 

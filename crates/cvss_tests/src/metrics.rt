@@ -154,18 +154,10 @@ fn values_are_those_of_their_spellings(rt: HostRuntime) {
     use cvss::v3::Metric as _;
     use v2::metric::base::AccessVector;
     use v3::metric::base::AttackVector;
-    assert!(rt;
-        matches!(
-            AccessVector::from_str(rt.alloc(), "L"),
-            Ok(AccessVector::Local)
-        )
-    );
-    assert!(rt;
-        matches!(
-            AttackVector::from_str(rt.alloc(), "N"),
-            Ok(AttackVector::Network)
-        )
-    );
+    let local = AccessVector::from_str(rt.alloc(), "L").ok();
+    let network = AttackVector::from_str(rt.alloc(), "N").ok();
+    assert!(rt; matches!(local, Some(AccessVector::Local)));
+    assert!(rt; matches!(network, Some(AttackVector::Network)));
 }
 
 #[test]
