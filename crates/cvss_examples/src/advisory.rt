@@ -5,7 +5,7 @@ ghost use Rattle.cvss.specs.Answers.{HasScore};
 ghost use Rattle.cvss_examples.specs.Advisories.{IsAdvisory, IsVectorAdvisory};
 
 use cvss::Cvss;
-use cvss::tenths::tenths_of;
+use cvss::tenths::{tenths_of, text_of};
 use std::alloc::{AllocError, Global};
 
 /// The canonical text of a text's vector, its score with one decimal and its severity; or the
@@ -25,7 +25,7 @@ fn vector_advisory(alloc: Global, cvss: &Cvss) -> Result<String, AllocError>
     ensures { IfOk result (λ advisory. IsVectorAdvisory cvss.now (string_bytes advisory)) }
 {
     let score = cvss.score();
-    let tenths = tenths_of(score);
+    let tenths = text_of(tenths_of(score));
     let severity = cvss.severity_of(score);
-    Ok(format!(in alloc; "{cvss}: {}.{} ({severity})", tenths / 10, tenths % 10)?)
+    Ok(format!(in alloc; "{cvss}: {tenths} ({severity})")?)
 }

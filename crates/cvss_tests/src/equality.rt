@@ -8,11 +8,8 @@ use std::process::Abort;
 
 #[test]
 fn vectors_of_any_version_differ_by_what_they_hold(rt: HostRuntime) -> Tried {
-    let old = v3::Vector::default();
-    let new = v3::Vector {
-        minor_version: 1,
-        ..old
-    };
+    let old = empty_v3(0);
+    let new = empty_v3(1);
     let rows = [
         ("3.0 of 0", Cvss::CvssV30(old)),
         ("3.0 of 1", Cvss::CvssV30(new)),
@@ -73,8 +70,10 @@ fn vectors_of_v4_print_any_minor_version(rt: HostRuntime) -> Tried {
         ("CVSS:4.1", empty_v4(1)),
         ("CVSS:4.7", empty_v4(7)),
         ("CVSS:4.10", empty_v4(10)),
+        ("CVSS:4.12", empty_v4(12)),
         ("CVSS:4.18446744073709551615", empty_v4(usize::MAX)),
     ];
+    assert!(rt; !empty_v4(12).same_text(&empty_v4(0)));
     are_printed(&rt, rt.alloc(), &rows)
 }
 
@@ -129,7 +128,8 @@ fn scores_of_v4_differ_by_count_and_nomenclature(rt: HostRuntime) -> Tried {
 /// The parts of a row of triage: its text, the scored text and the score.
 type Parts = (&'static str, &'static str, i128);
 
-fn row_of(alloc: Global, (text, scored, score): Parts) -> Result<Row, AllocError> {
+fn row_of(alloc: Global, parts: &Parts) -> Result<Row, AllocError> {
+    let (text, scored, score) = *parts;
     Ok(Row {
         text: String::from_str(alloc, text)?,
         scored: String::from_str(alloc, scored)?,
@@ -137,27 +137,27 @@ fn row_of(alloc: Global, (text, scored, score): Parts) -> Result<Row, AllocError
     })
 }
 
-/// Compares two rows, which are equal exactly where their parts are.
-fn differ_as_parts(rt: &impl Abort, alloc: Global, one: Parts, other: Parts) -> Tried {
-    let same = one == other;
-    let one = row_of(alloc, one)?;
-    let other = row_of(alloc, other)?;
-    assert!(rt; (one == other) == same && (one != other) != same);
+const PARTS: [Parts; 4] = [
+    ("text", "scored", 1),
+    ("texts", "scored", 1),
+    ("text", "scores", 1),
+    ("text", "scored", -1),
+];
+
+/// Compares the row at a place with each.
+fn is_like_itself_alone(rt: &impl Abort, alloc: Global, place: usize, row: &Row) -> Tried {
+    for (other_place, parts) in PARTS.iter().enumerate() {
+        let other = row_of(alloc, parts)?;
+        let same = place == other_place;
+        assert!(rt; (*row == other) == same && (*row != other) != same);
+    }
     Ok(())
 }
 
 #[test]
 fn rows_differ_by_each_part(rt: HostRuntime) -> Tried {
-    let rows = [
-        ("text", "scored", 1),
-        ("texts", "scored", 1),
-        ("text", "scores", 1),
-        ("text", "scored", -1),
-    ];
-    for one in rows {
-        for other in rows {
-            differ_as_parts(&rt, rt.alloc(), one, other)?;
-        }
+    for (place, parts) in PARTS.iter().enumerate() {
+        is_like_itself_alone(&rt, rt.alloc(), place, &row_of(rt.alloc(), parts)?)?;
     }
     Ok(())
 }

@@ -23,12 +23,9 @@ fn lists_of_each_version(rt: HostRuntime) {
     let of_v2: v2::Metrics = v2::Vector::default().metrics();
     let of_v3: v3::Metrics = v3::Vector::default().metrics();
     let of_v4: v4::Metrics = v4::Vector::default().metrics();
-    let rows = [
-        (Metrics::V2(of_v2).count(), 0),
-        (Metrics::V3(of_v3).count(), 0),
-        (Metrics::V4(of_v4).count(), 0),
-    ];
-    are_equal(&rt, &rows);
+    assert!(rt; Metrics::V2(of_v2).next().is_none());
+    assert!(rt; Metrics::V3(of_v3).next().is_none());
+    assert!(rt; Metrics::V4(of_v4).next().is_none());
 }
 
 #[test]

@@ -9,10 +9,10 @@ const COUNTS: [i128; 3] = [i128::MIN, 4 * ONE, i128::MAX];
 
 #[test]
 fn scores_of_v2_are_counts(rt: HostRuntime) {
-    for count in COUNTS {
-        let score = v2::Score::from(count);
-        assert!(rt; score == v2::Score::new(count) && i128::from(score) == count);
-        assert!(rt; Severity::from(score) == score.severity(), "{count}");
+    for count in &COUNTS {
+        let score = v2::Score::from(*count);
+        assert!(rt; score == v2::Score::new(*count) && i128::from(score) == *count);
+        assert!(rt; Severity::from(score) == score.severity());
     }
     assert!(rt; v2::Score::default().value() == 0);
     assert!(rt; v2::Score::new(-1) < v2::Score::default());
@@ -20,10 +20,10 @@ fn scores_of_v2_are_counts(rt: HostRuntime) {
 
 #[test]
 fn scores_of_v3_are_counts(rt: HostRuntime) {
-    for count in COUNTS {
-        let score = v3::Score::from(count);
-        assert!(rt; score == v3::Score::new(count) && i128::from(score) == count);
-        assert!(rt; Severity::from(score) == score.severity(), "{count}");
+    for count in &COUNTS {
+        let score = v3::Score::from(*count);
+        assert!(rt; score == v3::Score::new(*count) && i128::from(score) == *count);
+        assert!(rt; Severity::from(score) == score.severity());
     }
     assert!(rt; v3::Score::default().value() == 0);
     assert!(rt; v3::Score::new(1) < v3::Score::new(2));

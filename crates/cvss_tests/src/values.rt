@@ -1,6 +1,6 @@
 //! What is asked of the values of every public type: that they are told apart, copied and printed.
 
-use std::alloc::Global;
+use std::alloc::{AllocError, Global};
 use std::fmt;
 use std::process::Abort;
 use std::test::Fail;
@@ -15,25 +15,23 @@ pub(crate) fn are_equal<T: PartialEq>(rt: &impl Abort, rows: &[(T, T)]) {
     }
 }
 
-/// Compares each value with each. Two are equal exactly where their texts are.
-pub(crate) fn are_told_apart<T: PartialEq>(rt: &impl Abort, rows: &[(&str, T)]) {
-    for (text, one) in rows {
-        for (other_text, other) in rows {
-            let same = text == other_text;
-            assert!(rt; (one == other) == same, "{text} {other_text}");
-            assert!(rt; (one != other) != same, "{text} {other_text}");
-        }
+/// Whether a value equals the one of its own text, and no other.
+fn is_told_apart<T: PartialEq>(rows: &[(&str, T)], text: &str, value: &T) -> bool {
+    let mut apart = true;
+    for (other_text, other) in rows {
+        let same = text == *other_text;
+        apart = apart && (value == other) == same && (value != other) != same;
     }
+    apart
 }
 
-/// Copies each value, after it was compared with each.
+/// Copies each value, and compares the copy with each. Two are equal exactly where their texts are.
 pub(crate) fn are_copied<T>(rt: &impl Abort, rows: &[(&str, T)]) -> Tried
 where
     T: Clone + PartialEq,
 {
-    are_told_apart(rt, rows);
     for (text, value) in rows {
-        assert!(rt; value.clone()? == *value, "{text}");
+        assert!(rt; is_told_apart(rows, text, &value.clone()?), "{text}");
     }
     Ok(())
 }
@@ -57,10 +55,16 @@ pub(crate) fn prints<T: fmt::Display>(
     value: &T,
     text: &str,
 ) -> Tried {
-    assert_eq!(rt; value.to_string(alloc)?.as_str(), text);
-    let styled = format!(in alloc;
-        "{value:>200}\n{value:<12}\n{value:*^9.3}\n{value:#}\n{value:+}"
-    )?;
-    assert!(rt; styled.split('\n').all(|each| each == text), "{text}");
+    let lines = styled(alloc, value)?;
+    assert!(rt; are_lines_of(&lines, text), "{text}");
     Ok(())
+}
+
+/// What a value prints, without options and under some, line by line.
+fn styled<T: fmt::Display>(alloc: Global, value: &T) -> Result<String, AllocError> {
+    format!(in alloc; "{value}\n{value:>200}\n{value:<12}\n{value:*^9.3}\n{value:#}\n{value:+}")
+}
+
+fn are_lines_of(lines: &str, text: &str) -> bool {
+    lines.split('\n').all(|line| line == text)
 }

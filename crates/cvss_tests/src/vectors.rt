@@ -1,6 +1,6 @@
 //! Tests of vectors that no text denotes, and of which variant a text's vector is.
 
-use crate::values::{Tried, prints};
+use crate::values::{Tried, are_printed, prints};
 use cvss::{Cvss, v2, v3, v4};
 
 /// The version that a vector tells.
@@ -27,10 +27,8 @@ const VERSIONS: [(&str, &str); 4] = [
 #[test]
 fn a_text_is_a_vector_of_the_version_that_it_tells(rt: HostRuntime) -> Tried {
     for (text, version) in &VERSIONS {
-        assert!(rt;
-            version_of(&Cvss::from_str(rt.alloc(), text)?) == *version,
-            "{text}"
-        );
+        let cvss = Cvss::from_str(rt.alloc(), text)?;
+        assert!(rt; version_of(&cvss) == *version, "{text}");
     }
     Ok(())
 }
@@ -46,16 +44,14 @@ fn an_incomplete_vector_of_v4_has_no_score(rt: HostRuntime) {
 #[test]
 fn prints_vectors_of_v2_that_no_text_denotes(rt: HostRuntime) -> Tried {
     let empty = v2::Vector::default();
-    prints(&rt, rt.alloc(), &empty, "")?;
     let vector = v2::Vector {
         a: Some(v2::metric::base::AvailabilityImpact::Partial),
         rl: Some(v2::metric::temporal::RemediationLevel::NotDefined),
         ..empty
     };
-    prints(&rt, rt.alloc(), &vector, "A:P/RL:ND")?;
-    assert!(rt; !vector.same_text(&empty) && vector != empty);
+    assert!(rt; !vector.same_text(&empty));
     assert!(rt; vector.metrics().count() == 2);
-    Ok(())
+    are_printed(&rt, rt.alloc(), &[("", empty), ("A:P/RL:ND", vector)])
 }
 
 #[test]
@@ -71,34 +67,24 @@ fn prints_vectors_of_v3_that_no_text_denotes(rt: HostRuntime) -> Tried {
         ..empty
     };
     let printed = "CVSS:3.1234567890/AV:P/MAV:A/MS:X";
-    prints(&rt, rt.alloc(), &vector, printed)?;
-    assert!(rt; !vector.same_text(&empty) && vector != empty);
-    Ok(())
-}
-
-#[test]
-fn vectors_of_v4_differ_by_their_minor_version(rt: HostRuntime) -> Tried {
-    let empty = v4::Vector::default();
-    let mut later = empty;
-    later.minor_version = 12;
-    prints(&rt, rt.alloc(), &later, "CVSS:4.12")?;
-    assert!(rt; !later.same_text(&empty) && later != empty);
-    Ok(())
+    assert!(rt; !vector.same_text(&empty));
+    are_printed(&rt, rt.alloc(), &[("CVSS:3.0", empty), (printed, vector)])
 }
 
 #[test]
 fn a_vector_of_another_minor_version_is_read_back_as_of_that(rt: HostRuntime) -> Tried {
-    let vector = v3::Vector {
+    let empty = v3::Vector {
         minor_version: 1,
         ..v3::Vector::default()
     };
-    prints(&rt, rt.alloc(), &Cvss::CvssV30(vector), "CVSS:3.1")?;
+    prints(&rt, rt.alloc(), &Cvss::CvssV30(empty), "CVSS:3.1")?;
     let vector = v3::Vector {
         av: Some(v3::metric::base::AttackVector::Network),
-        ..vector
+        ..empty
     };
     let text = "CVSS:3.1/AV:N";
     prints(&rt, rt.alloc(), &Cvss::CvssV30(vector), text)?;
-    assert!(rt; Cvss::read_bytes(text.as_bytes()) == Some(Cvss::CvssV31(vector)));
+    let read = Cvss::read_bytes(text.as_bytes());
+    assert!(rt; matches!(read, Some(Cvss::CvssV31(read)) if read == vector));
     Ok(())
 }

@@ -1,63 +1,57 @@
 //! Tests of how runs end, and of the calls that programs make for themselves.
 
 use super::streams::{Interrupted, Narrow};
+use crate::values::{Tried, are_copied, are_printed};
 use cvss_lines::{RunFault, Summary, exit_status, first_line, write_whole};
 use cvss_program::{Request, asked};
-use std::alloc::Global;
 use std::process::Abort;
-use std::test::Fail;
+
+const ACCEPTED: Summary = Summary {
+    accepted: 2,
+    refused: 0,
+};
+
+const REFUSED: Summary = Summary {
+    refused: 1,
+    ..ACCEPTED
+};
+
+const FEWER: Summary = Summary {
+    accepted: 1,
+    ..ACCEPTED
+};
 
 #[test]
-fn tells_how_it_ended(rt: HostRuntime) -> Result<(), Fail> {
-    let accepted = Summary {
-        accepted: 2,
-        refused: 0,
-    };
-    let refused = Summary {
-        refused: 1,
-        ..accepted
-    };
-    let fewer = Summary {
-        accepted: 1,
-        ..accepted
-    };
-    assert_eq!(rt; exit_status(&Ok(accepted)), 0);
-    assert_eq!(rt; exit_status(&Ok(refused)), 1);
-    assert!(rt; accepted != refused && accepted != fewer && !(accepted == refused));
-    assert!(rt; accepted == accepted.clone()? && fewer == fewer.clone()?);
-    Ok(())
+fn summaries_differ_by_each_count(rt: HostRuntime) -> Tried {
+    are_copied(&rt, &[("2 0", ACCEPTED), ("2 1", REFUSED), ("1 0", FEWER)])
 }
 
-/// The faults and their texts.
-const FAULTS: [(RunFault, &str); 3] = [
-    (RunFault::Read, "read failed"),
-    (RunFault::Write, "write failed"),
-    (RunFault::Memory, "out of memory"),
+/// How runs end, with the status of each.
+const STATUSES: [(Result<Summary, RunFault>, u8); 5] = [
+    (Ok(ACCEPTED), 0),
+    (Ok(REFUSED), 1),
+    (Err(RunFault::Read), 2),
+    (Err(RunFault::Write), 2),
+    (Err(RunFault::Memory), 2),
 ];
 
 #[test]
-fn tells_every_fault(rt: HostRuntime) -> Result<(), Fail> {
-    for (fault, text) in &FAULTS {
-        assert_eq!(rt; exit_status(&Err(*fault)), 2);
-        is_printed(&rt, rt.alloc(), fault, text)?;
-        is_told_apart(&rt, *fault, text);
+fn tells_how_it_ended(rt: HostRuntime) {
+    for (ended, status) in &STATUSES {
+        assert!(rt; exit_status(ended) == *status);
     }
-    Ok(())
 }
 
-/// Compares what a copy of a fault prints.
-fn is_printed(rt: &impl Abort, alloc: Global, fault: &RunFault, text: &str) -> Result<(), Fail> {
-    assert_eq!(rt; fault.clone()?.to_string(alloc)?.as_str(), text);
-    Ok(())
-}
+/// The faults and their texts.
+const FAULTS: [(&str, RunFault); 3] = [
+    ("read failed", RunFault::Read),
+    ("write failed", RunFault::Write),
+    ("out of memory", RunFault::Memory),
+];
 
-/// Compares a fault with each. Two are equal exactly where their texts are.
-fn is_told_apart(rt: &impl Abort, fault: RunFault, text: &str) {
-    for (other, other_text) in &FAULTS {
-        let same = text == *other_text;
-        assert!(rt; (fault == *other) == same, "{text}");
-        assert!(rt; (fault != *other) != same, "{text}");
-    }
+#[test]
+fn tells_every_fault(rt: HostRuntime) -> Tried {
+    are_printed(&rt, rt.alloc(), &FAULTS)
 }
 
 #[test]
@@ -67,9 +61,15 @@ fn without_arguments_a_run_is_asked_for(rt: HostRuntime) {
 
 #[test]
 fn cuts_off_the_first_line(rt: HostRuntime) {
-    assert!(rt; first_line(b"") == None);
-    assert!(rt; first_line(b"a\r\nb") == Some((&b"a"[..], &b"b"[..])));
-    assert!(rt; first_line(b"b\r") == Some((&b"b"[..], &b""[..])));
+    assert!(rt; first_line(b"").is_none());
+    is_cut_off(&rt, b"a\r\nb", b"a", b"b");
+    is_cut_off(&rt, b"b\r", b"b", b"");
+}
+
+/// Compares a text's first line and what stands behind it.
+fn is_cut_off(rt: &impl Abort, text: &[u8], line: &[u8], behind: &[u8]) {
+    let (cut, rest) = first_line(text).unwrap_or((b"", b"no line"));
+    assert!(rt; cut == line && rest == behind);
 }
 
 #[test]
@@ -79,9 +79,9 @@ fn writes_all_bytes_in_pieces(rt: HostRuntime) {
         room: 8,
         fails: false,
     };
-    assert!(rt; write_whole(&mut writer, b"answers") == Ok(()));
+    assert!(rt; write_whole(&mut writer, b"answers").is_ok());
     assert!(rt; writer.taken.as_slice() == b"answers".as_slice());
-    assert!(rt; write_whole(&mut writer, b"more") == Err(RunFault::Write));
+    assert!(rt; matches!(write_whole(&mut writer, b"more"), Err(RunFault::Write)));
 }
 
 #[test]
@@ -90,6 +90,6 @@ fn writes_again_behind_an_interruption(rt: HostRuntime) {
         taken: Vec::new(rt.alloc()),
         goes_on: false,
     };
-    assert!(rt; write_whole(&mut writer, b"ab") == Ok(()));
+    assert!(rt; write_whole(&mut writer, b"ab").is_ok());
     assert!(rt; writer.taken.as_slice() == b"ab".as_slice());
 }

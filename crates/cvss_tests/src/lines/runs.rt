@@ -4,10 +4,11 @@ ghost use Rattle.cvss_tests.specs.Echo.{IsEcho};
 
 use super::kinds::KINDS;
 use super::streams::{Narrow, Steps};
+use crate::values::Tried;
 use cvss_lines::{Answering, Gathered, RunFault, Summary, run};
 use std::alloc::{AllocError, Global};
+use std::io::ErrorKind;
 use std::process::Abort;
-use std::test::Fail;
 
 /// Lines that are their own answers. An empty one is refused.
 struct Echo {}
@@ -54,11 +55,16 @@ fn answers_lines_that_reads_cut(rt: HostRuntime) {
 fn is_answered(rt: &impl Abort, alloc: Global, row: &Row<'_>, step: usize) {
     let (bytes, written, accepted, refused) = *row;
     let fault = None;
-    let mut reader = Steps { bytes, step, fault };
-    let mut writer = writer_of(alloc, usize::MAX, false);
-    let result = run::<Echo, Steps<'_>, Narrow>(alloc, &mut reader, &mut writer);
-    assert_eq!(rt; result, Ok(Summary { accepted, refused }), "{step}");
-    has_taken(rt, &writer, written);
+    let ended = Ok(Summary { accepted, refused });
+    let writer = writer_of(alloc, usize::MAX, false);
+    ends_so(
+        rt,
+        alloc,
+        Steps { bytes, step, fault },
+        writer,
+        ended,
+        written,
+    );
 }
 
 fn writer_of(alloc: Global, room: usize, fails: bool) -> Narrow {
@@ -69,8 +75,17 @@ fn writer_of(alloc: Global, room: usize, fails: bool) -> Narrow {
     }
 }
 
-fn has_taken(rt: &impl Abort, writer: &Narrow, written: &[u8]) {
-    assert!(rt; writer.taken.as_slice() == written);
+/// Runs, and compares how that ends and what the writer has taken.
+fn ends_so(
+    rt: &impl Abort,
+    alloc: Global,
+    mut reader: Steps<'_>,
+    mut writer: Narrow,
+    ended: Result<Summary, RunFault>,
+    written: &[u8],
+) {
+    let result = run::<Echo, Steps<'_>, Narrow>(alloc, &mut reader, &mut writer);
+    assert!(rt; result == ended && writer.taken.as_slice() == written);
 }
 
 /// Inputs behind which the reader fails, and what is written: the answers of the lines that are
@@ -82,47 +97,66 @@ fn answers_ended_lines_before_a_failed_read(rt: HostRuntime) {
     for row in &CUT_OFF {
         for kind in &KINDS {
             for step in [1, 100] {
-                let (bytes, fault) = (row.0, Some(*kind));
-                let reader = Steps { bytes, step, fault };
-                is_answered_until(&rt, rt.alloc(), reader, row.1);
+                is_answered_until(&rt, rt.alloc(), row, *kind, step);
             }
         }
     }
 }
 
-/// Runs over a reader that fails, and compares what is written.
-fn is_answered_until(rt: &impl Abort, alloc: Global, mut reader: Steps<'_>, written: &[u8]) {
-    let mut writer = writer_of(alloc, usize::MAX, false);
-    let result = run::<Echo, Steps<'_>, Narrow>(alloc, &mut reader, &mut writer);
-    assert_eq!(rt; result, Err(RunFault::Read));
-    has_taken(rt, &writer, written);
+/// Runs over a reader that fails.
+fn is_answered_until(
+    rt: &impl Abort,
+    alloc: Global,
+    row: &(&[u8], &[u8]),
+    kind: ErrorKind,
+    step: usize,
+) {
+    let (bytes, fault) = (row.0, Some(kind));
+    let writer = writer_of(alloc, usize::MAX, false);
+    let reader = Steps { bytes, step, fault };
+    ends_so(rt, alloc, reader, writer, Err(RunFault::Read), row.1);
 }
+
+/// Rooms that are less than the answers need, and what a writer takes that has them.
+const ROOMS: [(usize, &[u8]); 4] = [(0, b""), (2, b"AV"), (3, b"AV:"), (10, b"AV:N/AC:L/")];
 
 #[test]
 fn writes_a_beginning_to_a_full_writer(rt: HostRuntime) {
     for fails in [false, true] {
-        for room in [0, 2, 3, 10] {
-            is_cut(&rt, rt.alloc(), room, fails);
+        for (room, written) in &ROOMS {
+            is_cut(
+                &rt,
+                rt.alloc(),
+                writer_of(rt.alloc(), *room, fails),
+                written,
+            );
         }
     }
 }
 
 /// Runs over a writer with less room than the answers need.
-fn is_cut(rt: &impl Abort, alloc: Global, room: usize, fails: bool) {
+fn is_cut(rt: &impl Abort, alloc: Global, mut writer: Narrow, written: &[u8]) {
     let mut reader: &[u8] = b"AV:N/AC:L/Au:N/C:N/I:N/A:C\nx";
-    let mut writer = writer_of(alloc, room, fails);
     let result = run::<Echo, &[u8], Narrow>(alloc, &mut reader, &mut writer);
-    assert_eq!(rt; result, Err(RunFault::Write));
-    has_taken(rt, &writer, &b"AV:N/AC:L/Au:N"[..room.min(14)]);
+    assert!(rt; result == Err(RunFault::Write) && writer.taken.as_slice() == written);
 }
 
 #[test]
-fn answers_a_line_longer_than_a_chunk(rt: HostRuntime) -> Result<(), Fail> {
-    let mut line = "q".repeat(rt.alloc(), 200_000)?;
-    line.push('\n')?;
+fn answers_a_line_longer_than_a_chunk(rt: HostRuntime) -> Tried {
+    let line = long_line(rt.alloc())?;
     for step in [999, 1_000_000] {
-        let row = (line.as_bytes(), line.as_bytes(), 1, 0);
-        is_answered(&rt, rt.alloc(), &row, step);
+        is_answered(
+            &rt,
+            rt.alloc(),
+            &(line.as_bytes(), line.as_bytes(), 1, 0),
+            step,
+        );
     }
     Ok(())
+}
+
+fn long_line(alloc: Global) -> Result<String, AllocError> {
+    let mut line = "q".repeat(alloc, 200_000)?;
+    line.push('\n')?;
+    Ok(line)
 }

@@ -10,7 +10,6 @@ use super::samples::{HARMLESS, LEAST, WORST};
 use cvss_laws::v4::{a_millionth_changes_no_score, scores_are_unique, severe_values_score_no_less};
 use cvss_score::v4::scoring::effective::Effective;
 use cvss_score::v4::scoring::score_tenths;
-use std::test::Fail;
 
 /// The score, taken twice.
 fn taken_twice(effective: &Effective) -> (u8, u8)
@@ -38,12 +37,11 @@ fn lifted_score(effective: &Effective) -> u8
 }
 
 #[test]
-fn callers_agree(rt: HostRuntime) -> Result<(), Fail> {
+fn callers_agree(rt: HostRuntime) {
     let (first, second) = taken_twice(&WORST);
-    assert_eq!(rt; first, second);
+    assert!(rt; first == second);
     let (severe, mild) = scores_in_order(&WORST, &WORST);
-    assert_eq!(rt; severe, mild);
-    assert_eq!(rt; lifted_score(&LEAST), 1);
-    assert_eq!(rt; lifted_score(&HARMLESS), 0);
-    Ok(())
+    assert!(rt; severe == mild);
+    assert!(rt; lifted_score(&LEAST) == 1);
+    assert!(rt; lifted_score(&HARMLESS) == 0);
 }
