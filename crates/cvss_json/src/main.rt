@@ -1,9 +1,17 @@
-//! Reads the JSON string of each line's text and writes the text of the JSON string of what it
-//! stands for; or the step that failed, and why. The first word of a line names the type.
+//! Answers lines about JSON, to be compared with answers from outside. The first word of a line says
+//! what is asked of what stands behind it:
 //!
-//! Each step that can lack memory is told apart, so that a run in which a request for memory is
-//! refused shows where the want of it was answered.
+//! - `cvss`, `v2`, `v3`, `v4`, `severity`, `nomenclature`, and a text of such a type: the text of the
+//!   JSON string of what the JSON string of the text stands for; or the step that failed, and why.
+//! - `record TEXT`: the vector's record, a JSON object.
+//! - `differ TEXT OBJECT`: the members of an object that say otherwise than the vector.
+//! - `places DOCUMENT`: where vectors stand in it, and the members there that say otherwise.
+//!
+//! Each step of a conversion that can lack memory is told apart, so that a run in which a request for
+//! memory is refused shows where the want of it was answered.
 #![tactic(auto)]
+
+mod records;
 
 use cvss::json::JsonText;
 use cvss::{Cvss, Severity, v2, v3, v4};
@@ -18,7 +26,7 @@ fn main(rt: HostRuntime) -> io::Result<()> {
     Ok(())
 }
 
-fn answer(rt: &(impl Print + AllocGlobal), line: &str) -> io::Result<()> {
+fn answer(rt: &HostRuntime, line: &str) -> io::Result<()> {
     match line.split_once(' ') {
         Some(("cvss", text)) => convert::<Cvss>(rt, text),
         Some(("severity", text)) => convert::<Severity>(rt, text),
@@ -26,6 +34,9 @@ fn answer(rt: &(impl Print + AllocGlobal), line: &str) -> io::Result<()> {
         Some(("v2", text)) => convert::<v2::Vector>(rt, text),
         Some(("v3", text)) => convert::<v3::Vector>(rt, text),
         Some(("v4", text)) => convert::<v4::Vector>(rt, text),
+        Some(("record", text)) => records::record(rt, text),
+        Some(("differ", asked)) => records::differ(rt, asked),
+        Some(("places", document)) => records::places(rt, document),
         _ => println!(rt; "no such type"),
     }
 }

@@ -28,16 +28,12 @@
 //! - `tenths NUMBER`: the text of a number of tenths.
 //! - `rank +OVERRIDE .. =TEXT ..`: triage, its rows or the first refusal.
 //! - `overrides OVERRIDE ..`: the vector of v4 of these components alone.
-//! - `record TEXT`: the record, a JSON object.
-//! - `differ TEXT OBJECT`: the members of an object that say otherwise than the vector.
-//! - `places DOCUMENT`: where vectors stand in it, and the members there that say otherwise.
 #![tactic(auto)]
 
 mod faults;
 mod kinds;
 mod numbers;
 mod ranking;
-mod records;
 mod scores;
 mod shown;
 mod values2;
@@ -87,9 +83,6 @@ fn answer_marked(rt: &HostRuntime, line: &[u8], mark: &str, asked: &str) -> io::
         "metrics" => vectors::metrics(rt, asked),
         "sight" => vectors::at_sight(rt, asked),
         "same" => vectors::same(rt, asked),
-        "record" => records::record(rt, asked),
-        "differ" => records::differ(rt, asked),
-        "places" => records::places(rt, asked),
         _ => answer_otherwise(rt, line, mark, asked),
     }
 }

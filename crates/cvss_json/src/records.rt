@@ -1,9 +1,8 @@
 //! Records, what an object says otherwise, and where vectors stand.
 
-ghost use Rattle.cvss_any.specs.Answers.{HasScore};
+ghost use Rattle.cvss.specs.Answers.{HasScore};
 
-use crate::shown::print_error;
-use cvss_any::Cvss;
+use cvss::{Cvss, Error};
 use cvss_record::{Difference, Form, Place, differences, differences_at, record_of, vectors_in};
 use serde_json::Value;
 use std::io;
@@ -14,6 +13,10 @@ pub(crate) fn record(rt: &HostRuntime, text: &str) -> io::Result<()> {
         Ok(vector) => print_record(rt, &vector, &record_of(rt.alloc(), &vector)?),
         Err(error) => print_error(rt, &error),
     }
+}
+
+fn print_error(rt: &HostRuntime, error: &Error) -> io::Result<()> {
+    println!(rt; "error: {error}")
 }
 
 fn print_record(rt: &HostRuntime, vector: &Cvss, record: &Value) -> io::Result<()>
