@@ -1,14 +1,15 @@
 //! The accounts of the scores of CVSS v2 (guide, section 3.2).
 
 ghost use Rattle.std.specs.Prelude.{◌≡◌, IfOk, OnOk};
-ghost use Rattle.cvss_account.specs.V2.{AreAccountMembers, base_value, environmental_value, temporal_value, weights_value};
+ghost use Rattle.cvss_account.specs.V2.{AreAccountMembers, base_value, environmental_value, temporal_value, weight_value, weights_value};
 ghost use Rattle.cvss_account.specs.private.Told.{PutsNumbers, told_object};
 ghost use Rattle.serde_json.specs.View.{members_view, view};
 
 mod numbers;
 
 use crate::decimal::{decimal_value, ten_millionths};
-use crate::members::{Member, Members, Result, Told, object};
+use crate::members::{Member, Members, Result, Told, put_parts};
+use cvss_base::v2::MetricType;
 use cvss_text::metrics::Listed;
 use cvss_v2::Vector;
 use numbers::{BaseNumbers, EnvironmentalNumbers, TemporalNumbers};
@@ -23,10 +24,8 @@ pub(crate) fn put_account(members: &mut Members, alloc: Global, vector: &Vector)
     let base = base_members(BaseNumbers::of(vector));
     let temporal = temporal_members(TemporalNumbers::of(vector));
     let adjusted = environmental_members(EnvironmentalNumbers::of(vector));
-    put(members, alloc, "weights", weights_value(alloc, vector)?)?;
-    put(members, alloc, "base", object(alloc, &base)?)?;
-    put(members, alloc, "temporal", object(alloc, &temporal)?)?;
-    put(members, alloc, "environmental", object(alloc, &adjusted)?)
+    let weights = weights_value(alloc, vector)?;
+    put_parts(members, alloc, weights, &base, &temporal, &adjusted)
 }
 
 /// What each metric weighs.
@@ -35,10 +34,21 @@ fn weights_value(alloc: Global, vector: &Vector) -> Result<Value>
 {
     let mut members = Map::new(alloc);
     for kind in Vector::listed() {
-        let weight = decimal_value(ten_millionths(vector.weight(*kind)));
-        put(&mut members, alloc, kind.name(), weight)?;
+        put(
+            &mut members,
+            alloc,
+            kind.name(),
+            weight_value(vector, *kind),
+        )?;
     }
     Ok(Value::Object(members))
+}
+
+/// What a metric weighs.
+fn weight_value(vector: &Vector, kind: MetricType) -> Value
+    ensures { view result ≡ weight_value vector.now kind }
+{
+    decimal_value(ten_millionths(vector.weight(kind)))
 }
 
 /// What is told of the base score.

@@ -10,7 +10,7 @@ ghost use Rattle.serde_json.specs.View.{members_view, view};
 mod numbers;
 
 use crate::decimal::{decimal_value, ten_millionths};
-use crate::members::{Member, Members, Result, Told, object, put_told};
+use crate::members::{Member, Members, Result, Told, put_parts, put_told};
 use cvss_base::TENTH;
 use cvss_base::v3::MetricType;
 use cvss_text::metrics::Listed;
@@ -34,10 +34,8 @@ pub(crate) fn put_account(members: &mut Members, alloc: Global, vector: &Vector)
     let temporal = temporal_members(Scored::temporal(vector));
     let modified = environmental_members(EnvironmentalNumbers::of(vector));
     put_told(members, alloc, &scopes)?;
-    put(members, alloc, "weights", weights_value(alloc, vector)?)?;
-    put(members, alloc, "base", object(alloc, &base)?)?;
-    put(members, alloc, "temporal", object(alloc, &temporal)?)?;
-    put(members, alloc, "environmental", object(alloc, &modified)?)
+    let weights = weights_value(alloc, vector)?;
+    put_parts(members, alloc, weights, &base, &temporal, &modified)
 }
 
 fn scope_letter(changed: bool) -> &'static str

@@ -1,17 +1,18 @@
 //! The account of a score of CVSS v4.0 (specification, section 8.2).
 
-ghost use Rattle.std.specs.Prelude.{◌≡◌, IfOk, OnOk};
+ghost use Rattle.std.specs.Prelude.{◌≡◌, IfOk, OnOk, map};
 ghost use Rattle.cvss_v4.specs.Vector.{v4};
 ghost use Rattle.cvss_base.specs.Version.{IsComplete};
 ghost use Rattle.cvss_account.specs.V4.{AreAccountMembers, group_members};
-ghost use Rattle.cvss_account.specs.private.Told.{PutsNumbers, digits_text, groups_value, told_members};
+ghost use Rattle.cvss_account.specs.private.Told.{PutsNumbers, digits_text, groups_value, told_members, told_object};
 ghost use Rattle.cvss_score.specs.v4.Account.{AreInRange, IsInRange};
-ghost use Rattle.serde_json.specs.View.{members_view, view};
+ghost use Rattle.serde_json.specs.Data.{array};
+ghost use Rattle.serde_json.specs.View.{items_of, members_view, view};
 
 mod effective;
 
 use crate::decimal::of_parts;
-use crate::members::{Member, Members, Result, Told, object, put_told};
+use crate::members::{Member, Members, Result, Told, object, put_object, put_told};
 use cvss_score::v4::scoring::account::GroupAccount;
 use cvss_v4::{Account, Vector};
 use effective::effective_told;
@@ -39,7 +40,7 @@ pub(crate) fn put_account(members: &mut Members, alloc: Global, vector: &Vector)
     ];
     let nomenclature = vector.nomenclature().to_string(alloc)?;
     put(members, alloc, "nomenclature", Value::String(nomenclature))?;
-    put(members, alloc, "effective", object(alloc, &effective)?)?;
+    put_object(members, alloc, "effective", &effective)?;
     put_told(members, alloc, &class)?;
     put(members, alloc, "groups", groups_value(alloc, &account)?)?;
     put_told(members, alloc, &numbers)
@@ -50,9 +51,8 @@ fn groups_value(alloc: Global, account: &Account) -> Result<Value>
     requires { AreInRange account.now }
     ensures { IfOk result (λ value. view value ≡ groups_value account.now) }
 {
-    let mut values = Vec::new(alloc);
     let Some(groups) = &account.groups else {
-        return Ok(Value::Array(values));
+        return Ok(Value::Array(Vec::new(alloc)));
     };
     let (class, value) = (&account.class, account.value);
     let eq6 = Some(class.eq6);
@@ -63,7 +63,15 @@ fn groups_value(alloc: Global, account: &Account) -> Result<Value>
         group_told("EQ4", (class.eq4, None), value, &groups.eq4),
         group_told("EQ5", (class.eq5, None), value, &groups.eq5),
     ];
-    for group in &told {
+    objects(alloc, &told)
+}
+
+/// The array of the objects of these members.
+fn objects(alloc: Global, told: &[Group]) -> Result<Value>
+    ensures { IfOk result (λ value. view value ≡ array (items_of (map told_object told.now))) }
+{
+    let mut values = Vec::new(alloc);
+    for group in told {
         push(&mut values, object(alloc, group)?)?;
     }
     Ok(Value::Array(values))

@@ -10,7 +10,7 @@ use Rattle.json.specs.Print.{ends, print, print_from, quoted}
 use Rattle.json.specs.Token.{Token, key}
 use Rattle.json.specs.Tree as tree
 use Rattle.json.specs.Tree.{HasNumbers, items_tokens, json_tokens, members_tokens}
-use Rattle.serde_json.specs.Data.{Data, array, object, Items, no_items, item, Members, no_members, member, depth, items_depth, members_depth}
+use Rattle.serde_json.specs.Data.{Data, string, array, object, Items, no_items, item, Members, no_members, member, depth, items_depth, members_depth}
 use Rattle.serde_json.specs.Read.{max_depth, of_json, read}
 use Rattle.serde_json.specs.Written.{blank, blank_items, blank_members, comma_if, items_outline, members_outline, outline}
 use Rattle.cvss_object.specs.Texts.{IsTextOf}
@@ -91,6 +91,19 @@ text_of value text is =
       compact = compact;
       one_line = one_line text compact;
     }
+
+-- what is printed for a string
+string_print : (s : List ℕ) (j : json.Json) → blank j ≡ json.string s → print (json_tokens j) ≡ quoted s
+unfolding print_from
+string_print s (json.string x) same = append-nil (quoted x) ∙ cc
+string_print s json.null same = absurd (cc)
+string_print s (json.boolean b) same = absurd (cc)
+string_print s (json.number x) same = absurd (cc)
+string_print s (json.array js) same = absurd (cc)
+string_print s (json.object ms) same = absurd (cc)
+
+pub string_quoted : (s text : List ℕ) → IsTextOf (string s) text → text ≡ quoted s
+string_quoted s text is = is.compact ∙ ap print is.in_order.1 ∙ string_print s is.in_order.0 is.in_order.2
 
 -- ---- how what is printed for a value stands among others
 

@@ -4,7 +4,7 @@ ghost use Rattle.std.specs.Prelude.{◌≡◌, ◌++◌, [], ◌∷◌, OnOk};
 ghost use Rattle.cvss_object.specs.Trees.{members_view, tree_view, trees_view};
 ghost use Rattle.cvss_object.specs.private.Pushes.{PushesText};
 ghost use Rattle.json.specs.Print.{quoted};
-ghost use Rattle.serde_json.specs.Data.{array, object};
+ghost use Rattle.serde_json.specs.Data.{array, object, string};
 ghost use Rattle.serde_json.specs.View.{view};
 ghost use Rattle.serde_json.specs.Written.{comma_if};
 
@@ -21,7 +21,7 @@ fn push_tree(alloc: Global, tree: &Tree<'_>, answers: &mut Gathered) -> Result<(
     match tree {
         Tree::Own(value) => push_value(alloc, value, answers),
         Tree::Lent(value) => push_value(alloc, value, answers),
-        Tree::Text(text) => push_value(alloc, &Value::try_from_str(alloc, text)?, answers),
+        Tree::Text(text) => push_text(alloc, text, answers),
         Tree::Array(items) => push_items(alloc, items, answers),
         Tree::Object(members) => push_members(alloc, members, answers),
     }
@@ -58,7 +58,7 @@ pub(crate) fn push_members(
 {
     answers.push(b"{")?;
     let mut later = false;
-    for (name, member) in members.iter() {
+    for (name, member) in members {
         push_name(alloc, later, name.as_str(), answers)?;
         push_tree(alloc, member, answers)?;
         later = true;
@@ -77,8 +77,7 @@ fn push_name(
         ≡ answers.old.bytes.items ++ (comma_if later ++ (quoted name.now ++ 58 ∷ []))) }
 {
     push_comma(later, answers)?;
-    let text = Value::try_from_str(alloc, name)?.to_vec(alloc)?;
-    answers.push(&text)?;
+    push_text(alloc, name, answers)?;
     answers.push(b":")
 }
 
@@ -87,6 +86,16 @@ fn push_comma(later: bool, answers: &mut Gathered) -> Result<(), AllocError>
     ensures { OnOk result (answers.new.bytes.items ≡ answers.old.bytes.items ++ comma_if later) }
 {
     if later { answers.push(b",") } else { Ok(()) }
+}
+
+/// Appends the text of a string.
+fn push_text(alloc: Global, text: &str, answers: &mut Gathered) -> Result<(), AllocError>
+    ensures value { OnOk result (PushesText (string text.now)
+        answers.old.bytes.items answers.new.bytes.items) }
+    ensures quoted { OnOk result (answers.new.bytes.items
+        ≡ answers.old.bytes.items ++ quoted text.now) }
+{
+    push_value(alloc, &Value::try_from_str(alloc, text)?, answers)
 }
 
 /// Appends the text of a value.

@@ -1,9 +1,10 @@
 //! Where an object says otherwise than the vector's record.
 
-ghost use Rattle.std.specs.Prelude.{◌≡◌, IfOk, OnOk, map};
+ghost use Rattle.std.specs.Prelude.{◌≡◌, ◌∷◌, [], IfOk, OnOk, map};
 ghost use Rattle.std.specs.Option.{option_to_list};
 ghost use Rattle.cvss_any.specs.Answers.{HasScore};
-ghost use Rattle.cvss_record.specs.Differences.{AreDifferences, AreDifferencesAt, difference_at, difference_from, difference_view, github_difference, member_differences, osv_type, record_differences, score_differences, type_differences};
+ghost use Rattle.cvss_record.specs.Differences.{AreDifferences, AreDifferencesAt, difference_at, difference_from, difference_view, github_difference, member_differences, osv_type, record_differences, said_view, score_differences, type_differences};
+ghost use Rattle.cvss_record.specs.Due.{due_value};
 ghost use Rattle.cvss_record.specs.Places.{place_view};
 ghost use Rattle.cvss_record.specs.private.Views.{Adds, due_view};
 ghost use Rattle.serde_json.specs.View.{members_view, view};
@@ -111,7 +112,7 @@ fn push_members<'a>(
     ensures { OnOk result (Adds found.old.items
         (record_differences cvss.now scores.now (members_view object.now.entries)) found.new.items) }
 {
-    for (name, said) in object.iter() {
+    for (name, said) in object {
         push_member(found, alloc, cvss, scores, name.as_str(), said)?;
     }
     Ok(())
@@ -211,12 +212,28 @@ pub(crate) fn push_if_other<'a>(
         (option_to_list (difference_from (member.now, view said.now) (due_view due)))
         found.new.items) }
 {
-    if !due.agrees(said) {
-        found.push(Difference {
-            member,
-            says: Said::Value(said),
-            is: due.value(alloc)?,
-        })?;
+    if due.agrees(said) {
+        Ok(())
+    } else {
+        push_difference(found, alloc, member, Said::Value(said), due)
     }
+}
+
+/// Adds the difference between what a member says and what is due.
+pub(crate) fn push_difference<'a>(
+    found: &mut Vec<Difference<'a>>,
+    alloc: Global,
+    member: &'a str,
+    says: Said<'a>,
+    due: Due,
+) -> Result<(), AllocError>
+    ensures { OnOk result (Adds found.old.items
+        ((member.now, said_view says.entry, due_value (due_view due)) ∷ []) found.new.items) }
+{
+    found.push(Difference {
+        member,
+        says,
+        is: due.value(alloc)?,
+    })?;
     Ok(())
 }

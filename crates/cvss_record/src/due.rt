@@ -85,15 +85,14 @@ fn version_due(cvss: &Cvss, name: &str) -> Option<Due>
 fn group_due(cvss: &Cvss, scores: &Scores, name: &str, group: Group) -> Option<Due>
     ensures { option_map due_view result ≡ group_due cvss.now scores.now name.now group }
 {
+    let tenths = scores.at(group)?;
     if group.score_member() == name {
-        let tenths = scores.at(group)?;
-        return Some(Due::Score(tenths));
+        Some(Due::Score(tenths))
+    } else if is_rated(cvss) && group.severity_member() == name {
+        Some(Due::Text(rating(cvss, tenths)))
+    } else {
+        None
     }
-    if is_rated(cvss) && group.severity_member() == name {
-        let tenths = scores.at(group)?;
-        return Some(Due::Text(rating(cvss, tenths)));
-    }
-    None
 }
 
 fn metric_due(cvss: &Cvss, name: &str) -> Option<Due>

@@ -45,10 +45,7 @@ pub fn record_of(alloc: Global, cvss: &Cvss) -> Result<Value, AllocError>
 pub(crate) fn is_rated(cvss: &Cvss) -> bool
     ensures { result ≡ is_rated cvss.now }
 {
-    match cvss {
-        Cvss::CvssV20(_) => false,
-        Cvss::CvssV30(_) | Cvss::CvssV31(_) | Cvss::CvssV40(_) => true,
-    }
+    !matches!(cvss, Cvss::CvssV20(_))
 }
 
 fn put_vector(

@@ -6,14 +6,13 @@ ghost use Rattle.cvss_record.specs.Differences.{around_differences, is_among, na
 ghost use Rattle.cvss_record.specs.Places.{around_view};
 ghost use Rattle.cvss_record.specs.private.Views.{Adds};
 
-use crate::difference::{Difference, Said, push_if_other};
+use crate::difference::{Difference, Said, push_difference, push_if_other};
 use crate::due::Due;
 use crate::place::{Around, member};
 use crate::record::is_rated;
 use crate::score::{Scores, rating};
 use cvss_any::Cvss;
 use cvss_words::version;
-use serde_json::Value;
 use std::alloc::{AllocError, Global};
 
 /// Adds the differences of what is around an object.
@@ -44,13 +43,11 @@ fn push_name<'a>(
     ensures { OnOk result (Adds found.old.items (name_differences cvss.now name.now) found.new.items) }
 {
     if tells_version(name) && !tells_version_of(cvss, name) {
-        found.push(Difference {
-            member: name,
-            says: Said::Name(name),
-            is: Value::try_from_str(alloc, version(cvss))?,
-        })?;
+        let due = Due::Text(version(cvss));
+        push_difference(found, alloc, name, Said::Name(name), due)
+    } else {
+        Ok(())
     }
-    Ok(())
 }
 
 /// Whether a member of this name tells the version of what it holds.

@@ -5,7 +5,7 @@ use Rattle.cvss_account.proofs.v2.put_account.Goals as goal
 
 pub returns : goal.returns
 returns c =
-    on_ok_weaker c.put-4.result
+    on_ok_weaker c.put_parts.result
     (λ put. record {
       members = account_members c.args.vector.now c.of.result c.of-2.result c.of-3.result;
       are = record {
@@ -17,8 +17,6 @@ returns c =
         are_environmental = c.of-3.ensures;
         are = refl;
       };
-      put = put ∙ rw (c.in_ok-put-3.ensures.ok, c.in_ok-put-2.ensures.ok, c.in_ok-put.ensures.ok, c.in_ok-weights_value.ensures)
-          (rw (c.in_ok-object.ensures, c.in_ok-object-2.ensures, c.in_ok-object-3.ensures)
-          (rw (c.base_members-base.ensures, c.temporal_members-temporal.ensures, c.environmental_members-adjusted.ensures) refl));
+      put = put ∙ rw (c.in_ok-weights.ensures, c.base_members-base.ensures, c.temporal_members-temporal.ensures, c.environmental_members-adjusted.ensures) refl;
     })
-    c.put-4.ensures.ok
+    c.put_parts.ensures

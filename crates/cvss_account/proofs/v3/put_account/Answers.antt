@@ -6,7 +6,7 @@ use Rattle.cvss_account.proofs.v3.put_account.Goals as goal
 
 pub returns : goal.returns
 returns c =
-    on_ok_weaker c.put-4.result
+    on_ok_weaker c.put_parts.result
     (λ put. record {
       members = account_members (weights_of c.args.vector.now) c.of.result c.temporal.result c.of-2.result;
       are = record {
@@ -18,9 +18,8 @@ returns c =
         are_environmental = c.of-2.ensures;
         are = refl;
       };
-      put = put ∙ rw (c.in_ok-put-3.ensures.ok, c.in_ok-put-2.ensures.ok, c.in_ok-put.ensures.ok, c.in_ok-put_told.ensures, c.in_ok-weights_value.ensures)
+      put = put ∙ rw (c.in_ok-put_told.ensures, c.in_ok-weights.ensures)
           (rw (c.scope_letter-scope.ensures, c.is_scope_changed.ensures, c.scope_letter-modified_scope.ensures, c.is_modified_scope_changed.ensures)
-          (rw (c.in_ok-object.ensures, c.in_ok-object-2.ensures, c.in_ok-object-3.ensures)
-          (rw (c.base_members-base.ensures, c.temporal_members-temporal.ensures, c.environmental_members-modified.ensures) refl)));
+          (rw (c.base_members-base.ensures, c.temporal_members-temporal.ensures, c.environmental_members-modified.ensures) refl));
     })
-    c.put-4.ensures.ok
+    c.put_parts.ensures

@@ -17,8 +17,8 @@ returns c =
       members = account_members c.args.vector.now account;
       are = record { account = account; is_account = c.account-account.ensures.account; are = refl };
       put = put
-          ∙ rw (c.in_ok-put-3.ensures.ok, c.in_ok-put_told.ensures, c.in_ok-put-2.ensures.ok, c.in_ok-put.ensures.ok)
-          (rw (named, c.in_ok-nomenclature.ensures.ok, c.nomenclature.ensures, c.in_ok-object.ensures, c.effective_told-effective.ensures)
+          ∙ rw (c.in_ok-put-2.ensures.ok, c.in_ok-put_told.ensures, c.in_ok-put_object.ensures, c.in_ok-put.ensures.ok)
+          (rw (named, c.in_ok-nomenclature.ensures.ok, c.nomenclature.ensures, c.effective_told-effective.ensures)
           (rw (to_z-of_z w64 c.of_parts.result (search rules), to_z-of_z w64 c.of_parts-2.result (search rules))
           (rw (c.in_ok-groups_value.ensures, c.of_parts.ensures, c.of_parts-2.ensures) refl)));
     })
