@@ -28,11 +28,11 @@ by_lines P last ended bytes = from [] bytes (All-nil _) where
     | inr differs ↦ subst P (append_assoc front (byte ∷ []) rest) (from (front ++ byte ∷ []) rest (All-push (λ b. b ≢ 10) front byte none differs.1))
   ]
 
--- the first byte 10 is the length of the bytes where no line ends in them
+-- no line ends in bytes whose first line end is said to be at their length
 pub none_ends : (bytes : List ℕ) (place : ℕ) → IsFirstLineEnd bytes place → place ≡ length bytes → NoLineEnd bytes
 none_ends bytes place is all = All-from_get_or (λ byte. byte ≢ 10) bytes 0 (λ k within. is.before k (omega arith))
 
--- else it ends the first line
+-- a line end within them ends the first line
 pub first_ends : (bytes : List ℕ) (place : ℕ) → IsFirstLineEnd bytes place → place < length bytes
     → NoLineEnd (take place bytes) × (bytes ≡ take place bytes ++ 10 ∷ take (length bytes - (place + 1)) (drop (place + 1) bytes))
 first_ends bytes place is below =
