@@ -1,28 +1,33 @@
--- The words that name one of the first overrides.
-use Rattle.std.proofs.Common.{◌≡◌, ◌<◌, ◌+◌, ◌++◌, ◌∷◌, ℕ, codes, sym, ap, refl}
+-- The words that name one of the first overrides, each at its place in a list.
+use Rattle.std.proofs.Common.{◌≡◌, ◌<◌, ◌≤◌, ℕ, Bool, true, ◌&&◌, List, [], length, map, Bor, refl, sym, slice_index_or, bytes_eq, arith}
 use Rattle.std.specs.Fmt.{digits}
-use Rattle.std.proofs.lemmas.Fmt.{decimal_digit}
+use Rattle.std.specs.Prelude.{leb}
+use Rattle.std.proofs.Math.ListN.{get_or-map}
+use Rattle.std.proofs.lemmas.Bool.{and_parts}
+use Rattle.std.proofs.lemmas.Bool.Decides.{nat_tests}
+use Rattle.std.proofs.lemmas.Slice.Eq.{bytes_eq-Decides}
+use Rattle.cvss_base.proofs.TestLemmas.{all_below, below_passes}
 use Rattle.cvss_bytes.specs.private.Reasons.{override_words}
+use Rattle.cvss_bytes.specs.declared.overriding.TheConstants.{WORDS}
 
-pub below_ten : (n : ℕ) → n < 10 → codes "override " ++ ((48 + n) ∷ codes ": ") ≡ override_words n
-below_ten n below = ap (λ digits. codes "override " ++ (digits ++ codes ": ")) (sym (decimal_digit n below))
+-- whether a text is the words that name an override, of which none are longer than 32 bytes
+abbrev names : List ℕ → ℕ → Bool
+names text index = bytes_eq text (override_words index) && leb (length text) 32
 
-pub ten : codes "override 10: " ≡ override_words 10
-unfolding digits
-ten = refl
+abbrev pub words_at : ℕ → List ℕ
+words_at index = slice_index_or (map (λ words. words.now) WORDS) index []
 
-pub eleven : codes "override 11: " ≡ override_words 11
-unfolding digits
-eleven = refl
+each_named : all_below (λ index. names (words_at index) index) 15 ≡ true
+unfolding all_below digits
+each_named = refl
 
-pub twelve : codes "override 12: " ≡ override_words 12
-unfolding digits
-twelve = refl
+-- the words at a place
+pub named : (index : ℕ) → index < 15 → (words_at index ≡ override_words index) × (length (words_at index) ≤ 32)
+named index below =
+    let tests = and_parts _ _ (below_passes (λ each. names (words_at each) each) 15 index each_named below) in
+    ((bytes_eq-Decides _ _).0 tests.0, grind (arith, nat_tests, tests.1))
 
-pub thirteen : codes "override 13: " ≡ override_words 13
-unfolding digits
-thirteen = refl
-
-pub fourteen : codes "override 14: " ≡ override_words 14
-unfolding digits
-fourteen = refl
+-- the text behind an element of a list
+pub index-now : (texts : List (Bor (List ℕ))) (place : ℕ) (none : Bor (List ℕ))
+    → (slice_index_or texts place none).now ≡ slice_index_or (map (λ text. text.now) texts) place none.now
+index-now texts place none = sym (get_or-map (λ text. text.now) texts place none)

@@ -95,30 +95,33 @@ fn put_objection(alloc: Global, error: &OverrideError, buffer: &mut [u8]) -> usi
     }
 }
 
+/// The words that name each of the first `TOO_MANY` overrides.
+const WORDS: [&str; TOO_MANY] = [
+    "override 0: ",
+    "override 1: ",
+    "override 2: ",
+    "override 3: ",
+    "override 4: ",
+    "override 5: ",
+    "override 6: ",
+    "override 7: ",
+    "override 8: ",
+    "override 9: ",
+    "override 10: ",
+    "override 11: ",
+    "override 12: ",
+    "override 13: ",
+    "override 14: ",
+];
+
 /// The words that name the override at a place, which is one of the first `TOO_MANY`.
-#[tactic(auto, using(crate::proofs::WordLemmas::below_ten, crate::proofs::WordLemmas::ten, crate::proofs::WordLemmas::eleven, crate::proofs::WordLemmas::twelve, crate::proofs::WordLemmas::thirteen, crate::proofs::WordLemmas::fourteen))]
 fn override_words(index: usize) -> &'static str
     requires { index ≤ 14 }
     ensures words { result.now ≡ override_words index }
     ensures bound { length result.now ≤ 32 }
 {
-    match index {
-        0 => "override 0: ",
-        1 => "override 1: ",
-        2 => "override 2: ",
-        3 => "override 3: ",
-        4 => "override 4: ",
-        5 => "override 5: ",
-        6 => "override 6: ",
-        7 => "override 7: ",
-        8 => "override 8: ",
-        9 => "override 9: ",
-        10 => "override 10: ",
-        11 => "override 11: ",
-        12 => "override 12: ",
-        13 => "override 13: ",
-        _ => "override 14: ",
-    }
+    let words = &WORDS[index];
+    *words
 }
 
 /// The vector with overrides in place. The text that denotes the vector is given.

@@ -1,12 +1,14 @@
 -- How the lines of an input follow from its parts.
-use Rattle.std.proofs.Common.{◌≡◌, ◌≢◌, ℕ, ◌<◌, false, List, [], ◌∷◌, ◌++◌, length, map, refl, sym, ap, ◌∙◌, subst, append_assoc, append-nil, slice_index_or, All, length-append, arith, inl, inr}
+use Rattle.std.proofs.Common.{◌≡◌, ◌≢◌, ℕ, suc, add-one, ◌+◌, ◌-◌, take, drop, length-take, get_or-take, ◌<◌, false, List, [], ◌∷◌, ◌++◌, length, map, refl, sym, ap, ◌∙◌, subst, append_assoc, append-nil, slice_index_or, All, length-append, arith, inl, inr}
 use Rattle.std.specs.List.{slice_split}
 use Rattle.std.proofs.lemmas.Grind.{common_steps}
-use Rattle.std.proofs.lemmas.List.Elements.{All-append, All-push, All-nil}
+use Rattle.std.proofs.lemmas.List.Elements.{All-append, All-from_get_or, All-push, All-nil}
+use Rattle.std.proofs.Math.Seq.{split_at}
+use Rattle.std.proofs.lemmas.List.{take_rest}
 use Rattle.std.proofs.lemmas.List.Splits.{slice_split_none, slice_split_at, length-slice_split}
 use Rattle.std.proofs.lemmas.Bool.Decides.{eqb_tells}
 use Rattle.cvss_lines.specs.Lines.{is_line_end, line_text, all_but_last, last_piece, ended_lines, unended_piece, last_line, lines}
-use Rattle.cvss_lines.specs.private.Steps.{NoLineEnd}
+use Rattle.cvss_lines.specs.private.Steps.{IsFirstLineEnd, NoLineEnd}
 
 -- no byte passes the test where no line ends
 none_pass : (bytes : List ℕ) → NoLineEnd bytes → All (λ byte. is_line_end byte ≡ false) bytes
@@ -25,6 +27,21 @@ by_lines P last ended bytes = from [] bytes (All-nil _) where
     | inl same ↦ subst (λ b. P (front ++ b ∷ rest)) (sym same.1) (ended front rest none (from [] rest (All-nil _)))
     | inr differs ↦ subst P (append_assoc front (byte ∷ []) rest) (from (front ++ byte ∷ []) rest (All-push (λ b. b ≢ 10) front byte none differs.1))
   ]
+
+-- no line ends in bytes whose first line end is said to be at their length
+pub none_ends : (bytes : List ℕ) (place : ℕ) → IsFirstLineEnd bytes place → place ≡ length bytes → NoLineEnd bytes
+none_ends bytes place is all = All-from_get_or (λ byte. byte ≢ 10) bytes 0 (λ k within. is.before k (omega arith))
+
+-- a line end within them ends the first line
+pub first_ends : (bytes : List ℕ) (place : ℕ) → IsFirstLineEnd bytes place → place < length bytes
+    → NoLineEnd (take place bytes) × (bytes ≡ take place bytes ++ 10 ∷ take (length bytes - (place + 1)) (drop (place + 1) bytes))
+first_ends bytes place is below =
+    let ends = split_at bytes place 0 below ∙ ap (λ byte. take place bytes ++ byte ∷ drop (suc place) bytes) (is.found below) in (
+      All-from_get_or (λ byte. byte ≢ 10) (take place bytes) 0 (λ k within.
+          let before : k < place = omega (arith, within, length-take place bytes) in
+          subst (λ byte. byte ≢ 10) (sym (get_or-take place bytes k 0 before)) (is.before k before)),
+      ends ∙ ap (λ rest. take place bytes ++ 10 ∷ rest) (ap (λ n. drop n bytes) (sym (add-one place)) ∙ sym (take_rest bytes (place + 1))),
+    )
 
 -- these lines are ended in the bytes, and this stands behind them
 abbrev pub Cut : List ℕ → List (List ℕ) → List ℕ → Type 0

@@ -1,5 +1,5 @@
 -- What the steps of a run do together.
-use Rattle.std.proofs.Common.{◌≡◌, refl, ℕ, ◌+◌, Bool, List, length, [], ◌∷◌, ◌++◌, take, Option, Result, Ok, Err, sym, ap, ◌∙◌, subst, append-nil, append_assoc, length-append, arith, inl, inr, IfErr, IsErrAnd}
+use Rattle.std.proofs.Common.{◌≡◌, refl, ℕ, ◌+◌, Bool, List, length, [], ◌∷◌, ◌++◌, take, Option, Result, Ok, Err, sym, ap, ◌∙◌, subst, append-nil, append_assoc, length-append, arith, inl, inr, IfErr, IsErr, IsErrAnd, OnOk}
 use Rattle.std.specs.Io.KnownBytes.{Appends}
 use Rattle.std.proofs.KnownBytes.{Appends-trans}
 use Rattle.std.proofs.Math.Seq.{take-append-add, take-length}
@@ -23,6 +23,11 @@ told (Err fault) given P is p = subst (λ f. P (Err f)) (sym is) p
 pub told_fault : {T : Type 0} (r : Result T RunFault) (given : RunFault) (P : RunFault → Type 0) → IsErrAnd r (λ fault. fault ≡ given)
     → P given → IfErr r P
 told_fault r given P is p = told r given (λ result. IfErr result P) is p
+
+-- a fault promises nothing of an end that is well
+pub none_ok : {T E : Type 0} (P : Type 0) (outcome : Result T E) → IsErr outcome → OnOk outcome P
+none_ok P (Ok value) is = absurd (cc)
+none_ok P (Err error) is = tt
 
 module _ (rule : Rule) (beginning : Beginning) where
   -- whole answers to the first of more lines

@@ -52,7 +52,6 @@ impl Pending {
     }
 
     /// Answers the last line of an input that has ended, where no byte 10 ends it.
-    #[tactic(auto, using(crate::proofs::ReadsLemmas::EndsInput_line, crate::proofs::ReadsLemmas::EndsInput_none))]
     pub(crate) fn answer_end<A: Streaming, W: Write>(
         &mut self,
         alloc: Global,

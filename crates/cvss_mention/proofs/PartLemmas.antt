@@ -1,5 +1,5 @@
 -- How the first part of a text is found byte by byte.
-use Rattle.std.proofs.Common.{◌≡◌, ℕ, ◌<◌, ◌≤◌, ◌-◌, get_or, Bool, true, false, not, cond, ◌||◌, if◌then◌else◌, List, [], ◌∷◌, ◌++◌, length, take, drop, refl, sym, ap, ◌∙◌, subst, append_assoc, arith}
+use Rattle.std.proofs.Common.{◌≡◌, ℕ, ◌<◌, ◌≤◌, ◌-◌, get_or, Bool, true, false, not, cond, ◌||◌, if◌then◌else◌, List, [], ◌∷◌, ◌++◌, length, take, drop, refl, sym, ap, ap₂, ◌∙◌, subst, append_assoc, arith, take_at, drop_at}
 use Rattle.std.proofs.lemmas.Bool.{not-false, or_parts}
 use Rattle.std.proofs.lemmas.List.{length-append, take_rest}
 use Rattle.cvss_mention.specs.Parts.{begins_part, begins_with_prefix, is_vector_byte, onto_first, parts_of}
@@ -66,3 +66,31 @@ pub IsWithinFirst_next : (text left : List ℕ) → IsWithinFirst text left → 
 IsWithinFirst_next text left within some uncut =
     let is = first_and_rest left some in
     IsWithinFirst-byte text (get_or left 0 0) _ (subst (IsWithinFirst text) is within) (sym (ap begins_part is) ∙ uncut)
+
+-- a first byte with which no vector is written is a part
+pub first_alone : (text : List ℕ) → 1 ≤ length text → is_vector_byte (get_or text 0 0) ≡ false → parts_of text ≡ take 1 text ∷ parts_of (drop 1 text)
+first_alone [] some other = absurd (omega (arith, some))
+first_alone (byte ∷ rest) some other = ap (λ is. cond (not is || begins_part rest) ((byte ∷ []) ∷ parts_of rest) (onto_first byte (parts_of rest))) other
+
+-- the bytes before what is left, by how many they are
+pub front_length : (text left : List ℕ) (within : IsWithinFirst text left) → length within.front ≡ length text - length left
+front_length text left within = omega (arith, ap length within.is, length-append within.front left)
+
+part_cut : (text left : List ℕ) (within : IsWithinFirst text left) → parts_under within.front left ≡ within.front ∷ parts_of left
+    → parts_of text ≡ take (length text - length left) text ∷ parts_of (drop (length text - length left) text)
+part_cut text left within cut =
+    let count = length text - length left in
+    let front = ap (take count) within.is ∙ take_at within.front left count (front_length text left within) in
+    let behind = ap (drop count) within.is ∙ drop_at within.front left count (front_length text left within) in
+    within.parts ∙ cut ∙ sym (ap₂ (λ (part rest : List ℕ). part ∷ parts_of rest) front behind)
+
+-- they are the first part, where the text is cut before what is left, or nothing is
+pub part_before : (text left : List ℕ) (within : IsWithinFirst text left) → begins_part left ≡ true
+    → parts_of text ≡ take (length text - length left) text ∷ parts_of (drop (length text - length left) text)
+part_before text left within cut =
+    part_cut text left within (ap (λ is. cond is (within.front ∷ parts_of left) (joined_onto within.front (parts_of left))) cut)
+
+pub part_whole : (text left : List ℕ) (within : IsWithinFirst text left) → length left < 1
+    → parts_of text ≡ take (length text - length left) text ∷ parts_of (drop (length text - length left) text)
+part_whole text [] within none = part_cut text [] within refl
+part_whole text (byte ∷ left) within none = absurd (omega (arith, none))

@@ -4,7 +4,6 @@ ghost use Rattle.std.specs.Prelude.{◌≡◌, ◌<◌, ◌≤◌, ◌∷◌, le
 ghost use Rattle.cvss_mention.specs.Parts.{begins_part, begins_with_prefix, is_divider, is_vector_byte, less_dividers, parts_of};
 
 /// The length of the first part of a text that has bytes.
-#[tactic(auto, using(crate::proofs::PartLemmas::IsWithinFirst_first, crate::proofs::PartLemmas::IsWithinFirst_next))]
 pub fn first_part(text: &[u8]) -> usize
     requires { 0 < length text.now }
     ensures within { result ≤ length text.now }

@@ -1,6 +1,8 @@
+use Rattle.std.proofs.Common.{[], ◌∷◌, refl, sym, ap, subst, arith, length, append-nil, length-append}
+use Rattle.cvss_lines.specs.private.Steps.{Awaits}
 use Rattle.cvss_lines.specs.declared.fault.RunFault.TheVariants.{Memory}
 use Rattle.cvss_lines.proofs.ReadsLemmas.{HasRead_all, HasRead_line, HasRead_memory, HasRead_stopped}
-use Rattle.cvss_lines.proofs.StepsLemmas.{told_fault}
+use Rattle.cvss_lines.proofs.StepsLemmas.{none_ok, told_fault}
 use Rattle.cvss_lines.proofs.pending.Pending.answer_chunk.Goals as goal
 
 pub loop-piece-preserved : goal.loop-piece-preserved
@@ -23,3 +25,18 @@ pub returns-clause-answered : goal.returns-clause-answered
 returns-clause-answered g c =
     HasRead_all g.A.Streaming.rule g.A.Streaming.beginning c.args.chunk.now c.loop-piece.rest.now _ _ c.args.self.now c.loop-piece.self c.loop-piece.invariant
     _ c.in_default.ensures c.in_ok-extend_from_slice.ensures.items
+
+pub loop-piece-init : goal.loop-piece-init
+loop-piece-init g c = record { done = []; whole = refl; reads = λ start read a. subst (λ r. Awaits g.A.Streaming.rule g.A.Streaming.beginning start (g.W.Write.contents c.args.writer.now) r c.args.self.now) (sym (append-nil read)) a }
+
+pub loop-piece-smaller : goal.loop-piece-smaller
+loop-piece-smaller g c = omega (arith, ap length c.in-Some.ensures.1, length-append c.in-Some.piece.now (10 ∷ c.in-Some.behind.now))
+
+pub returns-in_err-end_line-clause-answered : goal.returns-in_err-end_line-clause-answered
+returns-in_err-end_line-clause-answered g c = none_ok _ c.from_residual.result c.from_residual.ensures.0
+
+pub returns-in_err-extend_from_slice-clause-answered : goal.returns-in_err-extend_from_slice-clause-answered
+returns-in_err-extend_from_slice-clause-answered g c = none_ok _ c.from_residual-in_err-extend_from_slice.result c.from_residual-in_err-extend_from_slice.ensures.0
+
+pub returns-clause-stopped : goal.returns-clause-stopped
+returns-clause-stopped g c = tt

@@ -4,7 +4,7 @@ use Rattle.std.proofs.lemmas.List.{nil_from_length}
 use Rattle.cvss_lines.specs.Lines.{line_text}
 use Rattle.cvss_lines.specs.private.Steps.{Answers, StopsAnswering}
 use Rattle.cvss_lines.specs.declared.fault.RunFault.TheVariants.{Memory}
-use Rattle.cvss_lines.proofs.StepsLemmas.{StopsAnswering-memory, told_fault}
+use Rattle.cvss_lines.proofs.StepsLemmas.{StopsAnswering-memory, none_ok, told_fault}
 use Rattle.cvss_lines.proofs.pending.Pending.end_line.Goals as goal
 
 pub returns-then-is_empty-clause-answered : goal.returns-then-is_empty-clause-answered
@@ -27,3 +27,21 @@ returns-then-is_empty-clause-stopped g c =
     (λ line. IfErr c.answer_line.result (StopsAnswering g.A.Streaming.rule g.A.Streaming.beginning (line ∷ [])
     (g.W.Write.contents c.args.writer.now) (g.W.Write.contents c.answer_line.new.writer) c.args.self.now.progress))
     (c.line_text.ensures ∙ ap (λ cut. line_text (cut ++ c.args.piece.now)) (sym none)) c.answer_line.ensures.stopped
+
+pub returns-in_err-extend_from_slice-clause-answered : goal.returns-in_err-extend_from_slice-clause-answered
+returns-in_err-extend_from_slice-clause-answered g c = none_ok _ c.from_residual.result c.from_residual.ensures.0
+
+pub returns-in_err-extend_from_slice-clause-cut : goal.returns-in_err-extend_from_slice-clause-cut
+returns-in_err-extend_from_slice-clause-cut g c = none_ok _ c.from_residual.result c.from_residual.ensures.0
+
+pub returns-in_err-answer_line-clause-answered : goal.returns-in_err-answer_line-clause-answered
+returns-in_err-answer_line-clause-answered g c = none_ok _ c.from_residual-in_err-answer_line.result c.from_residual-in_err-answer_line.ensures.0
+
+pub returns-in_err-answer_line-clause-cut : goal.returns-in_err-answer_line-clause-cut
+returns-in_err-answer_line-clause-cut g c = none_ok _ c.from_residual-in_err-answer_line.result c.from_residual-in_err-answer_line.ensures.0
+
+pub returns-clause-stopped : goal.returns-clause-stopped
+returns-clause-stopped g c = tt
+
+pub returns-clause-cut : goal.returns-clause-cut
+returns-clause-cut g c = c.clear.ensures.items
