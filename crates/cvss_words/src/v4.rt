@@ -1,7 +1,7 @@
 //! The members and words of FIRST's JSON schema of CVSS v4.0.
 
 ghost use Rattle.std.specs.Prelude.{◌≡◌, map};
-ghost use Rattle.cvss_words.specs.WordsV4.{entry_of, member_of, words_of};
+ghost use Rattle.cvss_words.specs.WordsV4.{entry_of};
 
 use crate::rows::{HIGH, LOCAL, LOW, MEDIUM, NETWORK, NONE, PHYSICAL, PROOF_OF_CONCEPT, Row, X};
 use cvss_base::v4::MetricType;
@@ -52,80 +52,53 @@ const CLEAR: Row = ("Clear", "CLEAR");
 pub fn entry(kind: MetricType) -> (&'static str, &'static [Row])
     ensures { (result.0.now, map (λ row. (row.0.now, row.1.now)) result.1.now) ≡ entry_of kind }
 {
-    (member(kind), rows(kind))
-}
-
-/// The name of the member that holds the metric's value.
-fn member(kind: MetricType) -> &'static str
-    ensures { result.now ≡ member_of kind }
-{
     match kind {
-        MetricType::AV => "attackVector",
-        MetricType::AC => "attackComplexity",
-        MetricType::AT => "attackRequirements",
-        MetricType::PR => "privilegesRequired",
-        MetricType::UI => "userInteraction",
-        MetricType::VC => "vulnConfidentialityImpact",
-        MetricType::VI => "vulnIntegrityImpact",
-        MetricType::VA => "vulnAvailabilityImpact",
-        MetricType::SC => "subConfidentialityImpact",
-        MetricType::SI => "subIntegrityImpact",
-        MetricType::SA => "subAvailabilityImpact",
-        MetricType::E => "exploitMaturity",
-        MetricType::CR => "confidentialityRequirement",
-        MetricType::IR => "integrityRequirement",
-        MetricType::AR => "availabilityRequirement",
-        MetricType::MAV => "modifiedAttackVector",
-        MetricType::MAC => "modifiedAttackComplexity",
-        MetricType::MAT => "modifiedAttackRequirements",
-        MetricType::MPR => "modifiedPrivilegesRequired",
-        MetricType::MUI => "modifiedUserInteraction",
-        MetricType::MVC => "modifiedVulnConfidentialityImpact",
-        MetricType::MVI => "modifiedVulnIntegrityImpact",
-        MetricType::MVA => "modifiedVulnAvailabilityImpact",
-        MetricType::MSC => "modifiedSubConfidentialityImpact",
-        MetricType::MSI => "modifiedSubIntegrityImpact",
-        MetricType::MSA => "modifiedSubAvailabilityImpact",
-        MetricType::S => "Safety",
-        MetricType::AU => "Automatable",
-        MetricType::R => "Recovery",
-        MetricType::V => "valueDensity",
-        MetricType::RE => "vulnerabilityResponseEffort",
-        MetricType::U => "providerUrgency",
-    }
-}
-
-/// How the metric's values are spelled, each with its word.
-fn rows(kind: MetricType) -> &'static [Row]
-    ensures { map (λ row. (row.0.now, row.1.now)) result.now ≡ words_of kind }
-{
-    match kind {
-        MetricType::AV => &[PHYSICAL, LOCAL, ADJACENT, NETWORK],
-        MetricType::AC => &[HIGH, LOW],
-        MetricType::AT => &[PRESENT, NONE],
-        MetricType::PR => &[HIGH, LOW, NONE],
-        MetricType::UI => &[ACTIVE, PASSIVE, NONE],
-        MetricType::VC
-        | MetricType::VI
-        | MetricType::VA
-        | MetricType::SC
-        | MetricType::SI
-        | MetricType::SA => &[NONE, LOW, HIGH],
-        MetricType::E => &[X, UNREPORTED, PROOF_OF_CONCEPT, ATTACKED],
-        MetricType::CR | MetricType::IR | MetricType::AR => &[X, LOW, MEDIUM, HIGH],
-        MetricType::MAV => &[PHYSICAL, LOCAL, ADJACENT, NETWORK, X],
-        MetricType::MAC => &[X, HIGH, LOW],
-        MetricType::MAT => &[X, PRESENT, NONE],
-        MetricType::MPR => &[X, HIGH, LOW, NONE],
-        MetricType::MUI => &[X, ACTIVE, PASSIVE, NONE],
-        MetricType::MVC | MetricType::MVI | MetricType::MVA => &[X, NONE, LOW, HIGH],
-        MetricType::MSC => &[X, NEGLIGIBLE, LOW, HIGH],
-        MetricType::MSI | MetricType::MSA => &[X, NEGLIGIBLE, LOW, HIGH, SAFETY],
-        MetricType::S => &[X, PRESENT, NEGLIGIBLE],
-        MetricType::AU => &[X, YES, NO],
-        MetricType::R => &[X, AUTOMATIC, USER, IRRECOVERABLE],
-        MetricType::V => &[X, DIFFUSE, CONCENTRATED],
-        MetricType::RE => &[X, LOW, MODERATE, HIGH],
-        MetricType::U => &[X, RED, AMBER, GREEN, CLEAR],
+        MetricType::AV => ("attackVector", &[PHYSICAL, LOCAL, ADJACENT, NETWORK]),
+        MetricType::AC => ("attackComplexity", &[HIGH, LOW]),
+        MetricType::AT => ("attackRequirements", &[PRESENT, NONE]),
+        MetricType::PR => ("privilegesRequired", &[HIGH, LOW, NONE]),
+        MetricType::UI => ("userInteraction", &[ACTIVE, PASSIVE, NONE]),
+        MetricType::VC => ("vulnConfidentialityImpact", &[NONE, LOW, HIGH]),
+        MetricType::VI => ("vulnIntegrityImpact", &[NONE, LOW, HIGH]),
+        MetricType::VA => ("vulnAvailabilityImpact", &[NONE, LOW, HIGH]),
+        MetricType::SC => ("subConfidentialityImpact", &[NONE, LOW, HIGH]),
+        MetricType::SI => ("subIntegrityImpact", &[NONE, LOW, HIGH]),
+        MetricType::SA => ("subAvailabilityImpact", &[NONE, LOW, HIGH]),
+        MetricType::E => (
+            "exploitMaturity",
+            &[X, UNREPORTED, PROOF_OF_CONCEPT, ATTACKED],
+        ),
+        MetricType::CR => ("confidentialityRequirement", &[X, LOW, MEDIUM, HIGH]),
+        MetricType::IR => ("integrityRequirement", &[X, LOW, MEDIUM, HIGH]),
+        MetricType::AR => ("availabilityRequirement", &[X, LOW, MEDIUM, HIGH]),
+        MetricType::MAV => (
+            "modifiedAttackVector",
+            &[PHYSICAL, LOCAL, ADJACENT, NETWORK, X],
+        ),
+        MetricType::MAC => ("modifiedAttackComplexity", &[X, HIGH, LOW]),
+        MetricType::MAT => ("modifiedAttackRequirements", &[X, PRESENT, NONE]),
+        MetricType::MPR => ("modifiedPrivilegesRequired", &[X, HIGH, LOW, NONE]),
+        MetricType::MUI => ("modifiedUserInteraction", &[X, ACTIVE, PASSIVE, NONE]),
+        MetricType::MVC => ("modifiedVulnConfidentialityImpact", &[X, NONE, LOW, HIGH]),
+        MetricType::MVI => ("modifiedVulnIntegrityImpact", &[X, NONE, LOW, HIGH]),
+        MetricType::MVA => ("modifiedVulnAvailabilityImpact", &[X, NONE, LOW, HIGH]),
+        MetricType::MSC => (
+            "modifiedSubConfidentialityImpact",
+            &[X, NEGLIGIBLE, LOW, HIGH],
+        ),
+        MetricType::MSI => (
+            "modifiedSubIntegrityImpact",
+            &[X, NEGLIGIBLE, LOW, HIGH, SAFETY],
+        ),
+        MetricType::MSA => (
+            "modifiedSubAvailabilityImpact",
+            &[X, NEGLIGIBLE, LOW, HIGH, SAFETY],
+        ),
+        MetricType::S => ("Safety", &[X, PRESENT, NEGLIGIBLE]),
+        MetricType::AU => ("Automatable", &[X, YES, NO]),
+        MetricType::R => ("Recovery", &[X, AUTOMATIC, USER, IRRECOVERABLE]),
+        MetricType::V => ("valueDensity", &[X, DIFFUSE, CONCENTRATED]),
+        MetricType::RE => ("vulnerabilityResponseEffort", &[X, LOW, MODERATE, HIGH]),
+        MetricType::U => ("providerUrgency", &[X, RED, AMBER, GREEN, CLEAR]),
     }
 }
