@@ -23,29 +23,29 @@ const THOUSANDTH: i128 = 1_000_000_000_000_000_000_000;
 /// What stands in vectors as a component: how values are spelled, read from their spelling, and
 /// weighed.
 pub trait Spelled: Copy + 'static {
-    /// Which metric this is.
-    const TYPE: MetricType;
+    /// Which metric this is, the same as `Metric::TYPE`.
+    const KIND: MetricType;
 
-    ghost TYPE: { MetricType };
+    ghost KIND: { MetricType };
 
-    ghost value: { Self → Value TYPE };
+    ghost value: { Self → Value KIND };
 
     /// The values, the least first, each of which is the first with its spelling.
     fn values() -> &'static [Self]
-        ensures rows { map (λ metric. spelling_of TYPE (value metric)) result.now
-            ≡ map (λ row. row.0) (rows_of TYPE) }
-        ensures first { (metric : Self) → find (λ other. bytes_eq (spelling_of TYPE (value other))
-            (spelling_of TYPE (value metric))) result.now ≡ Some metric };
+        ensures rows { map (λ metric. spelling_of KIND (value metric)) result.now
+            ≡ map (λ row. row.0) (rows_of KIND) }
+        ensures first { (metric : Self) → find (λ other. bytes_eq (spelling_of KIND (value other))
+            (spelling_of KIND (value metric))) result.now ≡ Some metric };
 
     /// A slash and the component that stands for the value in a vector, and the value's weight in
     /// thousandths (guide, section 3.2).
     fn row(self) -> (&'static str, u64)
-        ensures text { result.0.now ≡ slash ∷ metric_component TYPE (value self) }
-        ensures weight { result.1 ≡ weight_of TYPE (value self) };
+        ensures text { result.0.now ≡ slash ∷ metric_component KIND (value self) }
+        ensures weight { result.1 ≡ weight_of KIND (value self) };
 
     /// A slash and the component that stands for the value in a vector.
     final fn slashed(self) -> &'static str
-        ensures { result.now ≡ slash ∷ metric_component TYPE (value self) }
+        ensures { result.now ≡ slash ∷ metric_component KIND (value self) }
     {
         self.row().0
     }
@@ -53,16 +53,16 @@ pub trait Spelled: Copy + 'static {
     /// Writes the component that stands for the value in a vector, and the same under any options.
     final fn write<W: fmt::Write>(self, f: &mut fmt::Formatter<W>) -> fmt::Result
         ensures plain { WritesOnOk W.write_str_gives f.old result
-            (metric_component TYPE (value self)) f.new }
+            (metric_component KIND (value self)) f.new }
         ensures styled { WritesStyledOnOk W.write_str_gives f.old result
-            (metric_component TYPE (value self)) f.new }
+            (metric_component KIND (value self)) f.new }
     {
         write_component(self.slashed(), f)
     }
 
     /// The value's weight in thousandths (guide, section 3.2).
     final fn thousandths(self) -> u64
-        ensures { result ≡ weight_of TYPE (value self) }
+        ensures { result ≡ weight_of KIND (value self) }
     {
         self.row().1
     }
@@ -70,8 +70,8 @@ pub trait Spelled: Copy + 'static {
     /// The value with this spelling.
     #[inline(always)]
     final fn read_bytes(text: &[u8]) -> Option<Self>
-        ensures spelled { IfSome result (λ metric. spelling_of TYPE (value metric) ≡ text.now) }
-        ensures read { (metric : Self) → spelling_of TYPE (value metric) ≡ text.now
+        ensures spelled { IfSome result (λ metric. spelling_of KIND (value metric) ≡ text.now) }
+        ensures read { (metric : Self) → spelling_of KIND (value metric) ≡ text.now
             → result ≡ Some metric }
     {
         Self::values()
@@ -84,21 +84,33 @@ pub trait Spelled: Copy + 'static {
 /// A metric: an enum of the values that the guide gives for its type, which are compared.
 // A trait of its own, so that the proof of whoever reads or prints a vector loads no comparison.
 pub trait Metric: Spelled + Eq + Ord + fmt::Debug + fmt::Display {
-    ghost law: { IsMetric Self.TYPE Self.value ⟦<Self as Ord>⟧.cmp ⟦<Self as PartialEq>⟧.eq
+    /// Which metric this is.
+    const TYPE: MetricType;
+
+    ghost TYPE: { MetricType };
+
+    /// The metric's abbreviation.
+    fn name() -> &'static str
+        ensures { result.now ≡ name_of TYPE }
+    {
+        Self::TYPE.name()
+    }
+
+    ghost law: { IsMetric TYPE Self.KIND Self.value ⟦<Self as Ord>⟧.cmp ⟦<Self as PartialEq>⟧.eq
         ⟦<Self as Clone>⟧.is_clone ⟦<Self as Clone>⟧.is_infallible };
 
     /// How the value is spelled in a vector.
     #[tactic(auto, using(cvss_base::proofs::SlashedLemmas::behind_colon))]
     final fn as_str(self) -> &'static str
-        ensures { result.now ≡ spelling_of Self.TYPE (Self.value self) }
+        ensures { result.now ≡ spelling_of Self.KIND (Self.value self) }
     {
-        &self.slashed()[Self::TYPE.name().len() + 2..]
+        &self.slashed()[Self::KIND.name().len() + 2..]
     }
 
     /// The value with this spelling.
     final fn read(text: &str) -> Option<Self>
-        ensures spelled { IfSome result (λ metric. spelling_of Self.TYPE (Self.value metric) ≡ text.now) }
-        ensures read { (metric : Self) → spelling_of Self.TYPE (Self.value metric) ≡ text.now
+        ensures spelled { IfSome result (λ metric. spelling_of Self.KIND (Self.value metric) ≡ text.now) }
+        ensures read { (metric : Self) → spelling_of Self.KIND (Self.value metric) ≡ text.now
             → result ≡ Some metric }
     {
         Self::read_bytes(text.as_bytes())
@@ -110,10 +122,10 @@ pub trait Metric: Spelled + Eq + Ord + fmt::Debug + fmt::Display {
     ///
     /// `InvalidMetricV2` with the text where the metric has no such value.
     final fn from_str(alloc: Global, text: &str) -> Result<Self, Error>
-        ensures spelled { IfOk result (λ metric. spelling_of Self.TYPE (Self.value metric) ≡ text.now) }
-        ensures read { (metric : Self) → spelling_of Self.TYPE (Self.value metric) ≡ text.now
+        ensures spelled { IfOk result (λ metric. spelling_of Self.KIND (Self.value metric) ≡ text.now) }
+        ensures read { (metric : Self) → spelling_of Self.KIND (Self.value metric) ≡ text.now
             → result ≡ Ok metric }
-        ensures refused { IfErr result (Tells v2_reason (BadValue Self.TYPE text.now)) }
+        ensures refused { IfErr result (Tells v2_reason (BadValue TYPE text.now)) }
     {
         match Self::read(text) {
             Some(metric) => Ok(metric),
@@ -129,29 +141,22 @@ pub trait Metric: Spelled + Eq + Ord + fmt::Debug + fmt::Display {
 
     /// The value's weight, in counts of 10^-24 (guide, section 3.2).
     final fn score(self) -> i128
-        ensures value { result ≡ pos (weight_of Self.TYPE (Self.value self) * 10 ^ 21) }
+        ensures value { result ≡ pos (weight_of Self.KIND (Self.value self) * 10 ^ 21) }
         ensures limit { IsWithinLimit result }
     {
         i128::from(self.thousandths()) * THOUSANDTH
-    }
-
-    /// The metric's abbreviation.
-    final fn name() -> &'static str
-        ensures { result.now ≡ name_of Self.TYPE }
-    {
-        Self::TYPE.name()
     }
 }
 
 /// How a value is spelled in a vector.
 #[inline(always)]
 fn spelling<M: Spelled>(value: M) -> &'static [u8]
-    ensures { result.now ≡ spelling_of M.TYPE (M.value value) }
+    ensures { result.now ≡ spelling_of M.KIND (M.value value) }
 {
     value
         .slashed()
         .as_bytes()
-        .get(M::TYPE.name().len() + 2..)
+        .get(M::KIND.name().len() + 2..)
         .unwrap_or(&[])
 }
 

@@ -19,13 +19,17 @@ pub enum Exploitability {
 }
 
 impl Metric for Exploitability {
+    const TYPE: MetricType = MetricType::E;
+
+    ghost TYPE = { E };
+
     ghost law = { Prim.search rules };
 }
 
 impl Spelled for Exploitability {
-    const TYPE: MetricType = MetricType::E;
+    const KIND: MetricType = MetricType::E;
 
-    ghost TYPE = { E };
+    ghost KIND = { E };
 
     ghost value = { λ metric. metric };
 
@@ -66,13 +70,17 @@ pub enum RemediationLevel {
 }
 
 impl Metric for RemediationLevel {
+    const TYPE: MetricType = MetricType::RL;
+
+    ghost TYPE = { RL };
+
     ghost law = { Prim.search rules };
 }
 
 impl Spelled for RemediationLevel {
-    const TYPE: MetricType = MetricType::RL;
+    const KIND: MetricType = MetricType::RL;
 
-    ghost TYPE = { RL };
+    ghost KIND = { RL };
 
     ghost value = { λ metric. metric };
 
@@ -118,13 +126,17 @@ pub enum ReportConfidence {
 }
 
 impl Metric for ReportConfidence {
+    const TYPE: MetricType = MetricType::RC;
+
+    ghost TYPE = { RC };
+
     ghost law = { Prim.search rules };
 }
 
 impl Spelled for ReportConfidence {
-    const TYPE: MetricType = MetricType::RC;
+    const KIND: MetricType = MetricType::RC;
 
-    ghost TYPE = { RC };
+    ghost KIND = { RC };
 
     ghost value = { λ metric. metric };
 

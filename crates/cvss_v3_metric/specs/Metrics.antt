@@ -5,12 +5,15 @@ use Rattle.std.specs.declared.cmp.Ordering.{Ordering}
 use Rattle.cvss_base.specs.Equality.{EqualsByValue, ClonesByValue, ClonesAlways}
 use Rattle.cvss_base.specs.declared.v3.MetricType.{MetricType}
 use Rattle.cvss_v3_metric.specs.declared.environmental.modified.Modified.{Modified}
-use Rattle.cvss_v3_metric.specs.declared.environmental.modified.Modified.TheVariants.{NotDefined, Modified as Set}
-use Rattle.cvss_v3_metric.specs.Modified.{modified_rank}
-use Rattle.cvss_v3_metric.specs.Table.{Value, spelling_of, weight_of, rank_of}
+use Rattle.cvss_v3_metric.specs.Modified.{modified_spelling}
+use Rattle.cvss_v3_metric.specs.Table.{Value, spelling_of, weight_of, rank_of, modified_of, blamed}
 
 -- the enum has the values of the metric in the table
-pub record IsMetric {A : Type 0} (kind : MetricType) (value : A → Value kind) (compared : A → A → Ordering) (same : A → A → Bool) (is_clone : A → A → Type 0) (is_infallible : A → Type 0) : Type 0 where
+pub record IsMetric {A : Type 0} (type fault_type kind : MetricType) (value : A → Value kind) (compared : A → A → Ordering) (same : A → A → Bool) (is_clone : A → A → Type 0) (is_infallible : A → Type 0) : Type 0 where
+  -- the metric is that of the values
+  pub typed : type ≡ kind
+  -- a refused value is reported under it, and of a modified metric under its base metric
+  pub reported : fault_type ≡ blamed kind
   -- each value of the table is a value of the enum
   pub covers : (x : Value kind) → (metric : A) × value metric ≡ x
   -- two values compare as their places in the table do
@@ -26,9 +29,6 @@ pub record IsBaseMetric {A : Type 0} (kind modified_kind : MetricType) (value : 
   -- each value has a weight, and none is spelled X
   pub weighed : (x : A) → IsSome (weight_of kind (value x))
   pub defined : (x : A) → spelling_of kind (value x) ≢ codes "X"
-  -- the modified metric has the same values and X, in the same order, and none weighs of its own
-  pub undefined : spelling_of modified_kind (modified NotDefined) ≡ codes "X"
-  pub spelled : (x : A) → spelling_of modified_kind (modified (Set x)) ≡ spelling_of kind (value x)
-  pub weightless : (x : Modified A) → weight_of modified_kind (modified x) ≡ Some 0
-  pub covers : (x : Value modified_kind) → (metric : Modified A) × modified metric ≡ x
-  pub rank : (x : Modified A) → rank_of modified_kind (modified x) ≡ modified_rank (λ y. rank_of kind (value y)) x
+  -- the modified metric is the one that replaces it, and its values are spelled X and as those that replace
+  pub replaced : modified_of kind ≡ Some modified_kind
+  pub spelled : (x : Modified A) → spelling_of modified_kind (modified x) ≡ modified_spelling (λ y. spelling_of kind (value y)) x

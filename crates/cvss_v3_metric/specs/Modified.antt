@@ -14,6 +14,11 @@ Row = List ℕ × Option ℕ
 abbrev pub modified_rows : List Row → List Row
 modified_rows rows = (codes "X", Some 0) ∷ map (λ row. (row.0, Some 0)) rows
 
+-- X where no value is set, and else as the value is spelled
+abbrev pub modified_spelling : {A : Type 0} → (A → List ℕ) → Modified A → List ℕ
+modified_spelling spelling NotDefined = codes "X"
+modified_spelling spelling (Set value) = spelling value
+
 -- X comes first among the values, and then those of the base metric in their order
 abbrev pub modified_rank : {A : Type 0} → (A → ℕ) → Modified A → ℕ
 modified_rank rank NotDefined = 0

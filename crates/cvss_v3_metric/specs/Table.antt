@@ -159,6 +159,18 @@ scoped_weight true value = unwrap_or (slice_get changed_privileges (rank_of PR v
 abbrev pub metric_component : (kind : MetricType) → Value kind → List ℕ
 metric_component kind value = component (name_of kind) (spelling_of kind value)
 
+-- the modified metric that replaces a base metric (section 4.2); no other metric has one
+abbrev pub modified_of : MetricType → Option MetricType
+modified_of AV = Some MAV
+modified_of AC = Some MAC
+modified_of PR = Some MPR
+modified_of UI = Some MUI
+modified_of S = Some MS
+modified_of C = Some MC
+modified_of I = Some MI
+modified_of A = Some MA
+modified_of kind = None
+
 -- the metric that a refused value is reported under: that of the base where it is a modified one
 abbrev pub blamed : MetricType → MetricType
 blamed MAV = AV

@@ -3,5 +3,5 @@
 mod modified;
 mod requirement;
 
-pub use modified::{BaseMetric, Modifiable, Modified, ModifiedScope};
+pub use modified::{BaseMetric, Modified, ModifiedScope};
 pub use requirement::{AvailabilityRequirement, ConfidentialityRequirement, IntegrityRequirement};

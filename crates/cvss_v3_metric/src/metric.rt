@@ -23,29 +23,29 @@ pub(crate) const HUNDREDTH: i128 = 10_000_000_000_000_000_000_000;
 /// What stands in vectors as a component: how values are spelled, read from their spelling, and
 /// weighed.
 pub trait Spelled: Copy + 'static {
-    /// Which metric this is.
-    const TYPE: MetricType;
+    /// Which metric this is, the same as `Metric::TYPE`.
+    const KIND: MetricType;
 
-    ghost TYPE: { MetricType };
+    ghost KIND: { MetricType };
 
-    ghost value: { Self → Value TYPE };
+    ghost value: { Self → Value KIND };
 
     /// A slash and the component that stands for the value in a vector, and the value's weight in
     /// hundredths, if it has one (v3.1 specification, section 7.4).
     fn row(self) -> (&'static str, Option<u64>)
-        ensures text { result.0.now ≡ slash ∷ metric_component TYPE (value self) }
-        ensures weight { result.1 ≡ weight_of TYPE (value self) };
+        ensures text { result.0.now ≡ slash ∷ metric_component KIND (value self) }
+        ensures weight { result.1 ≡ weight_of KIND (value self) };
 
     /// The value that is spelled by this letter, exactly as it is written: each value is spelled by
     /// one letter.
     fn read_letter(letter: u8) -> Option<Self>
-        ensures spelled { IfSome result (λ metric. spelling_of TYPE (value metric) ≡ letter ∷ []) }
-        ensures read { (metric : Self) → spelling_of TYPE (value metric) ≡ letter ∷ []
+        ensures spelled { IfSome result (λ metric. spelling_of KIND (value metric) ≡ letter ∷ []) }
+        ensures read { (metric : Self) → spelling_of KIND (value metric) ≡ letter ∷ []
             → result ≡ Some metric };
 
     /// A slash and the component that stands for the value in a vector.
     final fn slashed(self) -> &'static str
-        ensures { result.now ≡ slash ∷ metric_component TYPE (value self) }
+        ensures { result.now ≡ slash ∷ metric_component KIND (value self) }
     {
         self.row().0
     }
@@ -53,16 +53,16 @@ pub trait Spelled: Copy + 'static {
     /// Writes the component that stands for the value in a vector, and the same under any options.
     final fn write<W: fmt::Write>(self, f: &mut fmt::Formatter<W>) -> fmt::Result
         ensures plain { WritesOnOk W.write_str_gives f.old result
-            (metric_component TYPE (value self)) f.new }
+            (metric_component KIND (value self)) f.new }
         ensures styled { WritesStyledOnOk W.write_str_gives f.old result
-            (metric_component TYPE (value self)) f.new }
+            (metric_component KIND (value self)) f.new }
     {
         write_component(self.slashed(), f)
     }
 
     /// The value's weight in hundredths, if it has one (v3.1 specification, section 7.4).
     final fn hundredths(self) -> Option<u64>
-        ensures { result ≡ weight_of TYPE (value self) }
+        ensures { result ≡ weight_of KIND (value self) }
     {
         self.row().1
     }
@@ -70,8 +70,8 @@ pub trait Spelled: Copy + 'static {
     /// The value with this spelling, in any ASCII case.
     final fn read_bytes(text: &[u8]) -> Option<Self>
         ensures spelled { IfSome result
-            (λ metric. spelling_of TYPE (value metric) ≡ raised text.now) }
-        ensures read { (metric : Self) → spelling_of TYPE (value metric) ≡ raised text.now
+            (λ metric. spelling_of KIND (value metric) ≡ raised text.now) }
+        ensures read { (metric : Self) → spelling_of KIND (value metric) ≡ raised text.now
             → result ≡ Some metric }
     {
         match text {
@@ -84,22 +84,39 @@ pub trait Spelled: Copy + 'static {
 /// A metric: an enum of the values that the specification gives for its type, which are compared.
 // A trait of its own, so that the proof of whoever reads or prints a vector loads no comparison.
 pub trait Metric: Spelled + Eq + Ord + fmt::Debug + fmt::Display {
-    ghost law: { IsMetric Self.TYPE Self.value ⟦<Self as Ord>⟧.cmp ⟦<Self as PartialEq>⟧.eq
-        ⟦<Self as Clone>⟧.is_clone ⟦<Self as Clone>⟧.is_infallible };
+    /// Which metric this is.
+    const TYPE: MetricType;
+
+    ghost TYPE: { MetricType };
+
+    /// The metric that a refused value is reported under: of a modified metric its base metric.
+    const FAULT_TYPE: MetricType;
+
+    ghost FAULT_TYPE: { MetricType };
+
+    /// The metric's abbreviation.
+    fn name() -> &'static str
+        ensures { result.now ≡ name_of TYPE }
+    {
+        Self::TYPE.name()
+    }
+
+    ghost law: { IsMetric TYPE FAULT_TYPE Self.KIND Self.value ⟦<Self as Ord>⟧.cmp
+        ⟦<Self as PartialEq>⟧.eq ⟦<Self as Clone>⟧.is_clone ⟦<Self as Clone>⟧.is_infallible };
 
     /// How the value is spelled in a vector.
     #[tactic(auto, using(cvss_base::proofs::SlashedLemmas::behind_colon))]
     final fn as_str(self) -> &'static str
-        ensures { result.now ≡ spelling_of Self.TYPE (Self.value self) }
+        ensures { result.now ≡ spelling_of Self.KIND (Self.value self) }
     {
-        &self.slashed()[Self::TYPE.name().len() + 2..]
+        &self.slashed()[Self::KIND.name().len() + 2..]
     }
 
     /// The value with this spelling, in any ASCII case.
     final fn read_raised(text: &str) -> Option<Self>
         ensures spelled { IfSome result
-            (λ metric. spelling_of Self.TYPE (Self.value metric) ≡ raised text.now) }
-        ensures read { (metric : Self) → spelling_of Self.TYPE (Self.value metric) ≡ raised text.now
+            (λ metric. spelling_of Self.KIND (Self.value metric) ≡ raised text.now) }
+        ensures read { (metric : Self) → spelling_of Self.KIND (Self.value metric) ≡ raised text.now
             → result ≡ Some metric }
     {
         Self::read_bytes(text.as_bytes())
@@ -108,8 +125,8 @@ pub trait Metric: Spelled + Eq + Ord + fmt::Debug + fmt::Display {
     /// The value with this spelling, exactly as it is written.
     #[tactic(auto, using(crate::specs::private::TableLaws::raised_spelling))]
     final fn read(text: &str) -> Option<Self>
-        ensures spelled { IfSome result (λ metric. spelling_of Self.TYPE (Self.value metric) ≡ text.now) }
-        ensures read { (metric : Self) → spelling_of Self.TYPE (Self.value metric) ≡ text.now
+        ensures spelled { IfSome result (λ metric. spelling_of Self.KIND (Self.value metric) ≡ text.now) }
+        ensures read { (metric : Self) → spelling_of Self.KIND (Self.value metric) ≡ text.now
             → result ≡ Some metric }
     {
         let metric = Self::read_raised(text)?;
@@ -126,17 +143,17 @@ pub trait Metric: Spelled + Eq + Ord + fmt::Debug + fmt::Display {
     ///
     /// `InvalidMetricV3` with the text where the metric has no such value.
     final fn from_str(alloc: Global, text: &str) -> Result<Self, Error>
-        ensures spelled { IfOk result (λ metric. spelling_of Self.TYPE (Self.value metric) ≡ text.now) }
-        ensures read { (metric : Self) → spelling_of Self.TYPE (Self.value metric) ≡ text.now
+        ensures spelled { IfOk result (λ metric. spelling_of Self.KIND (Self.value metric) ≡ text.now) }
+        ensures read { (metric : Self) → spelling_of Self.KIND (Self.value metric) ≡ text.now
             → result ≡ Ok metric }
-        ensures refused { IfErr result (Tells v3_reason (BadValue (blamed Self.TYPE) text.now)) }
+        ensures refused { IfErr result (Tells v3_reason (BadValue FAULT_TYPE text.now)) }
     {
         match Self::read(text) {
             Some(metric) => Ok(metric),
             None => {
                 let value = String::from_str(alloc, text)?;
                 Err(Error::InvalidMetricV3 {
-                    metric_type: blamed(Self::TYPE),
+                    metric_type: Self::FAULT_TYPE,
                     value,
                 })
             }
@@ -145,25 +162,18 @@ pub trait Metric: Spelled + Eq + Ord + fmt::Debug + fmt::Display {
 
     /// Whether the value has a weight.
     final fn has_score(self) -> bool
-        ensures { IsTrue result ↔ IsSome (weight_of Self.TYPE (Self.value self)) }
+        ensures { IsTrue result ↔ IsSome (weight_of Self.KIND (Self.value self)) }
     {
         self.hundredths().is_some()
     }
 
     /// The value's weight in counts of 10^-24 (v3.1 specification, section 7.4).
     final fn score(self) -> i128
-        requires { IsSome (weight_of Self.TYPE (Self.value self)) }
-        ensures value { result ≡ pos (unwrap_or (weight_of Self.TYPE (Self.value self)) 0 * 10 ^ 22) }
+        requires { IsSome (weight_of Self.KIND (Self.value self)) }
+        ensures value { result ≡ pos (unwrap_or (weight_of Self.KIND (Self.value self)) 0 * 10 ^ 22) }
         ensures limit { IsWithinLimit result }
     {
         i128::from(self.hundredths().unwrap()) * HUNDREDTH
-    }
-
-    /// The metric's abbreviation.
-    final fn name() -> &'static str
-        ensures { result.now ≡ name_of Self.TYPE }
-    {
-        Self::TYPE.name()
     }
 }
 

@@ -19,9 +19,9 @@ pub enum ExploitCodeMaturity {
 }
 
 impl Spelled for ExploitCodeMaturity {
-    const TYPE: MetricType = MetricType::E;
+    const KIND: MetricType = MetricType::E;
 
-    ghost TYPE = { E };
+    ghost KIND = { E };
 
     ghost value = { λ metric. metric };
 
@@ -49,6 +49,14 @@ impl Spelled for ExploitCodeMaturity {
 }
 
 impl Metric for ExploitCodeMaturity {
+    const TYPE: MetricType = MetricType::E;
+
+    ghost TYPE = { E };
+
+    const FAULT_TYPE: MetricType = MetricType::E;
+
+    ghost FAULT_TYPE = { E };
+
     ghost law = { Prim.search rules };
 }
 
@@ -73,9 +81,9 @@ pub enum RemediationLevel {
 }
 
 impl Spelled for RemediationLevel {
-    const TYPE: MetricType = MetricType::RL;
+    const KIND: MetricType = MetricType::RL;
 
-    ghost TYPE = { RL };
+    ghost KIND = { RL };
 
     ghost value = { λ metric. metric };
 
@@ -103,6 +111,14 @@ impl Spelled for RemediationLevel {
 }
 
 impl Metric for RemediationLevel {
+    const TYPE: MetricType = MetricType::RL;
+
+    ghost TYPE = { RL };
+
+    const FAULT_TYPE: MetricType = MetricType::RL;
+
+    ghost FAULT_TYPE = { RL };
+
     ghost law = { Prim.search rules };
 }
 
@@ -126,9 +142,9 @@ pub enum ReportConfidence {
 }
 
 impl Spelled for ReportConfidence {
-    const TYPE: MetricType = MetricType::RC;
+    const KIND: MetricType = MetricType::RC;
 
-    ghost TYPE = { RC };
+    ghost KIND = { RC };
 
     ghost value = { λ metric. metric };
 
@@ -154,6 +170,14 @@ impl Spelled for ReportConfidence {
 }
 
 impl Metric for ReportConfidence {
+    const TYPE: MetricType = MetricType::RC;
+
+    ghost TYPE = { RC };
+
+    const FAULT_TYPE: MetricType = MetricType::RC;
+
+    ghost FAULT_TYPE = { RC };
+
     ghost law = { Prim.search rules };
 }
 

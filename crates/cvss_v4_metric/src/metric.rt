@@ -20,28 +20,28 @@ use std::fmt;
 
 /// What stands in vectors as a component: how values are spelled, read from their spelling.
 pub trait Spelled: Copy + 'static {
-    /// Which metric this is.
-    const TYPE: MetricType;
+    /// Which metric this is, the same as `Metric::TYPE`.
+    const KIND: MetricType;
 
-    ghost TYPE: { MetricType };
+    ghost KIND: { MetricType };
 
     ghost rank: { Self → ℕ };
 
     /// The values, the least first.
     fn values() -> &'static [Self]
-        ensures rows { map (λ metric. spelling_at TYPE (rank metric)) result.now ≡ spellings_of TYPE }
+        ensures rows { map (λ metric. spelling_at KIND (rank metric)) result.now ≡ spellings_of KIND }
         ensures covers { (metric : Self) → slice_get result.now (rank metric) ≡ Some metric };
 
     /// A slash and the component that stands for the value in a vector.
     fn slashed(self) -> &'static str
-        ensures { result.now ≡ slash ∷ metric_component TYPE (rank self) };
+        ensures { result.now ≡ slash ∷ metric_component KIND (rank self) };
 
     /// Writes the component that stands for the value in a vector, and the same under any options.
     final fn write<W: fmt::Write>(self, f: &mut fmt::Formatter<W>) -> fmt::Result
         ensures plain { WritesOnOk W.write_str_gives f.old result
-            (metric_component TYPE (rank self)) f.new }
+            (metric_component KIND (rank self)) f.new }
         ensures styled { WritesStyledOnOk W.write_str_gives f.old result
-            (metric_component TYPE (rank self)) f.new }
+            (metric_component KIND (rank self)) f.new }
     {
         write_component(self.slashed(), f)
     }
@@ -49,8 +49,8 @@ pub trait Spelled: Copy + 'static {
     /// The value that this letter spells, exactly as it is written.
     #[inline(always)]
     final fn read_letter(letter: u8) -> Option<Self>
-        ensures spelled { IfSome result (λ metric. spelling_at TYPE (rank metric) ≡ letter ∷ []) }
-        ensures read { (metric : Self) → spelling_at TYPE (rank metric) ≡ letter ∷ []
+        ensures spelled { IfSome result (λ metric. spelling_at KIND (rank metric) ≡ letter ∷ []) }
+        ensures read { (metric : Self) → spelling_at KIND (rank metric) ≡ letter ∷ []
             → result ≡ Some metric }
     {
         Self::values()
@@ -63,8 +63,8 @@ pub trait Spelled: Copy + 'static {
     #[inline(always)]
     final fn read_bytes(text: &[u8]) -> Option<Self>
         ensures spelled { IfSome result
-            (λ metric. raised (spelling_at TYPE (rank metric)) ≡ raised text.now) }
-        ensures read { (metric : Self) → raised (spelling_at TYPE (rank metric)) ≡ raised text.now
+            (λ metric. raised (spelling_at KIND (rank metric)) ≡ raised text.now) }
+        ensures read { (metric : Self) → raised (spelling_at KIND (rank metric)) ≡ raised text.now
             → result ≡ Some metric }
     {
         Self::values()
@@ -77,23 +77,35 @@ pub trait Spelled: Copy + 'static {
 /// A metric: an enum of the values that the specification gives for its type, which are compared.
 // A trait of its own, so that the proof of whoever reads or prints a vector loads no comparison.
 pub trait Metric: Spelled + Eq + Ord + Default + fmt::Debug + fmt::Display {
-    ghost law: { IsMetric Self.TYPE Self.rank ⟦<Self as Default>⟧.is_default ⟦<Self as Ord>⟧.cmp
+    /// Which metric this is.
+    const TYPE: MetricType;
+
+    ghost TYPE: { MetricType };
+
+    /// The metric's abbreviation.
+    fn name() -> &'static str
+        ensures { result.now ≡ name_of TYPE }
+    {
+        Self::TYPE.name()
+    }
+
+    ghost law: { IsMetric TYPE Self.KIND Self.rank ⟦<Self as Default>⟧.is_default ⟦<Self as Ord>⟧.cmp
         ⟦<Self as PartialEq>⟧.eq ⟦<Self as Clone>⟧.is_clone ⟦<Self as Clone>⟧.is_infallible };
 
     /// How the value is spelled in a vector.
     final fn as_str(self) -> &'static str
-        ensures { result.now ≡ spelling_at Self.TYPE (Self.rank self) }
+        ensures { result.now ≡ spelling_at Self.KIND (Self.rank self) }
     {
-        &self.slashed()[Self::TYPE.name().len() + 2..]
+        &self.slashed()[Self::KIND.name().len() + 2..]
     }
 
     /// The value that `read` gives for the text in upper case.
     #[tactic(auto, using(crate::proofs::ReadingLemmas::read_alike))]
     final fn read_raised(text: &str) -> Option<Self>
         ensures spelled { IfSome result
-            (λ metric. IsReading (spelling_at Self.TYPE (Self.rank metric)) (raised text.now)) }
+            (λ metric. IsReading (spelling_at Self.KIND (Self.rank metric)) (raised text.now)) }
         ensures read { (metric : Self)
-            → IsReading (spelling_at Self.TYPE (Self.rank metric)) (raised text.now)
+            → IsReading (spelling_at Self.KIND (Self.rank metric)) (raised text.now)
             → result ≡ Some metric }
     {
         Self::read_bytes(text.as_bytes())
@@ -102,8 +114,8 @@ pub trait Metric: Spelled + Eq + Ord + Default + fmt::Debug + fmt::Display {
     /// The value with this spelling, as it is printed or in upper case.
     final fn read(text: &str) -> Option<Self>
         ensures spelled { IfSome result
-            (λ metric. IsReading (spelling_at Self.TYPE (Self.rank metric)) text.now) }
-        ensures read { (metric : Self) → IsReading (spelling_at Self.TYPE (Self.rank metric)) text.now
+            (λ metric. IsReading (spelling_at Self.KIND (Self.rank metric)) text.now) }
+        ensures read { (metric : Self) → IsReading (spelling_at Self.KIND (Self.rank metric)) text.now
             → result ≡ Some metric }
     {
         let metric = Self::read_bytes(text.as_bytes())?;
@@ -121,10 +133,10 @@ pub trait Metric: Spelled + Eq + Ord + Default + fmt::Debug + fmt::Display {
     /// `InvalidMetricV4` with the text where the metric has no such value.
     final fn from_str(alloc: Global, text: &str) -> Result<Self, Error>
         ensures spelled { IfOk result
-            (λ metric. IsReading (spelling_at Self.TYPE (Self.rank metric)) text.now) }
-        ensures read { (metric : Self) → IsReading (spelling_at Self.TYPE (Self.rank metric)) text.now
+            (λ metric. IsReading (spelling_at Self.KIND (Self.rank metric)) text.now) }
+        ensures read { (metric : Self) → IsReading (spelling_at Self.KIND (Self.rank metric)) text.now
             → result ≡ Ok metric }
-        ensures refused { IfErr result (Tells v4_reason (BadValue Self.TYPE text.now)) }
+        ensures refused { IfErr result (Tells v4_reason (BadValue TYPE text.now)) }
     {
         match Self::read(text) {
             Some(metric) => Ok(metric),
@@ -137,24 +149,17 @@ pub trait Metric: Spelled + Eq + Ord + Default + fmt::Debug + fmt::Display {
             }
         }
     }
-
-    /// The metric's abbreviation.
-    final fn name() -> &'static str
-        ensures { result.now ≡ name_of Self.TYPE }
-    {
-        Self::TYPE.name()
-    }
 }
 
 /// How a value is spelled in a vector.
 #[inline(always)]
 fn spelling<M: Spelled>(value: M) -> &'static [u8]
-    ensures { result.now ≡ spelling_at M.TYPE (M.rank value) }
+    ensures { result.now ≡ spelling_at M.KIND (M.rank value) }
 {
     value
         .slashed()
         .as_bytes()
-        .get(M::TYPE.name().len() + 2..)
+        .get(M::KIND.name().len() + 2..)
         .unwrap_or(&[])
 }
 

@@ -20,9 +20,9 @@ pub enum ExploitMaturity {
 }
 
 impl Spelled for ExploitMaturity {
-    const TYPE: MetricType = MetricType::E;
+    const KIND: MetricType = MetricType::E;
 
-    ghost TYPE = { metric.E };
+    ghost KIND = { metric.E };
 
     ghost rank = { place.E };
 
@@ -42,6 +42,10 @@ impl Spelled for ExploitMaturity {
 }
 
 impl Metric for ExploitMaturity {
+    const TYPE: MetricType = MetricType::E;
+
+    ghost TYPE = { metric.E };
+
     ghost law = { Prim.search rules };
 }
 

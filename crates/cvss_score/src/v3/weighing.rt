@@ -8,13 +8,13 @@ ghost use Rattle.cvss_score.specs.v3.private.Weights.{WeighsAtMost};
 
 use cvss_v3_metric::Spelled;
 use cvss_v3_metric::base::{PrivilegesRequired, Scope};
-use cvss_v3_metric::environmental::{Modifiable, Modified, ModifiedScope};
+use cvss_v3_metric::environmental::{Modified, ModifiedScope};
 
 /// The weight of a value in hundredths, or another where the metric is absent.
 #[inline(always)]
 pub fn weight<M: Spelled>(value: Option<M>, absent: u64) -> u64
-    ensures value { result ≡ weight_or (λ metric. weight_of M.TYPE (M.value metric)) value absent }
-    ensures bound { (most : ℕ) → WeighsAtMost most M.TYPE → absent ≤ most → result ≤ most }
+    ensures value { result ≡ weight_or (λ metric. weight_of M.KIND (M.value metric)) value absent }
+    ensures bound { (most : ℕ) → WeighsAtMost most M.KIND → absent ≤ most → result ≤ most }
 {
     match value {
         Some(metric) => metric.hundredths().unwrap_or(0),
@@ -54,7 +54,7 @@ pub fn modified_privileges(
 
 /// The value of a modified metric where it is defined, and else of the base metric.
 #[inline(always)]
-pub fn effective<T: Modifiable>(modified: Option<Modified<T>>, base: Option<T>) -> Option<T>
+pub fn effective<T: Copy>(modified: Option<Modified<T>>, base: Option<T>) -> Option<T>
     ensures { result ≡ effective modified base }
 {
     match modified {

@@ -38,9 +38,9 @@ impl Printed for Vector {
 impl Vector {
     /// A slash and the component of the value that the vector has for a metric.
     fn slashed_at<M: Spelled>(&self, kind: MetricType, value: Option<M>) -> Option<&'static str>
-        requires kind { kind ≡ M.TYPE }
-        requires value { held v2 self.now M.TYPE
-            ≡ option_map (λ metric. spelling_of M.TYPE (M.value metric)) value }
+        requires kind { kind ≡ M.KIND }
+        requires value { held v2 self.now M.KIND
+            ≡ option_map (λ metric. spelling_of M.KIND (M.value metric)) value }
         ensures { option_copied result ≡ slashed (component_of v2 self.now kind) }
     {
         Some(value?.slashed())
@@ -52,7 +52,7 @@ fn write_value<M: Spelled, W: fmt::Write>(
     value: Option<M>,
     f: &mut fmt::Formatter<W>,
 ) -> fmt::Result
-    ensures { WritesOnOk W.write_str_gives f.old result (slashed_value M.TYPE M.value value) f.new }
+    ensures { WritesOnOk W.write_str_gives f.old result (slashed_value M.KIND M.value value) f.new }
 {
     match value {
         Some(metric) => f.write_str(metric.slashed()),
@@ -67,8 +67,8 @@ fn write_three<K: Spelled, L: Spelled, M: Spelled, W: fmt::Write>(
     third: &Option<M>,
     f: &mut fmt::Formatter<W>,
 ) -> fmt::Result
-    ensures { WritesOnOk W.write_str_gives f.old result (slashed_value K.TYPE K.value first.now
-        ++ (slashed_value L.TYPE L.value second.now ++ slashed_value M.TYPE M.value third.now)) f.new }
+    ensures { WritesOnOk W.write_str_gives f.old result (slashed_value K.KIND K.value first.now
+        ++ (slashed_value L.KIND L.value second.now ++ slashed_value M.KIND M.value third.now)) f.new }
 {
     write_value(*first, f)?;
     write_value(*second, f)?;

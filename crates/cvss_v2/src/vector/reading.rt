@@ -77,7 +77,7 @@ impl Components for Vector {
 
 /// Reads a value into its place, which has to be empty.
 fn fill<M: Spelled>(place: &mut Option<M>, text: &[u8]) -> Result<(), Slip>
-    ensures { IsFilled (λ x. spelling_of M.TYPE (M.value x)) place.old text.now result place.new }
+    ensures { IsFilled (λ x. spelling_of M.KIND (M.value x)) place.old text.now result place.new }
 {
     fill_place(place, M::read_bytes(text))
 }

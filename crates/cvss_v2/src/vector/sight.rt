@@ -82,8 +82,8 @@ fn put_three_at_sight<'a, K: Spelled, L: Spelled, M: Spelled>(
     third: &mut Option<M>,
     text: &'a [u8],
 ) -> &'a [u8]
-    ensures { text.now ≡ slashed_value K.TYPE K.value first.new
-        ++ (slashed_value L.TYPE L.value second.new ++ (slashed_value M.TYPE M.value third.new
+    ensures { text.now ≡ slashed_value K.KIND K.value first.new
+        ++ (slashed_value L.KIND L.value second.new ++ (slashed_value M.KIND M.value third.new
         ++ result.now)) }
 {
     let text = put_at_sight(first, text);
@@ -95,7 +95,7 @@ fn put_three_at_sight<'a, K: Spelled, L: Spelled, M: Spelled>(
 /// gives what stands behind that; else no value, and the text.
 #[inline(always)]
 fn put_at_sight<'a, M: Spelled>(place: &mut Option<M>, text: &'a [u8]) -> &'a [u8]
-    ensures { text.now ≡ slashed_value M.TYPE M.value place.new ++ result.now }
+    ensures { text.now ≡ slashed_value M.KIND M.value place.new ++ result.now }
 {
     put_read(place, component_at_sight(text), text)
 }
@@ -105,9 +105,9 @@ fn put_at_sight<'a, M: Spelled>(place: &mut Option<M>, text: &'a [u8]) -> &'a [u
 #[inline(always)]
 fn component_at_sight<M: Spelled>(text: &[u8]) -> Option<(M, &[u8])>
     ensures { IfSome result
-        (λ read. text.now ≡ slash ∷ (metric_component M.TYPE (M.value read.0) ++ read.1.now)) }
+        (λ read. text.now ≡ slash ∷ (metric_component M.KIND (M.value read.0) ++ read.1.now)) }
 {
-    value_at_sight(behind_name(M::TYPE.name(), text)?)
+    value_at_sight(behind_name(M::KIND.name(), text)?)
 }
 
 /// The value of a metric, where a text begins with its spelling up to a slash, and what stands
@@ -115,7 +115,7 @@ fn component_at_sight<M: Spelled>(text: &[u8]) -> Option<(M, &[u8])>
 #[inline(always)]
 fn value_at_sight<M: Spelled>(text: &[u8]) -> Option<(M, &[u8])>
     ensures { IfSome result
-        (λ read. text.now ≡ spelling_of M.TYPE (M.value read.0) ++ read.1.now) }
+        (λ read. text.now ≡ spelling_of M.KIND (M.value read.0) ++ read.1.now) }
 {
     let (value, rest) = match text {
         [] | [_] | [_, b'/', ..] => return letter_at_sight(text),
@@ -130,7 +130,7 @@ fn value_at_sight<M: Spelled>(text: &[u8]) -> Option<(M, &[u8])>
 #[inline(always)]
 fn letter_at_sight<M: Spelled>(text: &[u8]) -> Option<(M, &[u8])>
     ensures { IfSome result
-        (λ read. text.now ≡ spelling_of M.TYPE (M.value read.0) ++ read.1.now) }
+        (λ read. text.now ≡ spelling_of M.KIND (M.value read.0) ++ read.1.now) }
 {
     match text {
         [letter, rest @ ..] => Some((M::read_bytes(&[*letter])?, rest)),

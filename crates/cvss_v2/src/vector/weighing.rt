@@ -36,13 +36,13 @@ impl Vector {
     /// The weight of the value that the vector has for a metric, or that of the absent metric.
     #[inline(always)]
     fn weight_at<M: Spelled>(&self, metric: MetricType, value: Option<M>, absent: u64) -> u64
-        requires metric { metric ≡ M.TYPE }
-        requires value { option_map (weight_of M.TYPE) (value_at self.now M.TYPE)
-            ≡ option_map (λ held. weight_of M.TYPE (M.value held)) value }
-        requires absent { absent ≡ absent_weight M.TYPE }
-        requires least { absent ≤ greatest_weight M.TYPE }
+        requires metric { metric ≡ M.KIND }
+        requires value { option_map (weight_of M.KIND) (value_at self.now M.KIND)
+            ≡ option_map (λ held. weight_of M.KIND (M.value held)) value }
+        requires absent { absent ≡ absent_weight M.KIND }
+        requires least { absent ≤ greatest_weight M.KIND }
         ensures weight { result ≡ weight_in self.now metric }
-        ensures bound { result ≤ greatest_weight M.TYPE }
+        ensures bound { result ≤ greatest_weight M.KIND }
     {
         weight(value, absent)
     }
@@ -51,10 +51,10 @@ impl Vector {
 /// The weight of a value in thousandths, or that of an absent metric.
 #[inline(always)]
 pub(super) fn weight<M: Spelled>(value: Option<M>, absent: u64) -> u64
-    requires { absent ≤ greatest_weight M.TYPE }
+    requires { absent ≤ greatest_weight M.KIND }
     ensures weight { result
-        ≡ unwrap_or (option_map (λ metric. weight_of M.TYPE (M.value metric)) value) absent }
-    ensures bound { result ≤ greatest_weight M.TYPE }
+        ≡ unwrap_or (option_map (λ metric. weight_of M.KIND (M.value metric)) value) absent }
+    ensures bound { result ≤ greatest_weight M.KIND }
 {
     match value {
         Some(metric) => metric.thousandths(),

@@ -17,13 +17,17 @@ pub enum AccessVector {
 }
 
 impl Metric for AccessVector {
+    const TYPE: MetricType = MetricType::AV;
+
+    ghost TYPE = { AV };
+
     ghost law = { Prim.search rules };
 }
 
 impl Spelled for AccessVector {
-    const TYPE: MetricType = MetricType::AV;
+    const KIND: MetricType = MetricType::AV;
 
-    ghost TYPE = { AV };
+    ghost KIND = { AV };
 
     ghost value = { λ metric. metric };
 
@@ -59,13 +63,17 @@ pub enum AccessComplexity {
 }
 
 impl Metric for AccessComplexity {
+    const TYPE: MetricType = MetricType::AC;
+
+    ghost TYPE = { AC };
+
     ghost law = { Prim.search rules };
 }
 
 impl Spelled for AccessComplexity {
-    const TYPE: MetricType = MetricType::AC;
+    const KIND: MetricType = MetricType::AC;
 
-    ghost TYPE = { AC };
+    ghost KIND = { AC };
 
     ghost value = { λ metric. metric };
 
@@ -101,13 +109,17 @@ pub enum Authentication {
 }
 
 impl Metric for Authentication {
+    const TYPE: MetricType = MetricType::Au;
+
+    ghost TYPE = { Au };
+
     ghost law = { Prim.search rules };
 }
 
 impl Spelled for Authentication {
-    const TYPE: MetricType = MetricType::Au;
+    const KIND: MetricType = MetricType::Au;
 
-    ghost TYPE = { Au };
+    ghost KIND = { Au };
 
     ghost value = { λ metric. metric };
 

@@ -17,13 +17,17 @@ pub enum ConfidentialityImpact {
 }
 
 impl Metric for ConfidentialityImpact {
+    const TYPE: MetricType = MetricType::C;
+
+    ghost TYPE = { C };
+
     ghost law = { Prim.search rules };
 }
 
 impl Spelled for ConfidentialityImpact {
-    const TYPE: MetricType = MetricType::C;
+    const KIND: MetricType = MetricType::C;
 
-    ghost TYPE = { C };
+    ghost KIND = { C };
 
     ghost value = { λ metric. metric };
 
@@ -59,13 +63,17 @@ pub enum IntegrityImpact {
 }
 
 impl Metric for IntegrityImpact {
+    const TYPE: MetricType = MetricType::I;
+
+    ghost TYPE = { I };
+
     ghost law = { Prim.search rules };
 }
 
 impl Spelled for IntegrityImpact {
-    const TYPE: MetricType = MetricType::I;
+    const KIND: MetricType = MetricType::I;
 
-    ghost TYPE = { I };
+    ghost KIND = { I };
 
     ghost value = { λ metric. metric };
 
@@ -101,13 +109,17 @@ pub enum AvailabilityImpact {
 }
 
 impl Metric for AvailabilityImpact {
+    const TYPE: MetricType = MetricType::A;
+
+    ghost TYPE = { A };
+
     ghost law = { Prim.search rules };
 }
 
 impl Spelled for AvailabilityImpact {
-    const TYPE: MetricType = MetricType::A;
+    const KIND: MetricType = MetricType::A;
 
-    ghost TYPE = { A };
+    ghost KIND = { A };
 
     ghost value = { λ metric. metric };
 

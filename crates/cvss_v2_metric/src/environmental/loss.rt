@@ -20,13 +20,17 @@ pub enum CollateralDamagePotential {
 }
 
 impl Metric for CollateralDamagePotential {
+    const TYPE: MetricType = MetricType::CDP;
+
+    ghost TYPE = { CDP };
+
     ghost law = { Prim.search rules };
 }
 
 impl Spelled for CollateralDamagePotential {
-    const TYPE: MetricType = MetricType::CDP;
+    const KIND: MetricType = MetricType::CDP;
 
-    ghost TYPE = { CDP };
+    ghost KIND = { CDP };
 
     ghost value = { λ metric. metric };
 
@@ -68,13 +72,17 @@ pub enum TargetDistribution {
 }
 
 impl Metric for TargetDistribution {
+    const TYPE: MetricType = MetricType::TD;
+
+    ghost TYPE = { TD };
+
     ghost law = { Prim.search rules };
 }
 
 impl Spelled for TargetDistribution {
-    const TYPE: MetricType = MetricType::TD;
+    const KIND: MetricType = MetricType::TD;
 
-    ghost TYPE = { TD };
+    ghost KIND = { TD };
 
     ghost value = { λ metric. metric };
 

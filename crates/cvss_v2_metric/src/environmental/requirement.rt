@@ -18,13 +18,17 @@ pub enum ConfidentialityRequirement {
 }
 
 impl Metric for ConfidentialityRequirement {
+    const TYPE: MetricType = MetricType::CR;
+
+    ghost TYPE = { CR };
+
     ghost law = { Prim.search rules };
 }
 
 impl Spelled for ConfidentialityRequirement {
-    const TYPE: MetricType = MetricType::CR;
+    const KIND: MetricType = MetricType::CR;
 
-    ghost TYPE = { CR };
+    ghost KIND = { CR };
 
     ghost value = { λ metric. metric };
 
@@ -62,13 +66,17 @@ pub enum IntegrityRequirement {
 }
 
 impl Metric for IntegrityRequirement {
+    const TYPE: MetricType = MetricType::IR;
+
+    ghost TYPE = { IR };
+
     ghost law = { Prim.search rules };
 }
 
 impl Spelled for IntegrityRequirement {
-    const TYPE: MetricType = MetricType::IR;
+    const KIND: MetricType = MetricType::IR;
 
-    ghost TYPE = { IR };
+    ghost KIND = { IR };
 
     ghost value = { λ metric. metric };
 
@@ -106,13 +114,17 @@ pub enum AvailabilityRequirement {
 }
 
 impl Metric for AvailabilityRequirement {
+    const TYPE: MetricType = MetricType::AR;
+
+    ghost TYPE = { AR };
+
     ghost law = { Prim.search rules };
 }
 
 impl Spelled for AvailabilityRequirement {
-    const TYPE: MetricType = MetricType::AR;
+    const KIND: MetricType = MetricType::AR;
 
-    ghost TYPE = { AR };
+    ghost KIND = { AR };
 
     ghost value = { λ metric. metric };
 

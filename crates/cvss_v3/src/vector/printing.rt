@@ -46,9 +46,9 @@ impl Printed for Vector {
 impl Vector {
     /// A slash and the component of the value that the vector has for a metric.
     fn slashed_at<M: Spelled>(&self, kind: MetricType, value: Option<M>) -> Option<&'static str>
-        requires kind { kind ≡ M.TYPE }
-        requires value { held v3 self.now M.TYPE
-            ≡ option_map (λ metric. spelling_of M.TYPE (M.value metric)) value }
+        requires kind { kind ≡ M.KIND }
+        requires value { held v3 self.now M.KIND
+            ≡ option_map (λ metric. spelling_of M.KIND (M.value metric)) value }
         ensures { option_copied result ≡ slashed (component_of v3 self.now kind) }
     {
         Some(value?.slashed())
@@ -60,7 +60,7 @@ fn write_value<M: Spelled, W: fmt::Write>(
     value: Option<M>,
     f: &mut fmt::Formatter<W>,
 ) -> fmt::Result
-    ensures { WritesOnOk W.write_str_gives f.old result (shown M.TYPE M.value value) f.new }
+    ensures { WritesOnOk W.write_str_gives f.old result (shown M.KIND M.value value) f.new }
 {
     match value {
         Some(metric) => f.write_str(metric.slashed()),
@@ -77,8 +77,8 @@ fn write_four<K: Spelled, L: Spelled, M: Spelled, N: Spelled, W: fmt::Write>(
     f: &mut fmt::Formatter<W>,
 ) -> fmt::Result
     ensures { WritesOnOk W.write_str_gives f.old result
-        (shown K.TYPE K.value first.now ++ (shown L.TYPE L.value second.now
-        ++ (shown M.TYPE M.value third.now ++ shown N.TYPE N.value fourth.now))) f.new }
+        (shown K.KIND K.value first.now ++ (shown L.KIND L.value second.now
+        ++ (shown M.KIND M.value third.now ++ shown N.KIND N.value fourth.now))) f.new }
 {
     write_value(*first, f)?;
     write_value(*second, f)?;

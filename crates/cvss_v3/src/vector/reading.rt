@@ -114,7 +114,7 @@ impl Vector {
 
 /// Reads a value into its place, which has to be empty.
 fn fill<M: Spelled>(place: &mut Option<M>, text: &[u8]) -> Result<(), Slip>
-    ensures { IsFilled (λ x. raised (spelling_of M.TYPE (M.value x))) place.old (raised text.now)
+    ensures { IsFilled (λ x. raised (spelling_of M.KIND (M.value x))) place.old (raised text.now)
         result place.new }
 {
     fill_place(place, M::read_bytes(text))

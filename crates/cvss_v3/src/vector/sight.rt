@@ -112,10 +112,10 @@ fn four_at_sight<K: Spelled, L: Spelled, M: Spelled, N: Spelled>(
     text: &[u8],
 ) -> Option<(K, L, M, N, &[u8])>
     ensures { IfSome result (λ read. text.now
-        ≡ slash ∷ (metric_component K.TYPE (K.value read.0)
-        ++ (slash ∷ (metric_component L.TYPE (L.value read.1)
-        ++ (slash ∷ (metric_component M.TYPE (M.value read.2)
-        ++ (slash ∷ (metric_component N.TYPE (N.value read.3) ++ read.4.now)))))))) }
+        ≡ slash ∷ (metric_component K.KIND (K.value read.0)
+        ++ (slash ∷ (metric_component L.KIND (L.value read.1)
+        ++ (slash ∷ (metric_component M.KIND (M.value read.2)
+        ++ (slash ∷ (metric_component N.KIND (N.value read.3) ++ read.4.now)))))))) }
 {
     let (first, text) = component_at_sight(text)?;
     let (second, text) = component_at_sight(text)?;
@@ -133,8 +133,8 @@ fn put_three_at_sight<'a, K: Spelled, L: Spelled, M: Spelled>(
     third: &mut Option<M>,
     text: &'a [u8],
 ) -> &'a [u8]
-    ensures { text.now ≡ shown K.TYPE K.value first.new ++ (shown L.TYPE L.value second.new
-        ++ (shown M.TYPE M.value third.new ++ result.now)) }
+    ensures { text.now ≡ shown K.KIND K.value first.new ++ (shown L.KIND L.value second.new
+        ++ (shown M.KIND M.value third.new ++ result.now)) }
 {
     let text = put_at_sight(first, text);
     let text = put_at_sight(second, text);
@@ -145,7 +145,7 @@ fn put_three_at_sight<'a, K: Spelled, L: Spelled, M: Spelled>(
 /// gives what stands behind that; else no value, and the text.
 #[inline(always)]
 fn put_at_sight<'a, M: Spelled>(place: &mut Option<M>, text: &'a [u8]) -> &'a [u8]
-    ensures { text.now ≡ shown M.TYPE M.value place.new ++ result.now }
+    ensures { text.now ≡ shown M.KIND M.value place.new ++ result.now }
 {
     put_read(place, component_at_sight(text), text)
 }
@@ -155,9 +155,9 @@ fn put_at_sight<'a, M: Spelled>(place: &mut Option<M>, text: &'a [u8]) -> &'a [u
 #[inline(always)]
 fn component_at_sight<M: Spelled>(text: &[u8]) -> Option<(M, &[u8])>
     ensures { IfSome result
-        (λ read. text.now ≡ slash ∷ (metric_component M.TYPE (M.value read.0) ++ read.1.now)) }
+        (λ read. text.now ≡ slash ∷ (metric_component M.KIND (M.value read.0) ++ read.1.now)) }
 {
-    match behind_name(M::TYPE.name(), text)? {
+    match behind_name(M::KIND.name(), text)? {
         [letter, rest @ ..] => Some((M::read_letter(*letter)?, rest)),
         [] => None,
     }

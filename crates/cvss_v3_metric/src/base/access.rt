@@ -8,7 +8,7 @@ ghost use Rattle.cvss_base.specs.declared.v3.MetricType.TheVariants.{PR, UI, MPR
 ghost use Rattle.cvss_base.specs.Text.{slash};
 ghost use Rattle.cvss_v3_metric.specs.Table.{scoped_weight, metric_component};
 
-use crate::environmental::{Modifiable, Modified};
+use crate::environmental::{BaseMetric, Modified};
 use crate::metric::{HUNDREDTH, Metric, MetricType, Spelled};
 use std::fmt;
 
@@ -22,9 +22,9 @@ pub enum PrivilegesRequired {
 }
 
 impl Spelled for PrivilegesRequired {
-    const TYPE: MetricType = MetricType::PR;
+    const KIND: MetricType = MetricType::PR;
 
-    ghost TYPE = { PR };
+    ghost KIND = { PR };
 
     ghost value = { λ metric. metric };
 
@@ -48,6 +48,14 @@ impl Spelled for PrivilegesRequired {
 }
 
 impl Metric for PrivilegesRequired {
+    const TYPE: MetricType = MetricType::PR;
+
+    ghost TYPE = { PR };
+
+    const FAULT_TYPE: MetricType = MetricType::PR;
+
+    ghost FAULT_TYPE = { PR };
+
     ghost law = { Prim.search rules };
 }
 
@@ -61,10 +69,10 @@ impl fmt::Display for PrivilegesRequired {
     }
 }
 
-impl Modifiable for PrivilegesRequired {
-    const MODIFIED: MetricType = MetricType::MPR;
+impl BaseMetric for PrivilegesRequired {
+    const MODIFIED_TYPE: MetricType = MetricType::MPR;
 
-    ghost MODIFIED = { MPR };
+    ghost MODIFIED_TYPE = { MPR };
 
     ghost modified_value = { λ metric. metric };
 
@@ -112,9 +120,9 @@ pub enum UserInteraction {
 }
 
 impl Spelled for UserInteraction {
-    const TYPE: MetricType = MetricType::UI;
+    const KIND: MetricType = MetricType::UI;
 
-    ghost TYPE = { UI };
+    ghost KIND = { UI };
 
     ghost value = { λ metric. metric };
 
@@ -136,6 +144,14 @@ impl Spelled for UserInteraction {
 }
 
 impl Metric for UserInteraction {
+    const TYPE: MetricType = MetricType::UI;
+
+    ghost TYPE = { UI };
+
+    const FAULT_TYPE: MetricType = MetricType::UI;
+
+    ghost FAULT_TYPE = { UI };
+
     ghost law = { Prim.search rules };
 }
 
@@ -149,10 +165,10 @@ impl fmt::Display for UserInteraction {
     }
 }
 
-impl Modifiable for UserInteraction {
-    const MODIFIED: MetricType = MetricType::MUI;
+impl BaseMetric for UserInteraction {
+    const MODIFIED_TYPE: MetricType = MetricType::MUI;
 
-    ghost MODIFIED = { MUI };
+    ghost MODIFIED_TYPE = { MUI };
 
     ghost modified_value = { λ metric. metric };
 

@@ -6,7 +6,7 @@ ghost use Rattle.cvss_base.specs.declared.v3.MetricType.TheVariants.{AV, AC, MAV
 ghost use Rattle.cvss_base.specs.Text.{slash};
 ghost use Rattle.cvss_v3_metric.specs.Table.{metric_component, default_complexity};
 
-use crate::environmental::{Modifiable, Modified};
+use crate::environmental::{BaseMetric, Modified};
 use crate::metric::{Metric, MetricType, Spelled};
 use std::fmt;
 
@@ -20,9 +20,9 @@ pub enum AttackVector {
 }
 
 impl Spelled for AttackVector {
-    const TYPE: MetricType = MetricType::AV;
+    const KIND: MetricType = MetricType::AV;
 
-    ghost TYPE = { AV };
+    ghost KIND = { AV };
 
     ghost value = { λ metric. metric };
 
@@ -48,6 +48,14 @@ impl Spelled for AttackVector {
 }
 
 impl Metric for AttackVector {
+    const TYPE: MetricType = MetricType::AV;
+
+    ghost TYPE = { AV };
+
+    const FAULT_TYPE: MetricType = MetricType::AV;
+
+    ghost FAULT_TYPE = { AV };
+
     ghost law = { Prim.search rules };
 }
 
@@ -61,10 +69,10 @@ impl fmt::Display for AttackVector {
     }
 }
 
-impl Modifiable for AttackVector {
-    const MODIFIED: MetricType = MetricType::MAV;
+impl BaseMetric for AttackVector {
+    const MODIFIED_TYPE: MetricType = MetricType::MAV;
 
-    ghost MODIFIED = { MAV };
+    ghost MODIFIED_TYPE = { MAV };
 
     ghost modified_value = { λ metric. metric };
 
@@ -100,9 +108,9 @@ impl Default for AttackComplexity {
 }
 
 impl Spelled for AttackComplexity {
-    const TYPE: MetricType = MetricType::AC;
+    const KIND: MetricType = MetricType::AC;
 
-    ghost TYPE = { AC };
+    ghost KIND = { AC };
 
     ghost value = { λ metric. metric };
 
@@ -124,6 +132,14 @@ impl Spelled for AttackComplexity {
 }
 
 impl Metric for AttackComplexity {
+    const TYPE: MetricType = MetricType::AC;
+
+    ghost TYPE = { AC };
+
+    const FAULT_TYPE: MetricType = MetricType::AC;
+
+    ghost FAULT_TYPE = { AC };
+
     ghost law = { Prim.search rules };
 }
 
@@ -137,10 +153,10 @@ impl fmt::Display for AttackComplexity {
     }
 }
 
-impl Modifiable for AttackComplexity {
-    const MODIFIED: MetricType = MetricType::MAC;
+impl BaseMetric for AttackComplexity {
+    const MODIFIED_TYPE: MetricType = MetricType::MAC;
 
-    ghost MODIFIED = { MAC };
+    ghost MODIFIED_TYPE = { MAC };
 
     ghost modified_value = { λ metric. metric };
 

@@ -6,7 +6,7 @@ ghost use Rattle.cvss_base.specs.declared.v3.MetricType.TheVariants.{C, I, A, MC
 ghost use Rattle.cvss_base.specs.Text.{slash};
 ghost use Rattle.cvss_v3_metric.specs.Table.{metric_component};
 
-use crate::environmental::{Modifiable, Modified};
+use crate::environmental::{BaseMetric, Modified};
 use crate::metric::{Metric, MetricType, Spelled};
 use std::fmt;
 
@@ -19,9 +19,9 @@ pub enum Confidentiality {
 }
 
 impl Spelled for Confidentiality {
-    const TYPE: MetricType = MetricType::C;
+    const KIND: MetricType = MetricType::C;
 
-    ghost TYPE = { C };
+    ghost KIND = { C };
 
     ghost value = { λ metric. metric };
 
@@ -45,6 +45,14 @@ impl Spelled for Confidentiality {
 }
 
 impl Metric for Confidentiality {
+    const TYPE: MetricType = MetricType::C;
+
+    ghost TYPE = { C };
+
+    const FAULT_TYPE: MetricType = MetricType::C;
+
+    ghost FAULT_TYPE = { C };
+
     ghost law = { Prim.search rules };
 }
 
@@ -58,10 +66,10 @@ impl fmt::Display for Confidentiality {
     }
 }
 
-impl Modifiable for Confidentiality {
-    const MODIFIED: MetricType = MetricType::MC;
+impl BaseMetric for Confidentiality {
+    const MODIFIED_TYPE: MetricType = MetricType::MC;
 
-    ghost MODIFIED = { MC };
+    ghost MODIFIED_TYPE = { MC };
 
     ghost modified_value = { λ metric. metric };
 
@@ -88,9 +96,9 @@ pub enum Integrity {
 }
 
 impl Spelled for Integrity {
-    const TYPE: MetricType = MetricType::I;
+    const KIND: MetricType = MetricType::I;
 
-    ghost TYPE = { I };
+    ghost KIND = { I };
 
     ghost value = { λ metric. metric };
 
@@ -114,6 +122,14 @@ impl Spelled for Integrity {
 }
 
 impl Metric for Integrity {
+    const TYPE: MetricType = MetricType::I;
+
+    ghost TYPE = { I };
+
+    const FAULT_TYPE: MetricType = MetricType::I;
+
+    ghost FAULT_TYPE = { I };
+
     ghost law = { Prim.search rules };
 }
 
@@ -127,10 +143,10 @@ impl fmt::Display for Integrity {
     }
 }
 
-impl Modifiable for Integrity {
-    const MODIFIED: MetricType = MetricType::MI;
+impl BaseMetric for Integrity {
+    const MODIFIED_TYPE: MetricType = MetricType::MI;
 
-    ghost MODIFIED = { MI };
+    ghost MODIFIED_TYPE = { MI };
 
     ghost modified_value = { λ metric. metric };
 
@@ -157,9 +173,9 @@ pub enum Availability {
 }
 
 impl Spelled for Availability {
-    const TYPE: MetricType = MetricType::A;
+    const KIND: MetricType = MetricType::A;
 
-    ghost TYPE = { A };
+    ghost KIND = { A };
 
     ghost value = { λ metric. metric };
 
@@ -183,6 +199,14 @@ impl Spelled for Availability {
 }
 
 impl Metric for Availability {
+    const TYPE: MetricType = MetricType::A;
+
+    ghost TYPE = { A };
+
+    const FAULT_TYPE: MetricType = MetricType::A;
+
+    ghost FAULT_TYPE = { A };
+
     ghost law = { Prim.search rules };
 }
 
@@ -196,10 +220,10 @@ impl fmt::Display for Availability {
     }
 }
 
-impl Modifiable for Availability {
-    const MODIFIED: MetricType = MetricType::MA;
+impl BaseMetric for Availability {
+    const MODIFIED_TYPE: MetricType = MetricType::MA;
 
-    ghost MODIFIED = { MA };
+    ghost MODIFIED_TYPE = { MA };
 
     ghost modified_value = { λ metric. metric };
 

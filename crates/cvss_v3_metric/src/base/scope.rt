@@ -17,9 +17,9 @@ pub enum Scope {
 }
 
 impl Spelled for Scope {
-    const TYPE: MetricType = MetricType::S;
+    const KIND: MetricType = MetricType::S;
 
-    ghost TYPE = { S };
+    ghost KIND = { S };
 
     ghost value = { λ metric. metric };
 
@@ -41,6 +41,14 @@ impl Spelled for Scope {
 }
 
 impl Metric for Scope {
+    const TYPE: MetricType = MetricType::S;
+
+    ghost TYPE = { S };
+
+    const FAULT_TYPE: MetricType = MetricType::S;
+
+    ghost FAULT_TYPE = { S };
+
     ghost law = { Prim.search rules };
 }
 

@@ -1,11 +1,11 @@
 //! The modified base metrics (v3.1 specification, section 4.2).
 
 ghost use Rattle.std.specs.Prelude.{◌≡◌, ◌∷◌, ◌*◌, ◌^◌, pos, Some, refl};
-ghost use Rattle.std.proofs.Common.{rules};
+ghost use Rattle.std.proofs.Common.{rules, ◌∙◌};
 ghost use Rattle.cvss_base.specs.Exact.{IsWithinLimit};
 ghost use Rattle.cvss_base.specs.Text.{slash};
 ghost use Rattle.cvss_base.specs.declared.v3.MetricType.{MetricType};
-ghost use Rattle.cvss_base.specs.declared.v3.MetricType.TheVariants.{MS};
+ghost use Rattle.cvss_base.specs.declared.v3.MetricType.TheVariants.{S, MS};
 ghost use Rattle.cvss_v3_metric.specs.Table.{scoped_weight, Value, weight_of, metric_component};
 ghost use Rattle.cvss_v3_metric.specs.Metrics.{IsBaseMetric};
 ghost use Rattle.cvss_v3_metric.specs.Modified.{replaced, weight_or};
@@ -21,46 +21,29 @@ pub enum Modified<T> {
     Modified(T),
 }
 
-/// What stands in vectors as a component of a modified metric.
-pub trait Modifiable: Spelled {
+/// A base metric that a modified metric can replace: each of its values has a weight, and none is
+/// spelled `X`.
+pub trait BaseMetric: Metric {
     ghost use Rattle.cvss_v3_metric.specs.declared.environmental.modified.Modified.{Modified};
 
-    /// The modified metric.
-    const MODIFIED: MetricType;
-
-    ghost MODIFIED: { MetricType };
-
-    ghost modified_value: { Modified Self → Value MODIFIED };
-
-    /// A slash and the component that stands for the modified value in a vector.
-    fn modified_slashed(metric: Modified<Self>) -> &'static str
-        ensures { result.now ≡ slash ∷ metric_component MODIFIED (modified_value metric) };
-
-    ghost base_law: { IsBaseMetric Self.TYPE MODIFIED Self.value modified_value };
-}
-
-/// A base metric that a modified metric can replace.
-pub trait BaseMetric: Metric + Modifiable {
     /// The modified metric.
     const MODIFIED_TYPE: MetricType;
 
     ghost MODIFIED_TYPE: { MetricType };
 
-    ghost modified_is: { MODIFIED_TYPE ≡ Self.MODIFIED };
+    ghost modified_value: { Modified Self → Value MODIFIED_TYPE };
+
+    /// A slash and the component that stands for the modified value in a vector.
+    fn modified_slashed(metric: Modified<Self>) -> &'static str
+        ensures { result.now ≡ slash ∷ metric_component MODIFIED_TYPE (modified_value metric) };
+
+    ghost base_law: { IsBaseMetric Self.KIND MODIFIED_TYPE Self.value modified_value };
 }
 
-impl<T: Metric + Modifiable> BaseMetric for T {
-    const MODIFIED_TYPE: MetricType = T::MODIFIED;
+impl<T: BaseMetric> Spelled for Modified<T> {
+    const KIND: MetricType = T::MODIFIED_TYPE;
 
-    ghost MODIFIED_TYPE = { T.MODIFIED };
-
-    ghost modified_is = { refl };
-}
-
-impl<T: Modifiable> Spelled for Modified<T> {
-    const TYPE: MetricType = T::MODIFIED;
-
-    ghost TYPE = { T.MODIFIED };
+    ghost KIND = { T.MODIFIED_TYPE };
 
     ghost value = { T.modified_value };
 
@@ -78,28 +61,39 @@ impl<T: Modifiable> Spelled for Modified<T> {
 }
 
 impl<T: BaseMetric> Metric for Modified<T> {
-    ghost use Rattle.cvss_v3_metric.specs.private.ModifiedLaws.{modified_order, modified_equality};
+    ghost use Rattle.cvss_v3_metric.specs.private.ModifiedLaws.{covered, ranked, reported, modified_order, modified_equality};
+
+    const TYPE: MetricType = T::MODIFIED_TYPE;
+
+    ghost TYPE = { T.MODIFIED_TYPE };
+
+    const FAULT_TYPE: MetricType = T::TYPE;
+
+    ghost FAULT_TYPE = { T.TYPE };
 
     ghost law = { record {
-      covers = T.base_law.covers;
-      ordered = modified_order _ T.law.ordered T.base_law refl (λ y. refl) (λ x. refl) (λ x y. refl);
+      typed = refl;
+      reported = T.law.typed ∙ reported _ _ T.base_law.replaced;
+      covers = covered T.base_law T.law.covers;
+      ordered = modified_order _ _ _ T.law.ordered (ranked T.base_law)
+          refl (λ y. refl) (λ x. refl) (λ x y. refl);
       equal = modified_equality _ T.law.equal refl (λ y. refl) (λ x. refl) (λ x y. refl);
       cloned = Prim.search rules;
       clonable = Prim.search rules;
     } };
 }
 
-impl<T: Modifiable> fmt::Display for Modified<T> {
-    ghost output = { λ metric. Some (metric_component T.MODIFIED (T.modified_value metric)) };
+impl<T: BaseMetric> fmt::Display for Modified<T> {
+    ghost output = { λ metric. Some (metric_component T.MODIFIED_TYPE (T.modified_value metric)) };
 
-    ghost styled_output = { λ metric _. Some (metric_component T.MODIFIED (T.modified_value metric)) };
+    ghost styled_output = { λ metric _. Some (metric_component T.MODIFIED_TYPE (T.modified_value metric)) };
 
     fn fmt<W: fmt::Write>(&self, f: &mut fmt::Formatter<W>) -> fmt::Result {
         self.write(f)
     }
 }
 
-impl<T: Modifiable> Modified<T> {
+impl<T: Copy> Modified<T> {
     /// The value that is set, and else that of the base metric.
     pub fn or(self, base: Option<T>) -> Option<T>
         ensures { result ≡ replaced self base }
@@ -114,7 +108,7 @@ impl<T: Modifiable> Modified<T> {
 impl<T: BaseMetric> Modified<T> {
     /// The weight of the value that is set, and else of the base metric's, in counts of 10^-24.
     pub fn modified_score(self, base: Option<T>) -> i128
-        ensures value { result ≡ pos (weight_or (λ value. weight_of T.TYPE (T.value value))
+        ensures value { result ≡ pos (weight_or (λ value. weight_of T.KIND (T.value value))
             (replaced self base) 0 * 10 ^ 22) }
         ensures limit { IsWithinLimit result }
     {
@@ -148,9 +142,9 @@ pub enum ModifiedScope {
 }
 
 impl Spelled for ModifiedScope {
-    const TYPE: MetricType = MetricType::MS;
+    const KIND: MetricType = MetricType::MS;
 
-    ghost TYPE = { MS };
+    ghost KIND = { MS };
 
     ghost value = { λ metric. metric };
 
@@ -172,6 +166,14 @@ impl Spelled for ModifiedScope {
 }
 
 impl Metric for ModifiedScope {
+    const TYPE: MetricType = MetricType::MS;
+
+    ghost TYPE = { MS };
+
+    const FAULT_TYPE: MetricType = MetricType::S;
+
+    ghost FAULT_TYPE = { S };
+
     ghost law = { Prim.search rules };
 }
 

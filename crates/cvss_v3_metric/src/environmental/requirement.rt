@@ -18,9 +18,9 @@ pub enum ConfidentialityRequirement {
 }
 
 impl Spelled for ConfidentialityRequirement {
-    const TYPE: MetricType = MetricType::CR;
+    const KIND: MetricType = MetricType::CR;
 
-    ghost TYPE = { CR };
+    ghost KIND = { CR };
 
     ghost value = { λ metric. metric };
 
@@ -46,6 +46,14 @@ impl Spelled for ConfidentialityRequirement {
 }
 
 impl Metric for ConfidentialityRequirement {
+    const TYPE: MetricType = MetricType::CR;
+
+    ghost TYPE = { CR };
+
+    const FAULT_TYPE: MetricType = MetricType::CR;
+
+    ghost FAULT_TYPE = { CR };
+
     ghost law = { Prim.search rules };
 }
 
@@ -69,9 +77,9 @@ pub enum IntegrityRequirement {
 }
 
 impl Spelled for IntegrityRequirement {
-    const TYPE: MetricType = MetricType::IR;
+    const KIND: MetricType = MetricType::IR;
 
-    ghost TYPE = { IR };
+    ghost KIND = { IR };
 
     ghost value = { λ metric. metric };
 
@@ -97,6 +105,14 @@ impl Spelled for IntegrityRequirement {
 }
 
 impl Metric for IntegrityRequirement {
+    const TYPE: MetricType = MetricType::IR;
+
+    ghost TYPE = { IR };
+
+    const FAULT_TYPE: MetricType = MetricType::IR;
+
+    ghost FAULT_TYPE = { IR };
+
     ghost law = { Prim.search rules };
 }
 
@@ -120,9 +136,9 @@ pub enum AvailabilityRequirement {
 }
 
 impl Spelled for AvailabilityRequirement {
-    const TYPE: MetricType = MetricType::AR;
+    const KIND: MetricType = MetricType::AR;
 
-    ghost TYPE = { AR };
+    ghost KIND = { AR };
 
     ghost value = { λ metric. metric };
 
@@ -148,6 +164,14 @@ impl Spelled for AvailabilityRequirement {
 }
 
 impl Metric for AvailabilityRequirement {
+    const TYPE: MetricType = MetricType::AR;
+
+    ghost TYPE = { AR };
+
+    const FAULT_TYPE: MetricType = MetricType::AR;
+
+    ghost FAULT_TYPE = { AR };
+
     ghost law = { Prim.search rules };
 }
 

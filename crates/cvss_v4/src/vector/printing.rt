@@ -56,9 +56,9 @@ impl Printed for Vector {
 impl Vector {
     /// A slash and the component of the value that the vector has for a metric.
     fn slashed_at<M: Spelled>(&self, kind: MetricType, value: Option<M>) -> Option<&'static str>
-        requires kind { kind ≡ M.TYPE }
-        requires value { held v4 self.now M.TYPE
-            ≡ option_map (λ x. spelling_at M.TYPE (M.rank x)) value }
+        requires kind { kind ≡ M.KIND }
+        requires value { held v4 self.now M.KIND
+            ≡ option_map (λ x. spelling_at M.KIND (M.rank x)) value }
         ensures { option_copied result ≡ slashed (component_of v4 self.now kind) }
     {
         Some(value?.slashed())
@@ -70,7 +70,7 @@ fn write_value<M: Spelled, W: fmt::Write>(
     value: Option<M>,
     f: &mut fmt::Formatter<W>,
 ) -> fmt::Result
-    ensures { WritesOnOk W.write_str_gives f.old result (shown M.TYPE M.rank value) f.new }
+    ensures { WritesOnOk W.write_str_gives f.old result (shown M.KIND M.rank value) f.new }
 {
     match value {
         Some(metric) => f.write_str(metric.slashed()),
@@ -87,7 +87,7 @@ fn write_three<K: Spelled, L: Spelled, M: Spelled, W: fmt::Write>(
     f: &mut fmt::Formatter<W>,
 ) -> fmt::Result
     ensures { WritesOnOk W.write_str_gives f.old result
-        (shown K.TYPE K.rank first ++ (shown L.TYPE L.rank second ++ shown M.TYPE M.rank third))
+        (shown K.KIND K.rank first ++ (shown L.KIND L.rank second ++ shown M.KIND M.rank third))
         f.new }
 {
     write_value(first, f)?;

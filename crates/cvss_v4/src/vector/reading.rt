@@ -237,7 +237,7 @@ fn modified(first: u8, second: u8) -> Option<MetricType>
 
 /// Reads a value into its place, which has to be empty.
 fn fill<M: Spelled>(place: &mut Option<M>, text: &[u8]) -> Result<(), Slip>
-    ensures { IsFilled (λ x. raised (spelling_at M.TYPE (M.rank x))) place.old (raised text.now) result place.new }
+    ensures { IsFilled (λ x. raised (spelling_at M.KIND (M.rank x))) place.old (raised text.now) result place.new }
 {
     fill_place(place, M::read_bytes(text))
 }

@@ -154,8 +154,8 @@ fn put_three_at_sight<'a, K: Spelled, L: Spelled, M: Spelled>(
     third: &mut Option<M>,
     text: &'a [u8],
 ) -> &'a [u8]
-    ensures { text.now ≡ shown K.TYPE K.rank first.new ++ (shown L.TYPE L.rank second.new
-        ++ (shown M.TYPE M.rank third.new ++ result.now)) }
+    ensures { text.now ≡ shown K.KIND K.rank first.new ++ (shown L.KIND L.rank second.new
+        ++ (shown M.KIND M.rank third.new ++ result.now)) }
 {
     let text = put_at_sight(first, text);
     let text = put_at_sight(second, text);
@@ -166,7 +166,7 @@ fn put_three_at_sight<'a, K: Spelled, L: Spelled, M: Spelled>(
 /// gives what stands behind that; else no value, and the text.
 #[inline(always)]
 fn put_at_sight<'a, M: Spelled>(place: &mut Option<M>, text: &'a [u8]) -> &'a [u8]
-    ensures { text.now ≡ shown M.TYPE M.rank place.new ++ result.now }
+    ensures { text.now ≡ shown M.KIND M.rank place.new ++ result.now }
 {
     put_read(place, component_at_sight(text), text)
 }
@@ -176,9 +176,9 @@ fn put_at_sight<'a, M: Spelled>(place: &mut Option<M>, text: &'a [u8]) -> &'a [u
 #[inline(always)]
 fn three_at_sight<K: Spelled, L: Spelled, M: Spelled>(text: &[u8]) -> Option<(K, L, M, &[u8])>
     ensures { IfSome result (λ read. text.now
-        ≡ slash ∷ (metric_component K.TYPE (K.rank read.0)
-        ++ (slash ∷ (metric_component L.TYPE (L.rank read.1)
-        ++ (slash ∷ (metric_component M.TYPE (M.rank read.2) ++ read.3.now)))))) }
+        ≡ slash ∷ (metric_component K.KIND (K.rank read.0)
+        ++ (slash ∷ (metric_component L.KIND (L.rank read.1)
+        ++ (slash ∷ (metric_component M.KIND (M.rank read.2) ++ read.3.now)))))) }
 {
     let (first, text) = component_at_sight(text)?;
     let (second, text) = component_at_sight(text)?;
@@ -191,9 +191,9 @@ fn three_at_sight<K: Spelled, L: Spelled, M: Spelled>(text: &[u8]) -> Option<(K,
 #[inline(always)]
 fn component_at_sight<M: Spelled>(text: &[u8]) -> Option<(M, &[u8])>
     ensures { IfSome result
-        (λ read. text.now ≡ slash ∷ (metric_component M.TYPE (M.rank read.0) ++ read.1.now)) }
+        (λ read. text.now ≡ slash ∷ (metric_component M.KIND (M.rank read.0) ++ read.1.now)) }
 {
-    match behind_name(M::TYPE.name(), text)? {
+    match behind_name(M::KIND.name(), text)? {
         [letter, rest @ ..] => Some((M::read_letter(*letter)?, rest)),
         [] => None,
     }

@@ -21,9 +21,9 @@ pub enum AttackVector {
 }
 
 impl Spelled for AttackVector {
-    const TYPE: MetricType = MetricType::AV;
+    const KIND: MetricType = MetricType::AV;
 
-    ghost TYPE = { metric.AV };
+    ghost KIND = { metric.AV };
 
     ghost rank = { place.AV };
 
@@ -42,6 +42,10 @@ impl Spelled for AttackVector {
 }
 
 impl Metric for AttackVector {
+    const TYPE: MetricType = MetricType::AV;
+
+    ghost TYPE = { metric.AV };
+
     ghost law = { Prim.search rules };
 }
 
@@ -65,9 +69,9 @@ pub enum AttackComplexity {
 }
 
 impl Spelled for AttackComplexity {
-    const TYPE: MetricType = MetricType::AC;
+    const KIND: MetricType = MetricType::AC;
 
-    ghost TYPE = { metric.AC };
+    ghost KIND = { metric.AC };
 
     ghost rank = { place.AC };
 
@@ -84,6 +88,10 @@ impl Spelled for AttackComplexity {
 }
 
 impl Metric for AttackComplexity {
+    const TYPE: MetricType = MetricType::AC;
+
+    ghost TYPE = { metric.AC };
+
     ghost law = { Prim.search rules };
 }
 
@@ -107,9 +115,9 @@ pub enum AttackRequirements {
 }
 
 impl Spelled for AttackRequirements {
-    const TYPE: MetricType = MetricType::AT;
+    const KIND: MetricType = MetricType::AT;
 
-    ghost TYPE = { metric.AT };
+    ghost KIND = { metric.AT };
 
     ghost rank = { place.AT };
 
@@ -126,6 +134,10 @@ impl Spelled for AttackRequirements {
 }
 
 impl Metric for AttackRequirements {
+    const TYPE: MetricType = MetricType::AT;
+
+    ghost TYPE = { metric.AT };
+
     ghost law = { Prim.search rules };
 }
 
@@ -149,9 +161,9 @@ pub enum PrivilegesRequired {
 }
 
 impl Spelled for PrivilegesRequired {
-    const TYPE: MetricType = MetricType::PR;
+    const KIND: MetricType = MetricType::PR;
 
-    ghost TYPE = { metric.PR };
+    ghost KIND = { metric.PR };
 
     ghost rank = { place.PR };
 
@@ -169,6 +181,10 @@ impl Spelled for PrivilegesRequired {
 }
 
 impl Metric for PrivilegesRequired {
+    const TYPE: MetricType = MetricType::PR;
+
+    ghost TYPE = { metric.PR };
+
     ghost law = { Prim.search rules };
 }
 
@@ -192,9 +208,9 @@ pub enum UserInteraction {
 }
 
 impl Spelled for UserInteraction {
-    const TYPE: MetricType = MetricType::UI;
+    const KIND: MetricType = MetricType::UI;
 
-    ghost TYPE = { metric.UI };
+    ghost KIND = { metric.UI };
 
     ghost rank = { place.UI };
 
@@ -212,6 +228,10 @@ impl Spelled for UserInteraction {
 }
 
 impl Metric for UserInteraction {
+    const TYPE: MetricType = MetricType::UI;
+
+    ghost TYPE = { metric.UI };
+
     ghost law = { Prim.search rules };
 }
 

@@ -20,9 +20,9 @@ pub enum ConfidentialityImpactToTheSubsequentSystem {
 }
 
 impl Spelled for ConfidentialityImpactToTheSubsequentSystem {
-    const TYPE: MetricType = MetricType::SC;
+    const KIND: MetricType = MetricType::SC;
 
-    ghost TYPE = { metric.SC };
+    ghost KIND = { metric.SC };
 
     ghost rank = { place.SC };
 
@@ -40,6 +40,10 @@ impl Spelled for ConfidentialityImpactToTheSubsequentSystem {
 }
 
 impl Metric for ConfidentialityImpactToTheSubsequentSystem {
+    const TYPE: MetricType = MetricType::SC;
+
+    ghost TYPE = { metric.SC };
+
     ghost law = { Prim.search rules };
 }
 
@@ -63,9 +67,9 @@ pub enum IntegrityImpactToTheSubsequentSystem {
 }
 
 impl Spelled for IntegrityImpactToTheSubsequentSystem {
-    const TYPE: MetricType = MetricType::SI;
+    const KIND: MetricType = MetricType::SI;
 
-    ghost TYPE = { metric.SI };
+    ghost KIND = { metric.SI };
 
     ghost rank = { place.SI };
 
@@ -83,6 +87,10 @@ impl Spelled for IntegrityImpactToTheSubsequentSystem {
 }
 
 impl Metric for IntegrityImpactToTheSubsequentSystem {
+    const TYPE: MetricType = MetricType::SI;
+
+    ghost TYPE = { metric.SI };
+
     ghost law = { Prim.search rules };
 }
 
@@ -107,9 +115,9 @@ pub enum AvailabilityImpactToTheSubsequentSystem {
 }
 
 impl Spelled for AvailabilityImpactToTheSubsequentSystem {
-    const TYPE: MetricType = MetricType::SA;
+    const KIND: MetricType = MetricType::SA;
 
-    ghost TYPE = { metric.SA };
+    ghost KIND = { metric.SA };
 
     ghost rank = { place.SA };
 
@@ -127,6 +135,10 @@ impl Spelled for AvailabilityImpactToTheSubsequentSystem {
 }
 
 impl Metric for AvailabilityImpactToTheSubsequentSystem {
+    const TYPE: MetricType = MetricType::SA;
+
+    ghost TYPE = { metric.SA };
+
     ghost law = { Prim.search rules };
 }
 

@@ -19,9 +19,9 @@ pub enum ConfidentialityImpactToTheVulnerableSystem {
 }
 
 impl Spelled for ConfidentialityImpactToTheVulnerableSystem {
-    const TYPE: MetricType = MetricType::VC;
+    const KIND: MetricType = MetricType::VC;
 
-    ghost TYPE = { metric.VC };
+    ghost KIND = { metric.VC };
 
     ghost rank = { place.VC };
 
@@ -39,6 +39,10 @@ impl Spelled for ConfidentialityImpactToTheVulnerableSystem {
 }
 
 impl Metric for ConfidentialityImpactToTheVulnerableSystem {
+    const TYPE: MetricType = MetricType::VC;
+
+    ghost TYPE = { metric.VC };
+
     ghost law = { Prim.search rules };
 }
 
@@ -62,9 +66,9 @@ pub enum IntegrityImpactToTheVulnerableSystem {
 }
 
 impl Spelled for IntegrityImpactToTheVulnerableSystem {
-    const TYPE: MetricType = MetricType::VI;
+    const KIND: MetricType = MetricType::VI;
 
-    ghost TYPE = { metric.VI };
+    ghost KIND = { metric.VI };
 
     ghost rank = { place.VI };
 
@@ -82,6 +86,10 @@ impl Spelled for IntegrityImpactToTheVulnerableSystem {
 }
 
 impl Metric for IntegrityImpactToTheVulnerableSystem {
+    const TYPE: MetricType = MetricType::VI;
+
+    ghost TYPE = { metric.VI };
+
     ghost law = { Prim.search rules };
 }
 
@@ -105,9 +113,9 @@ pub enum AvailabilityImpactToTheVulnerableSystem {
 }
 
 impl Spelled for AvailabilityImpactToTheVulnerableSystem {
-    const TYPE: MetricType = MetricType::VA;
+    const KIND: MetricType = MetricType::VA;
 
-    ghost TYPE = { metric.VA };
+    ghost KIND = { metric.VA };
 
     ghost rank = { place.VA };
 
@@ -125,6 +133,10 @@ impl Spelled for AvailabilityImpactToTheVulnerableSystem {
 }
 
 impl Metric for AvailabilityImpactToTheVulnerableSystem {
+    const TYPE: MetricType = MetricType::VA;
+
+    ghost TYPE = { metric.VA };
+
     ghost law = { Prim.search rules };
 }
 

@@ -22,9 +22,9 @@ pub enum ModifiedAttackVector {
 }
 
 impl Spelled for ModifiedAttackVector {
-    const TYPE: MetricType = MetricType::MAV;
+    const KIND: MetricType = MetricType::MAV;
 
-    ghost TYPE = { metric.MAV };
+    ghost KIND = { metric.MAV };
 
     ghost rank = { place.MAV };
 
@@ -45,6 +45,10 @@ impl Spelled for ModifiedAttackVector {
 }
 
 impl Metric for ModifiedAttackVector {
+    const TYPE: MetricType = MetricType::MAV;
+
+    ghost TYPE = { metric.MAV };
+
     ghost law = { Prim.search rules };
 }
 
@@ -68,9 +72,9 @@ pub enum ModifiedAttackComplexity {
 }
 
 impl Spelled for ModifiedAttackComplexity {
-    const TYPE: MetricType = MetricType::MAC;
+    const KIND: MetricType = MetricType::MAC;
 
-    ghost TYPE = { metric.MAC };
+    ghost KIND = { metric.MAC };
 
     ghost rank = { place.MAC };
 
@@ -88,6 +92,10 @@ impl Spelled for ModifiedAttackComplexity {
 }
 
 impl Metric for ModifiedAttackComplexity {
+    const TYPE: MetricType = MetricType::MAC;
+
+    ghost TYPE = { metric.MAC };
+
     ghost law = { Prim.search rules };
 }
 
@@ -111,9 +119,9 @@ pub enum ModifiedAttackRequirements {
 }
 
 impl Spelled for ModifiedAttackRequirements {
-    const TYPE: MetricType = MetricType::MAT;
+    const KIND: MetricType = MetricType::MAT;
 
-    ghost TYPE = { metric.MAT };
+    ghost KIND = { metric.MAT };
 
     ghost rank = { place.MAT };
 
@@ -131,6 +139,10 @@ impl Spelled for ModifiedAttackRequirements {
 }
 
 impl Metric for ModifiedAttackRequirements {
+    const TYPE: MetricType = MetricType::MAT;
+
+    ghost TYPE = { metric.MAT };
+
     ghost law = { Prim.search rules };
 }
 
@@ -155,9 +167,9 @@ pub enum ModifiedPrivilegesRequired {
 }
 
 impl Spelled for ModifiedPrivilegesRequired {
-    const TYPE: MetricType = MetricType::MPR;
+    const KIND: MetricType = MetricType::MPR;
 
-    ghost TYPE = { metric.MPR };
+    ghost KIND = { metric.MPR };
 
     ghost rank = { place.MPR };
 
@@ -176,6 +188,10 @@ impl Spelled for ModifiedPrivilegesRequired {
 }
 
 impl Metric for ModifiedPrivilegesRequired {
+    const TYPE: MetricType = MetricType::MPR;
+
+    ghost TYPE = { metric.MPR };
+
     ghost law = { Prim.search rules };
 }
 
@@ -200,9 +216,9 @@ pub enum ModifiedUserInteraction {
 }
 
 impl Spelled for ModifiedUserInteraction {
-    const TYPE: MetricType = MetricType::MUI;
+    const KIND: MetricType = MetricType::MUI;
 
-    ghost TYPE = { metric.MUI };
+    ghost KIND = { metric.MUI };
 
     ghost rank = { place.MUI };
 
@@ -221,6 +237,10 @@ impl Spelled for ModifiedUserInteraction {
 }
 
 impl Metric for ModifiedUserInteraction {
+    const TYPE: MetricType = MetricType::MUI;
+
+    ghost TYPE = { metric.MUI };
+
     ghost law = { Prim.search rules };
 }
 

@@ -21,9 +21,9 @@ pub enum ConfidentialityRequirements {
 }
 
 impl Spelled for ConfidentialityRequirements {
-    const TYPE: MetricType = MetricType::CR;
+    const KIND: MetricType = MetricType::CR;
 
-    ghost TYPE = { metric.CR };
+    ghost KIND = { metric.CR };
 
     ghost rank = { place.CR };
 
@@ -42,6 +42,10 @@ impl Spelled for ConfidentialityRequirements {
 }
 
 impl Metric for ConfidentialityRequirements {
+    const TYPE: MetricType = MetricType::CR;
+
+    ghost TYPE = { metric.CR };
+
     ghost law = { Prim.search rules };
 }
 
@@ -66,9 +70,9 @@ pub enum IntegrityRequirements {
 }
 
 impl Spelled for IntegrityRequirements {
-    const TYPE: MetricType = MetricType::IR;
+    const KIND: MetricType = MetricType::IR;
 
-    ghost TYPE = { metric.IR };
+    ghost KIND = { metric.IR };
 
     ghost rank = { place.IR };
 
@@ -87,6 +91,10 @@ impl Spelled for IntegrityRequirements {
 }
 
 impl Metric for IntegrityRequirements {
+    const TYPE: MetricType = MetricType::IR;
+
+    ghost TYPE = { metric.IR };
+
     ghost law = { Prim.search rules };
 }
 
@@ -111,9 +119,9 @@ pub enum AvailabilityRequirements {
 }
 
 impl Spelled for AvailabilityRequirements {
-    const TYPE: MetricType = MetricType::AR;
+    const KIND: MetricType = MetricType::AR;
 
-    ghost TYPE = { metric.AR };
+    ghost KIND = { metric.AR };
 
     ghost rank = { place.AR };
 
@@ -132,6 +140,10 @@ impl Spelled for AvailabilityRequirements {
 }
 
 impl Metric for AvailabilityRequirements {
+    const TYPE: MetricType = MetricType::AR;
+
+    ghost TYPE = { metric.AR };
+
     ghost law = { Prim.search rules };
 }
 

@@ -22,9 +22,9 @@ pub enum ModifiedConfidentialityImpactToTheSubsequentSystem {
 }
 
 impl Spelled for ModifiedConfidentialityImpactToTheSubsequentSystem {
-    const TYPE: MetricType = MetricType::MSC;
+    const KIND: MetricType = MetricType::MSC;
 
-    ghost TYPE = { metric.MSC };
+    ghost KIND = { metric.MSC };
 
     ghost rank = { place.MSC };
 
@@ -43,6 +43,10 @@ impl Spelled for ModifiedConfidentialityImpactToTheSubsequentSystem {
 }
 
 impl Metric for ModifiedConfidentialityImpactToTheSubsequentSystem {
+    const TYPE: MetricType = MetricType::MSC;
+
+    ghost TYPE = { metric.MSC };
+
     ghost law = { Prim.search rules };
 }
 
@@ -69,9 +73,9 @@ pub enum ModifiedIntegrityImpactToTheSubsequentSystem {
 }
 
 impl Spelled for ModifiedIntegrityImpactToTheSubsequentSystem {
-    const TYPE: MetricType = MetricType::MSI;
+    const KIND: MetricType = MetricType::MSI;
 
-    ghost TYPE = { metric.MSI };
+    ghost KIND = { metric.MSI };
 
     ghost rank = { place.MSI };
 
@@ -92,6 +96,10 @@ impl Spelled for ModifiedIntegrityImpactToTheSubsequentSystem {
 }
 
 impl Metric for ModifiedIntegrityImpactToTheSubsequentSystem {
+    const TYPE: MetricType = MetricType::MSI;
+
+    ghost TYPE = { metric.MSI };
+
     ghost law = { Prim.search rules };
 }
 
@@ -118,9 +126,9 @@ pub enum ModifiedAvailabilityImpactToTheSubsequentSystem {
 }
 
 impl Spelled for ModifiedAvailabilityImpactToTheSubsequentSystem {
-    const TYPE: MetricType = MetricType::MSA;
+    const KIND: MetricType = MetricType::MSA;
 
-    ghost TYPE = { metric.MSA };
+    ghost KIND = { metric.MSA };
 
     ghost rank = { place.MSA };
 
@@ -141,6 +149,10 @@ impl Spelled for ModifiedAvailabilityImpactToTheSubsequentSystem {
 }
 
 impl Metric for ModifiedAvailabilityImpactToTheSubsequentSystem {
+    const TYPE: MetricType = MetricType::MSA;
+
+    ghost TYPE = { metric.MSA };
+
     ghost law = { Prim.search rules };
 }
 

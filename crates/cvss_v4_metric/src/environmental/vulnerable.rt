@@ -22,9 +22,9 @@ pub enum ModifiedConfidentialityImpactToTheVulnerableSystem {
 }
 
 impl Spelled for ModifiedConfidentialityImpactToTheVulnerableSystem {
-    const TYPE: MetricType = MetricType::MVC;
+    const KIND: MetricType = MetricType::MVC;
 
-    ghost TYPE = { metric.MVC };
+    ghost KIND = { metric.MVC };
 
     ghost rank = { place.MVC };
 
@@ -43,6 +43,10 @@ impl Spelled for ModifiedConfidentialityImpactToTheVulnerableSystem {
 }
 
 impl Metric for ModifiedConfidentialityImpactToTheVulnerableSystem {
+    const TYPE: MetricType = MetricType::MVC;
+
+    ghost TYPE = { metric.MVC };
+
     ghost law = { Prim.search rules };
 }
 
@@ -68,9 +72,9 @@ pub enum ModifiedIntegrityImpactToTheVulnerableSystem {
 }
 
 impl Spelled for ModifiedIntegrityImpactToTheVulnerableSystem {
-    const TYPE: MetricType = MetricType::MVI;
+    const KIND: MetricType = MetricType::MVI;
 
-    ghost TYPE = { metric.MVI };
+    ghost KIND = { metric.MVI };
 
     ghost rank = { place.MVI };
 
@@ -89,6 +93,10 @@ impl Spelled for ModifiedIntegrityImpactToTheVulnerableSystem {
 }
 
 impl Metric for ModifiedIntegrityImpactToTheVulnerableSystem {
+    const TYPE: MetricType = MetricType::MVI;
+
+    ghost TYPE = { metric.MVI };
+
     ghost law = { Prim.search rules };
 }
 
@@ -114,9 +122,9 @@ pub enum ModifiedAvailabilityImpactToTheVulnerableSystem {
 }
 
 impl Spelled for ModifiedAvailabilityImpactToTheVulnerableSystem {
-    const TYPE: MetricType = MetricType::MVA;
+    const KIND: MetricType = MetricType::MVA;
 
-    ghost TYPE = { metric.MVA };
+    ghost KIND = { metric.MVA };
 
     ghost rank = { place.MVA };
 
@@ -135,6 +143,10 @@ impl Spelled for ModifiedAvailabilityImpactToTheVulnerableSystem {
 }
 
 impl Metric for ModifiedAvailabilityImpactToTheVulnerableSystem {
+    const TYPE: MetricType = MetricType::MVA;
+
+    ghost TYPE = { metric.MVA };
+
     ghost law = { Prim.search rules };
 }
 

@@ -20,9 +20,9 @@ pub enum Safety {
 }
 
 impl Spelled for Safety {
-    const TYPE: MetricType = MetricType::S;
+    const KIND: MetricType = MetricType::S;
 
-    ghost TYPE = { metric.S };
+    ghost KIND = { metric.S };
 
     ghost rank = { place.S };
 
@@ -40,6 +40,10 @@ impl Spelled for Safety {
 }
 
 impl Metric for Safety {
+    const TYPE: MetricType = MetricType::S;
+
+    ghost TYPE = { metric.S };
+
     ghost law = { Prim.search rules };
 }
 
@@ -64,9 +68,9 @@ pub enum Recovery {
 }
 
 impl Spelled for Recovery {
-    const TYPE: MetricType = MetricType::R;
+    const KIND: MetricType = MetricType::R;
 
-    ghost TYPE = { metric.R };
+    ghost KIND = { metric.R };
 
     ghost rank = { place.R };
 
@@ -86,6 +90,10 @@ impl Spelled for Recovery {
 }
 
 impl Metric for Recovery {
+    const TYPE: MetricType = MetricType::R;
+
+    ghost TYPE = { metric.R };
+
     ghost law = { Prim.search rules };
 }
 
@@ -109,9 +117,9 @@ pub enum Automatable {
 }
 
 impl Spelled for Automatable {
-    const TYPE: MetricType = MetricType::AU;
+    const KIND: MetricType = MetricType::AU;
 
-    ghost TYPE = { metric.AU };
+    ghost KIND = { metric.AU };
 
     ghost rank = { place.AU };
 
@@ -129,6 +137,10 @@ impl Spelled for Automatable {
 }
 
 impl Metric for Automatable {
+    const TYPE: MetricType = MetricType::AU;
+
+    ghost TYPE = { metric.AU };
+
     ghost law = { Prim.search rules };
 }
 
@@ -152,9 +164,9 @@ pub enum ValueDensity {
 }
 
 impl Spelled for ValueDensity {
-    const TYPE: MetricType = MetricType::V;
+    const KIND: MetricType = MetricType::V;
 
-    ghost TYPE = { metric.V };
+    ghost KIND = { metric.V };
 
     ghost rank = { place.V };
 
@@ -172,6 +184,10 @@ impl Spelled for ValueDensity {
 }
 
 impl Metric for ValueDensity {
+    const TYPE: MetricType = MetricType::V;
+
+    ghost TYPE = { metric.V };
+
     ghost law = { Prim.search rules };
 }
 

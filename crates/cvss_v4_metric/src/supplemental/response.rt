@@ -20,9 +20,9 @@ pub enum VulnerabilityResponseEffort {
 }
 
 impl Spelled for VulnerabilityResponseEffort {
-    const TYPE: MetricType = MetricType::RE;
+    const KIND: MetricType = MetricType::RE;
 
-    ghost TYPE = { metric.RE };
+    ghost KIND = { metric.RE };
 
     ghost rank = { place.RE };
 
@@ -41,6 +41,10 @@ impl Spelled for VulnerabilityResponseEffort {
 }
 
 impl Metric for VulnerabilityResponseEffort {
+    const TYPE: MetricType = MetricType::RE;
+
+    ghost TYPE = { metric.RE };
+
     ghost law = { Prim.search rules };
 }
 
@@ -67,9 +71,9 @@ pub enum ProviderUrgency {
 }
 
 impl Spelled for ProviderUrgency {
-    const TYPE: MetricType = MetricType::U;
+    const KIND: MetricType = MetricType::U;
 
-    ghost TYPE = { metric.U };
+    ghost KIND = { metric.U };
 
     ghost rank = { place.U };
 
@@ -90,6 +94,10 @@ impl Spelled for ProviderUrgency {
 }
 
 impl Metric for ProviderUrgency {
+    const TYPE: MetricType = MetricType::U;
+
+    ghost TYPE = { metric.U };
+
     ghost law = { Prim.search rules };
 }
 

@@ -48,9 +48,9 @@ pub(super) fn base_at_sight(text: &[u8]) -> Option<(Vector, &[u8])>
 #[inline(always)]
 fn three_at_sight<K: Spelled, L: Spelled, M: Spelled>(text: &[u8]) -> Option<(K, L, M, &[u8])>
     ensures { IfSome result (λ read. text.now
-        ≡ slash ∷ (metric_component K.TYPE (K.value read.0)
-        ++ (slash ∷ (metric_component L.TYPE (L.value read.1)
-        ++ (slash ∷ (metric_component M.TYPE (M.value read.2) ++ read.3.now)))))) }
+        ≡ slash ∷ (metric_component K.KIND (K.value read.0)
+        ++ (slash ∷ (metric_component L.KIND (L.value read.1)
+        ++ (slash ∷ (metric_component M.KIND (M.value read.2) ++ read.3.now)))))) }
 {
     let (first, text) = base_component_at_sight(text)?;
     let (second, text) = base_component_at_sight(text)?;
@@ -74,7 +74,7 @@ fn first_at_sight(text: &[u8]) -> Option<(AccessVector, &[u8])>
 #[inline(always)]
 fn base_component_at_sight<M: Spelled>(text: &[u8]) -> Option<(M, &[u8])>
     ensures { IfSome result
-        (λ read. text.now ≡ slash ∷ (metric_component M.TYPE (M.value read.0) ++ read.1.now)) }
+        (λ read. text.now ≡ slash ∷ (metric_component M.KIND (M.value read.0) ++ read.1.now)) }
 {
-    letter_at_sight(behind_name(M::TYPE.name(), text)?)
+    letter_at_sight(behind_name(M::KIND.name(), text)?)
 }

@@ -9,5 +9,5 @@ use borrow.Author.Tests.{tests}
 
 pub returns-clause-read : goal.returns-clause-read
 returns-clause-read g c = λ metric same.
-    let found = find_from_yields_List (λ x. bytes_eq (spelling_of g.Self.Spelled.TYPE (g.Self.Spelled.value x)) c.args.text.now) _ _ c.find.result c.find.ensures.ran (YieldsList-from_copied (YieldsList-from_slice c.values.result.now cc)) (λ x b q k. search (rules, tests)) in
+    let found = find_from_yields_List (λ x. bytes_eq (spelling_of g.Self.Spelled.KIND (g.Self.Spelled.value x)) c.args.text.now) _ _ c.find.result c.find.ensures.ran (YieldsList-from_copied (YieldsList-from_slice c.values.result.now cc)) (λ x b q k. search (rules, tests)) in
     sym (option_map_id c.find.result) ∙ found ∙ rw same at (c.values.ensures.first metric)

@@ -7,7 +7,7 @@ use Rattle.cvss_v3.proofs.vector.reading.fill.Goals as goal
 
 pub returns : goal.returns
 returns g c =
-    let kind = g.M.Spelled.TYPE in
+    let kind = g.M.Spelled.KIND in
     let value = g.M.Spelled.value in
     let read = c.read_bytes.ensures in
     c.fill_place.ensures (λ x. raised (spelling_of kind (value x))) (raised c.args.text.now)

@@ -7,7 +7,7 @@ use Rattle.cvss_v4_metric.proofs.metric.Metric.as_str.Goals as goal
 
 pub range_from-requires : goal.range_from-requires
 range_from-requires g c =
-    let value = spelling_at g.Self.Spelled.TYPE (g.Self.Spelled.rank c.args.self) in
-    let named = sym (c.name.ensures ∙ ap name_of c.TYPE.ensures) in
+    let value = spelling_at g.Self.Spelled.KIND (g.Self.Spelled.rank c.args.self) in
+    let named = sym (c.name.ensures ∙ ap name_of c.KIND.ensures) in
     λ _. behind_colon c.slashed.result.now c.name.result.now value
     (c.slashed.ensures ∙ ap (λ name. slash ∷ component name value) named) c.slashed.utf8

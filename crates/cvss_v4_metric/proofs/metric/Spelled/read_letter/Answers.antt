@@ -13,5 +13,5 @@ use borrow.Author.Tests.{tests}
 
 pub returns-clause-read : goal.returns-clause-read
 returns-clause-read g c = λ metric same.
-    let found = find_from_yields_List (λ x. bytes_eq (spelling_at g.Self.Spelled.TYPE (g.Self.Spelled.rank x)) (c.args.letter ∷ [])) _ _ c.find.result c.find.ensures.ran (YieldsList-from_copied (YieldsList-from_slice c.values.result.now cc)) (λ x b q k. search (rules, tests)) in
-    sym (option_map_id c.find.result) ∙ found ∙ read_first (λ x. spelling_at g.Self.Spelled.TYPE (g.Self.Spelled.rank x)) c.values.result.now (λ text. bytes_eq text (c.args.letter ∷ [])) metric (first_alike (λ x. spelling_at g.Self.Spelled.TYPE (g.Self.Spelled.rank x)) c.values.result.now metric (g.Self.Spelled.rank metric) (rw c.values.ensures.rows (spellings_differ g.Self.Spelled.TYPE)) (c.values.ensures.covers metric)) ((bytes_eq-Decides _ _).1 same) (λ text passed. ap str_to_ascii_lowercase ((bytes_eq-Decides _ _).0 passed ∙ sym same))
+    let found = find_from_yields_List (λ x. bytes_eq (spelling_at g.Self.Spelled.KIND (g.Self.Spelled.rank x)) (c.args.letter ∷ [])) _ _ c.find.result c.find.ensures.ran (YieldsList-from_copied (YieldsList-from_slice c.values.result.now cc)) (λ x b q k. search (rules, tests)) in
+    sym (option_map_id c.find.result) ∙ found ∙ read_first (λ x. spelling_at g.Self.Spelled.KIND (g.Self.Spelled.rank x)) c.values.result.now (λ text. bytes_eq text (c.args.letter ∷ [])) metric (first_alike (λ x. spelling_at g.Self.Spelled.KIND (g.Self.Spelled.rank x)) c.values.result.now metric (g.Self.Spelled.rank metric) (rw c.values.ensures.rows (spellings_differ g.Self.Spelled.KIND)) (c.values.ensures.covers metric)) ((bytes_eq-Decides _ _).1 same) (λ text passed. ap str_to_ascii_lowercase ((bytes_eq-Decides _ _).0 passed ∙ sym same))
