@@ -4,12 +4,14 @@ Usage: check.py ROOT, the folder of the checkout. The package is the one that Py
 """
 
 import ast
+import copy
+import doctest
 import json
 import pickle
 import sys
 from concurrent.futures import ThreadPoolExecutor
 from pathlib import Path
-from typing import Any, Callable, List, Optional, Tuple, Type
+from typing import Any, Callable, List, Optional, Tuple, Type, TypeVar
 
 import cvss_proved
 from cvss_proved import CvssError, Found, Text, Vector, answer, answers, find
@@ -103,6 +105,62 @@ def check_texts() -> None:
         assert answer(text) == "error: not UTF-8"
 
 
+class Longer(bytes):
+    """Bytes that are said to be more than they are."""
+
+    def __len__(self) -> int:
+        return 1 << 33
+
+    def __bytes__(self) -> bytes:
+        return self
+
+
+class LongerArray(bytearray):
+    """The same of a bytearray."""
+
+    def __len__(self) -> int:
+        return 1 << 33
+
+    def __bytes__(self) -> bytes:
+        return Longer(self)
+
+
+class Recoded(str):
+    """A text with an encoding of its own."""
+
+    def encode(self, encoding: str = "utf-8", errors: str = "strict") -> bytes:
+        return Longer(b"x")
+
+
+class Posing:
+    """An object that calls itself a text."""
+
+    def __init__(self, kind: type) -> None:
+        self.kind = kind
+
+    @property
+    def __class__(self) -> Any:
+        return self.kind
+
+
+def check_texts_of_subclasses() -> None:
+    """A text of a subclass is read as it is, whatever its own methods return."""
+    code = TEXT.encode()
+    prose = f"scored 7.8 ({TEXT})"
+    for of in (Recoded, lambda text: Longer(text.encode()), lambda text: LongerArray(text.encode())):
+        texts: List[Text] = [of(TEXT), of("x")]
+        assert Vector(texts[0]).text == TEXT
+        assert [answer(text) for text in texts] == answers(texts) == [answer(TEXT), answer("x")]
+        assert CvssError.of(texts[1]).reason == CvssError.of(b"x").reason
+        assert [place for place, _, _ in find(of(prose))] == [12]
+        assert list(find(texts[1])) == []
+    for kind in (str, bytes, bytearray, memoryview):
+        posing: Any = Posing(kind)
+        assert raises(TypeError, lambda: Vector(posing)) and raises(TypeError, lambda: answers([posing])), kind
+    assert Vector(memoryview(code + code)[: len(code)]).text == TEXT
+    assert Vector(memoryview(bytes(byte for pair in zip(code, code) for byte in pair))[::2]).text == TEXT
+
+
 def check_many_texts() -> None:
     """Each text has the answer that it has alone, whatever bytes it has."""
     rows: Tuple[List[Text], ...] = (
@@ -181,19 +239,83 @@ def check_overrides() -> None:
 
 
 class Own(Vector):
-    """A vector that an organisation gives a method more."""
+    """A vector that an organisation gives a method more, and an attribute."""
+
+    sources: List[str]
 
     def is_urgent(self) -> bool:
         return self.tenths >= 70
+
+
+class Slotted(Vector):
+    """A vector with attributes in slots."""
+
+    __slots__ = ("sources", "__note", "never_set")
+
+    def __init__(self, text: Text) -> None:
+        super().__init__(text)
+        self.sources: List[str] = []
+        self.__note = ""
+
+    def with_note(self, note: str) -> "Slotted":
+        self.__note = note
+        return self
+
+    @property
+    def note(self) -> str:
+        return self.__note
+
+
+class OwnError(CvssError):
+    """A refusal that knows its line."""
+
+    line: int
+
+
+Copied = TypeVar("Copied")
+
+
+def copies(value: Copied) -> List[Copied]:
+    """Each copy that Python makes of a value. None names a module that is not public."""
+    pickled = [pickle.dumps(value, protocol) for protocol in range(pickle.HIGHEST_PROTOCOL + 1)]
+    assert not any(b"cvss_proved._" in code for code in pickled), pickled[0]
+    return [copy.copy(value), copy.deepcopy(value), *map(pickle.loads, pickled)]
 
 
 def check_subclasses() -> None:
     """A subclass stays its class."""
     for text in (TEXT + "/E:ND", "CVSS:3.1/AV:N/E:X", V4 + "/E:X"):
         own = Own(text)
-        for made in (own, own.without_undefined(), own.with_overrides({"CR": "H"}), pickle.loads(pickle.dumps(own))):
+        for made in (own, own.without_undefined(), own.with_overrides({"CR": "H"}), *copies(own)):
             assert type(made) is Own and made.is_urgent() == (made.score >= 7), made
         assert own == Vector(text) and hash(own) == hash(Vector(text))
+
+
+def check_copies() -> None:
+    """A copy has the attributes that a subclass has added, and is scored as the text is."""
+    own, slotted = Own(TEXT), Slotted(TEXT).with_note("seen")
+    own.sources = ["NVD"]
+    slotted.sources = ["NVD"]
+    for vector in copies(own):
+        assert (vector, vector.sources, vector.scores) == (own, ["NVD"], own.scores)
+    for other in copies(slotted):
+        assert (other, other.sources, other.note) == (slotted, ["NVD"], "seen") and not hasattr(other, "never_set")
+    error = OwnError("words", "invalid value", "AV")
+    error.line = 7
+    for refused in copies(error):
+        assert type(refused) is OwnError and vars(refused) == vars(error) and refused.args == error.args
+    for plain in copies(Vector(TEXT)):
+        assert plain == Vector(TEXT) and type(plain) is Vector
+    for pair in copies((Vector(TEXT).scores, Vector(TEXT).severities)):
+        assert pair == (Vector(TEXT).scores, Vector(TEXT).severities)
+
+
+def check_docstrings() -> None:
+    """Each example in a docstring prints what follows it."""
+    runner = doctest.DocTestRunner()
+    for example in doctest.DocTestFinder().find(cvss_proved, module=False, globs=vars(cvss_proved)):
+        runner.run(example)
+    assert runner.tries > 20 and runner.failures == 0, (runner.tries, runner.failures)
 
 
 def check_records(root: Path) -> None:
@@ -281,12 +403,15 @@ if __name__ == "__main__":
     check_syntax()
     check_stored_lines(Path(sys.argv[1]))
     check_texts()
+    check_texts_of_subclasses()
     check_many_texts()
     check_changes(Path(sys.argv[1]))
     check_threads(Path(sys.argv[1]))
     check_overrides()
     check_subclasses()
+    check_copies()
     check_records(Path(sys.argv[1]))
     check_accounts(Path(sys.argv[1]))
     check_finding(Path(sys.argv[1]))
     check_values()
+    check_docstrings()

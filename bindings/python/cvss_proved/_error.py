@@ -2,9 +2,10 @@
 
 from __future__ import annotations
 
-from typing import Tuple, Type
+from typing import Any, Dict, Tuple, Type
 
 from . import _library
+from ._library import Text
 
 _KINDS = {
     1: "invalid component",
@@ -42,13 +43,15 @@ class CvssError(ValueError):
         self.metric = metric
 
     @classmethod
-    def of(cls, text: bytes) -> CvssError:
+    def of(cls, text: Text) -> CvssError:
         """The error of a text that is refused."""
-        kind = _KINDS[_library.refusal_kind(text)]
-        return cls(_library.reason(text), kind, _library.refusal_metric(text))
+        code = _library.bytes_of(text)
+        kind = _KINDS[_library.refusal_kind(code)]
+        return cls(_library.reason(code), kind, _library.refusal_metric(code))
 
-    def __reduce__(self) -> Tuple[Type[CvssError], Tuple[str, str, str]]:
-        return (type(self), (self.reason, self.kind, self.metric))
+    def __reduce__(self) -> Tuple[Type[CvssError], Tuple[str, str, str], Dict[str, Any]]:
+        """Copies and pickles keep the notes of an error, and the attributes of a subclass."""
+        return (type(self), (self.reason, self.kind, self.metric), self.__dict__)
 
 
 CvssError.__module__ = "cvss_proved"

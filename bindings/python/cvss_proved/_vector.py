@@ -5,7 +5,8 @@ from __future__ import annotations
 import json
 from collections import abc
 from functools import total_ordering
-from typing import Any, Dict, Iterable, List, Mapping, NamedTuple, Optional, Tuple, Type, TypeVar
+from types import MemberDescriptorType
+from typing import Any, Dict, Iterable, List, Mapping, NamedTuple, Optional, Tuple, TypeVar
 
 from . import _library
 from ._error import CvssError
@@ -224,8 +225,10 @@ class Vector:
     def __repr__(self) -> str:
         return f"Vector({self._text!r})"
 
-    def __reduce__(self) -> Tuple[Type[Vector], Tuple[str]]:
-        return (type(self), (self._text,))
+    def __reduce__(self) -> Tuple[Any, ...]:
+        """A copy is read anew from the text. It keeps the attributes that a subclass adds."""
+        state = _state_of_subclass(self)
+        return (type(self), (self._text,), state) if any(state) else (type(self), (self._text,))
 
     def __eq__(self, other: object) -> bool:
         if not isinstance(other, Vector):
@@ -239,6 +242,18 @@ class Vector:
         if not isinstance(other, Vector):
             return NotImplemented
         return (self.tenths, self._text) < (other.tenths, other._text)
+
+
+# Pickles name the classes by their public path.
+for _public in (Scores, Severities, Vector):
+    _public.__module__ = "cvss_proved"
+
+
+def _state_of_subclass(vector: Vector) -> Tuple[Optional[Dict[str, Any]], Dict[str, Any]]:
+    """The attributes that a subclass keeps in the instance's dict, and those in slots of its own."""
+    members = (member for kind in type(vector).__mro__ if kind is not Vector for member in vars(kind).items())
+    slots = [name for name, member in members if isinstance(member, MemberDescriptorType) and hasattr(vector, name)]
+    return getattr(vector, "__dict__", None), {name: getattr(vector, name) for name in slots}
 
 
 def _object(told: str) -> Dict[str, Any]:
