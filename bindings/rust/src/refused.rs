@@ -110,7 +110,7 @@ impl fmt::Display for OverrideError {
     fn fmt(&self, f: &mut fmt::Formatter<'_>) -> fmt::Result {
         match self {
             OverrideError::NotEnvironmental(component) => {
-                write!(f, "no environmental metric: `{component}`")
+                f.pad(&format!("no environmental metric: `{component}`"))
             }
             OverrideError::Refused(refused) => refused.fmt(f),
         }
