@@ -9,7 +9,7 @@ import (
 	"sync"
 	"testing"
 
-	"cvss"
+	"yuntabek.example/cvss"
 )
 
 // The lines of a file of the repository.
