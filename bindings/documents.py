@@ -324,7 +324,7 @@ def check_project():
     for name in ("Yuntabek", "`cvss`", "`cvss_proved`", "`libcvss`", "`cvss.so`", "`share/yuntabek`"):
         assert name in names, f"the table of names has no {name}"
     commands = first_column("Install")
-    for command in ("bindings/build", "bindings/install PREFIX", "./install PREFIX", "pip install ./bindings/python"):
+    for command in ("bindings/build", "bindings/install PREFIX [LIBDIR]", "./install PREFIX", "pip install ./bindings/python"):
         assert f"`{command}`" in commands, f"the table of commands has no {command}"
     assert "The Rattle kit is not in this repository" in PAGE, "the page says not where the Rattle kit comes from"
     leads = re.findall(r"\[docs/BINDINGS.md\]\(docs/BINDINGS.md\) says ([^.]*)", (ROOT / "README.md").read_text())
