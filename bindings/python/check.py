@@ -8,13 +8,14 @@ import copy
 import doctest
 import json
 import pickle
+import subprocess
 import sys
 from concurrent.futures import ThreadPoolExecutor
 from pathlib import Path
 from typing import Any, Callable, List, Optional, Tuple, Type, TypeVar
 
 import cvss_proved
-from cvss_proved import CvssError, Found, Text, Vector, answer, answers, find
+from cvss_proved import CvssError, Found, Text, Vector, answer, answers, find, scores
 
 KINDS = (
     "",
@@ -69,7 +70,12 @@ def check_stored_lines(root: Path) -> None:
         assert len(lines) == len(expected)
         for line, told in zip(lines, expected):
             assert call(line) == told.decode(), line
-    assert answers(lines) == [told.decode() for told in stored_lines(root, "stdout")]
+    told_of_all = [told.decode() for told in stored_lines(root, "stdout")]
+    assert answers(lines) == told_of_all
+    assert scores(lines) == [None if told.startswith("error: ") else float(told.split()[1]) for told in told_of_all]
+    texts: List[Text] = [TEXT + "\n", b"\xff", TEXT]
+    assert scores([]) == [] and scores(iter(texts)) == [None, None, 7.8]
+    assert raises(TypeError, lambda: scores(TEXT))
     print(f"Python: {len(lines)} lines, 0 wrong answers")
 
 
@@ -190,6 +196,47 @@ def check_changes(root: Path) -> None:
         assert shorter.metrics == defined or (not defined and shorter == vector), line
         assert vector.with_overrides({}) == vector
         assert vector.with_overrides({"IR": "H"}).metrics == {**vector.metrics, "IR": "H"}, line
+
+
+def check_types() -> None:
+    """A comparison that cannot hold is an error of mypy: it calls each comment here that is needless an error, too."""
+    vector, error = Vector(V4), CvssError.of(b"AV:N")
+    assert vector.severity != "High"  # type: ignore[comparison-overlap]
+    assert vector.severities.base != "CRITICAL"  # type: ignore[comparison-overlap]
+    assert vector.version != "4"  # type: ignore[comparison-overlap]
+    assert vector.nomenclature != "B"  # type: ignore[comparison-overlap]
+    assert error.kind != "invalid"  # type: ignore[comparison-overlap]
+    told = (vector.severity == "critical", vector.version == "4.0", vector.nomenclature == "CVSS-B")
+    assert all(told) and error.kind == "invalid component"
+
+
+def check_red_hat_notation() -> None:
+    """The scores are those of section 3.3.1 of the CVSS v2 guide, and of the stored facts."""
+    assert Vector.from_rh_vector("7.8/" + TEXT) == Vector(TEXT)
+    assert Vector.from_rh_vector("10/" + V4) == Vector.from_rh_vector("10.0/" + V4) == Vector(V4)
+    assert type(Own.from_rh_vector("7.8/" + TEXT)) is Own
+    for score in ("7.9", "78", "7", "0"):
+        assert raises(ValueError, lambda: Vector.from_rh_vector(f"{score}/{TEXT}")), score
+    for other in (TEXT, "", "/", "7.8", "/" + TEXT, " 7.8/" + TEXT, "7.80/" + TEXT, "07.8/" + TEXT, "7,8/" + TEXT, "+7.8/" + TEXT,
+                  "\u0667.8/" + TEXT, "7.8\n/" + TEXT, "nan/" + TEXT, "-7.8/" + TEXT):
+        assert raises(ValueError, lambda: Vector.from_rh_vector(other)), other
+    for refused in ("7.8/", "7.8", "7.8/AV:N"):
+        assert raises(ValueError, lambda: Vector.from_rh_vector(refused)), refused
+    assert raises(CvssError, lambda: Vector.from_rh_vector("7.8/AV:N"))
+
+
+def check_command() -> None:
+    """The command for a terminal prints what `answer` does, and says by its status whether a vector is refused."""
+    def run(*arguments: str) -> Tuple[int, str]:
+        done = subprocess.run([sys.executable, "-m", "cvss_proved", *arguments], stdout=subprocess.PIPE,
+                              stderr=subprocess.DEVNULL)
+        return done.returncode, done.stdout.decode()
+
+    assert run(TEXT, V4) == (0, f"{TEXT} 7.8 high\n{V4} 10.0 critical\n")
+    assert run("AV:N", TEXT) == (1, f"{answer('AV:N')}\n{TEXT} 7.8 high\n")
+    assert run("") == (1, "error: invalid CVSS metric group component: ``\n")
+    assert run()[0] == run("--no-such-option")[0] == 2
+    assert run("--version") == (0, f"{cvss_proved.__version__}\n")
 
 
 def check_threads(root: Path) -> None:
@@ -401,6 +448,9 @@ if __name__ == "__main__":
     check_texts_of_subclasses()
     check_many_texts()
     check_changes(Path(sys.argv[1]))
+    check_types()
+    check_red_hat_notation()
+    check_command()
     check_threads(Path(sys.argv[1]))
     check_overrides()
     check_subclasses()

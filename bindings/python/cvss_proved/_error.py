@@ -2,12 +2,25 @@
 
 from __future__ import annotations
 
-from typing import Any, Dict, Tuple, Type
+from typing import Any, Dict, Literal, Tuple, Type
 
 from . import _library
 from ._library import Text
 
-_KINDS = {
+Kind = Literal[
+    "invalid component",
+    "invalid prefix",
+    "unsupported version",
+    "unknown metric",
+    "invalid value",
+    "duplicate metric",
+    "missing metric",
+    "not UTF-8",
+    "out of memory",
+]
+"""The kind of the reason why a text is refused."""
+
+_KINDS: Dict[int, Kind] = {
     1: "invalid component",
     2: "invalid prefix",
     3: "unsupported version",
@@ -36,7 +49,7 @@ class CvssError(ValueError):
     ('invalid value', 'AV', 'invalid CVSSv3 AV (Attack Vector) metric: `Q`')
     """
 
-    def __init__(self, reason: str, kind: str, metric: str) -> None:
+    def __init__(self, reason: str, kind: Kind, metric: str) -> None:
         super().__init__(reason)
         self.reason = reason
         self.kind = kind
@@ -49,7 +62,7 @@ class CvssError(ValueError):
         kind = _KINDS[_library.refusal_kind(code)]
         return cls(_library.reason(code), kind, _library.refusal_metric(code))
 
-    def __reduce__(self) -> Tuple[Type[CvssError], Tuple[str, str, str], Dict[str, Any]]:
+    def __reduce__(self) -> Tuple[Type[CvssError], Tuple[str, Kind, str], Dict[str, Any]]:
         """Copies and pickles keep the notes of an error, and the attributes of a subclass."""
         return (type(self), (self.reason, self.kind, self.metric), self.__dict__)
 
