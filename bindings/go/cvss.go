@@ -84,6 +84,26 @@ func Parse(text string) (Vector, error) {
 	return vector, nil
 }
 
+// ParseComplete reads a text as Parse does, and refuses a vector of v3 that lacks base metrics, as FIRST's document has it:
+// the error is then that the first one is missing, in the standard's order.
+func ParseComplete(text string) (Vector, error) {
+	vector, err := Parse(text)
+	if err != nil || vector.isComplete {
+		return vector, err
+	}
+	own := make(map[string]bool)
+	for _, metric := range vector.Metrics() {
+		own[metric.Name] = true
+	}
+	// CVSS v3.1, section 6
+	for _, name := range []string{"AV", "AC", "PR", "UI", "S", "C", "I", "A"} {
+		if !own[name] {
+			return Vector{}, missing(name)
+		}
+	}
+	return vector, nil
+}
+
 // A room is what a call of read writes into.
 type room struct {
 	scores    C.CvssScores

@@ -35,10 +35,10 @@ def scored(score: Optional[float], severity: Optional[str]) -> str:
     return "- -" if score is None else f"{score:.1f} {severity}"
 
 
-def facts(text: bytes) -> str:
+def facts(text: bytes, strict: bool = False) -> str:
     """What is known of a text, as bindings/stored/facts.py tells it."""
     try:
-        vector = Vector(text)
+        vector = Vector(text, strict=strict)
     except CvssError as error:
         return f"{KINDS.index(error.kind)} {error.metric or '-'} {error.reason}"
     told = [str(vector), vector.version, vector.nomenclature or "-"]
@@ -63,10 +63,11 @@ def stored_lines(root: Path, name: str) -> List[bytes]:
 
 def check_stored_lines(root: Path) -> None:
     lines = stored_lines(root, "stdin")
-    for call, expected in (
+    calls: Tuple[Tuple[Callable[[bytes], str], List[bytes]], ...] = (
         (facts, lines_of(root / "bindings" / "stored" / "facts")),
         (answer, stored_lines(root, "stdout")),
-    ):
+    )
+    for call, expected in calls:
         assert len(lines) == len(expected)
         for line, told in zip(lines, expected):
             assert call(line) == told.decode(), line
@@ -196,6 +197,21 @@ def check_changes(root: Path) -> None:
         assert shorter.metrics == defined or (not defined and shorter == vector), line
         assert vector.with_overrides({}) == vector
         assert vector.with_overrides({"IR": "H"}).metrics == {**vector.metrics, "IR": "H"}, line
+
+
+def check_strict(root: Path) -> None:
+    """A strict reading refuses the incomplete vectors of v3, by the words that were written by hand, and no others."""
+    rows = [line.partition(b" ") for line in lines_of(root / "bindings" / "stored" / "incomplete")]
+    for text, _, refusal in rows:
+        assert facts(text, strict=True) == refusal.decode() and not Vector(text).is_complete, text
+    for text in stored_lines(root, "stdin"):
+        told = facts(text)
+        assert (facts(text, strict=True) == told) != (" incomplete " in told), text
+    texts = " ".join(text.decode() for text, _, _ in [*rows, (TEXT.encode(), b"", b""), (b"AV:N", b"", b"")])
+    assert [isinstance(found, Vector) and found.is_complete for _, _, found in find(texts)] == [False] * len(rows) + [True]
+    expected = [refusal.decode().split(" ", 2)[2] for _, _, refusal in rows] + [TEXT]
+    assert [str(found) for _, _, found in find(texts, strict=True)] == expected
+    assert [str(found) for _, _, found in find(texts.encode(), strict=True)] == expected
 
 
 def check_types() -> None:
@@ -448,6 +464,7 @@ if __name__ == "__main__":
     check_texts_of_subclasses()
     check_many_texts()
     check_changes(Path(sys.argv[1]))
+    check_strict(Path(sys.argv[1]))
     check_types()
     check_red_hat_notation()
     check_command()

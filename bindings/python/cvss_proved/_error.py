@@ -62,6 +62,13 @@ class CvssError(ValueError):
         kind = _KINDS[_library.refusal_kind(code)]
         return cls(_library.reason(code), kind, _library.refusal_metric(code))
 
+    @classmethod
+    def missing(cls, metric: str) -> CvssError:
+        """The error of a vector of v3 that lacks a base metric, in the words that the library has for the metric."""
+        words = _library.reason(f"CVSS:3.1/{metric}:".encode())
+        named = words.partition(" metric")[0].partition(" ")[2]
+        return cls(f"missing mandatory {named} metric", "missing metric", metric)
+
     def __reduce__(self) -> Tuple[Type[CvssError], Tuple[str, Kind, str], Dict[str, Any]]:
         """Copies and pickles keep the notes of an error, and the attributes of a subclass."""
         return (type(self), (self.reason, self.kind, self.metric), self.__dict__)

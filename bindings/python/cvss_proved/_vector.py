@@ -25,6 +25,8 @@ Nomenclature = Literal["CVSS-B", "CVSS-BE", "CVSS-BT", "CVSS-BTE"]
 _VERSIONS: Dict[int, Version] = {20: "2.0", 30: "3.0", 31: "3.1", 40: "4.0"}
 _SEVERITIES: Tuple[Severity, ...] = ("none", "low", "medium", "high", "critical")
 _NOMENCLATURES: Tuple[Nomenclature, ...] = ("CVSS-B", "CVSS-BE", "CVSS-BT", "CVSS-BTE")
+# In the order of CVSS v3.1, section 6.
+_BASE_OF_V3 = ("AV", "AC", "PR", "UI", "S", "C", "I", "A")
 _ENVIRONMENTAL = frozenset(
     "CDP TD CR IR AR MAV MAC MAT MPR MUI MS MC MI MA MVC MVI MVA MSC MSI MSA".split()
 )
@@ -84,14 +86,26 @@ class Vector:
     _decoded: Optional[str]
     _numbers: Tuple[int, ...]
 
-    def __init__(self, text: Text) -> None:
-        """Reads a text. One that denotes no vector is refused by `CvssError`."""
+    def __init__(self, text: Text, *, strict: bool = False) -> None:
+        """Reads a text. One that denotes no vector is refused by `CvssError`.
+
+        With `strict` a vector of v3 that lacks base metrics is refused too, as FIRST's document has it, for the first one
+        that is missing.
+
+        >>> Vector("CVSS:3.1/AV:N/AC:L/PR:N/UI:N/S:U", strict=True)
+        Traceback (most recent call last):
+            ...
+        cvss_proved.CvssError: missing mandatory CVSSv3 C (Confidentiality Impact) metric
+        """
         given = _library.bytes_of(text)
         told = _library.read(given)
         if told is None:
             raise CvssError.of(given)
         self._numbers, self._code = told
         self._decoded = None
+        if strict and not self.is_complete:
+            own = dict(_library.metrics(self._code))
+            raise CvssError.missing(next(name for name in _BASE_OF_V3 if name not in own))
 
     @classmethod
     def from_rh_vector(cls: Type[_Own], text: str) -> _Own:

@@ -99,6 +99,26 @@ fn stored_lines_have_their_facts() {
     }
 }
 
+/// A reading that asks for all base metrics refuses the incomplete vectors of v3, by the words that
+/// were written by hand, and no others.
+#[test]
+fn incomplete_vectors_are_refused() {
+    let root = Path::new(env!("CARGO_MANIFEST_DIR")).join("../..");
+    let rows = fs::read_to_string(root.join("bindings/stored/incomplete")).unwrap();
+    assert!(!rows.is_empty());
+    for (text, refusal) in rows.lines().map(|row| row.split_once(' ').unwrap()) {
+        let told = refusal_facts(&Cvss::parse_complete(text).unwrap_err());
+        assert_eq!(told, refusal, "{text}");
+        let mention = find(text).next().unwrap();
+        assert!(!mention.found.unwrap().is_complete(), "{text}");
+    }
+    for line in stored_lines("stdin").lines() {
+        let read = Cvss::parse(line);
+        let is_incomplete = read.as_ref().is_ok_and(|cvss| !cvss.is_complete());
+        assert_eq!(Cvss::parse_complete(line) != read, is_incomplete, "{line}");
+    }
+}
+
 /// The accounts are those that the second implementation in `reference/` tells, where no number has more
 /// than seven decimals.
 #[test]
