@@ -12,7 +12,7 @@ import subprocess
 import sys
 from concurrent.futures import ThreadPoolExecutor
 from pathlib import Path
-from typing import Any, Callable, List, Optional, Tuple, Type, TypeVar
+from typing import Any, Callable, List, Optional, Set, Tuple, Type, TypeVar
 
 import cvss_proved
 from cvss_proved import CvssError, Found, Text, Vector, answer, answers, find, scores
@@ -324,10 +324,21 @@ class Slotted(Vector):
         return self.__note
 
 
-class OwnError(CvssError):
+class Row(Vector):
+    """A vector that is made with more than a text, and may be found among others."""
+
+    def __init__(self, text: Text, name: str, others: "Set[Row]") -> None:
+        super().__init__(text)
+        self.name, self.others = name, others
+        others.add(self)
+
+
+class RowError(CvssError):
     """A refusal that knows its line."""
 
-    line: int
+    def __init__(self, line: int, reason: str) -> None:
+        super().__init__(reason, "invalid value", "AV")
+        self.line = line
 
 
 Copied = TypeVar("Copied")
@@ -358,10 +369,12 @@ def check_copies() -> None:
         assert (vector, vector.sources, vector.scores) == (own, ["NVD"], own.scores)
     for other in copies(slotted):
         assert (other, other.sources, other.note) == (slotted, ["NVD"], "seen") and not hasattr(other, "never_set")
-    error = OwnError("words", "invalid value", "AV")
-    error.line = 7
-    for refused in copies(error):
-        assert type(refused) is OwnError and vars(refused) == vars(error) and refused.args == error.args
+    row = Row(TEXT, "first", set())
+    for other_row in copies(row):
+        assert (other_row, other_row.name, list(other_row.others)) == (row, "first", [row])
+    for error in (RowError(7, "words"), CvssError("words", "invalid value", "AV")):
+        for refused in copies(error):
+            assert type(refused) is type(error) and vars(refused) == vars(error) and refused.args == error.args
     for plain in copies(Vector(TEXT)):
         assert plain == Vector(TEXT) and type(plain) is Vector
     for pair in copies((Vector(TEXT).scores, Vector(TEXT).severities)):

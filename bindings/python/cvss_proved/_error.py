@@ -2,7 +2,7 @@
 
 from __future__ import annotations
 
-from typing import Any, Dict, Literal, Tuple, Type
+from typing import Any, Dict, Literal, Tuple
 
 from . import _library
 from ._library import Text
@@ -69,9 +69,17 @@ class CvssError(ValueError):
         named = words.partition(" metric")[0].partition(" ")[2]
         return cls(f"missing mandatory {named} metric", "missing metric", metric)
 
-    def __reduce__(self) -> Tuple[Type[CvssError], Tuple[str, Kind, str], Dict[str, Any]]:
+    @classmethod
+    def _copied(cls, reason: str, kind: Kind, metric: str) -> CvssError:
+        """An error without the constructor of a subclass, which may take other arguments."""
+        error = cls.__new__(cls)
+        CvssError.__init__(error, reason, kind, metric)
+        return error
+
+    def __reduce__(self) -> Tuple[Any, ...]:
         """Copies and pickles keep the notes of an error, and the attributes of a subclass."""
-        return (type(self), (self.reason, self.kind, self.metric), self.__dict__)
+        made = CvssError if type(self) is CvssError else self._copied
+        return (made, (self.reason, self.kind, self.metric), self.__dict__)
 
 
 CvssError.__module__ = "cvss_proved"

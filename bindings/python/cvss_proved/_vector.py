@@ -272,10 +272,18 @@ class Vector:
     def __repr__(self) -> str:
         return f"Vector({self._text!r})"
 
+    @classmethod
+    def _copied(cls: Type[_Own], text: str) -> _Own:
+        """A vector without the constructor of a subclass, which may take other arguments."""
+        vector = object.__new__(cls)
+        Vector.__init__(vector, text)
+        return vector
+
     def __reduce__(self) -> Tuple[Any, ...]:
         """A copy is read anew from the text. It keeps the attributes that a subclass adds."""
-        state = _state_of_subclass(self)
-        return (type(self), (self._text,), state) if any(state) else (type(self), (self._text,))
+        if type(self) is Vector:
+            return (Vector, (self._text,))
+        return (self._copied, (self._text,), _state_of_subclass(self))
 
     def __eq__(self, other: object) -> bool:
         if not isinstance(other, Vector):
