@@ -1,8 +1,8 @@
 // Package cvss reads, prints and scores CVSS vectors of v2, v3.0, v3.1 and v4.0.
 //
 // The answers are those of a library whose functions are proved up to the call. This package calls it through cgo
-// and computes no score itself. bindings/build puts the library and its header into the folder of this package, for Linux
-// on x86-64.
+// and computes no score itself. bindings/build copies the library and its header into the folder of this package, for
+// Linux on x86-64.
 package cvss
 
 // #cgo CFLAGS: -I${SRCDIR}

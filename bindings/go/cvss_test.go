@@ -72,18 +72,17 @@ func facts(text string, parse func(string) (cvss.Vector, error)) string {
 func TestIncompleteVectorsAreRefused(t *testing.T) {
 	for _, row := range lines(t, "bindings/stored/incomplete") {
 		text, refusal, _ := strings.Cut(row, " ")
-		if told := facts(text, cvss.ParseComplete); told != refusal {
-			t.Errorf("%q: %q, and not %q", text, told, refusal)
+		if got := facts(text, cvss.ParseComplete); got != refusal {
+			t.Errorf("%q: %q, and not %q", text, got, refusal)
 		}
 		if found := cvss.Find([]byte(text)); len(found) != 1 || found[0].Vector.IsComplete() {
 			t.Errorf("%q: %v", text, found)
 		}
 	}
 	for _, text := range storedLines(t, "stdin") {
-		told := facts(text, cvss.Parse)
-		isSame := facts(text, cvss.ParseComplete) == told
-		if isSame == strings.Contains(told, " incomplete ") {
-			t.Errorf("%q: %q", text, facts(text, cvss.ParseComplete))
+		lenient, strict := facts(text, cvss.Parse), facts(text, cvss.ParseComplete)
+		if (strict == lenient) == strings.Contains(lenient, " incomplete ") {
+			t.Errorf("%q: %q", text, strict)
 		}
 	}
 }

@@ -35,8 +35,8 @@ func testWord[Value comparable](t *testing.T, value Value, word string, back nam
 	if expected := `{"word":"` + word + `"}`; err != nil || string(text) != expected {
 		t.Errorf("%s, and not %s: %v", text, expected, err)
 	}
-	if told := fmt.Sprint(value); told != word {
-		t.Errorf("%q, and not %q", told, word)
+	if got := fmt.Sprint(value); got != word {
+		t.Errorf("%q, and not %q", got, word)
 	}
 	column, err := driver.DefaultParameterConverter.ConvertValue(value)
 	if word == "" && column != nil || word != "" && column != word || err != nil {
@@ -104,7 +104,7 @@ func TestValuesWithoutAWordAreNotWritten(t *testing.T) {
 			t.Errorf("%v is written as %s", value, text)
 		}
 	}
-	if told := fmt.Sprint(cvss.Severity(5), cvss.Kind(0)); told != "Severity(5) Kind(0)" {
-		t.Errorf("%q", told)
+	if got := fmt.Sprint(cvss.Severity(5), cvss.Kind(0)); got != "Severity(5) Kind(0)" {
+		t.Errorf("%q", got)
 	}
 }

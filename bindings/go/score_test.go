@@ -30,9 +30,9 @@ func TestScoresAreNumbers(t *testing.T) {
 	if low := parsed(t, "CVSS:3.1/AV:P/AC:H/PR:H/UI:R/S:U/C:L/I:N/A:N").Score(); low >= 7 || low.String() != "1.6" {
 		t.Errorf("%v", low)
 	}
-	told := fmt.Sprintf("%v %s %.1f %.0f %6v", vector.Score(), vector.Score(), vector.Score(), vector.Score(), vector.Score())
-	if told != "9.8 9.8 9.8 10    9.8" {
-		t.Errorf("%q", told)
+	score := vector.Score()
+	if got := fmt.Sprintf("%v %s %.1f %.0f %6v", score, score, score, score, score); got != "9.8 9.8 9.8 10    9.8" {
+		t.Errorf("%q", got)
 	}
 }
 

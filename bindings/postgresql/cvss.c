@@ -188,11 +188,11 @@ PG_FUNCTION_INFO_V1(sql_cvss_is_complete);
 Datum
 sql_cvss_is_complete(PG_FUNCTION_ARGS)
 {
-	int32		told = is_complete(text_of(fcinfo, 0));
+	int32		answer = is_complete(text_of(fcinfo, 0));
 
-	if (told == CVSS_NOTHING)
+	if (answer == CVSS_NOTHING)
 		PG_RETURN_NULL();
-	PG_RETURN_BOOL(told != 0);
+	PG_RETURN_BOOL(answer != 0);
 }
 
 PG_FUNCTION_INFO_V1(sql_cvss_severity);

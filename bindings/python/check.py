@@ -71,9 +71,9 @@ def check_stored_lines(root: Path) -> None:
         assert len(lines) == len(expected)
         for line, told in zip(lines, expected):
             assert call(line) == told.decode(), line
-    told_of_all = [told.decode() for told in stored_lines(root, "stdout")]
-    assert answers(lines) == told_of_all
-    assert scores(lines) == [None if told.startswith("error: ") else float(told.split()[1]) for told in told_of_all]
+    stored = [line.decode() for line in stored_lines(root, "stdout")]
+    assert answers(lines) == stored
+    assert scores(lines) == [None if line.startswith("error: ") else float(line.split()[1]) for line in stored]
     texts: List[Text] = [TEXT + "\n", b"\xff", TEXT]
     assert scores([]) == [] and scores(iter(texts)) == [None, None, 7.8]
     assert raises(TypeError, lambda: scores(TEXT))
@@ -205,8 +205,8 @@ def check_strict(root: Path) -> None:
     for text, _, refusal in rows:
         assert facts(text, strict=True) == refusal.decode() and not Vector(text).is_complete, text
     for text in stored_lines(root, "stdin"):
-        told = facts(text)
-        assert (facts(text, strict=True) == told) != (" incomplete " in told), text
+        lenient, strict = facts(text), facts(text, strict=True)
+        assert (strict == lenient) != (" incomplete " in lenient), text
     texts = " ".join(text.decode() for text, _, _ in [*rows, (TEXT.encode(), b"", b""), (b"AV:N", b"", b"")])
     assert [isinstance(found, Vector) and found.is_complete for _, _, found in find(texts)] == [False] * len(rows) + [True]
     expected = [refusal.decode().split(" ", 2)[2] for _, _, refusal in rows] + [TEXT]
@@ -222,8 +222,8 @@ def check_types() -> None:
     assert vector.version != "4"  # type: ignore[comparison-overlap]
     assert vector.nomenclature != "B"  # type: ignore[comparison-overlap]
     assert error.kind != "invalid"  # type: ignore[comparison-overlap]
-    told = (vector.severity == "critical", vector.version == "4.0", vector.nomenclature == "CVSS-B")
-    assert all(told) and error.kind == "invalid component"
+    assert vector.severity == "critical" and vector.version == "4.0" and vector.nomenclature == "CVSS-B"
+    assert error.kind == "invalid component"
 
 
 def check_red_hat_notation() -> None:

@@ -79,8 +79,8 @@ def check_refused_requests(port: int) -> None:
     for path in ("/", "/metrics.json", "/no", f"/read?text={V3}", "/record?text=x"):
         status, headers, content = asked(port, path, "HEAD")
         whole = asked(port, path)
-        others = ({**told, "date": ""} for told in (headers, whole[1]))
-        assert status == whole[0] and next(others) == next(others) and not content and whole[2], path
+        assert {**headers, "date": ""} == {**whole[1], "date": ""}, path
+        assert status == whole[0] and not content and whole[2], path
     evil = ("evil.example", f"evil.example:{port}", f"127.0.0.1:{port}.evil.example")
     for host in (*evil, "127.0.0.1", f"127.0.0.1:{port + 1}", ""):
         assert asked(port, "/", Host=host)[0] == 403, host

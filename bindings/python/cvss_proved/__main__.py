@@ -20,7 +20,7 @@ def main(arguments: Optional[List[str]] = None) -> int:
     parser.add_argument("--version", action="version", version=__version__)
     answers = [answer(vector) for vector in parser.parse_args(arguments).vectors]
     print("\n".join(answers))
-    return int(any(told.startswith("error: ") for told in answers))
+    return int(any(line.startswith("error: ") for line in answers))
 
 
 if __name__ == "__main__":

@@ -53,7 +53,7 @@ def find(
 
     Each is told by its place, from 0, in characters for a `str` and else in bytes; by the text of the mention; and by
     its `Vector`, or, where it begins with `CVSS:`, has a slash and denotes no vector, by the `CvssError` that tells why.
-    A vector of v3 may have been cut off, which its `is_complete` tells; with `strict` such a one is a `CvssError`.
+    A vector of v3 may have been cut off: then its `is_complete` is false, and with `strict` it is a `CvssError`.
 
     >>> for place, text, found in find("scored 7.8 (AV:N/AC:L/Au:N/C:N/I:N/A:C), or CVSS:3.1/AV:Q."):
     ...     print(place, text, repr(found))

@@ -382,4 +382,4 @@ def scores(texts: Iterable[Text]) -> List[Optional[float]]:
     >>> scores(["AV:N/AC:L/Au:N/C:N/I:N/A:C", "AV:N"])
     [7.8, None]
     """
-    return [None if told.startswith("error: ") else float(told.split(" ")[1]) for told in answers(texts)]
+    return [None if line.startswith("error: ") else float(line.split(" ")[1]) for line in answers(texts)]

@@ -107,8 +107,8 @@ fn incomplete_vectors_are_refused() {
     let rows = fs::read_to_string(root.join("bindings/stored/incomplete")).unwrap();
     assert!(!rows.is_empty());
     for (text, refusal) in rows.lines().map(|row| row.split_once(' ').unwrap()) {
-        let told = refusal_facts(&Cvss::parse_complete(text).unwrap_err());
-        assert_eq!(told, refusal, "{text}");
+        let refused = Cvss::parse_complete(text).unwrap_err();
+        assert_eq!(refusal_facts(&refused), refusal, "{text}");
         let mention = find(text).next().unwrap();
         assert!(!mention.found.unwrap().is_complete(), "{text}");
     }
