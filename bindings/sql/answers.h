@@ -168,21 +168,7 @@ static inline int32_t base_score(Text text)
     return cvss_scores(text.bytes, text.length, &scores) ? scores.base : CVSS_NOTHING;
 }
 
-static inline int32_t temporal_score(Text text)
-{
-    CvssScores scores;
-
-    return cvss_scores(text.bytes, text.length, &scores) ? scores.temporal : CVSS_NOTHING;
-}
-
-static inline int32_t environmental_score(Text text)
-{
-    CvssScores scores;
-
-    return cvss_scores(text.bytes, text.length, &scores) ? scores.environmental : CVSS_NOTHING;
-}
-
-/* The place of the rating of base_score in their order: 0 for none, to 4 for critical. */
+/* The rating of base_score as a number, from 0 for none to 4 for critical. */
 static inline int32_t severity_rank(Text text)
 {
     CvssScores scores;
@@ -196,6 +182,20 @@ static inline int32_t is_complete(Text text)
     CvssScores scores;
 
     return cvss_scores(text.bytes, text.length, &scores) ? scores.is_complete : CVSS_NOTHING;
+}
+
+static inline int32_t temporal_score(Text text)
+{
+    CvssScores scores;
+
+    return cvss_scores(text.bytes, text.length, &scores) ? scores.temporal : CVSS_NOTHING;
+}
+
+static inline int32_t environmental_score(Text text)
+{
+    CvssScores scores;
+
+    return cvss_scores(text.bytes, text.length, &scores) ? scores.environmental : CVSS_NOTHING;
 }
 
 /*
