@@ -267,25 +267,19 @@ class Server(ThreadingHTTPServer):
     def process_request(self, request: Any, client_address: Any) -> None:
         """Starts a thread for a connection, unless there are as many as there may be."""
         if self._free.acquire(blocking=False):
-            try:
-                super().process_request(request, client_address)
-            except RuntimeError:
-                # the machine has no more threads
-                self._free.release()
-                raise
+            super().process_request(request, client_address)
             return
         try:
             request.setblocking(False)
             request.sendall(_BUSY)
         except OSError:
             pass
-        self.shutdown_request(request)
+        request.close()
 
-    def process_request_thread(self, request: Any, client_address: Any) -> None:
-        try:
-            super().process_request_thread(request, client_address)
-        finally:
-            self._free.release()
+    def shutdown_request(self, request: Any) -> None:
+        """What ends each connection that was let in, also one for which the machine has no thread."""
+        super().shutdown_request(request)
+        self._free.release()
 
     def server_bind(self) -> None:
         # the one of the standard library asks for the machine's name, which may ask the network
