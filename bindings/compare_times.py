@@ -63,7 +63,7 @@ import (
 	"strings"
 	"time"
 
-	"cvss"
+	"MODULE"
 )
 
 func main() {
@@ -150,8 +150,9 @@ def build_go(state):
     module = state / "timing_go"
     module.mkdir()
     path = state / "bindings/go"
-    (module / "go.mod").write_text(f"module timing\n\ngo 1.19\n\nrequire cvss v0.0.0\n\nreplace cvss => {path}\n")
-    (module / "main.go").write_text(GO)
+    own = (path / "go.mod").read_text().split()[1]
+    (module / "go.mod").write_text(f"module timing\n\ngo 1.19\n\nrequire {own} v0.0.0\n\nreplace {own} => {path}\n")
+    (module / "main.go").write_text(GO.replace("MODULE", own))
     subprocess.run(["go", "build", "-o", "timing", "."], cwd=module, check=True)
     return [module / "timing"], None
 

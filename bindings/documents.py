@@ -126,10 +126,15 @@ def try_go():
     module.mkdir()
     block = blocks(PAGE, "go")[0]
     path = ROOT / "bindings/go"
-    (module / "go.mod").write_text(f"module example\n\ngo 1.19\n\nrequire cvss v0.0.0\n\nreplace cvss => {path}\n")
-    body = f'package main\n\nimport (\n"cvss"\n"errors"\n"fmt"\n)\n\nfunc main() {{\n{block}}}\n'
+    own = re.findall(r"^module (.*)$", (path / "go.mod").read_text(), re.M)[0]
+    assert f"replace {own} => " in PAGE, f"the page names no module {own}"
+    (module / "go.mod").write_text(f"module example\n\ngo 1.19\n\nrequire {own} v0.0.0\n\nreplace {own} => {path}\n")
+    body = f'package main\n\nimport (\n"errors"\n"fmt"\n\n"{own}"\n)\n\nfunc main() {{\n{block}}}\n'
     (module / "main.go").write_text(body)
     check(run(["go", "run", "."], cwd=module), expected(block, "// "), block)
+    # vendored, it has all that it is built from
+    run(["go", "mod", "vendor"], cwd=module)
+    check(run(["go", "run", "-mod=vendor", "."], cwd=module), expected(block, "// "), block)
 
 
 def write_list():
@@ -319,7 +324,7 @@ def check_project():
     for name in ("Yuntabek", "`cvss`", "`cvss_proved`", "`libcvss`", "`cvss.so`", "`share/yuntabek`"):
         assert name in names, f"the table of names has no {name}"
     commands = first_column("Install")
-    for command in ("bindings/build", "bindings/install PREFIX", "./install PREFIX", "pip install ./bindings/python"):
+    for command in ("bindings/build", "bindings/install PREFIX [LIBDIR]", "./install PREFIX", "pip install ./bindings/python"):
         assert f"`{command}`" in commands, f"the table of commands has no {command}"
     assert "The Rattle kit is not in this repository" in PAGE, "the page says not where the Rattle kit comes from"
     leads = re.findall(r"\[docs/BINDINGS.md\]\(docs/BINDINGS.md\) says ([^.]*)", (ROOT / "README.md").read_text())

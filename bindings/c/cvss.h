@@ -35,6 +35,9 @@
 extern "C" {
 #endif
 
+/* The version of this library and header. */
+#define CVSS_VERSION "1.0.0"
+
 /* No version, no such score, or no nomenclature. */
 #define CVSS_NOTHING (-1)
 

@@ -1,12 +1,12 @@
 // Package cvss reads, prints and scores CVSS vectors of v2, v3.0, v3.1 and v4.0.
 //
 // The answers are those of a library whose functions are proved up to the call. This package calls it through cgo
-// and computes no score itself. It is linked to bindings/out/libcvss.a of the checkout that it stands in, which
-// bindings/build makes, on Linux and x86-64.
+// and computes no score itself. bindings/build copies the library and its header into the folder of this package, for
+// Linux on x86-64.
 package cvss
 
-// #cgo CFLAGS: -I${SRCDIR}/../c
-// #cgo LDFLAGS: ${SRCDIR}/../out/libcvss.a
+// #cgo CFLAGS: -I${SRCDIR}
+// #cgo LDFLAGS: ${SRCDIR}/libcvss.a
 // #include "cvss.h"
 // static size_t read_text(_GoString_ text, CvssScores *scores, void *buffer, size_t size)
 // {
@@ -21,23 +21,7 @@ import (
 	"unsafe"
 )
 
-// A Version is a version of the standard.
-type Version string
-
-// The versions that are read.
-const (
-	V20 Version = "2.0"
-	V30 Version = "3.0"
-	V31 Version = "3.1"
-	V40 Version = "4.0"
-)
-
-var versions = map[C.int32_t]Version{20: V20, 30: V30, 31: V31, 40: V40}
-
-// A Nomenclature tells which groups of metrics a score of v4.0 rests on, as CVSS-BTE; it is empty in v2 and v3.
-type Nomenclature string
-
-var nomenclatures = []Nomenclature{"CVSS-B", "CVSS-BE", "CVSS-BT", "CVSS-BTE"}
+var versionNumbers = map[C.int32_t]Version{20: V20, 30: V30, 31: V31, 40: V40}
 
 // A Metric is a metric's abbreviation, and the value that a vector has for it.
 type Metric struct {
@@ -83,20 +67,40 @@ func Parse(text string) (Vector, error) {
 	}
 	vector := Vector{
 		text:       canonical,
-		version:    versions[scores.version],
-		score:      Score(scores.base),
+		version:    versionNumbers[scores.version],
+		score:      scoreOf(float64(scores.base)),
 		severities: [3]Severity{Severity(scores.severity)},
 		isComplete: scores.is_complete != 0,
 	}
 	if scores.temporal == C.CVSS_NOTHING {
-		vector.nomenclature = nomenclatures[scores.nomenclature]
+		vector.nomenclature = nomenclatures[1+scores.nomenclature]
 		return vector, nil
 	}
 	vector.hasThree = true
-	vector.temporal = Score(scores.temporal)
-	vector.environmental = Score(scores.environmental)
+	vector.temporal = scoreOf(float64(scores.temporal))
+	vector.environmental = scoreOf(float64(scores.environmental))
 	vector.severities[1] = Severity(scores.temporal_severity)
 	vector.severities[2] = Severity(scores.environmental_severity)
+	return vector, nil
+}
+
+// ParseComplete reads a text as Parse does, and refuses a vector of v3 that lacks base metrics, as FIRST's document has it:
+// the error is then that the first one is missing, in the standard's order.
+func ParseComplete(text string) (Vector, error) {
+	vector, err := Parse(text)
+	if err != nil || vector.isComplete {
+		return vector, err
+	}
+	own := make(map[string]bool)
+	for _, metric := range vector.Metrics() {
+		own[metric.Name] = true
+	}
+	// CVSS v3.1, section 6
+	for _, name := range []string{"AV", "AC", "PR", "UI", "S", "C", "I", "A"} {
+		if !own[name] {
+			return Vector{}, missing(name)
+		}
+	}
 	return vector, nil
 }
 

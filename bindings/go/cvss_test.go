@@ -9,7 +9,7 @@ import (
 	"sync"
 	"testing"
 
-	"cvss"
+	"yuntabek.example/cvss"
 )
 
 // The lines of a file of the repository.
@@ -41,8 +41,8 @@ func scored(score cvss.Score, severity cvss.Severity, ok bool) string {
 }
 
 // What is known of a text, as bindings/stored/facts.py tells it.
-func facts(text string) string {
-	vector, err := cvss.Parse(text)
+func facts(text string, parse func(string) (cvss.Vector, error)) string {
+	vector, err := parse(text)
 	var refused *cvss.RefusedError
 	if errors.As(err, &refused) {
 		metric := refused.Metric
@@ -67,6 +67,26 @@ func facts(text string) string {
 	return strings.Join(told, " ")
 }
 
+// A reading that asks for all base metrics refuses the incomplete vectors of v3, by the words that were written by hand,
+// and no others.
+func TestIncompleteVectorsAreRefused(t *testing.T) {
+	for _, row := range lines(t, "bindings/stored/incomplete") {
+		text, refusal, _ := strings.Cut(row, " ")
+		if got := facts(text, cvss.ParseComplete); got != refusal {
+			t.Errorf("%q: %q, and not %q", text, got, refusal)
+		}
+		if found := cvss.Find([]byte(text)); len(found) != 1 || found[0].Vector.IsComplete() {
+			t.Errorf("%q: %v", text, found)
+		}
+	}
+	for _, text := range storedLines(t, "stdin") {
+		lenient, strict := facts(text, cvss.Parse), facts(text, cvss.ParseComplete)
+		if (strict == lenient) == strings.Contains(lenient, " incomplete ") {
+			t.Errorf("%q: %q", text, strict)
+		}
+	}
+}
+
 func TestStoredLines(t *testing.T) {
 	expected := lines(t, "bindings/stored/facts")
 	answers := storedLines(t, "stdout")
@@ -81,7 +101,7 @@ func TestStoredLines(t *testing.T) {
 		go func() {
 			defer threads.Done()
 			for i, text := range given {
-				if told := facts(text); told != expected[i] {
+				if told := facts(text, cvss.Parse); told != expected[i] {
 					t.Errorf("%q: %q, and not %q", text, told, expected[i])
 				}
 				if told := cvss.Answer(text); told != answers[i] {

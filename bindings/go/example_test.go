@@ -5,7 +5,7 @@ import (
 	"errors"
 	"fmt"
 
-	"cvss"
+	"yuntabek.example/cvss"
 )
 
 func Example() {

@@ -6,7 +6,7 @@ import (
 	"strings"
 	"testing"
 
-	"cvss"
+	"yuntabek.example/cvss"
 )
 
 // The mentions of the stored texts are those that the second implementation in reference/ tells.

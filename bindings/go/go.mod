@@ -1,3 +1,3 @@
-module cvss
+module yuntabek.example/cvss
 
 go 1.19

@@ -5,6 +5,7 @@ import "C"
 
 import (
 	"errors"
+	"strings"
 	"unsafe"
 )
 
@@ -48,4 +49,11 @@ func refusal(text []byte, length C.size_t) *RefusedError {
 		return C.cvss_reason(pointer(text), length, buffer, size)
 	})
 	return &RefusedError{Kind(C.cvss_refusal_kind(pointer(text), length)), metric, reason}
+}
+
+// missing is the refusal of a vector of v3 that lacks a base metric, in the words that the library has for the metric.
+func missing(metric string) *RefusedError {
+	invalid := refusal(bytesOf("CVSS:3.1/" + metric + ":")).Reason
+	words, _, _ := strings.Cut(strings.TrimPrefix(invalid, "invalid "), " metric")
+	return &RefusedError{MissingMetric, metric, "missing mandatory " + words + " metric"}
 }

@@ -1,34 +1,75 @@
+//go:build cgo
+
 package cvss
 
-import "fmt"
-
-// A Score counts tenths, from 0 to 100.
-type Score int
-
-// Value is the float64 nearest to the score.
-func (s Score) Value() float64 { return float64(s) / 10 }
-
-// String is the score with one decimal.
-func (s Score) String() string { return fmt.Sprintf("%d.%d", int(s)/10, int(s)%10) }
-
-// A Severity is a qualitative severity rating. The greater is the more severe.
-type Severity int
-
-// The ratings. A score of v2 is rated by the middle three alone.
-const (
-	None Severity = iota
-	Low
-	Medium
-	High
-	Critical
+import (
+	"bytes"
+	"encoding/json"
+	"fmt"
+	"math"
+	"strconv"
 )
 
-var severities = [...]string{"none", "low", "medium", "high", "critical"}
+// A Score is a score from 0.0 to 10.0, in steps of a tenth: the float64 nearest to it. So it is compared, printed and
+// stored as a number: 9.8 is the number 9.8 in JSON and in a database. What is read from there is an error where it is no
+// score, and the Score stays what it was.
+type Score float64
 
-// String is the rating in lower case.
-func (s Severity) String() string {
-	if s < None || s > Critical {
-		return fmt.Sprintf("Severity(%d)", int(s))
+// Tenths is the score in tenths, which is exact.
+func (s Score) Tenths() int { return int(math.Round(float64(s) * 10)) }
+
+// Value is the float64 nearest to the score.
+func (s Score) Value() float64 { return float64(s) }
+
+// String is the score with one decimal.
+func (s Score) String() string { return strconv.FormatFloat(float64(s), 'f', 1, 64) }
+
+// scoreOf is the score of so many tenths.
+func scoreOf(tenths float64) Score { return Score(tenths / 10) }
+
+// set sets the score that a number is, which may have been a float32.
+func (s *Score) set(number float64) error {
+	score := scoreOf(math.Abs(math.Round(number * 10)))
+	if !(score <= 10) || float32(score) != float32(number) {
+		return fmt.Errorf("%v is no CVSS score: a score is a number from 0 to 10 with at most one decimal", number)
 	}
-	return severities[s]
+	*s = score
+	return nil
+}
+
+// UnmarshalJSON reads a number. As for a number of Go, null changes nothing.
+func (s *Score) UnmarshalJSON(text []byte) error {
+	if bytes.Equal(text, []byte("null")) {
+		return nil
+	}
+	var number float64
+	if err := json.Unmarshal(text, &number); err != nil {
+		return err
+	}
+	return s.set(number)
+}
+
+// Scan reads what a database has kept: a number, which may be written as a text. A column that may be NULL is scanned
+// into a *Score.
+func (s *Score) Scan(stored any) error {
+	switch stored := stored.(type) {
+	case float64:
+		return s.set(stored)
+	case int64:
+		return s.set(float64(stored))
+	case []byte:
+		return s.read(string(stored))
+	case string:
+		return s.read(stored)
+	}
+	return fmt.Errorf("a score is stored as a number, and this is of the type %T", stored)
+}
+
+// read reads a number that a database has written.
+func (s *Score) read(text string) error {
+	number, err := strconv.ParseFloat(text, 64)
+	if err != nil {
+		return fmt.Errorf("%q is no CVSS score: %w", text, err)
+	}
+	return s.set(number)
 }

@@ -12,7 +12,7 @@ import (
 	"testing"
 	"time"
 
-	"cvss"
+	"yuntabek.example/cvss"
 )
 
 var (

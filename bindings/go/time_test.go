@@ -6,7 +6,7 @@ import (
 	"strings"
 	"testing"
 
-	"cvss"
+	"yuntabek.example/cvss"
 )
 
 // The accepted lines of the file that CVSS_LINES names, and their vectors.

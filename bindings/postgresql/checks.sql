@@ -7,7 +7,16 @@ SELECT 'NULL gives NULL', coalesce(cvss_is_valid(NULL), cvss_check(NULL)) IS NUL
     coalesce(cvss_canonical(NULL), cvss_version(NULL), cvss_severity(NULL), cvss_nomenclature(NULL),
         cvss_metric(NULL, 'AV'), cvss_metric(v3, NULL), cvss_with(NULL, 'CR:H'), cvss_with(v4, NULL),
         cvss_record(NULL)::text, cvss_account(NULL)::text, cvss_reason(NULL), cvss_reason(NULL, 'CR:H'), cvss_reason(v4, NULL)) IS NULL,
-    coalesce(cvss_score(NULL), cvss_temporal_score(NULL), cvss_environmental_score(NULL)) IS NULL FROM known;
+    coalesce(cvss_score(NULL), cvss_temporal_score(NULL), cvss_environmental_score(NULL)) IS NULL,
+    coalesce(cvss_tenths(NULL), cvss_severity_rank(NULL)) IS NULL, cvss_is_complete(NULL) IS NULL,
+    cvss_without_undefined(NULL) IS NULL FROM known;
+SELECT 'whole numbers', pg_typeof(cvss_tenths(v3)) = 'integer'::regtype, cvss_tenths(v3) = 98,
+    pg_typeof(cvss_severity_rank(v3)) = 'integer'::regtype, cvss_severity_rank(v2) = 3, cvss_severity_rank(v3) = 4,
+    cvss_is_complete(v3), NOT cvss_is_complete('CVSS:3.1/AV:N'),
+    coalesce(cvss_tenths(refused), cvss_severity_rank(refused)) IS NULL AND cvss_is_complete(refused) IS NULL FROM known;
+SELECT 'a name in any case', cvss_metric(v2, 'AU') = 'N', cvss_metric(v2, 'au') = 'N', cvss_metric(v2, 'Au') = 'N',
+    cvss_metric(v4 || '/AU:Y', 'Au') = 'Y', cvss_metric(v4, 'AU') IS NULL, cvss_metric(v3, 'av') = 'N',
+    cvss_metric(v3, 'vc') IS NULL, cvss_metric(refused, 'av') IS NULL FROM known;
 SELECT 'scores have one decimal', cvss_score('CVSS:3.1/AV:N/AC:L/PR:N/UI:N/S:C/C:H/I:H/A:H')::text = '10.0',
     cvss_score('CVSS:3.1/C:N')::text = '0.0', pg_typeof(cvss_score(v3)) = 'numeric'::regtype FROM known;
 SELECT 'no reason is cut', cvss_reason(repeat('x', 200000))
@@ -35,7 +44,7 @@ SELECT 'a long text', count(*) = 20000, count(vector) = 20000, max(place) = 1 + 
     FROM known, cvss_find(repeat(v2 || ', ', 20000)) GROUP BY v2;
 SELECT 'rows that are not all asked for', given = v2 FROM known, cvss_find(repeat(v2 || ' ', 5)) LIMIT 1;
 SELECT 'all are immutable, strict and parallel safe', bool_and(provolatile = 'i' AND proisstrict AND proparallel = 's'),
-    count(*) = 16 FROM pg_proc WHERE proname LIKE 'cvss\_%';
+    count(*) = 20 FROM pg_proc WHERE proname LIKE 'cvss\_%';
 
 CREATE TABLE kept (
     vector cvss_vector,
@@ -49,6 +58,11 @@ SELECT 'a domain and a column', string_agg(score::text, ',' ORDER BY score) = '7
 INSERT INTO kept SELECT refused FROM known;
 \echo :LAST_ERROR_SQLSTATE :LAST_ERROR_MESSAGE
 SELECT 'not a vector'::cvss_vector;
+\echo :LAST_ERROR_SQLSTATE :LAST_ERROR_MESSAGE
+-- A name that no version has is a mistake of the query.
+SELECT cvss_metric(v3, 'XX') FROM known;
+\echo :LAST_ERROR_SQLSTATE :LAST_ERROR_MESSAGE
+SELECT cvss_metric(refused, '') FROM known;
 \echo :LAST_ERROR_SQLSTATE :LAST_ERROR_MESSAGE
 \set ON_ERROR_STOP on
 SELECT 'nothing that is refused is kept', count(*) = 3 FROM kept;
@@ -72,6 +86,13 @@ CREATE INDEX many_score ON many (cvss_score(vector));
 ANALYZE many;
 SELECT 'the index is used', plan_of('SELECT * FROM many WHERE cvss_score(vector) > 9') LIKE '%many_score%',
     (SELECT count(*) FROM many WHERE cvss_score(vector) > 9) = 1;
+CREATE INDEX many_ranked ON many (cvss_score(vector) DESC NULLS LAST);
+SELECT 'the first of a ranking by an index',
+    plan_of('SELECT * FROM many ORDER BY cvss_score(vector) DESC NULLS LAST LIMIT 5') ~ 'Index Scan using many_ranked',
+    plan_of('SELECT * FROM many ORDER BY cvss_score(vector) DESC NULLS LAST LIMIT 5') !~ 'Sort',
+    (SELECT string_agg(coalesce(cvss_score(vector)::text, 'refused'), ',')
+        FROM (SELECT vector FROM many ORDER BY cvss_score(vector) DESC NULLS LAST LIMIT 2) AS ranked) = '9.8,7.5',
+    (SELECT vector FROM many ORDER BY cvss_score(vector) DESC LIMIT 1) = 'n/a';
 SET parallel_setup_cost = 0;
 SET parallel_tuple_cost = 0;
 SET min_parallel_table_scan_size = 0;

@@ -105,13 +105,23 @@ answer_jsonb(FunctionCallInfo fcinfo, TextAnswer answer)
 }
 
 static Datum
-answer_score(FunctionCallInfo fcinfo, ScoreAnswer answer)
+answer_score(FunctionCallInfo fcinfo, NumberAnswer answer)
 {
 	int32		tenths = answer(text_of(fcinfo, 0));
 
 	if (tenths == CVSS_NOTHING)
 		PG_RETURN_NULL();
 	PG_RETURN_NUMERIC(int64_div_fast_to_numeric(tenths, 1));
+}
+
+static Datum
+answer_number(FunctionCallInfo fcinfo, NumberAnswer answer)
+{
+	int32		number = answer(text_of(fcinfo, 0));
+
+	if (number == CVSS_NOTHING)
+		PG_RETURN_NULL();
+	PG_RETURN_INT32(number);
 }
 
 /* The names differ from those of the library, which this module holds too. */
@@ -160,6 +170,31 @@ sql_cvss_environmental_score(PG_FUNCTION_ARGS)
 	return answer_score(fcinfo, environmental_score);
 }
 
+PG_FUNCTION_INFO_V1(sql_cvss_tenths);
+Datum
+sql_cvss_tenths(PG_FUNCTION_ARGS)
+{
+	return answer_number(fcinfo, base_score);
+}
+
+PG_FUNCTION_INFO_V1(sql_cvss_severity_rank);
+Datum
+sql_cvss_severity_rank(PG_FUNCTION_ARGS)
+{
+	return answer_number(fcinfo, severity_rank);
+}
+
+PG_FUNCTION_INFO_V1(sql_cvss_is_complete);
+Datum
+sql_cvss_is_complete(PG_FUNCTION_ARGS)
+{
+	int32		answer = is_complete(text_of(fcinfo, 0));
+
+	if (answer == CVSS_NOTHING)
+		PG_RETURN_NULL();
+	PG_RETURN_BOOL(answer != 0);
+}
+
 PG_FUNCTION_INFO_V1(sql_cvss_severity);
 Datum
 sql_cvss_severity(PG_FUNCTION_ARGS)
@@ -174,11 +209,24 @@ sql_cvss_nomenclature(PG_FUNCTION_ARGS)
 	return answer_text(fcinfo, put_nomenclature);
 }
 
+/* A name that no version has is an error: it is a mistake of the query, and of no row. */
 PG_FUNCTION_INFO_V1(sql_cvss_metric);
 Datum
 sql_cvss_metric(PG_FUNCTION_ARGS)
 {
+	Text		name = text_of(fcinfo, 1);
+
+	if (!is_metric_name(&name))
+		ereport(ERROR, (errcode(ERRCODE_INVALID_PARAMETER_VALUE),
+						errmsg("no CVSS metric has the name `%.*s`", (int) name.length, name.bytes)));
 	return answer_text(fcinfo, put_metric);
+}
+
+PG_FUNCTION_INFO_V1(sql_cvss_without_undefined);
+Datum
+sql_cvss_without_undefined(PG_FUNCTION_ARGS)
+{
+	return answer_text(fcinfo, put_without_undefined);
 }
 
 PG_FUNCTION_INFO_V1(sql_cvss_with);

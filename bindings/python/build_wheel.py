@@ -33,6 +33,8 @@ License: Apache-2.0 OR MIT
 License-File: LICENSE-APACHE
 License-File: LICENSE-MIT
 License-File: NOTICE
+Project-URL: Standard, https://www.first.org/cvss/
+Project-URL: Rust crate cvss, https://crates.io/crates/cvss
 Classifier: License :: OSI Approved :: Apache Software License
 Classifier: License :: OSI Approved :: MIT License
 Classifier: Operating System :: POSIX :: Linux

@@ -4,15 +4,18 @@ Usage: check.py ROOT, the folder of the checkout. The package is the one that Py
 """
 
 import ast
+import copy
+import doctest
 import json
 import pickle
+import subprocess
 import sys
 from concurrent.futures import ThreadPoolExecutor
 from pathlib import Path
-from typing import Any, Callable, List, Optional, Tuple, Type
+from typing import Any, Callable, List, Optional, Set, Tuple, Type, TypeVar
 
 import cvss_proved
-from cvss_proved import CvssError, Found, Text, Vector, answer, answers, find
+from cvss_proved import CvssError, Found, Text, Vector, answer, answers, find, scores
 
 KINDS = (
     "",
@@ -32,10 +35,10 @@ def scored(score: Optional[float], severity: Optional[str]) -> str:
     return "- -" if score is None else f"{score:.1f} {severity}"
 
 
-def facts(text: bytes) -> str:
+def facts(text: bytes, strict: bool = False) -> str:
     """What is known of a text, as bindings/stored/facts.py tells it."""
     try:
-        vector = Vector(text)
+        vector = Vector(text, strict=strict)
     except CvssError as error:
         return f"{KINDS.index(error.kind)} {error.metric or '-'} {error.reason}"
     told = [str(vector), vector.version, vector.nomenclature or "-"]
@@ -60,14 +63,20 @@ def stored_lines(root: Path, name: str) -> List[bytes]:
 
 def check_stored_lines(root: Path) -> None:
     lines = stored_lines(root, "stdin")
-    for call, expected in (
+    calls: Tuple[Tuple[Callable[[bytes], str], List[bytes]], ...] = (
         (facts, lines_of(root / "bindings" / "stored" / "facts")),
         (answer, stored_lines(root, "stdout")),
-    ):
+    )
+    for call, expected in calls:
         assert len(lines) == len(expected)
         for line, told in zip(lines, expected):
             assert call(line) == told.decode(), line
-    assert answers(lines) == [told.decode() for told in stored_lines(root, "stdout")]
+    stored = [line.decode() for line in stored_lines(root, "stdout")]
+    assert answers(lines) == stored
+    assert scores(lines) == [None if line.startswith("error: ") else float(line.split()[1]) for line in stored]
+    texts: List[Text] = [TEXT + "\n", b"\xff", TEXT]
+    assert scores([]) == [] and scores(iter(texts)) == [None, None, 7.8]
+    assert raises(TypeError, lambda: scores(TEXT))
     print(f"Python: {len(lines)} lines, 0 wrong answers")
 
 
@@ -101,6 +110,57 @@ def check_texts() -> None:
     for text in no_utf8:
         assert raises(CvssError, lambda: Vector(text)), text
         assert answer(text) == "error: not UTF-8"
+
+
+class Longer(bytes):
+    """Bytes that are said to be more than they are."""
+
+    def __len__(self) -> int:
+        return 1 << 33
+
+    def __bytes__(self) -> bytes:
+        return self
+
+
+class LongerArray(bytearray):
+    """The same of a bytearray."""
+
+    def __len__(self) -> int:
+        return 1 << 33
+
+    def __bytes__(self) -> bytes:
+        return Longer(self)
+
+
+class Recoded(str):
+    """A text with an encoding of its own."""
+
+    def encode(self, encoding: str = "utf-8", errors: str = "strict") -> bytes:
+        return Longer(b"x")
+
+
+def check_texts_of_subclasses() -> None:
+    """A text of a subclass is read as it is, whatever its own methods return."""
+    code = TEXT.encode()
+    prose = f"scored 7.8 ({TEXT})"
+    kinds: Tuple[Callable[[str], Text], ...] = (
+        Recoded,
+        lambda text: Longer(text.encode()),
+        lambda text: LongerArray(text.encode()),
+    )
+    for of in kinds:
+        texts: List[Text] = [of(TEXT), of("x")]
+        assert Vector(texts[0]).text == TEXT
+        assert [answer(text) for text in texts] == answers(texts) == [answer(TEXT), answer("x")]
+        assert CvssError.of(texts[1]).reason == CvssError.of(b"x").reason
+        assert [place for place, _, _ in find(of(prose))] == [12]
+        assert list(find(texts[1])) == []
+    for kind in (str, bytes, bytearray, memoryview):
+        # an object that calls itself a text
+        posing: Any = type("Posing", (), {"__class__": property(lambda _: kind)})()
+        assert raises(TypeError, lambda: Vector(posing)) and raises(TypeError, lambda: answers([posing])), kind
+    assert Vector(memoryview(code + code)[: len(code)]).text == TEXT
+    assert Vector(memoryview(bytes(byte for pair in zip(code, code) for byte in pair))[::2]).text == TEXT
 
 
 def check_many_texts() -> None:
@@ -137,6 +197,62 @@ def check_changes(root: Path) -> None:
         assert shorter.metrics == defined or (not defined and shorter == vector), line
         assert vector.with_overrides({}) == vector
         assert vector.with_overrides({"IR": "H"}).metrics == {**vector.metrics, "IR": "H"}, line
+
+
+def check_strict(root: Path) -> None:
+    """A strict reading refuses the incomplete vectors of v3, by the words that were written by hand, and no others."""
+    rows = [line.partition(b" ") for line in lines_of(root / "bindings" / "stored" / "incomplete")]
+    for text, _, refusal in rows:
+        assert facts(text, strict=True) == refusal.decode() and not Vector(text).is_complete, text
+    for text in stored_lines(root, "stdin"):
+        lenient, strict = facts(text), facts(text, strict=True)
+        assert (strict == lenient) != (" incomplete " in lenient), text
+    texts = " ".join(text.decode() for text, _, _ in [*rows, (TEXT.encode(), b"", b""), (b"AV:N", b"", b"")])
+    assert [isinstance(found, Vector) and found.is_complete for _, _, found in find(texts)] == [False] * len(rows) + [True]
+    expected = [refusal.decode().split(" ", 2)[2] for _, _, refusal in rows] + [TEXT]
+    assert [str(found) for _, _, found in find(texts, strict=True)] == expected
+    assert [str(found) for _, _, found in find(texts.encode(), strict=True)] == expected
+
+
+def check_types() -> None:
+    """A comparison that cannot hold is an error of mypy: it calls each comment here that is needless an error, too."""
+    vector, error = Vector(V4), CvssError.of(b"AV:N")
+    assert vector.severity != "High"  # type: ignore[comparison-overlap]
+    assert vector.severities.base != "CRITICAL"  # type: ignore[comparison-overlap]
+    assert vector.version != "4"  # type: ignore[comparison-overlap]
+    assert vector.nomenclature != "B"  # type: ignore[comparison-overlap]
+    assert error.kind != "invalid"  # type: ignore[comparison-overlap]
+    assert vector.severity == "critical" and vector.version == "4.0" and vector.nomenclature == "CVSS-B"
+    assert error.kind == "invalid component"
+
+
+def check_red_hat_notation() -> None:
+    """The scores are those of section 3.3.1 of the CVSS v2 guide, and of the stored facts."""
+    assert Vector.from_rh_vector("7.8/" + TEXT) == Vector(TEXT)
+    assert Vector.from_rh_vector("10/" + V4) == Vector.from_rh_vector("10.0/" + V4) == Vector(V4)
+    assert type(Own.from_rh_vector("7.8/" + TEXT)) is Own
+    for score in ("7.9", "78", "7", "0"):
+        assert raises(ValueError, lambda: Vector.from_rh_vector(f"{score}/{TEXT}")), score
+    for other in (TEXT, "", "/", "7.8", "/" + TEXT, " 7.8/" + TEXT, "7.80/" + TEXT, "07.8/" + TEXT, "7,8/" + TEXT, "+7.8/" + TEXT,
+                  "\u0667.8/" + TEXT, "7.8\n/" + TEXT, "nan/" + TEXT, "-7.8/" + TEXT):
+        assert raises(ValueError, lambda: Vector.from_rh_vector(other)), other
+    for refused in ("7.8/", "7.8", "7.8/AV:N"):
+        assert raises(ValueError, lambda: Vector.from_rh_vector(refused)), refused
+    assert raises(CvssError, lambda: Vector.from_rh_vector("7.8/AV:N"))
+
+
+def check_command() -> None:
+    """The command for a terminal prints what `answer` does, and says by its status whether a vector is refused."""
+    def run(*arguments: str) -> Tuple[int, str]:
+        done = subprocess.run([sys.executable, "-m", "cvss_proved", *arguments], stdout=subprocess.PIPE,
+                              stderr=subprocess.DEVNULL)
+        return done.returncode, done.stdout.decode()
+
+    assert run(TEXT, V4) == (0, f"{TEXT} 7.8 high\n{V4} 10.0 critical\n")
+    assert run("AV:N", TEXT) == (1, f"{answer('AV:N')}\n{TEXT} 7.8 high\n")
+    assert run("") == (1, "error: invalid CVSS metric group component: ``\n")
+    assert run()[0] == run("--no-such-option")[0] == 2
+    assert run("--version") == (0, f"{cvss_proved.__version__}\n")
 
 
 def check_threads(root: Path) -> None:
@@ -181,19 +297,96 @@ def check_overrides() -> None:
 
 
 class Own(Vector):
-    """A vector that an organisation gives a method more."""
+    """A vector that an organisation gives a method more, and an attribute."""
+
+    sources: List[str]
 
     def is_urgent(self) -> bool:
         return self.tenths >= 70
+
+
+class Slotted(Vector):
+    """A vector with attributes in slots."""
+
+    __slots__ = ("sources", "__note", "never_set")
+
+    def __init__(self, text: Text) -> None:
+        super().__init__(text)
+        self.sources: List[str] = []
+        self.__note = ""
+
+    def with_note(self, note: str) -> "Slotted":
+        self.__note = note
+        return self
+
+    @property
+    def note(self) -> str:
+        return self.__note
+
+
+class Row(Vector):
+    """A vector that is made with more than a text, and may be found among others."""
+
+    def __init__(self, text: Text, name: str, others: "Set[Row]") -> None:
+        super().__init__(text)
+        self.name, self.others = name, others
+        others.add(self)
+
+
+class RowError(CvssError):
+    """A refusal that knows its line."""
+
+    def __init__(self, line: int, reason: str) -> None:
+        super().__init__(reason, "invalid value", "AV")
+        self.line = line
+
+
+Copied = TypeVar("Copied")
+
+
+def copies(value: Copied) -> List[Copied]:
+    """Each copy that Python makes of a value. None names a module that is not public."""
+    pickled = [pickle.dumps(value, protocol) for protocol in range(pickle.HIGHEST_PROTOCOL + 1)]
+    assert not any(b"cvss_proved._" in code for code in pickled), pickled[0]
+    return [copy.copy(value), copy.deepcopy(value), *map(pickle.loads, pickled)]
 
 
 def check_subclasses() -> None:
     """A subclass stays its class."""
     for text in (TEXT + "/E:ND", "CVSS:3.1/AV:N/E:X", V4 + "/E:X"):
         own = Own(text)
-        for made in (own, own.without_undefined(), own.with_overrides({"CR": "H"}), pickle.loads(pickle.dumps(own))):
+        for made in (own, own.without_undefined(), own.with_overrides({"CR": "H"}), *copies(own)):
             assert type(made) is Own and made.is_urgent() == (made.score >= 7), made
         assert own == Vector(text) and hash(own) == hash(Vector(text))
+
+
+def check_copies() -> None:
+    """A copy has the attributes that a subclass has added, and is scored as the text is."""
+    own, slotted = Own(TEXT), Slotted(TEXT).with_note("seen")
+    own.sources = ["NVD"]
+    slotted.sources = ["NVD"]
+    for vector in copies(own):
+        assert (vector, vector.sources, vector.scores) == (own, ["NVD"], own.scores)
+    for other in copies(slotted):
+        assert (other, other.sources, other.note) == (slotted, ["NVD"], "seen") and not hasattr(other, "never_set")
+    row = Row(TEXT, "first", set())
+    for other_row in copies(row):
+        assert (other_row, other_row.name, list(other_row.others)) == (row, "first", [row])
+    for error in (RowError(7, "words"), CvssError("words", "invalid value", "AV")):
+        for refused in copies(error):
+            assert type(refused) is type(error) and vars(refused) == vars(error) and refused.args == error.args
+    for plain in copies(Vector(TEXT)):
+        assert plain == Vector(TEXT) and type(plain) is Vector
+    for pair in copies((Vector(TEXT).scores, Vector(TEXT).severities)):
+        assert pair == (Vector(TEXT).scores, Vector(TEXT).severities)
+
+
+def check_docstrings() -> None:
+    """Each example in a docstring prints what follows it."""
+    runner = doctest.DocTestRunner()
+    for example in doctest.DocTestFinder().find(cvss_proved, module=False, globs=vars(cvss_proved)):
+        runner.run(example)
+    assert runner.tries > 20 and runner.failures == 0, (runner.tries, runner.failures)
 
 
 def check_records(root: Path) -> None:
@@ -281,12 +474,19 @@ if __name__ == "__main__":
     check_syntax()
     check_stored_lines(Path(sys.argv[1]))
     check_texts()
+    check_texts_of_subclasses()
     check_many_texts()
     check_changes(Path(sys.argv[1]))
+    check_strict(Path(sys.argv[1]))
+    check_types()
+    check_red_hat_notation()
+    check_command()
     check_threads(Path(sys.argv[1]))
     check_overrides()
     check_subclasses()
+    check_copies()
     check_records(Path(sys.argv[1]))
     check_accounts(Path(sys.argv[1]))
     check_finding(Path(sys.argv[1]))
     check_values()
+    check_docstrings()

@@ -41,6 +41,9 @@ def check_metadata(text: bytes, root: Path, files: Dict[str, bytes], folder: str
     assert f'license = {{ text = "{LICENSE}" }}' in project
     assert f'description = "{metadata["Summary"]}"' in project
     assert re.findall('^    "(.*)",$', project, re.M) == metadata.get_all("Classifier", [])
+    urls = re.search("^\\[project.urls\\]\n((?:.+\n)+)", project, re.M)
+    named = re.findall('^"?(.*?)"? = "(.*)"$', urls[1], re.M) if urls else []
+    assert named and [", ".join(pair) for pair in named] == metadata.get_all("Project-URL"), named
     assert sorted(metadata.get_all("License-File", [])) == sorted(LICENSES)
     for name in LICENSES:
         assert files[f"{folder}/{name}"] == (root / name).read_bytes(), name

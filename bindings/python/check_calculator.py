@@ -11,14 +11,14 @@ import subprocess
 import sys
 import threading
 import time
-from contextlib import contextmanager
+from contextlib import ExitStack, contextmanager
 from pathlib import Path
 from string import ascii_uppercase
 from typing import Any, Dict, Iterator, List, Set, Tuple
 from urllib.parse import quote_from_bytes
 
 from cvss_proved import CvssError, Text, Vector
-from cvss_proved.calculator._server import MOST_BYTES, Server, own_names
+from cvss_proved.calculator._server import MOST_BYTES, MOST_CONNECTIONS, Server, own_names
 
 COMMAND = [sys.executable, "-m", "cvss_proved.calculator", "--no-browser"]
 V2 = "AV:N/AC:L/Au:N/C:N/I:N/A:C"
@@ -28,9 +28,10 @@ Answer = Tuple[int, Dict[str, str], bytes]
 
 
 @contextmanager
-def serving() -> Iterator[int]:
+def serving(most_seconds: float = Server.most_seconds) -> Iterator[int]:
     """The port of a server that serves meanwhile."""
     with Server("127.0.0.1", 0) as server:
+        server.most_seconds = most_seconds
         thread = threading.Thread(target=server.serve_forever)
         thread.start()
         try:
@@ -72,9 +73,14 @@ def check_headers(port: int) -> None:
 
 
 def check_refused_requests(port: int) -> None:
-    for method in ("POST", "HEAD", "PUT", "DELETE", "OPTIONS", "PATCH"):
+    for method in ("POST", "PUT", "DELETE", "OPTIONS", "PATCH"):
         status, headers, _ = asked(port, "/", method, b"x" if method == "POST" else None)
-        assert (status, headers["allow"], headers["x-content-type-options"]) == (405, "GET", "nosniff"), method
+        assert (status, headers["allow"], headers["x-content-type-options"]) == (405, "GET, HEAD", "nosniff"), method
+    for path in ("/", "/metrics.json", "/no", f"/read?text={V3}", "/record?text=x"):
+        status, headers, content = asked(port, path, "HEAD")
+        whole = asked(port, path)
+        assert {**headers, "date": ""} == {**whole[1], "date": ""}, path
+        assert status == whole[0] and not content and whole[2], path
     evil = ("evil.example", f"evil.example:{port}", f"127.0.0.1:{port}.evil.example")
     for host in (*evil, "127.0.0.1", f"127.0.0.1:{port + 1}", ""):
         assert asked(port, "/", Host=host)[0] == 403, host
@@ -91,11 +97,75 @@ def check_refused_requests(port: int) -> None:
         "GET / HTTP/1.1\r\n\r\n": 403, "GET / HTTP/1.0\r\n\r\n": 403, f"{own}Host: a\r\n\r\n": 403,
         f"{own}Content-Length: 0\r\nContent-Length: 5\r\n\r\nhello": 413, f"{own}\r\n": 200,
         f"{own}Transfer-Encoding: chunked\r\n\r\n0\r\n\r\n": 413,
+        "GET /\r\n": 505, "GET /": 505, f"GET / HTTP/0.9\r\nHost: 127.0.0.1:{port}\r\n\r\n": 505, "POST /\r\n": 505,
+        "GET / HTTP/2.0\r\n\r\n": 505, "GET / HTTQ/1.1\r\n\r\n": 400, "\x16\x03\x01\r\n": 400,
     }
     for request, status in requests.items():
         with socket.create_connection(("127.0.0.1", port), 20) as connection:
             connection.sendall(request.encode())
-            assert int(connection.recv(100).split()[1]) == status, request
+            if not request.endswith("\n"):
+                connection.shutdown(socket.SHUT_WR)
+            words = connection.recv(100).split()
+            assert words[0] == b"HTTP/1.1" and int(words[1]) == status, (request, words)
+
+
+def is_answered(connection: socket.socket, port: int) -> bool:
+    """Whether a connection is given an answer to a request."""
+    connection.sendall(f"HEAD / HTTP/1.1\r\nHost: 127.0.0.1:{port}\r\n\r\n".encode())
+    return connection.recv(100).startswith(b"HTTP/1.1 200 ")
+
+
+def is_served(port: int) -> bool:
+    """Whether a new connection is served."""
+    try:
+        return asked(port, "/")[0] == 200
+    except ConnectionError:
+        return False
+
+
+def check_limits() -> None:
+    """There are so many connections at once, and each request has to come, and its answer to go, in time."""
+    with ExitStack() as held:
+        port = held.enter_context(serving())
+        before = threading.active_count()
+
+        def opened() -> socket.socket:
+            return held.enter_context(socket.create_connection(("127.0.0.1", port), 20))
+
+        connections = [opened() for _ in range(MOST_CONNECTIONS)]
+        assert all(is_answered(connection, port) for connection in connections)
+        more = [opened() for _ in range(10)]
+        for connection in more:
+            assert connection.recv(100).startswith(b"HTTP/1.1 503 "), "a connection too many is served"
+        assert threading.active_count() - before <= MOST_CONNECTIONS
+        connections[0].close()
+        end = time.monotonic() + 20
+        while not is_served(port):
+            assert time.monotonic() < end, "no place has become free"
+            time.sleep(0.05)
+    with serving(0.5) as port:
+        slow = f"GET /?{'x' * 1000} HTTP/1.1\r\nHost: 127.0.0.1:{port}\r\n".encode()
+        rows: Tuple[List[bytes], ...] = ([], [bytes([byte]) for byte in slow])
+        for parts in rows:
+            with socket.create_connection(("127.0.0.1", port), 20) as connection:
+                start = time.monotonic()
+                assert not is_open(connection, parts), "a request may take as long as it likes"
+                assert 0.4 < time.monotonic() - start < 10
+
+
+def is_open(connection: socket.socket, parts: List[bytes]) -> bool:
+    """Sends parts one after another, slowly, and says whether the connection is still open after them."""
+    connection.settimeout(0.02 if parts else 20)
+    for part in parts:
+        try:
+            connection.sendall(part)
+            if connection.recv(100) == b"":
+                return False
+        except socket.timeout:
+            continue
+        except ConnectionError:
+            return False
+    return bool(parts) or connection.recv(100) != b""
 
 
 def is_accepted(text: Text) -> bool:
@@ -227,6 +297,7 @@ if __name__ == "__main__":
         check_refused_requests(served)
         check_answers(served, folder)
         check_texts(served)
+    check_limits()
     check_metrics(folder)
     check_size(folder)
     check_command()

@@ -26,8 +26,8 @@ typedef struct Question {
  */
 typedef size_t (*TextAnswer)(const Question *question, void *buffer, size_t size);
 
-/* A function whose answer is a score. Returns its tenths; CVSS_NOTHING is the answer NULL. */
-typedef int32_t (*ScoreAnswer)(Text text);
+/* A function whose answer is a number: a score in tenths, or another. Returns it; CVSS_NOTHING is the answer NULL. */
+typedef int32_t (*NumberAnswer)(Text text);
 
 static inline size_t put_word(const char *word, void *buffer, size_t size)
 {
@@ -74,16 +74,51 @@ static inline size_t put_nomenclature(const Question *question, void *buffer, si
     return put_word(words[scores.nomenclature], buffer, size);
 }
 
-/* The value of the metric whose name is the second argument, as the canonical text prints it. */
+static inline char to_upper(char letter)
+{
+    return (char)('a' <= letter && letter <= 'z' ? letter - 'a' + 'A' : letter);
+}
+
+/* Whether a text is this name in any ASCII case. */
+static inline bool is_name(const char *name, const Text *text)
+{
+    size_t i;
+
+    for (i = 0; i < text->length && name[i] != '\0'; i++) {
+        if (to_upper(name[i]) != to_upper(text->bytes[i]))
+            return false;
+    }
+    return i == text->length && name[i] == '\0';
+}
+
+/* Whether a version has a metric of this name, in any ASCII case. */
+static inline bool is_metric_name(const Text *name)
+{
+    static const char *const names[] = {
+        "AV", "AC", "Au", "C", "I", "A", "E", "RL", "RC", "CDP", "TD", "CR", "IR", "AR", "PR", "UI", "S", "MAV", "MAC",
+        "MPR", "MUI", "MS", "MC", "MI", "MA", "AT", "VC", "VI", "VA", "SC", "SI", "SA", "MAT", "MVC", "MVI", "MVA",
+        "MSC", "MSI", "MSA", "R", "V", "RE", "U"};
+    size_t i;
+
+    for (i = 0; i < sizeof names / sizeof *names; i++) {
+        if (is_name(names[i], name))
+            return true;
+    }
+    return false;
+}
+
+/*
+ * The value of the metric whose name is the second argument, in any ASCII case, as the canonical text prints it. A name
+ * that is_metric_name does not know is to be refused before.
+ */
 static inline size_t put_metric(const Question *question, void *buffer, size_t size)
 {
-    const Text *name = &question->second;
     CvssMetric metrics[CVSS_MOST_METRICS];
     size_t count = cvss_metrics(question->text.bytes, question->text.length, metrics, CVSS_MOST_METRICS);
     size_t i;
 
     for (i = 0; i < count; i++) {
-        if (strlen(metrics[i].name) == name->length && memcmp(metrics[i].name, name->bytes, name->length) == 0)
+        if (is_name(metrics[i].name, &question->second))
             return put_word(metrics[i].value, buffer, size);
     }
     return 0;
@@ -92,6 +127,11 @@ static inline size_t put_metric(const Question *question, void *buffer, size_t s
 static inline size_t put_canonical(const Question *question, void *buffer, size_t size)
 {
     return cvss_canonical(question->text.bytes, question->text.length, buffer, size);
+}
+
+static inline size_t put_without_undefined(const Question *question, void *buffer, size_t size)
+{
+    return cvss_without_undefined(question->text.bytes, question->text.length, buffer, size);
 }
 
 static inline size_t put_overridden(const Question *question, void *buffer, size_t size)
@@ -126,6 +166,22 @@ static inline int32_t base_score(Text text)
     CvssScores scores;
 
     return cvss_scores(text.bytes, text.length, &scores) ? scores.base : CVSS_NOTHING;
+}
+
+/* The rating of base_score as a number, from 0 for none to 4 for critical. */
+static inline int32_t severity_rank(Text text)
+{
+    CvssScores scores;
+
+    return cvss_scores(text.bytes, text.length, &scores) ? scores.severity : CVSS_NOTHING;
+}
+
+/* 1 where all base metrics are there, else 0. */
+static inline int32_t is_complete(Text text)
+{
+    CvssScores scores;
+
+    return cvss_scores(text.bytes, text.length, &scores) ? scores.is_complete : CVSS_NOTHING;
 }
 
 static inline int32_t temporal_score(Text text)

@@ -29,6 +29,7 @@ ASKED = {
     "cvss_severity": ("cvss_severity(text)", "severity"),
     "cvss_nomenclature": ("cvss_nomenclature(text)", "nomenclature"),
     "cvss_with": (f"cvss_with(text, '{OWN}')", "overridden"),
+    "cvss_without_undefined": ("cvss_without_undefined(text)", "defined"),
     "cvss_record": ("cvss_record(text)", "record"),
     "cvss_account": ("CASE WHEN account IS NULL AND reason IS NULL THEN NULL ELSE cvss_account(text) END", "account"),
     "the vector of cvss_account": ("cvss_account(text) ->> 'vector'", "canonical"),
@@ -38,20 +39,43 @@ ASKED = {
 }
 
 
-def joined(metrics):
-    """The components of the metrics that there are, in the order of the version's table."""
-    return " || ".join(f"coalesce('/{name}:' || cvss_metric(text, '{name}'), '')" for name in metrics)
+TABLES = {"2.0": v2.METRICS, "3.0": v3.METRICS, "3.1": v3.METRICS, "4.0": v4.METRICS}
 
 
-# All metrics of a vector, one behind the other, are its canonical text; no metric has another name, or is told of a
-# text that is refused.
-METRICS = f"""CASE WHEN version = '2.0' THEN {joined(v2.METRICS)}
-    WHEN version = '4.0' THEN 'CVSS:4.0' || {joined(v4.METRICS)}
-    WHEN version IS NOT NULL THEN 'CVSS:' || version || {joined(v3.METRICS)}
-    ELSE cvss_metric(text, 'AV') END"""
-ASKED["cvss_metric"] = (METRICS, "CASE version WHEN '2.0' THEN '/' ELSE '' END || canonical")
-ASKED["cvss_metric of other names"] = (
-    " || ".join(f"coalesce(cvss_metric(text, '{name}'), '')" for name in ("", "av", "AV:", "XX", "CVSS", "MAU")), "''")
+def by_version(of_metrics, other):
+    """An expression of the metrics of each version, and one for texts that are refused."""
+    arms = " ".join(f"WHEN '{version}' THEN {of_metrics(metrics)}" for version, metrics in TABLES.items())
+    return f"CASE version {arms} ELSE {other} END"
+
+
+def joined(cased):
+    """The components of the metrics that there are, in the order of the version's table, asked by names in a case."""
+    def of(metrics):
+        return " || ".join(f"coalesce('/{name}:' || cvss_metric(text, '{cased(name)}'), '')" for name in metrics)
+
+    return by_version(of, "cvss_metric(text, 'AV')")
+
+
+def of_other_versions(metrics):
+    """The values of metrics that only other versions have."""
+    own = {name.upper() for name in metrics}
+    others = sorted({name for table in TABLES.values() for name in table if name.upper() not in own})
+    return " || ".join(f"coalesce(cvss_metric(text, '{name}'), '')" for name in others)
+
+
+# All metrics of a vector, joined, are its canonical text, in whatever case they are asked for. A metric of another version
+# is NULL, and so is every metric of a text that is refused.
+ALL = "CASE version WHEN '2.0' THEN '/' || canonical ELSE substr(canonical, 9) END"
+ASKED["cvss_metric"] = (joined(str), ALL)
+ASKED["cvss_metric in other cases"] = (joined(str.swapcase), ALL)
+ASKED["cvss_metric of other versions"] = (by_version(of_other_versions, "''"), "''")
+RATINGS = ("none", "low", "medium", "high", "critical")
+RANKS = " ".join(f"WHEN '{word}' THEN {rank}" for rank, word in enumerate(RATINGS))
+ASKED["cvss_severity_rank"] = ("cvss_severity_rank(text)", f"CASE severity {RANKS} END")
+ASKED["cvss_tenths"] = ("cvss_tenths(text)", "CAST(round(10 * score) AS integer)")
+HAS_ALL = " AND ".join(f"canonical LIKE '%/{name}:%'" for name in v3.BASE)
+ASKED["cvss_is_complete"] = (
+    "cvss_is_complete(text)", f"CASE WHEN version LIKE '3._' THEN {HAS_ALL} WHEN version IS NOT NULL THEN true END")
 
 # In PostgreSQL, what an error tells.
 REFUSAL_OF = """CREATE OR REPLACE FUNCTION refusal_of(given text) RETURNS text LANGUAGE plpgsql AS $$

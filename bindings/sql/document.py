@@ -1,11 +1,12 @@
 #!/usr/bin/env python3
 """Prints what docs/SQL.md has for a database.
 
-usage: document.py sqlite|postgresql queries|answers
+usage: document.py sqlite|postgresql queries|answers|ranking
        document.py python program|answer
 
 The queries are the blocks of SQL, in order, that are for both databases or for this one; the answers are the blocks
-`text` behind these. The program is the block of Python, and its answer the comment at its end.
+`text` behind these. The ranking is the query that puts refused rows last. The program is the block of Python, and its
+answer the comment at its end.
 """
 import sys
 from pathlib import Path
@@ -28,14 +29,15 @@ def blocks():
 
 def parts(database):
     """The queries and the answers for a database."""
-    queries, answers, is_ours = [], [], False
+    queries, answers, ranking, is_ours = [], [], [], False
     for words, lines in blocks():
         if words[:1] == ["sql"]:
             is_ours = words[1:] in ([], [database])
             queries += lines if is_ours else []
+            ranking += lines if lines[0].startswith("SELECT") and "NULLS LAST" in " ".join(lines) else []
         elif words == ["text"]:
             answers += lines if is_ours else []
-    return {"queries": queries, "answers": answers}
+    return {"queries": queries, "answers": answers, "ranking": ranking}
 
 
 def program():

@@ -26,7 +26,7 @@ import v4
 from run import read_table, text_of
 
 COLUMNS = ("text", "canonical", "version", "score", "temporal", "environmental", "severity", "nomenclature",
-           "overridden", "record", "account", "reason", "override_reason", "found", "found_bytes")
+           "overridden", "defined", "record", "account", "reason", "override_reason", "found", "found_bytes")
 # An organisation's metrics, in the order in which v4.0 prints them.
 OVERRIDES = {"CR": "H", "MSI": "S"}
 
@@ -44,6 +44,12 @@ def account(canonical):
     return accounts.written(told) if accounts.is_exact(told) else None
 
 
+def defined(metrics, canonical):
+    """The canonical text less the metrics that are not defined; the whole, where none is left."""
+    pieces = [f"{name}:{value}" for name, value in metrics.items() if value not in ("X", "ND")]
+    return "/".join(canonical.split("/")[: canonical.startswith("CVSS:")] + pieces) if pieces else canonical
+
+
 def accepted(row):
     """What is answered to a text that has these scores."""
     canonical, version = row["canonical"], row["version"]
@@ -54,7 +60,8 @@ def accepted(row):
     overridden, refusal = None, "no CVSSv4 vector"
     if version == "4.0":
         overridden, refusal = reference.canonical(["CVSS:4.0"], v4.METRICS, {**metrics, **OVERRIDES}), None
-    return [*told, overridden, records.record(row, metrics), account(canonical), None, refusal]
+    told += [overridden, defined(metrics, canonical), records.record(row, metrics), account(canonical)]
+    return [*told, None, refusal]
 
 
 # A character, as SQLite counts them also in what is not UTF-8.

@@ -5,10 +5,19 @@ INSERT INTO known VALUES ('AV:N/AC:L/Au:N/C:N/I:N/A:C', 'CVSS:3.1/AV:N/AC:L/PR:N
 
 SELECT 'NULL gives NULL', coalesce(cvss_is_valid(NULL), cvss_canonical(NULL), cvss_version(NULL), cvss_score(NULL),
     cvss_temporal_score(NULL), cvss_environmental_score(NULL), cvss_severity(NULL), cvss_nomenclature(NULL),
+    cvss_tenths(NULL), cvss_is_complete(NULL), cvss_severity_rank(NULL), cvss_without_undefined(NULL),
     cvss_metric(NULL, 'AV'), cvss_metric(v3, NULL), cvss_with(NULL, 'CR:H'), cvss_with(v4, NULL), cvss_record(NULL),
     cvss_account(NULL), cvss_reason(NULL), cvss_reason(NULL, 'CR:H'), cvss_reason(v4, NULL)) IS NULL FROM known;
 SELECT 'types', typeof(cvss_is_valid(v3)) || typeof(cvss_score(v3)) || typeof(cvss_severity(v3)) = 'integerrealtext'
     FROM known;
+SELECT 'whole numbers', typeof(cvss_tenths(v3)) = 'integer', cvss_tenths(v3) = 98,
+    typeof(cvss_severity_rank(v3)) = 'integer', cvss_severity_rank(v2) = 3, cvss_severity_rank(v3) = 4,
+    typeof(cvss_is_complete(v3)) = 'integer', cvss_is_complete(v3) = 1, cvss_is_complete('CVSS:3.1/AV:N') = 0,
+    coalesce(cvss_tenths(refused), cvss_severity_rank(refused), cvss_is_complete(refused)) IS NULL FROM known;
+SELECT 'a name in any case', cvss_metric(v2, 'AU') = 'N', cvss_metric(v2, 'au') = 'N', cvss_metric(v2, 'Au') = 'N',
+    cvss_metric(v4 || '/AU:Y', 'Au') = 'Y', cvss_metric(v4, 'AU') IS NULL, cvss_metric(v3, 'av') = 'N',
+    cvss_metric(v3, 'vc') IS NULL, cvss_metric(refused, 'av') IS NULL FROM known;
+SELECT 'exact sums', sum(cvss_tenths(v2)) = 780000 FROM known, cvss_find(replace(hex(zeroblob(5000)), '0', v2 || ', '));
 SELECT 'a blob', cvss_score(CAST(v3 AS BLOB)) = 9.8, cvss_is_valid(x'') = 0, cvss_is_valid(zeroblob(9)) = 0 FROM known;
 SELECT 'a number', cvss_reason(9.8) = 'invalid CVSS metric group component: `9.8`',
     cvss_reason(-5) = 'invalid CVSS metric group component: `-5`';
@@ -66,4 +75,8 @@ SELECT 'a view', count(vector) = 3, count(reason) = 0 FROM told;
 SELECT 'a view of mentions', count(*) = 3 FROM mentioned;
 SELECT 'an index', count(*) = 1 FROM kept INDEXED BY kept_score WHERE cvss_score(vector) > 9.0;
 SELECT 'a partial index', count(*) = 1 FROM kept INDEXED BY kept_high WHERE cvss_severity(vector) = 'high';
+CREATE INDEX kept_ranked ON kept (cvss_score(vector) DESC, vector);
+INSERT INTO kept VALUES (NULL);
+SELECT 'refused last', group_concat(coalesce(score, '-')) = '9.8,7.8,6.9,-'
+    FROM (SELECT score FROM kept ORDER BY cvss_score(vector) DESC NULLS LAST, vector);
 PRAGMA integrity_check;

@@ -21,7 +21,7 @@ typedef struct Function {
     const char *name;
     void (*call)(sqlite3_context *, int, sqlite3_value **);
     TextAnswer text;
-    ScoreAnswer score;
+    NumberAnswer number;
     int arguments;
     bool is_json;
 } Function;
@@ -94,9 +94,39 @@ static void answer_score(sqlite3_context *context, int count, sqlite3_value **va
     Question question;
     if (!read_question(context, count, values, &question))
         return;
-    int32_t tenths = function->score(question.text);
+    int32_t tenths = function->number(question.text);
     if (tenths != CVSS_NOTHING)
         sqlite3_result_double(context, tenths / 10.0);
+}
+
+static void answer_number(sqlite3_context *context, int count, sqlite3_value **values)
+{
+    const Function *function = sqlite3_user_data(context);
+    Question question;
+    if (!read_question(context, count, values, &question))
+        return;
+    int32_t number = function->number(question.text);
+    if (number != CVSS_NOTHING)
+        sqlite3_result_int(context, number);
+}
+
+/* A name that no version has is an error: it is a mistake of the query, and of no row. */
+static void answer_metric(sqlite3_context *context, int count, sqlite3_value **values)
+{
+    Question question;
+    if (!read_question(context, count, values, &question))
+        return;
+    if (is_metric_name(&question.second)) {
+        answer_text(context, count, values);
+        return;
+    }
+    char *message = sqlite3_mprintf("no CVSS metric has the name `%.*s`", (int)question.second.length,
+                                    question.second.bytes);
+    if (message == NULL)
+        sqlite3_result_error_nomem(context);
+    else
+        sqlite3_result_error(context, message, -1);
+    sqlite3_free(message);
 }
 
 static void answer_is_valid(sqlite3_context *context, int count, sqlite3_value **values)
@@ -113,9 +143,13 @@ static const Function functions[] = {
     {"cvss_score", answer_score, NULL, base_score, 1, false},
     {"cvss_temporal_score", answer_score, NULL, temporal_score, 1, false},
     {"cvss_environmental_score", answer_score, NULL, environmental_score, 1, false},
+    {"cvss_tenths", answer_number, NULL, base_score, 1, false},
+    {"cvss_is_complete", answer_number, NULL, is_complete, 1, false},
     {"cvss_severity", answer_text, put_severity, NULL, 1, false},
+    {"cvss_severity_rank", answer_number, NULL, severity_rank, 1, false},
     {"cvss_nomenclature", answer_text, put_nomenclature, NULL, 1, false},
-    {"cvss_metric", answer_text, put_metric, NULL, 2, false},
+    {"cvss_metric", answer_metric, put_metric, NULL, 2, false},
+    {"cvss_without_undefined", answer_text, put_without_undefined, NULL, 1, false},
     {"cvss_with", answer_text, put_overridden, NULL, 2, false},
     {"cvss_record", answer_text, put_record, NULL, 1, true},
     {"cvss_account", answer_text, put_account, NULL, 1, true},

@@ -19,11 +19,27 @@ Traceback (most recent call last):
 cvss_proved.CvssError: invalid CVSSv2 AC (Access Complexity) metric: `q`
 """
 
-from ._error import CvssError
+from ._error import CvssError, Kind
 from ._find import Found, find
 from ._library import Text
-from ._vector import Scores, Severities, Vector, answer, answers
+from ._vector import Nomenclature, Scores, Severities, Severity, Vector, Version, answer, answers, scores
 
 __version__ = "1.0.0"
 
-__all__ = ["CvssError", "Found", "Scores", "Severities", "Text", "Vector", "answer", "answers", "find", "__version__"]
+__all__ = [
+    "CvssError",
+    "Found",
+    "Kind",
+    "Nomenclature",
+    "Scores",
+    "Severities",
+    "Severity",
+    "Text",
+    "Vector",
+    "Version",
+    "answer",
+    "answers",
+    "find",
+    "scores",
+    "__version__",
+]

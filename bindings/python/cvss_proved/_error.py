@@ -2,11 +2,25 @@
 
 from __future__ import annotations
 
-from typing import Tuple, Type
+from typing import Any, Dict, Literal, Tuple
 
 from . import _library
+from ._library import Text
 
-_KINDS = {
+Kind = Literal[
+    "invalid component",
+    "invalid prefix",
+    "unsupported version",
+    "unknown metric",
+    "invalid value",
+    "duplicate metric",
+    "missing metric",
+    "not UTF-8",
+    "out of memory",
+]
+"""The kind of the reason why a text is refused."""
+
+_KINDS: Dict[int, Kind] = {
     1: "invalid component",
     2: "invalid prefix",
     3: "unsupported version",
@@ -35,20 +49,37 @@ class CvssError(ValueError):
     ('invalid value', 'AV', 'invalid CVSSv3 AV (Attack Vector) metric: `Q`')
     """
 
-    def __init__(self, reason: str, kind: str, metric: str) -> None:
+    def __init__(self, reason: str, kind: Kind, metric: str) -> None:
         super().__init__(reason)
         self.reason = reason
         self.kind = kind
         self.metric = metric
 
     @classmethod
-    def of(cls, text: bytes) -> CvssError:
+    def of(cls, text: Text) -> CvssError:
         """The error of a text that is refused."""
-        kind = _KINDS[_library.refusal_kind(text)]
-        return cls(_library.reason(text), kind, _library.refusal_metric(text))
+        code = _library.bytes_of(text)
+        kind = _KINDS[_library.refusal_kind(code)]
+        return cls(_library.reason(code), kind, _library.refusal_metric(code))
 
-    def __reduce__(self) -> Tuple[Type[CvssError], Tuple[str, str, str]]:
-        return (type(self), (self.reason, self.kind, self.metric))
+    @classmethod
+    def missing(cls, metric: str) -> CvssError:
+        """The error of a vector of v3 that lacks a base metric, in the words that the library has for the metric."""
+        words = _library.reason(f"CVSS:3.1/{metric}:".encode())
+        named = words.partition(" metric")[0].partition(" ")[2]
+        return cls(f"missing mandatory {named} metric", "missing metric", metric)
+
+    @classmethod
+    def _copied(cls, reason: str, kind: Kind, metric: str) -> CvssError:
+        """An error without the constructor of a subclass, which may take other arguments."""
+        error = cls.__new__(cls)
+        CvssError.__init__(error, reason, kind, metric)
+        return error
+
+    def __reduce__(self) -> Tuple[Any, ...]:
+        """Copies and pickles keep the notes of an error, and the attributes of a subclass."""
+        made = CvssError if type(self) is CvssError else self._copied
+        return (made, (self.reason, self.kind, self.metric), self.__dict__)
 
 
 CvssError.__module__ = "cvss_proved"

@@ -12,43 +12,48 @@ from ._vector import Vector
 Found = Union[Vector, CvssError]
 
 
-def _read(mention: bytes) -> Found:
+def _read(mention: bytes, strict: bool) -> Found:
     try:
-        return Vector(mention)
+        return Vector(mention, strict=strict)
     except CvssError as error:
         return error
 
 
-def _found_in_characters(code: bytes) -> Iterator[Tuple[int, str, Found]]:
+def _found_in_characters(code: bytes, strict: bool) -> Iterator[Tuple[int, str, Found]]:
     place = last = 0
     for start, end in _library.find(code):
         place += len(code[last:start].decode("utf-8", "surrogatepass"))
         mention = code[start:end]
-        yield place, mention.decode(), _read(mention)
+        yield place, mention.decode(), _read(mention, strict)
         # a mention is ASCII
         place += end - start
         last = end
 
 
-def _found_in_bytes(code: bytes) -> Iterator[Tuple[int, bytes, Found]]:
+def _found_in_bytes(code: bytes, strict: bool) -> Iterator[Tuple[int, bytes, Found]]:
     for start, end in _library.find(code):
         mention = code[start:end]
-        yield start, mention, _read(mention)
+        yield start, mention, _read(mention, strict)
 
 
 @overload
-def find(text: str) -> Iterator[Tuple[int, str, Found]]: ...
+def find(text: str, *, strict: bool = False) -> Iterator[Tuple[int, str, Found]]: ...
 
 
 @overload
-def find(text: Union[bytes, bytearray, memoryview]) -> Iterator[Tuple[int, bytes, Found]]: ...
+def find(
+    text: Union[bytes, bytearray, memoryview], *, strict: bool = False
+) -> Iterator[Tuple[int, bytes, Found]]: ...
 
 
-def find(text: Text) -> Union[Iterator[Tuple[int, str, Found]], Iterator[Tuple[int, bytes, Found]]]:
+def find(
+    text: Text, *, strict: bool = False
+) -> Union[Iterator[Tuple[int, str, Found]], Iterator[Tuple[int, bytes, Found]]]:
     """The vectors that are mentioned in any text, in order: in a sentence, in parentheses, in a link.
 
     Each is told by its place, from 0, in characters for a `str` and else in bytes; by the text of the mention; and by
     its `Vector`, or, where it begins with `CVSS:`, has a slash and denotes no vector, by the `CvssError` that tells why.
+    A vector of v3 may have been cut off: then its `is_complete` is false, and with `strict` it is a `CvssError`.
 
     >>> for place, text, found in find("scored 7.8 (AV:N/AC:L/Au:N/C:N/I:N/A:C), or CVSS:3.1/AV:Q."):
     ...     print(place, text, repr(found))
@@ -56,4 +61,4 @@ def find(text: Text) -> Union[Iterator[Tuple[int, str, Found]], Iterator[Tuple[i
     44 CVSS:3.1/AV:Q CvssError('invalid CVSSv3 AV (Attack Vector) metric: `Q`')
     """
     code = _library.bytes_of(text)
-    return _found_in_characters(code) if isinstance(text, str) else _found_in_bytes(code)
+    return _found_in_characters(code, strict) if isinstance(text, str) else _found_in_bytes(code, strict)

@@ -97,14 +97,20 @@ _CANONICAL = _SCORES.size
 
 
 def bytes_of(text: Text) -> bytes:
-    """The bytes of a text. What is no Unicode, as a lone surrogate, becomes bytes that are no UTF-8."""
+    """The bytes of a text. What is no Unicode, as a lone surrogate, becomes bytes that are no UTF-8.
+
+    The library reads as many bytes as it is given by `len`. So the object returned is of the type `bytes` itself, and the
+    text is read without its own methods: a subclass may override `encode`, `__bytes__` and `__len__`.
+    """
     if isinstance(text, str):
         try:
-            return text.encode()
+            return str.encode(text)
         except UnicodeEncodeError:
-            return text.encode("utf-8", "surrogatepass")
+            return str.encode(text, "utf-8", "surrogatepass")
+    if type(text) is bytes:
+        return text
     if isinstance(text, (bytes, bytearray, memoryview)):
-        return bytes(text)
+        return memoryview(text).tobytes()
     raise TypeError(f"a text is str, bytes, bytearray or memoryview, and not {type(text).__name__}")
 
 

@@ -3,17 +3,30 @@
 from __future__ import annotations
 
 import json
+import re
 from collections import abc
 from functools import total_ordering
-from typing import Any, Dict, Iterable, List, Mapping, NamedTuple, Optional, Tuple, Type, TypeVar
+from types import MemberDescriptorType
+from typing import Any, Dict, Iterable, List, Literal, Mapping, NamedTuple, Optional, Tuple, Type, TypeVar
 
 from . import _library
 from ._error import CvssError
 from ._library import NOTHING, Text
 
-_VERSIONS = {20: "2.0", 30: "3.0", 31: "3.1", 40: "4.0"}
-_SEVERITIES = ("none", "low", "medium", "high", "critical")
-_NOMENCLATURES = ("CVSS-B", "CVSS-BE", "CVSS-BT", "CVSS-BTE")
+Version = Literal["2.0", "3.0", "3.1", "4.0"]
+"""A version of the standard."""
+
+Severity = Literal["none", "low", "medium", "high", "critical"]
+"""A qualitative severity rating."""
+
+Nomenclature = Literal["CVSS-B", "CVSS-BE", "CVSS-BT", "CVSS-BTE"]
+"""Which groups of metrics a score of v4.0 rests on: base, environmental, threat."""
+
+_VERSIONS: Dict[int, Version] = {20: "2.0", 30: "3.0", 31: "3.1", 40: "4.0"}
+_SEVERITIES: Tuple[Severity, ...] = ("none", "low", "medium", "high", "critical")
+_NOMENCLATURES: Tuple[Nomenclature, ...] = ("CVSS-B", "CVSS-BE", "CVSS-BT", "CVSS-BTE")
+# In the order of CVSS v3.1, section 6.
+_BASE_OF_V3 = ("AV", "AC", "PR", "UI", "S", "C", "I", "A")
 _ENVIRONMENTAL = frozenset(
     "CDP TD CR IR AR MAV MAC MAT MPR MUI MS MC MI MA MVC MVI MVA MSC MSI MSA".split()
 )
@@ -40,16 +53,16 @@ class Severities(NamedTuple):
     Severities(base='critical', temporal='high', environmental='high')
     """
 
-    base: str
-    temporal: Optional[str]
-    environmental: Optional[str]
+    base: Severity
+    temporal: Optional[Severity]
+    environmental: Optional[Severity]
 
 
 def _score(tenths: int) -> Optional[float]:
     return None if tenths == NOTHING else tenths / 10
 
 
-def _severity(number: int) -> Optional[str]:
+def _severity(number: int) -> Optional[Severity]:
     return None if number == NOTHING else _SEVERITIES[number]
 
 
@@ -73,14 +86,49 @@ class Vector:
     _decoded: Optional[str]
     _numbers: Tuple[int, ...]
 
-    def __init__(self, text: Text) -> None:
-        """Reads a text. One that denotes no vector is refused by `CvssError`."""
+    def __init__(self, text: Text, *, strict: bool = False) -> None:
+        """Reads a text. One that denotes no vector is refused by `CvssError`.
+
+        With `strict` a vector of v3 that lacks base metrics is refused too, as FIRST's document has it, for the first one
+        that is missing.
+
+        >>> Vector("CVSS:3.1/AV:N/AC:L/PR:N/UI:N/S:U", strict=True)
+        Traceback (most recent call last):
+            ...
+        cvss_proved.CvssError: missing mandatory CVSSv3 C (Confidentiality Impact) metric
+        """
         given = _library.bytes_of(text)
         told = _library.read(given)
         if told is None:
             raise CvssError.of(given)
         self._numbers, self._code = told
         self._decoded = None
+        if strict and not self.is_complete:
+            own = dict(_library.metrics(self._code))
+            raise CvssError.missing(next(name for name in _BASE_OF_V3 if name not in own))
+
+    @classmethod
+    def from_rh_vector(cls: Type[_Own], text: str) -> _Own:
+        """Reads Red Hat's notation, in which the score and a slash precede the vector.
+
+        A text without a score is a `ValueError`, and so is a score that is not the vector's `score`; a vector that is
+        refused is a `CvssError`.
+
+        >>> Vector.from_rh_vector("9.8/CVSS:3.1/AV:N/AC:L/PR:N/UI:N/S:U/C:H/I:H/A:H").severity
+        'critical'
+        >>> Vector.from_rh_vector("7.5/CVSS:3.1/AV:N/AC:L/PR:N/UI:N/S:U/C:H/I:H/A:H")
+        Traceback (most recent call last):
+            ...
+        ValueError: the score of CVSS:3.1/AV:N/AC:L/PR:N/UI:N/S:U/C:H/I:H/A:H is 9.8, and not 7.5
+        """
+        score, _, rest = text.partition("/")
+        parts = re.fullmatch(r"(10|[0-9])(?:\.([0-9]))?", score)
+        if parts is None:
+            raise ValueError(f"a score and a slash precede a vector in Red Hat's notation, and not {score!r}")
+        vector = cls(rest)
+        if vector.tenths != 10 * int(parts[1]) + int(parts[2] or 0):
+            raise ValueError(f"the score of {vector} is {vector.score}, and not {score}")
+        return vector
 
     @property
     def _text(self) -> str:
@@ -96,7 +144,7 @@ class Vector:
         return self._text
 
     @property
-    def version(self) -> str:
+    def version(self) -> Version:
         """The version of the standard: 2.0, 3.0, 3.1 or 4.0."""
         return _VERSIONS[self._numbers[_library.VERSION]]
 
@@ -111,7 +159,7 @@ class Vector:
         return self.tenths / 10
 
     @property
-    def severity(self) -> str:
+    def severity(self) -> Severity:
         """The rating of the score: none, low, medium, high or critical."""
         return _SEVERITIES[self._numbers[_library.SEVERITY]]
 
@@ -132,7 +180,7 @@ class Vector:
         )
 
     @property
-    def nomenclature(self) -> Optional[str]:
+    def nomenclature(self) -> Optional[Nomenclature]:
         """Which groups of metrics a score of v4.0 rests on; None in v2 and v3."""
         number = self._numbers[_library.NOMENCLATURE]
         return None if number == NOTHING else _NOMENCLATURES[number]
@@ -224,8 +272,18 @@ class Vector:
     def __repr__(self) -> str:
         return f"Vector({self._text!r})"
 
-    def __reduce__(self) -> Tuple[Type[Vector], Tuple[str]]:
-        return (type(self), (self._text,))
+    @classmethod
+    def _copied(cls: Type[_Own], text: str) -> _Own:
+        """A vector without the constructor of a subclass, which may take other arguments."""
+        vector = object.__new__(cls)
+        Vector.__init__(vector, text)
+        return vector
+
+    def __reduce__(self) -> Tuple[Any, ...]:
+        """A copy is read anew from the text. It keeps the attributes that a subclass adds."""
+        if type(self) is Vector:
+            return (Vector, (self._text,))
+        return (self._copied, (self._text,), _state_of_subclass(self))
 
     def __eq__(self, other: object) -> bool:
         if not isinstance(other, Vector):
@@ -239,6 +297,18 @@ class Vector:
         if not isinstance(other, Vector):
             return NotImplemented
         return (self.tenths, self._text) < (other.tenths, other._text)
+
+
+# Pickles name the classes by their public path.
+for _public in (Scores, Severities, Vector):
+    _public.__module__ = "cvss_proved"
+
+
+def _state_of_subclass(vector: Vector) -> Tuple[Optional[Dict[str, Any]], Dict[str, Any]]:
+    """The attributes that a subclass keeps in the instance's dict, and those in slots of its own."""
+    members = (member for kind in type(vector).__mro__ if kind is not Vector for member in vars(kind).items())
+    slots = [name for name, member in members if isinstance(member, MemberDescriptorType) and hasattr(vector, name)]
+    return getattr(vector, "__dict__", None), {name: getattr(vector, name) for name in slots}
 
 
 def _object(told: str) -> Dict[str, Any]:
@@ -304,3 +374,12 @@ def answers(texts: Iterable[Text]) -> List[str]:
     if lines.count(b"\n") != len(given) or b"\r\n" in lines:
         return [answer(text) for text in given]
     return _library.answers(lines).decode("utf-8", "replace").split("\n")[:-1]
+
+
+def scores(texts: Iterable[Text]) -> List[Optional[float]]:
+    """The score of each text, and None for one that is refused, by one call of the library.
+
+    >>> scores(["AV:N/AC:L/Au:N/C:N/I:N/A:C", "AV:N"])
+    [7.8, None]
+    """
+    return [None if line.startswith("error: ") else float(line.split(" ")[1]) for line in answers(texts)]

@@ -18,7 +18,7 @@
 //! ```
 //!
 //! With the feature `serde`, which needs the crate of this name, [`Cvss`], [`Severity`], [`Version`] and
-//! [`Nomenclature`] are `Serialize` and `Deserialize`, as texts.
+//! [`Nomenclature`] are `Serialize` and `Deserialize`, as texts, and [`Score`] is, as a number.
 #![deny(missing_docs)]
 
 mod calls;

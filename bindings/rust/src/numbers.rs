@@ -132,10 +132,19 @@ impl From<Score> for f64 {
     }
 }
 
+/// One decimal, unless a precision is given. Width, fill, alignment, sign and precision do what they
+/// do for an `f64`.
+///
+/// ```
+/// let score = cvss_proved::Score::from_tenths(98).unwrap();
+/// assert_eq!(format!("{score} {score:.0} {score:.2} {score:>6}"), "9.8 10 9.80    9.8");
+/// ```
 impl fmt::Display for Score {
     fn fmt(&self, f: &mut fmt::Formatter<'_>) -> fmt::Result {
-        let text = format!("{}.{}", self.tenths / 10, self.tenths % 10);
-        f.pad(&text)
+        match f.precision() {
+            Some(_) => fmt::Display::fmt(&self.value(), f),
+            None => f.pad_integral(true, "", &format!("{:.1}", self.value())),
+        }
     }
 }
 

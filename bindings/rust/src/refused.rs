@@ -63,6 +63,19 @@ impl Refused {
         }
     }
 
+    /// The refusal of a vector of v3 that lacks a base metric, in the words that the library has for
+    /// the metric.
+    pub(crate) fn missing(metric: &str) -> Refused {
+        let invalid = calls::text_of(calls::reason(format!("CVSS:3.1/{metric}:").as_bytes()));
+        let words = invalid.split(" metric").next().unwrap_or_default();
+        let named = words.trim_start_matches("invalid ");
+        Refused {
+            reason: format!("missing mandatory {named} metric"),
+            kind: RefusedKind::MissingMetric,
+            metric: Some(metric.to_string()),
+        }
+    }
+
     /// The reason in words.
     #[must_use]
     pub fn reason(&self) -> &str {
@@ -110,7 +123,7 @@ impl fmt::Display for OverrideError {
     fn fmt(&self, f: &mut fmt::Formatter<'_>) -> fmt::Result {
         match self {
             OverrideError::NotEnvironmental(component) => {
-                write!(f, "no environmental metric: `{component}`")
+                f.pad(&format!("no environmental metric: `{component}`"))
             }
             OverrideError::Refused(refused) => refused.fmt(f),
         }

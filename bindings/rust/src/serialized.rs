@@ -1,7 +1,7 @@
-//! Vectors and names as texts in any format of serde.
+//! Vectors and names as texts, and scores as numbers, in any format of serde.
 
-use crate::{Cvss, Nomenclature, Severity, Version};
-use serde::de::{Deserialize, Deserializer, Error, Visitor};
+use crate::{Cvss, Nomenclature, Score, Severity, Version};
+use serde::de::{Deserialize, Deserializer, Error, Unexpected, Visitor};
 use serde::ser::{Serialize, Serializer};
 use std::fmt::{self, Display, Formatter};
 use std::marker::PhantomData;
@@ -62,4 +62,52 @@ serialized! {
     Version: "one of 2.0, 3.0, 3.1 and 4.0",
     /// As its text; with the feature `serde`.
     Nomenclature: "one of CVSS-B, CVSS-BE, CVSS-BT and CVSS-BTE"
+}
+
+/// As a number, such as 9.8; with the feature `serde`.
+impl Serialize for Score {
+    fn serialize<S: Serializer>(&self, serializer: S) -> Result<S::Ok, S::Error> {
+        serializer.serialize_f64(self.value())
+    }
+}
+
+/// Reads a number that is a score.
+struct Number;
+
+impl Visitor<'_> for Number {
+    type Value = Score;
+
+    fn expecting(&self, f: &mut Formatter<'_>) -> fmt::Result {
+        f.write_str("a number from 0 to 10 with at most one decimal")
+    }
+
+    fn visit_f64<E: Error>(self, number: f64) -> Result<Score, E> {
+        (0..=100)
+            .filter_map(Score::from_tenths)
+            .find(|score| score.value() == number)
+            .ok_or_else(|| E::invalid_value(Unexpected::Float(number), &self))
+    }
+
+    fn visit_u64<E: Error>(self, number: u64) -> Result<Score, E> {
+        let tenths = u8::try_from(number)
+            .ok()
+            .and_then(|number| number.checked_mul(10));
+        tenths
+            .and_then(Score::from_tenths)
+            .ok_or_else(|| E::invalid_value(Unexpected::Unsigned(number), &self))
+    }
+
+    fn visit_i64<E: Error>(self, number: i64) -> Result<Score, E> {
+        match u64::try_from(number) {
+            Ok(number) => self.visit_u64(number),
+            Err(_) => Err(E::invalid_value(Unexpected::Signed(number), &self)),
+        }
+    }
+}
+
+/// From a number that has at most one decimal; with the feature `serde`.
+impl<'de> Deserialize<'de> for Score {
+    fn deserialize<D: Deserializer<'de>>(deserializer: D) -> Result<Score, D::Error> {
+        deserializer.deserialize_f64(Number)
+    }
 }

@@ -82,6 +82,32 @@ impl Cvss {
         Ok(Cvss::of(calls::text_of(canonical), &scores))
     }
 
+    /// Reads a text as `parse` does, and refuses a vector of v3 that lacks a base metric, as FIRST's
+    /// document has it.
+    ///
+    /// # Errors
+    ///
+    /// The first reason why the text denotes no vector; else that the first base metric that the
+    /// vector lacks is missing, in the standard's order.
+    ///
+    /// ```
+    /// let refused = cvss_proved::Cvss::parse_complete("CVSS:3.1/AV:N/AC:L/PR:N/UI:N/S:U").unwrap_err();
+    /// let reason = "missing mandatory CVSSv3 C (Confidentiality Impact) metric";
+    /// assert_eq!((refused.reason(), refused.metric()), (reason, Some("C")));
+    /// ```
+    pub fn parse_complete(text: &str) -> Result<Cvss, Refused> {
+        let cvss = Cvss::parse(text)?;
+        if cvss.is_complete {
+            return Ok(cvss);
+        }
+        let metrics = cvss.metrics();
+        let is_missing = |name: &&str| metrics.iter().all(|metric| metric.name() != *name);
+        match BASE_OF_V3.into_iter().find(is_missing) {
+            Some(name) => Err(Refused::missing(name)),
+            None => Ok(cvss),
+        }
+    }
+
     fn of(text: String, scores: &CvssScores) -> Cvss {
         Cvss {
             text,
@@ -271,6 +297,9 @@ fn components_of(overrides: &[(&str, &str)]) -> Result<Vec<String>, OverrideErro
     };
     overrides.iter().map(component).collect()
 }
+
+/// The base metrics of v3 in the order of CVSS v3.1, section 6.
+const BASE_OF_V3: [&str; 8] = ["AV", "AC", "PR", "UI", "S", "C", "I", "A"];
 
 /// The environmental metrics of all versions.
 const ENVIRONMENTAL: [&str; 20] = [

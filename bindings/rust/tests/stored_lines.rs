@@ -4,6 +4,7 @@ use cvss_proved::{
     answer, answer_lines, find, Cvss, Mention, Metric, Nomenclature, OverrideError, Refused,
     RefusedKind, Score, Severity, Version,
 };
+use std::fmt::Display;
 use std::fs;
 use std::path::Path;
 
@@ -95,6 +96,26 @@ fn stored_lines_have_their_facts() {
             Err(refused) => refusal_facts(&refused),
         };
         assert_eq!(told, expected, "{line}");
+    }
+}
+
+/// A reading that asks for all base metrics refuses the incomplete vectors of v3, by the words that
+/// were written by hand, and no others.
+#[test]
+fn incomplete_vectors_are_refused() {
+    let root = Path::new(env!("CARGO_MANIFEST_DIR")).join("../..");
+    let rows = fs::read_to_string(root.join("bindings/stored/incomplete")).unwrap();
+    assert!(!rows.is_empty());
+    for (text, refusal) in rows.lines().map(|row| row.split_once(' ').unwrap()) {
+        let refused = Cvss::parse_complete(text).unwrap_err();
+        assert_eq!(refusal_facts(&refused), refusal, "{text}");
+        let mention = find(text).next().unwrap();
+        assert!(!mention.found.unwrap().is_complete(), "{text}");
+    }
+    for line in stored_lines("stdin").lines() {
+        let read = Cvss::parse(line);
+        let is_incomplete = read.as_ref().is_ok_and(|cvss| !cvss.is_complete());
+        assert_eq!(Cvss::parse_complete(line) != read, is_incomplete, "{line}");
     }
 }
 
@@ -266,12 +287,61 @@ fn ratings_are_read_in_any_case() {
     }
 }
 
+/// With a precision a score is formatted as the `f64` is, and without one as the `f64` is with one
+/// decimal.
 #[test]
-fn widths_are_kept() {
+fn scores_are_formatted_as_floats() {
+    for tenths in 0..=100 {
+        let score = Score::from_tenths(tenths).unwrap();
+        let value = f64::from(tenths) / 10.0;
+        for precision in 0..=4 {
+            assert_eq!(
+                format!("{score:.precision$}"),
+                format!("{value:.precision$}")
+            );
+            assert_eq!(
+                format!("{score:#^+9.precision$}"),
+                format!("{value:#^+9.precision$}")
+            );
+        }
+        for width in 0..=6 {
+            assert_eq!(format!("{score:width$}"), format!("{value:width$.1}"));
+            assert_eq!(format!("{score:_<width$}"), format!("{value:_<width$.1}"));
+            assert_eq!(format!("{score:*^+width$}"), format!("{value:*^+width$.1}"));
+            assert_eq!(format!("{score:0width$}"), format!("{value:0width$.1}"));
+        }
+    }
     let score = Score::from_tenths(98).unwrap();
-    assert_eq!(format!("[{score:>5}]"), "[  9.8]");
+    assert_eq!(
+        format!("{score:.1} {score:.0} {score:.2} [{score:>6}]"),
+        "9.8 10 9.80 [   9.8]"
+    );
+}
+
+/// What else is printed is formatted as the `str` is.
+#[test]
+fn texts_are_formatted_as_strs() {
     let cvss = Cvss::parse("CVSS:3.1/AV:N").unwrap();
-    assert_eq!(format!("[{cvss:<15}]"), "[CVSS:3.1/AV:N  ]");
+    let refused = Cvss::parse("CVSS:3.1/AV:Q").unwrap_err();
+    let unknown = "severe".parse::<Severity>().unwrap_err();
+    let own = cvss.with_overrides(&[("AC", "L")]).unwrap_err();
+    let other = cvss.with_overrides(&[("CR", "Q")]).unwrap_err();
+    let printed: [&dyn Display; 8] = [
+        &cvss,
+        &refused,
+        &unknown,
+        &own,
+        &other,
+        &cvss.version(),
+        &cvss.severity(),
+        &Nomenclature::BTE,
+    ];
+    for value in printed {
+        let text = value.to_string();
+        assert_eq!(format!("[{value:<70}]"), format!("[{text:<70}]"));
+        assert_eq!(format!("[{value:*>70}]"), format!("[{text:*>70}]"));
+        assert_eq!(format!("[{value:.2}]"), format!("[{text:.2}]"));
+    }
 }
 
 /// CVSS v2 guide, section 3.3.1: a base score of 7.8; section 3.3.2: one of 10.0.

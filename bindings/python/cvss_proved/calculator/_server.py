@@ -1,11 +1,13 @@
-"""The server of the page: GET alone, on the own address alone, with small requests and strict headers."""
+"""The server of the page: GET and HEAD alone, on the own address alone, with small requests and strict headers."""
 
 from __future__ import annotations
 
+import io
 import ipaddress
 import json
 import socket
 import sys
+import threading
 import time
 from http import HTTPStatus
 from http.server import BaseHTTPRequestHandler, ThreadingHTTPServer
@@ -19,6 +21,8 @@ from . import _answers
 # The bytes of a request's first line, and those of its other lines together. The page knows the first number too.
 MOST_BYTES = 60_000
 _MOST_HEADER_BYTES = 16_384
+# A browser opens some six connections. Each has a thread of its own.
+MOST_CONNECTIONS = 32
 
 _ICON = (
     b'<svg xmlns="http://www.w3.org/2000/svg" viewBox="0 0 16 16"><rect width="16" height="16" rx="3" fill="#223"/>'
@@ -86,19 +90,82 @@ class _Refused(Exception):
 _TOO_LARGE = f"This is too large: a request has at most {MOST_BYTES:,} bytes, and no body."
 # What the standard library refuses by itself, in the words and the status of this server.
 _OWN_REFUSALS = {
-    HTTPStatus.NOT_IMPLEMENTED: _Refused(HTTPStatus.METHOD_NOT_ALLOWED, "This server answers GET and nothing else."),
+    HTTPStatus.NOT_IMPLEMENTED: _Refused(HTTPStatus.METHOD_NOT_ALLOWED, "This server answers GET and HEAD alone."),
     HTTPStatus.REQUEST_URI_TOO_LONG: _Refused(HTTPStatus.REQUEST_ENTITY_TOO_LARGE, _TOO_LARGE),
     HTTPStatus.REQUEST_HEADER_FIELDS_TOO_LARGE: _Refused(HTTPStatus.REQUEST_ENTITY_TOO_LARGE, _TOO_LARGE),
 }
 
 
+# What a connection beyond these is answered.
+_BUSY = "\r\n".join(
+    [
+        "HTTP/1.1 503 Service Unavailable",
+        f"Content-Type: {_TEXT}",
+        "Content-Length: 0",
+        "Connection: close",
+        *(f"{name}: {value}" for name, value in _HEADERS),
+        "\r\n",
+    ]
+).encode()
+
+
+class _InTime(io.RawIOBase):
+    """The bytes that arrive at a connection before a time, after which reading is a `socket.timeout`."""
+
+    def __init__(self, connection: socket.socket) -> None:
+        self._connection = connection
+        self._end = 0.0
+
+    def start(self, seconds: float) -> None:
+        self._end = time.monotonic() + seconds
+
+    def limit(self) -> None:
+        """What is done at the connection has to end in time."""
+        left = self._end - time.monotonic()
+        if left <= 0:
+            raise socket.timeout("the request has taken too long")
+        self._connection.settimeout(left)
+
+    def readable(self) -> bool:
+        return True
+
+    def readinto(self, buffer: Any) -> int:
+        self.limit()
+        return self._connection.recv_into(buffer)
+
+
 class _Handler(BaseHTTPRequestHandler):
     protocol_version = "HTTP/1.1"
+    # an answer without a status and headers, as HTTP/0.9 has it, is given to none
+    default_request_version = "HTTP/1.1"
     server_version = "cvss-calculator"
     sys_version = ""
-    timeout = 60
     disable_nagle_algorithm = True
     server: Server
+    raw_requestline: bytes
+
+    def setup(self) -> None:
+        super().setup()
+        self.rfile.close()
+        self._time = _InTime(self.connection)
+        self.rfile = io.BufferedReader(self._time)
+
+    def handle_one_request(self) -> None:
+        """Waits for a request, reads it and answers it, all in the server's time."""
+        self._time.start(self.server.most_seconds)
+        super().handle_one_request()
+
+    def parse_request(self) -> bool:
+        words = self.raw_requestline.split()
+        if len(words) == 2 or (len(words) == 3 and words[2].startswith(b"HTTP/0")):
+            self.command, self.requestline = "", str(self.raw_requestline.rstrip(), "iso-8859-1")
+            self.request_version = self.default_request_version
+            self.send_error(HTTPStatus.HTTP_VERSION_NOT_SUPPORTED)
+            return False
+        return super().parse_request()
+
+    def do_HEAD(self) -> None:
+        self.do_GET()
 
     def do_GET(self) -> None:
         try:
@@ -146,11 +213,12 @@ class _Handler(BaseHTTPRequestHandler):
         if name is not None:
             self.send_header("Content-Disposition", f'attachment; filename="{name}"')
         if status == HTTPStatus.METHOD_NOT_ALLOWED:
-            self.send_header("Allow", "GET")
+            self.send_header("Allow", "GET, HEAD")
         if self.close_connection:
             self.send_header("Connection", "close")
         for header, value in _HEADERS:
             self.send_header(header, value)
+        self._time.limit()
         self.end_headers()
         if self.command != "HEAD":
             self.wfile.write(content)
@@ -186,12 +254,32 @@ class Server(ThreadingHTTPServer):
     """A server of the page, which listens as soon as it is made."""
 
     daemon_threads = True
+    # the time for a whole request: from the end of the last one on the connection to the end of its answer
+    most_seconds = 60.0
 
     def __init__(self, address: str, port: int, is_logging: bool = False) -> None:
         self.address_family = socket.AF_INET6 if ":" in address else socket.AF_INET
         self.files = _files()
         self.is_logging = is_logging
+        self._free = threading.BoundedSemaphore(MOST_CONNECTIONS)
         super().__init__((address, port), _Handler)
+
+    def process_request(self, request: Any, client_address: Any) -> None:
+        """Starts a thread for a connection, unless there are as many as there may be."""
+        if self._free.acquire(blocking=False):
+            super().process_request(request, client_address)
+            return
+        try:
+            request.setblocking(False)
+            request.sendall(_BUSY)
+        except OSError:
+            pass
+        request.close()
+
+    def shutdown_request(self, request: Any) -> None:
+        """What ends each connection that was let in, also one for which the machine has no thread."""
+        super().shutdown_request(request)
+        self._free.release()
 
     def server_bind(self) -> None:
         # the one of the standard library asks for the machine's name, which may ask the network

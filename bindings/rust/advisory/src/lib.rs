@@ -1,6 +1,6 @@
 //! An advisory that derives its JSON.
 
-use cvss_proved::{Cvss, Nomenclature, Severity, Version};
+use cvss_proved::{Cvss, Nomenclature, Score, Severity, Version};
 use serde::{Deserialize, Serialize};
 
 /// What a database keeps of a vulnerability.
@@ -10,6 +10,8 @@ pub struct Advisory {
     pub id: String,
     /// Its vector, where there is one.
     pub cvss: Option<Cvss>,
+    /// Its score.
+    pub score: Option<Score>,
     /// Its rating.
     pub severity: Severity,
     /// The version of the standard.

@@ -1,14 +1,14 @@
-//! Each vector and each name is the same JSON string both ways.
+//! Each vector and each name is the same JSON string both ways, and each score the same number.
 
 use advisory::Advisory;
-use cvss_proved::{Cvss, Nomenclature, Severity, Version};
+use cvss_proved::{Cvss, Nomenclature, Score, Severity, Version};
 use serde::de::DeserializeOwned;
 use serde::Serialize;
 use std::fmt::Debug;
 
 const JSON: &str = concat!(
     r#"{"id":"X-1","cvss":"CVSS:4.0/AV:N/AC:L/AT:N/PR:N/UI:N/VC:H/VI:H/VA:H/SC:H/SI:H/SA:H","#,
-    r#""severity":"critical","version":"4.0","nomenclature":"CVSS-B"}"#
+    r#""score":10.0,"severity":"critical","version":"4.0","nomenclature":"CVSS-B"}"#
 );
 
 #[test]
@@ -19,13 +19,14 @@ fn an_advisory_is_read_and_written() {
         (cvss.score().tenths(), cvss.severity()),
         (100, advisory.severity)
     );
+    assert_eq!(advisory.score, Some(cvss.score()));
     assert_eq!(cvss.nomenclature(), advisory.nomenclature);
     assert_eq!(serde_json::to_string(&advisory).unwrap(), JSON);
 }
 
 #[test]
 fn an_advisory_may_have_no_vector() {
-    let json = r#"{"id":"X-2","cvss":null,"severity":"HIGH","version":"3.1","nomenclature":null}"#;
+    let json = r#"{"id":"X-2","cvss":null,"score":null,"severity":"HIGH","version":"3.1","nomenclature":null}"#;
     let advisory: Advisory = serde_json::from_str(json).unwrap();
     assert_eq!((advisory.cvss, advisory.severity), (None, Severity::High));
 }
@@ -44,6 +45,37 @@ fn is_read_and_written<T: Serialize + DeserializeOwned + PartialEq + Debug>(valu
     );
     let held = serde_json::to_value(value).unwrap();
     assert_eq!(&serde_json::from_value::<T>(held).unwrap(), value);
+}
+
+#[test]
+fn each_score_is_a_number() {
+    for tenths in 0..=100 {
+        let score = Score::from_tenths(tenths).unwrap();
+        let json = serde_json::to_string(&score).unwrap();
+        assert_eq!(json, format!("{}.{}", tenths / 10, tenths % 10));
+        assert_eq!(serde_json::from_str::<Score>(&json).unwrap(), score);
+        let value = serde_json::to_value(score).unwrap();
+        assert!(value.is_f64(), "{value}");
+        assert_eq!(serde_json::from_value::<Score>(value).unwrap(), score);
+    }
+    for (json, tenths) in [
+        ("0", 0),
+        ("7", 70),
+        ("10", 100),
+        ("9.80", 98),
+        ("1e1", 100),
+        ("-0.0", 0),
+    ] {
+        let score: Score = serde_json::from_str(json).unwrap();
+        assert_eq!(score.tenths(), tenths, "{json}");
+    }
+    for json in [
+        "98", "11", "10.1", "9.85", "-1", "-0.1", "266", "1e300", "\"9.8\"", "null",
+    ] {
+        let refused = serde_json::from_str::<Score>(json).unwrap_err().to_string();
+        let expected = "expected a number from 0 to 10 with at most one decimal";
+        assert!(refused.contains(expected), "{json}: {refused}");
+    }
 }
 
 #[test]
