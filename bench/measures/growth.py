@@ -47,6 +47,7 @@ PROSE = (b"The service parses the header of a request before its length is known
 TEXTS = {
     "prose without a vector": (11, lambda size: (PROSE * (size // len(PROSE) + 1))[:size]),
     "`CVSS:` again and again": (8.6, lambda size: b"CVSS:" * size),
+    "the same, and a slash at the end": (72, lambda size: b"CVSS:" * size + b"/"),
     "`CVSS:/` again and again": (44, lambda size: b"CVSS:/" * size),
     "colons": (9.4, lambda size: b":" * size),
     "slashes": (29.4, lambda size: b"/" * size),
