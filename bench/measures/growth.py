@@ -140,6 +140,8 @@ def measure(program, inputs, answers, sizes):
             if rate > most:
                 wrong.append(f"{program}, {name}, {size:,}: {rate:.1f} instructions a byte, and "
                              f"the bound is {most}")
+                # a larger input might take hours
+                break
     return wrong
 
 
