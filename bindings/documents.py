@@ -4,17 +4,20 @@ the first command and those of Python and Rust, and of both those of the program
 a figure, and docs/BINDINGS.md a name or a command.
 
 Usage: documents.py ROOT FOLDER. ROOT is the folder of the checkout, in which bindings/build has made the library; files
-are made in FOLDER alone. An example tells in comments what it prints. What is not on the machine is said, and left out.
+are made in FOLDER alone. An example tells in comments what it prints. What is not on the machine is skipped.
 """
 import json
 import os
 import re
-import shutil
 import subprocess
 import sys
 from pathlib import Path
 
 ROOT, FOLDER = (Path(argument).resolve() for argument in sys.argv[1:3])
+sys.path.insert(0, str(ROOT / "bench"))
+
+from skipping import has, python_with, skip
+
 OUT = ROOT / "bindings/out"
 PAGE = (ROOT / "docs/BINDINGS.md").read_text()
 PROGRAMS = (ROOT / "docs/PROGRAMS.md").read_text()
@@ -44,13 +47,6 @@ def expected(block, mark):
     return "".join(f"{line}\n" for line in lines)
 
 
-def has(command, what):
-    if shutil.which(command) is None:
-        print(f"{command} is not on this machine: {what}")
-        return False
-    return True
-
-
 def run(command, **options):
     options.setdefault("cwd", FOLDER)
     done = subprocess.run(command, stdout=subprocess.PIPE, stderr=subprocess.PIPE, **options)
@@ -60,16 +56,6 @@ def run(command, **options):
 
 def check(told, wanted, block):
     assert told.decode() == wanted, f"{told.decode()!r}, and not {wanted!r}:\n{block}"
-
-
-def interpreter(module):
-    """A Python that has a module: the one that runs this, or the machine's own."""
-    for python in (sys.executable, "/usr/bin/python3"):
-        command = [python, "-c", f"import {module}"]
-        if Path(python).exists() and subprocess.run(command, stderr=subprocess.DEVNULL).returncode == 0:
-            return python
-    print(f"python3-{module} is not on this machine: its recipe is not tried")
-    return None
 
 
 def python_environment():
@@ -83,7 +69,7 @@ def try_python():
         module = (re.findall(r"^(?:import|from) (pandas|dask)", block) or ["cvss_proved"])[0]
         if module == "dask":
             continue
-        python = sys.executable if module == "cvss_proved" else interpreter(module)
+        python = sys.executable if module == "cvss_proved" else python_with(module, f"the example of {module}")
         if python:
             check(run([python, "-c", block], env=python_environment()), expected(block, "# "), block)
 
@@ -94,7 +80,7 @@ def try_c():
     run(["cc", "-I", ROOT / "bindings/c", "program.c", OUT / "libcvss.a", "-o", "program"])
     wanted = re.findall(r"/\* (.*?) \*/", block)[0] + "\n"
     check(run(["./program"]), wanted, block)
-    if has("pkg-config", "what it tells is not tried"):
+    if has("pkg-config", "the example of pkg-config"):
         (FOLDER / "bindings").symlink_to(ROOT / "bindings")
         install = block_with("bindings/install")
         home = {**os.environ, "HOME": str(FOLDER / "home")}
@@ -155,7 +141,7 @@ def write_list():
 
 
 def try_dask(answers):
-    python = interpreter("dask")
+    python = python_with("dask", "the example of dask")
     if python is None:
         return
     (FOLDER / "recipe.py").write_text(block_with("from dask", "python"))
@@ -167,9 +153,9 @@ def try_dask(answers):
 def try_parallel(answers):
     program = ROOT / "crates/cvss_tool/out"
     if not (program / "cvss_tool").exists():
-        print("cvss_tool is not built: the recipe of GNU parallel is not tried")
+        skip("the example of GNU parallel", "cvss_tool is not built")
         return
-    if not has("parallel", "its recipe is not tried"):
+    if not has("parallel", "the example of GNU parallel"):
         return
     recipe = block_with("parallel --pipe").strip()
     assert recipe.count("cvss_tool < vectors > answers") == 1, recipe
@@ -207,7 +193,7 @@ def try_programs():
         command, _, wanted = block.removeprefix("$ ").partition("\n")
         missing = [name for name, folder in programs.items() if name in command and not (folder / name).exists()]
         if missing:
-            print(f"{missing[0]} is not built: its example is not tried")
+            skip(f"the example `{command}`", f"{missing[0]} is not built")
             continue
         done = subprocess.run(["bash", "-c", command], cwd=ROOT, env=environment, stdout=subprocess.PIPE)
         check(done.stdout, wanted, block)
@@ -223,9 +209,9 @@ def audit_environment():
     """That of a shell that finds cvss_audit and jq; none where these are not on the machine."""
     program = ROOT / "crates/cvss_audit/out"
     if not (program / "cvss_audit").exists():
-        print("cvss_audit is not built: its recipes are not tried")
+        skip("the examples of cvss_audit", "it is not built")
         return None
-    if not has("jq", "the recipes of cvss_audit are not tried"):
+    if not has("jq", "the examples of cvss_audit"):
         return None
     return {**os.environ, "PATH": f"{program}:{os.environ['PATH']}"}
 
@@ -347,7 +333,7 @@ def main():
     check_names()
     check_project()
     check_figures()
-    if has("rt", "the first command of README.md is not tried"):
+    if has("rt", "the first command of README.md"):
         try_first_command()
     try_programs()
     environment = audit_environment()
@@ -357,12 +343,12 @@ def main():
         try_nulls(environment)
     try_python()
     check_properties()
-    if has("cc", "the example of C is not tried"):
+    if has("cc", "the example of C"):
         try_c()
         try_removal()
-    if has("cargo", "the example of Rust is not tried"):
+    if has("cargo", "the example of Rust"):
         try_rust()
-    if has("go", "the example of Go is not tried"):
+    if has("go", "the example of Go"):
         try_go()
     answers = write_list()
     try_dask(answers)

@@ -12,16 +12,16 @@ usage: bench/measures/triage.py [COUNT]
 import os
 import random
 import re
-import shutil
 import subprocess
 import sys
 import tempfile
 from pathlib import Path
 
 ROOT = Path(__file__).resolve().parents[2]
-sys.path.insert(0, str(ROOT / "bench/checks"))
+sys.path[:0] = [str(ROOT / "bench"), str(ROOT / "bench/checks")]
 
 import refused_memory
+from skipping import has
 
 PROGRAM = ROOT / "crates/cvss_triage/out/cvss_triage"
 OVERRIDES = ["MSI:S", "cr:h"]
@@ -85,13 +85,11 @@ def main():
     count = int(sys.argv[1]) if len(sys.argv) > 1 else 100_000
     lines = drawn(count)
     with tempfile.TemporaryDirectory() as room:
-        if shutil.which("valgrind"):
+        if has("valgrind", "the instructions of cvss_triage"):
             start = instructions(room, [])
             for size in (count // 10, count):
                 taken = instructions(room, lines[:size]) - start
                 print(f"{size} lines: {taken // size} instructions a line")
-        else:
-            print("valgrind is not on this machine: no instructions are counted")
         print(f"cvss_triage: {refuse(room)} requests refused in turn: nothing was written")
 
 

@@ -1,0 +1,32 @@
+"""How tests in Python report what they skip: the file `skipping` beside this one says it."""
+import functools
+import os
+import shutil
+import subprocess
+import sys
+
+
+def skip(part, reason):
+    print(f"skipped: {part}: {reason}", flush=True)
+    if os.environ.get("TEST_SKIPPED"):
+        with open(os.environ["TEST_SKIPPED"], "a", encoding="utf-8") as skipped:
+            skipped.write(f"{part}: {reason}\n")
+
+
+def has(command, part):
+    if shutil.which(command):
+        return True
+    skip(part, f"{command} is not on this machine")
+    return False
+
+
+@functools.cache
+def python_with(module, part):
+    """The first Python that has a module: the one that runs this, or /usr/bin/python3, which finds
+    the packages of the system. None, and the part is skipped, where neither has it."""
+    for python in (sys.executable, "/usr/bin/python3"):
+        command = [python, "-c", f"import {module}"]
+        if os.path.exists(python) and not subprocess.call(command, stderr=subprocess.DEVNULL):
+            return python
+    skip(part, f"python3-{module} is not on this machine")
+    return None
