@@ -1,20 +1,22 @@
 #!/usr/bin/env python3
-"""Runs the built programs once for each request for memory that they make, and refuses that request.
+"""Runs the built programs once for each request for memory that they make, and refuses it.
 
-`cvss_tool` answers lines: an accepted line has to be answered as ever, and so has a refusal that
-carries no part of the text; a refusal that carries text is itself or `error: out of memory`. Where
-a buffer can't grow, the program ends with status 2, and what it has written are the whole answers
-of the first lines.
+What is asked, and what is answered with ample memory, is read from stored lines:
 
-`cvss_find` answers the same lines in sentences, each mention behind its place, by the same rule.
+- `cvss_vectors` answers all of its lines but those that ask for many values at once (`each`): they
+  go through the parser of each version and of any version, the parsers of metrics and of their
+  values, triage and overrides.
+- `cvss_json` reads the text of each vector there as a JSON string, writes the vector as one, and
+  copies the error of a rejected text; its own stored lines do the same for ratings and
+  nomenclatures. It reports each of these steps by its name.
+- `cvss_tool` answers the texts of any version, one a line, and `cvss_find` the same texts in
+  sentences, where the expected answers are those of reference/finding.py.
+- `cvss_audit` answers its own stored documents.
 
-`cvss_json` reads and writes JSON strings and copies errors, and tells each step apart: building the
-string, and writing one, may lack memory; reading one that is accepted may not, and reading one that
-is refused, and copying the error, may only where the refusal carries text.
-
-`cvss_audit` answers documents: where memory is refused it ends with status 2, and what it has written
-are the whole answers of the first lines, as they are written with ample memory, which the stored run
-compares.
+Only these answers may be `out of memory`: that to a rejected text whose error carries a part of the
+text, rows of triage, and the steps of `cvss_json` that build a string or copy such an error. So an
+accepted text is accepted whichever request is refused. Where a line can't be read or a buffer can't
+grow, the run ends early, and what it has written are the whole answers to the first lines.
 
 It needs cc beside the toolchain and python3.
 
@@ -22,6 +24,7 @@ usage: bench/checks/refused_memory.py
 """
 import json
 import os
+import re
 import subprocess
 import sys
 import tempfile
@@ -31,25 +34,49 @@ ROOT = Path(__file__).resolve().parents[2]
 sys.path.insert(0, str(ROOT / "reference"))
 
 import finding
-import reference
 
+# Runs the program with ample memory, and then once for each request, which is refused, each time in
+# a new process over the whole input. Reports a line for each run, on the descriptor REPORT: the
+# status, and where its output and its standard error end.
 SHIM = r"""
 #define _GNU_SOURCE
 #include <dlfcn.h>
+#include <stdio.h>
 #include <stdlib.h>
+#include <sys/mman.h>
+#include <sys/wait.h>
 #include <unistd.h>
 
-static long wanted = -1, made;
+static long wanted, made;
+static char *was_refused;
+
+__attribute__((constructor)) static void run_in_turn(void)
+{
+    int report = atoi(getenv("REPORT")), status;
+    char *shared = mmap(NULL, 1, PROT_READ | PROT_WRITE, MAP_SHARED | MAP_ANONYMOUS, -1, 0);
+    for (long turn = 0;; turn++) {
+        pid_t child;
+        *shared = 0;
+        lseek(0, 0, SEEK_SET);
+        if ((child = fork()) == 0) {
+            alarm(60);
+            was_refused = shared;
+            wanted = turn;
+            return;
+        }
+        if (child < 0 || waitpid(child, &status, 0) < 0)
+            _exit(1);
+        if (turn && !*shared)
+            _exit(0);
+        dprintf(report, "%d %ld %ld\n", status, lseek(1, 0, SEEK_CUR), lseek(2, 0, SEEK_CUR));
+    }
+}
 
 static int refused(void)
 {
-    if (wanted < 0) {
-        const char *text = getenv("REFUSED");
-        wanted = text ? atol(text) : 0;
-    }
-    if (++made != wanted)
+    if (!wanted || ++made != wanted)
         return 0;
-    (void)!write(atoi(getenv("TOLD")), "x", 1);
+    *was_refused = 1;
     return 1;
 }
 
@@ -68,156 +95,157 @@ void *realloc(void *old, size_t size)
 }
 """
 
-# Texts by the version that reads them: accepted, and refused with each kind of error.
-V2 = [
-    "AV:N/AC:L/Au:N/C:N/I:N/A:C",
-    "AV:L/AC:H/Au:M/C:P/I:C/A:N/E:POC/RL:OF/TD:ND",
-    "A:C/I:N/C:N/Au:N/AC:L/AV:N",
-    "AV:N/AC:L:M",
-    "AV:N/" + "Q" * 70_000 + ":N",
-    "AV:N/AC:" + "q" * 300,
-    "AV:N/AV:N",
-    "TD:ND/AV:N",
-]
-V3 = [
-    "CVSS:3.0/AV:N/AC:L/PR:N/UI:R/S:C/C:H/I:H/A:H",
-    "CVSS:3.1/ma:n/mc:x/av:n/rc:r/s:c/ir:h",
-    "CVSS:3.1/AV:N/garbage",
-    "CVSS:3.1/" + "q" * 300 + ":N",
-    "CVSS:3.1/MAV:" + "q" * 300,
-    "CVSS:3.1/AV:N/av:l",
-]
-V4 = [
-    "CVSS:4.0/AV:N/AC:L/AT:N/PR:N/UI:N/VC:L/VI:H/VA:N/SC:N/SI:N/SA:N/E:P",
-    "CVSS:4.0/u:red/sa:n/si:n/sc:n/va:n/vi:l/vc:l/ui:n/pr:h/at:n/ac:l/av:n",
-    "CVSS:4.0/AV:N/:",
-    "CVSS:4.0/AV:N/AC",
-    "CVSS:4.0/U:" + "r" * 300,
-    "CVSS:4.0/AV:N/av:l",
-    "CVSS:4.0/AV:N",
-]
-ANY = ["garbage", "CVSS:3.1", "CSS:4.0/AV:N", "CVSS:5.0/AV:N", "CVSS:4/AV:N"]
-# The texts of one line each, one that is no text, and at last one without an end.
-LINES = [text.encode() for text in V2[3:] + ANY] + [b"\xff", b"\r"] + [
-    text.encode() for text in V3 + V4 + V2[:3]]
-
-RATINGS = ["none", "low", "medium", "high", "critical"]
-NOMENCLATURES = ["CVSS-B", "CVSS-BE", "CVSS-BT", "CVSS-BTE"]
+# How many lines a run answers, where a program makes a request for each.
+BATCH = 25
+# A mark of a stored line, and what it asks for.
+MARKED = re.compile(rb"([a-z]+[2-4]?) (.*)", re.DOTALL)
+# The kinds of `fault` whose error carries a part of the text.
+CARRYING = ("component", "prefix", "version", "metric", "value")
+# A text longer than the chunks in which programs read their input, and the answer to it.
+LONG = b"AV:N/" + b"Q" * 70_000 + b":N", f"error: unknown CVSS metric name: `{'Q' * 70_000}`"
 
 
-def rating(text):
-    if text.lower() not in RATINGS:
-        raise reference.Refused("value", f"invalid CVSS Qualitative Severity Rating: `{text}`")
-    return [text.lower()]
+def build(room):
+    """Builds the shim, and returns its path."""
+    source, shim = os.path.join(room, "refuse.c"), os.path.join(room, "refuse.so")
+    with open(source, "w", encoding="utf-8") as file:
+        file.write(SHIM)
+    subprocess.run(["cc", "-shared", "-fPIC", "-O1", "-o", shim, source, "-ldl"], check=True)
+    return shim
 
 
-def nomenclature(text):
-    if text not in NOMENCLATURES:
-        raise reference.Refused("value", f"invalid CVSSv4 nomenclature: `{text}`")
-    return [text]
+def runs(shim, program, given, *arguments):
+    """Runs a program with ample memory, and then with each request refused in turn: the status of
+    each run, what it wrote, and what it wrote on standard error."""
+    with (tempfile.TemporaryFile() as source, tempfile.TemporaryFile() as out,
+          tempfile.TemporaryFile() as errors, tempfile.TemporaryFile() as report):
+        source.write(given)
+        source.flush()
+        subprocess.run([ROOT / f"crates/{program}/out/{program}", *arguments],
+                       stdin=source, stdout=out, stderr=errors, check=True,
+                       env=dict(os.environ, LD_PRELOAD=shim, REPORT=str(report.fileno())),
+                       pass_fds=[report.fileno()])
+        for file in (out, errors, report):
+            file.seek(0)
+        for line in report:
+            status, *ends = map(int, line.split())
+            written, told = (file.read(end - file.tell()) for file, end in zip((out, errors), ends))
+            yield os.waitstatus_to_exitcode(status), written, told
 
 
-# What reads the texts of a type, and texts of it.
-TYPES = {
-    "cvss": (reference.read, ANY + V4 + V3 + V2),
-    "v2": (reference.read_v2, V2),
-    "v3": (reference.read_v3, V3 + ANY[1:3]),
-    "v4": (reference.read_v4, V4 + ANY[2:4]),
-    "severity": (rating, ["LOW", "none", "lowest" * 50]),
-    "nomenclature": (nomenclature, NOMENCLATURES + ["cvss-b" * 50]),
-}
+def stored(program):
+    """The stored lines of a program: the mark of each, what is asked, and the answer."""
+    given, answers = ((ROOT / f"crates/{program}/{name}").read_bytes().split(b"\n")[:-1]
+                      for name in ("stdin", "stdout"))
+    for line, answer in zip(given, answers, strict=True):
+        marked = MARKED.fullmatch(line)
+        mark, asked = marked.groups() if marked else (b"", line)
+        yield mark.decode(), asked, answer.decode()
 
 
-def lacking(answer, refused, accepted):
-    """The steps that may lack memory for this answer, when the text is refused and when not."""
-    if "error: " not in answer and "from_value: " not in answer:
-        return accepted
-    told = answer.split(": ", 1)[1]
-    return [] if told.startswith(("duplicate", "missing", "not UTF-8")) else refused
+def carries_text(reason):
+    """Whether the error of a rejected text carries a part of that text, so that it takes memory. An
+    empty part takes none."""
+    return not (reason.startswith(("duplicate", "missing", "not UTF-8", "no environmental"))
+                or reason.endswith(("``", "version: ")))
 
 
-def answered(line):
-    """What `cvss_tool` answers to a line, and what instead of it where it lacks memory."""
-    answer = reference.answer(line.removesuffix(b"\r"))
-    return [answer] + [f"{step}: out of memory" for step in lacking(answer, ["error"], [])]
+def expected(mark, answer):
+    """A stored answer, and what `cvss_vectors` or a program of lines may answer instead where it
+    runs out of memory."""
+    error = re.fullmatch(r"error: ((?:override|text) \d+: )?(.*)", answer, re.DOTALL)
+    index, reason = error.groups("") if error else ("", "")
+    if mark == "fault":
+        return [answer, "another"] if answer.startswith(CARRYING) else [answer]
+    # Triage makes rows as it reads texts, which it does after the overrides.
+    makes_rows = mark == "rank" and answer and not index.startswith("override")
+    if makes_rows or error and carries_text(reason):
+        return [answer, f"error: {index if mark == 'overrides' else ''}out of memory"]
+    return [answer]
 
 
-def found(text):
-    """What `cvss_find` answers to each mention of a text, and what instead of it in want of memory."""
-    expected = []
-    for number, line in enumerate(text.split(b"\n"), 1):
-        for place, _, answer in finding.found(line):
-            steps = [f"{step}: out of memory" for step in lacking(answer, ["error"], [])]
-            expected.append([f"{number}:{place + 1} {each}" for each in [answer] + steps])
-    return expected
-
-
-def converted(read, text):
-    """What `cvss_json` answers to a text, and what instead of it where it lacks memory."""
-    try:
-        answer = read(text)[0]
-    except reference.Refused as reason:
-        answer = f"from_value: {reason}"
-    steps = ["string"] + lacking(answer, ["from_value", "clone"], ["to_value"])
+def converted(text, answer):
+    """What `cvss_json` answers to a text, and which of its steps may run out of memory instead."""
+    reason = answer.removeprefix("from_value: ")
+    if reason == answer:
+        steps = ["to_value"]
+    else:
+        steps = ["from_value", "clone"] if carries_text(reason) else []
+    if text:
+        steps.append("string")
     return [answer] + [f"{step}: out of memory" for step in steps]
 
 
-def run(shim, program, given, turn):
-    """The status, what was written, and whether a request was refused."""
-    read_end, write_end = os.pipe()
-    with tempfile.TemporaryFile() as out:
-        # The shim tells on the descriptor TOLD that it refused.
-        env = dict(os.environ, LD_PRELOAD=shim, REFUSED=str(turn), TOLD=str(write_end))
-        done = subprocess.run([ROOT / f"crates/{program}/out/{program}"],
-                              input=given, stdout=out, stderr=subprocess.PIPE,
-                              pass_fds=[write_end], env=env, check=False)
-        os.close(write_end)
-        was_refused = os.read(read_end, 1) == b"x"
-        os.close(read_end)
-        out.seek(0)
-        return done.returncode, out.read(), was_refused
+def strings():
+    """The lines of `cvss_json` that convert texts, with what is expected of each."""
+    for mark, asked, answer in stored("cvss_vectors"):
+        # A JSON string is UTF-8.
+        if mark in ("", "v2", "v3", "v4") and answer != "error: not UTF-8":
+            rejected = answer.startswith("error: ")
+            said = f"from_value: {answer[7:]}" if rejected else answer.split(" ")[0]
+            yield (mark or "cvss").encode() + b" " + asked, converted(asked, said)
+    for mark, asked, answer in stored("cvss_json"):
+        if mark in ("cvss", "v2", "v3", "v4", "severity", "nomenclature"):
+            yield mark.encode() + b" " + asked, converted(asked, answer)
 
 
-def check(turn, outcome, expected, whole_status, fault_status):
-    """Whether the run ended early, and how many answers lack memory."""
-    status, written, _ = outcome
+def found(text):
+    """What `cvss_find` answers to each mention in a text."""
+    for number, line in enumerate(text.split(b"\n"), 1):
+        for place, _, answer in finding.found(line):
+            yield [f"{number}:{place + 1} {each}" for each in expected("", answer)]
+
+
+def check(program, turn, run, wanted, statuses):
+    """Whether the run ended early, and which answers are `out of memory`."""
+    status, written, _ = run
     answers = written.decode("utf-8").split("\n")
     whole = answers.pop() == ""
-    fits = all(got in wanted for got, wanted in zip(answers, expected))
-    ends = (status == whole_status if len(answers) == len(expected) else status == fault_status)
-    if not (whole and fits and ends and len(answers) <= len(expected)):
-        sys.exit(f"turn {turn}: status {status}, wrote {written[:2000]!r}")
-    return len(answers) < len(expected), sum(
-        got != wanted[0] for got, wanted in zip(answers, expected))
+    ended = len(answers) < len(wanted)
+    fits = all(got in allowed for got, allowed in zip(answers, wanted))
+    lacking = [at for at, (got, allowed) in enumerate(zip(answers, wanted)) if got != allowed[0]]
+    # One request is refused, so one answer at most is another one.
+    if not (whole and fits and len(answers) <= len(wanted) and status == statuses[ended]
+            and ended + len(lacking) <= (turn > 0)):
+        sys.exit(f"{program}, turn {turn}: status {status}, wrote {written[:2000]!r}")
+    return ended, lacking
 
 
-def refuse_in_turn(shim, program, given, expected, whole_status, fault_status):
-    ended = lacked = 0
-    for turn in range(1, 1_000_000):
-        outcome = run(shim, program, given, turn)
-        if not outcome[2]:
-            break
-        early, lacking_answers = check(turn, outcome, expected, whole_status, fault_status)
-        ended += early
-        lacked += lacking_answers
-    ample = run(shim, program, given, 0)
-    if check(0, ample, expected, whole_status, fault_status) != (False, 0):
-        sys.exit(f"{program}: the run with ample memory lacks memory")
-    if 0 in (turn - 1, ended, lacked):
-        sys.exit(f"{program}: {turn - 1} requests were refused, {ended} runs ended early and {lacked} "
-                 "answers lacked memory: nothing was tried")
-    print(f"{program}: {turn - 1} requests refused in turn over {len(expected)} texts: "
-          f"{ended} runs ended early, {lacked} answers became `out of memory`, all else stayed")
+def refuse_in_turn(shim, program, tries, statuses, what="texts"):
+    """Refuses each request of a program over each of some inputs, which are given with what is
+    expected of their answers; the statuses are those of a whole run and of one that ended early.
+    Each answer that may be `out of memory` has to be so in some run."""
+    requests = ended = lacking = count = 0
+    for given, wanted in tries:
+        tried = set()
+        for turn, run in enumerate(runs(shim, program, given)):
+            early, lacked = check(program, turn, run, wanted, statuses)
+            ended += early
+            lacking += len(lacked)
+            tried.update(lacked)
+        requests += turn
+        count += len(wanted)
+        for at, allowed in enumerate(wanted):
+            if len(allowed) > 1 and at not in tried:
+                sys.exit(f"{program}: `{allowed[0]}` takes no memory")
+    if requests == 0:
+        sys.exit(f"{program}: no request was refused: nothing was tried")
+    print(f"{program}: {requests} requests refused in turn over {count} {what}: {ended} runs ended "
+          f"early, {lacking} answers became `out of memory`, all else stayed", flush=True)
+
+
+def in_batches(pairs):
+    """Some lines at a time, with what is expected of them."""
+    for first in range(0, len(pairs), BATCH):
+        lines, wanted = zip(*pairs[first:first + BATCH])
+        yield b"\n".join(lines) + b"\n", wanted
 
 
 def refuse_in_turn_over_documents(shim):
     """The same over `cvss_audit`, whose lines have any number of answers."""
     folder = ROOT / "crates/cvss_audit"
-    with open(folder / "stdin", "rb") as file:
-        given = file.read()
-    with open(folder / "stdout", "rb") as file:
-        whole = file.read()
-    # Where the answers of a line end: behind the last answer that tells its number, or none.
+    given, whole = ((folder / name).read_bytes() for name in ("stdin", "stdout"))
+    # Where the answers to a line end: after the last answer that names its number, or none.
     numbers = [json.loads(line)["line"] for line in whole.splitlines()]
     ends = {0, len(whole)}
     place = 0
@@ -225,35 +253,32 @@ def refuse_in_turn_over_documents(shim):
         place += len(line)
         if now != following:
             ends.add(place)
-    for turn in range(1, 1_000_000):
-        status, written, was_refused = run(shim, "cvss_audit", given, turn)
-        if not was_refused:
-            break
-        if status != 2 or len(written) not in ends or not whole.startswith(written):
-            sys.exit(f"turn {turn}: status {status}, wrote {written[:2000]!r}")
-    if run(shim, "cvss_audit", given, 0)[:2] != (1, whole):
+    ample, *others = runs(shim, "cvss_audit", given)
+    if ample[:2] != (1, whole):
         sys.exit("cvss_audit: the run with ample memory is not the stored one")
-    if turn == 1:
+    for turn, (status, written, _) in enumerate(others, 1):
+        if status != 2 or len(written) not in ends or not whole.startswith(written):
+            sys.exit(f"cvss_audit, turn {turn}: status {status}, wrote {written[:2000]!r}")
+    if not others:
         sys.exit("cvss_audit: no request was refused: nothing was tried")
-    print(f"cvss_audit: {turn - 1} requests refused in turn over {given.count(bytes([10]))} documents: "
-          "each run ended early, with the whole answers of a beginning of the lines")
+    print(f"cvss_audit: {len(others)} requests refused in turn over {given.count(bytes([10]))} "
+          "documents: each run ended early, with the whole answers to the first lines")
 
 
 def main():
-    typed = [(kind, text) for kind, (_, texts) in TYPES.items() for text in texts]
+    asked = [(mark, line, expected(mark, answer))
+             for mark, line, answer in (("", *LONG), *stored("cvss_vectors"))]
+    texts = [(line, wanted) for mark, line, wanted in asked if not mark]
+    text = b"\n".join(b"see (" + line + b")." for line, _ in texts)
     with tempfile.TemporaryDirectory() as room:
-        source, shim = os.path.join(room, "refuse.c"), os.path.join(room, "refuse.so")
-        with open(source, "w") as file:
-            file.write(SHIM)
-        subprocess.run(["cc", "-shared", "-fPIC", "-O1", "-o", shim, source, "-ldl"], check=True)
-        refuse_in_turn(shim, "cvss_tool", b"\n".join(LINES), [answered(line) for line in LINES],
-                       whole_status=1, fault_status=2)
-        text = b"\n".join(b"see (" + line + b")." for line in LINES)
-        refuse_in_turn(shim, "cvss_find", text, found(text), whole_status=1, fault_status=2)
-        refuse_in_turn(shim, "cvss_json",
-                       "\n".join(f"{kind} {text}" for kind, text in typed).encode(),
-                       [converted(TYPES[kind][0], text) for kind, text in typed],
-                       whole_status=0, fault_status=1)
+        shim = build(room)
+        refuse_in_turn(shim, "cvss_vectors", in_batches(
+            [(f"{mark} ".encode() * bool(mark) + line, wanted)
+             for mark, line, wanted in asked if mark != "each"]), (0, 1), "lines")
+        refuse_in_turn(shim, "cvss_json", in_batches(list(strings())), (0, 1), "strings")
+        lines, wanted = zip(*texts)
+        refuse_in_turn(shim, "cvss_tool", [(b"\n".join(lines) + b"\n", wanted)], (1, 2))
+        refuse_in_turn(shim, "cvss_find", [(text, list(found(text)))], (1, 2), "mentions")
         refuse_in_turn_over_documents(shim)
 
 

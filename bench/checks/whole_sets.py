@@ -29,7 +29,9 @@ TENTH = 10 ** 23
 BASE_OF_V2 = (729, 38_007, 688_688_529, [27, 134, 441, 112, 15])
 BASE_OF_V3 = (2_592, 142_706, 1_911_220_615, [96, 416, 1_464, 555, 61])
 BASE_OF_V4 = (104_976, 5_964_883, 491_664_413, [144, 15_438, 57_559, 29_278, 2_557])
-REQUIRED = {
+# The environmental scores of the base vectors with all values of CR, IR and AR.
+REQUIRED_OF_V2 = (46_656, 2_405_641, 1_741_725_195, [1_824, 11_061, 23_953, 8_339, 1_479])
+REQUIRED_OF_V3 = {
     "CVSS:3.0": (165_888, 9_038_187, 1_883_020_783, [6_144, 33_331, 82_526, 38_593, 5_294]),
     "CVSS:3.1": (165_888, 9_047_048, 672_834_917, [6_144, 33_331, 82_046, 39_127, 5_240]),
 }
@@ -56,8 +58,8 @@ def base_of_v4():
     return ["/".join(chosen) for chosen in product(["CVSS:4.0"], *rising)]
 
 
-def with_requirements(texts):
-    requirements = pieces(v3.METRICS, ("CR", "IR", "AR"))
+def with_requirements(metrics, texts):
+    requirements = pieces(metrics, ("CR", "IR", "AR"))
     return ["/".join((text, *chosen)) for text in texts for chosen in product(*requirements)]
 
 
@@ -99,11 +101,11 @@ def published(texts):
 
 
 def environmental(texts):
-    """The tenths of the environmental scores, of vectors whose scores are certain."""
+    """The tenths of the environmental scores; those of v3 are certain."""
     found = []
     for text, answer in zip(texts, answers("cvss_vectors", [f"scores {text}" for text in texts])):
-        *_, count, certain = answer.split(" ")
-        if certain != "certain" or int(count) % TENTH:
+        *_, count = answer.removesuffix(" certain").split(" ")
+        if text.startswith("CVSS:") != answer.endswith(" certain") or int(count) % TENTH:
             sys.exit(f"{text}: {answer}")
         found.append(int(count) // TENTH)
     return found
@@ -158,11 +160,13 @@ def compare_records(name, texts):
 
 def main():
     compare("v2, base", checksum(published(base_of_v2())), BASE_OF_V2)
-    for version, expected in REQUIRED.items():
+    required = environmental(with_requirements(v2.METRICS, base_of_v2()))
+    compare("v2, with requirements", checksum(required), REQUIRED_OF_V2)
+    for version, expected in REQUIRED_OF_V3.items():
         texts = base_of_v3(version)
         compare(f"{version}, base", checksum(published(texts)), BASE_OF_V3)
         environmental(texts)
-        required = environmental(with_requirements(texts))
+        required = environmental(with_requirements(v3.METRICS, texts))
         compare(f"{version}, with requirements", checksum(required), expected)
     compare("v4.0, base", checksum(published(base_of_v4())), BASE_OF_V4)
     compare_effective()

@@ -9,7 +9,6 @@ It needs cc and python3, and for the counts valgrind.
 
 usage: bench/measures/triage.py [COUNT]
 """
-import os
 import random
 import re
 import subprocess
@@ -53,31 +52,21 @@ def instructions(room, lines):
 
 def refuse(room):
     """Refuses each request of a short run, and of one whose last line is refused."""
-    source, shim = os.path.join(room, "refuse.c"), os.path.join(room, "refuse.so")
-    with open(source, "w", encoding="utf-8") as file:
-        file.write(refused_memory.SHIM)
-    subprocess.run(["cc", "-shared", "-fPIC", "-O1", "-o", shim, source, "-ldl"], check=True)
+    shim = refused_memory.build(room)
     lacking = (2, "cvss_triage: out of memory\n")
     refused = (1, "cvss_triage: line 31: invalid CVSSv4 AV (Attack Vector) metric: `Q`\n")
     total = 0
     for lines, ends in ((drawn(30), [lacking]),
                         (drawn(30) + ["CVSS:4.0/AV:N/AV:q"], [lacking, refused])):
-        for turn in range(1, 100_000):
-            read_end, write_end = os.pipe()
-            env = dict(os.environ, LD_PRELOAD=shim, REFUSED=str(turn), TOLD=str(write_end))
-            done = subprocess.run([PROGRAM, *OVERRIDES], input="\n".join(lines).encode(), env=env,
-                                  capture_output=True, pass_fds=[write_end], check=False)
-            os.close(write_end)
-            was_refused = os.read(read_end, 1) == b"x"
-            os.close(read_end)
-            if not was_refused:
-                break
-            if done.stdout or (done.returncode, done.stderr.decode()) not in ends:
-                sys.exit(f"turn {turn}: status {done.returncode}, wrote {done.stdout[:500]!r}, "
-                         f"told {done.stderr[:500]!r}")
-            total += 1
-        if turn == 1:
+        given = "\n".join(lines).encode()
+        _, *others = refused_memory.runs(shim, "cvss_triage", given, *OVERRIDES)
+        for turn, (status, written, told) in enumerate(others, 1):
+            if written or (status, told.decode()) not in ends:
+                sys.exit(f"turn {turn}: status {status}, wrote {written[:500]!r}, "
+                         f"told {told[:500]!r}")
+        if not others:
             sys.exit("no request of cvss_triage was refused: nothing was tried")
+        total += len(others)
     return total
 
 

@@ -31,9 +31,10 @@ fn scores_single_vectors(rt: HostRuntime) {
 }
 
 /// Effective values with the numbers of their classes, EQ1 to EQ6.
-const CLASSES: [(Effective, [u8; 6]); 4] = [
+const CLASSES: [(Effective, [u8; 6]); 5] = [
     (INTEGRITY, [0, 0, 1, 2, 1, 0]),
     (UNSAFE, [1, 1, 1, 0, 2, 1]),
+    (LEAST, [2, 1, 2, 2, 2, 1]),
     (PRIVILEGED, [1, 0, 0, 2, 0, 0]),
     (ADJACENT, [1, 1, 0, 2, 2, 0]),
 ];

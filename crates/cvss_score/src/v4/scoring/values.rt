@@ -40,6 +40,16 @@ pub(crate) const VALUES: [u8; 270] = [
     53, 24, 14, 24, 12, 5, 10, 3, 1,
 ];
 
+// The values that the specification lists for the first class, for 0,0,1,2,1,0, 0,0,2,2,0,1 and
+// 1,0,1,2,1,1, and for the last class.
+const _: () = prove!(
+    VALUES[0] == 100
+        && VALUES[25] == 78
+        && VALUES[42] == 69
+        && VALUES[124] == 52
+        && VALUES[269] == 1
+);
+
 /// The value of a class, in tenths.
 #[inline(always)]
 pub fn value_of(placed: &PlacedClass) -> u8
