@@ -4,3 +4,4 @@ pub mod Canonical
 pub mod Conversions
 pub mod Counts
 pub mod Findings
+pub mod Participation

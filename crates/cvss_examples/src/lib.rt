@@ -4,6 +4,7 @@
 pub mod advisory;
 pub mod audit;
 pub mod json;
+pub mod own_metric;
 pub mod v2;
 pub mod v3;
 pub mod v4;

@@ -1,10 +1,12 @@
 //! Tests that run the examples.
 
-use crate::values::Tried;
-use cvss::{Cvss, Severity};
+use crate::values::{Tried, are_equal};
+use cvss::v3::metric::environmental::Modified;
+use cvss::{Cvss, ONE, Severity};
 use cvss_examples::advisory::advisory;
 use cvss_examples::audit::count_findings;
 use cvss_examples::json::{converted_and_back, text_of, value_of, written_and_read};
+use cvss_examples::own_metric::{Participation, read_modified};
 use serde_json::Value;
 use std::alloc::Global;
 use std::process::Abort;
@@ -108,4 +110,19 @@ fn texts_pass_through_json_values(rt: HostRuntime) -> Tried {
         comes_back(&rt, rt.alloc(), text, canonical)?;
     }
     Ok(())
+}
+
+#[test]
+fn own_metrics_are_modified(rt: HostRuntime) {
+    let rows = [
+        (read_modified("X"), Some(Modified::NotDefined)),
+        (
+            read_modified("N"),
+            Some(Modified::Modified(Participation::Unneeded)),
+        ),
+        (read_modified("H"), None),
+    ];
+    are_equal(&rt, &rows);
+    let weight = Modified::NotDefined.modified_score(Some(Participation::Needed));
+    assert!(rt; weight == 62 * (ONE / 100));
 }

@@ -149,6 +149,37 @@ fn metrics_are_told_apart(rt: HostRuntime) {
 }
 
 #[test]
+fn traits_give_the_types_of_metrics(rt: HostRuntime) {
+    use cvss::v3::metric::Spelled as _;
+    use cvss::v3::{Metric, MetricType};
+    use v3::metric::base::AttackVector;
+    let of_v2 = <v2::metric::base::AccessVector as v2::Metric>::TYPE;
+    let of_v4 = <v4::metric::base::AttackVector as v4::metric::Metric>::TYPE;
+    assert!(rt; of_v2 == v2::MetricType::AV && of_v4 == v4::MetricType::AV);
+    let rows = [
+        (<AttackVector as v3::Metric>::TYPE, MetricType::AV),
+        (AttackVector::TYPE, MetricType::AV),
+        (Modified::<AttackVector>::TYPE, MetricType::MAV),
+        (ModifiedScope::TYPE, MetricType::MS),
+    ];
+    are_equal(&rt, &rows);
+}
+
+#[test]
+fn refused_values_are_reported_under_base_metrics(rt: HostRuntime) {
+    use cvss::v3::{Metric, MetricType};
+    use v3::metric::base::AttackVector;
+    use v3::metric::temporal::RemediationLevel;
+    let rows = [
+        (AttackVector::FAULT_TYPE, MetricType::AV),
+        (Modified::<AttackVector>::FAULT_TYPE, MetricType::AV),
+        (ModifiedScope::FAULT_TYPE, MetricType::S),
+        (RemediationLevel::FAULT_TYPE, MetricType::RL),
+    ];
+    are_equal(&rt, &rows);
+}
+
+#[test]
 fn values_are_those_of_their_spellings(rt: HostRuntime) {
     use cvss::v2::Metric as _;
     use cvss::v3::Metric as _;

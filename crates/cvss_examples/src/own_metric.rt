@@ -1,0 +1,101 @@
+//! A metric of a caller's own, which `Modified` can replace as it does the library's.
+
+ghost use Rattle.std.specs.Prelude.{◌∷◌, ◌≡◌, IfSome, Some, refl};
+ghost use Rattle.std.proofs.Common.{rules};
+ghost use Rattle.cvss.specs.MetricTypeV3.TheVariants.{UI, MUI};
+ghost use Rattle.cvss.specs.TableV3.{metric_component, spelling_of};
+ghost use Rattle.cvss.specs.Text.{slash};
+ghost use Rattle.cvss_v3_metric.specs.declared.base.access.UserInteraction.TheVariants as table;
+ghost use Rattle.cvss_examples.specs.declared.own_metric.Participation.TheVariants.{Needed, Unneeded};
+ghost use Rattle.cvss_examples.specs.Participation.{participation, modified_participation};
+
+use cvss::v3::metric::Spelled;
+use cvss::v3::metric::environmental::{BaseMetric, Modified};
+use cvss::v3::{Metric, MetricType};
+use std::fmt;
+
+/// Whether an attack needs another person: the values of User Interaction under other names.
+#[derive(Clone, Copy, Debug, PartialEq, Eq, PartialOrd, Ord)]
+pub enum Participation {
+    Needed,
+    Unneeded,
+}
+
+impl Spelled for Participation {
+    const KIND: MetricType = MetricType::UI;
+
+    ghost KIND = { UI };
+
+    ghost value = { participation };
+
+    fn row(self) -> (&'static str, Option<u64>) {
+        match self {
+            Self::Needed => ("/UI:R", Some(62)),
+            Self::Unneeded => ("/UI:N", Some(85)),
+        }
+    }
+
+    fn read_letter(letter: u8) -> Option<Self> {
+        match letter {
+            b'R' => Some(Self::Needed),
+            b'N' => Some(Self::Unneeded),
+            _ => None,
+        }
+    }
+}
+
+impl Metric for Participation {
+    const TYPE: MetricType = MetricType::UI;
+
+    ghost TYPE = { UI };
+
+    const FAULT_TYPE: MetricType = MetricType::UI;
+
+    ghost FAULT_TYPE = { UI };
+
+    ghost law = { record {
+      typed = refl;
+      reported = refl;
+      covers = elim [ table.Required ↦ (Needed, refl) | table.None ↦ (Unneeded, refl) ];
+      ordered = Prim.search rules;
+      equal = Prim.search rules;
+      cloned = Prim.search rules;
+      clonable = Prim.search rules;
+    } };
+}
+
+impl fmt::Display for Participation {
+    ghost output = { λ metric. Some (metric_component UI (participation metric)) };
+
+    fn fmt<W: fmt::Write>(&self, f: &mut fmt::Formatter<W>) -> fmt::Result {
+        self.write(f)
+    }
+}
+
+impl BaseMetric for Participation {
+    const MODIFIED_TYPE: MetricType = MetricType::MUI;
+
+    ghost MODIFIED_TYPE = { MUI };
+
+    ghost modified_value = { modified_participation };
+
+    ghost base_law = { Prim.search rules };
+
+    fn modified_slashed(metric: Modified<Self>) -> &'static str
+        ensures { result.now ≡ slash ∷ metric_component MUI (modified_participation metric) }
+    {
+        match metric {
+            Modified::NotDefined => "/MUI:X",
+            Modified::Modified(Self::Needed) => "/MUI:R",
+            Modified::Modified(Self::Unneeded) => "/MUI:N",
+        }
+    }
+}
+
+/// The value of the modified metric with this spelling.
+pub fn read_modified(text: &str) -> Option<Modified<Participation>>
+    ensures { IfSome result
+        (λ metric. spelling_of MUI (modified_participation metric) ≡ text.now) }
+{
+    Modified::read(text)
+}
