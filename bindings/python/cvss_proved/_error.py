@@ -15,7 +15,6 @@ _KINDS = {
     6: "duplicate metric",
     7: "missing metric",
     8: "not UTF-8",
-    9: "out of memory",
 }
 
 
@@ -23,9 +22,9 @@ class CvssError(ValueError):
     """A text that denotes no vector.
 
     `reason` is the first reason why, in words, and `kind` its kind: invalid component, invalid prefix,
-    unsupported version, unknown metric, invalid value, duplicate metric, missing metric, not UTF-8 or out of
-    memory. `metric` is the abbreviation of the metric that has an invalid value, stands twice or is missing;
-    of other kinds it is empty.
+    unsupported version, unknown metric, invalid value, duplicate metric, missing metric or not UTF-8.
+    `metric` is the abbreviation of the metric that has an invalid value, occurs twice or is missing; of other
+    kinds it is empty.
 
     >>> from cvss_proved import Vector
     >>> try:

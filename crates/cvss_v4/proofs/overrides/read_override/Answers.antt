@@ -8,7 +8,7 @@ use Rattle.cvss_base.specs.declared.group.MetricGroup.TheVariants.{Environmental
 use Rattle.cvss_v4.proofs.OverridingLemmas.{names_no_other, component_objection}
 use Rattle.cvss_v4.specs.Vector.{v4}
 use Rattle.cvss_v4.specs.private.VectorLaws.{v4_is_lawful}
-use Rattle.cvss_v4.proofs.vector.overriding.read_override.Goals as goal
+use Rattle.cvss_v4.proofs.overrides.read_override.Goals as goal
 
 pub returns-in_err-kind-clause-refused : goal.returns-in_err-kind-clause-refused
 returns-in_err-kind-clause-refused c =
