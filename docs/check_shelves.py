@@ -13,8 +13,8 @@ from pathlib import Path
 ROOT = Path(__file__).resolve().parent.parent
 # parts of versions and of the calls for C, which have no path in `cvss`, and callers that are proved from laws too
 WITHOUT_PROMISES = {"cvss_text", "cvss_bytes", "cvss_examples"}
-# such parts in a crate whose other modules have one
-PARTS = ROOT / "crates/cvss_base/src/component.rt"
+# such parts in crates whose other modules have one
+PARTS = {ROOT / "crates/cvss_base/src/component.rt", ROOT / "crates/cvss_v4/src/overrides.rt"}
 
 OTHER_SHELF = re.compile(r"\.specs\.(?:v\d\.)?(?:laws|private)\.")
 USE = re.compile(r"^ *(?:pub |ghost )?use Rattle\.([\w.]+?)(?:\.\{([^}]*)\})?(?: as (\w+))?;?$", re.M)
@@ -53,7 +53,7 @@ def words(text, given):
 def modules(path, is_public):
     """The files of a module and of those in it, and whether each is public; those of a program are."""
     text = path.read_text(encoding="utf-8")
-    yield path, is_public and path != PARTS
+    yield path, is_public and path not in PARTS
     folder = path.parent if path.stem in ("lib", "main") else path.with_suffix("")
     for is_open, name in MODULE.findall(text):
         yield from modules(folder / f"{name}.rt", is_public and (bool(is_open) or path.stem == "main"))

@@ -13,10 +13,11 @@ What is asked, and what is answered with ample memory, is read from stored lines
   sentences, where the expected answers are those of reference/finding.py.
 - `cvss_audit` answers its own stored documents.
 
-Only these answers may be `out of memory`: that to a rejected text whose error carries a part of the
-text, rows of triage, and the steps of `cvss_json` that build a string or copy such an error. So an
-accepted text is accepted whichever request is refused. Where a line can't be read or a buffer can't
-grow, the run ends early, and what it has written are the whole answers to the first lines.
+Only these answers may be `out of memory`: in `cvss_vectors` that to a rejected text whose error
+carries a part of the text, and rows of triage; and the steps of `cvss_json` that build a string or
+copy such an error. So an accepted text is accepted whichever request is refused, and `cvss_tool`
+and `cvss_find` answer each text as ever. Where a line can't be read or a buffer can't grow, the run
+ends early, and what it has written are the whole answers to the first lines.
 
 It needs cc beside the toolchain and python3.
 
@@ -151,8 +152,7 @@ def carries_text(reason):
 
 
 def expected(mark, answer):
-    """A stored answer, and what `cvss_vectors` or a program of lines may answer instead where it
-    runs out of memory."""
+    """A stored answer, and what `cvss_vectors` may answer instead where it runs out of memory."""
     error = re.fullmatch(r"error: ((?:override|text) \d+: )?(.*)", answer, re.DOTALL)
     index, reason = error.groups("") if error else ("", "")
     if mark == "fault":
@@ -193,7 +193,7 @@ def found(text):
     """What `cvss_find` answers to each mention in a text."""
     for number, line in enumerate(text.split(b"\n"), 1):
         for place, _, answer in finding.found(line):
-            yield [f"{number}:{place + 1} {each}" for each in expected("", answer)]
+            yield [f"{number}:{place + 1} {answer}"]
 
 
 def check(program, turn, run, wanted, statuses):
@@ -266,15 +266,14 @@ def refuse_in_turn_over_documents(shim):
 
 
 def main():
-    asked = [(mark, line, expected(mark, answer))
-             for mark, line, answer in (("", *LONG), *stored("cvss_vectors"))]
-    texts = [(line, wanted) for mark, line, wanted in asked if not mark]
+    asked = [("", *LONG), *stored("cvss_vectors")]
+    texts = [(line, [answer]) for mark, line, answer in asked if not mark]
     text = b"\n".join(b"see (" + line + b")." for line, _ in texts)
     with tempfile.TemporaryDirectory() as room:
         shim = build(room)
         refuse_in_turn(shim, "cvss_vectors", in_batches(
-            [(f"{mark} ".encode() * bool(mark) + line, wanted)
-             for mark, line, wanted in asked if mark != "each"]), (0, 1), "lines")
+            [(f"{mark} ".encode() * bool(mark) + line, expected(mark, answer))
+             for mark, line, answer in asked if mark != "each"]), (0, 1), "lines")
         refuse_in_turn(shim, "cvss_json", in_batches(list(strings())), (0, 1), "strings")
         lines, wanted = zip(*texts)
         refuse_in_turn(shim, "cvss_tool", [(b"\n".join(lines) + b"\n", wanted)], (1, 2))

@@ -17,12 +17,9 @@
  * Threads. The functions keep no state: any number of threads may call them at once, each with its own
  * buffer or struct.
  *
- * Memory. cvss_version, cvss_scores, cvss_canonical, cvss_read, cvss_metrics, cvss_without_undefined and cvss_find take
- * none, and but for cvss_record and cvss_account no function takes any for a text that is accepted. To tell why a text
- * is refused, and to make a record or an account, the others call malloc, realloc and free, and free what they took
- * before they return; where malloc refuses, a record, an account and a reason that carries a part of the text are told
- * as "out of memory", and that of an override as "override 0: out of memory". So these must not be called from a signal
- * handler, or in a child that was forked from a process with threads.
+ * Memory. Only cvss_record and cvss_account take any: they call malloc, realloc and free, and free what they took before
+ * they return. Where malloc refuses, the result is "out of memory". So these two must not be called from a signal handler,
+ * or in a child that was forked from a process with threads.
  */
 #ifndef CVSS_H
 #define CVSS_H
@@ -57,8 +54,7 @@ enum {
     CVSS_INVALID_VALUE = 5,       /* the metric has no such value */
     CVSS_DUPLICATE_METRIC = 6,    /* the metric stands twice */
     CVSS_MISSING_METRIC = 7,      /* the metric is mandatory, and missing */
-    CVSS_NOT_UTF8 = 8,            /* the text is not UTF-8 */
-    CVSS_NO_MEMORY = 9            /* there was no memory to tell one of CVSS_INVALID_COMPONENT to _VALUE */
+    CVSS_NOT_UTF8 = 8             /* the text is not UTF-8 */
 };
 
 /*
@@ -175,7 +171,7 @@ size_t cvss_account(const void *text, size_t length, void *buffer, size_t size);
  */
 size_t cvss_reason(const void *text, size_t length, void *buffer, size_t size);
 
-/* The kind of this reason: CVSS_INVALID_COMPONENT to CVSS_NO_MEMORY; CVSS_ACCEPTED where there is none. */
+/* The kind of this reason: CVSS_INVALID_COMPONENT to CVSS_NOT_UTF8; CVSS_ACCEPTED where there is none. */
 int32_t cvss_refusal_kind(const void *text, size_t length);
 
 /*

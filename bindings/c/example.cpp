@@ -7,8 +7,8 @@
 static std::string reason_of(const std::string &text)
 {
     std::string reason(cvss_reason(text.data(), text.size(), nullptr, 0), ' ');
-    size_t length = cvss_reason(text.data(), text.size(), &reason[0], reason.size());
-    return length <= reason.size() ? reason.substr(0, length) : "out of memory";
+    cvss_reason(text.data(), text.size(), &reason[0], reason.size());
+    return reason;
 }
 
 int main()

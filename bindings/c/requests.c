@@ -68,7 +68,7 @@ static void make_without(const char *text, size_t length) { cvss_without_undefin
 static void make_record(const char *text, size_t length) { cvss_record(text, length, buffer, MOST); }
 static void make_reason(const char *text, size_t length) { cvss_reason(text, length, buffer, MOST); }
 static void make_kind(const char *text, size_t length) { cvss_refusal_kind(text, length); }
-static void make_blamed(const char *text, size_t length) { cvss_refusal_metric(text, length, buffer, MOST); }
+static void make_metric(const char *text, size_t length) { cvss_refusal_metric(text, length, buffer, MOST); }
 static void make_answer(const char *text, size_t length) { cvss_answer(text, length, buffer, MOST); }
 
 static void make_scores(const char *text, size_t length)
@@ -112,21 +112,19 @@ static void make_objection(const char *text, size_t length)
     cvss_override_reason(text, length, "MSI:S/CR:H", 10, buffer, MOST);
 }
 
-/* Those that take no memory; those that take some to tell why a text is refused; and what takes some of each vector. */
+/* Those that take no memory, and what takes some of each vector. */
 static Call frugal[] = {
     {"cvss_version", make_version, 0},     {"cvss_scores", make_scores, 0},
     {"cvss_canonical", make_canonical, 0}, {"cvss_read", make_read, 0},
     {"cvss_metrics", make_metrics, 0},     {"cvss_without_undefined", make_without, 0},
     {"cvss_find", make_find, 0},           {"cvss_overridden", make_overridden, 0},
-};
-static Call telling[] = {
-    {"cvss_reason", make_reason, 0},         {"cvss_refusal_kind", make_kind, 0},
-    {"cvss_refusal_metric", make_blamed, 0}, {"cvss_answer", make_answer, 0},
-    {"cvss_answers", make_answers, 0},       {"cvss_override_reason", make_objection, 0},
+    {"cvss_reason", make_reason, 0},       {"cvss_refusal_kind", make_kind, 0},
+    {"cvss_refusal_metric", make_metric, 0}, {"cvss_answer", make_answer, 0},
+    {"cvss_answers", make_answers, 0},     {"cvss_override_reason", make_objection, 0},
 };
 static Call record = {"cvss_record", make_record, 0};
 
-enum { FRUGAL = sizeof frugal / sizeof *frugal, TELLING = sizeof telling / sizeof *telling };
+enum { FRUGAL = sizeof frugal / sizeof *frugal };
 
 /* Whether a call asks for no memory unless it may, and frees what it took. */
 static bool is_right(Call *call, const char *text, size_t length, bool may_ask)
@@ -143,12 +141,9 @@ static bool is_right(Call *call, const char *text, size_t length, bool may_ask)
 /* Whether each function is right over one text, which a newline follows, and whose refusal is of this kind. */
 static bool are_right(const char *text, size_t length, int kind)
 {
-    bool carries_text = CVSS_INVALID_COMPONENT <= kind && kind <= CVSS_INVALID_VALUE;
     bool right = is_right(&record, text, length, kind == CVSS_ACCEPTED);
     for (size_t i = 0; i < FRUGAL; i++)
         right &= is_right(&frugal[i], text, length, false);
-    for (size_t i = 0; i < TELLING; i++)
-        right &= is_right(&telling[i], text, length, carries_text);
     return right;
 }
 
@@ -166,10 +161,8 @@ static bool are_counted(void)
         refused += kind != CVSS_ACCEPTED;
     }
     __real_free(line);
-    /* those that may ask do, or else nothing was counted */
+    /* a record asks, or else nothing was counted */
     right &= accepted > 0 && refused > 0 && record.asked > 0;
-    for (size_t i = 0; i < TELLING; i++)
-        right &= telling[i].asked > 0;
     printf("C: requests for memory counted over %zu accepted and %zu refused texts\n", accepted, refused);
     return right;
 }

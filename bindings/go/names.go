@@ -45,7 +45,6 @@ var kindWords = map[Kind]string{
 	DuplicateMetric:    "duplicate metric",
 	MissingMetric:      "missing metric",
 	NotUTF8:            "not UTF-8",
-	NoMemory:           "out of memory",
 }
 
 var (

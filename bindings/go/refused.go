@@ -25,7 +25,6 @@ const (
 	DuplicateMetric    Kind = C.CVSS_DUPLICATE_METRIC    // the metric stands twice
 	MissingMetric      Kind = C.CVSS_MISSING_METRIC      // the metric is mandatory, and missing
 	NotUTF8            Kind = C.CVSS_NOT_UTF8            // the text is not UTF-8
-	NoMemory           Kind = C.CVSS_NO_MEMORY           // there was no memory to tell the reason
 )
 
 // A RefusedError tells the first reason why a text denotes no vector.

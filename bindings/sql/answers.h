@@ -198,18 +198,12 @@ static inline int32_t environmental_score(Text text)
     return cvss_scores(text.bytes, text.length, &scores) ? scores.environmental : CVSS_NOTHING;
 }
 
-/*
- * Whether the library tells in place of an answer that there was no memory for it: by these words alone, of an
- * override behind its number. No other answer ends so and begins with one of these words.
- */
+/* Whether the library returns, in place of an answer, that there was no memory for it. No other answer is these words. */
 static inline bool lacked_memory(const char *answer, size_t length)
 {
-    static const char words[] = "out of memory", override[] = "override ";
-    size_t tail = sizeof words - 1;
+    static const char words[] = "out of memory";
 
-    if (length < tail || memcmp(answer + length - tail, words, tail) != 0)
-        return false;
-    return length == tail || (length > tail + sizeof override && memcmp(answer, override, sizeof override - 1) == 0);
+    return length == sizeof words - 1 && memcmp(answer, words, length) == 0;
 }
 
 #endif

@@ -16,7 +16,6 @@ Kind = Literal[
     "duplicate metric",
     "missing metric",
     "not UTF-8",
-    "out of memory",
 ]
 """The kind of the reason why a text is refused."""
 
@@ -29,7 +28,6 @@ _KINDS: Dict[int, Kind] = {
     6: "duplicate metric",
     7: "missing metric",
     8: "not UTF-8",
-    9: "out of memory",
 }
 
 
@@ -37,9 +35,9 @@ class CvssError(ValueError):
     """A text that denotes no vector.
 
     `reason` is the first reason why, in words, and `kind` its kind: invalid component, invalid prefix,
-    unsupported version, unknown metric, invalid value, duplicate metric, missing metric, not UTF-8 or out of
-    memory. `metric` is the abbreviation of the metric that has an invalid value, stands twice or is missing;
-    of other kinds it is empty.
+    unsupported version, unknown metric, invalid value, duplicate metric, missing metric or not UTF-8.
+    `metric` is the abbreviation of the metric that has an invalid value, occurs twice or is missing; of other
+    kinds it is empty.
 
     >>> from cvss_proved import Vector
     >>> try:

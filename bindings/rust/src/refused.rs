@@ -24,8 +24,6 @@ pub enum RefusedKind {
     MissingMetric,
     /// The text is not UTF-8.
     NotUtf8,
-    /// There was no memory to tell a reason that carries a part of the text.
-    NoMemory,
 }
 
 impl RefusedKind {
@@ -38,8 +36,7 @@ impl RefusedKind {
             5 => RefusedKind::InvalidValue,
             6 => RefusedKind::DuplicateMetric,
             7 => RefusedKind::MissingMetric,
-            8 => RefusedKind::NotUtf8,
-            _ => RefusedKind::NoMemory,
+            _ => RefusedKind::NotUtf8,
         }
     }
 }

@@ -8,9 +8,13 @@ ghost use Rattle.cvss.specs.laws.BytesErrors as of_bytes;
 ghost use Rattle.cvss.specs.laws.JsonErrors.{TellTheSame};
 
 use crate::json::JsonError;
-use crate::{Bounds, BytesError, Cvss, Error, MetricType, OneDecimal, Published, v2, v3, v4};
+use crate::{
+    Bounds, BytesError, Cvss, Error, Message, MetricType, OneDecimal, Published, ReadError,
+    Refusal, Segment, v2, v3, v4,
+};
 pub use cvss_laws::any::{
-    scores_are_unique, texts_denote_one_vector, texts_have_one_first_refusal,
+    errors_print_their_reasons, scores_are_unique, texts_denote_one_vector,
+    texts_have_one_first_refusal,
 };
 
 /// Two vectors of any version, two metrics, what is published of two vectors, or two counts to be
@@ -41,6 +45,10 @@ pub fn clones_are_equal()
     ensures published { ClonesByValue ⟦<Published as Clone>⟧.is_clone }
     ensures bounds { ClonesByValue ⟦<Bounds as Clone>⟧.is_clone }
     ensures decimal { ClonesByValue ⟦<OneDecimal as Clone>⟧.is_clone }
+    ensures segment { ClonesByValue ⟦<Segment<'static> as Clone>⟧.is_clone }
+    ensures message { ClonesByValue ⟦<Message<'static> as Clone>⟧.is_clone }
+    ensures refusal { ClonesByValue ⟦<Refusal<'static> as Clone>⟧.is_clone }
+    ensures read_error { ClonesByValue ⟦<ReadError<'static> as Clone>⟧.is_clone }
     ensures json { (x clone : JsonError) → ⟦<JsonError as Clone>⟧.is_clone x clone
         → TellTheSame x clone }
     ensures bytes { (x clone : BytesError) → ⟦<BytesError as Clone>⟧.is_clone x clone
@@ -58,4 +66,8 @@ pub fn values_are_cloned_without_memory()
     ensures published { ClonesAlways ⟦<Published as Clone>⟧.is_infallible }
     ensures bounds { ClonesAlways ⟦<Bounds as Clone>⟧.is_infallible }
     ensures decimal { ClonesAlways ⟦<OneDecimal as Clone>⟧.is_infallible }
+    ensures segment { ClonesAlways ⟦<Segment<'static> as Clone>⟧.is_infallible }
+    ensures message { ClonesAlways ⟦<Message<'static> as Clone>⟧.is_infallible }
+    ensures refusal { ClonesAlways ⟦<Refusal<'static> as Clone>⟧.is_infallible }
+    ensures read_error { ClonesAlways ⟦<ReadError<'static> as Clone>⟧.is_infallible }
 {}

@@ -11,5 +11,7 @@ pub mod v2;
 pub mod v3;
 pub mod v4;
 
-pub use cvss_any::{Bounds, BytesError, Cvss, MetricType, Metrics, Published};
+pub use cvss_any::{
+    Bounds, BytesError, Cvss, Message, MetricType, Metrics, Published, ReadError, Refusal, Segment,
+};
 pub use cvss_base::{Error, LIMIT, MetricGroup, ONE, OneDecimal, PREFIX, Severity, tenths};

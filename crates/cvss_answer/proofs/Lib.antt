@@ -1,2 +1,1 @@
-mod RefusalLemmas
 pub mod ScoreLemmas

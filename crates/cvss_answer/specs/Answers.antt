@@ -1,13 +1,11 @@
 -- The answers that the program writes to the lines of its input.
-use Rattle.std.specs.Prelude.{◌≡◌, ℕ, ◌⊎◌, List, [], ◌∷◌, ◌++◌, codes}
+use Rattle.std.specs.Prelude.{◌≡◌, ℕ, List, [], ◌∷◌, ◌++◌, codes}
 use Rattle.std.specs.Str.{IsUtf8}
-use Rattle.cvss_base.specs.declared.error.Error.{Error}
 use Rattle.cvss_any.specs.declared.vector.Cvss.{Cvss}
-use Rattle.cvss_base.specs.ErrorText.{error_text}
 use Rattle.cvss_any.specs.Answers.{IsScoreOf, rating_text, score_of_tenths, vector_answer}
-use Rattle.cvss_any.specs.Dispatch.{DenotesCvss, IsFirstRefusalCvss, cvss_reason}
+use Rattle.cvss_any.specs.Dispatch.{DenotesCvss}
 use Rattle.cvss_any.specs.Published.{rating_within}
-use Rattle.cvss_base.specs.Told.{TellsFirst}
+use Rattle.cvss_any.specs.Reasons.{IsErrorAnswer}
 use Rattle.cvss_any.specs.declared.published.Bounds.{Bounds}
 use Rattle.cvss_any.specs.declared.published.Published.{Published}
 use Rattle.cvss_lines.specs.Answers.{Answer, Accepted, Refused, written_text}
@@ -21,22 +19,10 @@ pub record IsAcceptance (line answer : List ℕ) : Type 0 where
   pub scored : IsScoreOf vector (score_of_tenths tenths)
   pub is : answer ≡ vector_answer vector tenths
 
--- the line is a text that is no vector, and the answer is an error that tells the first reason
-pub record IsRefusal (line answer : List ℕ) : Type 0 where
-  pub utf8 : IsUtf8 line
-  pub error : Error
-  pub told : TellsFirst cvss_reason (IsFirstRefusalCvss line) error
-  pub is : answer ≡ codes "error: " ++ error_text error
-
--- the line is no text
-pub record IsNoText (line answer : List ℕ) : Type 0 where
-  pub not_utf8 : ¬ (IsUtf8 line)
-  pub is : answer ≡ codes "error: not UTF-8"
-
--- this is an answer to the line, whatever its number: one text
+-- this is an answer to the line, whatever its number: one text, the vector's or an error with the first reason
 unfoldable pub IsAnswer : ℕ → List ℕ → Answer → Type 0
 IsAnswer number line (Accepted (text ∷ [])) = IsAcceptance line text
-IsAnswer number line (Refused (text ∷ [])) = IsRefusal line text ⊎ IsNoText line text
+IsAnswer number line (Refused (text ∷ [])) = IsErrorAnswer line text
 IsAnswer number line answer = ⊥
 
 -- the vector's answer and a byte 10 are written behind the earlier answers

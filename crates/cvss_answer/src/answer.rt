@@ -2,12 +2,13 @@
 
 ghost use Rattle.std.specs.Prelude.{◌≡◌, ℕ, ◌++◌, [], ◌∷◌, ◌≤◌, codes, IfOk, OnOk};
 ghost use Rattle.cvss_any.specs.Answers.{HasScore, text_of};
-ghost use Rattle.cvss_any.specs.Bytes.{bytes_error_text};
+ghost use Rattle.cvss_any.specs.Reasons.{error_message};
 ghost use Rattle.cvss_lines.specs.Answers.{WritesAnswer};
 ghost use Rattle.cvss_answer.specs.Answers.{IsAnswer, WritesVector, score_line};
 
 use crate::score_line::score_line;
-use cvss_any::{BytesError, Cvss, Published};
+use crate::segments::push_segments;
+use cvss_any::{Cvss, Message, Published, ReadError};
 use cvss_lines::{Answering, Gathered};
 use std::alloc::{AllocError, Global};
 use std::fmt::{self, Write};
@@ -19,7 +20,7 @@ impl Answering for Vectors {
     ghost rule = { IsAnswer };
 
     fn answer_line(
-        alloc: Global,
+        _alloc: Global,
         _number: u64,
         line: &[u8],
         answers: &mut Gathered,
@@ -28,7 +29,7 @@ impl Answering for Vectors {
             write_canonical(line, published, answers)?;
             return Ok(true);
         }
-        match answer_other_line(alloc, line, answers) {
+        match answer_other_line(line, answers) {
             Ok(accepted) => Ok(accepted),
             Err(_) => Err(AllocError),
         }
@@ -36,28 +37,30 @@ impl Answering for Vectors {
 }
 
 /// The answer to a line that is not seen at once to be canonical.
-fn answer_other_line(alloc: Global, line: &[u8], answers: &mut Gathered) -> Result<bool, fmt::Error>
+fn answer_other_line(line: &[u8], answers: &mut Gathered) -> Result<bool, fmt::Error>
     ensures { (number : ℕ) → IfOk result (WritesAnswer IsAnswer number line.now
         answers.old.bytes.items answers.new.bytes.items) }
 {
-    match Cvss::from_bytes(alloc, line) {
+    match Cvss::read(line) {
         Ok(vector) => {
             write_vector(&vector, answers)?;
             Ok(true)
         }
         Err(error) => {
-            write_error(&error, answers)?;
+            write_error(error, answers)?;
             Ok(false)
         }
     }
 }
 
 /// Writes why a line is no vector, and a byte 10.
-fn write_error(error: &BytesError, answers: &mut Gathered) -> fmt::Result
+fn write_error(error: ReadError<'_>, answers: &mut Gathered) -> Result<(), AllocError>
     ensures { OnOk result (answers.new.bytes.items ≡ answers.old.bytes.items
-        ++ (codes "error: " ++ (bytes_error_text error.now ++ 10 ∷ []))) }
+        ++ (codes "error: " ++ (error_message error.entry ++ 10 ∷ []))) }
 {
-    writeln!(answers, "error: {error}")
+    answers.push("error: ".as_bytes())?;
+    push_segments(&Message::of(error).segments, answers)?;
+    answers.push(&[b'\n'])
 }
 
 /// Writes a canonical line with what is published of its vector, and a byte 10: the answer to it.

@@ -4,5 +4,6 @@
 
 mod answer;
 mod score_line;
+mod segments;
 
 pub use answer::{Vectors, write_canonical};

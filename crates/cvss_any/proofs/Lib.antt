@@ -1,5 +1,6 @@
 mod BytesLemmas
 mod CutLemmas
+pub mod ErrorLemmas
 mod ReadLemmas
 pub mod RouteLemmas
 mod SightLemmas

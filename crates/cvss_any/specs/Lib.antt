@@ -4,5 +4,8 @@ pub mod Dispatch
 pub mod MetricTypes
 pub mod MetricsLeft
 pub mod Published
+pub mod Reasons
+pub mod Refusals
 pub mod Route
+pub mod Segments
 pub mod private

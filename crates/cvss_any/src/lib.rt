@@ -2,11 +2,14 @@
 #![tactic(auto)]
 
 mod bytes_error;
+mod message;
 mod metric_type;
 mod metrics;
 mod published;
 mod reading;
+mod refusal;
 mod route;
+mod segment;
 mod sight;
 mod vector;
 
@@ -14,7 +17,10 @@ pub use bytes_error::BytesError;
 use cvss_v2 as v2;
 use cvss_v3 as v3;
 use cvss_v4 as v4;
+pub use message::Message;
 pub use metric_type::MetricType;
 pub use metrics::Metrics;
 pub use published::{Bounds, Published};
+pub use refusal::{ReadError, Refusal};
+pub use segment::Segment;
 pub use vector::Cvss;

@@ -11,12 +11,14 @@ ghost use Rattle.cvss_any.specs.Bytes.{IsRefusedAs};
 ghost use Rattle.cvss_any.specs.declared.metric_type.MetricType.TheVariants.{V2};
 ghost use Rattle.cvss_any.specs.Dispatch.{cvss_reason, untold, wrapped};
 ghost use Rattle.cvss_any.specs.private.Steps.{IsRead, IsTellableFault, reason_read};
+ghost use Rattle.cvss_any.specs.Refusals.{IsReadErrorFor};
 ghost use Rattle.cvss_any.specs.Route.{ToV20, ToV30, ToV31, ToV40, route_of};
 ghost use Rattle.cvss_any.specs.private.Views as is_told;
 ghost use Rattle.cvss_any.specs.private.Views.{why_of};
 ghost use Rattle.cvss_v2.specs.Vector.{v2};
 
 use crate::bytes_error::BytesError;
+use crate::refusal::{ReadError, Refusal};
 use crate::route::{NoVersion, Route, route_of_text};
 use crate::vector::Cvss;
 use crate::{v2, v3, v4};
@@ -132,5 +134,15 @@ pub(crate) fn bytes_error_of(alloc: Global, text: &[u8], fault: ReadFault<'_>) -
     match str::from_utf8(text) {
         Ok(_) => BytesError::Invalid(error_of(alloc, fault)),
         Err(_) => BytesError::NotUtf8,
+    }
+}
+
+/// The error of bytes in which a fault was found, without copying.
+pub(crate) fn read_error_of<'a>(text: &'a [u8], fault: ReadFault<'a>) -> ReadError<'a>
+    ensures { IsReadErrorFor text.now (reason_read fault.entry) result }
+{
+    match str::from_utf8(text) {
+        Ok(_) => ReadError::Invalid(Refusal::of(fault)),
+        Err(_) => ReadError::NotUtf8,
     }
 }

@@ -6,7 +6,8 @@ ghost use Rattle.cvss_any.specs.Answers.{text_of};
 use crate::bytes_error::BytesError;
 use crate::metrics::Metrics;
 use crate::published::{Bounds, Published};
-use crate::reading::{bytes_error_of, error_of, read};
+use crate::reading::{bytes_error_of, error_of, read, read_error_of};
+use crate::refusal::ReadError;
 use crate::{v2, v3, v4};
 use cvss_base::tenths::text_of as text_of_tenths;
 use cvss_base::{Error, Severity, TENTH, severity_of_score};
@@ -36,7 +37,9 @@ impl Cvss {
     ghost use Rattle.cvss_any.specs.Dispatch.{DenotesCvss, IsFirstRefusalCvss, cvss_reason};
     ghost use Rattle.cvss_any.specs.MetricsLeft.{metrics_left};
     ghost use Rattle.cvss_any.specs.Published.{IsPublished, rating_within};
+    ghost use Rattle.cvss_any.specs.Refusals.{IsReadError, IsReadErrorFor};
     ghost use Rattle.cvss_any.specs.declared.bytes_error.BytesError.TheVariants.{NotUtf8};
+    ghost use Rattle.cvss_any.specs.declared.refusal.ReadError.TheVariants as read_error;
     ghost use Rattle.cvss_any.specs.declared.metric_type.MetricType.{MetricType};
 
     /// The vector that a text denotes, by the rules of the version that it tells: CVSS v3.0, v3.1
@@ -91,6 +94,32 @@ impl Cvss {
         match read(text) {
             Ok(cvss) => Ok(cvss),
             Err(fault) => Err(bytes_error_of(alloc, text, fault)),
+        }
+    }
+
+    /// The vector that bytes denote, as `from_bytes` gives it, but without memory: an error borrows
+    /// the part of the text that it names. Canonical texts are read faster by `read_canonical`.
+    ///
+    /// # Errors
+    ///
+    /// `NotUtf8` for bytes that are not UTF-8, and else the first reason why the text is refused.
+    pub fn read(text: &[u8]) -> Result<Cvss, ReadError<'_>>
+        // Accepted: what is given is what the text denotes, and each such vector is given; it has a
+        // score.
+        ensures denoted { IfOk result (λ cvss. DenotesCvss text.now cvss) }
+        ensures accepts { (cvss : Cvss) → DenotesCvss text.now cvss → result ≡ Ok cvss }
+        ensures scored { IfOk result (λ cvss. HasScore cvss) }
+        ensures utf8 { OnOk result (IsUtf8 text.now) }
+        // Refused: as not UTF-8 exactly where it is not, and else for the first reason, and wherever
+        // there is one.
+        ensures refused { IfErr result (IsReadError text.now) }
+        ensures not_utf8 { ¬ (IsUtf8 text.now) → result ≡ Err read_error.NotUtf8 }
+        ensures refuses { (reason : Refusal MetricType) → IsFirstRefusalCvss text.now reason
+            → IsErrAnd result (IsReadErrorFor text.now reason) }
+    {
+        match read(text) {
+            Ok(cvss) => Ok(cvss),
+            Err(fault) => Err(read_error_of(text, fault)),
         }
     }
 

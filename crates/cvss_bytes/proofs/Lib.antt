@@ -9,8 +9,8 @@ pub mod ObjectionLemmas
 pub mod OverriddenLemmas
 pub mod PartLemmas
 pub mod PartsLemmas
-pub mod ReasonLemmas
 pub mod RecordLemmas
+pub mod SegmentLemmas
 pub mod ShortLemmas
 pub mod UndefinedLemmas
 pub mod WordLemmas

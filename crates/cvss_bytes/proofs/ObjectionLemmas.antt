@@ -8,15 +8,13 @@ use Rattle.std.proofs.lemmas.Bool.{cases_lt}
 use Rattle.cvss_base.specs.Groups.{same_group}
 use Rattle.cvss_base.specs.declared.group.MetricGroup.TheVariants.{Environmental}
 use Rattle.cvss_base.specs.declared.v4.MetricType.{MetricType}
-use Rattle.cvss_v4.specs.declared.vector.overriding.OverrideError.{OverrideError}
-use Rattle.cvss_v4.specs.Overriding.{AreOverrides, Objection, NamesOther, ObjectionAt, OfOtherGroup, OfText, TellsFirstObjection, TellsObjection}
+use Rattle.cvss_v4.specs.Overriding.{AreOverrides, IsFirstObjection, Objection, NamesOther, ObjectionAt, OfOtherGroup, OfText}
 use Rattle.cvss_base.specs.Refusal.{BadComponent, BadValue, FaultAt, IsNamedBefore, Spells, Missing, Refusal, Repeated, UnknownName, WrongPrefix, WrongVersion, name_at, piece_at, value_at}
 use Rattle.cvss_base.specs.Text.{IsComponent, name_part, value_part}
 use Rattle.cvss_base.specs.V4Types.{group_of}
 use Rattle.cvss_v4.specs.declared.vector.Vector.{Vector}
 use Rattle.cvss_v4.specs.Vector.{v4}
 use Rattle.cvss_base.specs.Version.{component_of, components_of, read, reading}
-use Rattle.cvss_bytes.specs.private.Overridden.{place_of}
 
 -- whether a metric is an environmental one
 abbrev is_environmental : MetricType → Bool
@@ -99,38 +97,25 @@ module _ (xs ys : List (List ℕ)) (place : ℕ) (same : (k : ℕ) → k ≤ pla
   objection_same (OfText (WrongVersion told)) (is, none, fault) = absurd fault
   objection_same (OfText (Missing kind)) (is, none, fault) = absurd fault
 
--- the place that an error tells is that of the objection
-place_told : (place : ℕ) (objection : Objection) (error : OverrideError) → TellsObjection place objection error → place_of error ≡ place
-place_told place OfOtherGroup error is = ap place_of is
-place_told place (OfText reason) error (own, is, tells) = ap place_of is
-
 module _ (texts : List (List ℕ)) where
   first_same : (k : ℕ) → k < 15 → piece_at (take 15 texts) k ≡ piece_at texts k
   first_same k within = get_or-take 15 texts k [] within
 
   -- the first override of the first ones with which something is wrong
-  pub first_objection : (error : OverrideError) → TellsFirstObjection (take 15 texts) error → TellsFirstObjection texts error
-  first_objection error told =
-      let first = told.first in
-      let within : told.place < 15 = omega (arith, first.within, length-take 15 texts) in
+  pub first_objection : (index : ℕ) (objection : Objection) → IsFirstObjection (take 15 texts) index objection → IsFirstObjection texts index objection
+  first_objection index objection first =
+      let within : index < 15 = omega (arith, first.within, length-take 15 texts) in
       record {
-        place = told.place;
-        objection = told.objection;
-        first = record {
-          within = omega (arith, first.within, length-take 15 texts);
-          is = objection_same (take 15 texts) texts told.place (λ k before. first_same k (omega (arith, before, within))) told.objection first.is;
-          earlier = record {
-            none = λ earlier objection below at. first.earlier.none earlier objection below
-                (objection_same texts (take 15 texts) earlier (λ k before. sym (first_same k (omega (arith, before, below, within)))) objection at);
-          };
+        within = omega (arith, first.within, length-take 15 texts);
+        is = objection_same (take 15 texts) texts index (λ k before. first_same k (omega (arith, before, within))) objection first.is;
+        earlier = record {
+          none = λ earlier objection below at. first.earlier.none earlier objection below
+              (objection_same texts (take 15 texts) earlier (λ k before. sym (first_same k (omega (arith, before, below, within)))) objection at);
         };
-        tells = told.tells;
       }
 
-  -- the error tells one of the first overrides
-  pub first_place : (error : OverrideError) → TellsFirstObjection (take 15 texts) error → place_of error ≤ 14
-  first_place error told =
-      omega (arith, place_told told.place told.objection error told.tells, told.first.within, length-take 15 texts)
+  pub first_index : (index : ℕ) (objection : Objection) → IsFirstObjection (take 15 texts) index objection → index ≤ 14
+  first_index index objection first = omega (arith, first.within, length-take 15 texts)
 
   -- overrides are no more than the first ones
   pub first_overrides : (v : Vector) → AreOverrides (take 15 texts) v → AreOverrides texts v

@@ -7,7 +7,7 @@ use Rattle.std.proofs.lemmas.Bool.{and_parts}
 use Rattle.std.proofs.lemmas.Bool.Decides.{nat_tests}
 use Rattle.std.proofs.lemmas.Slice.Eq.{bytes_eq-Decides}
 use Rattle.cvss_base.proofs.TestLemmas.{all_below, below_passes}
-use Rattle.cvss_bytes.specs.private.Reasons.{override_words}
+use Rattle.cvss_bytes.specs.Overriding.{override_words}
 use Rattle.cvss_bytes.specs.declared.overriding.TheConstants.{WORDS}
 
 -- whether a text is the words that name an override, of which none are longer than 32 bytes

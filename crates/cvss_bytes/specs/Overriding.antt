@@ -1,14 +1,16 @@
 -- An organisation's own environmental metrics in place of a vector's, as one text: CVSS v4.0 specification,
 -- sections 4 and 7.
-use Rattle.std.specs.Prelude.{◌≡◌, ◌⊎◌, ℕ, List, [], ◌∷◌, codes}
+use Rattle.std.specs.Prelude.{◌≡◌, ◌⊎◌, ℕ, List, [], ◌∷◌, ◌++◌, codes}
+use Rattle.std.specs.Fmt.{decimal}
 use Rattle.std.specs.Str.{IsUtf8}
-use Rattle.cvss_v4.specs.declared.vector.overriding.OverrideError.{OverrideError}
-use Rattle.cvss_v4.specs.Overriding.{AreOverrides, IsOverridden, TellsFirstObjection, override_error_text}
+use Rattle.cvss_v4.specs.Overriding.{AreOverrides, IsFirstObjection, IsOverridden, Objection, OfOtherGroup, OfText}
 use Rattle.cvss_base.specs.Text.{pieces}
 use Rattle.cvss_v4.specs.declared.vector.Vector.{Vector}
 use Rattle.cvss_any.specs.declared.vector.Cvss.{Cvss}
 use Rattle.cvss_any.specs.declared.vector.Cvss.TheVariants.{CvssV40}
-use Rattle.cvss_bytes.specs.Answers.{IsNoText}
+use Rattle.cvss_any.specs.Dispatch.{wrapped}
+use Rattle.cvss_any.specs.Reasons.{not_utf8_text, reason_text}
+use Rattle.cvss_any.specs.declared.metric_type.MetricType.TheVariants.{V4}
 
 -- the overrides that a text has: its pieces, and none where it is empty
 abbrev pub overrides_in : List ℕ → List (List ℕ)
@@ -33,14 +35,25 @@ abbrev pub AnswersOverridden : Cvss → List ℕ → (Vector → Type 0) → Typ
 AnswersOverridden cvss text IsOf Otherwise =
     ((new : Vector) × IsWithOverrides cvss text new × IsOf new) ⊎ (IsWithoutOverrides cvss text × Otherwise)
 
--- the reason tells the first override with which something is wrong, and what
-pub record IsObjectionTold (text reason : List ℕ) : Type 0 where
+-- the words that name an override, counted from 0
+abbrev pub override_words : ℕ → List ℕ
+override_words index = codes "override " ++ decimal index ++ codes ": "
+
+-- what is wrong with an override, in the words of the errors (cvss_v4, Overriding)
+abbrev pub objection_text : Objection → List ℕ
+objection_text OfOtherGroup = codes "no environmental CVSSv4 metric"
+objection_text (OfText reason) = reason_text (wrapped V4 reason)
+
+-- the reason names the first override with which something is wrong, and says what
+pub record IsObjectionText (text reason : List ℕ) : Type 0 where
   pub utf8 : IsUtf8 text
-  pub error : OverrideError
-  pub first : TellsFirstObjection (overrides_in text) error
-  pub is : reason ≡ override_error_text error
+  pub index : ℕ
+  pub objection : Objection
+  pub first : IsFirstObjection (overrides_in text) index objection
+  pub is : reason ≡ override_words index ++ objection_text objection
 
 -- why the overrides cannot be put into the vector: it is of another version, or they are refused
 abbrev pub IsOverrideReason : Cvss → List ℕ → List ℕ → Type 0
-IsOverrideReason (CvssV40 vector) text reason = IsNoText text reason ⊎ IsObjectionTold text reason
+IsOverrideReason (CvssV40 vector) text reason =
+    (¬ (IsUtf8 text) × (reason ≡ not_utf8_text)) ⊎ IsObjectionText text reason
 IsOverrideReason cvss text reason = reason ≡ codes "no CVSSv4 vector"

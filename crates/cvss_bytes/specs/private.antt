@@ -1,3 +1,2 @@
 pub mod Overridden
-pub mod Reasons
 pub mod Steps

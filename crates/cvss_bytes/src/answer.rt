@@ -9,19 +9,29 @@ ghost use Rattle.cvss_bytes.specs.private.Steps.{IsRated, Puts};
 
 use crate::buffer::put;
 use crate::canonical::put_canonical;
-use crate::reason::put_reason;
+use crate::message::put_error;
 use cvss_any::Cvss;
 use cvss_base::tenths::{tenths_of, text_of};
-use std::alloc::Global;
 
-/// Writes the answer to a text at the beginning of a buffer where it fits, and tells its length.
-pub fn put_answer_to(alloc: Global, text: &[u8], buffer: &mut [u8]) -> usize
+/// Writes the answer to a text at the beginning of a buffer where it fits, and returns its length.
+pub fn put_answer_to(text: &[u8], buffer: &mut [u8]) -> usize
     ensures { (answer : List ℕ) × IsAnswer text.now answer
         × IsWritten answer buffer.old buffer.new result }
 {
-    match Cvss::read_bytes(text) {
+    match Cvss::read_canonical(text) {
         Some(cvss) => put_answer(&cvss, text, buffer),
-        None => put_reason(alloc, "error: ".as_bytes(), text, buffer),
+        None => put_other_answer(text, buffer),
+    }
+}
+
+/// Writes the answer to a text that is not recognised as a canonical one.
+fn put_other_answer(text: &[u8], buffer: &mut [u8]) -> usize
+    ensures { (answer : List ℕ) × IsAnswer text.now answer
+        × IsWritten answer buffer.old buffer.new result }
+{
+    match Cvss::read(text) {
+        Ok(cvss) => put_answer(&cvss, text, buffer),
+        Err(error) => put_error("error: ", error, buffer),
     }
 }
 

@@ -1,7 +1,7 @@
 //! What is told of a text, as bytes in a buffer of the caller and as plain numbers.
 //!
-//! A result goes into a buffer, which is left as it was where it is too small. Accepting, scoring and
-//! printing take no memory; telling why a text is refused does.
+//! A result goes into a buffer, which is left as it was where it is too small. Records and accounts
+//! take memory; nothing else does.
 #![tactic(auto)]
 
 pub mod answer;
@@ -11,11 +11,11 @@ pub mod defined;
 pub mod laws;
 pub mod lines;
 pub mod mentioned;
+mod message;
 pub mod metrics;
 pub mod numbers;
 pub mod objects;
 pub mod overriding;
-pub mod reason;
 pub mod refusal;
 pub mod scores;
 

@@ -8,17 +8,16 @@ ghost use Rattle.cvss_bytes.specs.private.Steps.{IsFirstEnd};
 
 use crate::answer::put_answer_to;
 use crate::buffer::put;
-use std::alloc::Global;
 
 /// Writes the answers to the first lines at the beginning of a buffer, as far as they have room, and
 /// tells their length and how many bytes of the texts were read.
-pub fn put_answers(alloc: Global, texts: &[u8], buffer: &mut [u8]) -> (usize, usize)
+pub fn put_answers(texts: &[u8], buffer: &mut [u8]) -> (usize, usize)
     ensures { AnswersLines texts.now buffer.old buffer.new result.1 result.0 }
 {
     let mut rest = texts;
     let mut written = 0;
     while let Some((line, behind)) = cut_line(rest) {
-        let Some(length) = put_line(alloc, line, &mut buffer[written..]) else {
+        let Some(length) = put_line(line, &mut buffer[written..]) else {
             return (written, texts.len() - rest.len());
         };
         written += length;
@@ -29,13 +28,13 @@ pub fn put_answers(alloc: Global, texts: &[u8], buffer: &mut [u8]) -> (usize, us
 
 /// Writes the answer to a line, and a byte 10, at the beginning of a part of the buffer, and tells
 /// their length; nothing where there is no room.
-fn put_line(alloc: Global, line: &[u8], part: &mut [u8]) -> Option<usize>
+fn put_line(line: &[u8], part: &mut [u8]) -> Option<usize>
     ensures { (answer : List ℕ) × IsAnswer (text_of_line line.now) answer × MatchOption result
         ((length part.old < length (ended answer)) × (part.new ≡ part.old))
         (λ told. (told ≤ length part.old) × HasPut part.old (ended answer) part.new told) }
 {
     let room = part.len().saturating_sub(1);
-    let length = put_answer_to(alloc, text_of_line(line), &mut part[..room]);
+    let length = put_answer_to(text_of_line(line), &mut part[..room]);
     if length >= part.len() {
         return None;
     }

@@ -1,97 +1,99 @@
 //! An organisation's own environmental metrics in place of those of a vector of CVSS v4.0.
 
-ghost use Rattle.std.specs.Prelude.{◌≡◌, ◌≤◌, ◌+◌, ◌∷◌, [], ℕ, List, IfOk, IfErr, IsOk, codes, length, map, take};
-ghost use Rattle.cvss_v4.specs.Overriding.{AreOverrides, TellsFirstObjection};
+ghost use Rattle.std.specs.Prelude.{◌≡◌, ◌≤◌, ◌++◌, ◌∷◌, [], ℕ, List, IfOk, IfErr, IsOk, codes, length, map, take};
+ghost use Rattle.cvss_v4.specs.Overriding.{AreOverrides, IsFirstObjection};
+ghost use Rattle.cvss_v4.specs.private.OverridingSteps.{objection_of};
 ghost use Rattle.cvss_v4.specs.declared.vector.Vector.{Vector};
 ghost use Rattle.cvss_v4.specs.Vector.{v4};
 ghost use Rattle.cvss_base.specs.Version.{canonical_text};
 ghost use Rattle.cvss_any.specs.Dispatch.{DenotesCvss};
+ghost use Rattle.cvss_any.specs.Reasons.{IsReason};
+ghost use Rattle.cvss_bytes.specs.Answers.{Answers};
 ghost use Rattle.cvss_bytes.specs.Buffer.{IsLeft, IsWritten};
-ghost use Rattle.cvss_bytes.specs.Overriding.{AnswersOverridden, IsOverrideReason, IsWithOverrides, overrides_in};
-ghost use Rattle.cvss_bytes.specs.private.Overridden.{IsUnfit, place_of};
-ghost use Rattle.cvss_bytes.specs.private.Reasons.{IsOverrideErrorTold, override_words};
+ghost use Rattle.cvss_bytes.specs.Overriding.{AnswersOverridden, IsOverrideReason, IsWithOverrides, objection_text, override_words, overrides_in};
+ghost use Rattle.cvss_bytes.specs.private.Overridden.{IsUnfit};
 
 use crate::buffer::{LONGEST, put_both, put_printed};
-use crate::reason::put_error;
+use crate::message::{put_error, put_refusal};
 use crate::v4;
-use cvss_any::Cvss;
-use cvss_v4::OverrideError;
-use std::alloc::Global;
+use cvss_any::{Cvss, Refusal};
+use cvss_v4::overrides::{OverrideFault, read_overrides};
 
 /// One override more than a vector has environmental metrics is too many.
 const TOO_MANY: usize = 15;
 
 /// Why overrides cannot be put into a vector.
 #[derive(Drop)]
-enum Unfit {
+enum Unfit<'a> {
     /// The vector is not of CVSS v4.0.
     OtherVersion,
     /// The overrides are not UTF-8.
     NotUtf8,
-    /// One of the overrides is refused.
-    Override(OverrideError),
+    /// The override with this index is refused.
+    Override(usize, OverrideFault<'a>),
 }
 
 /// Writes the canonical text of a vector with overrides in place at the beginning of a buffer where
-/// it fits, and tells its length; 0 where they cannot be put into it. The text that denotes the
+/// it fits, and returns its length; 0 where they cannot be put into it. The text that denotes the
 /// vector is given.
-pub fn put_overridden(
-    alloc: Global,
-    cvss: &Cvss,
-    text: &[u8],
-    overrides: &[u8],
-    buffer: &mut [u8],
-) -> usize
+pub fn put_overridden(cvss: &Cvss, text: &[u8], overrides: &[u8], buffer: &mut [u8]) -> usize
     requires { DenotesCvss text.now cvss.now }
     ensures { AnswersOverridden cvss.now overrides.now
         (λ new. IsWritten (canonical_text v4 new) buffer.old buffer.new result)
         (IsLeft buffer.old buffer.new result) }
 {
-    let Ok(vector) = overridden(alloc, cvss, text, overrides) else {
+    let Ok(vector) = overridden(cvss, text, overrides) else {
         return 0;
     };
     put_vector(&vector, buffer)
 }
 
+/// Writes why a text denotes no vector, or why overrides cannot be put into its vector, at the
+/// beginning of a buffer where it fits, and returns its length; 0 where they can.
+pub fn put_override_reason(text: &[u8], overrides: &[u8], buffer: &mut [u8]) -> usize
+    ensures { Answers text.now
+        (λ cvss. AnswersOverridden cvss overrides.now (λ _. IsLeft buffer.old buffer.new result)
+        ((reason : List ℕ) × IsOverrideReason cvss overrides.now reason
+        × IsWritten reason buffer.old buffer.new result))
+        ((reason : List ℕ) × IsReason text.now reason
+        × IsWritten reason buffer.old buffer.new result) }
+{
+    match Cvss::read(text) {
+        Ok(cvss) => put_unfit(&cvss, text, overrides, buffer),
+        Err(error) => put_error("", error, buffer),
+    }
+}
+
 /// Writes why overrides cannot be put into a vector at the beginning of a buffer where it fits, and
-/// tells its length; 0 where they can.
-pub fn put_override_reason(
-    alloc: Global,
-    cvss: &Cvss,
-    text: &[u8],
-    overrides: &[u8],
-    buffer: &mut [u8],
-) -> usize
+/// returns its length; 0 where they can. The text that denotes the vector is given.
+fn put_unfit(cvss: &Cvss, text: &[u8], overrides: &[u8], buffer: &mut [u8]) -> usize
     requires { DenotesCvss text.now cvss.now }
     ensures { AnswersOverridden cvss.now overrides.now (λ _. IsLeft buffer.old buffer.new result)
         ((reason : List ℕ) × IsOverrideReason cvss.now overrides.now reason
         × IsWritten reason buffer.old buffer.new result) }
 {
-    match overridden(alloc, cvss, text, overrides) {
+    match overridden(cvss, text, overrides) {
         Ok(_) => 0,
         Err(Unfit::OtherVersion) => put_both(&[], "no CVSSv4 vector".as_bytes(), buffer),
         Err(Unfit::NotUtf8) => put_both(&[], "not UTF-8".as_bytes(), buffer),
-        Err(Unfit::Override(error)) => put_objection(alloc, &error, buffer),
+        Err(Unfit::Override(index, fault)) => put_objection(index, fault, buffer),
     }
 }
 
-/// Writes what is wrong with an override at the beginning of a buffer where it fits, and tells its
-/// length. Where memory is refused for an error that carries text, the error told is that.
-fn put_objection(alloc: Global, error: &OverrideError, buffer: &mut [u8]) -> usize
-    requires { place_of error.now ≤ 14 }
-    ensures { (reason : List ℕ) × IsOverrideErrorTold error.now reason
-        × IsWritten reason buffer.old buffer.new result }
+/// Writes what is wrong with an override at the beginning of a buffer where it fits, and returns its
+/// length.
+fn put_objection(index: usize, fault: OverrideFault<'_>, buffer: &mut [u8]) -> usize
+    requires { index ≤ 14 }
+    ensures { IsWritten (override_words index ++ objection_text (objection_of fault.entry))
+        buffer.old buffer.new result }
 {
-    match error {
-        OverrideError::NotEnvironmental { index } => {
-            let words = override_words(*index);
+    let words = override_words(index);
+    match fault {
+        OverrideFault::OtherGroup => {
             let reason = "no environmental CVSSv4 metric";
             put_both(words.as_bytes(), reason.as_bytes(), buffer)
         }
-        OverrideError::Refused { index, error } => {
-            let words = override_words(*index);
-            put_error(alloc, words.as_bytes(), error, buffer)
-        }
+        OverrideFault::Component(fault) => put_refusal(words, Refusal::from(fault), buffer),
     }
 }
 
@@ -125,12 +127,7 @@ fn override_words(index: usize) -> &'static str
 }
 
 /// The vector with overrides in place. The text that denotes the vector is given.
-fn overridden(
-    alloc: Global,
-    cvss: &Cvss,
-    text: &[u8],
-    overrides: &[u8],
-) -> Result<v4::Vector, Unfit>
+fn overridden<'a>(cvss: &Cvss, text: &[u8], overrides: &'a [u8]) -> Result<v4::Vector, Unfit<'a>>
     requires { DenotesCvss text.now cvss.now }
     ensures is { IfOk result (IsWithOverrides cvss.now overrides.now) }
     ensures front { IfOk result (λ new. v4.front new ≡ codes "CVSS:4.0" ∷ []) }
@@ -143,22 +140,23 @@ fn overridden(
     let Ok(overrides) = str::from_utf8(overrides) else {
         return Err(Unfit::NotUtf8);
     };
-    match read_overrides(alloc, overrides) {
+    match overrides_of(overrides) {
         Ok(overrides) => Ok(vector.overridden_by(&overrides)),
-        Err(error) => Err(Unfit::Override(error)),
+        Err((index, fault)) => Err(Unfit::Override(index, fault)),
     }
 }
 
-/// The overrides that a text has.
-fn read_overrides(alloc: Global, text: &str) -> Result<v4::Vector, OverrideError>
+/// The overrides that a text has; or else the index of the first that is refused, and why.
+fn overrides_of(text: &str) -> Result<v4::Vector, (usize, OverrideFault<'_>)>
     ensures accepted { IfOk result (AreOverrides (overrides_in text.now)) }
     ensures accepts { (overrides : Vector) → AreOverrides (overrides_in text.now) overrides
         → IsOk result }
-    ensures refused { IfErr result (TellsFirstObjection (overrides_in text.now)) }
-    ensures place { IfErr result (λ error. place_of error ≤ 14) }
+    ensures refused { IfErr result (λ refused. IsFirstObjection (overrides_in text.now) refused.0
+        (objection_of refused.1)) }
+    ensures index { IfErr result (λ refused. refused.0 ≤ 14) }
 {
     let (pieces, count) = first_pieces(text);
-    v4::Vector::from_overrides(alloc, &pieces[..count])
+    read_overrides(&pieces[..count])
 }
 
 /// The first pieces of a text, no more than `TOO_MANY`, and how many they are; none of an empty text.

@@ -1,82 +1,89 @@
-//! What kind of refusal a text gets, and of which metric.
+//! Why a text is refused: the reason in words, its kind, and the metric that it names. It takes no
+//! memory.
 
-ghost use Rattle.std.specs.Prelude.{[]};
-ghost use Rattle.cvss_any.specs.Dispatch.{cvss_reason};
-ghost use Rattle.cvss_base.specs.Refusal.{Refusal};
-ghost use Rattle.cvss_base.specs.Told.{Tells};
-ghost use Rattle.cvss_any.specs.declared.metric_type.MetricType.{MetricType};
-ghost use Rattle.cvss_bytes.specs.Answers.{IsRefused};
-ghost use Rattle.cvss_bytes.specs.Refusals.{IsBlamed, IsKind, IsSaid, blamed_name, kind_number as number_of_kind, no_memory};
+ghost use Rattle.std.specs.Prelude.{◌≡◌, ℕ, List, [], MatchOption, pos};
+ghost use Rattle.cvss_any.specs.Dispatch.{DenotesCvss};
+ghost use Rattle.cvss_any.specs.Reasons.{IsReason, said_of};
+ghost use Rattle.cvss_any.specs.Refusals.{IsReadError};
+ghost use Rattle.cvss_any.specs.declared.vector.Cvss.{Cvss};
+ghost use Rattle.cvss_bytes.specs.Answers.{Answers, IsRefused};
+ghost use Rattle.cvss_bytes.specs.Buffer.{IsLeft, IsWritten};
+ghost use Rattle.cvss_bytes.specs.Refusals.{IsBlamed, IsKind, blamed_name as name_blamed, kind_number as number_of_kind, not_utf8};
 
-use cvss_any::{BytesError, Cvss};
-use cvss_base::Error;
-use std::alloc::Global;
+use crate::buffer::put_both;
+use crate::message::put_error;
+use cvss_any::{Cvss, ReadError, Refusal};
 
 /// The number of a text that denotes a vector.
-pub const ACCEPTED: i32 = 0;
+const ACCEPTED: i32 = 0;
 
 const NOT_UTF8: i32 = 8;
 
-const NO_MEMORY: i32 = 9;
-
-/// The number of the kind of refusal that a text gets.
-pub fn kind_of(alloc: Global, text: &[u8]) -> i32
-    requires { IsRefused text.now }
-    ensures { IsKind text.now result }
+/// Writes why a text is refused at the beginning of a buffer where it fits, and returns its length; 0
+/// where the text denotes a vector.
+pub fn put_reason(text: &[u8], buffer: &mut [u8]) -> usize
+    ensures { Answers text.now (λ _. IsLeft buffer.old buffer.new result)
+        ((reason : List ℕ) × IsReason text.now reason
+        × IsWritten reason buffer.old buffer.new result) }
 {
-    match Cvss::from_bytes(alloc, text) {
-        Ok(_) => unreachable!(),
-        Err(BytesError::NotUtf8) => NOT_UTF8,
-        Err(BytesError::Invalid(error)) => kind_number(&error),
+    match error_in(text) {
+        Some(error) => put_error("", error, buffer),
+        None => 0,
     }
 }
 
-/// The abbreviation of the metric that a refusal blames; empty where it blames none.
-pub fn blamed_by(alloc: Global, text: &[u8]) -> &'static str
-    requires { IsRefused text.now }
-    ensures { IsBlamed text.now result.now }
+/// The number of the kind of refusal that a text gets; 0 where the text denotes a vector.
+pub fn kind_of(text: &[u8]) -> i32
+    ensures { Answers text.now (λ _. result ≡ pos 0) (IsKind text.now result) }
 {
-    match Cvss::from_bytes(alloc, text) {
-        Ok(_) => unreachable!(),
-        Err(BytesError::NotUtf8) => "",
-        Err(BytesError::Invalid(error)) => blamed_name(&error),
+    match error_in(text) {
+        Some(error) => kind_number(error),
+        None => ACCEPTED,
     }
 }
 
-fn kind_number(error: &Error) -> i32
-    ensures { (reason : Refusal MetricType) → Tells cvss_reason reason error.now
-        → IsSaid number_of_kind no_memory reason result }
+/// Writes the abbreviation of the metric that a refusal names at the beginning of a buffer where it
+/// fits, and returns its length; 0 where the refusal names none, and where the text denotes a vector.
+pub fn put_blamed(text: &[u8], buffer: &mut [u8]) -> usize
+    ensures { Answers text.now (λ _. IsLeft buffer.old buffer.new result)
+        ((name : List ℕ) × IsBlamed text.now name × IsWritten name buffer.old buffer.new result) }
+{
+    match error_in(text) {
+        Some(error) => put_both(&[], blamed_name(error).as_bytes(), buffer),
+        None => 0,
+    }
+}
+
+/// Why a text denotes no vector; `None` where it denotes one.
+fn error_in(text: &[u8]) -> Option<ReadError<'_>>
+    ensures { MatchOption result ((cvss : Cvss) × DenotesCvss text.now cvss)
+        (λ error. IsRefused text.now × IsReadError text.now error) }
+{
+    Cvss::read(text).err()
+}
+
+fn kind_number(error: ReadError<'_>) -> i32
+    ensures { result ≡ said_of number_of_kind not_utf8 error.entry }
 {
     match error {
-        Error::InvalidComponent { .. } => 1,
-        Error::InvalidPrefix { .. } => 2,
-        Error::UnsupportedVersion { .. } => 3,
-        Error::UnknownMetric { .. } => 4,
-        Error::InvalidMetricV2 { .. }
-        | Error::InvalidMetricV3 { .. }
-        | Error::InvalidMetricV4 { .. } => 5,
-        Error::DuplicateMetricV2 { .. }
-        | Error::DuplicateMetricV3 { .. }
-        | Error::DuplicateMetricV4 { .. } => 6,
-        Error::MissingMandatoryMetricV2 { .. } | Error::MissingMandatoryMetricV4 { .. } => 7,
-        _ => NO_MEMORY,
+        ReadError::NotUtf8 => NOT_UTF8,
+        ReadError::Invalid(Refusal::BadComponent(_)) => 1,
+        ReadError::Invalid(Refusal::WrongPrefix(_)) => 2,
+        ReadError::Invalid(Refusal::WrongVersion(_)) => 3,
+        ReadError::Invalid(Refusal::UnknownName(_)) => 4,
+        ReadError::Invalid(Refusal::BadValue(_, _)) => 5,
+        ReadError::Invalid(Refusal::Repeated(_)) => 6,
+        ReadError::Invalid(Refusal::Missing(_)) => 7,
     }
 }
 
-fn blamed_name(error: &Error) -> &'static str
-    ensures { (reason : Refusal MetricType) → Tells cvss_reason reason error.now
-        → IsSaid blamed_name [] reason result.now }
+fn blamed_name(error: ReadError<'_>) -> &'static str
+    ensures { result.now ≡ said_of name_blamed [] error.entry }
 {
     match error {
-        Error::InvalidMetricV2 { metric_type, .. }
-        | Error::DuplicateMetricV2 { metric_type }
-        | Error::MissingMandatoryMetricV2 { metric_type } => metric_type.name(),
-        Error::InvalidMetricV3 { metric_type, .. } | Error::DuplicateMetricV3 { metric_type } => {
-            metric_type.name()
-        }
-        Error::InvalidMetricV4 { metric_type, .. }
-        | Error::DuplicateMetricV4 { metric_type }
-        | Error::MissingMandatoryMetricV4 { metric_type } => metric_type.name(),
+        ReadError::Invalid(
+            Refusal::BadValue(metric, _) | Refusal::Repeated(metric) | Refusal::Missing(metric),
+        ) => metric.name(),
         _ => "",
     }
 }

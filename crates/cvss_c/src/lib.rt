@@ -1,8 +1,7 @@
 //! CVSS vectors for C: read, printed and scored by functions over bytes, each proved up to the call.
 //!
 //! A text is a pointer and a length. A text that is answered goes into a buffer of the caller, which
-//! is left as it was where it is too small. Accepting, scoring and printing take no memory; telling
-//! why a text is refused does.
+//! is left as it was where it is too small. Records and accounts take memory; nothing else does.
 #![tactic(auto)]
 
 mod lines;

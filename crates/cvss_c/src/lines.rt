@@ -9,32 +9,26 @@ ghost use Rattle.cvss_bytes.specs.Mentioned.{AnswersMention};
 use cvss_bytes::answer::put_answer_to;
 use cvss_bytes::lines::put_answers;
 use cvss_bytes::mentioned::put_mention;
-use std::alloc::Global;
 
 /// The length of the line that the program answers to a text, without the byte 10 that ends it; it
-/// is written into the buffer where it fits. An answer to an accepted text takes no memory.
+/// is written into the buffer where it fits. It takes no memory.
 #[unsafe(no_mangle)]
-pub extern "C" fn cvss_answer(alloc: Global, text: &[u8], buffer: &mut [u8]) -> usize
+pub extern "C" fn cvss_answer(text: &[u8], buffer: &mut [u8]) -> usize
     ensures { (answer : List ℕ) × IsAnswer text.now answer
         × IsWritten answer buffer.old buffer.new result }
 {
-    put_answer_to(alloc, text, buffer)
+    put_answer_to(text, buffer)
 }
 
 /// The answers to many texts, each ended by a byte 10, which one byte 13 may precede. Each answer is
 /// ended by a byte 10, as the program writes them. As many are written into the buffer, one behind
 /// the other, as have room in it; their length is told, and in `read` how many bytes of the texts
-/// they answer. What stands behind the last byte 10 is not read.
+/// they answer. What follows the last byte 10 is not read. It takes no memory.
 #[unsafe(no_mangle)]
-pub extern "C" fn cvss_answers(
-    alloc: Global,
-    texts: &[u8],
-    buffer: &mut [u8],
-    read: &mut usize,
-) -> usize
+pub extern "C" fn cvss_answers(texts: &[u8], buffer: &mut [u8], read: &mut usize) -> usize
     ensures { AnswersLines texts.now buffer.old buffer.new read.new result }
 {
-    let (written, bytes) = put_answers(alloc, texts, buffer);
+    let (written, bytes) = put_answers(texts, buffer);
     *read = bytes;
     written
 }

@@ -123,14 +123,9 @@ pub extern "C" fn cvss_without_undefined(text: &[u8], buffer: &mut [u8]) -> usiz
 /// The length of the canonical text of the vector of CVSS v4.0 that a text denotes, with overrides in
 /// place: components of environmental metrics, in any order and any ASCII case, each once, joined by
 /// slashes. It is written into the buffer where it fits. 0 where the text denotes no vector of CVSS
-/// v4.0, and where an override is refused; overrides that are accepted take no memory.
+/// v4.0, and where an override is refused. It takes no memory.
 #[unsafe(no_mangle)]
-pub extern "C" fn cvss_overridden(
-    alloc: Global,
-    text: &[u8],
-    overrides: &[u8],
-    buffer: &mut [u8],
-) -> usize
+pub extern "C" fn cvss_overridden(text: &[u8], overrides: &[u8], buffer: &mut [u8]) -> usize
     ensures { Answers text.now
         (λ cvss. AnswersOverridden cvss overrides.now
         (λ new. IsWritten (canonical_text v4 new) buffer.old buffer.new result)
@@ -138,7 +133,7 @@ pub extern "C" fn cvss_overridden(
         (IsLeft buffer.old buffer.new result) }
 {
     match Cvss::read_bytes(text) {
-        Some(cvss) => put_overridden(alloc, &cvss, text, overrides, buffer),
+        Some(cvss) => put_overridden(&cvss, text, overrides, buffer),
         None => 0,
     }
 }

@@ -1,20 +1,24 @@
 //! Laws of vectors of any version, each the contract of a function that does nothing. A proof that
 //! needs a law calls it.
 
-ghost use Rattle.std.specs.Prelude.{◌≡◌, ◌↔◌, ℕ, List};
+ghost use Rattle.std.specs.Prelude.{◌≡◌, ◌↔◌, ℕ, List, Some};
 ghost use Rattle.cvss_base.specs.declared.v2.MetricType as type_v2;
 ghost use Rattle.cvss_base.specs.declared.v3.MetricType as type_v3;
 ghost use Rattle.cvss_base.specs.declared.v4.MetricType as type_v4;
 ghost use Rattle.cvss_base.specs.Refusal.{Refusal, IsFirstRefusal, IsFirstRefusalBehind};
+ghost use Rattle.cvss_base.specs.ErrorText.{error_text};
+ghost use Rattle.cvss_base.specs.Told.{reason_told};
 ghost use Rattle.cvss_base.specs.laws.Rounding.{IsOneCount};
 ghost use Rattle.cvss_v2.specs.Vector as of_v2;
 ghost use Rattle.cvss_v3.specs.Vector as of_v3;
 ghost use Rattle.cvss_v4.specs.Vector as of_v4;
 ghost use Rattle.cvss_any.specs.Answers.{text_of, IsScoreOf};
-ghost use Rattle.cvss_any.specs.Dispatch.{DenotesCvss, IsFirstRefusalCvss};
+ghost use Rattle.cvss_any.specs.Dispatch.{DenotesCvss, IsFirstRefusalCvss, cvss_reason};
+ghost use Rattle.cvss_any.specs.Reasons.{reason_text};
 ghost use Rattle.cvss_laws.specs.any.GivenBack.{IsGivenBack};
 
 use cvss_any::{Cvss, MetricType};
+use cvss_base::Error;
 
 /// A text denotes at most one vector, and the text that is printed of a vector denotes that vector
 /// exactly where it is well formed and, in CVSS v3, has a metric and the minor version of its
@@ -37,6 +41,12 @@ pub fn texts_have_one_first_refusal()
         → one ≡ other }
     ensures any { (text : List ℕ) → (one other : Refusal MetricType)
         → IsFirstRefusalCvss text one → IsFirstRefusalCvss text other → one ≡ other }
+{}
+
+/// An error that has a reason prints the text of that reason.
+pub fn errors_print_their_reasons()
+    ensures { (error : Error) (reason : Refusal MetricType)
+        → reason_told cvss_reason error ≡ Some reason → error_text error ≡ reason_text reason }
 {}
 
 /// A vector has one score.

@@ -62,9 +62,20 @@ fn write_slashed<V: Printed, W: fmt::Write>(
         return Ok(());
     };
     if let Some(text) = vector.slashed(*first) {
-        f.write_str(text)?;
+        write_with_slash(text, f)?;
     }
     write_slashed(vector, rest, f)
+}
+
+/// Writes a component and the slash before it.
+#[inline(always)]
+pub fn write_with_slash<W: fmt::Write>(
+    slashed: &'static str,
+    f: &mut fmt::Formatter<W>,
+) -> fmt::Result
+    ensures { WritesOnOk W.write_str_gives f.old result slashed.now f.new }
+{
+    f.write_str(slashed)
 }
 
 /// Whether two vectors of one front have the same components, which is whether their texts are the

@@ -2,6 +2,7 @@
 #![tactic(auto)]
 
 pub mod laws;
+pub mod overrides;
 mod vector;
 
 pub use cvss_score::v4::scoring::account::Account;

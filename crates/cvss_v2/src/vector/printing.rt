@@ -10,7 +10,7 @@ ghost use Rattle.cvss_v2.specs.Vector.{v2};
 ghost use Rattle.cvss_v2.specs.private.Slashed.{slashed_value};
 
 use crate::vector::Vector;
-use cvss_text::print::{Printed, write_components};
+use cvss_text::print::{Printed, write_components, write_with_slash};
 use cvss_v2_metric::{MetricType, Spelled};
 use std::fmt;
 
@@ -55,7 +55,7 @@ fn write_value<M: Spelled, W: fmt::Write>(
     ensures { WritesOnOk W.write_str_gives f.old result (slashed_value M.KIND M.value value) f.new }
 {
     match value {
-        Some(metric) => f.write_str(metric.slashed()),
+        Some(metric) => write_with_slash(metric.slashed(), f),
         None => Ok(()),
     }
 }

@@ -9,8 +9,8 @@ use Rattle.cvss_base.specs.declared.group.MetricGroup.TheVariants.{Environmental
 use Rattle.cvss_v4.specs.Overriding.{IsEnvironmental, NamesOther, Objection, OfOtherGroup, OfText, HasNoObjectionBefore}
 use Rattle.cvss_v4.specs.Vector.{v4}
 use Rattle.cvss_v4.specs.declared.vector.Vector.{Vector}
-use Rattle.cvss_v4.specs.declared.vector.overriding.OverrideFault.{OverrideFault}
-use Rattle.cvss_v4.specs.declared.vector.overriding.OverrideFault.TheVariants.{OtherGroup, Component}
+use Rattle.cvss_v4.specs.declared.overrides.OverrideFault.{OverrideFault}
+use Rattle.cvss_v4.specs.declared.overrides.OverrideFault.TheVariants.{OtherGroup, Component}
 
 -- the environmental metric at a text goes into the vector
 pub record AddsOverride (old : Vector) (text : List ℕ) (new : Vector) : Type 0 where

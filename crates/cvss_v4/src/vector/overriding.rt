@@ -1,24 +1,16 @@
 //! An organisation's own environmental metrics in place of a vector's (v4.0 specification,
 //! section 4).
 
-ghost use Rattle.std.specs.Prelude.{◌≡◌, ◌↔◌, IsTrue, Some, IfOk, IfErr, OnOk, IsOk, IsErrAnd, Ok, ℕ, length, map};
-ghost use Rattle.std.specs.Str.{IsUtf8};
-ghost use Rattle.cvss_base.specs.Text.{IsComponent};
+ghost use Rattle.std.specs.Prelude.{◌≡◌, Some, IfOk, IfErr, OnOk, IsOk, IsErrAnd, Ok, ℕ, length, map};
 ghost use Rattle.cvss_base.specs.Version.{IsComplete};
-ghost use Rattle.cvss_base.specs.V4Types.{group_of};
-ghost use Rattle.cvss_base.specs.declared.group.MetricGroup.TheVariants.{Environmental};
 ghost use Rattle.cvss_v4.specs.Overriding.{AreOverrides, IsOverridden, Objection, HasNoObjectionBefore, IsFirstObjection, TellsObjection, TellsFirstObjection, override_error_text};
-ghost use Rattle.cvss_v4.specs.private.OverridingSteps.{AddsOverride, IsObjectionTo, IsTellableFault, objection_of};
+ghost use Rattle.cvss_v4.specs.private.OverridingSteps.{IsTellableFault, objection_of};
 ghost use Rattle.cvss_v4.specs.Vector.{v4};
-ghost use Rattle.cvss_v4.specs.declared.vector.overriding.OverrideFault.TheVariants.{Component};
 
+use crate::overrides::{OverrideFault, read_overrides};
 use crate::vector::Vector;
-use cvss_base::{Error, MetricGroup};
-use cvss_text::cutting::cut_component;
-use cvss_text::pieces::is_component;
+use cvss_base::Error;
 use cvss_text::refusing::error_of;
-use cvss_text::walk::{Fault, read_component};
-use cvss_v4_metric::MetricType;
 use std::alloc::Global;
 use std::fmt;
 
@@ -45,21 +37,6 @@ impl fmt::Display for OverrideError {
 }
 
 impl std::error::Error for OverrideError {}
-
-/// Why a text is no override, with the part of the text that is at fault.
-#[derive(Drop)]
-enum OverrideFault<'a> {
-    OtherGroup,
-    Component(Fault<'a, MetricType>),
-}
-
-impl<'a> From<Fault<'a, MetricType>> for OverrideFault<'a> {
-    ghost from_gives = { λ fault result. result ≡ Component fault };
-
-    fn from(fault: Fault<'a, MetricType>) -> Self {
-        OverrideFault::Component(fault)
-    }
-}
 
 impl Vector {
     /// The vector of environmental metrics whose components the texts are, in any order and any
@@ -90,13 +67,10 @@ impl Vector {
             → IsFirstObjection (map (λ text. text.now) overrides.now) place objection
             → IsErrAnd result (TellsObjection place objection) }
     {
-        let mut vector = Vector::empty();
-        for (index, text) in overrides.iter().enumerate() {
-            if let Err(fault) = read_override(text.as_bytes(), &mut vector) {
-                return Err(told(alloc, index, fault));
-            }
+        match read_overrides(overrides) {
+            Ok(vector) => Ok(vector),
+            Err((index, fault)) => Err(told(alloc, index, fault)),
         }
-        Ok(vector)
     }
 
     /// The vector with the environmental metrics of another where that has them. All else is kept.
@@ -122,32 +96,6 @@ impl Vector {
             ..*self
         }
     }
-}
-
-/// Reads one override into the vector that holds those before it.
-fn read_override<'a>(text: &'a [u8], overrides: &mut Vector) -> Result<(), OverrideFault<'a>>
-    ensures component { OnOk result (IsComponent text.now) }
-    ensures read { OnOk result (AddsOverride overrides.old text.now overrides.new) }
-    ensures refused { IfErr result
-        (λ fault. IsObjectionTo overrides.old text.now (objection_of fault)) }
-    ensures tellable { IsUtf8 text.now → IfErr result IsTellableFault }
-{
-    if !is_component(text) {
-        return Err(OverrideFault::Component(Fault::InvalidComponent(text)));
-    }
-    let (kind, _) = cut_component::<Vector>(text)?;
-    if !is_environmental(kind) {
-        return Err(OverrideFault::OtherGroup);
-    }
-    read_component(text, overrides)?;
-    Ok(())
-}
-
-/// Whether the metric is an environmental one.
-fn is_environmental(kind: MetricType) -> bool
-    ensures { IsTrue result ↔ (group_of kind ≡ Environmental) }
-{
-    matches!(kind.group(), MetricGroup::Environmental)
 }
 
 /// The error that tells the fault of the text at this place.

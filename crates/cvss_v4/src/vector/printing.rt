@@ -10,7 +10,7 @@ ghost use Rattle.cvss_v4.specs.Vector.{v4};
 ghost use Rattle.cvss_v4.specs.private.Shown.{shown};
 
 use crate::vector::Vector;
-use cvss_text::print::Printed;
+use cvss_text::print::{Printed, write_with_slash};
 use cvss_v4_metric::{MetricType, Spelled};
 use std::fmt;
 
@@ -73,7 +73,7 @@ fn write_value<M: Spelled, W: fmt::Write>(
     ensures { WritesOnOk W.write_str_gives f.old result (shown M.KIND M.rank value) f.new }
 {
     match value {
-        Some(metric) => f.write_str(metric.slashed()),
+        Some(metric) => write_with_slash(metric.slashed(), f),
         None => Ok(()),
     }
 }

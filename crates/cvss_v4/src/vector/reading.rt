@@ -120,7 +120,7 @@ impl Fronted for Vector {
 
 impl Vector {
     /// The vector without metrics.
-    pub(super) fn empty() -> Vector
+    pub(crate) fn empty() -> Vector
         ensures version { result.minor_version ≡ 0 }
         ensures valueless { HasNoValue v4 result }
     {

@@ -1,10 +1,10 @@
 use Rattle.std.proofs.Common.{[], ◌∷◌, ◌++◌, codes, refl}
 use Rattle.cvss_any.specs.Answers.{vector_answer}
-use Rattle.cvss_any.specs.Bytes.{bytes_error_text}
+use Rattle.cvss_any.specs.Reasons.{error_message, not_utf8_text, reason_text}
+use Rattle.cvss_any.proofs.ErrorLemmas.{said_of_bytes}
 use Rattle.cvss_lines.specs.Answers.{Accepted, Refused}
 use Rattle.cvss_answer.specs.Answers.{IsAnswer}
 use Rattle.cvss_lines.proofs.TextsLemmas.{one_text}
-use Rattle.cvss_answer.proofs.RefusalLemmas.{refusal_told}
 use Rattle.cvss_answer.proofs.answer.answer_other_line.Goals as goal
 
 pub returns-in_ok-write_vector-in-Ok : goal.returns-in_ok-write_vector-in-Ok
@@ -30,9 +30,14 @@ pub returns-in_ok-write_error-in-Err : goal.returns-in_ok-write_error-in-Err
 unfolding IsAnswer
 returns-in_ok-write_error-in-Err c = λ number.
     let error = c.in-Err.error in
+    let reason = error_message error in
     record {
-      answer = Refused ((codes "error: " ++ bytes_error_text error) ∷ []);
-      answers = refusal_told c.args.line.now error c.in-Err.ensures.refused;
+      answer = Refused ((codes "error: " ++ reason) ∷ []);
+      answers = record {
+        reason = reason;
+        is_reason = said_of_bytes reason_text not_utf8_text c.args.line.now error c.in-Err.ensures.refused;
+        is = refl;
+      };
       told = refl;
-      written = one_text _ (codes "error: " ++ bytes_error_text error) _ c.in_ok-write_error-in-Err.ensures;
+      written = one_text _ (codes "error: " ++ reason) _ c.in_ok-write_error-in-Err.ensures;
     }

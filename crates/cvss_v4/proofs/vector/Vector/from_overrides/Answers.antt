@@ -1,70 +1,31 @@
-use Rattle.std.proofs.Common.{◌≡◌, ◌<◌, ℕ, List, [], length, map, Bor, ap, sym, ◌∙◌, subst, arith}
+use Rattle.std.proofs.Common.{ℕ, List, map, Bor, ap, subst}
 use Rattle.std.specs.Prelude.{Ok}
-use Rattle.std.proofs.lemmas.List.{length-map, get_or-map}
-use Rattle.cvss_v4.specs.Overriding.{TellsObjection, IsFirstObjection}
-use Rattle.cvss_v4.specs.private.OverridingSteps.{HasReadOverrides, objection_of}
-use Rattle.cvss_v4.proofs.OverridingLemmas.{HasReadOverrides-none, HasReadOverrides-more, IsFirstObjection-at, AreOverrides-all, one_overrides, no_objection_held, first_objections_same}
+use Rattle.cvss_v4.specs.Overriding.{TellsObjection}
+use Rattle.cvss_v4.specs.private.OverridingSteps.{objection_of}
+use Rattle.cvss_v4.proofs.OverridingLemmas.{one_overrides, no_objection_held, first_objections_same}
 use Rattle.cvss_v4.proofs.vector.Vector.from_overrides.Goals as goal
 
 abbrev texts_of : List (Bor (List ℕ)) → List (List ℕ)
 texts_of overrides = map (λ text. text.now) overrides
 
--- the text of this turn
-within : (overrides : List (Bor (List ℕ))) (place : ℕ) → place < length overrides → place < length (texts_of overrides)
-within overrides place below = omega (arith, length-map overrides (λ (text : Bor (List ℕ)). text.now))
+pub returns-in-Ok-clause-given : goal.returns-in-Ok-clause-given
+returns-in-Ok-clause-given c = λ vector are version.
+    let read = c.in-Ok.ensures in
+    ap Ok (one_overrides (texts_of c.args.overrides.now) c.in-Ok.vector vector read.version version read.accepted are)
 
-first : (c : goal.After-told) → IsFirstObjection (texts_of c.args.overrides.now) c.loop-index.index (objection_of c.in-Err.fault)
-first c =
-    let overrides = c.args.overrides.now in
-    let below = c.loop-index-test.true in
-    let here = c.as_bytes.ensures.value ∙ sym (get_or-map (λ (text : Bor (List ℕ)). text.now) overrides c.loop-index.index _ [] below) in
-    IsFirstObjection-at (texts_of overrides) c.loop-index.index (within overrides c.loop-index.index below) c.as_bytes.result.now here c.loop-index.vector (objection_of c.in-Err.fault) c.in-Err.ensures.refused c.loop-index.invariant
-
-pub loop-index-init : goal.loop-index-init
-loop-index-init c = HasReadOverrides-none (texts_of c.args.overrides.now) c.empty-vector.result c.empty-vector.ensures.version c.empty-vector.ensures.valueless
-
-pub loop-index-preserved : goal.loop-index-preserved
-loop-index-preserved c =
-    let overrides = c.args.overrides.now in
-    let below = c.loop-index-test.true in
-    let here = c.as_bytes.ensures.value ∙ sym (get_or-map (λ (text : Bor (List ℕ)). text.now) overrides c.loop-index.index _ [] below) in
-    HasReadOverrides-more (texts_of overrides) c.loop-index.index (within overrides c.loop-index.index below) c.as_bytes.result.now here c.loop-index.vector c.read_override.new.overrides c.in_default.ensures.component c.in_default.ensures.read c.loop-index.invariant
-
-pub returns-in-Err-clause-accepts : goal.returns-in-Err-clause-accepts
-returns-in-Err-clause-accepts c = λ vector are.
-    let is = first c in
-    absurd (no_objection_held (texts_of c.args.overrides.now) vector c.loop-index.index are is.within _ is.is)
+pub returns-in-Ok-clause-refuses : goal.returns-in-Ok-clause-refuses
+returns-in-Ok-clause-refuses c = λ place objection is. absurd (c.in-Ok.ensures.faultless.none place objection is.within is.is)
 
 pub returns-in-Err-clause-given : goal.returns-in-Err-clause-given
 returns-in-Err-clause-given c = λ vector are version.
-    let is = first c in
-    absurd (no_objection_held (texts_of c.args.overrides.now) vector c.loop-index.index are is.within _ is.is)
+    let is = c.in-Err.ensures.refused in
+    absurd (no_objection_held (texts_of c.args.overrides.now) vector c.in-Err.index are is.within _ is.is)
 
 pub returns-in-Err-clause-refused : goal.returns-in-Err-clause-refused
-returns-in-Err-clause-refused c = record { place = c.loop-index.index; objection = objection_of c.in-Err.fault; first = first c; tells = c.told.ensures }
+returns-in-Err-clause-refused c =
+    record { place = c.in-Err.index; objection = objection_of c.in-Err.fault; first = c.in-Err.ensures.refused; tells = c.told.ensures }
 
 pub returns-in-Err-clause-refuses : goal.returns-in-Err-clause-refuses
 returns-in-Err-clause-refuses c = λ place objection is.
-    let same = first_objections_same (texts_of c.args.overrides.now) c.loop-index.index place (objection_of c.in-Err.fault) objection (first c) is in
-    subst (λ each. TellsObjection each objection c.told.result) same.0 (subst (λ each. TellsObjection c.loop-index.index each c.told.result) same.1 c.told.ensures)
-
-all_read : (c : goal.After-loop-index) → HasReadOverrides (texts_of c.args.overrides.now) (length (texts_of c.args.overrides.now)) c.loop-index.vector
-all_read c =
-    let at_end : c.loop-index.index ≡ length (texts_of c.args.overrides.now) = omega (arith, length-map c.args.overrides.now (λ (text : Bor (List ℕ)). text.now), c.loop-index.auto.index-end, c.loop-index-test.false) in
-    subst (λ place. HasReadOverrides (texts_of c.args.overrides.now) place c.loop-index.vector) at_end c.loop-index.invariant
-
-pub returns-clause-accepted : goal.returns-clause-accepted
-returns-clause-accepted c = AreOverrides-all (texts_of c.args.overrides.now) c.loop-index.vector (all_read c)
-
-pub returns-clause-version : goal.returns-clause-version
-returns-clause-version c = (all_read c).version
-
-pub returns-clause-given : goal.returns-clause-given
-returns-clause-given c = λ vector are version.
-    ap Ok (one_overrides (texts_of c.args.overrides.now) c.loop-index.vector vector (all_read c).version version (returns-clause-accepted c) are)
-
-pub returns-clause-faultless : goal.returns-clause-faultless
-returns-clause-faultless c = (all_read c).faultless
-
-pub returns-clause-refuses : goal.returns-clause-refuses
-returns-clause-refuses c = λ place objection is. absurd ((all_read c).faultless.none place objection is.within is.is)
+    let same = first_objections_same (texts_of c.args.overrides.now) c.in-Err.index place (objection_of c.in-Err.fault) objection c.in-Err.ensures.refused is in
+    subst (λ each. TellsObjection each objection c.told.result) same.0 (subst (λ each. TellsObjection c.in-Err.index each c.told.result) same.1 c.told.ensures)

@@ -1,0 +1,67 @@
+-- What is said of a text that is refused. The words are those of the errors (cvss_base, ErrorText).
+use Rattle.std.specs.Prelude.{◌≡◌, ◌⊎◌, ℕ, List, ◌++◌, codes}
+use Rattle.std.specs.Str.{IsUtf8}
+use Rattle.cvss_base.specs.ErrorText.{described, quoted}
+use Rattle.cvss_base.specs.Refusal.{Refusal, BadComponent, WrongPrefix, WrongVersion, UnknownName, BadValue, Repeated, Missing}
+use Rattle.cvss_any.specs.Dispatch.{IsFirstRefusalCvss}
+use Rattle.cvss_any.specs.MetricTypes.{name_of, description_of}
+use Rattle.cvss_any.specs.Refusals.{refusal_of}
+use Rattle.cvss_any.specs.declared.metric_type.MetricType.{MetricType}
+use Rattle.cvss_any.specs.declared.metric_type.MetricType.TheVariants.{V2, V3, V4}
+use Rattle.cvss_any.specs.declared.refusal.ReadError.{ReadError}
+use Rattle.cvss_any.specs.declared.refusal.ReadError.TheVariants.{NotUtf8, Invalid}
+
+-- the version of a metric
+abbrev pub version_words : MetricType → List ℕ
+version_words (V2 _) = codes "CVSSv2 "
+version_words (V3 _) = codes "CVSSv3 "
+version_words (V4 _) = codes "CVSSv4 "
+
+-- a metric, by its version, its abbreviation and its name
+abbrev pub metric_words : MetricType → List ℕ
+metric_words metric = version_words metric ++ described (name_of metric) (description_of metric) ++ codes " metric"
+
+-- the reason's text
+abbrev pub reason_text : Refusal MetricType → List ℕ
+reason_text (BadComponent component) = codes "invalid CVSS metric group component: " ++ quoted component
+reason_text (WrongPrefix prefix) = codes "invalid CVSS string prefix: " ++ quoted prefix
+reason_text (WrongVersion version) = codes "unsupported CVSS version: " ++ version
+reason_text (UnknownName name) = codes "unknown CVSS metric name: " ++ quoted name
+reason_text (BadValue metric value) = codes "invalid " ++ metric_words metric ++ codes ": " ++ quoted value
+reason_text (Repeated metric) = codes "duplicate " ++ metric_words metric
+reason_text (Missing metric) = codes "missing mandatory " ++ metric_words metric
+
+-- the words for bytes that are not UTF-8
+abbrev pub not_utf8_text : List ℕ
+not_utf8_text = codes "not UTF-8"
+
+-- what is said of an error, where one thing is said of bytes that are not UTF-8 and others of the reasons
+abbrev pub said_of : {X : Type 0} → (Refusal MetricType → X) → X → ReadError → X
+said_of of_reason of_no_text NotUtf8 = of_no_text
+said_of of_reason of_no_text (Invalid refusal) = of_reason (refusal_of refusal)
+
+-- the error's text
+abbrev pub error_message : ReadError → List ℕ
+error_message error = said_of reason_text not_utf8_text error
+
+-- the text is UTF-8, and this is said of the first reason why it is refused
+pub record IsSaidOfFirst {X : Type 0} (of_reason : Refusal MetricType → X) (text : List ℕ) (said : X) : Type 0 where
+  pub utf8 : IsUtf8 text
+  pub reason : Refusal MetricType
+  pub first : IsFirstRefusalCvss text reason
+  pub is : said ≡ of_reason reason
+
+-- this is said of bytes that are not UTF-8, and of the first reason why a text is refused
+abbrev pub IsSaidOf : {X : Type 0} → (Refusal MetricType → X) → X → List ℕ → X → Type 0
+IsSaidOf of_reason of_no_text bytes said =
+    (¬ (IsUtf8 bytes) × (said ≡ of_no_text)) ⊎ IsSaidOfFirst of_reason bytes said
+
+-- why the bytes are the text of no vector
+abbrev pub IsReason : List ℕ → List ℕ → Type 0
+IsReason bytes reason = IsSaidOf reason_text not_utf8_text bytes reason
+
+-- the word error, and the reason
+pub record IsErrorAnswer (bytes answer : List ℕ) : Type 0 where
+  pub reason : List ℕ
+  pub is_reason : IsReason bytes reason
+  pub is : answer ≡ codes "error: " ++ reason

@@ -1,0 +1,128 @@
+//! Why a text is refused. Nothing is copied: a reason borrows the part of the text that it names.
+
+ghost use Rattle.std.specs.Prelude.{◌≡◌};
+ghost use Rattle.cvss_text.specs.private.Walk.{reason_of};
+ghost use Rattle.cvss_any.specs.Dispatch.{wrapped};
+ghost use Rattle.cvss_any.specs.Refusals.{refusal_of};
+ghost use Rattle.cvss_any.specs.declared.metric_type.MetricType.{MetricType};
+ghost use Rattle.cvss_any.specs.declared.metric_type.MetricType.TheVariants as of;
+ghost use Rattle.cvss_any.specs.private.Steps.{reason_read};
+ghost use Rattle.cvss_v4.specs.Vector.{v4};
+
+use crate::metric_type::MetricType;
+use crate::reading::ReadFault;
+use crate::segment::Segment;
+use crate::{v2, v3, v4};
+use cvss_text::walk::{Components, Fault};
+
+/// The first reason why a text is refused, with the part of the text or the metric that it names.
+#[derive(Clone, Copy)]
+pub enum Refusal<'a> {
+    /// A component has no colon, or more than one.
+    BadComponent(Segment<'a>),
+    /// The prefix is not `CVSS`.
+    WrongPrefix(Segment<'a>),
+    /// The version is not supported.
+    WrongVersion(Segment<'a>),
+    /// No metric has this name.
+    UnknownName(Segment<'a>),
+    /// The metric has no such value.
+    BadValue(MetricType, Segment<'a>),
+    /// The metric occurs twice.
+    Repeated(MetricType),
+    /// A mandatory metric is missing.
+    Missing(MetricType),
+}
+
+/// Why bytes are the text of no vector.
+#[derive(Clone, Copy)]
+pub enum ReadError<'a> {
+    /// The bytes are not UTF-8.
+    NotUtf8,
+    /// The text is refused.
+    Invalid(Refusal<'a>),
+}
+
+/// A version, whose metrics are also metrics of any version.
+trait OneVersion: Components {
+    ghost wrap: { Self.Kind → MetricType };
+
+    /// The metric as one of any version.
+    fn of_any(kind: Self::Kind) -> MetricType
+        ensures { result ≡ wrap kind };
+}
+
+impl OneVersion for v2::Vector {
+    ghost wrap = { of.V2 };
+
+    fn of_any(kind: cvss_base::v2::MetricType) -> MetricType {
+        MetricType::V2(kind)
+    }
+}
+
+impl OneVersion for v3::Vector {
+    ghost wrap = { of.V3 };
+
+    fn of_any(kind: cvss_base::v3::MetricType) -> MetricType {
+        MetricType::V3(kind)
+    }
+}
+
+impl OneVersion for v4::Vector {
+    ghost wrap = { of.V4 };
+
+    fn of_any(kind: cvss_base::v4::MetricType) -> MetricType {
+        MetricType::V4(kind)
+    }
+}
+
+impl<'a> From<Fault<'a, cvss_base::v4::MetricType>> for Refusal<'a> {
+    ghost from_gives = { λ fault refusal. refusal_of refusal ≡ wrapped of.V4 (reason_of v4 fault) };
+
+    fn from(fault: Fault<'a, cvss_base::v4::MetricType>) -> Refusal<'a> {
+        Refusal::of_version::<v4::Vector>(fault)
+    }
+}
+
+impl<'a> Refusal<'a> {
+    /// The reason of a fault, whatever version found it.
+    pub(crate) fn of(fault: ReadFault<'a>) -> Refusal<'a>
+        ensures { refusal_of result ≡ reason_read fault.entry }
+    {
+        match fault {
+            ReadFault::V2(fault) => Refusal::of_version::<v2::Vector>(fault),
+            ReadFault::V3(fault) => Refusal::of_version::<v3::Vector>(fault),
+            ReadFault::V4(fault) => Refusal::of_version::<v4::Vector>(fault),
+        }
+    }
+
+    /// The reason of a fault that one version found.
+    fn of_version<V: OneVersion>(fault: Fault<'a, V::Kind>) -> Refusal<'a>
+        ensures { refusal_of result ≡ wrapped V.wrap (reason_of V.version fault.entry) }
+    {
+        match fault {
+            Fault::InvalidComponent(component) => {
+                let component = Segment::given(component);
+                Refusal::BadComponent(component)
+            }
+            Fault::InvalidPrefix(prefix) => {
+                let prefix = Segment::given(prefix);
+                Refusal::WrongPrefix(prefix)
+            }
+            Fault::UnsupportedVersion(version) => {
+                let version = Segment::given(version);
+                Refusal::WrongVersion(version)
+            }
+            Fault::UnknownMetric(name) => {
+                let name = Segment::read(V::any_case(), name);
+                Refusal::UnknownName(name)
+            }
+            Fault::InvalidMetric(kind, value) => {
+                let value = Segment::read(V::any_case(), value);
+                Refusal::BadValue(V::of_any(kind), value)
+            }
+            Fault::DuplicateMetric(kind) => Refusal::Repeated(V::of_any(kind)),
+            Fault::MissingMandatoryMetric(kind) => Refusal::Missing(V::of_any(kind)),
+        }
+    }
+}
