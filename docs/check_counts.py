@@ -33,6 +33,7 @@ def counts():
     yield ("README.md", r"^- (\S+) tests and (\S+) stored lines of `cvss_vectors` and `cvss_json`",
            [found("crates/*/src/**/*.rt", r"^ *#\[test\]$"),
             lines("crates/cvss_vectors/stdin") + lines("crates/cvss_json/stdin")])
+    yield "README.md", r"^- (\S+) stored lines of `cvss_c_lines`", [lines("crates/cvss_c_lines/stdin")]
     yield "CONTRIBUTING.md", r"Few are kept, (\S+) in (\S+) crates", [len(edits), len(set(edits))]
     yield "docs/ARCHITECTURE.md", r"these (\S+) functions as a static library", [functions]
     yield "docs/BINDINGS.md", r"a static library of (\S+) functions", [functions]

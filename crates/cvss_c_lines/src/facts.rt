@@ -1,0 +1,106 @@
+//! What C gets of a text: numbers, scores and metrics, or why the text is rejected.
+
+use crate::buffers::{LEFT, print_written};
+use crate::cut;
+use crate::texts::{canonical, reason};
+use cvss_any::Cvss;
+use cvss_bytes::buffer::put_both;
+use cvss_bytes::metrics::put_metrics;
+use cvss_bytes::numbers::{NOTHING, version_number};
+use cvss_bytes::refusal::{blamed_by, kind_of};
+use cvss_bytes::{CvssMetric, CvssScores};
+use std::io;
+
+/// No vector has more metrics.
+const MOST_METRICS: usize = 32;
+
+const RATINGS: [&str; 5] = ["none", "low", "medium", "high", "critical"];
+
+const NOMENCLATURES: [&str; 4] = ["CVSS-B", "CVSS-BE", "CVSS-BT", "CVSS-BTE"];
+
+pub(crate) fn facts(rt: &HostRuntime, text: &[u8]) -> io::Result<()> {
+    match Cvss::read_bytes(text) {
+        Some(cvss) => print_vector(rt, text, &cvss, &CvssScores::of(&cvss)),
+        None => print_rejected(rt, text, kind_of(rt.alloc(), text)),
+    }
+}
+
+fn print_rejected(rt: &HostRuntime, text: &[u8], kind: i32) -> io::Result<()> {
+    let alloc = rt.alloc();
+    print!(rt; "{kind} ")?;
+    print_written(rt, |buffer| match Cvss::read_bytes(text) {
+        Some(_) => 0,
+        None => put_both(&[], blamed_by(alloc, text).as_bytes(), buffer),
+    })?;
+    print!(rt; " ")?;
+    reason(rt, text)
+}
+
+fn print_vector(rt: &HostRuntime, text: &[u8], cvss: &Cvss, scores: &CvssScores) -> io::Result<()> {
+    canonical(rt, text)?;
+    print_scores(rt, version_number(cvss), scores)?;
+    print_metrics(rt, cvss)
+}
+
+fn print_scores(rt: &HostRuntime, version: i32, scores: &CvssScores) -> io::Result<()> {
+    if version != scores.version {
+        print!(rt; " two versions")?;
+    }
+    print!(rt;
+        " {}.{} {} {}",
+        version / 10,
+        version % 10,
+        word(&NOMENCLATURES, scores.nomenclature),
+        word(&["incomplete", "complete"], scores.is_complete)
+    )?;
+    print_score(rt, scores.base, scores.severity)?;
+    print_score(rt, scores.temporal, scores.temporal_severity)?;
+    print_score(rt, scores.environmental, scores.environmental_severity)
+}
+
+fn print_score(rt: &HostRuntime, tenths: i32, severity: i32) -> io::Result<()> {
+    let rating = word(&RATINGS, severity);
+    if tenths == NOTHING {
+        print!(rt; " - {rating}")
+    } else {
+        print!(rt; " {}.{} {rating}", tenths / 10, tenths % 10)
+    }
+}
+
+/// The word of a number, or `-`.
+fn word(words: &[&'static str], number: i32) -> &'static str {
+    match usize::try_from(number) {
+        Ok(index) if index < words.len() => words[index],
+        _ => "-",
+    }
+}
+
+/// Prints the metrics that are written into an array that just fits.
+fn print_metrics(rt: &HostRuntime, cvss: &Cvss) -> io::Result<()> {
+    let mut metrics = [CvssMetric {
+        name: [LEFT; 8],
+        value: [LEFT; 8],
+    }; MOST_METRICS];
+    let count = put_metrics(cvss, &mut []);
+    if count == 0 || count > MOST_METRICS {
+        return print!(rt; " {count} metrics");
+    }
+    if put_metrics(cvss, &mut metrics[..count - 1]) != count || !metrics.iter().all(is_left) {
+        return print!(rt; " an array that is too short was not left as it was");
+    }
+    put_metrics(cvss, &mut metrics[..count]);
+    for metric in &metrics[..count] {
+        print!(rt; " {}={}", text_of(&metric.name), text_of(&metric.value))?;
+    }
+    Ok(())
+}
+
+fn is_left(metric: &CvssMetric) -> bool {
+    metric.name == [LEFT; 8] && metric.value == [LEFT; 8]
+}
+
+/// The text before the bytes 0 that fill a field.
+fn text_of(field: &[u8; 8]) -> &str {
+    let (text, _) = cut(field, 0);
+    str::from_utf8(text).unwrap_or("not UTF-8")
+}
