@@ -4,10 +4,9 @@ use crate::buffers::{LEFT, print_written};
 use crate::cut;
 use crate::texts::{canonical, reason};
 use cvss_any::Cvss;
-use cvss_bytes::buffer::put_both;
 use cvss_bytes::metrics::put_metrics;
 use cvss_bytes::numbers::{NOTHING, version_number};
-use cvss_bytes::refusal::{blamed_by, kind_of};
+use cvss_bytes::refusal::{kind_of, put_blamed};
 use cvss_bytes::{CvssMetric, CvssScores};
 use std::io;
 
@@ -21,17 +20,13 @@ const NOMENCLATURES: [&str; 4] = ["CVSS-B", "CVSS-BE", "CVSS-BT", "CVSS-BTE"];
 pub(crate) fn facts(rt: &HostRuntime, text: &[u8]) -> io::Result<()> {
     match Cvss::read_bytes(text) {
         Some(cvss) => print_vector(rt, text, &cvss, &CvssScores::of(&cvss)),
-        None => print_rejected(rt, text, kind_of(rt.alloc(), text)),
+        None => print_rejected(rt, text),
     }
 }
 
-fn print_rejected(rt: &HostRuntime, text: &[u8], kind: i32) -> io::Result<()> {
-    let alloc = rt.alloc();
-    print!(rt; "{kind} ")?;
-    print_written(rt, |buffer| match Cvss::read_bytes(text) {
-        Some(_) => 0,
-        None => put_both(&[], blamed_by(alloc, text).as_bytes(), buffer),
-    })?;
+fn print_rejected(rt: &HostRuntime, text: &[u8]) -> io::Result<()> {
+    print!(rt; "{} ", kind_of(text))?;
+    print_written(rt, |buffer| put_blamed(text, buffer))?;
     print!(rt; " ")?;
     reason(rt, text)
 }

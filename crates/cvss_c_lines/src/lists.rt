@@ -12,7 +12,7 @@ pub(crate) fn answers(rt: &HostRuntime, asked: &[u8]) -> io::Result<()> {
     let mut texts = Vec::from_slice(rt.alloc(), lines)?;
     replace(&mut texts, b'|', b'\n');
     let mut buffer = vec![in rt.alloc(); LEFT; number(size)]?;
-    let (written, read) = put_answers(rt.alloc(), &texts, &mut buffer);
+    let (written, read) = put_answers(&texts, &mut buffer);
     replace(&mut buffer, b'\n', b'|');
     print!(rt; "{written} {read} ")?;
     print_bytes(rt, &buffer)

@@ -8,7 +8,7 @@ use cvss_bytes::canonical::put_canonical_of;
 use cvss_bytes::defined::put_without_undefined;
 use cvss_bytes::objects::{put_account, put_record};
 use cvss_bytes::overriding::{put_overridden, put_override_reason};
-use cvss_bytes::reason::put_reason;
+use cvss_bytes::refusal::put_reason;
 use std::io;
 
 pub(crate) fn canonical(rt: &HostRuntime, text: &[u8]) -> io::Result<()> {
@@ -46,30 +46,21 @@ pub(crate) fn account(rt: &HostRuntime, text: &[u8]) -> io::Result<()> {
 }
 
 pub(crate) fn answer(rt: &HostRuntime, text: &[u8]) -> io::Result<()> {
-    let alloc = rt.alloc();
-    print_written(rt, |buffer| put_answer_to(alloc, text, buffer))
+    print_written(rt, |buffer| put_answer_to(text, buffer))
 }
 
 /// Why a text is rejected.
 pub(crate) fn reason(rt: &HostRuntime, text: &[u8]) -> io::Result<()> {
-    let alloc = rt.alloc();
-    print_written(rt, |buffer| match Cvss::read_bytes(text) {
-        Some(_) => 0,
-        None => put_reason(alloc, &[], text, buffer),
-    })
+    print_written(rt, |buffer| put_reason(text, buffer))
 }
 
 /// The vector of a text with the overrides after the first blank, and why it has none.
 pub(crate) fn overridden(rt: &HostRuntime, asked: &[u8]) -> io::Result<()> {
-    let alloc = rt.alloc();
     let (text, overrides) = cut(asked, b' ');
     print_written(rt, |buffer| match Cvss::read_bytes(text) {
-        Some(cvss) => put_overridden(alloc, &cvss, text, overrides, buffer),
+        Some(cvss) => put_overridden(&cvss, text, overrides, buffer),
         None => 0,
     })?;
     print!(rt; " ")?;
-    print_written(rt, |buffer| match Cvss::read_bytes(text) {
-        Some(cvss) => put_override_reason(alloc, &cvss, text, overrides, buffer),
-        None => put_reason(alloc, &[], text, buffer),
-    })
+    print_written(rt, |buffer| put_override_reason(text, overrides, buffer))
 }
