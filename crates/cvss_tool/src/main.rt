@@ -3,6 +3,8 @@
 
 mod fault;
 mod run;
+#[cfg(test)]
+mod tests;
 
 pub use cvss_lines::{RunFault, Summary, exit_status, laws};
 pub use fault::fault_text;
