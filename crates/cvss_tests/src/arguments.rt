@@ -42,7 +42,14 @@ fn reads_no_argument(rt: HostRuntime) -> Tried {
 fn reads_short_and_long_arguments(rt: HostRuntime) -> Tried {
     let long = "q".repeat(rt.alloc(), 100_000)?;
     let whole = "q".repeat(rt.alloc(), 256)?;
-    let list = [b"name".as_slice(), b"", whole.as_bytes(), b"--help", long.as_bytes(), b"last"];
+    let list = [
+        b"name".as_slice(),
+        b"",
+        whole.as_bytes(),
+        b"--help",
+        long.as_bytes(),
+        b"last",
+    ];
     are_read(&rt, rt.alloc(), &list, &list[1..])
 }
 

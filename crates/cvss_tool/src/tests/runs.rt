@@ -221,7 +221,7 @@ fn reads_many_bytes_at_once(rt: HostRuntime) {
 }
 
 #[test]
-fn tells_how_it_ended(rt: HostRuntime) {
+fn reports_refused_memory(rt: HostRuntime) {
     let memory = Err(RunFault::Memory);
     assert!(rt; exit_status(&memory) == 2 && words(&memory) == "cvss_tool: out of memory");
 }

@@ -3,7 +3,7 @@
 use std::io;
 use std::io::{ErrorKind, Read, Write};
 
-/// Gives at most `step` bytes a read. Behind them, a read fails once if there is a failure, and the
+/// Gives at most `step` bytes a read. After them a read fails once if there is a failure, and the
 /// later ones find the end.
 #[derive(Drop)]
 pub(crate) struct Steps<'a> {
