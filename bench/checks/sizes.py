@@ -11,7 +11,6 @@ It needs cc beside the toolchain and python3.
 
 usage: bench/checks/sizes.py
 """
-import errno
 import os
 import subprocess
 import sys
@@ -31,11 +30,13 @@ SIZES = (1, 100, 70_000, 1_000_000)
 # An argument of a program has room for 128 KiB.
 ARGUMENT_SIZES = (1, 255, 256, 257, 300, 70_000)
 LINE = FIRST.split()[0].encode() + b"\n"
-# The bytes of a long line and of a long input, and of an input that is read byte by byte; and rows.
+# The bytes of a long line and of a long input, and of an input that is read byte by byte; rows, and
+# rows that are written slowly.
 LONG = (2 << 20, 20 << 20)
 ALL = 200 << 20
 ONE_BY_ONE = 1_100_000
-ROWS = 20_000
+ROWS = 1_100_000
+SLOW_ROWS = 20_000
 
 # Tells each request for memory by a byte.
 COUNTED = r"""
@@ -194,24 +195,13 @@ def try_much(runs):
     runs.expect("cvss_tool", LINE * count, (0, FIRST.encode() * count, ""))
     count = ONE_BY_ONE // len(LINE)
     runs.expect("cvss_tool", LINE * count, (0, FIRST.encode() * count, ""), READ_STEP=1)
-    runs.expect("cvss_triage", f"{LOW}\n".encode() * ROWS, (0, row(LOW, []) * ROWS, ""),
-                WRITE_SLOWLY=1)
+    runs.expect("cvss_triage", f"{LOW}\n".encode() * SLOW_ROWS, (0, row(LOW, []) * SLOW_ROWS, ""),
+                WRITE_SLOWLY=1, READ_STEP=1)
+    runs.expect("cvss_triage", f"{LOW}\n".encode() * ROWS, (0, row(LOW, []) * ROWS, ""))
     told = b"error: invalid CVSS metric group component: `\0`\n"
     runs.expect("cvss_tool", b"\0\n" + LINE + b"\0\n", (1, told + FIRST.encode() + told, ""))
     runs.expect("cvss_tool", LINE + b"\0\n", (1, FIRST.encode() + told, ""), READ_STEP=len(LINE))
     runs.expect("cvss_audit", b"\0", (1, b'{"line":1,"refused":"not JSON"}\n', ""))
-
-
-def try_faults_once(runs):
-    """A write that fails once: all is written behind an interruption, and behind nothing else."""
-    for program, given, written in (("cvss_triage", LOW.encode(), row(LOW, [])),
-                                    ("cvss_tool", LINE, FIRST.encode())):
-        for room in (0, 7):
-            runs.expect(program, given, (0, written, ""), WRITE_ROOM=room, FAULT_ONCE=1,
-                        WRITE_FAULT=errno.EINTR)
-            for fault in (errno.EPIPE, errno.EAGAIN, errno.EIO):
-                runs.expect_fault(program, given, written[:room], "write failed", WRITE_ROOM=room,
-                                  FAULT_ONCE=1, WRITE_FAULT=fault)
 
 
 def requests(shim, line):
@@ -253,7 +243,7 @@ def built(room, name, source):
 def main():
     with tempfile.TemporaryDirectory() as room:
         runs = Runs(built(room, "streams", SHIM))
-        for tried in (try_arguments, try_refusals, try_whole, try_much, try_faults_once):
+        for tried in (try_arguments, try_refusals, try_whole, try_much):
             tried(runs)
         texts = try_memory(built(room, "counted", COUNTED))
     print(f"{runs.count} runs over much input, long parts and many arguments ended as they should; "

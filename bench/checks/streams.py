@@ -2,8 +2,9 @@
 """Runs the built programs over streams that give little a read, take little a write, or fail.
 
 A small preloaded `read` and `write` cut what standard input gives and standard output takes, and
-fail with each error of the system in turn. Long lines, deep documents and every vector with a
-changed scope are answered too, each compared with what `reference.py` or a formula answers.
+fail once with each error of the system in turn, after which they succeed: a program that tries a
+failed call again is found out. Long lines, deep documents and every vector with a changed scope are
+answered too, each compared with what `reference.py` or a formula answers.
 
 It needs cc beside the toolchain and python3.
 
@@ -40,18 +41,19 @@ static long told(const char *name, long other)
 ssize_t read(int fd, void *room, size_t count)
 {
     static ssize_t (*next)(int, void *, size_t);
-    static long given;
+    static long given, failed;
     if (!next) next = (ssize_t (*)(int, void *, size_t))dlsym(RTLD_NEXT, "read");
     if (fd != 0)
         return next(fd, room, count);
     long step = told("READ_STEP", 1 << 30), fault = told("READ_FAULT", 0);
     long left = told("READ_LIMIT", 1 << 30) - given;
-    if (fault && left <= 0) {
+    if (fault && !failed && left <= 0) {
+        failed = 1;
         errno = (int)fault;
         return -1;
     }
     if (count > (size_t)step) count = step;
-    if (fault && count > (size_t)left) count = left;
+    if (fault && !failed && count > (size_t)left) count = left;
     ssize_t got = next(fd, room, count);
     if (got > 0) given += got;
     return got;
@@ -65,7 +67,7 @@ ssize_t write(int fd, const void *bytes, size_t count)
     if (fd != 1)
         return next(fd, bytes, count);
     long left = told("WRITE_ROOM", 1 << 30) - taken, fault = told("WRITE_FAULT", 0);
-    if (failed && told("FAULT_ONCE", 0))
+    if (failed)
         left = 1 << 30;
     if (left <= 0) {
         failed = 1;
@@ -82,9 +84,7 @@ ssize_t write(int fd, const void *bytes, size_t count)
 }
 """
 
-# Each error of the system, but for an interruption and want of memory, which programs tell apart: behind an interruption
-# a write is tried again (sizes.py).
-FAULTS = sorted(set(errno.errorcode) - {errno.EINTR, errno.ENOMEM})
+FAULTS = sorted(errno.errorcode)
 
 EMPTY = "error: invalid CVSS metric group component: ``\n"
 FIRST = "AV:N/AC:L/Au:N/C:N/I:N/A:C 7.8 high\n"
@@ -231,11 +231,11 @@ def try_tool(runs):
                         WRITE_SLOWLY=1)
     for given, answers in ((b"", ""), (FIRST.split()[0].encode() + b"\nAV:N", FIRST),
                            (b"\n", EMPTY)):
-        for fault in FAULTS + [errno.EINTR, errno.ENOMEM]:
+        for fault in FAULTS:
             for step in (1, 100):
                 runs.expect_fault("cvss_tool", given, answers.encode(), "read failed",
                                   READ_STEP=step, READ_LIMIT=len(given), READ_FAULT=fault)
-    for fault in [0, errno.ENOMEM] + FAULTS:
+    for fault in [0] + FAULTS:
         for room in (0, 3, 10):
             runs.expect_fault("cvss_tool", FIRST.split()[0].encode() + b"\nx",
                               FIRST.encode()[:room], "write failed", WRITE_ROOM=room,
@@ -251,10 +251,10 @@ def try_find(runs):
             runs.expect("cvss_find", given, (status, answers.encode(), ""), READ_STEP=step,
                         WRITE_SLOWLY=1)
     given, answer = f"({V2})\n{V2}".encode(), f"1:2 {FIRST}".encode()
-    for fault in FAULTS + [errno.EINTR, errno.ENOMEM]:
+    for fault in FAULTS:
         runs.expect_fault("cvss_find", given, answer, "read failed", READ_STEP=20,
                           READ_LIMIT=len(given), READ_FAULT=fault)
-    for fault in [0, errno.ENOMEM] + FAULTS:
+    for fault in [0] + FAULTS:
         for room in (0, 3, 10):
             runs.expect_fault("cvss_find", given, answer[:room], "write failed", WRITE_ROOM=room,
                               WRITE_FAULT=fault)
@@ -265,7 +265,7 @@ def try_triage(runs):
     for arguments, lines, rows in RANKED:
         runs.expect("cvss_triage", lines.encode(), (0, rows.encode(), ""), arguments,
                     WRITE_SLOWLY=1)
-        for fault in [0, errno.EIO] if rows else []:
+        for fault in [0] + FAULTS if rows else []:
             room = len(rows) // 2
             runs.expect_fault("cvss_triage", lines.encode(), rows.encode()[:room], "write failed",
                               arguments, WRITE_ROOM=room, WRITE_FAULT=fault, WRITE_SLOWLY=1)
@@ -273,20 +273,22 @@ def try_triage(runs):
         for fault in FAULTS:
             runs.expect_fault("cvss_triage", given, b"", "read failed", ["msi:s"],
                               READ_LIMIT=len(given), READ_FAULT=fault)
-        runs.expect_fault("cvss_triage", given, b"", "out of memory", ["msi:s"],
-                          READ_LIMIT=len(given), READ_FAULT=errno.ENOMEM)
 
 
 def try_audit(runs):
-    """Documents that reads cut; failed reads."""
+    """Documents that reads cut; failed reads; full writers."""
     for given, answers, status in DOCUMENTS:
         for step in (1, 7, 100_000):
             runs.expect("cvss_audit", given, (status, answers.encode(), noted(given, answers)),
                         READ_STEP=step, WRITE_SLOWLY=1)
     given = f"{DOCUMENT}\n{DOCUMENT}".encode()
-    for fault in FAULTS + [errno.EINTR, errno.ENOMEM]:
+    for fault in FAULTS:
         runs.expect_fault("cvss_audit", given, audited().encode(), "read failed", READ_STEP=50,
                           READ_LIMIT=len(given), READ_FAULT=fault)
+    for fault in [0] + FAULTS:
+        for room in (0, 3, 10):
+            runs.expect_fault("cvss_audit", given, audited().encode()[:room], "write failed",
+                              WRITE_ROOM=room, WRITE_FAULT=fault)
 
 
 def try_long(runs):

@@ -10,42 +10,43 @@ mod members;
 mod missing;
 mod noting;
 mod place;
+mod program;
 mod source;
 
 use cvss_lines::Summary;
-use cvss_program::{ProgramFault, arguments, program_status, run_streaming_program};
+use cvss_program::{ProgramFault, arguments, program_status};
 pub use documents::Documents;
 use help::USAGE;
-use noting::{Given, Note, Told};
-use std::io::{Read, Write};
+pub use noting::{Note, WatchedReader, WatchedWriter};
+pub use program::run_program;
 use std::process::ExitCode;
 
 fn main(rt: HostRuntime) -> ExitCode {
-    let (mut stdin, mut stdout) = (rt.stdin(), rt.stdout());
-    let (mut given, mut told) = (Given::by(&mut stdin), Told::to(&mut stdout));
-    let result = audit(&rt, &mut given, &mut told);
-    match &result {
-        Ok(summary) => {
-            if let Some(note) = Note::of(summary, &given, &told) {
-                let _ = eprintln!(rt; "cvss_audit: {note}");
-            }
-        }
-        Err(fault) => {
-            let _ = eprintln!(rt; "cvss_audit: {fault}");
-            if *fault == ProgramFault::Arguments {
-                let _ = eprint!(rt; "{USAGE}");
-            }
+    let (result, note) = audit(&rt);
+    if let Some(note) = note {
+        let _ = eprintln!(rt; "cvss_audit: {note}");
+    }
+    if let Err(fault) = &result {
+        let _ = eprintln!(rt; "cvss_audit: {fault}");
+        if *fault == ProgramFault::Arguments {
+            let _ = eprint!(rt; "{USAGE}");
         }
     }
     ExitCode::from(program_status(&result))
 }
 
-/// Runs with the program's arguments.
-fn audit<R: Read, W: Write>(
-    rt: &HostRuntime,
-    reader: &mut R,
-    writer: &mut W,
-) -> Result<Summary, ProgramFault> {
-    let arguments = arguments(rt.alloc(), rt)?;
-    run_streaming_program::<Documents, R, W>(rt.alloc(), USAGE, &arguments, reader, writer)
+/// Runs over standard input and output, with the program's arguments.
+fn audit(rt: &HostRuntime) -> (Result<Summary, ProgramFault>, Option<Note>) {
+    let mut reader = WatchedReader {
+        reader: rt.stdin(),
+        first: None,
+    };
+    let mut writer = WatchedWriter {
+        writer: rt.stdout(),
+        refuses: None,
+    };
+    match arguments(rt.alloc(), rt) {
+        Ok(arguments) => run_program(rt.alloc(), &arguments, &mut reader, &mut writer),
+        Err(error) => (Err(error.into()), None),
+    }
 }

@@ -8,7 +8,7 @@ ghost use Rattle.cvss_lines.specs.declared.fault.RunFault.TheVariants.{Write as 
 use crate::RunFault;
 use std::alloc::{AllocError, Global};
 use std::fmt;
-use std::io::{ErrorKind, Write};
+use std::io::Write;
 
 /// From how many bytes on answers are written in the midst of a line.
 const FULL: usize = 64 * 1024;
@@ -80,8 +80,8 @@ impl fmt::Write for Gathered {
     }
 }
 
-/// Writes all of the bytes, and again where a signal interrupts it. Where the writer fails, it has
-/// a beginning of them.
+/// Writes all of the bytes. A write that fails is not tried again, not even one that a signal
+/// interrupted; the writer has a beginning of the bytes then.
 pub fn write_whole<W: Write>(writer: &mut W, bytes: &[u8]) -> Result<(), RunFault>
     ensures ok { OnOk result (Appends (W.contents writer.old) (W.contents writer.new) bytes.now) }
     ensures err { IfErr result (λ fault. (fault ≡ WriteFault) × ((count : ℕ)
@@ -89,16 +89,11 @@ pub fn write_whole<W: Write>(writer: &mut W, bytes: &[u8]) -> Result<(), RunFaul
     ensures none { length bytes.now ≡ 0 → IsOk result }
 {
     let mut written = 0;
-    for _ in 0..u64::MAX {
-        if written >= bytes.len() {
-            return Ok(());
-        }
+    while written < bytes.len() {
         match writer.write(&bytes[written..]) {
-            Ok(0) => return Err(RunFault::Write),
+            Ok(0) | Err(_) => return Err(RunFault::Write),
             Ok(count) => written += count,
-            Err(error) if error.kind() == ErrorKind::Interrupted => {}
-            Err(_) => return Err(RunFault::Write),
         }
     }
-    Err(RunFault::Write)
+    Ok(())
 }

@@ -1,14 +1,11 @@
-ghost use Rattle.std.specs.Prelude.{◌<◌, IfOk, vec_len};
 ghost use Rattle.cvss_lines.specs.Runs.{Ends};
 ghost use Rattle.cvss_lines.specs.Streaming.{StreamEnds};
 
 use crate::pending::Pending;
+use crate::reading::read_buffer;
 use crate::{Answering, RunFault, Streaming, Summary, Whole};
-use std::alloc::{AllocError, Global};
+use std::alloc::Global;
 use std::io::{Read, Write};
-
-/// How many bytes one read may give.
-const CHUNK: usize = 64 * 1024;
 
 /// Answers each line that the reader gives, in order, to the writer.
 ///
@@ -51,11 +48,4 @@ pub fn run_streaming<A: Streaming, R: Read, W: Write>(
         pending.progress.answers.write_out(writer)?;
     }
     Err(RunFault::Read)
-}
-
-/// Room for the bytes of one read.
-fn read_buffer(alloc: Global) -> Result<Vec<u8>, AllocError>
-    ensures { IfOk result (λ buffer. 0 < vec_len buffer) }
-{
-    vec![in alloc; 0; CHUNK]
 }

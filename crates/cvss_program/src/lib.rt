@@ -2,9 +2,11 @@
 //! ask for.
 #![tactic(auto)]
 
+mod command_line;
 pub mod laws;
 mod program;
 mod requests;
 
+pub use command_line::{CommandLine, arguments, arguments_of};
 pub use program::{ProgramFault, program_status, run_program, run_streaming_program};
-pub use requests::{Request, arguments, asked, asked_alone};
+pub use requests::{Request, asked, asked_alone};

@@ -1,6 +1,56 @@
-//! Runs over lines, with readers and writers that no file is.
+//! Tests of summaries and faults of runs, and of the calls that programs make for themselves.
 
-mod ends;
-mod kinds;
-mod runs;
-mod streams;
+use crate::values::{Tried, are_copied, are_printed};
+use cvss_lines::{RunFault, Summary, first_line};
+use cvss_program::{Request, asked};
+use std::process::Abort;
+
+const ACCEPTED: Summary = Summary {
+    accepted: 2,
+    refused: 0,
+};
+
+const REFUSED: Summary = Summary {
+    refused: 1,
+    ..ACCEPTED
+};
+
+const FEWER: Summary = Summary {
+    accepted: 1,
+    ..ACCEPTED
+};
+
+#[test]
+fn summaries_differ_by_each_count(rt: HostRuntime) -> Tried {
+    are_copied(&rt, &[("2 0", ACCEPTED), ("2 1", REFUSED), ("1 0", FEWER)])
+}
+
+/// The faults and their texts.
+const FAULTS: [(&str, RunFault); 3] = [
+    ("read failed", RunFault::Read),
+    ("write failed", RunFault::Write),
+    ("out of memory", RunFault::Memory),
+];
+
+#[test]
+fn tells_every_fault(rt: HostRuntime) -> Tried {
+    are_printed(&rt, rt.alloc(), &FAULTS)
+}
+
+#[test]
+fn without_arguments_a_run_is_asked_for(rt: HostRuntime) {
+    assert!(rt; matches!(asked(&[]), Request::Run));
+}
+
+#[test]
+fn cuts_off_the_first_line(rt: HostRuntime) {
+    assert!(rt; first_line(b"").is_none());
+    is_cut_off(&rt, b"a\r\nb", b"a", b"b");
+    is_cut_off(&rt, b"b\r", b"b", b"");
+}
+
+/// Compares a text's first line and what stands behind it.
+fn is_cut_off(rt: &impl Abort, text: &[u8], line: &[u8], behind: &[u8]) {
+    let (cut, rest) = first_line(text).unwrap_or((b"", b"no line"));
+    assert!(rt; cut == line && rest == behind);
+}

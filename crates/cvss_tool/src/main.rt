@@ -3,6 +3,9 @@
 
 mod fault;
 mod run;
+#[cfg(test)]
+mod tests;
+pub mod triage;
 
 pub use cvss_lines::{RunFault, Summary, exit_status, laws};
 pub use fault::fault_text;

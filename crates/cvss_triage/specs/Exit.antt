@@ -1,9 +1,9 @@
 -- How the program ends: its exit status, and what it says of a fault on standard error.
 use Rattle.std.specs.Prelude.{ℕ, ◌+◌, List, ◌++◌, codes, Result, Ok, Err}
 use Rattle.std.specs.Fmt.{decimal}
-use Rattle.std.specs.declared.io.ErrorKind.{ErrorKind}
-use Rattle.std.specs.declared.io.ErrorKind.TheVariants.{OutOfMemory as NoMemory}
 use Rattle.cvss_base.specs.ErrorText.{error_text}
+use Rattle.cvss_lines.specs.declared.fault.RunFault.{RunFault}
+use Rattle.cvss_lines.specs.declared.fault.RunFault.TheVariants as run
 use Rattle.cvss_ranking.specs.declared.error.TriageError.{TriageError}
 use Rattle.cvss_ranking.specs.declared.error.TriageError.TheVariants.{Override, NotEnvironmental, Text, OutOfMemory}
 use Rattle.cvss_triage.specs.declared.fault.TriageFault.{TriageFault}
@@ -14,10 +14,11 @@ abbrev pub fault_of : TriageError → TriageFault
 fault_of OutOfMemory = Memory
 fault_of error = Refused error
 
--- the fault that a failure of the reader is
-abbrev pub read_fault_of : ErrorKind → TriageFault
-read_fault_of NoMemory = Memory
-read_fault_of kind = Read
+-- the fault that a failed read, a failed write or refused memory is
+abbrev pub failure_of : RunFault → TriageFault
+failure_of run.Read = Read
+failure_of run.Write = Write
+failure_of run.Memory = Memory
 
 -- 0 where the rows are written, 1 where an argument or a line is refused, 2 after any other fault
 abbrev pub exit_status : Result (Unit {0}) TriageFault → ℕ

@@ -1,6 +1,5 @@
 -- The lines of an input, and the arguments, as texts.
 use Rattle.std.specs.Prelude.{◌≡◌, ℕ, ◌<◌, Bool, true, false, List, [], map, take, length, slice_index_or, All}
-use Rattle.std.specs.Global.{Vec}
 use Rattle.std.specs.Str.{IsUtf8}
 use denote.Ref.{Bor}
 
@@ -19,7 +18,3 @@ pub record AreTexts (lines : List (List ℕ)) (texts : List (Bor (List ℕ))) (a
   pub are_lines : map (λ text. text.now) texts ≡ take (length texts) lines
   pub utf8 : All IsUtf8 (map (λ text. text.now) texts)
   pub count : IsCount lines (length texts) all
-
--- the bytes of each argument
-abbrev pub bytes_of : List (Vec ℕ) → List (List ℕ)
-bytes_of arguments = map (λ argument. argument.items) arguments

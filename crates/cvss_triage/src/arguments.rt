@@ -1,7 +1,8 @@
 //! The program's arguments as texts.
 
 ghost use Rattle.std.specs.Prelude.{IfOk};
-ghost use Rattle.cvss_triage.specs.Lines.{AreTexts, bytes_of};
+ghost use Rattle.cvss_program.specs.Arguments.{bytes_of};
+ghost use Rattle.cvss_triage.specs.Lines.{AreTexts};
 
 use std::alloc::{AllocError, Global};
 

@@ -1,21 +1,21 @@
 //! Why a run writes no rows.
 
 ghost use Rattle.std.specs.Prelude.{◌≡◌, Some};
-ghost use Rattle.std.specs.IoError.{error_kind};
-ghost use Rattle.cvss_triage.specs.Exit.{fault_of, fault_text, read_fault_of};
+ghost use Rattle.cvss_triage.specs.Exit.{failure_of, fault_of, fault_text};
 ghost use Rattle.cvss_triage.specs.declared.fault.TriageFault.TheVariants.{Memory};
 
+use cvss_lines::RunFault;
 use cvss_ranking::TriageError;
 use std::alloc::{AllocError, AllocFailed};
-use std::io::ErrorKind;
-use std::{fmt, io};
+use std::fmt;
 
 /// Why a run writes no rows.
 #[derive(Debug, Drop, PartialEq, Eq)]
 pub enum TriageFault {
-    /// The reader failed.
+    /// The reader failed, or gave no end in `u64::MAX` reads. An interrupted read is a failure.
     Read,
-    /// The writer failed, or took no byte. A beginning of the rows may be written.
+    /// The writer failed, or took no byte. An interrupted write is a failure. A beginning of the
+    /// rows may be written.
     Write,
     /// A growth was refused.
     Memory,
@@ -45,14 +45,14 @@ impl<T: Drop> From<AllocFailed<T>> for TriageFault {
     }
 }
 
-/// What a failure of the reader is told as.
-impl From<io::Error> for TriageFault {
-    ghost from_gives = { λ error fault. fault ≡ read_fault_of (error_kind error) };
+impl From<RunFault> for TriageFault {
+    ghost from_gives = { λ failure fault. fault ≡ failure_of failure };
 
-    fn from(error: io::Error) -> Self {
-        match error.kind() {
-            ErrorKind::OutOfMemory => TriageFault::Memory,
-            _ => TriageFault::Read,
+    fn from(failure: RunFault) -> Self {
+        match failure {
+            RunFault::Read => TriageFault::Read,
+            RunFault::Write => TriageFault::Write,
+            RunFault::Memory => TriageFault::Memory,
         }
     }
 }

@@ -11,7 +11,6 @@ mod lines;
 mod program;
 mod rows;
 mod run;
-mod write;
 
 use cvss_program::arguments;
 pub use exit::exit_status;

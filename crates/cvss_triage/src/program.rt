@@ -3,12 +3,12 @@
 ghost use Rattle.std.specs.Prelude.{◌≡◌, ◌≢◌, ◌⊎◌, ℕ, IfErr, IsErrOf, OnOk, take};
 ghost use Rattle.std.specs.Io.KnownBytes.{Appends, Keeps};
 ghost use Rattle.cvss_program.specs.Requests.{asked as asked_of};
-ghost use Rattle.cvss_triage.specs.Lines.{bytes_of};
+ghost use Rattle.cvss_program.specs.Arguments.{bytes_of};
 ghost use Rattle.cvss_triage.specs.Runs.{Ranks, RanksCut, IsTold, IsToldUnread};
 
 use crate::fault::TriageFault;
 use crate::run::run_arguments;
-use crate::write::write_whole;
+use cvss_lines::write_whole;
 use cvss_program::{Request, asked};
 use std::alloc::Global;
 use std::io::{Read, Write};
@@ -69,7 +69,7 @@ pub fn run_program<R: Read, W: Write>(
         → Keeps (W.contents writer.old) (W.contents writer.new)) }
 {
     match asked(arguments) {
-        Request::Usage => write_whole(writer, USAGE.as_bytes()),
+        Request::Usage => Ok(write_whole(writer, USAGE.as_bytes())?),
         Request::Unknown => Err(TriageFault::UnknownOption),
         Request::Run => run_arguments(alloc, arguments, reader, writer),
     }

@@ -2,14 +2,14 @@
 
 ghost use Rattle.std.specs.Prelude.{◌≡◌, ◌≢◌, ◌⊎◌, ℕ, List, IfOk, IfErr, IsErrOf, OnOk, length, map, take, string_bytes};
 ghost use Rattle.std.specs.Io.KnownBytes.{Keeps};
-ghost use Rattle.cvss_triage.specs.Lines.{bytes_of};
+ghost use Rattle.cvss_program.specs.Arguments.{bytes_of};
 ghost use Rattle.cvss_triage.specs.Runs.{AreRowsOf, Ranks, RanksCut, IsTold, IsToldUnread, TellsArgument, TellsOf};
 
 use crate::arguments::texts_of_arguments;
 use crate::fault::TriageFault;
 use crate::lines::texts_of;
 use crate::rows::written_rows;
-use crate::write::write_whole;
+use cvss_lines::{read_whole, write_whole};
 use cvss_ranking::apply;
 use std::alloc::Global;
 use std::io::{Read, Write};
@@ -88,10 +88,10 @@ pub fn run<R: Read, W: Write>(
     ensures silent { IfErr result (λ fault. fault ≢ TriageFault.Write
         → Keeps (W.contents writer.old) (W.contents writer.new)) }
 {
-    let mut input = Vec::new(alloc);
-    reader.read_to_end(&mut input)?;
+    let input = read_whole(alloc, reader)?;
     let text = ranked_text(alloc, overrides, &input)?;
-    write_whole(writer, text.as_bytes())
+    write_whole(writer, text.as_bytes())?;
+    Ok(())
 }
 
 /// The rows of an input's lines with the overrides in place, as they are written.

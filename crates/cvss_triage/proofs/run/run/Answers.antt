@@ -7,12 +7,12 @@ use Rattle.cvss_triage.proofs.run.run.Goals as goal
 pub returns-in_err-text-clause-refused : goal.returns-in_err-text-clause-refused
 returns-in_err-text-clause-refused g c =
     let exit = err_from_is_err_and c.from_residual-in_err-text.result c.from_residual-in_err-text.ensures.1 in
-    let input = c.read_to_end.new.buf.items in
+    let input = c.in_ok-input.input.items in
     let overrides = map (λ text. text.now) c.args.overrides.now in
     let error = c.in_err-text.field-0.0 in
-    let reads : ReadsAll (g.R.Read.remaining c.args.reader.now) (g.R.Read.remaining c.read_to_end.new.self) input = record {
-      consumed = rw c.new-input.ensures.items at c.in_ok-read_to_end.ensures.none_lost;
-      at_end = c.in_ok-read_to_end.ensures.end;
+    let reads : ReadsAll (g.R.Read.remaining c.args.reader.now) (g.R.Read.remaining c.read_whole.new.reader) input = record {
+      consumed = c.in_ok-input.ensures.whole.0;
+      at_end = c.in_ok-input.ensures.whole.1;
     } in
     let told = subst (λ bytes. TellsOf overrides bytes error) c.deref.ensures.value c.in_err-text.ensures.refused in
     rw (exit.1, exit.2) (IsTold-from overrides _ _ input reads error told)

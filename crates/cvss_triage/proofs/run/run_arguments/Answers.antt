@@ -1,6 +1,7 @@
 use Rattle.std.proofs.Common.{IfErr, inr, length, subst}
 use Rattle.std.proofs.KnownBytes.{Keeps-refl}
-use Rattle.cvss_triage.specs.Lines.{AreTexts, bytes_of}
+use Rattle.cvss_program.specs.Arguments.{bytes_of}
+use Rattle.cvss_triage.specs.Lines.{AreTexts}
 use Rattle.cvss_triage.specs.Runs.{TellsArgument}
 use Rattle.cvss_triage.proofs.run.run_arguments.Goals as goal
 

@@ -3,19 +3,23 @@
 use std::io;
 use std::io::{ErrorKind, Read, Write};
 
-/// Gives at most `step` bytes a read, and then the end or a fault.
+/// Gives at most `step` bytes a read. After them a read fails once if there is a failure, and the
+/// later ones find the end.
 #[derive(Drop)]
 pub(crate) struct Steps<'a> {
     pub(crate) bytes: &'a [u8],
     pub(crate) step: usize,
-    pub(crate) fault: Option<ErrorKind>,
+    pub(crate) failure: Option<ErrorKind>,
+    /// How many bytes the last read had room for.
+    pub(crate) room: usize,
 }
 
 impl Read for Steps<'_> {
     fn read(&mut self, buf: &mut [u8]) -> io::Result<usize> {
+        self.room = buf.len();
         let count = self.step.min(self.bytes.len()).min(buf.len());
         if count == 0 {
-            return match self.fault {
+            return match self.failure.take() {
                 Some(kind) => Err(kind.into()),
                 None => Ok(0),
             };
@@ -27,45 +31,27 @@ impl Read for Steps<'_> {
     }
 }
 
-/// Takes `room` bytes in all, at most three a call, and then fails or takes none.
+/// Takes at most three bytes a write. After `room` bytes in all a write fails once, or takes no byte
+/// if there is no failure, and the later ones take bytes again.
 #[derive(Drop)]
 pub(crate) struct Narrow {
     pub(crate) taken: Vec<u8>,
     pub(crate) room: usize,
-    pub(crate) fails: bool,
+    pub(crate) failure: Option<ErrorKind>,
 }
 
 impl Write for Narrow {
     fn write(&mut self, buf: &[u8]) -> io::Result<usize> {
         let count = self.room.min(buf.len()).min(3);
-        if count == 0 && self.fails {
-            return Err(ErrorKind::BrokenPipe.into());
+        if count == 0 {
+            self.room = usize::MAX;
+            return match self.failure {
+                Some(kind) => Err(kind.into()),
+                None => Ok(0),
+            };
         }
         self.taken.extend_from_slice(&buf[..count])?;
         self.room -= count;
-        Ok(count)
-    }
-
-    fn flush(&mut self) -> io::Result<()> {
-        Ok(())
-    }
-}
-
-/// Takes one byte a call, and is interrupted before each.
-#[derive(Drop)]
-pub(crate) struct Interrupted {
-    pub(crate) taken: Vec<u8>,
-    pub(crate) goes_on: bool,
-}
-
-impl Write for Interrupted {
-    fn write(&mut self, buf: &[u8]) -> io::Result<usize> {
-        self.goes_on = !self.goes_on;
-        if self.goes_on {
-            return Err(ErrorKind::Interrupted.into());
-        }
-        let count = buf.len().min(1);
-        self.taken.extend_from_slice(&buf[..count])?;
         Ok(count)
     }
 
