@@ -17,11 +17,11 @@
  * Threads. The functions keep no state: any number of threads may call them at once, each with its own
  * buffer or struct.
  *
- * Memory. cvss_version, cvss_scores, cvss_canonical, cvss_read, cvss_metrics, cvss_without_undefined and cvss_find take
- * none, and but for cvss_record and cvss_account no function takes any for a text that is accepted. To tell why a text
- * is refused, and to make a record or an account, the others call malloc, realloc and free, and free what they took
- * before they return; where malloc refuses, a record, an account and a reason that carries a part of the text are told
- * as "out of memory", and that of an override as "override 0: out of memory". So these must not be called from a signal
+ * Memory. cvss_version, cvss_scores, cvss_canonical, cvss_read, cvss_metrics, cvss_without_undefined, cvss_account and
+ * cvss_find take none, and but for cvss_record no function takes any for a text that is accepted. To tell why a text is
+ * refused, and to make a record, the others call malloc, realloc and free, and free what they took before they return;
+ * where malloc refuses, a record and a reason that carries a part of the text are told as "out of memory", and that of
+ * an override as "override 0: out of memory". So these must not be called from a signal
  * handler, or in a child that was forked from a process with threads.
  */
 #ifndef CVSS_H
@@ -155,13 +155,12 @@ size_t cvss_override_reason(const void *text, size_t length, const void *overrid
 size_t cvss_record(const void *text, size_t length, void *buffer, size_t size);
 
 /*
- * The account of the vector's score: a JSON object, without spaces, of the numbers on the way to it, in the order of the
+ * Why the vector has its score: a JSON object, without spaces, of the numbers on the way to it, in the order of the
  * members' names. In v2 and v3 they are the weights, the sub-scores and each score's number before its rounding; in v4.0
  * the values that count, the macro vector with its listed value, what each group of metrics takes from it, and the number
  * before the rounding. A decimal has at most seven places and is less than 10^-6 from the exact number; it is that number
  * where that has no more places, but for numbers of v3 with a changed scope, which have a power. Returns the length of the
- * object. Returns 0, and leaves the buffer as it was, where the text denotes no vector. Where malloc refuses, "out of
- * memory" stands in place of the object, which begins with '{'.
+ * object. Returns 0, and leaves the buffer as it was, where the text denotes no vector.
  */
 size_t cvss_account(const void *text, size_t length, void *buffer, size_t size);
 

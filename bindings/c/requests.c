@@ -66,6 +66,7 @@ static void make_version(const char *text, size_t length) { cvss_version(text, l
 static void make_canonical(const char *text, size_t length) { cvss_canonical(text, length, buffer, MOST); }
 static void make_without(const char *text, size_t length) { cvss_without_undefined(text, length, buffer, MOST); }
 static void make_record(const char *text, size_t length) { cvss_record(text, length, buffer, MOST); }
+static void make_account(const char *text, size_t length) { cvss_account(text, length, buffer, MOST); }
 static void make_reason(const char *text, size_t length) { cvss_reason(text, length, buffer, MOST); }
 static void make_kind(const char *text, size_t length) { cvss_refusal_kind(text, length); }
 static void make_blamed(const char *text, size_t length) { cvss_refusal_metric(text, length, buffer, MOST); }
@@ -118,6 +119,7 @@ static Call frugal[] = {
     {"cvss_canonical", make_canonical, 0}, {"cvss_read", make_read, 0},
     {"cvss_metrics", make_metrics, 0},     {"cvss_without_undefined", make_without, 0},
     {"cvss_find", make_find, 0},           {"cvss_overridden", make_overridden, 0},
+    {"cvss_account", make_account, 0},
 };
 static Call telling[] = {
     {"cvss_reason", make_reason, 0},         {"cvss_refusal_kind", make_kind, 0},
