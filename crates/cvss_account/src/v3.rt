@@ -86,10 +86,7 @@ fn base(numbers: BaseNumbers) -> [Fragment; 7]
         (",\"iss\":", Scalar::Decimal(numbers.iss)),
         (",\"number\":", Scalar::Decimal(scored.number)),
         (",\"score\":", Scalar::Tenths(scored.score)),
-        (
-            ",\"severity\":",
-            Scalar::Text(rating(scored.score)),
-        ),
+        (",\"severity\":", Scalar::Text(rating(scored.score))),
         ("}", Scalar::Nothing),
     ]
 }
@@ -101,10 +98,7 @@ fn temporal(scored: Scored) -> [Fragment; 4]
     [
         ("{\"number\":", Scalar::Decimal(scored.number)),
         (",\"score\":", Scalar::Tenths(scored.score)),
-        (
-            ",\"severity\":",
-            Scalar::Text(rating(scored.score)),
-        ),
+        (",\"severity\":", Scalar::Text(rating(scored.score))),
         ("}", Scalar::Nothing),
     ]
 }
@@ -116,20 +110,17 @@ fn environmental(numbers: EnvironmentalNumbers) -> [Fragment; 9]
     let scored = numbers.scored;
     let exploitability = numbers.exploitability;
     [
-        (
-            "{\"firstNumber\":",
-            Scalar::Decimal(numbers.first.number),
-        ),
+        ("{\"firstNumber\":", Scalar::Decimal(numbers.first.number)),
         (",\"firstScore\":", Scalar::Tenths(numbers.first.score)),
         (",\"miss\":", Scalar::Decimal(numbers.miss)),
-        (",\"modifiedExploitability\":", Scalar::Decimal(exploitability)),
+        (
+            ",\"modifiedExploitability\":",
+            Scalar::Decimal(exploitability),
+        ),
         (",\"modifiedImpact\":", Scalar::Decimal(numbers.impact)),
         (",\"number\":", Scalar::Decimal(scored.number)),
         (",\"score\":", Scalar::Tenths(scored.score)),
-        (
-            ",\"severity\":",
-            Scalar::Text(rating(scored.score)),
-        ),
+        (",\"severity\":", Scalar::Text(rating(scored.score))),
         ("}", Scalar::Nothing),
     ]
 }
