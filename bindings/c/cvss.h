@@ -17,9 +17,9 @@
  * Threads. The functions keep no state: any number of threads may call them at once, each with its own
  * buffer or struct.
  *
- * Memory. Only cvss_record and cvss_account take any: they call malloc, realloc and free, and free what they took before
- * they return. Where malloc refuses, the result is "out of memory". So these two must not be called from a signal handler,
- * or in a child that was forked from a process with threads.
+ * Memory. Only cvss_record takes any: it calls malloc, realloc and free, and frees what it took before it returns. Where
+ * malloc refuses, the result is "out of memory". So it must not be called from a signal handler, or in a child that was
+ * forked from a process with threads.
  */
 #ifndef CVSS_H
 #define CVSS_H
@@ -154,13 +154,12 @@ size_t cvss_override_reason(const void *text, size_t length, const void *overrid
 size_t cvss_record(const void *text, size_t length, void *buffer, size_t size);
 
 /*
- * The account of the vector's score: a JSON object, without spaces, of the numbers on the way to it, in the order of the
+ * Why the vector has its score: a JSON object, without spaces, of the numbers on the way to it, in the order of the
  * members' names. In v2 and v3 they are the weights, the sub-scores and each score's number before its rounding; in v4.0
  * the values that count, the macro vector with its listed value, what each group of metrics takes from it, and the number
  * before the rounding. A decimal has at most seven places and is less than 10^-6 from the exact number; it is that number
  * where that has no more places, but for numbers of v3 with a changed scope, which have a power. Returns the length of the
- * object. Returns 0, and leaves the buffer as it was, where the text denotes no vector. Where malloc refuses, "out of
- * memory" stands in place of the object, which begins with '{'.
+ * object. Returns 0, and leaves the buffer as it was, where the text denotes no vector.
  */
 size_t cvss_account(const void *text, size_t length, void *buffer, size_t size);
 

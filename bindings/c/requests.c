@@ -66,6 +66,7 @@ static void make_version(const char *text, size_t length) { cvss_version(text, l
 static void make_canonical(const char *text, size_t length) { cvss_canonical(text, length, buffer, MOST); }
 static void make_without(const char *text, size_t length) { cvss_without_undefined(text, length, buffer, MOST); }
 static void make_record(const char *text, size_t length) { cvss_record(text, length, buffer, MOST); }
+static void make_account(const char *text, size_t length) { cvss_account(text, length, buffer, MOST); }
 static void make_reason(const char *text, size_t length) { cvss_reason(text, length, buffer, MOST); }
 static void make_kind(const char *text, size_t length) { cvss_refusal_kind(text, length); }
 static void make_metric(const char *text, size_t length) { cvss_refusal_metric(text, length, buffer, MOST); }
@@ -121,6 +122,7 @@ static Call frugal[] = {
     {"cvss_reason", make_reason, 0},       {"cvss_refusal_kind", make_kind, 0},
     {"cvss_refusal_metric", make_metric, 0}, {"cvss_answer", make_answer, 0},
     {"cvss_answers", make_answers, 0},     {"cvss_override_reason", make_objection, 0},
+    {"cvss_account", make_account, 0},
 };
 static Call record = {"cvss_record", make_record, 0};
 

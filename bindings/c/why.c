@@ -4,7 +4,6 @@
  */
 #include "cvss.h"
 
-#include <stdbool.h>
 #include <stdio.h>
 #include <stdlib.h>
 #include <string.h>
@@ -19,11 +18,8 @@ int main(int count, char **texts)
     char *account = malloc(size);
     if (account == NULL)
         return 2;
-    size_t told = cvss_account(text, length, account, size);
-    /* else it is "out of memory" */
-    bool is_told = told == size && account[0] == '{';
-    if (is_told)
-        printf("%.*s\n", (int)told, account);
+    cvss_account(text, length, account, size);
+    printf("%.*s\n", (int)size, account);
     free(account);
-    return is_told && fflush(stdout) == 0 ? 0 : 2;
+    return fflush(stdout) == 0 ? 0 : 2;
 }

@@ -7,8 +7,8 @@
 static std::string account_of(const std::string &text)
 {
     std::string account(cvss_account(text.data(), text.size(), nullptr, 0), ' ');
-    size_t length = cvss_account(text.data(), text.size(), &account[0], account.size());
-    return length <= account.size() ? account.substr(0, length) : "out of memory";
+    cvss_account(text.data(), text.size(), &account[0], account.size());
+    return account;
 }
 
 int main()

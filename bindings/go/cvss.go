@@ -200,7 +200,7 @@ func (v Vector) Record() []byte {
 // v3 they are the weights, the sub-scores and each score's number before its rounding; in v4.0 the values that count, the
 // macro vector with its listed value, what each group of metrics takes from it, and the number before the rounding. A
 // number is less than 10^-6 from the exact one; it is that one where that has no more than seven decimals, but for those
-// of v3 with a changed scope, which have a power. Where there was no memory for it, it is the text "out of memory".
+// of v3 with a changed scope, which have a power.
 func (v Vector) Account() []byte {
 	code, length := bytesOf(v.text)
 	return []byte(written(1<<11, func(buffer unsafe.Pointer, size C.size_t) C.size_t {

@@ -231,8 +231,7 @@ impl Cvss {
     /// rounding; in v4.0 the values that count, the macro vector with its listed value, what each
     /// group of metrics takes from it, and the number before the rounding. A number is less than
     /// 10^-6 from the exact one; it is that one where that has no more than seven decimals, but for
-    /// those of v3 with a changed scope, which have a power. Where there was no memory for it, it
-    /// is the text `out of memory`.
+    /// those of v3 with a changed scope, which have a power.
     ///
     /// ```
     /// let text = "CVSS:4.0/AV:N/AC:L/AT:N/PR:N/UI:N/VC:L/VI:H/VA:N/SC:N/SI:N/SA:N/E:P";

@@ -1,3 +1,5 @@
 mod CloseLemmas
 mod DecimalLemmas
 mod NearLemmas
+mod ShortLemmas
+mod TextLemmas

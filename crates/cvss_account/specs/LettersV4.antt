@@ -1,7 +1,6 @@
 -- The letters of effective values: CVSS v4.0 specification, sections 2 to 4.
-use Rattle.std.specs.Prelude.{ℕ, List, [], ◌∷◌, ◌++◌, codes}
-use Rattle.cvss_object.specs.Objects.{Member}
-use Rattle.serde_json.specs.Data.{string}
+use Rattle.std.specs.Prelude.{ℕ, List, [], ◌∷◌, codes}
+use Rattle.cvss_object.specs.Json.{Member, object_text, string_text}
 use Rattle.cvss_base.specs.declared.v4.MetricType.TheVariants.{AC, AT, AV, PR, UI}
 use Rattle.cvss_v4_metric.specs.Ranks as place
 use Rattle.cvss_v4_metric.specs.Table.{spelling_at}
@@ -37,35 +36,28 @@ requirement_letter = elim [ requirement.High ↦ codes "H" | requirement.Medium 
 abbrev pub exploit_maturity_letter : ExploitMaturity → List ℕ
 exploit_maturity_letter = elim [ exploit_maturity.Attacked ↦ codes "A" | exploit_maturity.ProofOfConcept ↦ codes "P" | exploit_maturity.Unreported ↦ codes "U" ]
 
--- a metric's letter under its name
+-- a metric's letter
 abbrev pub letter_member : List ℕ → List ℕ → Member
-letter_member name letter = (name, string letter)
+letter_member name letter = (name, string_text letter)
 
--- AV, PR, UI, AC and AT, whose effective values are spelled as the metrics
-abbrev pub attack_members : Effective → List Member
-attack_members v =
-    letter_member (codes "AV") (spelling_at AV (place.AV v.av)) ∷ letter_member (codes "PR") (spelling_at PR (place.PR v.pr))
-    ∷ letter_member (codes "UI") (spelling_at UI (place.UI v.ui)) ∷ letter_member (codes "AC") (spelling_at AC (place.AC v.ac))
-    ∷ letter_member (codes "AT") (spelling_at AT (place.AT v.at)) ∷ []
-
--- VC, VI and VA
-abbrev pub vulnerable_members : Effective → List Member
-vulnerable_members v =
-    letter_member (codes "VC") (vulnerable_impact_letter v.vc) ∷ letter_member (codes "VI") (vulnerable_impact_letter v.vi)
-    ∷ letter_member (codes "VA") (vulnerable_impact_letter v.va) ∷ []
-
--- SC, SI and SA
-abbrev pub subsequent_members : Effective → List Member
-subsequent_members v =
-    letter_member (codes "SC") (subsequent_impact_letter v.sc) ∷ letter_member (codes "SI") (safety_impact_letter v.si)
-    ∷ letter_member (codes "SA") (safety_impact_letter v.sa) ∷ []
-
--- CR, IR, AR and E
-abbrev pub weighing_members : Effective → List Member
-weighing_members v =
-    letter_member (codes "CR") (requirement_letter v.cr) ∷ letter_member (codes "IR") (requirement_letter v.ir)
-    ∷ letter_member (codes "AR") (requirement_letter v.ar) ∷ letter_member (codes "E") (exploit_maturity_letter v.e) ∷ []
-
--- those of all
-abbrev pub effective_members : Effective → List Member
-effective_members v = attack_members v ++ (vulnerable_members v ++ (subsequent_members v ++ weighing_members v))
+-- the letters of all metrics, in the order of their names; AV, PR, UI, AC and AT are spelled as in a vector
+abbrev pub effective_text : Effective → List ℕ
+effective_text v =
+    object_text (
+    letter_member (codes "AC") (spelling_at AC (place.AC v.ac))
+    ∷ letter_member (codes "AR") (requirement_letter v.ar)
+    ∷ letter_member (codes "AT") (spelling_at AT (place.AT v.at))
+    ∷ letter_member (codes "AV") (spelling_at AV (place.AV v.av))
+    ∷ letter_member (codes "CR") (requirement_letter v.cr)
+    ∷ letter_member (codes "E") (exploit_maturity_letter v.e)
+    ∷ letter_member (codes "IR") (requirement_letter v.ir)
+    ∷ letter_member (codes "PR") (spelling_at PR (place.PR v.pr))
+    ∷ letter_member (codes "SA") (safety_impact_letter v.sa)
+    ∷ letter_member (codes "SC") (subsequent_impact_letter v.sc)
+    ∷ letter_member (codes "SI") (safety_impact_letter v.si)
+    ∷ letter_member (codes "UI") (spelling_at UI (place.UI v.ui))
+    ∷ letter_member (codes "VA") (vulnerable_impact_letter v.va)
+    ∷ letter_member (codes "VC") (vulnerable_impact_letter v.vc)
+    ∷ letter_member (codes "VI") (vulnerable_impact_letter v.vi)
+    ∷ []
+    )

@@ -1,68 +1,78 @@
--- The accounts of the scores of CVSS v2: guide, section 3.2.
-use Rattle.std.specs.Prelude.{◌≡◌, ◌*◌, pos, List, [], ◌∷◌, codes, map}
+-- The explanations of the scores of CVSS v2: guide, section 3.2. Members are in the order of their names.
+use Rattle.std.specs.Prelude.{◌≡◌, ℕ, ◌*◌, pos, List, [], ◌∷◌, ◌++◌, codes, map, Option}
+use Rattle.cvss_any.specs.declared.vector.Cvss.TheVariants.{CvssV20}
 use Rattle.cvss_base.specs.declared.v2.MetricType.{MetricType}
-use Rattle.cvss_v2_metric.specs.Table.{listed}
+use Rattle.cvss_base.specs.declared.v2.MetricType.TheVariants.{A, AC, AR, AV, Au, C, CDP, CR, E, I, IR, RC, RL, TD}
 use Rattle.cvss_base.specs.V2Types.{name_of}
 use Rattle.cvss_v2.specs.declared.vector.Vector.{Vector}
 use Rattle.cvss_v2.specs.Weights.{weight_in, weights_of}
-use Rattle.cvss_account.specs.Decimal.{decimal_value}
-use Rattle.cvss_account.specs.Parts.{part_members}
+use Rattle.cvss_object.specs.Json.{Member, decimal_text, object_text, tenths_text}
+use Rattle.cvss_account.specs.Parts.{line_members, score_member, severity_member, vector_member, version_member}
 use Rattle.cvss_account.specs.NumbersV2.{AreBaseNumbers, AreEnvironmentalNumbers, AreTemporalNumbers}
 use Rattle.cvss_account.specs.declared.v2.numbers.BaseNumbers.{BaseNumbers}
 use Rattle.cvss_account.specs.declared.v2.numbers.EnvironmentalNumbers.{EnvironmentalNumbers}
 use Rattle.cvss_account.specs.declared.v2.numbers.TemporalNumbers.{TemporalNumbers}
-use Rattle.cvss_object.specs.Objects.{Member, object_of}
-use Rattle.cvss_words.specs.Scores.{score_value}
-use Rattle.serde_json.specs.Data.{Data}
+
+-- the metrics, in the order of their names
+abbrev pub by_name : List MetricType
+by_name = A ∷ AC ∷ AR ∷ AV ∷ Au ∷ C ∷ CDP ∷ CR ∷ E ∷ I ∷ IR ∷ RC ∷ RL ∷ TD ∷ []
 
 -- what a metric weighs, which is thousandths
-abbrev pub weight_value : Vector → MetricType → Data
-weight_value vector kind = decimal_value (pos (weight_in vector kind * 10_000))
-
 abbrev pub weight_member : Vector → MetricType → Member
-weight_member vector kind = (name_of kind, weight_value vector kind)
+weight_member vector kind = (name_of kind, decimal_text (pos (weight_in vector kind * 10_000)))
 
 -- what each metric weighs
-abbrev pub weights_value : Vector → Data
-weights_value vector = object_of (map (weight_member vector) listed)
+abbrev pub weights_text : Vector → List ℕ
+weights_text vector = object_text (map (weight_member vector) by_name)
 
-abbrev pub base_value : BaseNumbers → Data
-base_value told =
-    object_of (
-    (codes "impact", decimal_value told.impact)
-    ∷ (codes "exploitability", decimal_value told.exploitability)
-    ∷ (codes "f", decimal_value told.f)
-    ∷ (codes "number", decimal_value told.number)
-    ∷ (codes "score", score_value told.score)
+abbrev pub base_text : BaseNumbers → List ℕ
+base_text numbers =
+    object_text (
+    (codes "exploitability", decimal_text numbers.exploitability)
+    ∷ (codes "f", decimal_text numbers.f)
+    ∷ (codes "impact", decimal_text numbers.impact)
+    ∷ (codes "number", decimal_text numbers.number)
+    ∷ (codes "score", tenths_text numbers.score)
     ∷ []
     )
 
-abbrev pub temporal_value : TemporalNumbers → Data
-temporal_value told =
-    object_of ((codes "number", decimal_value told.number) ∷ (codes "score", score_value told.score) ∷ [])
+abbrev pub temporal_text : TemporalNumbers → List ℕ
+temporal_text numbers =
+    object_text ((codes "number", decimal_text numbers.number) ∷ (codes "score", tenths_text numbers.score) ∷ [])
 
-abbrev pub environmental_value : EnvironmentalNumbers → Data
-environmental_value told =
-    object_of (
-    (codes "adjustedImpact", decimal_value told.adjusted_impact)
-    ∷ (codes "adjustedBase", decimal_value told.adjusted_base)
-    ∷ (codes "adjustedTemporal", decimal_value told.adjusted_temporal)
-    ∷ (codes "number", decimal_value told.number)
-    ∷ (codes "score", score_value told.score)
+abbrev pub environmental_text : EnvironmentalNumbers → List ℕ
+environmental_text numbers =
+    object_text (
+    (codes "adjustedBase", decimal_text numbers.adjusted_base)
+    ∷ (codes "adjustedImpact", decimal_text numbers.adjusted_impact)
+    ∷ (codes "adjustedTemporal", decimal_text numbers.adjusted_temporal)
+    ∷ (codes "number", decimal_text numbers.number)
+    ∷ (codes "score", tenths_text numbers.score)
     ∷ []
     )
 
--- the members of a vector's account
-abbrev pub account_members : Vector → BaseNumbers → TemporalNumbers → EnvironmentalNumbers → List Member
-account_members vector base temporal environmental =
-    part_members (weights_value vector) (base_value base) (temporal_value temporal) (environmental_value environmental)
+-- the explanation of a score of so many tenths, with these numbers
+abbrev pub account_text : Option ℕ → Vector → ℕ → BaseNumbers → TemporalNumbers → EnvironmentalNumbers → List ℕ
+account_text line vector tenths base temporal environmental =
+    object_text (
+    (codes "base", base_text base)
+    ∷ (codes "environmental", environmental_text environmental)
+    ∷ (line_members line
+    ++ score_member tenths
+    ∷ severity_member (CvssV20 vector) tenths
+    ∷ (codes "temporal", temporal_text temporal)
+    ∷ vector_member (CvssV20 vector)
+    ∷ version_member (CvssV20 vector)
+    ∷ (codes "weights", weights_text vector)
+    ∷ [])
+    )
 
--- these are the members of the vector's account
-pub record AreAccountMembers (vector : Vector) (members : List Member) : Type 0 where
+-- the text explains the vector's score, of so many tenths
+pub record IsAccountText (line : Option ℕ) (vector : Vector) (tenths : ℕ) (text : List ℕ) : Type 0 where
   pub base : BaseNumbers
   pub temporal : TemporalNumbers
   pub environmental : EnvironmentalNumbers
   pub are_base : AreBaseNumbers (weights_of vector) base
   pub are_temporal : AreTemporalNumbers (weights_of vector) temporal
   pub are_environmental : AreEnvironmentalNumbers (weights_of vector) environmental
-  pub are : members ≡ account_members vector base temporal environmental
+  pub is : text ≡ account_text line vector tenths base temporal environmental

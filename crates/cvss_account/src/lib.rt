@@ -1,13 +1,13 @@
-//! Accounts of scores: JSON objects that tell the numbers on the way to a vector's score.
+//! Explanations of scores: JSON objects with the numbers on the way to a vector's score, written
+//! without memory.
 #![tactic(auto)]
 
 mod account;
 mod decimal;
 pub mod laws;
-mod members;
+mod parts;
 mod v2;
 mod v3;
 mod v4;
 
-pub use account::account_of;
-pub use decimal::decimal_value;
+pub use account::put_account;

@@ -1,88 +1,123 @@
-//! The accounts of the scores of CVSS v2 (guide, section 3.2).
+//! The explanations of the scores of CVSS v2 (guide, section 3.2).
 
-ghost use Rattle.std.specs.Prelude.{◌≡◌, IfOk, OnOk};
-ghost use Rattle.cvss_account.specs.V2.{AreAccountMembers, base_value, environmental_value, temporal_value, weight_value, weights_value};
-ghost use Rattle.cvss_account.specs.private.Told.{PutsNumbers, told_object};
-ghost use Rattle.serde_json.specs.View.{members_view, view};
+ghost use Rattle.std.specs.Prelude.{◌≡◌, ◌*◌, ◌≤◌, [], pos};
+ghost use Rattle.cvss_any.specs.declared.vector.Cvss.TheVariants.{CvssV20};
+ghost use Rattle.cvss_account.specs.V2.{IsAccountText, base_text, environmental_text, temporal_text, weights_text};
+ghost use Rattle.cvss_object.specs.declared.fragment.Scalar.TheVariants.{Decimal};
+ghost use Rattle.cvss_object.specs.Fragments.{fragments_room, fragments_text};
+ghost use Rattle.cvss_v2.specs.Weights.{weight_in};
 
 mod numbers;
 
-use crate::decimal::{decimal_value, ten_millionths};
-use crate::members::{Member, Members, Result, Told, put_parts};
+use crate::decimal::ten_millionths;
+use crate::parts::{put_line, put_score, put_text};
+use cvss_any::Cvss;
 use cvss_base::v2::MetricType;
-use cvss_text::metrics::Listed;
+use cvss_object::{Fragment, Page, Scalar, put_fragments};
 use cvss_v2::Vector;
 use numbers::{BaseNumbers, EnvironmentalNumbers, TemporalNumbers};
-use serde_json::{Map, Value, put};
-use std::alloc::Global;
 
-/// Puts the weights and the numbers on the way to the scores.
-pub(crate) fn put_account(members: &mut Members, alloc: Global, vector: &Vector) -> Result<()>
-    ensures { OnOk result (PutsNumbers (AreAccountMembers vector.now)
-        (members_view members.old.entries) (members_view members.new.entries)) }
+/// Writes why a vector has its score.
+pub(crate) fn put_account(
+    page: &mut Page,
+    line: Option<u64>,
+    cvss: &Cvss,
+    vector: &Vector,
+    tenths: u8,
+)
+    requires vector { cvss.now ≡ CvssV20 vector.now }
+    requires empty { page.old ≡ [] }
+    ensures { IsAccountText line vector.now tenths page.new }
 {
-    let base = base_members(BaseNumbers::of(vector));
-    let temporal = temporal_members(TemporalNumbers::of(vector));
-    let adjusted = environmental_members(EnvironmentalNumbers::of(vector));
-    let weights = weights_value(alloc, vector)?;
-    put_parts(members, alloc, weights, &base, &temporal, &adjusted)
+    page.push(b"{\"base\":");
+    put_fragments(page, &base(BaseNumbers::of(vector)));
+    page.push(b",\"environmental\":");
+    put_fragments(page, &environmental(EnvironmentalNumbers::of(vector)));
+    put_line(page, line);
+    put_score(page, cvss, tenths);
+    page.push(b",\"temporal\":");
+    put_fragments(page, &temporal(TemporalNumbers::of(vector)));
+    put_text(page, cvss);
+    page.push(b",\"weights\":");
+    put_fragments(page, &weights(vector));
+    page.push(b"}");
+}
+
+fn base(numbers: BaseNumbers) -> [Fragment; 6]
+    ensures text { fragments_text result ≡ base_text numbers }
+    ensures room { fragments_room result ≤ 300 }
+{
+    [
+        (
+            "{\"exploitability\":",
+            Scalar::Decimal(numbers.exploitability),
+        ),
+        (",\"f\":", Scalar::Decimal(numbers.f)),
+        (",\"impact\":", Scalar::Decimal(numbers.impact)),
+        (",\"number\":", Scalar::Decimal(numbers.number)),
+        (",\"score\":", Scalar::Tenths(numbers.score)),
+        ("}", Scalar::Nothing),
+    ]
+}
+
+fn temporal(numbers: TemporalNumbers) -> [Fragment; 3]
+    ensures text { fragments_text result ≡ temporal_text numbers }
+    ensures room { fragments_room result ≤ 100 }
+{
+    [
+        ("{\"number\":", Scalar::Decimal(numbers.number)),
+        (",\"score\":", Scalar::Tenths(numbers.score)),
+        ("}", Scalar::Nothing),
+    ]
+}
+
+fn environmental(numbers: EnvironmentalNumbers) -> [Fragment; 6]
+    ensures text { fragments_text result ≡ environmental_text numbers }
+    ensures room { fragments_room result ≤ 300 }
+{
+    [
+        ("{\"adjustedBase\":", Scalar::Decimal(numbers.adjusted_base)),
+        (
+            ",\"adjustedImpact\":",
+            Scalar::Decimal(numbers.adjusted_impact),
+        ),
+        (
+            ",\"adjustedTemporal\":",
+            Scalar::Decimal(numbers.adjusted_temporal),
+        ),
+        (",\"number\":", Scalar::Decimal(numbers.number)),
+        (",\"score\":", Scalar::Tenths(numbers.score)),
+        ("}", Scalar::Nothing),
+    ]
 }
 
 /// What each metric weighs.
-fn weights_value(alloc: Global, vector: &Vector) -> Result<Value>
-    ensures { IfOk result (λ value. view value ≡ weights_value vector.now) }
+fn weights(vector: &Vector) -> [Fragment; 15]
+    ensures text { fragments_text result ≡ weights_text vector.now }
+    ensures room { fragments_room result ≤ 600 }
 {
-    let mut members = Map::new(alloc);
-    for kind in Vector::listed() {
-        put(
-            &mut members,
-            alloc,
-            kind.name(),
-            weight_value(vector, *kind),
-        )?;
-    }
-    Ok(Value::Object(members))
+    [
+        ("{\"A\":", weight(vector, MetricType::A)),
+        (",\"AC\":", weight(vector, MetricType::AC)),
+        (",\"AR\":", weight(vector, MetricType::AR)),
+        (",\"AV\":", weight(vector, MetricType::AV)),
+        (",\"Au\":", weight(vector, MetricType::Au)),
+        (",\"C\":", weight(vector, MetricType::C)),
+        (",\"CDP\":", weight(vector, MetricType::CDP)),
+        (",\"CR\":", weight(vector, MetricType::CR)),
+        (",\"E\":", weight(vector, MetricType::E)),
+        (",\"I\":", weight(vector, MetricType::I)),
+        (",\"IR\":", weight(vector, MetricType::IR)),
+        (",\"RC\":", weight(vector, MetricType::RC)),
+        (",\"RL\":", weight(vector, MetricType::RL)),
+        (",\"TD\":", weight(vector, MetricType::TD)),
+        ("}", Scalar::Nothing),
+    ]
 }
 
 /// What a metric weighs.
-fn weight_value(vector: &Vector, kind: MetricType) -> Value
-    ensures { view result ≡ weight_value vector.now kind }
+fn weight(vector: &Vector, kind: MetricType) -> Scalar
+    ensures { result ≡ Decimal (pos (weight_in vector.now kind * 10_000)) }
 {
-    decimal_value(ten_millionths(vector.weight(kind)))
-}
-
-/// What is told of the base score.
-fn base_members(numbers: BaseNumbers) -> [Member<'static>; 5]
-    ensures { told_object result ≡ base_value numbers }
-{
-    [
-        ("impact", Told::Decimal(numbers.impact)),
-        ("exploitability", Told::Decimal(numbers.exploitability)),
-        ("f", Told::Decimal(numbers.f)),
-        ("number", Told::Decimal(numbers.number)),
-        ("score", Told::Tenths(numbers.score)),
-    ]
-}
-
-/// What is told of the temporal score.
-fn temporal_members(numbers: TemporalNumbers) -> [Member<'static>; 2]
-    ensures { told_object result ≡ temporal_value numbers }
-{
-    [
-        ("number", Told::Decimal(numbers.number)),
-        ("score", Told::Tenths(numbers.score)),
-    ]
-}
-
-/// What is told of the environmental score.
-fn environmental_members(numbers: EnvironmentalNumbers) -> [Member<'static>; 5]
-    ensures { told_object result ≡ environmental_value numbers }
-{
-    [
-        ("adjustedImpact", Told::Decimal(numbers.adjusted_impact)),
-        ("adjustedBase", Told::Decimal(numbers.adjusted_base)),
-        ("adjustedTemporal", Told::Decimal(numbers.adjusted_temporal)),
-        ("number", Told::Decimal(numbers.number)),
-        ("score", Told::Tenths(numbers.score)),
-    ]
+    Scalar::Decimal(ten_millionths(vector.weight(kind)))
 }

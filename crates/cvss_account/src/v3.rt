@@ -1,117 +1,173 @@
-//! The accounts of the scores of CVSS v3 (v3.1 specification, section 7; v3.0 specification, section 8).
+//! The explanations of the scores of CVSS v3 (v3.1 specification, section 7; v3.0 specification, section 8).
 
-ghost use Rattle.std.specs.Prelude.{◌≡◌, IfOk, OnOk, option_map};
-ghost use Rattle.cvss_base.specs.V3Types.{name_of};
-ghost use Rattle.cvss_v3.specs.VectorWeights.{weights_of};
-ghost use Rattle.cvss_account.specs.V3.{AreAccountMembers, base_value, environmental_value, scope_letter, temporal_value, weight_member, weights_value};
-ghost use Rattle.cvss_account.specs.private.Told.{PutsNumbers, rating_text, told_object};
-ghost use Rattle.serde_json.specs.View.{members_view, view};
+ghost use Rattle.std.specs.Prelude.{◌≡◌, ◌+◌, ◌*◌, ◌≤◌, [], ◌++◌, length, pos, unwrap_or};
+ghost use Rattle.cvss_any.specs.Answers.{score_of_tenths};
+ghost use Rattle.cvss_account.specs.V3.{IsAccountText, base_text, environmental_text, scope_letter, scope_members, temporal_text, weights_text};
+ghost use Rattle.cvss_base.specs.Rating.{rating_of_score};
+ghost use Rattle.cvss_base.specs.SeverityText.{text_of as severity_text};
+ghost use Rattle.cvss_object.specs.declared.fragment.Scalar.TheVariants.{Decimal};
+ghost use Rattle.cvss_object.specs.Fragments.{fragments_room, fragments_text};
+ghost use Rattle.cvss_object.specs.private.Members.{members_text};
+ghost use Rattle.cvss_v3.specs.VectorWeights.{weight_in, weights_of};
 
 mod numbers;
 
-use crate::decimal::{decimal_value, ten_millionths};
-use crate::members::{Member, Members, Result, Told, put_parts, put_told};
+use crate::decimal::ten_millionths;
+use crate::parts::{put_line, put_score, put_text};
+use cvss_any::Cvss;
 use cvss_base::TENTH;
 use cvss_base::v3::MetricType;
-use cvss_text::metrics::Listed;
+use cvss_object::{Fragment, Page, Scalar, put_fragments};
 use cvss_v3::{Score, Vector};
 use numbers::{BaseNumbers, EnvironmentalNumbers, Scored};
-use serde_json::{Map, Value, put};
-use std::alloc::Global;
 
-/// Puts the scopes, the weights and the numbers on the way to the scores.
-pub(crate) fn put_account(members: &mut Members, alloc: Global, vector: &Vector) -> Result<()>
-    ensures { OnOk result (PutsNumbers (AreAccountMembers vector.now)
-        (members_view members.old.entries) (members_view members.new.entries)) }
+/// Writes why a vector has its score.
+pub(crate) fn put_account(
+    page: &mut Page,
+    line: Option<u64>,
+    cvss: &Cvss,
+    vector: &Vector,
+    tenths: u8,
+)
+    requires { page.old ≡ [] }
+    ensures { IsAccountText line cvss.now vector.now tenths page.new }
 {
+    page.push(b"{\"base\":");
+    put_fragments(page, &base(BaseNumbers::of(vector)));
+    page.push(b",\"environmental\":");
+    put_fragments(page, &environmental(EnvironmentalNumbers::of(vector)));
+    put_line(page, line);
+    put_scopes(page, vector);
+    put_score(page, cvss, tenths);
+    page.push(b",\"temporal\":");
+    put_fragments(page, &temporal(Scored::temporal(vector)));
+    put_text(page, cvss);
+    page.push(b",\"weights\":");
+    put_fragments(page, &weights(vector));
+    page.push(b"}");
+}
+
+/// Writes the scopes, as they count.
+fn put_scopes(page: &mut Page, vector: &Vector)
+    requires { length page.old + 40 ≤ 4096 }
+    ensures text { page.new
+        ≡ page.old ++ members_text (scope_members (weights_of vector.now)) }
+    ensures room { length page.new ≤ length page.old + 40 }
+{
+    let modified = scope_letter(vector.is_modified_scope_changed());
     let scope = scope_letter(vector.is_scope_changed());
-    let modified_scope = scope_letter(vector.is_modified_scope_changed());
-    let scopes = [
-        ("scope", Told::Text(scope)),
-        ("modifiedScope", Told::Text(modified_scope)),
-    ];
-    let base = base_members(BaseNumbers::of(vector));
-    let temporal = temporal_members(Scored::temporal(vector));
-    let modified = environmental_members(EnvironmentalNumbers::of(vector));
-    put_told(members, alloc, &scopes)?;
-    let weights = weights_value(alloc, vector)?;
-    put_parts(members, alloc, weights, &base, &temporal, &modified)
+    put_fragments(
+        page,
+        &[
+            (",\"modifiedScope\":", Scalar::Text(modified)),
+            (",\"scope\":", Scalar::Text(scope)),
+        ],
+    );
 }
 
 fn scope_letter(changed: bool) -> &'static str
-    ensures { result.now ≡ scope_letter changed }
+    ensures text { result.now ≡ scope_letter changed }
+    ensures short { length result.now ≤ 1 }
 {
     if changed { "C" } else { "U" }
 }
 
-/// What each metric weighs, which the scopes don't.
-fn weights_value(alloc: Global, vector: &Vector) -> Result<Value>
-    ensures { IfOk result (λ value. view value ≡ weights_value (weights_of vector.now)) }
-{
-    let mut members = Map::new(alloc);
-    for kind in Vector::listed() {
-        if let Some(weight) = weight_value(vector, *kind) {
-            put(&mut members, alloc, kind.name(), weight)?;
-        }
-    }
-    Ok(Value::Object(members))
-}
-
-/// What a metric weighs, if it does.
-fn weight_value(vector: &Vector, kind: MetricType) -> Option<Value>
-    ensures { option_map (λ value. (name_of kind, view value)) result
-        ≡ weight_member (weights_of vector.now) kind }
-{
-    Some(decimal_value(ten_millionths(vector.weight(kind)?)))
-}
-
-/// What is told of the base score.
-fn base_members(numbers: BaseNumbers) -> [Member<'static>; 6]
-    ensures { told_object result ≡ base_value numbers }
+fn base(numbers: BaseNumbers) -> [Fragment; 7]
+    ensures text { fragments_text result ≡ base_text numbers }
+    ensures room { fragments_room result ≤ 300 }
 {
     let scored = numbers.scored;
     [
-        ("iss", Told::Decimal(numbers.iss)),
-        ("impact", Told::Decimal(numbers.impact)),
-        ("exploitability", Told::Decimal(numbers.exploitability)),
-        ("number", Told::Decimal(scored.number)),
-        ("score", Told::Tenths(scored.score)),
-        ("severity", Told::Text(rating(scored.score))),
+        (
+            "{\"exploitability\":",
+            Scalar::Decimal(numbers.exploitability),
+        ),
+        (",\"impact\":", Scalar::Decimal(numbers.impact)),
+        (",\"iss\":", Scalar::Decimal(numbers.iss)),
+        (",\"number\":", Scalar::Decimal(scored.number)),
+        (",\"score\":", Scalar::Tenths(scored.score)),
+        (",\"severity\":", Scalar::Text(rating(scored.score))),
+        ("}", Scalar::Nothing),
     ]
 }
 
-/// What is told of the temporal score.
-fn temporal_members(scored: Scored) -> [Member<'static>; 3]
-    ensures { told_object result ≡ temporal_value scored }
+fn temporal(scored: Scored) -> [Fragment; 4]
+    ensures text { fragments_text result ≡ temporal_text scored }
+    ensures room { fragments_room result ≤ 300 }
 {
     [
-        ("number", Told::Decimal(scored.number)),
-        ("score", Told::Tenths(scored.score)),
-        ("severity", Told::Text(rating(scored.score))),
+        ("{\"number\":", Scalar::Decimal(scored.number)),
+        (",\"score\":", Scalar::Tenths(scored.score)),
+        (",\"severity\":", Scalar::Text(rating(scored.score))),
+        ("}", Scalar::Nothing),
     ]
 }
 
-/// What is told of the environmental score.
-fn environmental_members(numbers: EnvironmentalNumbers) -> [Member<'static>; 8]
-    ensures { told_object result ≡ environmental_value numbers }
+fn environmental(numbers: EnvironmentalNumbers) -> [Fragment; 9]
+    ensures text { fragments_text result ≡ environmental_text numbers }
+    ensures room { fragments_room result ≤ 500 }
 {
-    let (first, scored) = (numbers.first, numbers.scored);
+    let scored = numbers.scored;
     let exploitability = numbers.exploitability;
     [
-        ("miss", Told::Decimal(numbers.miss)),
-        ("modifiedImpact", Told::Decimal(numbers.impact)),
-        ("modifiedExploitability", Told::Decimal(exploitability)),
-        ("firstNumber", Told::Decimal(first.number)),
-        ("firstScore", Told::Tenths(first.score)),
-        ("number", Told::Decimal(scored.number)),
-        ("score", Told::Tenths(scored.score)),
-        ("severity", Told::Text(rating(scored.score))),
+        ("{\"firstNumber\":", Scalar::Decimal(numbers.first.number)),
+        (",\"firstScore\":", Scalar::Tenths(numbers.first.score)),
+        (",\"miss\":", Scalar::Decimal(numbers.miss)),
+        (
+            ",\"modifiedExploitability\":",
+            Scalar::Decimal(exploitability),
+        ),
+        (",\"modifiedImpact\":", Scalar::Decimal(numbers.impact)),
+        (",\"number\":", Scalar::Decimal(scored.number)),
+        (",\"score\":", Scalar::Tenths(scored.score)),
+        (",\"severity\":", Scalar::Text(rating(scored.score))),
+        ("}", Scalar::Nothing),
     ]
+}
+
+/// What each metric weighs, which the scopes don't.
+fn weights(vector: &Vector) -> [Fragment; 21]
+    ensures text { fragments_text result ≡ weights_text (weights_of vector.now) }
+    ensures room { fragments_room result ≤ 900 }
+{
+    [
+        ("{\"A\":", weight(vector, MetricType::A)),
+        (",\"AC\":", weight(vector, MetricType::AC)),
+        (",\"AR\":", weight(vector, MetricType::AR)),
+        (",\"AV\":", weight(vector, MetricType::AV)),
+        (",\"C\":", weight(vector, MetricType::C)),
+        (",\"CR\":", weight(vector, MetricType::CR)),
+        (",\"E\":", weight(vector, MetricType::E)),
+        (",\"I\":", weight(vector, MetricType::I)),
+        (",\"IR\":", weight(vector, MetricType::IR)),
+        (",\"MA\":", weight(vector, MetricType::MA)),
+        (",\"MAC\":", weight(vector, MetricType::MAC)),
+        (",\"MAV\":", weight(vector, MetricType::MAV)),
+        (",\"MC\":", weight(vector, MetricType::MC)),
+        (",\"MI\":", weight(vector, MetricType::MI)),
+        (",\"MPR\":", weight(vector, MetricType::MPR)),
+        (",\"MUI\":", weight(vector, MetricType::MUI)),
+        (",\"PR\":", weight(vector, MetricType::PR)),
+        (",\"RC\":", weight(vector, MetricType::RC)),
+        (",\"RL\":", weight(vector, MetricType::RL)),
+        (",\"UI\":", weight(vector, MetricType::UI)),
+        ("}", Scalar::Nothing),
+    ]
+}
+
+/// What a metric weighs; 0 for a scope.
+fn weight(vector: &Vector, kind: MetricType) -> Scalar
+    ensures { result
+        ≡ Decimal (pos (unwrap_or (weight_in (weights_of vector.now) kind) 0 * 100_000)) }
+{
+    Scalar::Decimal(ten_millionths(vector.weight(kind).unwrap_or(0)))
 }
 
 /// The rating of a score of so many tenths.
+#[tactic(auto, using(crate::proofs::ShortLemmas::severity_short))]
 fn rating(tenths: u8) -> &'static str
-    ensures { result.now ≡ rating_text tenths }
+    ensures text { result.now ≡ severity_text (rating_of_score (score_of_tenths tenths)) }
+    ensures short { length result.now ≤ 8 }
 {
     Score::new(i128::from(tenths) * TENTH).severity().as_str()
 }

@@ -1,104 +1,214 @@
-//! The account of a score of CVSS v4.0 (specification, section 8.2).
+//! The explanation of a score of CVSS v4.0 (specification, section 8.2).
 
-ghost use Rattle.std.specs.Prelude.{◌≡◌, IfOk, OnOk, map};
-ghost use Rattle.cvss_v4.specs.Vector.{v4};
+ghost use Rattle.std.specs.Prelude.{◌≡◌, ◌+◌, ◌≤◌, [], ◌∷◌, ◌++◌, length};
+ghost use Rattle.cvss_any.specs.declared.vector.Cvss.TheVariants.{CvssV40};
+ghost use Rattle.cvss_account.specs.V4.{IsAccountText, class_members, class_text, gap_member, group_text, groups_text, next_members};
+ghost use Rattle.cvss_account.specs.private.Digits.{digits_text, second_text};
 ghost use Rattle.cvss_base.specs.Version.{IsComplete};
-ghost use Rattle.cvss_account.specs.V4.{AreAccountMembers, group_members};
-ghost use Rattle.cvss_account.specs.private.Told.{PutsNumbers, digits_text, groups_value, told_members, told_object};
+ghost use Rattle.cvss_object.specs.Fragments.{scalar_room, scalar_text};
+ghost use Rattle.cvss_object.specs.Json.{further_members};
+ghost use Rattle.cvss_object.specs.declared.fragment.Scalar.TheVariants.{Whole};
+ghost use Rattle.cvss_object.specs.private.Members.{members_text};
 ghost use Rattle.cvss_score.specs.v4.Account.{AreInRange, IsInRange};
-ghost use Rattle.serde_json.specs.Data.{array};
-ghost use Rattle.serde_json.specs.View.{items_of, members_view, view};
+ghost use Rattle.cvss_v4.specs.Nomenclature.{text_of as nomenclature_text};
+ghost use Rattle.cvss_v4.specs.Vector.{v4};
 
 mod effective;
 
 use crate::decimal::of_parts;
-use crate::members::{Member, Members, Result, Told, object, put_object, put_told};
+use crate::parts::{put_line, put_score, put_text};
+use cvss_any::Cvss;
+use cvss_object::{Page, Scalar, put_fragments};
 use cvss_score::v4::scoring::account::GroupAccount;
-use cvss_v4::{Account, Vector};
-use effective::effective_told;
-use serde_json::{Value, push, put};
-use std::alloc::Global;
+use cvss_score::v4::scoring::classes::MacroVector;
+use cvss_v4::{Account, Nomenclature, Vector};
+use effective::effective;
 
-/// What is told of a group.
-type Group = [Member<'static>; 8];
-
-/// Puts the numbers on the way to the score of a complete vector.
-pub(crate) fn put_account(members: &mut Members, alloc: Global, vector: &Vector) -> Result<()>
-    requires { IsComplete v4 vector.now }
-    ensures { OnOk result (PutsNumbers (AreAccountMembers vector.now)
-        (members_view members.old.entries) (members_view members.new.entries)) }
+/// Writes why a complete vector has its score.
+pub(crate) fn put_account(
+    page: &mut Page,
+    line: Option<u64>,
+    cvss: &Cvss,
+    vector: &Vector,
+    tenths: u8,
+)
+    requires vector { cvss.now ≡ CvssV40 vector.now }
+    requires complete { IsComplete v4 vector.now }
+    requires empty { page.old ≡ [] }
+    ensures { IsAccountText line vector.now tenths page.new }
 {
     let account = vector.account();
-    let effective = effective_told(&account.effective);
-    let class = [
-        ("macroVector", Told::Class(account.class)),
-        ("value", Told::Tenths(account.value)),
-    ];
-    let numbers = [
-        ("mean", Told::Decimal(of_parts(account.mean, 504_000))),
-        ("number", Told::Decimal(of_parts(account.number, 504_000))),
-    ];
-    let nomenclature = vector.nomenclature().to_string(alloc)?;
-    put(members, alloc, "nomenclature", Value::String(nomenclature))?;
-    put_object(members, alloc, "effective", &effective)?;
-    put_told(members, alloc, &class)?;
-    put(members, alloc, "groups", groups_value(alloc, &account)?)?;
-    put_told(members, alloc, &numbers)
+    page.push(b"{\"effective\":");
+    put_fragments(page, &effective(&account.effective));
+    page.push(b",\"groups\":");
+    put_groups(page, &account);
+    put_line(page, line);
+    put_class(page, &account, vector.nomenclature());
+    put_score(page, cvss, tenths);
+    put_fragments(page, &[(",\"value\":", Scalar::Tenths(account.value))]);
+    put_text(page, cvss);
+    page.push(b"}");
 }
 
-/// The array of the five groups, which is empty without impact.
-fn groups_value(alloc: Global, account: &Account) -> Result<Value>
-    requires { AreInRange account.now }
-    ensures { IfOk result (λ value. view value ≡ groups_value account.now) }
+/// Writes the class of the effective values, the mean of what is taken from its value, the nomenclature
+/// and the number that is left.
+fn put_class(page: &mut Page, account: &Account, nomenclature: Nomenclature)
+    requires { length page.old + 300 ≤ 4096 }
+    ensures text { page.new ≡ page.old ++ members_text (class_members account.now nomenclature) }
+    ensures room { length page.new ≤ length page.old + 300 }
+{
+    let mean = of_parts(account.mean, 504_000);
+    let number = of_parts(account.number, 504_000);
+    let nomenclature = nomenclature_text(nomenclature);
+    page.push(b",\"macroVector\":\"");
+    put_macro_vector(page, &account.class);
+    put_fragments(
+        page,
+        &[
+            ("\",\"mean\":", Scalar::Decimal(mean)),
+            (",\"nomenclature\":", Scalar::Text(nomenclature)),
+            (",\"number\":", Scalar::Decimal(number)),
+        ],
+    );
+}
+
+fn nomenclature_text(nomenclature: Nomenclature) -> &'static str
+    ensures text { result.now ≡ nomenclature_text nomenclature }
+    ensures short { length result.now ≤ 8 }
+{
+    match nomenclature {
+        Nomenclature::CvssB => "CVSS-B",
+        Nomenclature::CvssBE => "CVSS-BE",
+        Nomenclature::CvssBT => "CVSS-BT",
+        Nomenclature::CvssBTE => "CVSS-BTE",
+    }
+}
+
+/// Writes the six digits of a class.
+fn put_macro_vector(page: &mut Page, class: &MacroVector)
+    requires { length page.old + 120 ≤ 4096 }
+    ensures text { page.new ≡ page.old ++ class_text class.now }
+    ensures room { length page.new ≤ length page.old + 120 }
+{
+    put_fragments(
+        page,
+        &[
+            ("", digit(class.eq1)),
+            ("", digit(class.eq2)),
+            ("", digit(class.eq3)),
+            ("", digit(class.eq4)),
+            ("", digit(class.eq5)),
+            ("", digit(class.eq6)),
+        ],
+    );
+}
+
+fn digit(number: u8) -> Scalar
+    ensures { result ≡ Whole number }
+{
+    Scalar::Whole(u64::from(number))
+}
+
+/// The second digit of a group's class, if it has one.
+fn second_digit(number: Option<u8>) -> Scalar
+    ensures text { scalar_text result ≡ second_text number }
+    ensures room { scalar_room result ≤ 20 }
+{
+    match number {
+        Some(number) => digit(number),
+        None => Scalar::Nothing,
+    }
+}
+
+/// Writes the array of the five groups, which is empty without impact.
+fn put_groups(page: &mut Page, account: &Account)
+    requires range { AreInRange account.now }
+    requires room { length page.old + 2300 ≤ 4096 }
+    ensures text { page.new
+        ≡ page.old ++ groups_text account.now.class account.now.value account.now.groups }
+    ensures room { length page.new ≤ length page.old + 2300 }
 {
     let Some(groups) = &account.groups else {
-        return Ok(Value::Array(Vec::new(alloc)));
+        page.push(b"[]");
+        return;
     };
     let (class, value) = (&account.class, account.value);
-    let eq6 = Some(class.eq6);
-    let told = [
-        group_told("EQ1", (class.eq1, None), value, &groups.eq1),
-        group_told("EQ2", (class.eq2, None), value, &groups.eq2),
-        group_told("EQ3+EQ6", (class.eq3, eq6), value, &groups.eq3_eq6),
-        group_told("EQ4", (class.eq4, None), value, &groups.eq4),
-        group_told("EQ5", (class.eq5, None), value, &groups.eq5),
-    ];
-    objects(alloc, &told)
+    page.push(b"[");
+    put_group(page, "EQ1", (class.eq1, None), value, &groups.eq1);
+    page.push(b",");
+    put_group(page, "EQ2", (class.eq2, None), value, &groups.eq2);
+    page.push(b",");
+    let both = (class.eq3, Some(class.eq6));
+    put_group(page, "EQ3+EQ6", both, value, &groups.eq3_eq6);
+    page.push(b",");
+    put_group(page, "EQ4", (class.eq4, None), value, &groups.eq4);
+    page.push(b",");
+    put_group(page, "EQ5", (class.eq5, None), value, &groups.eq5);
+    page.push(b"]");
 }
 
-/// The array of the objects of these members.
-fn objects(alloc: Global, told: &[Group]) -> Result<Value>
-    ensures { IfOk result (λ value. view value ≡ array (items_of (map told_object told.now))) }
+/// Writes what a group of metrics contributes to the score, below a value.
+fn put_group(
+    page: &mut Page,
+    name: &'static str,
+    class: (u8, Option<u8>),
+    value: u8,
+    group: &GroupAccount,
+)
+    requires range { IsInRange value group.now }
+    requires short { length name.now ≤ 7 }
+    requires room { length page.old + 450 ≤ 4096 }
+    ensures text { page.new
+        ≡ page.old ++ group_text name.now (digits_text class) value group.now }
+    ensures room { length page.new ≤ length page.old + 450 }
 {
-    let mut values = Vec::new(alloc);
-    for group in told {
-        push(&mut values, object(alloc, group)?)?;
-    }
-    Ok(Value::Array(values))
-}
-
-/// What is told of a group below a value. Without a next lower class what tells of it is null.
-fn group_told(name: &'static str, class: (u8, Option<u8>), value: u8, group: &GroupAccount) -> Group
-    requires { IsInRange value group.now }
-    ensures { told_members result ≡ group_members name.now (digits_text class) value group.now }
-{
-    let [next, next_value, gap, taken] = match &group.next {
-        None => [Told::Nothing; 4],
-        Some(next) => [
-            Told::Class(next.class),
-            Told::Tenths(next.value),
-            Told::Tenths(value - next.value),
-            Told::Decimal(of_parts(group.taken, 8400)),
+    put_fragments(
+        page,
+        &[
+            ("{\"class\":\"", digit(class.0)),
+            ("", second_digit(class.1)),
+            ("\",\"depth\":", digit(group.depth)),
+            (",\"distance\":", digit(group.distance)),
         ],
+    );
+    put_gap(page, value, group);
+    put_fragments(page, &[(",\"group\":", Scalar::Text(name))]);
+    put_next(page, group);
+}
+
+/// Writes the gap from a value to that of the next lower class.
+fn put_gap(page: &mut Page, value: u8, group: &GroupAccount)
+    requires range { IsInRange value group.now }
+    requires room { length page.old + 40 ≤ 4096 }
+    ensures text { page.new ≡ page.old ++ members_text (gap_member value group.now.next ∷ []) }
+    ensures room { length page.new ≤ length page.old + 40 }
+{
+    match &group.next {
+        None => page.push(b",\"gap\":null"),
+        Some(next) => put_fragments(page, &[(",\"gap\":", Scalar::Tenths(value - next.value))]),
+    }
+}
+
+/// Writes the next lower class, its value and what is taken of the gap to it, and the closing brace.
+fn put_next(page: &mut Page, group: &GroupAccount)
+    requires { length page.old + 240 ≤ 4096 }
+    ensures text { page.new
+        ≡ page.old ++ further_members (next_members group.now.next group.now.taken) }
+    ensures room { length page.new ≤ length page.old + 240 }
+{
+    let Some(next) = &group.next else {
+        page.push(b",\"next\":null,\"nextValue\":null,\"taken\":null}");
+        return;
     };
-    [
-        ("group", Told::Text(name)),
-        ("class", Told::Digits(class.0, class.1)),
-        ("distance", Told::Count(group.distance)),
-        ("depth", Told::Count(group.depth)),
-        ("next", next),
-        ("nextValue", next_value),
-        ("gap", gap),
-        ("taken", taken),
-    ]
+    let taken = of_parts(group.taken, 8400);
+    page.push(b",\"next\":\"");
+    put_macro_vector(page, &next.class);
+    put_fragments(
+        page,
+        &[
+            ("\",\"nextValue\":", Scalar::Tenths(next.value)),
+            (",\"taken\":", Scalar::Decimal(taken)),
+            ("}", Scalar::Nothing),
+        ],
+    );
 }

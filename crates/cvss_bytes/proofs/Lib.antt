@@ -1,4 +1,3 @@
-pub mod AccountLemmas
 pub mod BufferLemmas
 pub mod CanonicalLemmas
 pub mod DefinedLemmas

@@ -1,4 +1,3 @@
-pub mod Accounts
 pub mod Answers
 pub mod Buffer
 pub mod Defined

@@ -1,12 +1,12 @@
 //! What C is told of the vector that a text denotes.
 
-ghost use Rattle.std.specs.Prelude.{◌≡◌, ℕ, List, length, true, false};
+ghost use Rattle.std.specs.Prelude.{◌≡◌, ℕ, List, None, length, true, false};
+ghost use Rattle.cvss_account.specs.Account.{IsAccountText};
 ghost use Rattle.cvss_any.specs.Answers.{text_of};
 ghost use Rattle.cvss_any.specs.Dispatch.{DenotesCvss};
 ghost use Rattle.cvss_v4.specs.Vector.{v4};
 ghost use Rattle.cvss_base.specs.Version.{canonical_text};
 ghost use Rattle.cvss_any.specs.declared.vector.Cvss.{Cvss};
-ghost use Rattle.cvss_bytes.specs.Accounts.{IsAccountTold};
 ghost use Rattle.cvss_bytes.specs.Answers.{Answers};
 ghost use Rattle.cvss_bytes.specs.Buffer.{IsLeft, IsWritten};
 ghost use Rattle.cvss_bytes.specs.Defined.{text_without_undefined};
@@ -154,18 +154,17 @@ pub extern "C" fn cvss_record(alloc: Global, text: &[u8], buffer: &mut [u8]) -> 
     }
 }
 
-/// The length of the account of the score of the vector that a text denotes, a JSON object, which is
-/// written into the buffer where it fits; 0 where the text denotes none. Where there was no memory for
-/// it, `out of memory` is written in its place.
+/// The length of the explanation of the score of the vector that a text denotes, a JSON object, which is
+/// written into the buffer where it fits; 0 where the text denotes none. It takes no memory.
 #[unsafe(no_mangle)]
-pub extern "C" fn cvss_account(alloc: Global, text: &[u8], buffer: &mut [u8]) -> usize
+pub extern "C" fn cvss_account(text: &[u8], buffer: &mut [u8]) -> usize
     ensures { Answers text.now
-        (λ cvss. (told : List ℕ) × IsAccountTold cvss told
-        × IsWritten told buffer.old buffer.new result)
+        (λ cvss. (explanation : List ℕ) × IsAccountText None cvss explanation
+        × IsWritten explanation buffer.old buffer.new result)
         (IsLeft buffer.old buffer.new result) }
 {
     match Cvss::read_bytes(text) {
-        Some(cvss) => put_account(alloc, &cvss, buffer),
+        Some(cvss) => put_account(&cvss, buffer),
         None => 0,
     }
 }

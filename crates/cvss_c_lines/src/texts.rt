@@ -38,9 +38,8 @@ pub(crate) fn record(rt: &HostRuntime, text: &[u8]) -> io::Result<()> {
 }
 
 pub(crate) fn account(rt: &HostRuntime, text: &[u8]) -> io::Result<()> {
-    let alloc = rt.alloc();
     print_written(rt, |buffer| match Cvss::read_bytes(text) {
-        Some(cvss) => put_account(alloc, &cvss, buffer),
+        Some(cvss) => put_account(&cvss, buffer),
         None => 0,
     })
 }

@@ -1,3 +1,5 @@
+mod DecimalFacts
+pub mod MembersLemmas
 pub mod ObjectLemmas
 mod OneLineLemmas
 mod PrintsLemmas

@@ -1,3 +1,5 @@
+pub mod Fragments
+pub mod Json
 pub mod Objects
 pub mod Texts
 pub mod Trees

@@ -1,12 +1,12 @@
 -- The answers that the program writes to the lines of its input, each of which is the text of a vector.
-use Rattle.std.specs.Prelude.{◌≡◌, ℕ, List, [], ◌∷◌, ◌++◌, codes}
+use Rattle.std.specs.Prelude.{ℕ, List, [], ◌∷◌, ◌++◌, codes, Some}
 use Rattle.std.specs.Str.{IsUtf8}
 use Rattle.cvss_any.specs.Bytes.{TellsWhyNot, bytes_error_text}
 use Rattle.cvss_any.specs.Dispatch.{DenotesCvss}
 use Rattle.cvss_any.specs.declared.bytes_error.BytesError.{BytesError}
 use Rattle.cvss_any.specs.declared.bytes_error.BytesError.TheVariants.{NotUtf8, Invalid}
 use Rattle.cvss_any.specs.declared.vector.Cvss.{Cvss}
-use Rattle.cvss_account.specs.Account.{AreMembersOf}
+use Rattle.cvss_account.specs.Account.{IsAccountText}
 use Rattle.cvss_lines.specs.Answers.{Answer, Accepted, Refused}
 use Rattle.cvss_object.specs.Texts.{IsTextOf}
 use Rattle.cvss_object.specs.Objects.{Member, object_of}
@@ -26,20 +26,12 @@ abbrev pub refusal_value : ℕ → List ℕ → BytesError → Data
 refusal_value number line error =
     object_of (given_members line error ++ (line_member number ∷ (codes "refused", string (bytes_error_text error)) ∷ []))
 
--- the object tells the line's number and the account of the vector
-pub record IsAccountObject (number : ℕ) (cvss : Cvss) (value : Data) : Type 0 where
-  pub members : List Member
-  pub are : AreMembersOf cvss members
-  pub is : value ≡ object_of (members ++ line_member number ∷ [])
-
--- the line is a text that denotes a vector, and one text answers it, the object of its account
+-- the line is a text that denotes a vector, and the answer explains its score
 pub record IsAcceptance (number : ℕ) (line text : List ℕ) : Type 0 where
   pub utf8 : IsUtf8 line
   pub cvss : Cvss
   pub denoted : DenotesCvss line cvss
-  pub value : Data
-  pub is_account : IsAccountObject number cvss value
-  pub is_text : IsTextOf value text
+  pub explains : IsAccountText (Some number) cvss text
 
 -- the line is no text, or a text that is no vector, and the object tells the first reason
 pub record IsRefusal (number : ℕ) (line text : List ℕ) : Type 0 where

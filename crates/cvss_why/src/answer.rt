@@ -9,14 +9,14 @@ ghost use Rattle.cvss_why.specs.Answers.{IsAnswer, given_members, refusal_value}
 ghost use Rattle.cvss_why.specs.private.Writing.{WritesAccount};
 ghost use Rattle.serde_json.specs.View.{members_view};
 
-use cvss_account::account_of;
+use cvss_account::put_account;
 use cvss_any::{BytesError, Cvss};
 use cvss_lines::{Answering, Gathered};
-use cvss_object::write_object;
+use cvss_object::{Page, write_object};
 use serde_json::{Map, Value, put};
 use std::alloc::{AllocError, Global};
 
-/// Lines that are texts of vectors, each answered by the account of its score or by why there is none.
+/// Lines that are texts of vectors, each answered by why it has its score or by why it is rejected.
 pub struct Vectors {}
 
 impl Answering for Vectors {
@@ -30,7 +30,7 @@ impl Answering for Vectors {
     ) -> Result<bool, AllocError> {
         match Cvss::from_bytes(alloc, line) {
             Ok(vector) => {
-                write_account(alloc, number, &vector, answers)?;
+                write_account(number, &vector, answers)?;
                 Ok(true)
             }
             Err(error) => {
@@ -41,20 +41,16 @@ impl Answering for Vectors {
     }
 }
 
-/// Writes the account of a vector's score, and a byte 10.
-fn write_account(
-    alloc: Global,
-    number: u64,
-    vector: &Cvss,
-    answers: &mut Gathered,
-) -> Result<(), AllocError>
+/// Writes why a vector has its score, and a byte 10.
+fn write_account(number: u64, vector: &Cvss, answers: &mut Gathered) -> Result<(), AllocError>
     requires { HasScore vector.now }
     ensures { OnOk result (WritesAccount number vector.now
         answers.old.bytes.items answers.new.bytes.items) }
 {
-    let mut members = account_of(alloc, vector)?;
-    put(&mut members, alloc, "line", Value::from(number))?;
-    write_object(alloc, members, answers)
+    let mut page = Page::new();
+    put_account(&mut page, Some(number), vector);
+    answers.push(page.bytes())?;
+    answers.push(b"\n")
 }
 
 /// Writes why a line is no vector, and a byte 10.

@@ -1,2 +1,3 @@
 mod FloatLemmas
 mod RowTables
+pub mod ShortLemmas

@@ -5,6 +5,7 @@
 pub mod laws;
 mod rows;
 mod scores;
+mod text;
 pub mod v2;
 pub mod v3;
 pub mod v4;
@@ -12,6 +13,7 @@ mod versions;
 
 pub use rows::{Row, word_in};
 pub use scores::{score_number, score_value};
+pub use text::put_vector;
 pub use versions::version;
 
 /// The word of a value that is not defined, spelled `ND` in CVSS v2 and `X` in v3 and v4.0.

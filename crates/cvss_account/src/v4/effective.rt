@@ -1,41 +1,45 @@
 //! The letters of effective values.
 
-ghost use Rattle.std.specs.Prelude.{◌≡◌};
-ghost use Rattle.cvss_account.specs.LettersV4.{vulnerable_impact_letter, subsequent_impact_letter, safety_impact_letter, requirement_letter, exploit_maturity_letter, effective_members};
-ghost use Rattle.cvss_account.specs.private.Told.{told_members};
+ghost use Rattle.std.specs.Prelude.{◌≡◌, ◌≤◌, length};
+ghost use Rattle.cvss_account.specs.LettersV4.{vulnerable_impact_letter, subsequent_impact_letter, safety_impact_letter, requirement_letter, exploit_maturity_letter, effective_text};
+ghost use Rattle.cvss_object.specs.Fragments.{fragments_room, fragments_text};
 
-use crate::members::{Member, Told};
+use cvss_object::{Fragment, Scalar};
 use cvss_score::v4::scoring::effective::{
     Effective, ExploitMaturity, Requirement, SafetyImpact, SubsequentImpact, VulnerableImpact,
 };
 use cvss_v4_metric::Metric;
 
-/// What is told of the effective values, by the metrics' names.
-pub(super) fn effective_told(effective: &Effective) -> [Member<'static>; 15]
-    ensures { told_members result ≡ effective_members effective.now }
+/// The letters of the effective values, by the metrics' names.
+#[tactic(auto, using(crate::proofs::ShortLemmas::letters))]
+pub(super) fn effective(effective: &Effective) -> [Fragment; 16]
+    ensures text { fragments_text result ≡ effective_text effective.now }
+    ensures room { fragments_room result ≤ 300 }
 {
     [
-        ("AV", Told::Text(effective.av.as_str())),
-        ("PR", Told::Text(effective.pr.as_str())),
-        ("UI", Told::Text(effective.ui.as_str())),
-        ("AC", Told::Text(effective.ac.as_str())),
-        ("AT", Told::Text(effective.at.as_str())),
-        ("VC", Told::Text(vulnerable_impact(effective.vc))),
-        ("VI", Told::Text(vulnerable_impact(effective.vi))),
-        ("VA", Told::Text(vulnerable_impact(effective.va))),
-        ("SC", Told::Text(subsequent_impact(effective.sc))),
-        ("SI", Told::Text(safety_impact(effective.si))),
-        ("SA", Told::Text(safety_impact(effective.sa))),
-        ("CR", Told::Text(requirement(effective.cr))),
-        ("IR", Told::Text(requirement(effective.ir))),
-        ("AR", Told::Text(requirement(effective.ar))),
-        ("E", Told::Text(exploit_maturity(effective.e))),
+        ("{\"AC\":", Scalar::Text(effective.ac.as_str())),
+        (",\"AR\":", Scalar::Text(requirement(effective.ar))),
+        (",\"AT\":", Scalar::Text(effective.at.as_str())),
+        (",\"AV\":", Scalar::Text(effective.av.as_str())),
+        (",\"CR\":", Scalar::Text(requirement(effective.cr))),
+        (",\"E\":", Scalar::Text(exploit_maturity(effective.e))),
+        (",\"IR\":", Scalar::Text(requirement(effective.ir))),
+        (",\"PR\":", Scalar::Text(effective.pr.as_str())),
+        (",\"SA\":", Scalar::Text(safety_impact(effective.sa))),
+        (",\"SC\":", Scalar::Text(subsequent_impact(effective.sc))),
+        (",\"SI\":", Scalar::Text(safety_impact(effective.si))),
+        (",\"UI\":", Scalar::Text(effective.ui.as_str())),
+        (",\"VA\":", Scalar::Text(vulnerable_impact(effective.va))),
+        (",\"VC\":", Scalar::Text(vulnerable_impact(effective.vc))),
+        (",\"VI\":", Scalar::Text(vulnerable_impact(effective.vi))),
+        ("}", Scalar::Nothing),
     ]
 }
 
 /// The letter of VC, VI or VA.
 fn vulnerable_impact(value: VulnerableImpact) -> &'static str
-    ensures { result.now ≡ vulnerable_impact_letter value }
+    ensures text { result.now ≡ vulnerable_impact_letter value }
+    ensures short { length result.now ≤ 1 }
 {
     match value {
         VulnerableImpact::High => "H",
@@ -46,7 +50,8 @@ fn vulnerable_impact(value: VulnerableImpact) -> &'static str
 
 /// The letter of SC.
 fn subsequent_impact(value: SubsequentImpact) -> &'static str
-    ensures { result.now ≡ subsequent_impact_letter value }
+    ensures text { result.now ≡ subsequent_impact_letter value }
+    ensures short { length result.now ≤ 1 }
 {
     match value {
         SubsequentImpact::High => "H",
@@ -57,7 +62,8 @@ fn subsequent_impact(value: SubsequentImpact) -> &'static str
 
 /// The letter of SI or SA.
 fn safety_impact(value: SafetyImpact) -> &'static str
-    ensures { result.now ≡ safety_impact_letter value }
+    ensures text { result.now ≡ safety_impact_letter value }
+    ensures short { length result.now ≤ 1 }
 {
     match value {
         SafetyImpact::Safety => "S",
@@ -69,7 +75,8 @@ fn safety_impact(value: SafetyImpact) -> &'static str
 
 /// The letter of CR, IR or AR.
 fn requirement(value: Requirement) -> &'static str
-    ensures { result.now ≡ requirement_letter value }
+    ensures text { result.now ≡ requirement_letter value }
+    ensures short { length result.now ≤ 1 }
 {
     match value {
         Requirement::High => "H",
@@ -80,7 +87,8 @@ fn requirement(value: Requirement) -> &'static str
 
 /// The letter of E.
 fn exploit_maturity(value: ExploitMaturity) -> &'static str
-    ensures { result.now ≡ exploit_maturity_letter value }
+    ensures text { result.now ≡ exploit_maturity_letter value }
+    ensures short { length result.now ≤ 1 }
 {
     match value {
         ExploitMaturity::Attacked => "A",

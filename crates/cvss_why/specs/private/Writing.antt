@@ -1,15 +1,11 @@
--- What is written for a vector, behind the earlier answers.
-use Rattle.std.specs.Prelude.{◌≡◌, ℕ, List, ◌++◌}
+-- What is written for a vector, after the earlier answers.
+use Rattle.std.specs.Prelude.{◌≡◌, ℕ, List, ◌++◌, Some}
+use Rattle.cvss_account.specs.Account.{IsAccountText}
 use Rattle.cvss_any.specs.declared.vector.Cvss.{Cvss}
 use Rattle.cvss_lines.specs.Answers.{written_text}
-use Rattle.cvss_object.specs.Texts.{IsTextOf}
-use Rattle.cvss_why.specs.Answers.{IsAccountObject}
-use Rattle.serde_json.specs.Data.{Data}
 
--- the text of the vector's account and a byte 10 are written behind the earlier answers
+-- the text that explains the vector's score and a byte 10 are written after the earlier answers
 pub record WritesAccount (number : ℕ) (cvss : Cvss) (old new : List ℕ) : Type 0 where
-  pub value : Data
-  pub is_account : IsAccountObject number cvss value
   pub text : List ℕ
-  pub is_text : IsTextOf value text
+  pub explains : IsAccountText (Some number) cvss text
   pub written : new ≡ old ++ written_text text

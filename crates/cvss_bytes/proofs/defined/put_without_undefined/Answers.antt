@@ -2,7 +2,7 @@ use Rattle.std.proofs.Common.{ap, arith, length}
 use Rattle.cvss_v2.specs.Vector.{v2}
 use Rattle.cvss_v3.specs.Vector.{v3}
 use Rattle.cvss_v4.specs.Vector.{v4}
-use Rattle.cvss_bytes.proofs.ShortLemmas.{fits, short_v2, short_v3, short_v4}
+use Rattle.cvss_words.proofs.ShortLemmas.{fits, short_v2, short_v3, short_v4}
 use Rattle.cvss_bytes.proofs.defined.put_without_undefined.Goals as goal
 
 pub put_less-requires-clause-room : goal.put_less-requires-clause-room

@@ -14,9 +14,7 @@ returns-in_ok-write_account-in-Ok c =
         utf8 = c.in-Ok.ensures.utf8;
         cvss = c.in-Ok.vector;
         denoted = c.in-Ok.ensures.denoted;
-        value = written.value;
-        is_account = written.is_account;
-        is_text = written.is_text;
+        explains = written.explains;
       };
       told = refl;
       written = one_text _ _ _ written.written;

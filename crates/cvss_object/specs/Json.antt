@@ -1,0 +1,72 @@
+-- JSON text without spaces: RFC 8259. Its strings are ones that need no escape.
+use Rattle.std.specs.Prelude.{ℕ, ◌+◌, ◌*◌, ◌/◌, ◌%◌, nat_eq, if◌then◌else◌, ℤ, pos, int_lt, unsigned_abs, List, [], ◌∷◌, ◌++◌, codes, take}
+use Rattle.std.specs.Fmt.{decimal}
+
+-- a string
+abbrev pub string_text : List ℕ → List ℕ
+string_text text = 34 ∷ (text ++ 34 ∷ [])
+
+-- a member of an object: its name, and the text of its value
+abbrev pub Member : Type 0
+Member = List ℕ × List ℕ
+
+abbrev pub member_text : Member → List ℕ
+member_text member = string_text member.0 ++ 58 ∷ member.1
+
+-- members that follow another, and the brace after them
+abbrev pub further_members : List Member → List ℕ
+further_members [] = codes "}"
+further_members (member ∷ members) = 44 ∷ (member_text member ++ further_members members)
+
+-- the object of these members, in this order
+abbrev pub object_text : List Member → List ℕ
+object_text [] = codes "{}"
+object_text (member ∷ members) = 123 ∷ (member_text member ++ further_members members)
+
+-- values that follow another, and the bracket after them
+abbrev pub further_values : List (List ℕ) → List ℕ
+further_values [] = codes "]"
+further_values (value ∷ values) = 44 ∷ (value ++ further_values values)
+
+-- the array of these values
+abbrev pub array_text : List (List ℕ) → List ℕ
+array_text [] = codes "[]"
+array_text (value ∷ values) = 91 ∷ (value ++ further_values values)
+
+-- the seven digits of so many ten-millionths, less than one
+abbrev pub seven_digits : ℕ → List ℕ
+seven_digits n =
+    (48 + n / 1_000_000 % 10)
+    ∷ (48 + n / 100_000 % 10)
+    ∷ (48 + n / 10_000 % 10)
+    ∷ (48 + n / 1000 % 10)
+    ∷ (48 + n / 100 % 10)
+    ∷ (48 + n / 10 % 10)
+    ∷ (48 + n % 10)
+    ∷ []
+
+-- how many of them are written: none after the last that is not 0, and at least one
+abbrev pub place_count : ℕ → ℕ
+place_count n =
+    if nat_eq (n % 1_000_000) 0 then 1
+    else (if nat_eq (n % 100_000) 0 then 2
+    else (if nat_eq (n % 10_000) 0 then 3
+    else (if nat_eq (n % 1000) 0 then 4
+    else (if nat_eq (n % 100) 0 then 5
+    else (if nat_eq (n % 10) 0 then 6
+    else 7)))))
+
+-- the places of so many ten-millionths, less than one
+unfoldable pub places_text : ℕ → List ℕ
+places_text n = take (place_count n) (seven_digits n)
+
+-- so many ten-millionths, as a decimal with one to seven places
+unfoldable pub decimal_text : ℤ → List ℕ
+decimal_text count =
+    (if int_lt count (pos 0) then codes "-" else [])
+    ++ (decimal (unsigned_abs count / 10_000_000)
+    ++ 46 ∷ places_text (unsigned_abs count % 10_000_000))
+
+-- so many tenths, with one place
+abbrev pub tenths_text : ℕ → List ℕ
+tenths_text tenths = decimal_text (pos (tenths * 1_000_000))
