@@ -54,6 +54,8 @@ fn answer_other_line(line: &[u8], answers: &mut Gathered) -> Result<bool, fmt::E
 }
 
 /// Writes why a line is no vector, and a byte 10.
+// A call of its own keeps the segments out of the frame of an accepted line.
+#[inline(never)]
 fn write_error(error: ReadError<'_>, answers: &mut Gathered) -> Result<(), AllocError>
     ensures { OnOk result (answers.new.bytes.items ≡ answers.old.bytes.items
         ++ (codes "error: " ++ (error_message error.entry ++ 10 ∷ []))) }
