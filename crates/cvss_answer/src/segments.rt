@@ -25,6 +25,10 @@ fn push_segment(segment: Segment<'_>, answers: &mut Gathered) -> Result<(), Allo
     ensures { OnOk result
         (answers.new.bytes.items ≡ answers.old.bytes.items ++ segment_text segment.entry) }
 {
+    // Half of the segments of most messages are empty.
+    if segment.bytes.is_empty() {
+        return Ok(());
+    }
     let start = answers.bytes.len();
     answers.push(segment.bytes)?;
     if segment.upper {
