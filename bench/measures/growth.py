@@ -26,18 +26,18 @@ from skipping import has
 # Each input: the most instructions a byte, and what it is by its size: what is written on the left
 # has that many bytes, pieces or lines.
 INPUTS = {
-    "a line of letters": (13.6, lambda size: b"a" * size),
-    "a line of colons": (13.6, lambda size: b":" * size),
-    "a name of letters": (37, lambda size: b"CVSS:3.1/" + b"a" * size + b":N"),
-    "a value of letters": (29.5, lambda size: b"CVSS:4.0/AV:" + b"n" * size),
+    "a line of letters": (12.2, lambda size: b"a" * size),
+    "a line of colons": (12.2, lambda size: b":" * size),
+    "a name of letters": (35.5, lambda size: b"CVSS:3.1/" + b"a" * size + b":N"),
+    "a value of letters": (28, lambda size: b"CVSS:4.0/AV:" + b"n" * size),
     "a line of bytes that are no UTF-8": (9.4, lambda size: b"\xff" * size),
     "a line of empty pieces": (3.4, lambda size: b"/" * size),
     "a line of v2 pieces": (21.8, lambda size: b"/".join([b"AV:N"] * size)),
     "a line of v3 pieces, the last without a colon":
         (22, lambda size: b"CVSS:3.1/" + b"AV:N/" * size + b"x"),
     "a line of v4 pieces": (22, lambda size: b"CVSS:4.0" + b"/av:n" * size),
-    "empty lines": (722, lambda size: b"\n" * size),
-    "lines of a carriage return": (364, lambda size: b"\r\n" * size),
+    "empty lines": (714, lambda size: b"\n" * size),
+    "lines of a carriage return": (360, lambda size: b"\r\n" * size),
 }
 
 PROSE = (b"The service parses the header of a request before its length is known, so a client that "
