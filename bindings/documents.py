@@ -4,7 +4,7 @@ the first command and those of Python and Rust, and of both those of the program
 a figure, and docs/BINDINGS.md a name or a command.
 
 Usage: documents.py ROOT FOLDER. ROOT is the folder of the checkout, in which bindings/build has made the library; files
-are made in FOLDER alone. An example tells in comments what it prints. What is not on the machine is skipped.
+are made in FOLDER alone. An example says in comments what it prints. What is not on the machine is skipped.
 """
 import json
 import os

@@ -130,8 +130,8 @@ def runs(shim, program, given, *arguments):
             file.seek(0)
         for line in report:
             status, *ends = map(int, line.split())
-            written, told = (file.read(end - file.tell()) for file, end in zip((out, errors), ends))
-            yield os.waitstatus_to_exitcode(status), written, told
+            written, message = (file.read(end - file.tell()) for file, end in zip((out, errors), ends))
+            yield os.waitstatus_to_exitcode(status), written, message
 
 
 def stored(program):

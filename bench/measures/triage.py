@@ -60,10 +60,10 @@ def refuse(room):
                         (drawn(30) + ["CVSS:4.0/AV:N/AV:q"], [lacking, refused])):
         given = "\n".join(lines).encode()
         _, *others = refused_memory.runs(shim, "cvss_triage", given, *OVERRIDES)
-        for turn, (status, written, told) in enumerate(others, 1):
-            if written or (status, told.decode()) not in ends:
+        for turn, (status, written, message) in enumerate(others, 1):
+            if written or (status, message.decode()) not in ends:
                 sys.exit(f"turn {turn}: status {status}, wrote {written[:500]!r}, "
-                         f"told {told[:500]!r}")
+                         f"standard error {message[:500]!r}")
         if not others:
             sys.exit("no request of cvss_triage was refused: nothing was tried")
         total += len(others)

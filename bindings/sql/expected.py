@@ -55,13 +55,13 @@ def accepted(row):
     canonical, version = row["canonical"], row["version"]
     pieces = canonical.split("/")[0 if version == "2.0" else 1:]
     metrics = dict(piece.split(":") for piece in pieces)
-    told = [canonical, version, row["score"], row["temporal"], row["environmental"], row["rating"], row["nomenclature"]]
-    told = [None if column == "-" else column for column in told]
+    columns = [canonical, version, row["score"], row["temporal"], row["environmental"], row["rating"], row["nomenclature"]]
+    columns = [None if column == "-" else column for column in columns]
     overridden, refusal = None, "no CVSSv4 vector"
     if version == "4.0":
         overridden, refusal = reference.canonical(["CVSS:4.0"], v4.METRICS, {**metrics, **OVERRIDES}), None
-    told += [overridden, defined(metrics, canonical), records.record(row, metrics), account(canonical)]
-    return [*told, None, refusal]
+    columns += [overridden, defined(metrics, canonical), records.record(row, metrics), account(canonical)]
+    return [*columns, None, refusal]
 
 
 # A character, as SQLite counts them also in what is not UTF-8.

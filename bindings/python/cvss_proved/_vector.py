@@ -231,7 +231,7 @@ class Vector:
         In v2 and v3 they are the weights, the sub-scores and each score's number before its rounding; in v4.0 the
         values that count, the macro vector with its listed value, what each group of metrics takes from it, and the
         number before the rounding. A number is less than 10^-6 from the exact one; it is that one where that has no
-        more than seven decimals, but for those of v3 with a changed scope, which have a power.
+        more than seven decimals, except those of v3 with a changed scope, which have a power.
 
         >>> account = Vector("CVSS:4.0/AV:N/AC:L/AT:N/PR:N/UI:N/VC:L/VI:H/VA:N/SC:N/SI:N/SA:N/E:P").account()
         >>> account["macroVector"], account["value"], account["mean"], account["number"], account["score"]

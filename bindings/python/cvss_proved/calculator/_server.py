@@ -1,4 +1,4 @@
-"""The server of the page: GET and HEAD alone, on the own address alone, with small requests and strict headers."""
+"""The server of the page: GET and HEAD only, on its own address only, with small requests and strict headers."""
 
 from __future__ import annotations
 
