@@ -1,7 +1,7 @@
 #!/usr/bin/env python3
-"""Runs the examples and recipes of docs/BINDINGS.md as they stand there, of docs/PROGRAMS.md those of jobs, of README.md
-the first command and those of Python and Rust, and of both those of the programs. Says where docs/PERFORMANCE.md lacks
-a figure, and docs/BINDINGS.md a name or a command.
+"""Runs the examples and recipes of docs/BINDINGS.md as they stand there, those of docs/FROM_RUST.md, FROM_PYTHON.md and
+FROM_GO.md, of docs/PROGRAMS.md those of jobs, of README.md the first commands and those of Python and Rust, and of both
+those of the programs. Says where docs/PERFORMANCE.md lacks a figure, and docs/BINDINGS.md a name or a command.
 
 Usage: documents.py ROOT FOLDER. ROOT is the folder of the checkout, in which bindings/build has made the library; files
 are made in FOLDER alone. An example says in comments what it prints. What is not on the machine is skipped.
@@ -22,6 +22,7 @@ OUT = ROOT / "bindings/out"
 PAGE = (ROOT / "docs/BINDINGS.md").read_text()
 PROGRAMS = (ROOT / "docs/PROGRAMS.md").read_text()
 PERFORMANCE = (ROOT / "docs/PERFORMANCE.md").read_text()
+FROM = {name: (ROOT / f"docs/FROM_{name}.md").read_text() for name in ("RUST", "PYTHON", "GO")}
 # each accepted, refused and no UTF-8, and ended in each way that the program knows of
 EDGES = [
     b"\xff", b"AV:N/AC:L/Au:N/C:N/I:N/A:C/\xe9", b"AV:N\rAC:L", b"\rAV:N", b"AV:N/AC:L/Au:N/C:N/I:N/A:C\r",
@@ -63,7 +64,7 @@ def python_environment():
 
 
 def try_python():
-    pages = (PAGE, (ROOT / "README.md").read_text(), (ROOT / "bindings/python/README.md").read_text())
+    pages = (PAGE, FROM["PYTHON"], (ROOT / "README.md").read_text(), (ROOT / "bindings/python/README.md").read_text())
     assert all(blocks(page, "python") for page in pages), "a page has no example of Python"
     for block in (block for page in pages for block in blocks(page, "python")):
         module = (re.findall(r"^(?:import|from) (pandas|dask)", block) or ["cvss_proved"])[0]
@@ -99,7 +100,7 @@ def try_rust():
     head = '[package]\nname = "example"\nversion = "1.0.0"\nedition = "2021"\n\n[dependencies]\n'
     (crate / "Cargo.toml").write_text(f'{head}cvss_proved = {{ path = "{ROOT}/bindings/rust" }}\n')
     home = {**os.environ, "CARGO_HOME": str(FOLDER / "no_registry"), "CARGO_TARGET_DIR": str(crate / "target")}
-    pages = (PAGE, (ROOT / "README.md").read_text())
+    pages = (PAGE, FROM["RUST"], (ROOT / "README.md").read_text())
     assert all("use cvss_proved" in page for page in pages), "a page has no example of Rust"
     for block in (block for page in pages for block in blocks(page, "rust") if "cvss_proved" in block):
         body = f"fn main() -> Result<(), Box<dyn std::error::Error>> {{\n{block}\nOk(())\n}}\n"
@@ -110,17 +111,29 @@ def try_rust():
 def try_go():
     module = FOLDER / "go_example"
     module.mkdir()
-    block = blocks(PAGE, "go")[0]
     path = ROOT / "bindings/go"
     own = re.findall(r"^module (.*)$", (path / "go.mod").read_text(), re.M)[0]
     assert f"replace {own} => " in PAGE, f"the page names no module {own}"
     (module / "go.mod").write_text(f"module example\n\ngo 1.19\n\nrequire {own} v0.0.0\n\nreplace {own} => {path}\n")
-    body = f'package main\n\nimport (\n"errors"\n"fmt"\n\n"{own}"\n)\n\nfunc main() {{\n{block}}}\n'
-    (module / "main.go").write_text(body)
-    check(run(["go", "run", "."], cwd=module), expected(block, "// "), block)
+    for block in (blocks(FROM["GO"], "go")[0], blocks(PAGE, "go")[0]):
+        body = f'package main\n\nimport (\n"errors"\n"fmt"\n\n"{own}"\n)\n\nfunc main() {{\n{block}}}\n'
+        (module / "main.go").write_text(body)
+        check(run(["go", "run", "."], cwd=module), expected(block, "// "), block)
     # vendored, it has all that it is built from
     run(["go", "mod", "vendor"], cwd=module)
     check(run(["go", "run", "-mod=vendor", "."], cwd=module), expected(block, "// "), block)
+
+
+def try_javascript():
+    """In a folder that has the package and nothing else."""
+    folder = FOLDER / "js_example"
+    (folder / "node_modules").mkdir(parents=True)
+    (folder / "node_modules/cvss-proved").symlink_to(ROOT / "bindings/js")
+    pages = (PAGE, (ROOT / "bindings/js/README.md").read_text())
+    assert all(blocks(page, "js") for page in pages), "a page has no example of JavaScript"
+    for block in (block for page in pages for block in blocks(page, "js")):
+        (folder / "example.mjs").write_text(block)
+        check(run(["node", "--preserve-symlinks", "example.mjs"], cwd=folder), expected(block, "// "), block)
 
 
 def write_list():
@@ -168,17 +181,21 @@ def try_parallel(answers):
     print(f"GNU parallel: the answers are those of the program alone, and the status that of {number} blocks")
 
 
-def try_first_command():
-    """The first command of README.md: it answers as the second implementation does, and ends as the page says."""
+def try_first_commands():
+    """The first commands of README.md, with release files and with the kit, answer as the second implementation does."""
     readme = (ROOT / "README.md").read_text()
-    block = block_with("rt try", page=readme)
-    done = subprocess.run(block, shell=True, cwd=ROOT, stdout=subprocess.PIPE, stderr=subprocess.PIPE)
+    unpacking = block_with("tar -xJf", page=readme)
+    assert unpacking.count("/tmp") == 2, unpacking
+    compiling = re.findall(r"`(\(cd crates/cvss_tool && rt try [^`]*)`", readme)
+    assert len(compiling) == 1, "README.md has no command of rt try"
     with open(ROOT / "examples/vectors", "rb") as vectors:
-        wanted = run([sys.executable, "-B", ROOT / "reference/reference.py"], stdin=vectors)
-    check(done.stdout, wanted.decode(), block)
+        wanted = run([sys.executable, "-B", ROOT / "reference/reference.py"], stdin=vectors).decode()
+    for command in (unpacking.replace("/tmp", str(FOLDER)), compiling[0]):
+        done = subprocess.run(["bash", "-e", "-c", command], cwd=ROOT, stdout=subprocess.PIPE, stderr=subprocess.PIPE)
+        check(done.stdout, wanted, command)
+        assert done.returncode == 1, f"status {done.returncode}: {command}"
     last = done.stderr.decode().splitlines()[-1]
-    begins, ends = re.findall(r"last line begins with `(.*?)` and ends with `(.*?)`", readme)[0]
-    assert last.startswith(begins) and last.endswith(ends), f"the last line of `rt try` is {last!r}"
+    assert last.startswith("run=ended status=1") and last.endswith("proved=no"), f"the last line of `rt try` is {last!r}"
 
 
 def try_programs():
@@ -267,9 +284,8 @@ def try_removal():
     home = FOLDER / "home"
     run(["bindings/install", home / ".local"], cwd=ROOT)
     block = block_with("rm -f")
-    script = (ROOT / "install").read_text()
-    programs = re.findall(r"^for program in (.*); do$", script, re.M)[0].split()
-    libraries = re.findall(r'bindings/out/(\S+) "\$prefix/lib/"', script)
+    programs = re.findall(r"^\w+ (\w+)$", (ROOT / "release/programs").read_text(), re.M)
+    libraries = re.findall(r'"\$built/(\S+)" "\$prefix/lib/"', (ROOT / "release/stage").read_text())
     assert programs and libraries
     for name in (*(f"bin/{program}" for program in programs), *(f"lib/{library}" for library in libraries)):
         assert f"{name} " in block, f"{name} is not taken away"
@@ -281,21 +297,26 @@ def try_removal():
     assert not left, left
 
 
+def words_of(page, column):
+    """The words in back ticks in a column of a page's table."""
+    rows = [row.split("|") for row in page.splitlines() if row.startswith("| ")][1:]
+    assert rows, "a page has no table"
+    return set(re.findall(r"\w+", " ".join(re.findall(r"`(.*?)`", " ".join(row[column] for row in rows)))))
+
+
 def check_names():
-    """The table for those who come from the crate has each public name of it, and names what there is."""
-    table = PAGE.split("### From the crate `cvss` 3.0.0", 1)[1].split("\n## ", 1)[0]
-    rows = [row.split("|") for row in table.splitlines() if row.startswith("| ")][1:]
-
-    def words(column):
-        told = " ".join(re.findall(r"`(.*?)`", " ".join(row[column] for row in rows)))
-        return set(re.findall(r"\w+", told))
-
+    """The tables for those who come from other packages name what there is, and that from the crate each public name."""
     names = (ROOT / "bindings/stored/crate_names").read_text().split()
-    missing = [name for name in names if name not in words(1)]
-    assert names and not missing, f"docs/BINDINGS.md names not what stands for {missing}"
-    sources = "".join(path.read_text() for path in (ROOT / "bindings/rust/src").glob("*.rs"))
-    unknown = [name for name in words(2) - {"serde", "format", "N"} if not re.search(rf"\b{name}\b", sources)]
-    assert not unknown, f"cvss_proved has no {unknown}"
+    missing = [name for name in names if name not in words_of(FROM["RUST"], 1)]
+    assert names and not missing, f"docs/FROM_RUST.md has no row for {missing}"
+    for page, sources, others in (
+        ("RUST", "rust/src/*.rs", {"serde", "format", "N", "E", "A"}),
+        ("PYTHON", "python/cvss_proved/**/*.py", {"Critical", "python3", "f", "m", "calculator"}),
+        ("GO", "go/*.go", {"8", "9"}),
+    ):
+        text = "".join(path.read_text() for path in (ROOT / "bindings").glob(sources))
+        unknown = [name for name in words_of(FROM[page], 2) - others if not re.search(rf"\b{name}\b", text)]
+        assert not unknown, f"docs/FROM_{page}.md: there is no {unknown}"
 
 
 def first_column(heading, page=PAGE):
@@ -319,11 +340,10 @@ def check_project():
 
 
 def check_properties():
-    """What the table of other packages' names calls properties of Python's Vector, and the list of them, are."""
-    told = re.findall(r"the properties `(\w+)` and `(\w+)`, written without parentheses; `(\w+)`, `(\w+)`", PAGE)
+    """What the pages call properties of Python's Vector are."""
     listed = re.findall(r"^- `Vector` has the properties (.*?) \(a dict\)", PAGE, re.M)
-    assert told and listed, "the page names no properties"
-    names = [*told[0], *re.findall(r"`(\w+)`", listed[0])]
+    assert listed, "the page names no properties"
+    names = [*re.findall(r"the property `(\w+)`", FROM["PYTHON"]), *re.findall(r"`(\w+)`", listed[0])]
     asked = f"from cvss_proved import Vector as V; print({{n for n in {names} if not isinstance(vars(V)[n], property)}})"
     wrong = run([sys.executable, "-c", asked], env=python_environment()).decode().strip()
     assert wrong == "set()", f"these are no properties: {wrong}"
@@ -333,8 +353,8 @@ def main():
     check_names()
     check_project()
     check_figures()
-    if has("rt", "the first command of README.md"):
-        try_first_command()
+    if has("rt", "the first commands of README.md"):
+        try_first_commands()
     try_programs()
     environment = audit_environment()
     if environment:
@@ -350,6 +370,8 @@ def main():
         try_rust()
     if has("go", "the example of Go"):
         try_go()
+    if has("node", "the example of JavaScript"):
+        try_javascript()
     answers = write_list()
     try_dask(answers)
     try_parallel(answers)

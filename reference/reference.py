@@ -17,12 +17,14 @@ KINDS = ("component", "prefix", "version", "name", "value", "repeat", "missing",
 
 
 class Refused(Exception):
-    """The first reason why a text is refused, its kind, and the metric that it blames, if it does."""
+    """The first reason why a text is refused, its kind, the metric that it blames, if it does, and the
+    part of the text that it quotes, if it does."""
 
-    def __init__(self, kind, reason, metric=None):
+    def __init__(self, kind, reason, metric=None, part=""):
         super().__init__(reason)
         self.kind = kind
         self.metric = metric
+        self.part = part
 
 
 def raised(text):
@@ -36,32 +38,42 @@ def spelled(metrics, name, value, any_case):
                  if (raised(spelling) if any_case else spelling) == value), None)
 
 
-def read_components(version, metrics, mandatory, pieces, any_case=True):
-    """The vector of the components, or the first reason why they are refused."""
-    vector = {}
-    for piece in pieces:
-        name, value = (raised(piece) if any_case else piece).split(":")
-        if name not in metrics:
-            raise Refused("name", f"unknown CVSS metric name: `{name}`")
-        spelling = spelled(metrics, name, value, any_case)
-        if spelling is None:
-            # A modified metric of v3 is told by the name of its base metric.
-            blamed = name.removeprefix("M") if version == "v3" else name
-            words = f"invalid CVSS{version} {blamed} ({metrics[blamed][0]}) metric: `{value}`"
-            raise Refused("value", words, blamed)
-        if name in vector:
-            words = f"duplicate CVSS{version} {name} ({metrics[name][0]}) metric"
-            raise Refused("repeat", words, name)
-        vector[name] = spelling
+def read_component(version, metrics, vector, piece, any_case=True):
+    """Adds a component to the vector of those before it, or gives the reason why it is refused."""
+    name, value = (raised(piece) if any_case else piece).split(":")
+    if name not in metrics:
+        raise Refused("name", f"unknown CVSS metric name: `{name}`", part=name)
+    spelling = spelled(metrics, name, value, any_case)
+    if spelling is None:
+        # A modified metric of v3 is told by the name of its base metric.
+        blamed = name.removeprefix("M") if version == "v3" else name
+        words = f"invalid CVSS{version} {blamed} ({metrics[blamed][0]}) metric: `{value}`"
+        raise Refused("value", words, blamed, value)
+    if name in vector:
+        words = f"duplicate CVSS{version} {name} ({metrics[name][0]}) metric"
+        raise Refused("repeat", words, name)
+    vector[name] = spelling
+
+
+def find_missing(version, metrics, mandatory, vector):
+    """Gives the reason that a mandatory metric is missing, if one is."""
     for name in mandatory:
         if name not in vector:
             words = f"missing mandatory CVSS{version} {name} ({metrics[name][0]}) metric"
             raise Refused("missing", words, name)
+
+
+def read_components(version, metrics, mandatory, pieces, any_case=True):
+    """The vector of the components, or the first reason why they are refused."""
+    vector = {}
+    for piece in pieces:
+        read_component(version, metrics, vector, piece, any_case)
+    find_missing(version, metrics, mandatory, vector)
     return vector
 
 
 def no_component(piece):
-    return Refused("component", f"invalid CVSS metric group component: `{piece}`")
+    return Refused("component", f"invalid CVSS metric group component: `{piece}`", part=piece)
 
 
 def cut(text):
@@ -80,9 +92,9 @@ def version_told(pieces, versions):
     """The version that the first piece tells, which has to be one of these."""
     prefix, version = pieces[0].split(":", 1)
     if prefix != "CVSS":
-        raise Refused("prefix", f"invalid CVSS string prefix: `{prefix}`")
+        raise Refused("prefix", f"invalid CVSS string prefix: `{prefix}`", part=prefix)
     if version not in versions:
-        raise Refused("version", f"unsupported CVSS version: {version}")
+        raise Refused("version", f"unsupported CVSS version: {version}", part=version)
     return version
 
 

@@ -203,6 +203,16 @@ def score(vector):
 def nomenclature(vector):
     """Which groups the vector has beside the base metrics, also as X: threat, environmental."""
     threat = "T" if "E" in vector else ""
-    environmental = "E" if any(name in vector for name in METRICS
-                               if name in ("CR", "IR", "AR") or name[1:] in BASE) else ""
+    environmental = "E" if any(is_environmental(name) for name in vector) else ""
     return "CVSS-B" + threat + environmental
+
+
+def is_environmental(name):
+    return name in ("CR", "IR", "AR") or name[1:] in BASE
+
+
+def score_by(vector, nomenclature):
+    """The score of the vector without the threat and environmental metrics that the nomenclature lacks."""
+    groups = nomenclature.removeprefix("CVSS-B")
+    return score({name: value for name, value in vector.items()
+                  if (name != "E" or "T" in groups) and (not is_environmental(name) or "E" in groups)})

@@ -11,15 +11,13 @@
  * returns the length of the whole result, whatever the buffer's size: where it is more than the size, the
  * buffer is left as it was, and the caller may call again with a larger one. No byte 0 is written.
  *
- * Pointers. A text, a buffer or an array may be NULL where its length or size is 0: it is empty. A struct, and
- * `read`, may not be NULL. What is written must not overlap what is read.
+ * Pointers. A text, a buffer or an array may be NULL where its length or size is 0: it is empty. A struct, `read` and
+ * the four scores of cvss_nomenclature_scores may not be NULL. What is written must not overlap what is read.
  *
  * Threads. The functions keep no state: any number of threads may call them at once, each with its own
  * buffer or struct.
  *
- * Memory. Only cvss_record takes any: it calls malloc, realloc and free, and frees what it took before it returns. Where
- * malloc refuses, the result is "out of memory". So it must not be called from a signal handler, or in a child that was
- * forked from a process with threads.
+ * Memory. No function takes any: the library calls neither malloc nor free.
  */
 #ifndef CVSS_H
 #define CVSS_H
@@ -40,6 +38,13 @@ extern "C" {
 
 /* The ratings. CVSS v2 has CVSS_LOW to CVSS_HIGH alone. */
 enum { CVSS_NONE = 0, CVSS_LOW = 1, CVSS_MEDIUM = 2, CVSS_HIGH = 3, CVSS_CRITICAL = 4 };
+
+/* The name of a rating in lower case, as "critical", a string that is never freed; NULL for any other number. */
+static inline const char *cvss_rating_name(int32_t rating)
+{
+    static const char names[5][9] = {"none", "low", "medium", "high", "critical"};
+    return rating >= CVSS_NONE && rating <= CVSS_CRITICAL ? names[rating] : NULL;
+}
 
 /* Which groups of metrics a score of v4.0 rests on, in `nomenclature`: base, environmental, threat. */
 enum { CVSS_B = 0, CVSS_BE = 1, CVSS_BT = 2, CVSS_BTE = 3 };
@@ -64,7 +69,7 @@ enum {
  */
 typedef struct CvssScores {
     int32_t version;                /* 20, 30, 31 or 40 */
-    int32_t base;                   /* the base score; of v4.0 the score */
+    int32_t base;                   /* the base score; of v4.0 the score of the vector as it is */
     int32_t temporal;               /* of v4.0 CVSS_NOTHING */
     int32_t environmental;          /* of v4.0 CVSS_NOTHING */
     int32_t severity;               /* the rating of `base` */
@@ -83,6 +88,20 @@ int32_t cvss_version(const void *text, size_t length);
  * is left as it was. A text of v3 may lack base metrics: the missing ones weigh nothing, and `is_complete` is 0.
  */
 bool cvss_scores(const void *text, size_t length, CvssScores *scores);
+
+/*
+ * What the score of a vector of v4.0 would be if only some groups of metrics counted, in tenths: scores[CVSS_B] with the
+ * base metrics alone, scores[CVSS_BE] with the environmental ones too, scores[CVSS_BT] with the base and threat metrics,
+ * and scores[CVSS_BTE] with all of them, which is the vector's own score. Returns false, and leaves the array as it was,
+ * unless the text denotes a v4.0 vector.
+ */
+bool cvss_nomenclature_scores(const void *text, size_t length, int32_t scores[4]);
+
+/*
+ * The rating (CVSS_NONE to CVSS_CRITICAL) of a score in tenths, by the bounds of a version, 20, 30, 31 or 40. Returns
+ * CVSS_NOTHING for any other version, and for tenths outside 0 to 100.
+ */
+int32_t cvss_rating(int32_t version, int32_t tenths);
 
 /*
  * The vector's one canonical text. Returns its length, which is `length`; so a buffer as long as the text is
@@ -128,11 +147,42 @@ size_t cvss_metrics(const void *text, size_t length, CvssMetric *metrics, size_t
 size_t cvss_without_undefined(const void *text, size_t length, void *buffer, size_t size);
 
 /*
+ * The canonical text of the vector, of any version, with metrics set. These are components as "E:A/MSI:S", joined by '/',
+ * of any group, in any order, each metric once, and in v3 and v4.0 in any ASCII case. A metric that the vector has gets
+ * the new value; one that it has not is added. X and ND are values as any other and remove nothing. An empty text sets
+ * nothing. Returns the length of the canonical text, which is at most `length` + `metrics_length` + 1. Returns 0, and
+ * leaves the buffer as it was, where the text denotes no vector or a metric is rejected.
+ */
+size_t cvss_with(const void *text, size_t length, const void *metrics, size_t metrics_length, void *buffer, size_t size);
+
+/*
+ * Why cvss_with returns 0: the reason of cvss_reason, if the text denotes no vector; else the first metric that is
+ * rejected, counted from 0, and why, as "metric 1: duplicate CVSSv4 E (Exploit Maturity) metric"; or "not UTF-8" of the
+ * metrics. Returns its length. Returns 0, and leaves the buffer as it was, where the metrics are set.
+ */
+size_t cvss_with_reason(const void *text, size_t length, const void *metrics, size_t metrics_length, void *buffer,
+                        size_t size);
+
+/*
+ * The canonical text of the vector of a version, 20, 30, 31 or 40, that these metrics make: components as of cvss_with, in
+ * any order. A vector of v3 may lack base metrics, as everywhere. Returns the length of the canonical text, which is at
+ * most `metrics_length` + 9. Returns 0, and leaves the buffer as it was, where they make no vector.
+ */
+size_t cvss_build(int32_t version, const void *metrics, size_t metrics_length, void *buffer, size_t size);
+
+/*
+ * Why cvss_build returns 0: "unsupported CVSS version"; the first metric that is rejected, and why, as of
+ * cvss_with_reason; or the first mandatory metric that is missing. An empty text is rejected as metric 0, which has no
+ * colon. Returns its length. Returns 0, and leaves the buffer as it was, where the metrics make a vector.
+ */
+size_t cvss_build_reason(int32_t version, const void *metrics, size_t metrics_length, void *buffer, size_t size);
+
+/*
  * The canonical text of the vector of v4.0 that the text denotes, with an organisation's environmental metrics in place
  * of its own or beside them. These overrides are components as "MSI:S/CR:H", joined by '/', in any order and any ASCII
  * case, each metric once; an empty text has none. Returns the length of the canonical text, which is at most
  * `length` + `overrides_length` + 1. Returns 0, and leaves the buffer as it was, where the text denotes no vector of
- * v4.0 (of v2 and v3 the library puts no overrides in), or an override is refused.
+ * v4.0 (for v2 and v3 see cvss_with), or an override is refused.
  */
 size_t cvss_overridden(const void *text, size_t length, const void *overrides, size_t overrides_length, void *buffer,
                        size_t size);
@@ -147,9 +197,9 @@ size_t cvss_override_reason(const void *text, size_t length, const void *overrid
 
 /*
  * The record of the vector: the JSON object of FIRST's schema of its version, without spaces, with the version, the
- * canonical text, a member for each metric that the vector has, its scores and, but for v2, their ratings, in the order
- * of the members' names. Returns its length. Returns 0, and leaves the buffer as it was, where the text denotes no
- * vector. Where malloc refuses, "out of memory" stands in place of the object, which begins with '{'.
+ * canonical text, a member for each metric that the vector has, its scores and, except for v2, their ratings, in the
+ * order of the members' names. Returns its length. Returns 0, and leaves the buffer as it was, where the text denotes
+ * no vector.
  */
 size_t cvss_record(const void *text, size_t length, void *buffer, size_t size);
 
@@ -178,6 +228,13 @@ int32_t cvss_refusal_kind(const void *text, size_t length);
  * CVSS_DUPLICATE_METRIC or CVSS_MISSING_METRIC. Returns its length, and of any other kind 0.
  */
 size_t cvss_refusal_metric(const void *text, size_t length, void *buffer, size_t size);
+
+/*
+ * The part of the text that the reason quotes, as the reason has it (in upper case where names and values are read in any
+ * case): the segment without exactly one colon, the prefix, the version, the unknown name, or the value that the metric
+ * does not have. Returns its length, and 0 where the text is accepted or the reason quotes nothing.
+ */
+size_t cvss_refusal_value(const void *text, size_t length, void *buffer, size_t size);
 
 /*
  * The line that the program cvss_tool answers to the text, without the newline that ends it: the canonical

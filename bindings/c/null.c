@@ -26,6 +26,14 @@ int main(void)
     right &= cvss_override_reason(text, length, NULL, 0, NULL, 0) == strlen("no CVSSv4 vector");
     right &= cvss_overridden(v4, sizeof v4 - 1, NULL, 0, NULL, 0) == sizeof v4 - 1;
     right &= cvss_override_reason(v4, sizeof v4 - 1, NULL, 0, NULL, 0) == 0;
+    right &= cvss_with(NULL, 0, NULL, 0, NULL, 0) == 0 && cvss_with(text, length, NULL, 0, NULL, 0) == length;
+    right &= cvss_with_reason(NULL, 0, NULL, 0, NULL, 0) == told && cvss_with_reason(text, length, NULL, 0, NULL, 0) == 0;
+    right &= cvss_build(20, NULL, 0, NULL, 0) == 0 && cvss_build(20, text, length, NULL, 0) == length;
+    right &= cvss_build_reason(20, NULL, 0, NULL, 0) == told + strlen("metric 0: ");
+    right &= cvss_build_reason(20, text, length, NULL, 0) == 0;
+    int32_t by[4] = {1, 1, 1, 1};
+    right &= !cvss_nomenclature_scores(NULL, 0, by) && by[0] == 1 && by[3] == 1;
+    right &= cvss_refusal_value(NULL, 0, NULL, 0) == 0 && cvss_refusal_value("AV:N/AC:q", 9, NULL, 0) == 1;
     right &= cvss_record(NULL, 0, NULL, 0) == 0 && cvss_record(text, length, NULL, 0) > sizeof buffer;
     right &= cvss_account(NULL, 0, NULL, 0) == 0 && cvss_account(text, length, NULL, 0) > sizeof buffer;
     right &= cvss_reason(NULL, 0, NULL, 0) == told && cvss_reason(text, length, NULL, 0) == 0;

@@ -2,11 +2,12 @@
 //
 // The answers are those of a library whose functions are proved up to the call. This package calls it through cgo
 // and computes no score itself. bindings/build copies the library and its header into the folder of this package, for
-// Linux on x86-64.
+// Linux on x86-64 and with --target aarch64 on ARM64.
 package cvss
 
 // #cgo CFLAGS: -I${SRCDIR}
-// #cgo LDFLAGS: ${SRCDIR}/libcvss.a
+// #cgo amd64 LDFLAGS: ${SRCDIR}/libcvss.a
+// #cgo arm64 LDFLAGS: ${SRCDIR}/libcvss_arm64.a
 // #include "cvss.h"
 // static size_t read_text(_GoString_ text, CvssScores *scores, void *buffer, size_t size)
 // {
@@ -22,6 +23,16 @@ import (
 )
 
 var versionNumbers = map[C.int32_t]Version{20: V20, 30: V30, 31: V31, 40: V40}
+
+// numberOf is the library's number of a version, and 0 of what is none.
+func numberOf(version Version) C.int32_t {
+	for number, own := range versionNumbers {
+		if own == version {
+			return number
+		}
+	}
+	return 0
+}
 
 // A Metric is a metric's abbreviation, and the value that a vector has for it.
 type Metric struct {
@@ -95,10 +106,9 @@ func ParseComplete(text string) (Vector, error) {
 	for _, metric := range vector.Metrics() {
 		own[metric.Name] = true
 	}
-	// CVSS v3.1, section 6
-	for _, name := range []string{"AV", "AC", "PR", "UI", "S", "C", "I", "A"} {
-		if !own[name] {
-			return Vector{}, missing(name)
+	for _, metric := range typesOf(vector.version) {
+		if metric.Mandatory && !own[metric.Name] {
+			return Vector{}, missing(metric.Name)
 		}
 	}
 	return vector, nil
@@ -155,6 +165,22 @@ func (v Vector) Environmental() (score Score, severity Severity, ok bool) {
 // Nomenclature tells which groups of metrics the score rests on, in v4.0.
 func (v Vector) Nomenclature() Nomenclature { return v.nomenclature }
 
+// NomenclatureScore is of v4.0 what the score would be if only these groups of metrics counted: with B the base metrics
+// alone, and with BTE all metrics, which is Score. In v2 and v3, and of what is no nomenclature, ok is false.
+func (v Vector) NomenclatureScore(nomenclature Nomenclature) (score Score, ok bool) {
+	code, length := bytesOf(v.text)
+	var tenths [4]C.int32_t
+	if !C.cvss_nomenclature_scores(pointer(code), length, &tenths[0]) {
+		return 0, false
+	}
+	for i, own := range nomenclatures[1:] {
+		if own == nomenclature {
+			return scoreOf(float64(tenths[i])), true
+		}
+	}
+	return 0, false
+}
+
 // IsComplete tells whether all base metrics are there. A text of v3 may lack some: it is scored without them.
 func (v Vector) IsComplete() bool { return v.isComplete }
 
@@ -170,9 +196,6 @@ func (v Vector) Metrics() []Metric {
 	return metrics
 }
 
-// environmental are the environmental metrics of all versions.
-const environmental = " CDP TD CR IR AR MAV MAC MAT MPR MUI MS MC MI MA MVC MVI MVA MSC MSI MSA "
-
 // WithoutUndefined is the vector without the metrics that are not defined (X, in v2 ND): it has the same scores. A
 // vector of v3 that has no others is given as it is. The nomenclature of v4.0 may become another, since it counts a
 // metric that is given as X.
@@ -187,8 +210,8 @@ func (v Vector) WithoutUndefined() Vector {
 	return shorter
 }
 
-// Record is the vector's record: the JSON object of FIRST's schema of its version, without spaces. Where there was no
-// memory for it, it is the text "out of memory".
+// Record is the vector's record: the JSON object of FIRST's schema of its version, without spaces. Of v4.0 baseScore is the
+// score of the vector as it is, with all its metrics.
 func (v Vector) Record() []byte {
 	code, length := bytesOf(v.text)
 	return []byte(written(1<<11, func(buffer unsafe.Pointer, size C.size_t) C.size_t {
@@ -208,6 +231,64 @@ func (v Vector) Account() []byte {
 	}))
 }
 
+// WithMetrics is the vector with these metrics in place of its own or beside them. Any metric of the version can be set. In
+// v3 and v4.0 names and values may be in any ASCII case. X and ND are values like others: they do not remove a metric. The
+// error is a *RefusedError.
+func (v Vector) WithMetrics(metrics []Metric) (Vector, error) {
+	own, err := joined(metrics)
+	if err != nil {
+		return Vector{}, err
+	}
+	code, length := bytesOf(v.text)
+	given, givenLength := bytesOf(own)
+	text := written(len(code)+len(given), func(buffer unsafe.Pointer, size C.size_t) C.size_t {
+		return C.cvss_with(pointer(code), length, pointer(given), givenLength, buffer, size)
+	})
+	if text != "" {
+		return Parse(text)
+	}
+	return Vector{}, metricRefusal(written(len(given)+120, func(buffer unsafe.Pointer, size C.size_t) C.size_t {
+		return C.cvss_with_reason(pointer(code), length, pointer(given), givenLength, buffer, size)
+	}))
+}
+
+// FromMetrics is the vector of a version with these metrics, in any order. A vector of v3 may lack base metrics. The error
+// is a *RefusedError.
+func FromMetrics(version Version, metrics []Metric) (Vector, error) {
+	number := numberOf(version)
+	if number == 0 {
+		name := string(version)
+		return Vector{}, &RefusedError{UnsupportedVersion, "", name, "unsupported CVSS version: " + name}
+	}
+	own, err := joined(metrics)
+	if err != nil {
+		return Vector{}, err
+	}
+	given, length := bytesOf(own)
+	text := written(len(given)+10, func(buffer unsafe.Pointer, size C.size_t) C.size_t {
+		return C.cvss_build(number, pointer(given), length, buffer, size)
+	})
+	if text != "" {
+		return Parse(text)
+	}
+	return Vector{}, metricRefusal(written(len(given)+120, func(buffer unsafe.Pointer, size C.size_t) C.size_t {
+		return C.cvss_build_reason(number, pointer(given), length, buffer, size)
+	}))
+}
+
+// joined are the components of metrics. A slash would make two of one, so it is refused as in a component.
+func joined(metrics []Metric) (string, error) {
+	var components []string
+	for _, metric := range metrics {
+		component := metric.Name + ":" + metric.Value
+		if strings.Contains(component, "/") {
+			return "", metricRefusal("invalid CVSS metric group component: `" + component + "`")
+		}
+		components = append(components, component)
+	}
+	return strings.Join(components, "/"), nil
+}
+
 // WithOverrides is the vector with an organisation's environmental metrics, in any ASCII case, in place of its own or
 // beside them. Into a vector of v4.0 the library puts them, into others this package. The error is
 // ErrNotEnvironmental, or else a *RefusedError of the vector with these metrics.
@@ -216,7 +297,7 @@ func (v Vector) WithOverrides(overrides []Metric) (Vector, error) {
 	var added []string
 	for _, metric := range overrides {
 		name, value := raised(metric.Name), raised(metric.Value)
-		if strings.ContainsAny(name+value, " /:") || !strings.Contains(environmental, " "+name+" ") {
+		if strings.ContainsAny(value, " /:") || !isEnvironmental(name) {
 			return Vector{}, ErrNotEnvironmental
 		}
 		own[name] = true

@@ -124,6 +124,26 @@ func TestTextsThatAreNoUTF8AreRefused(t *testing.T) {
 	}
 }
 
+// An error has the part of the text that its reason quotes, as the reason has it.
+func TestErrorsHaveTheRejectedValue(t *testing.T) {
+	for _, row := range []struct {
+		text  string
+		kind  cvss.Kind
+		value string
+	}{
+		{"AV/N", cvss.InvalidComponent, "AV"}, {"CVS:3.1/AV:N", cvss.InvalidPrefix, "CVS"},
+		{"CVSS:3.2/AV:N", cvss.UnsupportedVersion, "3.2"}, {"CVSS:3.1/xx:N", cvss.UnknownMetric, "XX"},
+		{"CVSS:3.1/av:a`b", cvss.InvalidValue, "A`B"}, {"AV:/AC:L", cvss.InvalidValue, ""},
+		{"CVSS:3.1/AV:N/av:n", cvss.DuplicateMetric, ""}, {"AV:N/AC:L", cvss.MissingMetric, ""},
+		{"AV:\xff", cvss.NotUTF8, ""},
+	} {
+		var refused *cvss.RefusedError
+		if _, err := cvss.Parse(row.text); !errors.As(err, &refused) || refused.Kind != row.kind || refused.Value != row.value {
+			t.Errorf("%q: %v, %q", row.text, refused.Kind, refused.Value)
+		}
+	}
+}
+
 func TestEmptyTextIsRefused(t *testing.T) {
 	if _, err := cvss.Parse(""); err == nil {
 		t.Error("an empty text is accepted")

@@ -22,6 +22,14 @@ const (
 // A Nomenclature says which groups of metrics a score of v4.0 rests on, such as CVSS-BTE; it is empty in v2 and v3.
 type Nomenclature string
 
+// The nomenclatures: the score rests on the base metrics, and on environmental (E) or threat metrics (T) that are there.
+const (
+	B   Nomenclature = "CVSS-B"
+	BE  Nomenclature = "CVSS-BE"
+	BT  Nomenclature = "CVSS-BT"
+	BTE Nomenclature = "CVSS-BTE"
+)
+
 // A Severity is a qualitative severity rating. The greater is the more severe.
 type Severity int
 
@@ -49,7 +57,7 @@ var kindWords = map[Kind]string{
 
 var (
 	versions      = []Version{"", V20, V30, V31, V40}
-	nomenclatures = []Nomenclature{"", "CVSS-B", "CVSS-BE", "CVSS-BT", "CVSS-BTE"}
+	nomenclatures = []Nomenclature{"", B, BE, BT, BTE}
 	severities    = valuesOf(severityWords)
 	kinds         = valuesOf(kindWords)
 )

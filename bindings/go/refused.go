@@ -5,6 +5,7 @@ import "C"
 
 import (
 	"errors"
+	"regexp"
 	"strings"
 	"unsafe"
 )
@@ -33,6 +34,9 @@ type RefusedError struct {
 	Kind Kind
 	// Metric is the abbreviation of the metric that has an invalid value, stands twice or is missing.
 	Metric string
+	// Value is the part of the text that the reason quotes: the component, the prefix, the version, the unknown name or
+	// the invalid value. Of other kinds it is empty.
+	Value string
 	// Reason is the reason in words.
 	Reason string
 }
@@ -44,15 +48,56 @@ func refusal(text []byte, length C.size_t) *RefusedError {
 	metric := written(4, func(buffer unsafe.Pointer, size C.size_t) C.size_t {
 		return C.cvss_refusal_metric(pointer(text), length, buffer, size)
 	})
+	value := written(len(text), func(buffer unsafe.Pointer, size C.size_t) C.size_t {
+		return C.cvss_refusal_value(pointer(text), length, buffer, size)
+	})
 	reason := written(len(text)+120, func(buffer unsafe.Pointer, size C.size_t) C.size_t {
 		return C.cvss_reason(pointer(text), length, buffer, size)
 	})
-	return &RefusedError{Kind(C.cvss_refusal_kind(pointer(text), length)), metric, reason}
+	return &RefusedError{Kind(C.cvss_refusal_kind(pointer(text), length)), metric, value, reason}
+}
+
+// beginnings are those of the library's reasons.
+var beginnings = []struct {
+	words string
+	kind  Kind
+}{
+	{"invalid CVSS metric group", InvalidComponent},
+	{"unknown CVSS", UnknownMetric},
+	{"invalid CVSSv", InvalidValue},
+	{"duplicate CVSSv", DuplicateMetric},
+	{"missing mandatory CVSSv", MissingMetric},
+	{"not UTF-8", NotUTF8},
+}
+
+var (
+	// indexed is the index that precedes the reason why a metric is refused.
+	indexed = regexp.MustCompile(`\Ametric [0-9]+: `)
+	named   = regexp.MustCompile(`\A(?:invalid|duplicate|missing mandatory) CVSSv[234] (\w+) `)
+	quoted  = regexp.MustCompile("(?s)`(.*)`")
+)
+
+// metricRefusal is the refusal of metrics by the library's reason.
+func metricRefusal(reason string) *RefusedError {
+	words := indexed.ReplaceAllString(reason, "")
+	refused := &RefusedError{Reason: words}
+	for _, beginning := range beginnings {
+		if refused.Kind == 0 && strings.HasPrefix(words, beginning.words) {
+			refused.Kind = beginning.kind
+		}
+	}
+	if found := named.FindStringSubmatch(words); found != nil {
+		refused.Metric = found[1]
+	}
+	if found := quoted.FindStringSubmatch(words); found != nil {
+		refused.Value = found[1]
+	}
+	return refused
 }
 
 // missing is the refusal of a vector of v3 that lacks a base metric, in the words that the library has for the metric.
 func missing(metric string) *RefusedError {
 	invalid := refusal(bytesOf("CVSS:3.1/" + metric + ":")).Reason
 	words, _, _ := strings.Cut(strings.TrimPrefix(invalid, "invalid "), " metric")
-	return &RefusedError{MissingMetric, metric, "missing mandatory " + words + " metric"}
+	return &RefusedError{MissingMetric, metric, "", "missing mandatory " + words + " metric"}
 }

@@ -2,6 +2,9 @@
 
 package cvss
 
+// #include "cvss.h"
+import "C"
+
 import (
 	"bytes"
 	"encoding/json"
@@ -23,6 +26,20 @@ func (s Score) Value() float64 { return float64(s) }
 
 // String is the score with one decimal.
 func (s Score) String() string { return strconv.FormatFloat(float64(s), 'f', 1, 64) }
+
+// Severity is the rating of the score by the bounds of a version, which V30, V31 and V40 share. Where the number is no
+// score, or the version none, ok is false.
+func (s Score) Severity(version Version) (severity Severity, ok bool) {
+	var own Score
+	if own.set(float64(s)) != nil {
+		return None, false
+	}
+	rating := C.cvss_rating(numberOf(version), C.int32_t(own.Tenths()))
+	if rating == C.CVSS_NOTHING {
+		return None, false
+	}
+	return Severity(rating), true
+}
 
 // scoreOf is the score of so many tenths.
 func scoreOf(tenths float64) Score { return Score(tenths / 10) }

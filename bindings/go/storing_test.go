@@ -51,7 +51,16 @@ func TestEveryMethodOfTheZeroVectorAnswers(t *testing.T) {
 	if _, _, ok := zero.Environmental(); ok {
 		t.Error("an environmental score")
 	}
-	if len(zero.Metrics()) != 0 || len(zero.Record()) != 0 || len(zero.Account()) != 0 || zero.WithoutUndefined() != zero {
+	if len(zero.Metrics()) != 0 || len(zero.Described()) != 0 {
+		t.Errorf("%v %v", zero.Metrics(), zero.Described())
+	}
+	if _, ok := zero.NomenclatureScore(cvss.B); ok {
+		t.Error("a score of CVSS-B")
+	}
+	if own, err := zero.WithMetrics([]cvss.Metric{{Name: "E", Value: "A"}}); err == nil || own != zero {
+		t.Errorf("%v, %v", own, err)
+	}
+	if len(zero.Record()) != 0 || len(zero.Account()) != 0 || zero.WithoutUndefined() != zero {
 		t.Errorf("%v %s %v", zero.Metrics(), zero.Record(), zero.WithoutUndefined())
 	}
 	for _, overrides := range [][]cvss.Metric{nil, {{Name: "CR", Value: "H"}}} {

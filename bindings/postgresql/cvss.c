@@ -47,13 +47,6 @@ question_of(FunctionCallInfo fcinfo)
 	return question;
 }
 
-static void
-raise_out_of_memory(void)
-{
-	ereport(ERROR, (errcode(ERRCODE_OUT_OF_MEMORY), errmsg("out of memory"),
-					errdetail("The CVSS library was refused memory.")));
-}
-
 /*
  * The answer, which a byte 0 ends: in the first buffer where it has room there, else in memory of the server. NULL
  * where the answer is NULL.
@@ -74,8 +67,6 @@ answer_of(FunctionCallInfo fcinfo, TextAnswer answer, char first[FIRST_SIZE], si
 		result = palloc(size + 1);
 		*length = answer(&question, result, size);
 	}
-	if (*length > size || lacked_memory(result, *length))
-		raise_out_of_memory();
 	result[*length] = '\0';
 	return result;
 }
@@ -107,7 +98,8 @@ answer_jsonb(FunctionCallInfo fcinfo, TextAnswer answer)
 static Datum
 answer_score(FunctionCallInfo fcinfo, NumberAnswer answer)
 {
-	int32		tenths = answer(text_of(fcinfo, 0));
+	Question	question = question_of(fcinfo);
+	int32		tenths = answer(&question);
 
 	if (tenths == CVSS_NOTHING)
 		PG_RETURN_NULL();
@@ -117,11 +109,24 @@ answer_score(FunctionCallInfo fcinfo, NumberAnswer answer)
 static Datum
 answer_number(FunctionCallInfo fcinfo, NumberAnswer answer)
 {
-	int32		number = answer(text_of(fcinfo, 0));
+	Question	question = question_of(fcinfo);
+	int32		number = answer(&question);
 
 	if (number == CVSS_NOTHING)
 		PG_RETURN_NULL();
 	PG_RETURN_INT32(number);
+}
+
+/* A name that no version has is an error: it is a mistake of the query, and of no row. */
+static Datum
+answer_metric(FunctionCallInfo fcinfo, TextAnswer answer)
+{
+	Text		name = text_of(fcinfo, 1);
+
+	if (!is_metric_name(&name))
+		ereport(ERROR, (errcode(ERRCODE_INVALID_PARAMETER_VALUE),
+						errmsg("no CVSS metric has the name `%.*s`", (int) name.length, name.bytes)));
+	return answer_text(fcinfo, answer);
 }
 
 /* The names differ from those of the library, which this module holds too. */
@@ -188,7 +193,8 @@ PG_FUNCTION_INFO_V1(sql_cvss_is_complete);
 Datum
 sql_cvss_is_complete(PG_FUNCTION_ARGS)
 {
-	int32		answer = is_complete(text_of(fcinfo, 0));
+	Question	question = question_of(fcinfo);
+	int32		answer = is_complete(&question);
 
 	if (answer == CVSS_NOTHING)
 		PG_RETURN_NULL();
@@ -209,17 +215,25 @@ sql_cvss_nomenclature(PG_FUNCTION_ARGS)
 	return answer_text(fcinfo, put_nomenclature);
 }
 
-/* A name that no version has is an error: it is a mistake of the query, and of no row. */
 PG_FUNCTION_INFO_V1(sql_cvss_metric);
 Datum
 sql_cvss_metric(PG_FUNCTION_ARGS)
 {
-	Text		name = text_of(fcinfo, 1);
+	return answer_metric(fcinfo, put_metric);
+}
 
-	if (!is_metric_name(&name))
-		ereport(ERROR, (errcode(ERRCODE_INVALID_PARAMETER_VALUE),
-						errmsg("no CVSS metric has the name `%.*s`", (int) name.length, name.bytes)));
-	return answer_text(fcinfo, put_metric);
+PG_FUNCTION_INFO_V1(sql_cvss_metric_title);
+Datum
+sql_cvss_metric_title(PG_FUNCTION_ARGS)
+{
+	return answer_metric(fcinfo, put_metric_title);
+}
+
+PG_FUNCTION_INFO_V1(sql_cvss_value_title);
+Datum
+sql_cvss_value_title(PG_FUNCTION_ARGS)
+{
+	return answer_metric(fcinfo, put_value_title);
 }
 
 PG_FUNCTION_INFO_V1(sql_cvss_without_undefined);
@@ -233,7 +247,7 @@ PG_FUNCTION_INFO_V1(sql_cvss_with);
 Datum
 sql_cvss_with(PG_FUNCTION_ARGS)
 {
-	return answer_text(fcinfo, put_overridden);
+	return answer_text(fcinfo, put_with);
 }
 
 PG_FUNCTION_INFO_V1(sql_cvss_record);
@@ -257,11 +271,65 @@ sql_cvss_reason(PG_FUNCTION_ARGS)
 	return answer_text(fcinfo, put_reason);
 }
 
+/* The name is that of version 1.0, where the second argument had overrides alone. */
 PG_FUNCTION_INFO_V1(sql_cvss_override_reason);
 Datum
 sql_cvss_override_reason(PG_FUNCTION_ARGS)
 {
-	return answer_text(fcinfo, put_override_reason);
+	return answer_text(fcinfo, put_with_reason);
+}
+
+PG_FUNCTION_INFO_V1(sql_cvss_strict_reason);
+Datum
+sql_cvss_strict_reason(PG_FUNCTION_ARGS)
+{
+	return answer_text(fcinfo, put_strict_reason);
+}
+
+PG_FUNCTION_INFO_V1(sql_cvss_build);
+Datum
+sql_cvss_build(PG_FUNCTION_ARGS)
+{
+	return answer_text(fcinfo, put_built);
+}
+
+PG_FUNCTION_INFO_V1(sql_cvss_build_reason);
+Datum
+sql_cvss_build_reason(PG_FUNCTION_ARGS)
+{
+	return answer_text(fcinfo, put_build_reason);
+}
+
+PG_FUNCTION_INFO_V1(sql_cvss_nomenclature_score);
+Datum
+sql_cvss_nomenclature_score(PG_FUNCTION_ARGS)
+{
+	Text		name = text_of(fcinfo, 1);
+
+	if (nomenclature_number(&name) == CVSS_NOTHING)
+		ereport(ERROR, (errcode(ERRCODE_INVALID_PARAMETER_VALUE),
+						errmsg("no CVSS nomenclature has the name `%.*s`", (int) name.length, name.bytes)));
+	return answer_score(fcinfo, nomenclature_score);
+}
+
+/* The rating of a bare score, which is a number and no text. */
+PG_FUNCTION_INFO_V1(sql_cvss_severity_of);
+Datum
+sql_cvss_severity_of(PG_FUNCTION_ARGS)
+{
+	const char *score = DatumGetCString(DirectFunctionCall1(numeric_out, PG_GETARG_DATUM(0)));
+	Question	question = {{"", 0}, {"", 0}};
+	char		severity[16];
+	size_t		length;
+
+	question.text.bytes = score;
+	question.text.length = strlen(score);
+	if (PG_NARGS() > 1)
+		question.second = text_of(fcinfo, 1);
+	length = (PG_NARGS() > 1 ? put_severity_by : put_severity_of) (&question, severity, sizeof severity);
+	if (length == 0)
+		PG_RETURN_NULL();
+	PG_RETURN_TEXT_P(cstring_to_text_with_len(severity, length));
 }
 
 /* Refuses by an error that tells the reason, which a CHECK that is false cannot. */
@@ -286,20 +354,24 @@ typedef struct Search
 	int			place;
 } Search;
 
-/* The next mention as a row: its place, the text of it, and the canonical text of its vector. */
+/* The next mention as a row: its place, the text of it, the canonical text of its vector, and whether that is complete. */
 static Datum
 mention_row(TupleDesc columns, Search *search, size_t start, size_t length)
 {
 	const char *given = search->text.bytes + start;
 	char	   *canonical = palloc(length);
-	Datum		values[3];
-	bool		nulls[3] = {false, false, false};
+	int32		complete = is_complete(&(Question) {{given, length}, {"", 0}});
+	Datum		values[4];
+	bool		nulls[4] = {false, false, false, false};
 
 	search->place += pg_mbstrlen_with_len(search->text.bytes + search->end, (int) (start - search->end));
 	values[0] = Int32GetDatum(search->place);
 	values[1] = PointerGetDatum(cstring_to_text_with_len(given, (int) length));
 	nulls[2] = cvss_canonical(given, length, canonical, length) == 0;
 	values[2] = nulls[2] ? (Datum) 0 : PointerGetDatum(cstring_to_text_with_len(canonical, (int) length));
+	/* a view that was made with version 1.0 has three columns */
+	nulls[3] = complete == CVSS_NOTHING;
+	values[3] = BoolGetDatum(complete > 0);
 	/* a mention is ASCII */
 	search->place += (int) length;
 	search->end = start + length;

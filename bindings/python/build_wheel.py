@@ -17,10 +17,12 @@ from typing import Dict, Optional
 _HERE = Path(__file__).resolve().parent
 _PACKAGE = _HERE / "cvss_proved"
 _FILE = "libcvss.so.1"
-# The package's own files, those of the calculator's page among them.
-_SUFFIXES = (".py", ".typed", ".html", ".css", ".js", ".json")
-# The library is linked to the C library of the machine that it is built on, and to no Python.
-_TAG = "py3-none-linux_x86_64"
+# What all languages share. A checkout has it in bindings, a source archive in the package.
+_SHARED = ("metrics.json", "calculator/cvss-calculator.html")
+_SUFFIXES = (".py", ".typed")
+# A wheel runs on what its platform names and no other: the library is linked to a C library, and to no Python. The
+# setting `platform` names another one than this machine's, such as manylinux2014_aarch64.
+_PLATFORM = f"linux_{os.uname().machine}"
 # They stand at the root of a checkout, of a source archive, and beside the installed sources.
 _LICENSES = ("LICENSE-APACHE", "LICENSE-MIT", "NOTICE")
 _ROOTS = (_HERE, _HERE.parent, _HERE.parent.parent)
@@ -45,7 +47,7 @@ Description-Content-Type: text/markdown
 
 """
 # What pyproject.toml has as scripts.
-_SCRIPTS = "[console_scripts]\ncvss-calculator = cvss_proved.calculator.__main__:main\n"
+_SCRIPTS = "[console_scripts]\ncvss-calculator = cvss_proved.calculator:main\n"
 
 
 def _version() -> str:
@@ -62,6 +64,14 @@ def _library() -> bytes:
     if not place.is_file():
         raise SystemExit(f"{place} is missing: run bindings/build, or name the library by the variable CVSS_LIBRARY")
     return place.read_bytes()
+
+
+def _shared() -> Dict[str, bytes]:
+    files = {}
+    for name in _SHARED:
+        own = _PACKAGE / Path(name).name
+        files[f"cvss_proved/{own.name}"] = (own if own.is_file() else _HERE.parent / name).read_bytes()
+    return files
 
 
 def _licenses() -> Dict[str, bytes]:
@@ -83,14 +93,14 @@ def _package() -> Dict[str, bytes]:
         if source.suffix in _SUFFIXES
     }
     files[f"cvss_proved/{_FILE}"] = _library()
-    return files
+    return {**files, **_shared()}
 
 
-def _files(version: str) -> Dict[str, bytes]:
+def _files(version: str, tag: str) -> Dict[str, bytes]:
     files = _package()
     info = f"cvss_proved-{version}.dist-info"
     files[f"{info}/METADATA"] = _metadata(version)
-    wheel = f"Wheel-Version: 1.0\nGenerator: build_wheel\nRoot-Is-Purelib: false\nTag: {_TAG}\n"
+    wheel = f"Wheel-Version: 1.0\nGenerator: build_wheel\nRoot-Is-Purelib: false\nTag: {tag}\n"
     files[f"{info}/WHEEL"] = wheel.encode()
     files[f"{info}/entry_points.txt"] = _SCRIPTS.encode()
     files.update({f"{info}/{name}": text for name, text in _licenses().items()})
@@ -111,12 +121,16 @@ def build_wheel(
     config_settings: Optional[Dict[str, str]] = None,
     metadata_directory: Optional[str] = None,
 ) -> str:
-    """Writes the wheel into a folder, and tells its name."""
+    """Writes the wheel into a folder, and tells its name. The same files make the same bytes."""
     version = _version()
-    name = f"cvss_proved-{version}-{_TAG}.whl"
-    with zipfile.ZipFile(Path(wheel_directory) / name, "w", zipfile.ZIP_DEFLATED) as wheel:
-        for path, content in _files(version).items():
-            wheel.writestr(path, content)
+    tag = f"py3-none-{(config_settings or {}).get('platform', _PLATFORM)}"
+    name = f"cvss_proved-{version}-{tag}.whl"
+    with zipfile.ZipFile(Path(wheel_directory) / name, "w") as wheel:
+        for path, content in _files(version, tag).items():
+            member = zipfile.ZipInfo(path)
+            member.compress_type = zipfile.ZIP_DEFLATED
+            member.external_attr = 0o644 << 16
+            wheel.writestr(member, content, compresslevel=9)
     return name
 
 

@@ -7,15 +7,32 @@ import ast
 import copy
 import doctest
 import json
+import os
 import pickle
+import re
 import subprocess
 import sys
 from concurrent.futures import ThreadPoolExecutor
+from decimal import Decimal
 from pathlib import Path
-from typing import Any, Callable, List, Optional, Set, Tuple, Type, TypeVar
+from string import ascii_uppercase
+from typing import Any, Callable, Dict, List, Optional, Set, Tuple, Type, TypeVar, Union
 
 import cvss_proved
-from cvss_proved import CvssError, Found, Text, Vector, answer, answers, find, scores
+from cvss_proved import (
+    CvssError,
+    Found,
+    MetricType,
+    Text,
+    Vector,
+    Version,
+    answer,
+    answers,
+    find,
+    metrics,
+    scores,
+    severity_of,
+)
 
 KINDS = (
     "",
@@ -26,6 +43,7 @@ KINDS = (
     "invalid value",
     "duplicate metric",
     "missing metric",
+    "not UTF-8",
 )
 TEXT = "AV:N/AC:L/Au:N/C:N/I:N/A:C"
 V4 = "CVSS:4.0/AV:N/AC:L/AT:N/PR:N/UI:N/VC:H/VI:H/VA:H/SC:H/SI:H/SA:H"
@@ -221,9 +239,227 @@ def check_types() -> None:
     assert vector.severities.base != "CRITICAL"  # type: ignore[comparison-overlap]
     assert vector.version != "4"  # type: ignore[comparison-overlap]
     assert vector.nomenclature != "B"  # type: ignore[comparison-overlap]
+    assert metrics("3.1")[0].group != "Base"  # type: ignore[comparison-overlap]
+    assert severity_of(7.5) != "High"  # type: ignore[comparison-overlap]
     assert error.kind != "invalid"  # type: ignore[comparison-overlap]
     assert vector.severity == "critical" and vector.version == "4.0" and vector.nomenclature == "CVSS-B"
     assert error.kind == "invalid component"
+
+
+# A vector of each version with all base metrics and no others.
+BASES: Dict[Version, str] = {
+    "2.0": TEXT,
+    "3.0": "CVSS:3.0/AV:N/AC:L/PR:N/UI:N/S:U/C:H/I:H/A:H",
+    "3.1": "CVSS:3.1/AV:N/AC:L/PR:N/UI:N/S:U/C:H/I:H/A:H",
+    "4.0": V4,
+}
+
+
+def with_component(text: str, name: str, value: str) -> str:
+    """A text with this value in place of its own, or added."""
+    others = [piece for piece in text.split("/") if not piece.startswith(f"{name}:")]
+    return "/".join([*others, f"{name}:{value}"])
+
+
+def is_accepted(text: str) -> bool:
+    return not raises(CvssError, lambda: Vector(text))
+
+
+def check_values_of(text: str, metric: MetricType) -> None:
+    """The library reads each value of a metric, and no other word of two letters."""
+    words = {first + second for first in ["", *ascii_uppercase] for second in ascii_uppercase}
+    own = [value.value for value in metric.values]
+    assert len(set(own)) == len(own) and all(value.title and value.description for value in metric.values), metric
+    for word in words.union(own):
+        assert is_accepted(with_component(text, metric.name, word)) == (word in own), (text, metric.name, word)
+
+
+def check_title_of(text: str, metric: MetricType) -> None:
+    """The name in words is that of the library's reasons, where v3 and v4.0 have requirements in the plural; a modified
+    metric of v3 is reported by its base metric."""
+    blamed = metric.name[1:] if text.startswith("CVSS:3") and metric.name.startswith("M") else metric.name
+    title = metric.title.replace("Modified ", "") if blamed != metric.name else metric.title
+    title += "s" if title.endswith(" Requirement") and text.startswith("CVSS:") else ""
+    # v3.1 specification, section 4.2: Modified Confidentiality; section 2.3: Confidentiality Impact
+    title += " Impact" if metric.name in ("MC", "MI", "MA") else ""
+    error = CvssError.of(with_component(text, metric.name, "?").encode())
+    assert f" {blamed} ({title}) metric" in error.reason, (error.reason, title)
+
+
+def check_words_of(text: str, metric: MetricType) -> None:
+    """The words of the values are those of FIRST's JSON schemas, which call a rank between two by both."""
+    records = [Vector(with_component(text, metric.name, value.value)).record() for value in metric.values]
+    no_words = ("vectorString", "Score", "Severity")
+    members = {name for name in records[0] if not name.endswith(no_words)}
+    differing = [name for name in members if len({record[name] for record in records}) == len(records)]
+    assert len(differing) == 1, (metric, differing)
+    for value, record in zip(metric.values, records):
+        word = value.title.upper().replace(" ", "_").replace("_TO_", "_")
+        # v3.1 specification, section 2.1.1: Adjacent; FIRST's schema of v3.1 keeps the word of v3.0
+        word += "_NETWORK" if word == "ADJACENT" and text.startswith("CVSS:3") else ""
+        assert record[differing[0]] == word, (metric.name, value, record)
+
+
+def check_metric_types(root: Path) -> None:
+    """The table has the metrics of the stored lines in the order of canonical texts, and says of each what the library
+    does."""
+    stored: Dict[str, Set[str]] = {}
+    for line in lines_of(root / "bindings" / "stored" / "facts"):
+        _, version, *words = line.decode().split(" ")
+        stored.setdefault(version, set()).update(word.partition("=")[0] for word in words if "=" in word)
+    for version, text in BASES.items():
+        types = metrics(version)
+        names = [metric.name for metric in types]
+        assert set(names) == stored[version], version
+        reverse = [f"{metric.name}:{metric.values[0].value}" for metric in reversed(types)]
+        full = "/".join(reverse if version == "2.0" else [f"CVSS:{version}", *reverse])
+        assert list(Vector(full).metrics) == names, version
+        mandatory = [metric.name for metric in types if metric.is_mandatory]
+        assert mandatory == list(Vector(text).metrics) == [metric.name for metric in types if metric.group == "base"]
+        for metric in types:
+            check_values_of(text, metric)
+            check_title_of(text, metric)
+            check_words_of(text, metric)
+            assert metric.question.endswith("?"), metric
+    for line in stored_lines(root, "stdin"):
+        try:
+            vector = Vector(line)
+        except CvssError:
+            continue
+        described = vector.described
+        assert {metric.name: value.value for metric, value in described} == vector.metrics, line
+    assert raises(ValueError, lambda: metrics("5.0"))  # type: ignore[arg-type]
+
+
+def check_groups() -> None:
+    """A metric of a group brings the group's score into the record of v2 and v3, and its letter into the nomenclature of
+    v4.0 (specification, section 1.3)."""
+    for version, text in BASES.items():
+        for metric in metrics(version):
+            own = Vector(with_component(text, metric.name, metric.values[-1].value))
+            if version == "4.0":
+                letters = {"threat": "T", "environmental": "E"}.get(metric.group, "")
+                assert own.nomenclature == f"CVSS-B{letters}", own
+                assert metric.group in ("base", "threat", "environmental", "supplemental"), own
+            else:
+                told = [name for name in ("temporal", "environmental") if f"{name}Score" in own.record()]
+                assert told == [metric.group] * (metric.group != "base"), own
+
+
+def outcome(call: Callable[[], Vector]) -> Tuple[Optional[str], Optional[str]]:
+    """The text of a vector; or the number of the kind of the refusal, the metric and what is quoted."""
+    try:
+        return str(call()), None
+    except CvssError as error:
+        return None, f"{KINDS.index(error.kind)} {error.metric or '-'} {error.value}"
+
+
+def mapping_of(given: bytes) -> Optional[Dict[str, str]]:
+    """The metrics that a text joins; none where no mapping has them: for want of a colon, or as one stands twice."""
+    pieces = [piece.split(":", 1) for piece in given.decode("utf-8", "surrogateescape").split("/")] if given else []
+    metrics = {piece[0]: piece[-1] for piece in pieces}
+    return metrics if len(metrics) == len(pieces) and all(len(piece) == 2 for piece in pieces) else None
+
+
+def unescaped(column: bytes) -> Optional[bytes]:
+    """A column of a row that bindings/sql/expected.py has written."""
+    return None if column == b"\\N" else re.sub(rb"\\x(..)", lambda found: bytes([int(found[1], 16)]), column)
+
+
+def check_calls(root: Path) -> None:
+    """Metrics that are set, vectors that are built, what reasons quote, and the four scores of v4.0, beside the second
+    implementation. The variable CVSS_ROWS names a file with other rows."""
+    rows = lines_of(Path(os.environ.get("CVSS_ROWS", str(root / "bindings/stored/calls"))))
+    tried = 0
+    for row in rows:
+        text, metrics, asked, components, *expected = map(unescaped, row.split(b"\t"))
+        told = [None if column is None else column.decode() for column in expected]
+        assert text is not None and metrics is not None and asked is not None and components is not None
+        given, parts, version = text, mapping_of(metrics), asked.decode()
+        if parts is not None:
+            own = parts
+            assert list(outcome(lambda: Vector(given).replace(own))) == told[0:2], row
+            tried += 1
+        parts = mapping_of(components)
+        if version not in BASES:
+            assert raises(ValueError, lambda: Vector.from_metrics(version, {})), row  # type: ignore[arg-type]
+        elif parts is not None:
+            own = parts
+            assert list(outcome(lambda: Vector.from_metrics(version, own))) == told[2:4], row  # type: ignore[arg-type]
+            tried += 1
+        assert outcome(lambda: Vector(given))[1] == told[4], row
+        assert (None if raises(CvssError, lambda: Vector(given, strict=True)) else "") == (None if told[5] else ""), row
+        if told[4] is None:
+            by_nomenclature = [f"{score:.1f}" for score in Vector(given).nomenclature_scores.values()]
+            assert by_nomenclature == [score for score in told[6:] if score is not None], row
+    assert tried > len(rows), tried
+    print(f"Python: {len(rows)} texts with metrics to set and to build of, 0 wrong answers")
+
+
+def check_setting() -> None:
+    """Metrics are given as a mapping or by name. FIRST's calculator gives 9.3 and 8.1 for the vectors of v4.0."""
+    vector = Vector("CVSS:4.0/AV:N/AC:L/AT:N/PR:N/UI:N/VC:H/VI:H/VA:H/SC:N/SI:N/SA:N")
+    threatened = vector.replace(E="U")
+    assert (vector.score, threatened.score, threatened.nomenclature) == (9.3, 8.1, "CVSS-BT")
+    assert threatened.nomenclature_scores == {"CVSS-B": 9.3, "CVSS-BE": 9.3, "CVSS-BT": 8.1, "CVSS-BTE": 8.1}
+    assert Vector(TEXT).nomenclature_scores == {}
+    assert vector.replace({"e": "u"}) == vector.replace({"E": "A"}, E="U") == threatened and vector.replace() == vector
+    assert vector.replace({}, AV="P", MSI="S").metrics == {**vector.metrics, "AV": "P", "MSI": "S"}
+    assert str(Vector(TEXT).replace(E="ND", Au="M")) == "AV:N/AC:L/Au:M/C:N/I:N/A:C/E:ND"
+    assert Vector.from_metrics("4.0", vector.metrics, E="U") == threatened
+    assert type(Own(TEXT).replace(E="H")) is type(Own.from_metrics("2.0", Vector(TEXT).metrics)) is Own
+    for name, value in (("E", "A/RC:C"), ("E/RC:C/E", "A"), ("/", ""), ("E", "A:B"), ("E:A", "B")):
+        for call in (lambda: vector.replace({name: value}), lambda: Vector.from_metrics("3.1", {name: value})):
+            component = f"{name}:{value}"
+            assert outcome(call) == (None, f"1 - {component}"), component
+    for quoted in ("`", "a`b", "``", "a\n`"):
+        assert outcome(lambda: vector.replace(E=quoted)) == (None, f"5 E {quoted.upper()}"), quoted
+        assert outcome(lambda: Vector.from_metrics("2.0", {quoted: ""})) == (None, f"4 - {quoted}"), quoted
+    no_metrics: Tuple[Any, ...] = ("E:A", b"E:A", 5, ["E"], [("E", "A")], {"E"}, {"E": None}, {"E": 5}, {5: "A"},
+                                   {b"E": "A"})
+    for other in no_metrics:
+        assert raises(TypeError, lambda: vector.replace(other)), other
+        assert raises(TypeError, lambda: Vector.from_metrics("3.1", other)), other
+    assert raises(TypeError, lambda: vector.replace(E=None))  # type: ignore[arg-type]
+    error = next(error for _, _, error in find("CVSS:3.1/AV:Q") if isinstance(error, CvssError))
+    assert (error.value, CvssError("words", "invalid value", "AV").value) == ("Q", "")
+    assert [refused.value for refused in copies(error)] == ["Q"] * len(copies(error))
+
+
+def check_ratings() -> None:
+    """The bounds are those of the tables in section 5 of the v3.1 specification, and of NVD for v2; v4.0 has those of
+    v3.1."""
+    since_v3 = {"none": (0, 0), "low": (1, 39), "medium": (40, 69), "high": (70, 89), "critical": (90, 100)}
+    v2 = {"low": (0, 39), "medium": (40, 69), "high": (70, 100)}
+    for version in BASES:
+        for tenths in range(101):
+            bounds = v2 if version == "2.0" else since_v3
+            word = next(word for word, (least, most) in bounds.items() if least <= tenths <= most)
+            assert severity_of(tenths / 10, version) == severity_of(Decimal(tenths) / 10, version) == word
+            assert version != "4.0" or severity_of(tenths / 10) == word
+    assert severity_of(10) == "critical" and severity_of(7) == "high"
+    others: Tuple[Union[float, Decimal], ...] = (-0.1, 10.1, 9.85, 98, float("nan"), float("inf"), Decimal("9.85"))
+    for other in others:
+        assert raises(ValueError, lambda: severity_of(other)), other
+    no_scores: Tuple[Any, ...] = ("9.8", None, [9.8])
+    for wrong in no_scores:
+        assert raises(TypeError, lambda: severity_of(wrong)), wrong
+    assert raises(ValueError, lambda: severity_of(9.8, "5.0"))  # type: ignore[arg-type]
+
+
+def check_values_of_errors() -> None:
+    """An error has the part of the text that its reason quotes, as the reason has it."""
+    rows = (
+        ("AV:N", "invalid component", "AV:N"), ("AV/N", "invalid component", "AV"), ("CVS:3.1/AV:N", "invalid prefix", "CVS"),
+        ("CVSS:3.2/AV:N", "unsupported version", "3.2"), ("CVSS:3.1/xx:N", "unknown metric", "XX"),
+        ("CVSS:3.1/av:a`b", "invalid value", "A`B"), ("AV:/AC:L", "invalid value", ""), ("AV:``/AC:L", "invalid value", "``"),
+        ("CVSS:3.1/AV:N/av:n", "duplicate metric", ""), ("AV:N/AC:L", "missing metric", ""), ("\ud800", "not UTF-8", ""),
+    )
+    for text, kind, value in rows:
+        error = CvssError.of(text)
+        assert (error.kind, error.value) == (kind, value), text
+        assert [refused.value for refused in copies(error)] == [value] * len(copies(error))
+    assert CvssError("words", "invalid value", "AV").value == ""
 
 
 def check_red_hat_notation() -> None:
@@ -479,6 +715,12 @@ if __name__ == "__main__":
     check_changes(Path(sys.argv[1]))
     check_strict(Path(sys.argv[1]))
     check_types()
+    check_metric_types(Path(sys.argv[1]))
+    check_groups()
+    check_calls(Path(sys.argv[1]))
+    check_setting()
+    check_ratings()
+    check_values_of_errors()
     check_red_hat_notation()
     check_command()
     check_threads(Path(sys.argv[1]))

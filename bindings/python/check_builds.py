@@ -53,9 +53,9 @@ def check_wheel(root: Path, files: Dict[str, bytes]) -> None:
     info = next(name for name in files if name.endswith("/METADATA")).rpartition("/")[0]
     check_metadata(files[f"{info}/METADATA"], root, files, info)
     assert "cvss_proved/libcvss.so.1" in files and "cvss_proved/py.typed" in files
-    calculator = root / "bindings/python/cvss_proved/calculator"
-    for name in ("page.html", "page.css", "page.js", "metrics.json", "_server.py"):
-        assert files[f"cvss_proved/calculator/{name}"] == (calculator / name).read_bytes(), name
+    for name in ("metrics.json", "calculator/cvss-calculator.html"):
+        own = f"cvss_proved/{name.rpartition('/')[2]}"
+        assert files[own] == (root / "bindings" / name).read_bytes(), own
     scripts = re.findall(r"^(.*) = (.*)$", files[f"{info}/entry_points.txt"].decode(), re.M)
     project = (root / "bindings/python/pyproject.toml").read_text()
     assert scripts and all(f'{name} = "{call}"\n' in project for name, call in scripts), scripts

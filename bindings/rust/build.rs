@@ -30,9 +30,10 @@ fn folder() -> PathBuf {
 fn main() {
     println!("cargo:rerun-if-env-changed=CVSS_LIBRARY_FOLDER");
     let target = env::var("TARGET").unwrap_or_default();
-    if !(target.starts_with("x86_64-") && target.contains("-linux-")) {
+    let has_library = target.starts_with("x86_64-") || target.starts_with("aarch64-");
+    if !(has_library && target.contains("-linux-")) {
         fail(&format!(
-            "cvss_proved is for Linux on x86-64, and the target is {target}"
+            "cvss_proved is for Linux on x86-64 and ARM64, and the target is {target}"
         ));
     }
     let folder = folder();

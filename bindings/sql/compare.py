@@ -15,9 +15,7 @@ sys.path.insert(0, str(Path(__file__).resolve().parents[2] / "reference"))
 import v2
 import v3
 import v4
-from expected import OVERRIDES
 
-OWN = "/".join(f"{name}:{value}" for name, value in OVERRIDES.items())
 # What is asked, and what the answer has to be.
 ASKED = {
     "cvss_is_valid": ("cvss_is_valid(text)", "reason IS NULL"),
@@ -28,14 +26,22 @@ ASKED = {
     "cvss_environmental_score": ("cvss_environmental_score(text)", "environmental"),
     "cvss_severity": ("cvss_severity(text)", "severity"),
     "cvss_nomenclature": ("cvss_nomenclature(text)", "nomenclature"),
-    "cvss_with": (f"cvss_with(text, '{OWN}')", "overridden"),
+    "cvss_nomenclature_score, B": ("cvss_nomenclature_score(text, 'CVSS-B')", "b"),
+    "cvss_nomenclature_score, BE": ("cvss_nomenclature_score(text, 'BE')", "be"),
+    "cvss_nomenclature_score, BT": ("cvss_nomenclature_score(text, 'cvss-bt')", "bt"),
+    "cvss_nomenclature_score, BTE": ("cvss_nomenclature_score(text, 'CVSS-BTE')", "bte"),
+    "cvss_with": ("cvss_with(text, metrics)", "changed"),
+    "cvss_reason of metrics": ("cvss_reason(text, metrics)", "metrics_reason"),
+    "cvss_build": ("cvss_build(asked, components)", "built"),
+    "cvss_build_reason": ("cvss_build_reason(asked, components)", "build_reason"),
+    "cvss_severity_of": ("cvss_severity_of(score, version)", "severity"),
+    "cvss_strict_reason": ("cvss_strict_reason(text)", "strict_reason"),
     "cvss_without_undefined": ("cvss_without_undefined(text)", "defined"),
     "cvss_record": ("cvss_record(text)", "record"),
     "cvss_account": ("CASE WHEN account IS NULL AND reason IS NULL THEN NULL ELSE cvss_account(text) END", "account"),
     "the vector of cvss_account": ("cvss_account(text) ->> 'vector'", "canonical"),
     "the score of cvss_account": ("CAST(cvss_account(text) ->> 'score' AS numeric)", "score"),
     "cvss_reason": ("cvss_reason(text)", "reason"),
-    "cvss_reason of overrides": (f"cvss_reason(text, '{OWN}')", "override_reason"),
 }
 
 
@@ -88,7 +94,8 @@ END $$;"""
 
 def main(database, unit):
     joined_rows = "string_agg" if database == "postgresql" else "group_concat"
-    row = "place || ' ' || given || ' ' || coalesce(vector, '-')"
+    complete = "CASE WHEN is_complete THEN 'complete' WHEN NOT is_complete THEN 'incomplete' ELSE '-' END"
+    row = f"place || ' ' || given || ' ' || coalesce(vector, '-') || ' ' || {complete}"
     ASKED["cvss_find"] = (f"(SELECT {joined_rows}({row}, ';') FROM cvss_find(expected.text))",
                           "found" if unit == "characters" else "found_bytes")
     if database == "postgresql":

@@ -2,10 +2,14 @@
 """Writes texts, with what the functions of SQL have to answer to them, by the second implementation in reference/.
 
 usage: expected.py kit|COUNT
+       expected.py calls COUNT      prints the first column and those of CALLS alone, of other texts
+       expected.py columns          prints the columns with their types, as CREATE TABLE reads them
+       expected.py utf-8 < ROWS     passes on the rows in which all is UTF-8
 
-The texts are those of the conformance kit, or COUNT hostile ones, drawn at random and always the same. The columns of
-COLUMNS are separated by tabs, as COPY of PostgreSQL reads them: NULL is \\N, and a byte that is no visible ASCII
-character stands as \\x and two digits.
+The texts are those of the conformance kit, or COUNT hostile ones, drawn at random and always the same. Beside each text
+metrics are drawn to set in its vector, and a version and components to build one of. The columns of COLUMNS are separated
+by tabs, as COPY of PostgreSQL reads them: NULL is \\N, and a byte that is no visible ASCII character is written as \\x and
+two digits. The tests of Python, Rust and Go read rows of `calls`, of which some are in bindings/stored/calls.
 """
 import random
 import re
@@ -22,13 +26,22 @@ import finding
 import lines
 import records
 import reference
+import setting
+import v3
 import v4
 from run import read_table, text_of
 
-COLUMNS = ("text", "canonical", "version", "score", "temporal", "environmental", "severity", "nomenclature",
-           "overridden", "defined", "record", "account", "reason", "override_reason", "found", "found_bytes")
-# An organisation's metrics, in the order in which v4.0 prints them.
-OVERRIDES = {"CR": "H", "MSI": "S"}
+# The number that the library has for a version.
+VERSIONS = {"2.0": 20, "3.0": 30, "3.1": 31, "4.0": 40}
+# The metrics to set, the version and components to build of, the answers, and why there is none: a reason, and of it the
+# number of the kind, the metric and what is quoted.
+CALLS = ("metrics", "asked", "components", "changed", "metrics_refusal", "built", "build_refusal", "refusal",
+         "strict_reason", "b", "be", "bt", "bte")
+COLUMNS = ("text", "canonical", "version", "score", "temporal", "environmental", "severity", "nomenclature", "defined",
+           "record", "account", "reason", "found", "found_bytes", "metrics_reason", "build_reason", *CALLS)
+SCORES = ("score", "temporal", "environmental", "b", "be", "bt", "bte")
+# What functions are given, which may be any bytes.
+GIVEN = ("text", "metrics", "components")
 
 
 def scored(text):
@@ -50,18 +63,43 @@ def defined(metrics, canonical):
     return "/".join(canonical.split("/")[: canonical.startswith("CVSS:")] + pieces) if pieces else canonical
 
 
+def outcome(call, *given):
+    """What a call answers; why it refuses; and of this the number of the kind, the metric and what is quoted."""
+    try:
+        return call(*given), None, None
+    except reference.Refused as refused:
+        kind = reference.KINDS.index(refused.kind) + 1
+        return None, str(refused), f"{kind} {refused.metric or '-'} {refused.part}"
+
+
+def tenths(count):
+    return f"{count // 10}.{count % 10}"
+
+
 def accepted(row):
     """What is answered to a text that has these scores."""
     canonical, version = row["canonical"], row["version"]
-    pieces = canonical.split("/")[0 if version == "2.0" else 1:]
-    metrics = dict(piece.split(":") for piece in pieces)
-    columns = [canonical, version, row["score"], row["temporal"], row["environmental"], row["rating"], row["nomenclature"]]
-    columns = [None if column == "-" else column for column in columns]
-    overridden, refusal = None, "no CVSSv4 vector"
+    metrics = dict(piece.split(":") for piece in canonical.split("/")[version != "2.0":])
+    told = {name: row[name] for name in ("canonical", "version", "score", "temporal", "environmental", "nomenclature")}
+    told = {name: None if value == "-" else value for name, value in told.items()}
     if version == "4.0":
-        overridden, refusal = reference.canonical(["CVSS:4.0"], v4.METRICS, {**metrics, **OVERRIDES}), None
-    columns += [overridden, defined(metrics, canonical), records.record(row, metrics), account(canonical)]
-    return [*columns, None, refusal]
+        told.update({name: tenths(v4.score_by(metrics, f"CVSS-{name.upper()}")) for name in ("b", "be", "bt", "bte")})
+    if version in ("3.0", "3.1"):
+        told["strict_reason"] = outcome(reference.find_missing, "v3", v3.METRICS, v3.BASE, metrics)[1]
+    return {**told, "severity": row["rating"], "defined": defined(metrics, canonical),
+            "record": records.record(row, metrics), "account": account(canonical)}
+
+
+def built(version, components):
+    """The canonical text of the vector of a version with these components."""
+    if version not in VERSIONS:
+        raise reference.Refused("version", f"unsupported CVSS version: {version}", part=version)
+    return setting.build(VERSIONS[version], components)
+
+
+def is_complete(canonical):
+    """Whether a vector has all base metrics, of which one of v3 may lack some."""
+    return not canonical.startswith("CVSS:3.") or all(f"/{name}:" in canonical for name in v3.BASE)
 
 
 # A character, as SQLite counts them also in what is not UTF-8.
@@ -72,25 +110,36 @@ def found(text):
     """The vectors that are mentioned in a text, with their places in characters and in bytes."""
     by_characters, by_bytes = [], []
     for place, mention, answer in finding.found(text):
-        vector = "-" if answer.startswith("error: ") else answer.split(" ")[0]
-        told = f"{mention.decode()} {vector}"
+        told = mention.decode()
+        vector = answer.split(" ")[0]
+        told += " - -" if vector == "error:" else f" {vector} {'complete' if is_complete(vector) else 'incomplete'}"
         by_characters.append(f"{len(CHARACTER.findall(text[:place])) + 1} {told}")
         by_bytes.append(f"{place + 1} {told}")
-    return [";".join(by_characters) or None, ";".join(by_bytes) or None]
+    return {"found": ";".join(by_characters) or None, "found_bytes": ";".join(by_bytes) or None}
 
 
-def answers(text, row=None):
-    """What is answered to a text, of which the scores may be known."""
-    return answers_to_all(text, row) + found(text)
+def called(draw, canonical, version, refused):
+    """What is answered to metrics that are drawn: set in a vector, or refused as its text is; and built into one."""
+    given, asked = some_metrics(draw, version), some_version(draw)
+    components = some_components(draw, asked)
+    told = {"metrics": given, "asked": asked, "components": components}
+    if refused:
+        told["metrics_reason"], told["metrics_refusal"] = refused
+    else:
+        told["changed"], told["metrics_reason"], told["metrics_refusal"] = outcome(
+            setting.with_metrics, canonical.encode(), given)
+    told["built"], told["build_reason"], told["build_refusal"] = outcome(built, asked, components)
+    return told
 
 
-def answers_to_all(text, row):
-    """What the functions of the whole text answer."""
-    try:
-        return accepted(row or scored(reference.text_of(text)))
-    except reference.Refused as refused:
-        reason = str(refused)
-    return [None] * (len(COLUMNS) - 5) + [reason, reason]
+def answers(draw, text, row=None):
+    """What is answered to a text, of which the scores may be known, and to metrics that are drawn, if any are."""
+    own, reason, refusal = outcome(lambda: accepted(row or scored(reference.text_of(text))))
+    own = own or {"reason": reason, "refusal": refusal, "strict_reason": reason}
+    told = {"text": text, **own, **found(text)}
+    if draw:
+        told.update(called(draw, own.get("canonical"), own.get("version"), reason and (reason, refusal)))
+    return [told.get(name) for name in COLUMNS]
 
 
 def escaped(column):
@@ -103,12 +152,26 @@ def escaped(column):
     return "".join(chr(byte) if 33 <= byte < 127 and byte != 92 else f"\\x{byte:02x}" for byte in code)
 
 
+def columns_of(line):
+    """The bytes of a row's columns by their names."""
+    row = zip(COLUMNS, line.rstrip("\n").split("\t"))
+    return {name: None if column == "\\N" else text_of(column) for name, column in row}
+
+
+def is_utf8(row):
+    try:
+        return all((row[name] or b"").decode("utf-8") is not None for name in GIVEN)
+    except UnicodeDecodeError:
+        return False
+
+
 def kit():
-    """The texts of the kit, with the scores that are stored there."""
+    """The texts of the kit, with the scores that are stored there; beside one in ten are metrics."""
+    draw = random.Random(62)
     for name in ("scores.tsv", "refused.tsv"):
-        for row in read_table(ROOT / "conformance" / name):
+        for number, row in enumerate(read_table(ROOT / "conformance" / name)):
             text = text_of(row["text"])
-            yield [text, *answers(text, row if "canonical" in row else None)]
+            yield answers(draw if number % 10 == 0 else None, text, row if "canonical" in row else None)
 
 
 BYTES = [bytes([code]) for code in b"/:.CVSS:AVNHLPUXacegix0349 \t\n\r\"'\\`{}()-\x00\x01\x7f\x80\xc3\xa9\xff"]
@@ -142,13 +205,65 @@ def hostile(draw):
     return line if kind < 5 else spoilt(draw, line)
 
 
+def some_version(draw):
+    return draw.choice(("5.0", "3", "", "v3.1")) if draw.random() < 0.03 else draw.choice(list(VERSIONS))
+
+
+def in_some_form(draw, pieces):
+    """Components in any order and case, some of them spoilt."""
+    draw.shuffle(pieces)
+    text = "/".join(pieces)
+    text = draw.choice((text, text, text.lower(), lines.in_some_case(draw, text))).encode()
+    return spoilt(draw, text) if draw.random() < 0.2 else text
+
+
+def some_metrics(draw, version):
+    """Components of a version's metrics, of any group; now and then of another version, or one metric twice."""
+    if version is None or draw.random() < 0.05:
+        version = draw.choice(list(VERSIONS))
+    metrics = setting.VERSIONS[VERSIONS[version]][2]
+    names = draw.sample(list(metrics), draw.choice((0, 1, 1, 1, 2, 2, 3, 5, len(metrics))))
+    names += names[:1] if draw.random() < 0.05 else []
+    return in_some_form(draw, [f"{name}:{draw.choice(list(metrics[name][1]))}" for name in names])
+
+
+def some_components(draw, version):
+    """Components of a vector of a version; now and then of another one, or without the first."""
+    names = {"2.0": "v2", "3.0": "v3.0", "3.1": "v3.1", "4.0": "v4"}
+    drawn = "all" if draw.random() < 0.1 else names.get(version, "all")
+    pieces = lines.line(draw, drawn, draw.choice(("base", "full"))).split("/")
+    pieces = pieces[pieces[0].startswith("CVSS:"):]
+    return in_some_form(draw, pieces[draw.random() < 0.1:])
+
+
 def rows(texts):
     if texts == "kit":
         return kit()
     draw = random.Random(39)
-    return ([text, *answers(text)] for text in (hostile(draw) for _ in range(int(texts))))
+    return (answers(draw, hostile(draw)) for _ in range(int(texts)))
+
+
+def calls(count):
+    """Rows of texts that are mostly accepted, since metrics are set in these alone."""
+    draw = random.Random(62)
+    for _ in range(count):
+        line = lines.line(draw, "all", draw.choice(("base", "full", "any", "refused"))).encode()
+        row = dict(zip(COLUMNS, answers(draw, spoilt(draw, line) if draw.random() < 0.1 else line)))
+        yield [row[name] for name in ("text", *CALLS)]
+
+
+def main(asked, count=None):
+    if asked == "calls":
+        for row in calls(int(count)):
+            print("\t".join(map(escaped, row)))
+    elif asked == "columns":
+        print(", ".join(f"{name} {'numeric' if name in SCORES else 'text'}" for name in COLUMNS))
+    elif asked == "utf-8":
+        sys.stdout.writelines(line for line in sys.stdin if is_utf8(columns_of(line)))
+    else:
+        for row in rows(asked):
+            print("\t".join(map(escaped, row)))
 
 
 if __name__ == "__main__":
-    for told in rows(sys.argv[1]):
-        print("\t".join(map(escaped, told)))
+    main(*sys.argv[1:])

@@ -78,9 +78,7 @@ static void answer_text(sqlite3_context *context, int count, sqlite3_value **val
         }
         length = function->text(&question, text, size);
     }
-    if (length > size || lacked_memory(text, length))
-        sqlite3_result_error_nomem(context);
-    else if (length > 0)
+    if (length > 0)
         sqlite3_result_text64(context, text, length, SQLITE_TRANSIENT, SQLITE_UTF8);
     if (length > 0 && function->is_json)
         sqlite3_result_subtype(context, JSON_SUBTYPE);
@@ -94,7 +92,7 @@ static void answer_score(sqlite3_context *context, int count, sqlite3_value **va
     Question question;
     if (!read_question(context, count, values, &question))
         return;
-    int32_t tenths = function->number(question.text);
+    int32_t tenths = function->number(&question);
     if (tenths != CVSS_NOTHING)
         sqlite3_result_double(context, tenths / 10.0);
 }
@@ -105,23 +103,25 @@ static void answer_number(sqlite3_context *context, int count, sqlite3_value **v
     Question question;
     if (!read_question(context, count, values, &question))
         return;
-    int32_t number = function->number(question.text);
+    int32_t number = function->number(&question);
     if (number != CVSS_NOTHING)
         sqlite3_result_int(context, number);
 }
 
-/* A name that no version has is an error: it is a mistake of the query, and of no row. */
-static void answer_metric(sqlite3_context *context, int count, sqlite3_value **values)
+/* A name that is unknown is an error: it is a mistake of the query, and of no row. */
+static void answer_named(sqlite3_context *context, int count, sqlite3_value **values)
 {
+    const Function *function = sqlite3_user_data(context);
+    bool is_score = function->number != NULL;
     Question question;
     if (!read_question(context, count, values, &question))
         return;
-    if (is_metric_name(&question.second)) {
-        answer_text(context, count, values);
+    if (is_score ? nomenclature_number(&question.second) != CVSS_NOTHING : is_metric_name(&question.second)) {
+        (is_score ? answer_score : answer_text)(context, count, values);
         return;
     }
-    char *message = sqlite3_mprintf("no CVSS metric has the name `%.*s`", (int)question.second.length,
-                                    question.second.bytes);
+    char *message = sqlite3_mprintf("no CVSS %s has the name `%.*s`", is_score ? "nomenclature" : "metric",
+                                    (int)question.second.length, question.second.bytes);
     if (message == NULL)
         sqlite3_result_error_nomem(context);
     else
@@ -147,14 +147,22 @@ static const Function functions[] = {
     {"cvss_is_complete", answer_number, NULL, is_complete, 1, false},
     {"cvss_severity", answer_text, put_severity, NULL, 1, false},
     {"cvss_severity_rank", answer_number, NULL, severity_rank, 1, false},
+    {"cvss_severity_of", answer_text, put_severity_of, NULL, 1, false},
+    {"cvss_severity_of", answer_text, put_severity_by, NULL, 2, false},
     {"cvss_nomenclature", answer_text, put_nomenclature, NULL, 1, false},
-    {"cvss_metric", answer_metric, put_metric, NULL, 2, false},
+    {"cvss_nomenclature_score", answer_named, NULL, nomenclature_score, 2, false},
+    {"cvss_metric", answer_named, put_metric, NULL, 2, false},
+    {"cvss_metric_title", answer_named, put_metric_title, NULL, 2, false},
+    {"cvss_value_title", answer_named, put_value_title, NULL, 2, false},
     {"cvss_without_undefined", answer_text, put_without_undefined, NULL, 1, false},
-    {"cvss_with", answer_text, put_overridden, NULL, 2, false},
+    {"cvss_with", answer_text, put_with, NULL, 2, false},
+    {"cvss_build", answer_text, put_built, NULL, 2, false},
+    {"cvss_build_reason", answer_text, put_build_reason, NULL, 2, false},
     {"cvss_record", answer_text, put_record, NULL, 1, true},
     {"cvss_account", answer_text, put_account, NULL, 1, true},
     {"cvss_reason", answer_text, put_reason, NULL, 1, false},
-    {"cvss_reason", answer_text, put_override_reason, NULL, 2, false},
+    {"cvss_reason", answer_text, put_with_reason, NULL, 2, false},
+    {"cvss_strict_reason", answer_text, put_strict_reason, NULL, 1, false},
 };
 
 __attribute__((visibility("default"))) int sqlite3_cvss_init(sqlite3 *database, char **message,

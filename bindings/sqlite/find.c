@@ -9,7 +9,7 @@
 
 SQLITE_EXTENSION_INIT3
 
-enum { PLACE, GIVEN, VECTOR, ARGUMENT };
+enum { PLACE, GIVEN, VECTOR, IS_COMPLETE, ARGUMENT };
 
 typedef struct Cursor {
     sqlite3_vtab_cursor base;
@@ -27,7 +27,7 @@ static int connect(sqlite3 *database, void *data, int count, const char *const *
                    char **message)
 {
     int status = sqlite3_declare_vtab(database, "CREATE TABLE found (place INTEGER, given TEXT, vector TEXT, "
-                                                "cvss_text HIDDEN)");
+                                                "is_complete INTEGER, cvss_text HIDDEN)");
     (void)data, (void)count, (void)words, (void)message;
     if (status != SQLITE_OK)
         return status;
@@ -164,6 +164,12 @@ static int column(sqlite3_vtab_cursor *base, sqlite3_context *context, int numbe
     case VECTOR:
         tell_vector(context, given, cursor->length);
         break;
+    case IS_COMPLETE: {
+        int32_t answer = is_complete(&(Question){{given, cursor->length}, {"", 0}});
+        if (answer != CVSS_NOTHING)
+            sqlite3_result_int(context, answer);
+        break;
+    }
     default:
         sqlite3_result_value(context, cursor->argument);
     }

@@ -22,14 +22,20 @@ cvss_proved.CvssError: invalid CVSSv2 AC (Access Complexity) metric: `q`
 from ._error import CvssError, Kind
 from ._find import Found, find
 from ._library import Text
-from ._vector import Nomenclature, Scores, Severities, Severity, Vector, Version, answer, answers, scores
+from ._numbers import Nomenclature, Severity, severity_of
+from ._vector import Scores, Severities, Vector, answer, answers, scores
+from ._words import Described, Group, MetricType, MetricValue, Version, metrics
 
 __version__ = "1.0.0"
 
 __all__ = [
     "CvssError",
+    "Described",
     "Found",
+    "Group",
     "Kind",
+    "MetricType",
+    "MetricValue",
     "Nomenclature",
     "Scores",
     "Severities",
@@ -40,6 +46,8 @@ __all__ = [
     "answer",
     "answers",
     "find",
+    "metrics",
     "scores",
+    "severity_of",
     "__version__",
 ]

@@ -2,6 +2,7 @@
 
 from __future__ import annotations
 
+import re
 from typing import Any, Dict, Literal, Tuple
 
 from . import _library
@@ -29,6 +30,16 @@ _KINDS: Dict[int, Kind] = {
     7: "missing metric",
     8: "not UTF-8",
 }
+# How the library's reasons begin.
+_BEGINNINGS: Dict[str, Kind] = {
+    "invalid CVSS metric group component: ": "invalid component",
+    "unknown CVSS metric name: ": "unknown metric",
+    "invalid CVSSv": "invalid value",
+    "duplicate CVSSv": "duplicate metric",
+    "missing mandatory CVSSv": "missing metric",
+    "not UTF-8": "not UTF-8",
+}
+_NAMED = re.compile(r"(?:invalid|duplicate|missing mandatory) CVSSv[234] (\w+) ")
 
 
 class CvssError(ValueError):
@@ -37,28 +48,38 @@ class CvssError(ValueError):
     `reason` is the first reason why, in words, and `kind` its kind: invalid component, invalid prefix,
     unsupported version, unknown metric, invalid value, duplicate metric, missing metric or not UTF-8.
     `metric` is the abbreviation of the metric that has an invalid value, occurs twice or is missing; of other
-    kinds it is empty.
+    kinds it is empty. `value` is the part of the text that the reason quotes: the component, the prefix, the version,
+    the unknown name or the invalid value; of other kinds it is empty.
 
     >>> from cvss_proved import Vector
     >>> try:
     ...     Vector("CVSS:3.1/AV:Q")
     ... except CvssError as error:
-    ...     (error.kind, error.metric, error.reason)
-    ('invalid value', 'AV', 'invalid CVSSv3 AV (Attack Vector) metric: `Q`')
+    ...     (error.kind, error.metric, error.value, error.reason)
+    ('invalid value', 'AV', 'Q', 'invalid CVSSv3 AV (Attack Vector) metric: `Q`')
     """
 
-    def __init__(self, reason: str, kind: Kind, metric: str) -> None:
+    def __init__(self, reason: str, kind: Kind, metric: str, value: str = "") -> None:
         super().__init__(reason)
         self.reason = reason
         self.kind = kind
         self.metric = metric
+        self.value = value
 
     @classmethod
     def of(cls, text: Text) -> CvssError:
         """The error of a text that is refused."""
         code = _library.bytes_of(text)
         kind = _KINDS[_library.refusal_kind(code)]
-        return cls(_library.reason(code), kind, _library.refusal_metric(code))
+        return cls(_library.reason(code), kind, _library.refusal_metric(code), _library.refusal_value(code))
+
+    @classmethod
+    def of_reason(cls, reason: str) -> CvssError:
+        """The error of metrics that are refused, by the library's reason, which the index of a metric may precede."""
+        words = re.sub(r"\Ametric [0-9]+: ", "", reason)
+        kind = next(kind for beginning, kind in _BEGINNINGS.items() if words.startswith(beginning))
+        named = _NAMED.match(words)
+        return cls(words, kind, named[1] if named else "", words.partition("`")[2].rpartition("`")[0])
 
     @classmethod
     def missing(cls, metric: str) -> CvssError:

@@ -30,15 +30,6 @@ NOMENCLATURE = 7
 IS_COMPLETE = 8
 
 
-class Metric(ctypes.Structure):
-    """The struct CvssMetric of cvss.h."""
-
-    _fields_ = [("name", ctypes.c_char * 8), ("value", ctypes.c_char * 8)]
-
-
-_MOST_METRICS = 32
-
-
 def _places() -> List[Path]:
     named = os.environ.get("CVSS_LIBRARY")
     if named is not None:
@@ -73,14 +64,21 @@ def _declared(library: ctypes.CDLL) -> ctypes.CDLL:
         library.cvss_account,
         library.cvss_reason,
         library.cvss_refusal_metric,
+        library.cvss_refusal_value,
         library.cvss_answer,
     ):
         call.argtypes = text + [ctypes.c_char_p, ctypes.c_size_t]
         call.restype = ctypes.c_size_t
-    library.cvss_overridden.argtypes = text + text + [ctypes.c_char_p, ctypes.c_size_t]
-    library.cvss_overridden.restype = ctypes.c_size_t
-    library.cvss_metrics.argtypes = text + [ctypes.POINTER(Metric), ctypes.c_size_t]
-    library.cvss_metrics.restype = ctypes.c_size_t
+    for call in (library.cvss_overridden, library.cvss_with, library.cvss_with_reason):
+        call.argtypes = text + text + [ctypes.c_char_p, ctypes.c_size_t]
+        call.restype = ctypes.c_size_t
+    for call in (library.cvss_build, library.cvss_build_reason):
+        call.argtypes = [ctypes.c_int32, *text, ctypes.c_char_p, ctypes.c_size_t]
+        call.restype = ctypes.c_size_t
+    library.cvss_nomenclature_scores.argtypes = text + [ctypes.c_int32 * 4]
+    library.cvss_nomenclature_scores.restype = ctypes.c_bool
+    library.cvss_rating.argtypes = [ctypes.c_int32, ctypes.c_int32]
+    library.cvss_rating.restype = ctypes.c_int32
     many = text + [ctypes.c_char_p, ctypes.c_size_t]
     library.cvss_answers.argtypes = many + [ctypes.POINTER(ctypes.c_size_t)]
     library.cvss_answers.restype = ctypes.c_size_t
@@ -114,11 +112,15 @@ def bytes_of(text: Text) -> bytes:
     raise TypeError(f"a text is str, bytes, bytearray or memoryview, and not {type(text).__name__}")
 
 
-def _written(call: Callable[..., int], text: bytes, size: int) -> str:
-    """What a call writes into a buffer that is large enough; tried first with one of this size."""
+def _written(size: int, call: Callable[..., int], *given: Union[bytes, int]) -> str:
+    """What a call writes into a buffer that is large enough; tried first with one of this size. A text is given to the
+    call with its length."""
+    arguments: List[Union[bytes, int]] = []
+    for argument in given:
+        arguments += [argument, len(argument)] if isinstance(argument, bytes) else [argument]
     while True:
         buffer = ctypes.create_string_buffer(size)
-        length = call(text, len(text), buffer, size)
+        length = call(*arguments, buffer, size)
         if length <= size:
             return ctypes.string_at(buffer, length).decode("utf-8", "replace")
         size = length
@@ -155,41 +157,60 @@ def read(text: bytes) -> Optional[Tuple[Tuple[int, ...], bytes]]:
     return told
 
 
-def metrics(text: bytes) -> List[Tuple[str, str]]:
-    """The metrics of the vector that a text denotes, as pairs of name and value, or none."""
-    array = (Metric * _MOST_METRICS)()
-    count = _library.cvss_metrics(text, len(text), array, _MOST_METRICS)
-    return [(metric.name.decode(), metric.value.decode()) for metric in array[:count]]
-
-
 def without_undefined(text: bytes) -> str:
     """The canonical text of the vector that a text denotes, without its undefined metrics, or nothing."""
-    return _written(_library.cvss_without_undefined, text, len(text) + 1)
+    return _written(len(text) + 1, _library.cvss_without_undefined, text)
 
 
 def overridden(text: bytes, overrides: bytes) -> str:
     """The canonical text of the vector of v4.0 that a text denotes, with overrides in place, or nothing."""
+    return _written(len(text) + len(overrides) + 1, _library.cvss_overridden, text, overrides)
 
-    def call(text: bytes, length: int, buffer: object, size: int) -> int:
-        told = _library.cvss_overridden(text, length, overrides, len(overrides), buffer, size)
-        return int(told)
 
-    return _written(call, text, len(text) + len(overrides) + 1)
+def with_metrics(text: bytes, metrics: bytes) -> str:
+    """The canonical text of the vector that a text denotes, with these metrics set, or nothing."""
+    return _written(len(text) + len(metrics) + 1, _library.cvss_with, text, metrics)
+
+
+def with_reason(text: bytes, metrics: bytes) -> str:
+    """Why metrics cannot be set, or nothing."""
+    return _written(len(metrics) + 120, _library.cvss_with_reason, text, metrics)
+
+
+def built(version: int, metrics: bytes) -> str:
+    """The canonical text of the vector of a version with these metrics, or nothing."""
+    return _written(len(metrics) + 10, _library.cvss_build, version, metrics)
+
+
+def build_reason(version: int, metrics: bytes) -> str:
+    """Why metrics make no vector of a version, or nothing."""
+    return _written(len(metrics) + 120, _library.cvss_build_reason, version, metrics)
+
+
+def nomenclature_scores(text: bytes) -> List[int]:
+    """The four scores of the vector of v4.0 that a text denotes, in tenths and in the order of nomenclatures, or none."""
+    tenths = (ctypes.c_int32 * 4)()
+    return list(tenths) if _library.cvss_nomenclature_scores(text, len(text), tenths) else []
+
+
+def rating(version: int, tenths: int) -> int:
+    """The number of the rating of a score in tenths, by the bounds of a version."""
+    return int(_library.cvss_rating(version, tenths))
 
 
 def record(text: bytes) -> str:
     """The record of the vector that a text denotes, or nothing."""
-    return _written(_library.cvss_record, text, 2048)
+    return _written(2048, _library.cvss_record, text)
 
 
 def account(text: bytes) -> str:
     """The account of the vector that a text denotes, or nothing."""
-    return _written(_library.cvss_account, text, 2048)
+    return _written(2048, _library.cvss_account, text)
 
 
 def reason(text: bytes) -> str:
     """Why a text is refused, or nothing."""
-    return _written(_library.cvss_reason, text, len(text) + 120)
+    return _written(len(text) + 120, _library.cvss_reason, text)
 
 
 def refusal_kind(text: bytes) -> int:
@@ -199,12 +220,17 @@ def refusal_kind(text: bytes) -> int:
 
 def refusal_metric(text: bytes) -> str:
     """The metric that a refusal blames, or nothing."""
-    return _written(_library.cvss_refusal_metric, text, 8)
+    return _written(8, _library.cvss_refusal_metric, text)
+
+
+def refusal_value(text: bytes) -> str:
+    """The part of a text that the reason quotes, or nothing."""
+    return _written(len(text) + 1, _library.cvss_refusal_value, text)
 
 
 def answer(text: bytes) -> str:
     """The line that the program cvss_tool answers."""
-    return _written(_library.cvss_answer, text, len(text) + 120)
+    return _written(len(text) + 120, _library.cvss_answer, text)
 
 
 def answers(lines: bytes) -> bytes:

@@ -7,35 +7,20 @@ import re
 from collections import abc
 from functools import total_ordering
 from types import MemberDescriptorType
-from typing import Any, Dict, Iterable, List, Literal, Mapping, NamedTuple, Optional, Tuple, Type, TypeVar
+from typing import Any, Dict, Iterable, List, Mapping, NamedTuple, Optional, Tuple, Type, TypeVar
 
-from . import _library
+from . import _library, _words
 from ._error import CvssError
 from ._library import NOTHING, Text
-
-Version = Literal["2.0", "3.0", "3.1", "4.0"]
-"""A version of the standard."""
-
-Severity = Literal["none", "low", "medium", "high", "critical"]
-"""A qualitative severity rating."""
-
-Nomenclature = Literal["CVSS-B", "CVSS-BE", "CVSS-BT", "CVSS-BTE"]
-"""Which groups of metrics a score of v4.0 rests on: base, environmental, threat."""
-
-_VERSIONS: Dict[int, Version] = {20: "2.0", 30: "3.0", 31: "3.1", 40: "4.0"}
-_SEVERITIES: Tuple[Severity, ...] = ("none", "low", "medium", "high", "critical")
-_NOMENCLATURES: Tuple[Nomenclature, ...] = ("CVSS-B", "CVSS-BE", "CVSS-BT", "CVSS-BTE")
-# In the order of CVSS v3.1, section 6.
-_BASE_OF_V3 = ("AV", "AC", "PR", "UI", "S", "C", "I", "A")
-_ENVIRONMENTAL = frozenset(
-    "CDP TD CR IR AR MAV MAC MAT MPR MUI MS MC MI MA MVC MVI MVA MSC MSI MSA".split()
-)
+from ._numbers import NOMENCLATURES, SEVERITIES, VERSIONS, Nomenclature, Severity, number_of
+from ._words import Described, Version
 
 _Own = TypeVar("_Own", bound="Vector")
 
 
 class Scores(NamedTuple):
-    """The three scores of a vector. v4.0 has one score, here `base`, and no others.
+    """The three scores of a vector. v4.0 has one score, here `base`, and no others: it is the score of the vector as it is,
+    with all its metrics. `Vector.nomenclature_scores` has the score of the base metrics alone.
 
     >>> Vector("CVSS:4.0/AV:N/AC:L/AT:N/PR:N/UI:N/VC:H/VI:H/VA:H/SC:H/SI:H/SA:H").scores
     Scores(base=10.0, temporal=None, environmental=None)
@@ -63,7 +48,7 @@ def _score(tenths: int) -> Optional[float]:
 
 
 def _severity(number: int) -> Optional[Severity]:
-    return None if number == NOTHING else _SEVERITIES[number]
+    return None if number == NOTHING else SEVERITIES[number]
 
 
 @total_ordering
@@ -104,8 +89,9 @@ class Vector:
         self._numbers, self._code = told
         self._decoded = None
         if strict and not self.is_complete:
-            own = dict(_library.metrics(self._code))
-            raise CvssError.missing(next(name for name in _BASE_OF_V3 if name not in own))
+            own = self.metrics
+            base = (metric.name for metric in _words.metrics(self.version) if metric.is_mandatory)
+            raise CvssError.missing(next(name for name in base if name not in own))
 
     @classmethod
     def from_rh_vector(cls: Type[_Own], text: str) -> _Own:
@@ -130,6 +116,23 @@ class Vector:
             raise ValueError(f"the score of {vector} is {vector.score}, and not {score}")
         return vector
 
+    @classmethod
+    def from_metrics(
+        cls: Type[_Own], version: Version, metrics: Optional[Mapping[str, str]] = None, /, **values: str
+    ) -> _Own:
+        """The vector of a version with these metrics, as a mapping or by name, in any order.
+
+        What is refused, and a mandatory metric that is missing, is a `CvssError`. A vector of v3 may lack base metrics.
+
+        >>> Vector.from_metrics("3.1", A="H", I="H", C="H", S="U", UI="N", PR="N", AC="L", AV="N").text
+        'CVSS:3.1/AV:N/AC:L/PR:N/UI:N/S:U/C:H/I:H/A:H'
+        """
+        number, given = number_of(version), _joined(metrics, values)
+        text = _library.built(number, given)
+        if not text:
+            raise CvssError.of_reason(_library.build_reason(number, given))
+        return cls(text)
+
     @property
     def _text(self) -> str:
         """The canonical text, which is made at its first use."""
@@ -146,7 +149,7 @@ class Vector:
     @property
     def version(self) -> Version:
         """The version of the standard: 2.0, 3.0, 3.1 or 4.0."""
-        return _VERSIONS[self._numbers[_library.VERSION]]
+        return VERSIONS[self._numbers[_library.VERSION]]
 
     @property
     def tenths(self) -> int:
@@ -161,7 +164,7 @@ class Vector:
     @property
     def severity(self) -> Severity:
         """The rating of the score: none, low, medium, high or critical."""
-        return _SEVERITIES[self._numbers[_library.SEVERITY]]
+        return SEVERITIES[self._numbers[_library.SEVERITY]]
 
     @property
     def scores(self) -> Scores:
@@ -183,7 +186,20 @@ class Vector:
     def nomenclature(self) -> Optional[Nomenclature]:
         """Which groups of metrics a score of v4.0 rests on; None in v2 and v3."""
         number = self._numbers[_library.NOMENCLATURE]
-        return None if number == NOTHING else _NOMENCLATURES[number]
+        return None if number == NOTHING else NOMENCLATURES[number]
+
+    @property
+    def nomenclature_scores(self) -> Dict[Nomenclature, float]:
+        """Of v4.0 what the score would be if only these groups of metrics counted; in v2 and v3 it is empty.
+
+        CVSS-B is the score of the base metrics alone, and CVSS-BTE that of all metrics, which is `score`.
+
+        >>> vector = Vector("CVSS:4.0/AV:N/AC:L/AT:N/PR:N/UI:N/VC:H/VI:H/VA:H/SC:N/SI:N/SA:N/E:U")
+        >>> vector.score, vector.nomenclature, vector.nomenclature_scores["CVSS-B"]
+        (8.1, 'CVSS-BT', 9.3)
+        """
+        tenths = _library.nomenclature_scores(self._code)
+        return {name: own / 10 for name, own in zip(NOMENCLATURES, tenths)}
 
     @property
     def is_complete(self) -> bool:
@@ -201,7 +217,22 @@ class Vector:
         >>> Vector("AV:N/AC:L/Au:N/C:N/I:N/A:C").metrics
         {'AV': 'N', 'AC': 'L', 'Au': 'N', 'C': 'N', 'I': 'N', 'A': 'C'}
         """
-        return dict(_library.metrics(self._code))
+        words = self._text.replace("/", ":").split(":")
+        # a prefix is two words too
+        first = 2 if words[0] == "CVSS" else 0
+        return dict(zip(words[first::2], words[first + 1 :: 2]))
+
+    @property
+    def described(self) -> List[Described]:
+        """Each metric that the vector has with its value, and their names in words, in the order of the text.
+
+        >>> for metric, value in Vector("AV:N/AC:L/Au:N/C:N/I:N/A:C").described[:2]:
+        ...     print(metric.title, "is", value.title)
+        Access Vector is Network
+        Access Complexity is Low
+        """
+        known = _words.by_letters(self.version)
+        return [known[letters] for letters in self.metrics.items()]
 
     def without_undefined(self: _Own) -> _Own:
         """The vector without the metrics that are not defined (`X`, in v2 `ND`): it has the same scores.
@@ -217,7 +248,7 @@ class Vector:
     def record(self) -> Dict[str, Any]:
         """The JSON object of FIRST's schema of the version: the text, the metrics, the scores and their ratings.
 
-        Where there is no memory for it, this is a `MemoryError`.
+        Of v4.0 `baseScore` is the score of the vector as it is, with all its metrics.
 
         >>> record = Vector("AV:N/AC:L/Au:N/C:N/I:N/A:C").record()
         >>> record["version"], record["accessVector"], record["baseScore"]
@@ -238,6 +269,22 @@ class Vector:
         ('001210', 7.8, 0.05, 7.75, 7.8)
         """
         return _object(_library.account(self._code))
+
+    def replace(self: _Own, metrics: Optional[Mapping[str, str]] = None, /, **values: str) -> _Own:
+        """The vector with these metrics, as a mapping or by name, in place of its own or beside them.
+
+        Any metric of the version can be set. In v3 and v4.0 the names and values may be in any ASCII case. `X` and `ND`
+        are values like others: they do not remove a metric. What is refused is a `CvssError`.
+
+        >>> vector = Vector("CVSS:4.0/AV:N/AC:L/AT:N/PR:N/UI:N/VC:H/VI:H/VA:H/SC:N/SI:N/SA:N")
+        >>> vector.score, vector.replace(E="P").score, vector.replace({"AV": "P", "E": "U"}).score
+        (9.3, 8.9, 4.0)
+        """
+        given = _joined(metrics, values)
+        text = _library.with_metrics(self._code, given)
+        if not text:
+            raise CvssError.of_reason(_library.with_reason(self._code, given))
+        return type(self)(text)
 
     def with_overrides(self: _Own, overrides: Mapping[str, str]) -> _Own:
         """The vector with an organisation's environmental metrics in place of its own, or beside them.
@@ -311,9 +358,7 @@ def _state_of_subclass(vector: Vector) -> Tuple[Optional[Dict[str, Any]], Dict[s
 
 
 def _object(told: str) -> Dict[str, Any]:
-    """The JSON object that the library tells, or that there was no memory for it."""
-    if not told.startswith("{"):
-        raise MemoryError(told)
+    """The JSON object that the library returns."""
     members: Dict[str, Any] = json.loads(told)
     return members
 
@@ -322,17 +367,35 @@ def _name_of(component: str) -> str:
     return component.split(":")[0]
 
 
+def _check_mapping(metrics: Mapping[str, str]) -> None:
+    """What is no mapping of `str` to `str` is a `TypeError`."""
+    if not isinstance(metrics, abc.Mapping):
+        kind = type(metrics).__name__
+        raise TypeError(f'metrics are a mapping of names to values, as {{"MSI": "S"}}, and not {kind}')
+    for name, value in metrics.items():
+        if not (isinstance(name, str) and isinstance(value, str)):
+            raise TypeError(f"the name and the value of a metric are str, and not {name!r} and {value!r}")
+
+
+def _joined(metrics: Optional[Mapping[str, str]], values: Mapping[str, str]) -> bytes:
+    """The components of metrics. A slash would make two of one, so it is refused as in a component."""
+    for given in (metrics, values):
+        if given is not None:
+            _check_mapping(given)
+    components = [f"{name}:{value}" for name, value in {**(metrics or {}), **values}.items()]
+    for component in components:
+        if "/" in component:
+            raise CvssError.of_reason(f"invalid CVSS metric group component: `{component}`")
+    return _library.bytes_of("/".join(components))
+
+
 def _components_of(overrides: Mapping[str, str]) -> List[str]:
     """The components of environmental metrics, in capitals."""
-    if not isinstance(overrides, abc.Mapping):
-        told = type(overrides).__name__
-        raise TypeError(f'overrides are a mapping of names to values, as {{"MSI": "S"}}, and not {told}')
+    _check_mapping(overrides)
     for name, value in overrides.items():
-        if not (isinstance(name, str) and isinstance(value, str)):
-            raise TypeError(f"the name and the value of an override are str, and not {name!r} and {value!r}")
         # capitals of other letters may be letters of the names, as that of \u017f is S
         is_word = name.isascii() and value.isascii() and value.isalnum()
-        if not is_word or name.upper() not in _ENVIRONMENTAL:
+        if not is_word or name.upper() not in _words.environmental():
             raise ValueError(f"{name}:{value} is no environmental metric")
     return [f"{name}:{value}".upper() for name, value in overrides.items()]
 

@@ -58,11 +58,44 @@ extern "C" {
         buffer: *mut u8,
         size: usize,
     ) -> usize;
+    fn cvss_with(
+        text: *const u8,
+        length: usize,
+        metrics: *const u8,
+        metrics_length: usize,
+        buffer: *mut u8,
+        size: usize,
+    ) -> usize;
+    fn cvss_with_reason(
+        text: *const u8,
+        length: usize,
+        metrics: *const u8,
+        metrics_length: usize,
+        buffer: *mut u8,
+        size: usize,
+    ) -> usize;
+    fn cvss_build(
+        version: i32,
+        metrics: *const u8,
+        metrics_length: usize,
+        buffer: *mut u8,
+        size: usize,
+    ) -> usize;
+    fn cvss_build_reason(
+        version: i32,
+        metrics: *const u8,
+        metrics_length: usize,
+        buffer: *mut u8,
+        size: usize,
+    ) -> usize;
+    fn cvss_nomenclature_scores(text: *const u8, length: usize, scores: *mut i32) -> bool;
+    fn cvss_rating(version: i32, tenths: i32) -> i32;
     fn cvss_record(text: *const u8, length: usize, buffer: *mut u8, size: usize) -> usize;
     fn cvss_account(text: *const u8, length: usize, buffer: *mut u8, size: usize) -> usize;
     fn cvss_reason(text: *const u8, length: usize, buffer: *mut u8, size: usize) -> usize;
     fn cvss_refusal_kind(text: *const u8, length: usize) -> i32;
     fn cvss_refusal_metric(text: *const u8, length: usize, buffer: *mut u8, size: usize) -> usize;
+    fn cvss_refusal_value(text: *const u8, length: usize, buffer: *mut u8, size: usize) -> usize;
     fn cvss_answer(text: *const u8, length: usize, buffer: *mut u8, size: usize) -> usize;
     fn cvss_answers(
         texts: *const u8,
@@ -143,6 +176,78 @@ pub(crate) fn overridden(text: &[u8], overrides: &[u8]) -> Vec<u8> {
     })
 }
 
+/// What a call writes of a text and of metrics.
+type OfMetrics = unsafe extern "C" fn(*const u8, usize, *const u8, usize, *mut u8, usize) -> usize;
+
+fn of_metrics(call: OfMetrics, text: &[u8], metrics: &[u8]) -> Vec<u8> {
+    written(text.len() + metrics.len() + 120, |buffer| {
+        // SAFETY: as above; each call of this type reads two slices and writes into one.
+        unsafe {
+            call(
+                text.as_ptr(),
+                text.len(),
+                metrics.as_ptr(),
+                metrics.len(),
+                buffer.as_mut_ptr(),
+                buffer.len(),
+            )
+        }
+    })
+}
+
+/// The canonical text of the vector that a text denotes, with these metrics set, or nothing.
+pub(crate) fn with(text: &[u8], metrics: &[u8]) -> Vec<u8> {
+    of_metrics(cvss_with, text, metrics)
+}
+
+/// Why metrics cannot be set, or nothing.
+pub(crate) fn with_reason(text: &[u8], metrics: &[u8]) -> Vec<u8> {
+    of_metrics(cvss_with_reason, text, metrics)
+}
+
+/// What a call writes of a version and of metrics.
+type OfVersion = unsafe extern "C" fn(i32, *const u8, usize, *mut u8, usize) -> usize;
+
+fn of_version(call: OfVersion, version: i32, metrics: &[u8]) -> Vec<u8> {
+    written(metrics.len() + 120, |buffer| {
+        // SAFETY: as above; each call of this type reads a slice and writes into one.
+        unsafe {
+            call(
+                version,
+                metrics.as_ptr(),
+                metrics.len(),
+                buffer.as_mut_ptr(),
+                buffer.len(),
+            )
+        }
+    })
+}
+
+/// The canonical text of the vector of a version with these metrics, or nothing.
+pub(crate) fn build(version: i32, metrics: &[u8]) -> Vec<u8> {
+    of_version(cvss_build, version, metrics)
+}
+
+/// Why metrics make no vector of a version, or nothing.
+pub(crate) fn build_reason(version: i32, metrics: &[u8]) -> Vec<u8> {
+    of_version(cvss_build_reason, version, metrics)
+}
+
+/// The scores of the groups of the vector of v4.0 that a text denotes, in tenths.
+pub(crate) fn nomenclature_scores(text: &[u8]) -> Option<[i32; 4]> {
+    let mut scores = [0; 4];
+    // SAFETY: the pointers are those of a slice and of an array of four numbers that live through
+    // the call and do not overlap.
+    let is_v4 = unsafe { cvss_nomenclature_scores(text.as_ptr(), text.len(), scores.as_mut_ptr()) };
+    is_v4.then_some(scores)
+}
+
+/// The number of the rating of a score in tenths, by the bounds of a version.
+pub(crate) fn rating(version: i32, tenths: i32) -> i32 {
+    // SAFETY: the call takes no pointer.
+    unsafe { cvss_rating(version, tenths) }
+}
+
 /// The record of the vector that a text denotes, or nothing.
 pub(crate) fn record(text: &[u8]) -> Vec<u8> {
     written(1 << 11, |buffer| {
@@ -178,6 +283,14 @@ pub(crate) fn refusal_metric(text: &[u8]) -> Vec<u8> {
     written(4, |buffer| {
         // SAFETY: as above.
         unsafe { cvss_refusal_metric(text.as_ptr(), text.len(), buffer.as_mut_ptr(), buffer.len()) }
+    })
+}
+
+/// The part of a text that the reason quotes, or nothing.
+pub(crate) fn refusal_value(text: &[u8]) -> Vec<u8> {
+    written(text.len(), |buffer| {
+        // SAFETY: as above.
+        unsafe { cvss_refusal_value(text.as_ptr(), text.len(), buffer.as_mut_ptr(), buffer.len()) }
     })
 }
 

@@ -17,8 +17,9 @@
 //! # Ok::<(), cvss_proved::Refused>(())
 //! ```
 //!
-//! With the feature `serde`, which needs the crate of this name, [`Cvss`], [`Severity`], [`Version`] and
-//! [`Nomenclature`] are `Serialize` and `Deserialize`, as texts, and [`Score`] is, as a number.
+//! With the feature `serde`, which needs the crate of this name, [`Cvss`], [`Severity`], [`Version`],
+//! [`Nomenclature`] and [`Group`] are `Serialize` and `Deserialize`, as texts, and [`Score`] is, as a
+//! number.
 #![deny(missing_docs)]
 
 mod calls;
@@ -27,12 +28,15 @@ mod numbers;
 mod refused;
 #[cfg(feature = "serde")]
 mod serialized;
+mod table;
 mod vector;
+mod words;
 
 pub use find::{find, Mention, Mentions};
-pub use numbers::{Nomenclature, Score, Severity, UnknownName, Version};
+pub use numbers::{Group, Nomenclature, Score, Severity, UnknownName, Version};
 pub use refused::{OverrideError, Refused, RefusedKind};
 pub use vector::{Cvss, Metric};
+pub use words::{metrics, MetricType, MetricValue};
 
 /// The line that the program `cvss_tool` answers to a text, which need not be UTF-8, without the
 /// newline: the canonical text, the score and its rating, or `error: ` and the reason.

@@ -1,5 +1,6 @@
 //! What the library's numbers stand for.
 
+use crate::calls;
 use std::fmt;
 use std::str::FromStr;
 
@@ -85,6 +86,15 @@ impl Version {
             _ => Version::V40,
         }
     }
+
+    pub(crate) fn number(self) -> i32 {
+        match self {
+            Version::V20 => 20,
+            Version::V30 => 30,
+            Version::V31 => 31,
+            Version::V40 => 40,
+        }
+    }
 }
 
 named! {
@@ -117,6 +127,21 @@ impl Score {
     #[must_use]
     pub fn tenths(self) -> u8 {
         self.tenths
+    }
+
+    /// The rating of the score by the bounds of a version, which v3.0, v3.1 and v4.0 share.
+    ///
+    /// ```
+    /// use cvss_proved::{Score, Severity, Version};
+    ///
+    /// let score = Score::from_tenths(98).unwrap();
+    /// assert_eq!(score.severity(Version::V40), Severity::Critical);
+    /// assert_eq!(score.severity(Version::V20), Severity::High);
+    /// ```
+    #[must_use]
+    pub fn severity(self, version: Version) -> Severity {
+        let rating = calls::rating(version.number(), i32::from(self.tenths));
+        Severity::of(rating).unwrap_or(Severity::None)
     }
 
     /// The `f64` nearest to the score.
@@ -230,4 +255,26 @@ impl Nomenclature {
 named! {
     /// Reads `CVSS-B`, `CVSS-BE`, `CVSS-BT` or `CVSS-BTE`.
     Nomenclature by str::eq: B => "CVSS-B", BE => "CVSS-BE", BT => "CVSS-BT", BTE => "CVSS-BTE"
+}
+
+/// The group of a metric: v2 and v3 have temporal metrics, and v4.0 threat and supplemental ones.
+#[derive(Clone, Copy, Debug, PartialEq, Eq, Hash)]
+#[non_exhaustive]
+pub enum Group {
+    /// What does not change with time or place, and what each vector has.
+    Base,
+    /// How well an attack is known and remedied, in v2 and v3.
+    Temporal,
+    /// How well an attack is known, in v4.0.
+    Threat,
+    /// What an organisation knows of its own systems.
+    Environmental,
+    /// What changes no score, in v4.0.
+    Supplemental,
+}
+
+named! {
+    /// Reads a group in lower case.
+    Group by str::eq: Base => "base", Temporal => "temporal", Threat => "threat",
+        Environmental => "environmental", Supplemental => "supplemental"
 }

@@ -39,6 +39,36 @@ impl RefusedKind {
             _ => RefusedKind::NotUtf8,
         }
     }
+
+    /// The kind of a reason, by the words with which it begins.
+    fn of_reason(reason: &str) -> RefusedKind {
+        let beginnings = [
+            ("invalid CVSS metric group", RefusedKind::InvalidComponent),
+            ("unknown CVSS", RefusedKind::UnknownMetric),
+            ("invalid CVSSv", RefusedKind::InvalidValue),
+            ("duplicate CVSSv", RefusedKind::DuplicateMetric),
+            ("missing mandatory CVSSv", RefusedKind::MissingMetric),
+        ];
+        let mut kinds = beginnings.into_iter();
+        let own = kinds.find(|(beginning, _)| reason.starts_with(beginning));
+        own.map_or(RefusedKind::NotUtf8, |(_, kind)| kind)
+    }
+
+    /// Whether reasons of this kind quote a part of the text.
+    fn has_value(self) -> bool {
+        !matches!(
+            self,
+            RefusedKind::DuplicateMetric | RefusedKind::MissingMetric | RefusedKind::NotUtf8
+        )
+    }
+
+    /// Whether reasons of this kind name a metric.
+    fn has_metric(self) -> bool {
+        matches!(
+            self,
+            RefusedKind::InvalidValue | RefusedKind::DuplicateMetric | RefusedKind::MissingMetric
+        )
+    }
 }
 
 /// Why a text denotes no vector: the first reason.
@@ -47,16 +77,38 @@ pub struct Refused {
     reason: String,
     kind: RefusedKind,
     metric: Option<String>,
+    value: Option<String>,
 }
 
 impl Refused {
     /// The refusal of a text that denotes no vector.
     pub(crate) fn of(text: &[u8]) -> Refused {
-        let metric = calls::text_of(calls::refusal_metric(text));
+        let kind = RefusedKind::of(calls::refusal_kind(text));
+        let metric = || calls::text_of(calls::refusal_metric(text));
+        let value = || calls::text_of(calls::refusal_value(text));
         Refused {
             reason: calls::text_of(calls::reason(text)),
-            kind: RefusedKind::of(calls::refusal_kind(text)),
-            metric: Some(metric).filter(|metric| !metric.is_empty()),
+            kind,
+            metric: kind.has_metric().then(metric),
+            value: kind.has_value().then(value),
+        }
+    }
+
+    /// The refusal of metrics by the library's reason, which the index of a metric may precede, as
+    /// `metric 0: `.
+    pub(crate) fn of_reason(reason: &str) -> Refused {
+        let words = match reason.split_once(": ") {
+            Some((index, words)) if index.starts_with("metric ") => words,
+            _ => reason,
+        };
+        let kind = RefusedKind::of_reason(words);
+        let metric = || words.split(" CVSSv").nth(1)?.split(' ').nth(1);
+        let quoted = || Some(words.split_once('`')?.1.rsplit_once('`')?.0);
+        Refused {
+            reason: words.to_string(),
+            kind,
+            metric: metric().filter(|_| kind.has_metric()).map(String::from),
+            value: quoted().filter(|_| kind.has_value()).map(String::from),
         }
     }
 
@@ -70,6 +122,7 @@ impl Refused {
             reason: format!("missing mandatory {named} metric"),
             kind: RefusedKind::MissingMetric,
             metric: Some(metric.to_string()),
+            value: None,
         }
     }
 
@@ -89,6 +142,13 @@ impl Refused {
     #[must_use]
     pub fn metric(&self) -> Option<&str> {
         self.metric.as_deref()
+    }
+
+    /// The part of the text that the reason quotes: the component, the prefix, the version, the
+    /// unknown name or the invalid value.
+    #[must_use]
+    pub fn value(&self) -> Option<&str> {
+        self.value.as_deref()
     }
 }
 

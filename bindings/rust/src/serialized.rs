@@ -1,6 +1,6 @@
 //! Vectors and names as texts, and scores as numbers, in any format of serde.
 
-use crate::{Cvss, Nomenclature, Score, Severity, Version};
+use crate::{Cvss, Group, Nomenclature, Score, Severity, Version};
 use serde::de::{Deserialize, Deserializer, Error, Unexpected, Visitor};
 use serde::ser::{Serialize, Serializer};
 use std::fmt::{self, Display, Formatter};
@@ -61,7 +61,9 @@ serialized! {
     /// As its text; with the feature `serde`.
     Version: "one of 2.0, 3.0, 3.1 and 4.0",
     /// As its text; with the feature `serde`.
-    Nomenclature: "one of CVSS-B, CVSS-BE, CVSS-BT and CVSS-BTE"
+    Nomenclature: "one of CVSS-B, CVSS-BE, CVSS-BT and CVSS-BTE",
+    /// As its text; with the feature `serde`.
+    Group: "one of base, temporal, threat, environmental and supplemental"
 }
 
 /// As a number, such as 9.8; with the feature `serde`.

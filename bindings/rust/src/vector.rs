@@ -1,6 +1,7 @@
 //! A vector, and what is known of it.
 
 use crate::calls::{self, CvssMetric, CvssScores};
+use crate::words::{is_environmental, metrics, MetricType, MetricValue};
 use crate::{Nomenclature, OverrideError, Refused, Score, Severity, Version};
 use std::cmp::Ordering;
 use std::fmt;
@@ -100,12 +101,45 @@ impl Cvss {
         if cvss.is_complete {
             return Ok(cvss);
         }
-        let metrics = cvss.metrics();
-        let is_missing = |name: &&str| metrics.iter().all(|metric| metric.name() != *name);
-        match BASE_OF_V3.into_iter().find(is_missing) {
-            Some(name) => Err(Refused::missing(name)),
+        let own = cvss.metrics();
+        let is_missing = |base: &&MetricType| own.iter().all(|metric| metric.name() != base.name);
+        let mut base = metrics(cvss.version)
+            .iter()
+            .filter(|base| base.is_mandatory);
+        match base.find(is_missing) {
+            Some(metric) => Err(Refused::missing(metric.name)),
             None => Ok(cvss),
         }
+    }
+
+    /// The vector of a version with these metrics, as pairs of name and value, in any order. A vector
+    /// of v3 may lack base metrics.
+    ///
+    /// # Errors
+    ///
+    /// The first reason why the metrics make no vector.
+    ///
+    /// ```
+    /// use cvss_proved::{Cvss, Version};
+    ///
+    /// let metrics = [("A", "C"), ("I", "N"), ("C", "N"), ("Au", "N"), ("AC", "L"), ("AV", "N")];
+    /// let cvss = Cvss::from_metrics(Version::V20, &metrics)?;
+    /// assert_eq!(cvss.as_str(), "AV:N/AC:L/Au:N/C:N/I:N/A:C");
+    /// # Ok::<(), cvss_proved::Refused>(())
+    /// ```
+    pub fn from_metrics(version: Version, metrics: &[(&str, &str)]) -> Result<Cvss, Refused> {
+        let metrics = joined(metrics)?;
+        let text = calls::build(version.number(), metrics.as_bytes());
+        let reason = || calls::build_reason(version.number(), metrics.as_bytes());
+        Cvss::of_metrics(&text, reason)
+    }
+
+    /// The vector of a text, or where that is empty, the refusal of metrics for a reason.
+    fn of_metrics(text: &[u8], reason: impl FnOnce() -> Vec<u8>) -> Result<Cvss, Refused> {
+        if text.is_empty() {
+            return Err(Refused::of_reason(&calls::text_of(reason())));
+        }
+        Cvss::parse_bytes(text)
     }
 
     fn of(text: String, scores: &CvssScores) -> Cvss {
@@ -175,6 +209,30 @@ impl Cvss {
         self.nomenclature
     }
 
+    /// Of v4.0 what the score would be if only these groups of metrics counted: with
+    /// [`Nomenclature::B`] the base metrics alone, and with [`Nomenclature::BTE`] all metrics, which
+    /// is [`Cvss::score`]. v2 and v3 have none.
+    ///
+    /// ```
+    /// use cvss_proved::{Cvss, Nomenclature};
+    ///
+    /// let text = "CVSS:4.0/AV:N/AC:L/AT:N/PR:N/UI:N/VC:H/VI:H/VA:H/SC:N/SI:N/SA:N/E:U";
+    /// let cvss = Cvss::parse(text)?;
+    /// let base = cvss.nomenclature_score(Nomenclature::B).unwrap();
+    /// assert_eq!((cvss.score().tenths(), base.tenths()), (81, 93));
+    /// # Ok::<(), cvss_proved::Refused>(())
+    /// ```
+    #[must_use]
+    pub fn nomenclature_score(&self, nomenclature: Nomenclature) -> Option<Score> {
+        let [b, be, bt, bte] = calls::nomenclature_scores(self.text.as_bytes())?;
+        Score::of(match nomenclature {
+            Nomenclature::B => b,
+            Nomenclature::BE => be,
+            Nomenclature::BT => bt,
+            Nomenclature::BTE => bte,
+        })
+    }
+
     /// Whether all base metrics are there. A text of v3 may lack some: it is scored without them.
     #[must_use]
     pub fn is_complete(&self) -> bool {
@@ -197,6 +255,26 @@ impl Cvss {
         metrics.iter().map(Metric::of).collect()
     }
 
+    /// Each metric that the vector has and its value, with their names in words, in the order of the
+    /// canonical text.
+    ///
+    /// ```
+    /// let cvss = cvss_proved::Cvss::parse("AV:N/AC:L/Au:N/C:N/I:N/A:C")?;
+    /// let (metric, value) = cvss.described()[0];
+    /// assert_eq!((metric.title, value.title), ("Access Vector", "Network"));
+    /// # Ok::<(), cvss_proved::Refused>(())
+    /// ```
+    #[must_use]
+    pub fn described(&self) -> Vec<(&'static MetricType, &'static MetricValue)> {
+        let types = metrics(self.version);
+        let described = |metric: &Metric| {
+            let own = types.iter().find(|own| own.name == metric.name())?;
+            let mut values = own.values.iter();
+            Some((own, values.find(|value| value.value == metric.value())?))
+        };
+        self.metrics().iter().filter_map(described).collect()
+    }
+
     /// The vector without the metrics that are not defined (`X`, in v2 `ND`): it has the same
     /// scores. A vector of v3 that has no others is given as it is. The nomenclature of v4.0 may
     /// become another, since it counts a metric that is given as `X`.
@@ -213,7 +291,7 @@ impl Cvss {
     }
 
     /// The record of the vector: the JSON object of FIRST's schema of its version, without spaces.
-    /// Where there was no memory for it, it is the text `out of memory`.
+    /// Of v4.0 `baseScore` is the score of the vector as it is, with all its metrics.
     ///
     /// ```
     /// let cvss = cvss_proved::Cvss::parse("AV:N/AC:L/Au:N/C:N/I:N/A:C")?;
@@ -242,6 +320,28 @@ impl Cvss {
     #[must_use]
     pub fn account(&self) -> String {
         calls::text_of(calls::account(self.text.as_bytes()))
+    }
+
+    /// The vector with these metrics, as pairs of name and value, in place of its own or beside them.
+    /// Any metric of the version can be set. In v3 and v4.0 names and values may be in any ASCII case.
+    /// `X` and `ND` are values like others: they do not remove a metric.
+    ///
+    /// # Errors
+    ///
+    /// The first reason why a metric is refused.
+    ///
+    /// ```
+    /// let text = "CVSS:4.0/AV:N/AC:L/AT:N/PR:N/UI:N/VC:H/VI:H/VA:H/SC:N/SI:N/SA:N";
+    /// let cvss = cvss_proved::Cvss::parse(text)?;
+    /// assert_eq!(cvss.with_metrics(&[("E", "P")])?.score().tenths(), 89);
+    /// assert_eq!(cvss.with_metrics(&[("AV", "P"), ("E", "U")])?.score().tenths(), 40);
+    /// assert_eq!(cvss.with_metrics(&[("E", "Q")]).unwrap_err().value(), Some("Q"));
+    /// # Ok::<(), cvss_proved::Refused>(())
+    /// ```
+    pub fn with_metrics(&self, metrics: &[(&str, &str)]) -> Result<Cvss, Refused> {
+        let (own, metrics) = (self.text.as_bytes(), joined(metrics)?);
+        let text = calls::with(own, metrics.as_bytes());
+        Cvss::of_metrics(&text, || calls::with_reason(own, metrics.as_bytes()))
     }
 
     /// The vector with an organisation's environmental metrics, as pairs of name and value in any
@@ -281,14 +381,27 @@ impl Cvss {
     }
 }
 
+/// The components of metrics. A slash would make two of one, so it is refused as in a component.
+fn joined(metrics: &[(&str, &str)]) -> Result<String, Refused> {
+    let components = metrics
+        .iter()
+        .map(|(name, value)| format!("{name}:{value}"));
+    let components: Vec<String> = components.collect();
+    match components.iter().find(|component| component.contains('/')) {
+        Some(component) => Err(Refused::of_reason(&format!(
+            "invalid CVSS metric group component: `{component}`"
+        ))),
+        None => Ok(components.join("/")),
+    }
+}
+
 /// The components of environmental metrics in capitals, each of which has a name and a word for its
 /// value.
 fn components_of(overrides: &[(&str, &str)]) -> Result<Vec<String>, OverrideError> {
     let is_word = |value: &str| value.bytes().all(|byte| byte.is_ascii_alphanumeric());
     let component = |(name, value): &(&str, &str)| {
-        let is_name = |own: &&str| own.eq_ignore_ascii_case(name);
         let component = format!("{name}:{value}");
-        if ENVIRONMENTAL.iter().any(is_name) && is_word(value) {
+        if is_environmental(name) && is_word(value) {
             Ok(component.to_ascii_uppercase())
         } else {
             Err(OverrideError::NotEnvironmental(component))
@@ -296,15 +409,6 @@ fn components_of(overrides: &[(&str, &str)]) -> Result<Vec<String>, OverrideErro
     };
     overrides.iter().map(component).collect()
 }
-
-/// The base metrics of v3 in the order of CVSS v3.1, section 6.
-const BASE_OF_V3: [&str; 8] = ["AV", "AC", "PR", "UI", "S", "C", "I", "A"];
-
-/// The environmental metrics of all versions.
-const ENVIRONMENTAL: [&str; 20] = [
-    "CDP", "TD", "CR", "IR", "AR", "MAV", "MAC", "MAT", "MPR", "MUI", "MS", "MC", "MI", "MA",
-    "MVC", "MVI", "MVA", "MSC", "MSI", "MSA",
-];
 
 impl AsRef<str> for Cvss {
     fn as_ref(&self) -> &str {

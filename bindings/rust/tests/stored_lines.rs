@@ -1,8 +1,8 @@
 //! The vectors that are kept in the repository, with their answers.
 
 use cvss_proved::{
-    answer, answer_lines, find, Cvss, Mention, Metric, Nomenclature, OverrideError, Refused,
-    RefusedKind, Score, Severity, Version,
+    answer, answer_lines, find, metrics, Cvss, Group, Mention, Metric, MetricType, Nomenclature,
+    OverrideError, Refused, RefusedKind, Score, Severity, Version,
 };
 use std::fmt::Display;
 use std::fs;
@@ -201,6 +201,50 @@ fn what_is_not_defined_scores_as_absent() {
     }
 }
 
+/// Each metric that a vector has is in the table of its version, with its value.
+#[test]
+fn metrics_are_described_in_words() {
+    for cvss in stored_lines("stdin")
+        .lines()
+        .filter_map(|line| Cvss::parse(line).ok())
+    {
+        let letters: Vec<String> = cvss
+            .described()
+            .iter()
+            .map(|(metric, value)| format!("{}:{}", metric.name, value.value))
+            .collect();
+        let prefix = cvss.as_str().len() - letters.join("/").len();
+        assert_eq!(cvss.as_str()[prefix..], letters.join("/"), "{cvss}");
+    }
+    let count = |version, group| {
+        let is_own = |metric: &&MetricType| metric.group == group;
+        metrics(version).iter().filter(is_own).count()
+    };
+    // CVSS v2 guide, section 2; v3.1 specification, table 1; v4.0 specification, section 1.2
+    assert_eq!(
+        (
+            count(Version::V20, Group::Base),
+            count(Version::V20, Group::Environmental)
+        ),
+        (6, 5)
+    );
+    assert_eq!(
+        (
+            count(Version::V31, Group::Base),
+            count(Version::V31, Group::Temporal)
+        ),
+        (8, 3)
+    );
+    assert_eq!(
+        (
+            count(Version::V40, Group::Base),
+            count(Version::V40, Group::Supplemental)
+        ),
+        (11, 6)
+    );
+    assert_eq!(metrics(Version::V30), metrics(Version::V31));
+}
+
 #[test]
 fn metrics_that_are_not_environmental_are_no_overrides() {
     let cvss = Cvss::parse("CVSS:3.1/AV:N").unwrap();
@@ -351,6 +395,28 @@ fn vectors_are_ordered_by_score() {
     let higher = Cvss::try_from("AV:N/AC:L/Au:N/C:C/I:C/A:C").unwrap();
     assert!(lower < higher);
     assert_ne!(lower, higher);
+}
+
+/// An error has the part of the text that its reason quotes, as the reason has it.
+#[test]
+fn errors_have_the_rejected_value() {
+    for (text, kind, value) in [
+        ("AV/N", RefusedKind::InvalidComponent, Some("AV")),
+        ("CVS:3.1/AV:N", RefusedKind::InvalidPrefix, Some("CVS")),
+        (
+            "CVSS:3.2/AV:N",
+            RefusedKind::UnsupportedVersion,
+            Some("3.2"),
+        ),
+        ("CVSS:3.1/xx:N", RefusedKind::UnknownMetric, Some("XX")),
+        ("CVSS:3.1/av:a`b", RefusedKind::InvalidValue, Some("A`B")),
+        ("AV:/AC:L", RefusedKind::InvalidValue, Some("")),
+        ("CVSS:3.1/AV:N/av:n", RefusedKind::DuplicateMetric, None),
+        ("AV:N/AC:L", RefusedKind::MissingMetric, None),
+    ] {
+        let refused = Cvss::parse(text).unwrap_err();
+        assert_eq!((refused.kind(), refused.value()), (kind, value), "{text}");
+    }
 }
 
 #[test]

@@ -10,7 +10,7 @@ ghost use Rattle.cvss.specs.laws.JsonErrors.{TellTheSame};
 use crate::json::JsonError;
 use crate::{
     Bounds, BytesError, Cvss, Error, Message, MetricType, OneDecimal, Published, ReadError,
-    Refusal, Segment, v2, v3, v4,
+    Refusal, Segment, SetError, Version, v2, v3, v4,
 };
 pub use cvss_laws::any::{
     errors_print_their_reasons, scores_are_unique, texts_denote_one_vector,
@@ -24,6 +24,7 @@ pub fn equality_is_that_of_values()
     ensures metric { EqualsByValue ⟦<MetricType as PartialEq>⟧.eq }
     ensures published { EqualsByValue ⟦<Published as PartialEq>⟧.eq }
     ensures bounds { EqualsByValue ⟦<Bounds as PartialEq>⟧.eq }
+    ensures version { EqualsByValue ⟦<Version as PartialEq>⟧.eq }
     ensures decimal { EqualsByValue ⟦<OneDecimal as PartialEq>⟧.eq }
     ensures json { (x y : JsonError) → IsTrue (⟦<JsonError as PartialEq>⟧.eq x y)
         ↔ TellTheSame x y }
@@ -49,6 +50,8 @@ pub fn clones_are_equal()
     ensures message { ClonesByValue ⟦<Message<'static> as Clone>⟧.is_clone }
     ensures refusal { ClonesByValue ⟦<Refusal<'static> as Clone>⟧.is_clone }
     ensures read_error { ClonesByValue ⟦<ReadError<'static> as Clone>⟧.is_clone }
+    ensures set_error { ClonesByValue ⟦<SetError<'static> as Clone>⟧.is_clone }
+    ensures version { ClonesByValue ⟦<Version as Clone>⟧.is_clone }
     ensures json { (x clone : JsonError) → ⟦<JsonError as Clone>⟧.is_clone x clone
         → TellTheSame x clone }
     ensures bytes { (x clone : BytesError) → ⟦<BytesError as Clone>⟧.is_clone x clone
@@ -70,4 +73,6 @@ pub fn values_are_cloned_without_memory()
     ensures message { ClonesAlways ⟦<Message<'static> as Clone>⟧.is_infallible }
     ensures refusal { ClonesAlways ⟦<Refusal<'static> as Clone>⟧.is_infallible }
     ensures read_error { ClonesAlways ⟦<ReadError<'static> as Clone>⟧.is_infallible }
+    ensures set_error { ClonesAlways ⟦<SetError<'static> as Clone>⟧.is_infallible }
+    ensures version { ClonesAlways ⟦<Version as Clone>⟧.is_infallible }
 {}

@@ -13,5 +13,6 @@ pub mod v4;
 
 pub use cvss_any::{
     Bounds, BytesError, Cvss, Message, MetricType, Metrics, Published, ReadError, Refusal, Segment,
+    SetError, Version,
 };
 pub use cvss_base::{Error, LIMIT, MetricGroup, ONE, OneDecimal, PREFIX, Severity, tenths};

@@ -1,6 +1,6 @@
 -- The letters of effective values: CVSS v4.0 specification, sections 2 to 4.
 use Rattle.std.specs.Prelude.{ℕ, List, [], ◌∷◌, codes}
-use Rattle.cvss_object.specs.Json.{Member, object_text, string_text}
+use Rattle.cvss_object.specs.Json.{Member, string_text}
 use Rattle.cvss_base.specs.declared.v4.MetricType.TheVariants.{AC, AT, AV, PR, UI}
 use Rattle.cvss_v4_metric.specs.Ranks as place
 use Rattle.cvss_v4_metric.specs.Table.{spelling_at}
@@ -41,9 +41,8 @@ abbrev pub letter_member : List ℕ → List ℕ → Member
 letter_member name letter = (name, string_text letter)
 
 -- the letters of all metrics, in the order of their names; AV, PR, UI, AC and AT are spelled as in a vector
-abbrev pub effective_text : Effective → List ℕ
-effective_text v =
-    object_text (
+abbrev pub effective_members : Effective → List Member
+effective_members v =
     letter_member (codes "AC") (spelling_at AC (place.AC v.ac))
     ∷ letter_member (codes "AR") (requirement_letter v.ar)
     ∷ letter_member (codes "AT") (spelling_at AT (place.AT v.at))
@@ -60,4 +59,3 @@ effective_text v =
     ∷ letter_member (codes "VC") (vulnerable_impact_letter v.vc)
     ∷ letter_member (codes "VI") (vulnerable_impact_letter v.vi)
     ∷ []
-    )

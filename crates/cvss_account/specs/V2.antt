@@ -22,48 +22,43 @@ abbrev pub weight_member : Vector → MetricType → Member
 weight_member vector kind = (name_of kind, decimal_text (pos (weight_in vector kind * 10_000)))
 
 -- what each metric weighs
-abbrev pub weights_text : Vector → List ℕ
-weights_text vector = object_text (map (weight_member vector) by_name)
+abbrev pub weights_members : Vector → List Member
+weights_members vector = map (weight_member vector) by_name
 
-abbrev pub base_text : BaseNumbers → List ℕ
-base_text numbers =
-    object_text (
+abbrev pub base_members : BaseNumbers → List Member
+base_members numbers =
     (codes "exploitability", decimal_text numbers.exploitability)
     ∷ (codes "f", decimal_text numbers.f)
     ∷ (codes "impact", decimal_text numbers.impact)
     ∷ (codes "number", decimal_text numbers.number)
     ∷ (codes "score", tenths_text numbers.score)
     ∷ []
-    )
 
-abbrev pub temporal_text : TemporalNumbers → List ℕ
-temporal_text numbers =
-    object_text ((codes "number", decimal_text numbers.number) ∷ (codes "score", tenths_text numbers.score) ∷ [])
+abbrev pub temporal_members : TemporalNumbers → List Member
+temporal_members numbers = (codes "number", decimal_text numbers.number) ∷ (codes "score", tenths_text numbers.score) ∷ []
 
-abbrev pub environmental_text : EnvironmentalNumbers → List ℕ
-environmental_text numbers =
-    object_text (
+abbrev pub environmental_members : EnvironmentalNumbers → List Member
+environmental_members numbers =
     (codes "adjustedBase", decimal_text numbers.adjusted_base)
     ∷ (codes "adjustedImpact", decimal_text numbers.adjusted_impact)
     ∷ (codes "adjustedTemporal", decimal_text numbers.adjusted_temporal)
     ∷ (codes "number", decimal_text numbers.number)
     ∷ (codes "score", tenths_text numbers.score)
     ∷ []
-    )
 
 -- the explanation of a score of so many tenths, with these numbers
 abbrev pub account_text : Option ℕ → Vector → ℕ → BaseNumbers → TemporalNumbers → EnvironmentalNumbers → List ℕ
 account_text line vector tenths base temporal environmental =
     object_text (
-    (codes "base", base_text base)
-    ∷ (codes "environmental", environmental_text environmental)
+    (codes "base", object_text (base_members base))
+    ∷ (codes "environmental", object_text (environmental_members environmental))
     ∷ (line_members line
     ++ score_member tenths
     ∷ severity_member (CvssV20 vector) tenths
-    ∷ (codes "temporal", temporal_text temporal)
+    ∷ (codes "temporal", object_text (temporal_members temporal))
     ∷ vector_member (CvssV20 vector)
     ∷ version_member (CvssV20 vector)
-    ∷ (codes "weights", weights_text vector)
+    ∷ (codes "weights", object_text (weights_members vector))
     ∷ [])
     )
 

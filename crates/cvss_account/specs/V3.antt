@@ -39,8 +39,8 @@ abbrev pub weight_member : Weights → MetricType → Member
 weight_member w kind = (name_of kind, decimal_text (pos (unwrap_or (weight_in w kind) 0 * 100_000)))
 
 -- what each metric weighs
-abbrev pub weights_text : Weights → List ℕ
-weights_text w = object_text (map (weight_member w) weighing_by_name)
+abbrev pub weights_members : Weights → List Member
+weights_members w = map (weight_member w) weighing_by_name
 
 -- a number, the score that it is rounded to, and its rating
 abbrev pub scored_members : Scored → List Member
@@ -50,43 +50,39 @@ scored_members scored =
     ∷ (codes "severity", string_text (severity_text (rating_of_score (score_of_tenths scored.score))))
     ∷ []
 
-abbrev pub base_text : BaseNumbers → List ℕ
-base_text numbers =
-    object_text (
+abbrev pub base_members : BaseNumbers → List Member
+base_members numbers =
     (codes "exploitability", decimal_text numbers.exploitability)
     ∷ (codes "impact", decimal_text numbers.impact)
     ∷ (codes "iss", decimal_text numbers.iss)
     ∷ scored_members numbers.scored
-    )
 
-abbrev pub temporal_text : Scored → List ℕ
-temporal_text scored = object_text (scored_members scored)
+abbrev pub temporal_members : Scored → List Member
+temporal_members scored = scored_members scored
 
-abbrev pub environmental_text : EnvironmentalNumbers → List ℕ
-environmental_text numbers =
-    object_text (
+abbrev pub environmental_members : EnvironmentalNumbers → List Member
+environmental_members numbers =
     (codes "firstNumber", decimal_text numbers.first.number)
     ∷ (codes "firstScore", tenths_text numbers.first.score)
     ∷ (codes "miss", decimal_text numbers.miss)
     ∷ (codes "modifiedExploitability", decimal_text numbers.exploitability)
     ∷ (codes "modifiedImpact", decimal_text numbers.impact)
     ∷ scored_members numbers.scored
-    )
 
 -- the explanation of a score of so many tenths, with these weights and numbers
 abbrev pub account_text : Option ℕ → Cvss → ℕ → Weights → BaseNumbers → Scored → EnvironmentalNumbers → List ℕ
 account_text line cvss tenths w base temporal environmental =
     object_text (
-    (codes "base", base_text base)
-    ∷ (codes "environmental", environmental_text environmental)
+    (codes "base", object_text (base_members base))
+    ∷ (codes "environmental", object_text (environmental_members environmental))
     ∷ (line_members line
     ++ (scope_members w
     ++ score_member tenths
     ∷ severity_member cvss tenths
-    ∷ (codes "temporal", temporal_text temporal)
+    ∷ (codes "temporal", object_text (temporal_members temporal))
     ∷ vector_member cvss
     ∷ version_member cvss
-    ∷ (codes "weights", weights_text w)
+    ∷ (codes "weights", object_text (weights_members w))
     ∷ []))
     )
 

@@ -14,7 +14,7 @@ use Rattle.cvss_score.specs.declared.v4.scoring.classes.MacroVector.{MacroVector
 use Rattle.cvss_score.specs.declared.v4.scoring.next.NextClass.{NextClass}
 use Rattle.cvss_v4.specs.declared.vector.Vector.{Vector}
 use Rattle.cvss_account.specs.Decimal.{nearest_to}
-use Rattle.cvss_account.specs.LettersV4.{effective_text}
+use Rattle.cvss_account.specs.LettersV4.{effective_members}
 use Rattle.cvss_account.specs.Parts.{line_members, score_member, severity_member, vector_member, version_member}
 
 -- the six digits of a class
@@ -75,7 +75,7 @@ class_members account nomenclature =
 abbrev pub account_text : Option ℕ → Vector → ℕ → Account → List ℕ
 account_text line vector tenths account =
     object_text (
-    (codes "effective", effective_text account.effective)
+    (codes "effective", object_text (effective_members account.effective))
     ∷ (codes "groups", groups_text account.class account.value account.groups)
     ∷ (line_members line
     ++ (class_members account (nomenclature_of vector)

@@ -23,6 +23,8 @@ pub(crate) fn of_parts(count: u32, parts: u32) -> i64
 }
 
 /// The ten-millionths that are nearest to a count of 10^-24, of two the larger.
+// Some fifty calls would each repeat its division, an eighth of the module of WebAssembly.
+#[inline(never)]
 pub(crate) fn ten_millionths(count: i128) -> i64
     requires { IsWithinLimit count }
     ensures { AreNearest count result }

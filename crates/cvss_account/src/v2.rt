@@ -1,10 +1,10 @@
 //! The explanations of the scores of CVSS v2 (guide, section 3.2).
 
-ghost use Rattle.std.specs.Prelude.{◌≡◌, ◌*◌, ◌≤◌, [], pos};
+ghost use Rattle.std.specs.Prelude.{◌≡◌, ◌*◌, ◌≤◌, [], map, pos};
 ghost use Rattle.cvss_any.specs.declared.vector.Cvss.TheVariants.{CvssV20};
-ghost use Rattle.cvss_account.specs.V2.{IsAccountText, base_text, environmental_text, temporal_text, weights_text};
-ghost use Rattle.cvss_object.specs.declared.fragment.Scalar.TheVariants.{Decimal};
-ghost use Rattle.cvss_object.specs.Fragments.{fragments_room, fragments_text};
+ghost use Rattle.cvss_account.specs.V2.{IsAccountText, base_members, environmental_members, temporal_members, weights_members};
+ghost use Rattle.cvss_object.specs.declared.member.Scalar.TheVariants.{Decimal};
+ghost use Rattle.cvss_object.specs.Scalars.{member_view, members_room};
 ghost use Rattle.cvss_v2.specs.Weights.{weight_in};
 
 mod numbers;
@@ -13,7 +13,7 @@ use crate::decimal::ten_millionths;
 use crate::parts::{put_line, put_score, put_text};
 use cvss_any::Cvss;
 use cvss_base::v2::MetricType;
-use cvss_object::{Fragment, Page, Scalar, put_fragments};
+use cvss_object::{Member, Page, Scalar, put_object_member};
 use cvss_v2::Vector;
 use numbers::{BaseNumbers, EnvironmentalNumbers, TemporalNumbers};
 
@@ -29,89 +29,86 @@ pub(crate) fn put_account(
     requires empty { page.old ≡ [] }
     ensures { IsAccountText line vector.now tenths page.new }
 {
-    page.push(b"{\"base\":");
-    put_fragments(page, &base(BaseNumbers::of(vector)));
-    page.push(b",\"environmental\":");
-    put_fragments(page, &environmental(EnvironmentalNumbers::of(vector)));
+    page.push(b"{");
+    put_object_member(page, false, "base", &base(BaseNumbers::of(vector)));
+    put_object_member(
+        page,
+        true,
+        "environmental",
+        &environmental(EnvironmentalNumbers::of(vector)),
+    );
     put_line(page, line);
     put_score(page, cvss, tenths);
-    page.push(b",\"temporal\":");
-    put_fragments(page, &temporal(TemporalNumbers::of(vector)));
+    put_object_member(
+        page,
+        true,
+        "temporal",
+        &temporal(TemporalNumbers::of(vector)),
+    );
     put_text(page, cvss);
-    page.push(b",\"weights\":");
-    put_fragments(page, &weights(vector));
+    put_object_member(page, true, "weights", &weights(vector));
     page.push(b"}");
 }
 
-fn base(numbers: BaseNumbers) -> [Fragment; 6]
-    ensures text { fragments_text result ≡ base_text numbers }
-    ensures room { fragments_room result ≤ 300 }
+fn base(numbers: BaseNumbers) -> [Member; 5]
+    ensures text { map member_view result ≡ base_members numbers }
+    ensures room { members_room result ≤ 300 }
 {
     [
-        (
-            "{\"exploitability\":",
-            Scalar::Decimal(numbers.exploitability),
-        ),
-        (",\"f\":", Scalar::Decimal(numbers.f)),
-        (",\"impact\":", Scalar::Decimal(numbers.impact)),
-        (",\"number\":", Scalar::Decimal(numbers.number)),
-        (",\"score\":", Scalar::Tenths(numbers.score)),
-        ("}", Scalar::Nothing),
+        ("exploitability", Scalar::Decimal(numbers.exploitability)),
+        ("f", Scalar::Decimal(numbers.f)),
+        ("impact", Scalar::Decimal(numbers.impact)),
+        ("number", Scalar::Decimal(numbers.number)),
+        ("score", Scalar::Tenths(numbers.score)),
     ]
 }
 
-fn temporal(numbers: TemporalNumbers) -> [Fragment; 3]
-    ensures text { fragments_text result ≡ temporal_text numbers }
-    ensures room { fragments_room result ≤ 100 }
+fn temporal(numbers: TemporalNumbers) -> [Member; 2]
+    ensures text { map member_view result ≡ temporal_members numbers }
+    ensures room { members_room result ≤ 100 }
 {
     [
-        ("{\"number\":", Scalar::Decimal(numbers.number)),
-        (",\"score\":", Scalar::Tenths(numbers.score)),
-        ("}", Scalar::Nothing),
+        ("number", Scalar::Decimal(numbers.number)),
+        ("score", Scalar::Tenths(numbers.score)),
     ]
 }
 
-fn environmental(numbers: EnvironmentalNumbers) -> [Fragment; 6]
-    ensures text { fragments_text result ≡ environmental_text numbers }
-    ensures room { fragments_room result ≤ 300 }
+fn environmental(numbers: EnvironmentalNumbers) -> [Member; 5]
+    ensures text { map member_view result ≡ environmental_members numbers }
+    ensures room { members_room result ≤ 300 }
 {
     [
-        ("{\"adjustedBase\":", Scalar::Decimal(numbers.adjusted_base)),
+        ("adjustedBase", Scalar::Decimal(numbers.adjusted_base)),
+        ("adjustedImpact", Scalar::Decimal(numbers.adjusted_impact)),
         (
-            ",\"adjustedImpact\":",
-            Scalar::Decimal(numbers.adjusted_impact),
-        ),
-        (
-            ",\"adjustedTemporal\":",
+            "adjustedTemporal",
             Scalar::Decimal(numbers.adjusted_temporal),
         ),
-        (",\"number\":", Scalar::Decimal(numbers.number)),
-        (",\"score\":", Scalar::Tenths(numbers.score)),
-        ("}", Scalar::Nothing),
+        ("number", Scalar::Decimal(numbers.number)),
+        ("score", Scalar::Tenths(numbers.score)),
     ]
 }
 
 /// What each metric weighs.
-fn weights(vector: &Vector) -> [Fragment; 15]
-    ensures text { fragments_text result ≡ weights_text vector.now }
-    ensures room { fragments_room result ≤ 600 }
+fn weights(vector: &Vector) -> [Member; 14]
+    ensures text { map member_view result ≡ weights_members vector.now }
+    ensures room { members_room result ≤ 600 }
 {
     [
-        ("{\"A\":", weight(vector, MetricType::A)),
-        (",\"AC\":", weight(vector, MetricType::AC)),
-        (",\"AR\":", weight(vector, MetricType::AR)),
-        (",\"AV\":", weight(vector, MetricType::AV)),
-        (",\"Au\":", weight(vector, MetricType::Au)),
-        (",\"C\":", weight(vector, MetricType::C)),
-        (",\"CDP\":", weight(vector, MetricType::CDP)),
-        (",\"CR\":", weight(vector, MetricType::CR)),
-        (",\"E\":", weight(vector, MetricType::E)),
-        (",\"I\":", weight(vector, MetricType::I)),
-        (",\"IR\":", weight(vector, MetricType::IR)),
-        (",\"RC\":", weight(vector, MetricType::RC)),
-        (",\"RL\":", weight(vector, MetricType::RL)),
-        (",\"TD\":", weight(vector, MetricType::TD)),
-        ("}", Scalar::Nothing),
+        ("A", weight(vector, MetricType::A)),
+        ("AC", weight(vector, MetricType::AC)),
+        ("AR", weight(vector, MetricType::AR)),
+        ("AV", weight(vector, MetricType::AV)),
+        ("Au", weight(vector, MetricType::Au)),
+        ("C", weight(vector, MetricType::C)),
+        ("CDP", weight(vector, MetricType::CDP)),
+        ("CR", weight(vector, MetricType::CR)),
+        ("E", weight(vector, MetricType::E)),
+        ("I", weight(vector, MetricType::I)),
+        ("IR", weight(vector, MetricType::IR)),
+        ("RC", weight(vector, MetricType::RC)),
+        ("RL", weight(vector, MetricType::RL)),
+        ("TD", weight(vector, MetricType::TD)),
     ]
 }
 

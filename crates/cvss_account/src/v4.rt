@@ -1,14 +1,11 @@
 //! The explanation of a score of CVSS v4.0 (specification, section 8.2).
 
-ghost use Rattle.std.specs.Prelude.{◌≡◌, ◌+◌, ◌≤◌, [], ◌∷◌, ◌++◌, length};
+ghost use Rattle.std.specs.Prelude.{◌≡◌, ◌+◌, ◌≤◌, [], ◌∷◌, ◌++◌, codes, false, length, true};
 ghost use Rattle.cvss_any.specs.declared.vector.Cvss.TheVariants.{CvssV40};
 ghost use Rattle.cvss_account.specs.V4.{IsAccountText, class_members, class_text, gap_member, group_text, groups_text, next_members};
-ghost use Rattle.cvss_account.specs.private.Digits.{digits_text, second_text};
+ghost use Rattle.cvss_account.specs.private.Digits.{digits_text};
 ghost use Rattle.cvss_base.specs.Version.{IsComplete};
-ghost use Rattle.cvss_object.specs.Fragments.{scalar_room, scalar_text};
-ghost use Rattle.cvss_object.specs.Json.{further_members};
-ghost use Rattle.cvss_object.specs.declared.fragment.Scalar.TheVariants.{Whole};
-ghost use Rattle.cvss_object.specs.private.Members.{members_text};
+ghost use Rattle.cvss_object.specs.Json.{WritesMembers, string_text};
 ghost use Rattle.cvss_score.specs.v4.Account.{AreInRange, IsInRange};
 ghost use Rattle.cvss_v4.specs.Nomenclature.{text_of as nomenclature_text};
 ghost use Rattle.cvss_v4.specs.Vector.{v4};
@@ -18,7 +15,7 @@ mod effective;
 use crate::decimal::of_parts;
 use crate::parts::{put_line, put_score, put_text};
 use cvss_any::Cvss;
-use cvss_object::{Page, Scalar, put_fragments};
+use cvss_object::{Page, Scalar, put_member, put_members, put_name, put_object_member};
 use cvss_score::v4::scoring::account::GroupAccount;
 use cvss_score::v4::scoring::classes::MacroVector;
 use cvss_v4::{Account, Nomenclature, Vector};
@@ -38,14 +35,14 @@ pub(crate) fn put_account(
     ensures { IsAccountText line vector.now tenths page.new }
 {
     let account = vector.account();
-    page.push(b"{\"effective\":");
-    put_fragments(page, &effective(&account.effective));
-    page.push(b",\"groups\":");
+    page.push(b"{");
+    put_object_member(page, false, "effective", &effective(&account.effective));
+    put_name(page, true, "groups");
     put_groups(page, &account);
     put_line(page, line);
     put_class(page, &account, vector.nomenclature());
     put_score(page, cvss, tenths);
-    put_fragments(page, &[(",\"value\":", Scalar::Tenths(account.value))]);
+    put_member(page, true, "value", Scalar::Tenths(account.value));
     put_text(page, cvss);
     page.push(b"}");
 }
@@ -54,20 +51,19 @@ pub(crate) fn put_account(
 /// and the number that is left.
 fn put_class(page: &mut Page, account: &Account, nomenclature: Nomenclature)
     requires { length page.old + 300 ≤ 4096 }
-    ensures text { page.new ≡ page.old ++ members_text (class_members account.now nomenclature) }
+    ensures text { WritesMembers true (class_members account.now nomenclature) page.old page.new }
     ensures room { length page.new ≤ length page.old + 300 }
 {
     let mean = of_parts(account.mean, 504_000);
     let number = of_parts(account.number, 504_000);
     let nomenclature = nomenclature_text(nomenclature);
-    page.push(b",\"macroVector\":\"");
-    put_macro_vector(page, &account.class);
-    put_fragments(
+    put_macro_vector(page, "macroVector", &account.class);
+    put_members(
         page,
         &[
-            ("\",\"mean\":", Scalar::Decimal(mean)),
-            (",\"nomenclature\":", Scalar::Text(nomenclature)),
-            (",\"number\":", Scalar::Decimal(number)),
+            ("mean", Scalar::Decimal(mean)),
+            ("nomenclature", Scalar::Text(nomenclature)),
+            ("number", Scalar::Decimal(number)),
         ],
     );
 }
@@ -84,40 +80,31 @@ fn nomenclature_text(nomenclature: Nomenclature) -> &'static str
     }
 }
 
+/// Writes a member whose value is the six digits of a class.
+fn put_macro_vector(page: &mut Page, name: &str, class: &MacroVector)
+    requires { length page.old + length name.now + 126 ≤ 4096 }
+    ensures text { WritesMembers true ((name.now, string_text (class_text class.now)) ∷ [])
+        page.old page.new }
+    ensures room { length page.new ≤ length page.old + length name.now + 126 }
+{
+    put_name(page, true, name);
+    page.push(b"\"");
+    put_digits(page, class);
+    page.push(b"\"");
+}
+
 /// Writes the six digits of a class.
-fn put_macro_vector(page: &mut Page, class: &MacroVector)
+fn put_digits(page: &mut Page, class: &MacroVector)
     requires { length page.old + 120 ≤ 4096 }
     ensures text { page.new ≡ page.old ++ class_text class.now }
     ensures room { length page.new ≤ length page.old + 120 }
 {
-    put_fragments(
-        page,
-        &[
-            ("", digit(class.eq1)),
-            ("", digit(class.eq2)),
-            ("", digit(class.eq3)),
-            ("", digit(class.eq4)),
-            ("", digit(class.eq5)),
-            ("", digit(class.eq6)),
-        ],
-    );
-}
-
-fn digit(number: u8) -> Scalar
-    ensures { result ≡ Whole number }
-{
-    Scalar::Whole(u64::from(number))
-}
-
-/// The second digit of a group's class, if it has one.
-fn second_digit(number: Option<u8>) -> Scalar
-    ensures text { scalar_text result ≡ second_text number }
-    ensures room { scalar_room result ≤ 20 }
-{
-    match number {
-        Some(number) => digit(number),
-        None => Scalar::Nothing,
-    }
+    page.whole(u64::from(class.eq1));
+    page.whole(u64::from(class.eq2));
+    page.whole(u64::from(class.eq3));
+    page.whole(u64::from(class.eq4));
+    page.whole(u64::from(class.eq5));
+    page.whole(u64::from(class.eq6));
 }
 
 /// Writes the array of the five groups, which is empty without impact.
@@ -162,53 +149,75 @@ fn put_group(
         ≡ page.old ++ group_text name.now (digits_text class) value group.now }
     ensures room { length page.new ≤ length page.old + 450 }
 {
-    put_fragments(
+    page.push(b"{");
+    put_group_class(page, class);
+    put_member(page, true, "depth", Scalar::Whole(u64::from(group.depth)));
+    put_member(
         page,
-        &[
-            ("{\"class\":\"", digit(class.0)),
-            ("", second_digit(class.1)),
-            ("\",\"depth\":", digit(group.depth)),
-            (",\"distance\":", digit(group.distance)),
-        ],
+        true,
+        "distance",
+        Scalar::Whole(u64::from(group.distance)),
     );
     put_gap(page, value, group);
-    put_fragments(page, &[(",\"group\":", Scalar::Text(name))]);
+    put_member(page, true, "group", Scalar::Text(name));
     put_next(page, group);
+    page.push(b"}");
+}
+
+/// Writes the class of a group, which is one digit or two.
+fn put_group_class(page: &mut Page, class: (u8, Option<u8>))
+    requires { length page.old + 60 ≤ 4096 }
+    ensures text { WritesMembers false ((codes "class", string_text (digits_text class)) ∷ [])
+        page.old page.new }
+    ensures room { length page.new ≤ length page.old + 60 }
+{
+    put_name(page, false, "class");
+    page.push(b"\"");
+    page.whole(u64::from(class.0));
+    if let Some(second) = class.1 {
+        page.whole(u64::from(second));
+    }
+    page.push(b"\"");
 }
 
 /// Writes the gap from a value to that of the next lower class.
 fn put_gap(page: &mut Page, value: u8, group: &GroupAccount)
     requires range { IsInRange value group.now }
     requires room { length page.old + 40 ≤ 4096 }
-    ensures text { page.new ≡ page.old ++ members_text (gap_member value group.now.next ∷ []) }
+    ensures text { WritesMembers true (gap_member value group.now.next ∷ []) page.old page.new }
     ensures room { length page.new ≤ length page.old + 40 }
 {
     match &group.next {
-        None => page.push(b",\"gap\":null"),
-        Some(next) => put_fragments(page, &[(",\"gap\":", Scalar::Tenths(value - next.value))]),
+        None => put_member(page, true, "gap", Scalar::Null),
+        Some(next) => put_member(page, true, "gap", Scalar::Tenths(value - next.value)),
     }
 }
 
-/// Writes the next lower class, its value and what is taken of the gap to it, and the closing brace.
+/// Writes the next lower class, its value and what is taken of the gap to it.
 fn put_next(page: &mut Page, group: &GroupAccount)
     requires { length page.old + 240 ≤ 4096 }
-    ensures text { page.new
-        ≡ page.old ++ further_members (next_members group.now.next group.now.taken) }
+    ensures text { WritesMembers true (next_members group.now.next group.now.taken)
+        page.old page.new }
     ensures room { length page.new ≤ length page.old + 240 }
 {
     let Some(next) = &group.next else {
-        page.push(b",\"next\":null,\"nextValue\":null,\"taken\":null}");
+        put_members(
+            page,
+            &[
+                ("next", Scalar::Null),
+                ("nextValue", Scalar::Null),
+                ("taken", Scalar::Null),
+            ],
+        );
         return;
     };
     let taken = of_parts(group.taken, 8400);
-    page.push(b",\"next\":\"");
-    put_macro_vector(page, &next.class);
-    put_fragments(
+    put_macro_vector(page, "next", &next.class);
+    put_members(
         page,
         &[
-            ("\",\"nextValue\":", Scalar::Tenths(next.value)),
-            (",\"taken\":", Scalar::Decimal(taken)),
-            ("}", Scalar::Nothing),
+            ("nextValue", Scalar::Tenths(next.value)),
+            ("taken", Scalar::Decimal(taken)),
         ],
     );
 }

@@ -1,8 +1,10 @@
+mod BuiltLemmas
 mod BytesLemmas
 mod CutLemmas
 pub mod ErrorLemmas
 mod ReadLemmas
 pub mod RouteLemmas
+mod SettingLemmas
 mod SightLemmas
 mod ToldLemmas
 pub mod UniqueLemmas

@@ -137,7 +137,7 @@ v20_routed text vector denotes =
     ap route_of_pieces are ∙ first_held_routed parts first.kind (v2.spelling first.kind first.value) some (undotted_spelling first.kind first.value) first.is
 
 -- a text that CVSS v3 reads has the minor version by which it was routed
-told_minor : (minor other : ℕ) (told : List ℕ) → v3_front minor ≡ version_piece told ∷ [] → told ≡ codes "3." ++ numeral other → minor ≡ other
+pub told_minor : (minor other : ℕ) (told : List ℕ) → v3_front minor ≡ version_piece told ∷ [] → told ≡ codes "3." ++ numeral other → minor ≡ other
 told_minor minor other told front is =
     let piece = rw is at front in
     let numerals : numeral minor ≡ numeral other = cc in

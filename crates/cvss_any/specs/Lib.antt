@@ -8,4 +8,5 @@ pub mod Reasons
 pub mod Refusals
 pub mod Route
 pub mod Segments
+pub mod Setting
 pub mod private

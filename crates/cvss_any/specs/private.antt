@@ -1,2 +1,3 @@
+pub mod SettingSteps
 pub mod Steps
 pub mod Views

@@ -10,6 +10,7 @@ mod reading;
 mod refusal;
 mod route;
 mod segment;
+mod setting;
 mod sight;
 mod vector;
 
@@ -23,4 +24,5 @@ pub use metrics::Metrics;
 pub use published::{Bounds, Published};
 pub use refusal::{ReadError, Refusal};
 pub use segment::Segment;
+pub use setting::{SetError, Version};
 pub use vector::Cvss;

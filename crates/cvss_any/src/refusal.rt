@@ -44,7 +44,7 @@ pub enum ReadError<'a> {
 }
 
 /// A version, whose metrics are also metrics of any version.
-trait OneVersion: Components {
+pub(crate) trait OneVersion: Components {
     ghost wrap: { Self.Kind → MetricType };
 
     /// The metric as one of any version.
@@ -97,7 +97,7 @@ impl<'a> Refusal<'a> {
     }
 
     /// The reason of a fault that one version found.
-    fn of_version<V: OneVersion>(fault: Fault<'a, V::Kind>) -> Refusal<'a>
+    pub(crate) fn of_version<V: OneVersion>(fault: Fault<'a, V::Kind>) -> Refusal<'a>
         ensures { refusal_of result ≡ wrapped V.wrap (reason_of V.version fault.entry) }
     {
         match fault {

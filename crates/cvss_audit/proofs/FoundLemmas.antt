@@ -12,7 +12,7 @@ use Rattle.cvss_lines.specs.Answers.{Answer, Accepted, Refused, is_accepted, wri
 use Rattle.cvss_lines.specs.Streaming.{IsPassed, Stops, Streams, WritesWaiting}
 use Rattle.cvss_lines.specs.declared.fault.RunFault.{RunFault}
 use Rattle.cvss_lines.specs.declared.fault.RunFault.TheVariants.{Memory, Write}
-use Rattle.cvss_record.specs.Places.{Place, places_in}
+use Rattle.cvss_document.specs.Places.{Place, places_in}
 use Rattle.cvss_audit.specs.Answers.{AreFound, Begins, BeginsFound, Found, IsAnswer, IsFound, all_agree, answer_of, texts_of, written_found}
 use Rattle.cvss_audit.specs.Sources.{Source, id_of}
 use Rattle.cvss_audit.specs.private.Writing.{PassFound, StopsFound, StreamsFound, WritesPlace}

@@ -9,11 +9,11 @@ use Rattle.cvss_base.specs.declared.error.Error.TheVariants.{OutOfMemory}
 use Rattle.cvss_base.specs.Told.{TellsFirst}
 use Rattle.cvss_any.specs.declared.vector.Cvss.{Cvss}
 use Rattle.cvss_lines.specs.Answers.{Answer, Accepted, Refused, written_text}
-use Rattle.cvss_object.specs.Texts.{IsTextOf}
-use Rattle.cvss_record.specs.Differences.{AreDifferencesAt, Difference}
+use Rattle.cvss_tree.specs.Texts.{IsTextOf}
+use Rattle.cvss_document.specs.Differences.{AreDifferencesAt, Difference}
 use Rattle.cvss_record.specs.Groups.{AreScoresOf}
-use Rattle.cvss_object.specs.Objects.{object_of}
-use Rattle.cvss_record.specs.Places.{Place, places_in}
+use Rattle.cvss_tree.specs.Objects.{object_of}
+use Rattle.cvss_document.specs.Places.{Place, places_in}
 use Rattle.cvss_record.specs.declared.score.Scores.{Scores}
 use Rattle.serde_json.specs.Data.{Data}
 use Rattle.serde_json.specs.Read.{read}

@@ -15,10 +15,10 @@ use Rattle.cvss_v4.specs.declared.vector.Vector as type_v4
 use Rattle.cvss_v3.specs.Vector.{value_at}
 use Rattle.cvss_any.specs.declared.vector.Cvss.{Cvss}
 use Rattle.cvss_any.specs.declared.vector.Cvss.TheVariants.{CvssV20, CvssV30, CvssV31, CvssV40}
-use Rattle.cvss_record.specs.Differences.{Difference}
-use Rattle.cvss_object.specs.Objects.{Member, object_of}
-use Rattle.cvss_record.specs.Places.{Place}
-use Rattle.cvss_words.specs.Scores.{score_value}
+use Rattle.cvss_document.specs.Differences.{Difference}
+use Rattle.cvss_tree.specs.Objects.{Member, object_of}
+use Rattle.cvss_document.specs.Places.{Place}
+use Rattle.cvss_document.specs.Scores.{score_value}
 use Rattle.cvss_record.specs.declared.score.Scores.{Scores}
 use Rattle.serde_json.specs.Data.{Data, unsigned, number, string, array}
 use Rattle.serde_json.specs.View.{items_of}

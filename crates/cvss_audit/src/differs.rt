@@ -2,13 +2,13 @@
 
 ghost use Rattle.std.specs.Prelude.{◌≡◌, IfOk, OnOk, map};
 ghost use Rattle.cvss_audit.specs.Objects.{difference_value, differs_members};
-ghost use Rattle.cvss_object.specs.Trees.{members_view, tree_view};
-ghost use Rattle.cvss_record.specs.Differences.{difference_view, said_view};
-ghost use Rattle.cvss_object.specs.Objects.{with_members};
+ghost use Rattle.cvss_tree.specs.Trees.{members_view, tree_view};
+ghost use Rattle.cvss_document.specs.Differences.{difference_view, said_view};
+ghost use Rattle.cvss_tree.specs.Objects.{with_members};
 
 use crate::members::put_list;
-use cvss_object::{Tree, put_tree};
-use cvss_record::{Difference, Said};
+use cvss_document::{Difference, Said};
+use cvss_tree::{Tree, put_tree};
 use serde_json::Map;
 use std::alloc::{AllocError, Global};
 

@@ -13,8 +13,8 @@ mod place;
 mod program;
 mod source;
 
-use cvss_lines::Summary;
-use cvss_program::{ProgramFault, arguments, program_status};
+use cvss_lines::{Summary, exit_status};
+use cvss_program::{ProgramFault, arguments};
 pub use documents::Documents;
 use help::USAGE;
 pub use noting::{Note, WatchedReader, WatchedWriter};
@@ -32,7 +32,7 @@ fn main(rt: HostRuntime) -> ExitCode {
             let _ = eprint!(rt; "{USAGE}");
         }
     }
-    ExitCode::from(program_status(&result))
+    ExitCode::from(exit_status(&result))
 }
 
 /// Runs over standard input and output, with the program's arguments.

@@ -3,11 +3,11 @@
 ghost use Rattle.std.specs.Prelude.{◌≡◌, ◌∷◌, [], IfOk, OnOk, map, option_map, string_bytes};
 ghost use Rattle.cvss_audit.specs.Objects.{accepted_members, line_member, list_member, optional_member, place_members, refusal_member, score_members, scores_value, text_member, told_members, v4_members};
 ghost use Rattle.cvss_audit.specs.Sources.{source_view};
-ghost use Rattle.cvss_object.specs.Trees as trees;
-ghost use Rattle.cvss_object.specs.Trees.{tree_view};
-ghost use Rattle.cvss_record.specs.Differences.{difference_view};
-ghost use Rattle.cvss_object.specs.Objects.{object_of, with_members};
-ghost use Rattle.cvss_record.specs.Places.{place_view};
+ghost use Rattle.cvss_tree.specs.Trees as trees;
+ghost use Rattle.cvss_tree.specs.Trees.{tree_view};
+ghost use Rattle.cvss_document.specs.Differences.{difference_view};
+ghost use Rattle.cvss_tree.specs.Objects.{object_of, with_members};
+ghost use Rattle.cvss_document.specs.Places.{place_view};
 ghost use Rattle.serde_json.specs.View.{members_view, view};
 
 use crate::differs::put_differences;
@@ -15,10 +15,10 @@ use crate::missing::put_missing;
 use crate::source::Source;
 use cvss_any::Cvss;
 use cvss_base::TENTH;
-use cvss_object::{Tree, put_tree};
-use cvss_record::{Difference, Place, Scores};
+use cvss_document::{Difference, Place, score_value};
+use cvss_record::Scores;
+use cvss_tree::{Tree, put_tree};
 use cvss_v4::Vector;
-use cvss_words::score_value;
 use serde_json::{Map, Value, json, put};
 use std::alloc::{AllocError, Global};
 

@@ -4,17 +4,18 @@ ghost use Rattle.std.specs.Prelude.{IfOk};
 ghost use Rattle.cvss_audit.specs.Answers.{IsNoString, IsPlaceObject, IsTextObject};
 ghost use Rattle.cvss_audit.specs.Sources.{source_view};
 ghost use Rattle.cvss_audit.specs.private.Writing.{WritesPlace};
-ghost use Rattle.cvss_object.specs.Trees.{members_view};
-ghost use Rattle.cvss_record.specs.Places.{place_view};
+ghost use Rattle.cvss_tree.specs.Trees.{members_view};
+ghost use Rattle.cvss_document.specs.Places.{place_view};
 ghost use Rattle.serde_json.specs.Data.{object};
 
 use crate::members::{put_accepted, put_place, put_refusal};
 use crate::source::Source;
 use cvss_any::Cvss;
 use cvss_base::Error;
+use cvss_document::{Place, differences_at};
 use cvss_lines::Gathered;
-use cvss_object::{Tree, write_tree_object};
-use cvss_record::{Place, Scores, differences_at};
+use cvss_record::Scores;
+use cvss_tree::{Tree, write_tree_object};
 use serde_json::Map;
 use std::alloc::{AllocError, Global};
 

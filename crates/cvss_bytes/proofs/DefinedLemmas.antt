@@ -5,7 +5,7 @@ use Rattle.std.specs.Option.{option_map, option_and_then}
 use Rattle.cvss_text.specs.private.Printing.{slashed, slashed_text, slashed_texts}
 use Rattle.cvss_text.proofs.PrintLemmas.{joined-slashed}
 use Rattle.cvss_base.specs.Text.{component, joined, slash}
-use Rattle.cvss_base.specs.Version.{Version, components_of, held}
+use Rattle.cvss_base.specs.Version.{Version, canonical_text, components_of, held}
 use Rattle.cvss_bytes.specs.Buffer.{HasPut, begun}
 use Rattle.cvss_bytes.specs.Defined.{defined_component, if_defined, or_if_none, text_less}
 use Rattle.cvss_bytes.specs.private.Steps.{defined_texts, front_of, kept_parts, text_behind}
@@ -34,6 +34,11 @@ or_if_none-none : (parts others : List (List ℕ)) (text : List ℕ) → joined 
 or_if_none-none [] others text is none = refl
 or_if_none-none (part ∷ []) others text is none = absurd (omega (arith, none, ap length is))
 or_if_none-none (part ∷ next ∷ parts) others text is none = absurd (omega (arith, none, ap length is))
+
+joined_behind : (piece : List ℕ) (parts : List (List ℕ)) → text_behind piece (joined (piece ∷ parts)) ≡ joined (front_of piece ++ parts)
+joined_behind [] [] = refl
+joined_behind [] (part ∷ parts) = refl
+joined_behind (byte ∷ bytes) parts = refl
 
 module _ {V K : Type 0} (version : Version V K) (undefined : List ℕ) (v : V) where
   -- the defined components are no longer than all
@@ -70,14 +75,16 @@ module _ {V K : Type 0} (version : Version V K) (undefined : List ℕ) (v : V) w
         sym (joined-slashed version v first version.printed)
         ∙ ap (λ parts. joined (first ∷ parts)) (sym (or_if_none-none _ (components_of version v) _ (joined-defined [] version.printed) none))
 
-  joined_behind : (piece : List ℕ) (parts : List (List ℕ)) → text_behind piece (joined (piece ∷ parts)) ≡ joined (front_of piece ++ parts)
-  joined_behind [] [] = refl
-  joined_behind [] (part ∷ parts) = refl
-  joined_behind (byte ∷ bytes) parts = refl
-
   pub text_less_behind : (piece : List ℕ) → version.front v ≡ front_of piece → text_behind piece (joined (piece ∷ kept_parts version undefined v)) ≡ text_less version undefined v
   text_less_behind piece front =
       joined_behind piece (kept_parts version undefined v) ∙ ap (λ pieces. joined (pieces ++ kept_parts version undefined v)) (sym front)
+
+-- the canonical text of a vector, written as a piece, or none, and its components behind slashes
+pub canonical_behind : {V K : Type 0} (version : Version V K) (v : V) (piece : List ℕ) → version.front v ≡ front_of piece → text_behind piece (piece ++ slashed_texts version v version.printed) ≡ canonical_text version v
+canonical_behind version v piece front =
+    ap (text_behind piece) (sym (joined-slashed version v piece version.printed))
+    ∙ joined_behind piece (components_of version v)
+    ∙ ap (λ pieces. joined (pieces ++ components_of version v)) (sym front)
 
 -- a text of no bytes is put nowhere
 pub none_put : (old first text now : List ℕ) (place end : ℕ) → length text ≤ 0 → end ≡ place + length text → HasPut old (first ++ text) now end → HasPut old first now place

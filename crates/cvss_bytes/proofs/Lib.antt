@@ -1,15 +1,14 @@
 pub mod BufferLemmas
 pub mod CanonicalLemmas
 pub mod DefinedLemmas
-pub mod DepthLemmas
 pub mod LengthLemmas
 pub mod LinesLemmas
 pub mod ObjectionLemmas
 pub mod OverriddenLemmas
 pub mod PartLemmas
 pub mod PartsLemmas
-pub mod RecordLemmas
 pub mod SegmentLemmas
+pub mod SettingLemmas
 pub mod ShortLemmas
 pub mod UndefinedLemmas
 pub mod WordLemmas

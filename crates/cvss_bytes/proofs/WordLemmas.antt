@@ -1,4 +1,4 @@
--- The words that name one of the first overrides, each at its place in a list.
+-- The words that name one of the first overrides or metrics, each at its place in a list.
 use Rattle.std.proofs.Common.{◌≡◌, ◌<◌, ◌≤◌, ℕ, Bool, true, ◌&&◌, List, [], length, map, Bor, refl, sym, slice_index_or, bytes_eq, arith}
 use Rattle.std.specs.Fmt.{digits}
 use Rattle.std.specs.Prelude.{leb}
@@ -8,24 +8,44 @@ use Rattle.std.proofs.lemmas.Bool.Decides.{nat_tests}
 use Rattle.std.proofs.lemmas.Slice.Eq.{bytes_eq-Decides}
 use Rattle.cvss_base.proofs.TestLemmas.{all_below, below_passes}
 use Rattle.cvss_bytes.specs.Overriding.{override_words}
-use Rattle.cvss_bytes.specs.declared.overriding.TheConstants.{WORDS}
+use Rattle.cvss_bytes.specs.Setting.{metric_words}
+use Rattle.cvss_bytes.specs.declared.overriding.TheConstants as overriding
+use Rattle.cvss_bytes.specs.declared.setting.TheConstants as setting
 
--- whether a text is the words that name an override, of which none are longer than 32 bytes
-abbrev names : List ℕ → ℕ → Bool
-names text index = bytes_eq text (override_words index) && leb (length text) 32
+-- whether the text at a place is these words, of which none are longer than 32 bytes
+abbrev are_words : (ℕ → List ℕ) → List (List ℕ) → ℕ → Bool
+are_words words texts index =
+    bytes_eq (slice_index_or texts index []) (words index) && leb (length (slice_index_or texts index [])) 32
 
-abbrev pub words_at : ℕ → List ℕ
-words_at index = slice_index_or (map (λ words. words.now) WORDS) index []
+words_from : (words : ℕ → List ℕ) (texts : List (List ℕ)) (n : ℕ) → all_below (are_words words texts) n ≡ true → (index : ℕ) → index < n
+    → (slice_index_or texts index [] ≡ words index) × (length (slice_index_or texts index []) ≤ 32)
+words_from words texts n each index below =
+    let tests = and_parts _ _ (below_passes (are_words words texts) n index each below) in
+    ((bytes_eq-Decides _ _).0 tests.0, grind (arith, nat_tests, tests.1))
 
-each_named : all_below (λ index. names (words_at index) index) 15 ≡ true
+-- the texts of the overrides and of the metrics
+abbrev pub of_overrides : List (List ℕ)
+of_overrides = map (λ text. text.now) overriding.WORDS
+
+abbrev pub of_metrics : List (List ℕ)
+of_metrics = map (λ text. text.now) setting.WORDS
+
+each_override : all_below (are_words override_words of_overrides) 15 ≡ true
 unfolding all_below digits
-each_named = refl
+each_override = refl
+
+each_metric : all_below (are_words metric_words of_metrics) 33 ≡ true
+unfolding all_below digits
+each_metric = refl
 
 -- the words at a place
-pub named : (index : ℕ) → index < 15 → (words_at index ≡ override_words index) × (length (words_at index) ≤ 32)
-named index below =
-    let tests = and_parts _ _ (below_passes (λ each. names (words_at each) each) 15 index each_named below) in
-    ((bytes_eq-Decides _ _).0 tests.0, grind (arith, nat_tests, tests.1))
+pub override_named : (index : ℕ) → index < 15
+    → (slice_index_or of_overrides index [] ≡ override_words index) × (length (slice_index_or of_overrides index []) ≤ 32)
+override_named = words_from override_words of_overrides 15 each_override
+
+pub metric_named : (index : ℕ) → index < 33
+    → (slice_index_or of_metrics index [] ≡ metric_words index) × (length (slice_index_or of_metrics index []) ≤ 32)
+metric_named = words_from metric_words of_metrics 33 each_metric
 
 -- the text behind an element of a list
 pub index-now : (texts : List (Bor (List ℕ))) (place : ℕ) (none : Bor (List ℕ))

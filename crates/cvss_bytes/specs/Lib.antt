@@ -5,8 +5,8 @@ pub mod Lines
 pub mod Mentioned
 pub mod Metrics
 pub mod Overriding
-pub mod Records
 pub mod Refusals
 pub mod Scores
+pub mod Setting
 pub mod laws
 pub mod private

@@ -1,8 +1,8 @@
 -- Answers to many texts in one call: a line each, ended by a byte 10.
 use Rattle.std.specs.Prelude.{◌≡◌, ◌≢◌, ℕ, ◌+◌, ◌<◌, ◌⊎◌, All, List, [], ◌∷◌, ◌++◌, length, flat_map}
-use Rattle.std.specs.Io.BufRead.{strip_last}
 use Rattle.cvss_bytes.specs.Answers.{IsAnswer}
 use Rattle.cvss_bytes.specs.Buffer.{HasPut}
+use Rattle.cvss_lines.specs.Lines.{line_text}
 
 -- no line ends in these bytes
 abbrev pub HasNoEnd : List ℕ → Type 0
@@ -12,14 +12,10 @@ HasNoEnd bytes = All (λ byte. byte ≢ 10) bytes
 abbrev pub ended : List ℕ → List ℕ
 ended line = line ++ 10 ∷ []
 
--- a line's text: the line less one byte 13 at its end
-abbrev pub text_of_line : List ℕ → List ℕ
-text_of_line line = strip_last 13 line
-
 -- the answer to the text of a line
 pub record IsLineAnswer (line answer : List ℕ) : Type 0 where
   pub one_line : HasNoEnd line
-  pub is : IsAnswer (text_of_line line) answer
+  pub is : IsAnswer (line_text line) answer
 
 -- the one are lines, each ended, and the other their answers, each ended, in the same order
 pub record AreAnswers (lines answers : List ℕ) : Type 0 where

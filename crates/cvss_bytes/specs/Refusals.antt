@@ -1,4 +1,4 @@
--- What kind of refusal a text gets, and which metric it names: as numbers and names for C.
+-- What kind of refusal a text gets, which metric it names and which part of the text it quotes: as numbers and texts for C.
 use Rattle.std.specs.Prelude.{ℕ, ℤ, pos, List, []}
 use Rattle.cvss_any.specs.MetricTypes.{name_of}
 use Rattle.cvss_any.specs.Reasons.{IsSaidOf}
@@ -26,6 +26,15 @@ blamed_name (Repeated metric) = name_of metric
 blamed_name (Missing metric) = name_of metric
 blamed_name _ = []
 
+-- the part of a text that a reason quotes, if it quotes one
+abbrev pub quoted_part : Refusal MetricType → List ℕ
+quoted_part (BadComponent component) = component
+quoted_part (WrongPrefix prefix) = prefix
+quoted_part (WrongVersion version) = version
+quoted_part (UnknownName name) = name
+quoted_part (BadValue _ value) = value
+quoted_part _ = []
+
 -- the number of the kind of refusal
 abbrev pub IsKind : List ℕ → ℤ → Type 0
 IsKind text kind = IsSaidOf kind_number not_utf8 text kind
@@ -33,3 +42,7 @@ IsKind text kind = IsSaidOf kind_number not_utf8 text kind
 -- the abbreviation of the metric that the refusal names, or nothing
 abbrev pub IsBlamed : List ℕ → List ℕ → Type 0
 IsBlamed text name = IsSaidOf blamed_name [] text name
+
+-- the part of the text that the refusal quotes, or nothing
+abbrev pub IsQuoted : List ℕ → List ℕ → Type 0
+IsQuoted text part = IsSaidOf quoted_part [] text part

@@ -1,11 +1,12 @@
 -- The scores of a vector as C sees them: whole tenths, and numbers for versions, ratings and nomenclatures.
-use Rattle.std.specs.Prelude.{◌≡◌, ◌⊎◌, ◌*ℤ◌, ◌^◌, ℤ, pos, negsuc, [], ◌∷◌, IsSome}
+use Rattle.std.specs.Prelude.{◌≡◌, ◌≢◌, ◌⊎◌, ◌*ℤ◌, ◌^◌, ℤ, pos, negsuc, Bool, true, false, [], ◌∷◌, IsSome}
 use Rattle.cvss_any.specs.declared.vector.Cvss.{Cvss}
 use Rattle.cvss_any.specs.declared.vector.Cvss.TheVariants.{CvssV20, CvssV30, CvssV31, CvssV40}
 use Rattle.cvss_v4.specs.Merging.{effective_of}
 use Rattle.cvss_score.specs.declared.v4.nomenclature.Nomenclature.{Nomenclature}
 use Rattle.cvss_score.specs.declared.v4.nomenclature.Nomenclature.TheVariants.{CvssB, CvssBE, CvssBT, CvssBTE}
 use Rattle.cvss_v4.specs.Nomenclature.{nomenclature_of}
+use Rattle.cvss_v4.specs.Parts.{IsScoreBy}
 use Rattle.cvss_base.specs.Rating.{rating_of_score}
 use Rattle.cvss_score.specs.v2.Rating.{rating_of}
 use Rattle.cvss_score.specs.v2.Scores as scores_v2
@@ -23,6 +24,7 @@ use Rattle.cvss_base.specs.Version.{IsComplete}
 use Rattle.cvss_v2.specs.Weights as weights_v2
 use Rattle.cvss_v3.specs.VectorWeights as weights_v3
 use Rattle.cvss_bytes.specs.declared.scores.CvssScores.{CvssScores}
+use Rattle.cvss_bytes.specs.declared.scores.CvssScoresBy.{CvssScoresBy}
 
 -- what stands for nothing: -1
 abbrev pub nothing : ℤ
@@ -126,3 +128,27 @@ AreScoresOf (CvssV20 vector) = AreScoresV2 vector
 AreScoresOf (CvssV30 vector) = AreScoresV3 (pos 30) vector
 AreScoresOf (CvssV31 vector) = AreScoresV3 (pos 31) vector
 AreScoresOf (CvssV40 vector) = AreScoresV4 vector
+
+-- the version is 3.0, 3.1 or 4.0
+abbrev pub IsSinceV3 : ℤ → Type 0
+IsSinceV3 version = (version ≡ pos 30) ⊎ ((version ≡ pos 31) ⊎ (version ≡ pos 40))
+
+-- the number of the rating of so many tenths by the bounds of a version; nothing of another version, or of other tenths
+pub record IsRatingNumber (version tenths rating : ℤ) : Type 0 where
+  pub of_v2 : version ≡ pos 20 → IsFromZeroToTen tenths → rating ≡ severity_number (rating_of (count_of tenths))
+  pub since_v3 : IsSinceV3 version → IsFromZeroToTen tenths → rating ≡ severity_number (rating_of_score (count_of tenths))
+  pub no_version : version ≢ pos 20 → ¬ (IsSinceV3 version) → rating ≡ nothing
+  pub no_score : ¬ (IsFromZeroToTen tenths) → rating ≡ nothing
+
+-- the scores of a vector of CVSS v4.0 by nomenclature; the last is the vector's own
+pub record AreScoresBy (vector : vector_v4.Vector) (scores : CvssScoresBy) : Type 0 where
+  pub base : IsScoreInTenths (IsScoreBy CvssB vector) scores.b
+  pub environmental : IsScoreInTenths (IsScoreBy CvssBE vector) scores.be
+  pub threat : IsScoreInTenths (IsScoreBy CvssBT vector) scores.bt
+  pub all : IsScoreInTenths (IsScoreBy CvssBTE vector) scores.bte
+  pub own : IsScoreInTenths (IsInTenths (IsScore (effective_of vector))) scores.bte
+
+-- of CVSS v4.0 they are written; other versions have none, and the numbers are left as they were
+abbrev pub AnswersScoresBy : Cvss → CvssScoresBy → CvssScoresBy → Bool → Type 0
+AnswersScoresBy (CvssV40 vector) old now written = (written ≡ true) × AreScoresBy vector now
+AnswersScoresBy cvss old now written = (written ≡ false) × (now ≡ old)

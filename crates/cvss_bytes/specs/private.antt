@@ -1,2 +1,3 @@
 pub mod Overridden
+pub mod Setting
 pub mod Steps

@@ -8,9 +8,9 @@ ghost use Rattle.cvss_bytes.specs.Defined.{defined_component, text_less, text_wi
 ghost use Rattle.cvss_bytes.specs.private.Steps.{IsRead, Puts, PutsParts, defined_texts, front_of, kept_parts, text_behind};
 
 use crate::buffer::{LONGEST, put, put_both, put_components};
-use crate::metrics::spelled;
 use cvss_any::Cvss;
 use cvss_text::print::Printed;
+use cvss_words::spelled;
 
 /// How a metric of CVSS v2 is spelled that is not defined.
 const NOT_DEFINED_V2: [u8; 2] = *b"ND";
@@ -48,7 +48,7 @@ fn put_less<V: Printed>(piece: &[u8], vector: &V, undefined: &[u8], buffer: &mut
 }
 
 /// The text behind such a piece.
-fn text_behind<'a>(piece: &[u8], whole: &'a [u8]) -> &'a [u8]
+pub(crate) fn text_behind<'a>(piece: &[u8], whole: &'a [u8]) -> &'a [u8]
     ensures { result.now ≡ text_behind piece.now whole.now }
 {
     match (piece, whole) {

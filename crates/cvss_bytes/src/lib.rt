@@ -1,7 +1,6 @@
 //! What is told of a text, as bytes in a buffer of the caller and as plain numbers.
 //!
-//! A result goes into a buffer, which is left as it was where it is too small. Records and accounts
-//! take memory; nothing else does.
+//! A result goes into a buffer, which is left as it was where it is too small. Nothing takes memory.
 #![tactic(auto)]
 
 pub mod answer;
@@ -18,9 +17,10 @@ pub mod objects;
 pub mod overriding;
 pub mod refusal;
 pub mod scores;
+pub mod setting;
 
 use cvss_v2 as v2;
 use cvss_v3 as v3;
 use cvss_v4 as v4;
 pub use metrics::CvssMetric;
-pub use scores::CvssScores;
+pub use scores::{CvssScores, CvssScoresBy};

@@ -29,6 +29,16 @@ pub(crate) fn put_refusal(words: &str, refusal: Refusal<'_>, buffer: &mut [u8]) 
     put_segments(words, &Message::of_refusal(refusal).segments, buffer)
 }
 
+/// Writes a segment at the beginning of a buffer where it fits, and returns its length.
+pub(crate) fn put_segment_alone(segment: Segment<'_>, buffer: &mut [u8]) -> usize
+    ensures { IsWritten (segment_text segment.entry) buffer.old buffer.new result }
+{
+    if segment.bytes.len() <= buffer.len() {
+        put_segment(segment, buffer, 0);
+    }
+    segment.bytes.len()
+}
+
 /// Writes words and, after them, segments at the beginning of a buffer where all fit, and returns
 /// their length.
 fn put_segments(words: &str, segments: &[Segment<'_>], buffer: &mut [u8]) -> usize

@@ -1,14 +1,13 @@
 //! The metrics of a vector, as C sees them.
 
 ghost use Rattle.std.specs.Prelude.{◌≡◌, length};
-ghost use Rattle.std.specs.Option.{option_copied};
-ghost use Rattle.cvss_base.specs.Version.{held};
 ghost use Rattle.cvss_bytes.specs.Buffer.{IsWritten};
 ghost use Rattle.cvss_bytes.specs.Metrics.{metric_of, metrics_at, metrics_in_order, padded as padded_text};
 
 use crate::buffer::put;
 use cvss_any::Cvss;
 use cvss_text::print::Printed;
+use cvss_words::spelled;
 
 /// A metric of a vector. Each text stands in eight bytes, with bytes 0 behind it.
 #[derive(Clone, Copy)]
@@ -82,13 +81,4 @@ fn count_metrics<V: Printed>(vector: &V) -> usize
         }
     }
     count
-}
-
-/// How the vector's value for a metric is spelled.
-pub(crate) fn spelled<V: Printed>(vector: &V, kind: V::Kind) -> Option<&'static [u8]>
-    ensures { option_copied result ≡ held V.version vector.now kind }
-{
-    let component = vector.slashed(kind)?;
-    // behind a slash, the name and a colon
-    Some(&component.as_bytes()[V::name(kind).len() + 2..])
 }

@@ -1,10 +1,11 @@
 //! Numbers for versions, ratings and nomenclatures.
 
 ghost use Rattle.std.specs.Prelude.{◌≡◌};
-ghost use Rattle.cvss_bytes.specs.Scores.{nomenclature_number as number_of_nomenclature, severity_number as number_of_severity, version_number as number_of_version};
+ghost use Rattle.cvss_bytes.specs.Scores.{IsRatingNumber, nomenclature_number as number_of_nomenclature, severity_number as number_of_severity, version_number as number_of_version};
 
+use crate::v2;
 use cvss_any::Cvss;
-use cvss_base::Severity;
+use cvss_base::{Severity, TENTH, severity_of_score};
 use cvss_score::v4::Nomenclature;
 
 /// What stands for nothing: a text that is refused has no version, and CVSS v4.0 no temporal score.
@@ -19,6 +20,22 @@ pub fn version_number(cvss: &Cvss) -> i32
         Cvss::CvssV30(_) => 30,
         Cvss::CvssV31(_) => 31,
         Cvss::CvssV40(_) => 40,
+    }
+}
+
+/// The number of the rating of so many tenths by the bounds of a version, 20, 30, 31 or 40; `NOTHING`
+/// of another version, and of tenths outside 0 to 100.
+pub fn rating_number(version: i32, tenths: i32) -> i32
+    ensures { IsRatingNumber version tenths result }
+{
+    if tenths < 0 || tenths > 100 {
+        return NOTHING;
+    }
+    let score = i128::from(tenths) * TENTH;
+    match version {
+        20 => severity_number(v2::Score::new(score).severity()),
+        30 | 31 | 40 => severity_number(severity_of_score(score)),
+        _ => NOTHING,
     }
 }
 

@@ -1,18 +1,19 @@
-//! Why a text is refused: the reason in words, its kind, and the metric that it names. It takes no
-//! memory.
+//! Why a text is refused: the reason in words, its kind, the metric that it names, and the part of the
+//! text that it quotes. It takes no memory.
 
 ghost use Rattle.std.specs.Prelude.{◌≡◌, ℕ, List, [], MatchOption, pos};
 ghost use Rattle.cvss_any.specs.Dispatch.{DenotesCvss};
 ghost use Rattle.cvss_any.specs.Reasons.{IsReason, said_of};
 ghost use Rattle.cvss_any.specs.Refusals.{IsReadError};
+ghost use Rattle.cvss_any.specs.Segments.{segment_text};
 ghost use Rattle.cvss_any.specs.declared.vector.Cvss.{Cvss};
 ghost use Rattle.cvss_bytes.specs.Answers.{Answers, IsRefused};
 ghost use Rattle.cvss_bytes.specs.Buffer.{IsLeft, IsWritten};
-ghost use Rattle.cvss_bytes.specs.Refusals.{IsBlamed, IsKind, blamed_name as name_blamed, kind_number as number_of_kind, not_utf8};
+ghost use Rattle.cvss_bytes.specs.Refusals.{IsBlamed, IsKind, IsQuoted, blamed_name as name_blamed, kind_number as number_of_kind, not_utf8, quoted_part as part_quoted};
 
 use crate::buffer::put_both;
-use crate::message::put_error;
-use cvss_any::{Cvss, ReadError, Refusal};
+use crate::message::{put_error, put_segment_alone};
+use cvss_any::{Cvss, ReadError, Refusal, Segment};
 
 /// The number of a text that denotes a vector.
 const ACCEPTED: i32 = 0;
@@ -54,6 +55,18 @@ pub fn put_blamed(text: &[u8], buffer: &mut [u8]) -> usize
     }
 }
 
+/// Writes the part of the text that a refusal quotes at the beginning of a buffer where it fits, and
+/// returns its length; 0 where the refusal quotes none, and where the text denotes a vector.
+pub fn put_quoted(text: &[u8], buffer: &mut [u8]) -> usize
+    ensures { Answers text.now (λ _. IsLeft buffer.old buffer.new result)
+        ((part : List ℕ) × IsQuoted text.now part × IsWritten part buffer.old buffer.new result) }
+{
+    match error_in(text) {
+        Some(error) => put_segment_alone(quoted_part(error), buffer),
+        None => 0,
+    }
+}
+
 /// Why a text denotes no vector; `None` where it denotes one.
 fn error_in(text: &[u8]) -> Option<ReadError<'_>>
     ensures { MatchOption result ((cvss : Cvss) × DenotesCvss text.now cvss)
@@ -85,5 +98,20 @@ fn blamed_name(error: ReadError<'_>) -> &'static str
             Refusal::BadValue(metric, _) | Refusal::Repeated(metric) | Refusal::Missing(metric),
         ) => metric.name(),
         _ => "",
+    }
+}
+
+fn quoted_part(error: ReadError<'_>) -> Segment<'_>
+    ensures { segment_text result ≡ said_of part_quoted [] error.entry }
+{
+    match error {
+        ReadError::Invalid(
+            Refusal::BadComponent(part)
+            | Refusal::WrongPrefix(part)
+            | Refusal::WrongVersion(part)
+            | Refusal::UnknownName(part)
+            | Refusal::BadValue(_, part),
+        ) => part,
+        _ => Segment::words(""),
     }
 }

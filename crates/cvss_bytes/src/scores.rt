@@ -5,13 +5,14 @@ ghost use Rattle.cvss_base.specs.Tenths.{IsInTenths, IsFromZeroToTen};
 ghost use Rattle.cvss_base.specs.Version.{IsComplete};
 ghost use Rattle.cvss_v2.specs.Vector.{v2};
 ghost use Rattle.cvss_v4.specs.Vector.{v4};
-ghost use Rattle.cvss_bytes.specs.Scores.{AreScoresOf, AreScoresV2, AreScoresV3, AreScoresV4, HasBaseMetrics, count_of};
+ghost use Rattle.cvss_bytes.specs.Scores.{AnswersScoresBy, AreScoresBy, AreScoresOf, AreScoresV2, AreScoresV3, AreScoresV4, HasBaseMetrics, count_of};
 ghost use Rattle.cvss_bytes.specs.private.Steps.{IsRead};
 
 use crate::numbers::{NOTHING, nomenclature_number, severity_number};
 use crate::{v2, v3, v4};
 use cvss_any::Cvss;
 use cvss_base::tenths::tenths_of;
+use cvss_score::v4::Nomenclature;
 
 /// The version, the scores and the ratings of a vector. Scores are in tenths, from 0 to 100; ratings
 /// are 0 for none, 1 low, 2 medium, 3 high, 4 critical.
@@ -38,6 +39,21 @@ pub struct CvssScores {
     pub is_complete: i32,
     /// Room for what is told later; 0 until then.
     pub reserved: [i32; 7],
+}
+
+/// What the score of a vector of CVSS v4.0 would be with some groups of metrics alone, in tenths. To C it
+/// is an array of four numbers, by the numbers of the nomenclatures.
+#[derive(Drop)]
+#[repr(C)]
+pub struct CvssScoresBy {
+    /// With the base metrics alone.
+    pub b: i32,
+    /// With the environmental metrics too.
+    pub be: i32,
+    /// With the base and threat metrics.
+    pub bt: i32,
+    /// With all of them: the vector's own score.
+    pub bte: i32,
 }
 
 impl CvssScores {
@@ -112,6 +128,31 @@ impl CvssScores {
             is_complete: 1,
             reserved: [0; 7],
         }
+    }
+}
+
+/// Whether a vector is of CVSS v4.0; then its scores by nomenclature are written. Else they are left as
+/// they were.
+pub fn put_scores_by(cvss: &Cvss, scores: &mut CvssScoresBy) -> bool
+    requires { IsRead cvss.now }
+    ensures { AnswersScoresBy cvss.now scores.old scores.new result }
+{
+    let Cvss::CvssV40(vector) = cvss else {
+        return false;
+    };
+    *scores = scores_by(vector);
+    true
+}
+
+fn scores_by(vector: &v4::Vector) -> CvssScoresBy
+    requires { IsComplete v4 vector.now }
+    ensures { AreScoresBy vector.now result }
+{
+    CvssScoresBy {
+        b: i32::from(vector.tenths_by(Nomenclature::CvssB)),
+        be: i32::from(vector.tenths_by(Nomenclature::CvssBE)),
+        bt: i32::from(vector.tenths_by(Nomenclature::CvssBT)),
+        bte: i32::from(vector.tenths_by(Nomenclature::CvssBTE)),
     }
 }
 

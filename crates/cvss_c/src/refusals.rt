@@ -5,10 +5,10 @@ ghost use Rattle.cvss_any.specs.Reasons.{IsReason};
 ghost use Rattle.cvss_bytes.specs.Answers.{Answers};
 ghost use Rattle.cvss_bytes.specs.Buffer.{IsLeft, IsWritten};
 ghost use Rattle.cvss_bytes.specs.Overriding.{AnswersOverridden, IsOverrideReason};
-ghost use Rattle.cvss_bytes.specs.Refusals.{IsBlamed, IsKind};
+ghost use Rattle.cvss_bytes.specs.Refusals.{IsBlamed, IsKind, IsQuoted};
 
 use cvss_bytes::overriding::put_override_reason;
-use cvss_bytes::refusal::{kind_of, put_blamed, put_reason};
+use cvss_bytes::refusal::{kind_of, put_blamed, put_quoted, put_reason};
 
 /// The length of the reason why a text is refused, which is written into the buffer where it fits;
 /// 0 where the text denotes a vector. It takes no memory.
@@ -42,6 +42,18 @@ pub extern "C" fn cvss_refusal_metric(text: &[u8], buffer: &mut [u8]) -> usize
         × IsWritten name buffer.old buffer.new result) }
 {
     put_blamed(text, buffer)
+}
+
+/// The length of the part of the text that the reason quotes, as the reason has it: the component, the
+/// prefix, the version, the name or the value. It is written into the buffer where it fits; 0 where the
+/// reason quotes none, and where the text denotes a vector. It takes no memory.
+#[unsafe(no_mangle)]
+pub extern "C" fn cvss_refusal_value(text: &[u8], buffer: &mut [u8]) -> usize
+    ensures { Answers text.now (λ _. IsLeft buffer.old buffer.new result)
+        ((part : List ℕ) × IsQuoted text.now part
+        × IsWritten part buffer.old buffer.new result) }
+{
+    put_quoted(text, buffer)
 }
 
 /// The length of the reason why `cvss_overridden` answers 0: why the text denotes no vector, that it

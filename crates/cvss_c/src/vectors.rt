@@ -12,18 +12,18 @@ ghost use Rattle.cvss_bytes.specs.Buffer.{IsLeft, IsWritten};
 ghost use Rattle.cvss_bytes.specs.Defined.{text_without_undefined};
 ghost use Rattle.cvss_bytes.specs.Metrics.{metrics_in_order};
 ghost use Rattle.cvss_bytes.specs.Overriding.{AnswersOverridden};
-ghost use Rattle.cvss_bytes.specs.Records.{IsRecordTold};
-ghost use Rattle.cvss_bytes.specs.Scores.{AreScoresOf, nothing, version_number as number_of_version};
+ghost use Rattle.cvss_bytes.specs.Scores.{AnswersScoresBy, AreScoresOf, IsRatingNumber, nothing, version_number as number_of_version};
+ghost use Rattle.cvss_record.specs.Record.{IsRecordText};
 
 use cvss_any::Cvss;
 use cvss_bytes::canonical::put_canonical_of;
 use cvss_bytes::defined::put_without_undefined;
 use cvss_bytes::metrics::put_metrics;
-use cvss_bytes::numbers::{NOTHING, version_number};
+use cvss_bytes::numbers::{NOTHING, rating_number, version_number};
 use cvss_bytes::objects::{put_account, put_record};
 use cvss_bytes::overriding::put_overridden;
-use cvss_bytes::{CvssMetric, CvssScores};
-use std::alloc::Global;
+use cvss_bytes::scores::put_scores_by;
+use cvss_bytes::{CvssMetric, CvssScores, CvssScoresBy};
 
 /// The version of the vector that a text denotes, as 20, 30, 31 or 40; -1 where it denotes none.
 /// It takes no memory.
@@ -51,6 +51,29 @@ pub extern "C" fn cvss_scores(text: &[u8], scores: &mut CvssScores) -> bool
         }
         None => false,
     }
+}
+
+/// Whether a text denotes a vector of CVSS v4.0; then the tenths of its scores by nomenclature, CVSS-B,
+/// CVSS-BE, CVSS-BT and CVSS-BTE. Where it denotes none, the numbers are left as they were. It takes no
+/// memory.
+#[unsafe(no_mangle)]
+pub extern "C" fn cvss_nomenclature_scores(text: &[u8], scores: &mut CvssScoresBy) -> bool
+    ensures { Answers text.now (λ cvss. AnswersScoresBy cvss scores.old scores.new result)
+        ((result ≡ false) × (scores.new ≡ scores.old)) }
+{
+    match Cvss::read_bytes(text) {
+        Some(cvss) => put_scores_by(&cvss, scores),
+        None => false,
+    }
+}
+
+/// The number of the rating of so many tenths by the bounds of a version, 20, 30, 31 or 40; -1 of another
+/// version, and of tenths outside 0 to 100. It takes no memory.
+#[unsafe(no_mangle)]
+pub extern "C" fn cvss_rating(version: i32, tenths: i32) -> i32
+    ensures { IsRatingNumber version tenths result }
+{
+    rating_number(version, tenths)
 }
 
 /// The length of the canonical text of the vector that a text denotes, which is written into the
@@ -139,17 +162,17 @@ pub extern "C" fn cvss_overridden(text: &[u8], overrides: &[u8], buffer: &mut [u
 }
 
 /// The length of the record of the vector that a text denotes, the JSON object of FIRST's schema of
-/// its version, which is written into the buffer where it fits; 0 where the text denotes none. Where
-/// there was no memory for it, `out of memory` is written in its place.
+/// its version, which is written into the buffer where it fits; 0 where the text denotes none. It takes
+/// no memory.
 #[unsafe(no_mangle)]
-pub extern "C" fn cvss_record(alloc: Global, text: &[u8], buffer: &mut [u8]) -> usize
+pub extern "C" fn cvss_record(text: &[u8], buffer: &mut [u8]) -> usize
     ensures { Answers text.now
-        (λ cvss. (told : List ℕ) × IsRecordTold cvss told
-        × IsWritten told buffer.old buffer.new result)
+        (λ cvss. (written : List ℕ) × IsRecordText cvss written
+        × IsWritten written buffer.old buffer.new result)
         (IsLeft buffer.old buffer.new result) }
 {
     match Cvss::read_bytes(text) {
-        Some(cvss) => put_record(alloc, &cvss, buffer),
+        Some(cvss) => put_record(&cvss, buffer),
         None => 0,
     }
 }

@@ -2,12 +2,14 @@
 
 use crate::buffers::{LEFT, print_written};
 use crate::cut;
+use crate::lists::number;
 use crate::texts::{canonical, reason};
 use cvss_any::Cvss;
 use cvss_bytes::metrics::put_metrics;
-use cvss_bytes::numbers::{NOTHING, version_number};
+use cvss_bytes::numbers::{NOTHING, rating_number, version_number};
 use cvss_bytes::refusal::{kind_of, put_blamed};
-use cvss_bytes::{CvssMetric, CvssScores};
+use cvss_bytes::scores::put_scores_by;
+use cvss_bytes::{CvssMetric, CvssScores, CvssScoresBy};
 use std::io;
 
 /// No vector has more metrics.
@@ -60,6 +62,38 @@ fn print_score(rt: &HostRuntime, tenths: i32, severity: i32) -> io::Result<()> {
     } else {
         print!(rt; " {}.{} {rating}", tenths / 10, tenths % 10)
     }
+}
+
+/// Prints the scores by nomenclature of a vector of v4.0, or `-`.
+pub(crate) fn scores_by(rt: &HostRuntime, text: &[u8]) -> io::Result<()> {
+    let mut scores = CvssScoresBy {
+        b: NOTHING,
+        be: NOTHING,
+        bt: NOTHING,
+        bte: NOTHING,
+    };
+    let written = match Cvss::read_bytes(text) {
+        Some(cvss) => put_scores_by(&cvss, &mut scores),
+        None => false,
+    };
+    if written {
+        print!(rt; "{} {} {} {}", scores.b, scores.be, scores.bt, scores.bte)
+    } else if [scores.b, scores.be, scores.bt, scores.bte] == [NOTHING; 4] {
+        print!(rt; "-")
+    } else {
+        print!(rt; "the numbers were not left as they were")
+    }
+}
+
+/// Prints the rating of the tenths after the first blank by the bounds of the version before it.
+pub(crate) fn rating(rt: &HostRuntime, asked: &[u8]) -> io::Result<()> {
+    let (version, tenths) = cut(asked, b' ');
+    let version = i32::try_from(number(version)).unwrap_or(0);
+    let tenths = match tenths {
+        [b'-', digits @ ..] => -i32::try_from(number(digits)).unwrap_or(0),
+        digits => i32::try_from(number(digits)).unwrap_or(i32::MAX),
+    };
+    print!(rt; "{}", word(&RATINGS, rating_number(version, tenths)))
 }
 
 /// The word of a number, or `-`.

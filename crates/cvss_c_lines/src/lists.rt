@@ -27,7 +27,7 @@ fn replace(bytes: &mut [u8], old: u8, new: u8) {
 }
 
 /// The number of decimal digits; 0 for other bytes.
-fn number(digits: &[u8]) -> usize {
+pub(crate) fn number(digits: &[u8]) -> usize {
     match str::from_utf8(digits) {
         Ok(digits) => digits.parse().unwrap_or(0),
         Err(_) => 0,

@@ -14,6 +14,11 @@
 //!   length, the number of bytes that were read, and the buffer. A `|` ends a line.
 //! - `find FROM TEXT`: the offset and the length of the first vector found from an offset on.
 //! - `override TEXT OVERRIDES`: the vector with these environmental metrics, and why it has none.
+//! - `with TEXT METRICS`: the vector with these metrics set, and why they are not.
+//! - `build VERSION METRICS`: the vector of a version that these metrics make, and why they make none.
+//! - `groups TEXT`: of a vector of v4.0 its scores by nomenclature, CVSS-B, BE, BT and BTE.
+//! - `rating VERSION TENTHS`: the rating of so many tenths by the bounds of a version.
+//! - `value TEXT`: the part of a rejected text that the reason quotes.
 //!
 //! `-` is an empty answer. Each call that writes into a buffer is made with one that is a byte too
 //! short, which must stay as it was, and with one that just fits.
@@ -57,6 +62,11 @@ fn answer(rt: &HostRuntime, mark: &[u8], asked: &[u8]) -> io::Result<()> {
         b"answers" => lists::answers(rt, asked),
         b"find" => lists::find(rt, asked),
         b"override" => texts::overridden(rt, asked),
+        b"with" => texts::with_metrics(rt, asked),
+        b"build" => texts::built(rt, asked),
+        b"groups" => facts::scores_by(rt, asked),
+        b"rating" => facts::rating(rt, asked),
+        b"value" => texts::quoted(rt, asked),
         _ => print!(rt; "no such mark"),
     }
 }

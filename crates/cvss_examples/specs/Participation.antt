@@ -1,7 +1,5 @@
 -- A caller's own metric, which has the values of User Interaction under other names.
-use Rattle.cvss.specs.MetricTypeV3.TheVariants.{UI, MUI}
-use Rattle.cvss.specs.ModifiedTypeV3.{Modified}
-use Rattle.cvss.specs.ModifiedTypeV3.TheVariants.{NotDefined, Modified as Set}
+use Rattle.cvss.specs.MetricTypeV3.TheVariants.{UI}
 use Rattle.cvss.specs.TableV3.{Value}
 use Rattle.cvss_v3_metric.specs.declared.base.access.UserInteraction.TheVariants.{Required, None}
 use Rattle.cvss_examples.specs.declared.own_metric.Participation.{Participation}
@@ -11,8 +9,3 @@ use Rattle.cvss_examples.specs.declared.own_metric.Participation.TheVariants.{Ne
 abbrev pub participation : Participation → Value UI
 participation Needed = Required
 participation Unneeded = None
-
--- the value of the table that the modified metric has
-abbrev pub modified_participation : Modified Participation → Value MUI
-modified_participation NotDefined = NotDefined
-modified_participation (Set value) = Set (participation value)

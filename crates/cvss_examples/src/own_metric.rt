@@ -1,13 +1,13 @@
 //! A metric of a caller's own, which `Modified` can replace as it does the library's.
 
-ghost use Rattle.std.specs.Prelude.{◌∷◌, ◌≡◌, IfSome, Some, refl};
+ghost use Rattle.std.specs.Prelude.{◌≡◌, IfSome, Some, refl};
 ghost use Rattle.std.proofs.Common.{rules};
 ghost use Rattle.cvss.specs.MetricTypeV3.TheVariants.{UI, MUI};
 ghost use Rattle.cvss.specs.TableV3.{metric_component, spelling_of};
-ghost use Rattle.cvss.specs.Text.{slash};
+ghost use Rattle.cvss_v3_metric.specs.Modified.{modified_map};
 ghost use Rattle.cvss_v3_metric.specs.declared.base.access.UserInteraction.TheVariants as table;
 ghost use Rattle.cvss_examples.specs.declared.own_metric.Participation.TheVariants.{Needed, Unneeded};
-ghost use Rattle.cvss_examples.specs.Participation.{participation, modified_participation};
+ghost use Rattle.cvss_examples.specs.Participation.{participation};
 
 use cvss::v3::metric::Spelled;
 use cvss::v3::metric::environmental::{BaseMetric, Modified};
@@ -77,25 +77,13 @@ impl BaseMetric for Participation {
 
     ghost MODIFIED_TYPE = { MUI };
 
-    ghost modified_value = { modified_participation };
-
     ghost base_law = { Prim.search rules };
-
-    fn modified_slashed(metric: Modified<Self>) -> &'static str
-        ensures { result.now ≡ slash ∷ metric_component MUI (modified_participation metric) }
-    {
-        match metric {
-            Modified::NotDefined => "/MUI:X",
-            Modified::Modified(Self::Needed) => "/MUI:R",
-            Modified::Modified(Self::Unneeded) => "/MUI:N",
-        }
-    }
 }
 
 /// The value of the modified metric with this spelling.
 pub fn read_modified(text: &str) -> Option<Modified<Participation>>
     ensures { IfSome result
-        (λ metric. spelling_of MUI (modified_participation metric) ≡ text.now) }
+        (λ metric. spelling_of MUI (modified_map participation metric) ≡ text.now) }
 {
     Modified::read(text)
 }

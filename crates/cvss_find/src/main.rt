@@ -6,8 +6,8 @@ mod help;
 pub mod laws;
 mod telling;
 
-use cvss_lines::Summary;
-use cvss_program::{ProgramFault, arguments, program_status, run_program};
+use cvss_lines::{Summary, exit_status};
+use cvss_program::{ProgramFault, arguments, run_program};
 use help::USAGE;
 use std::process::ExitCode;
 pub use telling::Texts;
@@ -20,7 +20,7 @@ fn main(rt: HostRuntime) -> ExitCode {
             let _ = eprint!(rt; "{USAGE}");
         }
     }
-    ExitCode::from(program_status(&result))
+    ExitCode::from(exit_status(&result))
 }
 
 /// Runs over standard input and output, with the program's arguments.

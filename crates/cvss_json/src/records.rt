@@ -3,14 +3,20 @@
 ghost use Rattle.cvss.specs.Answers.{HasScore};
 
 use cvss::{Cvss, Error};
-use cvss_record::{Difference, Form, Place, differences, differences_at, record_of, vectors_in};
+use cvss_document::{Difference, Form, Place, differences, differences_at, vectors_in};
+use cvss_object::Page;
+use cvss_record::put_record;
 use serde_json::Value;
 use std::io;
 
 /// The record of a vector, and its members that say otherwise than the vector, which are none.
 pub(crate) fn record(rt: &HostRuntime, text: &str) -> io::Result<()> {
     match Cvss::from_str(rt.alloc(), text) {
-        Ok(vector) => print_record(rt, &vector, &record_of(rt.alloc(), &vector)?),
+        Ok(vector) => {
+            let mut page = Page::new();
+            put_record(&mut page, &vector);
+            print_record(rt, &vector, page.bytes())
+        }
         Err(error) => print_error(rt, &error),
     }
 }
@@ -19,12 +25,15 @@ fn print_error(rt: &HostRuntime, error: &Error) -> io::Result<()> {
     println!(rt; "error: {error}")
 }
 
-fn print_record(rt: &HostRuntime, vector: &Cvss, record: &Value) -> io::Result<()>
+fn print_record(rt: &HostRuntime, vector: &Cvss, record: &[u8]) -> io::Result<()>
     requires { HasScore vector.now }
 {
-    print!(rt; "{record}")?;
-    match record {
-        Value::Object(members) => print_members(rt, &differences(rt.alloc(), vector, members)?),
+    let text = str::from_utf8(record).unwrap_or("no text");
+    print!(rt; "{text}")?;
+    match Value::from_str(rt.alloc(), text) {
+        Ok(Value::Object(members)) => {
+            print_members(rt, &differences(rt.alloc(), vector, &members)?)
+        }
         _ => println!(rt; " is no object"),
     }
 }

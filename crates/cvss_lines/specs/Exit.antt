@@ -5,7 +5,7 @@ use Rattle.cvss_lines.specs.declared.fault.RunFault.{RunFault}
 use Rattle.cvss_lines.specs.declared.fault.RunFault.TheVariants.{Read, Write, Memory}
 
 -- 0 where no line was refused, 1 where some were, 2 after a fault
-abbrev pub exit_status : Result Summary RunFault → ℕ
+abbrev pub exit_status : {F : Type 0} → Result Summary F → ℕ
 exit_status (Ok summary) = if summary.refused == 0 then 0 else 1
 exit_status (Err fault) = 2
 

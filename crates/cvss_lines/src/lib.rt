@@ -19,7 +19,7 @@ mod summary;
 pub use answering::Answering;
 pub use fault::RunFault;
 pub use gathered::{Gathered, write_whole};
-pub use lines::first_line;
+pub use lines::{cut_at_line_end, first_line, line_text};
 pub use reading::read_whole;
 pub use running::{run, run_streaming};
 pub use streaming::{Streaming, Whole};

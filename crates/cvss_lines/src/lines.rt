@@ -18,7 +18,7 @@ pub fn first_line(input: &[u8]) -> Option<(&[u8], &[u8])>
 }
 
 /// The bytes before and after the first byte 10.
-pub(crate) fn cut_at_line_end(bytes: &[u8]) -> Option<(&[u8], &[u8])>
+pub fn cut_at_line_end(bytes: &[u8]) -> Option<(&[u8], &[u8])>
     ensures { MatchOption result (All (λ b. b ≢ 10) bytes.now)
         (λ cut. All (λ b. b ≢ 10) cut.0.now × (bytes.now ≡ cut.0.now ++ 10 ∷ cut.1.now)) }
 {
@@ -30,7 +30,7 @@ pub(crate) fn cut_at_line_end(bytes: &[u8]) -> Option<(&[u8], &[u8])>
 }
 
 /// A line's text: its piece of the input less the one byte 13 at its end.
-pub(crate) fn line_text(piece: &[u8]) -> &[u8]
+pub fn line_text(piece: &[u8]) -> &[u8]
     ensures { result.now ≡ line_text piece.now }
 {
     match piece.split_last() {

@@ -4,8 +4,6 @@ ghost use Rattle.cvss_lines.specs.Exit.{exit_status as status_of};
 ghost use Rattle.cvss_lines.specs.Runs.{summary_of};
 ghost use Rattle.cvss_lines.specs.private.Steps.{Counts};
 
-use crate::RunFault;
-
 /// How many lines a run accepted and refused. Each count stops at `u64::MAX`.
 #[derive(Clone, Copy, Debug, PartialEq, Eq)]
 pub struct Summary {
@@ -42,7 +40,7 @@ impl Summary {
 }
 
 /// The exit status of a run: 0 if no line was refused, 1 if some were, 2 after a fault.
-pub fn exit_status(outcome: &Result<Summary, RunFault>) -> u8
+pub fn exit_status<F>(outcome: &Result<Summary, F>) -> u8
     ensures { result ≡ status_of outcome.now }
 {
     match outcome {

@@ -1,7 +1,1 @@
 mod DecimalFacts
-pub mod MembersLemmas
-pub mod ObjectLemmas
-mod OneLineLemmas
-mod PrintsLemmas
-mod PartsLemmas
-mod TreesLemmas

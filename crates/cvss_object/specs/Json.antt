@@ -1,5 +1,5 @@
 -- JSON text without spaces: RFC 8259. Its strings are ones that need no escape.
-use Rattle.std.specs.Prelude.{ℕ, ◌+◌, ◌*◌, ◌/◌, ◌%◌, nat_eq, if◌then◌else◌, ℤ, pos, int_lt, unsigned_abs, List, [], ◌∷◌, ◌++◌, codes, take}
+use Rattle.std.specs.Prelude.{◌≡◌, ℕ, Bool, true, false, ◌+◌, ◌*◌, ◌/◌, ◌%◌, nat_eq, if◌then◌else◌, ℤ, pos, int_lt, unsigned_abs, List, [], ◌∷◌, ◌++◌, codes, take}
 use Rattle.std.specs.Fmt.{decimal}
 
 -- a string
@@ -13,15 +13,24 @@ Member = List ℕ × List ℕ
 abbrev pub member_text : Member → List ℕ
 member_text member = string_text member.0 ++ 58 ∷ member.1
 
--- members that follow another, and the brace after them
-abbrev pub further_members : List Member → List ℕ
-further_members [] = codes "}"
-further_members (member ∷ members) = 44 ∷ (member_text member ++ further_members members)
+-- a comma, where members come before
+abbrev pub comma_if : Bool → List ℕ
+comma_if true = codes ","
+comma_if false = []
+
+-- what follows the opening brace of an object, or members of it: these members, and the closing brace
+abbrev pub rest_of_object : Bool → List Member → List ℕ
+rest_of_object later [] = codes "}"
+rest_of_object later (member ∷ members) = comma_if later ++ (member_text member ++ rest_of_object true members)
 
 -- the object of these members, in this order
 abbrev pub object_text : List Member → List ℕ
-object_text [] = codes "{}"
-object_text (member ∷ members) = 123 ∷ (member_text member ++ further_members members)
+object_text members = 123 ∷ rest_of_object false members
+
+-- these members are written after a part of an object, in which members come before or none
+abbrev pub WritesMembers : Bool → List Member → List ℕ → List ℕ → Type 0
+WritesMembers later members old new =
+    (more : List Member) → new ++ rest_of_object true more ≡ old ++ rest_of_object later (members ++ more)
 
 -- values that follow another, and the bracket after them
 abbrev pub further_values : List (List ℕ) → List ℕ

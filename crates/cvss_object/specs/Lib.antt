@@ -1,6 +1,2 @@
-pub mod Fragments
 pub mod Json
-pub mod Objects
-pub mod Texts
-pub mod Trees
-pub mod private
+pub mod Scalars

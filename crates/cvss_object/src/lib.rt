@@ -1,13 +1,9 @@
-//! JSON objects as the answers of programs: each on one line, without spaces.
+//! JSON objects that are written without memory.
 #![tactic(auto)]
 
-mod fragment;
+pub mod laws;
+mod member;
 mod page;
-mod text;
-mod tree;
-mod write;
 
-pub use fragment::{Fragment, Scalar, put_fragments};
+pub use member::{Member, Scalar, put_member, put_members, put_name, put_object_member};
 pub use page::Page;
-pub use tree::{Tree, put_tree};
-pub use write::{write_object, write_tree_object};

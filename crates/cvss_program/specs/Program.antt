@@ -45,11 +45,6 @@ pub record Performs (ends : Ending) (usage : List ℕ) (asked : Request) (unread
   pub runs : asked ≡ request.Run → RunsOver ends unread unread' written written' result
   pub keeps : asked ≢ request.Run → Keeps unread unread'
 
--- 0 where nothing is refused, 1 where something is, 2 after a fault
-abbrev pub program_status : Result Summary ProgramFault → ℕ
-program_status (Ok summary) = lines.exit_status (Ok summary)
-program_status (Err fault) = 2
-
 -- the words on standard error
 abbrev pub fault_text : ProgramFault → List ℕ
 fault_text Arguments = codes "no argument is known but `--help`"

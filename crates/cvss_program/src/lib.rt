@@ -8,5 +8,5 @@ mod program;
 mod requests;
 
 pub use command_line::{CommandLine, arguments, arguments_of};
-pub use program::{ProgramFault, program_status, run_program, run_streaming_program};
+pub use program::{ProgramFault, run_program, run_streaming_program};
 pub use requests::{Request, asked, asked_alone};

@@ -5,7 +5,7 @@ ghost use Rattle.std.specs.Io.KnownBytes.{Appends};
 ghost use Rattle.cvss_lines.specs.Runs.{Ends, summary_of};
 ghost use Rattle.cvss_lines.specs.Streaming.{StreamEnds};
 ghost use Rattle.cvss_lines.specs.declared.fault.RunFault.TheVariants.{Memory, Write as WriteFault};
-ghost use Rattle.cvss_program.specs.Program.{Performs, fault_text, program_status as status_of};
+ghost use Rattle.cvss_program.specs.Program.{Performs, fault_text};
 ghost use Rattle.cvss_program.specs.Requests.{asked_alone as asked_of};
 ghost use Rattle.cvss_program.specs.declared.program.ProgramFault.TheVariants.{Run as RunEnded};
 
@@ -101,17 +101,5 @@ fn write_usage<W: Write>(usage: &str, writer: &mut W) -> Result<Summary, Program
             refused: 0,
         }),
         Err(fault) => Err(ProgramFault::Run(fault)),
-    }
-}
-
-/// The exit status of a program: 0 if no line was refused or the usage is written, 1 if some were
-/// refused, 2 after a fault.
-pub fn program_status(outcome: &Result<Summary, ProgramFault>) -> u8
-    ensures { result ≡ status_of outcome.now }
-{
-    match outcome {
-        Ok(summary) if summary.refused == 0 => 0,
-        Ok(_) => 1,
-        Err(_) => 2,
     }
 }

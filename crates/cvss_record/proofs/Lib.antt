@@ -1,3 +1,5 @@
-mod PointerLemmas
-mod PlacesLemmas
+mod FieldFacts
+mod FieldLemmas
+mod PlainLemmas
 mod TellingLemmas
+mod WordLemmas

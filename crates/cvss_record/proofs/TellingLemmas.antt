@@ -1,96 +1,148 @@
--- A record holds the text of its vector, which no other of its members has the name of.
-use Rattle.std.proofs.Common.{◌≡◌, ◌↔◌, ℕ, List, [], ◌∷◌, ◌++◌, codes, map, Bool, true, false, cond, Option, Some, None, bytes_eq, true≢false, refl, sym, ap, ◌∙◌}
-use Rattle.std.proofs.lemmas.Slice.Eq.{bytes_eq-Decides}
-use Rattle.cvss_any.specs.Answers.{metrics_of, text_of}
+-- A record's text gives the text of its vector: it is the string after the name `vectorString`.
+use Rattle.std.proofs.Common.{◌≡◌, ◌↔◌, ◌+◌, ℕ, zero, suc, Bool, true, false, not, ◌&&◌, ◌||◌, if◌then◌else◌, nat_eq, List, [], ◌∷◌, ◌++◌, codes, All, map, Option, Some, None, bytes_eq, option_and_then, option_map, refl, sym, ap, ap₂, ◌∙◌, append_assoc, rules}
+use Rattle.std.specs.List.{cons_option, filter_map, list_all, list_any, slice_split}
+use Rattle.std.specs.Fmt.{digits, digits_onto}
+use Rattle.std.proofs.lemmas.Bool.{and_parts, not-true}
+use Rattle.std.proofs.lemmas.List.Splits.{slice_split_at}
+use Rattle.std.proofs.lemmas.List.Elements.{All-cons, All-nil}
+use Rattle.std.proofs.lemmas.List.Folds.{list_all-append}
+use Rattle.cvss_any.specs.Answers.{text_of}
 use Rattle.cvss_any.specs.Dispatch.{DenotesCvss}
-use Rattle.cvss_laws.specs.any.GivenBack.{IsGivenBack}
-use Rattle.cvss_any.specs.declared.metric_type.MetricType.{MetricType}
-use Rattle.cvss_any.specs.declared.metric_type.MetricType.TheVariants.{V2, V3, V4}
 use Rattle.cvss_any.specs.declared.vector.Cvss.{Cvss}
-use Rattle.cvss_base.specs.declared.v2.MetricType.TheVariants as metric_v2
-use Rattle.cvss_base.specs.declared.v3.MetricType.TheVariants as metric_v3
-use Rattle.cvss_base.specs.declared.v4.MetricType.TheVariants as metric_v4
-use Rattle.cvss_words.specs.Versions.{version_of}
-use Rattle.serde_json.proofs.Views.{get_member-put, get_member-put_other}
-use Rattle.serde_json.specs.Data.{Data, Members, no_members, put, string}
-use Rattle.serde_json.specs.Find.{as_str, get, get_member}
-use Rattle.cvss_record.specs.Groups.{has_group, score_member, severity_member}
-use Rattle.cvss_record.specs.Members.{member_of}
-use Rattle.cvss_object.specs.Objects.{Member, with_members}
-use Rattle.cvss_record.specs.Record.{IsRecordOf, group_members, is_rated, metric_member, optional_members, record_members}
+use Rattle.cvss_any.specs.declared.vector.Cvss.TheVariants.{CvssV20, CvssV30, CvssV31, CvssV40}
+use Rattle.cvss_laws.specs.any.GivenBack.{IsGivenBack}
+use Rattle.cvss_object.specs.Json.{Member, comma_if, member_text, object_text, rest_of_object, string_text, tenths_text}
+use Rattle.cvss_record.specs.Fields.{fields_of, name_of}
+use Rattle.cvss_record.specs.Record.{Due, text, score, nothing, IsRecordText, due_of, due_text, member_at, tells_group, value_at}
+use Rattle.cvss_record.specs.declared.field.Field.{Field}
+use Rattle.cvss_record.specs.declared.field.Field.TheVariants.{V2, V3, V4, Score, Rating, Text, Version}
 use Rattle.cvss_record.specs.declared.group.Group.{Group}
-use Rattle.cvss_record.specs.declared.group.Group.TheVariants.{Base, Temporal, Environmental}
 use Rattle.cvss_record.specs.declared.score.Scores.{Scores}
-use Rattle.cvss_object.proofs.ObjectLemmas.{with_members-append}
+use Rattle.cvss_record.proofs.PlainLemmas.{plain_text, plain_tenths}
+use Rattle.cvss_record.proofs.WordLemmas.{due_fits, is_due, is_other, is_plain, is_text, is_word, name_fits}
 
--- the name of the member that holds the text
-abbrev text_name : List ℕ
-text_name = codes "vectorString"
+abbrev is_quote : ℕ → Bool
+is_quote byte = nat_eq byte 34
 
--- what is put leaves what stands there
-record Leaves (members : List Member) : Type 0 where
-  same : (old : Members) → get_member text_name (with_members members old) ≡ get_member text_name old
+without_quotes : (bytes : List ℕ) → is_plain bytes ≡ true → All (λ byte. is_quote byte ≡ false) bytes
+without_quotes [] plain = All-nil (λ each. is_quote each ≡ false)
+without_quotes (byte ∷ bytes) plain =
+    let both = and_parts (not (is_quote byte)) (is_plain bytes) plain in
+    All-cons (λ each. is_quote each ≡ false) byte bytes (not-true (is_quote byte) both.0) (without_quotes bytes both.1)
 
-leaves-none : Leaves []
-leaves-none = record { same = λ old. refl }
+-- the part after the next
+abbrev second : List (List ℕ) → Option (List ℕ)
+second (one ∷ two ∷ rest) = Some two
+second _ = None
 
-leaves-append : (first second : List Member) → Leaves first → Leaves second → Leaves (first ++ second)
-leaves-append first second of_first of_second = record {
-  same = λ old. ap (get_member text_name) (with_members-append first second old) ∙ of_second.same (with_members first old) ∙ of_first.same old;
-}
+-- of what is between quotation marks, the second after the name of the vector's text
+abbrev after_name : List (List ℕ) → Option (List ℕ)
+after_name [] = None
+after_name (part ∷ parts) = if bytes_eq part (codes "vectorString") then second parts else after_name parts
 
-leaves-other : (name : List ℕ) (value : Data) (rest : List Member) → bytes_eq text_name name ≡ false → Leaves rest → Leaves ((name, value) ∷ rest)
-leaves-other name value rest other of_rest = record {
-  same = λ old. of_rest.same (put name value old)
-      ∙ get_member-put_other text_name name value old (λ same. true≢false (sym ((bytes_eq-Decides text_name name).1 same) ∙ other));
-}
+abbrev text_in : List ℕ → Option (List ℕ)
+text_in record_text = after_name (slice_split is_quote record_text)
 
-leaves-if : (b : Bool) (members : List Member) → Leaves members → Leaves (cond b members [])
-leaves-if true members leaves = leaves
-leaves-if false members leaves = leaves-none
+-- another part is passed over
+pass : (part rest : List ℕ) → is_other part ≡ true → text_in (part ++ 34 ∷ rest) ≡ text_in rest
+pass part rest other =
+    let both = and_parts (is_plain part) (not (bytes_eq part (codes "vectorString"))) other in
+    ap after_name (slice_split_at is_quote part 34 rest (without_quotes part both.0) refl)
+    ∙ ap (λ b. if b then second (slice_split is_quote rest) else text_in rest) (not-true _ both.1)
 
-metric_other : (metric : MetricType) → bytes_eq text_name (member_of metric) ≡ false
-metric_other (V2 kind) = elim kind as (λ k. bytes_eq text_name (member_of (V2 k)) ≡ false) [ metric_v2.AV ↦ refl | _ ↦ refl ]
-metric_other (V3 kind) = elim kind as (λ k. bytes_eq text_name (member_of (V3 k)) ≡ false) [ metric_v3.AV ↦ refl | _ ↦ refl ]
-metric_other (V4 kind) = elim kind as (λ k. bytes_eq text_name (member_of (V4 k)) ≡ false) [ metric_v4.AV ↦ refl | _ ↦ refl ]
+found : (told rest : List ℕ) → is_plain told ≡ true → text_in (codes "vectorString" ++ 34 ∷ (58 ∷ 34 ∷ (told ++ 34 ∷ rest))) ≡ Some told
+found told rest plain =
+    ap after_name (slice_split_at is_quote (codes "vectorString") 34 (58 ∷ 34 ∷ (told ++ 34 ∷ rest)) (without_quotes (codes "vectorString") refl) refl)
+    ∙ ap second (slice_split_at is_quote (58 ∷ []) 34 (told ++ 34 ∷ rest) (without_quotes (58 ∷ []) refl) refl)
+    ∙ ap (λ parts. second ((58 ∷ []) ∷ parts)) (slice_split_at is_quote told 34 rest (without_quotes told plain) refl)
 
-metrics_leave : (items : List (MetricType × List ℕ)) → Leaves (map metric_member items)
-metrics_leave [] = leaves-none
-metrics_leave (item ∷ rest) = leaves-other _ _ (map metric_member rest) (metric_other item.0) (metrics_leave rest)
+-- a member whose value is a string, or has no quotation mark
+string_cut : (front comma name word rest : List ℕ) → front ++ (comma ++ (member_text (name, string_text word) ++ rest)) ≡ (front ++ comma) ++ 34 ∷ (name ++ 34 ∷ (58 ∷ 34 ∷ (word ++ 34 ∷ rest)))
+string_cut front comma name word rest = simp append_assoc refl
 
-groups_other : (group : Group) → (bytes_eq text_name (score_member group) ≡ false) × (bytes_eq text_name (severity_member group) ≡ false)
-groups_other = elim [ Base ↦ (refl, refl) | _ ↦ (refl, refl) ]
+number_cut : (front comma name number rest : List ℕ) → front ++ (comma ++ (member_text (name, number) ++ rest)) ≡ (front ++ comma) ++ 34 ∷ (name ++ 34 ∷ ((58 ∷ number) ++ rest))
+number_cut front comma name number rest = simp append_assoc refl
 
-group_leaves : (cvss : Cvss) (group : Group) (tenths : ℕ) → Leaves (group_members cvss group tenths)
-group_leaves cvss group tenths =
-    leaves-other _ _ _ (groups_other group).0 (leaves-if (is_rated cvss) _ (leaves-other _ _ [] (groups_other group).1 leaves-none))
+-- what stands before the next quotation mark
+number_front : (number : List ℕ) → is_plain number ≡ true → is_other ((58 ∷ number) ++ comma_if true) ≡ true
+number_front number plain = ap (λ b. b && true) (list_all-append (λ byte. not (is_quote byte)) number (44 ∷ []) ∙ ap (λ b. b && true) plain)
 
-optional_leaves : (cvss : Cvss) (group : Group) (tenths : Option ℕ) → Leaves (optional_members cvss group tenths)
-optional_leaves cvss group None = leaves-none
-optional_leaves cvss group (Some tenths) = leaves-if (has_group cvss group) _ (group_leaves cvss group tenths)
+data IsValue : Option (List ℕ) → Type 0 where
+  absent : IsValue None
+  string : (word : List ℕ) → is_other word ≡ true → IsValue (Some (string_text word))
+  number : (digits : List ℕ) → is_plain digits ≡ true → IsValue (Some digits)
 
-text_held : (cvss : Cvss) (scores : Scores) → get_member text_name (with_members (record_members cvss scores) no_members) ≡ Some (string (text_of cvss))
-text_held cvss scores =
-    let before = put (codes "version") (string (version_of cvss)) no_members in
-    let rest = leaves-append _ _ (metrics_leave (metrics_of cvss)) (leaves-append _ _ (group_leaves cvss Base scores.base)
-    (leaves-append _ _ (optional_leaves cvss Temporal scores.temporal) (optional_leaves cvss Environmental scores.environmental))) in
-    rest.same (put text_name (string (text_of cvss)) before) ∙ get_member-put text_name (string (text_of cvss)) before
+-- the text is found after this front and these members
+abbrev Finds : List ℕ → List Member → Type 0
+Finds told members = (front : List ℕ) (later : Bool) → is_other (front ++ comma_if later) ≡ true → text_in (front ++ rest_of_object later members) ≡ Some told
 
-told_text : (cvss : Cvss) (value : Data) → IsRecordOf cvss value → get text_name value ≡ Some (string (text_of cvss))
-told_text cvss value record_is = rw record_is.is (text_held cvss record_is.scores)
+found_later : (told : List ℕ) (name : List ℕ) (value : Option (List ℕ)) (members : List Member) → is_other name ≡ true → IsValue value → Finds told members
+    → Finds told (cons_option (option_map (λ each. (name, each)) value) members)
+found_later told name value members named (absent) finds front later other = finds front later other
+found_later told name value members named (string word fits) finds front later other =
+    ap text_in (string_cut front (comma_if later) name word (rest_of_object true members))
+    ∙ pass (front ++ comma_if later) (name ++ 34 ∷ (58 ∷ 34 ∷ (word ++ 34 ∷ rest_of_object true members))) other
+    ∙ pass name (58 ∷ 34 ∷ (word ++ 34 ∷ rest_of_object true members)) named ∙ pass (58 ∷ []) (word ++ 34 ∷ rest_of_object true members) refl
+    ∙ pass word (rest_of_object true members) fits ∙ finds [] true refl
+found_later told name value members named (number digits plain) finds front later other =
+    ap text_in (number_cut front (comma_if later) name digits (rest_of_object true members))
+    ∙ pass (front ++ comma_if later) (name ++ 34 ∷ ((58 ∷ digits) ++ rest_of_object true members)) other
+    ∙ pass name ((58 ∷ digits) ++ rest_of_object true members) named
+    ∙ finds (58 ∷ digits) true (number_front digits plain)
 
-string_text : Option Data → Option (List ℕ)
-string_text None = None
-string_text (Some value) = as_str value
+due_value : (due : Option Due) → is_due due ≡ true → IsValue (option_and_then due_text due)
+due_value None fits = absent
+due_value (Some (text told)) fits = string told (and_parts _ _ fits).1
+due_value (Some (score tenths)) fits = number (tenths_text tenths) (plain_tenths tenths)
+due_value (Some nothing) fits = absent
 
-one_text : (left right : Cvss) (value : Data) → IsRecordOf left value → IsRecordOf right value → text_of left ≡ text_of right
-unfolding string_text
-one_text left right value of_left of_right =
-    let same : Some (text_of left) ≡ Some (text_of right) = ap string_text (sym (told_text left value of_left) ∙ told_text right value of_right) in
-    cc
+value_if : (b : Bool) (value : Option (List ℕ)) → IsValue value → IsValue (if b then value else None)
+value_if true value is = is
+value_if false value is = absent
+
+module _ (cvss : Cvss) (scores : Scores) where
+  abbrev members_of : List Field → List Member
+  members_of fields = filter_map (member_at cvss scores) fields
+
+  -- another member than the vector's text
+  found_after : (field : Field) (fields : List Field) → is_text field ≡ false → Finds (text_of cvss) (members_of fields) → Finds (text_of cvss) (members_of (field ∷ fields))
+  found_after (V2 kind) fields other finds = found_later (text_of cvss) (name_of (V2 kind)) (value_at cvss scores (V2 kind)) (members_of fields) (name_fits (V2 kind) refl) (due_value (due_of cvss scores (V2 kind)) (due_fits cvss scores (V2 kind))) finds
+  found_after (V3 kind) fields other finds = found_later (text_of cvss) (name_of (V3 kind)) (value_at cvss scores (V3 kind)) (members_of fields) (name_fits (V3 kind) refl) (due_value (due_of cvss scores (V3 kind)) (due_fits cvss scores (V3 kind))) finds
+  found_after (V4 kind) fields other finds = found_later (text_of cvss) (name_of (V4 kind)) (value_at cvss scores (V4 kind)) (members_of fields) (name_fits (V4 kind) refl) (due_value (due_of cvss scores (V4 kind)) (due_fits cvss scores (V4 kind))) finds
+  found_after (Score group) fields other finds =
+      found_later (text_of cvss) (name_of (Score group)) (value_at cvss scores (Score group)) (members_of fields) (name_fits (Score group) refl)
+      (value_if (tells_group cvss group) (option_and_then due_text (due_of cvss scores (Score group))) (due_value (due_of cvss scores (Score group)) (due_fits cvss scores (Score group)))) finds
+  found_after (Rating group) fields other finds =
+      found_later (text_of cvss) (name_of (Rating group)) (value_at cvss scores (Rating group)) (members_of fields) (name_fits (Rating group) refl)
+      (value_if (tells_group cvss group) (option_and_then due_text (due_of cvss scores (Rating group))) (due_value (due_of cvss scores (Rating group)) (due_fits cvss scores (Rating group)))) finds
+  found_after Text fields other finds = absurd (cc)
+  found_after Version fields other finds = found_later (text_of cvss) (name_of Version) (value_at cvss scores Version) (members_of fields) (name_fits Version refl) (due_value (due_of cvss scores Version) (due_fits cvss scores Version)) finds
+
+  found_in : (fields : List Field) → list_any is_text fields ≡ true → Finds (text_of cvss) (members_of fields)
+  found_in [] has = λ front later other. absurd (cc)
+  found_in (Text ∷ fields) has = λ front later other.
+      ap text_in (string_cut front (comma_if later) (codes "vectorString") (text_of cvss) (rest_of_object true (members_of fields)))
+      ∙ pass (front ++ comma_if later) (codes "vectorString" ++ 34 ∷ (58 ∷ 34 ∷ (text_of cvss ++ 34 ∷ rest_of_object true (members_of fields)))) other
+      ∙ found (text_of cvss) (rest_of_object true (members_of fields)) (plain_text cvss)
+  found_in (V2 kind ∷ fields) has = found_after (V2 kind) fields refl (found_in fields has)
+  found_in (V3 kind ∷ fields) has = found_after (V3 kind) fields refl (found_in fields has)
+  found_in (V4 kind ∷ fields) has = found_after (V4 kind) fields refl (found_in fields has)
+  found_in (Score group ∷ fields) has = found_after (Score group) fields refl (found_in fields has)
+  found_in (Rating group ∷ fields) has = found_after (Rating group) fields refl (found_in fields has)
+  found_in (Version ∷ fields) has = found_after Version fields refl (found_in fields has)
+
+has_text : (cvss : Cvss) → list_any is_text (fields_of cvss) ≡ true
+has_text (CvssV20 _) = refl
+has_text _ = refl
+
+text_found : (cvss : Cvss) (record_text : List ℕ) → IsRecordText cvss record_text → text_in record_text ≡ Some (text_of cvss)
+text_found cvss record_text is =
+    ap text_in is.is ∙ found_in cvss is.scores (fields_of cvss) (has_text cvss) (123 ∷ []) false refl
 
 pub told_vector : ((cvss : Cvss) → (DenotesCvss (text_of cvss) cvss ↔ IsGivenBack cvss))
-    → ((text : List ℕ) (left right : Cvss) → DenotesCvss text left → DenotesCvss text right → left ≡ right)
-    → (left right : Cvss) (value : Data) → IsGivenBack left → IsGivenBack right → IsRecordOf left value → IsRecordOf right value → left ≡ right
-told_vector own one left right value left_back right_back of_left of_right =
-    one (text_of left) left right ((own left).1 left_back) (rw (one_text left right value of_left of_right) ((own right).1 right_back))
+    → ((bytes : List ℕ) (left right : Cvss) → DenotesCvss bytes left → DenotesCvss bytes right → left ≡ right)
+    → (left right : Cvss) (record_text : List ℕ) → IsGivenBack left → IsGivenBack right → IsRecordText left record_text → IsRecordText right record_text → left ≡ right
+told_vector own one left right record_text left_back right_back of_left of_right =
+    let found : Some (text_of left) ≡ Some (text_of right) = sym (text_found left record_text of_left) ∙ text_found right record_text of_right in
+    let same : text_of left ≡ text_of right = cc in
+    one (text_of left) left right ((own left).1 left_back) (rw same ((own right).1 right_back))

@@ -1,9 +1,5 @@
-pub mod Differences
-pub mod Due
+pub mod Fields
 pub mod Groups
-pub mod Members
-pub mod Places
-pub mod PlacesLeft
 pub mod Record
 pub mod laws
 pub mod private

@@ -1,27 +1,42 @@
--- The record of a vector, by FIRST's JSON schemas of CVSS v2.0, v3.0, v3.1 and v4.0.
-use Rattle.std.specs.Prelude.{◌≡◌, ℕ, Bool, true, false, List, [], ◌∷◌, ◌++◌, codes, map, Option, Some, None, if◌then◌else◌}
-use Rattle.cvss_any.specs.Answers.{metrics_of, rating_by, score_of_tenths, text_of}
-use Rattle.cvss_base.specs.declared.severity.Severity.{Severity}
-use Rattle.cvss_base.specs.declared.severity.Severity.TheVariants as severity
-use Rattle.cvss_any.specs.declared.metric_type.MetricType.{MetricType}
+-- The record of a vector: FIRST's JSON schemas of CVSS v2.0, v3.0, v3.1 and v4.0.
+use Rattle.std.specs.Prelude.{◌≡◌, ℕ, Bool, true, List, codes, Option, Some, None, option_map, option_and_then, unwrap_or, if◌then◌else◌}
+use Rattle.std.specs.List.{filter_map}
+use Rattle.cvss_any.specs.Answers.{rating_by, score_of_tenths, text_of}
 use Rattle.cvss_any.specs.declared.vector.Cvss.{Cvss}
 use Rattle.cvss_any.specs.declared.vector.Cvss.TheVariants.{CvssV20, CvssV30, CvssV31, CvssV40}
-use Rattle.cvss_words.specs.Scores.{score_value}
+use Rattle.cvss_base.specs.Version.{held}
+use Rattle.cvss_base.specs.declared.severity.Severity.{Severity}
+use Rattle.cvss_base.specs.declared.severity.Severity.TheVariants as severity
+use Rattle.cvss_object.specs.Json.{Member, object_text, string_text, tenths_text}
+use Rattle.cvss_v2.specs.Vector.{v2}
+use Rattle.cvss_v3.specs.Vector.{v3}
+use Rattle.cvss_v4.specs.Vector.{v4}
 use Rattle.cvss_words.specs.Versions.{version_of}
-use Rattle.serde_json.specs.Data.{Data, string}
-use Rattle.cvss_record.specs.Groups.{AreScoresOf, has_group, score_member, severity_member}
-use Rattle.cvss_record.specs.Members.{member_of, word_of}
-use Rattle.cvss_object.specs.Objects.{Member, object_of}
+use Rattle.cvss_words.specs.Words.{Row, word_in}
+use Rattle.cvss_words.specs.WordsV2 as words_v2
+use Rattle.cvss_words.specs.WordsV3 as words_v3
+use Rattle.cvss_words.specs.WordsV4 as words_v4
+use Rattle.cvss_record.specs.Fields.{fields_of, name_of}
+use Rattle.cvss_record.specs.Groups.{AreScoresOf, has_group, tenths_at}
+use Rattle.cvss_record.specs.declared.due.Due as code
+use Rattle.cvss_record.specs.declared.due.Due.TheVariants as code_due
+use Rattle.cvss_record.specs.declared.field.Field.{Field}
+use Rattle.cvss_record.specs.declared.field.Field.TheVariants.{V2, V3, V4, Score, Rating, Text, Version}
 use Rattle.cvss_record.specs.declared.group.Group.{Group}
 use Rattle.cvss_record.specs.declared.group.Group.TheVariants.{Base, Temporal, Environmental}
 use Rattle.cvss_record.specs.declared.score.Scores.{Scores}
 
--- the records of the version tell ratings
-abbrev pub is_rated : Cvss → Bool
-is_rated (CvssV20 _) = false
-is_rated (CvssV30 _) = true
-is_rated (CvssV31 _) = true
-is_rated (CvssV40 _) = true
+-- what a member says: a text, a score of so many tenths, or nothing of a metric that is absent
+pub data Due : Type 0 where
+  text : List ℕ → Due
+  score : ℕ → Due
+  nothing : Due
+
+-- and as the code has it
+abbrev pub due_view : code.Due → Due
+due_view (code_due.Text told) = text told.now
+due_view (code_due.Score tenths) = score tenths
+due_view code_due.Nothing = nothing
 
 -- the word of a rating
 abbrev pub rating_word : Severity → List ℕ
@@ -31,40 +46,65 @@ rating_word severity.Medium = codes "MEDIUM"
 rating_word severity.High = codes "HIGH"
 rating_word severity.Critical = codes "CRITICAL"
 
--- the value of a score's rating
-abbrev pub rating_value : Cvss → ℕ → Data
-rating_value cvss tenths = string (rating_word (rating_by cvss (score_of_tenths tenths)))
+-- the rating of a score of so many tenths
+abbrev pub rating_due : Cvss → ℕ → Due
+rating_due cvss tenths = text (rating_word (rating_by cvss (score_of_tenths tenths)))
 
--- a metric's member: the word for how its value is spelled
-abbrev pub metric_member : MetricType × List ℕ → Member
-metric_member item = (member_of item.0, string (word_of item.0 item.1))
+-- the word for how a metric's value is spelled, if the vector has one
+abbrev pub word_due : List Row → Option (List ℕ) → Due
+word_due words spelling = unwrap_or (option_map (λ each. text (word_in words each)) spelling) nothing
 
--- the members of a group's score, and of its rating where the version has ratings
-abbrev pub group_members : Cvss → Group → ℕ → List Member
-group_members cvss group tenths =
-    (score_member group, score_value tenths)
-    ∷ (if is_rated cvss then (severity_member group, rating_value cvss tenths) ∷ [] else [])
+-- how the vector's value is spelled for a metric of its version
+abbrev pub spelled_at : Cvss → Field → Option (List ℕ)
+spelled_at (CvssV20 vector) (V2 kind) = held v2 vector kind
+spelled_at (CvssV30 vector) (V3 kind) = held v3 vector kind
+spelled_at (CvssV31 vector) (V3 kind) = held v3 vector kind
+spelled_at (CvssV40 vector) (V4 kind) = held v4 vector kind
+spelled_at _ _ = None
 
--- the members of an optional group's score, where the vector has a metric of the group
-abbrev pub optional_members : Cvss → Group → Option ℕ → List Member
-optional_members cvss group None = []
-optional_members cvss group (Some tenths) = if has_group cvss group then group_members cvss group tenths else []
+-- what a member says of the vector, its text aside
+abbrev pub due_of : Cvss → Scores → Field → Option Due
+due_of cvss scores (V2 kind) = Some (word_due (words_v2.words_of kind) (spelled_at cvss (V2 kind)))
+due_of cvss scores (V3 kind) = Some (word_due (words_v3.words_of kind) (spelled_at cvss (V3 kind)))
+due_of cvss scores (V4 kind) = Some (word_due (words_v4.words_of kind) (spelled_at cvss (V4 kind)))
+due_of cvss scores (Score group) = option_map score (tenths_at scores group)
+due_of cvss scores (Rating group) = option_map (rating_due cvss) (tenths_at scores group)
+due_of cvss scores Text = None
+due_of cvss scores Version = Some (text (version_of cvss))
 
--- the members of the version and of the vector's text
-abbrev pub vector_members : Cvss → List Member
-vector_members cvss = (codes "version", string (version_of cvss)) ∷ (codes "vectorString", string (text_of cvss)) ∷ []
+-- what is said, as JSON
+abbrev pub due_text : Due → Option (List ℕ)
+due_text (text told) = Some (string_text told)
+due_text (score tenths) = Some (tenths_text tenths)
+due_text nothing = None
 
--- the members of the record: the version and the vector, the metrics that it has, and its scores
+-- the vector has a metric of the group, if that is an optional one
+abbrev pub tells_group : Cvss → Group → Bool
+tells_group cvss Base = true
+tells_group cvss Temporal = has_group cvss Temporal
+tells_group cvss Environmental = has_group cvss Environmental
+
+-- the record has the member, which of an optional group's score it has where the vector has a metric of the group
+abbrev pub has_member : Cvss → Field → Bool
+has_member cvss (Score group) = tells_group cvss group
+has_member cvss (Rating group) = tells_group cvss group
+has_member cvss _ = true
+
+-- the value of a member of the vector's record, as JSON, if the record has it
+abbrev pub value_at : Cvss → Scores → Field → Option (List ℕ)
+value_at cvss scores Text = Some (string_text (text_of cvss))
+value_at cvss scores field = if has_member cvss field then option_and_then due_text (due_of cvss scores field) else None
+
+-- the member, if the record has it
+abbrev pub member_at : Cvss → Scores → Field → Option Member
+member_at cvss scores field = option_map (λ value. (name_of field, value)) (value_at cvss scores field)
+
+-- the members of the record, in the order of their names
 abbrev pub record_members : Cvss → Scores → List Member
-record_members cvss scores =
-    vector_members cvss
-    ++ (map metric_member (metrics_of cvss)
-    ++ (group_members cvss Base scores.base
-    ++ (optional_members cvss Temporal scores.temporal
-    ++ optional_members cvss Environmental scores.environmental)))
+record_members cvss scores = filter_map (member_at cvss scores) (fields_of cvss)
 
--- the value is the vector's record
-pub record IsRecordOf (cvss : Cvss) (value : Data) : Type 0 where
+-- the text is the vector's record
+pub record IsRecordText (cvss : Cvss) (text : List ℕ) : Type 0 where
   pub scores : Scores
   pub are_scores : AreScoresOf cvss scores
-  pub is : value ≡ object_of (record_members cvss scores)
+  pub is : text ≡ object_text (record_members cvss scores)

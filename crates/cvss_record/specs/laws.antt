@@ -1,1 +1,1 @@
-pub mod Pointers
+pub mod Members

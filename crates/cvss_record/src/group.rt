@@ -4,6 +4,7 @@
 ghost use Rattle.std.specs.Prelude.{◌≡◌};
 ghost use Rattle.cvss_any.specs.declared.vector.Cvss.TheVariants.{CvssV20, CvssV30};
 ghost use Rattle.cvss_record.specs.Groups.{has_group, is_given_by, score_member, severity_member};
+ghost use Rattle.cvss_record.specs.Record.{tells_group};
 
 use crate::{v2, v3};
 use cvss_any::Cvss;
@@ -43,9 +44,20 @@ impl Group {
         }
     }
 
+    /// Whether the vector's record has the group's score: that of an optional group where the vector
+    /// has a metric of it.
+    pub(crate) fn is_told(self, cvss: &Cvss) -> bool
+        ensures { result ≡ tells_group cvss.now self }
+    {
+        match self {
+            Group::Base => true,
+            Group::Temporal | Group::Environmental => self.is_in(cvss),
+        }
+    }
+
     /// Whether a vector has an optional metric of the group, be it that the metric is not defined. Of
     /// CVSS v4.0, whose score is one, none counts.
-    pub(crate) fn is_in(self, cvss: &Cvss) -> bool
+    fn is_in(self, cvss: &Cvss) -> bool
         ensures { result ≡ has_group cvss.now self }
     {
         match cvss {

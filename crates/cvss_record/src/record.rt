@@ -1,127 +1,79 @@
-//! The record of a vector.
+//! The record of a vector, as JSON text.
 
-ghost use Rattle.std.specs.Prelude.{◌≡◌, IfOk, OnOk, map};
-ghost use Rattle.cvss_any.specs.Answers.{HasScore, metrics_of};
-ghost use Rattle.cvss_object.specs.Objects.{with_members};
-ghost use Rattle.cvss_record.specs.Record.{IsRecordOf, group_members, is_rated, metric_member, optional_members, vector_members};
-ghost use Rattle.serde_json.specs.Data.{put as with_member, string};
-ghost use Rattle.serde_json.specs.View.{members_view, view};
+ghost use Rattle.std.specs.Prelude.{◌≡◌, ◌+◌, ◌≤◌, [], ◌++◌, List, false, codes, filter_map, length};
+ghost use Rattle.std.specs.List.{cons_option};
+ghost use Rattle.cvss_any.specs.Answers.{HasScore};
+ghost use Rattle.cvss_object.specs.Json.{Member, rest_of_object};
+ghost use Rattle.cvss_record.specs.Record.{IsRecordText, has_member, member_at};
+ghost use Rattle.cvss_record.specs.private.Room.{field_room, fields_room};
 
-use crate::group::Group;
-use crate::member::{member, word};
-use crate::score::{Scores, rating};
+use crate::due::{Due, due_of};
+use crate::field::{Field, fields_of};
+use crate::score::Scores;
 use cvss_any::Cvss;
-use cvss_words::{score_value, version};
-use serde_json::{Map, Value, put};
-use std::alloc::{AllocError, Global};
+use cvss_object::{Page, Scalar, put_member};
+use cvss_words::put_vector_member;
 
-/// The record of a vector that has a score: its version, its text, the word of each metric that it
-/// has, its scores and, but for CVSS v2, their ratings.
-///
-/// # Errors
-///
-/// Want of memory alone.
-pub fn record_of(alloc: Global, cvss: &Cvss) -> Result<Value, AllocError>
-    requires { HasScore cvss.now }
-    ensures { IfOk result (λ value. IsRecordOf cvss.now (view value)) }
+/// Writes the record of a vector that has a score: its version, its text, the word of each metric that
+/// it has, its scores and, except in CVSS v2, their ratings. The members are in the order of their
+/// names.
+pub fn put_record(page: &mut Page, cvss: &Cvss)
+    requires scored { HasScore cvss.now }
+    requires empty { page.old ≡ [] }
+    ensures { IsRecordText cvss.now page.new }
 {
-    let scores = Scores::of(cvss);
-    let mut members = Map::new(alloc);
-    put_vector(&mut members, alloc, cvss)?;
-    put_metrics(&mut members, alloc, cvss)?;
-    put_group(&mut members, alloc, cvss, Group::Base, scores.base)?;
-    put_optional(&mut members, alloc, cvss, Group::Temporal, scores.temporal)?;
-    put_optional(
-        &mut members,
-        alloc,
-        cvss,
-        Group::Environmental,
-        scores.environmental,
-    )?;
-    Ok(Value::Object(members))
+    page.push(b"{");
+    put_fields(page, cvss, &Scores::of(cvss), fields_of(cvss));
+    page.push(b"}");
 }
 
-/// Whether records of the vector's version tell ratings.
-pub(crate) fn is_rated(cvss: &Cvss) -> bool
-    ensures { result ≡ is_rated cvss.now }
+/// Writes those of these members that the record has.
+fn put_fields(page: &mut Page, cvss: &Cvss, scores: &Scores, fields: &[Field])
+    requires { length page.old + fields_room fields.now ≤ 4096 }
+    ensures text { page.new ++ codes "}" ≡ page.old
+        ++ rest_of_object false (filter_map (member_at cvss.now scores.now) fields.now) }
+    ensures room { length page.new ≤ length page.old + fields_room fields.now }
 {
-    !matches!(cvss, Cvss::CvssV20(_))
-}
-
-fn put_vector(
-    members: &mut Map<String, Value>,
-    alloc: Global,
-    cvss: &Cvss,
-) -> Result<(), AllocError>
-    ensures { OnOk result (members_view members.new.entries
-        ≡ with_members (vector_members cvss.now) (members_view members.old.entries)) }
-{
-    put_text(members, alloc, "version", version(cvss))?;
-    let text = cvss.to_string(alloc)?;
-    put(members, alloc, "vectorString", Value::String(text))
-}
-
-fn put_metrics(
-    members: &mut Map<String, Value>,
-    alloc: Global,
-    cvss: &Cvss,
-) -> Result<(), AllocError>
-    ensures { OnOk result (members_view members.new.entries
-        ≡ with_members (map metric_member (metrics_of cvss.now)) (members_view members.old.entries)) }
-{
-    for (metric, spelling) in cvss.metrics() {
-        put_text(members, alloc, member(metric), word(metric, spelling))?;
-    }
-    Ok(())
-}
-
-fn put_group(
-    members: &mut Map<String, Value>,
-    alloc: Global,
-    cvss: &Cvss,
-    group: Group,
-    tenths: u8,
-) -> Result<(), AllocError>
-    ensures { OnOk result (members_view members.new.entries
-        ≡ with_members (group_members cvss.now group tenths) (members_view members.old.entries)) }
-{
-    put(members, alloc, group.score_member(), score_value(tenths))?;
-    if is_rated(cvss) {
-        put_text(
-            members,
-            alloc,
-            group.severity_member(),
-            rating(cvss, tenths),
-        )?;
-    }
-    Ok(())
-}
-
-fn put_optional(
-    members: &mut Map<String, Value>,
-    alloc: Global,
-    cvss: &Cvss,
-    group: Group,
-    tenths: Option<u8>,
-) -> Result<(), AllocError>
-    ensures { OnOk result (members_view members.new.entries
-        ≡ with_members (optional_members cvss.now group tenths) (members_view members.old.entries)) }
-{
-    match tenths {
-        Some(tenths) if group.is_in(cvss) => put_group(members, alloc, cvss, group, tenths),
-        _ => Ok(()),
+    let mut later = false;
+    for field in fields {
+        later = put_field(page, later, cvss, scores, *field);
     }
 }
 
-/// Puts a text under a name.
-fn put_text(
-    members: &mut Map<String, Value>,
-    alloc: Global,
-    name: &str,
-    text: &str,
-) -> Result<(), AllocError>
-    ensures { OnOk result (members_view members.new.entries
-        ≡ with_member name.now (string text.now) (members_view members.old.entries)) }
+/// Writes a member, if the record has it, and returns whether members are written now.
+fn put_field(page: &mut Page, later: bool, cvss: &Cvss, scores: &Scores, field: Field) -> bool
+    requires { length page.old + field_room field ≤ 4096 }
+    ensures text { (more : List Member) → page.new ++ rest_of_object result more
+        ≡ page.old ++ rest_of_object later (cons_option (member_at cvss.now scores.now field) more) }
+    ensures room { length page.new ≤ length page.old + field_room field }
 {
-    put(members, alloc, name, Value::try_from_str(alloc, text)?)
+    if let Field::Text = field {
+        put_vector_member(page, later, "vectorString", cvss);
+        return true;
+    }
+    if !has_member(cvss, field) {
+        return later;
+    }
+    match due_of(cvss, scores, field) {
+        Some(Due::Text(text)) => {
+            put_member(page, later, field.name(), Scalar::Text(text));
+            true
+        }
+        Some(Due::Score(tenths)) => {
+            put_member(page, later, field.name(), Scalar::Tenths(tenths));
+            true
+        }
+        _ => later,
+    }
+}
+
+/// Whether the record has the member: that of an optional group's score where the vector has a metric
+/// of the group.
+fn has_member(cvss: &Cvss, field: Field) -> bool
+    ensures { result ≡ has_member cvss.now field }
+{
+    match field {
+        Field::Score(group) | Field::Rating(group) => group.is_told(cvss),
+        _ => true,
+    }
 }

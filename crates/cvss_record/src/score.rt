@@ -60,7 +60,7 @@ impl Scores {
 }
 
 /// The rating that the vector's version gives a score of so many tenths, as a record tells it.
-pub(crate) fn rating(cvss: &Cvss, tenths: u8) -> &'static str
+pub fn rating(cvss: &Cvss, tenths: u8) -> &'static str
     ensures { result.now ≡ rating_word (rating_by cvss.now (score_of_tenths tenths)) }
 {
     match cvss.severity_of(i128::from(tenths) * TENTH) {

@@ -1,9 +1,10 @@
 //! The equations of CVSS v2: scores from weights.
 
-pub mod base_score;
-pub mod equations;
+mod base_score;
+mod equations;
 pub mod laws;
 pub mod score;
 mod weights;
 
 pub use score::Score;
+pub use weights::Weights;

@@ -7,4 +7,4 @@ mod rules;
 pub mod weighing;
 mod weights;
 
-pub use rules::Rules;
+pub use rules::{Exponent, Rules};

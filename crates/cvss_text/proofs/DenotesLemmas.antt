@@ -85,9 +85,11 @@ module _ {V K : Type 0} (version : Version V K) (lawful : IsLawful version) wher
       let stands = held_stands version lawful v parts kind value of_v held in
       held_as w _ (piece_held version lawful w parts stands.place of_w stands.within) kind value stands.is
 
+  pub values_same : (v w : V) (parts : List (List ℕ)) → AreComponentsOf version parts v → AreComponentsOf version parts w → (kind : K) → version.value_of v kind ≡ version.value_of w kind
+  values_same v w parts of_v of_w kind = same_options _ _ (value_shared v w parts of_v of_w kind) (value_shared w v parts of_w of_v kind)
+
   pub vectors_same : (v w : V) (parts : List (List ℕ)) → version.front v ≡ version.front w → AreComponentsOf version parts v → AreComponentsOf version parts w → v ≡ w
-  vectors_same v w parts front of_v of_w =
-      lawful.one_vector v w front (λ kind. same_options _ _ (value_shared v w parts of_v of_w kind) (value_shared w v parts of_w of_v kind))
+  vectors_same v w parts front of_v of_w = lawful.one_vector v w front (values_same v w parts of_v of_w)
 
   -- the pieces of a vector's components have no fault
   pub no_fault_held : (v : V) (parts : List (List ℕ)) (place : ℕ) → AreComponentsOf version parts v → place < length parts → (reason : Refusal K) → FaultAt version parts place reason → ⊥

@@ -45,7 +45,7 @@ module _ {V K : Type 0} (version : Version V K) (lawful : IsLawful version) wher
   component_read kind text =
       read-component version.any_case (version.name kind) text ∙ rw (name_read kind)
 
-  only_place : (kind : K) (place : ℕ) (d : K) → place < length version.printed → get_or version.printed place d ≡ kind → place ≡ place_of version kind
+  pub only_place : (kind : K) (place : ℕ) (d : K) → place < length version.printed → get_or version.printed place d ≡ kind → place ≡ place_of version kind
   only_place kind place d within is =
       let told : place_of version (get_or version.printed place d) ≡ 0 + place =
       sym (get_or-map (place_of version) version.printed place d 0 within) ∙ (ap (λ list. get_or list place 0) lawful.in_order ∙ get_or-range_with_len 0 (length version.printed) place 0 within) in

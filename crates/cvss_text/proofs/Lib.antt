@@ -11,6 +11,7 @@ pub mod PieceLemmas
 pub mod PrintLemmas
 pub mod PutLemmas
 pub mod RefusalLemmas
+pub mod SettingLemmas
 pub mod SightLemmas
 pub mod TextLemmas
 pub mod WalkLemmas

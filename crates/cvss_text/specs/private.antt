@@ -1,3 +1,4 @@
 pub mod Pieces
 pub mod Printing
+pub mod SettingSteps
 pub mod Walk

@@ -1,6 +1,6 @@
 //! How the text of a vector is read and printed, once for all versions: pieces, the walk over them,
-//! the version piece, printing, listing, recognising a canonical
-//! text, and the errors that tell why a text is no vector.
+//! the version piece, printing, listing, setting metrics, recognising a canonical text, and the errors
+//! that tell why a text is no vector.
 #![tactic(auto)]
 
 pub mod cutting;
@@ -9,5 +9,6 @@ pub mod metrics;
 pub mod pieces;
 pub mod print;
 pub mod refusing;
+pub mod setting;
 pub mod sight;
 pub mod walk;

@@ -56,7 +56,7 @@ impl<V: Listed> Iterator for Metrics<V> {
 }
 
 /// How the vector's value for a metric is spelled.
-fn spelled<V: Listed>(vector: &V, kind: V::Kind) -> Option<&'static str>
+pub(crate) fn spelled<V: Printed>(vector: &V, kind: V::Kind) -> Option<&'static str>
     ensures { option_copied result ≡ held V.version vector.now kind }
 {
     Some(behind_colon(vector.slashed(kind)?))

@@ -48,6 +48,17 @@ impl<'a> Iterator for Pieces<'a> {
 pub fn front_of(text: &[u8]) -> (&[u8], Pieces<'_>)
     ensures { pieces text.now ≡ result.0.now ∷ pieces_left result.1 }
 {
+    match text {
+        // Most values are one letter.
+        [first, b'/', rest @ ..] if *first != b'/' => (&text[..1], pieces_of(rest)),
+        _ => cut_at_slash(text),
+    }
+}
+
+/// The same, by a search for the slash.
+fn cut_at_slash(text: &[u8]) -> (&[u8], Pieces<'_>)
+    ensures { pieces text.now ≡ result.0.now ∷ pieces_left result.1 }
+{
     let end = first_place(text, b'/').unwrap_or(text.len());
     let rest = text.get(end + 1..);
     (&text[..end], Pieces { rest })

@@ -10,7 +10,6 @@ mod reading;
 mod refusing;
 mod scores;
 mod sight;
-mod units;
 mod weighing;
 
 use cvss_base::Error;

@@ -1,12 +1,12 @@
 -- What holds of each enum of metric values.
-use Rattle.std.specs.Prelude.{◌≡◌, ◌≢◌, Bool, codes, IsSome, Some}
+use Rattle.std.specs.Prelude.{◌≡◌, ◌≢◌, Bool, codes, IsSome, Option, Some}
 use Rattle.std.specs.Ordering.{nat_cmp}
 use Rattle.std.specs.declared.cmp.Ordering.{Ordering}
 use Rattle.cvss_base.specs.Equality.{EqualsByValue, ClonesByValue, ClonesAlways}
 use Rattle.cvss_base.specs.declared.v3.MetricType.{MetricType}
 use Rattle.cvss_v3_metric.specs.declared.environmental.modified.Modified.{Modified}
-use Rattle.cvss_v3_metric.specs.Modified.{modified_spelling}
-use Rattle.cvss_v3_metric.specs.Table.{Value, spelling_of, weight_of, rank_of, modified_of, blamed}
+use Rattle.cvss_v3_metric.specs.Modified.{modified_map}
+use Rattle.cvss_v3_metric.specs.Table.{Value, AnyValue, spelling_of, weight_of, rank_of, modified_of, replacing_value, modified_value, blamed}
 
 -- the enum has the values of the metric in the table
 pub record IsMetric {A : Type 0} (type fault_type kind : MetricType) (value : A → Value kind) (compared : A → A → Ordering) (same : A → A → Bool) (is_clone : A → A → Type 0) (is_infallible : A → Type 0) : Type 0 where
@@ -25,10 +25,11 @@ pub record IsMetric {A : Type 0} (type fault_type kind : MetricType) (value : A 
   pub clonable : ClonesAlways is_infallible
 
 -- the enum has the values of a base metric, which the modified metric can replace
-pub record IsBaseMetric {A : Type 0} (kind modified_kind : MetricType) (value : A → Value kind) (modified : Modified A → Value modified_kind) : Type 0 where
+pub record IsBaseMetric {A : Type 0} (kind modified_kind : MetricType) (value : A → Value kind) (own : Modified A → Option AnyValue) : Type 0 where
   -- each value has a weight, and none is spelled X
   pub weighed : (x : A) → IsSome (weight_of kind (value x))
   pub defined : (x : A) → spelling_of kind (value x) ≢ codes "X"
-  -- the modified metric is the one that replaces it, and its values are spelled X and as those that replace
+  -- the modified metric is the one that replaces it
   pub replaced : modified_of kind ≡ Some modified_kind
-  pub spelled : (x : Modified A) → spelling_of modified_kind (modified x) ≡ modified_spelling (λ y. spelling_of kind (value y)) x
+  -- where the modified values are told to be values of it, they are those of the values set
+  pub own_is : (x : Modified A) → modified_value kind value own x ≡ replacing_value kind (modified_map value x)

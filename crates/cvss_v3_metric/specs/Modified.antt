@@ -14,6 +14,11 @@ Row = List ℕ × Option ℕ
 abbrev pub modified_rows : List Row → List Row
 modified_rows rows = (codes "X", Some 0) ∷ map (λ row. (row.0, Some 0)) rows
 
+-- the same, with another value for the one that is set
+abbrev pub modified_map : {A B : Type 0} → (A → B) → Modified A → Modified B
+modified_map f NotDefined = NotDefined
+modified_map f (Set value) = Set (f value)
+
 -- X where no value is set, and else as the value is spelled
 abbrev pub modified_spelling : {A : Type 0} → (A → List ℕ) → Modified A → List ℕ
 modified_spelling spelling NotDefined = codes "X"

@@ -37,7 +37,8 @@ use Rattle.cvss_v3_metric.specs.declared.environmental.requirement.AvailabilityR
 use Rattle.cvss_v3_metric.specs.declared.environmental.modified.ModifiedScope.{ModifiedScope}
 use Rattle.cvss_v3_metric.specs.declared.environmental.modified.ModifiedScope.TheVariants as modified_scope
 use Rattle.cvss_v3_metric.specs.declared.environmental.modified.Modified.{Modified}
-use Rattle.cvss_v3_metric.specs.Modified.{Row, modified_rows, modified_rank}
+use Rattle.cvss_v3_metric.specs.declared.environmental.modified.Modified.TheVariants.{NotDefined, Modified as Set}
+use Rattle.cvss_v3_metric.specs.Modified.{Row, modified_map, modified_rows, modified_rank}
 
 -- the type of a metric's values
 abbrev pub Value : MetricType → Type 0
@@ -170,6 +171,45 @@ modified_of C = Some MC
 modified_of I = Some MI
 modified_of A = Some MA
 modified_of kind = None
+
+-- the same, with MAV in place of none
+abbrev pub replacing : MetricType → MetricType
+replacing kind = unwrap_or (modified_of kind) MAV
+
+-- a value of any metric
+pub record AnyValue : Type 0 where
+  pub kind : MetricType
+  pub value : Value kind
+
+-- a value of the modified metric, of one of the base metric where that is set; X where no metric replaces it
+abbrev pub replacing_value : (kind : MetricType) → Modified (Value kind) → Value (replacing kind)
+replacing_value AV value = value
+replacing_value AC value = value
+replacing_value PR value = value
+replacing_value UI value = value
+replacing_value S NotDefined = modified_scope.NotDefined
+replacing_value S (Set value) = modified_scope.Modified value
+replacing_value C value = value
+replacing_value I value = value
+replacing_value A value = value
+replacing_value kind value = NotDefined
+
+-- a value of the modified metric, of one of any metric, and else another one
+abbrev pub own_or : (kind found : MetricType) → Value found → Value (replacing kind) → Value (replacing kind)
+own_or AV MAV value other = value
+own_or AC MAC value other = value
+own_or PR MPR value other = value
+own_or UI MUI value other = value
+own_or C MC value other = value
+own_or I MI value other = value
+own_or A MA value other = value
+own_or kind found value other = other
+
+-- the value of the modified metric that a modified value is: the one that it is told to be, or that of the value set
+abbrev pub modified_value : {A : Type 0} (kind : MetricType) → (A → Value kind) → (Modified A → Option AnyValue) → Modified A → Value (replacing kind)
+modified_value kind value own metric =
+    let mapped = replacing_value kind (modified_map value metric) in
+    option_map_or (λ any. own_or kind any.kind any.value mapped) (own metric) mapped
 
 -- the metric that a refused value is reported under: that of the base where it is a modified one
 abbrev pub blamed : MetricType → MetricType

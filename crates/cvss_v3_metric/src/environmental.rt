@@ -2,6 +2,7 @@
 
 mod modified;
 mod requirement;
+mod texts;
 
 pub use modified::{BaseMetric, Modified, ModifiedScope};
 pub use requirement::{AvailabilityRequirement, ConfidentialityRequirement, IntegrityRequirement};

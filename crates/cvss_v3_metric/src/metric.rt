@@ -50,6 +50,14 @@ pub trait Spelled: Copy + 'static {
         self.row().0
     }
 
+    /// The letter that spells the value in a vector.
+    final fn letter(self) -> u8
+        ensures { spelling_of KIND (value self) ≡ result ∷ [] }
+    {
+        let text = self.slashed().as_bytes();
+        text[text.len() - 1]
+    }
+
     /// Writes the component that stands for the value in a vector, and the same under any options.
     final fn write<W: fmt::Write>(self, f: &mut fmt::Formatter<W>) -> fmt::Result
         ensures plain { WritesOnOk W.write_str_gives f.old result

@@ -1,4 +1,5 @@
 mod CompleteLemmas
 mod PrintingLemmas
 mod OverridingLemmas
+mod PartsLemmas
 mod TextLemmas

@@ -116,7 +116,7 @@ first_objections_same texts p q one other first second =
     (same, objections_same texts q one other (subst (λ place. ObjectionAt texts place one) same first.is) second.is)
 
 -- a metric that each vector has is a base metric
-mandatory_is_base : (kind : MetricType) → Contains mandatory kind → same_group (group_of kind) Base ≡ true
+pub mandatory_is_base : (kind : MetricType) → Contains mandatory kind → same_group (group_of kind) Base ≡ true
 mandatory_is_base kind is =
     All-contains (λ each. same_group (group_of each) Base ≡ true) mandatory kind (filter_passes (λ each. same_group (group_of each) Base) declared) is
 

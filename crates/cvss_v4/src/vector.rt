@@ -6,6 +6,7 @@ mod groups;
 mod listing;
 mod merging;
 mod overriding;
+mod parts;
 mod printing;
 mod reading;
 mod refusing;

@@ -8,8 +8,8 @@ use Rattle.cvss_any.specs.declared.bytes_error.BytesError.TheVariants.{NotUtf8, 
 use Rattle.cvss_any.specs.declared.vector.Cvss.{Cvss}
 use Rattle.cvss_account.specs.Account.{IsAccountText}
 use Rattle.cvss_lines.specs.Answers.{Answer, Accepted, Refused}
-use Rattle.cvss_object.specs.Texts.{IsTextOf}
-use Rattle.cvss_object.specs.Objects.{Member, object_of}
+use Rattle.cvss_tree.specs.Texts.{IsTextOf}
+use Rattle.cvss_tree.specs.Objects.{Member, object_of}
 use Rattle.serde_json.specs.Data.{Data, number as number_value, string, unsigned}
 
 -- the number of the line

@@ -3,8 +3,8 @@
 ghost use Rattle.std.specs.Prelude.{◌≡◌, OnOk};
 ghost use Rattle.cvss_any.specs.Answers.{HasScore};
 ghost use Rattle.cvss_any.specs.Bytes.{TellsWhyNot};
-ghost use Rattle.cvss_object.specs.Texts.{WritesObject};
-ghost use Rattle.cvss_object.specs.Objects.{with_members};
+ghost use Rattle.cvss_tree.specs.Texts.{WritesObject};
+ghost use Rattle.cvss_tree.specs.Objects.{with_members};
 ghost use Rattle.cvss_why.specs.Answers.{IsAnswer, given_members, refusal_value};
 ghost use Rattle.cvss_why.specs.private.Writing.{WritesAccount};
 ghost use Rattle.serde_json.specs.View.{members_view};
@@ -12,7 +12,8 @@ ghost use Rattle.serde_json.specs.View.{members_view};
 use cvss_account::put_account;
 use cvss_any::{BytesError, Cvss};
 use cvss_lines::{Answering, Gathered};
-use cvss_object::{Page, write_object};
+use cvss_object::Page;
+use cvss_tree::write_object;
 use serde_json::{Map, Value, put};
 use std::alloc::{AllocError, Global};
 

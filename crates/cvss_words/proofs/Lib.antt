@@ -1,3 +1,2 @@
-mod FloatLemmas
 mod RowTables
 pub mod ShortLemmas

@@ -1,4 +1,3 @@
-pub mod Scores
 pub mod Versions
 pub mod Words
 pub mod WordsV2

@@ -1,10 +1,9 @@
 //! The members and words of FIRST's JSON schemas for the metrics of all versions: `attackVector` for
-//! `AV`, and `NETWORK` for its value `N`; and how the version and a score of a vector are told.
+//! `AV`, and `NETWORK` for its value `N`; and a vector's version and canonical text.
 #![tactic(auto)]
 
 pub mod laws;
 mod rows;
-mod scores;
 mod text;
 pub mod v2;
 pub mod v3;
@@ -12,8 +11,7 @@ pub mod v4;
 mod versions;
 
 pub use rows::{Row, word_in};
-pub use scores::{score_number, score_value};
-pub use text::put_vector;
+pub use text::{put_vector_member, spelled};
 pub use versions::version;
 
 /// The word of a value that is not defined, spelled `ND` in CVSS v2 and `X` in v3 and v4.0.

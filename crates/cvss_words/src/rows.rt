@@ -39,12 +39,12 @@ pub(crate) const X: Row = ("X", NOT_DEFINED);
 pub(crate) const PROOF_OF_CONCEPT: Row = ("P", "PROOF_OF_CONCEPT");
 
 /// The word of the value with this spelling; empty where no row has it.
-pub fn word_in(rows: &[Row], spelling: &str) -> &'static str
+pub fn word_in(rows: &[Row], spelling: &[u8]) -> &'static str
     ensures { result.now
         ≡ word_in (map (λ row. (row.0.now, row.1.now)) rows.now) spelling.now }
 {
     for (own, word) in rows {
-        if *own == spelling {
+        if own.as_bytes() == spelling {
             return word;
         }
     }

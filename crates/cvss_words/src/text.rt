@@ -1,19 +1,34 @@
 //! The canonical text of a vector, written without memory.
 
 ghost use Rattle.std.specs.Prelude.{◌≡◌, ◌+◌, ◌≤◌, [], ◌∷◌, ◌++◌, drop, filter_map, length};
+ghost use Rattle.std.specs.Option.{option_copied};
 ghost use Rattle.cvss_any.specs.Answers.{text_of};
 ghost use Rattle.cvss_base.specs.Text.{joined};
-ghost use Rattle.cvss_base.specs.Version.{canonical_text, component_of, numeral};
+ghost use Rattle.cvss_base.specs.Version.{canonical_text, component_of, held, numeral};
+ghost use Rattle.cvss_object.specs.Json.{WritesMembers, string_text};
 ghost use Rattle.cvss_text.specs.private.Printing.{slashed_texts};
 
 use cvss_any::Cvss;
-use cvss_object::Page;
+use cvss_object::{Page, put_name};
 use cvss_text::print::Printed;
 use cvss_text::walk::Components;
 use cvss_v2 as v2;
 
+/// Writes a member whose value is a vector's canonical text, after a comma where members come before.
+pub fn put_vector_member(page: &mut Page, later: bool, name: &str, cvss: &Cvss)
+    requires { length page.old + length name.now + 356 ≤ 4096 }
+    ensures text { WritesMembers later ((name.now, string_text (text_of cvss.now)) ∷ [])
+        page.old page.new }
+    ensures room { length page.new ≤ length page.old + length name.now + 356 }
+{
+    put_name(page, later, name);
+    page.push(b"\"");
+    put_vector(page, cvss);
+    page.push(b"\"");
+}
+
 /// Writes a vector's canonical text.
-pub fn put_vector(page: &mut Page, cvss: &Cvss)
+fn put_vector(page: &mut Page, cvss: &Cvss)
     requires { length page.old + 350 ≤ 4096 }
     ensures text { page.new ≡ page.old ++ text_of cvss.now }
     ensures room { length page.new ≤ length page.old + 350 }
@@ -84,4 +99,13 @@ fn put_slashed<V: Printed>(page: &mut Page, vector: &V, kinds: &[V::Kind])
         page.push(text.as_bytes());
     }
     put_slashed(page, vector, rest);
+}
+
+/// How the vector's value for a metric is spelled.
+pub fn spelled<V: Printed>(vector: &V, kind: V::Kind) -> Option<&'static [u8]>
+    ensures { option_copied result ≡ held V.version vector.now kind }
+{
+    let component = vector.slashed(kind)?;
+    // after a slash, the name and a colon
+    Some(&component.as_bytes()[V::name(kind).len() + 2..])
 }

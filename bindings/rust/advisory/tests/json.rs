@@ -1,7 +1,7 @@
 //! Each vector and each name is the same JSON string both ways, and each score the same number.
 
 use advisory::Advisory;
-use cvss_proved::{Cvss, Nomenclature, Score, Severity, Version};
+use cvss_proved::{metrics, Cvss, Nomenclature, Score, Severity, Version};
 use serde::de::DeserializeOwned;
 use serde::Serialize;
 use std::fmt::Debug;
@@ -107,6 +107,9 @@ fn each_name_is_read_and_written() {
     ];
     for (value, text) in nomenclatures {
         is_read_and_written(&value, text);
+    }
+    for metric in metrics(Version::V31).iter().chain(metrics(Version::V40)) {
+        is_read_and_written(&metric.group, metric.group.as_str());
     }
 }
 

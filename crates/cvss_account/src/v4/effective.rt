@@ -1,10 +1,10 @@
 //! The letters of effective values.
 
-ghost use Rattle.std.specs.Prelude.{◌≡◌, ◌≤◌, length};
-ghost use Rattle.cvss_account.specs.LettersV4.{vulnerable_impact_letter, subsequent_impact_letter, safety_impact_letter, requirement_letter, exploit_maturity_letter, effective_text};
-ghost use Rattle.cvss_object.specs.Fragments.{fragments_room, fragments_text};
+ghost use Rattle.std.specs.Prelude.{◌≡◌, ◌≤◌, length, map};
+ghost use Rattle.cvss_account.specs.LettersV4.{vulnerable_impact_letter, subsequent_impact_letter, safety_impact_letter, requirement_letter, exploit_maturity_letter, effective_members};
+ghost use Rattle.cvss_object.specs.Scalars.{member_view, members_room};
 
-use cvss_object::{Fragment, Scalar};
+use cvss_object::{Member, Scalar};
 use cvss_score::v4::scoring::effective::{
     Effective, ExploitMaturity, Requirement, SafetyImpact, SubsequentImpact, VulnerableImpact,
 };
@@ -12,27 +12,26 @@ use cvss_v4_metric::Metric;
 
 /// The letters of the effective values, by the metrics' names.
 #[tactic(auto, using(crate::proofs::ShortLemmas::letters))]
-pub(super) fn effective(effective: &Effective) -> [Fragment; 16]
-    ensures text { fragments_text result ≡ effective_text effective.now }
-    ensures room { fragments_room result ≤ 300 }
+pub(super) fn effective(effective: &Effective) -> [Member; 15]
+    ensures text { map member_view result ≡ effective_members effective.now }
+    ensures room { members_room result ≤ 300 }
 {
     [
-        ("{\"AC\":", Scalar::Text(effective.ac.as_str())),
-        (",\"AR\":", Scalar::Text(requirement(effective.ar))),
-        (",\"AT\":", Scalar::Text(effective.at.as_str())),
-        (",\"AV\":", Scalar::Text(effective.av.as_str())),
-        (",\"CR\":", Scalar::Text(requirement(effective.cr))),
-        (",\"E\":", Scalar::Text(exploit_maturity(effective.e))),
-        (",\"IR\":", Scalar::Text(requirement(effective.ir))),
-        (",\"PR\":", Scalar::Text(effective.pr.as_str())),
-        (",\"SA\":", Scalar::Text(safety_impact(effective.sa))),
-        (",\"SC\":", Scalar::Text(subsequent_impact(effective.sc))),
-        (",\"SI\":", Scalar::Text(safety_impact(effective.si))),
-        (",\"UI\":", Scalar::Text(effective.ui.as_str())),
-        (",\"VA\":", Scalar::Text(vulnerable_impact(effective.va))),
-        (",\"VC\":", Scalar::Text(vulnerable_impact(effective.vc))),
-        (",\"VI\":", Scalar::Text(vulnerable_impact(effective.vi))),
-        ("}", Scalar::Nothing),
+        ("AC", Scalar::Text(effective.ac.as_str())),
+        ("AR", Scalar::Text(requirement(effective.ar))),
+        ("AT", Scalar::Text(effective.at.as_str())),
+        ("AV", Scalar::Text(effective.av.as_str())),
+        ("CR", Scalar::Text(requirement(effective.cr))),
+        ("E", Scalar::Text(exploit_maturity(effective.e))),
+        ("IR", Scalar::Text(requirement(effective.ir))),
+        ("PR", Scalar::Text(effective.pr.as_str())),
+        ("SA", Scalar::Text(safety_impact(effective.sa))),
+        ("SC", Scalar::Text(subsequent_impact(effective.sc))),
+        ("SI", Scalar::Text(safety_impact(effective.si))),
+        ("UI", Scalar::Text(effective.ui.as_str())),
+        ("VA", Scalar::Text(vulnerable_impact(effective.va))),
+        ("VC", Scalar::Text(vulnerable_impact(effective.vc))),
+        ("VI", Scalar::Text(vulnerable_impact(effective.vi))),
     ]
 }
 

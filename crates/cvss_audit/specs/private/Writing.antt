@@ -2,7 +2,7 @@
 use Rattle.std.specs.Prelude.{◌≡◌, ◌≢◌, ℕ, ◌⊎◌, Bool, List, [], ◌++◌, take, Option}
 use Rattle.std.specs.Io.KnownBytes.{Appends}
 use Rattle.cvss_lines.specs.Answers.{written_text}
-use Rattle.cvss_record.specs.Places.{Place}
+use Rattle.cvss_document.specs.Places.{Place}
 use Rattle.cvss_lines.specs.declared.fault.RunFault.{RunFault}
 use Rattle.cvss_lines.specs.declared.fault.RunFault.TheVariants.{Read, Write, Memory}
 use Rattle.cvss_audit.specs.Answers.{AreFound, BeginsFound, Found, IsFound, all_agree, written_found}

@@ -56,9 +56,3 @@ pub record IsRated (cvss : Cvss) (score rating : List ℕ) : Type 0 where
   pub scored : IsScoreOf cvss (score_of_tenths tenths)
   pub score_is : score ≡ tenths_text tenths
   pub rating_is : rating ≡ severity_text (rating_by cvss (score_of_tenths tenths))
-
--- the place of the first byte 10, or the length where there is none
-pub record IsFirstEnd (bytes : List ℕ) (place : ℕ) : Type 0 where
-  pub within : place ≤ length bytes
-  pub before : (k : ℕ) → k < place → slice_index bytes k ≢ 10
-  pub found : place < length bytes → slice_index bytes place ≡ 10

@@ -9,10 +9,10 @@ use Rattle.cvss_base.proofs.ExactLemmas.{above_itself, at_most_trans, at_most_be
 use Rattle.cvss_base.proofs.TestLemmas.{passes_three, all_below, below_passes}
 use Rattle.cvss_score.specs.v3.Scores.{iss, exploitability, first_number, base_number, environmental_number, temporal_number}
 use Rattle.cvss_score.specs.v3.private.Weights.{exploit_code_maturities, remediation_levels, report_confidences}
-use Rattle.cvss_score.specs.declared.v3.rules.Rules.{Rules}
-use Rattle.cvss_score.specs.declared.v3.rules.Rules.TheVariants.{V30, V31}
+use Rattle.cvss_score.specs.declared.v3.rules.Exponent.{Exponent}
+use Rattle.cvss_score.specs.declared.v3.rules.Exponent.TheVariants.{Fifteen, Thirteen}
 use Rattle.cvss_score.proofs.v3_lemmas.CountLemmas.{AreParts, base_parts, modified_parts}
-use Rattle.cvss_score.proofs.v3_lemmas.EqualLemmas.{impact_is, rounds_equal}
+use Rattle.cvss_score.proofs.v3_lemmas.EqualLemmas.{rounds_equal}
 use Rattle.cvss_score.proofs.v3_lemmas.NumberLemmas.{number_of, bottom, own_bottom, equal, settled, own_rounded, none_equal}
 use Rattle.cvss_score.proofs.v3_lemmas.RoundLemmas.{between_jumps, rounded_v31}
 use Rattle.cvss_laws.specs.v3.FifthDecimals.{IsSameWhenCut}
@@ -47,30 +47,29 @@ cut_equal n m r some_n some_m same not_negative above rounded =
     (at_most_trans (tenths (r -ℤ pos 1) ⊕ 1 over 100_000) n m some_n above order) (rounds_equal 1 some_n some_m same r rounded)
 
 -- the first number of the equations
-module _ (rules : Rules) (changed : Bool) (s : ℕ) (S : Exact) (e : ℕ) (E : Exact) (parts : AreParts changed s S e E) where
-  same_when_cut : IsSameWhenCut (number_of rules changed S E)
-  same_when_cut = elim parts.sub_score as (λ _. IsSameWhenCut (number_of rules changed S E)) [
+module _ (exponent : Exponent) (changed : Bool) (s : ℕ) (S : Exact) (e : ℕ) (E : Exact) (parts : AreParts changed s S e E) where
+  same_when_cut : IsSameWhenCut (number_of exponent changed S E)
+  same_when_cut = elim parts.sub_score as (λ _. IsSameWhenCut (number_of exponent changed S E)) [
     | inl is_zero ↦
         let zero = 0 over (10 ^ 13) in
-        cut_equal zero _ (pos 0) (lit< tt) (bottom rules changed s S e E parts)
-        (equal_trans (lit< tt) (record { equal = refl }) (none_equal rules changed s S e E parts is_zero))
+        cut_equal zero _ (pos 0) (lit< tt) (bottom exponent changed s S e E parts)
+        (equal_trans (lit< tt) (record { equal = refl }) (none_equal exponent changed s S e E parts is_zero))
         (record { at_most = omega (arith, ints) }) (record { at_most = omega (arith, ints) }) (rounded_v31 0)
     | inr sub_score ↦
-        let at = (settled rules changed s S e E parts sub_score).at in
-        cut_equal _ _ _ (own_bottom rules changed s S e E parts) (bottom rules changed s S e E parts) (equal rules changed s S e E parts)
-        at.not_negative at.from_cut (own_rounded rules changed s S e E parts sub_score 1)
+        let at = (settled exponent changed s S e E parts sub_score).at in
+        cut_equal _ _ _ (own_bottom exponent changed s S e E parts) (bottom exponent changed s S e E parts) (equal exponent changed s S e E parts)
+        at.not_negative at.from_cut (own_rounded exponent changed s S e E parts sub_score 1)
   ]
 
 pub base_same_when_cut : (v : Vector) → IsSameWhenCut (base_number (weights_of v))
 base_same_when_cut v =
     let w = weights_of v in
-    subst (λ n. IsSameWhenCut (first_number w.changed n (exploitability w))) (impact_is w.changed (iss w))
-    (same_when_cut V30 w.changed _ _ _ _ (base_parts w (weights_listed v)))
+    same_when_cut Fifteen w.changed _ _ _ _ (base_parts w (weights_listed v))
 
 pub first_same_when_cut : (v : Vector) → IsSameWhenCut (environmental_number 1 (weights_of v))
 first_same_when_cut v =
     let w = weights_of v in
-    same_when_cut V31 w.modified_changed _ _ _ _ (modified_parts w (weights_listed v))
+    same_when_cut Thirteen w.modified_changed _ _ _ _ (modified_parts w (weights_listed v))
 
 -- the v3.1 rounding of so many 10^-7
 abbrev rounded : ℕ → ℕ

@@ -5,11 +5,11 @@ use Rattle.std.proofs.Math.Nat.{mul-le-mul, le_refl}
 use Rattle.cvss_base.specs.Exact.{Exact, ◌over◌, whole, ◌⊑◌}
 use Rattle.cvss_base.proofs.ExactLemmas.{at_most_trans, equal_at_most}
 use Rattle.cvss_base.proofs.RoundingLemmas.{least_tenth-ordered, v31-ordered}
-use Rattle.cvss_score.specs.v3.Scores.{iss, exploitability, first_number, base_number, temporal_number, IsRounded, IsBaseScore, IsTemporalScore}
+use Rattle.cvss_score.specs.v3.Scores.{base_number, temporal_number, IsRounded, IsBaseScore, IsTemporalScore}
 use Rattle.cvss_score.specs.v3.private.Weights.{exploit_code_maturities, remediation_levels, report_confidences}
-use Rattle.cvss_score.specs.declared.v3.rules.Rules.TheVariants.{V30}
+use Rattle.cvss_score.specs.declared.v3.rules.Exponent.TheVariants.{Fifteen}
 use Rattle.cvss_score.proofs.v3_lemmas.CountLemmas.{AreParts, base_parts}
-use Rattle.cvss_score.proofs.v3_lemmas.EqualLemmas.{base_bottom, impact_is}
+use Rattle.cvss_score.proofs.v3_lemmas.EqualLemmas.{base_bottom}
 use Rattle.cvss_score.proofs.v3_lemmas.LawLemmas.{base_once}
 use Rattle.cvss_score.proofs.v3_lemmas.NumberLemmas.{number_of, own_bottom, equal, settled, none_equal}
 use Rattle.cvss_score.proofs.v3_lemmas.RoundLemmas.{between_jumps}
@@ -29,20 +29,17 @@ tenths_rounded zero n = record { not_below = record { at_most = omega (arith, in
 tenths_rounded (suc minor) n =
     between_jumps n 10 n (lit< tt) (record { at_most = omega (arith, ints) }) (record { below = omega (arith, ints) })
 
--- the first number by v3.0 is not negative
-not_negative : (changed : Bool) (s : ℕ) (S : Exact) (e : ℕ) (E : Exact) → AreParts changed s S e E → whole 0 ⊑ number_of V30 changed S E
-not_negative changed s S e E parts = elim parts.sub_score as (λ _. whole 0 ⊑ number_of V30 changed S E) [
-  | inl is_zero ↦ equal_at_most (whole 0) _ (none_equal V30 changed s S e E parts is_zero)
+-- the first number of the base score is not negative
+not_negative : (changed : Bool) (s : ℕ) (S : Exact) (e : ℕ) (E : Exact) → AreParts changed s S e E → whole 0 ⊑ number_of Fifteen changed S E
+not_negative changed s S e E parts = elim parts.sub_score as (λ _. whole 0 ⊑ number_of Fifteen changed S E) [
+  | inl is_zero ↦ equal_at_most (whole 0) _ (none_equal Fifteen changed s S e E parts is_zero)
   | inr sub_score ↦
-      at_most_trans (whole 0) _ _ (own_bottom V30 changed s S e E parts) (settled V30 changed s S e E parts sub_score).at.not_negative
-      (equal_at_most _ _ (equal V30 changed s S e E parts))
+      at_most_trans (whole 0) _ _ (own_bottom Fifteen changed s S e E parts) (settled Fifteen changed s S e E parts sub_score).at.not_negative
+      (equal_at_most _ _ (equal Fifteen changed s S e E parts))
 ]
 
 base_not_negative : (v : Vector) → whole 0 ⊑ base_number (weights_of v)
-base_not_negative v =
-    let w = weights_of v in
-    subst (λ n. whole 0 ⊑ first_number w.changed n (exploitability w)) (impact_is w.changed (iss w))
-    (not_negative w.changed _ _ _ _ (base_parts w (weights_listed v)))
+base_not_negative v = let w = weights_of v in not_negative w.changed _ _ _ _ (base_parts w (weights_listed v))
 
 -- the product of E, RL and RC
 temporal_bound : (v : Vector) → (weights_of v).e * (weights_of v).rl * (weights_of v).rc ≤ 10 ^ 6

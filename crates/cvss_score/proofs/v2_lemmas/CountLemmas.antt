@@ -1,14 +1,13 @@
 -- What the whole numbers of the code say of the exact numbers of the equations.
-use Rattle.std.proofs.Common.{◌≡◌, ℕ, ◌+◌, ◌-◌, ◌*◌, ◌^◌, ◌≤◌, ℤ, pos, ◌+ℤ◌, ◌-ℤ◌, ◌*ℤ◌, ◌≤ℤ◌, neg_ℤ, arith, refl, ap, ◌∙◌, lit<, rules, zero, suc, negsuc, ◌≢◌, subst, sym}
-use Rattle.std.proofs.Math.IntN.{*ℤ_comm}
+use Rattle.std.proofs.Common.{◌≡◌, ℕ, ◌+◌, ◌-◌, ◌*◌, ◌^◌, ◌≤◌, ℤ, pos, ◌+ℤ◌, ◌-ℤ◌, ◌*ℤ◌, ◌≤ℤ◌, neg_ℤ, arith, refl, ap, ◌∙◌, lit<, sym}
 use Rattle.std.proofs.lemmas.Int.{ints}
 use Rattle.std.proofs.Math.Nat.{mul-le-mul_right}
 use borrow.Author.Differences.{up, down}
-use Rattle.cvss_base.specs.Exact.{ratio, whole, ◌over◌, of_count, thousandths, tenths, ◌⊕◌, ◌⊖◌, ◌⊗◌, ◌≈◌}
+use Rattle.cvss_base.specs.Exact.{ratio, whole, ◌over◌, of_count, thousandths, tenths, ◌≈◌}
 use Rattle.cvss_base.specs.Rounding.{IsRoundedV2}
 use Rattle.cvss_base.proofs.ExactLemmas.{rests_are, rests_bound, times_times, times_sum, times_difference}
 use Rattle.cvss_base.proofs.RoundingLemmas.{v2-equal}
-use Rattle.cvss_score.specs.v2.Scores.{impact_of, f_thousandths, base_number, temporal_number, environmental_number}
+use Rattle.cvss_score.specs.v2.Scores.{impact_of, temporal_number, environmental_number}
 
 -- Impact as a count, of weights in millionths
 pub impact_is : (count : ℤ) (c i a : ℕ) → c ≤ 1_000_000 → i ≤ 1_000_000 → a ≤ 1_000_000
@@ -25,31 +24,6 @@ pub own_impact_is : (c i a : ℕ) → c ≤ 1000 → i ≤ 1000 → a ≤ 1000
 own_impact_is c i a small_c small_i small_a =
     let rests = rests_are 1000 c i a small_c small_i small_a in
     record { equal = omega (arith, ints, rests, rests_bound 1000 c i a) }
-
--- f of an impact that is not 0
-f_with_impact : (top : ℤ) → top ≢ pos 0 → f_thousandths top ≡ 1176
-f_with_impact (pos zero) some = absurd (some refl)
-f_with_impact (pos (suc n)) some = refl
-f_with_impact (negsuc n) some = refl
-
--- the base score of two counts, rounded in 10^-28
-pub base_rounded : (impact exploitability : ℤ) {number r s : ℤ} → impact ≢ pos 0
-    → number ≡ (pos 6 *ℤ impact +ℤ pos 4 *ℤ exploitability -ℤ pos (15 * 10 ^ 24)) *ℤ pos 1176 → r ≡ s
-    → IsRoundedV2 (ratio number (10 ^ 28)) r
-    → IsRoundedV2 (base_number (of_count impact) (of_count exploitability)) s
-base_rounded impact exploitability {number} some is_number same rounded =
-    let sum = 6 over 10 ⊗ of_count impact ⊕ 4 over 10 ⊗ of_count exploitability ⊖ 15 over 10 in
-    let is_product : ratio number (10 ^ 28) ≈ sum ⊗ thousandths 1176 = record { equal = omega (arith, ints) } in
-    let is_base = subst (λ (n : ℕ). ratio number (10 ^ 28) ≈ sum ⊗ thousandths n)
-    (sym (f_with_impact impact some)) is_product in
-    v2-equal (lit< tt) (lit< tt) is_base same rounded
-
--- without impact it is 0
-pub none_rounded : (exploitability : ℤ) → IsRoundedV2 (base_number (of_count (pos 0)) (of_count exploitability)) (pos 0)
-none_rounded exploitability =
-    let product = *ℤ_comm (6 over 10 ⊗ of_count (pos 0) ⊕ 4 over 10 ⊗ of_count exploitability ⊖ 15 over 10).top (pos 0) in
-    let none : whole 0 ≈ base_number (of_count (pos 0)) (of_count exploitability) = record { equal = omega (arith, ints, product) } in
-    v2-equal (lit< tt) (lit< tt) none refl (search rules)
 
 -- what the temporal score is the rounding of, in 10^-10
 pub temporal_is : (base : ℤ) (e rl rc : ℕ) {product number : ℤ} {weights : ℕ}

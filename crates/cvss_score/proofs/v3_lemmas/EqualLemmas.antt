@@ -9,9 +9,9 @@ use Rattle.cvss_base.proofs.ExactLemmas.{by_sign, equal_refl, equal_sym, equal_a
 use Rattle.cvss_base.proofs.RoundingLemmas.{v30-unique, v31-unique}
 use Rattle.cvss_score.proofs.v3_lemmas.CapLemmas.{capped, capped_equal}
 use Rattle.cvss_score.specs.v3.private.Near.{RoundsAs}
-use Rattle.cvss_score.specs.v3.Scores.{power, changed_impact, changed_modified_impact, impact_of, modified_impact_of, modified_impact, iss, miss, exploitability, modified_exploitability, total_of, first_number, base_number, environmental_number, rules_of, IsRounded}
-use Rattle.cvss_score.specs.declared.v3.rules.Rules.{Rules}
-use Rattle.cvss_score.specs.declared.v3.rules.Rules.TheVariants.{V30, V31}
+use Rattle.cvss_score.specs.v3.Scores.{power, changed_impact, changed_modified_impact, impact_by, impact, modified_impact, iss, miss, exploitability, modified_exploitability, total_of, first_number, base_number, environmental_number, modified_exponent, IsRounded}
+use Rattle.cvss_score.specs.declared.v3.rules.Exponent.{Exponent}
+use Rattle.cvss_score.specs.declared.v3.rules.Exponent.TheVariants.{Fifteen, Thirteen}
 use Rattle.cvss_score.specs.declared.v3.weights.Weights.{Weights}
 
 power_equal : {x y : Exact} (n : ℕ) → x ≈ y → power x n ≈ power y n
@@ -39,23 +39,18 @@ powered_bottom x y n some_x some_y =
     mul-pos {m = 100 * (x.bottom * 1000)} (omega arith) (mul-pos {m = 100} (lit< tt) (power_bottom _ n (omega arith)))
 
 -- equal sub-scores have equal impacts
-pub impact_equal : (rules : Rules) (changed : Bool) {x y : Exact} → x ≈ y
-    → modified_impact_of rules changed x ≈ modified_impact_of rules changed y
+pub impact_equal : (exponent : Exponent) (changed : Bool) {x y : Exact} → x ≈ y
+    → impact_by exponent changed x ≈ impact_by exponent changed y
 unfolding changed_impact changed_modified_impact
-impact_equal rules false same = product_equal (equal_refl (642 over 100)) same
-impact_equal V30 true same = powered_equal 15 same same
-impact_equal V31 true same = powered_equal 13 same (product_equal same (equal_refl (9731 over 10_000)))
+impact_equal exponent false same = product_equal (equal_refl (642 over 100)) same
+impact_equal Fifteen true same = powered_equal 15 same same
+impact_equal Thirteen true same = powered_equal 13 same (product_equal same (equal_refl (9731 over 10_000)))
 
-pub impact_bottom : (rules : Rules) (changed : Bool) (x : Exact) → 0 < x.bottom → 0 < (modified_impact_of rules changed x).bottom
+pub impact_bottom : (exponent : Exponent) (changed : Bool) (x : Exact) → 0 < x.bottom → 0 < (impact_by exponent changed x).bottom
 unfolding changed_impact changed_modified_impact
-impact_bottom rules false x some = omega arith
-impact_bottom V30 true x some = powered_bottom x x 15 some some
-impact_bottom V31 true x some = powered_bottom x (x ⊗ 9731 over 10_000) 13 some (omega arith)
-
--- the impact is the modified impact of v3.0
-pub impact_is : (changed : Bool) (x : Exact) → modified_impact_of V30 changed x ≡ impact_of changed x
-impact_is false x = refl
-impact_is true x = refl
+impact_bottom exponent false x some = omega arith
+impact_bottom Fifteen true x some = powered_bottom x x 15 some some
+impact_bottom Thirteen true x some = powered_bottom x (x ⊗ 9731 over 10_000) 13 some (omega arith)
 
 suc_above : (m : ℕ) → int_lt (pos 0) (pos (suc m)) ≡ true
 suc_above m = lt-ltb 0 (suc m) (omega arith)
@@ -92,14 +87,12 @@ first_bottom changed x y some_x some_y =
     parted (int_lt (pos 0) x.top)
 
 pub base_bottom : (w : Weights) → 0 < (base_number w).bottom
-base_bottom w =
-    subst (λ n. 0 < (first_number w.changed n (exploitability w)).bottom) (impact_is w.changed (iss w))
-    (first_bottom w.changed (modified_impact_of V30 w.changed (iss w)) (exploitability w) (impact_bottom V30 w.changed (iss w) (lit< tt)) (lit< tt))
+base_bottom w = first_bottom w.changed (impact w) (exploitability w) (impact_bottom Fifteen w.changed (iss w) (lit< tt)) (lit< tt)
 
 pub environmental_bottom : (minor : ℕ) (w : Weights) → 0 < (environmental_number minor w).bottom
 environmental_bottom minor w =
     first_bottom w.modified_changed (modified_impact minor w) (modified_exploitability w)
-    (impact_bottom (rules_of minor) w.modified_changed (miss w) (lit< tt)) (lit< tt)
+    (impact_bottom (modified_exponent minor) w.modified_changed (miss w) (lit< tt)) (lit< tt)
 
 least_tenth-equal : (x y : Exact) (r : ℤ) → 0 < x.bottom → 0 < y.bottom → x ≈ y → IsRoundedV30 x r → IsRoundedV30 y r
 least_tenth-equal x y r some_x some_y same rounded = record {

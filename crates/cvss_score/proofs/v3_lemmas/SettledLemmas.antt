@@ -8,9 +8,9 @@ use Rattle.std.proofs.lemmas.Bool.{and_parts}
 use Rattle.cvss_base.specs.Exact.{Exact, ratio, ◌over◌, whole, tenths, ◌⊕◌, ◌⊖◌, ◌⊑◌, ◌⊏◌}
 use Rattle.cvss_base.proofs.ExactLemmas.{equal_from_at_most, at_most_trans, at_most_below, below_at_most}
 use Rattle.cvss_base.proofs.TestLemmas.{is_below, is_at_most, below_if, at_most_if, passes}
-use Rattle.cvss_score.specs.v3.Scores.{power, unchanged_impact, changed_impact, changed_modified_impact, modified_impact_of, first_number, IsRounded}
-use Rattle.cvss_score.specs.declared.v3.rules.Rules.{Rules}
-use Rattle.cvss_score.specs.declared.v3.rules.Rules.TheVariants.{V30, V31}
+use Rattle.cvss_score.specs.v3.Scores.{power, unchanged_impact, changed_impact, changed_modified_impact, impact_by, first_number, IsRounded}
+use Rattle.cvss_score.specs.declared.v3.rules.Exponent.{Exponent}
+use Rattle.cvss_score.specs.declared.v3.rules.Exponent.TheVariants.{Fifteen, Thirteen}
 use Rattle.cvss_score.specs.v3.private.Near.{Approximates}
 use Rattle.cvss_score.specs.v3.private.SubScores.{sub_scores, exploitabilities, IsSubScore}
 use Rattle.cvss_score.specs.v3.private.Units.{changed_units, changed_modified_units, impact_units, total_units}
@@ -169,11 +169,11 @@ changed_modified_settle : list_all (λ s. settle true (changed_modified_impact (
 unfolding is_near is_within is_settled_at tenth_above jump_above is_settled settle power changed_modified_impact changed_modified_units
 changed_modified_settle = refl
 
-pub settles : (rules : Rules) (changed : Bool) (s : ℕ) → IsSubScore s
-    → Settles changed (modified_impact_of rules changed (s over 1_000_000)) (impact_units rules changed s)
-settles rules false s sub_score =
+pub settles : (exponent : Exponent) (changed : Bool) (s : ℕ) → IsSubScore s
+    → Settles changed (impact_by exponent changed (s over 1_000_000)) (impact_units exponent changed s)
+settles exponent false s sub_score =
     settles_if false _ _ (passes (λ s. settle false (unchanged_impact (s over 1_000_000)) (642_000 * s)) sub_scores s unchanged_settle sub_score.listed)
-settles V30 true s sub_score =
+settles Fifteen true s sub_score =
     settles_if true _ _ (passes (λ s. settle true (changed_impact (s over 1_000_000)) (changed_units s)) sub_scores s changed_settle sub_score.listed)
-settles V31 true s sub_score =
+settles Thirteen true s sub_score =
     settles_if true _ _ (passes (λ s. settle true (changed_modified_impact (s over 1_000_000)) (changed_modified_units s)) sub_scores s changed_modified_settle sub_score.listed)

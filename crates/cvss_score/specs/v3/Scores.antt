@@ -4,6 +4,8 @@ use Rattle.std.specs.Prelude.{ℕ, zero, suc, ℤ, pos, Bool, true, false, int_l
 use Rattle.cvss_base.specs.Exact.{Exact, ◌over◌, whole, tenths, ◌⊕◌, ◌⊖◌, ◌⊗◌, smaller}
 use Rattle.cvss_base.specs.Rounding.{IsRoundedV30, IsRoundedV31}
 use Rattle.cvss_base.specs.Tenths.{IsInTenths}
+use Rattle.cvss_score.specs.declared.v3.rules.Exponent.{Exponent}
+use Rattle.cvss_score.specs.declared.v3.rules.Exponent.TheVariants.{Fifteen, Thirteen}
 use Rattle.cvss_score.specs.declared.v3.rules.Rules.{Rules}
 use Rattle.cvss_score.specs.declared.v3.rules.Rules.TheVariants.{V30, V31}
 use Rattle.cvss_score.specs.declared.v3.weights.Weights.{Weights}
@@ -55,24 +57,24 @@ unfoldable pub changed_modified_impact : Exact → Exact
 changed_modified_impact miss =
     752 over 100 ⊗ (miss ⊖ 29 over 1000) ⊖ 325 over 100 ⊗ power (miss ⊗ 9731 over 10_000 ⊖ 2 over 100) 13
 
--- Impact, by whether the scope is changed
-abbrev pub impact_of : Bool → Exact → Exact
-impact_of false iss = unchanged_impact iss
-impact_of true iss = changed_impact iss
+-- the exponent in Modified Impact by the minor version: 15 in v3.0 and 13 in v3.1
+abbrev pub modified_exponent : ℕ → Exponent
+modified_exponent zero = Fifteen
+modified_exponent (suc minor) = Thirteen
 
--- Modified Impact, by the rules and whether the modified scope is changed
-abbrev pub modified_impact_of : Rules → Bool → Exact → Exact
-modified_impact_of rules false miss = unchanged_impact miss
-modified_impact_of V30 true miss = changed_impact miss
-modified_impact_of V31 true miss = changed_modified_impact miss
+-- an impact, by the exponent that it has where the scope is changed, and whether it is
+abbrev pub impact_by : Exponent → Bool → Exact → Exact
+impact_by exponent false iss = unchanged_impact iss
+impact_by Fifteen true iss = changed_impact iss
+impact_by Thirteen true iss = changed_modified_impact iss
 
 -- Impact
 abbrev pub impact : Weights → Exact
-impact w = impact_of w.changed (iss w)
+impact w = impact_by Fifteen w.changed (iss w)
 
 -- Modified Impact
 abbrev pub modified_impact : ℕ → Weights → Exact
-modified_impact minor w = modified_impact_of (rules_of minor) w.modified_changed (miss w)
+modified_impact minor w = impact_by (modified_exponent minor) w.modified_changed (miss w)
 
 -- 8.22 × AttackVector × AttackComplexity × PrivilegesRequired × UserInteraction
 abbrev pub exploitability_of : ℕ → ℕ → ℕ → ℕ → Exact

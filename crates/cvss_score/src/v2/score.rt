@@ -1,12 +1,10 @@
 //! A score of CVSS v2.
 
 ghost use Rattle.std.specs.Prelude.{◌≡◌, ◌≤ℤ◌, ◌*ℤ◌, ◌^◌, ℤ, pos, neg_ℤ, Some};
-ghost use Rattle.std.specs.Int.{int_max};
 ghost use Rattle.cvss_base.specs.Exact.{of_count, IsWithinLimit};
 ghost use Rattle.cvss_base.specs.Rounding.{IsRoundedV2};
-ghost use Rattle.cvss_base.specs.Tenths.{score_text, IsInTenths, IsFromZeroToTen};
+ghost use Rattle.cvss_base.specs.Tenths.{score_text, IsInTenths};
 ghost use Rattle.cvss_score.specs.v2.Rating.{rating_of};
-ghost use Rattle.cvss_score.specs.v2.private.Bounds.{IsOnScale};
 
 use crate::v2::equations;
 use cvss_base::{ONE, OneDecimal, Severity, TENTH};
@@ -66,21 +64,12 @@ impl Score {
 }
 
 /// The score of so many tenths.
-pub fn of_tenths(tenths: i128) -> Score
+pub fn of_tenths(tenths: i64) -> Score
     requires low { neg_ℤ (pos (10 ^ 7)) ≤ℤ tenths }
     requires high { tenths ≤ℤ pos (10 ^ 7) }
     ensures { result ≡ tenths *ℤ pos (10 ^ 23) }
 {
-    Score(tenths * TENTH)
-}
-
-/// The published score of so many tenths, which is 0 where they are negative.
-pub fn published(tenths: i128) -> Score
-    requires { IsOnScale tenths }
-    ensures value { result ≡ int_max (pos 0) tenths *ℤ pos (10 ^ 23) }
-    ensures range { IsInTenths IsFromZeroToTen result }
-{
-    of_tenths(tenths.max(0))
+    Score(i128::from(tenths) * TENTH)
 }
 
 impl fmt::Display for Score {

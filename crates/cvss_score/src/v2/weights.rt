@@ -1,7 +1,8 @@
-//! What the definitions of the scores speak of.
+//! What a score is computed of.
 
-/// The weights of a vector's metrics in thousandths, by their short names. The code takes each from
-/// the vector where it needs it.
+/// The weights of a vector's metrics in thousandths, by their short names (guide, section 3.2). An
+/// absent base metric weighs 0, any other absent one as `ND`.
+#[derive(Clone, Copy)]
 pub struct Weights {
     pub av: u64,
     pub ac: u64,

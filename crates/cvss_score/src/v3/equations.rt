@@ -7,7 +7,7 @@ ghost use Rattle.cvss_score.specs.v3.private.SubScores.{IsSubScore};
 ghost use Rattle.cvss_score.specs.v3.private.Units.{millionths_of, impact_units, total_units, ArePossible, IsImpact, IsNumber};
 
 use crate::v3::power::{changed_impact, changed_modified_impact};
-use crate::v3::rules::Rules;
+use crate::v3::rules::Exponent;
 
 /// What the number is made of that a score is the rounding of: a sub-score in millionths, an
 /// exploitability in 10^-10, and whether the scope is changed.
@@ -69,32 +69,31 @@ pub fn temporal(tenths: u64, e: u64, rl: u64, rc: u64) -> u64
     tenths * (e * rl * rc)
 }
 
-/// Modified Impact in 10^-11, of a sub-score in millionths that is not 0. Impact is that of v3.0.
+/// Impact or Modified Impact in 10^-11, of a sub-score in millionths that is not 0.
 #[inline(always)]
-fn impact(sub_score: u64, changed: bool, rules: Rules) -> u64
+fn impact(sub_score: u64, changed: bool, exponent: Exponent) -> u64
     requires { IsSubScore sub_score }
-    ensures value { result ≡ impact_units rules changed sub_score }
+    ensures value { result ≡ impact_units exponent changed sub_score }
     ensures bound { result ≤ 10 ^ 12 }
 {
-    match (changed, rules) {
+    match (changed, exponent) {
         (false, _) => 642_000 * sub_score,
-        (true, Rules::V30) => changed_impact(sub_score),
-        (true, Rules::V31) => changed_modified_impact(sub_score),
+        (true, Exponent::Fifteen) => changed_impact(sub_score),
+        (true, Exponent::Thirteen) => changed_modified_impact(sub_score),
     }
 }
 
-/// Modified Impact in 10^-11. Without a sub-score it is below 0 where the scope is changed. Impact is
-/// that of v3.0.
-pub fn signed_impact(parts: Parts, rules: Rules) -> i64
+/// Impact or Modified Impact in 10^-11. Without a sub-score it is below 0 where the scope is changed.
+pub fn signed_impact(parts: Parts, exponent: Exponent) -> i64
     requires { ArePossible parts }
-    ensures value { IsImpact rules parts result }
+    ensures value { IsImpact exponent parts result }
     ensures low { neg_ℤ (pos (10 ^ 12)) ≤ℤ result }
     ensures high { result ≤ℤ pos (10 ^ 12) }
 {
     match parts.sub_score {
         0 if parts.changed => WITHOUT_IMPACT,
         0 => 0,
-        sub_score => impact(sub_score, parts.changed, rules) as i64,
+        sub_score => impact(sub_score, parts.changed, exponent) as i64,
     }
 }
 
@@ -103,16 +102,16 @@ const WITHOUT_IMPACT: i64 = -21_808_000_000;
 
 /// What a score is the rounding of, in 10^-13.
 #[inline(always)]
-pub fn first_number(parts: Parts, rules: Rules) -> u64
+pub fn first_number(parts: Parts, exponent: Exponent) -> u64
     requires possible { ArePossible parts }
     requires exploitability { parts.exploitability ≤ 822 * 10 ^ 8 }
-    ensures value { IsNumber rules parts result }
+    ensures value { IsNumber exponent parts result }
     ensures to_ten { result ≤ 10 ^ 14 }
 {
     if parts.sub_score == 0 {
         return 0;
     }
-    let impact = impact(parts.sub_score, parts.changed, rules);
+    let impact = impact(parts.sub_score, parts.changed, exponent);
     total(impact, parts.exploitability, parts.changed)
 }
 

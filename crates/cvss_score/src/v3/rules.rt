@@ -1,9 +1,9 @@
-//! The rules of the minor versions, of which the definitions of the scores speak too.
+//! What the minor versions score otherwise, of which the definitions of the scores speak too.
 
 ghost use Rattle.std.specs.Prelude.{◌≡◌};
-ghost use Rattle.cvss_score.specs.v3.Scores.{rules_of};
+ghost use Rattle.cvss_score.specs.v3.Scores.{rules_of, modified_exponent};
 
-/// By the equations and the rounding of which specification a vector is scored.
+/// By the rounding of which specification a vector is scored.
 #[derive(Clone, Copy)]
 pub enum Rules {
     V30,
@@ -19,6 +19,27 @@ impl Rules {
         match minor_version {
             0 => Rules::V30,
             _ => Rules::V31,
+        }
+    }
+}
+
+/// The exponent in an impact whose scope is changed: 15 in Impact (v3.1 specification, section 7.1),
+/// and in Modified Impact of v3.0 (section 8.3); 13 in that of v3.1 (section 7.3).
+#[derive(Clone, Copy)]
+pub enum Exponent {
+    Fifteen,
+    Thirteen,
+}
+
+impl Exponent {
+    /// The exponent in the Modified Impact of a minor version.
+    #[inline(always)]
+    pub fn modified(minor_version: usize) -> Exponent
+        ensures { result ≡ modified_exponent minor_version }
+    {
+        match minor_version {
+            0 => Exponent::Fifteen,
+            _ => Exponent::Thirteen,
         }
     }
 }

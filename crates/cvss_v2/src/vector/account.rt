@@ -6,10 +6,9 @@ ghost use Rattle.cvss_base.specs.Tenths.{IsInTenths};
 ghost use Rattle.cvss_score.specs.v2.Scores.{impact, adjusted_impact, exploitability, f, base_number, temporal_number, environmental_number, IsBase, IsTemporal};
 ghost use Rattle.cvss_v2.specs.Weights.{weight_in, weights_of};
 
-use super::weighing::weight;
 use crate::vector::Vector;
+use cvss_score::v2::Score;
 use cvss_score::v2::score::of_tenths;
-use cvss_score::v2::{Score, base_score, equations};
 use cvss_v2_metric::MetricType;
 
 /// A thousandth, in counts of 10^-24.
@@ -30,8 +29,7 @@ impl Vector {
         ensures value { of_count result ≈ f (impact (weights_of self.now)) }
         ensures limit { IsWithinLimit result }
     {
-        let factor = base_score::factor(self.impact_units());
-        Score::new(i128::from(factor) * THOUSANDTH)
+        Score::new(i128::from(self.weights().impact_factor()) * THOUSANDTH)
     }
 
     /// What the base score is the rounding of (guide, section 3.2.1), which is exact and may be
@@ -41,8 +39,7 @@ impl Vector {
             ≈ base_number (impact (weights_of self.now)) (exploitability (weights_of self.now)) }
         ensures limit { IsWithinLimit result }
     {
-        let number = base_score::number(self.impact_units(), self.exploitability_units());
-        Score::new(i128::from(number) * 1_000_000_000)
+        Score::new(i128::from(self.weights().base_number()) * 1_000_000_000)
     }
 
     /// What the temporal score is the rounding of (guide, section 3.2.2), which is exact and may be
@@ -54,11 +51,9 @@ impl Vector {
             (thousandths (weights_of self.now).rl) (thousandths (weights_of self.now).rc) }
         ensures limit { IsWithinLimit result }
     {
-        let base = self.base_of(self.impact());
-        let e = weight(self.e, 1000);
-        let rl = weight(self.rl, 1000);
-        let number = equations::temporal_number(base, e, rl, weight(self.rc, 1000));
-        Score::new(number * 100_000_000_000_000)
+        let weights = self.weights();
+        let number = weights.temporal_number(weights.base());
+        Score::new(i128::from(number) * 100_000_000_000_000)
     }
 
     /// The base score with the adjusted impact in the place of the impact (guide, section 3.2.3),
@@ -68,7 +63,7 @@ impl Vector {
             (IsBase (weights_of self.now) (adjusted_impact (weights_of self.now))) result }
         ensures limit { IsWithinLimit result }
     {
-        of_tenths(self.base_of(self.adjusted_impact()))
+        of_tenths(self.weights().adjusted_base())
     }
 
     /// AdjustedTemporal, the temporal score of the adjusted base score (guide, section 3.2.3), which
@@ -78,7 +73,7 @@ impl Vector {
             (IsTemporal (weights_of self.now) (adjusted_impact (weights_of self.now))) result }
         ensures limit { IsWithinLimit result }
     {
-        of_tenths(self.temporal_of(self.adjusted_impact()))
+        of_tenths(self.weights().adjusted_temporal())
     }
 
     /// What the environmental score is the rounding of (guide, section 3.2.3), which is exact and
@@ -90,9 +85,8 @@ impl Vector {
             (thousandths (weights_of self.now).cdp) (thousandths (weights_of self.now).td) }
         ensures limit { IsWithinLimit result }
     {
-        let temporal = self.temporal_of(self.adjusted_impact());
-        let cdp = weight(self.cdp, 0);
-        let number = equations::environmental_number(temporal, cdp, weight(self.td, 1000));
-        Score::new(number * 100_000_000_000_000_000)
+        let weights = self.weights();
+        let number = weights.environmental_number(weights.adjusted_temporal());
+        Score::new(i128::from(number) * 100_000_000_000_000_000)
     }
 }

@@ -6,10 +6,9 @@ ghost use Rattle.cvss_score.specs.v2.Scores.{impact, adjusted_impact, exploitabi
 ghost use Rattle.cvss_base.specs.Tenths.{IsInTenths, IsFromZeroToTen};
 ghost use Rattle.cvss_v2.specs.Weights.{weights_of};
 
-use super::weighing::weight;
 use crate::vector::Vector;
-use cvss_score::v2::score::{of_tenths, published};
-use cvss_score::v2::{Score, equations};
+use cvss_score::v2::Score;
+use cvss_score::v2::score::of_tenths;
 
 impl Vector {
     /// The impact sub-score (guide, section 3.2.1), which is exact, from 0 to 10.001.
@@ -20,7 +19,7 @@ impl Vector {
         ensures low { pos 0 ≤ℤ result }
         ensures high { result ≤ℤ pos (10_001 * 10 ^ 21) }
     {
-        Score::new(i128::from(self.impact_units()) * 10_000_000_000_000)
+        Score::new(i128::from(self.weights().impact()) * 10_000_000_000_000)
     }
 
     /// The exploitability sub-score (guide, section 3.2.1), which is exact, from 0 to 10.
@@ -31,7 +30,7 @@ impl Vector {
         ensures low { pos 0 ≤ℤ result }
         ensures high { result ≤ℤ pos (10 ^ 25) }
     {
-        Score::new(i128::from(self.exploitability_units()) * 1_000_000_000_000_000)
+        Score::new(i128::from(self.weights().exploitability()) * 1_000_000_000_000_000)
     }
 
     /// The impact sub-score with the requirements (guide, section 3.2.3), which is exact and at
@@ -42,10 +41,7 @@ impl Vector {
         ensures low { pos 0 ≤ℤ result }
         ensures high { result ≤ℤ pos (10_001 * 10 ^ 21) }
     {
-        let c = weight(self.c, 0) * weight(self.cr, 1000);
-        let i = weight(self.i, 0) * weight(self.ir, 1000);
-        let a = weight(self.a, 0) * weight(self.ar, 1000);
-        Score::new(equations::adjusted_impact_count(c, i, a))
+        Score::new(self.weights().adjusted_impact())
     }
 
     /// The base score (guide, section 3.2.1), not below 0.
@@ -53,7 +49,7 @@ impl Vector {
         ensures value { IsBaseScore (weights_of self.now) result }
         ensures range { IsInTenths IsFromZeroToTen result }
     {
-        of_tenths(i128::from(self.tenths()))
+        of_tenths(i64::from(self.tenths()))
     }
 
     /// The base score (guide, section 3.2.1) in tenths, not below 0.
@@ -62,7 +58,7 @@ impl Vector {
         ensures value { IsBaseScore (weights_of self.now) (pos result *ℤ pos (10 ^ 23)) }
         ensures to_ten { result ≤ 100 }
     {
-        self.own_base().max(0) as u8
+        self.weights().base().max(0) as u8
     }
 
     /// The temporal score (guide, section 3.2.2), not below 0.
@@ -70,7 +66,15 @@ impl Vector {
         ensures value { IsTemporalScore (weights_of self.now) result }
         ensures range { IsInTenths IsFromZeroToTen result }
     {
-        published(self.temporal_of(self.impact()))
+        of_tenths(i64::from(self.temporal_tenths()))
+    }
+
+    /// The temporal score (guide, section 3.2.2) in tenths, not below 0.
+    pub fn temporal_tenths(&self) -> u8
+        ensures value { IsTemporalScore (weights_of self.now) (pos result *ℤ pos (10 ^ 23)) }
+        ensures to_ten { result ≤ 100 }
+    {
+        self.weights().temporal().max(0) as u8
     }
 
     /// The environmental score (guide, section 3.2.3), not below 0.
@@ -78,9 +82,15 @@ impl Vector {
         ensures value { IsEnvironmentalScore (weights_of self.now) result }
         ensures range { IsInTenths IsFromZeroToTen result }
     {
-        let temporal = self.temporal_of(self.adjusted_impact());
-        let cdp = weight(self.cdp, 0);
-        published(equations::environmental_tenths(temporal, cdp, weight(self.td, 1000)))
+        of_tenths(i64::from(self.environmental_tenths()))
+    }
+
+    /// The environmental score (guide, section 3.2.3) in tenths, not below 0.
+    pub fn environmental_tenths(&self) -> u8
+        ensures value { IsEnvironmentalScore (weights_of self.now) (pos result *ℤ pos (10 ^ 23)) }
+        ensures to_ten { result ≤ 100 }
+    {
+        self.weights().environmental().max(0) as u8
     }
 
     /// The temporal score with another impact in the place of the vector's own, which may be
@@ -90,6 +100,7 @@ impl Vector {
         ensures value { IsInTenths (IsTemporal (weights_of self.now) (of_count impact)) result }
         ensures limit { IsWithinLimit result }
     {
-        of_tenths(self.temporal_of(impact))
+        let weights = self.weights();
+        of_tenths(weights.temporal_of(weights.base_of(impact.value())))
     }
 }

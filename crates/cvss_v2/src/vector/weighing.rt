@@ -1,15 +1,41 @@
 //! What the metrics of a vector weigh, in thousandths.
 
 ghost use Rattle.std.specs.Prelude.{◌≡◌, ◌≤◌, option_map, unwrap_or};
+ghost use Rattle.cvss_score.specs.v2.private.Bounds.{AreBounded};
 ghost use Rattle.cvss_v2_metric.specs.Table.{weight_of, absent_weight};
 ghost use Rattle.cvss_v2.specs.Vector.{value_at};
-ghost use Rattle.cvss_v2.specs.Weights.{weight_in};
+ghost use Rattle.cvss_v2.specs.Weights.{weight_in, weights_of};
 ghost use Rattle.cvss_v2.specs.private.Bounds.{greatest_weight};
 
 use crate::vector::Vector;
+use cvss_score::v2::Weights;
 use cvss_v2_metric::{MetricType, Spelled};
 
 impl Vector {
+    /// What the metrics weigh, of which the equations make the scores.
+    #[inline(always)]
+    pub(super) fn weights(&self) -> Weights
+        ensures value { result ≡ weights_of self.now }
+        ensures bounded { AreBounded result }
+    {
+        Weights {
+            av: weight(self.av, 0),
+            ac: weight(self.ac, 0),
+            au: weight(self.au, 0),
+            c: weight(self.c, 0),
+            i: weight(self.i, 0),
+            a: weight(self.a, 0),
+            e: weight(self.e, 1000),
+            rl: weight(self.rl, 1000),
+            rc: weight(self.rc, 1000),
+            cdp: weight(self.cdp, 0),
+            td: weight(self.td, 1000),
+            cr: weight(self.cr, 1000),
+            ir: weight(self.ir, 1000),
+            ar: weight(self.ar, 1000),
+        }
+    }
+
     /// What a metric weighs in this vector, in thousandths.
     pub(super) fn thousandths(&self, metric: MetricType) -> u64
         ensures value { result ≡ weight_in self.now metric }
@@ -50,7 +76,7 @@ impl Vector {
 
 /// The weight of a value in thousandths, or that of an absent metric.
 #[inline(always)]
-pub(super) fn weight<M: Spelled>(value: Option<M>, absent: u64) -> u64
+fn weight<M: Spelled>(value: Option<M>, absent: u64) -> u64
     requires { absent ≤ greatest_weight M.KIND }
     ensures weight { result
         ≡ unwrap_or (option_map (λ metric. weight_of M.KIND (M.value metric)) value) absent }

@@ -12,7 +12,7 @@ use crate::vector::Vector;
 use cvss_score::v3::weighing::{
     effective, effective_scope, is_changed, modified_privileges, scoped_weight, weight,
 };
-use cvss_score::v3::{Rules, equations};
+use cvss_score::v3::{Exponent, equations};
 use cvss_v3_metric::MetricType;
 
 /// 10^-2, 10^-7, 10^-11 and 10^-13 in counts of 10^-24.
@@ -90,7 +90,7 @@ impl Vector {
             → of_count result ≈ impact (weights_of self.now) }
         ensures limit { IsWithinLimit result }
     {
-        let impact = equations::signed_impact(self.base_parts(), Rules::V30);
+        let impact = equations::signed_impact(self.base_parts(), Exponent::Fifteen);
         Score::new(i128::from(impact) * ELEVENTH)
     }
 
@@ -138,8 +138,8 @@ impl Vector {
             → of_count result ≈ modified_impact self.now.minor_version (weights_of self.now) }
         ensures limit { IsWithinLimit result }
     {
-        let rules = Rules::of(self.minor_version);
-        let impact = equations::signed_impact(self.modified_parts(), rules);
+        let exponent = Exponent::modified(self.minor_version);
+        let impact = equations::signed_impact(self.modified_parts(), exponent);
         Score::new(i128::from(impact) * ELEVENTH)
     }
 
@@ -174,6 +174,16 @@ impl Vector {
         ensures range { IsInTenths IsFromZeroToTen result }
     {
         Score::of_tenths(self.first_tenths())
+    }
+
+    /// The inner rounding of the environmental score in tenths, from 0 to 100 (v3.1 specification,
+    /// section 7.3; v3.0 specification, section 8.3).
+    pub fn environmental_first_tenths(&self) -> u8
+        ensures value { IsRounded self.now.minor_version
+            (environmental_number self.now.minor_version (weights_of self.now)) (pos result) }
+        ensures to_ten { result ≤ 100 }
+    {
+        self.first_tenths() as u8
     }
 
     /// What the environmental score is the rounding of (v3.1 specification, section 7.3; v3.0

@@ -27,7 +27,7 @@ impl Vector {
         ensures value { IsBaseScore self.now.minor_version (weights_of self.now) result }
         ensures range { IsInTenths IsFromZeroToTen result }
     {
-        Score::of_tenths(self.base_tenths())
+        Score::of_tenths(u64::from(self.tenths()))
     }
 
     /// The base score in tenths, from 0 to 100 (v3.1 specification, section 7.1; v3.0 specification,
@@ -46,7 +46,17 @@ impl Vector {
         ensures value { IsTemporalScore self.now.minor_version (weights_of self.now) result }
         ensures range { IsInTenths IsFromZeroToTen result }
     {
-        Score::of_tenths(self.temporal_tenths(self.base_tenths()))
+        Score::of_tenths(u64::from(self.temporal_tenths()))
+    }
+
+    /// The temporal score in tenths, from 0 to 100 (v3.1 specification, section 7.2; v3.0
+    /// specification, section 8.2).
+    pub fn temporal_tenths(&self) -> u8
+        ensures value { IsTemporalScore self.now.minor_version (weights_of self.now)
+            (pos result *ℤ pos (10 ^ 23)) }
+        ensures to_ten { result ≤ 100 }
+    {
+        self.times_temporal(self.base_tenths()) as u8
     }
 
     /// The environmental score (v3.1 specification, section 7.3; v3.0 specification, section 8.3).
@@ -54,7 +64,17 @@ impl Vector {
         ensures value { IsEnvironmentalScore self.now.minor_version (weights_of self.now) result }
         ensures range { IsInTenths IsFromZeroToTen result }
     {
-        Score::of_tenths(self.temporal_tenths(self.first_tenths()))
+        Score::of_tenths(u64::from(self.environmental_tenths()))
+    }
+
+    /// The environmental score in tenths, from 0 to 100 (v3.1 specification, section 7.3; v3.0
+    /// specification, section 8.3).
+    pub fn environmental_tenths(&self) -> u8
+        ensures value { IsEnvironmentalScore self.now.minor_version (weights_of self.now)
+            (pos result *ℤ pos (10 ^ 23)) }
+        ensures to_ten { result ≤ 100 }
+    {
+        self.times_temporal(self.first_tenths()) as u8
     }
 
     /// The exploitability sub-score, which is exact (v3.1 specification, section 7.1).

@@ -11,7 +11,7 @@ use crate::vector::Vector;
 use cvss_score::v3::equations::Parts;
 use cvss_score::v3::rounding::round_tenths;
 use cvss_score::v3::weighing::{effective, modified_privileges, scoped_weight, weight};
-use cvss_score::v3::{Rules, equations};
+use cvss_score::v3::{Exponent, Rules, equations};
 
 impl Vector {
     /// The parts of what the base score is the rounding of.
@@ -64,7 +64,7 @@ impl Vector {
             (result over (10 ^ 13)) (base_number (weights_of self.now)) }
         ensures to_ten { result ≤ 10 ^ 14 }
     {
-        equations::first_number(self.base_parts(), Rules::V30)
+        equations::first_number(self.base_parts(), Exponent::Fifteen)
     }
 
     /// A number of 10^-13 that stands for the first number of the environmental score.
@@ -75,7 +75,10 @@ impl Vector {
             (environmental_number self.now.minor_version (weights_of self.now)) }
         ensures to_ten { result ≤ 10 ^ 14 }
     {
-        equations::first_number(self.modified_parts(), Rules::of(self.minor_version))
+        equations::first_number(
+            self.modified_parts(),
+            Exponent::modified(self.minor_version),
+        )
     }
 
     /// The base score in tenths.
@@ -110,7 +113,7 @@ impl Vector {
     }
 
     /// So many tenths times E, RL and RC, rounded to tenths.
-    pub(super) fn temporal_tenths(&self, tenths: u64) -> u64
+    pub(super) fn times_temporal(&self, tenths: u64) -> u64
         requires { tenths ≤ 100 }
         ensures value { IsRounded self.now.minor_version
             (temporal_number (pos tenths) (weights_of self.now)) (pos result) }

@@ -1,67 +1,100 @@
 -- What holds of a modified metric, by the laws of its base metric alone.
-use Rattle.std.specs.Prelude.{◌≡◌, ◌⊎◌, ℕ, ◌+◌, Bool, true, false, codes, is_some, IsSome, Some, unwrap_or}
+use Rattle.std.specs.Prelude.{◌≡◌, ℕ, ◌+◌, Bool, true, false, [], ◌∷◌, bytes_eq, get_or, is_some, IsSome, IsTrue, Option, Some, unwrap_or}
+use Rattle.std.specs.List.{list_any}
+use Rattle.std.specs.Option.{option_map_or}
 use Rattle.std.specs.Ordering.{nat_cmp}
 use Rattle.std.specs.declared.cmp.Ordering.{Ordering}
 use Rattle.std.specs.declared.cmp.Ordering.TheVariants.{Less, Equal, Greater}
-use Rattle.std.proofs.Common.{◌∙◌, ap, sym, subst, inl, inr, arith, rules}
+use Rattle.std.proofs.Common.{◌∙◌, ap, sym, arith, refl, rules}
 use Rattle.std.proofs.lemmas.Grind.{common_steps}
 use Rattle.cvss_base.specs.Equality.{EqualsByValue}
-use Rattle.cvss_base.specs.Text.{raised}
 use Rattle.cvss_base.specs.declared.v3.MetricType.{MetricType}
-use Rattle.cvss_base.specs.declared.v3.MetricType.TheVariants.{A as availability, MAV}
+use Rattle.cvss_base.specs.declared.v3.MetricType.TheVariants.{A as availability, S, MAV}
 use Rattle.cvss_v3_metric.specs.declared.environmental.modified.Modified.{Modified}
 use Rattle.cvss_v3_metric.specs.declared.environmental.modified.Modified.TheVariants.{NotDefined, Modified as Set}
+use Rattle.cvss_v3_metric.specs.declared.environmental.modified.ModifiedScope.TheVariants as scope
 use Rattle.cvss_v3_metric.specs.Metrics.{IsBaseMetric}
-use Rattle.cvss_v3_metric.specs.Modified.{modified_rank}
-use Rattle.cvss_v3_metric.specs.Table.{Value, spelling_of, rank_of, modified_of, blamed}
-use Rattle.cvss_v3_metric.specs.private.TableLaws.{one_value}
+use Rattle.cvss_v3_metric.specs.Modified.{modified_rank, modified_spelling}
+use Rattle.cvss_v3_metric.specs.Table.{Value, AnyValue, rows_of, spelling_of, weight_of, rank_of, modified_of, replacing, replacing_value, modified_value, blamed}
 
--- the modified metric that replaces a metric, or MAV where there is none
-abbrev replacing : MetricType → MetricType
-replacing kind = unwrap_or (modified_of kind) MAV
-
--- a fact about the metric that replaces another one, about that metric by any name
-by_name : (P : MetricType → Type 0) (kind modified : MetricType) → modified_of kind ≡ Some modified → P (replacing kind) → P modified
-by_name P kind modified is = subst P (ap (λ found. unwrap_or found MAV) is)
-
+-- what holds of each metric that can be modified, checked metric by metric
 base_reported : (kind : MetricType) → IsSome (modified_of kind) → blamed (replacing kind) ≡ kind
 base_reported availability = search rules
 base_reported _ = search rules
 
-undefined_first : (kind : MetricType) (y : Value (replacing kind)) → spelling_of (replacing kind) y ≡ codes "X" → rank_of (replacing kind) y ≡ 0
-undefined_first availability = search rules
-undefined_first _ = search rules
+value_spelled : (kind : MetricType) → IsSome (modified_of kind) → (x : Modified (Value kind)) → spelling_of (replacing kind) (replacing_value kind x) ≡ modified_spelling (spelling_of kind) x
+value_spelled availability = search rules
+value_spelled _ = search rules
 
-set_next : (kind : MetricType) → IsSome (modified_of kind) → (y : Value (replacing kind)) (x : Value kind) → spelling_of (replacing kind) y ≡ spelling_of kind x → rank_of (replacing kind) y ≡ rank_of kind x + 1
-set_next availability = search rules
-set_next _ = search rules
+value_ranked : (kind : MetricType) → IsSome (modified_of kind) → (x : Modified (Value kind)) → rank_of (replacing kind) (replacing_value kind x) ≡ modified_rank (rank_of kind) x
+value_ranked availability = search rules
+value_ranked _ = search rules
 
-spelled_so : (kind : MetricType) → IsSome (modified_of kind) → (y : Value (replacing kind)) → (spelling_of (replacing kind) y ≡ codes "X") ⊎ ((x : Value kind) × spelling_of (replacing kind) y ≡ spelling_of kind x)
-spelled_so availability = search rules
-spelled_so _ = search rules
+undefined_weight : (kind : MetricType) → IsSome (modified_of kind) → Some 0 ≡ weight_of (replacing kind) (replacing_value kind NotDefined)
+undefined_weight availability = search rules
+undefined_weight _ = search rules
 
--- a refused value of the modified metric is reported under the base metric
-pub reported : (kind modified : MetricType) → modified_of kind ≡ Some modified → kind ≡ blamed modified
-reported kind modified is = by_name (λ m. kind ≡ blamed m) kind modified is (sym (base_reported kind (ap is_some is)))
+set_weight : (kind : MetricType) → IsSome (modified_of kind) → (x : Value kind) → IsSome (weight_of kind x) → Some 0 ≡ weight_of (replacing kind) (replacing_value kind (Set x))
+set_weight availability = search rules
+set_weight _ = search rules
 
-module _ {A : Type 0} {kind modified_kind : MetricType} {value : A → Value kind} {modified : Modified A → Value modified_kind} (base : IsBaseMetric kind modified_kind value modified) where
+value_covered : (kind : MetricType) → IsSome (modified_of kind) → (y : Value (replacing kind)) → (x : Modified (Value kind)) × replacing_value kind x ≡ y
+value_covered S is scope.NotDefined = (NotDefined, refl)
+value_covered S is (scope.Modified value) = (Set value, refl)
+value_covered availability is y = search rules
+value_covered _ is y = search rules
+
+-- the letters that spell the values of the metric that replaces a metric
+abbrev pub is_modified_letter : MetricType → ℕ → Bool
+is_modified_letter kind letter = option_map_or (λ modified. list_any (λ row. bytes_eq row.0 (letter ∷ [])) (rows_of modified)) (modified_of kind) false
+
+undefined_letter : (kind : MetricType) → IsSome (modified_of kind) → IsTrue (is_modified_letter kind 88)
+undefined_letter availability = search rules
+undefined_letter _ = search rules
+
+set_letter : (kind : MetricType) → IsSome (modified_of kind) → (x : Value kind) → IsTrue (is_modified_letter kind (get_or (spelling_of kind x) 0 0))
+set_letter availability = search rules
+set_letter _ = search rules
+
+module _ {A : Type 0} {kind modified_kind : MetricType} {value : A → Value kind} {own : Modified A → Option AnyValue} (base : IsBaseMetric kind modified_kind value own) where
   some : IsSome (modified_of kind)
   some = ap is_some base.replaced
 
-  -- the modified values are placed as the base metric's, behind the one that is not defined
-  pub ranked : (x : Modified A) → rank_of modified_kind (modified x) ≡ modified_rank (λ y. rank_of kind (value y)) x
-  ranked NotDefined = by_name (λ m. (y : Value m) → spelling_of m y ≡ codes "X" → rank_of m y ≡ 0) kind modified_kind base.replaced (undefined_first kind) (modified NotDefined) (base.spelled NotDefined)
-  ranked (Set x) = by_name (λ m. (y : Value m) (z : Value kind) → spelling_of m y ≡ spelling_of kind z → rank_of m y ≡ rank_of kind z + 1) kind modified_kind base.replaced (set_next kind some) (modified (Set x)) (value x) (base.spelled (Set x))
+  -- the modified metric is the one that replaces the base metric, under which its refused values are reported
+  pub replaces : modified_kind ≡ replacing kind
+  replaces = sym (ap (λ found. unwrap_or found MAV) base.replaced)
+
+  pub reported : kind ≡ blamed (replacing kind)
+  reported = sym (base_reported kind some)
+
+  -- a modified value is spelled X, or as the one that is set
+  pub spelled : (x : Modified A) → spelling_of (replacing kind) (modified_value kind value own x) ≡ modified_spelling (λ y. spelling_of kind (value y)) x
+  spelled NotDefined = rw (base.own_is NotDefined) (value_spelled kind some NotDefined)
+  spelled (Set x) = rw (base.own_is (Set x)) (value_spelled kind some (Set (value x)))
+
+  -- it has a place behind the one that is not defined, as the base metric's values have
+  pub ranked : (x : Modified A) → rank_of (replacing kind) (modified_value kind value own x) ≡ modified_rank (λ y. rank_of kind (value y)) x
+  ranked NotDefined = rw (base.own_is NotDefined) (value_ranked kind some NotDefined)
+  ranked (Set x) = rw (base.own_is (Set x)) (value_ranked kind some (Set (value x)))
+
+  -- it weighs nothing of its own
+  pub weight : (x : Modified A) → Some 0 ≡ weight_of (replacing kind) (modified_value kind value own x)
+  weight NotDefined = rw (base.own_is NotDefined) (undefined_weight kind some)
+  weight (Set x) = rw (base.own_is (Set x)) (set_weight kind some (value x) (base.weighed x))
 
   -- each value of the table is a modified value
-  pub covered : ((x : Value kind) → (metric : A) × value metric ≡ x) → (y : Value modified_kind) → (metric : Modified A) × modified metric ≡ y
-  covered covers y = by_spelling (by_name (λ m. (z : Value m) → (spelling_of m z ≡ codes "X") ⊎ ((x : Value kind) × spelling_of m z ≡ spelling_of kind x)) kind modified_kind base.replaced (spelled_so kind some) y) where
-    same : (metric : Modified A) → spelling_of modified_kind (modified metric) ≡ spelling_of modified_kind y → modified metric ≡ y
-    same metric alike = one_value modified_kind (modified metric) y (ap raised alike)
+  pub covered : ((x : Value kind) → (metric : A) × value metric ≡ x) → (y : Value (replacing kind)) → (metric : Modified A) × modified_value kind value own metric ≡ y
+  covered covers y = let (x, is) = value_covered kind some y in by_value x is where
+    by_value : (x : Modified (Value kind)) → replacing_value kind x ≡ y → (metric : Modified A) × modified_value kind value own metric ≡ y
+    by_value NotDefined is = (NotDefined, rw (base.own_is NotDefined) is)
+    by_value (Set x) is = let set = covers x in (Set set.0, rw (base.own_is (Set set.0), set.1) is)
 
-    by_spelling : (spelling_of modified_kind y ≡ codes "X") ⊎ ((x : Value kind) × spelling_of modified_kind y ≡ spelling_of kind x) → (metric : Modified A) × modified metric ≡ y
-    by_spelling (inl undefined) = (NotDefined, same NotDefined (base.spelled NotDefined ∙ sym undefined))
-    by_spelling (inr (x, is)) = let set = covers x in (Set set.0, same (Set set.0) (base.spelled (Set set.0) ∙ (ap (spelling_of kind) set.1 ∙ sym is)))
+  -- its text is found by its letter
+  pub letter_undefined : IsTrue (is_modified_letter kind 88)
+  letter_undefined = undefined_letter kind some
+
+  pub letter_set : (x : A) (letter : ℕ) → spelling_of kind (value x) ≡ letter ∷ [] → IsTrue (is_modified_letter kind letter)
+  letter_set x letter is = rw is at (set_letter kind some (value x))
 
 both_first : (m n : ℕ) → m ≡ 0 → n ≡ 0 → Equal ≡ nat_cmp m n
 both_first m n first second = grind (arith, common_steps)

@@ -1,12 +1,12 @@
 -- What holds of each value in the table of CVSS v3, checked value by value.
-use Rattle.std.specs.Prelude.{◌≡◌, ◌≢◌, Bool, false, codes, bytes_eq}
+use Rattle.std.specs.Prelude.{◌≡◌, ◌≢◌, ℕ, ◌-◌, ◌<◌, Bool, false, List, [], ◌∷◌, length, get_or, codes, bytes_eq}
 use Rattle.std.specs.List.{list_any}
 use Rattle.std.proofs.Common.{rules}
-use Rattle.cvss_base.specs.Text.{raised}
+use Rattle.cvss_base.specs.Text.{raised, slash}
 use Rattle.cvss_base.specs.private.Component.{foreign_bytes}
 use Rattle.cvss_base.specs.declared.v3.MetricType.{MetricType}
 use Rattle.cvss_base.specs.declared.v3.MetricType.TheVariants.{A}
-use Rattle.cvss_v3_metric.specs.Table.{Value, rows_of, spelling_of}
+use Rattle.cvss_v3_metric.specs.Table.{Value, rows_of, spelling_of, metric_component}
 
 -- whether the metric has the value X
 abbrev pub has_undefined : MetricType → Bool
@@ -31,3 +31,10 @@ one_value _ = search rules
 pub none_undefined : (kind : MetricType) (value : Value kind) → has_undefined kind ≡ false → spelling_of kind value ≢ codes "X"
 none_undefined A = search rules
 none_undefined _ = search rules
+
+-- a component ends in the one letter that spells its value
+pub ends_in_letter : (kind : MetricType) (value : Value kind) (text : List ℕ) → text ≡ slash ∷ metric_component kind value → (0 < length text) × (spelling_of kind value ≡ get_or text (length text - 1) 0 ∷ [])
+ends_in_letter kind value text is = rw is (ended kind value) where
+  ended : (kind : MetricType) (value : Value kind) → (0 < length (slash ∷ metric_component kind value)) × (spelling_of kind value ≡ get_or (slash ∷ metric_component kind value) (length (slash ∷ metric_component kind value) - 1) 0 ∷ [])
+  ended A = search rules
+  ended _ = search rules

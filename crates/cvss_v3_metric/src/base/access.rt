@@ -1,14 +1,13 @@
 //! What the attack needs of others: privileges, and somebody who takes part (v3.1 specification,
 //! sections 2.1.3 and 2.1.4).
 
-ghost use Rattle.std.specs.Prelude.{◌∷◌, ◌≡◌, ◌*◌, ◌^◌, pos, Some};
+ghost use Rattle.std.specs.Prelude.{◌≡◌, ◌*◌, ◌^◌, pos, Some};
 ghost use Rattle.std.proofs.Common.{rules};
 ghost use Rattle.cvss_base.specs.Exact.{IsWithinLimit};
 ghost use Rattle.cvss_base.specs.declared.v3.MetricType.TheVariants.{PR, UI, MPR, MUI};
-ghost use Rattle.cvss_base.specs.Text.{slash};
 ghost use Rattle.cvss_v3_metric.specs.Table.{scoped_weight, metric_component};
 
-use crate::environmental::{BaseMetric, Modified};
+use crate::environmental::BaseMetric;
 use crate::metric::{HUNDREDTH, Metric, MetricType, Spelled};
 use std::fmt;
 
@@ -74,20 +73,9 @@ impl BaseMetric for PrivilegesRequired {
 
     ghost MODIFIED_TYPE = { MPR };
 
-    ghost modified_value = { λ metric. metric };
+    ghost own_value = { λ metric. Some (record { kind = MPR; value = metric }) };
 
     ghost base_law = { Prim.search rules };
-
-    fn modified_slashed(metric: Modified<Self>) -> &'static str
-        ensures { result.now ≡ slash ∷ metric_component MPR metric }
-    {
-        match metric {
-            Modified::NotDefined => "/MPR:X",
-            Modified::Modified(Self::High) => "/MPR:H",
-            Modified::Modified(Self::Low) => "/MPR:L",
-            Modified::Modified(Self::None) => "/MPR:N",
-        }
-    }
 }
 
 impl PrivilegesRequired {
@@ -170,17 +158,7 @@ impl BaseMetric for UserInteraction {
 
     ghost MODIFIED_TYPE = { MUI };
 
-    ghost modified_value = { λ metric. metric };
+    ghost own_value = { λ metric. Some (record { kind = MUI; value = metric }) };
 
     ghost base_law = { Prim.search rules };
-
-    fn modified_slashed(metric: Modified<Self>) -> &'static str
-        ensures { result.now ≡ slash ∷ metric_component MUI metric }
-    {
-        match metric {
-            Modified::NotDefined => "/MUI:X",
-            Modified::Modified(Self::Required) => "/MUI:R",
-            Modified::Modified(Self::None) => "/MUI:N",
-        }
-    }
 }

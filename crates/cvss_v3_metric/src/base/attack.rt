@@ -1,12 +1,11 @@
 //! Where the attack comes from and what it depends on (v3.1 specification, sections 2.1.1 and 2.1.2).
 
-ghost use Rattle.std.specs.Prelude.{◌∷◌, ◌≡◌, Some};
+ghost use Rattle.std.specs.Prelude.{◌≡◌, Some};
 ghost use Rattle.std.proofs.Common.{rules};
 ghost use Rattle.cvss_base.specs.declared.v3.MetricType.TheVariants.{AV, AC, MAV, MAC};
-ghost use Rattle.cvss_base.specs.Text.{slash};
 ghost use Rattle.cvss_v3_metric.specs.Table.{metric_component, default_complexity};
 
-use crate::environmental::{BaseMetric, Modified};
+use crate::environmental::BaseMetric;
 use crate::metric::{Metric, MetricType, Spelled};
 use std::fmt;
 
@@ -74,21 +73,9 @@ impl BaseMetric for AttackVector {
 
     ghost MODIFIED_TYPE = { MAV };
 
-    ghost modified_value = { λ metric. metric };
+    ghost own_value = { λ metric. Some (record { kind = MAV; value = metric }) };
 
     ghost base_law = { Prim.search rules };
-
-    fn modified_slashed(metric: Modified<Self>) -> &'static str
-        ensures { result.now ≡ slash ∷ metric_component MAV metric }
-    {
-        match metric {
-            Modified::NotDefined => "/MAV:X",
-            Modified::Modified(Self::Physical) => "/MAV:P",
-            Modified::Modified(Self::Local) => "/MAV:L",
-            Modified::Modified(Self::Adjacent) => "/MAV:A",
-            Modified::Modified(Self::Network) => "/MAV:N",
-        }
-    }
 }
 
 /// Whether an attack needs conditions beyond the attacker's control (v3.1 specification, section
@@ -158,17 +145,7 @@ impl BaseMetric for AttackComplexity {
 
     ghost MODIFIED_TYPE = { MAC };
 
-    ghost modified_value = { λ metric. metric };
+    ghost own_value = { λ metric. Some (record { kind = MAC; value = metric }) };
 
     ghost base_law = { Prim.search rules };
-
-    fn modified_slashed(metric: Modified<Self>) -> &'static str
-        ensures { result.now ≡ slash ∷ metric_component MAC metric }
-    {
-        match metric {
-            Modified::NotDefined => "/MAC:X",
-            Modified::Modified(Self::High) => "/MAC:H",
-            Modified::Modified(Self::Low) => "/MAC:L",
-        }
-    }
 }

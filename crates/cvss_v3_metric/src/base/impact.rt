@@ -3,10 +3,9 @@
 ghost use Rattle.std.specs.Prelude.{◌≡◌, ◌∷◌, Some};
 ghost use Rattle.std.proofs.Common.{rules};
 ghost use Rattle.cvss_base.specs.declared.v3.MetricType.TheVariants.{C, I, A, MC, MI, MA};
-ghost use Rattle.cvss_base.specs.Text.{slash};
 ghost use Rattle.cvss_v3_metric.specs.Table.{metric_component};
 
-use crate::environmental::{BaseMetric, Modified};
+use crate::environmental::BaseMetric;
 use crate::metric::{Metric, MetricType, Spelled};
 use std::fmt;
 
@@ -71,20 +70,9 @@ impl BaseMetric for Confidentiality {
 
     ghost MODIFIED_TYPE = { MC };
 
-    ghost modified_value = { λ metric. metric };
+    ghost own_value = { λ metric. Some (record { kind = MC; value = metric }) };
 
     ghost base_law = { Prim.search rules };
-
-    fn modified_slashed(metric: Modified<Self>) -> &'static str
-        ensures { result.now ≡ slash ∷ metric_component MC metric }
-    {
-        match metric {
-            Modified::NotDefined => "/MC:X",
-            Modified::Modified(Self::None) => "/MC:N",
-            Modified::Modified(Self::Low) => "/MC:L",
-            Modified::Modified(Self::High) => "/MC:H",
-        }
-    }
 }
 
 /// What can no longer be trusted to be genuine (v3.1 specification, section 2.3.2).
@@ -148,20 +136,9 @@ impl BaseMetric for Integrity {
 
     ghost MODIFIED_TYPE = { MI };
 
-    ghost modified_value = { λ metric. metric };
+    ghost own_value = { λ metric. Some (record { kind = MI; value = metric }) };
 
     ghost base_law = { Prim.search rules };
-
-    fn modified_slashed(metric: Modified<Self>) -> &'static str
-        ensures { result.now ≡ slash ∷ metric_component MI metric }
-    {
-        match metric {
-            Modified::NotDefined => "/MI:X",
-            Modified::Modified(Self::None) => "/MI:N",
-            Modified::Modified(Self::Low) => "/MI:L",
-            Modified::Modified(Self::High) => "/MI:H",
-        }
-    }
 }
 
 /// What can no longer be used (v3.1 specification, section 2.3.3).
@@ -225,18 +202,7 @@ impl BaseMetric for Availability {
 
     ghost MODIFIED_TYPE = { MA };
 
-    ghost modified_value = { λ metric. metric };
+    ghost own_value = { λ metric. Some (record { kind = MA; value = metric }) };
 
     ghost base_law = { Prim.search rules };
-
-    fn modified_slashed(metric: Modified<Self>) -> &'static str
-        ensures { result.now ≡ slash ∷ metric_component MA metric }
-    {
-        match metric {
-            Modified::NotDefined => "/MA:X",
-            Modified::Modified(Self::None) => "/MA:N",
-            Modified::Modified(Self::Low) => "/MA:L",
-            Modified::Modified(Self::High) => "/MA:H",
-        }
-    }
 }

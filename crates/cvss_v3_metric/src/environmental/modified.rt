@@ -1,15 +1,15 @@
 //! The modified base metrics (v3.1 specification, section 4.2).
 
-ghost use Rattle.std.specs.Prelude.{◌≡◌, ◌∷◌, ◌*◌, ◌^◌, pos, Some, refl};
+ghost use Rattle.std.specs.Prelude.{◌≡◌, ◌*◌, ◌^◌, pos, Some, refl};
 ghost use Rattle.std.proofs.Common.{rules, ◌∙◌};
 ghost use Rattle.cvss_base.specs.Exact.{IsWithinLimit};
-ghost use Rattle.cvss_base.specs.Text.{slash};
 ghost use Rattle.cvss_base.specs.declared.v3.MetricType.{MetricType};
 ghost use Rattle.cvss_base.specs.declared.v3.MetricType.TheVariants.{S, MS};
-ghost use Rattle.cvss_v3_metric.specs.Table.{scoped_weight, Value, weight_of, metric_component};
+ghost use Rattle.cvss_v3_metric.specs.Table.{scoped_weight, weight_of, metric_component, replacing, modified_value};
 ghost use Rattle.cvss_v3_metric.specs.Metrics.{IsBaseMetric};
 ghost use Rattle.cvss_v3_metric.specs.Modified.{replaced, weight_or};
 
+use super::texts::modified_slashed;
 use crate::base::{PrivilegesRequired, Scope};
 use crate::metric::{Metric, MetricType, Spelled};
 use std::fmt;
@@ -24,31 +24,32 @@ pub enum Modified<T> {
 /// A base metric that a modified metric can replace: each of its values has a weight, and none is
 /// spelled `X`.
 pub trait BaseMetric: Metric {
+    ghost use Rattle.std.specs.Prelude.{Option, None};
     ghost use Rattle.cvss_v3_metric.specs.declared.environmental.modified.Modified.{Modified};
+    ghost use Rattle.cvss_v3_metric.specs.Table.{AnyValue};
 
     /// The modified metric.
     const MODIFIED_TYPE: MetricType;
 
     ghost MODIFIED_TYPE: { MetricType };
 
-    ghost modified_value: { Modified Self → Value MODIFIED_TYPE };
+    ghost own_value: { Modified Self → Option AnyValue } = { λ _. None };
 
-    /// A slash and the component that stands for the modified value in a vector.
-    fn modified_slashed(metric: Modified<Self>) -> &'static str
-        ensures { result.now ≡ slash ∷ metric_component MODIFIED_TYPE (modified_value metric) };
-
-    ghost base_law: { IsBaseMetric Self.KIND MODIFIED_TYPE Self.value modified_value };
+    ghost base_law: { IsBaseMetric Self.KIND MODIFIED_TYPE Self.value own_value };
 }
 
 impl<T: BaseMetric> Spelled for Modified<T> {
     const KIND: MetricType = T::MODIFIED_TYPE;
 
-    ghost KIND = { T.MODIFIED_TYPE };
+    ghost KIND = { replacing T.KIND };
 
-    ghost value = { T.modified_value };
+    ghost value = { λ metric. modified_value T.KIND T.value T.own_value metric };
 
     fn row(self) -> (&'static str, Option<u64>) {
-        (T::modified_slashed(self), Some(0))
+        match self {
+            Modified::NotDefined => (modified_slashed(T::KIND, b'X'), Some(0)),
+            Modified::Modified(value) => (modified_slashed(T::KIND, value.letter()), Some(0)),
+        }
     }
 
     #[inline(always)]
@@ -61,7 +62,7 @@ impl<T: BaseMetric> Spelled for Modified<T> {
 }
 
 impl<T: BaseMetric> Metric for Modified<T> {
-    ghost use Rattle.cvss_v3_metric.specs.private.ModifiedLaws.{covered, ranked, reported, modified_order, modified_equality};
+    ghost use Rattle.cvss_v3_metric.specs.private.ModifiedLaws.{covered, ranked, replaces, reported, modified_order, modified_equality};
 
     const TYPE: MetricType = T::MODIFIED_TYPE;
 
@@ -72,8 +73,8 @@ impl<T: BaseMetric> Metric for Modified<T> {
     ghost FAULT_TYPE = { T.TYPE };
 
     ghost law = { record {
-      typed = refl;
-      reported = T.law.typed ∙ reported _ _ T.base_law.replaced;
+      typed = replaces T.base_law;
+      reported = T.law.typed ∙ reported T.base_law;
       covers = covered T.base_law T.law.covers;
       ordered = modified_order _ _ _ T.law.ordered (ranked T.base_law)
           refl (λ y. refl) (λ x. refl) (λ x y. refl);
@@ -84,9 +85,11 @@ impl<T: BaseMetric> Metric for Modified<T> {
 }
 
 impl<T: BaseMetric> fmt::Display for Modified<T> {
-    ghost output = { λ metric. Some (metric_component T.MODIFIED_TYPE (T.modified_value metric)) };
+    ghost output = { λ metric. Some (metric_component (replacing T.KIND)
+        (modified_value T.KIND T.value T.own_value metric)) };
 
-    ghost styled_output = { λ metric _. Some (metric_component T.MODIFIED_TYPE (T.modified_value metric)) };
+    ghost styled_output = { λ metric _. Some (metric_component (replacing T.KIND)
+        (modified_value T.KIND T.value T.own_value metric)) };
 
     fn fmt<W: fmt::Write>(&self, f: &mut fmt::Formatter<W>) -> fmt::Result {
         self.write(f)
@@ -150,9 +153,8 @@ impl Spelled for ModifiedScope {
 
     fn row(self) -> (&'static str, Option<u64>) {
         match self {
-            Self::NotDefined => ("/MS:X", Some(0)),
-            Self::Modified(Scope::Unchanged) => ("/MS:U", None),
-            Self::Modified(Scope::Changed) => ("/MS:C", None),
+            Self::NotDefined => (modified_slashed(MetricType::S, b'X'), Some(0)),
+            Self::Modified(scope) => (modified_slashed(MetricType::S, scope.letter()), None),
         }
     }
 

@@ -1,9 +1,11 @@
-use Rattle.std.proofs.Common.{append_assoc, refl, rules}
+use Rattle.std.proofs.Common.{Some, ◌++◌, ◌∙◌, drop, rules}
 use Rattle.std.proofs.lemmas.Int.{to_z-of_z}
 use Rattle.std.specs.Int.{w64}
+use Rattle.cvss_account.specs.V4.{next_members}
 use Rattle.cvss_account.proofs.v4.put_next.Goals as goal
 
 pub returns-clause-text : goal.returns-clause-text
 returns-clause-text c =
-    rw (c.put_fragments.ensures.text, c.put_macro_vector.ensures.text, c.push-2.ensures, c.in-Some.is)
-    (rw (to_z-of_z w64 c.of_parts-taken.result (search rules)) (rw c.of_parts-taken.ensures (simp append_assoc refl)))
+    let written = rw (to_z-of_z w64 c.of_parts-taken.result (search rules)) at c.put_members-2.ensures.text in
+    let members = rw c.of_parts-taken.ensures at written in
+    rw c.in-Some.is (λ more. members more ∙ c.put_macro_vector.ensures.text (drop 1 (next_members (Some c.in-Some.next) c.args.group.now.taken) ++ more))

@@ -1,7 +1,7 @@
 use Rattle.std.proofs.Common.{◌≡◌, ◌++◌, map}
 use Rattle.cvss_audit.specs.Objects.{difference_value}
-use Rattle.cvss_record.specs.Differences.{difference_view}
-use Rattle.cvss_object.specs.Trees.{tree_view}
+use Rattle.cvss_document.specs.Differences.{difference_view}
+use Rattle.cvss_tree.specs.Trees.{tree_view}
 use Rattle.cvss_audit.proofs.differs.put_differences.Given as goal
 
 abbrev pub invariant-loop-difference : goal.invariant-loop-difference

@@ -2,8 +2,8 @@ use Rattle.std.proofs.Common.{subst}
 use Rattle.cvss_lines.proofs.StepsLemmas.{told_fault}
 use Rattle.cvss_audit.specs.Sources.{source_view}
 use Rattle.cvss_audit.specs.private.Writing.{StopsFound}
-use Rattle.cvss_record.specs.Places.{places_in}
-use Rattle.cvss_record.specs.PlacesLeft.{IsNextPlace, places_left}
+use Rattle.cvss_document.specs.Places.{places_in}
+use Rattle.cvss_document.specs.PlacesLeft.{IsNextPlace, places_left}
 use Rattle.serde_json.specs.View.{view}
 use Rattle.cvss_audit.proofs.FoundLemmas.{StopsFound-write, StreamsFound-next, StreamsFound-start}
 use Rattle.cvss_audit.proofs.documents.answer_document.Goals as goal

@@ -1,8 +1,8 @@
 use Rattle.std.proofs.Common.{◌≡◌, length}
 use Rattle.cvss_audit.specs.Sources.{id_of, source_view}
 use Rattle.cvss_audit.specs.private.Writing.{StreamsFound}
-use Rattle.cvss_record.specs.Places.{places_in}
-use Rattle.cvss_record.specs.PlacesLeft.{places_left}
+use Rattle.cvss_document.specs.Places.{places_in}
+use Rattle.cvss_document.specs.PlacesLeft.{places_left}
 use Rattle.serde_json.specs.View.{view}
 use Rattle.cvss_audit.proofs.documents.answer_document.Given as goal
 

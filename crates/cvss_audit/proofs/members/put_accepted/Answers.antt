@@ -1,6 +1,6 @@
 use Rattle.std.proofs.Common.{◌∙◌}
 use Rattle.std.proofs.lemmas.Result.{on_ok_weaker}
-use Rattle.cvss_object.proofs.ObjectLemmas.{with_members-append}
+use Rattle.cvss_tree.proofs.ObjectLemmas.{with_members-append}
 use Rattle.cvss_audit.proofs.members.put_accepted.Goals as goal
 
 pub returns : goal.returns

@@ -4,7 +4,7 @@ use Rattle.std.specs.List.{cons_option, filter_map}
 use Rattle.cvss_audit.specs.Objects.{missing_at}
 use Rattle.cvss_base.specs.declared.v3.MetricType.{MetricType}
 use Rattle.cvss_base.specs.declared.v3.MetricType.TheVariants.{A}
-use Rattle.cvss_object.specs.Trees.{tree_view}
+use Rattle.cvss_tree.specs.Trees.{tree_view}
 use Rattle.serde_json.specs.Data.{Data}
 use Rattle.cvss_audit.proofs.missing.missing_v3.Goals as goal
 use Rattle.cvss_audit.proofs.missing.missing_v3.Goals.{in-Some+in_ok-push, in_default}

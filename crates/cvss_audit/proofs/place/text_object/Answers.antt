@@ -1,13 +1,13 @@
 use Rattle.std.proofs.Common.{◌≡◌, ℕ, ◌==◌, Bool, List, [], ◌∷◌, ◌++◌, length, map, ap, ◌∙◌, refl, sym, arith, rules, inl, inr}
 use Rattle.std.proofs.lemmas.Bool.{ne_eqb}
-use Rattle.cvss_object.proofs.ObjectLemmas.{with_members-append}
+use Rattle.cvss_tree.proofs.ObjectLemmas.{with_members-append}
 use Rattle.cvss_base.specs.ErrorText.{error_text}
-use Rattle.cvss_record.specs.Differences.{difference_view}
-use Rattle.cvss_object.specs.Objects.{Member, object_of, with_members}
-use Rattle.cvss_record.specs.Places.{place_view}
-use Rattle.cvss_record.specs.declared.difference.Difference.{Difference}
+use Rattle.cvss_document.specs.Differences.{difference_view}
+use Rattle.cvss_tree.specs.Objects.{Member, object_of, with_members}
+use Rattle.cvss_document.specs.Places.{place_view}
+use Rattle.cvss_document.specs.declared.difference.Difference.{Difference}
 use Rattle.serde_json.specs.Data.{Members, no_members, object}
-use Rattle.cvss_object.specs.Trees.{members_view}
+use Rattle.cvss_tree.specs.Trees.{members_view}
 use Rattle.cvss_audit.specs.Answers.{nothing_differs}
 use Rattle.cvss_audit.specs.Objects.{accepted_members, place_members, refusal_member}
 use Rattle.cvss_audit.specs.Sources.{source_view}

@@ -11,7 +11,7 @@ returns-then-length-part c =
     let room = c.saturating_sub-room.result in
     let size = length-part part 0 room (omega (arith, c.saturating_sub-room.ensures)) in (
       told.0,
-      subst (λ text. IsAnswer text told.0) c.text_of_line.ensures told.1,
+      subst (λ text. IsAnswer text told.0) c.line_text.ensures told.1,
       (
         omega (arith, told.2.told_is, c.if-length-part.true, length-append told.0 (10 ∷ [])),
         part_kept part 0 room _ (IsWritten-kept told.0 _ _ _ (λ fits. omega (arith, fits, size, told.2.told_is, c.saturating_sub-room.ensures, c.if-length-part.true)) told.2),
@@ -26,7 +26,7 @@ returns c =
     let within : 0 + room ≤ length part = omega (arith, c.saturating_sub-room.ensures) in
     let fits : length told.0 ≤ room = omega (arith, told.2.told_is, c.saturating_sub-room.ensures, c.if-length-part.false) in (
       told.0,
-      subst (λ text. IsAnswer text told.0) c.text_of_line.ensures told.1,
+      subst (λ text. IsAnswer text told.0) c.line_text.ensures told.1,
       (
         omega (arith, c.put.ensures.place, c.if-length-part.false),
         c.put.ensures.text part told.0 (

@@ -3,8 +3,8 @@
 use Rattle.std.specs.Prelude.{◌≡◌, ◌⊎◌, ℕ, ◌+◌, ◌-◌, ◌*◌, ◌/◌, ◌^◌, ℤ, pos, negsuc, min, Bool, true, false, if◌then◌else◌}
 use Rattle.std.specs.List.{Contains}
 use Rattle.cvss_score.specs.declared.v3.equations.Parts.{Parts}
-use Rattle.cvss_score.specs.declared.v3.rules.Rules.{Rules}
-use Rattle.cvss_score.specs.declared.v3.rules.Rules.TheVariants.{V30, V31}
+use Rattle.cvss_score.specs.declared.v3.rules.Exponent.{Exponent}
+use Rattle.cvss_score.specs.declared.v3.rules.Exponent.TheVariants.{Fifteen, Thirteen}
 use Rattle.cvss_score.specs.declared.v3.weights.Weights.{Weights}
 use Rattle.cvss_score.specs.v3.private.SubScores.{IsSubScore, exploitabilities}
 
@@ -31,11 +31,11 @@ unfoldable pub changed_modified_units : ℕ → ℕ
 changed_modified_units s =
     752_000 * (s - 29_000) - 325 * product (twelfth (s * 9731 / 10 - 20_000_000)) (s * 9731 / 10 - 20_000_000)
 
--- an impact by the rules and whether the scope is changed
-abbrev pub impact_units : Rules → Bool → ℕ → ℕ
-impact_units rules false s = 642_000 * s
-impact_units V30 true s = changed_units s
-impact_units V31 true s = changed_modified_units s
+-- an impact by its exponent and whether the scope is changed
+abbrev pub impact_units : Exponent → Bool → ℕ → ℕ
+impact_units exponent false s = 642_000 * s
+impact_units Fifteen true s = changed_units s
+impact_units Thirteen true s = changed_modified_units s
 
 -- what a score is the rounding of, in 10^-13, of an impact and an exploitability in 10^-10
 abbrev pub total_units : Bool → ℕ → ℕ → ℕ
@@ -63,11 +63,11 @@ pub record ArePossible (p : Parts) : Type 0 where
   pub listed : Contains (exploitabilities p.changed) p.exploitability
 
 -- n is an impact in 10^-11
-pub record IsImpact (rules : Rules) (p : Parts) (n : ℤ) : Type 0 where
+pub record IsImpact (exponent : Exponent) (p : Parts) (n : ℤ) : Type 0 where
   pub none : p.sub_score ≡ 0 → n ≡ (if p.changed then negsuc 21_807_999_999 else pos 0)
-  pub some : IsSubScore p.sub_score → n ≡ pos (impact_units rules p.changed p.sub_score)
+  pub some : IsSubScore p.sub_score → n ≡ pos (impact_units exponent p.changed p.sub_score)
 
 -- n is what a score is the rounding of, in 10^-13
-pub record IsNumber (rules : Rules) (p : Parts) (n : ℕ) : Type 0 where
+pub record IsNumber (exponent : Exponent) (p : Parts) (n : ℕ) : Type 0 where
   pub none : p.sub_score ≡ 0 → n ≡ 0
-  pub some : IsSubScore p.sub_score → n ≡ total_units p.changed (impact_units rules p.changed p.sub_score) p.exploitability
+  pub some : IsSubScore p.sub_score → n ≡ total_units p.changed (impact_units exponent p.changed p.sub_score) p.exploitability

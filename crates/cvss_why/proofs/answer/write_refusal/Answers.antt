@@ -1,9 +1,9 @@
 use Rattle.std.proofs.Common.{◌≡◌, [], ◌∷◌, ◌++◌, codes, string_bytes, subst}
 use Rattle.std.proofs.lemmas.Result.{on_ok_weaker}
 use Rattle.cvss_any.specs.Bytes.{bytes_error_text}
-use Rattle.cvss_object.specs.Texts.{WritesObject}
-use Rattle.cvss_object.proofs.ObjectLemmas.{with_members-append}
-use Rattle.cvss_object.specs.Objects.{with_members}
+use Rattle.cvss_tree.specs.Texts.{WritesObject}
+use Rattle.cvss_tree.proofs.ObjectLemmas.{with_members-append}
+use Rattle.cvss_tree.specs.Objects.{with_members}
 use Rattle.serde_json.specs.Data.{no_members, object, string}
 use Rattle.serde_json.specs.View.{members_view, view}
 use Rattle.serde_json.specs.declared.value.Value.{String, the_lemmas}

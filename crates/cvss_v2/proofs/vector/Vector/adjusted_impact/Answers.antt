@@ -4,16 +4,7 @@ use Rattle.cvss_base.proofs.ExactLemmas.{equal_trans}
 use Rattle.cvss_v2.proofs.vector.Vector.adjusted_impact.Goals as goal
 
 pub returns-clause-value : goal.returns-clause-value
-returns-clause-value c =
-    equal_trans (lit< tt) (record { equal = omega (arith, ints) })
-    (simp (
-      c.weight.ensures.weight,
-      c.weight-2.ensures.weight,
-      c.weight-3.ensures.weight,
-      c.weight-4.ensures.weight,
-      c.weight-5.ensures.weight,
-      c.weight-6.ensures.weight,
-    ) at c.adjusted_impact_count.ensures.value)
+returns-clause-value c = equal_trans (lit< tt) (record { equal = omega (arith, ints) }) (rw c.weights.ensures.value at c.adjusted_impact.ensures.value)
 
 pub returns-clause-limit : goal.returns-clause-limit
-returns-clause-limit c = record { from_lowest = omega (arith, ints, c.adjusted_impact_count.ensures.bound.from_zero); to_highest = omega (arith, ints, c.adjusted_impact_count.ensures.bound.to_highest) }
+returns-clause-limit c = record { from_lowest = omega (arith, ints, c.adjusted_impact.ensures.bound.from_zero); to_highest = omega (arith, ints, c.adjusted_impact.ensures.bound.to_highest) }

@@ -1,22 +1,19 @@
-use Rattle.std.specs.Int.{w128}
+use Rattle.std.specs.Int.{w64}
 use Rattle.std.proofs.Common.{arith, lit<, rules}
 use Rattle.std.proofs.lemmas.Int.{ints, to_z-of_z}
 use Rattle.cvss_base.proofs.ExactLemmas.{equal_trans}
 use Rattle.cvss_score.specs.v2.Scores.{adjusted_impact}
-use Rattle.cvss_v2.specs.Weights.{weights_of}
-use Rattle.cvss_score.proofs.v2_lemmas.ScoreLemmas.{temporal_equal}
 use Rattle.cvss_score.proofs.v2_lemmas.UniqueLemmas.{temporal_alone}
+use Rattle.cvss_v2.specs.Weights.{weights_of}
 use Rattle.cvss_v2.proofs.vector.Vector.environmental_number.Goals as goal
 
 pub returns-clause-value : goal.returns-clause-value
 returns-clause-value c = λ temporal is_temporal.
     let w = weights_of c.args.self.now in
-    let own = c.temporal_of-temporal in
-    let is_own = temporal_equal w (lit< tt) (lit< tt) c.adjusted_impact.ensures.value own.ensures.value in
-    let same = temporal_alone w (adjusted_impact w) (lit< tt) own.result temporal is_own is_temporal in
+    let own = c.adjusted_temporal in
+    let same = temporal_alone w (adjusted_impact w) (lit< tt) own.result temporal (rw c.weights-weights.ensures.value at own.ensures.value) is_temporal in
     equal_trans (lit< tt) (record { equal = omega (arith, ints) })
-    (simp (same, c.weight-cdp.ensures.weight, c.weight.ensures.weight)
-    at (simp (to_z-of_z w128 own.result (search rules)) at c.environmental_number-number.ensures.value))
+    (rw (c.weights-weights.ensures.value, same) at (simp (to_z-of_z w64 own.result (search rules)) at c.environmental_number-number.ensures.value))
 
 pub returns-clause-limit : goal.returns-clause-limit
 returns-clause-limit c = record { from_lowest = omega (arith, ints, c.environmental_number-number.ensures.on_scale.low); to_highest = omega (arith, ints, c.environmental_number-number.ensures.on_scale.high) }

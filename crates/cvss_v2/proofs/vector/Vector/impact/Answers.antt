@@ -3,6 +3,4 @@ use Rattle.std.proofs.lemmas.Int.{ints}
 use Rattle.cvss_v2.proofs.vector.Vector.impact.Goals as goal
 
 pub returns-clause-limit : goal.returns-clause-limit
-returns-clause-limit c =
-    let bound = c.impact_units.ensures.bound in
-    record { from_lowest = omega (arith, ints, bound); to_highest = omega (arith, ints, bound) }
+returns-clause-limit c = record { from_lowest = omega (arith, ints, c.impact.ensures.bound); to_highest = omega (arith, ints, c.impact.ensures.bound) }

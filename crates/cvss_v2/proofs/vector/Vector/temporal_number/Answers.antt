@@ -1,22 +1,18 @@
-use Rattle.std.specs.Int.{w128}
+use Rattle.std.specs.Int.{w64}
 use Rattle.std.proofs.Common.{arith, lit<, rules}
 use Rattle.std.proofs.lemmas.Int.{ints, to_z-of_z}
 use Rattle.cvss_base.proofs.ExactLemmas.{equal_trans}
 use Rattle.cvss_score.specs.v2.Scores.{impact}
-use Rattle.cvss_v2.specs.Weights.{weights_of}
-use Rattle.cvss_score.proofs.v2_lemmas.ScoreLemmas.{base_equal}
 use Rattle.cvss_score.proofs.v2_lemmas.UniqueLemmas.{base_alone}
+use Rattle.cvss_v2.specs.Weights.{weights_of}
 use Rattle.cvss_v2.proofs.vector.Vector.temporal_number.Goals as goal
 
 pub returns-clause-value : goal.returns-clause-value
 returns-clause-value c = λ base is_base.
     let w = weights_of c.args.self.now in
-    let own = c.base_of-base in
-    let is_own = base_equal w (lit< tt) (lit< tt) c.impact.ensures.value own.ensures.value in
-    let same = base_alone w (impact w) (lit< tt) own.result base is_own is_base in
+    let same = base_alone w (impact w) (lit< tt) c.base.result base (rw c.weights-weights.ensures.value at c.base.ensures.value) is_base in
     equal_trans (lit< tt) (record { equal = omega (arith, ints) })
-    (simp (same, c.weight-e.ensures.weight, c.weight-rl.ensures.weight, c.weight.ensures.weight)
-    at (simp (to_z-of_z w128 own.result (search rules)) at c.temporal_number-number.ensures.value))
+    (rw (c.weights-weights.ensures.value, same) at (simp (to_z-of_z w64 c.base.result (search rules)) at c.temporal_number-number.ensures.value))
 
 pub returns-clause-limit : goal.returns-clause-limit
 returns-clause-limit c =

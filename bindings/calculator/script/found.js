@@ -1,0 +1,108 @@
+// The text field: the vectors in a text, and why a text is rejected.
+
+const MOST_SHOWN = 400; // characters of a reason
+const MOST_ROWS = 1_000; // rows of a table
+
+// A text with its length bounded, in which each character that cannot be seen, or that changes the direction of
+// writing, is replaced by its number.
+function visible(text) {
+  const shown = text.slice(0, MOST_SHOWN).replace(/[\p{C}\p{Zl}\p{Zp}]/gu, (character) =>
+    `<U+${character.codePointAt(0).toString(16).toUpperCase().padStart(4, "0")}>`);
+  return text.length <= MOST_SHOWN ? shown : `${shown}… (${text.length.toLocaleString("en")} characters)`;
+}
+
+// The vectors in a text, in its order. Where there is none, the whole text with the reason why it is none.
+function readText(text) {
+  const found = [...cvss.find(text)];
+  if (found.length) return found;
+  const whole = text.trim();
+  const { ok, vector, error } = cvss.Vector.parse(whole);
+  return [ok ? { text: whole, vector } : { text: whole, error }];
+}
+
+function foundRow({ text, vector, error }) {
+  if (!vector) {
+    const reason = make("span", { className: "reason" }, visible(error.message));
+    const given = make("td", {}, make("code", {}, visible(text)), reason);
+    return make("tr", {}, make("td", {}, "–"), make("td", {}, "rejected"), make("td", {}, "–"), given);
+  }
+  const { kind, score, severity } = headlineOf(vector);
+  const link = make("a", { href: `#${vector.text}` }, make("code", {}, vector.text));
+  const words = vector.isComplete ? kind : `${kind}, incomplete`;
+  return make("tr", {}, make("td", { className: "number" }, tenth(score)), make("td", {}, ratingOf(severity)),
+    make("td", {}, words), make("td", {}, link));
+}
+
+function captionOf(found, accepted) {
+  const count = (number, word) => `${number.toLocaleString("en")} ${word}${number === 1 ? "" : "s"}`;
+  const rejected = found.length - accepted.length;
+  const most = found.length > MOST_ROWS ? ` The first ${MOST_ROWS.toLocaleString("en")} are listed.` : "";
+  return `${count(accepted.length, "vector")}, highest score first; ${rejected.toLocaleString("en")} rejected.${most}`;
+}
+
+function showFound(found) {
+  const accepted = found.filter(({ vector }) => vector).map((each) => ({ ...each, rank: headlineOf(each.vector).score }));
+  const rejected = found.filter(({ vector }) => !vector);
+  const rows = [...accepted.sort((a, b) => b.rank - a.rank), ...rejected].slice(0, MOST_ROWS);
+  at("found").querySelector("caption").textContent = captionOf(found, accepted);
+  at("found").querySelector("tbody").replaceChildren(...rows.map(foundRow));
+  at("found").hidden = found.length === 0;
+  at("found").scrollTop = 0;
+  const vectors = found.flatMap(({ vector }) => vector ?? []);
+  state.pair = vectors.length === 2 ? vectors : null;
+  showComparison();
+}
+
+function markCurrent() {
+  for (const link of at("found").querySelectorAll("a")) {
+    if (state.shown && link.textContent === state.shown.text) link.setAttribute("aria-current", "true");
+    else link.removeAttribute("aria-current");
+  }
+}
+
+// ---- A rejected text
+
+// The text with the prefix that it lacks or misspells, where that is a complete vector.
+function suggestion(text) {
+  if (text.length > MOST_SHOWN) return null;
+  const rest = text.replace(/^[(["'\s]+|[)\]"'\s]+$/g, "").replace(/^cvss\s*:?\s*(v?\d\.\d)?\/?/i, "");
+  const version = /^[(["'\s]*cvss\s*:?\s*v?(\d\.\d)/i.exec(text)?.[1];
+  const versions = version ? [version] : ["3.1", "4.0"];
+  const candidates = versions.map((own) => cvss.Vector.parse(own === "2.0" ? rest : `CVSS:${own}/${rest}`));
+  return candidates.find(({ ok, vector }) => ok && vector.isComplete)?.vector ?? null;
+}
+
+// Shows why the text is rejected, with what was meant if that is clear. Without words nothing is rejected.
+function reject(words, text = "") {
+  at("refusal").textContent = words;
+  at("refusal").hidden = !words;
+  at("text").setAttribute("aria-invalid", words ? "true" : "false");
+  const vector = words ? suggestion(text) : null;
+  at("take-hint").textContent = vector?.text ?? "";
+  at("hint").hidden = !vector;
+  at("note").textContent = noteOf(state.shown, words !== "");
+}
+
+// What an incomplete vector of v2 or v4.0 has. The library rejects it for each missing base metric in turn, so each is
+// added here, and then taken out again.
+function partOf(text, error) {
+  const version = text.startsWith("CVSS:") ? "4.0" : "2.0";
+  const added = [];
+  let parsed = { error };
+  while (parsed.error?.kind === "missing metric") {
+    const { metric } = parsed.error;
+    added.push(metric);
+    text += `/${metric}:${baseOf(version).find(({ name }) => name === metric).values[0][0]}`;
+    parsed = cvss.Vector.parse(text);
+  }
+  if (!parsed.ok) return null;
+  const metrics = { ...parsed.vector.metrics };
+  for (const name of added) delete metrics[name];
+  return { version, metrics };
+}
+
+// Why a text is rejected, after the part that was read as a vector if the text has more.
+function rejectionOf({ text, error }, whole) {
+  const isPart = text && text !== whole.trim() && text.length <= MOST_SHOWN / 2;
+  return visible(isPart ? `${text}: ${error.message}` : error.message);
+}

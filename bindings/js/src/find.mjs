@@ -1,0 +1,46 @@
+// Vectors in any text.
+
+import { Vector } from "./vector.mjs";
+import { decoded, field, first, numbers, octets, put, putEncoded, ready, wasm } from "./memory.mjs";
+
+// How many units of UTF-16 a part of the text in memory has.
+function unitsIn(begin, end) {
+  let units = 0;
+  for (let address = first + begin; address < first + end; address++) {
+    const byte = octets[address];
+    if (byte < 0x80 || byte >= 0xc0) units += byte >= 0xf0 ? 2 : 1;
+  }
+  return units;
+}
+
+// The matches in a text: where each begins, in units of UTF-16 or in bytes, and its text. No match has a lone surrogate,
+// nor what takes its place.
+function matchesIn(text) {
+  ready();
+  const isString = typeof text === "string";
+  const length = isString ? putEncoded(text, first) : put(text, first);
+  const hasByteUnits = !isString || length === text.length;
+  const matches = [];
+  let end = 0;
+  let index = 0;
+  while (wasm.cvss_find(first, length, end, field, field + 8) !== 0) {
+    const begin = numbers[field >> 2] >>> 0;
+    const size = numbers[(field >> 2) + 2] >>> 0;
+    index += hasByteUnits ? begin - end : unitsIn(end, begin);
+    matches.push({ index, text: decoded(first + begin, size) });
+    index += size;
+    end = begin + size;
+  }
+  return matches;
+}
+
+function* vectorsOf(matches, options) {
+  for (const match of matches) {
+    const { ok, ...read } = Vector.parse(match.text, options);
+    yield { ...match, ...read };
+  }
+}
+
+export function find(text, options) {
+  return vectorsOf(matchesIn(text), options);
+}

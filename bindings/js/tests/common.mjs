@@ -1,0 +1,52 @@
+// What the tests of the package share: the stored lines of the repository, and texts with known answers.
+
+import assert from "node:assert/strict";
+import { readFileSync } from "node:fs";
+import { join } from "node:path";
+
+import { CvssError, Vector } from "cvss-proved";
+
+// The folder of the checkout.
+export const root = process.argv[2];
+export const TEXT = "AV:N/AC:L/Au:N/C:N/I:N/A:C";
+export const V3 = "CVSS:3.1/AV:N/AC:L/PR:N/UI:N/S:U/C:H/I:H/A:H";
+export const V4 = "CVSS:4.0/AV:N/AC:L/AT:N/PR:N/UI:N/VC:H/VI:H/VA:H/SC:H/SI:H/SA:H";
+const KINDS = ["", "invalid component", "invalid prefix", "unsupported version", "unknown metric", "invalid value",
+  "duplicate metric", "missing metric", "not UTF-8"];
+
+// The lines of a file as bytes, split at each newline alone.
+export function linesOf(path) {
+  const lines = [];
+  const bytes = readFileSync(join(root, path));
+  for (let begin = 0, end; (end = bytes.indexOf(10, begin)) >= 0; begin = end + 1) lines.push(bytes.subarray(begin, end));
+  assert(lines.length > 0, `${path} has no lines`);
+  return lines;
+}
+
+export const textsOf = (path) => linesOf(path).map(String);
+export const facts = textsOf("bindings/stored/facts");
+// the stored lines without a mark, which are the first
+export const stored = linesOf("crates/cvss_vectors/stdin").slice(0, facts.length);
+export const vectors = stored.map((line) => Vector.parse(line)).flatMap(({ ok, vector }) => (ok ? [vector] : []));
+
+const scored = (number, severity) => (number === null ? "- -" : `${number.toFixed(1)} ${severity}`);
+
+// What is known of a text, as bindings/stored/facts.py prints it.
+export function factsOf(text, options) {
+  const { ok, vector, error } = Vector.parse(text, options);
+  if (!ok) return `${KINDS.indexOf(error.kind)} ${error.metric ?? "-"} ${error.message}`;
+  const { scores, severities } = vector;
+  const three = ["base", "temporal", "environmental"].map((name) => scored(scores[name], severities[name]));
+  const own = Object.entries(vector.metrics).map(([name, value]) => `${name}=${value}`);
+  const complete = vector.isComplete ? "complete" : "incomplete";
+  return [vector, vector.version, vector.nomenclature ?? "-", complete, ...three, ...own].join(" ");
+}
+
+export function rejects(call, kind, metric, value, message) {
+  assert.throws(call, (error) => {
+    assert(error instanceof CvssError && error instanceof Error && error.name === "CvssError");
+    const known = [error.kind, error.metric, error.value, error.message];
+    assert.deepEqual(known, [kind, metric, value, message]);
+    return true;
+  });
+}

@@ -1,0 +1,99 @@
+// Tries the module of the package: what it has, large texts, memory, workers and each source of init.
+//
+// Usage: node --expose-gc module.mjs ROOT, the folder of the checkout. The package is the one that Node finds by its name.
+
+import assert from "node:assert/strict";
+import { readFileSync } from "node:fs";
+import { createRequire } from "node:module";
+import { join } from "node:path";
+import { Worker } from "node:worker_threads";
+
+import * as imported from "cvss-proved";
+import { Vector, answer, find, init, score, version, wasmModule } from "cvss-proved";
+import { TEXT, V3, V4, root } from "./common.mjs";
+
+function checkSizes() {
+  const megabyte = "x".repeat(1 << 20);
+  const wide = "é".repeat(1 << 20);
+  for (const text of [megabyte, wide]) {
+    const { error } = Vector.parse(text);
+    // what differs is not printed
+    assert(error.value === text && error.message === `invalid CVSS metric group component: \`${text}\``);
+  }
+  assert.deepEqual([...find(wide + V3)].map(({ index }) => index), [1 << 20]);
+  const many = [...find(`${V3}, `.repeat(100_000))];
+  assert.equal(many.length, 100_000);
+  const last = many[99_999];
+  assert.deepEqual([last.index, last.text, last.vector.score], [99_999 * (V3.length + 2), V3, 9.8]);
+  assert.equal(score(V3), 9.8);
+}
+
+// A million calls leave no memory behind them.
+function checkMemory() {
+  const texts = [TEXT, V3, `${V4}/E:P`, "CVSS:3.1/AV:q"];
+  const used = () => {
+    globalThis.gc();
+    const { heapUsed, external, arrayBuffers } = process.memoryUsage();
+    return heapUsed + external + arrayBuffers;
+  };
+  const call = (count) => {
+    for (let turn = 0; turn < count; turn++) score(texts[turn & 3]);
+    for (let turn = 0; turn < count / 100; turn++) answer(texts[turn & 3]) && Vector.parse(texts[turn & 3]);
+  };
+  call(1_000);
+  const before = used();
+  call(1_000_000);
+  const grown = used() - before;
+  assert(grown < 1 << 20, `${grown} bytes more after a million calls`);
+}
+
+// The module has the functions of cvss.h, its memory and where free memory begins, and imports nothing.
+function checkModule() {
+  const header = readFileSync(join(root, "bindings/c/cvss.h"), "utf8");
+  const functions = [...header.matchAll(/^[a-z].* (cvss_[a-z_]*)\(/gm)].map(([, name]) => name);
+  const exported = WebAssembly.Module.exports(wasmModule()).map(({ name }) => name);
+  assert.deepEqual(exported.sort(), [...functions, "memory", "__heap_base"].sort());
+  assert.deepEqual(WebAssembly.Module.imports(wasmModule()), []);
+}
+
+// A program that imports the package and one that requires it have the same classes; a worker has its own.
+async function checkModules() {
+  const required = createRequire(import.meta.url)("cvss-proved");
+  assert.equal(required.Vector, Vector);
+  assert.deepEqual(Object.keys(required).sort(), Object.keys(imported).sort());
+  const { version: expected } = JSON.parse(readFileSync(join(root, "bindings/js/package.json"), "utf8"));
+  assert.equal(version, expected);
+  const code = `const { parentPort, workerData } = require("node:worker_threads");
+    const cvss = require("cvss-proved");
+    cvss.init(workerData).then(() => parentPort.postMessage(cvss.score("${V3}")));`;
+  for (const workerData of [undefined, wasmModule()]) {
+    const worker = new Worker(code, { eval: true, workerData });
+    assert.equal(await new Promise((resolve, reject) => worker.on("message", resolve).on("error", reject)), 9.8);
+  }
+}
+
+// Each source of the module, in a worker in which nothing was compiled before.
+async function checkSources() {
+  const code = `const { readFileSync } = require("node:fs");
+    const { parentPort } = require("node:worker_threads");
+    const cvss = require("cvss-proved");
+    const bytes = readFileSync(require.resolve("cvss-proved/cvss.wasm"));
+    const type = { headers: { "content-type": "application/wasm" } };
+    const sources = { bytes, module: new WebAssembly.Module(bytes), response: new Response(bytes),
+      streamed: Promise.resolve(new Response(bytes, type)), none: undefined };
+    const empty = new Uint8Array([0, 97, 115, 109, 1, 0, 0, 0]);
+    cvss.init(NAME === "empty" ? empty : sources[NAME]).then(() => parentPort.postMessage(cvss.score("${V3}")),
+      (error) => parentPort.postMessage(error.name + ": " + error.message));`;
+  for (const name of ["bytes", "module", "response", "streamed", "none", "empty"]) {
+    const worker = new Worker(code.replaceAll("NAME", JSON.stringify(name)), { eval: true });
+    const said = await new Promise((resolve, reject) => worker.on("message", resolve).on("error", reject));
+    assert.equal(said, name === "empty" ? "TypeError: this module is not cvss.wasm" : 9.8, name);
+  }
+  await init();
+}
+
+checkSizes();
+checkMemory();
+checkModule();
+await checkModules();
+await checkSources();

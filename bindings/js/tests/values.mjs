@@ -1,0 +1,166 @@
+// Tries what texts, vectors and errors of the package have to do.
+//
+// Usage: node values.mjs ROOT, the folder of the checkout. The package is the one that Node finds by its name.
+
+import assert from "node:assert/strict";
+
+import { CvssError, Vector, answer, find, metrics, rating, score } from "cvss-proved";
+import { TEXT, V3, V4, rejects, vectors } from "./common.mjs";
+
+function checkTexts() {
+  const bytes = Buffer.from(TEXT);
+  for (const text of [TEXT, bytes, new Uint8Array(bytes)]) assert.equal(new Vector(text).text, TEXT);
+  for (const other of [undefined, null, 5, 7n, true, Symbol("x"), {}, [65], [TEXT], new String(TEXT), new ArrayBuffer(8),
+    new Uint16Array(8), new Int8Array(8), new DataView(new ArrayBuffer(8))]) {
+    for (const call of [score, answer, find, Vector.parse.bind(Vector), (text) => new Vector(text)]) {
+      assert.throws(() => call(other), TypeError);
+    }
+  }
+  // bytes that say that they are more or fewer than they are
+  const long = Object.defineProperty(new Uint8Array(bytes), "length", { value: 2 ** 30 });
+  assert.equal(new Vector(long).text, TEXT);
+}
+
+// Texts that are not UTF-8, and those that look as if they were not.
+function checkUnicode() {
+  for (const text of ["\ud800", "\udfff", `${TEXT}\ud83d`, `\udc00${TEXT}`, "AV:\ude00\ud83d", `é\ud800`]) {
+    rejects(() => new Vector(text), "not UTF-8", null, null, "not UTF-8");
+    assert.equal(answer(text), "error: not UTF-8");
+    assert.equal(score(text), null);
+  }
+  rejects(() => new Vector(Buffer.from([0x41, 0xff])), "not UTF-8", null, null, "not UTF-8");
+  const smiling = "invalid CVSSv3 AV (Attack Vector) metric: `😀`";
+  rejects(() => new Vector("CVSS:3.1/AV:😀"), "invalid value", "AV", "😀", smiling);
+  // a byte-order mark is quoted too
+  rejects(() => new Vector("CVSS:3.1/\ufeffAV:N"), "unknown metric", null, "\ufeffAV", "unknown CVSS metric name: `\ufeffAV`");
+  rejects(() => new Vector("CVSS:3.1/AV:q"), "invalid value", "AV", "Q", "invalid CVSSv3 AV (Attack Vector) metric: `Q`");
+  rejects(() => new Vector(""), "invalid component", null, null, "invalid CVSS metric group component: ``");
+}
+
+function checkVectors() {
+  const vector = new Vector("CVSS:3.1/A:H/I:H/C:H/S:U/UI:N/PR:N/AC:L/AV:N");
+  assert.equal(`${vector}`, V3);
+  assert.equal(JSON.stringify({ vector }), `{"vector":"${V3}"}`);
+  assert.deepEqual({ ...vector }, { source: "CVSS:3.1/A:H/I:H/C:H/S:U/UI:N/PR:N/AC:L/AV:N" });
+  assert.notDeepEqual(vector, new Vector(V4));
+  assert.equal(new Vector(Buffer.from(`${vector.source}`)).source, V3);
+  for (const name of ["source", "text", "score", "version", "metrics"]) assert.throws(() => { vector[name] = 1; }, TypeError);
+  assert.throws(() => { vector.metrics.AV = "P"; }, TypeError);
+  class Own extends Vector {
+    note = "seen";
+  }
+  for (const own of [new Own(V3), Own.parse(V3).vector, Own.from("3.1", { AV: "N" }), new Own(V3).replace({ AV: "P" }),
+    new Own(V3).withoutUndefined()]) assert.equal(own instanceof Own && own.note, "seen");
+  assert.deepEqual(Vector.parse(V3), { ok: true, vector: new Vector(V3) });
+  assert.equal(Vector.parse("x").error.kind, "invalid component");
+}
+
+// What is not defined scores as what is absent (CVSS v2 guide, section 2.2; v3.1, section 3; v4.0, section 3).
+function checkChanges() {
+  for (const vector of vectors) {
+    const shorter = vector.withoutUndefined();
+    assert.deepEqual([shorter.scores, shorter.severities], [vector.scores, vector.severities]);
+    const entries = Object.entries(vector.metrics);
+    const defined = entries.filter(([, value]) => value !== "X" && value !== "ND");
+    if (defined.length > 0) assert.deepEqual(shorter.metrics, Object.fromEntries(defined));
+    else assert.equal(shorter.text, vector.text);
+    assert.equal(vector.replace({}).text, vector.text);
+    assert.deepEqual(vector.replace({ IR: "H" }).metrics, { ...vector.metrics, IR: "H" });
+    assert.equal(Vector.from(vector.version, Object.fromEntries(entries.reverse())).text, vector.text);
+  }
+}
+
+function checkReplacing() {
+  assert.equal(new Vector(V4).replace({ e: "a", MSI: "S" }).text, `${V4}/E:A/MSI:S`);
+  assert.equal(new Vector(V3).replace({ AV: "P", E: "X" }).text, `${V3.replace("AV:N", "AV:P")}/E:X`);
+  assert.equal(new Vector(`${V3}/CR:L`).replace({ cr: "h", E: "u" }).text, `${V3}/E:U/CR:H`);
+  assert.equal(Vector.from("2.0", { C: "N", A: "C", I: "N", AV: "N", Au: "N", AC: "L" }).text, TEXT);
+  const rows = [
+    [{ E: "q" }, "invalid value", "E", "Q", "invalid CVSSv4 E (Exploit Maturity) metric: `Q`"],
+    [{ MSI: "S", XX: "N" }, "unknown metric", null, "XX", "unknown CVSS metric name: `XX`"],
+    [{ E: "A", e: "P" }, "duplicate metric", "E", null, "duplicate CVSSv4 E (Exploit Maturity) metric"],
+    [{ E: "A:N" }, "invalid component", null, "E:A:N", "invalid CVSS metric group component: `E:A:N`"],
+    [{ E: "A/MSI:S" }, "invalid component", null, "E:A/MSI:S", "invalid CVSS metric group component: `E:A/MSI:S`"],
+    [{ E: "\ud800" }, "not UTF-8", null, null, "not UTF-8"],
+  ];
+  for (const [metrics, ...expected] of rows) {
+    rejects(() => new Vector(V4).replace(metrics), ...expected);
+    rejects(() => Vector.from("4.0", metrics), ...expected);
+  }
+  for (const name of ["2.0", "3.1", "4.0"]) {
+    rejects(() => Vector.from(name, { CVSS: "3.1", AV: "N" }), "unknown metric", null, "CVSS", "unknown CVSS metric name: `CVSS`");
+  }
+  rejects(() => Vector.from("4.0", { AV: "N" }), "missing metric", "AC", null,
+    "missing mandatory CVSSv4 AC (Attack Complexity) metric");
+  rejects(() => Vector.from("3.1", {}), "invalid component", null, null, "invalid CVSS metric group component: ``");
+  for (const other of [null, undefined, 5, "E:A", ["E:A"], new Map([["E", "A"]])]) {
+    assert.throws(() => new Vector(V4).replace(other), TypeError);
+    assert.throws(() => Vector.from("4.0", other), TypeError);
+  }
+  for (const value of [null, undefined, 5, {}]) assert.throws(() => new Vector(V4).replace({ E: value }), TypeError);
+  for (const other of ["1.0", 4, "toString", undefined]) assert.throws(() => Vector.from(other, { AV: "N" }), TypeError);
+}
+
+// CVSS v3.1, section 5; v4.0, section 6; of v2 the bounds of NVD.
+function checkRatings() {
+  const rows = { none: [0, 0], low: [0.1, 3.9], medium: [4, 6.9], high: [7, 8.9], critical: [9, 10] };
+  for (const [word, bounds] of Object.entries(rows)) {
+    for (const number of bounds) for (const name of ["3.0", "3.1", "4.0"]) assert.equal(rating(name, number), word);
+  }
+  for (const [number, word] of [[0, "low"], [3.9, "low"], [4, "medium"], [6.9, "medium"], [7, "high"], [10, "high"]]) {
+    assert.equal(rating("2.0", number), word);
+  }
+  for (const number of [-0.1, 10.1, 9.85, 2 ** 32 / 10, NaN, Infinity, undefined, "9.8", null]) {
+    assert.throws(() => rating("3.1", number), RangeError);
+  }
+  for (const vector of vectors) assert.equal(rating(vector.version, vector.score), vector.severity);
+}
+
+// What the score of v4.0 would be with some groups of metrics alone, as the second implementation scores such vectors.
+function checkNomenclatureScores() {
+  const text = "CVSS:4.0/AV:N/AC:L/AT:N/PR:N/UI:N/VC:L/VI:H/VA:N/SC:N/SI:N/SA:N/E:P/CR:L/IR:L/S:P";
+  const expected = { "CVSS-B": 8.8, "CVSS-BE": 7.9, "CVSS-BT": 7.8, "CVSS-BTE": 6.8 };
+  assert.deepEqual(new Vector(text).nomenclatureScores, expected);
+  assert.equal(new Vector(V3).nomenclatureScores, null);
+  for (const vector of vectors.filter((each) => each.version === "4.0")) {
+    const scores = vector.nomenclatureScores;
+    assert.equal(scores["CVSS-BTE"], vector.score);
+    assert.equal(scores[vector.nomenclature], vector.score);
+  }
+}
+
+function checkMetrics() {
+  for (const vector of vectors) {
+    const own = vector.described.map(({ metric, value }) => [metric.name, value.value]);
+    assert.deepEqual(Object.fromEntries(own), vector.metrics);
+    for (const { metric, value } of vector.described) assert(metric.title && value.title && value.description);
+  }
+  assert.deepEqual(metrics["3.1"].slice(0, 2).map(({ name, title, group }) => [name, title, group]),
+    [["AV", "Attack Vector", "base"], ["AC", "Attack Complexity", "base"]]);
+  const titles = new Vector(`${V4}/MSC:N/MSI:S/MSA:X`).described.slice(-3).map(({ metric, value }) => [metric.title, value.title]);
+  assert.deepEqual(titles, [
+    ["Modified Confidentiality Impact to the Subsequent System", "Negligible"],
+    ["Modified Integrity Impact to the Subsequent System", "Safety"],
+    ["Modified Availability Impact to the Subsequent System", "Not defined"],
+  ]);
+  const [own] = metrics["4.0"];
+  for (const part of [metrics, metrics["4.0"], own, own.values, own.values[0]]) assert(Object.isFrozen(part));
+  // each value of each metric is accepted, and a letter more is not
+  for (const [name, base] of Object.entries({ "2.0": TEXT, "3.0": V3.replace("3.1", "3.0"), "3.1": V3, "4.0": V4 })) {
+    for (const metric of metrics[name]) {
+      for (const { value } of metric.values) {
+        assert.equal(new Vector(base).replace({ [metric.name]: value }).metrics[metric.name], value);
+      }
+      assert.throws(() => new Vector(base).replace({ [metric.name]: `${metric.values[0].value}Q` }), CvssError);
+    }
+  }
+}
+
+checkTexts();
+checkUnicode();
+checkVectors();
+checkChanges();
+checkReplacing();
+checkRatings();
+checkNomenclatureScores();
+checkMetrics();

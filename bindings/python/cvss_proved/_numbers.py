@@ -1,0 +1,38 @@
+"""What the library's numbers mean: versions, ratings, nomenclatures and scores."""
+
+from __future__ import annotations
+
+from decimal import Decimal
+from typing import Dict, Literal, Tuple, Union
+
+from . import _library
+from ._words import Version, check_version
+
+Severity = Literal["none", "low", "medium", "high", "critical"]
+"""A qualitative severity rating."""
+
+Nomenclature = Literal["CVSS-B", "CVSS-BE", "CVSS-BT", "CVSS-BTE"]
+"""Which groups of metrics a score of v4.0 rests on: base, environmental, threat."""
+
+VERSIONS: Dict[int, Version] = {20: "2.0", 30: "3.0", 31: "3.1", 40: "4.0"}
+SEVERITIES: Tuple[Severity, ...] = ("none", "low", "medium", "high", "critical")
+NOMENCLATURES: Tuple[Nomenclature, ...] = ("CVSS-B", "CVSS-BE", "CVSS-BT", "CVSS-BTE")
+
+
+def number_of(version: Version) -> int:
+    """The library's number of a version."""
+    return next(number for number, own in VERSIONS.items() if own == check_version(version))
+
+
+def severity_of(score: Union[float, Decimal], version: Version = "4.0") -> Severity:
+    """The rating of a score by the bounds of a version, which v3.0, v3.1 and v4.0 share.
+
+    What is no number from 0 to 10 with at most one decimal is a `ValueError`.
+
+    >>> severity_of(7.5), severity_of(9.8), severity_of(9.8, "2.0")
+    ('high', 'critical', 'high')
+    """
+    tenths = round(10 * score) if 0 <= score <= 10 else None
+    if tenths is None or float(score) != tenths / 10:
+        raise ValueError(f"a score is a number from 0 to 10 with at most one decimal, and not {score}")
+    return SEVERITIES[_library.rating(number_of(version), tenths)]

@@ -1,0 +1,3 @@
+mod FloatLemmas
+mod PlacesLemmas
+mod PointerLemmas

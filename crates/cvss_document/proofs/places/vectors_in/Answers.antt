@@ -1,0 +1,5 @@
+use Rattle.cvss_document.proofs.PlacesLemmas.{places_of_document}
+use Rattle.cvss_document.proofs.places.vectors_in.Goals as goal
+
+pub returns : goal.returns
+returns c = places_of_document c.args.document c.new.result.items c.push.new.self.levels.items c.new.ensures.items c.in_ok-push.ensures

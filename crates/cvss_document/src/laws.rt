@@ -1,0 +1,34 @@
+//! Laws of places, each the contract of a function that does nothing. A proof that needs a law calls
+//! it.
+
+ghost use Rattle.std.specs.Prelude.{All};
+ghost use Rattle.cvss_base.specs.Equality.{ClonesAlways, ClonesByValue, EqualsByValue};
+ghost use Rattle.cvss_document.specs.Places.{places_in};
+ghost use Rattle.cvss_document.specs.laws.Pointers.{HasNamesOnce, LeadsTo};
+ghost use Rattle.serde_json.specs.Data.{Data, object};
+
+use crate::{Around, Form};
+
+/// In a document whose objects have each name once, as a document has that was read, the pointer of
+/// each place leads to the place's object.
+pub fn pointers_lead_to_objects()
+    ensures { (document : Data) → HasNamesOnce document
+        → All (λ place. LeadsTo place.0 document (object place.3)) (places_in document) }
+{}
+
+/// Two forms are equal exactly if they are one value.
+pub fn equality_is_that_of_values()
+    ensures { EqualsByValue ⟦<Form as PartialEq>⟧.eq }
+{}
+
+/// A clone of a form, or of what is around a place, is that value.
+pub fn clones_are_equal()
+    ensures around { ClonesByValue ⟦<Around<'static> as Clone>⟧.is_clone }
+    ensures form { ClonesByValue ⟦<Form as Clone>⟧.is_clone }
+{}
+
+/// To clone a form, or what is around a place, takes no memory, so it is never refused.
+pub fn values_are_cloned_without_memory()
+    ensures around { ClonesAlways ⟦<Around<'static> as Clone>⟧.is_infallible }
+    ensures form { ClonesAlways ⟦<Form as Clone>⟧.is_infallible }
+{}

@@ -1,0 +1,251 @@
+//! Where vectors stand in a document, one place after another.
+
+ghost use Rattle.std.specs.Prelude.{◌≡◌, ◌<◌, ◌++◌, ◌∷◌, [], Option, false, IfOk, OnOk, map, option_map, string_bytes};
+ghost use Rattle.std.specs.Option.{option_to_list};
+ghost use Rattle.cvss_document.specs.Places.{Around as Surroundings, around_view, place_as, place_view, places_in, places_within};
+ghost use Rattle.cvss_document.specs.PlacesLeft.{IsNextPlace, places_in_rest, places_left, under};
+ghost use Rattle.cvss_document.specs.private.Walking.{Visits, level_of, pointer_to, steps_in_rest};
+ghost use Rattle.serde_json.specs.View.{members_view, view};
+ghost use Rattle.cvss_document.specs.declared.places.Rest.TheVariants.{Items, Members, Own, Whole};
+
+use crate::place::{Around, Form, Place, vector_as};
+use crate::pointer::{Step, push_step};
+use serde_json::{Map, Value};
+use std::alloc::{AllocError, Global};
+use std::collections::btree_map::Iter;
+
+/// The places in a document where a vector stands, each told when it is asked for. What is kept in
+/// the meantime grows with the depth of the document alone.
+#[derive(Drop)]
+pub struct Places<'a> {
+    /// What is still to be visited, each level in the one before it.
+    levels: Vec<Level<'a>>,
+}
+
+/// What is still to be visited in a value, and the step that leads to it.
+#[derive(Drop)]
+pub(crate) struct Level<'a> {
+    step: Step<'a>,
+    rest: Rest<'a>,
+}
+
+/// What is still to be visited in a value.
+#[derive(Drop)]
+pub(crate) enum Rest<'a> {
+    /// All of it.
+    Whole(&'a Value, Option<Around<'a>>),
+    /// An object's own vectors from this form on, and all of its members.
+    Own(&'a Map<String, Value>, Option<Around<'a>>, Form),
+    /// The items of an array from this one.
+    Items(&'a [Value], usize),
+    /// Members of an object.
+    Members(&'a Map<String, Value>, Iter<'a, String, Value>),
+}
+
+/// All places in a document where a vector stands: an object's own before those in it, those of its
+/// members in the order of their names, and those of an array's items in their order.
+///
+/// # Errors
+///
+/// Want of memory alone.
+pub fn vectors_in(alloc: Global, document: &Value) -> Result<Places<'_>, AllocError>
+    ensures { IfOk result (λ places. places_left places ≡ places_in (view document.now)) }
+{
+    let mut places = Places {
+        levels: Vec::new(alloc),
+    };
+    places.push(Step::Document, Rest::Whole(document, None))?;
+    Ok(places)
+}
+
+impl<'a> Places<'a> {
+    /// The next place, if there is one more.
+    ///
+    /// # Errors
+    ///
+    /// Want of memory alone, after which places may be passed over.
+    pub fn next_place(&mut self, alloc: Global) -> Result<Option<Place<'a>>, AllocError>
+        ensures { IfOk result (λ found. IsNextPlace (places_left self.old) found (places_left self.new)) }
+    {
+        while let Some(level) = self.levels.pop() {
+            if let Some(place) = self.visit(alloc, level)? {
+                return Ok(Some(place));
+            }
+        }
+        Ok(None)
+    }
+
+    /// Visits what is next in a level that stands in all that are left.
+    fn visit(&mut self, alloc: Global, level: Level<'a>) -> Result<Option<Place<'a>>, AllocError>
+        ensures { IfOk result (λ found. Visits (self.old.levels.items ++ level.entry ∷ [])
+            (option_to_list (option_map place_view found)) self.new.levels.items) }
+    {
+        let step = level.step;
+        match level.rest {
+            Rest::Whole(value, around) => self.visit_whole(alloc, step, value, around),
+            Rest::Own(object, around, form) => self.visit_form(alloc, step, object, around, form),
+            Rest::Items(items, index) => {
+                self.visit_items(step, items, index)?;
+                Ok(None)
+            }
+            Rest::Members(object, members) => {
+                self.visit_members(step, object, members)?;
+                Ok(None)
+            }
+        }
+    }
+
+    /// Visits a value of which nothing is visited yet: what is in it is visited next.
+    fn visit_whole(
+        &mut self,
+        alloc: Global,
+        step: Step<'a>,
+        value: &'a Value,
+        around: Option<Around<'a>>,
+    ) -> Result<Option<Place<'a>>, AllocError>
+        ensures { IfOk result (λ found. Visits
+            (self.old.levels.items ++ level_of step.entry (Whole value.entry around.entry) ∷ [])
+            (option_to_list (option_map place_view found)) self.new.levels.items) }
+    {
+        match value {
+            Value::Array(items) => {
+                self.push(step, Rest::Items(items, 0))?;
+                Ok(None)
+            }
+            Value::Object(object) => self.visit_form(alloc, step, object, around, Form::Record),
+            _ => Ok(None),
+        }
+    }
+
+    /// Visits an object in one form: the later forms and its members are visited next.
+    fn visit_form(
+        &mut self,
+        alloc: Global,
+        step: Step<'a>,
+        object: &'a Map<String, Value>,
+        around: Option<Around<'a>>,
+        form: Form,
+    ) -> Result<Option<Place<'a>>, AllocError>
+        ensures { IfOk result (λ found. Visits
+            (self.old.levels.items ++ level_of step.entry (Own object.entry around.entry form) ∷ [])
+            (option_to_list (option_map place_view found)) self.new.levels.items) }
+    {
+        self.push(step, after_form(object, around, form))?;
+        self.own_place(alloc, object, around, form)
+    }
+
+    /// Visits the next item of an array that is one itself or an object: what is in it is visited
+    /// before those behind it.
+    fn visit_items(
+        &mut self,
+        step: Step<'a>,
+        items: &'a [Value],
+        from: usize,
+    ) -> Result<(), AllocError>
+        ensures { OnOk result (Visits
+            (self.old.levels.items ++ level_of step.entry (Items items.entry from) ∷ [])
+            [] self.new.levels.items) }
+    {
+        let mut index = from;
+        while let Some(item) = items.get(index) {
+            if has_values(item) {
+                self.push(step, Rest::Items(items, index + 1))?;
+                return self.push(Step::Item(index), Rest::Whole(item, None));
+            }
+            index += 1;
+        }
+        Ok(())
+    }
+
+    /// Visits the next member of an object that is one itself or an array: what is in it is visited
+    /// before those behind it.
+    fn visit_members(
+        &mut self,
+        step: Step<'a>,
+        object: &'a Map<String, Value>,
+        members: Iter<'a, String, Value>,
+    ) -> Result<(), AllocError>
+        ensures { OnOk result (Visits
+            (self.old.levels.items ++ level_of step.entry (Members object.entry members.entry) ∷ [])
+            [] self.new.levels.items) }
+    {
+        let mut rest = members;
+        while let Some((name, value)) = rest.next() {
+            if has_values(value) {
+                let name = name.as_str();
+                let around = Some(Around { name, object });
+                self.push(step, Rest::Members(object, rest))?;
+                return self.push(Step::Member(name), Rest::Whole(value, around));
+            }
+        }
+        Ok(())
+    }
+
+    /// The place of an object itself, to which all levels lead, if it holds a vector in this form.
+    fn own_place(
+        &self,
+        alloc: Global,
+        object: &'a Map<String, Value>,
+        around: Option<Around<'a>>,
+        form: Form,
+    ) -> Result<Option<Place<'a>>, AllocError>
+        ensures { IfOk result (λ found. option_to_list (option_map place_view found)
+            ≡ map (under (pointer_to self.now.levels.items)) (option_to_list
+            (place_as (option_map around_view around.entry) (members_view object.now.entries) form))) }
+    {
+        let Some(text) = vector_as(object, form) else {
+            return Ok(None);
+        };
+        Ok(Some(Place {
+            at: pointer(alloc, &self.levels)?,
+            form,
+            text,
+            object,
+            around,
+        }))
+    }
+
+    fn push(&mut self, step: Step<'a>, rest: Rest<'a>) -> Result<(), AllocError>
+        ensures { OnOk result (self.new.levels.items
+            ≡ self.old.levels.items ++ level_of step.entry rest.entry ∷ []) }
+    {
+        self.levels.push(Level { step, rest })?;
+        Ok(())
+    }
+}
+
+/// What is to be visited of an object after one form.
+fn after_form<'a>(
+    object: &'a Map<String, Value>,
+    around: Option<Around<'a>>,
+    form: Form,
+) -> Rest<'a>
+    ensures places { places_in_rest (Own object.entry around.entry form) ≡ option_to_list
+        (place_as (option_map around_view around.entry) (members_view object.now.entries) form)
+        ++ places_in_rest result }
+    ensures fewer { steps_in_rest result < steps_in_rest (Own object.entry around.entry form) }
+{
+    match form {
+        Form::Record => Rest::Own(object, around, Form::GitHub),
+        Form::GitHub => Rest::Own(object, around, Form::Osv),
+        Form::Osv => Rest::Members(object, object.iter()),
+    }
+}
+
+/// Whether a value is an array or an object: in another one there is no place.
+fn has_values(value: &Value) -> bool
+    ensures { (around : Option Surroundings) → result ≡ false → places_within around (view value.now) ≡ [] }
+{
+    value.is_array() || value.is_object()
+}
+
+/// The JSON Pointer to the value of the last level.
+fn pointer(alloc: Global, levels: &[Level<'_>]) -> Result<String, AllocError>
+    ensures { IfOk result (λ text. string_bytes text ≡ pointer_to levels.now) }
+{
+    let mut text = String::new(alloc);
+    for level in levels {
+        push_step(&mut text, level.step)?;
+    }
+    Ok(text)
+}

@@ -1,0 +1,102 @@
+//! Where the surroundings of a record say otherwise than its vector: the name of the member that the
+//! record is, and the rating beside it.
+
+ghost use Rattle.std.specs.Prelude.{◌≡◌, OnOk, option_map};
+ghost use Rattle.cvss_document.specs.Differences.{around_differences, is_among, is_rated, name_differences, names_of, rating_differences, version_names};
+ghost use Rattle.cvss_document.specs.Places.{around_view};
+ghost use Rattle.cvss_document.specs.private.Views.{Adds};
+
+use crate::difference::{Difference, Said, push_difference, push_if_other};
+use crate::place::{Around, member};
+use cvss_any::Cvss;
+use cvss_record::{Due, Scores, rating};
+use cvss_words::version;
+use std::alloc::{AllocError, Global};
+
+/// Adds the differences of what is around an object.
+pub(crate) fn push_around<'a>(
+    found: &mut Vec<Difference<'a>>,
+    alloc: Global,
+    cvss: &Cvss,
+    scores: &Scores,
+    around: Option<Around<'a>>,
+) -> Result<(), AllocError>
+    ensures { OnOk result (Adds found.old.items
+        (around_differences cvss.now scores.now (option_map around_view around.entry)) found.new.items) }
+{
+    let Some(around) = around else {
+        return Ok(());
+    };
+    push_name(found, alloc, cvss, around.name)?;
+    push_rating(found, alloc, cvss, scores.base, around)
+}
+
+/// Adds the difference of the name of a member, if it tells another version than the vector's.
+fn push_name<'a>(
+    found: &mut Vec<Difference<'a>>,
+    alloc: Global,
+    cvss: &Cvss,
+    name: &'a str,
+) -> Result<(), AllocError>
+    ensures { OnOk result (Adds found.old.items (name_differences cvss.now name.now) found.new.items) }
+{
+    if tells_version(name) && !tells_version_of(cvss, name) {
+        let due = Due::Text(version(cvss));
+        push_difference(found, alloc, name, Said::Name(name), due)
+    } else {
+        Ok(())
+    }
+}
+
+/// Whether a member of this name tells the version of what it holds.
+fn tells_version(name: &str) -> bool
+    ensures { result ≡ is_among name.now version_names }
+{
+    matches!(
+        name,
+        "cvssV2_0" | "cvssV3_0" | "cvssV3_1" | "cvssV4_0" | "cvss_v2" | "cvss_v3" | "cvss_v4"
+    )
+}
+
+/// Whether a member of this name tells the vector's version.
+fn tells_version_of(cvss: &Cvss, name: &str) -> bool
+    ensures { result ≡ is_among name.now (names_of cvss.now) }
+{
+    match cvss {
+        Cvss::CvssV20(_) => matches!(name, "cvssV2_0" | "cvss_v2"),
+        Cvss::CvssV30(_) => matches!(name, "cvssV3_0" | "cvss_v3"),
+        Cvss::CvssV31(_) => matches!(name, "cvssV3_1" | "cvss_v3"),
+        Cvss::CvssV40(_) => matches!(name, "cvssV4_0" | "cvss_v4"),
+    }
+}
+
+/// Adds the difference of the rating that NVD tells of a vector of CVSS v2 beside its record, if it is
+/// another one than that of so many tenths.
+fn push_rating<'a>(
+    found: &mut Vec<Difference<'a>>,
+    alloc: Global,
+    cvss: &Cvss,
+    tenths: u8,
+    around: Around<'a>,
+) -> Result<(), AllocError>
+    ensures { OnOk result (Adds found.old.items
+        (rating_differences cvss.now tenths (around_view around.entry)) found.new.items) }
+{
+    if is_rated(cvss) || around.name != "cvssData" {
+        return Ok(());
+    }
+    match member(around.object, "baseSeverity") {
+        Some(said) => {
+            let due = Due::Text(rating(cvss, tenths));
+            push_if_other(found, alloc, "baseSeverity", said, due)
+        }
+        None => Ok(()),
+    }
+}
+
+/// Whether records of the vector's version have ratings.
+fn is_rated(cvss: &Cvss) -> bool
+    ensures { result ≡ is_rated cvss.now }
+{
+    !matches!(cvss, Cvss::CvssV20(_))
+}

@@ -1,0 +1,16 @@
+//! Laws, each the contract of a function that does nothing.
+
+ghost use Rattle.std.specs.Prelude.{◌≡◌};
+ghost use Rattle.cvss_object.specs.declared.member.Scalar.{Scalar};
+
+use crate::Scalar;
+
+/// A clone of a value is that value.
+pub fn clones_are_equal()
+    ensures scalar { (x clone : Scalar) → ⟦<Scalar as Clone>⟧.is_clone x clone → clone ≡ x }
+{}
+
+/// Cloning a value takes no memory, so it never fails.
+pub fn values_are_cloned_without_memory()
+    ensures scalar { (x : Scalar) → ⟦<Scalar as Clone>⟧.is_infallible x }
+{}

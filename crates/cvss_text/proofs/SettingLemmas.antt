@@ -1,0 +1,230 @@
+-- Components that are read one after another to be set, and the vector that has their values.
+use Rattle.std.proofs.Common.{◌≡◌, inl, inr, ℕ, ◌+◌, ◌<◌, ◌≤◌, List, [], ◌∷◌, length, take, Option, Some, None, IsSome, IfSome, Ok, Err, below_more, refl, sym, ap, ◌∙◌, subst, arith, get_or, slice_get}
+use Rattle.std.specs.List.{cons_option, filter_map}
+use Rattle.std.specs.Option.{option_or}
+use Rattle.std.proofs.lemmas.List.{get_or_default, length-map, length-take-le}
+use Rattle.std.proofs.lemmas.List.Sorted.{length_permutation}
+use Rattle.std.proofs.lemmas.Bool.{cases_lt}
+use Rattle.std.proofs.lemmas.Option.{same_Some, slice_get_within}
+use Rattle.cvss_base.specs.Refusal.{Refusal, BadComponent, Missing, FaultAt, piece_at}
+use Rattle.cvss_base.specs.Text.{IsComponent, pieces}
+use Rattle.cvss_base.specs.Version.{Version, AreComponentsOf, IsComplete, component_of, components_of, read}
+use Rattle.cvss_text.specs.Setting.{IsBuildReason, IsBuilt, IsFirstWrong, IsSet, IsSetReason, IsWrongAt, components_in}
+use Rattle.cvss_text.specs.private.SettingSteps.{HasReadGiven, IsAnswered, IsCopied, IsWrongFor}
+use Rattle.cvss_text.specs.private.Walk.{Adds, HasNoValue, IsFaultOf, IsLawful, place_of, reason_of}
+use Rattle.cvss_text.specs.declared.walk.Fault.{Fault}
+use Rattle.cvss_text.proofs.DenotesLemmas.{no_fault_held, no_reason, values_same, vectors_same}
+use Rattle.cvss_text.proofs.JoinLemmas.{piece_is_component}
+use Rattle.cvss_text.proofs.RefusalLemmas.{faults_same, reasons_same, same_place}
+use Rattle.cvss_text.proofs.WalkLemmas.{HasRead-more, HasRead-none, fault_at}
+
+-- the components of a text that is not empty are its pieces
+pub components_in-some : (text : List ℕ) → 0 < length text → pieces text ≡ components_in text
+components_in-some [] some = absurd (omega (arith, some))
+components_in-some (byte ∷ bytes) some = refl
+
+pub components_in-none : (text : List ℕ) → length text ≤ 0 → components_in text ≡ []
+components_in-none [] none = refl
+components_in-none (byte ∷ bytes) none = absurd (omega (arith, none))
+
+-- a piece that was yielded behind so many others
+pub piece_here : (parts : List (List ℕ)) (index yielded : ℕ) (bytes piece : List ℕ) → index ≡ yielded → bytes ≡ piece → yielded < length parts → piece ≡ get_or parts yielded piece
+    → (index < length parts) × (bytes ≡ piece_at parts index)
+piece_here parts index yielded bytes piece at is within here =
+    (omega (arith, within), is ∙ here ∙ get_or_default parts yielded piece [] within ∙ ap (piece_at parts) (sym at))
+
+cons_option-most : {X : Type 0} (part : Option X) (parts : List X) (n : ℕ) → length parts ≤ n → length (cons_option part parts) ≤ n + 1
+cons_option-most None parts n fits = omega arith
+cons_option-most (Some part) parts n fits = omega arith
+
+filter_map-most : {X Y : Type 0} (f : X → Option Y) (xs : List X) → length (filter_map f xs) ≤ length xs
+filter_map-most f [] = omega arith
+filter_map-most f (x ∷ xs) = omega (arith, cons_option-most (f x) (filter_map f xs) (length xs) (filter_map-most f xs))
+
+-- an option, or another, has a value where one of them has
+or_some : {X : Type 0} (one other : Option X) → IsSome other → IsSome (option_or one other)
+or_some None other some = some
+or_some (Some value) other some = refl
+
+or_none : {X : Type 0} (one other : Option X) → one ≡ None → option_or one other ≡ other
+or_none one other none = ap (λ each. option_or each other) none
+
+-- the values for the metrics before an index are copied, and those from there on are not yet
+pub record IsCompletedTo {V K : Type 0} (version : Version V K) (given own : V) (index : ℕ) (v : V) : Type 0 where
+  pub copied : (kind : K) → place_of version kind < index → version.value_of v kind ≡ option_or (version.value_of given kind) (version.value_of own kind)
+  pub kept : (kind : K) → index ≤ place_of version kind → version.value_of v kind ≡ version.value_of given kind
+  pub front : version.front v ≡ version.front given
+
+module _ {V K : Type 0} (version : Version V K) (lawful : IsLawful version) where
+  -- nothing is wrong with a component that has no fault
+  right_at : (parts : List (List ℕ)) (index : ℕ) → IsComponent (piece_at parts index) → ((reason : Refusal K) → FaultAt version parts index reason → ⊥) → (reason : Refusal K) → IsWrongAt version parts index reason → ⊥
+  right_at parts index is none (BadComponent piece) wrong = wrong.1 is
+  right_at parts index is none reason wrong = none reason wrong.1
+
+  -- a component with a fault is wrong
+  pub wrong_for : (v : V) (piece : List ℕ) (reason : Refusal K) → IsComponent piece → IsFaultOf version v piece reason → IsWrongFor version v piece reason
+  wrong_for v piece (BadComponent _) is fault = absurd fault
+  wrong_for v piece reason is fault = (is, fault)
+
+  pub right_held : (v : V) (parts : List (List ℕ)) (index : ℕ) → AreComponentsOf version parts v → index < length parts → (reason : Refusal K) → IsWrongAt version parts index reason → ⊥
+  right_held v parts index are within =
+      right_at parts index (piece_is_component version lawful v parts are index within) (no_fault_held version lawful v parts index are within)
+
+  -- the start and a step of reading them
+  pub HasReadGiven-none : (parts : List (List ℕ)) (v : V) → HasNoValue version v → HasReadGiven version parts 0 v
+  HasReadGiven-none parts v empty = record {
+    read = HasRead-none version lawful parts v empty;
+    right = record { none = λ earlier reason below. absurd (omega arith) };
+  }
+
+  module _ (parts : List (List ℕ)) (index : ℕ) (within : index < length parts) (piece : List ℕ) (here : piece ≡ piece_at parts index) where
+    pub HasReadGiven-more : (old new : V) → IsComponent piece → Adds version old piece new → HasReadGiven version parts index old → HasReadGiven version parts (index + 1) new
+    HasReadGiven-more old new is adds before =
+        let all = HasRead-more version lawful parts index within piece here old new is adds before.read in
+        let right = right_at parts index (subst IsComponent here is) (λ reason fault. all.faultless.none index reason (omega arith) fault) in
+        record {
+          read = all;
+          right = record { none = λ earlier reason below. below_more (λ each. (other : Refusal K) → IsWrongAt version parts each other → ⊥) index (λ each inside other. before.right.none each other inside) right earlier below reason };
+        }
+
+    wrong_at : (v : V) → HasReadGiven version parts index v → (reason : Refusal K) → IsWrongFor version v (piece_at parts index) reason → IsWrongAt version parts index reason
+    wrong_at v before (BadComponent text) is = is
+    wrong_at v before reason is = (is.0, fault_at version lawful v parts index (omega arith) before.read.components reason is.1)
+
+    pub IsFirstWrong-at : (v : V) (reason : Refusal K) → IsWrongFor version v piece reason → HasReadGiven version parts index v → IsFirstWrong version parts index reason
+    IsFirstWrong-at v reason is before = record {
+      within = within;
+      is = wrong_at v before reason (subst (λ each. IsWrongFor version v each reason) here is);
+      earlier = before.right;
+    }
+
+  -- no more components are read than a vector has metrics
+  pub HasReadGiven-most : (parts : List (List ℕ)) (index : ℕ) (v : V) → index ≤ length parts → HasReadGiven version parts index v → index ≤ length version.printed
+  HasReadGiven-most parts index v within before =
+      omega (
+        arith,
+        length-take-le index parts within,
+        length_permutation _ _ before.read.components.each_once,
+        length-map (take index parts) (read version),
+        length-map (components_of version v) (read version),
+        filter_map-most (component_of version v) version.printed,
+      )
+
+  -- one thing is wrong with a component
+  wrongs_same : (parts : List (List ℕ)) (index : ℕ) (one other : Refusal K) → IsWrongAt version parts index one → IsWrongAt version parts index other → one ≡ other
+  wrongs_same parts index (BadComponent _) (BadComponent _) a b = ap BadComponent (a.0 ∙ sym b.0)
+  wrongs_same parts index (BadComponent _) other a b = absurd (a.1 b.0)
+  wrongs_same parts index one (BadComponent _) a b = absurd (b.1 a.0)
+  wrongs_same parts index one other a b = faults_same version lawful parts index one other a.1 b.1
+
+  first_wrongs_same : (parts : List (List ℕ)) (i j : ℕ) (one other : Refusal K) → IsFirstWrong version parts i one → IsFirstWrong version parts j other → (i ≡ j) × (one ≡ other)
+  first_wrongs_same parts i j one other first second =
+      let same = same_place i j (λ before. second.earlier.none i one before first.is) (λ before. first.earlier.none j other before second.is) in
+      (same, wrongs_same parts j one other (subst (λ index. IsWrongAt version parts index one) same first.is) second.is)
+
+  -- what is answered, where one vector is, and where one reason is
+  module _ (IsIt : V → Type 0) (IsReason : Option ℕ → Refusal K → Type 0) where
+    pub IsAnswered-Ok : ((v w : V) → IsIt v → IsIt w → v ≡ w) → ((v : V) (index : Option ℕ) (reason : Refusal K) → IsIt v → IsReason index reason → ⊥) → (v : V) → IsIt v → IsAnswered version IsIt IsReason (Ok v)
+    IsAnswered-Ok one none v is = record {
+      accepted = is;
+      accepts = λ w also. ap Ok (one v w is also);
+      refused = tt;
+      refuses = λ index reason why. absurd (none v index reason is why);
+      bound = tt;
+    }
+
+    pub IsAnswered-Err : ((i j : Option ℕ) (one other : Refusal K) → IsReason i one → IsReason j other → (i ≡ j) × (one ≡ other)) → ((v : V) (index : Option ℕ) (reason : Refusal K) → IsIt v → IsReason index reason → ⊥) → (index : Option ℕ) (fault : Fault K) → IsReason index (reason_of version fault) → IfSome index (λ i. i ≤ length version.printed) → IsAnswered version IsIt IsReason (Err (index, fault))
+    IsAnswered-Err same none index fault why bound = record {
+      accepted = tt;
+      accepts = λ v is. absurd (none v index (reason_of version fault) is why);
+      refused = why;
+      refuses = λ j other also. same index j (reason_of version fault) other why also;
+      bound = bound;
+    }
+
+  -- set: one vector, one reason, and not both
+  module _ (v : V) (parts : List (List ℕ)) where
+    pub set_once : (new other : V) → IsSet version v parts new → IsSet version v parts other → new ≡ other
+    set_once new other is also =
+        lawful.one_vector new other (is.front_is ∙ sym also.front_is) (λ kind.
+        is.values kind
+        ∙ ap (λ each. option_or each (version.value_of v kind)) (values_same version lawful is.given also.given parts is.components also.components kind)
+        ∙ sym (also.values kind))
+
+    pub set_no_reason : (new : V) (index : Option ℕ) (reason : Refusal K) → IsSet version v parts new → IsSetReason version parts index reason → ⊥
+    set_no_reason new (Some index) reason is why = right_held is.given parts index is.components why.within reason why.is
+    set_no_reason new None reason is why = why
+
+    pub set_reasons_same : (i j : Option ℕ) (one other : Refusal K) → IsSetReason version parts i one → IsSetReason version parts j other → (i ≡ j) × (one ≡ other)
+    set_reasons_same (Some i) (Some j) one other first second =
+        let same = first_wrongs_same parts i j one other first second in (ap Some same.0, same.1)
+    set_reasons_same None j one other first second = absurd first
+    set_reasons_same i None one other first second = absurd second
+
+    -- no component: the vector itself
+    pub IsSet-none : (empty : V) → HasNoValue version empty → parts ≡ [] → IsSet version v parts v
+    IsSet-none empty valueless none = record {
+      given = empty;
+      components = subst (λ each. AreComponentsOf version each empty) (sym none) (HasRead-none version lawful [] empty valueless).components;
+      values = λ kind. sym (or_none (version.value_of empty kind) (version.value_of v kind) (valueless.none kind));
+      front_is = refl;
+    }
+
+    -- a complete vector stays complete
+    pub IsComplete-set : (new : V) → IsSet version v parts new → IsComplete version v → IsComplete version new
+    IsComplete-set new is complete = record {
+      present = λ kind mandatory. subst IsSome (sym (is.values kind)) (or_some (version.value_of is.given kind) (version.value_of v kind) (complete.present kind mandatory));
+    }
+
+  -- build: one vector, one reason, and not both
+  module _ (front parts : List (List ℕ)) where
+    pub built_once : (v w : V) → IsBuilt version front parts v → IsBuilt version front parts w → v ≡ w
+    built_once v w is also = vectors_same version lawful v w parts (is.front_is ∙ sym also.front_is) is.components also.components
+
+    pub built_no_reason : (v : V) (index : Option ℕ) (reason : Refusal K) → IsBuilt version front parts v → IsBuildReason version parts index reason → ⊥
+    built_no_reason v (Some index) reason is why = right_held v parts index is.components why.within reason why.is
+    built_no_reason v None (Missing kind) is why = no_reason version lawful v parts is.components is.complete (Missing kind) why.1
+    built_no_reason v None _ is why = absurd why
+
+  pub build_reasons_same : (parts : List (List ℕ)) (i j : Option ℕ) (one other : Refusal K) → IsBuildReason version parts i one → IsBuildReason version parts j other → (i ≡ j) × (one ≡ other)
+  build_reasons_same parts (Some i) (Some j) one other first second =
+      let same = first_wrongs_same parts i j one other first second in (ap Some same.0, same.1)
+  build_reasons_same parts (Some i) None one (Missing other) first second = absurd (second.0.none i one first.within first.is)
+  build_reasons_same parts (Some i) None one _ first second = absurd second
+  build_reasons_same parts None (Some j) (Missing one) other first second = absurd (first.0.none j other second.within second.is)
+  build_reasons_same parts None None (Missing one) (Missing other) first second = (refl, reasons_same version lawful parts (Missing one) (Missing other) first.1 second.1)
+  build_reasons_same parts None None (Missing one) _ first second = absurd second
+  build_reasons_same parts None _ _ _ first second = absurd first
+
+  pub IsCompletedTo-start : (given own : V) → IsCompletedTo version given own 0 given
+  IsCompletedTo-start given own = record { copied = λ kind below. absurd (omega (arith, below)); kept = λ kind _. refl; front = refl }
+
+  one_at_place : (kind other : K) → place_of version other ≡ place_of version kind → kind ≡ other
+  one_at_place kind other same = same_Some kind other (sym (lawful.placed kind) ∙ (ap (slice_get version.printed) (sym same) ∙ lawful.placed other))
+
+  module _ (given own : V) (index : ℕ) (kind : K) (at : place_of version kind ≡ index) (old new : V) (is : IsCopied version own kind old new) (before : IsCompletedTo version given own index old) where
+    copied_here : version.value_of new kind ≡ option_or (version.value_of given kind) (version.value_of own kind)
+    copied_here = is.here ∙ ap (λ each. option_or each (version.value_of own kind)) (before.kept kind (omega (arith, at)))
+
+    copied_to : (other : K) → place_of version other < index + 1 → version.value_of new other ≡ option_or (version.value_of given other) (version.value_of own other)
+    copied_to other below = elim (cases_lt (place_of version other) index) [
+      | inl earlier ↦ elim (is.others other) [
+        | inl same ↦ absurd (omega (arith, earlier, at, ap (place_of version) same))
+        | inr same ↦ same ∙ before.copied other earlier
+      ]
+      | inr back ↦ subst (λ each. version.value_of new each ≡ option_or (version.value_of given each) (version.value_of own each)) (one_at_place kind other (omega (arith, at, back, below))) copied_here
+    ]
+
+    pub IsCompletedTo-more : IsCompletedTo version given own (index + 1) new
+    IsCompletedTo-more = record {
+      copied = copied_to;
+      kept = λ other from. elim (is.others other) [
+        | inl same ↦ absurd (omega (arith, from, at, ap (place_of version) same))
+        | inr same ↦ same ∙ before.kept other (omega (arith, from))
+      ];
+      front = is.front ∙ before.front;
+    }
+
+  pub IsCompletedTo-all : (given own v : V) → IsCompletedTo version given own (length version.printed) v → (kind : K) → version.value_of v kind ≡ option_or (version.value_of given kind) (version.value_of own kind)
+  IsCompletedTo-all given own v all kind =
+      all.copied kind (slice_get_within version.printed (place_of version kind) kind (lawful.placed kind))

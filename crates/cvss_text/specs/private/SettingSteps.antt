@@ -1,0 +1,33 @@
+-- What the private code that sets metrics does at each step.
+use Rattle.std.specs.Prelude.{◌≡◌, ◌⊎◌, ℕ, ◌≤◌, List, length, Option, IfSome, Result, Ok, IfOk, IfErr, IsErrAnd}
+use Rattle.std.specs.Option.{option_or}
+use Rattle.cvss_base.specs.Refusal.{Refusal, BadComponent}
+use Rattle.cvss_base.specs.Text.{IsComponent}
+use Rattle.cvss_base.specs.Version.{Version}
+use Rattle.cvss_text.specs.Setting.{AreRightBefore}
+use Rattle.cvss_text.specs.private.Walk.{HasRead, IsFaultOf, reason_of}
+use Rattle.cvss_text.specs.declared.walk.Fault.{Fault}
+
+-- what is wrong with a component, where the vector holds those before it
+abbrev pub IsWrongFor : {V K : Type 0} → Version V K → V → List ℕ → Refusal K → Type 0
+IsWrongFor version v piece (BadComponent text) = (text ≡ piece) × ¬ (IsComponent piece)
+IsWrongFor version v piece reason = IsComponent piece × IsFaultOf version v piece reason
+
+-- the vector holds the components before an index, with which nothing is wrong
+pub record HasReadGiven {V K : Type 0} (version : Version V K) (parts : List (List ℕ)) (index : ℕ) (v : V) : Type 0 where
+  pub read : HasRead version parts index v
+  pub right : AreRightBefore version parts index
+
+-- a vector has the value of another for a metric where it had none, and keeps all else
+pub record IsCopied {V K : Type 0} (version : Version V K) (own : V) (kind : K) (old new : V) : Type 0 where
+  pub here : version.value_of new kind ≡ option_or (version.value_of old kind) (version.value_of own kind)
+  pub others : (other : K) → (other ≡ kind) ⊎ (version.value_of new other ≡ version.value_of old other)
+  pub front : version.front new ≡ version.front old
+
+-- what is answered where these are the vectors and these the reasons: no other vector, and no other reason
+pub record IsAnswered {V K : Type 0} (version : Version V K) (IsIt : V → Type 0) (IsReason : Option ℕ → Refusal K → Type 0) (answer : Result V (Option ℕ × Fault K)) : Type 0 where
+  pub accepted : IfOk answer IsIt
+  pub accepts : (v : V) → IsIt v → answer ≡ Ok v
+  pub refused : IfErr answer (λ refused. IsReason refused.0 (reason_of version refused.1))
+  pub refuses : (index : Option ℕ) (reason : Refusal K) → IsReason index reason → IsErrAnd answer (λ refused. (refused.0 ≡ index) × (reason_of version refused.1 ≡ reason))
+  pub bound : IfErr answer (λ refused. IfSome refused.0 (λ index. index ≤ length version.printed))

@@ -1,0 +1,117 @@
+//! How metrics are set in a vector, and how a vector is built from metrics alone, once for all
+//! versions. It takes no memory: a fault borrows the part of the text that it names.
+
+ghost use Rattle.std.specs.Prelude.{◌≡◌, ◌≤◌, IfOk, IfErr, OnOk, IfSome, Some, length};
+ghost use Rattle.cvss_base.specs.Text.{IsComponent, pieces};
+ghost use Rattle.cvss_text.specs.Setting.{IsBuildReason, IsBuilt, IsFirstWrong, IsSet, IsSetReason, components_in};
+ghost use Rattle.cvss_text.specs.private.SettingSteps.{HasReadGiven, IsAnswered, IsCopied, IsWrongFor};
+ghost use Rattle.cvss_text.specs.private.Walk.{Adds, HasNoValue, reason_of};
+ghost use Rattle.std.specs.Option.{option_or};
+
+use crate::metrics::spelled;
+use crate::pieces::is_component;
+use crate::print::Printed;
+use crate::walk::{Components, Fault, read_component};
+
+/// The vector with components set, which a text joins by slashes, in any order; or else the index of
+/// the first with which something is wrong, and what. A vector without values is given, whose front is
+/// that of the vector.
+pub fn set<'a, V: Printed>(
+    vector: &V,
+    empty: V,
+    text: &'a str,
+) -> Result<V, (Option<usize>, Fault<'a, V::Kind>)>
+    requires valueless { HasNoValue V.version empty }
+    requires front { V.version.front empty ≡ V.version.front vector.now }
+    ensures { IsAnswered V.version (IsSet V.version vector.now (components_in text.now))
+        (IsSetReason V.version (components_in text.now)) result }
+{
+    if text.is_empty() {
+        return Ok(*vector);
+    }
+    match read_given(text, empty) {
+        Ok(given) => Ok(completed(given, vector)),
+        Err((index, fault)) => Err((Some(index), fault)),
+    }
+}
+
+/// The vector that components make, which a text joins by slashes, in any order; or else the index of
+/// the first with which something is wrong, and what; or else the first mandatory metric that none
+/// names. A vector without values is given, whose front the vector has.
+pub fn build<'a, V: Components>(
+    empty: V,
+    text: &'a str,
+) -> Result<V, (Option<usize>, Fault<'a, V::Kind>)>
+    requires { HasNoValue V.version empty }
+    ensures { IsAnswered V.version (IsBuilt V.version (V.version.front empty) (pieces text.now))
+        (IsBuildReason V.version (pieces text.now)) result }
+{
+    match read_given(text, empty) {
+        Ok(given) => match given.first_missing() {
+            Some(kind) => Err((None, Fault::MissingMandatoryMetric(kind))),
+            None => Ok(given),
+        },
+        Err((index, fault)) => Err((Some(index), fault)),
+    }
+}
+
+/// Reads components that a text joins by slashes into a vector without values; or else the index of
+/// the first with which something is wrong, and what.
+fn read_given<'a, V: Components>(text: &'a str, empty: V) -> Result<V, (usize, Fault<'a, V::Kind>)>
+    requires { HasNoValue V.version empty }
+    ensures read { IfOk result
+        (HasReadGiven V.version (pieces text.now) (length (pieces text.now))) }
+    ensures front { IfOk result (λ given. V.version.front given ≡ V.version.front empty) }
+    ensures refused { IfErr result (λ refused. IsFirstWrong V.version (pieces text.now) refused.0
+        (reason_of V.version refused.1)) }
+    ensures bound { IfErr result (λ refused. refused.0 ≤ length V.version.printed) }
+{
+    let mut given = empty;
+    let mut index = 0;
+    for piece in text.split('/') {
+        if let Err(fault) = read_one(piece.as_bytes(), &mut given) {
+            return Err((index, fault));
+        }
+        index += 1;
+    }
+    Ok(given)
+}
+
+/// Reads one component into the vector that holds those before it.
+fn read_one<'a, V: Components>(piece: &'a [u8], given: &mut V) -> Result<(), Fault<'a, V::Kind>>
+    ensures component { OnOk result (IsComponent piece.now) }
+    ensures read { OnOk result (Adds V.version given.old piece.now given.new) }
+    ensures refused { IfErr result
+        (λ fault. IsWrongFor V.version given.old piece.now (reason_of V.version fault)) }
+{
+    if !is_component(piece) {
+        return Err(Fault::InvalidComponent(piece));
+    }
+    read_component(piece, given)
+}
+
+/// The given vector with the values of another for all metrics for which it has none.
+fn completed<V: Printed>(given: V, own: &V) -> V
+    ensures values { (kind : V.Kind) → V.version.value_of result kind
+        ≡ option_or (V.version.value_of given kind) (V.version.value_of own.now kind) }
+    ensures front { V.version.front result ≡ V.version.front given }
+{
+    let mut vector = given;
+    for kind in V::printed() {
+        copy_value(own, *kind, &mut vector);
+    }
+    vector
+}
+
+/// Copies the value of a vector for a metric into another that has none.
+fn copy_value<V: Printed>(own: &V, kind: V::Kind, vector: &mut V)
+    ensures { IsCopied V.version own.now kind vector.old vector.new }
+{
+    if spelled(vector, kind).is_some() {
+        return;
+    }
+    if let Some(spelling) = spelled(own, kind) {
+        // The metric has this value, and the vector has none.
+        let _ = vector.put(kind, spelling.as_bytes());
+    }
+}

@@ -1,0 +1,5 @@
+pub mod ObjectLemmas
+mod OneLineLemmas
+mod PrintsLemmas
+mod PartsLemmas
+mod TreesLemmas

@@ -1,0 +1,4 @@
+pub mod Objects
+pub mod Texts
+pub mod Trees
+pub mod private

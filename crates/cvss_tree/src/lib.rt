@@ -1,0 +1,9 @@
+//! JSON objects as the answers of programs that read JSON of others: each on one line, without spaces.
+#![tactic(auto)]
+
+mod text;
+mod tree;
+mod write;
+
+pub use tree::{Tree, put_tree};
+pub use write::{write_object, write_tree_object};
