@@ -37,7 +37,7 @@ def counts():
     yield "CONTRIBUTING.md", r"Few are kept, (\S+) in (\S+) crates", [len(edits), len(set(edits))]
     yield "docs/ARCHITECTURE.md", r"these (\S+) functions as a static library", [functions]
     yield "docs/BINDINGS.md", r"a static library of (\S+) functions", [functions]
-    yield ("docs/BINDINGS.md", r"each of the (\S+) stored lines .* of (\S+) texts, .* the accounts of (\S+) vectors",
+    yield ("docs/BINDINGS.md", r"(?s)each of the (\S+) stored lines .* each of (\S+) texts .* explanations of (\S+) vectors",
            [lines(f"bindings/stored/{name}") for name in ("facts", "texts", "accounts")])
     yield "conformance/README.md", r"^(\S+) texts with exact answers", [sum(rows for rows, _ in kit.values())]
     for name, counted in kit.items():
