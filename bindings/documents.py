@@ -1,10 +1,10 @@
 #!/usr/bin/env python3
-"""Runs the examples and recipes of docs/BINDINGS.md as they stand there, those of docs/FROM_RUST.md, FROM_PYTHON.md and
-FROM_GO.md, of docs/PROGRAMS.md those of jobs, of README.md the first commands and those of Python and Rust, and of both
-those of the programs. Says where docs/PERFORMANCE.md lacks a figure, and docs/BINDINGS.md a name or a command.
+"""Runs the examples and recipes of docs/BINDINGS.md; the examples of docs/FROM_RUST.md, FROM_PYTHON.md and FROM_GO.md; of
+docs/PROGRAMS.md those for jobs; of README.md the first commands and those of Python and Rust; and of both pages those
+of the programs. Reports if docs/PERFORMANCE.md lacks a figure, or docs/BINDINGS.md a name or a command.
 
 Usage: documents.py ROOT FOLDER. ROOT is the folder of the checkout, in which bindings/build has made the library; files
-are made in FOLDER alone. An example says in comments what it prints. What is not on the machine is skipped.
+are made only in FOLDER. An example says in comments what it prints. What needs a missing tool is skipped.
 """
 import json
 import os

@@ -1,4 +1,4 @@
-"""Kinds of refusal, as the column `kind` of refused.tsv has them, told from the library's words."""
+"""Kinds of error, as the column `kind` of refused.tsv has them, from the library's messages."""
 
 # A word that a reason has at its beginning, and what kind of refusal it tells.
 KINDS = (

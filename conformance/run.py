@@ -1,13 +1,12 @@
 #!/usr/bin/env python3
-"""Gives the texts of the kit to a command, one a line, and compares what it answers, line by line.
+"""Gives the texts of the kit to a command, one per line, and compares its answers, line by line.
 
-The command answers each text by one line of the columns that it has, with blanks or tabs between
-them, or by a line that begins with `error` where it refuses the text. The columns are named by
---columns, in the order in which the command writes them: canonical, version, score, temporal,
-environmental, nomenclature, rating, temporal_rating, environmental_rating, complete; and kind, the
-word that follows `error: `.
+The command answers each text by one line with its columns, separated by spaces or tabs, or by a line
+that begins with `error` if it rejects the text. The columns are named by --columns, in the order in
+which the command writes them: canonical, version, score, temporal, environmental, nomenclature, rating,
+temporal_rating, environmental_rating, complete; and kind, the word after `error: `.
 
-Status: 0 if each row is right, 1 if some are wrong, 2 if the command could not be tried to its end.
+Status: 0 if each row is right, 1 if some are wrong, 2 if the command could not be run to the end.
 """
 import argparse
 import subprocess

@@ -1,5 +1,5 @@
 #!/usr/bin/env python3
-"""Tests of the kit: the files are those that make.py draws, and run.py tells right from wrong."""
+"""Tests of the kit: the files are those that make.py makes, and run.py finds wrong answers."""
 import os
 import subprocess
 import sys

@@ -1,8 +1,8 @@
 #!/usr/bin/env python3
-"""Checks the numbers in the documents that count what stands in this repository: tests, stored lines, wrong edits,
+"""Checks the numbers in the documents that count what is in this repository: tests, stored lines, must-fail edits,
 functions for C, and the rows of the conformance kit.
 
-usage: docs/check_counts.py    tells each number that is another one; status 1 if there are some
+usage: docs/check_counts.py    prints each wrong number; status 1 if there are some
 """
 import re
 import sys

@@ -1,13 +1,13 @@
 #!/usr/bin/env python3
-"""Checks two lists that go stale by themselves.
+"""Checks two lists that become out of date.
 
-Each public type that derives PartialEq or Clone has a law of it: that two values are equal exactly if they are one, or
-tell the same, and that a clone is that value; and of one that is Copy, that no clone is refused. A law is a clause of a
-module `laws` that names the type's impl, or the law of the trait `Spelled`.
+Each public type that derives PartialEq or Clone has a law for it: two values are equal exactly if they are the same or
+report the same, and a clone is that value; and if the type is Copy, that a clone needs no memory. A law is a clause of
+a module `laws` that names the type's impl, or the law of the trait `Spelled`.
 
-docs/CONTRACTS.md lists exactly the public calls that ask for something, by the last part of their names.
+docs/CONTRACTS.md lists exactly the public calls with preconditions, by the last part of their names.
 
-usage: docs/check_promises.py    tells each type that lacks a law and each call; status 1 if there are some
+usage: docs/check_promises.py    prints each type without a law and each wrong call; status 1 if there are some
 """
 import re
 import sys

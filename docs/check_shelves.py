@@ -1,10 +1,11 @@
 #!/usr/bin/env python3
-"""Checks on which shelf the words of public clauses stand: those of a public call or trait right in `specs/`, and those of
-a law (the module `laws` of a crate, and `cvss_laws`) there or in `specs/laws/`. No page right in `specs/` stands on another shelf.
+"""Checks the level of the words in public clauses. Those of a public call or trait are directly in `specs/`, and those of
+a law (the module `laws` of a crate, and `cvss_laws`) there or in `specs/laws/`. No page directly in `specs/` uses
+another level.
 
-Public is a call or trait that a public module has or that a `pub use` names, and a method of such a type.
+Public is a call or trait in a public module or named by a `pub use`, and a method of such a type.
 
-usage: docs/check_shelves.py    tells each clause that cites another shelf; status 1 if there are some
+usage: docs/check_shelves.py    prints each clause that cites another level; status 1 if there are some
 """
 import re
 import sys

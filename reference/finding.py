@@ -1,9 +1,9 @@
 #!/usr/bin/env python3
-"""Finds the vectors in lines of any text, on the implementation in reference.py.
+"""Finds the vectors in lines of any text, with the implementation in reference.py.
 
-Reads lines on standard input, and writes on standard output for each mention that is found the
-line's number, the place of its first byte, both from 1, and what is answered to it. It shares no
-code with the crates: its answers are expected values for them.
+Reads lines on standard input, and writes on standard output for each match the line's number, its
+column in bytes, both from 1, and the answer to it. It shares no code with the crates: its answers are
+expected values for them.
 
 usage: reference/finding.py < TEXT
 """

@@ -1,6 +1,6 @@
 #!/usr/bin/env python3
-"""A second implementation of the lines of all versions, on fractions, written from the public
-standards alone.
+"""A second implementation for lines of all versions, on fractions, written from the public standards
+alone.
 
 Reads lines on standard input and writes the answer to each on standard output. It shares no code
 with the crates: its answers are expected values for them.

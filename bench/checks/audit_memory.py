@@ -1,10 +1,10 @@
 #!/usr/bin/env python3
-"""Checks what memory the built `cvss_audit` takes of a line, beside that of the JSON reader: at most 20
-bytes for each byte of the line, however many places stand in it, however long their pointers are, and
-whatever the members say that differ from their vectors.
+"""Checks how much memory the built `cvss_audit` takes in addition to the JSON reader: at most 20 bytes for
+each byte of the line, however many vectors are in it, however long their pointers are, and whatever the
+members that disagree say.
 
-What the reader takes is seen by a line of the same bytes in which no vector is found. The answers are
-looked at too: one line for each place, with the pointer that leads to it, in order.
+The memory of the reader is measured on a line of the same bytes without a vector. The answers are
+checked too: one line for each location, with its pointer, in order.
 
 usage: bench/checks/audit_memory.py
 """

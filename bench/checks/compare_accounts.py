@@ -1,9 +1,9 @@
 #!/usr/bin/env python3
-"""Compares the accounts that the built `cvss_why` writes with accounts.py.
+"""Compares the explanations that the built `cvss_why` writes with accounts.py.
 
-The lines are drawn: vectors that have each metric, vectors in any order and case, and refused ones;
-with `whole` also all vectors of base metrics alone, of each version. A number of an account has at
-most seven decimals and is the exact one where that has no more, else less than 10^-6 away from it.
+The lines are random: vectors with each metric, vectors in any order and case, and rejected ones; with
+`whole` also all vectors with base metrics alone, of each version. A number has at most seven decimals
+and is exact if the exact number has no more; otherwise it is less than 10^-6 from it.
 
 usage: bench/checks/compare_accounts.py [whole] [COUNT [SEED]]
 """

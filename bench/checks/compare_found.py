@@ -1,5 +1,5 @@
 #!/usr/bin/env python3
-"""Compares what the built `cvss_find` writes with finding.py, over texts drawn at random.
+"""Compares what the built `cvss_find` writes with finding.py, over random texts.
 
 usage: bench/checks/compare_found.py [COUNT [SEED]]
 """

@@ -1,25 +1,25 @@
 #!/usr/bin/env python3
 """Runs the built programs once for each request for memory that they make, and refuses it.
 
-What is asked, and what is answered with ample memory, is read from stored lines:
+The input, and the answers with ample memory, come from stored lines:
 
-- `cvss_vectors` answers all of its lines but those that ask for many values at once (`each`): they
-  go through the parser of each version and of any version, the parsers of metrics and of their
-  values, triage and overrides.
+- `cvss_vectors` answers all of its lines except those for many values at once (`each`): they go
+  through the parser of each version and of any version, the parsers of metrics and of their values,
+  triage and overrides.
 - `cvss_json` reads the text of each vector there as a JSON string, writes the vector as one, and
   copies the error of a rejected text; its own stored lines do the same for ratings and
   nomenclatures. It reports each of these steps by its name.
-- `cvss_tool` answers the texts of any version, one a line, and `cvss_find` the same texts in
+- `cvss_tool` answers the texts of any version, one per line, and `cvss_find` the same texts in
   sentences, where the expected answers are those of reference/finding.py.
 - `cvss_audit` answers its own stored documents.
 
-Only these answers may be `out of memory`: in `cvss_vectors` that to a rejected text whose error
-carries a part of the text, and rows of triage; and the steps of `cvss_json` that build a string or
-copy such an error. So an accepted text is accepted whichever request is refused, and `cvss_tool`
-and `cvss_find` answer each text as ever. Where a line can't be read or a buffer can't grow, the run
-ends early, and what it has written are the whole answers to the first lines.
+Only these answers may be `out of memory`: in `cvss_vectors` those to a rejected text whose error
+quotes the text, and rows of triage; and the steps of `cvss_json` that build a string or copy such an
+error. So a valid text is accepted whichever request is refused, and `cvss_tool` and `cvss_find`
+answer each text as always. If a line can't be read or a buffer can't grow, the run ends early, and
+what it has written are the whole answers to the first lines.
 
-It needs cc beside the toolchain and python3.
+It needs cc and python3 in addition to the toolchain.
 
 usage: bench/checks/refused_memory.py
 """

@@ -1,13 +1,13 @@
 #!/usr/bin/env python3
-"""Runs the built programs over much input, long parts of texts and many arguments, where a bound that
-no contract tells would show.
+"""Runs the built programs on large input, long segments and many arguments, where a bound that no contract
+states would show.
 
-Each refusal that carries a part of the text is tried with parts of a byte to a million, of each
-version and of a text of any version, in lines, arguments and JSON strings; what is expected comes
-from `reference.py`. A text that is accepted makes no request for memory: `cvss_vectors` makes as many
-for it as for a number of the same length.
+Each error that quotes a part of the text is tried with parts of one byte to a million, of each version
+and of a text of any version, in lines, arguments and JSON strings; what is expected comes from
+`reference.py`. A valid text makes no request for memory: `cvss_vectors` makes as many for it as for a
+number of the same length.
 
-It needs cc beside the toolchain and python3.
+It needs cc and python3 in addition to the toolchain.
 
 usage: bench/checks/sizes.py
 """

@@ -1,11 +1,10 @@
 #!/usr/bin/env python3
-"""Writes texts in which vectors stand, or stand nearly, drawn at random.
+"""Writes random texts that contain vectors, or almost.
 
-A text is a line of pieces: prose, links, scores, vectors of each version, accepted and refused, cut
-off anywhere or in any case, `CVSS:` by itself, letters of other scripts, bytes that are no UTF-8,
-and the bytes of vectors in any order. Pieces are joined by a blank, by nothing, or by a byte of
-those that stand around vectors. One text in eight is of the bytes of vectors alone. The same seed
-gives the same texts.
+A text is a line of parts: prose, links, scores, vectors of each version, valid and rejected, truncated
+anywhere or in any case, `CVSS:` alone, letters of other scripts, bytes that are not UTF-8, and the bytes
+of vectors in any order. The parts are joined by a space, by nothing, or by a byte that often is next to
+vectors. One text in eight has only bytes of vectors. The same seed gives the same texts.
 
 usage: bench/inputs/texts.py COUNT [SEED]
 """

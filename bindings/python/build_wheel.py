@@ -1,7 +1,7 @@
-"""Makes a wheel and a source archive of the package and the library, by the standard library alone (PEP 517).
+"""Makes a wheel and a source archive of the package and the library, with only the standard library (PEP 517).
 
-The library is the file that the variable CVSS_LIBRARY names, or the one that a source archive has, or the one that
-bindings/build has made. It is in both: to build it, the whole repository is needed.
+The library is the file that the variable CVSS_LIBRARY names, or the one in a source archive, or the one that
+bindings/build has made. Both contain it, since building it needs the whole repository.
 """
 
 import base64

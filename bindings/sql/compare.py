@@ -1,10 +1,10 @@
 #!/usr/bin/env python3
 """Writes the queries that compare the functions with the table `expected`, which has the columns of expected.py.
 
-Each query tells a function, the rows that it was asked for, and how many of its answers are wrong. The same queries
-are run by SQLite and by PostgreSQL. usage: compare.py postgresql|sqlite characters|bytes
+Each query returns a function, the number of rows it was called for, and how many of its answers are wrong. SQLite and
+PostgreSQL run the same queries. usage: compare.py postgresql|sqlite characters|bytes
 
-The last word says how places in the texts are counted.
+The last word says how positions in the texts are counted.
 """
 import sys
 from pathlib import Path

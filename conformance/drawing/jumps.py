@@ -1,7 +1,7 @@
-"""Numbers that lie on a jump of their version's rounding, or near it, in v2, v3.0 and v3.1.
+"""Numbers on a jump of their version's rounding, or near it, in v2, v3.0 and v3.1.
 
-Every number that is rounded on the way to a score is looked at once: the same number from other
-metrics is the same row.
+Every number that is rounded while a score is computed counts once: the same number from other metrics
+is the same row.
 """
 from fractions import Fraction
 from functools import lru_cache

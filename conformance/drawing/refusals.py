@@ -1,4 +1,4 @@
-"""Texts that are refused, each for one fault, and some for two of which the first is told."""
+"""Texts that are rejected, each with one error, and some with two of which the first is reported."""
 from itertools import permutations
 
 from .rows import BASE, FRONTS, METRICS, options, refused

@@ -1,5 +1,6 @@
-"""Vectors that tell a wrong weight, in v2, v3.0 and v3.1: for each weight, and a hundredth and a
-thousandth more and less, one of which a score would be another, where there is one."""
+"""Vectors that reveal a wrong weight, in v2, v3.0 and v3.1: for each weight, a hundredth or a thousandth
+more or less, one with another score, if there is one.
+"""
 from contextlib import contextmanager
 from fractions import Fraction
 from functools import lru_cache

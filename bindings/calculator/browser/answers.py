@@ -1,4 +1,4 @@
-"""What the page answers: rows of the conformance kit, rejected texts, tables of many vectors, two side by side."""
+"""What the page shows: rows of the conformance kit, rejected texts, tables of many vectors, two side by side."""
 
 import re
 from pathlib import Path

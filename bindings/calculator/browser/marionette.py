@@ -1,4 +1,4 @@
-"""Firefox without a window, by Marionette, the protocol that geckodriver speaks to it, which Debian has no package of.
+"""Firefox without a window, through Marionette, the protocol of geckodriver, which Debian does not package.
 
 A message is the length of a JSON array in decimal, a colon, and the array: [0, number, command, parameters] one way,
 and [1, number, error, result] the other.
