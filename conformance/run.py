@@ -28,7 +28,7 @@ class Unfit(Exception):
 
 
 def text_of(column):
-    """The bytes of a text as it stands in a file, with `\\xHH` for a byte."""
+    """The bytes of a text as it is in a file, with `\\xHH` for a byte."""
     head, *escaped = column.split("\\x")
     return head.encode() + b"".join(bytes.fromhex(part[:2]) + part[2:].encode() for part in escaped)
 
@@ -39,7 +39,7 @@ def read_table(path):
 
 
 def version_told(row):
-    """The version of a row, of a refused text by what its bytes begin with."""
+    """The version of a row, for a rejected text by its first bytes."""
     told = row["text"][5:8] if row["text"].startswith("CVSS:") else ""
     return row.get("version") or (told if told in ("3.0", "3.1", "4.0") else "2.0")
 
@@ -115,7 +115,7 @@ class Progress:
 
 
 def answers(words, rows):
-    """The lines that the command answers, one for each row; a fault if there are fewer or more."""
+    """The lines that the command answers, one for each row; an error if there are fewer or more."""
     try:
         command = subprocess.Popen(words, stdin=subprocess.PIPE, stdout=subprocess.PIPE)
     except OSError as error:

@@ -44,20 +44,20 @@ def counts():
         yield "conformance/README.md", rf"^\| `{name}` \| (\S+) \| (\S+) \|", list(counted)
 
 
-def number(told):
-    if told in TENS or told in WORDS:
-        return TENS.get(told) or WORDS.index(told)
-    return int(told.replace(",", ""))
+def number(text):
+    if text in TENS or text in WORDS:
+        return TENS.get(text) or WORDS.index(text)
+    return int(text.replace(",", ""))
 
 
 def main():
     wrong = []
     for name, sentence, expected in counts():
-        told = re.search(sentence, (ROOT / name).read_text(encoding="utf-8"), re.M)
-        if told is None:
+        match = re.search(sentence, (ROOT / name).read_text(encoding="utf-8"), re.M)
+        if match is None:
             wrong.append(f"{name} has no sentence like `{sentence}`")
-        elif [number(each) for each in told.groups()] != expected:
-            wrong.append(f"{name}: `{told[0][:100]}`, and there are {', '.join(f'{each:,}' for each in expected)}")
+        elif [number(each) for each in match.groups()] != expected:
+            wrong.append(f"{name}: `{match[0][:100]}`, and there are {', '.join(f'{each:,}' for each in expected)}")
     sys.exit("\n".join(wrong) or None)
 
 

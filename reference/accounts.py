@@ -146,7 +146,7 @@ def account(text):
 
 
 def answer(number, line):
-    """What is told of a line, its decimals exact."""
+    """The explanation of a line, with exact decimals."""
     try:
         return {"line": number, **account(reference.text_of(line))}
     except reference.Refused as reason:
@@ -155,7 +155,7 @@ def answer(number, line):
 
 
 def is_exact(told):
-    """Whether no decimal that is told has more than seven places, so that each is the number itself."""
+    """Whether no decimal has more than seven places, so that each is the number itself."""
     if isinstance(told, dict):
         return all(map(is_exact, told.values()))
     if isinstance(told, list):

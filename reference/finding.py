@@ -17,7 +17,7 @@ FRONT = re.compile(rb"(?=CVSS:)")
 
 
 def mentions(text):
-    """The place and the bytes of each mention, whether it is found or not.
+    """The offset and the bytes of each candidate, whether it is found or not.
 
     Each run of letters, digits, colons, slashes and full stops is cut before each `CVSS:`; what is
     left of a part without the colons, slashes and full stops at its end is a mention.
@@ -30,7 +30,7 @@ def mentions(text):
 
 
 def found(text):
-    """The place, the bytes and the answer of each mention that is accepted or was meant as a
+    """The offset, the bytes and the answer of each candidate that is valid or was meant as a
     vector."""
     for place, mention in mentions(text):
         answer = reference.answer(mention)

@@ -21,7 +21,7 @@ TEMPORAL = ("E", "RL", "RC")
 
 
 def kind(vector, base):
-    """The place of the score that counts among the base, temporal and environmental score."""
+    """The index of the score that counts among the base, temporal and environmental score."""
     defined = {name for name, value in vector.items() if name not in base and value not in ("X", "ND")}
     return 2 if defined - set(TEMPORAL) else 1 if defined else 0
 

@@ -39,7 +39,7 @@ def read(text):
 
 
 def given(version, pieces):
-    """The values of the components, or the first that is refused, with its index."""
+    """The values of the components, or the first that is rejected, with its index."""
     name, _, metrics, _, any_case = VERSIONS[version]
     values = {}
     for index, piece in enumerate(pieces):
@@ -97,7 +97,7 @@ def both(call, *asked):
 
 
 def part(text):
-    """What the reason quotes for which a text is refused."""
+    """What the reason quotes for which a text is rejected."""
     try:
         reference.read(reference.text_of(text))
     except Refused as reason:

@@ -17,7 +17,7 @@ PROGRAM = ROOT / "crates/cvss_find/out/cvss_find"
 
 
 def compare(given):
-    """Ends where the program writes otherwise, or has another status; else tells the answers."""
+    """Ends if the program writes something else, or has another status; otherwise returns the answers."""
     expected = list(finding.answers(given))
     done = subprocess.run([PROGRAM], input=given, capture_output=True, check=False)
     told = done.stdout.decode("utf-8").splitlines(keepends=True)

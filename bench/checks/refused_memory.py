@@ -100,7 +100,7 @@ void *realloc(void *old, size_t size)
 BATCH = 25
 # A mark of a stored line, and what it asks for.
 MARKED = re.compile(rb"([a-z]+[2-4]?) (.*)", re.DOTALL)
-# The kinds of `fault` whose error carries a part of the text.
+# The kinds of `fault` whose error quotes a part of the text.
 CARRYING = ("component", "prefix", "version", "metric", "value")
 # A text longer than the chunks in which programs read their input, and the answer to it.
 LONG = b"AV:N/" + b"Q" * 70_000 + b":N", f"error: unknown CVSS metric name: `{'Q' * 70_000}`"
@@ -135,7 +135,7 @@ def runs(shim, program, given, *arguments):
 
 
 def stored(program):
-    """The stored lines of a program: the mark of each, what is asked, and the answer."""
+    """The stored lines of a program: the mark of each, its input, and the answer."""
     given, answers = ((ROOT / f"crates/{program}/{name}").read_bytes().split(b"\n")[:-1]
                       for name in ("stdin", "stdout"))
     for line, answer in zip(given, answers, strict=True):
@@ -190,7 +190,7 @@ def strings():
 
 
 def found(text):
-    """What `cvss_find` answers to each mention in a text."""
+    """What `cvss_find` answers to each match in a text."""
     for number, line in enumerate(text.split(b"\n"), 1):
         for place, _, answer in finding.found(line):
             yield [f"{number}:{place + 1} {answer}"]
@@ -204,7 +204,7 @@ def check(program, turn, run, wanted, statuses):
     ended = len(answers) < len(wanted)
     fits = all(got in allowed for got, allowed in zip(answers, wanted))
     lacking = [at for at, (got, allowed) in enumerate(zip(answers, wanted)) if got != allowed[0]]
-    # One request is refused, so one answer at most is another one.
+    # One request is refused, so at most one answer changes.
     if not (whole and fits and len(answers) <= len(wanted) and status == statuses[ended]
             and ended + len(lacking) <= (turn > 0)):
         sys.exit(f"{program}, turn {turn}: status {status}, wrote {written[:2000]!r}")

@@ -160,7 +160,7 @@ def nested(depth, text=""):
     return "[" * depth + text + "]" * depth
 
 
-# Documents of `cvss_audit` with their answers, and whether something is refused or differs.
+# Documents of `cvss_audit` with their answers, and whether something is rejected or differs.
 DOCUMENTS = [
     (b"", "", 0),
     (b'{}\n[]\n1\n"CVSS:3.1/AV:N"', "", 0),
@@ -204,7 +204,7 @@ class Runs:
         self.count = 0
 
     def expect(self, program, given, wanted, arguments=(), **streams):
-        """Compares the status, what is written, and what stands on standard error."""
+        """Compares the status, standard output and standard error."""
         env = dict(os.environ, LD_PRELOAD=self.shim, **{key: str(streams[key]) for key in streams})
         path = ROOT / f"crates/{program}/out/{program}"
         with tempfile.TemporaryFile() as file:

@@ -29,7 +29,7 @@ ENDS = ["", "", "", "", ".", ":", "/", "...", "/.", ":/", "//", "IGH", "/X:Y", "
 
 
 def vector(draw):
-    """A vector, most often accepted; one in four is cut off, and some go on behind it."""
+    """A vector, most often valid; one in four is truncated, and some have more text after them."""
     kind = draw.choice(("base", "full", "any", "refused"))
     text = lines.line(draw, draw.choice(("v2", "v3.0", "v3.1", "v4")), kind)
     if draw.random() < 0.25:

@@ -82,7 +82,7 @@ def audited(data):
 
 
 def places(value, at):
-    """Where vectors stand: an object's own place before those in it, members by their names."""
+    """Where vectors are: an object's own location before those in it, members by their names."""
     if isinstance(value, dict):
         if "vectorString" in value:
             yield at

@@ -51,7 +51,7 @@ def instructions(room, lines):
 
 
 def refuse(room):
-    """Refuses each request of a short run, and of one whose last line is refused."""
+    """Refuses each request of a short run, and of one whose last line is rejected."""
     shim = refused_memory.build(room)
     lacking = (2, "cvss_triage: out of memory\n")
     refused = (1, "cvss_triage: line 31: invalid CVSSv4 AV (Attack Vector) metric: `Q`\n")

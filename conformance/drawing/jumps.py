@@ -32,7 +32,7 @@ def rounded(version, number):
 
 
 def assignments(version, names, without=("X", "ND")):
-    """All values of the metrics, but for those that weigh as another one does by definition."""
+    """All values of the metrics, except those that weigh the same as another by definition."""
     values = ([value for value in METRICS[version][name][1] if value not in without]
               for name in names)
     return [dict(zip(names, chosen)) for chosen in product(*values)]
@@ -47,7 +47,7 @@ def firsts(pairs):
 
 
 def exploit_metrics(version):
-    """The base metrics but for the impacts."""
+    """The base metrics except the impacts."""
     return [name for name in BASE[version] if name not in IMPACTS]
 
 

@@ -106,7 +106,7 @@ class Firefox:
         self.send("WebDriver:PerformActions", {"actions": actions})
 
     def console(self) -> List[str]:
-        """The errors and warnings of pages since this was last asked, those of the policy among them."""
+        """The errors and warnings of pages since the last call, also those of the policy."""
         self.send("Marionette:SetContext", {"value": "chrome"})
         script = """
         const messages = Services.console.getMessageArray().filter((each) => each instanceof Ci.nsIScriptError);
