@@ -1,4 +1,4 @@
-"""How tests in Python report what they skip: the file `skipping` beside this one says it."""
+"""How tests in Python report what they skip, as the file `skipping` does for bash."""
 import functools
 import os
 import shutil

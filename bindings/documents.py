@@ -1,10 +1,10 @@
 #!/usr/bin/env python3
-"""Runs the examples and recipes of docs/BINDINGS.md as they stand there, those of docs/FROM_RUST.md, FROM_PYTHON.md and
-FROM_GO.md, of docs/PROGRAMS.md those of jobs, of README.md the first commands and those of Python and Rust, and of both
-those of the programs. Says where docs/PERFORMANCE.md lacks a figure, and docs/BINDINGS.md a name or a command.
+"""Runs the examples and recipes of docs/BINDINGS.md; the examples of docs/FROM_RUST.md, FROM_PYTHON.md and FROM_GO.md; of
+docs/PROGRAMS.md those for jobs; of README.md the first commands and those of Python and Rust; and of both pages those
+of the programs. Reports if docs/PERFORMANCE.md lacks a figure, or docs/BINDINGS.md a name or a command.
 
 Usage: documents.py ROOT FOLDER. ROOT is the folder of the checkout, in which bindings/build has made the library; files
-are made in FOLDER alone. An example says in comments what it prints. What is not on the machine is skipped.
+are made only in FOLDER. An example says in comments what it prints. What needs a missing tool is skipped.
 """
 import json
 import os
@@ -23,7 +23,7 @@ PAGE = (ROOT / "docs/BINDINGS.md").read_text()
 PROGRAMS = (ROOT / "docs/PROGRAMS.md").read_text()
 PERFORMANCE = (ROOT / "docs/PERFORMANCE.md").read_text()
 FROM = {name: (ROOT / f"docs/FROM_{name}.md").read_text() for name in ("RUST", "PYTHON", "GO")}
-# each accepted, refused and no UTF-8, and ended in each way that the program knows of
+# each valid, rejected and not UTF-8, and ended in each way that the program knows
 EDGES = [
     b"\xff", b"AV:N/AC:L/Au:N/C:N/I:N/A:C/\xe9", b"AV:N\rAC:L", b"\rAV:N", b"AV:N/AC:L/Au:N/C:N/I:N/A:C\r",
     b"AV:N/AC:L/Au:N/C:N/I:N/A:C\r\r", b"", b"\r", b"\r\r", b"a\x0bb", b"a\x0cb", b"a\x1cb", b"a\xc2\x85b",
@@ -199,7 +199,7 @@ def try_first_commands():
 
 
 def try_programs():
-    """The examples of README.md and docs/PROGRAMS.md that stand behind a `$`: each prints what stands below it."""
+    """The examples of README.md and docs/PROGRAMS.md that begin with a `$`: each prints what is below it."""
     programs = {name: ROOT / f"crates/{name}/out" for name in ("cvss_tool", "cvss_find", "cvss_triage", "cvss_audit")}
     environment = {**os.environ, "PATH": ":".join([*map(str, programs.values()), os.environ["PATH"]])}
     pages = ((ROOT / "README.md").read_text(), PROGRAMS)
@@ -234,7 +234,7 @@ def audit_environment():
 
 
 def try_job(environment):
-    """The recipe of a job, with a document that differs, one that is refused and one that is well."""
+    """The recipe of a job, with a document that disagrees, one that is rejected and one that is right."""
     block = block_with("> findings", page=PROGRAMS)
     recipe = block.splitlines()[0].removeprefix("$ ")
     for score, status, wanted in (
@@ -260,7 +260,7 @@ def try_nulls(environment):
 
 
 def try_base_scores(environment):
-    """The recipe that leaves out a score of the base metrics beside a vector of v4.0 that has others."""
+    """The recipe that drops a score of the base metrics next to a v4.0 vector that has others."""
     block = block_with("del(", page=PROGRAMS)
     with_threat = {"vectorString": f"{V4}/E:U/MVC:H", "baseScore": 0.0}
     for record, status in ((with_threat, 0), ({"vectorString": f"{V4}/E:X/R:U/RE:L", "baseScore": 5.0}, 1)):
@@ -280,7 +280,7 @@ def check_figures():
 
 
 def try_removal():
-    """What is installed is taken away by the words of the page, which name what ./install puts there besides."""
+    """The page's commands remove what is installed, also what only ./install puts there."""
     home = FOLDER / "home"
     run(["bindings/install", home / ".local"], cwd=ROOT)
     block = block_with("rm -f")
@@ -305,7 +305,7 @@ def words_of(page, column):
 
 
 def check_names():
-    """The tables for those who come from other packages name what there is, and that from the crate each public name."""
+    """The tables for users of other packages name what exists, and that for the crate each public name."""
     names = (ROOT / "bindings/stored/crate_names").read_text().split()
     missing = [name for name in names if name not in words_of(FROM["RUST"], 1)]
     assert names and not missing, f"docs/FROM_RUST.md has no row for {missing}"
@@ -320,13 +320,13 @@ def check_names():
 
 
 def first_column(heading, page=PAGE):
-    """What stands in the first column of the table below a heading."""
+    """The first column of the table below a heading."""
     section = page.split(f"\n## {heading}\n", 1)[1].split("\n## ", 1)[0]
     return " ".join(row.split("|")[1] for row in section.splitlines() if row.startswith("| "))
 
 
 def check_project():
-    """The page relates the names of this project, and says of each command that installs what it needs."""
+    """The page explains the names of this project, and what each command that installs needs."""
     names = first_column("Names")
     for name in ("Yuntabek", "`cvss`", "`cvss_proved`", "`libcvss`", "`cvss.so`", "`share/yuntabek`"):
         assert name in names, f"the table of names has no {name}"
@@ -375,7 +375,7 @@ def main():
     answers = write_list()
     try_dask(answers)
     try_parallel(answers)
-    print("Documents: the examples print what they tell")
+    print("Documents: the examples print what they say")
 
 
 if __name__ == "__main__":

@@ -1,6 +1,6 @@
-"""Kinds of refusal, as the column `kind` of refused.tsv has them, told from the library's words."""
+"""Kinds of error, as the column `kind` of refused.tsv has them, from the library's messages."""
 
-# A word that a reason has at its beginning, and what kind of refusal it tells.
+# The first word of a reason, and the kind of error that it means.
 KINDS = (
     ("not UTF-8", "encoding"),
     ("invalid CVSS metric group component:", "component"),
@@ -14,5 +14,5 @@ KINDS = (
 
 
 def kind_of(reason):
-    """The kind of the refusal that a reason tells; `other` where the table has none."""
+    """The kind of error of a reason; `other` if the table has none."""
     return next((kind for words, kind in KINDS if reason.startswith(words)), "other")

@@ -1,13 +1,13 @@
 #!/usr/bin/env python3
-"""Draws the kit anew: scores.tsv and refused.tsv, always the same bytes.
+"""Makes the kit: scores.tsv and refused.tsv, always the same bytes.
 
-Every answer comes from reference/reference.py, which computes on fractions. This file also holds a
-simulation of calculators that compute in doubles: it finds the rows at which they go astray, and
+Every answer comes from reference/reference.py, which computes on fractions. This file also has a
+simulation of calculators that compute in doubles: it finds the rows at which they go wrong, and
 gives no answer.
 
 usage: make.py [FOLDER]
 
-Writes the two files into the folder, by default into the one where this program stands.
+Writes the two files into the folder, by default into the folder of this script.
 """
 import sys
 from fractions import Fraction

@@ -1,13 +1,12 @@
 #!/usr/bin/env python3
-"""Gives the texts of the kit to a command, one a line, and compares what it answers, line by line.
+"""Gives the texts of the kit to a command, one per line, and compares its answers, line by line.
 
-The command answers each text by one line of the columns that it has, with blanks or tabs between
-them, or by a line that begins with `error` where it refuses the text. The columns are named by
---columns, in the order in which the command writes them: canonical, version, score, temporal,
-environmental, nomenclature, rating, temporal_rating, environmental_rating, complete; and kind, the
-word that follows `error: `.
+The command answers each text by one line with its columns, separated by spaces or tabs, or by a line
+that begins with `error` if it rejects the text. The columns are named by --columns, in the order in
+which the command writes them: canonical, version, score, temporal, environmental, nomenclature, rating,
+temporal_rating, environmental_rating, complete; and kind, the word after `error: `.
 
-Status: 0 if each row is right, 1 if some are wrong, 2 if the command could not be tried to its end.
+Status: 0 if each row is right, 1 if some are wrong, 2 if the command could not be run to the end.
 """
 import argparse
 import subprocess
@@ -29,7 +28,7 @@ class Unfit(Exception):
 
 
 def text_of(column):
-    """The bytes of a text as it stands in a file, with `\\xHH` for a byte."""
+    """The bytes of a text as it is in a file, with `\\xHH` for a byte."""
     head, *escaped = column.split("\\x")
     return head.encode() + b"".join(bytes.fromhex(part[:2]) + part[2:].encode() for part in escaped)
 
@@ -40,7 +39,7 @@ def read_table(path):
 
 
 def version_told(row):
-    """The version of a row, of a refused text by what its bytes begin with."""
+    """The version of a row, for a rejected text by its first bytes."""
     told = row["text"][5:8] if row["text"].startswith("CVSS:") else ""
     return row.get("version") or (told if told in ("3.0", "3.1", "4.0") else "2.0")
 
@@ -116,7 +115,7 @@ class Progress:
 
 
 def answers(words, rows):
-    """The lines that the command answers, one for each row; a fault if there are fewer or more."""
+    """The lines that the command answers, one for each row; an error if there are fewer or more."""
     try:
         command = subprocess.Popen(words, stdin=subprocess.PIPE, stdout=subprocess.PIPE)
     except OSError as error:

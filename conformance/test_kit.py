@@ -1,5 +1,5 @@
 #!/usr/bin/env python3
-"""Tests of the kit: the files are those that make.py draws, and run.py tells right from wrong."""
+"""Tests of the kit: the files are those that make.py makes, and run.py finds wrong answers."""
 import os
 import subprocess
 import sys
@@ -16,7 +16,7 @@ import run
 HERE = Path(__file__).resolve().parent
 SCORE = "CVSS:3.1/AV:N/AC:L/PR:N/UI:N/S:U/C:H/I:H/A:H"
 V2 = "AV:N/AC:L/Au:N/C:N/I:N/A:C"
-# Answers 9.8 to the first text and 7.8 to the second, and refuses the third.
+# Answers 9.8 to the first text and 7.8 to the second, and rejects the third.
 RIGHT = ["9.8", "7.8 ", "error: value"]
 
 

@@ -1,8 +1,8 @@
 #!/usr/bin/env python3
-"""Checks the numbers in the documents that count what stands in this repository: tests, stored lines, wrong edits,
+"""Checks the numbers in the documents that count what is in this repository: tests, stored lines, must-fail edits,
 functions for C, and the rows of the conformance kit.
 
-usage: docs/check_counts.py    tells each number that is another one; status 1 if there are some
+usage: docs/check_counts.py    prints each wrong number; status 1 if there are some
 """
 import re
 import sys
@@ -37,27 +37,27 @@ def counts():
     yield "CONTRIBUTING.md", r"Few are kept, (\S+) in (\S+) crates", [len(edits), len(set(edits))]
     yield "docs/ARCHITECTURE.md", r"these (\S+) functions as a static library", [functions]
     yield "docs/BINDINGS.md", r"a static library of (\S+) functions", [functions]
-    yield ("docs/BINDINGS.md", r"each of the (\S+) stored lines .* of (\S+) texts, .* the accounts of (\S+) vectors",
+    yield ("docs/BINDINGS.md", r"(?s)each of the (\S+) stored lines .* each of (\S+) texts .* explanations of (\S+) vectors",
            [lines(f"bindings/stored/{name}") for name in ("facts", "texts", "accounts")])
     yield "conformance/README.md", r"^(\S+) texts with exact answers", [sum(rows for rows, _ in kit.values())]
     for name, counted in kit.items():
         yield "conformance/README.md", rf"^\| `{name}` \| (\S+) \| (\S+) \|", list(counted)
 
 
-def number(told):
-    if told in TENS or told in WORDS:
-        return TENS.get(told) or WORDS.index(told)
-    return int(told.replace(",", ""))
+def number(text):
+    if text in TENS or text in WORDS:
+        return TENS.get(text) or WORDS.index(text)
+    return int(text.replace(",", ""))
 
 
 def main():
     wrong = []
     for name, sentence, expected in counts():
-        told = re.search(sentence, (ROOT / name).read_text(encoding="utf-8"), re.M)
-        if told is None:
+        match = re.search(sentence, (ROOT / name).read_text(encoding="utf-8"), re.M)
+        if match is None:
             wrong.append(f"{name} has no sentence like `{sentence}`")
-        elif [number(each) for each in told.groups()] != expected:
-            wrong.append(f"{name}: `{told[0][:100]}`, and there are {', '.join(f'{each:,}' for each in expected)}")
+        elif [number(each) for each in match.groups()] != expected:
+            wrong.append(f"{name}: `{match[0][:100]}`, and there are {', '.join(f'{each:,}' for each in expected)}")
     sys.exit("\n".join(wrong) or None)
 
 

@@ -1,13 +1,14 @@
 #!/usr/bin/env python3
-"""Checks that each file and each page of definitions that a document names is there, and that docs/DEFINITIONS.md
-names each page right in `specs/` of a crate that public promises stand in; and that docs/OTHER_REPOSITORIES.md links
-exactly the crates that `cvss` stands on.
+"""Checks the names in the documents: that each file and each page of definitions that they name exists; that
+docs/DEFINITIONS.md names each page directly in `specs/` of a crate that makes public promises; that
+docs/OTHER_REPOSITORIES.md links exactly the crates that `cvss` uses; and that docs/ARCHITECTURE.md has a row for each
+crate, after the rows of the crates that it uses.
 
-A name is a link, with the section that is named behind it; a path that begins with a folder of the repository; a file
-name in back ticks; or pages behind their crate, such as: `cvss_lines` specs/Runs, Lines. Words in capitals stand for
-any name.
+A name is a link, with the section that follows it in quotation marks; a path that begins with a folder of the
+repository; a file name in back ticks; or pages after their crate, such as: `cvss_lines` specs/Runs, Lines. Words in
+capitals match any name.
 
-usage: docs/check_names.py    tells each name that is wrong; status 1 if there are some
+usage: docs/check_names.py    prints each wrong name; status 1 if there are some
 """
 import os
 import re
@@ -22,7 +23,7 @@ DOCUMENTS = [*(ROOT / f"{name}.md" for name in ("README", "CONTRIBUTING", "SECUR
              ROOT / "bindings/js/README.md"]
 # not in a checkout: what builds make, and the crate that another repository is shown to add
 ELSEWHERE = re.compile(r"(^|/)(out|target)(/|$)|^crates/gate(/|$)")
-# callers that are proved from the contracts, and tests, of which the library promises nothing
+# proved callers and tests, of which the library promises nothing
 WITHOUT_PROMISES = {"cvss_examples", "cvss_tests"}
 
 LINK = re.compile(r"\]\((?!https?:|#)([^)#]+)")
@@ -32,14 +33,14 @@ FILE = re.compile(r"`((?:[\w*.-]+/)*[\w*-]+\.(?:antt|rt|py|sh|md|svg|txt|tsv|rs|
 PAGE = r"(?:(?:laws|private|v[234])/)?[A-Z]\w*"
 PAGES = rf"({PAGE}(?:\.antt)?(?:(?:,| and) {PAGE})*)"
 CRATES = r"((?:`cvss\w*`(?:, | and )?)+)"
-BEHIND_CRATE = re.compile(rf"{CRATES}[:,]? `?specs/{PAGES}")
+AFTER_CRATE = re.compile(rf"{CRATES}[:,]? `?specs/{PAGES}")
 BEFORE_CRATE = re.compile(rf"specs/{PAGES}`? (?:of|in) {CRATES}")
 IN_TABLE = re.compile(rf"{CRATES} {PAGES}")
 
 
 def pages_in(text):
     """The pages that a text names, each as its crate and its name."""
-    named = BEHIND_CRATE.findall(text) + [pair[::-1] for pair in BEFORE_CRATE.findall(text)]
+    named = AFTER_CRATE.findall(text) + [pair[::-1] for pair in BEFORE_CRATE.findall(text)]
     for row in text.splitlines():
         if row.startswith("| ") and row.count(" | ") == 2:
             named += IN_TABLE.findall(row.rsplit(" | ", 1)[1])
@@ -49,7 +50,7 @@ def pages_in(text):
 
 
 def wrong_names(path, files):
-    """The names in a document of what is not there."""
+    """The names in a document of what does not exist."""
     text = path.read_text(encoding="utf-8")
     yield from (name for name in LINK.findall(text) if not (path.parent / name).exists())
     for name, section in SECTION.findall(text):
@@ -65,14 +66,34 @@ def wrong_names(path, files):
             yield f"{crate} specs/{page}"
 
 
-def wrong_links():
-    """The crates that another repository is told to link, and need not, or is not told to."""
+def uses():
+    """Each crate of crates.txt with those of them that it uses."""
     rows = [row.split(":") for row in (ROOT / "crates.txt").read_text(encoding="utf-8").splitlines() if row[:1] != "#"]
-    below = {name.split()[0]: {*crates.split()} for name, crates in rows}
+    named = {name.split()[0]: {*crates.split()} for name, crates in rows}
+    return {crate: used & named.keys() for crate, used in named.items()}
+
+
+def wrong_rows():
+    """The crates that docs/ARCHITECTURE.md lacks, or has in a row above a crate that they use."""
+    text = (ROOT / "docs/ARCHITECTURE.md").read_text(encoding="utf-8").split("\n## The crates\n")[1].split("\n## ")[0]
+    cells = [row.split("|")[1] for row in text.splitlines() if row.startswith("| `")]
+    place = {crate: index for index, cell in enumerate(cells) for crate in re.findall(r"`(\w+)`", cell)}
+    for crate, used in uses().items():
+        if crate not in place:
+            yield f"ARCHITECTURE.md has no row for {crate}"
+        else:
+            yield from (f"ARCHITECTURE.md has {crate} above {other}, which it uses" for other in sorted(used)
+                        if place[crate] < place.get(other, 0))
+    yield from (f"ARCHITECTURE.md: there is no crate {crate}" for crate in sorted(place.keys() - uses().keys()))
+
+
+def wrong_links():
+    """The crates that docs/OTHER_REPOSITORIES.md links without need, or does not link."""
+    below = uses()
     needed, found = {"cvss"}, set()
     while needed != found:
         found = needed
-        needed = found.union(*(below[crate] & below.keys() for crate in found))
+        needed = found.union(*(below[crate] for crate in found))
     text = (ROOT / "docs/OTHER_REPOSITORIES.md").read_text(encoding="utf-8")
     linked = {*re.search(r"^for crate in (.*)$", text, re.M)[1].split()}
     yield from (f"OTHER_REPOSITORIES.md: {crate} is to be linked" for crate in sorted(needed - linked))
@@ -84,12 +105,12 @@ def main():
     files = "\n".join(os.path.join(folder, name) for folder, _, names in folders for name in names)
     wrong = [f"{path.name}: {name} is not there" for path in DOCUMENTS for name in wrong_names(path, files)]
     text = (ROOT / "docs/DEFINITIONS.md").read_text(encoding="utf-8")
-    told = {*pages_in(text), *re.findall(r"crates/(\w+)/specs/((?:v\d/)?\w+)\.antt", text)}
+    listed = {*pages_in(text), *re.findall(r"crates/(\w+)/specs/((?:v\d/)?\w+)\.antt", text)}
     for path in pages():
         crate, page = re.search(r"crates/(\w+)/specs/(.*)\.antt$", str(path)).groups()
-        if page != "Lib" and crate not in WITHOUT_PROMISES and (crate, page) not in told:
+        if page != "Lib" and crate not in WITHOUT_PROMISES and (crate, page) not in listed:
             wrong.append(f"DEFINITIONS.md does not name {crate} specs/{page}")
-    sys.exit("\n".join([*wrong, *wrong_links()]) or None)
+    sys.exit("\n".join([*wrong, *wrong_rows(), *wrong_links()]) or None)
 
 
 if __name__ == "__main__":

@@ -1,20 +1,20 @@
 #!/usr/bin/env python3
-"""Checks two lists that go stale by themselves.
+"""Checks two lists that become out of date.
 
-Each public type that derives PartialEq or Clone has a law of it: that two values are equal exactly if they are one, or
-tell the same, and that a clone is that value; and of one that is Copy, that no clone is refused. A law is a clause of a
-module `laws` that names the type's impl, or the law of the trait `Spelled`.
+Each public type that derives PartialEq or Clone has a law for it: two values are equal exactly if they are the same or
+report the same, and a clone is that value; and if the type is Copy, that a clone needs no memory. A law is a clause of
+a module `laws` that names the type's impl, or the law of the trait `Spelled`.
 
-docs/CONTRACTS.md lists exactly the public calls that ask for something, by the last part of their names.
+docs/CONTRACTS.md lists exactly the public calls with preconditions, by the last part of their names.
 
-usage: docs/check_promises.py    tells each type that lacks a law and each call; status 1 if there are some
+usage: docs/check_promises.py    prints each type without a law and each wrong call; status 1 if there are some
 """
 import re
 import sys
 
 from check_shelves import ROOT, WITHOUT_PROMISES, signatures, sources
 
-# effective values and classes of v4, which have a path for a test alone; an account of them is public
+# effective values and classes of v4, which have a path only for a test; an explanation of them is public
 SCORING = "cvss_score/src/v4/scoring"
 
 DERIVED = re.compile(r"^#\[derive\(([^)]*)\)\]\n(?:#\[[^\n]*\n)*pub (?:struct|enum) (\w+)", re.M)
@@ -28,13 +28,13 @@ def crates():
 
 
 def laws_for(path):
-    """Which words of which types the laws cite that stand in the crate of a file, or there beside it."""
+    """Which words of which types the laws in the crate of a file cite."""
     above = [folder / "laws.rt" for folder in path.parents if "src" in folder.parts]
     return {law for laws in above if laws.exists() for law in LAW.findall(laws.read_text(encoding="utf-8"))}
 
 
 def without_law():
-    """Each public type of which a law is lacking."""
+    """Each public type without a law."""
     for crate in [*crates(), "cvss_bytes"]:
         files, exported = sources(crate)
         for path, is_public, text in files:
@@ -49,7 +49,7 @@ def without_law():
 
 
 def asking():
-    """The public calls that ask for something."""
+    """The public calls with preconditions."""
     for crate in crates():
         files, exported = sources(crate)
         for _, is_public, text in files:
@@ -59,7 +59,7 @@ def asking():
 
 
 def listed():
-    """The calls that docs/CONTRACTS.md lists as asking for something."""
+    """The calls that docs/CONTRACTS.md lists with preconditions."""
     text = (ROOT / "docs" / "CONTRACTS.md").read_text(encoding="utf-8")
     rows = re.findall(r"^\| (`.*) \| ", text.split("## What calls ask for")[1].split("## ")[0], re.M)
     return {call.split("::")[-1] for row in rows for call in re.findall(r"`([\w:]+)`", row)} - {*crates()}
@@ -67,8 +67,8 @@ def listed():
 
 def main():
     wrong = list(without_law())
-    wrong += [f"CONTRACTS.md does not say what {call} asks for" for call in sorted({*asking()} - listed())]
-    wrong += [f"CONTRACTS.md says that {call} asks for something" for call in sorted(listed() - {*asking()})]
+    wrong += [f"CONTRACTS.md does not list the preconditions of {call}" for call in sorted({*asking()} - listed())]
+    wrong += [f"CONTRACTS.md lists {call}, which has no precondition" for call in sorted(listed() - {*asking()})]
     sys.exit("\n".join(wrong) or None)
 
 

@@ -1,17 +1,18 @@
 #!/usr/bin/env python3
-"""Checks on which shelf the words of public clauses stand: those of a public call or trait right in `specs/`, and those of
-a law (the module `laws` of a crate, and `cvss_laws`) there or in `specs/laws/`. No page right in `specs/` stands on another shelf.
+"""Checks the level of the words in public clauses. Those of a public call or trait are directly in `specs/`, and those of
+a law (the module `laws` of a crate, and `cvss_laws`) there or in `specs/laws/`. No page directly in `specs/` uses
+another level.
 
-Public is a call or trait that a public module has or that a `pub use` names, and a method of such a type.
+Public is a call or trait in a public module or named by a `pub use`, and a method of such a type.
 
-usage: docs/check_shelves.py    tells each clause that cites another shelf; status 1 if there are some
+usage: docs/check_shelves.py    prints each clause that cites another level; status 1 if there are some
 """
 import re
 import sys
 from pathlib import Path
 
 ROOT = Path(__file__).resolve().parent.parent
-# parts of versions and of the calls for C, which have no path in `cvss`, and callers that are proved from laws too
+# parts of versions and of the C functions, which have no path in `cvss`, and callers that are proved from laws too
 WITHOUT_PROMISES = {"cvss_text", "cvss_bytes", "cvss_examples"}
 # such parts in crates whose other modules have one
 PARTS = {ROOT / "crates/cvss_base/src/component.rt", ROOT / "crates/cvss_v4/src/overrides.rt"}
@@ -26,7 +27,7 @@ METHOD = re.compile(r"^    (?:pub |final )?fn \w+.*?(?=^    [{}]|;$|{$)|^    gho
 
 
 def aliases():
-    """Which page each page stands for that a crate gives again under a name of its own."""
+    """Which page each page is that a crate re-exports under its own name."""
     given = {}
     for path in ROOT.glob("crates/*/specs/*.antt"):
         folder = f"{path.parts[-3]}.specs" + ("" if path.stem == "Lib" else f".{path.stem}")
@@ -36,13 +37,13 @@ def aliases():
 
 
 def pages():
-    """The pages right in `specs/`, or in the folder of a version there, which in `cvss_laws` is one of laws."""
+    """The pages directly in `specs/`, or in the folder of a version there, which in `cvss_laws` has laws."""
     return sorted([*ROOT.glob("crates/*/specs/[A-Z]*.antt"),
                    *(page for page in ROOT.glob("crates/*/specs/v?/[A-Z]*.antt") if "cvss_laws" not in page.parts)])
 
 
 def words(text, given):
-    """The words that a file takes from the shelves of laws and of private code, each with its page."""
+    """The words that a file takes from the levels of laws and of private code, each with its page."""
     for page, names, alias in USE.findall(text):
         page = given.get(page, page)
         if OTHER_SHELF.search(page):
@@ -100,7 +101,7 @@ def signatures(text, is_public, exported):
 
 
 def wrong_clauses():
-    """Each public clause that cites a word of another shelf."""
+    """Each public clause that cites a word of another level."""
     given = aliases()
     for crate in sorted(path.name for path in (ROOT / "crates").iterdir()):
         if crate in WITHOUT_PROMISES:
@@ -116,7 +117,7 @@ def wrong_clauses():
     for path in pages():
         if path.stem != "Lib":
             for word, page in words(path.read_text(encoding="utf-8"), given):
-                yield f"{path.relative_to(ROOT)} stands on {page}"
+                yield f"{path.relative_to(ROOT)} uses {page}"
 
 
 if __name__ == "__main__":

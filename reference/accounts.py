@@ -1,11 +1,11 @@
 #!/usr/bin/env python3
-"""Writes an account of the score of each line, on fractions, by the equations and tables in v2.py,
+"""Writes how the score of each line is computed, on fractions, by the equations and tables in v2.py,
 v3.py and v4.py.
 
-Reads lines on standard input and writes a JSON object for each on standard output: the numbers on
-the way to the score of a vector, or why the line is refused. A number with more than seven decimals
-is rounded to so many, halves up. It shares no code with the crates: its answers are expected values
-for them.
+Reads lines on standard input and writes a JSON object for each on standard output: the numbers from
+which the score of a vector is computed, or why the line is rejected. A number with more than seven
+decimals is rounded to seven, halves up. It shares no code with the crates: its answers are expected
+values for them.
 
 usage: reference/accounts.py < LINES
 """
@@ -146,7 +146,7 @@ def account(text):
 
 
 def answer(number, line):
-    """What is told of a line, its decimals exact."""
+    """The explanation of a line, with exact decimals."""
     try:
         return {"line": number, **account(reference.text_of(line))}
     except reference.Refused as reason:
@@ -155,7 +155,7 @@ def answer(number, line):
 
 
 def is_exact(told):
-    """Whether no decimal that is told has more than seven places, so that each is the number itself."""
+    """Whether no decimal has more than seven places, so that each is the number itself."""
     if isinstance(told, dict):
         return all(map(is_exact, told.values()))
     if isinstance(told, list):

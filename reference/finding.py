@@ -1,9 +1,9 @@
 #!/usr/bin/env python3
-"""Finds the vectors in lines of any text, on the implementation in reference.py.
+"""Finds the vectors in lines of any text, with the implementation in reference.py.
 
-Reads lines on standard input, and writes on standard output for each mention that is found the
-line's number, the place of its first byte, both from 1, and what is answered to it. It shares no
-code with the crates: its answers are expected values for them.
+Reads lines on standard input, and writes on standard output for each match the line's number, its
+column in bytes, both from 1, and the answer to it. It shares no code with the crates: its answers are
+expected values for them.
 
 usage: reference/finding.py < TEXT
 """
@@ -17,7 +17,7 @@ FRONT = re.compile(rb"(?=CVSS:)")
 
 
 def mentions(text):
-    """The place and the bytes of each mention, whether it is found or not.
+    """The offset and the bytes of each candidate, whether it is found or not.
 
     Each run of letters, digits, colons, slashes and full stops is cut before each `CVSS:`; what is
     left of a part without the colons, slashes and full stops at its end is a mention.
@@ -30,7 +30,7 @@ def mentions(text):
 
 
 def found(text):
-    """The place, the bytes and the answer of each mention that is accepted or was meant as a
+    """The offset, the bytes and the answer of each candidate that is valid or was meant as a
     vector."""
     for place, mention in mentions(text):
         answer = reference.answer(mention)

@@ -1,8 +1,8 @@
 #!/usr/bin/env python3
-"""Writes the least and the greatest score of all completions of each vector that may lack base
-metrics, on fractions, and how many completions it has. A complete vector is its own completion.
+"""Writes the lowest and the highest score of all completions of each vector that may lack base metrics,
+on fractions, and how many completions it has. A complete vector is its own completion.
 
-The score is the one that counts all defined metrics: of v4.0 the score; of v2 and v3 the
+The score is the one that counts all defined metrics: for v4.0 the score; for v2 and v3 the
 environmental score if an environmental metric is defined, else the temporal score if a temporal
 metric is, else the base score. Reads lines on standard input, and writes `LEAST GREATEST COUNT` for
 each, in tenths. It shares no code with the crates: its answers are expected values for them.
@@ -21,7 +21,7 @@ TEMPORAL = ("E", "RL", "RC")
 
 
 def kind(vector, base):
-    """The place of the score that counts among the base, temporal and environmental score."""
+    """The index of the score that counts among the base, temporal and environmental score."""
     defined = {name for name, value in vector.items() if name not in base and value not in ("X", "ND")}
     return 2 if defined - set(TEMPORAL) else 1 if defined else 0
 

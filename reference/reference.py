@@ -1,6 +1,6 @@
 #!/usr/bin/env python3
-"""A second implementation of the lines of all versions, on fractions, written from the public
-standards alone.
+"""A second implementation for lines of all versions, on fractions, written from the public standards
+alone.
 
 Reads lines on standard input and writes the answer to each on standard output. It shares no code
 with the crates: its answers are expected values for them.
@@ -12,12 +12,12 @@ import v3
 import v4
 
 
-# The kinds of refusal, in the order of the numbers that the C header gives them, from 1.
+# The kinds of error, in the order of the numbers that the C header gives them, from 1.
 KINDS = ("component", "prefix", "version", "name", "value", "repeat", "missing", "encoding")
 
 
 class Refused(Exception):
-    """The first reason why a text is refused, its kind, the metric that it blames, if it does, and the
+    """The first reason why a text is rejected, its kind, the metric that it names, if any, and the
     part of the text that it quotes, if it does."""
 
     def __init__(self, kind, reason, metric=None, part=""):
@@ -39,13 +39,13 @@ def spelled(metrics, name, value, any_case):
 
 
 def read_component(version, metrics, vector, piece, any_case=True):
-    """Adds a component to the vector of those before it, or gives the reason why it is refused."""
+    """Adds a component to the vector of those before it, or returns the reason why it is rejected."""
     name, value = (raised(piece) if any_case else piece).split(":")
     if name not in metrics:
         raise Refused("name", f"unknown CVSS metric name: `{name}`", part=name)
     spelling = spelled(metrics, name, value, any_case)
     if spelling is None:
-        # A modified metric of v3 is told by the name of its base metric.
+        # A modified metric of v3 is reported by the name of its base metric.
         blamed = name.removeprefix("M") if version == "v3" else name
         words = f"invalid CVSS{version} {blamed} ({metrics[blamed][0]}) metric: `{value}`"
         raise Refused("value", words, blamed, value)
@@ -64,7 +64,7 @@ def find_missing(version, metrics, mandatory, vector):
 
 
 def read_components(version, metrics, mandatory, pieces, any_case=True):
-    """The vector of the components, or the first reason why they are refused."""
+    """The vector of the components, or the first reason why they are rejected."""
     vector = {}
     for piece in pieces:
         read_component(version, metrics, vector, piece, any_case)
@@ -89,7 +89,7 @@ def canonical(front, metrics, vector):
 
 
 def version_told(pieces, versions):
-    """The version that the first piece tells, which has to be one of these."""
+    """The version in the first segment, which has to be one of these."""
     prefix, version = pieces[0].split(":", 1)
     if prefix != "CVSS":
         raise Refused("prefix", f"invalid CVSS string prefix: `{prefix}`", part=prefix)
@@ -99,7 +99,7 @@ def version_told(pieces, versions):
 
 
 def read_v2(text):
-    """The canonical text, the score in tenths and the severity, or the reason of a refusal."""
+    """The canonical text, the score in tenths and the severity, or the reason of a rejection."""
     vector = read_components("v2", v2.METRICS, v2.MANDATORY, cut(text), any_case=False)
     score = v2.scores(vector)[0]
     return canonical([], v2.METRICS, vector), score, v2.severity(score)
@@ -124,7 +124,7 @@ def read_v4(text):
 
 
 def read(text):
-    """The same of the version that the text tells, which is v2 where it tells none."""
+    """The same for the version in the text, which is v2 if it has none."""
     pieces = text.split("/")
     if len(pieces) == 1 or ":" not in pieces[0]:
         raise no_component(pieces[0])

@@ -1,13 +1,13 @@
 #!/usr/bin/env python3
-"""A second implementation of what is asked of single metrics, written from the public standards alone.
+"""A second implementation of calls on single metrics, written from the public standards alone.
 
-Reads lines on standard input, a mark, a blank and what the mark is about, and writes the answer to each:
+Reads lines on standard input, a mark, a space and its arguments, and writes the answer to each:
 
     with TEXT METRICS       the vector with these metrics set, and why they are not
-    build VERSION METRICS   the vector of a version (20, 30, 31, 40) that these metrics make, and why they make none
+    build VERSION METRICS   the vector of a version (20, 30, 31, 40) with these metrics, and why there is none
     groups TEXT             the scores of a v4.0 vector by nomenclature in tenths: CVSS-B, BE, BT and BTE
-    rating VERSION TENTHS   the rating of so many tenths by the bounds of a version
-    value TEXT              the part of a refused text that the reason quotes
+    rating VERSION TENTHS   the rating of a number of tenths by the bounds of a version
+    value TEXT              the part of a rejected text that the reason quotes
 
 `-` is an empty answer.
 """
@@ -39,7 +39,7 @@ def read(text):
 
 
 def given(version, pieces):
-    """The values of the components, or the first that is refused, with its index."""
+    """The values of the components, or the first that is rejected, with its index."""
     name, _, metrics, _, any_case = VERSIONS[version]
     values = {}
     for index, piece in enumerate(pieces):
@@ -97,7 +97,7 @@ def both(call, *asked):
 
 
 def part(text):
-    """What the reason quotes for which a text is refused."""
+    """What the reason quotes for which a text is rejected."""
     try:
         reference.read(reference.text_of(text))
     except Refused as reason:

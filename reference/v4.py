@@ -155,7 +155,7 @@ def macro_vector(own):
     return eq1, eq2, eq3, eq4, "APU".index(own["E"]), eq6
 
 
-# Where in the macro vector the classes of a group stand; the last group has E alone.
+# Where the classes of a group are in the MacroVector; the last group has E alone.
 PLACES = {access: [0], complexity: [1], vulnerable: [5, 2], subsequent: [3], None: [4]}
 
 
@@ -201,7 +201,7 @@ def score(vector):
 
 
 def nomenclature(vector):
-    """Which groups the vector has beside the base metrics, also as X: threat, environmental."""
+    """Which groups the vector has in addition to the base metrics, also as X: threat, environmental."""
     threat = "T" if "E" in vector else ""
     environmental = "E" if any(is_environmental(name) for name in vector) else ""
     return "CVSS-B" + threat + environmental

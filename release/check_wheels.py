@@ -1,6 +1,6 @@
 #!/usr/bin/env python3
-"""Checks that the library in each wheel is what the wheel's name says: of that processor, in need of no other library than
-the C library, and there of no symbol that manylinux2014 lacks (glibc 2.17, PEP 599).
+"""Checks that the library in each wheel is what the wheel's name says: for that processor, needing no library other than
+the C library, and of that no symbol that manylinux2014 lacks (glibc 2.17, PEP 599).
 
 usage: release/check_wheels.py WHEEL..
 """

@@ -1,10 +1,10 @@
 #!/usr/bin/env python3
-"""Compares release files that were made anew with those of dist/.
+"""Compares release files that were made again with those of dist/.
 
-They are to be the same bytes. Where other tools made those of dist/ (their file BUILT_WITH says which), what is compiled
-may differ, and nothing else: then a line says so.
+They should be the same bytes. If other tools made those of dist/ (their file BUILT_WITH says which), compiled files may
+differ, and nothing else: then a line says so.
 
-usage: release/compare.py MADE DIST    prints what differs and how dist/ is refreshed; status 1 if something does
+usage: release/compare.py MADE DIST    prints what differs and how to refresh dist/; status 1 if something does
 """
 import sys
 import tarfile
@@ -13,7 +13,7 @@ from pathlib import Path
 
 KEPT = (".tar.xz", ".whl", ".tgz", ".html", ".wasm", "SHA256SUMS", "BUILT_WITH")
 LARGEST = 2 * 1024 * 1024
-# What the tools make, and the sums that stand on it.
+# What the tools make, and the sums that depend on it.
 COMPILED = ("/bin/", ".so.1", ".so", ".a", ".wasm", ".html", "/RECORD", "SHA256SUMS", "BUILT_WITH")
 
 

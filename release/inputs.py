@@ -1,6 +1,6 @@
 #!/usr/bin/env python3
-"""Prints for the library and each program the SHA-256 of what its code for ARM64 is built of: the sources of its crate and
-of all crates below it, the functions in C, and the tools. Comments count, specifications and proofs do not.
+"""Prints for the library and each program the SHA-256 of the inputs of its ARM64 code: the sources of its crate and of all
+crates below it, the functions in C, and the tools. Comments count, specifications and proofs do not.
 
 usage: release/inputs.py
 """

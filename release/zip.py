@@ -1,5 +1,5 @@
 #!/usr/bin/env python3
-"""Makes a zip file of the files below a folder, the same bytes whenever it is made.
+"""Makes a zip file of the files below a folder, with the same bytes each time.
 
 usage: release/zip.py FILE ROOT FOLDER    the names in it begin with FOLDER, a path below ROOT
 """

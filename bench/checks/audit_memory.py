@@ -1,10 +1,10 @@
 #!/usr/bin/env python3
-"""Checks what memory the built `cvss_audit` takes of a line, beside that of the JSON reader: at most 20
-bytes for each byte of the line, however many places stand in it, however long their pointers are, and
-whatever the members say that differ from their vectors.
+"""Checks how much memory the built `cvss_audit` takes in addition to the JSON reader: at most 20 bytes for
+each byte of the line, however many vectors are in it, however long their pointers are, and whatever the
+members that disagree say.
 
-What the reader takes is seen by a line of the same bytes in which no vector is found. The answers are
-looked at too: one line for each place, with the pointer that leads to it, in order.
+The memory of the reader is measured on a line of the same bytes without a vector. The answers are
+checked too: one line for each location, with its pointer, in order.
 
 usage: bench/checks/audit_memory.py
 """
@@ -27,7 +27,7 @@ START = 1 << 20
 LAST = '{"vectorString":"AV:N/AC:L/Au:N/C:N/I:N/A:C"}\n'
 COUNT = 2_000
 
-# Each kind of document, and the pointer to the place of this number.
+# Each kind of document, and the pointer to the location with this number.
 KINDS = [(("names", letters, COUNT), lambda k, letters=letters: f"/{'n' * letters}/{k}")
          for letters in (10, 1_000, 10_000, 100_000)]
 KINDS.append((("deep", 20 * COUNT), lambda k: "/a" * 118 + f"/{k}"))
@@ -37,9 +37,9 @@ KINDS.append((("said", 100_000), lambda k: ""))
 KINDS.append((("numbers", 400_000), lambda k: ""))
 KINDS.append((("text", 2_000_000), lambda k: ""))
 KINDS.append((("empty", 4 * COUNT), None))
-# How many places stand in those whose last number is another one.
+# How many locations are in those whose last number is not their count.
 PLACES = {"nested": 1, "said": 1, "numbers": 1, "text": 1, "empty": 0}
-# In which of them something is refused or differs.
+# In which of them something is rejected or differs.
 REFUSED = ("said", "numbers", "text")
 
 
@@ -64,7 +64,7 @@ def feed(pipe, data):
 
 
 def check_places(kind, count, pointer, answers):
-    """One answer for each place, in order."""
+    """One answer for each location, in order."""
     number = 0
     for answer in answers:
         if pointer is not None and not answer.startswith(b'{"at":"%s",' % pointer(number).encode()):

@@ -1,9 +1,9 @@
 #!/usr/bin/env python3
-"""Compares the accounts that the built `cvss_why` writes with accounts.py.
+"""Compares the explanations that the built `cvss_why` writes with accounts.py.
 
-The lines are drawn: vectors that have each metric, vectors in any order and case, and refused ones;
-with `whole` also all vectors of base metrics alone, of each version. A number of an account has at
-most seven decimals and is the exact one where that has no more, else less than 10^-6 away from it.
+The lines are random: vectors with each metric, vectors in any order and case, and rejected ones; with
+`whole` also all vectors with base metrics alone, of each version. A number has at most seven decimals
+and is exact if the exact number has no more; otherwise it is less than 10^-6 from it.
 
 usage: bench/checks/compare_accounts.py [whole] [COUNT [SEED]]
 """
@@ -31,7 +31,7 @@ def has_seven_decimals(number):
 
 
 def is_number(told, exact):
-    """Whether a number that is told stands for the exact one."""
+    """Whether a printed number is close enough to the exact one."""
     if isinstance(told, bool) or not isinstance(told, (int, Fraction)):
         return False
     if not has_seven_decimals(told):
@@ -40,7 +40,7 @@ def is_number(told, exact):
 
 
 def difference(told, expected, at=""):
-    """Where what is told differs from what is expected, and how, if it does."""
+    """Where the output differs from what is expected, and how, if it does."""
     if isinstance(expected, dict):
         if not isinstance(told, dict) or told.keys() != expected.keys():
             return f"{at}: {told}, and not {expected}"
@@ -57,13 +57,13 @@ def difference(told, expected, at=""):
 
 
 def is_as_written(line):
-    """Whether the members stand by their names and nothing stands between them."""
+    """Whether the members are in the order of their names, with nothing between them."""
     again = json.dumps(json.loads(line), sort_keys=True, separators=(",", ":"), ensure_ascii=False)
     return again == line
 
 
 def compare(given):
-    """Ends where the program tells otherwise, or has another status."""
+    """Ends if the program prints something else, or has another status."""
     data = "".join(f"{line}\n" for line in given).encode("utf-8")
     done = subprocess.run([PROGRAM], input=data, capture_output=True, check=False)
     told = done.stdout.decode("utf-8").splitlines()

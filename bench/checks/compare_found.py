@@ -1,5 +1,5 @@
 #!/usr/bin/env python3
-"""Compares what the built `cvss_find` writes with finding.py, over texts drawn at random.
+"""Compares what the built `cvss_find` writes with finding.py, over random texts.
 
 usage: bench/checks/compare_found.py [COUNT [SEED]]
 """
@@ -17,7 +17,7 @@ PROGRAM = ROOT / "crates/cvss_find/out/cvss_find"
 
 
 def compare(given):
-    """Ends where the program writes otherwise, or has another status; else tells the answers."""
+    """Ends if the program writes something else, or has another status; otherwise returns the answers."""
     expected = list(finding.answers(given))
     done = subprocess.run([PROGRAM], input=given, capture_output=True, check=False)
     told = done.stdout.decode("utf-8").splitlines(keepends=True)

@@ -1,7 +1,7 @@
 #!/usr/bin/env python3
 """Checks that `cvss_tool` takes at most 3 % more instructions a line than docs/PERFORMANCE.md says.
 
-No answer shows that a fast path is left out, or declines each text; the instructions do. The lines
+No answer shows that a fast path is missing, or declines each text; the instructions do. The lines
 are those of bench/measures/instructions.sh, which needs valgrind, for each version and order.
 
 usage: bench/checks/instructions.py

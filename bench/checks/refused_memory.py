@@ -1,25 +1,25 @@
 #!/usr/bin/env python3
 """Runs the built programs once for each request for memory that they make, and refuses it.
 
-What is asked, and what is answered with ample memory, is read from stored lines:
+The input, and the answers with ample memory, come from stored lines:
 
-- `cvss_vectors` answers all of its lines but those that ask for many values at once (`each`): they
-  go through the parser of each version and of any version, the parsers of metrics and of their
-  values, triage and overrides.
+- `cvss_vectors` answers all of its lines except those for many values at once (`each`): they go
+  through the parser of each version and of any version, the parsers of metrics and of their values,
+  triage and overrides.
 - `cvss_json` reads the text of each vector there as a JSON string, writes the vector as one, and
   copies the error of a rejected text; its own stored lines do the same for ratings and
   nomenclatures. It reports each of these steps by its name.
-- `cvss_tool` answers the texts of any version, one a line, and `cvss_find` the same texts in
+- `cvss_tool` answers the texts of any version, one per line, and `cvss_find` the same texts in
   sentences, where the expected answers are those of reference/finding.py.
 - `cvss_audit` answers its own stored documents.
 
-Only these answers may be `out of memory`: in `cvss_vectors` that to a rejected text whose error
-carries a part of the text, and rows of triage; and the steps of `cvss_json` that build a string or
-copy such an error. So an accepted text is accepted whichever request is refused, and `cvss_tool`
-and `cvss_find` answer each text as ever. Where a line can't be read or a buffer can't grow, the run
-ends early, and what it has written are the whole answers to the first lines.
+Only these answers may be `out of memory`: in `cvss_vectors` those to a rejected text whose error
+quotes the text, and rows of triage; and the steps of `cvss_json` that build a string or copy such an
+error. So a valid text is accepted whichever request is refused, and `cvss_tool` and `cvss_find`
+answer each text as always. If a line can't be read or a buffer can't grow, the run ends early, and
+what it has written are the whole answers to the first lines.
 
-It needs cc beside the toolchain and python3.
+It needs cc and python3 in addition to the toolchain.
 
 usage: bench/checks/refused_memory.py
 """
@@ -100,7 +100,7 @@ void *realloc(void *old, size_t size)
 BATCH = 25
 # A mark of a stored line, and what it asks for.
 MARKED = re.compile(rb"([a-z]+[2-4]?) (.*)", re.DOTALL)
-# The kinds of `fault` whose error carries a part of the text.
+# The kinds of `fault` whose error quotes a part of the text.
 CARRYING = ("component", "prefix", "version", "metric", "value")
 # A text longer than the chunks in which programs read their input, and the answer to it.
 LONG = b"AV:N/" + b"Q" * 70_000 + b":N", f"error: unknown CVSS metric name: `{'Q' * 70_000}`"
@@ -135,7 +135,7 @@ def runs(shim, program, given, *arguments):
 
 
 def stored(program):
-    """The stored lines of a program: the mark of each, what is asked, and the answer."""
+    """The stored lines of a program: the mark of each, its input, and the answer."""
     given, answers = ((ROOT / f"crates/{program}/{name}").read_bytes().split(b"\n")[:-1]
                       for name in ("stdin", "stdout"))
     for line, answer in zip(given, answers, strict=True):
@@ -190,7 +190,7 @@ def strings():
 
 
 def found(text):
-    """What `cvss_find` answers to each mention in a text."""
+    """What `cvss_find` answers to each match in a text."""
     for number, line in enumerate(text.split(b"\n"), 1):
         for place, _, answer in finding.found(line):
             yield [f"{number}:{place + 1} {answer}"]
@@ -204,7 +204,7 @@ def check(program, turn, run, wanted, statuses):
     ended = len(answers) < len(wanted)
     fits = all(got in allowed for got, allowed in zip(answers, wanted))
     lacking = [at for at, (got, allowed) in enumerate(zip(answers, wanted)) if got != allowed[0]]
-    # One request is refused, so one answer at most is another one.
+    # One request is refused, so at most one answer changes.
     if not (whole and fits and len(answers) <= len(wanted) and status == statuses[ended]
             and ended + len(lacking) <= (turn > 0)):
         sys.exit(f"{program}, turn {turn}: status {status}, wrote {written[:2000]!r}")

@@ -1,13 +1,13 @@
 #!/usr/bin/env python3
-"""Runs the built programs over much input, long parts of texts and many arguments, where a bound that
-no contract tells would show.
+"""Runs the built programs on large input, long segments and many arguments, where a bound that no contract
+states would show.
 
-Each refusal that carries a part of the text is tried with parts of a byte to a million, of each
-version and of a text of any version, in lines, arguments and JSON strings; what is expected comes
-from `reference.py`. A text that is accepted makes no request for memory: `cvss_vectors` makes as many
-for it as for a number of the same length.
+Each error that quotes a part of the text is tried with parts of one byte to a million, of each version
+and of a text of any version, in lines, arguments and JSON strings; what is expected comes from
+`reference.py`. A valid text makes no request for memory: `cvss_vectors` makes as many for it as for a
+number of the same length.
 
-It needs cc beside the toolchain and python3.
+It needs cc and python3 in addition to the toolchain.
 
 usage: bench/checks/sizes.py
 """
@@ -38,7 +38,7 @@ ONE_BY_ONE = 1_100_000
 ROWS = 1_100_000
 SLOW_ROWS = 20_000
 
-# Tells each request for memory by a byte.
+# Reports each request for memory by a byte.
 COUNTED = r"""
 #define _GNU_SOURCE
 #include <dlfcn.h>
@@ -69,7 +69,7 @@ void *realloc(void *old, size_t size)
 
 
 def reason(read, text):
-    """Why a text is refused."""
+    """Why a text is rejected."""
     try:
         sys.exit(f"{read(text)[0][:200]!r} is accepted")
     except reference.Refused as refused:
@@ -89,7 +89,7 @@ READ = {"v2": reference.read_v2, "v3": reference.read_v3, "v4": reference.read_v
 
 
 def refused():
-    """Texts with a part `q` for which they are refused, by whose rules they are read."""
+    """Texts that are rejected for a part `q`, by the version whose rules read them."""
     for version, front in (("v2", "AV:N/"), ("v3", "CVSS:3.0/AV:N/"), ("v4", "CVSS:4.0/AV:N/")):
         for text in ("q", "q:N", "AC:q"):
             yield version, front + text
@@ -99,12 +99,12 @@ def refused():
 
 
 def lengthened(text, size):
-    """The text with a part of so many bytes in place of `q`, and of `Q` where it is told in capitals."""
+    """The text with a part of so many bytes in place of `q`, and of `Q` if it is quoted in upper case."""
     return text.replace("q", "q" * size).replace("Q", "Q" * size)
 
 
 def try_refusals(runs):
-    """Each refusal with a long part: by the rules of each version, and as a JSON string."""
+    """Each error with a long part: by the rules of each version, and as a JSON string."""
     short = [(version, text, reason(READ[version], text)) for version, text in refused()]
     for size in SIZES:
         told = [(version, lengthened(text, size), lengthened(words, size))

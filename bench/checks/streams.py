@@ -1,12 +1,12 @@
 #!/usr/bin/env python3
-"""Runs the built programs over streams that give little a read, take little a write, or fail.
+"""Runs the built programs on streams that give little per read, take little per write, or fail.
 
-A small preloaded `read` and `write` cut what standard input gives and standard output takes, and
-fail once with each error of the system in turn, after which they succeed: a program that tries a
-failed call again is found out. Long lines, deep documents and every vector with a changed scope are
-answered too, each compared with what `reference.py` or a formula answers.
+A small preloaded `read` and `write` cut what standard input gives and standard output takes, and fail
+once with each error of the system in turn, after which they succeed: this finds a program that tries a
+failed call again. Long lines, deep documents and every vector with a changed scope are tried too, each
+compared with what `reference.py` or a formula answers.
 
-It needs cc beside the toolchain and python3.
+It needs cc and python3 in addition to the toolchain.
 
 usage: bench/checks/streams.py
 """
@@ -160,7 +160,7 @@ def nested(depth, text=""):
     return "[" * depth + text + "]" * depth
 
 
-# Documents of `cvss_audit` with their answers, and whether something is refused or differs.
+# Documents of `cvss_audit` with their answers, and whether something is rejected or differs.
 DOCUMENTS = [
     (b"", "", 0),
     (b'{}\n[]\n1\n"CVSS:3.1/AV:N"', "", 0),
@@ -204,7 +204,7 @@ class Runs:
         self.count = 0
 
     def expect(self, program, given, wanted, arguments=(), **streams):
-        """Compares the status, what is written, and what stands on standard error."""
+        """Compares the status, standard output and standard error."""
         env = dict(os.environ, LD_PRELOAD=self.shim, **{key: str(streams[key]) for key in streams})
         path = ROOT / f"crates/{program}/out/{program}"
         with tempfile.TemporaryFile() as file:

@@ -1,9 +1,9 @@
 #!/usr/bin/env python3
-"""Compares what the built programs answer over whole sets of vectors with sums from outside.
+"""Compares what the built programs answer over whole sets of vectors with figures from outside.
 
-The figures are those of two scorers that know nothing of each other or of this library: how many
-scores there are, their sum in tenths, a checksum that sees their order, and how many are 0, below
-4.0, below 7.0, below 9.0, and above. Metrics stand in printing order, the first changing slowest.
+The figures are those of two scorers that were written independently of each other and of this library:
+how many scores there are, their sum in tenths, a checksum that depends on their order, and how many are
+0, below 4.0, below 7.0, below 9.0, and above. Metrics are in printing order, the first changing slowest.
 
 usage: bench/checks/whole_sets.py
 """

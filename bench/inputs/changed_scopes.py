@@ -1,7 +1,7 @@
 #!/usr/bin/env python3
-"""Writes each vector of v3.0 and of v3.1 that has a changed scope, all base metrics and no other.
+"""Writes each vector of v3.0 and of v3.1 with a changed scope, all base metrics and no other.
 
-The last metric changes fastest, values stand as in the specification's tables.
+The last metric changes fastest; values are in the order of the specification's tables.
 
 usage: bench/inputs/changed_scopes.py
 """

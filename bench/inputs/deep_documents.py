@@ -1,15 +1,15 @@
 #!/usr/bin/env python3
-"""Prints a JSON document, on one line, of which much is to be kept: many places or long ways to them,
-long values, and objects one in the other.
+"""Prints a JSON document, on one line, that makes a reader keep much: many locations or long pointers,
+long values, and nested objects.
 
 - `names K N`: N vectors in an array under a name of K letters.
 - `deep N`: N vectors in an array at depth 120.
-- `members N`: an object of N members, of which each holds a vector.
-- `nested D`: a vector under D names of a letter, one in the other.
-- `said N`: a vector whose score is said by an object of N members, each an object in an object.
-- `numbers N`: a vector whose score is said by an array of N numbers, which are written in more digits.
-- `text N`: a text of N letters where a vector should stand.
-- `empty N`: N times 120 objects, one in the other under empty names, and no vector.
+- `members N`: an object of N members, each with a vector.
+- `nested D`: a vector under D nested names of one letter.
+- `said N`: a vector whose score is an object of N members, each an object in an object.
+- `numbers N`: a vector whose score is an array of N numbers, which are written in more digits.
+- `text N`: a text of N letters in place of a vector.
+- `empty N`: N times 120 nested objects with empty names, and no vector.
 
 With `nameless` the vectors' member has another name of the same length, so that none is found.
 usage: bench/inputs/deep_documents.py KIND NUMBER.. [nameless]

@@ -1,8 +1,8 @@
 #!/usr/bin/env python3
-"""Prints COUNT JSON documents in the shape of NVD's, one a line, with one v3.1 vector each.
+"""Prints COUNT JSON documents in the form of NVD's, one per line, with one v3.1 vector each.
 
-What a document says of its vector is right; with `differing` its score and its rating are drawn at
-random, and with `nameless` the vector's member has another name, so that no vector is found.
+What a document says of its vector is right; with `differing` its score and its rating are random, and
+with `nameless` the vector's member has another name, so that no vector is found.
 usage: bench/inputs/documents.py COUNT [differing|nameless]
 """
 import json

@@ -1,14 +1,14 @@
 #!/usr/bin/env python3
-"""Writes lines of CVSS vectors, drawn at random from the tables of a version.
+"""Writes random lines of CVSS vectors, from the tables of a version.
 
 usage: bench/inputs/lines.py v2|v3.0|v3.1|v4|all base|full|every|any|refused|mixed COUNT [SEED]
 
 `base` lines have all base metrics, `full` lines also each other metric with an even chance, `every`
-lines have them all, each in printing order. `any` lines are full lines with the components in any order and, but for v2, in any
-case. `refused` lines are full lines with one fault: a component without its colon, a name or a value
-that there is not, a component twice, or the first component dropped, which only v3 accepts. Of 100
-`mixed` lines 90 are full, 8 any and 2 refused. `all` draws the version of each line. The same seed
-gives the same lines.
+lines have all metrics, each in printing order. `any` lines are full lines with the components in any
+order and, except for v2, in any case. `refused` lines are full lines with one error: a component
+without its colon, an unknown name or value, a component twice, or the first component dropped, which
+only v3 accepts. Of 100 `mixed` lines 90 are full, 8 any and 2 refused. `all` draws the version of each
+line. The same seed gives the same lines.
 """
 import random
 import sys

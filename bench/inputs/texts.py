@@ -1,11 +1,10 @@
 #!/usr/bin/env python3
-"""Writes texts in which vectors stand, or stand nearly, drawn at random.
+"""Writes random texts that contain vectors, or almost.
 
-A text is a line of pieces: prose, links, scores, vectors of each version, accepted and refused, cut
-off anywhere or in any case, `CVSS:` by itself, letters of other scripts, bytes that are no UTF-8,
-and the bytes of vectors in any order. Pieces are joined by a blank, by nothing, or by a byte of
-those that stand around vectors. One text in eight is of the bytes of vectors alone. The same seed
-gives the same texts.
+A text is a line of parts: prose, links, scores, vectors of each version, valid and rejected, truncated
+anywhere or in any case, `CVSS:` alone, letters of other scripts, bytes that are not UTF-8, and the bytes
+of vectors in any order. The parts are joined by a space, by nothing, or by a byte that often is next to
+vectors. One text in eight has only bytes of vectors. The same seed gives the same texts.
 
 usage: bench/inputs/texts.py COUNT [SEED]
 """
@@ -30,7 +29,7 @@ ENDS = ["", "", "", "", ".", ":", "/", "...", "/.", ":/", "//", "IGH", "/X:Y", "
 
 
 def vector(draw):
-    """A vector, most often accepted; one in four is cut off, and some go on behind it."""
+    """A vector, most often valid; one in four is truncated, and some have more text after them."""
     kind = draw.choice(("base", "full", "any", "refused"))
     text = lines.line(draw, draw.choice(("v2", "v3.0", "v3.1", "v4")), kind)
     if draw.random() < 0.25:

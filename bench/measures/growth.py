@@ -1,9 +1,9 @@
 #!/usr/bin/env python3
 """Measures how the work of built programs grows with hostile input: each input at some sizes.
 
-It counts instructions by valgrind's callgrind, less those of a run over no line, and the time of a
-run without it, and checks the answers. It ends with status 1 if an input takes more instructions a
-byte than its bound, which is what was measured and a quarter more.
+It counts instructions by valgrind's callgrind, minus those of a run over no line, and the time of a run
+without it, and checks the answers. It ends with status 1 if an input takes more instructions per byte
+than its bound, which is a quarter more than was measured.
 
 usage: bench/measures/growth.py [SIZE..]
 """
@@ -82,7 +82,7 @@ def audited(data):
 
 
 def places(value, at):
-    """Where vectors stand: an object's own place before those in it, members by their names."""
+    """Where vectors are: an object's own location before those in it, members by their names."""
     if isinstance(value, dict):
         if "vectorString" in value:
             yield at

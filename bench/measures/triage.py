@@ -1,11 +1,11 @@
 #!/usr/bin/env python3
 """Counts the instructions that the built `cvss_triage` takes for a line, and refuses its memory.
 
-Draws v4 base vectors, runs the program over some of them and over all, and checks that the rows are
-those of the lines, the scores falling and ties by the given texts' bytes. Then each request for
-memory of a short run is refused in turn: nothing may be written then, and the status is 2 and
-standard error says `out of memory`, or 1 and it tells the refusal.
-It needs cc and python3, and for the counts valgrind.
+Makes random v4 base vectors, runs the program on some of them and on all, and checks that the rows are
+those of the lines, the scores falling and ties by the bytes of the given texts. Then each request for
+memory of a short run is refused in turn: nothing may be written then. The status is 2 and standard
+error says `out of memory`, or it is 1 and standard error has the rejection.
+It needs cc and python3, and valgrind for the counts.
 
 usage: bench/measures/triage.py [COUNT]
 """
@@ -51,7 +51,7 @@ def instructions(room, lines):
 
 
 def refuse(room):
-    """Refuses each request of a short run, and of one whose last line is refused."""
+    """Refuses each request of a short run, and of one whose last line is rejected."""
     shim = refused_memory.build(room)
     lacking = (2, "cvss_triage: out of memory\n")
     refused = (1, "cvss_triage: line 31: invalid CVSSv4 AV (Attack Vector) metric: `Q`\n")

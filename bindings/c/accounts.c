@@ -1,5 +1,5 @@
 /*
- * Prints the account of each line of standard input, and nothing for a line that is refused; a buffer that is too small,
+ * Prints the explanation of each line of standard input, and nothing for a line that is rejected; a buffer that is too small,
  * also by one byte, must be left as it was.
  */
 #define _POSIX_C_SOURCE 200809L

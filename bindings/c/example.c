@@ -1,5 +1,5 @@
 /*
- * Prints what is known of each vector that is given as an argument. The status is 1 where a text is refused, and
+ * Prints what is known of each vector that is given as an argument. The status is 1 if a text is rejected, and
  * 2 where there is no memory or the output fails.
  */
 #include "cvss.h"
@@ -17,7 +17,7 @@ static void print_score(const char *name, int32_t tenths)
         printf("  %s: %d.%d\n", name, (int)(tenths / 10), (int)(tenths % 10));
 }
 
-/* Prints why a text is refused; asks for the length first, and then for the reason. */
+/* Prints why a text is rejected; gets the length first, and then the reason. */
 static int print_reason(const char *text)
 {
     size_t size = cvss_reason(text, strlen(text), NULL, 0);

@@ -1,4 +1,4 @@
-// Prints the canonical text, the score and its rating of a vector, and why another is refused.
+// Prints the canonical text, the score and its rating of a vector, and why another is rejected.
 #include "cvss.h"
 
 #include <iostream>

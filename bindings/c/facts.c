@@ -1,5 +1,5 @@
 /*
- * Tells what is known of each line of standard input, as bindings/stored/facts.py does, and does the same with
+ * Prints the facts of each line of standard input, as bindings/stored/facts.py does, and does the same with
  * buffers that are too small, which must be left as they were.
  */
 #define _POSIX_C_SOURCE 200809L
@@ -39,7 +39,7 @@ static void print_score(int32_t tenths, int32_t severity)
         printf(" %d.%d %s", (int)(tenths / 10), (int)(tenths % 10), ratings[severity]);
 }
 
-/* Writes the metrics, but for those that are not defined where these are left out, as pieces of a text. */
+/* Writes the metrics as segments of a text, without those that are not defined if these are left out. */
 static void put_metrics(const char *text, size_t length, bool without_undefined, const char *format, char *told)
 {
     CvssMetric metrics[CVSS_MOST_METRICS], untouched = {"#", "#"};
@@ -69,7 +69,7 @@ static bool is_without_undefined(const char *shorter, const char *canonical, siz
     return strcmp(shorter, has_version ? expected : expected + 9) == 0;
 }
 
-/* Whether one call answers what two others do, also where the buffer is too small or the text is refused. */
+/* Whether one call returns what two others do, also if the buffer is too small or the text is rejected. */
 static bool is_read_alike(const char *text, size_t length)
 {
     CvssScores scores, read, unfit;

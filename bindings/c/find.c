@@ -1,6 +1,6 @@
 /*
- * Tells each vector that is mentioned in the lines of standard input, as the program cvss_find does: the line's number,
- * the place of the mention's first byte, both from 1, and what cvss_tool answers to the mention.
+ * Prints each vector in the lines of standard input, as the program cvss_find does: the line's number and the column of
+ * the match in bytes, both from 1, and what cvss_tool answers to it.
  */
 #define _POSIX_C_SOURCE 200809L
 #include "cvss.h"
@@ -20,7 +20,7 @@ static void print_answer(const char *text, size_t length)
     free(answer);
 }
 
-/* The bytes of a line in memory that just fits, so that a byte read behind it is seen. */
+/* The bytes of a line in memory that just fits, so that a byte read after it is noticed. */
 static char *copied(const char *line, size_t length)
 {
     char *text = malloc(length > 0 ? length : 1);

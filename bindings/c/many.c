@@ -1,6 +1,6 @@
 /*
  * Answers the lines of standard input by cvss_answers, with a buffer of so many bytes as the argument says, which
- * grows where an answer does not fit. Ends with status 3 where the buffer is touched behind the answers.
+ * grows if an answer does not fit. Ends with status 3 if the buffer is changed after the answers.
  */
 #include "cvss.h"
 
@@ -29,7 +29,7 @@ static char *input(size_t *length)
     return NULL;
 }
 
-/* Answers texts, and tells how many bytes of them; the status of the program where it cannot go on. */
+/* Answers texts, and returns how many bytes of them; the status of the program if it cannot go on. */
 static int answer(const char *texts, size_t length, char *buffer, size_t size, size_t *read)
 {
     memset(buffer, '#', size);

@@ -1,4 +1,4 @@
-/* Overrides that are put into a vector, and those that are refused. Ends with status 0 where each answer is as it must. */
+/* Overrides that are set in a vector, and those that are rejected. Ends with status 0 if each answer is right. */
 #include "cvss.h"
 
 #include <stdio.h>
@@ -6,7 +6,7 @@
 
 static const char vector[] = "CVSS:4.0/AV:N/AC:L/AT:N/PR:N/UI:N/VC:L/VI:L/VA:L/SC:N/SI:N/SA:N/CR:H/S:P";
 
-/* Overrides, and the canonical text with them in place, or why they are refused (v4.0 specification, sections 4, 7). */
+/* Overrides, and the canonical text with them, or why they are rejected (v4.0 specification, sections 4, 7). */
 static const char *const rows[][3] = {
     {"", vector, ""},
     {"MSI:S", "CVSS:4.0/AV:N/AC:L/AT:N/PR:N/UI:N/VC:L/VI:L/VA:L/SC:N/SI:N/SA:N/CR:H/MSI:S/S:P", ""},
@@ -25,7 +25,7 @@ static const char *const rows[][3] = {
     {"MSI:\xff", "", "not UTF-8"},
 };
 
-/* Whether a text is told, and a buffer that is too small for it left as it was. */
+/* Whether a text is written, and a buffer that is too small for it left unchanged. */
 static int tells(size_t (*call)(const void *, size_t, const void *, size_t, void *, size_t), const char *own,
                  const char *expected)
 {

@@ -10,7 +10,7 @@
 #include <stdlib.h>
 #include <sys/types.h>
 
-/* how often memory was asked for */
+/* how many requests for memory there were */
 static unsigned long requests;
 
 void *__real_malloc(size_t size);

@@ -45,7 +45,7 @@ static size_t overridden(const char *text, size_t length)
     return cvss_overridden(text, length, own, sizeof own - 1, buffer, sizeof buffer);
 }
 
-/* The second override is refused, and is told; or that the vector is not of v4.0. */
+/* The second override is rejected, with a reason; or the vector is not of v4.0. */
 static size_t override_reason(const char *text, size_t length)
 {
     static const char own[] = "MSI:S/CR:Q";

@@ -1,6 +1,6 @@
 /*
  * Prints why the vector that is given as an argument has its score: the numbers on the way to it, as a JSON object. The
- * status is 1 where the text is refused, and 2 where there is no memory or the output fails.
+ * status is 1 if the text is rejected, and 2 if there is no memory or the output fails.
  */
 #include "cvss.h"
 

@@ -27,7 +27,7 @@ static bool has_words(const CvssMetricType *types, size_t count, const CvssMetri
     return false;
 }
 
-/* The metrics of a line without words; -1 where the line is refused. */
+/* The metrics of a line without words; -1 if the line is rejected. */
 static int without_words(const char *line, size_t length)
 {
     CvssMetric metrics[CVSS_MOST_METRICS];

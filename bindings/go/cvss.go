@@ -1,6 +1,6 @@
-// Package cvss reads, prints and scores CVSS vectors of v2, v3.0, v3.1 and v4.0.
+// Package cvss parses, normalizes and scores CVSS vectors of v2, v3.0, v3.1 and v4.0.
 //
-// The answers are those of a library whose functions are proved up to the call. This package calls it through cgo
+// The results come from a library whose functions are proved up to the call. This package calls it through cgo
 // and computes no score itself. bindings/build copies the library and its header into the folder of this package, for
 // Linux on x86-64 and with --target aarch64 on ARM64.
 package cvss
@@ -42,8 +42,8 @@ type Metric struct {
 
 // A Vector is the vector that a text denotes. Two vectors are equal if their canonical texts are.
 //
-// The zero Vector is none, as Parse returns it beside an error: it has no text, no version and no metrics, and a score
-// of 0.0. IsZero tells it.
+// The zero Vector is no vector; Parse returns it with an error. It has no text, no version and no metrics, and a score
+// of 0.0. IsZero reports it.
 type Vector struct {
 	text          string
 	version       Version
@@ -56,7 +56,7 @@ type Vector struct {
 	isComplete    bool
 }
 
-// A pointer to the bytes of a text, or nil where it has none.
+// A pointer to the bytes of a text, or nil if it has none.
 func pointer(text []byte) unsafe.Pointer {
 	if len(text) == 0 {
 		return nil
@@ -64,13 +64,13 @@ func pointer(text []byte) unsafe.Pointer {
 	return unsafe.Pointer(&text[0])
 }
 
-// bytesOf gives the bytes of a text with one byte behind them, so that there is a first one; it is not counted.
+// bytesOf returns the bytes of a text followed by one more, so that there is a first one; it is not counted.
 func bytesOf(text string) ([]byte, C.size_t) {
 	return append([]byte(text), 0), C.size_t(len(text))
 }
 
-// Parse reads the vector that a text denotes, by the rules of the version that its first piece tells; without such a
-// piece by those of v2. The error is a *RefusedError.
+// Parse reads a vector by the rules of the version in its prefix; without a prefix by those of v2. The error is a
+// *RefusedError.
 func Parse(text string) (Vector, error) {
 	scores, canonical := read(text)
 	if canonical == "" {
@@ -95,8 +95,8 @@ func Parse(text string) (Vector, error) {
 	return vector, nil
 }
 
-// ParseComplete reads a text as Parse does, and refuses a vector of v3 that lacks base metrics, as FIRST's document has it:
-// the error is then that the first one is missing, in the standard's order.
+// ParseComplete is Parse, but rejects a v3 vector that lacks base metrics, which FIRST's document makes mandatory: the
+// error is that the first one is missing, in the standard's order.
 func ParseComplete(text string) (Vector, error) {
 	vector, err := Parse(text)
 	if err != nil || vector.isComplete {
@@ -114,7 +114,7 @@ func ParseComplete(text string) (Vector, error) {
 	return vector, nil
 }
 
-// A room is what a call of read writes into.
+// A room is the output of a call of read.
 type room struct {
 	scores    C.CvssScores
 	canonical [512]byte
@@ -123,8 +123,7 @@ type room struct {
 // rooms are those that no call uses.
 var rooms = sync.Pool{New: func() any { return new(room) }}
 
-// read tells the scores and the canonical text of the vector that a text denotes; the text is empty where it denotes
-// none.
+// read returns the scores and the canonical text of a vector; the text is empty if there is no vector.
 func read(text string) (scores C.CvssScores, canonical string) {
 	own := rooms.Get().(*room)
 	defer rooms.Put(own)
@@ -137,16 +136,16 @@ func read(text string) (scores C.CvssScores, canonical string) {
 	return own.scores, string(buffer[:length])
 }
 
-// IsZero tells whether this is the zero Vector, which is none.
+// IsZero returns whether this is the zero Vector, which is no vector.
 func (v Vector) IsZero() bool { return v.text == "" }
 
-// String is the vector's one canonical text.
+// String is the canonical text.
 func (v Vector) String() string { return v.text }
 
 // Version is the version of the standard.
 func (v Vector) Version() Version { return v.version }
 
-// Score is the score that is published of the vector: in v2 and v3 the base score.
+// Score is the score: in v2 and v3 the base score, in v4.0 the score of all metrics in the vector.
 func (v Vector) Score() Score { return v.score }
 
 // Severity is the rating of Score.
@@ -162,11 +161,11 @@ func (v Vector) Environmental() (score Score, severity Severity, ok bool) {
 	return v.environmental, v.severities[2], v.hasThree
 }
 
-// Nomenclature tells which groups of metrics the score rests on, in v4.0.
+// Nomenclature names the groups of metrics that the score counts, in v4.0.
 func (v Vector) Nomenclature() Nomenclature { return v.nomenclature }
 
-// NomenclatureScore is of v4.0 what the score would be if only these groups of metrics counted: with B the base metrics
-// alone, and with BTE all metrics, which is Score. In v2 and v3, and of what is no nomenclature, ok is false.
+// NomenclatureScore is the v4.0 score of these groups of metrics: with B the base metrics alone, and with BTE all
+// metrics, which is Score. In v2 and v3, and for an unknown nomenclature, ok is false.
 func (v Vector) NomenclatureScore(nomenclature Nomenclature) (score Score, ok bool) {
 	code, length := bytesOf(v.text)
 	var tenths [4]C.int32_t
@@ -181,7 +180,7 @@ func (v Vector) NomenclatureScore(nomenclature Nomenclature) (score Score, ok bo
 	return 0, false
 }
 
-// IsComplete tells whether all base metrics are there. A text of v3 may lack some: it is scored without them.
+// IsComplete returns whether all base metrics are present. A v3 vector may lack some: it is scored without them.
 func (v Vector) IsComplete() bool { return v.isComplete }
 
 // Metrics are the metrics that the vector has, in the order of its canonical text.
@@ -197,8 +196,8 @@ func (v Vector) Metrics() []Metric {
 }
 
 // WithoutUndefined is the vector without the metrics that are not defined (X, in v2 ND): it has the same scores. A
-// vector of v3 that has no others is given as it is. The nomenclature of v4.0 may become another, since it counts a
-// metric that is given as X.
+// v3 vector that has no others is returned as it is. The nomenclature of v4.0 may change, since it counts a metric that is
+// given as X.
 func (v Vector) WithoutUndefined() Vector {
 	code, length := bytesOf(v.text)
 	shorter, err := Parse(written(len(v.text), func(buffer unsafe.Pointer, size C.size_t) C.size_t {
@@ -210,8 +209,8 @@ func (v Vector) WithoutUndefined() Vector {
 	return shorter
 }
 
-// Record is the vector's record: the JSON object of FIRST's schema of its version, without spaces. Of v4.0 baseScore is the
-// score of the vector as it is, with all its metrics.
+// Record is the vector's record: the JSON object of FIRST's schema of its version, without spaces. For v4.0 baseScore is
+// the score of all metrics in the vector.
 func (v Vector) Record() []byte {
 	code, length := bytesOf(v.text)
 	return []byte(written(1<<11, func(buffer unsafe.Pointer, size C.size_t) C.size_t {
@@ -219,11 +218,10 @@ func (v Vector) Record() []byte {
 	}))
 }
 
-// Account tells why the score is what it is: a JSON object, without spaces, of the numbers on the way to it. In v2 and
-// v3 they are the weights, the sub-scores and each score's number before its rounding; in v4.0 the values that count, the
-// macro vector with its listed value, what each group of metrics takes from it, and the number before the rounding. A
-// number is less than 10^-6 from the exact one; it is that one where that has no more than seven decimals, but for those
-// of v3 with a changed scope, which have a power.
+// Account shows how the score is computed: a JSON object, without spaces. For v2 and v3 it has the weights, the sub-scores
+// and the number before the rounding of each score; for v4.0 the values that count, the MacroVector with its listed score,
+// what each group of metrics takes from it, and the number before the rounding. A number is less than 10^-6 from the exact
+// one. It is exact if that has at most seven decimals, except for those of v3 with a changed scope, which have a power.
 func (v Vector) Account() []byte {
 	code, length := bytesOf(v.text)
 	return []byte(written(1<<11, func(buffer unsafe.Pointer, size C.size_t) C.size_t {
@@ -231,8 +229,8 @@ func (v Vector) Account() []byte {
 	}))
 }
 
-// WithMetrics is the vector with these metrics in place of its own or beside them. Any metric of the version can be set. In
-// v3 and v4.0 names and values may be in any ASCII case. X and ND are values like others: they do not remove a metric. The
+// WithMetrics is the vector with these metrics, which replace its own or are added. Any metric of the version can be set.
+// In v3 and v4.0 names and values may be in any ASCII case. X and ND are values like others: they do not remove a metric. The
 // error is a *RefusedError.
 func (v Vector) WithMetrics(metrics []Metric) (Vector, error) {
 	own, err := joined(metrics)
@@ -276,7 +274,7 @@ func FromMetrics(version Version, metrics []Metric) (Vector, error) {
 	}))
 }
 
-// joined are the components of metrics. A slash would make two of one, so it is refused as in a component.
+// joined are the components of metrics. A slash would make two of one, so it is rejected as in a component.
 func joined(metrics []Metric) (string, error) {
 	var components []string
 	for _, metric := range metrics {
@@ -289,9 +287,9 @@ func joined(metrics []Metric) (string, error) {
 	return strings.Join(components, "/"), nil
 }
 
-// WithOverrides is the vector with an organisation's environmental metrics, in any ASCII case, in place of its own or
-// beside them. Into a vector of v4.0 the library puts them, into others this package. The error is
-// ErrNotEnvironmental, or else a *RefusedError of the vector with these metrics.
+// WithOverrides is the vector with your own environmental metrics, in any ASCII case, which replace its own or are added.
+// In v4.0 the library sets them, in other versions this package. The error is ErrNotEnvironmental, or otherwise a
+// *RefusedError of the vector with these metrics.
 func (v Vector) WithOverrides(overrides []Metric) (Vector, error) {
 	own := make(map[string]bool)
 	var added []string
@@ -317,7 +315,7 @@ func (v Vector) WithOverrides(overrides []Metric) (Vector, error) {
 	return Parse(strings.Join(append(pieces, added...), "/"))
 }
 
-// raised is a text with its ASCII letters in capitals.
+// raised is a text with its ASCII letters in upper case.
 func raised(text string) string {
 	bytes := []byte(text)
 	for i, letter := range bytes {
@@ -328,7 +326,7 @@ func raised(text string) string {
 	return string(bytes)
 }
 
-// overridden is the canonical text of a vector of v4.0 with overrides in place, or nothing.
+// overridden is the canonical text of a v4.0 vector with overrides set, or nothing.
 func (v Vector) overridden(overrides string) string {
 	code, length := bytesOf(v.text)
 	own, ownLength := bytesOf(overrides)
@@ -337,7 +335,7 @@ func (v Vector) overridden(overrides string) string {
 	})
 }
 
-// Answer is the line that the program cvss_tool answers to a text, without the newline: the canonical text, the score
+// Answer is the line that the program cvss_tool prints for a text, without its newline: the canonical text, the score
 // and its rating, or "error: " and the reason.
 func Answer(text string) string {
 	code, length := bytesOf(text)
@@ -346,9 +344,9 @@ func Answer(text string) string {
 	})
 }
 
-// AnswerLines gives the lines that the program cvss_tool answers to the lines of a text: faster than a call of Answer
-// for each. Each line is ended by a newline, which one carriage return may precede; a last line without one is not
-// answered.
+// AnswerLines returns the lines that the program cvss_tool prints for the lines of a text: faster than a call of Answer
+// for each. Each line ends with a newline, with or without one carriage return before it; a last line without a newline
+// has no answer.
 func AnswerLines(lines []byte) []byte {
 	var answers []byte
 	buffer := make([]byte, 1<<16)

@@ -3,20 +3,19 @@ package cvss
 // #include "cvss.h"
 import "C"
 
-// A Mention is a vector that is mentioned in a text.
+// A Mention is a vector in a text.
 type Mention struct {
-	// Place is the place of the mention's first byte in the text, from 0.
+	// Place is the offset of its first byte in the text.
 	Place int
-	// Text is the text of the mention.
+	// Text is the text of the match.
 	Text string
-	// Vector is the vector, and the zero Vector where the mention is refused.
+	// Vector is the vector, or the zero Vector if the text is rejected.
 	Vector Vector
-	// Err is nil; or, where the mention begins with CVSS:, has a slash and denotes no vector, a *RefusedError.
+	// Err is nil; or, if the text begins with CVSS:, has a slash and is no valid vector, a *RefusedError.
 	Err error
 }
 
-// Find gives the vectors that are mentioned in any text, in order: in a sentence, in parentheses, in a link. The text need
-// not be UTF-8.
+// Find returns the vectors in any text, in order: in a sentence, in parentheses, in a link. The text need not be UTF-8.
 func Find(text []byte) []Mention {
 	var mentions []Mention
 	var start, length C.size_t

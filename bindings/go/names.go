@@ -82,7 +82,7 @@ func (s Severity) String() string { return wordOf(severityWords, s) }
 // String is the kind in words, such as invalid value.
 func (k Kind) String() string { return wordOf(kindWords, k) }
 
-// wordOf is the word for a value of an enumeration, or its type and number where it has none.
+// wordOf is the word for a value of an enumeration, or its type and number if it has none.
 func wordOf[Value ~int](words map[Value]string, value Value) string {
 	if word, ok := words[value]; ok {
 		return word
@@ -101,7 +101,7 @@ func valueOf[Value fmt.Stringer](target *Value, values []Value, word string) err
 	return fmt.Errorf("%q is no %T", word, *target)
 }
 
-// marshalled is the word for a value of an enumeration, or an error where it has none.
+// marshalled is the word for a value of an enumeration, or an error if it has none.
 func marshalled[Value fmt.Stringer](value Value, values []Value) ([]byte, error) {
 	word := value.String()
 	return []byte(word), valueOf(new(Value), values, word)

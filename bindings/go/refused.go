@@ -13,10 +13,10 @@ import (
 // ErrNotEnvironmental is the error of an override that is no environmental metric.
 var ErrNotEnvironmental = errors.New("no environmental metric")
 
-// A Kind is the kind of a refusal.
+// A Kind is the kind of an error.
 type Kind int
 
-// The kinds of refusals.
+// The kinds of errors.
 const (
 	InvalidComponent   Kind = C.CVSS_INVALID_COMPONENT   // a piece of the text has no colon, or more than one
 	InvalidPrefix      Kind = C.CVSS_INVALID_PREFIX      // a version is told, but not behind CVSS
@@ -28,14 +28,14 @@ const (
 	NotUTF8            Kind = C.CVSS_NOT_UTF8            // the text is not UTF-8
 )
 
-// A RefusedError tells the first reason why a text denotes no vector.
+// A RefusedError has the first reason why a text is rejected.
 type RefusedError struct {
 	// Kind is the kind of the reason.
 	Kind Kind
-	// Metric is the abbreviation of the metric that has an invalid value, stands twice or is missing.
+	// Metric is the abbreviation of the metric that has an invalid value, is there twice or is missing.
 	Metric string
 	// Value is the part of the text that the reason quotes: the component, the prefix, the version, the unknown name or
-	// the invalid value. Of other kinds it is empty.
+	// the invalid value. For other kinds it is empty.
 	Value string
 	// Reason is the reason in words.
 	Reason string
@@ -71,13 +71,13 @@ var beginnings = []struct {
 }
 
 var (
-	// indexed is the index that precedes the reason why a metric is refused.
+	// indexed is the index before the reason why a metric is rejected.
 	indexed = regexp.MustCompile(`\Ametric [0-9]+: `)
 	named   = regexp.MustCompile(`\A(?:invalid|duplicate|missing mandatory) CVSSv[234] (\w+) `)
 	quoted  = regexp.MustCompile("(?s)`(.*)`")
 )
 
-// metricRefusal is the refusal of metrics by the library's reason.
+// metricRefusal is the error of metrics, from the library's reason.
 func metricRefusal(reason string) *RefusedError {
 	words := indexed.ReplaceAllString(reason, "")
 	refused := &RefusedError{Reason: words}
@@ -95,7 +95,7 @@ func metricRefusal(reason string) *RefusedError {
 	return refused
 }
 
-// missing is the refusal of a vector of v3 that lacks a base metric, in the words that the library has for the metric.
+// missing is the error of a v3 vector that lacks a base metric, in the library's words for the metric.
 func missing(metric string) *RefusedError {
 	invalid := refusal(bytesOf("CVSS:3.1/" + metric + ":")).Reason
 	words, _, _ := strings.Cut(strings.TrimPrefix(invalid, "invalid "), " metric")

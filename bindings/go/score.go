@@ -14,8 +14,8 @@ import (
 )
 
 // A Score is a score from 0.0 to 10.0, in steps of a tenth: the float64 nearest to it. So it is compared, printed and
-// stored as a number: 9.8 is the number 9.8 in JSON and in a database. What is read from there is an error where it is no
-// score, and the Score stays what it was.
+// stored as a number: 9.8 is the number 9.8 in JSON and in a database. Reading a number that is no score is an
+// error, and the Score keeps its value.
 type Score float64
 
 // Tenths is the score in tenths, which is exact.
@@ -27,8 +27,8 @@ func (s Score) Value() float64 { return float64(s) }
 // String is the score with one decimal.
 func (s Score) String() string { return strconv.FormatFloat(float64(s), 'f', 1, 64) }
 
-// Severity is the rating of the score by the bounds of a version, which V30, V31 and V40 share. Where the number is no
-// score, or the version none, ok is false.
+// Severity is the rating of the score by the bounds of a version, which V30, V31 and V40 share. If the number is no
+// score, or the version unknown, ok is false.
 func (s Score) Severity(version Version) (severity Severity, ok bool) {
 	var own Score
 	if own.set(float64(s)) != nil {
@@ -41,7 +41,7 @@ func (s Score) Severity(version Version) (severity Severity, ok bool) {
 	return Severity(rating), true
 }
 
-// scoreOf is the score of so many tenths.
+// scoreOf is the score of a number of tenths.
 func scoreOf(tenths float64) Score { return Score(tenths / 10) }
 
 // set sets the score that a number is, which may have been a float32.

@@ -7,12 +7,12 @@ import (
 	"fmt"
 )
 
-// MarshalText is the vector's canonical text, and empty for the zero Vector: so vectors are strings in JSON, and in
-// whatever else knows of texts.
+// MarshalText is the canonical text, and empty for the zero Vector: so vectors are strings in JSON and other text
+// formats.
 func (v Vector) MarshalText() ([]byte, error) { return []byte(v.text), nil }
 
-// UnmarshalText reads a vector as Parse does; an empty text is the zero Vector. Where the text is refused, by a
-// *RefusedError, the vector stays what it was.
+// UnmarshalText reads a vector as Parse does; an empty text is the zero Vector. If the text is rejected, by a
+// *RefusedError, the vector keeps its value.
 func (v *Vector) UnmarshalText(text []byte) error {
 	if len(text) == 0 {
 		*v = Vector{}

@@ -14,7 +14,7 @@ const (
 	Supplemental  Group = "supplemental"
 )
 
-// A MetricValue is a value of a metric: how a vector spells it, as N, its name in words, as Network, and a sentence that
+// A MetricValue is a value of a metric: how a vector spells it, such as N, its name in words, such as Network, and a sentence that
 // says what it means.
 type MetricValue struct {
 	Value       string
@@ -24,13 +24,13 @@ type MetricValue struct {
 
 // A MetricType is a metric of a version.
 type MetricType struct {
-	// Name is the abbreviation, as AV.
+	// Name is the abbreviation, such as AV.
 	Name string
-	// Title is the name in words, as Attack Vector.
+	// Title is the name in words, such as Attack Vector.
 	Title string
 	// Group is the group that it belongs to.
 	Group Group
-	// Mandatory says whether FIRST's document of the version asks for it: it is true for the base metrics.
+	// Mandatory says whether FIRST's document of the version requires it: it is true for the base metrics.
 	Mandatory bool
 	// Question is one that a form asks.
 	Question string
@@ -51,8 +51,8 @@ func typesOf(version Version) []MetricType {
 	return nil
 }
 
-// Metrics are the metrics of a version, in the order in which a vector prints them: what a form offers. Of what is no
-// version there are none. The slices are the caller's own.
+// Metrics are the metrics of a version, in the order in which a vector prints them: what a form offers. An unknown
+// version has none. The slices are the caller's own.
 func Metrics(version Version) []MetricType {
 	types := append([]MetricType(nil), typesOf(version)...)
 	for i := range types {

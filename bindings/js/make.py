@@ -1,7 +1,7 @@
 #!/usr/bin/env python3
-"""Writes what is generated of the package: cvss.js, a script for CommonJS and for a page, and cvss.mjs, a module of
-ECMAScript. Both are the modules of src/ in one file each, with the bytes of cvss.wasm, the words of bindings/metrics.json
-and the version. Copies the licences.
+"""Writes the generated files of the package: cvss.js, a script for CommonJS and for a page, and cvss.mjs, an ECMAScript
+module. Both have the modules of src/ in one file, with the bytes of cvss.wasm, the words of bindings/metrics.json and
+the version. Copies the licences.
 
 usage: bindings/js/make.py [--check]    with --check names the files that are out of date; status 1 if there are some
 """

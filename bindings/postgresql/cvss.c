@@ -2,7 +2,7 @@
  * CVSS in SQL: the functions of the extension cvss of PostgreSQL. docs/SQL.md says what each answers, and
  * bindings/sql/answers.h how.
  *
- * A text is asked by its bytes, in whatever encoding the database has. The library keeps no memory beyond a call, and
+ * A text is read as its bytes, in whatever encoding the database has. The library keeps no memory beyond a call, and
  * no error of the server is raised within one.
  */
 #include "postgres.h"
@@ -332,7 +332,7 @@ sql_cvss_severity_of(PG_FUNCTION_ARGS)
 	PG_RETURN_TEXT_P(cstring_to_text_with_len(severity, length));
 }
 
-/* Refuses by an error that tells the reason, which a CHECK that is false cannot. */
+/* Rejects by an error with the reason, which a CHECK that is false cannot. */
 PG_FUNCTION_INFO_V1(sql_cvss_check);
 Datum
 sql_cvss_check(PG_FUNCTION_ARGS)
@@ -346,7 +346,7 @@ sql_cvss_check(PG_FUNCTION_ARGS)
 	PG_RETURN_BOOL(true);
 }
 
-/* How far a text has been searched: behind the last mention, whose next byte is the character of this place. */
+/* How far a text has been searched: after the last match, whose next byte is the character at this position. */
 typedef struct Search
 {
 	Text		text;
@@ -354,7 +354,7 @@ typedef struct Search
 	int			place;
 } Search;
 
-/* The next mention as a row: its place, the text of it, the canonical text of its vector, and whether that is complete. */
+/* The next match as a row: its position, its text, the canonical text of its vector, and whether that is complete. */
 static Datum
 mention_row(TupleDesc columns, Search *search, size_t start, size_t length)
 {
@@ -372,13 +372,13 @@ mention_row(TupleDesc columns, Search *search, size_t start, size_t length)
 	/* a view that was made with version 1.0 has three columns */
 	nulls[3] = complete == CVSS_NOTHING;
 	values[3] = BoolGetDatum(complete > 0);
-	/* a mention is ASCII */
+	/* a match is ASCII */
 	search->place += (int) length;
 	search->end = start + length;
 	return HeapTupleGetDatum(heap_form_tuple(columns, values, nulls));
 }
 
-/* The vectors that are mentioned in a text, in order; a row for each call. */
+/* The vectors in a text, in order; a row for each call. */
 PG_FUNCTION_INFO_V1(sql_cvss_find);
 Datum
 sql_cvss_find(PG_FUNCTION_ARGS)

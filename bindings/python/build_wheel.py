@@ -1,7 +1,7 @@
-"""Makes a wheel and a source archive of the package and the library, by the standard library alone (PEP 517).
+"""Makes a wheel and a source archive of the package and the library, with only the standard library (PEP 517).
 
-The library is the file that the variable CVSS_LIBRARY names, or the one that a source archive has, or the one that
-bindings/build has made. It is in both: to build it, the whole repository is needed.
+The library is the file that the variable CVSS_LIBRARY names, or the one in a source archive, or the one that
+bindings/build has made. Both contain it, since building it needs the whole repository.
 """
 
 import base64
@@ -23,7 +23,7 @@ _SUFFIXES = (".py", ".typed")
 # A wheel runs on what its platform names and no other: the library is linked to a C library, and to no Python. The
 # setting `platform` names another one than this machine's, such as manylinux2014_aarch64.
 _PLATFORM = f"linux_{os.uname().machine}"
-# They stand at the root of a checkout, of a source archive, and beside the installed sources.
+# They are at the root of a checkout, of a source archive, and next to the installed sources.
 _LICENSES = ("LICENSE-APACHE", "LICENSE-MIT", "NOTICE")
 _ROOTS = (_HERE, _HERE.parent, _HERE.parent.parent)
 _HEAD = """\
@@ -121,7 +121,7 @@ def build_wheel(
     config_settings: Optional[Dict[str, str]] = None,
     metadata_directory: Optional[str] = None,
 ) -> str:
-    """Writes the wheel into a folder, and tells its name. The same files make the same bytes."""
+    """Writes the wheel into a folder, and returns its name. The same files make the same bytes."""
     version = _version()
     tag = f"py3-none-{(config_settings or {}).get('platform', _PLATFORM)}"
     name = f"cvss_proved-{version}-{tag}.whl"
@@ -135,7 +135,7 @@ def build_wheel(
 
 
 def build_sdist(sdist_directory: str, config_settings: Optional[Dict[str, str]] = None) -> str:
-    """Writes the source archive into a folder, and tells its name."""
+    """Writes the source archive into a folder, and returns its name."""
     version = _version()
     folder = f"cvss_proved-{version}"
     files = {name: (_HERE / name).read_bytes() for name in ("README.md", "build_wheel.py", "pyproject.toml")}

@@ -1,4 +1,4 @@
-"""Tries the package: the stored lines of the repository, and what texts, vectors and errors have to do.
+"""Tests the package: the stored lines of the repository, and how texts, vectors and errors behave.
 
 Usage: check.py ROOT, the folder of the checkout. The package is the one that Python finds.
 """

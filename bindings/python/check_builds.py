@@ -1,4 +1,4 @@
-"""Tries what build_wheel.py makes: a wheel and a source archive, each with the licences and the library.
+"""Tests what build_wheel.py makes: a wheel and a source archive, each with the licences and the library.
 
 Usage: check_builds.py ROOT FOLDER. ROOT is the folder of the checkout; the two files are put into FOLDER, and stay.
 """

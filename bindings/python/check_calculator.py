@@ -1,4 +1,4 @@
-"""Tries the command that opens the calculator, with a stand-in for the browser.
+"""Tests the command that opens the calculator, with a stand-in for the browser.
 
 Usage: check_calculator.py ROOT, the folder of the checkout. The package is the one that Python finds.
 """

@@ -15,7 +15,7 @@ typedef struct Text {
     size_t length;
 } Text;
 
-/* What a function is asked: its first argument, and its second where it has one, which else is empty. */
+/* The arguments of a function: the first, and the second if it has one, which otherwise is empty. */
 typedef struct Question {
     Text text;
     Text second;
@@ -267,7 +267,7 @@ static inline int32_t is_complete(const Question *question)
     return scores_of(question).is_complete;
 }
 
-/* Why a reading that asks for all base metrics refuses the text. Only a vector of v3 may be accepted without some. */
+/* Why a strict reading rejects the text. Only a v3 vector may be accepted without all base metrics. */
 static inline size_t put_strict_reason(const Question *question, void *buffer, size_t size)
 {
     size_t count;
@@ -300,7 +300,7 @@ static inline int32_t nomenclature_number(const Text *name)
     return CVSS_NOTHING;
 }
 
-/* The score of v4.0 by the nomenclature that is the second argument. One that is none is to be refused before. */
+/* The v4.0 score by the nomenclature in the second argument. An unknown one has to be rejected before. */
 static inline int32_t nomenclature_score(const Question *question)
 {
     int32_t scores[4];

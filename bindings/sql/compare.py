@@ -1,10 +1,10 @@
 #!/usr/bin/env python3
 """Writes the queries that compare the functions with the table `expected`, which has the columns of expected.py.
 
-Each query tells a function, the rows that it was asked for, and how many of its answers are wrong. The same queries
-are run by SQLite and by PostgreSQL. usage: compare.py postgresql|sqlite characters|bytes
+Each query returns a function, the number of rows it was called for, and how many of its answers are wrong. SQLite and
+PostgreSQL run the same queries. usage: compare.py postgresql|sqlite characters|bytes
 
-The last word says how places in the texts are counted.
+The last word says how positions in the texts are counted.
 """
 import sys
 from pathlib import Path
@@ -16,7 +16,7 @@ import v2
 import v3
 import v4
 
-# What is asked, and what the answer has to be.
+# The calls, and the expected answers.
 ASKED = {
     "cvss_is_valid": ("cvss_is_valid(text)", "reason IS NULL"),
     "cvss_canonical": ("cvss_canonical(text)", "canonical"),
@@ -49,13 +49,13 @@ TABLES = {"2.0": v2.METRICS, "3.0": v3.METRICS, "3.1": v3.METRICS, "4.0": v4.MET
 
 
 def by_version(of_metrics, other):
-    """An expression of the metrics of each version, and one for texts that are refused."""
+    """An expression for the metrics of each version, and one for texts that are rejected."""
     arms = " ".join(f"WHEN '{version}' THEN {of_metrics(metrics)}" for version, metrics in TABLES.items())
     return f"CASE version {arms} ELSE {other} END"
 
 
 def joined(cased):
-    """The components of the metrics that there are, in the order of the version's table, asked by names in a case."""
+    """The components of the metrics, in the order of the version's table, by names in a letter case."""
     def of(metrics):
         return " || ".join(f"coalesce('/{name}:' || cvss_metric(text, '{cased(name)}'), '')" for name in metrics)
 
@@ -69,7 +69,7 @@ def of_other_versions(metrics):
     return " || ".join(f"coalesce(cvss_metric(text, '{name}'), '')" for name in others)
 
 
-# All metrics of a vector, joined, are its canonical text, in whatever case they are asked for. A metric of another version
+# All metrics of a vector, joined, are its canonical text, in whatever case their names are. A metric of another version
 # is NULL, and so is every metric of a text that is refused.
 ALL = "CASE version WHEN '2.0' THEN '/' || canonical ELSE substr(canonical, 9) END"
 ASKED["cvss_metric"] = (joined(str), ALL)
@@ -83,7 +83,7 @@ HAS_ALL = " AND ".join(f"canonical LIKE '%/{name}:%'" for name in v3.BASE)
 ASKED["cvss_is_complete"] = (
     "cvss_is_complete(text)", f"CASE WHEN version LIKE '3._' THEN {HAS_ALL} WHEN version IS NOT NULL THEN true END")
 
-# In PostgreSQL, what an error tells.
+# In PostgreSQL, the message of an error.
 REFUSAL_OF = """CREATE OR REPLACE FUNCTION refusal_of(given text) RETURNS text LANGUAGE plpgsql AS $$
 BEGIN
     RETURN CASE cvss_check(given) WHEN true THEN NULL ELSE 'no answer' END;

@@ -4,9 +4,9 @@
 usage: document.py sqlite|postgresql queries|answers|ranking
        document.py python program|answer
 
-The queries are the blocks of SQL, in order, that are for both databases or for this one; the answers are the blocks
-`text` after these. The ranking is the query that puts refused rows last. The program is the block of Python, and its
-answer the comment at its end.
+The queries are the blocks of SQL, in order, for both databases or for this one; the answers are the blocks `text` after
+them. The ranking is the query that puts rejected rows last. The program is the block of Python, and its answer the
+comment at its end.
 """
 import sys
 from pathlib import Path

@@ -1,14 +1,14 @@
 #!/usr/bin/env python3
-"""Writes texts, with what the functions of SQL have to answer to them, by the second implementation in reference/.
+"""Writes texts with the expected answers of the SQL functions, from the second implementation in reference/.
 
 usage: expected.py kit|COUNT
-       expected.py calls COUNT      prints the first column and those of CALLS alone, of other texts
+       expected.py calls COUNT      prints the first column and those of CALLS, for other texts
        expected.py columns          prints the columns with their types, as CREATE TABLE reads them
-       expected.py utf-8 < ROWS     passes on the rows in which all is UTF-8
+       expected.py utf-8 < ROWS     passes on the rows that are UTF-8
 
-The texts are those of the conformance kit, or COUNT hostile ones, drawn at random and always the same. Beside each text
-metrics are drawn to set in its vector, and a version and components to build one of. The columns of COLUMNS are separated
-by tabs, as COPY of PostgreSQL reads them: NULL is \\N, and a byte that is no visible ASCII character is written as \\x and
+The texts are those of the conformance kit, or COUNT hostile ones, random but always the same. Each text comes with random
+metrics to set in its vector, and a version and components to build one from. The columns of COLUMNS are separated by
+tabs, as COPY of PostgreSQL reads them: NULL is \\N, and a byte that is no visible ASCII character is written as \\x and
 two digits. The tests of Python, Rust and Go read rows of `calls`, of which some are in bindings/stored/calls.
 """
 import random
@@ -52,7 +52,7 @@ def scored(text):
 
 
 def account(canonical):
-    """The account of a vector; none where a number has more than seven decimals, and may so be told in other ways."""
+    """The explanation of a vector; none if a number has more than seven decimals, since its digits may differ."""
     told = accounts.account(canonical)
     return accounts.written(told) if accounts.is_exact(told) else None
 
@@ -64,7 +64,7 @@ def defined(metrics, canonical):
 
 
 def outcome(call, *given):
-    """What a call answers; why it refuses; and of this the number of the kind, the metric and what is quoted."""
+    """What a call returns; why it rejects; and for that the number of the kind, the metric and what is quoted."""
     try:
         return call(*given), None, None
     except reference.Refused as refused:
@@ -107,7 +107,7 @@ CHARACTER = re.compile(rb"[\xc0-\xff][\x80-\xbf]*|.", re.S)
 
 
 def found(text):
-    """The vectors that are mentioned in a text, with their places in characters and in bytes."""
+    """The vectors in a text, with their positions in characters and in bytes."""
     by_characters, by_bytes = [], []
     for place, mention, answer in finding.found(text):
         told = mention.decode()
@@ -119,7 +119,7 @@ def found(text):
 
 
 def called(draw, canonical, version, refused):
-    """What is answered to metrics that are drawn: set in a vector, or refused as its text is; and built into one."""
+    """The answers for random metrics: set in a vector, or rejected as its text is; and built into one."""
     given, asked = some_metrics(draw, version), some_version(draw)
     components = some_components(draw, asked)
     told = {"metrics": given, "asked": asked, "components": components}
@@ -143,7 +143,7 @@ def answers(draw, text, row=None):
 
 
 def escaped(column):
-    """A column as it stands in a file."""
+    """A column as it is in a file."""
     if column is None:
         return "\\N"
     code = column if isinstance(column, bytes) else column.encode("utf-8")
@@ -166,7 +166,7 @@ def is_utf8(row):
 
 
 def kit():
-    """The texts of the kit, with the scores that are stored there; beside one in ten are metrics."""
+    """The texts of the kit, with the scores that are stored there; one in ten has metrics."""
     draw = random.Random(62)
     for name in ("scores.tsv", "refused.tsv"):
         for number, row in enumerate(read_table(ROOT / "conformance" / name)):

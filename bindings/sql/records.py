@@ -7,7 +7,7 @@ CIA = (("C", "confidentiality"), ("I", "integrity"), ("A", "availability"))
 CIA_V4 = (("C", "Confidentiality"), ("I", "Integrity"), ("A", "Availability"))
 REQUIREMENTS = {f"{letter}R": (f"{word}Requirement", DEGREES) for letter, word in CIA}
 
-# Of each metric the member, and the words of its values, which the first letters tell but for those below.
+# For each metric the member, and the words of its values, which the first letters select except for those below.
 V2 = {
     "AV": ("accessVector", "LOCAL ADJACENT_NETWORK NETWORK"),
     "AC": ("accessComplexity", "HIGH MEDIUM LOW"),
@@ -68,7 +68,7 @@ V4["MSC"] = (V4["MSC"][0], "NEGLIGIBLE LOW HIGH")
 for changed in ("MSI", "MSA"):
     V4[changed] = (V4[changed][0], "NEGLIGIBLE LOW HIGH SAFETY")
 
-# Values that a word does not tell by its first letter alone.
+# Values that the first letter of a word does not select.
 SPELLINGS = {
     "2.0": {"POC": "PROOF_OF_CONCEPT", "OF": "OFFICIAL_FIX", "TF": "TEMPORARY_FIX", "UC": "UNCONFIRMED",
             "UR": "UNCORROBORATED", "LM": "LOW_MEDIUM", "MH": "MEDIUM_HIGH"},
@@ -90,7 +90,7 @@ def is_environmental(version, name):
 
 
 def told_groups(version, names):
-    """The groups whose scores a record tells."""
+    """The groups whose scores a record has."""
     yield "base"
     if version != "4.0":
         if any(name in TEMPORAL for name in names):

@@ -2,14 +2,14 @@
  * CVSS in SQL: an extension that SQLite loads, `.load ./cvss`. docs/SQL.md says what each function answers, and
  * bindings/sql/answers.h how.
  *
- * A text is what its bytes are, and so is a blob; a number is asked as it is printed. NULL is answered by NULL. The
+ * A text is what its bytes are, and so is a blob; a number is read as it is printed. For NULL the answer is NULL. The
  * functions keep nothing between calls, so that any number of threads may use them, each with its own connection.
  */
 #include "argument.h"
 
 SQLITE_EXTENSION_INIT1
 
-/* Newer releases want to be told that a function marks its texts as JSON. */
+/* Newer releases require a flag for a function that marks its texts as JSON. */
 #ifndef SQLITE_RESULT_SUBTYPE
 #define SQLITE_RESULT_SUBTYPE 0
 #endif
@@ -42,7 +42,7 @@ int cvss_read_value(sqlite3_value *value, Text *text)
     return SQLITE_OK;
 }
 
-/* The bytes of an argument. False where it is NULL, or there is no memory for its bytes, which is told. */
+/* The bytes of an argument. False if it is NULL, or if there is no memory for its bytes, which is reported. */
 static bool read_argument(sqlite3_context *context, sqlite3_value *value, Text *text)
 {
     int status = cvss_read_value(value, text);

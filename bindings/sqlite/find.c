@@ -1,5 +1,5 @@
 /*
- * The table-valued function cvss_find(text) of SQLite: a row for each vector that is mentioned in the text, in order. It
+ * The table-valued function cvss_find(text) of SQLite: a row for each vector in the text, in order. It
  * is an eponymous virtual table, whose hidden column is the argument.
  */
 #include "argument.h"
@@ -84,7 +84,7 @@ static int close_cursor(sqlite3_vtab_cursor *base)
     return SQLITE_OK;
 }
 
-/* How many characters SQLite counts in bytes of a text: a byte from 0xC0 on takes those of 0x80 to 0xBF behind it. */
+/* How many characters SQLite counts in bytes of a text: a byte from 0xC0 on takes the bytes 0x80 to 0xBF after it. */
 static sqlite3_int64 characters(const char *bytes, size_t length)
 {
     sqlite3_int64 count = 0;
@@ -135,7 +135,7 @@ static int is_past(sqlite3_vtab_cursor *base)
     return ((Cursor *)base)->length == 0;
 }
 
-/* The canonical text of the mention; NULL where it is refused. */
+/* The canonical text of the match; NULL if it is rejected. */
 static void tell_vector(sqlite3_context *context, const char *given, size_t length)
 {
     char *canonical;

@@ -1,10 +1,10 @@
 #!/usr/bin/env python3
-"""Makes a database with the table `expected` of the rows on standard input, which expected.py writes.
+"""Makes a database with the table `expected` from the rows on standard input, which expected.py writes.
 
 usage: load.py FILE text|blob|utf-16
 
-The columns that functions are given are stored as texts, whatever their bytes are, or as blobs; in a database of UTF-16
-there are only the rows whose texts are UTF-8.
+The arguments of functions are stored as texts, whatever their bytes are, or as blobs; a database in UTF-16 has only the
+rows whose texts are UTF-8.
 """
 import sqlite3
 import sys

@@ -1,10 +1,10 @@
 #!/usr/bin/env python3
-"""Tells what is known of each line of standard input, by the second implementation in reference/ alone.
+"""Prints the facts of each line of standard input, from the second implementation in reference/ alone.
 
-Its answers, for the first lines of crates/cvss_vectors/stdin, are kept in the file facts beside it. The programs of all
-languages have to answer the same. Of an accepted line the answer is: its canonical text, the version, the
-nomenclature, whether all base metrics are there, three scores with their ratings, and the metrics. Of a refused
-one: the number of the kind, the metric that is blamed, and the reason. What there is not is told as `-`.
+Its output for the first lines of crates/cvss_vectors/stdin is in the file `facts` in this folder. The programs of all
+languages have to answer the same. For a valid line the facts are its canonical text, the version, the nomenclature,
+whether all base metrics are present, three scores with their ratings, and the metrics; for a rejected one the number of
+the kind, the metric that is named, and the reason. `-` is for what does not exist.
 """
 import sys
 from pathlib import Path

@@ -1,9 +1,9 @@
 #!/usr/bin/env python3
-"""Gives the functions that a module exports pointers and lengths of 32 bits, which JavaScript has as numbers.
+"""Gives the exported functions of a module 32-bit pointers and lengths, which JavaScript has as numbers.
 
-The module, as text on standard input, has a memory of 32 bits and functions with 64-bit pointers. Each export becomes a
-function that extends its arguments, calls the one that was exported, and wraps the result, which fits since a memory has
-less than 2^32 bytes. The number that says where free memory begins is written with 32 bits too.
+The module, as text on standard input, has a 32-bit memory and functions with 64-bit pointers. Each export becomes a
+function that extends its arguments, calls the exported one, and wraps the result, which fits since a memory has less
+than 2^32 bytes. The number that says where free memory begins is written with 32 bits too.
 """
 import re
 import sys

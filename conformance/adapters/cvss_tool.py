@@ -19,7 +19,7 @@ def main():
             told = line.decode("utf-8").rstrip("\n")
             reason = told.removeprefix("error: ")
             print(told if reason == told else f"error: {kind_of(reason)}")
-    # 1 says that a line was refused.
+    # 1 says that a line was rejected.
     return 0 if program.returncode in (0, 1) else 2
 
 

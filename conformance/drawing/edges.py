@@ -1,4 +1,4 @@
-"""Where an equation has an edge: versions that differ, numbers below 0, an impact at its cap."""
+"""Edge cases of the equations: versions that differ, numbers below 0, an impact at its cap."""
 from fractions import Fraction
 from itertools import product
 

@@ -1,4 +1,4 @@
-"""Classes of v4.0: the ends of its 270 classes, exact halves, Safety, nomenclature."""
+"""MacroVectors of v4.0: both ends of all 270, exact halves, Safety, nomenclature."""
 from fractions import Fraction
 from functools import lru_cache, reduce
 from itertools import product

@@ -1,7 +1,7 @@
-"""Numbers that lie on a jump of their version's rounding, or near it, in v2, v3.0 and v3.1.
+"""Numbers on a jump of their version's rounding, or near it, in v2, v3.0 and v3.1.
 
-Every number that is rounded on the way to a score is looked at once: the same number from other
-metrics is the same row.
+Every number that is rounded while a score is computed counts once: the same number from other metrics
+is the same row.
 """
 from fractions import Fraction
 from functools import lru_cache
@@ -32,7 +32,7 @@ def rounded(version, number):
 
 
 def assignments(version, names, without=("X", "ND")):
-    """All values of the metrics, but for those that weigh as another one does by definition."""
+    """All values of the metrics, except those that weigh the same as another by definition."""
     values = ([value for value in METRICS[version][name][1] if value not in without]
               for name in names)
     return [dict(zip(names, chosen)) for chosen in product(*values)]
@@ -47,7 +47,7 @@ def firsts(pairs):
 
 
 def exploit_metrics(version):
-    """The base metrics but for the impacts."""
+    """The base metrics except the impacts."""
     return [name for name in BASE[version] if name not in IMPACTS]
 
 

@@ -1,4 +1,4 @@
-"""Texts that are refused, each for one fault, and some for two of which the first is told."""
+"""Texts that are rejected, each with one error, and some with two of which the first is reported."""
 from itertools import permutations
 
 from .rows import BASE, FRONTS, METRICS, options, refused
@@ -31,7 +31,7 @@ def replaced(pieces, at, *others):
 
 
 def components(version):
-    """Each piece without a colon, with two, empty, doubled in its colon, or none."""
+    """Each segment without a colon, with two, empty, doubled in its colon, or none."""
     pieces = base_pieces(version)
     for at, piece in enumerate(pieces):
         for spoilt in (piece.replace(":", ""), piece + ":", ":" + piece, piece.replace(":", "::"),
@@ -60,7 +60,7 @@ def versions(version):
 
 
 def unknown_names(version):
-    """Each name of other versions behind the base metrics, and names that no version has."""
+    """Each name of other versions after the base metrics, and names that no version has."""
     foreign = dict.fromkeys(name for metrics in METRICS.values() for name in metrics
                             if (name.upper() if FRONTS[version] else name) not in METRICS[version])
     for name in [*foreign, "", "XX", "AVV", "A V", "Q", "MM", "MMAV", "CVSS", "A" * 1000]:
@@ -80,7 +80,7 @@ def foreign_values(version):
 
 
 def repeats(version):
-    """Each metric twice, with the same value and with the next, at the end and beside itself."""
+    """Each metric twice, with the same value and with the next, at the end and next to itself."""
     vector = full_vector(version)
     pieces = pieces_of(version, vector)
     for at, (name, value) in enumerate(vector.items(), len(FRONTS[version])):
@@ -104,7 +104,7 @@ def missing(version):
 
 
 def cases(version):
-    """v2: each name or value in another case; v3, v4: the version piece in another case."""
+    """v2: each name or value in another case; v3, v4: the prefix in another case."""
     pieces = pieces_of(version, full_vector(version))
     if version == "2.0":
         for at, piece in enumerate(pieces):
@@ -117,7 +117,7 @@ def cases(version):
 
 
 def blanks(version):
-    """Blanks and marks that are not seen, before and behind a text, a piece and a value."""
+    """Spaces and invisible marks, before and after a text, a segment and a value."""
     pieces = base_pieces(version)
     for blank in BLANKS:
         yield blank + "/".join(pieces)
@@ -131,7 +131,7 @@ def blanks(version):
 
 
 def lookalikes(version):
-    """Letters beyond ASCII in place of letters."""
+    """Letters beyond ASCII instead of ASCII letters."""
     pieces = pieces_of(version, full_vector(version))
     for at, piece in enumerate(pieces):
         for letter, other in LOOKALIKES.items():
@@ -140,7 +140,7 @@ def lookalikes(version):
 
 
 def no_text(version):
-    """Bytes that are not UTF-8, as a value, as a name and behind the text; each lone one as a
+    """Bytes that are not UTF-8, as a value, as a name and after the text; each lone one as a
     value."""
     pieces = [piece.encode() for piece in base_pieces(version)]
     for byte in range(0x80, 0x100):
@@ -152,7 +152,7 @@ def no_text(version):
 
 
 def first_faults(version):
-    """Two faults in one text, of each two kinds in both orders."""
+    """Two errors in one text, of each two kinds in both orders."""
     faults = ["AV", "AV:N:N", "QQ:N", "AV:Q", "RC:Q", "PR:", base_pieces(version)[1]]
     for first, second in permutations(faults, 2):
         yield "/".join([*base_pieces(version), first, second])

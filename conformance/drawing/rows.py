@@ -14,7 +14,7 @@ import v2
 import v3
 import v4
 
-# Of each version: the version piece, the table of metrics, the base metrics, and how "not defined"
+# For each version: the prefix, the table of metrics, the base metrics, and how "not defined"
 # is spelled.
 FRONTS = {"2.0": [], "3.0": ["CVSS:3.0"], "3.1": ["CVSS:3.1"], "4.0": ["CVSS:4.0"]}
 METRICS = {"2.0": v2.METRICS, "3.0": v3.METRICS, "3.1": v3.METRICS, "4.0": v4.METRICS}
@@ -71,7 +71,7 @@ def tenths(score):
 
 @lru_cache(maxsize=None)
 def answers(version, items):
-    """The columns behind the version, up to the ratings, for the metrics and spellings given."""
+    """The columns after the version, up to the ratings, for these metrics and spellings."""
     vector = dict(items)
     if version == "4.0":
         score = v4.score(vector)
@@ -95,7 +95,7 @@ def accepted(reason, version, vector, text=None):
 
 
 def refused(reason, text):
-    """The row of a text that is refused, with the kind of the first reason why."""
+    """The row of a text that is rejected, with the kind of the first error."""
     try:
         reference.read(reference.text_of(text))
     except reference.Refused as refusal:
@@ -104,7 +104,7 @@ def refused(reason, text):
 
 
 def written(column):
-    """A column as it stands in a file: in texts, what is no visible ASCII character is escaped."""
+    """A column as it is in a file: in texts, what is no visible ASCII character is escaped."""
     if isinstance(column, str):
         return column
     return "".join(chr(byte) if 0x20 < byte < 0x7f and byte != 0x5c else f"\\x{byte:02x}"

@@ -1,4 +1,4 @@
-"""Texts of all versions: values of metrics, values not defined, orders, cases, metrics left out."""
+"""Texts of all versions: values of metrics, values not defined, orders, cases, missing metrics."""
 from .rows import BASE, FRONTS, METRICS, UNDEFINED, accepted, base_vector, in_order, options
 
 # Two vectors of the base metrics of each version, in printing order; in v3 their scopes differ.

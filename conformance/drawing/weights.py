@@ -1,5 +1,6 @@
-"""Vectors that tell a wrong weight, in v2, v3.0 and v3.1: for each weight, and a hundredth and a
-thousandth more and less, one of which a score would be another, where there is one."""
+"""Vectors that reveal a wrong weight, in v2, v3.0 and v3.1: for each weight, a hundredth or a thousandth
+more or less, one with another score, if there is one.
+"""
 from contextlib import contextmanager
 from fractions import Fraction
 from functools import lru_cache
@@ -54,7 +55,7 @@ def scored_bases(version, names):
 
 
 def groups(version):
-    """The groups of metrics, with the score that tells their weights and the vectors to search."""
+    """The groups of metrics, with the score that shows their weights and the vectors to search."""
     yield BASE[version], base_score, assignments(version, BASE[version])
     yield TEMPORAL, temporal_score, scored_bases(version, TEMPORAL)
     if version == "2.0":
@@ -76,7 +77,7 @@ def with_value(version, vectors, name, value):
 
 
 def changes(version, name, value):
-    """The table and key of a weight, with what stands there when it is changed, for each change."""
+    """The table and key of a weight, with its value there, for each change."""
     words, weights = METRICS[version][name]
     for change in CHANGES:
         other = Fraction(weights[value]) + change

@@ -1,4 +1,4 @@
-"""What the page answers: rows of the conformance kit, rejected texts, tables of many vectors, two side by side."""
+"""What the page shows: rows of the conformance kit, rejected texts, tables of many vectors, two side by side."""
 
 import re
 from pathlib import Path
@@ -85,7 +85,7 @@ def check_kit(page: Page, root: Path, clicked: int, most: int) -> None:
 
 
 def check_rejected(page: Page, root: Path) -> None:
-    """The reason is beside the field, and nothing that was chosen is lost."""
+    """The reason is next to the field, and nothing that was chosen is lost."""
     before = page.choose("3.1", metrics_of(V3))
     kept = ("chosen", "number", "rating", "vector", "version", "scores")
     whole = re.compile(r"(CVSS:)?(?!.*CVSS:)[A-Za-z0-9:/.]*[A-Za-z0-9]")

@@ -1,5 +1,5 @@
-"""Tries the calculator in a browser, from a file and from a static host: what it shows is what the conformance kit and
-the second implementation have.
+"""Tests the calculator in a browser, from a file and from a static host: it shows what the conformance kit and the
+second implementation have.
 
 Usage: check_page.py ROOT FOLDER BROWSER COMMAND. ROOT is the folder of the checkout; a file is saved into FOLDER;
 BROWSER is chromium or firefox; COMMAND is chromedriver or firefox.

@@ -84,12 +84,12 @@ class Chromium:
         actions.perform()
 
     def console(self) -> List[Any]:
-        """The messages of the console since this was last asked."""
+        """The messages of the console since the last call."""
         messages: List[Any] = self.driver.get_log("browser")
         return messages
 
     def requests(self) -> List[str]:
-        """The addresses that pages have asked for since this was last asked."""
+        """The addresses that pages have requested since the last call."""
         messages = [json.loads(entry["message"])["message"] for entry in self.driver.get_log("performance")]
         return [message["params"]["request"]["url"] for message in messages
                 if message["method"] == "Network.requestWillBeSent"]
@@ -123,7 +123,7 @@ class Page:
         self.url = url
 
     def open(self, fragment: str = "") -> Dict[str, Any]:
-        """Opens the page anew, as a link with this fragment does."""
+        """Opens the page again, as a link with this fragment does."""
         self.browser.get("about:blank")
         self.browser.get(f"{self.url}{fragment}")
         return self.state()

@@ -1,4 +1,4 @@
-"""Why a score is what it is, as the page shows it, compared with the second implementation."""
+"""How a score is computed, as the page shows it, compared with the second implementation."""
 
 import json
 import re

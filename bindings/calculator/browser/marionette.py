@@ -1,4 +1,4 @@
-"""Firefox without a window, by Marionette, the protocol that geckodriver speaks to it, which Debian has no package of.
+"""Firefox without a window, through Marionette, the protocol of geckodriver, which Debian does not package.
 
 A message is the length of a JSON array in decimal, a colon, and the array: [0, number, command, parameters] one way,
 and [1, number, error, result] the other.
@@ -106,7 +106,7 @@ class Firefox:
         self.send("WebDriver:PerformActions", {"actions": actions})
 
     def console(self) -> List[str]:
-        """The errors and warnings of pages since this was last asked, those of the policy among them."""
+        """The errors and warnings of pages since the last call, also those of the policy."""
         self.send("Marionette:SetContext", {"value": "chrome"})
         script = """
         const messages = Services.console.getMessageArray().filter((each) => each instanceof Ci.nsIScriptError);

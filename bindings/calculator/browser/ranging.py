@@ -1,5 +1,6 @@
-"""The scores that the page foresees: of an incomplete vector their range, and in each value the score that it would
-give. Both are compared with the second implementation."""
+"""The scores that the page predicts: the range of an incomplete vector, and at each value the score that it would give.
+Both are compared with the second implementation.
+"""
 
 import subprocess
 import sys

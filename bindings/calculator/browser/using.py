@@ -186,7 +186,7 @@ fetch(`${location.pathname}?fetch`).then(() => done("fetched"), () => setTimeout
 
 
 def check_policy(page: Page, host: Host) -> None:
-    """The browser refuses every request and every other script, as the policy in the page says."""
+    """The browser rejects every request and every other script, as the policy in the page says."""
     page.open()
     before = len(host.requests)
     title = page.browser.run_async(_ESCAPE)
@@ -197,7 +197,7 @@ def check_policy(page: Page, host: Host) -> None:
 
 
 def check_silent(browser: Browser, url: str) -> None:
-    """The consoles are empty, and no page has asked for anything but itself and for what it makes by itself."""
+    """The consoles are empty, and no page has requested anything except itself and what it makes by itself."""
     messages = browser.console()
     assert messages == [], messages
     if isinstance(browser, Chromium):

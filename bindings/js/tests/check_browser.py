@@ -1,4 +1,4 @@
-"""Tries the package in a browser: as a script of a page that is a file, and served, as a module and in workers.
+"""Tests the package in a browser: as a script of a page that is a file, and served, as a module and in workers.
 
 Usage: check_browser.py PACKAGE FOLDER, the folder of the package and one for what the browser writes.
 """

@@ -1,7 +1,7 @@
-"""CVSS vectors of v2, v3.0, v3.1 and v4.0: read, printed and scored.
+"""CVSS vectors of v2, v3.0, v3.1 and v4.0: parsed, normalized and scored.
 
-The answers are those of a library whose functions are proved up to the call; this package calls it through
-ctypes and computes no score itself. Python 3.8 and later, on Linux and x86-64.
+The results come from a library whose functions are proved up to the call. This package calls it through ctypes and
+computes no score itself. Python 3.8 and later, on Linux on x86-64 and ARM64.
 
 >>> vector = Vector("CVSS:3.1/AV:N/AC:L/PR:N/UI:N/S:U/C:H/I:H/A:H")
 >>> vector.score, vector.severity

@@ -10,7 +10,7 @@ from . import __version__, answer
 
 
 def main(arguments: Optional[List[str]] = None) -> int:
-    """Prints a line for each vector. The status is 1 where one is refused, else 0."""
+    """Prints a line for each vector. The status is 1 if one is rejected, otherwise 0."""
     parser = argparse.ArgumentParser(
         prog="python -m cvss_proved",
         description="Prints the canonical text, the score and the rating of each CVSS vector; or why it is refused. "

@@ -18,7 +18,7 @@ Kind = Literal[
     "missing metric",
     "not UTF-8",
 ]
-"""The kind of the reason why a text is refused."""
+"""The kind of the reason why a text is rejected."""
 
 _KINDS: Dict[int, Kind] = {
     1: "invalid component",
@@ -68,14 +68,14 @@ class CvssError(ValueError):
 
     @classmethod
     def of(cls, text: Text) -> CvssError:
-        """The error of a text that is refused."""
+        """The error of a text that is rejected."""
         code = _library.bytes_of(text)
         kind = _KINDS[_library.refusal_kind(code)]
         return cls(_library.reason(code), kind, _library.refusal_metric(code), _library.refusal_value(code))
 
     @classmethod
     def of_reason(cls, reason: str) -> CvssError:
-        """The error of metrics that are refused, by the library's reason, which the index of a metric may precede."""
+        """The error of metrics that are rejected, from the library's reason, which may begin with the index of a metric."""
         words = re.sub(r"\Ametric [0-9]+: ", "", reason)
         kind = next(kind for beginning, kind in _BEGINNINGS.items() if words.startswith(beginning))
         named = _NAMED.match(words)

@@ -25,7 +25,7 @@ def _found_in_characters(code: bytes, strict: bool) -> Iterator[Tuple[int, str, 
         place += len(code[last:start].decode("utf-8", "surrogatepass"))
         mention = code[start:end]
         yield place, mention.decode(), _read(mention, strict)
-        # a mention is ASCII
+        # a match is ASCII
         place += end - start
         last = end
 
@@ -49,11 +49,11 @@ def find(
 def find(
     text: Text, *, strict: bool = False
 ) -> Union[Iterator[Tuple[int, str, Found]], Iterator[Tuple[int, bytes, Found]]]:
-    """The vectors that are mentioned in any text, in order: in a sentence, in parentheses, in a link.
+    """The vectors in any text, in order: in a sentence, in parentheses, in a link.
 
-    Each is told by its place, from 0, in characters for a `str` and else in bytes; by the text of the mention; and by
-    its `Vector`, or, where it begins with `CVSS:`, has a slash and denotes no vector, by the `CvssError` that tells why.
-    A vector of v3 may have been cut off: then its `is_complete` is false, and with `strict` it is a `CvssError`.
+    Each has its position, from 0, in characters for a `str` and otherwise in bytes; its text; and its `Vector`. If it
+    begins with `CVSS:`, has a slash and is no valid vector, it has the `CvssError` with the reason in place of a
+    `Vector`. A v3 vector may be truncated: then its `is_complete` is false, and with `strict` it is a `CvssError`.
 
     >>> for place, text, found in find("scored 7.8 (AV:N/AC:L/Au:N/C:N/I:N/A:C), or CVSS:3.1/AV:Q."):
     ...     print(place, text, repr(found))

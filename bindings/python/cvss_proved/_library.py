@@ -126,7 +126,7 @@ def _written(size: int, call: Callable[..., int], *given: Union[bytes, int]) -> 
         size = length
 
 
-# What a call of cvss_read writes into: a struct with a text behind it, and the last three arguments, which tell them.
+# The output of cvss_read: a struct followed by a text, and the last three arguments, which point to them.
 _Room = Tuple[Any, Any, Any, ctypes.c_size_t]
 
 
@@ -163,7 +163,7 @@ def without_undefined(text: bytes) -> str:
 
 
 def overridden(text: bytes, overrides: bytes) -> str:
-    """The canonical text of the vector of v4.0 that a text denotes, with overrides in place, or nothing."""
+    """The canonical text of the v4.0 vector that a text denotes, with overrides set, or nothing."""
     return _written(len(text) + len(overrides) + 1, _library.cvss_overridden, text, overrides)
 
 
@@ -204,22 +204,22 @@ def record(text: bytes) -> str:
 
 
 def account(text: bytes) -> str:
-    """The account of the vector that a text denotes, or nothing."""
+    """The explanation of the score of the vector that a text denotes, or nothing."""
     return _written(2048, _library.cvss_account, text)
 
 
 def reason(text: bytes) -> str:
-    """Why a text is refused, or nothing."""
+    """Why a text is rejected, or nothing."""
     return _written(len(text) + 120, _library.cvss_reason, text)
 
 
 def refusal_kind(text: bytes) -> int:
-    """The number of the kind of refusal, or 0."""
+    """The number of the kind of error, or 0."""
     return int(_library.cvss_refusal_kind(text, len(text)))
 
 
 def refusal_metric(text: bytes) -> str:
-    """The metric that a refusal blames, or nothing."""
+    """The metric that the reason names, or nothing."""
     return _written(8, _library.cvss_refusal_metric, text)
 
 
@@ -246,7 +246,7 @@ def answers(lines: bytes) -> bytes:
 
 
 def find(text: bytes) -> Iterator[Tuple[int, int]]:
-    """Where each vector that is mentioned in a text begins, and where it ends."""
+    """Where each vector in a text begins and ends."""
     start, length = ctypes.c_size_t(), ctypes.c_size_t()
     own_start, own_length = ctypes.byref(start), ctypes.byref(length)
     end = 0

@@ -72,10 +72,10 @@ class Vector:
     _numbers: Tuple[int, ...]
 
     def __init__(self, text: Text, *, strict: bool = False) -> None:
-        """Reads a text. One that denotes no vector is refused by `CvssError`.
+        """Parses a text. Raises `CvssError` if it is no valid vector.
 
-        With `strict` a vector of v3 that lacks base metrics is refused too, as FIRST's document has it, for the first one
-        that is missing.
+        With `strict` a v3 vector that lacks base metrics is rejected too, for the first missing one: FIRST's document makes
+        them mandatory.
 
         >>> Vector("CVSS:3.1/AV:N/AC:L/PR:N/UI:N/S:U", strict=True)
         Traceback (most recent call last):
@@ -158,7 +158,7 @@ class Vector:
 
     @property
     def score(self) -> float:
-        """The score that is published of the vector: in v2 and v3 the base score."""
+        """The score: in v2 and v3 the base score, in v4.0 the score of all metrics in the vector."""
         return self.tenths / 10
 
     @property
@@ -184,13 +184,13 @@ class Vector:
 
     @property
     def nomenclature(self) -> Optional[Nomenclature]:
-        """Which groups of metrics a score of v4.0 rests on; None in v2 and v3."""
+        """The groups of metrics that a v4.0 score counts; None in v2 and v3."""
         number = self._numbers[_library.NOMENCLATURE]
         return None if number == NOTHING else NOMENCLATURES[number]
 
     @property
     def nomenclature_scores(self) -> Dict[Nomenclature, float]:
-        """Of v4.0 what the score would be if only these groups of metrics counted; in v2 and v3 it is empty.
+        """For v4.0 the scores of these groups of metrics alone; empty for v2 and v3.
 
         CVSS-B is the score of the base metrics alone, and CVSS-BTE that of all metrics, which is `score`.
 
@@ -203,7 +203,7 @@ class Vector:
 
     @property
     def is_complete(self) -> bool:
-        """Whether all base metrics are there. A v3 text may lack some: it is scored without them.
+        """Whether all base metrics are present. A v3 vector may lack some: it is scored without them.
 
         >>> Vector("CVSS:3.1/AV:N/S:C").is_complete
         False
@@ -248,7 +248,7 @@ class Vector:
     def record(self) -> Dict[str, Any]:
         """The JSON object of FIRST's schema of the version: the text, the metrics, the scores and their ratings.
 
-        Of v4.0 `baseScore` is the score of the vector as it is, with all its metrics.
+        For v4.0 `baseScore` is the score of all metrics in the vector.
 
         >>> record = Vector("AV:N/AC:L/Au:N/C:N/I:N/A:C").record()
         >>> record["version"], record["accessVector"], record["baseScore"]
@@ -257,12 +257,12 @@ class Vector:
         return _object(_library.record(self._code))
 
     def account(self) -> Dict[str, Any]:
-        """Why the score is what it is: the numbers on the way to it.
+        """How the score is computed.
 
-        In v2 and v3 they are the weights, the sub-scores and each score's number before its rounding; in v4.0 the
-        values that count, the macro vector with its listed value, what each group of metrics takes from it, and the
-        number before the rounding. A number is less than 10^-6 from the exact one; it is that one where that has no
-        more than seven decimals, except those of v3 with a changed scope, which have a power.
+        For v2 and v3 it has the weights, the sub-scores and the number before the rounding of each score; for v4.0 the
+        values that count, the MacroVector with its listed score, what each group of metrics takes from it, and the
+        number before the rounding. A number is less than 10^-6 from the exact one. It is exact if that has at most
+        seven decimals, except for those of v3 with a changed scope, which have a power.
 
         >>> account = Vector("CVSS:4.0/AV:N/AC:L/AT:N/PR:N/UI:N/VC:L/VI:H/VA:N/SC:N/SI:N/SA:N/E:P").account()
         >>> account["macroVector"], account["value"], account["mean"], account["number"], account["score"]
@@ -271,10 +271,10 @@ class Vector:
         return _object(_library.account(self._code))
 
     def replace(self: _Own, metrics: Optional[Mapping[str, str]] = None, /, **values: str) -> _Own:
-        """The vector with these metrics, as a mapping or by name, in place of its own or beside them.
+        """The vector with these metrics, as a mapping or by name, which replace its own or are added.
 
         Any metric of the version can be set. In v3 and v4.0 the names and values may be in any ASCII case. `X` and `ND`
-        are values like others: they do not remove a metric. What is refused is a `CvssError`.
+        are values like others: they do not remove a metric. A rejected metric is a `CvssError`.
 
         >>> vector = Vector("CVSS:4.0/AV:N/AC:L/AT:N/PR:N/UI:N/VC:H/VI:H/VA:H/SC:N/SI:N/SA:N")
         >>> vector.score, vector.replace(E="P").score, vector.replace({"AV": "P", "E": "U"}).score
@@ -287,7 +287,7 @@ class Vector:
         return type(self)(text)
 
     def with_overrides(self: _Own, overrides: Mapping[str, str]) -> _Own:
-        """The vector with an organisation's environmental metrics in place of its own, or beside them.
+        """The vector with your own environmental metrics, which replace its own or are added.
 
         The names and values may be in any ASCII case. Into a vector of v4.0 the library puts them, into others this
         package.
@@ -378,7 +378,7 @@ def _check_mapping(metrics: Mapping[str, str]) -> None:
 
 
 def _joined(metrics: Optional[Mapping[str, str]], values: Mapping[str, str]) -> bytes:
-    """The components of metrics. A slash would make two of one, so it is refused as in a component."""
+    """The components of metrics. A slash would make two of one, so it is rejected as in a component."""
     for given in (metrics, values):
         if given is not None:
             _check_mapping(given)
@@ -401,7 +401,7 @@ def _components_of(overrides: Mapping[str, str]) -> List[str]:
 
 
 def answer(text: Text) -> str:
-    """The line that the program cvss_tool answers to a text, without the newline.
+    """The line that the program cvss_tool prints for a text, without its newline.
 
     >>> answer("AV:N/AC:L/Au:N/C:N/I:N/A:C")
     'AV:N/AC:L/Au:N/C:N/I:N/A:C 7.8 high'
@@ -420,9 +420,9 @@ def _lines_of(texts: List[Text]) -> bytes:
 
 
 def answers(texts: Iterable[Text]) -> List[str]:
-    """The answer to each text, by one call of the library: faster than `answer` for each.
+    """The answer to each text, in one call of the library: faster than `answer` for each.
 
-    One text by itself is a `TypeError`: `answer` answers it.
+    A single text is a `TypeError`: use `answer`.
 
     >>> answers(["AV:N/AC:L/Au:N/C:N/I:N/A:C", "AV:N"])
     ['AV:N/AC:L/Au:N/C:N/I:N/A:C 7.8 high', 'error: invalid CVSS metric group component: `AV:N`']
@@ -439,7 +439,7 @@ def answers(texts: Iterable[Text]) -> List[str]:
 
 
 def scores(texts: Iterable[Text]) -> List[Optional[float]]:
-    """The score of each text, and None for one that is refused, by one call of the library.
+    """The score of each text, and None for one that is rejected, in one call of the library.
 
     >>> scores(["AV:N/AC:L/Au:N/C:N/I:N/A:C", "AV:N"])
     [7.8, None]

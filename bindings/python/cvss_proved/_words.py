@@ -54,7 +54,7 @@ class Described(NamedTuple):
 
 
 def file_bytes() -> bytes:
-    """The file, which an installed package has beside this module, and a checkout above the package's folder."""
+    """The file, which is next to this module in an installed package, and above the package's folder in a checkout."""
     here = Path(__file__).resolve().parent
     beside = here / "metrics.json"
     return (beside if beside.is_file() else here.parent.parent / "metrics.json").read_bytes()
@@ -65,7 +65,7 @@ def _values(rows: List[List[str]]) -> Tuple[MetricValue, ...]:
 
 
 def _modified(metric: Dict[str, Any], base: MetricType) -> MetricType:
-    """A modified metric: it has the values of its base metric, or others in their place, and X."""
+    """A modified metric: it has the values of its base metric, or others instead, and X."""
     others = {value.value: value for value in _values(metric.get("others", []))}
     own = [others.pop(value.value, value) for value in base.values]
     absent = MetricValue("X", "Not defined", f"The same as {base.name}.")

@@ -3,19 +3,19 @@
 use crate::{calls, Cvss, Refused};
 use std::iter::FusedIterator;
 
-/// A vector that is mentioned in a text.
+/// A vector in a text.
 #[derive(Clone, Debug, PartialEq, Eq, Hash)]
 pub struct Mention<'a> {
-    /// The place of the mention's first byte in the text, from 0.
+    /// The offset of its first byte in the text.
     pub place: usize,
-    /// The text of the mention, which is ASCII.
+    /// The text of the match, which is ASCII.
     pub text: &'a str,
-    /// The vector; or why the mention is refused, where it begins with `CVSS:`, has a slash and
-    /// denotes none.
+    /// The vector; or why the text is rejected, if it begins with `CVSS:`, has a slash and is no
+    /// valid vector.
     pub found: Result<Cvss, Refused>,
 }
 
-/// The vectors that are mentioned in a text, in order. [`find`] makes it.
+/// The vectors in a text, in order. [`find`] makes it.
 #[derive(Clone, Debug)]
 #[must_use = "it finds nothing until it is asked for the next mention"]
 pub struct Mentions<'a> {
@@ -40,7 +40,7 @@ impl<'a> Iterator for Mentions<'a> {
 
 impl FusedIterator for Mentions<'_> {}
 
-/// The vectors that are mentioned in any text, in order: in a sentence, in parentheses, in a link.
+/// The vectors in any text, in order: in a sentence, in parentheses, in a link.
 /// The text need not be UTF-8.
 ///
 /// ```

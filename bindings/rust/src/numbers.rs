@@ -1,4 +1,4 @@
-//! What the library's numbers stand for.
+//! What the library's numbers mean.
 
 use crate::calls;
 use std::fmt;
@@ -16,7 +16,7 @@ impl fmt::Display for UnknownName {
 
 impl std::error::Error for UnknownName {}
 
-/// The texts of an enum's values: they are printed, and read back where a text is the same by a
+/// The texts of an enum's values: they are printed, and read back if a text is equal by a
 /// comparison.
 macro_rules! named {
     ($(#[$doc:meta])* $type:ident by $is_same:path: $($value:ident => $text:literal),+) => {
@@ -109,7 +109,7 @@ pub struct Score {
 }
 
 impl Score {
-    /// The score of so many tenths, which are at most 100.
+    /// The score of a number of tenths, at most 100.
     #[must_use]
     pub const fn from_tenths(tenths: u8) -> Option<Score> {
         if tenths <= 100 {
@@ -193,7 +193,7 @@ impl TryFrom<&str> for Score {
     }
 }
 
-/// A qualitative severity rating. A score of v2 is rated by the middle three alone.
+/// A qualitative severity rating. A v2 score has only the middle three.
 #[derive(Clone, Copy, Debug, PartialEq, Eq, PartialOrd, Ord, Hash)]
 pub enum Severity {
     /// A score of 0.0.
@@ -227,7 +227,7 @@ named! {
         High => "high", Critical => "critical"
 }
 
-/// Which groups of metrics a score of v4.0 rests on: base, threat, environmental.
+/// The groups of metrics that a v4.0 score counts: base, threat, environmental.
 #[derive(Clone, Copy, Debug, PartialEq, Eq, Hash)]
 pub enum Nomenclature {
     /// Base metrics alone.

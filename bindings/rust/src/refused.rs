@@ -1,24 +1,24 @@
-//! Why a text denotes no vector.
+//! Why a text is rejected.
 
 use crate::calls;
 use std::error::Error;
 use std::fmt;
 
-/// The kind of a refusal.
+/// The kind of an error.
 #[derive(Clone, Copy, Debug, PartialEq, Eq, Hash)]
 #[non_exhaustive]
 pub enum RefusedKind {
-    /// A piece of the text has no colon, or more than one.
+    /// A segment of the text has no colon, or more than one.
     InvalidComponent,
-    /// A version is told, but not behind `CVSS`.
+    /// There is a version, but not after `CVSS`.
     InvalidPrefix,
-    /// The version that is told is none of 3.0, 3.1 and 4.0.
+    /// The version is none of 3.0, 3.1 and 4.0.
     UnsupportedVersion,
     /// The version has no metric of this name.
     UnknownMetric,
     /// The metric has no such value.
     InvalidValue,
-    /// The metric stands twice.
+    /// The metric is there twice.
     DuplicateMetric,
     /// The metric is mandatory, and missing.
     MissingMetric,
@@ -40,7 +40,7 @@ impl RefusedKind {
         }
     }
 
-    /// The kind of a reason, by the words with which it begins.
+    /// The kind of a reason, by its first words.
     fn of_reason(reason: &str) -> RefusedKind {
         let beginnings = [
             ("invalid CVSS metric group", RefusedKind::InvalidComponent),
@@ -71,7 +71,7 @@ impl RefusedKind {
     }
 }
 
-/// Why a text denotes no vector: the first reason.
+/// Why a text is rejected: the first reason.
 #[derive(Clone, Debug, PartialEq, Eq, Hash)]
 pub struct Refused {
     reason: String,
@@ -81,7 +81,7 @@ pub struct Refused {
 }
 
 impl Refused {
-    /// The refusal of a text that denotes no vector.
+    /// The error of a text that is rejected.
     pub(crate) fn of(text: &[u8]) -> Refused {
         let kind = RefusedKind::of(calls::refusal_kind(text));
         let metric = || calls::text_of(calls::refusal_metric(text));
@@ -94,8 +94,8 @@ impl Refused {
         }
     }
 
-    /// The refusal of metrics by the library's reason, which the index of a metric may precede, as
-    /// `metric 0: `.
+    /// The error of metrics, from the library's reason, which may begin with the index of a metric,
+    /// such as `metric 0: `.
     pub(crate) fn of_reason(reason: &str) -> Refused {
         let words = match reason.split_once(": ") {
             Some((index, words)) if index.starts_with("metric ") => words,
@@ -112,8 +112,7 @@ impl Refused {
         }
     }
 
-    /// The refusal of a vector of v3 that lacks a base metric, in the words that the library has for
-    /// the metric.
+    /// The error of a v3 vector that lacks a base metric, in the library's words for the metric.
     pub(crate) fn missing(metric: &str) -> Refused {
         let invalid = calls::text_of(calls::reason(format!("CVSS:3.1/{metric}:").as_bytes()));
         let words = invalid.split(" metric").next().unwrap_or_default();
@@ -138,7 +137,7 @@ impl Refused {
         self.kind
     }
 
-    /// The abbreviation of the metric that has an invalid value, stands twice or is missing.
+    /// The abbreviation of the metric that has an invalid value, is there twice or is missing.
     #[must_use]
     pub fn metric(&self) -> Option<&str> {
         self.metric.as_deref()
@@ -166,13 +165,13 @@ impl fmt::Display for Refused {
 
 impl Error for Refused {}
 
-/// Why metrics cannot be put into a vector.
+/// Why metrics cannot be set in a vector.
 #[derive(Clone, Debug, PartialEq, Eq, Hash)]
 #[non_exhaustive]
 pub enum OverrideError {
     /// This component is no environmental metric.
     NotEnvironmental(String),
-    /// The vector with these metrics is refused.
+    /// The vector with these metrics is rejected.
     Refused(Refused),
 }
 

@@ -7,7 +7,7 @@ use std::fmt::{self, Display, Formatter};
 use std::marker::PhantomData;
 use std::str::FromStr;
 
-/// Reads a text, and says what is expected where it is refused.
+/// Reads a text, and says what is expected if it is rejected.
 struct Text<T> {
     expected: &'static str,
     read: PhantomData<T>,

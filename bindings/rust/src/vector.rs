@@ -23,20 +23,20 @@ impl Metric {
         }
     }
 
-    /// The abbreviation, as `MSI`.
+    /// The abbreviation, such as `MSI`.
     #[must_use]
     pub fn name(&self) -> &str {
         field_text(&self.name)
     }
 
-    /// The value as it is spelled, as `S`.
+    /// The spelling of the value, such as `S`.
     #[must_use]
     pub fn value(&self) -> &str {
         field_text(&self.value)
     }
 }
 
-/// What stands before the bytes 0 of a field.
+/// What is before the bytes 0 of a field.
 fn field_text(field: &[u8; 8]) -> &str {
     let end = field.iter().position(|byte| *byte == 0).unwrap_or(8);
     std::str::from_utf8(&field[..end]).unwrap_or_default()
@@ -63,33 +63,32 @@ fn rated(tenths: i32, severity: i32) -> Option<(Score, Severity)> {
 }
 
 impl Cvss {
-    /// Reads the vector that a text denotes, by the rules of the version that its first piece
-    /// tells; without such a piece by those of v2.
+    /// Reads a vector by the rules of the version in its prefix; without a prefix by those of v2.
     ///
     /// # Errors
     ///
-    /// The first reason why the text denotes no vector.
+    /// The first reason why the text is rejected.
     pub fn parse(text: &str) -> Result<Cvss, Refused> {
         Cvss::parse_bytes(text.as_bytes())
     }
 
-    /// Reads a text that need not be UTF-8, as `parse` does; what is not UTF-8 is refused.
+    /// Reads a text that need not be UTF-8, as `parse` does; what is not UTF-8 is rejected.
     ///
     /// # Errors
     ///
-    /// The first reason why the text denotes no vector.
+    /// The first reason why the text is rejected.
     pub fn parse_bytes(text: &[u8]) -> Result<Cvss, Refused> {
         let (scores, canonical) = calls::read(text).ok_or_else(|| Refused::of(text))?;
         Ok(Cvss::of(calls::text_of(canonical), &scores))
     }
 
-    /// Reads a text as `parse` does, and refuses a vector of v3 that lacks a base metric, as FIRST's
-    /// document has it.
+    /// Reads a text as `parse` does, but rejects a v3 vector that lacks a base metric, which FIRST's
+    /// document makes mandatory.
     ///
     /// # Errors
     ///
-    /// The first reason why the text denotes no vector; else that the first base metric that the
-    /// vector lacks is missing, in the standard's order.
+    /// The first reason why the text is rejected; otherwise that the first base metric is missing
+    /// that the vector lacks, in the standard's order.
     ///
     /// ```
     /// let refused = cvss_proved::Cvss::parse_complete("CVSS:3.1/AV:N/AC:L/PR:N/UI:N/S:U").unwrap_err();
@@ -134,7 +133,7 @@ impl Cvss {
         Cvss::of_metrics(&text, reason)
     }
 
-    /// The vector of a text, or where that is empty, the refusal of metrics for a reason.
+    /// The vector of a text, or if that is empty, the error of metrics for a reason.
     fn of_metrics(text: &[u8], reason: impl FnOnce() -> Vec<u8>) -> Result<Cvss, Refused> {
         if text.is_empty() {
             return Err(Refused::of_reason(&calls::text_of(reason())));
@@ -155,7 +154,7 @@ impl Cvss {
         }
     }
 
-    /// The vector's one canonical text.
+    /// The canonical text.
     #[must_use]
     pub fn as_str(&self) -> &str {
         &self.text
@@ -167,7 +166,7 @@ impl Cvss {
         self.version
     }
 
-    /// The score that is published of the vector: in v2 and v3 the base score.
+    /// The score: in v2 and v3 the base score, in v4.0 the score of all metrics in the vector.
     #[must_use]
     pub fn score(&self) -> Score {
         self.score
@@ -276,8 +275,8 @@ impl Cvss {
     }
 
     /// The vector without the metrics that are not defined (`X`, in v2 `ND`): it has the same
-    /// scores. A vector of v3 that has no others is given as it is. The nomenclature of v4.0 may
-    /// become another, since it counts a metric that is given as `X`.
+    /// scores. A v3 vector that has no others is returned as it is. The nomenclature of v4.0 may
+    /// change, since it counts a metric that is given as `X`.
     ///
     /// ```
     /// let cvss = cvss_proved::Cvss::parse("AV:N/AC:L/Au:N/C:N/I:N/A:C/E:ND/TD:H")?;
@@ -291,7 +290,7 @@ impl Cvss {
     }
 
     /// The record of the vector: the JSON object of FIRST's schema of its version, without spaces.
-    /// Of v4.0 `baseScore` is the score of the vector as it is, with all its metrics.
+    /// For v4.0 `baseScore` is the score of all metrics in the vector.
     ///
     /// ```
     /// let cvss = cvss_proved::Cvss::parse("AV:N/AC:L/Au:N/C:N/I:N/A:C")?;
@@ -303,13 +302,13 @@ impl Cvss {
         calls::text_of(calls::record(self.text.as_bytes()))
     }
 
-    /// The account of the score, a JSON object without spaces: the numbers on the way to it.
+    /// How the score is computed: a JSON object without spaces.
     ///
-    /// In v2 and v3 they are the weights, the sub-scores and each score's number before its
-    /// rounding; in v4.0 the values that count, the macro vector with its listed value, what each
+    /// For v2 and v3 it has the weights, the sub-scores and the number before the rounding of each
+    /// score; for v4.0 the values that count, the MacroVector with its listed score, what each
     /// group of metrics takes from it, and the number before the rounding. A number is less than
-    /// 10^-6 from the exact one; it is that one where that has no more than seven decimals, but for
-    /// those of v3 with a changed scope, which have a power.
+    /// 10^-6 from the exact one. It is exact if that has at most seven decimals, except for those
+    /// of v3 with a changed scope, which have a power.
     ///
     /// ```
     /// let text = "CVSS:4.0/AV:N/AC:L/AT:N/PR:N/UI:N/VC:L/VI:H/VA:N/SC:N/SI:N/SA:N/E:P";
@@ -322,13 +321,13 @@ impl Cvss {
         calls::text_of(calls::account(self.text.as_bytes()))
     }
 
-    /// The vector with these metrics, as pairs of name and value, in place of its own or beside them.
+    /// The vector with these metrics, as pairs of name and value, which replace its own or are added.
     /// Any metric of the version can be set. In v3 and v4.0 names and values may be in any ASCII case.
     /// `X` and `ND` are values like others: they do not remove a metric.
     ///
     /// # Errors
     ///
-    /// The first reason why a metric is refused.
+    /// The first reason why a metric is rejected.
     ///
     /// ```
     /// let text = "CVSS:4.0/AV:N/AC:L/AT:N/PR:N/UI:N/VC:H/VI:H/VA:H/SC:N/SI:N/SA:N";
@@ -344,15 +343,15 @@ impl Cvss {
         Cvss::of_metrics(&text, || calls::with_reason(own, metrics.as_bytes()))
     }
 
-    /// The vector with an organisation's environmental metrics, as pairs of name and value in any
-    /// ASCII case, in place of its own or beside them. Into a vector of v4.0 the library puts them,
-    /// into others this crate.
+    /// The vector with your own environmental metrics, as pairs of name and value in any ASCII case,
+    /// which replace its own or are added. In v4.0 the library sets them, in other versions this
+    /// crate.
     ///
     /// # Errors
     ///
     /// [`OverrideError::NotEnvironmental`] for a name that no version has as an environmental
-    /// metric, and a value that is no word; else the reason why the vector with these metrics is
-    /// refused.
+    /// metric, and a value that is no word; otherwise the reason why the vector with these metrics
+    /// is rejected.
     ///
     /// ```
     /// let cvss = cvss_proved::Cvss::parse("CVSS:3.1/AV:N/S:U/CR:H")?;
@@ -381,7 +380,7 @@ impl Cvss {
     }
 }
 
-/// The components of metrics. A slash would make two of one, so it is refused as in a component.
+/// The components of metrics. A slash would make two of one, so it is rejected as in a component.
 fn joined(metrics: &[(&str, &str)]) -> Result<String, Refused> {
     let components = metrics
         .iter()
@@ -395,7 +394,7 @@ fn joined(metrics: &[(&str, &str)]) -> Result<String, Refused> {
     }
 }
 
-/// The components of environmental metrics in capitals, each of which has a name and a word for its
+/// The components of environmental metrics in upper case, each of which has a name and a word for its
 /// value.
 fn components_of(overrides: &[(&str, &str)]) -> Result<Vec<String>, OverrideError> {
     let is_word = |value: &str| value.bytes().all(|byte| byte.is_ascii_alphanumeric());

@@ -7,9 +7,9 @@ use crate::{Group, Version};
 #[derive(Clone, Copy, Debug, PartialEq, Eq, Hash)]
 #[non_exhaustive]
 pub struct MetricValue {
-    /// How a vector spells it, as `N`.
+    /// How a vector spells it, such as `N`.
     pub value: &'static str,
-    /// Its name in words, as `Network`.
+    /// Its name in words, such as `Network`.
     pub title: &'static str,
     /// A sentence that says what it means.
     pub description: &'static str,
@@ -19,13 +19,13 @@ pub struct MetricValue {
 #[derive(Clone, Copy, Debug, PartialEq, Eq, Hash)]
 #[non_exhaustive]
 pub struct MetricType {
-    /// The abbreviation, as `AV`.
+    /// The abbreviation, such as `AV`.
     pub name: &'static str,
-    /// The name in words, as `Attack Vector`.
+    /// The name in words, such as `Attack Vector`.
     pub title: &'static str,
     /// The group that it belongs to.
     pub group: Group,
-    /// Whether FIRST's document of the version asks for it: true for the base metrics.
+    /// Whether FIRST's document of the version requires it: true for the base metrics.
     pub is_mandatory: bool,
     /// A question that a form asks.
     pub question: &'static str,
