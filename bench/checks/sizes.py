@@ -20,11 +20,12 @@ from pathlib import Path
 ROOT = Path(__file__).resolve().parents[2]
 sys.path.insert(0, str(ROOT / "reference"))
 
+import accounts
 import reference
 import v2
 import v3
 import v4
-from streams import FIRST, LOW, SHIM, Runs
+from streams import FIRST, LOW, SHIM, V2, Runs, agreed
 
 SIZES = (1, 100, 70_000, 1_000_000)
 # An argument of a program has room for 128 KiB.
@@ -37,6 +38,8 @@ ALL = 200 << 20
 ONE_BY_ONE = 1_100_000
 ROWS = 1_100_000
 SLOW_ROWS = 20_000
+# The vectors in a line, in a document and in lines of their own.
+MANY = 150_000
 
 # Reports each request for memory by a byte.
 COUNTED = r"""
@@ -204,6 +207,23 @@ def try_much(runs):
     runs.expect("cvss_audit", b"\0", (1, b'{"line":1,"refused":"not JSON"}\n', ""))
 
 
+def try_many(runs):
+    """Many vectors: in one line, in one document, and each in a line of its own."""
+    text = f"({LINE.decode().strip()}) "
+    for given, place in ((text * MANY, lambda number: (1, number * len(text) + 2)),
+                         (f"{text}\n" * MANY, lambda number: (number + 1, 2))):
+        found = "".join("%d:%d %s" % (*place(number), FIRST) for number in range(MANY))
+        runs.expect("cvss_find", given.encode(), (0, found.encode(), ""))
+    holder, answer = f'{{"vectorString":"{V2}"}}', agreed()
+    found = "".join(answer.replace('"at":""', f'"at":"/{number}"') for number in range(MANY))
+    runs.expect("cvss_audit", f"[{','.join([holder] * MANY)}]".encode(), (0, found.encode(), ""))
+    found = "".join(answer.replace('"line":1', f'"line":{number + 1}') for number in range(MANY))
+    runs.expect("cvss_audit", f"{holder}\n".encode() * MANY, (0, found.encode(), ""))
+    before, after = accounts.written(accounts.answer(1, LINE.strip())).split('"line":1,')
+    found = "".join(f'{before}"line":{number + 1},{after}\n' for number in range(MANY // 10))
+    runs.expect("cvss_why", LINE * (MANY // 10), (0, found.encode(), ""))
+
+
 def requests(shim, line):
     """How many requests for memory `cvss_vectors` makes for a line, fifty times."""
     with tempfile.TemporaryFile() as told:
@@ -243,7 +263,7 @@ def built(room, name, source):
 def main():
     with tempfile.TemporaryDirectory() as room:
         runs = Runs(built(room, "streams", SHIM))
-        for tried in (try_arguments, try_refusals, try_whole, try_much):
+        for tried in (try_arguments, try_refusals, try_whole, try_much, try_many):
             tried(runs)
         texts = try_memory(built(room, "counted", COUNTED))
     print(f"{runs.count} runs over much input, long parts and many arguments ended as they should; "

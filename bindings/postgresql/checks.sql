@@ -67,9 +67,11 @@ SELECT 'no vector in a text', (SELECT count(*) FROM cvss_find('see CVSS:3.1 and 
     (SELECT count(*) FROM cvss_find('')) = 0, (SELECT count(*) FROM cvss_find(NULL)) = 0;
 SELECT 'a long text', count(*) = 20000, count(vector) = 20000, max(place) = 1 + 19999 * (length(v2) + 2)
     FROM known, cvss_find(repeat(v2 || ', ', 20000)) GROUP BY v2;
+SELECT 'a view over version 1.0', found::text = '(5,CVSS:3.1/S:U/AV:N,CVSS:3.1/AV:N/S:U)',
+    pg_get_viewdef('found_by_1_0') LIKE '%cvss_find_1_0(%' FROM found_by_1_0 AS found;
 SELECT 'rows that are not all asked for', given = v2 FROM known, cvss_find(repeat(v2 || ' ', 5)) LIMIT 1;
 SELECT 'all are immutable, strict and parallel safe', bool_and(provolatile = 'i' AND proisstrict AND proparallel = 's'),
-    count(*) = 28 FROM pg_proc WHERE proname LIKE 'cvss\_%';
+    count(*) = 29 FROM pg_proc WHERE proname LIKE 'cvss\_%';
 
 CREATE TABLE kept (
     vector cvss_vector,

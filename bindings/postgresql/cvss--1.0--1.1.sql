@@ -51,9 +51,9 @@ COMMENT ON FUNCTION cvss_strict_reason(text) IS 'why the text denotes no CVSS ve
 
 COMMENT ON FUNCTION cvss_with(text, text) IS 'the CVSS vector with these metrics set, as E:A/MSI:S';
 
--- The rows say whether the vector is complete.
-ALTER EXTENSION cvss DROP FUNCTION cvss_find(text);
-DROP FUNCTION cvss_find(text);
+-- The rows report whether the vector is complete. Views over the function of version 1.0 keep it, by its new name.
+ALTER FUNCTION cvss_find(text) RENAME TO cvss_find_1_0;
+COMMENT ON FUNCTION cvss_find_1_0(text) IS 'cvss_find of version 1.0, for views that were created over it';
 CREATE FUNCTION cvss_find(text, OUT place integer, OUT given text, OUT vector text, OUT is_complete boolean)
 RETURNS SETOF record
 AS 'MODULE_PATHNAME', 'sql_cvss_find' LANGUAGE C IMMUTABLE STRICT PARALLEL SAFE ROWS 2;

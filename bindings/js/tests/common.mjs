@@ -2,7 +2,7 @@
 
 import assert from "node:assert/strict";
 import { readFileSync } from "node:fs";
-import { join } from "node:path";
+import { resolve } from "node:path";
 
 import { CvssError, Vector } from "cvss-proved";
 
@@ -11,13 +11,13 @@ export const root = process.argv[2];
 export const TEXT = "AV:N/AC:L/Au:N/C:N/I:N/A:C";
 export const V3 = "CVSS:3.1/AV:N/AC:L/PR:N/UI:N/S:U/C:H/I:H/A:H";
 export const V4 = "CVSS:4.0/AV:N/AC:L/AT:N/PR:N/UI:N/VC:H/VI:H/VA:H/SC:H/SI:H/SA:H";
-const KINDS = ["", "invalid component", "invalid prefix", "unsupported version", "unknown metric", "invalid value",
+export const KINDS = ["", "invalid component", "invalid prefix", "unsupported version", "unknown metric", "invalid value",
   "duplicate metric", "missing metric", "not UTF-8"];
 
 // The lines of a file as bytes, split at each newline alone.
 export function linesOf(path) {
   const lines = [];
-  const bytes = readFileSync(join(root, path));
+  const bytes = readFileSync(resolve(root, path));
   for (let begin = 0, end; (end = bytes.indexOf(10, begin)) >= 0; begin = end + 1) lines.push(bytes.subarray(begin, end));
   assert(lines.length > 0, `${path} has no lines`);
   return lines;

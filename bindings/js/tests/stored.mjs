@@ -3,9 +3,10 @@
 // Usage: node stored.mjs ROOT, the folder of the checkout. The package is the one that Node finds by its name.
 
 import assert from "node:assert/strict";
+import { isUtf8 } from "node:buffer";
 
 import { CvssError, Vector, answer, find, rating, score } from "cvss-proved";
-import { TEXT, V3, V4, facts, factsOf, linesOf, stored, textsOf, vectors } from "./common.mjs";
+import { KINDS, TEXT, V3, V4, facts, factsOf, linesOf, stored, textsOf, vectors } from "./common.mjs";
 
 function checkStoredLines() {
   const answers = textsOf("crates/cvss_vectors/stdout").slice(0, facts.length);
@@ -21,11 +22,12 @@ function checkStoredLines() {
   console.log(`JavaScript: ${stored.length} lines, 0 wrong answers`);
 }
 
-// Components as an object; null where no object is given for them.
+// Components as an object; null where no object has them in this order, in which digits alone come first as a name.
 function objectOf(components) {
   const entries = components === "" ? [] : components.split("/").map((component) => component.split(/:(.*)/s, 2));
   const names = new Set(entries.map(([name]) => name));
-  return names.size === entries.length && entries.every((entry) => entry.length === 2) ? Object.fromEntries(entries) : null;
+  const isKept = names.size === entries.length && entries.every(([name, value]) => value !== undefined && !/^\d+$/.test(name));
+  return isKept ? Object.fromEntries(entries) : null;
 }
 
 function made(make) {
@@ -85,6 +87,48 @@ function checkMarks() {
   console.log(`JavaScript: ${Object.values(tried).reduce((sum, count) => sum + count)} lines about calls, 0 wrong answers`);
 }
 
+// A column of a row that bindings/sql/expected.py has written, as bytes; null where there is none.
+function unescaped(column) {
+  if (column === "\\N") return null;
+  return Buffer.from(column.replace(/\\x(..)/g, (_, code) => String.fromCharCode(parseInt(code, 16))), "latin1");
+}
+
+// The text of a vector; or the number of the kind of its error, the metric and what is quoted.
+function outcome(make) {
+  try {
+    return [make().text, null];
+  } catch (error) {
+    if (!(error instanceof CvssError)) throw error;
+    return [null, `${KINDS.indexOf(error.kind)} ${error.metric ?? "-"} ${error.value ?? ""}`];
+  }
+}
+
+// Metrics that are set, vectors that are built, what errors quote, and the four scores of v4.0, beside the second
+// implementation. The variable CVSS_ROWS names a file with other rows.
+function checkCalls() {
+  const rows = textsOf(process.env.CVSS_ROWS ?? "bindings/stored/calls");
+  let tried = 0;
+  for (const row of rows) {
+    const [text, metrics, asked, components, ...columns] = row.split("\t").map(unescaped);
+    const expected = columns.map((column) => column && String(column));
+    const [set, build] = [metrics, components].map((given) => isUtf8(given) && objectOf(String(given)));
+    if (set) {
+      assert.deepEqual(outcome(() => new Vector(text).replace(set)), expected.slice(0, 2), row);
+      tried += 1;
+    }
+    if (build && Object.values(VERSIONS).includes(String(asked))) {
+      assert.deepEqual(outcome(() => Vector.from(String(asked), build)), expected.slice(2, 4), row);
+      tried += 1;
+    }
+    assert.equal(outcome(() => new Vector(text))[1], expected[4], row);
+    assert.equal(Vector.parse(text, { strict: true }).error?.message ?? null, expected[5], row);
+    const scores = Object.values(Vector.parse(text).vector?.nomenclatureScores ?? {}).map((own) => own.toFixed(1));
+    assert.deepEqual(scores, expected.slice(6).filter((score) => score !== null), row);
+  }
+  assert(tried > rows.length);
+  console.log(`JavaScript: ${rows.length} texts with metrics to set and to build from, 0 wrong answers`);
+}
+
 // A strict reading rejects the incomplete vectors of v3, in words that were written by hand, and no others.
 function checkStrict() {
   const rows = textsOf("bindings/stored/incomplete").map((line) => line.split(/ (.*)/s));
@@ -142,6 +186,7 @@ function checkFinding() {
 
 checkStoredLines();
 checkMarks();
+checkCalls();
 checkStrict();
 checkRecords();
 checkFinding();

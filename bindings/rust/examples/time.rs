@@ -19,8 +19,8 @@ fn print_round_time(name: &str, count: usize, call: impl Fn()) {
         start.elapsed()
     };
     let least = (0..ROUNDS).map(|_| round()).min().unwrap_or_default();
-    let taken = least.as_nanos() as f64 / count as f64;
-    println!("Rust: {name} {taken:.0} ns ({count} lines)");
+    let taken = least.as_nanos() / count.max(1) as u128;
+    println!("Rust: {name} {taken} ns ({count} lines)");
 }
 
 fn main() -> io::Result<()> {

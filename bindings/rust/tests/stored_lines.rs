@@ -145,15 +145,23 @@ fn told(mention: &Mention) -> String {
 fn stored_texts_have_their_mentions() {
     let root = Path::new(env!("CARGO_MANIFEST_DIR")).join("../../bindings/stored");
     let texts = fs::read(root.join("texts")).unwrap();
-    let mut lines = String::new();
+    let mut lines = Vec::new();
     for (number, text) in texts.split(|byte| *byte == b'\n').enumerate() {
         for mention in find(text) {
             let end = mention.place + mention.text.len();
             assert_eq!(&text[mention.place..end], mention.text.as_bytes());
-            lines += &format!("{}:{} {}\n", number + 1, mention.place + 1, told(&mention));
+            lines.push(format!(
+                "{}:{} {}\n",
+                number + 1,
+                mention.place + 1,
+                told(&mention)
+            ));
         }
     }
-    assert_eq!(lines, fs::read_to_string(root.join("found")).unwrap());
+    assert_eq!(
+        lines.concat(),
+        fs::read_to_string(root.join("found")).unwrap()
+    );
 }
 
 /// The records were written by hand from FIRST's JSON schemas.

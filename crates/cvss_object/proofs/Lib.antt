@@ -1,1 +1,2 @@
 mod DecimalFacts
+mod DecimalLemmas

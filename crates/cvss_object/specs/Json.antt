@@ -69,7 +69,7 @@ place_count n =
 unfoldable pub places_text : ℕ → List ℕ
 places_text n = take (place_count n) (seven_digits n)
 
--- so many ten-millionths, as a decimal with one to seven places
+-- so many ten-millionths, as the shortest decimal that has this value and at least one place: see laws/Decimals
 unfoldable pub decimal_text : ℤ → List ℕ
 decimal_text count =
     (if int_lt count (pos 0) then codes "-" else [])

@@ -3,3 +3,4 @@ mod OneLineLemmas
 mod PrintsLemmas
 mod PartsLemmas
 mod TreesLemmas
+mod WrittenLemmas

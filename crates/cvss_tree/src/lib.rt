@@ -1,6 +1,7 @@
 //! JSON objects as the answers of programs that read JSON of others: each on one line, without spaces.
 #![tactic(auto)]
 
+pub mod laws;
 mod text;
 mod tree;
 mod write;
