@@ -1,3 +1,5 @@
 mod FloatLemmas
 mod PlacesLemmas
 mod PointerLemmas
+mod RecordLemmas
+mod ScoreLemmas

@@ -7,12 +7,12 @@ use Rattle.serde_json.specs.View.{items_view, members_view, view}
 use Rattle.serde_json.specs.declared.value.Value.{Value}
 use Rattle.cvss_document.specs.Places.{Place, around_view, places_in, places_within}
 use Rattle.cvss_document.specs.PlacesLeft.{places_in_levels, places_in_rest, step_text, under}
-use Rattle.cvss_document.specs.private.Walking.{Visits, level_of, pointer_to, steps_in, steps_in_members, steps_in_rest, steps_left}
+use Rattle.cvss_document.specs.private.Walking.{Visits, level_of, pointer_to, steps_in, steps_in_rest, steps_left}
 use Rattle.cvss_document.specs.declared.place.Around.{Around}
 use Rattle.cvss_document.specs.declared.place.Form.TheVariants.{Record}
 use Rattle.cvss_document.specs.declared.places.Level.{Level}
 use Rattle.cvss_document.specs.declared.places.Rest.{Rest}
-use Rattle.cvss_document.specs.declared.places.Rest.TheVariants.{Whole, Own, Items, Members}
+use Rattle.cvss_document.specs.declared.places.Rest.TheVariants.{Whole, Own, Items}
 use Rattle.cvss_document.specs.declared.pointer.Step.{Step}
 use Rattle.cvss_document.specs.declared.pointer.Step.TheVariants.{Document}
 

@@ -1,10 +1,15 @@
-//! Laws of places, each the contract of a function that does nothing. A proof that needs a law calls
+//! Laws of places and records, each the contract of a function that does nothing. A proof that needs a law calls
 //! it.
 
-ghost use Rattle.std.specs.Prelude.{All};
+ghost use Rattle.std.specs.Prelude.{All, ℕ, List};
+ghost use Rattle.cvss_any.specs.declared.vector.Cvss.{Cvss};
 ghost use Rattle.cvss_base.specs.Equality.{ClonesAlways, ClonesByValue, EqualsByValue};
 ghost use Rattle.cvss_document.specs.Places.{places_in};
 ghost use Rattle.cvss_document.specs.laws.Pointers.{HasNamesOnce, LeadsTo};
+ghost use Rattle.cvss_document.specs.laws.Records.{AreInRange, record_members};
+ghost use Rattle.cvss_record.specs.Record.{IsRecordText};
+ghost use Rattle.cvss_tree.specs.Objects.{object_of};
+ghost use Rattle.cvss_tree.specs.Texts.{IsTextOf};
 ghost use Rattle.serde_json.specs.Data.{Data, object};
 
 use crate::{Around, Form};
@@ -15,6 +20,17 @@ pub fn pointers_lead_to_objects()
     ensures { (document : Data) → HasNamesOnce document
         → All (λ place. LeadsTo place.0 document (object place.3)) (places_in document) }
 {}
+
+/// A vector's record reads back as the object with its members: strings, and of each score the double
+/// that is nearest to it.
+pub fn records_read_back()
+    ensures { (cvss : Cvss) (text : List ℕ) (told : IsRecordText cvss text)
+        → AreInRange told.scores
+        → IsTextOf (object_of (record_members cvss told.scores)) text }
+{
+    cvss_record::laws::members_are_in_order();
+    cvss_tree::laws::written_objects_read_back();
+}
 
 /// Two forms are equal exactly if they are one value.
 pub fn equality_is_that_of_values()

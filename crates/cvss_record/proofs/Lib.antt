@@ -1,5 +1,5 @@
 mod FieldFacts
 mod FieldLemmas
-mod PlainLemmas
+pub mod PlainLemmas
 mod TellingLemmas
-mod WordLemmas
+pub mod WordLemmas

@@ -1,10 +1,10 @@
--- Canonical texts and decimals have no quotation mark.
-use Rattle.std.proofs.Common.{◌≡◌, ◌+◌, ◌/◌, ◌%◌, ◌<◌, ℕ, zero, suc, Bool, true, false, not, ◌&&◌, if◌then◌else◌, nat_eq, nat_lt, ◌==◌, ◌*◌, List, [], ◌∷◌, ◌++◌, codes, map, drop, take, Option, Some, None, decimal, option_map, pos, int_lt, unsigned_abs, refl, ap, ap₂, ◌∙◌, arith, rules}
+-- Canonical texts and decimals need no escape in JSON.
+use Rattle.std.proofs.Common.{◌≡◌, ◌+◌, ◌/◌, ◌%◌, ◌<◌, ℕ, zero, suc, Bool, true, false, ◌&&◌, if◌then◌else◌, ◌==◌, ◌*◌, List, [], ◌∷◌, ◌++◌, codes, map, drop, take, Option, Some, None, decimal, option_map, pos, int_lt, unsigned_abs, refl, lt-ltb, ap, ap₂, ◌∙◌, arith, rules}
 use Rattle.std.specs.List.{cons_option, filter_map, list_all}
 use Rattle.std.specs.Fmt.{digits, digits_onto, digit_glyph}
-use Rattle.std.specs.Int.Digits.{digits_of}
-use Rattle.std.proofs.lemmas.Bool.{and_parts}
-use Rattle.std.proofs.lemmas.Bool.Decides.{nat_tests}
+use Rattle.std.specs.Int.Digits.{AllBelowBase, digits_of}
+use Rattle.std.proofs.lemmas.Bool.{agree_below_at, and_parts}
+use Rattle.std.proofs.lemmas.Int.Digits.{all_below_base_digits_of}
 use Rattle.std.proofs.lemmas.List.Folds.{list_all-append}
 use Rattle.cvss_any.specs.Answers.{text_of}
 use Rattle.cvss_any.specs.declared.vector.Cvss.{Cvss}
@@ -18,19 +18,15 @@ use Rattle.cvss_object.specs.Json.{decimal_text, place_count, places_text, seven
 use Rattle.cvss_v2.specs.Vector.{v2}
 use Rattle.cvss_v3.specs.Vector.{v3}
 use Rattle.cvss_v4.specs.Vector.{v4}
-use Rattle.cvss_record.proofs.WordLemmas.{is_plain}
+use Rattle.cvss_record.proofs.WordLemmas.{is_clear, is_plain}
 
 both : (one other : List ℕ) → is_plain one ≡ true → is_plain other ≡ true → is_plain (one ++ other) ≡ true
-both one other first second = list_all-append (λ byte. not (nat_eq byte 34)) one other ∙ ap₂ (λ (a b : Bool). a && b) first second
+both one other first second = list_all-append is_clear one other ∙ ap₂ (λ (a b : Bool). a && b) first second
 
 -- ---- decimals
 
-glyph_plain : (small : Bool) (d : ℕ) → nat_eq (if small then 48 + d else 87 + d) 34 ≡ false
-glyph_plain true d = grind (arith, nat_tests)
-glyph_plain false d = grind (arith, nat_tests)
-
-digit_more : (small : Bool) (d : ℕ) (digits : List ℕ) → is_plain digits ≡ true → is_plain ((if small then 48 + d else 87 + d) ∷ digits) ≡ true
-digit_more small d digits plain = ap₂ (λ (a b : Bool). not a && b) (glyph_plain small d) plain
+digit_more : (d : ℕ) (digits : List ℕ) → d < 10 → is_plain digits ≡ true → is_plain ((48 + d) ∷ digits) ≡ true
+digit_more d digits small plain = ap₂ (λ (a b : Bool). a && b) (agree_below_at (λ x. is_clear (48 + x)) (λ _. true) 10 d refl small) plain
 
 plain_if : (b : Bool) (one other : List ℕ) → is_plain one ≡ true → is_plain other ≡ true → is_plain (if b then one else other) ≡ true
 plain_if true one other first second = first
@@ -39,7 +35,8 @@ plain_if false one other first second = second
 plain_onto : (k n : ℕ) (digits : List ℕ) → is_plain digits ≡ true → is_plain (digits_onto k 10 false n digits) ≡ true
 plain_onto zero n digits plain = plain
 plain_onto (suc k) n digits plain =
-    let longer = digit_more (nat_lt (n % 10) 10) (n % 10) digits plain in
+    let longer : is_plain (digit_glyph false (n % 10) ∷ digits) ≡ true =
+    ap (λ b. is_plain ((if b then 48 + n % 10 else 87 + n % 10) ∷ digits)) (lt-ltb (n % 10) 10 (omega arith)) ∙ digit_more (n % 10) digits (omega arith) plain in
     plain_if (n / 10 == 0) (digit_glyph false (n % 10) ∷ digits) (digits_onto k 10 false (n / 10) (digit_glyph false (n % 10) ∷ digits)) longer
     (plain_onto k (n / 10) (digit_glyph false (n % 10) ∷ digits) longer)
 
@@ -51,15 +48,14 @@ plain_take : (k : ℕ) (text : List ℕ) → is_plain text ≡ true → is_plain
 plain_take zero text plain = refl
 plain_take (suc k) [] plain = refl
 plain_take (suc k) (byte ∷ text) plain =
-    let parts = and_parts (not (nat_eq byte 34)) (is_plain text) plain in
+    let parts = and_parts (is_clear byte) (is_plain text) plain in
     ap₂ (λ (a b : Bool). a && b) parts.0 (plain_take k text parts.1)
 
 seven_plain : (n : ℕ) → is_plain (seven_digits n) ≡ true
 seven_plain n =
-    digit_more true (n / 1_000_000 % 10) (drop 1 (seven_digits n)) (digit_more true (n / 100_000 % 10) (drop 2 (seven_digits n))
-    (digit_more true (n / 10_000 % 10) (drop 3 (seven_digits n)) (digit_more true (n / 1000 % 10) (drop 4 (seven_digits n))
-    (digit_more true (n / 100 % 10) (drop 5 (seven_digits n)) (digit_more true (n / 10 % 10) (drop 6 (seven_digits n))
-    (digit_more true (n % 10) [] refl))))))
+    let one : (d k : ℕ) → d < 10 → is_plain (drop (k + 1) (seven_digits n)) ≡ true → is_plain ((48 + d) ∷ drop (k + 1) (seven_digits n)) ≡ true = λ d k. digit_more d (drop (k + 1) (seven_digits n)) in
+    one (n / 1_000_000 % 10) 0 (omega arith) (one (n / 100_000 % 10) 1 (omega arith) (one (n / 10_000 % 10) 2 (omega arith)
+    (one (n / 1000 % 10) 3 (omega arith) (one (n / 100 % 10) 4 (omega arith) (one (n / 10 % 10) 5 (omega arith) (one (n % 10) 6 (omega arith) refl))))))
 
 plain_places : (n : ℕ) → is_plain (places_text n) ≡ true
 unfolding places_text
@@ -83,13 +79,13 @@ plain_joined (part ∷ next ∷ parts) all =
     let here = and_parts (is_plain part) (list_all is_plain (next ∷ parts)) all in
     both part (slash ∷ joined (next ∷ parts)) here.0 (plain_joined (next ∷ parts) here.1)
 
-plain_digits : (digits : List ℕ) → is_plain (map (λ digit. 48 + digit) digits) ≡ true
-plain_digits [] = refl
-plain_digits (digit ∷ digits) = ap₂ (λ (a b : Bool). not a && b) (glyph_plain true digit) (plain_digits digits)
+plain_digits : (digits : List ℕ) → AllBelowBase 10 digits → is_plain (map (λ digit. 48 + digit) digits) ≡ true
+plain_digits [] all = refl
+plain_digits (digit ∷ digits) all = digit_more digit (map (λ each. 48 + each) digits) all.0 (plain_digits digits all.1)
 
 plain_numeral : (n : ℕ) → is_plain (numeral n) ≡ true
 plain_numeral zero = refl
-plain_numeral (suc n) = plain_digits (digits_of 10 (suc n))
+plain_numeral (suc n) = plain_digits (digits_of 10 (suc n)) (all_below_base_digits_of 10 (suc n) (omega arith))
 
 -- no component has one
 abbrev ArePlain : {V K : Type 0} → Version V K → Type 0

@@ -1,7 +1,8 @@
 -- A record's text gives the text of its vector: it is the string after the name `vectorString`.
-use Rattle.std.proofs.Common.{◌≡◌, ◌↔◌, ◌+◌, ℕ, zero, suc, Bool, true, false, not, ◌&&◌, ◌||◌, if◌then◌else◌, nat_eq, List, [], ◌∷◌, ◌++◌, codes, All, map, Option, Some, None, bytes_eq, option_and_then, option_map, refl, sym, ap, ap₂, ◌∙◌, append_assoc, rules}
-use Rattle.std.specs.List.{cons_option, filter_map, list_all, list_any, slice_split}
-use Rattle.std.specs.Fmt.{digits, digits_onto}
+use Rattle.std.proofs.Common.{◌≡◌, ◌↔◌, ℕ, Bool, true, false, not, ◌&&◌, if◌then◌else◌, nat_eq, List, [], ◌∷◌, ◌++◌, codes, All, Option, Some, None, bytes_eq, option_and_then, option_map, refl, sym, ap, ◌∙◌, append_assoc}
+use Rattle.std.specs.List.{cons_option, filter_map, list_any, slice_split}
+use Rattle.std.specs.Fmt.{digits}
+use Rattle.std.specs.Prelude.{leb}
 use Rattle.std.proofs.lemmas.Bool.{and_parts, not-true}
 use Rattle.std.proofs.lemmas.List.Splits.{slice_split_at}
 use Rattle.std.proofs.lemmas.List.Elements.{All-cons, All-nil}
@@ -9,17 +10,16 @@ use Rattle.std.proofs.lemmas.List.Folds.{list_all-append}
 use Rattle.cvss_any.specs.Answers.{text_of}
 use Rattle.cvss_any.specs.Dispatch.{DenotesCvss}
 use Rattle.cvss_any.specs.declared.vector.Cvss.{Cvss}
-use Rattle.cvss_any.specs.declared.vector.Cvss.TheVariants.{CvssV20, CvssV30, CvssV31, CvssV40}
+use Rattle.cvss_any.specs.declared.vector.Cvss.TheVariants.{CvssV20}
 use Rattle.cvss_laws.specs.any.GivenBack.{IsGivenBack}
-use Rattle.cvss_object.specs.Json.{Member, comma_if, member_text, object_text, rest_of_object, string_text, tenths_text}
+use Rattle.cvss_object.specs.Json.{Member, comma_if, member_text, rest_of_object, string_text, tenths_text}
 use Rattle.cvss_record.specs.Fields.{fields_of, name_of}
 use Rattle.cvss_record.specs.Record.{Due, text, score, nothing, IsRecordText, due_of, due_text, member_at, tells_group, value_at}
 use Rattle.cvss_record.specs.declared.field.Field.{Field}
 use Rattle.cvss_record.specs.declared.field.Field.TheVariants.{V2, V3, V4, Score, Rating, Text, Version}
-use Rattle.cvss_record.specs.declared.group.Group.{Group}
 use Rattle.cvss_record.specs.declared.score.Scores.{Scores}
 use Rattle.cvss_record.proofs.PlainLemmas.{plain_text, plain_tenths}
-use Rattle.cvss_record.proofs.WordLemmas.{due_fits, is_due, is_other, is_plain, is_text, is_word, name_fits}
+use Rattle.cvss_record.proofs.WordLemmas.{due_fits, is_clear, is_due, is_other, is_plain, is_text, name_fits}
 
 abbrev is_quote : ℕ → Bool
 is_quote byte = nat_eq byte 34
@@ -27,8 +27,9 @@ is_quote byte = nat_eq byte 34
 without_quotes : (bytes : List ℕ) → is_plain bytes ≡ true → All (λ byte. is_quote byte ≡ false) bytes
 without_quotes [] plain = All-nil (λ each. is_quote each ≡ false)
 without_quotes (byte ∷ bytes) plain =
-    let both = and_parts (not (is_quote byte)) (is_plain bytes) plain in
-    All-cons (λ each. is_quote each ≡ false) byte bytes (not-true (is_quote byte) both.0) (without_quotes bytes both.1)
+    let both = and_parts (is_clear byte) (is_plain bytes) plain in
+    let unquoted = and_parts (not (is_quote byte)) (not (nat_eq byte 92)) (and_parts (leb 32 byte) _ both.0).1 in
+    All-cons (λ each. is_quote each ≡ false) byte bytes (not-true (is_quote byte) unquoted.0) (without_quotes bytes both.1)
 
 -- the part after the next
 abbrev second : List (List ℕ) → Option (List ℕ)
@@ -65,7 +66,7 @@ number_cut front comma name number rest = simp append_assoc refl
 
 -- what stands before the next quotation mark
 number_front : (number : List ℕ) → is_plain number ≡ true → is_other ((58 ∷ number) ++ comma_if true) ≡ true
-number_front number plain = ap (λ b. b && true) (list_all-append (λ byte. not (is_quote byte)) number (44 ∷ []) ∙ ap (λ b. b && true) plain)
+number_front number plain = ap (λ b. b && true) (list_all-append is_clear number (44 ∷ []) ∙ ap (λ b. b && true) plain)
 
 data IsValue : Option (List ℕ) → Type 0 where
   absent : IsValue None

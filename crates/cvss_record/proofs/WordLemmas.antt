@@ -1,4 +1,4 @@
--- The names and words of members are short, have no quotation mark, and are not the name of the vector's text.
+-- The names and words of members are short, need no escape in JSON, and are not the name of the vector's text.
 use Rattle.std.proofs.Common.{◌≡◌, ◌≤◌, ℕ, Bool, true, false, not, ◌&&◌, if◌then◌else◌, nat_eq, List, [], ◌∷◌, codes, length, Option, Some, None, bytes_eq, option_map, refl, ap, ◌∙◌, arith}
 use Rattle.std.specs.List.{list_all}
 use Rattle.std.specs.Prelude.{leb}
@@ -25,12 +25,16 @@ use Rattle.cvss_record.specs.Record.{Due, text, score, nothing, due_of, rating_d
 use Rattle.cvss_record.specs.private.Room.{fields_room}
 use Rattle.cvss_record.specs.declared.field.Field.{Field}
 use Rattle.cvss_record.specs.declared.field.Field.TheVariants.{V2, V3, V4, Score, Rating, Text, Version}
-use Rattle.cvss_record.specs.declared.group.Group.TheVariants.{Base, Temporal, Environmental}
+use Rattle.cvss_record.specs.declared.group.Group.TheVariants.{Base}
 use Rattle.cvss_record.specs.declared.score.Scores.{Scores}
 
--- the text has no quotation mark
+-- the byte is none that is escaped in JSON: no control character, no quotation mark and no backslash
+abbrev pub is_clear : ℕ → Bool
+is_clear byte = leb 32 byte && (not (nat_eq byte 34) && not (nat_eq byte 92))
+
+-- the text needs no escape
 abbrev pub is_plain : List ℕ → Bool
-is_plain bytes = list_all (λ byte. not (nat_eq byte 34)) bytes
+is_plain bytes = list_all is_clear bytes
 
 -- and is not the name of the vector's text
 abbrev pub is_other : List ℕ → Bool

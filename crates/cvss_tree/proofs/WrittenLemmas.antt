@@ -1,13 +1,15 @@
 -- The texts that `cvss_object` defines, beside the values that they are read as.
-use Rattle.std.proofs.Common.{◌≡◌, ℕ, Bool, true, false, List, [], ◌∷◌, ◌++◌, Less, Greater, map, nat_cmp, refl, sym, ap, ap₂, ◌∙◌, subst, append_assoc, append-nil}
+use Rattle.std.proofs.Common.{◌≡◌, ℕ, Bool, true, false, List, [], ◌∷◌, ◌++◌, Less, Greater, map, nat_cmp, refl, sym, ap, ap₂, ◌∙◌, subst, append_assoc, append-nil, Float, Some, option_map, unwrap_or, if◌then◌else◌}
 use Rattle.std.proofs.lemmas.Cmp.{nat_list_cmp_total}
 use Rattle.std.specs.Cmp.Lexicographic.{slice_cmp}
 use Rattle.std.specs.List.{AllByRecursion}
 use Rattle.std.specs.List.Sorted.{IsStrictlySortedBy}
 use Rattle.std.specs.Ordering.{ordering_reverse}
 use Rattle.json.specs.Json as json
-use Rattle.json.specs.Print.{print_from, quoted}
-use Rattle.serde_json.specs.Data.{Members, member, no_members, put, string}
+use Rattle.json.specs.Print.{IsNumber, print_from, quoted}
+use Rattle.serde_json.specs.Data.{Members, float, member, no_members, number, put, string}
+use Rattle.serde_json.specs.Find.{is_float}
+use Rattle.serde_json.specs.Read.{number_of}
 use Rattle.serde_json.specs.Written as written
 use Rattle.cvss_object.specs.Json as object
 use Rattle.cvss_object.specs.Json.{comma_if, member_text, object_text, rest_of_object, string_text}
@@ -27,6 +29,18 @@ string_reads text unescaped = text_of (string text) (string_text text) (record {
   numbers = tt;
   reads = λ shallow. refl;
   outlined = refl;
+})
+
+-- ---- numbers
+
+pub float_reads : (value : Float) (text : List ℕ) → IsNumber text → number_of text ≡ Some (float value) → IsTextOf (number (float value)) text
+unfolding print_from
+float_reads value text is reads = text_of (number (float value)) text (record {
+  json = json.number text;
+  printed = sym (append-nil text);
+  numbers = is;
+  reads = λ shallow. ap (option_map number) reads;
+  outlined = ap (λ read. json.number (if unwrap_or (option_map is_float read) false then [] else text)) reads;
 })
 
 -- ---- members in the order in which they are written

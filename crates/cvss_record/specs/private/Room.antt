@@ -1,7 +1,7 @@
 -- The room that members of a record need.
 use Rattle.std.specs.Prelude.{ℕ, ◌+◌, List, [], ◌∷◌}
 use Rattle.cvss_record.specs.declared.field.Field.{Field}
-use Rattle.cvss_record.specs.declared.field.Field.TheVariants.{V2, V3, V4, Score, Rating, Text, Version}
+use Rattle.cvss_record.specs.declared.field.Field.TheVariants.{Text}
 
 -- no more bytes than these are written for a member
 abbrev pub field_room : Field → ℕ
