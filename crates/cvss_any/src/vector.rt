@@ -1,16 +1,18 @@
 //! A vector of any version.
 
-ghost use Rattle.std.specs.Prelude.{◌≡◌, ◌≤◌, ◌↔◌, IsTrue, IfSome, IsSome, IfOk, OnOk, IfErr, IsErrAnd, Some, Ok, Err, ℤ};
+ghost use Rattle.std.specs.Prelude.{◌≡◌, ◌≤◌, ◌↔◌, IsTrue, IfSome, IsSome, IfOk, OnOk, IfErr, IsErrAnd, Some, Ok, Err, [], ℤ};
 ghost use Rattle.cvss_any.specs.Answers.{text_of};
 
 use crate::bytes_error::BytesError;
 use crate::metrics::Metrics;
 use crate::published::{Bounds, Published};
-use crate::reading::{bytes_error_of, error_of, read, read_error_of};
+use crate::reading::{bytes_error_of, error_of, publish, read, read_error_of};
 use crate::refusal::ReadError;
 use crate::{v2, v3, v4};
 use cvss_base::tenths::text_of as text_of_tenths;
 use cvss_base::{Error, Severity, TENTH, severity_of_score};
+use cvss_text::buffer::TextBuffer;
+use cvss_text::print::text_behind;
 use std::alloc::Global;
 use std::fmt;
 
@@ -36,7 +38,8 @@ impl Cvss {
     ghost use Rattle.cvss_any.specs.Bytes.{IsRefusedAs, TellsWhyNot};
     ghost use Rattle.cvss_any.specs.Dispatch.{DenotesCvss, IsFirstRefusalCvss, cvss_reason};
     ghost use Rattle.cvss_any.specs.MetricsLeft.{metrics_left};
-    ghost use Rattle.cvss_any.specs.Published.{IsPublished, rating_within};
+    ghost use Rattle.cvss_any.specs.Published.{IsPublished, IsPublishedAs, rating_within};
+    ghost use Rattle.cvss_any.specs.private.Steps.{IsDenoted};
     ghost use Rattle.cvss_any.specs.Refusals.{IsReadError, IsReadErrorFor};
     ghost use Rattle.cvss_any.specs.declared.bytes_error.BytesError.TheVariants.{NotUtf8};
     ghost use Rattle.cvss_any.specs.declared.refusal.ReadError.TheVariants as read_error;
@@ -120,6 +123,42 @@ impl Cvss {
         match read(text) {
             Ok(cvss) => Ok(cvss),
             Err(fault) => Err(read_error_of(text, fault)),
+        }
+    }
+
+    /// The canonical text of the vector that a text denotes, written into an empty buffer, and what is
+    /// published of it. It is faster than `read`, and slower than `published_at_sight`, where that
+    /// gives an answer.
+    ///
+    /// # Errors
+    ///
+    /// Those of `read`.
+    pub fn publish<'a, 'b>(
+        text: &'a [u8],
+        buffer: &'b mut TextBuffer,
+    ) -> Result<(&'b [u8], Published), ReadError<'a>>
+        requires { buffer.old ≡ [] }
+        ensures published { IfOk result (λ given. IsPublishedAs text.now given.0.now given.1) }
+        ensures refused { IfErr result (IsReadError text.now) }
+    {
+        match publish(text, buffer) {
+            Ok(given) => Ok(given),
+            Err(fault) => Err(read_error_of(text, fault)),
+        }
+    }
+
+    /// Writes the canonical text of a vector that was read into an empty buffer, and gives it.
+    #[inline(always)]
+    pub(crate) fn text<'a>(&self, buffer: &'a mut TextBuffer) -> &'a [u8]
+        requires empty { buffer.old ≡ [] }
+        requires read { IsDenoted self.now }
+        ensures { result.now ≡ text_of self.now }
+    {
+        match self {
+            Cvss::CvssV20(vector) => vector.text(buffer),
+            Cvss::CvssV30(vector) => text_behind(*b"CVSS:3.0", vector, buffer),
+            Cvss::CvssV31(vector) => text_behind(*b"CVSS:3.1", vector, buffer),
+            Cvss::CvssV40(vector) => text_behind(*b"CVSS:4.0", vector, buffer),
         }
     }
 

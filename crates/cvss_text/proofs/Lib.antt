@@ -1,3 +1,4 @@
+pub mod BufferLemmas
 pub mod CanonicalLemmas
 pub mod ComponentLemmas
 pub mod DenotesLemmas
