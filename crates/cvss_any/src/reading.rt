@@ -19,7 +19,7 @@ ghost use Rattle.cvss_any.specs.private.Views.{why_of};
 ghost use Rattle.cvss_v2.specs.Vector.{v2};
 
 use crate::bytes_error::BytesError;
-use crate::published::Published;
+use crate::published::{Bounds, Published};
 use crate::refusal::{ReadError, Refusal};
 use crate::route::{NoVersion, Route, route_of_text};
 use crate::vector::Cvss;
@@ -28,8 +28,9 @@ use cvss_base::Error;
 use cvss_text::buffer::TextBuffer;
 use cvss_text::front::{Fronted, read_started};
 use cvss_text::pieces::Pieces;
+use cvss_text::print::text_behind;
 use cvss_text::refusing;
-use cvss_text::walk::{Fault, read_vector};
+use cvss_text::walk::{Fault, fill_vector};
 use std::alloc::Global;
 
 /// Why a text denotes no vector, as the version found by whose rules it was read. That a text tells
@@ -66,52 +67,54 @@ fn fault_of<'a>(why: NoVersion<'a>) -> Fault<'a, cvss_base::v2::MetricType>
     }
 }
 
-#[inline(always)]
+// A call of its own for each version keeps the vectors apart, as in `sight`.
+#[inline(never)]
 fn read_v20(text: &[u8]) -> Result<Cvss, ReadFault<'_>>
     requires { route_of text.now ≡ ToV20 }
     ensures { IsRead text.now result }
 {
-    match read_vector(text, v2::Vector::default()) {
-        Ok(vector) => Ok(Cvss::CvssV20(vector)),
+    let mut vector = v2::Vector::default();
+    match fill_vector(text, &mut vector) {
+        Ok(()) => Ok(Cvss::CvssV20(vector)),
         Err(fault) => Err(ReadFault::V2(fault)),
     }
 }
 
-#[inline(always)]
+#[inline(never)]
 fn read_v30<'a>(text: &'a [u8], left: Pieces<'a>) -> Result<Cvss, ReadFault<'a>>
     requires routed { route_of text.now ≡ ToV30 }
     requires behind { pieces text.now ≡ version_piece (codes "3.0") ∷ pieces_left left }
     ensures { IsRead text.now result }
 {
-    let empty = v3::Vector::start(b"3.0").unwrap();
-    match read_started(text, left, empty) {
-        Ok(vector) => Ok(Cvss::CvssV30(vector)),
+    let mut vector = v3::Vector::start(b"3.0").unwrap();
+    match read_started(text, left, &mut vector) {
+        Ok(()) => Ok(Cvss::CvssV30(vector)),
         Err(fault) => Err(ReadFault::V3(fault)),
     }
 }
 
-#[inline(always)]
+#[inline(never)]
 fn read_v31<'a>(text: &'a [u8], left: Pieces<'a>) -> Result<Cvss, ReadFault<'a>>
     requires routed { route_of text.now ≡ ToV31 }
     requires behind { pieces text.now ≡ version_piece (codes "3.1") ∷ pieces_left left }
     ensures { IsRead text.now result }
 {
-    let empty = v3::Vector::start(b"3.1").unwrap();
-    match read_started(text, left, empty) {
-        Ok(vector) => Ok(Cvss::CvssV31(vector)),
+    let mut vector = v3::Vector::start(b"3.1").unwrap();
+    match read_started(text, left, &mut vector) {
+        Ok(()) => Ok(Cvss::CvssV31(vector)),
         Err(fault) => Err(ReadFault::V3(fault)),
     }
 }
 
-#[inline(always)]
+#[inline(never)]
 fn read_v40<'a>(text: &'a [u8], left: Pieces<'a>) -> Result<Cvss, ReadFault<'a>>
     requires routed { route_of text.now ≡ ToV40 }
     requires behind { pieces text.now ≡ version_piece (codes "4.0") ∷ pieces_left left }
     ensures { IsRead text.now result }
 {
-    let empty = v4::Vector::start(b"4.0").unwrap();
-    match read_started(text, left, empty) {
-        Ok(vector) => Ok(Cvss::CvssV40(vector)),
+    let mut vector = v4::Vector::start(b"4.0").unwrap();
+    match read_started(text, left, &mut vector) {
+        Ok(()) => Ok(Cvss::CvssV40(vector)),
         Err(fault) => Err(ReadFault::V4(fault)),
     }
 }
@@ -135,7 +138,6 @@ pub(crate) fn publish<'a, 'b>(
     }
 }
 
-// A call of its own for each version keeps the vectors apart, as in `sight`.
 #[inline(never)]
 fn publish_v20<'a, 'b>(
     text: &'a [u8],
@@ -146,9 +148,17 @@ fn publish_v20<'a, 'b>(
     ensures published { IfOk result (λ given. IsPublishedAs text.now given.0.now given.1) }
     ensures refused { IfErr result (λ fault. IsRead text.now (Err fault)) }
 {
-    match read_v20(text) {
-        Ok(cvss) => Ok((cvss.text(buffer), cvss.published())),
-        Err(fault) => Err(fault),
+    let mut vector = v2::Vector::default();
+    match fill_vector(text, &mut vector) {
+        Ok(()) => {
+            let given = vector.text(buffer);
+            let published = Published {
+                tenths: vector.tenths(),
+                bounds: Bounds::OfV2,
+            };
+            Ok((given, published))
+        }
+        Err(fault) => Err(ReadFault::V2(fault)),
     }
 }
 
@@ -164,9 +174,17 @@ fn publish_v30<'a, 'b>(
     ensures published { IfOk result (λ given. IsPublishedAs text.now given.0.now given.1) }
     ensures refused { IfErr result (λ fault. IsRead text.now (Err fault)) }
 {
-    match read_v30(text, left) {
-        Ok(cvss) => Ok((cvss.text(buffer), cvss.published())),
-        Err(fault) => Err(fault),
+    let mut vector = v3::Vector::start(b"3.0").unwrap();
+    match read_started(text, left, &mut vector) {
+        Ok(()) => {
+            let given = text_behind(*b"CVSS:3.0", &vector, buffer);
+            let published = Published {
+                tenths: vector.tenths(),
+                bounds: Bounds::SinceV3,
+            };
+            Ok((given, published))
+        }
+        Err(fault) => Err(ReadFault::V3(fault)),
     }
 }
 
@@ -182,9 +200,17 @@ fn publish_v31<'a, 'b>(
     ensures published { IfOk result (λ given. IsPublishedAs text.now given.0.now given.1) }
     ensures refused { IfErr result (λ fault. IsRead text.now (Err fault)) }
 {
-    match read_v31(text, left) {
-        Ok(cvss) => Ok((cvss.text(buffer), cvss.published())),
-        Err(fault) => Err(fault),
+    let mut vector = v3::Vector::start(b"3.1").unwrap();
+    match read_started(text, left, &mut vector) {
+        Ok(()) => {
+            let given = text_behind(*b"CVSS:3.1", &vector, buffer);
+            let published = Published {
+                tenths: vector.tenths(),
+                bounds: Bounds::SinceV3,
+            };
+            Ok((given, published))
+        }
+        Err(fault) => Err(ReadFault::V3(fault)),
     }
 }
 
@@ -200,9 +226,17 @@ fn publish_v40<'a, 'b>(
     ensures published { IfOk result (λ given. IsPublishedAs text.now given.0.now given.1) }
     ensures refused { IfErr result (λ fault. IsRead text.now (Err fault)) }
 {
-    match read_v40(text, left) {
-        Ok(cvss) => Ok((cvss.text(buffer), cvss.published())),
-        Err(fault) => Err(fault),
+    let mut vector = v4::Vector::start(b"4.0").unwrap();
+    match read_started(text, left, &mut vector) {
+        Ok(()) => {
+            let given = text_behind(*b"CVSS:4.0", &vector, buffer);
+            let published = Published {
+                tenths: vector.tenths(),
+                bounds: Bounds::SinceV3,
+            };
+            Ok((given, published))
+        }
+        Err(fault) => Err(ReadFault::V4(fault)),
     }
 }
 

@@ -12,7 +12,6 @@ use crate::{v2, v3, v4};
 use cvss_base::tenths::text_of as text_of_tenths;
 use cvss_base::{Error, Severity, TENTH, severity_of_score};
 use cvss_text::buffer::TextBuffer;
-use cvss_text::print::text_behind;
 use std::alloc::Global;
 use std::fmt;
 
@@ -39,7 +38,6 @@ impl Cvss {
     ghost use Rattle.cvss_any.specs.Dispatch.{DenotesCvss, IsFirstRefusalCvss, cvss_reason};
     ghost use Rattle.cvss_any.specs.MetricsLeft.{metrics_left};
     ghost use Rattle.cvss_any.specs.Published.{IsPublished, IsPublishedAs, rating_within};
-    ghost use Rattle.cvss_any.specs.private.Steps.{IsDenoted};
     ghost use Rattle.cvss_any.specs.Refusals.{IsReadError, IsReadErrorFor};
     ghost use Rattle.cvss_any.specs.declared.bytes_error.BytesError.TheVariants.{NotUtf8};
     ghost use Rattle.cvss_any.specs.declared.refusal.ReadError.TheVariants as read_error;
@@ -144,21 +142,6 @@ impl Cvss {
         match publish(text, buffer) {
             Ok(given) => Ok(given),
             Err(fault) => Err(read_error_of(text, fault)),
-        }
-    }
-
-    /// Writes the canonical text of a vector that was read into an empty buffer, and gives it.
-    #[inline(always)]
-    pub(crate) fn text<'a>(&self, buffer: &'a mut TextBuffer) -> &'a [u8]
-        requires empty { buffer.old ≡ [] }
-        requires read { IsDenoted self.now }
-        ensures { result.now ≡ text_of self.now }
-    {
-        match self {
-            Cvss::CvssV20(vector) => vector.text(buffer),
-            Cvss::CvssV30(vector) => text_behind(*b"CVSS:3.0", vector, buffer),
-            Cvss::CvssV31(vector) => text_behind(*b"CVSS:3.1", vector, buffer),
-            Cvss::CvssV40(vector) => text_behind(*b"CVSS:4.0", vector, buffer),
         }
     }
 

@@ -3,6 +3,7 @@ pub mod CanonicalLemmas
 pub mod ComponentLemmas
 pub mod DenotesLemmas
 pub mod EqualLemmas
+pub mod FilledLemmas
 pub mod FrontLemmas
 pub mod JoinLemmas
 pub mod LawLemmas

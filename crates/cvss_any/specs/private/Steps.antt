@@ -26,11 +26,6 @@ IsTellableFault (told.V2 fault) = walk.IsTellable v2 fault
 IsTellableFault (told.V3 fault) = walk.IsTellable v3 fault
 IsTellableFault (told.V4 fault) = walk.IsTellable v4 fault
 
--- some text denotes the vector
-pub record IsDenoted (cvss : Cvss) : Type 0 where
-  pub text : List ℕ
-  pub denoted : spec.DenotesCvss text cvss
-
 -- what reading a text answers: the vector that it denotes, or the first reason why there is none
 pub record IsRead (text : List ℕ) (answer : Result Cvss ReadFault) : Type 0 where
   pub denoted : IfOk answer (λ cvss. spec.DenotesCvss text cvss)

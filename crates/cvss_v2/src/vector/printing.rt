@@ -35,10 +35,10 @@ impl Printed for Vector {
     }
 
     fn write_metrics(&self, buffer: &mut TextBuffer) {
-        write_three(self.av, self.ac, self.au, buffer);
-        write_three(self.c, self.i, self.a, buffer);
-        write_three(self.e, self.rl, self.rc, buffer);
-        write_three(self.cdp, self.td, self.cr, buffer);
+        write_three(&self.av, &self.ac, &self.au, buffer);
+        write_three(&self.c, &self.i, &self.a, buffer);
+        write_three(&self.e, &self.rl, &self.rc, buffer);
+        write_three(&self.cdp, &self.td, &self.cr, buffer);
         write_value(self.ir, buffer);
         write_value(self.ar, buffer);
     }
@@ -71,19 +71,19 @@ fn write_value<M: Spelled>(value: Option<M>, buffer: &mut TextBuffer)
 /// Appends a slash and the component of each of three values that there is.
 #[inline(always)]
 fn write_three<K: Spelled, L: Spelled, M: Spelled>(
-    first: Option<K>,
-    second: Option<L>,
-    third: Option<M>,
+    first: &Option<K>,
+    second: &Option<L>,
+    third: &Option<M>,
     buffer: &mut TextBuffer,
 )
     requires { length buffer.old ≤ 240 }
-    ensures text { buffer.new ≡ buffer.old ++ (slashed_value K.KIND K.value first
-        ++ (slashed_value L.KIND L.value second ++ slashed_value M.KIND M.value third)) }
+    ensures text { buffer.new ≡ buffer.old ++ (slashed_value K.KIND K.value first.now
+        ++ (slashed_value L.KIND L.value second.now ++ slashed_value M.KIND M.value third.now)) }
     ensures room { length buffer.new ≤ length buffer.old + 24 }
 {
-    write_value(first, buffer);
-    write_value(second, buffer);
-    write_value(third, buffer);
+    write_value(*first, buffer);
+    write_value(*second, buffer);
+    write_value(*third, buffer);
 }
 
 impl Vector {

@@ -45,10 +45,10 @@ impl Printed for Vector {
 
     fn write_metrics(&self, buffer: &mut TextBuffer) {
         self.write_base(buffer);
-        write_three(self.e, self.rl, self.rc, buffer);
-        write_three(self.cr, self.ir, self.ar, buffer);
-        write_three(self.mav, self.mac, self.mpr, buffer);
-        write_three(self.mui, self.ms, self.mc, buffer);
+        write_three(&self.e, &self.rl, &self.rc, buffer);
+        write_three(&self.cr, &self.ir, &self.ar, buffer);
+        write_three(&self.mav, &self.mac, &self.mpr, buffer);
+        write_three(&self.mui, &self.ms, &self.mc, buffer);
         write_value(self.mi, buffer);
         write_value(self.ma, buffer);
     }
@@ -81,19 +81,19 @@ fn write_value<M: Spelled>(value: Option<M>, buffer: &mut TextBuffer)
 /// Appends a slash and the component of each of three values that there is.
 #[inline(always)]
 fn write_three<K: Spelled, L: Spelled, M: Spelled>(
-    first: Option<K>,
-    second: Option<L>,
-    third: Option<M>,
+    first: &Option<K>,
+    second: &Option<L>,
+    third: &Option<M>,
     buffer: &mut TextBuffer,
 )
     requires { length buffer.old ≤ 240 }
-    ensures text { buffer.new ≡ buffer.old ++ (shown K.KIND K.value first
-        ++ (shown L.KIND L.value second ++ shown M.KIND M.value third)) }
+    ensures text { buffer.new ≡ buffer.old ++ (shown K.KIND K.value first.now
+        ++ (shown L.KIND L.value second.now ++ shown M.KIND M.value third.now)) }
     ensures room { length buffer.new ≤ length buffer.old + 24 }
 {
-    write_value(first, buffer);
-    write_value(second, buffer);
-    write_value(third, buffer);
+    write_value(*first, buffer);
+    write_value(*second, buffer);
+    write_value(*third, buffer);
 }
 
 impl Vector {
@@ -117,8 +117,8 @@ impl Vector {
         ensures text { buffer.new ≡ buffer.old ++ slashed_texts v3 self.now (take 8 printed) }
         ensures room { length buffer.new ≤ length buffer.old + 64 }
     {
-        write_three(self.av, self.ac, self.pr, buffer);
-        write_three(self.ui, self.s, self.c, buffer);
+        write_three(&self.av, &self.ac, &self.pr, buffer);
+        write_three(&self.ui, &self.s, &self.c, buffer);
         write_value(self.i, buffer);
         write_value(self.a, buffer);
     }

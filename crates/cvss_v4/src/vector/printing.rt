@@ -55,10 +55,10 @@ impl Printed for Vector {
 
     fn write_metrics(&self, buffer: &mut TextBuffer) {
         self.write_base(buffer);
-        write_three(self.e, self.cr, self.ir, buffer);
+        write_three(&self.e, &self.cr, &self.ir, buffer);
         write_value(self.ar, buffer);
         self.write_modified(buffer);
-        write_three(self.s, self.au, self.r, buffer);
+        write_three(&self.s, &self.au, &self.r, buffer);
         write_value(self.v, buffer);
         write_value(self.re, buffer);
         write_value(self.u, buffer);
@@ -92,19 +92,19 @@ fn write_value<M: Spelled>(value: Option<M>, buffer: &mut TextBuffer)
 /// Appends a slash and the component of each of three values that there is.
 #[inline(always)]
 fn write_three<K: Spelled, L: Spelled, M: Spelled>(
-    first: Option<K>,
-    second: Option<L>,
-    third: Option<M>,
+    first: &Option<K>,
+    second: &Option<L>,
+    third: &Option<M>,
     buffer: &mut TextBuffer,
 )
     requires { length buffer.old ≤ 240 }
-    ensures text { buffer.new ≡ buffer.old ++ (shown K.KIND K.rank first
-        ++ (shown L.KIND L.rank second ++ shown M.KIND M.rank third)) }
+    ensures text { buffer.new ≡ buffer.old ++ (shown K.KIND K.rank first.now
+        ++ (shown L.KIND L.rank second.now ++ shown M.KIND M.rank third.now)) }
     ensures room { length buffer.new ≤ length buffer.old + 24 }
 {
-    write_value(first, buffer);
-    write_value(second, buffer);
-    write_value(third, buffer);
+    write_value(*first, buffer);
+    write_value(*second, buffer);
+    write_value(*third, buffer);
 }
 
 impl Vector {
@@ -127,9 +127,9 @@ impl Vector {
         ensures text { buffer.new ≡ buffer.old ++ slashed_texts v4 self.now (take 11 printed) }
         ensures room { length buffer.new ≤ length buffer.old + 88 }
     {
-        write_three(self.av, self.ac, self.at, buffer);
-        write_three(self.pr, self.ui, self.vc, buffer);
-        write_three(self.vi, self.va, self.sc, buffer);
+        write_three(&self.av, &self.ac, &self.at, buffer);
+        write_three(&self.pr, &self.ui, &self.vc, buffer);
+        write_three(&self.vi, &self.va, &self.sc, buffer);
         write_value(self.si, buffer);
         write_value(self.sa, buffer);
     }
@@ -142,9 +142,9 @@ impl Vector {
             ≡ buffer.old ++ slashed_texts v4 self.now (take 11 (drop 15 printed)) }
         ensures room { length buffer.new ≤ length buffer.old + 88 }
     {
-        write_three(self.mav, self.mac, self.mat, buffer);
-        write_three(self.mpr, self.mui, self.mvc, buffer);
-        write_three(self.mvi, self.mva, self.msc, buffer);
+        write_three(&self.mav, &self.mac, &self.mat, buffer);
+        write_three(&self.mpr, &self.mui, &self.mvc, buffer);
+        write_three(&self.mvi, &self.mva, &self.msc, buffer);
         write_value(self.msi, buffer);
         write_value(self.msa, buffer);
     }
