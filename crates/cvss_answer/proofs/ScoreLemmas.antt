@@ -4,7 +4,7 @@ use Rattle.std.proofs.lemmas.Bool.Decides.{nat_tests}
 use Rattle.std.proofs.lemmas.Option.{slice_get-map}
 use Rattle.std.specs.List.{range_with_len}
 use Rattle.cvss_any.specs.Answers.{rating_by, rating_text, score_of_tenths, text_of, vector_answer}
-use Rattle.cvss_any.specs.Published.{IsPublishedOf}
+use Rattle.cvss_any.specs.Published.{IsPublishedAs}
 use Rattle.cvss_any.specs.declared.published.Bounds.{Bounds}
 use Rattle.cvss_any.specs.declared.published.Bounds.TheVariants.{OfV2, SinceV3}
 use Rattle.cvss_any.specs.declared.published.Published.{Published}
@@ -39,25 +39,25 @@ alike t from below =
 pub between_v2 : (t : ℕ) → 1 ≤ t → t < 90 → rated_line SinceV3 t ≡ rated_line OfV2 t
 between_v2 t from below = ap (λ rating. codes " " ++ (rating_text t rating ++ 10 ∷ [])) (alike t from below)
 
--- a canonical line with the line of its score is its vector's answer
-canonical_answer : (text : List ℕ) (published : Published) → (is : IsPublishedOf text published)
+-- a canonical text with the line of its score is its vector's answer
+canonical_answer : (line text : List ℕ) (published : Published) → (is : IsPublishedAs line text published)
     → text ++ score_line published ≡ written_text (vector_answer is.cvss published.tenths)
-canonical_answer text published is =
+canonical_answer line text published is =
     let t = published.tenths in
     let own = text_of is.cvss in
     let told = rating_text t (rating_by is.cvss (score_of_tenths t)) in
     let same : text ++ score_line published ≡ own ++ (codes " " ++ (told ++ 10 ∷ [])) =
     ap (λ rating. text ++ (codes " " ++ (rating_text t (rating (score_of_tenths t)) ++ 10 ∷ []))) (sym is.is.rated)
-    ∙ ap (λ bytes. bytes ++ (codes " " ++ (told ++ 10 ∷ []))) is.canonical in
+    ∙ ap (λ bytes. bytes ++ (codes " " ++ (told ++ 10 ∷ []))) is.canonical_is in
     same
     ∙ sym (append_assoc own (codes " ") (told ++ 10 ∷ []))
     ∙ sym (append_assoc (own ++ codes " ") told (10 ∷ []))
 
--- such a line is answered once both are written
-pub canonical_written : (number : ℕ) (line : List ℕ) (published : Published) (old new : List ℕ) → IsPublishedOf line published
-    → new ≡ old ++ (line ++ score_line published) → WritesAnswer IsAnswer number line old new true
+-- a line is answered once both are written of its vector
+pub canonical_written : (number : ℕ) (line text : List ℕ) (published : Published) (old new : List ℕ) → IsPublishedAs line text published
+    → new ≡ old ++ (text ++ score_line published) → WritesAnswer IsAnswer number line old new true
 unfolding IsAnswer
-canonical_written number line published old new of written = record {
+canonical_written number line text published old new of written = record {
   answer = Accepted (vector_answer of.cvss published.tenths ∷ []);
   answers = record {
     utf8 = of.utf8;
@@ -68,5 +68,5 @@ canonical_written number line published old new of written = record {
     is = refl;
   };
   told = refl;
-  written = one_text _ _ _ (written ∙ ap (λ text. old ++ text) (canonical_answer line published of));
+  written = one_text _ _ _ (written ∙ ap (λ text. old ++ text) (canonical_answer line text published of));
 }

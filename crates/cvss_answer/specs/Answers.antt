@@ -8,7 +8,7 @@ use Rattle.cvss_any.specs.Published.{rating_within}
 use Rattle.cvss_any.specs.Reasons.{IsErrorAnswer}
 use Rattle.cvss_any.specs.declared.published.Bounds.{Bounds}
 use Rattle.cvss_any.specs.declared.published.Published.{Published}
-use Rattle.cvss_lines.specs.Answers.{Answer, Accepted, Refused, written_text}
+use Rattle.cvss_lines.specs.Answers.{Answer, Accepted, Refused}
 
 -- the line is a text that denotes a vector of some version, and the answer is this vector's
 pub record IsAcceptance (line answer : List ℕ) : Type 0 where
@@ -24,12 +24,6 @@ unfoldable pub IsAnswer : ℕ → List ℕ → Answer → Type 0
 IsAnswer number line (Accepted (text ∷ [])) = IsAcceptance line text
 IsAnswer number line (Refused (text ∷ [])) = IsErrorAnswer line text
 IsAnswer number line answer = ⊥
-
--- the vector's answer and a byte 10 are written behind the earlier answers
-pub record WritesVector (vector : Cvss) (old new : List ℕ) : Type 0 where
-  pub tenths : ℕ
-  pub scored : IsScoreOf vector (score_of_tenths tenths)
-  pub written : new ≡ old ++ written_text (vector_answer vector tenths)
 
 -- what follows a vector's text in its answer: a score of so many tenths and its rating within these bounds, each
 -- behind a blank, and a byte 10

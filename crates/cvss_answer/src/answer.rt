@@ -1,17 +1,15 @@
 //! The answer to one line.
 
 ghost use Rattle.std.specs.Prelude.{◌≡◌, ℕ, ◌++◌, [], ◌∷◌, ◌≤◌, codes, IfOk, OnOk};
-ghost use Rattle.cvss_any.specs.Answers.{HasScore, text_of};
 ghost use Rattle.cvss_any.specs.Reasons.{error_message};
 ghost use Rattle.cvss_lines.specs.Answers.{WritesAnswer};
-ghost use Rattle.cvss_answer.specs.Answers.{IsAnswer, WritesVector, score_line};
+ghost use Rattle.cvss_answer.specs.Answers.{IsAnswer, score_line};
 
 use crate::score_line::score_line;
 use crate::segments::push_segments;
-use cvss_any::{Cvss, Message, Published, ReadError};
+use cvss_any::{Cvss, Message, Published, ReadError, TextBuffer};
 use cvss_lines::{Answering, Gathered};
 use std::alloc::{AllocError, Global};
-use std::fmt::{self, Write};
 
 /// Lines that are texts of vectors, each answered by the vector or by why there is none.
 pub struct Vectors {}
@@ -29,21 +27,21 @@ impl Answering for Vectors {
             write_canonical(line, published, answers)?;
             return Ok(true);
         }
-        match answer_other_line(line, answers) {
-            Ok(accepted) => Ok(accepted),
-            Err(_) => Err(AllocError),
-        }
+        answer_other_line(line, answers)
     }
 }
 
 /// The answer to a line that is not seen at once to be canonical.
-fn answer_other_line(line: &[u8], answers: &mut Gathered) -> Result<bool, fmt::Error>
+// A call of its own keeps the buffer out of the frame of a canonical line.
+#[inline(never)]
+fn answer_other_line(line: &[u8], answers: &mut Gathered) -> Result<bool, AllocError>
     ensures { (number : ℕ) → IfOk result (WritesAnswer IsAnswer number line.now
         answers.old.bytes.items answers.new.bytes.items) }
 {
-    match Cvss::read(line) {
-        Ok(vector) => {
-            write_vector(&vector, answers)?;
+    let mut buffer = TextBuffer::new();
+    match Cvss::publish(line, &mut buffer) {
+        Ok((text, published)) => {
+            write_canonical(text, published, answers)?;
             Ok(true)
         }
         Err(error) => {
@@ -65,39 +63,21 @@ fn write_error(error: ReadError<'_>, answers: &mut Gathered) -> Result<(), Alloc
     answers.push(&[b'\n'])
 }
 
-/// Writes a canonical line with what is published of its vector, and a byte 10: the answer to it.
+/// Writes a canonical text with what is published of its vector, and a byte 10: the answer to it.
 ///
 /// # Errors
 ///
 /// If memory runs out, whereupon a beginning of the answer may be written.
+#[inline(always)]
 pub fn write_canonical(
-    line: &[u8],
+    text: &[u8],
     published: Published,
     answers: &mut Gathered,
 ) -> Result<(), AllocError>
     requires { published.tenths ≤ 100 }
     ensures { OnOk result (answers.new.bytes.items
-        ≡ answers.old.bytes.items ++ (line.now ++ score_line published)) }
+        ≡ answers.old.bytes.items ++ (text.now ++ score_line published)) }
 {
-    answers.push(line)?;
+    answers.push(text)?;
     answers.push(score_line(published).as_bytes())
-}
-
-/// Writes the answer of a vector, and a byte 10.
-fn write_vector(vector: &Cvss, answers: &mut Gathered) -> fmt::Result
-    requires { HasScore vector.now }
-    ensures { OnOk result
-        (WritesVector vector.now answers.old.bytes.items answers.new.bytes.items) }
-{
-    write_text(vector, answers)?;
-    answers.push(score_line(vector.published()).as_bytes())?;
-    Ok(())
-}
-
-/// Writes a vector's text.
-fn write_text(vector: &Cvss, answers: &mut Gathered) -> fmt::Result
-    ensures { OnOk result
-        (answers.new.bytes.items ≡ answers.old.bytes.items ++ text_of vector.now) }
-{
-    write!(answers, "{vector}")
 }

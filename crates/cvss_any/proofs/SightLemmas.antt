@@ -33,4 +33,4 @@ utf8_behind version lawful fronts text v is =
 -- what is published of a vector whose canonical text this is
 pub IsPublishedOf_from : (text : List ℕ) (cvss : Cvss) (published : Published) → text ≡ text_of cvss → DenotesCvss text cvss → IsUtf8 text → IsPublished cvss published → IsPublishedOf text published
 IsPublishedOf_from text cvss published canonical denoted utf8 is =
-    record { cvss = cvss; canonical = canonical; denoted = denoted; utf8 = utf8; is = is }
+    record { cvss = cvss; canonical_is = canonical; denoted = denoted; utf8 = utf8; is = is }

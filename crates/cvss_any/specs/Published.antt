@@ -22,10 +22,14 @@ pub record IsPublished (cvss : Cvss) (published : Published) : Type 0 where
   pub rated : rating_by cvss ≡ rating_within published.bounds
   pub to_ten : published.tenths ≤ 100
 
--- that is published of the vector whose canonical text this is
-pub record IsPublishedOf (text : List ℕ) (published : Published) : Type 0 where
+-- that is published of the vector that the text denotes, whose canonical text is given
+pub record IsPublishedAs (text canonical : List ℕ) (published : Published) : Type 0 where
   pub cvss : Cvss
-  pub canonical : text ≡ text_of cvss
+  pub canonical_is : canonical ≡ text_of cvss
   pub denoted : DenotesCvss text cvss
   pub utf8 : IsUtf8 text
   pub is : IsPublished cvss published
+
+-- the same, of a text that is its vector's canonical one
+abbrev pub IsPublishedOf : List ℕ → Published → Type 0
+IsPublishedOf text published = IsPublishedAs text text published

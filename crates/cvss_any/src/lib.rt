@@ -15,6 +15,7 @@ mod sight;
 mod vector;
 
 pub use bytes_error::BytesError;
+pub use cvss_text::buffer::TextBuffer;
 use cvss_v2 as v2;
 use cvss_v3 as v3;
 use cvss_v4 as v4;

@@ -1,7 +1,7 @@
 //! How a text is read by the rules of the version that it tells. It takes no memory: a fault borrows
 //! the part of the text that it names.
 
-ghost use Rattle.std.specs.Prelude.{◌≡◌, ◌∷◌, codes, IsUtf8};
+ghost use Rattle.std.specs.Prelude.{◌≡◌, [], ◌∷◌, codes, Err, IfErr, IfOk, IsUtf8};
 ghost use Rattle.cvss_base.specs.Text.{pieces};
 ghost use Rattle.cvss_base.specs.Told.{Tells};
 ghost use Rattle.cvss_base.specs.Version.{version_piece};
@@ -11,6 +11,7 @@ ghost use Rattle.cvss_any.specs.Bytes.{IsRefusedAs};
 ghost use Rattle.cvss_any.specs.declared.metric_type.MetricType.TheVariants.{V2};
 ghost use Rattle.cvss_any.specs.Dispatch.{cvss_reason, untold, wrapped};
 ghost use Rattle.cvss_any.specs.private.Steps.{IsRead, IsTellableFault, reason_read};
+ghost use Rattle.cvss_any.specs.Published.{IsPublishedAs};
 ghost use Rattle.cvss_any.specs.Refusals.{IsReadErrorFor};
 ghost use Rattle.cvss_any.specs.Route.{ToV20, ToV30, ToV31, ToV40, route_of};
 ghost use Rattle.cvss_any.specs.private.Views as is_told;
@@ -18,15 +19,18 @@ ghost use Rattle.cvss_any.specs.private.Views.{why_of};
 ghost use Rattle.cvss_v2.specs.Vector.{v2};
 
 use crate::bytes_error::BytesError;
+use crate::published::{Bounds, Published};
 use crate::refusal::{ReadError, Refusal};
 use crate::route::{NoVersion, Route, route_of_text};
 use crate::vector::Cvss;
 use crate::{v2, v3, v4};
 use cvss_base::Error;
+use cvss_text::buffer::TextBuffer;
 use cvss_text::front::{Fronted, read_started};
 use cvss_text::pieces::Pieces;
+use cvss_text::print::text_behind;
 use cvss_text::refusing;
-use cvss_text::walk::{Fault, read_vector};
+use cvss_text::walk::{Fault, fill_vector};
 use std::alloc::Global;
 
 /// Why a text denotes no vector, as the version found by whose rules it was read. That a text tells
@@ -69,8 +73,9 @@ fn read_v20(text: &[u8]) -> Result<Cvss, ReadFault<'_>>
     requires { route_of text.now ≡ ToV20 }
     ensures { IsRead text.now result }
 {
-    match read_vector(text, v2::Vector::default()) {
-        Ok(vector) => Ok(Cvss::CvssV20(vector)),
+    let mut vector = v2::Vector::default();
+    match fill_vector(text, &mut vector) {
+        Ok(()) => Ok(Cvss::CvssV20(vector)),
         Err(fault) => Err(ReadFault::V2(fault)),
     }
 }
@@ -81,9 +86,9 @@ fn read_v30<'a>(text: &'a [u8], left: Pieces<'a>) -> Result<Cvss, ReadFault<'a>>
     requires behind { pieces text.now ≡ version_piece (codes "3.0") ∷ pieces_left left }
     ensures { IsRead text.now result }
 {
-    let empty = v3::Vector::start(b"3.0").unwrap();
-    match read_started(text, left, empty) {
-        Ok(vector) => Ok(Cvss::CvssV30(vector)),
+    let mut vector = v3::Vector::start(b"3.0").unwrap();
+    match read_started(text, left, &mut vector) {
+        Ok(()) => Ok(Cvss::CvssV30(vector)),
         Err(fault) => Err(ReadFault::V3(fault)),
     }
 }
@@ -94,9 +99,9 @@ fn read_v31<'a>(text: &'a [u8], left: Pieces<'a>) -> Result<Cvss, ReadFault<'a>>
     requires behind { pieces text.now ≡ version_piece (codes "3.1") ∷ pieces_left left }
     ensures { IsRead text.now result }
 {
-    let empty = v3::Vector::start(b"3.1").unwrap();
-    match read_started(text, left, empty) {
-        Ok(vector) => Ok(Cvss::CvssV31(vector)),
+    let mut vector = v3::Vector::start(b"3.1").unwrap();
+    match read_started(text, left, &mut vector) {
+        Ok(()) => Ok(Cvss::CvssV31(vector)),
         Err(fault) => Err(ReadFault::V3(fault)),
     }
 }
@@ -107,9 +112,130 @@ fn read_v40<'a>(text: &'a [u8], left: Pieces<'a>) -> Result<Cvss, ReadFault<'a>>
     requires behind { pieces text.now ≡ version_piece (codes "4.0") ∷ pieces_left left }
     ensures { IsRead text.now result }
 {
-    let empty = v4::Vector::start(b"4.0").unwrap();
-    match read_started(text, left, empty) {
-        Ok(vector) => Ok(Cvss::CvssV40(vector)),
+    let mut vector = v4::Vector::start(b"4.0").unwrap();
+    match read_started(text, left, &mut vector) {
+        Ok(()) => Ok(Cvss::CvssV40(vector)),
+        Err(fault) => Err(ReadFault::V4(fault)),
+    }
+}
+
+/// The canonical text of the vector that a text denotes, and what is published of it; or the first
+/// reason why there is none.
+pub(crate) fn publish<'a, 'b>(
+    text: &'a [u8],
+    buffer: &'b mut TextBuffer,
+) -> Result<(&'b [u8], Published), ReadFault<'a>>
+    requires { buffer.old ≡ [] }
+    ensures published { IfOk result (λ given. IsPublishedAs text.now given.0.now given.1) }
+    ensures refused { IfErr result (λ fault. IsRead text.now (Err fault)) }
+{
+    match route_of_text(text) {
+        Route::V20 => publish_v20(text, buffer),
+        Route::V30(left) => publish_v30(text, left, buffer),
+        Route::V31(left) => publish_v31(text, left, buffer),
+        Route::V40(left) => publish_v40(text, left, buffer),
+        Route::Untold(why) => Err(ReadFault::V2(fault_of(why))),
+    }
+}
+
+#[inline(never)]
+fn publish_v20<'a, 'b>(
+    text: &'a [u8],
+    buffer: &'b mut TextBuffer,
+) -> Result<(&'b [u8], Published), ReadFault<'a>>
+    requires routed { route_of text.now ≡ ToV20 }
+    requires empty { buffer.old ≡ [] }
+    ensures published { IfOk result (λ given. IsPublishedAs text.now given.0.now given.1) }
+    ensures refused { IfErr result (λ fault. IsRead text.now (Err fault)) }
+{
+    let mut vector = v2::Vector::default();
+    match fill_vector(text, &mut vector) {
+        Ok(()) => {
+            let given = vector.text(buffer);
+            let published = Published {
+                tenths: vector.tenths(),
+                bounds: Bounds::OfV2,
+            };
+            Ok((given, published))
+        }
+        Err(fault) => Err(ReadFault::V2(fault)),
+    }
+}
+
+#[inline(never)]
+fn publish_v30<'a, 'b>(
+    text: &'a [u8],
+    left: Pieces<'a>,
+    buffer: &'b mut TextBuffer,
+) -> Result<(&'b [u8], Published), ReadFault<'a>>
+    requires routed { route_of text.now ≡ ToV30 }
+    requires behind { pieces text.now ≡ version_piece (codes "3.0") ∷ pieces_left left }
+    requires empty { buffer.old ≡ [] }
+    ensures published { IfOk result (λ given. IsPublishedAs text.now given.0.now given.1) }
+    ensures refused { IfErr result (λ fault. IsRead text.now (Err fault)) }
+{
+    let mut vector = v3::Vector::start(b"3.0").unwrap();
+    match read_started(text, left, &mut vector) {
+        Ok(()) => {
+            let given = text_behind(*b"CVSS:3.0", &vector, buffer);
+            let published = Published {
+                tenths: vector.tenths(),
+                bounds: Bounds::SinceV3,
+            };
+            Ok((given, published))
+        }
+        Err(fault) => Err(ReadFault::V3(fault)),
+    }
+}
+
+#[inline(never)]
+fn publish_v31<'a, 'b>(
+    text: &'a [u8],
+    left: Pieces<'a>,
+    buffer: &'b mut TextBuffer,
+) -> Result<(&'b [u8], Published), ReadFault<'a>>
+    requires routed { route_of text.now ≡ ToV31 }
+    requires behind { pieces text.now ≡ version_piece (codes "3.1") ∷ pieces_left left }
+    requires empty { buffer.old ≡ [] }
+    ensures published { IfOk result (λ given. IsPublishedAs text.now given.0.now given.1) }
+    ensures refused { IfErr result (λ fault. IsRead text.now (Err fault)) }
+{
+    let mut vector = v3::Vector::start(b"3.1").unwrap();
+    match read_started(text, left, &mut vector) {
+        Ok(()) => {
+            let given = text_behind(*b"CVSS:3.1", &vector, buffer);
+            let published = Published {
+                tenths: vector.tenths(),
+                bounds: Bounds::SinceV3,
+            };
+            Ok((given, published))
+        }
+        Err(fault) => Err(ReadFault::V3(fault)),
+    }
+}
+
+#[inline(never)]
+fn publish_v40<'a, 'b>(
+    text: &'a [u8],
+    left: Pieces<'a>,
+    buffer: &'b mut TextBuffer,
+) -> Result<(&'b [u8], Published), ReadFault<'a>>
+    requires routed { route_of text.now ≡ ToV40 }
+    requires behind { pieces text.now ≡ version_piece (codes "4.0") ∷ pieces_left left }
+    requires empty { buffer.old ≡ [] }
+    ensures published { IfOk result (λ given. IsPublishedAs text.now given.0.now given.1) }
+    ensures refused { IfErr result (λ fault. IsRead text.now (Err fault)) }
+{
+    let mut vector = v4::Vector::start(b"4.0").unwrap();
+    match read_started(text, left, &mut vector) {
+        Ok(()) => {
+            let given = text_behind(*b"CVSS:4.0", &vector, buffer);
+            let published = Published {
+                tenths: vector.tenths(),
+                bounds: Bounds::SinceV3,
+            };
+            Ok((given, published))
+        }
         Err(fault) => Err(ReadFault::V4(fault)),
     }
 }

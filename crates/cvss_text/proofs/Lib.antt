@@ -1,7 +1,9 @@
+pub mod BufferLemmas
 pub mod CanonicalLemmas
 pub mod ComponentLemmas
 pub mod DenotesLemmas
 pub mod EqualLemmas
+pub mod FilledLemmas
 pub mod FrontLemmas
 pub mod JoinLemmas
 pub mod LawLemmas

@@ -1,10 +1,6 @@
 -- The text of a vector's components, joined by slashes.
-use Rattle.std.proofs.Common.{◌≡◌, ℕ, ◌≤◌, List, [], ◌∷◌, ◌++◌, ◌-◌, length, get_or, take, drop, Option, Some, None, unwrap_or, refl, sym, ap, ◌∙◌, append_assoc, append-nil, filter_map, Result, arith}
-use Rattle.std.specs.Fmt.{HasWritten, IsPlainFormatter, WritesOnOk}
+use Rattle.std.proofs.Common.{◌≡◌, ℕ, ◌≤◌, List, [], ◌∷◌, ◌++◌, ◌-◌, length, get_or, take, drop, Option, Some, None, unwrap_or, refl, sym, ap, ◌∙◌, append_assoc, append-nil, filter_map, arith}
 use Rattle.std.specs.List.{cons_option}
-use Rattle.std.specs.declared.fmt.Error.{Error}
-use Rattle.std.specs.declared.fmt.Formatter.{Formatter}
-use Rattle.std.proofs.Output.{has_written_append}
 use Rattle.std.proofs.lemmas.List.{drop_more, take_rest}
 use Rattle.cvss_base.specs.Text.{joined, slash}
 use Rattle.cvss_base.specs.Version.{Version, component_of}
@@ -37,9 +33,11 @@ module _ {V K : Type 0} (version : Version V K) (v : V) where
       rw (take_rest kinds 1) (joined_from text (component_of version v kind) (drop 1 kinds) is)
       ∙ ap (λ all. joined (filter_map (component_of version v) all)) (sym kinds_are)
 
--- a text that is written, and one behind it
-pub written_then : {W : Type 0} (took : W → List ℕ → W → Type 0) (f g h : Formatter W) (s : Result (Unit {0}) Error) (a b : List ℕ)
-    → (IsPlainFormatter f → HasWritten took f a g) → WritesOnOk took g s b h → WritesOnOk took f s (a ++ b) h
-written_then took f g h s a b first second = λ plain ok.
-    let one = first plain in
-    has_written_append took f _ _ _ _ one (second one.plain ok)
+  -- all components behind slashes, without the first slash
+  pub joined_after_first : (kinds : List K) → drop 1 (slashed_texts version v kinds) ≡ joined (filter_map (component_of version v) kinds)
+  joined_after_first [] = refl
+  joined_after_first (kind ∷ kinds) = after_first (component_of version v kind) kinds (joined_after_first kinds) where
+    after_first : (part : Option (List ℕ)) (kinds : List K) → drop 1 (slashed_texts version v kinds) ≡ joined (filter_map (component_of version v) kinds)
+        → drop 1 (unwrap_or (slashed part) [] ++ slashed_texts version v kinds) ≡ joined (cons_option part (filter_map (component_of version v) kinds))
+    after_first None kinds others = others
+    after_first (Some piece) kinds others = sym (joined-slashed piece kinds)

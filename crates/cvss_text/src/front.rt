@@ -3,7 +3,7 @@
 ghost use Rattle.std.specs.Prelude.{IfSome, IfNone, IfOk, IfErr, Contains, IsUtf8};
 ghost use Rattle.cvss_base.specs.Text.{IsComponent};
 ghost use Rattle.cvss_text.specs.private.Pieces.{pieces_left};
-ghost use Rattle.cvss_text.specs.private.Walk.{Starts, StartsWith, IsStarted, IsAnswerBehind, IsFrontFault, IsTellable, IsLawfulFront, reason_of};
+ghost use Rattle.cvss_text.specs.private.Walk.{Starts, StartsWith, IsStarted, IsAnswerBehind, IsFrontFault, IsTellable, IsLawfulFront, filled, reason_of};
 
 use crate::pieces::{Pieces, first_bad_piece, front_of, parts_of};
 use crate::walk::{Components, Fault, read_complete};
@@ -25,7 +25,10 @@ pub fn read_behind<'a, V: Fronted>(text: &'a [u8]) -> Result<V, Fault<'a, V::Kin
 {
     let (front, left) = front_of(text);
     match start(front) {
-        Ok(empty) => read_started(text, left, empty),
+        Ok(mut vector) => match read_started(text, left, &mut vector) {
+            Ok(()) => Ok(vector),
+            Err(fault) => Err(fault),
+        },
         Err(fault) => match first_bad_piece(text) {
             Some(piece) => Err(Fault::InvalidComponent(piece)),
             None => Err(fault),
@@ -33,18 +36,18 @@ pub fn read_behind<'a, V: Fronted>(text: &'a [u8]) -> Result<V, Fault<'a, V::Kin
     }
 }
 
-/// Reads a text whose version piece is read already, from the pieces behind that and the vector that
+/// Reads a text whose version piece is read already, from the pieces behind that, into the vector that
 /// it starts, or finds the first reason why it is refused.
 #[inline(always)]
 pub fn read_started<'a, V: Fronted>(
     text: &'a [u8],
     left: Pieces<'a>,
-    empty: V,
-) -> Result<V, Fault<'a, V::Kind>>
-    requires { IsStarted V.version text.now (pieces_left left) empty }
-    ensures { IsAnswerBehind V.version text.now result }
+    vector: &mut V,
+) -> Result<(), Fault<'a, V::Kind>>
+    requires { IsStarted V.version text.now (pieces_left left) vector.old }
+    ensures { IsAnswerBehind V.version text.now (filled result vector.new) }
 {
-    read_complete(left, empty)
+    read_complete(left, vector)
 }
 
 /// The vector without values that a version piece starts.

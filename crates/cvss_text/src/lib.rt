@@ -3,6 +3,7 @@
 //! that tell why a text is no vector.
 #![tactic(auto)]
 
+pub mod buffer;
 pub mod cutting;
 pub mod front;
 pub mod metrics;

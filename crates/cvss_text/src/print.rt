@@ -1,13 +1,12 @@
 //! How a vector's components are printed, once for all versions.
 
-ghost use Rattle.std.specs.Prelude.{◌≡◌, ◌↔◌, IsTrue, Some, filter_map, All, option_copied};
-ghost use Rattle.std.specs.Fmt.{DisplaysOnOk, WritesOnOk};
-ghost use Rattle.cvss_base.specs.Text.{joined};
-ghost use Rattle.cvss_base.specs.Version.{component_of, components_of, canonical_text};
+ghost use Rattle.std.specs.Prelude.{◌≡◌, ◌↔◌, ◌≤◌, ◌++◌, ◌∷◌, [], IsTrue, All, length, option_copied};
+ghost use Rattle.std.specs.Fmt.{WritesOnOk};
+ghost use Rattle.cvss_base.specs.Version.{component_of, canonical_text};
 ghost use Rattle.cvss_text.specs.private.Printing.{slashed, slashed_texts};
 
+use crate::buffer::TextBuffer;
 use crate::walk::Components;
-use cvss_base::component::write_component;
 use std::fmt;
 
 /// A vector of some version, as it is printed.
@@ -15,67 +14,38 @@ pub trait Printed: Components {
     /// A slash and the vector's component for a metric.
     fn slashed(&self, kind: Self::Kind) -> Option<&'static str>
         ensures { option_copied result ≡ slashed (component_of Self.version self.now kind) };
+
+    /// Appends all components in printing order, each with a slash before it.
+    fn write_metrics(&self, buffer: &mut TextBuffer)
+        requires { length buffer.old ≤ 8 }
+        ensures { buffer.new ≡ buffer.old ++ slashed_texts Self.version self.now Self.version.printed };
 }
 
-/// Writes the components of a vector in printing order, with a slash between each two.
-pub fn write_components<V: Printed, W: fmt::Write>(
-    vector: &V,
-    f: &mut fmt::Formatter<W>,
-) -> fmt::Result
-    ensures { DisplaysOnOk W.write_str_gives f.old result
-        (Some (joined (components_of V.version vector.now))) f.new }
-{
-    write_joined(vector, V::printed(), f)
-}
-
-/// Writes the components that a vector has for these metrics, with a slash between each two.
-fn write_joined<V: Printed, W: fmt::Write>(
-    vector: &V,
-    kinds: &[V::Kind],
-    f: &mut fmt::Formatter<W>,
-) -> fmt::Result
-    ensures { WritesOnOk W.write_str_gives f.old result
-        (joined (filter_map (component_of V.version vector.now) kinds.now)) f.new }
-{
-    let [first, rest @ ..] = kinds else {
-        return Ok(());
-    };
-    match vector.slashed(*first) {
-        Some(text) => {
-            write_component(text, f)?;
-            write_slashed(vector, rest, f)
-        }
-        None => write_joined(vector, rest, f),
-    }
-}
-
-/// Writes the components that a vector has for these metrics, each behind a slash.
-fn write_slashed<V: Printed, W: fmt::Write>(
-    vector: &V,
-    kinds: &[V::Kind],
-    f: &mut fmt::Formatter<W>,
-) -> fmt::Result
-    ensures { WritesOnOk W.write_str_gives f.old result
-        (slashed_texts V.version vector.now kinds.now) f.new }
-{
-    let [first, rest @ ..] = kinds else {
-        return Ok(());
-    };
-    if let Some(text) = vector.slashed(*first) {
-        write_with_slash(text, f)?;
-    }
-    write_slashed(vector, rest, f)
-}
-
-/// Writes a component and the slash before it.
+/// Writes the canonical text of a vector behind the piece that tells its version into an empty buffer,
+/// and gives it.
 #[inline(always)]
-pub fn write_with_slash<W: fmt::Write>(
-    slashed: &'static str,
-    f: &mut fmt::Formatter<W>,
-) -> fmt::Result
-    ensures { WritesOnOk W.write_str_gives f.old result slashed.now f.new }
+pub fn text_behind<'a, V: Printed>(
+    piece: [u8; 8],
+    vector: &V,
+    buffer: &'a mut TextBuffer,
+) -> &'a [u8]
+    requires front { V.version.front vector.now ≡ piece ∷ [] }
+    requires empty { buffer.old ≡ [] }
+    ensures { result.now ≡ canonical_text V.version vector.now }
 {
-    f.write_str(slashed)
+    buffer.push(piece);
+    vector.write_metrics(buffer);
+    buffer.text()
+}
+
+/// Writes a vector's text, which is ASCII.
+pub fn write_text<W: fmt::Write>(text: &[u8], f: &mut fmt::Formatter<W>) -> fmt::Result
+    ensures { WritesOnOk W.write_str_gives f.old result text.now f.new }
+{
+    match str::from_utf8(text) {
+        Ok(text) => f.write_str(text),
+        Err(_) => Err(fmt::Error),
+    }
 }
 
 /// Whether two vectors of one front have the same components, which is whether their texts are the

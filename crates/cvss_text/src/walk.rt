@@ -6,7 +6,7 @@ ghost use Rattle.cvss_text.specs.private.Pieces.{pieces_left};
 ghost use Rattle.cvss_base.specs.Text.{IsComponent, pieces};
 ghost use Rattle.cvss_base.specs.Version.{Version, read, IsComplete};
 ghost use Rattle.cvss_base.specs.Refusal.{AreComponentsBefore, piece_at};
-ghost use Rattle.cvss_text.specs.private.Walk.{HasNoValue, IsAnswerBare, IsEmpty, IsFilled, IsPut, IsCut, IsReadFirst, IsLawful, Puts, Adds, HasRead, IsFaultOf, IsFirstOfPieces, first_missing, IsTellable, reason_of};
+ghost use Rattle.cvss_text.specs.private.Walk.{HasNoValue, IsAnswerBare, IsEmpty, IsFilled, IsPut, IsCut, IsReadFirst, IsLawful, Puts, Adds, HasRead, IsFaultOf, IsFirstOfPieces, filled, first_missing, IsTellable, reason_of};
 
 use crate::cutting::{cut_component, cut_first};
 use crate::pieces::{Pieces, first_bad_piece, pieces_of};
@@ -181,31 +181,48 @@ fn read_components<'a, V: Components>(
 
 /// Reads the components that are left of a text into a vector without values, which then has to be
 /// complete. A piece that is no component goes before each other fault.
+#[inline(always)]
 pub(crate) fn read_complete<'a, V: Components>(
     left: Pieces<'a>,
-    empty: V,
-) -> Result<V, Fault<'a, V::Kind>>
-    requires { HasNoValue V.version empty }
-    ensures read { IfOk result (λ v. HasRead V.version (pieces_left left.entry)
-        (length (pieces_left left.entry)) v) }
-    ensures front { IfOk result (λ v. V.version.front v ≡ V.version.front empty) }
-    ensures complete { IfOk result (λ v. IsComplete V.version v) }
+    vector: &mut V,
+) -> Result<(), Fault<'a, V::Kind>>
+    requires { HasNoValue V.version vector.old }
+    ensures read { OnOk result (HasRead V.version (pieces_left left.entry)
+        (length (pieces_left left.entry)) vector.new) }
+    ensures front { OnOk result (V.version.front vector.new ≡ V.version.front vector.old) }
+    ensures complete { OnOk result (IsComplete V.version vector.new) }
     ensures refused { IfErr result (λ fault.
         IsFirstOfPieces V.version (pieces_left left.entry) (reason_of V.version fault)) }
     ensures tellable { All IsUtf8 (pieces_left left.entry) → IfErr result (IsTellable V.version) }
 {
-    let mut vector = empty;
-    read_components(left, &mut vector)?;
+    read_components(left, vector)?;
     match vector.first_missing() {
         Some(kind) => Err(Fault::MissingMandatoryMetric(kind)),
-        None => Ok(vector),
+        None => Ok(()),
     }
 }
 
 /// Reads a text of components into an empty vector, or finds the first reason why it is refused.
+#[inline(always)]
+pub fn fill_vector<'a, V: Components>(
+    text: &'a [u8],
+    vector: &mut V,
+) -> Result<(), Fault<'a, V::Kind>>
+    requires { IsEmpty V.version vector.old }
+    ensures { IsAnswerBare V.version text.now (filled result vector.new) }
+{
+    read_complete(pieces_of(text), vector)
+}
+
+/// The vector that a text of components denotes, from an empty one, or the first reason why the text
+/// is refused.
 pub fn read_vector<'a, V: Components>(text: &'a [u8], empty: V) -> Result<V, Fault<'a, V::Kind>>
     requires { IsEmpty V.version empty }
     ensures { IsAnswerBare V.version text.now result }
 {
-    read_complete(pieces_of(text), empty)
+    let mut vector = empty;
+    match fill_vector(text, &mut vector) {
+        Ok(()) => Ok(vector),
+        Err(fault) => Err(fault),
+    }
 }

@@ -1,19 +1,26 @@
--- Components that are written, and a text behind them, which may be empty.
-use Rattle.std.proofs.Common.{◌≡◌, ℕ, List, [], ◌++◌, Result, subst, sym, ap, ◌∙◌, append_assoc, append-nil}
-use Rattle.std.specs.Fmt.{HasWritten, IsPlainFormatter, WritesOnOk}
-use Rattle.std.specs.declared.fmt.Error.{Error}
-use Rattle.std.specs.declared.fmt.Formatter.{Formatter}
-use Rattle.cvss_text.proofs.PrintLemmas.{written_then}
+-- How long components are.
+use Rattle.std.proofs.Common.{◌≡◌, ◌≤◌, ℕ, true, ◌∷◌, length, rules}
+use Rattle.std.proofs.Math.Dec.{leb}
+use Rattle.std.proofs.lemmas.Bool.{leb-true}
+use Rattle.cvss_base.specs.Text.{slash}
+use Rattle.cvss_base.specs.declared.v2.MetricType.{MetricType}
+use Rattle.cvss_base.specs.declared.v2.MetricType.TheVariants.{A}
+use Rattle.cvss_v2_metric.specs.Table.{Value, metric_component}
 
-three_before : (a b c rest : List ℕ) → (a ++ (b ++ c)) ++ rest ≡ a ++ (b ++ (c ++ rest))
-three_before a b c rest = append_assoc a (b ++ c) rest ∙ ap (λ text. a ++ text) (append_assoc b c rest)
+-- a slash and a component
+abbrev slashed_length : (kind : MetricType) → Value kind → ℕ
+slashed_length kind value = length (slash ∷ metric_component kind value)
 
-pub three_then : {W : Type 0} (took : W → List ℕ → W → Type 0) (f g h : Formatter W) (s : Result (Unit {0}) Error) (a b c rest : List ℕ)
-    → (IsPlainFormatter f → HasWritten took f (a ++ (b ++ c)) g) → WritesOnOk took g s rest h
-    → WritesOnOk took f s (a ++ (b ++ (c ++ rest))) h
-three_then took f g h s a b c rest three others =
-    subst (λ text. WritesOnOk took f s text h) (three_before a b c rest) (written_then took f g h s _ rest three others)
+is_three : (kind : MetricType) (value : Value kind) → leb 3 (slashed_length kind value) ≡ true
+is_three A = search rules
+is_three _ = search rules
 
-pub last_written : {W : Type 0} (took : W → List ℕ → W → Type 0) (f h : Formatter W) (s : Result (Unit {0}) Error) (a : List ℕ)
-    → WritesOnOk took f s a h → WritesOnOk took f s (a ++ []) h
-last_written took f h s a written = subst (λ text. WritesOnOk took f s text h) (sym (append-nil a)) written
+is_eight : (kind : MetricType) (value : Value kind) → leb (slashed_length kind value) 8 ≡ true
+is_eight A = search rules
+is_eight _ = search rules
+
+pub at_least_three : (kind : MetricType) (value : Value kind) → 3 ≤ slashed_length kind value
+at_least_three kind value = leb-true 3 (slashed_length kind value) (is_three kind value)
+
+pub at_most_eight : (kind : MetricType) (value : Value kind) → slashed_length kind value ≤ 8
+at_most_eight kind value = leb-true (slashed_length kind value) 8 (is_eight kind value)

@@ -1,19 +1,38 @@
--- Components that are written, and a text behind them, which may be empty.
-use Rattle.std.proofs.Common.{◌≡◌, ℕ, List, [], ◌++◌, Result, subst, sym, ap, ◌∙◌, append_assoc, append-nil}
-use Rattle.std.specs.Fmt.{HasWritten, IsPlainFormatter, WritesOnOk}
-use Rattle.std.specs.declared.fmt.Error.{Error}
-use Rattle.std.specs.declared.fmt.Formatter.{Formatter}
-use Rattle.cvss_text.proofs.PrintLemmas.{written_then}
+-- How long components are.
+use Rattle.std.proofs.Common.{◌≡◌, ℕ, zero, suc, ◌+◌, ◌≤◌, true, List, [], ◌∷◌, length, max, slice_get, unwrap_or, refl, arith, length-append}
+use Rattle.std.proofs.Math.Dec.{leb}
+use Rattle.std.proofs.lemmas.Bool.{leb-true}
+use Rattle.cvss_base.specs.Text.{colon, slash}
+use Rattle.cvss_base.specs.V4Types.{name_of}
+use Rattle.cvss_base.specs.declared.v4.MetricType.{MetricType}
+use Rattle.cvss_base.specs.declared.v4.MetricType.TheVariants.{AC}
+use Rattle.cvss_v4_metric.specs.Table.{metric_component, spelling_at, spellings_of}
 
-three_before : (a b c rest : List ℕ) → (a ++ (b ++ c)) ++ rest ≡ a ++ (b ++ (c ++ rest))
-three_before a b c rest = append_assoc a (b ++ c) rest ∙ ap (λ text. a ++ text) (append_assoc b c rest)
+-- the length of the longest text
+abbrev longest : List (List ℕ) → ℕ
+longest [] = 0
+longest (text ∷ texts) = max (length text) (longest texts)
 
-pub three_then : {W : Type 0} (took : W → List ℕ → W → Type 0) (f g h : Formatter W) (s : Result (Unit {0}) Error) (a b c rest : List ℕ)
-    → (IsPlainFormatter f → HasWritten took f (a ++ (b ++ c)) g) → WritesOnOk took g s rest h
-    → WritesOnOk took f s (a ++ (b ++ (c ++ rest))) h
-three_then took f g h s a b c rest three others =
-    subst (λ text. WritesOnOk took f s text h) (three_before a b c rest) (written_then took f g h s _ rest three others)
+within_longest : (texts : List (List ℕ)) (place : ℕ) → length (unwrap_or (slice_get texts place) []) ≤ longest texts
+within_longest [] place = omega arith
+within_longest (text ∷ texts) zero = omega arith
+within_longest (text ∷ texts) (suc place) = omega (arith, within_longest texts place)
 
-pub last_three : {W : Type 0} (took : W → List ℕ → W → Type 0) (f h : Formatter W) (s : Result (Unit {0}) Error) (a b c : List ℕ)
-    → WritesOnOk took f s (a ++ (b ++ c)) h → WritesOnOk took f s (a ++ (b ++ (c ++ []))) h
-last_three took f h s a b c written = subst (λ last. WritesOnOk took f s (a ++ (b ++ last)) h) (sym (append-nil c)) written
+most : (kind : MetricType) → leb (length (name_of kind) + longest (spellings_of kind)) 6 ≡ true
+most AC = refl
+most _ = refl
+
+named : (kind : MetricType) → leb 1 (length (name_of kind)) ≡ true
+named AC = refl
+named _ = refl
+
+-- a slash, a name, a colon and a spelling
+slashed-length : (kind : MetricType) (rank : ℕ) → length (slash ∷ metric_component kind rank) ≡ 2 + length (name_of kind) + length (spelling_at kind rank)
+slashed-length kind rank = omega (arith, length-append (name_of kind) (colon ∷ spelling_at kind rank))
+
+pub at_least_three : (kind : MetricType) (rank : ℕ) → 3 ≤ length (slash ∷ metric_component kind rank)
+at_least_three kind rank = omega (arith, slashed-length kind rank, leb-true 1 (length (name_of kind)) (named kind))
+
+pub at_most_eight : (kind : MetricType) (rank : ℕ) → length (slash ∷ metric_component kind rank) ≤ 8
+at_most_eight kind rank =
+    omega (arith, slashed-length kind rank, within_longest (spellings_of kind) rank, leb-true (length (name_of kind) + longest (spellings_of kind)) 6 (most kind))

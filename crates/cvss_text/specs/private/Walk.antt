@@ -1,6 +1,6 @@
 -- What the private walk over the components does at each step. What callers rely on stands in
 -- Version and Refusal.
-use Rattle.std.specs.Prelude.{◌≡◌, ◌≢◌, ℕ, ◌⊎◌, List, [], ◌∷◌, length, map, take, Option, Some, None, IsSome, Result, Ok, IfOk, OnOk, IfErr, OnErr, IsErrAnd, Contains, slice_get, find, is_none, ◌<◌, ⊤}
+use Rattle.std.specs.Prelude.{◌≡◌, ◌≢◌, ℕ, ◌⊎◌, List, [], ◌∷◌, length, map, take, Option, Some, None, IsSome, Result, Ok, Err, IfOk, OnOk, IfErr, OnErr, IsErrAnd, Contains, slice_get, find, is_none, ◌<◌, ⊤}
 use Rattle.std.specs.List.{range_with_len}
 use Rattle.std.specs.Borrow.{Bor}
 use Rattle.std.specs.Str.{IsUtf8}
@@ -192,6 +192,11 @@ pub record IsCutAnswer {V K : Type 0} (version : Version V K) (piece : List ℕ)
   pub refused : IfErr answer (λ fault. (v : V) → IsComponent piece → IsFaultOf version v piece (reason_of version fault))
   pub unnamed : OnErr answer (IsComponent piece → (kind : K) → version.name kind ≢ read version (name_part piece))
   pub tellable : IsUtf8 piece → IfErr answer (IsTellable version)
+
+-- what filling a vector gives: the vector, where nothing is wrong
+abbrev pub filled : {V K : Type 0} → Result (Unit {0}) (Fault K) → V → Result V (Fault K)
+filled (Ok _) v = Ok v
+filled (Err fault) v = Err fault
 
 -- what a reader of the whole text promises, where vectors are formed so and such are the reasons to refuse it
 pub record IsAnswer {V K : Type 0} (version : Version V K) (IsFormed : V → Type 0) (IsReason : Refusal K → Type 0) (text : List ℕ) (answer : Result V (Fault K)) : Type 0 where

@@ -1,16 +1,16 @@
 //! How a vector is printed.
 
-ghost use Rattle.std.specs.Prelude.{◌≡◌, ◌++◌, Some, drop, option_map};
-ghost use Rattle.std.specs.Fmt.{WritesOnOk};
+ghost use Rattle.std.specs.Prelude.{◌≡◌, ◌≤◌, ◌+◌, ◌++◌, [], Some, length, option_map};
 ghost use Rattle.std.specs.Option.{option_copied};
-ghost use Rattle.cvss_text.specs.private.Printing.{slashed, slashed_texts};
+ghost use Rattle.cvss_text.specs.private.Printing.{slashed};
 ghost use Rattle.cvss_base.specs.Version.{canonical_text, component_of, held};
-ghost use Rattle.cvss_v2_metric.specs.Table.{spelling_of, printed};
+ghost use Rattle.cvss_v2_metric.specs.Table.{spelling_of};
 ghost use Rattle.cvss_v2.specs.Vector.{v2};
 ghost use Rattle.cvss_v2.specs.private.Slashed.{slashed_value};
 
 use crate::vector::Vector;
-use cvss_text::print::{Printed, write_components, write_with_slash};
+use cvss_text::buffer::TextBuffer;
+use cvss_text::print::{Printed, write_text};
 use cvss_v2_metric::{MetricType, Spelled};
 use std::fmt;
 
@@ -33,6 +33,15 @@ impl Printed for Vector {
             MetricType::AR => self.slashed_at(kind, self.ar),
         }
     }
+
+    fn write_metrics(&self, buffer: &mut TextBuffer) {
+        write_three(&self.av, &self.ac, &self.au, buffer);
+        write_three(&self.c, &self.i, &self.a, buffer);
+        write_three(&self.e, &self.rl, &self.rc, buffer);
+        write_three(&self.cdp, &self.td, &self.cr, buffer);
+        write_value(self.ir, buffer);
+        write_value(self.ar, buffer);
+    }
 }
 
 impl Vector {
@@ -47,54 +56,51 @@ impl Vector {
     }
 }
 
-/// Writes a slash and the component of a value, if there is one.
-fn write_value<M: Spelled, W: fmt::Write>(
-    value: Option<M>,
-    f: &mut fmt::Formatter<W>,
-) -> fmt::Result
-    ensures { WritesOnOk W.write_str_gives f.old result (slashed_value M.KIND M.value value) f.new }
+/// Appends a slash and the component of a value, if there is one.
+#[inline(always)]
+fn write_value<M: Spelled>(value: Option<M>, buffer: &mut TextBuffer)
+    requires { length buffer.old ≤ 256 }
+    ensures text { buffer.new ≡ buffer.old ++ slashed_value M.KIND M.value value }
+    ensures room { length buffer.new ≤ length buffer.old + 8 }
 {
-    match value {
-        Some(metric) => write_with_slash(metric.slashed(), f),
-        None => Ok(()),
+    if let Some(metric) = value {
+        buffer.push_component(metric.slashed());
     }
 }
 
-/// Writes a slash and the component of each of three values that there is.
-fn write_three<K: Spelled, L: Spelled, M: Spelled, W: fmt::Write>(
+/// Appends a slash and the component of each of three values that there is.
+#[inline(always)]
+fn write_three<K: Spelled, L: Spelled, M: Spelled>(
     first: &Option<K>,
     second: &Option<L>,
     third: &Option<M>,
-    f: &mut fmt::Formatter<W>,
-) -> fmt::Result
-    ensures { WritesOnOk W.write_str_gives f.old result (slashed_value K.KIND K.value first.now
-        ++ (slashed_value L.KIND L.value second.now ++ slashed_value M.KIND M.value third.now)) f.new }
+    buffer: &mut TextBuffer,
+)
+    requires { length buffer.old ≤ 240 }
+    ensures text { buffer.new ≡ buffer.old ++ (slashed_value K.KIND K.value first.now
+        ++ (slashed_value L.KIND L.value second.now ++ slashed_value M.KIND M.value third.now)) }
+    ensures room { length buffer.new ≤ length buffer.old + 24 }
 {
-    write_value(*first, f)?;
-    write_value(*second, f)?;
-    write_value(*third, f)
+    write_value(*first, buffer);
+    write_value(*second, buffer);
+    write_value(*third, buffer);
 }
 
-/// Writes all metrics of a vector but the first, each with a slash before it.
-fn write_others<W: fmt::Write>(vector: &Vector, f: &mut fmt::Formatter<W>) -> fmt::Result
-    ensures { WritesOnOk W.write_str_gives f.old result
-        (slashed_texts v2 vector.now (drop 1 printed)) f.new }
-{
-    write_three(&vector.ac, &vector.au, &vector.c, f)?;
-    write_three(&vector.i, &vector.a, &vector.e, f)?;
-    write_three(&vector.rl, &vector.rc, &vector.cdp, f)?;
-    write_three(&vector.td, &vector.cr, &vector.ir, f)?;
-    write_value(vector.ar, f)
+impl Vector {
+    /// Writes the canonical text into an empty buffer, and gives it.
+    pub fn text<'a>(&self, buffer: &'a mut TextBuffer) -> &'a [u8]
+        requires { buffer.old ≡ [] }
+        ensures { result.now ≡ canonical_text v2 self.now }
+    {
+        self.write_metrics(buffer);
+        buffer.after_first()
+    }
 }
 
 impl fmt::Display for Vector {
     ghost output = { λ vector. Some (canonical_text v2 vector) };
 
     fn fmt<W: fmt::Write>(&self, f: &mut fmt::Formatter<W>) -> fmt::Result {
-        let Some(av) = self.av else {
-            return write_components(self, f);
-        };
-        av.write(f)?;
-        write_others(self, f)
+        write_text(self.text(&mut TextBuffer::new()), f)
     }
 }

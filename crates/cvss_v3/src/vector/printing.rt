@@ -1,6 +1,6 @@
 //! How a vector is printed.
 
-ghost use Rattle.std.specs.Prelude.{◌≡◌, ◌++◌, Some, codes, option_map, take};
+ghost use Rattle.std.specs.Prelude.{◌≡◌, ◌≤◌, ◌+◌, ◌++◌, Some, codes, length, option_map, take};
 ghost use Rattle.std.specs.Fmt.{WritesOnOk};
 ghost use Rattle.std.specs.Option.{option_copied};
 ghost use Rattle.cvss_base.specs.Version.{numeral, canonical_text, component_of, held, version_piece};
@@ -10,7 +10,8 @@ ghost use Rattle.cvss_v3.specs.Vector.{v3};
 ghost use Rattle.cvss_v3.specs.private.Shown.{shown};
 
 use crate::vector::Vector;
-use cvss_text::print::{Printed, write_with_slash};
+use cvss_text::buffer::TextBuffer;
+use cvss_text::print::{Printed, write_text};
 use cvss_v3_metric::{MetricType, Spelled};
 use std::fmt;
 
@@ -41,6 +42,16 @@ impl Printed for Vector {
             MetricType::MA => self.slashed_at(kind, self.ma),
         }
     }
+
+    fn write_metrics(&self, buffer: &mut TextBuffer) {
+        self.write_base(buffer);
+        write_three(&self.e, &self.rl, &self.rc, buffer);
+        write_three(&self.cr, &self.ir, &self.ar, buffer);
+        write_three(&self.mav, &self.mac, &self.mpr, buffer);
+        write_three(&self.mui, &self.ms, &self.mc, buffer);
+        write_value(self.mi, buffer);
+        write_value(self.ma, buffer);
+    }
 }
 
 impl Vector {
@@ -55,35 +66,34 @@ impl Vector {
     }
 }
 
-/// Writes a slash and the component of a value, if there is one.
-fn write_value<M: Spelled, W: fmt::Write>(
-    value: Option<M>,
-    f: &mut fmt::Formatter<W>,
-) -> fmt::Result
-    ensures { WritesOnOk W.write_str_gives f.old result (shown M.KIND M.value value) f.new }
+/// Appends a slash and the component of a value, if there is one.
+#[inline(always)]
+fn write_value<M: Spelled>(value: Option<M>, buffer: &mut TextBuffer)
+    requires { length buffer.old ≤ 256 }
+    ensures text { buffer.new ≡ buffer.old ++ shown M.KIND M.value value }
+    ensures room { length buffer.new ≤ length buffer.old + 8 }
 {
-    match value {
-        Some(metric) => write_with_slash(metric.slashed(), f),
-        None => Ok(()),
+    if let Some(metric) = value {
+        buffer.push_component(metric.slashed());
     }
 }
 
-/// Writes a slash and the component of each of four values that there is.
-fn write_four<K: Spelled, L: Spelled, M: Spelled, N: Spelled, W: fmt::Write>(
+/// Appends a slash and the component of each of three values that there is.
+#[inline(always)]
+fn write_three<K: Spelled, L: Spelled, M: Spelled>(
     first: &Option<K>,
     second: &Option<L>,
     third: &Option<M>,
-    fourth: &Option<N>,
-    f: &mut fmt::Formatter<W>,
-) -> fmt::Result
-    ensures { WritesOnOk W.write_str_gives f.old result
-        (shown K.KIND K.value first.now ++ (shown L.KIND L.value second.now
-        ++ (shown M.KIND M.value third.now ++ shown N.KIND N.value fourth.now))) f.new }
+    buffer: &mut TextBuffer,
+)
+    requires { length buffer.old ≤ 240 }
+    ensures text { buffer.new ≡ buffer.old ++ (shown K.KIND K.value first.now
+        ++ (shown L.KIND L.value second.now ++ shown M.KIND M.value third.now)) }
+    ensures room { length buffer.new ≤ length buffer.old + 24 }
 {
-    write_value(*first, f)?;
-    write_value(*second, f)?;
-    write_value(*third, f)?;
-    write_value(*fourth, f)
+    write_value(*first, buffer);
+    write_value(*second, buffer);
+    write_value(*third, buffer);
 }
 
 impl Vector {
@@ -100,25 +110,17 @@ impl Vector {
         }
     }
 
-    /// Writes the base metrics, each with a slash before it.
-    fn write_base<W: fmt::Write>(&self, f: &mut fmt::Formatter<W>) -> fmt::Result
-        ensures { WritesOnOk W.write_str_gives f.old result
-            (slashed_texts v3 self.now (take 8 printed)) f.new }
+    /// Appends the base metrics, each with a slash before it.
+    #[inline(always)]
+    fn write_base(&self, buffer: &mut TextBuffer)
+        requires { length buffer.old ≤ 192 }
+        ensures text { buffer.new ≡ buffer.old ++ slashed_texts v3 self.now (take 8 printed) }
+        ensures room { length buffer.new ≤ length buffer.old + 64 }
     {
-        write_four(&self.av, &self.ac, &self.pr, &self.ui, f)?;
-        write_four(&self.s, &self.c, &self.i, &self.a, f)
-    }
-
-    /// Writes all metrics, each with a slash before it.
-    fn write_metrics<W: fmt::Write>(&self, f: &mut fmt::Formatter<W>) -> fmt::Result
-        ensures { WritesOnOk W.write_str_gives f.old result (slashed_texts v3 self.now printed) f.new }
-    {
-        self.write_base(f)?;
-        write_four(&self.e, &self.rl, &self.rc, &self.cr, f)?;
-        write_four(&self.ir, &self.ar, &self.mav, &self.mac, f)?;
-        write_four(&self.mpr, &self.mui, &self.ms, &self.mc, f)?;
-        write_value(self.mi, f)?;
-        write_value(self.ma, f)
+        write_three(&self.av, &self.ac, &self.pr, buffer);
+        write_three(&self.ui, &self.s, &self.c, buffer);
+        write_value(self.i, buffer);
+        write_value(self.a, buffer);
     }
 }
 
@@ -127,6 +129,8 @@ impl fmt::Display for Vector {
 
     fn fmt<W: fmt::Write>(&self, f: &mut fmt::Formatter<W>) -> fmt::Result {
         self.write_version(f)?;
-        self.write_metrics(f)
+        let mut buffer = TextBuffer::new();
+        self.write_metrics(&mut buffer);
+        write_text(buffer.text(), f)
     }
 }

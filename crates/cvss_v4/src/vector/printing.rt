@@ -1,6 +1,6 @@
 //! How a vector is printed.
 
-ghost use Rattle.std.specs.Prelude.{◌≡◌, Some, ◌++◌, codes, drop, option_map, take};
+ghost use Rattle.std.specs.Prelude.{◌≡◌, ◌≤◌, ◌+◌, ◌++◌, Some, codes, drop, length, option_map, take};
 ghost use Rattle.std.specs.Fmt.{WritesOnOk};
 ghost use Rattle.std.specs.Option.{option_copied};
 ghost use Rattle.cvss_base.specs.Version.{numeral, canonical_text, component_of, held, version_piece};
@@ -10,7 +10,8 @@ ghost use Rattle.cvss_v4.specs.Vector.{v4};
 ghost use Rattle.cvss_v4.specs.private.Shown.{shown};
 
 use crate::vector::Vector;
-use cvss_text::print::{Printed, write_with_slash};
+use cvss_text::buffer::TextBuffer;
+use cvss_text::print::{Printed, write_text};
 use cvss_v4_metric::{MetricType, Spelled};
 use std::fmt;
 
@@ -51,6 +52,17 @@ impl Printed for Vector {
             MetricType::U => self.slashed_at(kind, self.u),
         }
     }
+
+    fn write_metrics(&self, buffer: &mut TextBuffer) {
+        self.write_base(buffer);
+        write_three(&self.e, &self.cr, &self.ir, buffer);
+        write_value(self.ar, buffer);
+        self.write_modified(buffer);
+        write_three(&self.s, &self.au, &self.r, buffer);
+        write_value(self.v, buffer);
+        write_value(self.re, buffer);
+        write_value(self.u, buffer);
+    }
 }
 
 impl Vector {
@@ -65,34 +77,34 @@ impl Vector {
     }
 }
 
-/// Writes a slash and the component of a value, if there is one.
-fn write_value<M: Spelled, W: fmt::Write>(
-    value: Option<M>,
-    f: &mut fmt::Formatter<W>,
-) -> fmt::Result
-    ensures { WritesOnOk W.write_str_gives f.old result (shown M.KIND M.rank value) f.new }
+/// Appends a slash and the component of a value, if there is one.
+#[inline(always)]
+fn write_value<M: Spelled>(value: Option<M>, buffer: &mut TextBuffer)
+    requires { length buffer.old ≤ 256 }
+    ensures text { buffer.new ≡ buffer.old ++ shown M.KIND M.rank value }
+    ensures room { length buffer.new ≤ length buffer.old + 8 }
 {
-    match value {
-        Some(metric) => write_with_slash(metric.slashed(), f),
-        None => Ok(()),
+    if let Some(metric) = value {
+        buffer.push_component(metric.slashed());
     }
 }
 
-/// Writes a slash and the component of each of three values that is there.
+/// Appends a slash and the component of each of three values that there is.
 #[inline(always)]
-fn write_three<K: Spelled, L: Spelled, M: Spelled, W: fmt::Write>(
-    first: Option<K>,
-    second: Option<L>,
-    third: Option<M>,
-    f: &mut fmt::Formatter<W>,
-) -> fmt::Result
-    ensures { WritesOnOk W.write_str_gives f.old result
-        (shown K.KIND K.rank first ++ (shown L.KIND L.rank second ++ shown M.KIND M.rank third))
-        f.new }
+fn write_three<K: Spelled, L: Spelled, M: Spelled>(
+    first: &Option<K>,
+    second: &Option<L>,
+    third: &Option<M>,
+    buffer: &mut TextBuffer,
+)
+    requires { length buffer.old ≤ 240 }
+    ensures text { buffer.new ≡ buffer.old ++ (shown K.KIND K.rank first.now
+        ++ (shown L.KIND L.rank second.now ++ shown M.KIND M.rank third.now)) }
+    ensures room { length buffer.new ≤ length buffer.old + 24 }
 {
-    write_value(first, f)?;
-    write_value(second, f)?;
-    write_value(third, f)
+    write_value(*first, buffer);
+    write_value(*second, buffer);
+    write_value(*third, buffer);
 }
 
 impl Vector {
@@ -108,40 +120,33 @@ impl Vector {
         }
     }
 
-    /// Writes the base metrics, each with a slash before it.
-    fn write_base<W: fmt::Write>(&self, f: &mut fmt::Formatter<W>) -> fmt::Result
-        ensures { WritesOnOk W.write_str_gives f.old result
-            (slashed_texts v4 self.now (take 11 printed)) f.new }
+    /// Appends the base metrics, each with a slash before it.
+    #[inline(always)]
+    fn write_base(&self, buffer: &mut TextBuffer)
+        requires { length buffer.old ≤ 168 }
+        ensures text { buffer.new ≡ buffer.old ++ slashed_texts v4 self.now (take 11 printed) }
+        ensures room { length buffer.new ≤ length buffer.old + 88 }
     {
-        write_three(self.av, self.ac, self.at, f)?;
-        write_value(self.pr, f)?;
-        write_value(self.ui, f)?;
-        write_three(self.vc, self.vi, self.va, f)?;
-        write_three(self.sc, self.si, self.sa, f)
+        write_three(&self.av, &self.ac, &self.at, buffer);
+        write_three(&self.pr, &self.ui, &self.vc, buffer);
+        write_three(&self.vi, &self.va, &self.sc, buffer);
+        write_value(self.si, buffer);
+        write_value(self.sa, buffer);
     }
 
-    /// Writes the modified base metrics, each with a slash before it.
-    fn write_modified<W: fmt::Write>(&self, f: &mut fmt::Formatter<W>) -> fmt::Result
-        ensures { WritesOnOk W.write_str_gives f.old result
-            (slashed_texts v4 self.now (take 11 (drop 15 printed))) f.new }
+    /// Appends the modified base metrics, each with a slash before it.
+    #[inline(always)]
+    fn write_modified(&self, buffer: &mut TextBuffer)
+        requires { length buffer.old ≤ 168 }
+        ensures text { buffer.new
+            ≡ buffer.old ++ slashed_texts v4 self.now (take 11 (drop 15 printed)) }
+        ensures room { length buffer.new ≤ length buffer.old + 88 }
     {
-        write_three(self.mav, self.mac, self.mat, f)?;
-        write_value(self.mpr, f)?;
-        write_value(self.mui, f)?;
-        write_three(self.mvc, self.mvi, self.mva, f)?;
-        write_three(self.msc, self.msi, self.msa, f)
-    }
-
-    /// Writes all metrics, each with a slash before it.
-    fn write_metrics<W: fmt::Write>(&self, f: &mut fmt::Formatter<W>) -> fmt::Result
-        ensures { WritesOnOk W.write_str_gives f.old result (slashed_texts v4 self.now printed) f.new }
-    {
-        self.write_base(f)?;
-        write_value(self.e, f)?;
-        write_three(self.cr, self.ir, self.ar, f)?;
-        self.write_modified(f)?;
-        write_three(self.s, self.au, self.r, f)?;
-        write_three(self.v, self.re, self.u, f)
+        write_three(&self.mav, &self.mac, &self.mat, buffer);
+        write_three(&self.mpr, &self.mui, &self.mvc, buffer);
+        write_three(&self.mvi, &self.mva, &self.msc, buffer);
+        write_value(self.msi, buffer);
+        write_value(self.msa, buffer);
     }
 }
 
@@ -150,6 +155,8 @@ impl fmt::Display for Vector {
 
     fn fmt<W: fmt::Write>(&self, f: &mut fmt::Formatter<W>) -> fmt::Result {
         self.write_version(f)?;
-        self.write_metrics(f)
+        let mut buffer = TextBuffer::new();
+        self.write_metrics(&mut buffer);
+        write_text(buffer.text(), f)
     }
 }

@@ -1,30 +1,15 @@
 use Rattle.std.proofs.Common.{[], ◌∷◌, ◌++◌, codes, refl}
-use Rattle.cvss_any.specs.Answers.{vector_answer}
 use Rattle.cvss_any.specs.Reasons.{error_message, not_utf8_text, reason_text}
 use Rattle.cvss_any.proofs.ErrorLemmas.{said_of_bytes}
-use Rattle.cvss_lines.specs.Answers.{Accepted, Refused}
+use Rattle.cvss_lines.specs.Answers.{Refused}
 use Rattle.cvss_answer.specs.Answers.{IsAnswer}
+use Rattle.cvss_answer.proofs.ScoreLemmas.{canonical_written}
 use Rattle.cvss_lines.proofs.TextsLemmas.{one_text}
 use Rattle.cvss_answer.proofs.answer.answer_other_line.Goals as goal
 
-pub returns-in_ok-write_vector-in-Ok : goal.returns-in_ok-write_vector-in-Ok
-unfolding IsAnswer
-returns-in_ok-write_vector-in-Ok c = λ number.
-    let vector = c.in-Ok.vector in
-    let written = c.in_ok-write_vector-in-Ok.ensures in
-    record {
-      answer = Accepted (vector_answer vector written.tenths ∷ []);
-      answers = record {
-        utf8 = c.in-Ok.ensures.utf8;
-        vector = vector;
-        denoted = c.in-Ok.ensures.denoted;
-        tenths = written.tenths;
-        scored = written.scored;
-        is = refl;
-      };
-      told = refl;
-      written = one_text _ _ _ written.written;
-    }
+pub returns-in_ok-write_canonical-in-Ok : goal.returns-in_ok-write_canonical-in-Ok
+returns-in_ok-write_canonical-in-Ok c = λ number.
+    canonical_written number c.args.line.now _ _ _ _ c.in-Ok.ensures.published c.in_ok-write_canonical-in-Ok.ensures
 
 pub returns-in_ok-write_error-in-Err : goal.returns-in_ok-write_error-in-Err
 unfolding IsAnswer

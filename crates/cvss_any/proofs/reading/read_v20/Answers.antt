@@ -9,8 +9,8 @@ returns-in-Ok c = v20_ok _ _ c.requires c.in-Ok.ensures
 pub returns-in-Err : goal.returns-in-Err
 returns-in-Err c = v20_err _ _ c.requires c.in-Err.ensures
 
-pub read_vector-requires-after_bounds : goal.read_vector-requires-after_bounds
-read_vector-requires-after_bounds c κs = record {
+pub fill_vector-requires-after_bounds : goal.fill_vector-requires-after_bounds
+fill_vector-requires-after_bounds c κs = record {
   frontless = refl;
   valueless = record { none = elim [ A ↦ search rules | _ ↦ search rules ] };
 }

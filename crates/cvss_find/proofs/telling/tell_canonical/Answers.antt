@@ -5,4 +5,4 @@ use Rattle.cvss_find.proofs.telling.tell_canonical.Goals as goal
 pub returns : goal.returns
 returns c =
     canonical_told c.args.number c.args.line.now c.args.published c.args.answers.now.bytes.items _ _ c.requires c.in_ok-write_first_place.ensures
-    (canonical_written c.args.number c.args.line.now c.args.published _ _ c.requires c.in_ok-write_canonical.ensures)
+    (canonical_written c.args.number c.args.line.now c.args.line.now c.args.published _ _ c.requires c.in_ok-write_canonical.ensures)

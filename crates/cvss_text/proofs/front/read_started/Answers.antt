@@ -1,5 +1,6 @@
 use Rattle.std.proofs.Common.{IsUtf8}
 use Rattle.std.proofs.lemmas.List.Elements.{All-tail}
+use Rattle.cvss_text.proofs.FilledLemmas.{filled_ok, filled_err}
 use Rattle.cvss_text.proofs.FrontLemmas.{IsAnswer-read, are_formed, begun_behind, IsUtf8-cut}
 use Rattle.cvss_text.proofs.front.read_started.Goals as goal
 
@@ -10,5 +11,8 @@ returns g c =
     let plain = g.met.V.Fronted.plain in
     let text = c.args.text.now in
     let read = c.read_complete.ensures in
-    IsAnswer-read lawful (are_formed version lawful plain text) (begun_behind version plain text _ c.args.empty c.requires) _ read.read read.front read.complete read.refused
-    (λ utf8. read.tellable (All-tail IsUtf8 _ _ (IsUtf8-cut text _ _ c.requires.cut utf8)))
+    let result = c.read_complete.result in
+    let vector = c.read_complete.new.vector in
+    IsAnswer-read lawful (are_formed version lawful plain text) (begun_behind version plain text _ c.args.vector.now c.requires) _
+    (filled_ok result vector _ read.read) (filled_ok result vector _ read.front) (filled_ok result vector _ read.complete) (filled_err result vector _ read.refused)
+    (λ utf8. filled_err result vector _ (read.tellable (All-tail IsUtf8 _ _ (IsUtf8-cut text _ _ c.requires.cut utf8))))

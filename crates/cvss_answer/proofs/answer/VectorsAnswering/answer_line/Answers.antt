@@ -3,4 +3,4 @@ use Rattle.cvss_answer.proofs.answer.VectorsAnswering.answer_line.Goals as goal
 
 pub returns-in-Some : goal.returns-in-Some
 returns-in-Some c =
-    canonical_written _ c.args.line.now c.in-Some.published c.args.answers.now.bytes.items _ c.in-Some.ensures c.in_ok-write_canonical.ensures
+    canonical_written _ c.args.line.now c.args.line.now c.in-Some.published c.args.answers.now.bytes.items _ c.in-Some.ensures c.in_ok-write_canonical.ensures

@@ -5,11 +5,12 @@ use Rattle.cvss_base.specs.Text.{pieces}
 use Rattle.cvss_base.specs.Version.{Version}
 use Rattle.cvss_text.specs.private.Walk.{IsBare, IsLawful, IsFirstOfPieces}
 use Rattle.cvss_text.proofs.DenotesLemmas.{no_reason}
+use Rattle.cvss_text.proofs.FilledLemmas.{filled_ok, filled_err}
 use Rattle.cvss_text.proofs.FrontLemmas.{IsAnswer-read, AreFormed, IsBegun}
 use Rattle.cvss_text.proofs.PieceLemmas.{IsUtf8-pieces}
 use Rattle.cvss_text.proofs.RefusalLemmas.{reasons_same}
 use Rattle.cvss_text.proofs.TextLemmas.{IsPart}
-use Rattle.cvss_text.proofs.walk.read_vector.Goals as goal
+use Rattle.cvss_text.proofs.walk.fill_vector.Goals as goal
 
 module _ {V K : Type 0} (version : Version V K) (lawful : IsLawful version) (text : List ℕ) where
   bare : AreFormed version (IsBare version) 0 text (IsFirstReason version (pieces text))
@@ -34,5 +35,8 @@ returns g c =
     let lawful = g.met.V.Components.lawful in
     let text = c.args.text.now in
     let read = c.read_complete.ensures in
-    IsAnswer-read lawful (bare _ lawful text) (begun _ lawful text _ c.pieces_of.ensures c.args.empty c.requires.frontless) _ read.read read.front read.complete read.refused
-    (λ utf8. read.tellable (rw c.pieces_of.ensures (IsUtf8-pieces text utf8)))
+    let result = c.read_complete.result in
+    let vector = c.read_complete.new.vector in
+    IsAnswer-read lawful (bare _ lawful text) (begun _ lawful text _ c.pieces_of.ensures c.args.vector.now c.requires.frontless) _
+    (filled_ok result vector _ read.read) (filled_ok result vector _ read.front) (filled_ok result vector _ read.complete) (filled_err result vector _ read.refused)
+    (λ utf8. filled_err result vector _ (read.tellable (rw c.pieces_of.ensures (IsUtf8-pieces text utf8))))

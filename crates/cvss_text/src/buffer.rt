@@ -1,0 +1,98 @@
+//! The text of a vector, put together on the stack.
+
+ghost use Rattle.std.specs.Prelude.{◌≡◌, ◌≤◌, ◌+◌, ◌++◌, [], drop, length};
+
+use std::marker::Model;
+
+/// Eight bytes that name the version, and eight for each of 32 metrics.
+const SIZE: usize = 264;
+
+/// Text of at most 264 bytes.
+#[derive(Drop)]
+pub struct TextBuffer {
+    bytes: [u8; SIZE],
+    length: usize,
+}
+
+impl Model for TextBuffer {
+    ghost use Rattle.std.specs.Prelude.{ℕ, List, ◌≤◌, take};
+
+    ghost Value = { List ℕ };
+
+    ghost view = { λ buffer. take buffer.length buffer.bytes };
+
+    ghost invariant = { λ buffer. buffer.length ≤ 264 };
+}
+
+impl TextBuffer {
+    /// The empty text.
+    #[inline(always)]
+    pub fn new() -> TextBuffer
+        ensures { result ≡ [] }
+    {
+        TextBuffer {
+            bytes: [0; SIZE],
+            length: 0,
+        }
+    }
+
+    #[inline(always)]
+    pub fn text(&self) -> &[u8]
+        ensures { result.now ≡ self.now }
+    {
+        &self.bytes[..self.length]
+    }
+
+    /// The text without its first byte.
+    #[inline(always)]
+    pub fn after_first(&self) -> &[u8]
+        ensures { result.now ≡ drop 1 self.now }
+    {
+        match self.text() {
+            [_, rest @ ..] => rest,
+            [] => &[],
+        }
+    }
+
+    /// Appends bytes. Their number is known to the compiler, which makes one or two stores of it.
+    #[inline(always)]
+    pub fn push<const N: usize>(&mut self, bytes: [u8; N])
+        requires { length self.old + N ≤ 264 }
+        ensures { self.new ≡ self.old ++ bytes.entry }
+    {
+        let end = self.length + N;
+        store(bytes, &mut self.bytes[self.length..end]);
+        self.length = end;
+    }
+
+    /// Appends a component with a slash before it.
+    #[inline(always)]
+    pub fn push_component(&mut self, slashed: &'static str)
+        requires least { 3 ≤ length slashed.now }
+        requires most { length slashed.now ≤ 8 }
+        requires room { length self.old ≤ 256 }
+        ensures text { self.new ≡ self.old ++ slashed.now }
+        ensures room { length self.new ≤ length self.old + 8 }
+    {
+        match slashed.as_bytes() {
+            [a, b, c] => self.push([*a, *b, *c]),
+            [a, b, c, d] => self.push([*a, *b, *c, *d]),
+            [a, b, c, d, e] => self.push([*a, *b, *c, *d, *e]),
+            [a, b, c, d, e, f] => self.push([*a, *b, *c, *d, *e, *f]),
+            [a, b, c, d, e, f, g] => self.push([*a, *b, *c, *d, *e, *f, *g]),
+            [a, b, c, d, e, f, g, h] => self.push([*a, *b, *c, *d, *e, *f, *g, *h]),
+            _ => {}
+        }
+    }
+}
+
+/// Writes bytes over as many others.
+#[inline(always)]
+fn store<const N: usize>(bytes: [u8; N], place: &mut [u8])
+    requires { length place.old ≡ N }
+    ensures { place.new ≡ bytes.entry }
+{
+    if let Some(array) = place.as_mut_array() {
+        *array = bytes;
+    }
+}

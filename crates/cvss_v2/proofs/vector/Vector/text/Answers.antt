@@ -1,0 +1,12 @@
+use Rattle.std.proofs.Common.{◌++◌, drop, ap, ◌∙◌}
+use Rattle.cvss_text.proofs.PrintLemmas.{joined_after_first}
+use Rattle.cvss_text.specs.private.Printing.{slashed_texts}
+use Rattle.cvss_v2_metric.specs.Table.{printed}
+use Rattle.cvss_v2.specs.Vector.{v2}
+use Rattle.cvss_v2.proofs.vector.Vector.text.Goals as goal
+
+pub returns : goal.returns
+returns c =
+    c.after_first.ensures
+    ∙ ap (drop 1) (c.write_metrics.ensures ∙ ap (λ begun. begun ++ slashed_texts v2 c.args.self.now printed) c.requires)
+    ∙ joined_after_first v2 c.args.self.now printed

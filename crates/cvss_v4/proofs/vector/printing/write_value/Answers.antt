@@ -1,0 +1,9 @@
+use Rattle.cvss_v4.proofs.PrintingLemmas.{at_least_three, at_most_eight}
+use Rattle.cvss_v4.proofs.vector.printing.write_value.Goals as goal
+
+pub push_component-requires : goal.push_component-requires
+push_component-requires g c = record {
+  least = rw c.slashed.ensures (at_least_three g.M.Spelled.KIND (g.M.Spelled.rank c.in-Some.metric));
+  most = rw c.slashed.ensures (at_most_eight g.M.Spelled.KIND (g.M.Spelled.rank c.in-Some.metric));
+  room = c.requires;
+}
