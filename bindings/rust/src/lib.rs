@@ -23,6 +23,7 @@
 #![deny(missing_docs)]
 
 mod calls;
+mod exact;
 mod find;
 mod numbers;
 mod refused;
@@ -32,6 +33,7 @@ mod table;
 mod vector;
 mod words;
 
+pub use exact::{temporal_with_impact, Exact, Numbers};
 pub use find::{find, Mention, Mentions};
 pub use numbers::{Group, Nomenclature, Score, Severity, UnknownName, Version};
 pub use refused::{OverrideError, Refused, RefusedKind};

@@ -1,0 +1,268 @@
+//! What is asked of the proved library: whether a text is a vector, its canonical text, its scores, and
+//! why it is rejected.
+
+use crate::Error;
+use cvss_proved::{Cvss as Read, Refused, RefusedKind};
+#[cfg(any(feature = "v2", feature = "v3"))]
+use cvss_proved::{Exact, Numbers, Version};
+
+/// A metric of a vector, as canonical texts have it.
+pub(crate) trait Component: Copy {
+    /// The abbreviation and a colon.
+    const NAME: &'static str;
+
+    /// Adds a slash and the component.
+    fn push(self, text: &mut String);
+
+    /// The value with this spelling.
+    fn read(spelling: &str) -> Option<Self>;
+}
+
+/// The metric with which a canonical text begins, if it is this one, which is then cut off with the slash
+/// after it.
+#[inline]
+pub(crate) fn take<C: Component>(rest: &mut &str) -> Option<C> {
+    let (own, after) = first_cut(rest.strip_prefix(C::NAME)?);
+    *rest = after;
+    C::read(own)
+}
+
+/// Cuts a text at its first slash.
+#[inline]
+fn first_cut(text: &str) -> (&str, &str) {
+    match text.bytes().position(|byte| byte == b'/') {
+        Some(place) => (&text[..place], &text[place + 1..]),
+        None => (text, ""),
+    }
+}
+
+/// Writes and reads the metrics of a vector, whose fields are given in printing order.
+macro_rules! components {
+    ($($field:ident)+) => {
+        impl Vector {
+            /// The longest text of a vector has fewer bytes.
+            const LONGEST: usize = 256;
+
+            /// Adds the components, each with a slash before it.
+            fn push_components(&self, text: &mut String) {
+                use $crate::library::Component;
+                $(
+                    if let Some(value) = self.$field {
+                        value.push(text);
+                    }
+                )+
+            }
+
+            /// Reads the components of a canonical text into a vector without metrics.
+            fn fill(&mut self, components: &str) {
+                let mut rest = components;
+                $(self.$field = $crate::library::take(&mut rest);)+
+            }
+        }
+    };
+}
+
+/// Keeps the scores of the vector that a thread has read or scored last: who reads a vector mostly asks
+/// for its scores, and each call of the library gives all three.
+macro_rules! remembered {
+    () => {
+        std::thread_local! {
+            static LAST: std::cell::RefCell<Option<(Vector, [f64; 3])>> =
+                const { std::cell::RefCell::new(None) };
+        }
+
+        impl Vector {
+            fn remember(&self, scores: [f64; 3]) {
+                LAST.with(|last| *last.borrow_mut() = Some((self.clone(), scores)));
+            }
+
+            /// The base, the temporal and the environmental score.
+            fn scores(&self) -> [f64; 3] {
+                let is_own = |(vector, _): &&(Vector, [f64; 3])| vector == self;
+                let last = LAST.with(|last| last.borrow().as_ref().filter(is_own).map(|own| own.1));
+                last.unwrap_or_else(|| {
+                    let scores = self.computed_scores();
+                    self.remember(scores);
+                    scores
+                })
+            }
+        }
+    };
+}
+
+/// The metrics that a vector has, as pairs of a metric and its value.
+macro_rules! listed {
+    ($vector:ident, $($kind:ident $field:ident),+) => {
+        [
+            $((MetricType::$kind, $vector.$field.as_ref().map(|value| value as &dyn core::fmt::Debug)),)+
+        ]
+        .into_iter()
+        .filter_map(|(kind, value)| Some((kind, value?)))
+    };
+}
+
+#[cfg(any(feature = "v2", feature = "v3"))]
+pub(crate) use remembered;
+pub(crate) use {components, listed};
+
+/// The base, the temporal and the environmental score of a vector of v2 or v3 that the library has read.
+#[cfg(any(feature = "v2", feature = "v3"))]
+pub(crate) fn scores_of(read: &Read) -> [f64; 3] {
+    let value = |score: Option<cvss_proved::Score>| score.unwrap_or_default().value();
+    let temporal = value(read.temporal_score());
+    [
+        read.score().value(),
+        temporal,
+        value(read.environmental_score()),
+    ]
+}
+
+/// Those of a vector that need not be complete: of its text if the library reads it, or else of its
+/// components.
+#[cfg(any(feature = "v2", feature = "v3"))]
+pub(crate) fn scores(version: Version, text: &str, components: &str) -> [f64; 3] {
+    if let Ok(read) = Read::parse(text) {
+        return scores_of(&read);
+    }
+    let numbers = numbers(version, components);
+    numbers.map_or([f64::NAN; 3], |own| {
+        own.scores().map(cvss_proved::Score::value)
+    })
+}
+
+/// The scores and sub-scores of a vector of v2 or v3 with these components.
+#[cfg(any(feature = "v2", feature = "v3"))]
+pub(crate) fn numbers(version: Version, components: &str) -> Option<Numbers> {
+    Numbers::of(version, components.strip_prefix('/').unwrap_or(components))
+}
+
+/// A number that is rounded as the scores of a version are. One that is no number, or a million or more
+/// from 0, stays as it is.
+#[cfg(any(feature = "v2", feature = "v3"))]
+pub(crate) fn rounded(version: Version, number: f64) -> f64 {
+    let exact = Exact::nearest(number);
+    exact
+        .and_then(|exact| exact.rounded(version))
+        .map_or(number, |tenths| f64::from(tenths) / 10.0)
+}
+
+/// The part of a text before its first slash.
+pub(crate) fn first_piece(text: &str) -> &str {
+    text.split_once('/').map_or(text, |(first, _)| first)
+}
+
+/// Reads a text by the parser of a version that begins its vectors with one of these pieces; where a
+/// vector has no other piece, an answer for it is given.
+#[cfg(any(feature = "v3", feature = "v4"))]
+pub(crate) fn read_with_version(text: &str, own: &[&str]) -> Result<Read, Error> {
+    let first = first_piece(text);
+    if own.contains(&first) && first != text {
+        return Read::parse(text).map_err(|refused| error_of(&refused));
+    }
+    let component = invalid_component(&format!("{}/{text}", own[0]));
+    let (prefix, version) = component.map_or_else(
+        || Ok(first.split_once(':').unwrap_or((first, ""))),
+        |component| Err(Error::InvalidComponent { component }),
+    )?;
+    if prefix == crate::PREFIX {
+        Err(Error::UnsupportedVersion {
+            version: version.to_owned(),
+        })
+    } else {
+        Err(Error::InvalidPrefix {
+            prefix: prefix.to_owned(),
+        })
+    }
+}
+
+/// Reads a text by the parser of v2.
+#[cfg(feature = "v2")]
+pub(crate) fn read_v2(text: &str) -> Result<Read, Error> {
+    let first = first_piece(text);
+    let is_v2 = |(_, value): (&str, &str)| !value.contains(['.', ':']);
+    if first != text && first.split_once(':').map_or(true, is_v2) {
+        return Read::parse(text).map_err(|refused| error_of(&refused));
+    }
+    if let Some(component) = invalid_component(&format!("A:N/{text}")) {
+        return Err(Error::InvalidComponent { component });
+    }
+    // The first component is at fault: no value has a point, and a vector has more than one component.
+    let metric = first.split_once(':').unwrap_or((first, ""));
+    Read::from_metrics(Version::V20, &[metric]).map_err(|refused| error_of(&refused))
+}
+
+/// The first component of a text that has no colon, or more than one.
+fn invalid_component(text: &str) -> Option<String> {
+    let refused = Read::parse(text).err()?;
+    let is_component = refused.kind() == RefusedKind::InvalidComponent;
+    is_component.then(|| quoted(&refused))
+}
+
+/// The part of a text that its refusal quotes.
+fn quoted(refused: &Refused) -> String {
+    refused.value().unwrap_or_default().to_owned()
+}
+
+/// The error of a refusal.
+pub(crate) fn error_of(refused: &Refused) -> Error {
+    match refused.kind() {
+        RefusedKind::InvalidPrefix => Error::InvalidPrefix {
+            prefix: quoted(refused),
+        },
+        RefusedKind::UnsupportedVersion => Error::UnsupportedVersion {
+            version: quoted(refused),
+        },
+        RefusedKind::UnknownMetric => Error::UnknownMetric {
+            name: quoted(refused),
+        },
+        kind => metric_error(kind, refused).unwrap_or_else(|| Error::InvalidComponent {
+            component: quoted(refused),
+        }),
+    }
+}
+
+/// The error of a refusal that names a metric.
+fn metric_error(kind: RefusedKind, refused: &Refused) -> Option<Error> {
+    let name = refused.metric()?;
+    // The reason begins with "invalid CVSSv3", or "duplicate" or "missing mandatory".
+    let (_, version) = refused.reason().split_once("CVSSv")?;
+    let value = || quoted(refused);
+    match (version.chars().next()?, kind) {
+        #[cfg(feature = "v2")]
+        ('2', kind) => {
+            let metric_type = name.parse().ok()?;
+            Some(match kind {
+                RefusedKind::InvalidValue => Error::InvalidMetricV2 {
+                    metric_type,
+                    value: value(),
+                },
+                RefusedKind::DuplicateMetric => Error::DuplicateMetricV2 { metric_type },
+                _ => Error::MissingMandatoryMetricV2 { metric_type },
+            })
+        }
+        #[cfg(feature = "v3")]
+        ('3', kind) => {
+            let metric_type = name.parse().ok()?;
+            Some(match kind {
+                RefusedKind::InvalidValue => Error::InvalidMetricV3 {
+                    metric_type,
+                    value: value(),
+                },
+                _ => Error::DuplicateMetricV3 { metric_type },
+            })
+        }
+        #[cfg(feature = "v4")]
+        ('4', kind) => {
+            let metric_type = name.parse().ok()?;
+            Some(match kind {
+                RefusedKind::InvalidValue => Error::InvalidMetricV4 {
+                    metric_type,
+                    value: value(),
+                },
+                RefusedKind::DuplicateMetric => Error::DuplicateMetricV4 { metric_type },
+                _ => Error::MissingMandatoryMetricV4 { metric_type },
+            })
+        }
+        _ => None,
+    }
+}
