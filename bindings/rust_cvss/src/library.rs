@@ -64,6 +64,7 @@ macro_rules! components {
 
 /// Keeps the scores of the vector that a thread has read or scored last: who reads a vector mostly asks
 /// for its scores, and each call of the library gives all three.
+#[cfg(any(feature = "v2", feature = "v3"))]
 macro_rules! remembered {
     () => {
         std::thread_local! {
