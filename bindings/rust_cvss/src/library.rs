@@ -216,54 +216,38 @@ pub(crate) fn error_of(refused: &Refused) -> Error {
         RefusedKind::UnknownMetric => Error::UnknownMetric {
             name: quoted(refused),
         },
-        kind => metric_error(kind, refused).unwrap_or_else(|| Error::InvalidComponent {
+        _ => metric_error(refused).unwrap_or_else(|| Error::InvalidComponent {
             component: quoted(refused),
         }),
     }
 }
 
-/// The error of a refusal that names a metric.
-fn metric_error(kind: RefusedKind, refused: &Refused) -> Option<Error> {
-    let name = refused.metric()?;
-    // The reason begins with "invalid CVSSv3", or "duplicate" or "missing mandatory".
+/// The error of a refusal that names a metric of a version.
+macro_rules! of_metric {
+    ($refused:ident: $invalid:ident $duplicate:ident $($missing:ident)?) => {{
+        let metric_type = $refused.metric()?.parse().ok()?;
+        Some(match $refused.kind() {
+            RefusedKind::InvalidValue => Error::$invalid {
+                metric_type,
+                value: quoted($refused),
+            },
+            $(RefusedKind::MissingMetric => Error::$missing { metric_type },)?
+            _ => Error::$duplicate { metric_type },
+        })
+    }};
+}
+
+/// The error of a refusal that names a metric. The reason tells the version: it begins with
+/// `invalid CVSSv3`, or another number, or with `duplicate` or `missing mandatory`.
+fn metric_error(refused: &Refused) -> Option<Error> {
     let (_, version) = refused.reason().split_once("CVSSv")?;
-    let value = || quoted(refused);
-    match (version.chars().next()?, kind) {
+    match version.as_bytes().first()? {
         #[cfg(feature = "v2")]
-        ('2', kind) => {
-            let metric_type = name.parse().ok()?;
-            Some(match kind {
-                RefusedKind::InvalidValue => Error::InvalidMetricV2 {
-                    metric_type,
-                    value: value(),
-                },
-                RefusedKind::DuplicateMetric => Error::DuplicateMetricV2 { metric_type },
-                _ => Error::MissingMandatoryMetricV2 { metric_type },
-            })
-        }
+        b'2' => of_metric!(refused: InvalidMetricV2 DuplicateMetricV2 MissingMandatoryMetricV2),
         #[cfg(feature = "v3")]
-        ('3', kind) => {
-            let metric_type = name.parse().ok()?;
-            Some(match kind {
-                RefusedKind::InvalidValue => Error::InvalidMetricV3 {
-                    metric_type,
-                    value: value(),
-                },
-                _ => Error::DuplicateMetricV3 { metric_type },
-            })
-        }
+        b'3' => of_metric!(refused: InvalidMetricV3 DuplicateMetricV3),
         #[cfg(feature = "v4")]
-        ('4', kind) => {
-            let metric_type = name.parse().ok()?;
-            Some(match kind {
-                RefusedKind::InvalidValue => Error::InvalidMetricV4 {
-                    metric_type,
-                    value: value(),
-                },
-                RefusedKind::DuplicateMetric => Error::DuplicateMetricV4 { metric_type },
-                _ => Error::MissingMandatoryMetricV4 { metric_type },
-            })
-        }
+        b'4' => of_metric!(refused: InvalidMetricV4 DuplicateMetricV4 MissingMandatoryMetricV4),
         _ => None,
     }
 }

@@ -15,7 +15,7 @@ use cvss_text::print::Printed;
 use cvss_text::setting::set;
 
 /// An exact number: a count of 10^-12 and a count of 10^-24, added.
-#[derive(Clone, Copy)]
+#[derive(Drop)]
 #[repr(C)]
 pub struct CvssNumber {
     /// The count of 10^-12, less than 10^18 from 0.
@@ -25,7 +25,7 @@ pub struct CvssNumber {
 }
 
 /// The scores, in tenths, and the exact sub-scores of a vector of CVSS v2 or v3.
-#[derive(Clone, Copy)]
+#[derive(Drop)]
 #[repr(C)]
 pub struct CvssNumbers {
     /// The base score.
