@@ -8,7 +8,7 @@ use Rattle.cvss_base.specs.Text.{component}
 use Rattle.cvss_text.specs.Setting.{IsSet, components_in}
 use Rattle.cvss_text.specs.private.Walk.{HasNoValue}
 use Rattle.std.specs.Prelude.{IsPermutation}
-use Rattle.cvss_bytes.specs.Exact.{IsNoPartial, IsPartial}
+use Rattle.cvss_bytes.specs.Exact.{IsPartial}
 
 picked_same : {X Y : Type 0} (f g : X → Option Y) → ((x : X) → f x ≡ g x) → (xs : List X) → filter_map f xs ≡ filter_map g xs
 picked_same f g same [] = refl

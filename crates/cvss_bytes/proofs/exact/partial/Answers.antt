@@ -1,4 +1,4 @@
-use Rattle.std.proofs.Common.{Ok, subst, sym}
+use Rattle.std.proofs.Common.{subst, sym}
 use Rattle.cvss_text.specs.Setting.{IsSet, components_in}
 use Rattle.cvss_bytes.proofs.ExactLemmas.{partial_of_set, set_of_partial}
 use Rattle.cvss_bytes.proofs.exact.partial.Goals as goal

@@ -1,7 +1,6 @@
 use Rattle.std.proofs.Common.{inl, refl, rules, subst, sym, ◌∙◌}
 use Rattle.std.proofs.lemmas.Int.{to_z-of_z}
 use mir.Syntax.{w32, w128}
-use Rattle.cvss_base.specs.Exact.{of_count}
 use Rattle.cvss_bytes.specs.Exact.{IsRoundedFor, exact_of}
 use Rattle.cvss_bytes.proofs.exact.put_rounded.Goals as goal
 
