@@ -59,6 +59,7 @@ extern "C" {
         buffer: *mut u8,
         size: usize,
     ) -> usize;
+    fn cvss_scores(text: *const u8, length: usize, scores: *mut CvssScores) -> bool;
     fn cvss_metrics(
         text: *const u8,
         length: usize,
@@ -165,6 +166,15 @@ pub(crate) fn read(text: &[u8]) -> Option<(CvssScores, Vec<u8>)> {
         }
     });
     (!canonical.is_empty()).then_some((scores, canonical))
+}
+
+/// The scores of the vector that a text denotes.
+pub(crate) fn scores(text: &[u8]) -> Option<CvssScores> {
+    let mut scores = CvssScores::default();
+    // SAFETY: the pointers are those of a slice and of a struct that live through the call and do not
+    // overlap.
+    let is_vector = unsafe { cvss_scores(text.as_ptr(), text.len(), &mut scores) };
+    is_vector.then_some(scores)
 }
 
 /// The metrics of the vector that a text denotes, or none.

@@ -146,26 +146,21 @@ impl FromStr for Cvss {
     type Err = Error;
 
     fn from_str(text: &str) -> Result<Cvss, Error> {
-        use cvss_proved::Version;
-
         let has_all = cfg!(all(feature = "v2", feature = "v3", feature = "v4"));
         if let Some(error) = left_out(text).filter(|_| !has_all) {
             return Err(error);
         }
-        let read = cvss_proved::Cvss::parse(text).map_err(|refused| library::error_of(&refused))?;
-        match read.version() {
-            #[cfg(feature = "v2")]
-            Version::V20 => Ok(Cvss::CvssV20(v2::Vector::of(&read))),
+        match text.split_once('/').map(|(first, _)| first) {
             #[cfg(feature = "v3")]
-            Version::V30 => Ok(Cvss::CvssV30(v3::Vector::of(&read))),
+            Some("CVSS:3.0") => library::read(text).map(Cvss::CvssV30),
             #[cfg(feature = "v3")]
-            Version::V31 => Ok(Cvss::CvssV31(v3::Vector::of(&read))),
+            Some("CVSS:3.1") => library::read(text).map(Cvss::CvssV31),
             #[cfg(feature = "v4")]
-            Version::V40 => Ok(Cvss::CvssV40(v4::Vector::of(&read))),
-            #[allow(unreachable_patterns)]
-            version => Err(Error::UnsupportedVersion {
-                version: version.to_string(),
-            }),
+            Some("CVSS:4.0") => library::read(text).map(Cvss::CvssV40),
+            #[cfg(feature = "v2")]
+            _ => library::read(text).map(Cvss::CvssV20),
+            #[cfg(not(feature = "v2"))]
+            _ => Err(library::rejected(text)),
         }
     }
 }

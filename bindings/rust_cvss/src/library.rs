@@ -2,7 +2,7 @@
 //! why it is rejected.
 
 use crate::Error;
-use cvss_proved::{Cvss as Read, Refused, RefusedKind};
+use cvss_proved::{Cvss as Read, Refused, RefusedKind, Scores};
 #[cfg(any(feature = "v2", feature = "v3"))]
 use cvss_proved::{Exact, Numbers, Version};
 
@@ -19,21 +19,45 @@ pub(crate) trait Component: Copy {
 }
 
 /// The metric with which a canonical text begins, if it is this one, which is then cut off with the slash
-/// after it.
+/// after it. `None` where its value is not spelled as a canonical text has it.
 #[inline]
-pub(crate) fn take<C: Component>(rest: &mut &str) -> Option<C> {
-    let (own, after) = first_cut(rest.strip_prefix(C::NAME)?);
-    *rest = after;
-    C::read(own)
+#[allow(clippy::option_option)]
+pub(crate) fn take<C: Component>(rest: &mut &str) -> Option<Option<C>> {
+    let Some(value) = rest.strip_prefix(C::NAME) else {
+        return Some(None);
+    };
+    let (own, after) = value.split_at(
+        value
+            .bytes()
+            .position(|byte| byte == b'/')
+            .unwrap_or(value.len()),
+    );
+    *rest = after.get(1..).unwrap_or_default();
+    C::read(own).map(Some)
 }
 
-/// Cuts a text at its first slash.
-#[inline]
-fn first_cut(text: &str) -> (&str, &str) {
-    match text.bytes().position(|byte| byte == b'/') {
-        Some(place) => (&text[..place], &text[place + 1..]),
-        None => (text, ""),
+/// A vector that the library has read.
+pub(crate) trait Own: Sized {
+    /// The vector of a text, if that is as a canonical text would be.
+    fn spelled(text: &str) -> Option<Self>;
+
+    /// The vector, whose scores these are.
+    fn scored(self, scores: Scores) -> Self;
+}
+
+/// Reads a text by the rules of the version that it tells, which is that of the vector.
+pub(crate) fn read<V: Own>(text: &str) -> Result<V, Error> {
+    // Most texts are canonical already.
+    if let Some(vector) = V::spelled(text) {
+        if let Some(scores) = cvss_proved::scores(text) {
+            return Ok(vector.scored(scores));
+        }
     }
+    let read = Read::parse(text).map_err(|refused| error_of(&refused))?;
+    let vector = V::spelled(read.as_str()).map(|own| own.scored(read.scores()));
+    vector.ok_or_else(|| Error::UnsupportedVersion {
+        version: read.version().to_string(),
+    })
 }
 
 /// Writes and reads the metrics of a vector, whose fields are given in printing order.
@@ -53,10 +77,11 @@ macro_rules! components {
                 )+
             }
 
-            /// Reads the components of a canonical text into a vector without metrics.
-            fn fill(&mut self, components: &str) {
+            /// The vector with the components of a text, if they are as a canonical text has them.
+            fn filled(mut self, components: &str) -> Option<Vector> {
                 let mut rest = components;
-                $(self.$field = $crate::library::take(&mut rest);)+
+                $(self.$field = $crate::library::take(&mut rest)?;)+
+                rest.is_empty().then_some(self)
             }
         }
     };
@@ -106,24 +131,23 @@ macro_rules! listed {
 pub(crate) use remembered;
 pub(crate) use {components, listed};
 
-/// The base, the temporal and the environmental score of a vector of v2 or v3 that the library has read.
+/// The base, the temporal and the environmental score of a vector of v2 or v3.
 #[cfg(any(feature = "v2", feature = "v3"))]
-pub(crate) fn scores_of(read: &Read) -> [f64; 3] {
+pub(crate) fn three(scores: Scores) -> [f64; 3] {
     let value = |score: Option<cvss_proved::Score>| score.unwrap_or_default().value();
-    let temporal = value(read.temporal_score());
     [
-        read.score().value(),
-        temporal,
-        value(read.environmental_score()),
+        scores.base.value(),
+        value(scores.temporal),
+        value(scores.environmental),
     ]
 }
 
 /// Those of a vector that need not be complete: of its text if the library reads it, or else of its
 /// components.
 #[cfg(any(feature = "v2", feature = "v3"))]
-pub(crate) fn scores(version: Version, text: &str, components: &str) -> [f64; 3] {
-    if let Ok(read) = Read::parse(text) {
-        return scores_of(&read);
+pub(crate) fn three_of(version: Version, text: &str, components: &str) -> [f64; 3] {
+    if let Some(scores) = cvss_proved::scores(text) {
+        return three(scores);
     }
     let numbers = numbers(version, components);
     numbers.map_or([f64::NAN; 3], |own| {
@@ -155,16 +179,16 @@ pub(crate) fn first_piece(text: &str) -> &str {
 /// Reads a text by the parser of a version that begins its vectors with one of these pieces; where a
 /// vector has no other piece, an answer for it is given.
 #[cfg(any(feature = "v3", feature = "v4"))]
-pub(crate) fn read_with_version(text: &str, own: &[&str]) -> Result<Read, Error> {
+pub(crate) fn read_with_version<V: Own>(text: &str, own: &[&str]) -> Result<V, Error> {
     let first = first_piece(text);
     if own.contains(&first) && first != text {
-        return Read::parse(text).map_err(|refused| error_of(&refused));
+        return read(text);
     }
     let component = invalid_component(&format!("{}/{text}", own[0]));
-    let (prefix, version) = component.map_or_else(
-        || Ok(first.split_once(':').unwrap_or((first, ""))),
-        |component| Err(Error::InvalidComponent { component }),
-    )?;
+    if let Some(component) = component {
+        return Err(component_error(&component));
+    }
+    let (prefix, version) = first.split_once(':').unwrap_or((first, ""));
     if prefix == crate::PREFIX {
         Err(Error::UnsupportedVersion {
             version: version.to_owned(),
@@ -178,18 +202,32 @@ pub(crate) fn read_with_version(text: &str, own: &[&str]) -> Result<Read, Error>
 
 /// Reads a text by the parser of v2.
 #[cfg(feature = "v2")]
-pub(crate) fn read_v2(text: &str) -> Result<Read, Error> {
+pub(crate) fn read_v2<V: Own>(text: &str) -> Result<V, Error> {
     let first = first_piece(text);
     let is_v2 = |(_, value): (&str, &str)| !value.contains(['.', ':']);
     if first != text && first.split_once(':').map_or(true, is_v2) {
-        return Read::parse(text).map_err(|refused| error_of(&refused));
+        return read(text);
     }
     if let Some(component) = invalid_component(&format!("A:N/{text}")) {
-        return Err(Error::InvalidComponent { component });
+        return Err(component_error(&component));
     }
     // The first component is at fault: no value has a point, and a vector has more than one component.
     let metric = first.split_once(':').unwrap_or((first, ""));
-    Read::from_metrics(Version::V20, &[metric]).map_err(|refused| error_of(&refused))
+    let refused = Read::from_metrics(Version::V20, &[metric]).err();
+    Err(refused.map_or_else(|| component_error(first), |refused| error_of(&refused)))
+}
+
+fn component_error(component: &str) -> Error {
+    Error::InvalidComponent {
+        component: component.to_owned(),
+    }
+}
+
+/// The error of a text that no version with a feature reads.
+#[cfg(not(feature = "v2"))]
+pub(crate) fn rejected(text: &str) -> Error {
+    let refused = Read::parse(text).err();
+    refused.map_or_else(|| component_error(text), |refused| error_of(&refused))
 }
 
 /// The first component of a text that has no colon, or more than one.
@@ -216,9 +254,7 @@ pub(crate) fn error_of(refused: &Refused) -> Error {
         RefusedKind::UnknownMetric => Error::UnknownMetric {
             name: quoted(refused),
         },
-        _ => metric_error(refused).unwrap_or_else(|| Error::InvalidComponent {
-            component: quoted(refused),
-        }),
+        _ => metric_error(refused).unwrap_or_else(|| component_error(&quoted(refused))),
     }
 }
 

@@ -1,6 +1,6 @@
 //! A vector of CVSS v2.
 
-use crate::library::{components, listed, numbers, read_v2, remembered, scores, scores_of};
+use crate::library::{components, listed, numbers, read_v2, remembered, three, three_of, Own};
 use crate::v2::metric::base::{
     AccessComplexity, AccessVector, Authentication, AvailabilityImpact, ConfidentialityImpact,
     IntegrityImpact,
@@ -14,7 +14,7 @@ use crate::v2::{MetricType, Score};
 use crate::Error;
 use core::fmt;
 use core::str::FromStr;
-use cvss_proved::{Exact, Version};
+use cvss_proved::{Exact, Scores, Version};
 
 /// A vector of CVSS v2. One that was read has the six base metrics.
 #[derive(Clone, Debug, Default, PartialEq, Eq)]
@@ -54,14 +54,6 @@ remembered!();
 components! { av ac au c i a e rl rc cdp td cr ir ar }
 
 impl Vector {
-    /// The vector that the library has read.
-    pub(crate) fn of(read: &cvss_proved::Cvss) -> Vector {
-        let mut vector = Vector::default();
-        vector.fill(read.as_str());
-        vector.remember(scores_of(read));
-        vector
-    }
-
     /// The components, with slashes between them.
     fn text(&self) -> String {
         let mut text = String::with_capacity(Self::LONGEST);
@@ -74,7 +66,7 @@ impl Vector {
 
     fn computed_scores(&self) -> [f64; 3] {
         let text = self.text();
-        scores(Version::V20, &text, &text)
+        three_of(Version::V20, &text, &text)
     }
 
     /// The base score, not below 0. A metric that is missing weighs nothing.
@@ -136,6 +128,17 @@ impl Vector {
     }
 }
 
+impl Own for Vector {
+    fn spelled(text: &str) -> Option<Vector> {
+        Vector::default().filled(text)
+    }
+
+    fn scored(self, scores: Scores) -> Vector {
+        self.remember(three(scores));
+        self
+    }
+}
+
 impl fmt::Display for Vector {
     fn fmt(&self, f: &mut fmt::Formatter<'_>) -> fmt::Result {
         f.write_str(&self.text())
@@ -146,6 +149,6 @@ impl FromStr for Vector {
     type Err = Error;
 
     fn from_str(text: &str) -> Result<Vector, Error> {
-        read_v2(text).map(|read| Vector::of(&read))
+        read_v2(text)
     }
 }

@@ -2,7 +2,7 @@
 
 use super::score::version_of;
 use crate::library::{
-    components, listed, numbers, read_with_version, remembered, scores, scores_of,
+    components, listed, numbers, read_with_version, remembered, three, three_of, Own,
 };
 use crate::v3::metric::base::{
     AttackComplexity, AttackVector, Availability, Confidentiality, Integrity, PrivilegesRequired,
@@ -17,7 +17,7 @@ use crate::v3::{MetricType, Score};
 use crate::{Error, Severity, PREFIX};
 use core::fmt;
 use core::str::FromStr;
-use cvss_proved::{Exact, Numbers};
+use cvss_proved::{Exact, Numbers, Scores};
 
 /// A vector of CVSS v3.0 or v3.1, which may lack any metric.
 #[derive(Clone, Debug, Default, PartialEq, Eq)]
@@ -75,20 +75,12 @@ remembered!();
 components! { av ac pr ui s c i a e rl rc cr ir ar mav mac mpr mui ms mc mi ma }
 
 impl Vector {
-    /// The vector without metrics of the version that a text begins with.
-    fn empty(text: &str) -> Vector {
+    /// The vector without metrics of a minor version.
+    fn empty(minor_version: usize) -> Vector {
         Vector {
-            minor_version: usize::from(!text.starts_with("CVSS:3.0")),
+            minor_version,
             ..Vector::default()
         }
-    }
-
-    /// The vector that the library has read.
-    pub(crate) fn of(read: &cvss_proved::Cvss) -> Vector {
-        let mut vector = Vector::empty(read.as_str());
-        vector.fill(&read.as_str()["CVSS:3.1/".len()..]);
-        vector.remember(scores_of(read));
-        vector
     }
 
     /// The components, each with a slash before it, after a piece.
@@ -105,7 +97,7 @@ impl Vector {
             _ => "CVSS:3.1",
         };
         let text = self.text_after(front);
-        scores(version_of(self.minor_version), &text, &text[front.len()..])
+        three_of(version_of(self.minor_version), &text, &text[front.len()..])
     }
 
     /// The base score.
@@ -165,6 +157,20 @@ impl Vector {
     }
 }
 
+impl Own for Vector {
+    fn spelled(text: &str) -> Option<Vector> {
+        match text.strip_prefix("CVSS:3.1/") {
+            Some(components) => Vector::empty(1).filled(components),
+            None => Vector::empty(0).filled(text.strip_prefix("CVSS:3.0/")?),
+        }
+    }
+
+    fn scored(self, scores: Scores) -> Vector {
+        self.remember(three(scores));
+        self
+    }
+}
+
 impl fmt::Display for Vector {
     fn fmt(&self, f: &mut fmt::Formatter<'_>) -> fmt::Result {
         let piece = format!("{PREFIX}:3.{}", self.minor_version);
@@ -176,10 +182,10 @@ impl FromStr for Vector {
     type Err = Error;
 
     fn from_str(text: &str) -> Result<Vector, Error> {
-        let own = ["CVSS:3.1", "CVSS:3.0"];
-        if own.contains(&text) {
-            return Ok(Vector::empty(text));
+        match text {
+            "CVSS:3.0" => Ok(Vector::empty(0)),
+            "CVSS:3.1" => Ok(Vector::empty(1)),
+            text => read_with_version(text, &["CVSS:3.1", "CVSS:3.0"]),
         }
-        read_with_version(text, &own).map(|read| Vector::of(&read))
     }
 }

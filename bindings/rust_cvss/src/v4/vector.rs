@@ -1,6 +1,6 @@
 //! A vector of CVSS v4.0.
 
-use crate::library::{components, listed, read_with_version};
+use crate::library::{components, listed, read_with_version, Own};
 use crate::v4::metric::base::{
     AttackComplexity, AttackRequirements, AttackVector, AvailabilityImpactToTheSubsequentSystem,
     AvailabilityImpactToTheVulnerableSystem, ConfidentialityImpactToTheSubsequentSystem,
@@ -25,6 +25,7 @@ use crate::v4::{MetricType, Nomenclature, Score};
 use crate::{Error, PREFIX};
 use core::fmt;
 use core::str::FromStr;
+use cvss_proved::Scores;
 
 /// A vector of CVSS v4.0. One that was read has the eleven base metrics; `Vector::default()` has none.
 #[derive(Clone, Debug, Default, PartialEq, Eq)]
@@ -72,22 +73,6 @@ components! {
 }
 
 impl Vector {
-    /// The vector that the library has read.
-    pub(crate) fn of(read: &cvss_proved::Cvss) -> Vector {
-        let nomenclature = read.nomenclature().map(|own| match own {
-            cvss_proved::Nomenclature::B => Nomenclature::CvssB,
-            cvss_proved::Nomenclature::BE => Nomenclature::CvssBE,
-            cvss_proved::Nomenclature::BT => Nomenclature::CvssBT,
-            cvss_proved::Nomenclature::BTE => Nomenclature::CvssBTE,
-        });
-        let mut vector = Vector {
-            scored: nomenclature.map(|own| (read.score().tenths(), own)),
-            ..Vector::default()
-        };
-        vector.fill(&read.as_str()["CVSS:4.0/".len()..]);
-        vector
-    }
-
     /// The score.
     ///
     /// # Panics
@@ -120,6 +105,23 @@ impl Vector {
     }
 }
 
+impl Own for Vector {
+    fn spelled(text: &str) -> Option<Vector> {
+        Vector::default().filled(text.strip_prefix("CVSS:4.0/")?)
+    }
+
+    fn scored(mut self, scores: Scores) -> Vector {
+        let nomenclature = scores.nomenclature.map(|own| match own {
+            cvss_proved::Nomenclature::B => Nomenclature::CvssB,
+            cvss_proved::Nomenclature::BE => Nomenclature::CvssBE,
+            cvss_proved::Nomenclature::BT => Nomenclature::CvssBT,
+            cvss_proved::Nomenclature::BTE => Nomenclature::CvssBTE,
+        });
+        self.scored = nomenclature.map(|own| (scores.base.tenths(), own));
+        self
+    }
+}
+
 impl fmt::Display for Vector {
     fn fmt(&self, f: &mut fmt::Formatter<'_>) -> fmt::Result {
         let mut text = String::with_capacity(Self::LONGEST);
@@ -137,6 +139,6 @@ impl FromStr for Vector {
             "CVSS:4.0" => "CVSS:4.0/U:X",
             text => text,
         };
-        read_with_version(text, &["CVSS:4.0"]).map(|read| Vector::of(&read))
+        read_with_version(text, &["CVSS:4.0"])
     }
 }
