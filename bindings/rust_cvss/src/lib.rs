@@ -150,13 +150,13 @@ impl FromStr for Cvss {
         if let Some(error) = left_out(text).filter(|_| !has_all) {
             return Err(error);
         }
-        match text.split_once('/').map(|(first, _)| first) {
+        match text.get(..9) {
             #[cfg(feature = "v3")]
-            Some("CVSS:3.0") => library::read(text).map(Cvss::CvssV30),
+            Some("CVSS:3.0/") => library::read(text).map(Cvss::CvssV30),
             #[cfg(feature = "v3")]
-            Some("CVSS:3.1") => library::read(text).map(Cvss::CvssV31),
+            Some("CVSS:3.1/") => library::read(text).map(Cvss::CvssV31),
             #[cfg(feature = "v4")]
-            Some("CVSS:4.0") => library::read(text).map(Cvss::CvssV40),
+            Some("CVSS:4.0/") => library::read(text).map(Cvss::CvssV40),
             #[cfg(feature = "v2")]
             _ => library::read(text).map(Cvss::CvssV20),
             #[cfg(not(feature = "v2"))]

@@ -9,29 +9,24 @@ use cvss_proved::{Exact, Numbers, Version};
 /// A metric of a vector, as canonical texts have it.
 pub(crate) trait Component: Copy {
     /// The abbreviation and a colon.
-    const NAME: &'static str;
+    const NAME: &'static [u8];
 
     /// Adds a slash and the component.
     fn push(self, text: &mut String);
 
     /// The value with this spelling.
-    fn read(spelling: &str) -> Option<Self>;
+    fn read(spelling: &[u8]) -> Option<Self>;
 }
 
 /// The metric with which a canonical text begins, if it is this one, which is then cut off with the slash
 /// after it. `None` where its value is not spelled as a canonical text has it.
-#[inline]
 #[allow(clippy::option_option)]
-pub(crate) fn take<C: Component>(rest: &mut &str) -> Option<Option<C>> {
+pub(crate) fn take<C: Component>(rest: &mut &[u8]) -> Option<Option<C>> {
     let Some(value) = rest.strip_prefix(C::NAME) else {
         return Some(None);
     };
-    let (own, after) = value.split_at(
-        value
-            .bytes()
-            .position(|byte| byte == b'/')
-            .unwrap_or(value.len()),
-    );
+    let end = value.iter().position(|byte| *byte == b'/');
+    let (own, after) = value.split_at(end.unwrap_or(value.len()));
     *rest = after.get(1..).unwrap_or_default();
     C::read(own).map(Some)
 }
@@ -79,7 +74,7 @@ macro_rules! components {
 
             /// The vector with the components of a text, if they are as a canonical text has them.
             fn filled(mut self, components: &str) -> Option<Vector> {
-                let mut rest = components;
+                let mut rest = components.as_bytes();
                 $(self.$field = $crate::library::take(&mut rest)?;)+
                 rest.is_empty().then_some(self)
             }

@@ -25,7 +25,7 @@ macro_rules! spelled {
         }
 
         impl $crate::library::Component for $name {
-            const NAME: &'static str = concat!(stringify!($kind), ":");
+            const NAME: &'static [u8] = concat!(stringify!($kind), ":").as_bytes();
 
             fn push(self, text: &mut String) {
                 text.push_str(match self {
@@ -33,11 +33,13 @@ macro_rules! spelled {
                 });
             }
 
-            fn read(spelling: &str) -> Option<Self> {
-                match spelling {
-                    $($spelling => Some(Self::$variant),)+
-                    _ => None,
-                }
+            fn read(spelling: &[u8]) -> Option<Self> {
+                $(
+                    if spelling == $spelling.as_bytes() {
+                        return Some(Self::$variant);
+                    }
+                )+
+                None
             }
         }
 

@@ -116,16 +116,16 @@ impl Metric for ModifiedScope {
 component!(ModifiedScope);
 
 impl Component for ModifiedScope {
-    const NAME: &'static str = "MS:";
+    const NAME: &'static [u8] = b"MS:";
 
     fn push(self, text: &mut String) {
         text.push_str("/MS:");
         text.push_str(self.as_str());
     }
 
-    fn read(spelling: &str) -> Option<ModifiedScope> {
+    fn read(spelling: &[u8]) -> Option<ModifiedScope> {
         match spelling {
-            "X" => Some(ModifiedScope::NotDefined),
+            b"X" => Some(ModifiedScope::NotDefined),
             _ => Scope::read(spelling).map(ModifiedScope::Modified),
         }
     }
@@ -162,16 +162,16 @@ macro_rules! base_metrics {
             }
 
             impl Component for Modified<$name> {
-                const NAME: &'static str = concat!(stringify!($kind), ":");
+                const NAME: &'static [u8] = concat!(stringify!($kind), ":").as_bytes();
 
                 fn push(self, text: &mut String) {
                     text.push_str(concat!("/", stringify!($kind), ":"));
                     text.push_str(self.as_str());
                 }
 
-                fn read(spelling: &str) -> Option<Self> {
+                fn read(spelling: &[u8]) -> Option<Self> {
                     match spelling {
-                        "X" => Some(Modified::NotDefined),
+                        b"X" => Some(Modified::NotDefined),
                         _ => Component::read(spelling).map(Modified::Modified),
                     }
                 }
