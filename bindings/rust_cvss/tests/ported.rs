@@ -258,6 +258,26 @@ fn numbers_are_rounded_and_rated() {
 }
 
 #[test]
+fn metrics_are_listed_in_the_order_of_the_crate() {
+    let v2 = "AV:N/AC:L/Au:M/C:N/I:P/A:C/E:U/RL:OF/RC:UC/CDP:LM/TD:H/CR:L/IR:M/AR:ND";
+    let v3 = V3_SCORES[26].0;
+    let v4 = "CVSS:4.0/AV:N/AC:L/AT:N/PR:H/UI:N/VC:L/VI:L/VA:N/SC:N/SI:N/SA:N/E:U/CR:L/IR:X/AR:L/MAV:A/MAC:H/MAT:N/MPR:N/MUI:P/MVC:X/MVI:N/MVA:H/MSC:N/MSI:L/MSA:S/S:N/AU:N/R:I/V:C/RE:H/U:Green";
+    let rows = [
+        (v2, "AC Au AV C I A CR IR AR CDP TD E RC RL", "Low"),
+        (v3, "AV AC PR UI S C I A E RL RC MAV MAC MPR MUI MS MC MI CR IR AR MA", "Adjacent"),
+        (v4, "AC AT AV PR SA SC SI UI VA VC VI E AR CR IR MAC MAT MAV MPR MSA MSC MSI MUI MVA MVC MVI AU R RE S U V", "Low"),
+    ];
+    for (text, names, first) in rows {
+        let cvss: Cvss = text.parse().unwrap();
+        let listed: Vec<&str> = cvss.metrics().map(|(kind, _)| kind.name()).collect();
+        assert_eq!(listed.join(" "), names);
+        let (kind, value) = cvss.metrics().next().unwrap();
+        assert_eq!(format!("{value:?}"), first, "{}", kind.description());
+        assert_eq!(cvss.to_string(), text);
+    }
+}
+
+#[test]
 fn vectors_need_not_be_complete() {
     assert_eq!(v2::Vector::default().to_string(), "");
     assert_eq!(v2::Vector::default().score().value(), 0.0);
