@@ -286,6 +286,11 @@ fn vectors_need_not_be_complete() {
         (alone.to_string().as_str(), alone.score().value()),
         ("CVSS:3.0", 0.0)
     );
+    let earlier = v3::Vector {
+        minor_version: 0,
+        ..V3_SCORES[20].0.parse().unwrap()
+    };
+    assert_eq!(earlier.environmental_score().value(), 9.6);
     let later = v3::Vector {
         minor_version: 7,
         ..V3_SCORES[20].0.parse().unwrap()
