@@ -11,8 +11,8 @@
  * length of the whole result, whatever the size. If it is more than the size, the buffer is unchanged, and the caller
  * may call again with a larger one. No terminating byte 0 is written.
  *
- * Pointers. A text, a buffer or an array may be NULL if its length or size is 0: it is empty. A struct, `read` and the
- * four scores of cvss_nomenclature_scores may not be NULL. Output must not overlap input.
+ * Pointers. A text, a buffer or an array may be NULL if its length or size is 0: it is empty. A struct, `read`, `tenths`
+ * and the four scores of cvss_nomenclature_scores may not be NULL. Output must not overlap input.
  *
  * Threads. The functions keep no state: any number of threads may call them at once, each with its own buffer or struct.
  *
@@ -177,6 +177,50 @@ size_t cvss_build(int32_t version, const void *metrics, size_t metrics_length, v
  * colon. Returns its length. Returns 0, and leaves the buffer unchanged, if there is such a vector.
  */
 size_t cvss_build_reason(int32_t version, const void *metrics, size_t metrics_length, void *buffer, size_t size);
+
+/*
+ * An exact number: `trillionths` * 10^-12 + `rest` * 10^-24. The first is less than 10^18 from 0 and the second less than
+ * 10^12, so the number is less than a million from 0.
+ */
+typedef struct CvssNumber {
+    int64_t trillionths;
+    int64_t rest;
+} CvssNumber;
+
+/*
+ * The scores of a vector of v2 or v3, in tenths, and its sub-scores, which are exact. Most have at most 12 decimals, so that
+ * `rest` is 0; the adjusted impact of v2 has up to 17.
+ */
+typedef struct CvssNumbers {
+    int32_t base;
+    int32_t temporal;
+    int32_t environmental;
+    int32_t reserved;           /* 0 */
+    CvssNumber impact;          /* of v2 Impact, of v3 ISS, before the scope counts */
+    CvssNumber exploitability;
+    CvssNumber adjusted_impact; /* of v2 AdjustedImpact, of v3 MISS */
+} CvssNumbers;
+
+/*
+ * The scores and sub-scores of the vector of a version, 20, 30 or 31, with these metrics: components as of cvss_with. Any
+ * metric may be missing, and an empty text has none; a missing base metric weighs nothing. Returns false, and leaves
+ * the struct as it was, where a metric is rejected, and for any other version.
+ */
+bool cvss_numbers(int32_t version, const void *metrics, size_t metrics_length, CvssNumbers *numbers);
+
+/*
+ * Rounds a number to tenths, as a version, 20, 30 or 31, rounds scores: v2 takes the nearest tenth, after adding 10^-6; v3.0
+ * the next tenth above; v3.1 does what its Appendix A says, and takes 0 for a number below 0. Returns false, and leaves
+ * `*tenths` as it was, where a part of the number is out of its range, and for any other version.
+ */
+bool cvss_rounded(int32_t version, const CvssNumber *number, int32_t *tenths);
+
+/*
+ * The temporal score, in tenths, of the vector of v2 with these metrics, as of cvss_numbers, and with this impact in
+ * place of its own. It may be below 0. Returns false, and leaves `*tenths` as it was, where a metric is rejected or a part of
+ * the impact is out of its range.
+ */
+bool cvss_temporal_with_impact(const void *metrics, size_t metrics_length, const CvssNumber *impact, int32_t *tenths);
 
 /*
  * Writes the canonical text of a v4.0 vector with your own environmental metrics, which replace its own or are

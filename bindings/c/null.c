@@ -41,6 +41,12 @@ int main(void)
     right &= cvss_refusal_metric(NULL, 0, NULL, 0) == 0 && cvss_refusal_metric("AV:N/AC:q", 9, NULL, 0) == 2;
     right &= cvss_answer(NULL, 0, NULL, 0) == told + strlen("error: ");
     right &= cvss_answer(text, length, NULL, 0) == length + strlen(" 7.8 high");
+    CvssNumbers numbers = {.reserved = 1};
+    CvssNumber none = {0, 0};
+    int32_t tenths = 1;
+    right &= !cvss_numbers(40, NULL, 0, &numbers) && numbers.reserved == 1;
+    right &= cvss_numbers(20, NULL, 0, &numbers) && numbers.reserved == 0 && numbers.base == 0;
+    right &= cvss_temporal_with_impact(NULL, 0, &none, &tenths) && tenths == 0;
     size_t read = 1;
     right &= cvss_answers(NULL, 0, NULL, 0, &read) == 0 && read == 0;
     right &= cvss_answers("x\n", 2, NULL, 0, &read) == 0 && read == 0;

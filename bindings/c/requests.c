@@ -116,6 +116,26 @@ static void make_groups(const char *text, size_t length)
     cvss_nomenclature_scores(text, length, scores);
 }
 
+static void make_numbers(const char *text, size_t length)
+{
+    CvssNumbers numbers;
+    cvss_numbers(20, text, length, &numbers);
+}
+
+static void make_rounded(const char *text, size_t length)
+{
+    CvssNumber number = {(int64_t)length, text[0]};
+    int32_t tenths;
+    cvss_rounded(31, &number, &tenths);
+}
+
+static void make_temporal(const char *text, size_t length)
+{
+    CvssNumber impact = {0, 0};
+    int32_t tenths;
+    cvss_temporal_with_impact(text, length, &impact, &tenths);
+}
+
 static void make_objection(const char *text, size_t length)
 {
     cvss_override_reason(text, length, "MSI:S/CR:H", 10, buffer, MOST);
@@ -133,6 +153,8 @@ static const Call calls[] = {
     {"cvss_with", make_with},           {"cvss_build", make_build},
     {"cvss_with_reason", make_with_reason}, {"cvss_build_reason", make_build_reason},
     {"cvss_refusal_value", make_value}, {"cvss_nomenclature_scores", make_groups},
+    {"cvss_numbers", make_numbers},     {"cvss_rounded", make_rounded},
+    {"cvss_temporal_with_impact", make_temporal},
 };
 
 /* Whether no function makes a request over a text, which a newline follows. */

@@ -14,6 +14,8 @@ import subprocess
 import sys
 from concurrent.futures import ThreadPoolExecutor
 from decimal import Decimal
+from fractions import Fraction
+from functools import partial
 from pathlib import Path
 from string import ascii_uppercase
 from typing import Any, Callable, Dict, List, Optional, Set, Tuple, Type, TypeVar, Union
@@ -30,8 +32,11 @@ from cvss_proved import (
     answers,
     find,
     metrics,
+    numbers,
+    rounded,
     scores,
     severity_of,
+    temporal_with_impact,
 )
 
 KINDS = (
@@ -46,6 +51,7 @@ KINDS = (
     "not UTF-8",
 )
 TEXT = "AV:N/AC:L/Au:N/C:N/I:N/A:C"
+TEXT_METRICS = {"AV": "N", "AC": "L", "Au": "N"}
 V4 = "CVSS:4.0/AV:N/AC:L/AT:N/PR:N/UI:N/VC:H/VI:H/VA:H/SC:H/SI:H/SA:H"
 
 
@@ -447,6 +453,26 @@ def check_ratings() -> None:
     assert raises(ValueError, lambda: severity_of(9.8, "5.0"))  # type: ignore[arg-type]
 
 
+def check_numbers() -> None:
+    """Vectors that need not be complete have scores and exact sub-scores, and numbers are rounded."""
+    impact = Fraction("10.41") * (1 - (1 - Fraction("0.275") * Fraction("1.51")) ** 3)
+    told = numbers("2.0", {"C": "P", "I": "P"}, A="P", CR="H", IR="H", AR="H")
+    assert told[:3] == (2.8, 2.8, 4.1) and told.adjusted_impact == impact and told.exploitability == 0
+    assert not any(numbers("3.0")) and not any(numbers("2.0", {}))
+    assert numbers("3.1", c="h", s="c").impact == Fraction("0.56")
+    rows = (("4.000001", 4.1, 4.0), ("4.000005", 4.1, 4.1), ("-0.1", -0.1, 0), ("-0.05", 0, 0))
+    for number, v30, v31 in rows:
+        assert (rounded(Fraction(number), "3.0"), rounded(Decimal(number), "3.1")) == (v30, v31), number
+    assert (rounded(4.02, "3.1"), rounded(4, "3.1")) == (4.1, 4)
+    assert rounded(Fraction(-(10**30 - 1), 10**24), "2.0") == -1000000
+    assert temporal_with_impact(1) == -1.1 and temporal_with_impact(Decimal(10), TEXT_METRICS, E="U") == 8.5
+    wrong_values = (1e6, -(10**6), float("inf"), float("nan"))
+    assert all(raises(ValueError, partial(rounded, value, "3.1")) for value in wrong_values)
+    assert all(raises(ValueError, partial(temporal_with_impact, value)) for value in wrong_values)
+    assert raises(ValueError, lambda: numbers("4.0")) and raises(ValueError, lambda: rounded(1, "4.0"))
+    assert raises(CvssError, lambda: numbers("2.0", AV="Q")) and raises(CvssError, lambda: temporal_with_impact(1, av="N"))
+
+
 def check_values_of_errors() -> None:
     """An error has the part of the text that its reason quotes, as the reason has it."""
     rows = (
@@ -720,6 +746,7 @@ if __name__ == "__main__":
     check_calls(Path(sys.argv[1]))
     check_setting()
     check_ratings()
+    check_numbers()
     check_values_of_errors()
     check_red_hat_notation()
     check_command()

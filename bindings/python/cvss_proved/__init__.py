@@ -20,6 +20,7 @@ cvss_proved.CvssError: invalid CVSSv2 AC (Access Complexity) metric: `q`
 """
 
 from ._error import CvssError, Kind
+from ._exact import Numbers, numbers, rounded, temporal_with_impact
 from ._find import Found, find
 from ._library import Text
 from ._numbers import Nomenclature, Severity, severity_of
@@ -37,6 +38,7 @@ __all__ = [
     "MetricType",
     "MetricValue",
     "Nomenclature",
+    "Numbers",
     "Scores",
     "Severities",
     "Severity",
@@ -47,7 +49,10 @@ __all__ = [
     "answers",
     "find",
     "metrics",
+    "numbers",
+    "rounded",
     "scores",
     "severity_of",
+    "temporal_with_impact",
     "__version__",
 ]

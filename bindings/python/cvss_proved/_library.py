@@ -30,6 +30,20 @@ NOMENCLATURE = 7
 IS_COMPLETE = 8
 
 
+class _Number(ctypes.Structure):
+    """The struct CvssNumber of cvss.h: so many 10^-12, and so many 10^-24."""
+
+    _fields_ = [("trillionths", ctypes.c_int64), ("rest", ctypes.c_int64)]
+
+
+class _Numbers(ctypes.Structure):
+    """The struct CvssNumbers of cvss.h."""
+
+    _fields_ = [(name, ctypes.c_int32) for name in ("base", "temporal", "environmental", "reserved")] + [
+        (name, _Number) for name in ("impact", "exploitability", "adjusted_impact")
+    ]
+
+
 def _places() -> List[Path]:
     named = os.environ.get("CVSS_LIBRARY")
     if named is not None:
@@ -79,6 +93,11 @@ def _declared(library: ctypes.CDLL) -> ctypes.CDLL:
     library.cvss_nomenclature_scores.restype = ctypes.c_bool
     library.cvss_rating.argtypes = [ctypes.c_int32, ctypes.c_int32]
     library.cvss_rating.restype = ctypes.c_int32
+    library.cvss_numbers.argtypes = [ctypes.c_int32, *text, ctypes.POINTER(_Numbers)]
+    library.cvss_rounded.argtypes = [ctypes.c_int32, ctypes.POINTER(_Number), ctypes.POINTER(ctypes.c_int32)]
+    library.cvss_temporal_with_impact.argtypes = [*text, *library.cvss_rounded.argtypes[1:]]
+    for check in (library.cvss_numbers, library.cvss_rounded, library.cvss_temporal_with_impact):
+        check.restype = ctypes.c_bool
     many = text + [ctypes.c_char_p, ctypes.c_size_t]
     library.cvss_answers.argtypes = many + [ctypes.POINTER(ctypes.c_size_t)]
     library.cvss_answers.restype = ctypes.c_size_t
@@ -196,6 +215,35 @@ def nomenclature_scores(text: bytes) -> List[int]:
 def rating(version: int, tenths: int) -> int:
     """The number of the rating of a score in tenths, by the bounds of a version."""
     return int(_library.cvss_rating(version, tenths))
+
+
+def numbers(version: int, metrics: bytes) -> Optional[Tuple[int, ...]]:
+    """The scores of the vector of v2 or v3 with these metrics, in tenths, and the counts of 10^-24 of its sub-scores."""
+    own = _Numbers()
+    if not _library.cvss_numbers(version, metrics, len(metrics), own):
+        return None
+    counts = (each.trillionths * 10**12 + each.rest for each in (own.impact, own.exploitability, own.adjusted_impact))
+    return (own.base, own.temporal, own.environmental, *counts)
+
+
+def _number(count: int) -> Optional[_Number]:
+    """The number with this count of 10^-24, if it is less than a million from 0."""
+    sign = -1 if count < 0 else 1
+    trillionths, rest = divmod(abs(count), 10**12)
+    return _Number(sign * trillionths, sign * rest) if trillionths < 10**18 else None
+
+
+def rounded(version: int, count: int) -> Optional[int]:
+    """The tenths of a number, rounded as the scores of a version are."""
+    number, tenths = _number(count), ctypes.c_int32()
+    return tenths.value if number and _library.cvss_rounded(version, number, tenths) else None
+
+
+def temporal_with_impact(metrics: bytes, count: int) -> Optional[int]:
+    """The tenths of the temporal score of the vector of v2 with these metrics and this impact."""
+    impact, tenths = _number(count), ctypes.c_int32()
+    is_told = impact and _library.cvss_temporal_with_impact(metrics, len(metrics), impact, tenths)
+    return tenths.value if is_told else None
 
 
 def record(text: bytes) -> str:

@@ -127,7 +127,7 @@ class Vector:
         >>> Vector.from_metrics("3.1", A="H", I="H", C="H", S="U", UI="N", PR="N", AC="L", AV="N").text
         'CVSS:3.1/AV:N/AC:L/PR:N/UI:N/S:U/C:H/I:H/A:H'
         """
-        number, given = number_of(version), _joined(metrics, values)
+        number, given = number_of(version), joined(metrics, values)
         text = _library.built(number, given)
         if not text:
             raise CvssError.of_reason(_library.build_reason(number, given))
@@ -280,7 +280,7 @@ class Vector:
         >>> vector.score, vector.replace(E="P").score, vector.replace({"AV": "P", "E": "U"}).score
         (9.3, 8.9, 4.0)
         """
-        given = _joined(metrics, values)
+        given = joined(metrics, values)
         text = _library.with_metrics(self._code, given)
         if not text:
             raise CvssError.of_reason(_library.with_reason(self._code, given))
@@ -377,7 +377,7 @@ def _check_mapping(metrics: Mapping[str, str]) -> None:
             raise TypeError(f"the name and the value of a metric are str, and not {name!r} and {value!r}")
 
 
-def _joined(metrics: Optional[Mapping[str, str]], values: Mapping[str, str]) -> bytes:
+def joined(metrics: Optional[Mapping[str, str]], values: Mapping[str, str]) -> bytes:
     """The components of metrics. A slash would make two of one, so it is rejected as in a component."""
     for given in (metrics, values):
         if given is not None:

@@ -27,6 +27,27 @@ pub(crate) struct CvssMetric {
     pub(crate) value: [u8; 8],
 }
 
+/// The struct of the same name in `cvss.h`: so many 10^-12, and so many 10^-24.
+#[derive(Clone, Copy, Default)]
+#[repr(C)]
+pub(crate) struct CvssNumber {
+    pub(crate) trillionths: i64,
+    pub(crate) rest: i64,
+}
+
+/// The struct of the same name in `cvss.h`. What is reserved is not read.
+#[derive(Clone, Copy, Default)]
+#[repr(C)]
+pub(crate) struct CvssNumbers {
+    pub(crate) base: i32,
+    pub(crate) temporal: i32,
+    pub(crate) environmental: i32,
+    reserved: i32,
+    pub(crate) impact: CvssNumber,
+    pub(crate) exploitability: CvssNumber,
+    pub(crate) adjusted_impact: CvssNumber,
+}
+
 /// No vector has more metrics.
 const MOST_METRICS: usize = 32;
 
@@ -38,6 +59,7 @@ extern "C" {
         buffer: *mut u8,
         size: usize,
     ) -> usize;
+    fn cvss_scores(text: *const u8, length: usize, scores: *mut CvssScores) -> bool;
     fn cvss_metrics(
         text: *const u8,
         length: usize,
@@ -90,6 +112,19 @@ extern "C" {
     ) -> usize;
     fn cvss_nomenclature_scores(text: *const u8, length: usize, scores: *mut i32) -> bool;
     fn cvss_rating(version: i32, tenths: i32) -> i32;
+    fn cvss_numbers(
+        version: i32,
+        metrics: *const u8,
+        metrics_length: usize,
+        numbers: *mut CvssNumbers,
+    ) -> bool;
+    fn cvss_rounded(version: i32, number: *const CvssNumber, tenths: *mut i32) -> bool;
+    fn cvss_temporal_with_impact(
+        metrics: *const u8,
+        metrics_length: usize,
+        impact: *const CvssNumber,
+        tenths: *mut i32,
+    ) -> bool;
     fn cvss_record(text: *const u8, length: usize, buffer: *mut u8, size: usize) -> usize;
     fn cvss_account(text: *const u8, length: usize, buffer: *mut u8, size: usize) -> usize;
     fn cvss_reason(text: *const u8, length: usize, buffer: *mut u8, size: usize) -> usize;
@@ -131,6 +166,15 @@ pub(crate) fn read(text: &[u8]) -> Option<(CvssScores, Vec<u8>)> {
         }
     });
     (!canonical.is_empty()).then_some((scores, canonical))
+}
+
+/// The scores of the vector that a text denotes.
+pub(crate) fn scores(text: &[u8]) -> Option<CvssScores> {
+    let mut scores = CvssScores::default();
+    // SAFETY: the pointers are those of a slice and of a struct that live through the call and do not
+    // overlap.
+    let is_vector = unsafe { cvss_scores(text.as_ptr(), text.len(), &mut scores) };
+    is_vector.then_some(scores)
 }
 
 /// The metrics of the vector that a text denotes, or none.
@@ -246,6 +290,35 @@ pub(crate) fn nomenclature_scores(text: &[u8]) -> Option<[i32; 4]> {
 pub(crate) fn rating(version: i32, tenths: i32) -> i32 {
     // SAFETY: the call takes no pointer.
     unsafe { cvss_rating(version, tenths) }
+}
+
+/// The scores and sub-scores of the vector of v2 or v3 with these metrics.
+pub(crate) fn numbers(version: i32, metrics: &[u8]) -> Option<CvssNumbers> {
+    let mut numbers = CvssNumbers::default();
+    // SAFETY: the pointers are those of a slice and of a struct that live through the call and do not
+    // overlap.
+    let are_written =
+        unsafe { cvss_numbers(version, metrics.as_ptr(), metrics.len(), &mut numbers) };
+    are_written.then_some(numbers)
+}
+
+/// The tenths of a number that is rounded as the scores of a version are.
+pub(crate) fn rounded(version: i32, number: &CvssNumber) -> Option<i32> {
+    let mut tenths = 0;
+    // SAFETY: the pointers are those of a struct and of a number that live through the call and do not
+    // overlap.
+    let is_rounded = unsafe { cvss_rounded(version, number, &mut tenths) };
+    is_rounded.then_some(tenths)
+}
+
+/// The tenths of the temporal score of the vector of v2 with these metrics and this impact.
+pub(crate) fn temporal_with_impact(metrics: &[u8], impact: &CvssNumber) -> Option<i32> {
+    let mut tenths = 0;
+    // SAFETY: the pointers are those of a slice, of a struct and of a number that live through the call
+    // and do not overlap.
+    let is_scored =
+        unsafe { cvss_temporal_with_impact(metrics.as_ptr(), metrics.len(), impact, &mut tenths) };
+    is_scored.then_some(tenths)
 }
 
 /// The record of the vector that a text denotes, or nothing.

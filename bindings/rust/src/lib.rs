@@ -23,18 +23,22 @@
 #![deny(missing_docs)]
 
 mod calls;
+mod exact;
 mod find;
 mod numbers;
 mod refused;
+mod scores;
 #[cfg(feature = "serde")]
 mod serialized;
 mod table;
 mod vector;
 mod words;
 
+pub use exact::{temporal_with_impact, Exact, Numbers};
 pub use find::{find, Mention, Mentions};
 pub use numbers::{Group, Nomenclature, Score, Severity, UnknownName, Version};
 pub use refused::{OverrideError, Refused, RefusedKind};
+pub use scores::{scores, Scores};
 pub use vector::{Cvss, Metric};
 pub use words::{metrics, MetricType, MetricValue};
 

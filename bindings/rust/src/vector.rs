@@ -2,7 +2,7 @@
 
 use crate::calls::{self, CvssMetric, CvssScores};
 use crate::words::{is_environmental, metrics, MetricType, MetricValue};
-use crate::{Nomenclature, OverrideError, Refused, Score, Severity, Version};
+use crate::{Nomenclature, OverrideError, Refused, Score, Scores, Severity, Version};
 use std::cmp::Ordering;
 use std::fmt;
 use std::hash::{Hash, Hasher};
@@ -230,6 +230,18 @@ impl Cvss {
             Nomenclature::BT => bt,
             Nomenclature::BTE => bte,
         })
+    }
+
+    /// The three scores and the nomenclature.
+    #[must_use]
+    pub fn scores(&self) -> Scores {
+        Scores {
+            version: self.version,
+            base: self.score,
+            temporal: self.temporal_score(),
+            environmental: self.environmental_score(),
+            nomenclature: self.nomenclature,
+        }
     }
 
     /// Whether all base metrics are there. A text of v3 may lack some: it is scored without them.

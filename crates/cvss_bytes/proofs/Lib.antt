@@ -1,6 +1,7 @@
 pub mod BufferLemmas
 pub mod CanonicalLemmas
 pub mod DefinedLemmas
+pub mod ExactLemmas
 pub mod LengthLemmas
 pub mod LinesLemmas
 pub mod ObjectionLemmas

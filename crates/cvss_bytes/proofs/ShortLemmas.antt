@@ -1,5 +1,5 @@
 -- No canonical text is longer than eight bytes that tell a version, and ten for each of 32 metrics.
-use Rattle.std.proofs.Common.{◌≡◌, ◌≤◌, List, [], ◌∷◌, codes, length, refl, ap, arith, length-append}
+use Rattle.std.proofs.Common.{◌≡◌, ◌≤◌, [], ◌∷◌, codes, length, refl, ap, arith, length-append}
 use Rattle.cvss_v4.specs.declared.vector.Vector.{Vector}
 use Rattle.cvss_v4.specs.Vector.{v4}
 use Rattle.cvss_base.specs.Version.{canonical_text}

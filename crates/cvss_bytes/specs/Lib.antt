@@ -1,6 +1,7 @@
 pub mod Answers
 pub mod Buffer
 pub mod Defined
+pub mod Exact
 pub mod Lines
 pub mod Mentioned
 pub mod Metrics

@@ -4,12 +4,14 @@
 //! is left as it was where it is too small. Only records take memory.
 #![tactic(auto)]
 
+mod exact;
 mod lines;
 mod refusals;
 mod setting;
 mod vectors;
 
-pub use cvss_bytes::{CvssMetric, CvssScores, CvssScoresBy};
+pub use cvss_bytes::{CvssMetric, CvssNumber, CvssNumbers, CvssScores, CvssScoresBy};
+pub use exact::{cvss_numbers, cvss_rounded, cvss_temporal_with_impact};
 pub use lines::{cvss_answer, cvss_answers, cvss_find};
 pub use refusals::{
     cvss_override_reason, cvss_reason, cvss_refusal_kind, cvss_refusal_metric, cvss_refusal_value,

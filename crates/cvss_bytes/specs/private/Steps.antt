@@ -1,5 +1,5 @@
 -- Words of the private code: vectors that were read, and texts that are written one behind another.
-use Rattle.std.specs.Prelude.{◌≡◌, ◌≢◌, ℕ, ◌<◌, ◌≤◌, List, [], ◌∷◌, ◌++◌, drop, length, slice_index, flat_map, unwrap_or}
+use Rattle.std.specs.Prelude.{◌≡◌, ℕ, List, [], ◌∷◌, ◌++◌, drop, flat_map, unwrap_or}
 use Rattle.std.specs.List.{filter_map}
 use Rattle.cvss_any.specs.Answers.{IsScoreOf, rating_by, score_of_tenths}
 use Rattle.cvss_base.specs.SeverityText.{text_of as severity_text}

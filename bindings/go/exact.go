@@ -1,0 +1,95 @@
+//go:build cgo
+
+package cvss
+
+// #include "cvss.h"
+import "C"
+
+import (
+	"errors"
+	"math/big"
+)
+
+var (
+	trillion = big.NewInt(1_000_000_000_000)
+	units    = new(big.Int).Mul(trillion, trillion)
+)
+
+// Numbers are the scores of a vector of v2 or v3, and its sub-scores, which are exact: of v2 Impact, Exploitability and
+// AdjustedImpact; of v3 ISS, before the scope counts, Exploitability and MISS.
+type Numbers struct {
+	Base, Temporal, Environmental          Score
+	Impact, Exploitability, AdjustedImpact *big.Rat
+}
+
+// NumbersOf are those of the vector of V20, V30 or V31 with these metrics, in any order. Any metric may be missing; a
+// missing base metric weighs nothing. The error is a *RefusedError, and for V40 one of kind UnsupportedVersion.
+func NumbersOf(version Version, metrics []Metric) (Numbers, error) {
+	own, err := joined(metrics)
+	if err != nil {
+		return Numbers{}, err
+	}
+	given, length := bytesOf(own)
+	var numbers C.CvssNumbers
+	if !C.cvss_numbers(numberOf(version), pointer(given), length, &numbers) {
+		return Numbers{}, componentRefusal(version, metrics)
+	}
+	return Numbers{
+		scoreOf(float64(numbers.base)), scoreOf(float64(numbers.temporal)), scoreOf(float64(numbers.environmental)),
+		ratOf(numbers.impact), ratOf(numbers.exploitability), ratOf(numbers.adjusted_impact),
+	}, nil
+}
+
+// componentRefusal is why the library takes none of the metrics.
+func componentRefusal(version Version, metrics []Metric) error {
+	if number := numberOf(version); number == 0 || version == V40 {
+		name := string(version)
+		return &RefusedError{UnsupportedVersion, "", name, "unsupported CVSS version: " + name}
+	}
+	_, err := FromMetrics(version, metrics)
+	return err
+}
+
+// Rounded is a number rounded to tenths as V20, V30 or V31 rounds scores. The error is for another version, and for a number
+// that is a million or more from 0.
+func Rounded(number *big.Rat, version Version) (*big.Rat, error) {
+	own, ok := numberFrom(number)
+	var tenths C.int32_t
+	if !ok || !bool(C.cvss_rounded(numberOf(version), &own, &tenths)) {
+		return nil, errors.New("cvss: a number less than a million from 0 is rounded, as v2 or v3 does")
+	}
+	return big.NewRat(int64(tenths), 10), nil
+}
+
+// TemporalWithImpact is the temporal score of the vector of V20 with these metrics, as of NumbersOf, and with an impact in
+// place of its own. It may be below 0.
+func TemporalWithImpact(metrics []Metric, impact *big.Rat) (*big.Rat, error) {
+	text, err := joined(metrics)
+	if err != nil {
+		return nil, err
+	}
+	own, ok := numberFrom(impact)
+	if !ok {
+		return nil, errors.New("cvss: an impact is a number less than a million from 0")
+	}
+	given, length := bytesOf(text)
+	var tenths C.int32_t
+	if !C.cvss_temporal_with_impact(pointer(given), length, &own, &tenths) {
+		return nil, componentRefusal(V20, metrics)
+	}
+	return big.NewRat(int64(tenths), 10), nil
+}
+
+func ratOf(number C.CvssNumber) *big.Rat {
+	count := new(big.Int).Mul(big.NewInt(int64(number.trillionths)), trillion)
+	return new(big.Rat).SetFrac(count.Add(count, big.NewInt(int64(number.rest))), units)
+}
+
+// numberFrom is the library's number for a number, whose decimals behind the 24th are cut off.
+func numberFrom(number *big.Rat) (own C.CvssNumber, ok bool) {
+	count := new(big.Int).Mul(number.Num(), units)
+	count.Quo(count, number.Denom())
+	trillionths, rest := new(big.Int).QuoRem(count, trillion, new(big.Int))
+	own = C.CvssNumber{trillionths: C.int64_t(trillionths.Int64()), rest: C.int64_t(rest.Int64())}
+	return own, trillionths.IsInt64()
+}

@@ -1,0 +1,76 @@
+//go:build cgo
+
+package cvss_test
+
+import (
+	"errors"
+	"math/big"
+	"testing"
+
+	"yuntabek.example/cvss"
+)
+
+func rat(text string) *big.Rat {
+	number, ok := new(big.Rat).SetString(text)
+	if !ok {
+		panic(text)
+	}
+	return number
+}
+
+func TestVectorsNeedNotBeCompleteForTheirNumbers(t *testing.T) {
+	metrics := []cvss.Metric{{"C", "P"}, {"I", "P"}, {"A", "P"}, {"CR", "H"}, {"IR", "H"}, {"AR", "H"}}
+	told, err := cvss.NumbersOf(cvss.V20, metrics)
+	if err != nil || told.Base != 2.8 || told.Environmental != 4.1 || told.Exploitability.Sign() != 0 {
+		t.Error(told, err)
+	}
+	if told.Impact.Cmp(rat("6.44297671875")) != 0 || told.AdjustedImpact.Cmp(rat("8.32857186375328125")) != 0 {
+		t.Error(told)
+	}
+	if told, err := cvss.NumbersOf(cvss.V31, nil); err != nil || told.Base != 0 || told.Impact.Sign() != 0 {
+		t.Error(told, err)
+	}
+	var refused *cvss.RefusedError
+	for _, version := range []cvss.Version{cvss.V40, "5.0"} {
+		if _, err := cvss.NumbersOf(version, nil); !errors.As(err, &refused) || refused.Kind != cvss.UnsupportedVersion {
+			t.Error(version, err)
+		}
+	}
+	_, err = cvss.NumbersOf(cvss.V20, []cvss.Metric{{"AV", "Q"}})
+	if !errors.As(err, &refused) || refused.Kind != cvss.InvalidValue || refused.Metric != "AV" {
+		t.Error(err)
+	}
+}
+
+func TestNumbersAreRounded(t *testing.T) {
+	rows := []struct {
+		version         cvss.Version
+		number, rounded string
+	}{
+		{cvss.V20, "8.549998999999", "8.5"}, {cvss.V20, "8.549999", "8.6"}, {cvss.V20, "-0.06", "-0.1"},
+		{cvss.V30, "4.000000000000000000000001", "4.1"}, {cvss.V31, "4.000004", "4"}, {cvss.V31, "4.000005", "4.1"},
+	}
+	for _, row := range rows {
+		own, err := cvss.Rounded(rat(row.number), row.version)
+		if err != nil || own.Cmp(rat(row.rounded)) != 0 {
+			t.Error(row, own, err)
+		}
+	}
+	for _, number := range []string{"1000000", "-1000000", "1e40"} {
+		if own, err := cvss.Rounded(rat(number), cvss.V31); err == nil {
+			t.Error(number, own)
+		}
+		if own, err := cvss.TemporalWithImpact(nil, rat(number)); err == nil {
+			t.Error(number, own)
+		}
+	}
+	if own, err := cvss.Rounded(rat("1"), cvss.V40); err == nil {
+		t.Error(own)
+	}
+	if own, err := cvss.TemporalWithImpact(nil, rat("1")); err != nil || own.Cmp(rat("-1.1")) != 0 {
+		t.Error(own, err)
+	}
+	if own, err := cvss.TemporalWithImpact([]cvss.Metric{{"XX", "N"}}, rat("1")); err == nil {
+		t.Error(own)
+	}
+}
