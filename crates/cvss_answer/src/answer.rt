@@ -4,11 +4,11 @@ ghost use Rattle.std.specs.Prelude.{◌≡◌, ℕ, ◌++◌, [], ◌∷◌, ◌
 ghost use Rattle.cvss_any.specs.Answers.{HasScore, text_of};
 ghost use Rattle.cvss_any.specs.Reasons.{error_message};
 ghost use Rattle.cvss_lines.specs.Answers.{WritesAnswer};
-ghost use Rattle.cvss_answer.specs.Answers.{IsAnswer, WritesVector, score_line};
+ghost use Rattle.cvss_answer.specs.Answers.{IsAnswer, IsCompleteAnswer, WritesVector, score_line};
 
 use crate::score_line::score_line;
 use crate::segments::push_segments;
-use cvss_any::{Cvss, Message, Published, ReadError};
+use cvss_any::{Cvss, Message, Published, ReadError, Refusal};
 use cvss_lines::{Answering, Gathered};
 use std::alloc::{AllocError, Global};
 use std::fmt::{self, Write};
@@ -36,6 +36,53 @@ impl Answering for Vectors {
     }
 }
 
+/// Lines that are texts of vectors, each answered as by [`Vectors`], but a vector of CVSS v3 that lacks
+/// base metrics by the first of them.
+pub struct CompleteVectors {}
+
+impl Answering for CompleteVectors {
+    ghost rule = { IsCompleteAnswer };
+
+    fn answer_line(
+        _alloc: Global,
+        _number: u64,
+        line: &[u8],
+        answers: &mut Gathered,
+    ) -> Result<bool, AllocError> {
+        if let Some(published) = Cvss::complete_at_sight(line) {
+            write_canonical(line, published, answers)?;
+            return Ok(true);
+        }
+        match answer_if_complete(line, answers) {
+            Ok(accepted) => Ok(accepted),
+            Err(_) => Err(AllocError),
+        }
+    }
+}
+
+/// The answer to a line that is not seen at once to be canonical and complete.
+fn answer_if_complete(line: &[u8], answers: &mut Gathered) -> Result<bool, fmt::Error>
+    ensures { (number : ℕ) → IfOk result (WritesAnswer IsCompleteAnswer number line.now
+        answers.old.bytes.items answers.new.bytes.items) }
+{
+    match Cvss::read(line) {
+        Ok(vector) => match vector.first_missing() {
+            None => {
+                write_vector(&vector, answers)?;
+                Ok(true)
+            }
+            Some(metric) => {
+                write_error(ReadError::Invalid(Refusal::Missing(metric)), answers)?;
+                Ok(false)
+            }
+        },
+        Err(error) => {
+            write_error(error, answers)?;
+            Ok(false)
+        }
+    }
+}
+
 /// The answer to a line that is not seen at once to be canonical.
 fn answer_other_line(line: &[u8], answers: &mut Gathered) -> Result<bool, fmt::Error>
     ensures { (number : ℕ) → IfOk result (WritesAnswer IsAnswer number line.now
@@ -56,7 +103,7 @@ fn answer_other_line(line: &[u8], answers: &mut Gathered) -> Result<bool, fmt::E
 /// Writes why a line is no vector, and a byte 10.
 // A call of its own keeps the segments out of the frame of an accepted line.
 #[inline(never)]
-fn write_error(error: ReadError<'_>, answers: &mut Gathered) -> Result<(), AllocError>
+pub(crate) fn write_error(error: ReadError<'_>, answers: &mut Gathered) -> Result<(), AllocError>
     ensures { OnOk result (answers.new.bytes.items ≡ answers.old.bytes.items
         ++ (codes "error: " ++ (error_message error.entry ++ 10 ∷ []))) }
 {
@@ -84,7 +131,7 @@ pub fn write_canonical(
 }
 
 /// Writes the answer of a vector, and a byte 10.
-fn write_vector(vector: &Cvss, answers: &mut Gathered) -> fmt::Result
+pub(crate) fn write_vector(vector: &Cvss, answers: &mut Gathered) -> fmt::Result
     requires { HasScore vector.now }
     ensures { OnOk result
         (WritesVector vector.now answers.old.bytes.items answers.new.bytes.items) }

@@ -5,5 +5,7 @@
 mod answer;
 mod score_line;
 mod segments;
+mod setting;
 
-pub use answer::{Vectors, write_canonical};
+pub use answer::{CompleteVectors, Vectors, write_canonical};
+pub use setting::answer_with_metrics;
