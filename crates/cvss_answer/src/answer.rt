@@ -66,9 +66,9 @@ fn answer_if_complete(line: &[u8], answers: &mut Gathered) -> Result<bool, fmt::
         answers.old.bytes.items answers.new.bytes.items) }
 {
     match Cvss::read(line) {
-        Ok(vector) => match vector.first_missing() {
+        Ok(cvss) => match cvss.first_missing() {
             None => {
-                write_vector(&vector, answers)?;
+                write_vector(&cvss, answers)?;
                 Ok(true)
             }
             Some(metric) => {
