@@ -4,7 +4,6 @@ use Rattle.std.proofs.lemmas.Bool.Decides.{nat_tests}
 use Rattle.std.proofs.lemmas.Option.{slice_get-map}
 use Rattle.std.specs.List.{range_with_len}
 use Rattle.cvss_any.specs.Answers.{rating_by, rating_text, score_of_tenths, text_of, vector_answer}
-use Rattle.cvss_any.specs.Complete.{IsPublishedOfComplete}
 use Rattle.cvss_any.specs.Published.{IsPublishedOf}
 use Rattle.cvss_any.specs.declared.published.Bounds.{Bounds}
 use Rattle.cvss_any.specs.declared.published.Bounds.TheVariants.{OfV2, SinceV3}
@@ -13,7 +12,7 @@ use Rattle.cvss_base.specs.Rating.{rating_of_score}
 use Rattle.cvss_score.specs.v2.Rating.{rating_of}
 use Rattle.cvss_lines.specs.Answers.{Accepted, WritesAnswer, written_text}
 use Rattle.cvss_lines.proofs.TextsLemmas.{one_text}
-use Rattle.cvss_answer.specs.Answers.{IsAnswer, IsCompleteAnswer, rated_line, score_line}
+use Rattle.cvss_answer.specs.Answers.{IsAnswer, rated_line, score_line}
 
 at_place : (n place : ℕ) → place < n → (from : ℕ) → slice_get (range_with_len from n) place ≡ Some (from + place)
 at_place zero place below from = absurd (omega arith)
@@ -41,7 +40,7 @@ pub between_v2 : (t : ℕ) → 1 ≤ t → t < 90 → rated_line SinceV3 t ≡ r
 between_v2 t from below = ap (λ rating. codes " " ++ (rating_text t rating ++ 10 ∷ [])) (alike t from below)
 
 -- a canonical line with the line of its score is its vector's answer
-canonical_answer : (text : List ℕ) (published : Published) → (is : IsPublishedOf text published)
+pub canonical_answer : (text : List ℕ) (published : Published) → (is : IsPublishedOf text published)
     → text ++ score_line published ≡ written_text (vector_answer is.cvss published.tenths)
 canonical_answer text published is =
     let t = published.tenths in
@@ -71,26 +70,3 @@ canonical_written number line published old new of written = record {
   told = refl;
   written = one_text _ _ _ (written ∙ ap (λ text. old ++ text) (canonical_answer line published of));
 }
-
--- the same of a line whose vector lacks no base metric
-pub complete_written : (number : ℕ) (line : List ℕ) (published : Published) (old new : List ℕ) → IsPublishedOfComplete line published
-    → new ≡ old ++ (line ++ score_line published) → WritesAnswer IsCompleteAnswer number line old new true
-unfolding IsCompleteAnswer
-complete_written number line published old new complete written =
-    let of = complete.of in
-    record {
-      answer = Accepted (vector_answer of.cvss published.tenths ∷ []);
-      answers = record {
-        accepted = record {
-          utf8 = of.utf8;
-          vector = of.cvss;
-          denoted = of.denoted;
-          tenths = published.tenths;
-          scored = of.is.scored;
-          is = refl;
-        };
-        complete = complete.complete;
-      };
-      told = refl;
-      written = one_text _ _ _ (written ∙ ap (λ text. old ++ text) (canonical_answer line published of));
-    }

@@ -1,5 +1,5 @@
 -- The answers that the program writes to the lines of its input.
-use Rattle.std.specs.Prelude.{◌≡◌, ℕ, ◌⊎◌, List, [], ◌∷◌, ◌++◌, codes, None, Some}
+use Rattle.std.specs.Prelude.{◌≡◌, ℕ, ◌⊎◌, Bool, true, false, List, [], ◌∷◌, ◌++◌, codes, Option, None, Some}
 use Rattle.std.specs.Str.{IsUtf8}
 use Rattle.cvss_any.specs.declared.vector.Cvss.{Cvss}
 use Rattle.cvss_any.specs.Answers.{IsScoreOf, rating_text, score_of_tenths, vector_answer}
@@ -11,7 +11,7 @@ use Rattle.cvss_base.specs.Refusal.{Missing}
 use Rattle.cvss_any.specs.declared.metric_type.MetricType.{MetricType}
 use Rattle.cvss_any.specs.declared.published.Bounds.{Bounds}
 use Rattle.cvss_any.specs.declared.published.Published.{Published}
-use Rattle.cvss_lines.specs.Answers.{Answer, Accepted, Refused, written_text}
+use Rattle.cvss_lines.specs.Answers.{Answer, Accepted, Refused, Rule, written_text}
 
 -- the line is a text that denotes a vector of some version, and the answer is this vector's
 pub record IsAcceptance (line answer : List ℕ) : Type 0 where
@@ -47,6 +47,16 @@ unfoldable pub IsCompleteAnswer : ℕ → List ℕ → Answer → Type 0
 IsCompleteAnswer number line (Accepted (text ∷ [])) = IsCompleteAcceptance line text
 IsCompleteAnswer number line (Refused (text ∷ [])) = IsErrorAnswer line text ⊎ IsIncomplete line text
 IsCompleteAnswer number line answer = ⊥
+
+-- the first base metric that a vector lacks, unless it may lack some
+abbrev pub missing_by : Bool → Cvss → Option MetricType
+missing_by true cvss = None
+missing_by false cvss = first_missing cvss
+
+-- where vectors may lack base metrics, and where they may not
+abbrev pub score_rule : Bool → Rule
+score_rule true = IsAnswer
+score_rule false = IsCompleteAnswer
 
 -- the vector's answer and a byte 10 are written behind the earlier answers
 pub record WritesVector (vector : Cvss) (old new : List ℕ) : Type 0 where

@@ -4,11 +4,11 @@ ghost use Rattle.std.specs.Prelude.{◌≡◌, ℕ, ◌++◌, [], ◌∷◌, ◌
 ghost use Rattle.cvss_any.specs.Answers.{HasScore, text_of};
 ghost use Rattle.cvss_any.specs.Reasons.{error_message};
 ghost use Rattle.cvss_lines.specs.Answers.{WritesAnswer};
-ghost use Rattle.cvss_answer.specs.Answers.{IsAnswer, IsCompleteAnswer, WritesVector, score_line};
+ghost use Rattle.cvss_answer.specs.Answers.{IsAnswer, WritesVector, score_line};
 
 use crate::score_line::score_line;
 use crate::segments::push_segments;
-use cvss_any::{Cvss, Message, Published, ReadError, Refusal};
+use cvss_any::{Cvss, Message, Published, ReadError};
 use cvss_lines::{Answering, Gathered};
 use std::alloc::{AllocError, Global};
 use std::fmt::{self, Write};
@@ -32,53 +32,6 @@ impl Answering for Vectors {
         match answer_other_line(line, answers) {
             Ok(accepted) => Ok(accepted),
             Err(_) => Err(AllocError),
-        }
-    }
-}
-
-/// Lines that are texts of vectors, each answered as by [`Vectors`], but a vector of CVSS v3 that lacks
-/// base metrics by the first of them.
-pub struct CompleteVectors {}
-
-impl Answering for CompleteVectors {
-    ghost rule = { IsCompleteAnswer };
-
-    fn answer_line(
-        _alloc: Global,
-        _number: u64,
-        line: &[u8],
-        answers: &mut Gathered,
-    ) -> Result<bool, AllocError> {
-        if let Some(published) = Cvss::complete_at_sight(line) {
-            write_canonical(line, published, answers)?;
-            return Ok(true);
-        }
-        match answer_if_complete(line, answers) {
-            Ok(accepted) => Ok(accepted),
-            Err(_) => Err(AllocError),
-        }
-    }
-}
-
-/// The answer to a line that is not seen at once to be canonical and complete.
-fn answer_if_complete(line: &[u8], answers: &mut Gathered) -> Result<bool, fmt::Error>
-    ensures { (number : ℕ) → IfOk result (WritesAnswer IsCompleteAnswer number line.now
-        answers.old.bytes.items answers.new.bytes.items) }
-{
-    match Cvss::read(line) {
-        Ok(cvss) => match cvss.first_missing() {
-            None => {
-                write_vector(&cvss, answers)?;
-                Ok(true)
-            }
-            Some(metric) => {
-                write_error(ReadError::Invalid(Refusal::Missing(metric)), answers)?;
-                Ok(false)
-            }
-        },
-        Err(error) => {
-            write_error(error, answers)?;
-            Ok(false)
         }
     }
 }

@@ -1,15 +1,10 @@
 -- The answers of a command to the lines of one source.
-use Rattle.std.specs.Prelude.{◌≡◌, ℕ, Bool, true, false, List, [], ◌∷◌, ◌++◌, codes, map, if◌then◌else◌}
-use Rattle.cvss_answer.specs.Answers.{IsAnswer, IsCompleteAnswer}
+use Rattle.std.specs.Prelude.{◌≡◌, ℕ, Bool, List, [], ◌∷◌, ◌++◌, codes, map, if◌then◌else◌}
+use Rattle.cvss_answer.specs.Answers.{score_rule}
 use Rattle.cvss_answer.specs.Setting.{IsSetAnswer}
 use Rattle.cvss_lines.specs.Answers.{Answer, Accepted, Refused, Rule}
 use Rattle.cvss_command.specs.declared.service.Task.{Task}
 use Rattle.cvss_command.specs.declared.service.Task.TheVariants.{Score, Set}
-
--- where vectors may lack base metrics, each line is answered as by `cvss_tool`; else a vector that lacks one is rejected
-abbrev pub score_rule : Bool → Rule
-score_rule true = IsAnswer
-score_rule false = IsCompleteAnswer
 
 -- which answers a line has
 abbrev pub rule_of : Task → Rule

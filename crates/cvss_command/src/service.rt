@@ -1,17 +1,17 @@
 //! What answers the lines of one source.
 
-ghost use Rattle.std.specs.Prelude.{◌≡◌, ◌++◌, IfOk, OnOk};
+ghost use Rattle.std.specs.Prelude.{◌≡◌, ◌++◌, ℕ, IfOk, OnOk};
 ghost use Rattle.cvss_command.specs.Answers.{IsPrefixed, prefix_of, rule_of};
 ghost use Rattle.cvss_lines.specs.Answers.{WritesAnswer};
 
-use cvss_answer::{CompleteVectors, Vectors, answer_with_metrics};
-use cvss_lines::{Answering, Gathered, RunFault, Service};
+use cvss_answer::{answer_score, answer_with_metrics};
+use cvss_lines::{Gathered, RunFault, Service};
 use std::alloc::{AllocError, Global};
 use std::io::Write;
 
 /// What a command does with each line.
 #[derive(Clone, Copy)]
-pub enum Task<'a> {
+pub(crate) enum Task<'a> {
     /// Scores the vector. `allow_incomplete`: a vector of CVSS v3 may lack base metrics.
     Score { allow_incomplete: bool },
     /// Sets metrics in the vector, joined by slashes, and scores it.
@@ -28,23 +28,19 @@ pub(crate) struct Serving<'a> {
 }
 
 impl Serving<'_> {
-    fn answer_line(
-        &self,
-        alloc: Global,
-        number: u64,
-        line: &[u8],
-        answers: &mut Gathered,
-    ) -> Result<bool, AllocError>
+    #[inline(always)]
+    fn answer_line(&self, _number: u64, line: &[u8], answers: &mut Gathered) -> Result<bool, AllocError>
         ensures { IfOk result (WritesAnswer (IsPrefixed (prefix_of self.now.named self.now.name.now)
-            (rule_of self.now.task)) number line.now
+            (rule_of self.now.task)) _number line.now
             answers.old.bytes.items answers.new.bytes.items) }
     {
         write_prefix(self.named, self.name, answers)?;
-        answer_by_task(self.task, alloc, number, line, answers)
+        answer_by_task(self.task, line, answers)
     }
 }
 
 /// Writes the name of a source and a colon, where sources are named.
+#[inline(always)]
 fn write_prefix(named: bool, name: &[u8], answers: &mut Gathered) -> Result<(), AllocError>
     ensures { OnOk result (answers.new.bytes.items
         ≡ answers.old.bytes.items ++ prefix_of named name.now) }
@@ -56,23 +52,17 @@ fn write_prefix(named: bool, name: &[u8], answers: &mut Gathered) -> Result<(), 
     Ok(())
 }
 
+#[inline(always)]
 fn answer_by_task(
     task: Task<'_>,
-    alloc: Global,
-    number: u64,
     line: &[u8],
     answers: &mut Gathered,
 ) -> Result<bool, AllocError>
-    ensures { IfOk result (WritesAnswer (rule_of task.entry) number line.now
+    ensures { (number : ℕ) → IfOk result (WritesAnswer (rule_of task.entry) number line.now
         answers.old.bytes.items answers.new.bytes.items) }
 {
     match task {
-        Task::Score {
-            allow_incomplete: false,
-        } => CompleteVectors::answer_line(alloc, number, line, answers),
-        Task::Score {
-            allow_incomplete: true,
-        } => Vectors::answer_line(alloc, number, line, answers),
+        Task::Score { allow_incomplete } => answer_score(line, allow_incomplete, answers),
         Task::Set { metrics } => answer_with_metrics(line, metrics, answers),
     }
 }
@@ -83,14 +73,15 @@ impl Service for Serving<'_> {
 
     ghost beginning = { λ _ _ _ _. ⊥ };
 
+    #[inline(always)]
     fn serve_line<W: Write>(
         &self,
-        alloc: Global,
+        _alloc: Global,
         number: u64,
         line: &[u8],
         answers: &mut Gathered,
         _writer: &mut W,
     ) -> Result<bool, RunFault> {
-        Ok(self.answer_line(alloc, number, line, answers)?)
+        Ok(self.answer_line(number, line, answers)?)
     }
 }
