@@ -58,8 +58,8 @@ Serves task contents many (operand ∷ operands) unread unread' written written'
     (unread'' : Option (List ℕ)) × (written'' : Option (List ℕ)) × (outcome : Result Summary RunFault)
     × IsStep task contents many operand.items unread unread'' written written'' outcome
     × OnStop (after served outcome).stopped
-        (Serves task contents many operands unread'' unread' written'' written' (after served outcome) served')
-        (Rests unread'' unread' written'' written' (after served outcome) served')
+    (Serves task contents many operands unread'' unread' written'' written' (after served outcome) served')
+    (Rests unread'' unread' written'' written' (after served outcome) served')
 
 -- the operands are answered in turn, or standard input where there is none
 abbrev pub ServesAll : Task → (List ℕ → Option (List ℕ)) → List (Vec ℕ) → Option (List ℕ) → Option (List ℕ) → Option (List ℕ) → Option (List ℕ) → Served → Type 0

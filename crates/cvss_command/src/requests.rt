@@ -29,7 +29,10 @@ pub enum Request {
     },
     /// Vectors with metrics set: so many arguments follow the subcommand, and the last are the
     /// operands.
-    Set { metrics: usize, operands: usize },
+    Set {
+        metrics: usize,
+        operands: usize,
+    },
 }
 
 /// What arguments ask for.

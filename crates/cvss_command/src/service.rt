@@ -29,7 +29,12 @@ pub(crate) struct Serving<'a> {
 
 impl Serving<'_> {
     #[inline(always)]
-    fn answer_line(&self, _number: u64, line: &[u8], answers: &mut Gathered) -> Result<bool, AllocError>
+    fn answer_line(
+        &self,
+        _number: u64,
+        line: &[u8],
+        answers: &mut Gathered,
+    ) -> Result<bool, AllocError>
         ensures { IfOk result (WritesAnswer (IsPrefixed (prefix_of self.now.named self.now.name.now)
             (rule_of self.now.task)) _number line.now
             answers.old.bytes.items answers.new.bytes.items) }
@@ -53,11 +58,7 @@ fn write_prefix(named: bool, name: &[u8], answers: &mut Gathered) -> Result<(), 
 }
 
 #[inline(always)]
-fn answer_by_task(
-    task: Task<'_>,
-    line: &[u8],
-    answers: &mut Gathered,
-) -> Result<bool, AllocError>
+fn answer_by_task(task: Task<'_>, line: &[u8], answers: &mut Gathered) -> Result<bool, AllocError>
     ensures { (number : ℕ) → IfOk result (WritesAnswer (rule_of task.entry) number line.now
         answers.old.bytes.items answers.new.bytes.items) }
 {
