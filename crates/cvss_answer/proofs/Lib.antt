@@ -1,1 +1,2 @@
 pub mod ScoreLemmas
+mod ScoringLemmas

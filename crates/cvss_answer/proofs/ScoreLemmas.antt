@@ -40,7 +40,7 @@ pub between_v2 : (t : ℕ) → 1 ≤ t → t < 90 → rated_line SinceV3 t ≡ r
 between_v2 t from below = ap (λ rating. codes " " ++ (rating_text t rating ++ 10 ∷ [])) (alike t from below)
 
 -- a canonical text with the line of its score is its vector's answer
-canonical_answer : (line text : List ℕ) (published : Published) → (is : IsPublishedAs line text published)
+pub canonical_answer : (line text : List ℕ) (published : Published) → (is : IsPublishedAs line text published)
     → text ++ score_line published ≡ written_text (vector_answer is.cvss published.tenths)
 canonical_answer line text published is =
     let t = published.tenths in

@@ -1,15 +1,17 @@
 //! The answer to one line.
 
 ghost use Rattle.std.specs.Prelude.{◌≡◌, ℕ, ◌++◌, [], ◌∷◌, ◌≤◌, codes, IfOk, OnOk};
+ghost use Rattle.cvss_any.specs.Answers.{HasScore, text_of};
 ghost use Rattle.cvss_any.specs.Reasons.{error_message};
 ghost use Rattle.cvss_lines.specs.Answers.{WritesAnswer};
-ghost use Rattle.cvss_answer.specs.Answers.{IsAnswer, score_line};
+ghost use Rattle.cvss_answer.specs.Answers.{IsAnswer, WritesVector, score_line};
 
 use crate::score_line::score_line;
 use crate::segments::push_segments;
 use cvss_any::{Cvss, Message, Published, ReadError, TextBuffer};
 use cvss_lines::{Answering, Gathered};
 use std::alloc::{AllocError, Global};
+use std::fmt::{self, Write};
 
 /// Lines that are texts of vectors, each answered by the vector or by why there is none.
 pub struct Vectors {}
@@ -54,7 +56,7 @@ fn answer_other_line(line: &[u8], answers: &mut Gathered) -> Result<bool, AllocE
 /// Writes why a line is no vector, and a byte 10.
 // A call of its own keeps the segments out of the frame of an accepted line.
 #[inline(never)]
-fn write_error(error: ReadError<'_>, answers: &mut Gathered) -> Result<(), AllocError>
+pub(crate) fn write_error(error: ReadError<'_>, answers: &mut Gathered) -> Result<(), AllocError>
     ensures { OnOk result (answers.new.bytes.items ≡ answers.old.bytes.items
         ++ (codes "error: " ++ (error_message error.entry ++ 10 ∷ []))) }
 {
@@ -80,4 +82,23 @@ pub fn write_canonical(
 {
     answers.push(text)?;
     answers.push(score_line(published).as_bytes())
+}
+
+/// Writes the answer of a vector, and a byte 10.
+pub(crate) fn write_vector(vector: &Cvss, answers: &mut Gathered) -> fmt::Result
+    requires { HasScore vector.now }
+    ensures { OnOk result
+        (WritesVector vector.now answers.old.bytes.items answers.new.bytes.items) }
+{
+    write_text(vector, answers)?;
+    answers.push(score_line(vector.published()).as_bytes())?;
+    Ok(())
+}
+
+/// Writes a vector's text.
+fn write_text(vector: &Cvss, answers: &mut Gathered) -> fmt::Result
+    ensures { OnOk result
+        (answers.new.bytes.items ≡ answers.old.bytes.items ++ text_of vector.now) }
+{
+    write!(answers, "{vector}")
 }

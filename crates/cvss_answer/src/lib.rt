@@ -4,6 +4,10 @@
 
 mod answer;
 mod score_line;
+mod scoring;
 mod segments;
+mod setting;
 
 pub use answer::{Vectors, write_canonical};
+pub use scoring::answer_score;
+pub use setting::answer_with_metrics;

@@ -1,5 +1,5 @@
 -- A text that is seen to be canonical is UTF-8, and what is published of it.
-use Rattle.std.proofs.Common.{◌≡◌, ℕ, List, [], codes, refl, sym, ◌∙◌, subst, All, IsUtf8}
+use Rattle.std.proofs.Common.{◌≡◌, ℕ, List, [], codes, refl, sym, ◌∙◌, subst, All, IsUtf8, None}
 use Rattle.std.proofs.lemmas.List.Elements.{All-nil, All-cons}
 use Rattle.cvss_base.specs.Version.{Version, canonical_text, version_piece}
 use Rattle.cvss_text.specs.private.Walk.{IsLawful, IsLawfulFront}
@@ -11,6 +11,7 @@ use Rattle.cvss_v2.specs.private.VectorLaws.{v2_is_lawful}
 use Rattle.cvss_v2.specs.declared.vector.Vector.{Vector}
 use Rattle.cvss_any.specs.Answers.{text_of}
 use Rattle.cvss_any.specs.Dispatch.{DenotesCvss}
+use Rattle.cvss_any.specs.Complete.{IsPublishedOfComplete, first_missing}
 use Rattle.cvss_any.specs.Published.{IsPublished, IsPublishedOf}
 use Rattle.cvss_any.specs.declared.published.Published.{Published}
 use Rattle.cvss_any.specs.declared.vector.Cvss.{Cvss}
@@ -34,3 +35,9 @@ utf8_behind version lawful fronts text v is =
 pub IsPublishedOf_from : (text : List ℕ) (cvss : Cvss) (published : Published) → text ≡ text_of cvss → DenotesCvss text cvss → IsUtf8 text → IsPublished cvss published → IsPublishedOf text published
 IsPublishedOf_from text cvss published canonical denoted utf8 is =
     record { cvss = cvss; canonical_is = canonical; denoted = denoted; utf8 = utf8; is = is }
+
+-- the same of one that lacks no base metric
+pub IsPublishedOfComplete_from : (text : List ℕ) (cvss : Cvss) (published : Published) → text ≡ text_of cvss → DenotesCvss text cvss → IsUtf8 text → IsPublished cvss published → first_missing cvss ≡ None → IsPublishedOfComplete text published
+unfolding IsPublishedOf_from
+IsPublishedOfComplete_from text cvss published canonical denoted utf8 is complete =
+    record { of = IsPublishedOf_from text cvss published canonical denoted utf8 is; complete = complete }

@@ -1,5 +1,6 @@
 pub mod Answers
 pub mod Bytes
+pub mod Complete
 pub mod Dispatch
 pub mod MetricTypes
 pub mod MetricsLeft

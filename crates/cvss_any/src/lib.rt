@@ -2,6 +2,7 @@
 #![tactic(auto)]
 
 mod bytes_error;
+mod complete;
 mod message;
 mod metric_type;
 mod metrics;

@@ -1,9 +1,10 @@
 //! Canonical texts of any version, recognised at sight.
 
-ghost use Rattle.std.specs.Prelude.{◌≡◌, IfSome, IsSome, IsUtf8};
+ghost use Rattle.std.specs.Prelude.{◌≡◌, IfSome, IsSome, IsUtf8, None};
 ghost use Rattle.cvss_any.specs.Answers.{HasScore, text_of};
 ghost use Rattle.cvss_any.specs.Dispatch.{DenotesCvss};
-ghost use Rattle.cvss_any.specs.Published.{IsPublishedOf};
+ghost use Rattle.cvss_any.specs.Complete.{IsPublishedOfComplete, first_missing};
+ghost use Rattle.cvss_any.specs.Published.{IsPublished, IsPublishedOf};
 
 use crate::published::Published;
 use crate::vector::Cvss;
@@ -39,6 +40,17 @@ impl Cvss {
             _ => v4_published(text),
         }
     }
+
+    /// What `published_at_sight` gives, where the vector lacks no base metric.
+    pub fn complete_at_sight(text: &[u8]) -> Option<Published>
+        ensures { IfSome result (IsPublishedOfComplete text.now) }
+    {
+        match text {
+            [b'A', ..] => v2_complete(text),
+            [_, _, _, _, _, b'3', ..] => v3_complete(text),
+            _ => v4_complete(text),
+        }
+    }
 }
 
 // A call of its own for each version keeps the vectors apart: joined in one place, each would be
@@ -68,6 +80,45 @@ fn v4_published(text: &[u8]) -> Option<Published>
 {
     let cvss = v4_at_sight(text)?;
     Some(cvss.published())
+}
+
+#[inline(never)]
+#[tactic(auto, using(crate::proofs::SightLemmas::IsPublishedOfComplete_from))]
+fn v2_complete(text: &[u8]) -> Option<Published>
+    ensures { IfSome result (IsPublishedOfComplete text.now) }
+{
+    let cvss = v2_at_sight(text)?;
+    published_if_complete(&cvss)
+}
+
+#[inline(never)]
+#[tactic(auto, using(crate::proofs::SightLemmas::IsPublishedOfComplete_from))]
+fn v3_complete(text: &[u8]) -> Option<Published>
+    ensures { IfSome result (IsPublishedOfComplete text.now) }
+{
+    let cvss = v3_at_sight(text)?;
+    published_if_complete(&cvss)
+}
+
+#[inline(never)]
+#[tactic(auto, using(crate::proofs::SightLemmas::IsPublishedOfComplete_from))]
+fn v4_complete(text: &[u8]) -> Option<Published>
+    ensures { IfSome result (IsPublishedOfComplete text.now) }
+{
+    let cvss = v4_at_sight(text)?;
+    published_if_complete(&cvss)
+}
+
+#[inline(always)]
+fn published_if_complete(cvss: &Cvss) -> Option<Published>
+    requires { HasScore cvss.now }
+    ensures complete { IsSome result → first_missing cvss.now ≡ None }
+    ensures published { IfSome result (IsPublished cvss.now) }
+{
+    match cvss.first_missing() {
+        None => Some(cvss.published()),
+        Some(_) => None,
+    }
 }
 
 #[inline(always)]

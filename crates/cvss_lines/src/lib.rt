@@ -13,6 +13,7 @@ mod progress;
 mod reading;
 mod running;
 mod search;
+mod service;
 mod streaming;
 mod summary;
 
@@ -21,6 +22,7 @@ pub use fault::RunFault;
 pub use gathered::{Gathered, write_whole};
 pub use lines::{cut_at_line_end, first_line, line_text};
 pub use reading::read_whole;
-pub use running::{run, run_streaming};
+pub use running::{run, run_streaming, serve};
+pub use service::{Fixed, Service};
 pub use streaming::{Streaming, Whole};
 pub use summary::{Summary, exit_status};

@@ -5,7 +5,7 @@ ghost use Rattle.cvss_lines.specs.private.Steps.{Answers, EndsInput, Reads, Stop
 
 use crate::lines::{cut_at_line_end, line_text};
 use crate::progress::Progress;
-use crate::{RunFault, Streaming};
+use crate::{RunFault, Service};
 use std::alloc::Global;
 use std::io::Write;
 
@@ -31,20 +31,21 @@ impl Pending {
     }
 
     /// Answers the lines that end in a chunk of the input, and keeps what stands behind them.
-    pub(crate) fn answer_chunk<A: Streaming, W: Write>(
+    pub(crate) fn answer_chunk<S: Service, W: Write>(
         &mut self,
+        service: &S,
         alloc: Global,
         chunk: &[u8],
         writer: &mut W,
     ) -> Result<(), RunFault>
-        ensures answered { OnOk result (Reads A.rule A.beginning chunk.now
+        ensures answered { OnOk result (Reads (S.rule service.now) (S.beginning service.now) chunk.now
             (W.contents writer.old) (W.contents writer.new) self.old self.new) }
-        ensures stopped { IfErr result (StopsReading A.rule A.beginning chunk.now
+        ensures stopped { IfErr result (StopsReading (S.rule service.now) (S.beginning service.now) chunk.now
             (W.contents writer.old) (W.contents writer.new) self.old) }
     {
         let mut rest = chunk;
         while let Some((piece, behind)) = cut_at_line_end(rest) {
-            self.end_line::<A, W>(alloc, piece, writer)?;
+            self.end_line(service, alloc, piece, writer)?;
             rest = behind;
         }
         self.cut.extend_from_slice(rest)?;
@@ -52,45 +53,47 @@ impl Pending {
     }
 
     /// Answers the last line of an input that has ended, where no byte 10 ends it.
-    pub(crate) fn answer_end<A: Streaming, W: Write>(
+    pub(crate) fn answer_end<S: Service, W: Write>(
         &mut self,
+        service: &S,
         alloc: Global,
         writer: &mut W,
     ) -> Result<(), RunFault>
-        ensures answered { OnOk result (EndsInput A.rule A.beginning
+        ensures answered { OnOk result (EndsInput (S.rule service.now) (S.beginning service.now)
             (W.contents writer.old) (W.contents writer.new) self.old self.new) }
-        ensures stopped { IfErr result (StopsEnding A.rule A.beginning
+        ensures stopped { IfErr result (StopsEnding (S.rule service.now) (S.beginning service.now)
             (W.contents writer.old) (W.contents writer.new) self.old) }
     {
         if self.cut.is_empty() {
             return Ok(());
         }
-        self.end_line::<A, W>(alloc, &[], writer)
+        self.end_line(service, alloc, &[], writer)
     }
 
     /// Answers the line that the kept beginning and a piece make.
-    fn end_line<A: Streaming, W: Write>(
+    fn end_line<S: Service, W: Write>(
         &mut self,
+        service: &S,
         alloc: Global,
         piece: &[u8],
         writer: &mut W,
     ) -> Result<(), RunFault>
-        ensures answered { OnOk result (Answers A.rule A.beginning
+        ensures answered { OnOk result (Answers (S.rule service.now) (S.beginning service.now)
             (line_text (self.old.cut.items ++ piece.now) ∷ [])
             (W.contents writer.old) (W.contents writer.new) self.old.progress self.new.progress) }
         ensures cut { OnOk result (self.new.cut.items ≡ []) }
-        ensures stopped { IfErr result (StopsAnswering A.rule A.beginning
+        ensures stopped { IfErr result (StopsAnswering (S.rule service.now) (S.beginning service.now)
             (line_text (self.old.cut.items ++ piece.now) ∷ [])
             (W.contents writer.old) (W.contents writer.new) self.old.progress) }
     {
         if self.cut.is_empty() {
             return self
                 .progress
-                .answer_line::<A, W>(alloc, line_text(piece), writer);
+                .answer_line(service, alloc, line_text(piece), writer);
         }
         self.cut.extend_from_slice(piece)?;
         self.progress
-            .answer_line::<A, W>(alloc, line_text(&self.cut), writer)?;
+            .answer_line(service, alloc, line_text(&self.cut), writer)?;
         self.cut.clear();
         Ok(())
     }

@@ -4,7 +4,7 @@ ghost use Rattle.std.specs.Prelude.{◌≡◌, ◌∷◌, [], IfErr, OnOk};
 ghost use Rattle.cvss_lines.specs.Runs.{summary_of};
 ghost use Rattle.cvss_lines.specs.private.Steps.{Answers, StopsAnswering};
 
-use crate::{Gathered, RunFault, Streaming, Summary};
+use crate::{Gathered, RunFault, Service, Summary};
 use std::alloc::Global;
 use std::io::Write;
 
@@ -33,18 +33,19 @@ impl Progress {
 
     /// Answers the next line.
     #[tactic(auto, using(crate::proofs::StepsLemmas::Stands_line))]
-    pub(crate) fn answer_line<A: Streaming, W: Write>(
+    pub(crate) fn answer_line<S: Service, W: Write>(
         &mut self,
+        service: &S,
         alloc: Global,
         line: &[u8],
         writer: &mut W,
     ) -> Result<(), RunFault>
-        ensures answered { OnOk result (Answers A.rule A.beginning (line.now ∷ [])
+        ensures answered { OnOk result (Answers (S.rule service.now) (S.beginning service.now) (line.now ∷ [])
             (W.contents writer.old) (W.contents writer.new) self.old self.new) }
-        ensures stopped { IfErr result (StopsAnswering A.rule A.beginning (line.now ∷ [])
+        ensures stopped { IfErr result (StopsAnswering (S.rule service.now) (S.beginning service.now) (line.now ∷ [])
             (W.contents writer.old) (W.contents writer.new) self.old) }
     {
-        let accepted = A::stream_line::<W>(alloc, self.number, line, &mut self.answers, writer)?;
+        let accepted = service.serve_line(alloc, self.number, line, &mut self.answers, writer)?;
         self.summary = self.summary.with(accepted);
         self.number = self.number.saturating_add(1);
         Ok(())

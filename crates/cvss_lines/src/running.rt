@@ -3,7 +3,7 @@ ghost use Rattle.cvss_lines.specs.Streaming.{StreamEnds};
 
 use crate::pending::Pending;
 use crate::reading::read_buffer;
-use crate::{Answering, RunFault, Streaming, Summary, Whole};
+use crate::{Answering, Fixed, RunFault, Service, Streaming, Summary, Whole};
 use std::alloc::Global;
 use std::io::{Read, Write};
 
@@ -33,6 +33,20 @@ pub fn run_streaming<A: Streaming, R: Read, W: Write>(
     ensures { StreamEnds A.rule A.beginning (R.remaining reader.old) (R.remaining reader.new)
         (W.contents writer.old) (W.contents writer.new) result }
 {
+    serve(&Fixed::<A>::new(), alloc, reader, writer)
+}
+
+/// Answers lines as [`run_streaming`] does, by a rule that is known when the program runs.
+pub fn serve<S: Service, R: Read, W: Write>(
+    service: &S,
+    alloc: Global,
+    reader: &mut R,
+    writer: &mut W,
+) -> Result<Summary, RunFault>
+    ensures { StreamEnds (S.rule service.now) (S.beginning service.now)
+        (R.remaining reader.old) (R.remaining reader.new)
+        (W.contents writer.old) (W.contents writer.new) result }
+{
     let mut pending = Pending::new(alloc);
     let mut chunk = read_buffer(alloc)?;
     for _ in 0..u64::MAX {
@@ -40,11 +54,11 @@ pub fn run_streaming<A: Streaming, R: Read, W: Write>(
             return Err(RunFault::Read);
         };
         if count == 0 {
-            pending.answer_end::<A, W>(alloc, writer)?;
+            pending.answer_end(service, alloc, writer)?;
             pending.progress.answers.write_out(writer)?;
             return Ok(pending.progress.summary);
         }
-        pending.answer_chunk::<A, W>(alloc, &chunk[..count], writer)?;
+        pending.answer_chunk(service, alloc, &chunk[..count], writer)?;
         pending.progress.answers.write_out(writer)?;
     }
     Err(RunFault::Read)

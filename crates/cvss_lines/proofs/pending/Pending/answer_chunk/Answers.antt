@@ -7,27 +7,27 @@ use Rattle.cvss_lines.proofs.pending.Pending.answer_chunk.Goals as goal
 
 pub loop-piece-preserved : goal.loop-piece-preserved
 loop-piece-preserved g c =
-    HasRead_line g.A.Streaming.rule g.A.Streaming.beginning c.args.chunk.now c.loop-piece.rest.now _ _ c.args.self.now c.loop-piece.self c.loop-piece.invariant
+    HasRead_line (g.S.Service.rule c.args.service.now) (g.S.Service.beginning c.args.service.now) c.args.chunk.now c.loop-piece.rest.now _ _ c.args.self.now c.loop-piece.self c.loop-piece.invariant
     c.in-Some.piece.now c.in-Some.behind.now _ _ c.in-Some.ensures.0 c.in-Some.ensures.1 c.in_ok-end_line.ensures.answered c.in_ok-end_line.ensures.cut
 
 pub returns-in_err-end_line-clause-stopped : goal.returns-in_err-end_line-clause-stopped
 returns-in_err-end_line-clause-stopped g c =
     told_fault c.from_residual.result c.in_err-end_line.field-0.0 _ c.from_residual.ensures.1
-    (HasRead_stopped g.A.Streaming.rule g.A.Streaming.beginning c.args.chunk.now c.loop-piece.rest.now _ _ c.args.self.now c.loop-piece.self c.loop-piece.invariant
+    (HasRead_stopped (g.S.Service.rule c.args.service.now) (g.S.Service.beginning c.args.service.now) c.args.chunk.now c.loop-piece.rest.now _ _ c.args.self.now c.loop-piece.self c.loop-piece.invariant
     c.in-Some.piece.now c.in-Some.behind.now _ _ c.in-Some.ensures.0 c.in-Some.ensures.1 c.in_err-end_line.ensures.stopped)
 
 pub returns-in_err-extend_from_slice-clause-stopped : goal.returns-in_err-extend_from_slice-clause-stopped
 returns-in_err-extend_from_slice-clause-stopped g c =
     told_fault c.from_residual-in_err-extend_from_slice.result Memory _ c.from_residual-in_err-extend_from_slice.ensures.1
-    (HasRead_memory g.A.Streaming.rule g.A.Streaming.beginning c.args.chunk.now c.loop-piece.rest.now _ _ c.args.self.now c.loop-piece.self c.loop-piece.invariant c.in_default.ensures)
+    (HasRead_memory (g.S.Service.rule c.args.service.now) (g.S.Service.beginning c.args.service.now) c.args.chunk.now c.loop-piece.rest.now _ _ c.args.self.now c.loop-piece.self c.loop-piece.invariant c.in_default.ensures)
 
 pub returns-clause-answered : goal.returns-clause-answered
 returns-clause-answered g c =
-    HasRead_all g.A.Streaming.rule g.A.Streaming.beginning c.args.chunk.now c.loop-piece.rest.now _ _ c.args.self.now c.loop-piece.self c.loop-piece.invariant
+    HasRead_all (g.S.Service.rule c.args.service.now) (g.S.Service.beginning c.args.service.now) c.args.chunk.now c.loop-piece.rest.now _ _ c.args.self.now c.loop-piece.self c.loop-piece.invariant
     _ c.in_default.ensures c.in_ok-extend_from_slice.ensures.items
 
 pub loop-piece-init : goal.loop-piece-init
-loop-piece-init g c = record { done = []; whole = refl; reads = λ start read a. subst (λ r. Awaits g.A.Streaming.rule g.A.Streaming.beginning start (g.W.Write.contents c.args.writer.now) r c.args.self.now) (sym (append-nil read)) a }
+loop-piece-init g c = record { done = []; whole = refl; reads = λ start read a. subst (λ r. Awaits (g.S.Service.rule c.args.service.now) (g.S.Service.beginning c.args.service.now) start (g.W.Write.contents c.args.writer.now) r c.args.self.now) (sym (append-nil read)) a }
 
 pub loop-piece-smaller : goal.loop-piece-smaller
 loop-piece-smaller g c = omega (arith, ap length c.in-Some.ensures.1, length-append c.in-Some.piece.now (10 ∷ c.in-Some.behind.now))

@@ -11,20 +11,20 @@ pub returns-then-is_empty-clause-answered : goal.returns-then-is_empty-clause-an
 returns-then-is_empty-clause-answered g c =
     let none : c.args.self.now.cut.items ≡ [] = nil_from_length _ (grind (arith, nat_tests)) in
     subst
-    (λ line. OnOk c.answer_line.result (Answers g.A.Streaming.rule g.A.Streaming.beginning (line ∷ [])
+    (λ line. OnOk c.answer_line.result (Answers (g.S.Service.rule c.args.service.now) (g.S.Service.beginning c.args.service.now) (line ∷ [])
     (g.W.Write.contents c.args.writer.now) (g.W.Write.contents c.answer_line.new.writer) c.args.self.now.progress c.answer_line.new.self))
     (c.line_text.ensures ∙ ap (λ cut. line_text (cut ++ c.args.piece.now)) (sym none)) c.answer_line.ensures.answered
 
 pub returns-in_err-extend_from_slice-clause-stopped : goal.returns-in_err-extend_from_slice-clause-stopped
 returns-in_err-extend_from_slice-clause-stopped g c =
     told_fault c.from_residual.result Memory _ c.from_residual.ensures.1
-    (StopsAnswering-memory g.A.Streaming.rule g.A.Streaming.beginning _ _ c.args.self.now.progress)
+    (StopsAnswering-memory (g.S.Service.rule c.args.service.now) (g.S.Service.beginning c.args.service.now) _ _ c.args.self.now.progress)
 
 pub returns-then-is_empty-clause-stopped : goal.returns-then-is_empty-clause-stopped
 returns-then-is_empty-clause-stopped g c =
     let none : c.args.self.now.cut.items ≡ [] = nil_from_length _ (grind (arith, nat_tests)) in
     subst
-    (λ line. IfErr c.answer_line.result (StopsAnswering g.A.Streaming.rule g.A.Streaming.beginning (line ∷ [])
+    (λ line. IfErr c.answer_line.result (StopsAnswering (g.S.Service.rule c.args.service.now) (g.S.Service.beginning c.args.service.now) (line ∷ [])
     (g.W.Write.contents c.args.writer.now) (g.W.Write.contents c.answer_line.new.writer) c.args.self.now.progress))
     (c.line_text.ensures ∙ ap (λ cut. line_text (cut ++ c.args.piece.now)) (sym none)) c.answer_line.ensures.stopped
 

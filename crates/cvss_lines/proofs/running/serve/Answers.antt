@@ -2,7 +2,7 @@ use Rattle.std.proofs.Common.{take, drop, length, arith, ◌∙◌, take_at}
 use Rattle.std.proofs.KnownBytes.{Keeps-refl}
 use Rattle.cvss_lines.proofs.RunLemmas.{Between-chunk, Between-start, StreamEnds-cut, StreamEnds-stopped, StreamEnds-told, StreamEnds-unread, StreamEnds-well, at_end, behind_chunk, ended_in}
 use Rattle.cvss_lines.proofs.StepsLemmas.{Stops-memory}
-use Rattle.cvss_lines.proofs.running.run_streaming.Goals as goal
+use Rattle.cvss_lines.proofs.running.serve.Goals as goal
 
 pub returns-in_err-chunk : goal.returns-in_err-chunk
 returns-in_err-chunk g c =

@@ -1,0 +1,144 @@
+#!/usr/bin/env python3
+"""Tries the built command `cvss` from outside: its arguments, files that there are and are not, names of any bytes,
+streams that are closed or full, statuses, and drawn lines beside reference/complete.py.
+
+usage: bench/checks/command.py [COUNT [SEED]]
+"""
+import os
+import random
+import subprocess
+import sys
+import tempfile
+from pathlib import Path
+
+ROOT = Path(__file__).resolve().parents[2]
+sys.path[:0] = [str(ROOT / "reference"), str(ROOT / "bench/inputs")]
+
+import complete
+import lines
+
+PROGRAM = ROOT / "crates/cvss_command/out/cvss_command"
+V2 = b"AV:N/AC:L/Au:N/C:N/I:N/A:C"
+V2_ANSWER = V2 + b" 7.8 high\n"
+CUT = b"CVSS:3.1/AV:N/AC:L/PR:N/UI:N/S:U/C:H"
+CUT_ANSWER = b"error: missing mandatory CVSSv3 I (Integrity Impact) metric\n"
+NO_FILE = b": No such file or directory (os error 2)\n"
+tried = 0
+
+
+def expect(status, out, error, *arguments, given=b"", **streams):
+    """Runs the command, and compares its status, its standard output and its standard error."""
+    global tried
+    if "stdin" not in streams:
+        streams["input"] = given
+    streams.setdefault("stdout", subprocess.PIPE)
+    done = subprocess.run([PROGRAM, *arguments], stderr=subprocess.PIPE, check=False, **streams)
+    told = (done.returncode, done.stdout or b"", done.stderr)
+    if told != (status, out, error):
+        sys.exit(f"cvss {arguments}: {told}, and not {(status, out, error)}")
+    tried += 1
+
+
+def try_arguments():
+    usage = subprocess.run([PROGRAM, "--help"], stdout=subprocess.PIPE, check=True).stdout
+    for topic in ("score", "set"):
+        text = subprocess.run([PROGRAM, "help", topic], stdout=subprocess.PIPE, check=True).stdout
+        assert len(text.splitlines()) <= 24 and f"cvss {topic} ".encode() in text
+        expect(0, text, b"", topic, "--help")
+    expect(0, usage, b"", "help")
+    expect(0, usage, b"", "help", "help")
+    expect(0, f"cvss {(ROOT / 'VERSION').read_text().strip()}\n".encode(), b"", "--version")
+    expect(2, b"", usage)
+    expect(2, b"", usage, "set")
+    for arguments, wrong in ((["scores"], b"scores"), (["--helper"], b"--helper"), (["--version", "x"], b"x"),
+                             (["score", "--jsn", "x"], b"--jsn"), (["set", "E:A", "-x", "--"], b"-x"),
+                             (["set", "--", "x"], b"--"), (["help", "x"], b"x"), (["help", "set", "y", "z"], b"y"),
+                             ([b"\xff\n"], b"\xff\n"), (["set", b"E:\xff"], b"set")):
+        expect(2, b"", b"cvss: not understood: " + wrong + b"\n" + usage, *arguments)
+
+
+def try_files(room):
+    """Files, their names, and those that cannot be read."""
+    names = [b"list", b"with\nline", b"\xff\xfe", b"-dash", b"with:colon", b" ", "\u00e9".encode()]
+    for name in names:
+        (room / os.fsdecode(name)).write_bytes(V2 + b"\r\n" + CUT)
+        operand = b"./" + name if name[:1] == b"-" or b":" in name else name
+        expect(1, V2_ANSWER + CUT_ANSWER, b"", "score", operand, cwd=room)
+        expect(1, V2_ANSWER + CUT_ANSWER, b"", "score", "--", operand, cwd=room)
+        both = b"".join(prefix + b":" + line for prefix in (operand, b"-") for line in (V2_ANSWER, CUT_ANSWER))
+        expect(1, both, b"", "score", operand, "-", given=V2 + b"\n" + CUT + b"\n", cwd=room)
+    expect(2, b"list:" + V2_ANSWER + b"list:" + CUT_ANSWER, b"cvss: gone" + NO_FILE, "score", "gone", "list", cwd=room)
+    expect(2, V2_ANSWER, b"cvss: gone" + NO_FILE, "score", V2, "gone", cwd=room)
+    expect(2, b"", b"cvss: ." + b": Is a directory (os error 21)\n", "score", ".", cwd=room)
+    expect(2, b"", b"cvss: " + NO_FILE, "score", "", cwd=room)
+    long = b"x" * 5000
+    expect(2, b"", b"cvss: " + long + b": File name too long (os error 36)\n", "score", long, cwd=room)
+    expect(2, b"", b"cvss: --json" + NO_FILE, "score", "--", "--json", cwd=room)
+    (room / "empty").touch()
+    expect(0, b"", b"", "score", "empty", cwd=room)
+    expect(0, V2_ANSWER, b"", "score", V2, "empty", cwd=room)
+    (room / "closed").write_bytes(V2)
+    (room / "closed").chmod(0)
+    if os.geteuid() != 0:
+        expect(2, b"", b"cvss: closed: Permission denied (os error 13)\n", "score", "closed", cwd=room)
+    many = [f"f{number}" for number in range(3000)]
+    for name in many:
+        (room / name).write_bytes(V2)
+    expect(0, b"".join(name.encode() + b":" + V2_ANSWER for name in many), b"", "score", *many, cwd=room)
+    told = subprocess.run(["bash", "-c", 'ulimit -n 20; exec "$0" score "$@"', PROGRAM, *many], stdout=subprocess.PIPE,
+                          cwd=room, check=True)
+    assert told.stdout.count(b"\n") == len(many), "a file is left open"
+
+
+def try_streams(room):
+    """Standard streams that are closed, full, or a directory."""
+    full = "cvss: standard output: No space left on device (os error 28)\n".encode()
+    with open("/dev/full", "wb") as device:
+        expect(2, b"", full, "score", V2, stdout=device)
+        expect(2, b"", full, "--help", stdout=device)
+        expect(0, b"", b"", "score", "/dev/null", stdout=device)
+    with open("/dev/null", "rb") as nothing:
+        expect(0, b"", b"", "score", stdin=nothing)
+    folder = os.open(room, os.O_RDONLY)
+    expect(2, b"", b"cvss: -: Is a directory (os error 21)\n", "score", stdin=folder)
+    expect(2, V2_ANSWER, b"cvss: -: Is a directory (os error 21)\n", "score", "-", V2, stdin=folder)
+    os.close(folder)
+    (room / "long").write_bytes((V2 + b"\n" + CUT + b"\n") * 100_000)
+    for command, status in (('"$0" score long long', 0), ('"$0" score gone long', 2), ('"$0" --help', 0)):
+        told = subprocess.run(["bash", "-c", f"{command} 2>/dev/null | true; exit ${{PIPESTATUS[0]}}", PROGRAM], cwd=room,
+                              check=False)
+        # a pipe takes the help before its reader is gone
+        assert told.returncode == status, (command, told.returncode)
+    told = subprocess.run(["bash", "-c", '"$0" score long | head -1; exit ${PIPESTATUS[0]}', PROGRAM], cwd=room,
+                          capture_output=True, check=False)
+    assert (told.returncode, told.stdout, told.stderr) == (0, V2_ANSWER, b""), told
+
+
+def try_lines(count, seed):
+    """Drawn lines beside the second implementation, by each task."""
+    draw = random.Random(seed)
+    drawn = [lines.line(draw, "all", draw.choice(("base", "full", "any", "refused", "refused"))).encode() for _ in range(count)]
+    given = b"".join(line + b"\n" for line in drawn)
+    tasks = [(["score"], {}), (["score", "--allow-incomplete"], {"allow_incomplete": True})]
+    for metrics in (["E:U"], ["E:A", "MAV:L"], ["c:h", "i:H", "A:N"], ["RL:OF"], ["MSI:S", "CR:H", "CR:L"], ["Q"], ["S:C/PR:L"]):
+        tasks.append((["set", *metrics], {"metrics": "/".join(metrics).encode()}))
+    for arguments, asked in tasks:
+        answers = [complete.answer(line, **asked) for line in drawn]
+        status = int(any(answer.startswith("error: ") for answer in answers))
+        expect(status, "".join(answer + "\n" for answer in answers).encode(), b"", *arguments, given=given)
+    return count * len(tasks)
+
+
+def main():
+    count = int(sys.argv[1]) if len(sys.argv) > 1 else 2_000
+    with tempfile.TemporaryDirectory() as folder:
+        room = Path(folder)
+        try_arguments()
+        try_files(room)
+        try_streams(room)
+    answers = try_lines(count, int(sys.argv[2]) if len(sys.argv) > 2 else 2)
+    print(f"cvss: {tried} runs end as they should; {answers} answers are those of reference/complete.py")
+
+
+if __name__ == "__main__":
+    main()

@@ -1,0 +1,67 @@
+//! Which base metrics a vector lacks. Only a vector of CVSS v3 that was read from a text may lack some.
+
+ghost use Rattle.std.specs.Prelude.{◌≡◌, option_map};
+ghost use Rattle.cvss_any.specs.Complete.{first_missing, first_missing_v3};
+ghost use Rattle.cvss_any.specs.declared.metric_type.MetricType.TheVariants.{V3};
+
+use crate::metric_type::MetricType;
+use crate::v3;
+use crate::vector::Cvss;
+use cvss_base::v3 as base_v3;
+
+impl Cvss {
+    /// The first base metric of CVSS v3 that the vector lacks, in the order of the specification (v3.1,
+    /// section 6). The specification wants all eight; without some a vector scores as if these did no
+    /// harm. A text of CVSS v2 or v4.0 that lacks a base metric is rejected, so there it is `None`.
+    #[inline(always)]
+    pub fn first_missing(&self) -> Option<MetricType>
+        ensures { result ≡ first_missing self.now }
+    {
+        match self {
+            Cvss::CvssV20(_) | Cvss::CvssV40(_) => None,
+            Cvss::CvssV30(vector) | Cvss::CvssV31(vector) => missing_of_v3(vector),
+        }
+    }
+}
+
+/// The first base metric that a vector of CVSS v3 lacks, as one of any version.
+#[inline(always)]
+fn missing_of_v3(vector: &v3::Vector) -> Option<MetricType>
+    ensures { result ≡ option_map V3 (first_missing_v3 vector.now) }
+{
+    match first_missing_v3(vector) {
+        Some(kind) => Some(MetricType::V3(kind)),
+        None => None,
+    }
+}
+
+#[inline(always)]
+fn first_missing_v3(vector: &v3::Vector) -> Option<base_v3::MetricType>
+    ensures { result ≡ first_missing_v3 vector.now }
+{
+    if vector.av.is_none() {
+        return Some(base_v3::MetricType::AV);
+    }
+    if vector.ac.is_none() {
+        return Some(base_v3::MetricType::AC);
+    }
+    if vector.pr.is_none() {
+        return Some(base_v3::MetricType::PR);
+    }
+    if vector.ui.is_none() {
+        return Some(base_v3::MetricType::UI);
+    }
+    if vector.s.is_none() {
+        return Some(base_v3::MetricType::S);
+    }
+    if vector.c.is_none() {
+        return Some(base_v3::MetricType::C);
+    }
+    if vector.i.is_none() {
+        return Some(base_v3::MetricType::I);
+    }
+    if vector.a.is_none() {
+        return Some(base_v3::MetricType::A);
+    }
+    None
+}

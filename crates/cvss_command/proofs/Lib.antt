@@ -1,0 +1,2 @@
+mod AnswersLemmas
+mod UnreadLemmas

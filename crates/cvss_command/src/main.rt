@@ -1,0 +1,78 @@
+//! `cvss`: one command over CVSS vectors, given as words, in files or on standard input, with a
+//! subcommand for each thing that it does.
+#![tactic(auto)]
+
+mod command;
+mod files;
+mod help;
+mod requests;
+mod run;
+mod served;
+mod service;
+mod sources;
+mod watching;
+
+pub use command::run_command;
+use cvss_lines::{RunFault, write_whole};
+use cvss_program::arguments;
+pub use files::{Files, SystemFile, SystemFiles};
+use help::USAGE;
+pub use help::help_of;
+pub use requests::{Request, Topic, request_of};
+pub use served::{Served, exit_status};
+use std::io::{self, ErrorKind, Write};
+use std::process::ExitCode;
+pub use watching::{WatchedReader, WatchedWriter};
+
+fn main(rt: HostRuntime) -> ExitCode {
+    let Ok(arguments) = arguments(rt.alloc(), &rt) else {
+        let _ = eprintln!(rt; "cvss: out of memory");
+        return ExitCode::from(2);
+    };
+    let mut writer = WatchedWriter {
+        writer: rt.stdout(),
+        error: None,
+    };
+    let result = run_command(
+        rt.alloc(),
+        &arguments,
+        &SystemFiles {},
+        &mut WatchedReader::new(rt.stdin()),
+        &mut writer,
+        &mut rt.stderr(),
+    );
+    match result {
+        Ok(served) => ExitCode::from(end(served, writer.error, &mut rt.stderr())),
+        Err(left) => {
+            report_wrong(&arguments, left, &mut rt.stderr());
+            ExitCode::from(2)
+        }
+    }
+}
+
+/// The exit status, once it is reported why the command has stopped.
+fn end<E: Write>(served: Served, error: Option<io::Error>, report: &mut E) -> u8 {
+    match (served.stopped, error) {
+        (Some(RunFault::Write), Some(error)) if error.kind() == ErrorKind::BrokenPipe => {
+            return exit_status(served, true);
+        }
+        (Some(RunFault::Write), Some(error)) => {
+            let _ = writeln!(report, "cvss: standard output: {error}");
+        }
+        (Some(fault), _) => {
+            let _ = writeln!(report, "cvss: {fault}");
+        }
+        (None, _) => {}
+    }
+    exit_status(served, false)
+}
+
+/// Reports the first of the last so many arguments as not understood, and the usage.
+fn report_wrong<E: Write>(arguments: &[Vec<u8>], left: usize, report: &mut E) {
+    if let Some(word) = arguments.iter().rev().take(left).last() {
+        let _ = write_whole(report, b"cvss: not understood: ");
+        let _ = write_whole(report, word);
+        let _ = write_whole(report, b"\n");
+    }
+    let _ = write_whole(report, USAGE.as_bytes());
+}
