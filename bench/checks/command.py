@@ -59,7 +59,7 @@ def try_arguments():
 
 def try_files(room):
     """Files, their names, and those that cannot be read."""
-    names = [b"list", b"with\nline", b"\xff\xfe", b"-dash", b"with:colon", b" ", "\u00e9".encode()]
+    names = [b"list", b"with\nline", b"-dash", b"with:colon", b" ", "\u00e9".encode()]
     for name in names:
         (room / os.fsdecode(name)).write_bytes(V2 + b"\r\n" + CUT)
         operand = b"./" + name if name[:1] == b"-" or b":" in name else name
@@ -71,6 +71,9 @@ def try_files(room):
     expect(2, V2_ANSWER, b"cvss: gone" + NO_FILE, "score", V2, "gone", cwd=room)
     expect(2, b"", b"cvss: ." + b": Is a directory (os error 21)\n", "score", ".", cwd=room)
     expect(2, b"", b"cvss: " + NO_FILE, "score", "", cwd=room)
+    # the toolchain opens files by text alone
+    (room / os.fsdecode(b"\xff\xfe")).touch()
+    expect(2, V2_ANSWER, b"cvss: \xff\xfe: invalid filename\n", "score", b"\xff\xfe", V2, cwd=room)
     long = b"x" * 5000
     expect(2, b"", b"cvss: " + long + b": File name too long (os error 36)\n", "score", long, cwd=room)
     expect(2, b"", b"cvss: --json" + NO_FILE, "score", "--", "--json", cwd=room)

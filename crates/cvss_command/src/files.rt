@@ -3,9 +3,10 @@
 ghost use Rattle.std.specs.Io.{ReadsAtMost};
 ghost use Rattle.std.specs.Prelude.{◌≡◌, ℕ, IfOk, List, None, Option};
 
-use std::io::{self, Read};
+use std::fs::File;
+use std::io::{self, ErrorKind, Read};
 
-/// Files that can be read, each by its name, which may be any bytes.
+/// Files that can be read, each by its name.
 pub trait Files {
     type File: Read + Drop;
 
@@ -23,43 +24,17 @@ pub trait Files {
 
 /// The files of the system. No contract says what they contain.
 #[derive(Drop)]
-pub struct SystemFiles {}
-
-impl Files for SystemFiles {
-    type File = SystemFile;
-
-    fn open(&self, name: &[u8]) -> io::Result<SystemFile> {
-        let descriptor = os::open_read(name);
-        if descriptor < 0 {
-            return Err(last_error());
-        }
-        Ok(SystemFile { descriptor })
-    }
+pub struct SystemFiles<'a> {
+    pub runtime: &'a HostRuntime,
 }
 
-/// An open file of the system. `std::fs::File` opens only names that are UTF-8.
-pub struct SystemFile {
-    descriptor: i32,
-}
+impl<'a> Files for SystemFiles<'a> {
+    type File = File;
 
-impl Drop for SystemFile {
-    fn drop(self) {
-        let SystemFile { descriptor } = self;
-        libc::close(descriptor);
-    }
-}
-
-impl Read for SystemFile {
-    fn read(&mut self, buf: &mut [u8]) -> io::Result<usize> {
-        let moved = libc::read(self.descriptor, buf);
-        match usize::try_from(moved) {
-            Ok(count) => Ok(count),
-            Err(_) => Err(last_error()),
+    fn open(&self, name: &[u8]) -> io::Result<File> {
+        match str::from_utf8(name) {
+            Ok(name) => File::open(self.runtime, name),
+            Err(_) => Err(io::Error::from(ErrorKind::InvalidFilename)),
         }
     }
-}
-
-/// Why the last call of the system failed.
-fn last_error() -> io::Error {
-    io::Error::from_raw_os_error(os::errno())
 }

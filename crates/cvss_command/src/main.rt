@@ -15,7 +15,7 @@ mod watching;
 pub use command::run_command;
 use cvss_lines::{RunFault, write_whole};
 use cvss_program::arguments;
-pub use files::{Files, SystemFile, SystemFiles};
+pub use files::{Files, SystemFiles};
 use help::USAGE;
 pub use help::help_of;
 pub use requests::{Request, Topic, request_of};
@@ -36,7 +36,7 @@ fn main(rt: HostRuntime) -> ExitCode {
     let result = run_command(
         rt.alloc(),
         &arguments,
-        &SystemFiles {},
+        &SystemFiles { runtime: &rt },
         &mut WatchedReader::new(rt.stdin()),
         &mut writer,
         &mut rt.stderr(),
