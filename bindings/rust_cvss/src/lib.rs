@@ -30,6 +30,7 @@
 
 mod error;
 mod library;
+mod refusing;
 #[cfg(feature = "serde")]
 mod serialized;
 mod severity;
@@ -160,7 +161,7 @@ impl FromStr for Cvss {
             #[cfg(feature = "v2")]
             _ => library::read(text).map(Cvss::CvssV20),
             #[cfg(not(feature = "v2"))]
-            _ => Err(library::rejected(text)),
+            _ => Err(refusing::rejected(text)),
         }
     }
 }
