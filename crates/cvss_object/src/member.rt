@@ -45,7 +45,6 @@ impl Scalar {
 }
 
 /// Writes the name of a member and a colon, after a comma where members come before.
-#[inline(never)]
 pub fn put_name(page: &mut Page, later: bool, name: &str)
     requires { length page.old + length name.now + 4 ≤ 4096 }
     ensures text { page.new ≡ page.old ++ (comma_if later ++ (string_text name.now ++ 58 ∷ [])) }
@@ -60,7 +59,6 @@ pub fn put_name(page: &mut Page, later: bool, name: &str)
 }
 
 /// Writes a member of an object, after a comma where members come before.
-#[inline(never)]
 pub fn put_member(page: &mut Page, later: bool, name: &str, value: Scalar)
     requires { length page.old + length name.now + scalar_room value + 4 ≤ 4096 }
     ensures text { WritesMembers later ((name.now, scalar_text value) ∷ []) page.old page.new }
@@ -71,7 +69,6 @@ pub fn put_member(page: &mut Page, later: bool, name: &str, value: Scalar)
 }
 
 /// Writes members of an object that come after others.
-#[inline(never)]
 pub fn put_members(page: &mut Page, members: &[Member])
     requires { length page.old + members_room members.now ≤ 4096 }
     ensures text { WritesMembers true (map member_view members.now) page.old page.new }

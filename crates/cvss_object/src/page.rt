@@ -48,8 +48,6 @@ impl Page {
     }
 
     /// Writes a whole number.
-    // Inlined, it and those that rest on it would be repeated for each member that is written.
-    #[inline(never)]
     pub fn whole(&mut self, number: u64)
         requires { length self.old + 20 ≤ 4096 }
         ensures text { self.new ≡ self.old ++ decimal number }
@@ -70,7 +68,6 @@ impl Page {
     }
 
     /// Writes so many ten-millionths, as a decimal.
-    #[inline(never)]
     #[tactic(auto, unfolding(crate::specs::Json::decimal_text))]
     pub fn decimal(&mut self, count: i64)
         requires { length self.old + 32 ≤ 4096 }
