@@ -53,8 +53,28 @@ def try_arguments():
     for arguments, wrong in ((["scores"], b"scores"), (["--helper"], b"--helper"), (["--version", "x"], b"x"),
                              (["score", "--jsn", "x"], b"--jsn"), (["set", "E:A", "-x", "--"], b"-x"),
                              (["set", "--", "x"], b"--"), (["help", "x"], b"x"), (["help", "set", "y", "z"], b"y"),
-                             ([b"\xff\n"], b"\xff\n"), (["set", b"E:\xff"], b"set")):
+                             ([b"\xff\n"], b"\xff\n"), (["set", b"E:\xff"], b"E:\xff")):
         expect(2, b"", b"cvss: not understood: " + wrong + b"\n" + usage, *arguments)
+
+
+def try_hints():
+    """A rejected word that is nearly a vector has a hint, once a run."""
+    rejected = b"error: unknown CVSS metric name: `PR`\n"
+    bare = b"AV:N/AC:L/PR:N/UI:N/S:U/C:H/I:H/A:H"
+    version = b"cvss: hint: write `CVSS:3.1/` before it\n"
+    expect(1, rejected, version, "score", bare)
+    expect(1, rejected * 2 + V2_ANSWER, version, "score", bare, bare, V2)
+    expect(1, rejected, version, "set", "A:N", "--", bare)
+    capitals = b"cvss: hint: write its prefix in capitals, as `CVSS:3.1/`\n"
+    for prefix in (b"cvss:3.1/", b"Cvss:3.0/"):
+        expect(1, b"error: invalid CVSS string prefix: `" + prefix[:4] + b"`\n", capitals, "score", prefix + bare)
+    for text in (b"(" + V2 + b").", b'"' + V2 + b'"', b" " + V2):
+        told = subprocess.run([PROGRAM, "score", text], capture_output=True, check=False)
+        assert (told.returncode, told.stderr) == (1, b"cvss: hint: `cvss_find` finds vectors among other text\n"), told
+    for word, answer in ((CUT, CUT_ANSWER), (b"x:y", b"error: invalid CVSS metric group component: `x:y`\n")):
+        expect(1, answer, b"", "score", word)
+    expect(0, V2_ANSWER, b"", "score", V2)
+    expect(1, rejected, b"", "score", given=bare)
 
 
 def try_files(room):
@@ -137,6 +157,7 @@ def main():
     with tempfile.TemporaryDirectory() as folder:
         room = Path(folder)
         try_arguments()
+        try_hints()
         try_files(room)
         try_streams(room)
     answers = try_lines(count, int(sys.argv[2]) if len(sys.argv) > 2 else 2)

@@ -71,5 +71,5 @@ Does (request.Score allow_incomplete count) help version arguments contents unre
     DoesTask (task.Score allow_incomplete) contents (operands_of count arguments) unread unread' written written' result
 Does (request.Set metrics count) help version arguments contents unread unread' written written' result =
     SetsMetrics (joined_metrics metrics arguments) contents (operands_of count arguments) unread unread' written written' result
-    ⊎ (¬ (IsUtf8 (joined_metrics metrics arguments)) × Idle unread unread' written written' result (Err (length arguments)))
+    ⊎ (¬ (IsUtf8 (joined_metrics metrics arguments)) × Idle unread unread' written written' result (Err (length arguments - 1)))
     ⊎ Idle unread unread' written written' result (Ok (after nothing_served (Err Memory)))

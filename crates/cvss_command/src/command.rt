@@ -54,7 +54,7 @@ pub fn run_command<F: Files, R: Read, W: Write, E: Write>(
                 return Ok(Served::nothing().after(Err(RunFault::Memory)));
             };
             let Ok(metrics) = str::from_utf8(behind_first(&joined)) else {
-                return Err(arguments.len());
+                return Err(arguments.len().saturating_sub(1));
             };
             let task = Task::Set { metrics };
             let operands = last(arguments, operands);

@@ -5,6 +5,7 @@
 mod command;
 mod files;
 mod help;
+mod hint;
 mod requests;
 mod run;
 mod served;
@@ -18,6 +19,7 @@ use cvss_program::arguments;
 pub use files::{Files, SystemFiles};
 use help::USAGE;
 pub use help::help_of;
+use hint::first_hint;
 pub use requests::{Request, Topic, request_of};
 pub use served::{Served, exit_status};
 use std::io::{self, ErrorKind, Write};
@@ -42,7 +44,14 @@ fn main(rt: HostRuntime) -> ExitCode {
         &mut rt.stderr(),
     );
     match result {
-        Ok(served) => ExitCode::from(end(served, writer.error, &mut rt.stderr())),
+        Ok(served) => {
+            if served.rejected
+                && let Some(hint) = first_hint(&arguments)
+            {
+                let _ = eprintln!(rt; "cvss: hint: {hint}");
+            }
+            ExitCode::from(end(served, writer.error, &mut rt.stderr()))
+        }
         Err(left) => {
             report_wrong(&arguments, left, &mut rt.stderr());
             ExitCode::from(2)
