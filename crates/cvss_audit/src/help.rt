@@ -3,11 +3,11 @@ pub const USAGE: &str = "\
 usage: cvss_audit < documents
        cvss_audit --help
 
-Reads JSON documents, one a line as `jq -c .` writes them, and writes one JSON object a
-line for each place in them where a CVSS vector stands: what the vector is, and under
-`differs` each member of the document that says otherwise.
+Reads JSON documents, one per line as `jq -c .` writes them, and writes one JSON object per line
+for each CVSS vector in them: what the vector is, and under `differs` each member of the
+document that disagrees with it.
 
-No other argument is known: a file is given as standard input.
+There are no other arguments: give a file as standard input.
 
-Status: 0 all agree, 1 something is refused or differs, 2 a fault.
+Status: 0 all agree, 1 something is rejected or disagrees, 2 an I/O error or out of memory.
 ";

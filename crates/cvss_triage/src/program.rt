@@ -17,12 +17,12 @@ use std::io::{Read, Write};
 pub const USAGE: &str = "\
 usage: cvss_triage [METRIC:VALUE ...] < vectors
 
-Reads CVSS v4.0 vectors, one a line, puts the given environmental metrics in place of
-theirs, scores them again, and writes one row each in falling order of score: the score,
-its rating, the text that was scored, and the text as it was given. A METRIC is CR, IR,
-AR or a modified one; case is free:  cvss_triage msi:s cr:h < vectors
+Re-scores CVSS v4.0 vectors, one per line, with the given environmental metrics in place of
+theirs, and writes one row each in falling order of score: the score, its rating, the vector
+that was scored, and the text from the input. A METRIC is CR, IR, AR or a modified one, in
+upper or lower case:  cvss_triage msi:s cr:h < vectors
 
-Status: 0 the rows are written, 1 an argument or a line is refused, 2 another fault.
+Status: 0 the rows are written, 1 an argument or a line is rejected, 2 another error.
 ";
 
 /// Writes the usage, or runs as [`run_arguments`] does.

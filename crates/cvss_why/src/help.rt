@@ -3,10 +3,11 @@ pub const USAGE: &str = "\
 usage: cvss_why < vectors
        cvss_why --help
 
-Reads CVSS vectors (v2, v3.0, v3.1, v4.0), one a line, and writes one JSON object for each: the
-vector, its score, and the numbers on the way to it; or the line and why it is refused.
+Shows how CVSS scores are computed. Reads vectors (v2, v3.0, v3.1, v4.0), one per line, and writes
+one JSON object for each: the vector, its score and the numbers from which it is computed; or the
+line and why it is rejected.
 
-No other argument is known: a file is given as standard input.
+There are no other arguments: give a file as standard input.
 
-Status: 0 all lines are accepted, 1 some are refused, 2 a fault.
+Status: 0 no line was rejected, 1 one was, 2 an I/O error or out of memory.
 ";
