@@ -2,7 +2,7 @@
 use Rattle.std.proofs.Common.{◌≡◌, ℕ, Bool, true, false, List, [], ◌∷◌, ◌++◌, flat_map, map, refl, sym, ap, ◌∙◌, append_assoc, append-nil}
 use Rattle.cvss_answer.specs.Answers.{IsAnswer, IsCompleteAnswer}
 use Rattle.cvss_answer.specs.Setting.{IsSetAnswer}
-use Rattle.cvss_lines.specs.Answers.{Answer, Accepted, Refused, Rule, WritesAnswer, is_accepted, texts_of, written_text}
+use Rattle.cvss_lines.specs.Answers.{Answer, Accepted, Refused, WritesAnswer, is_accepted, texts_of, written_text}
 use Rattle.cvss_command.specs.Answers.{IsPrefixed, rule_of, with_prefix}
 use Rattle.cvss_command.specs.declared.service.Task.{Task}
 use Rattle.cvss_command.specs.declared.service.Task.TheVariants.{Score, Set}

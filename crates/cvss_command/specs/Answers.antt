@@ -1,5 +1,5 @@
 -- The answers of a command to the lines of one source.
-use Rattle.std.specs.Prelude.{◌≡◌, ℕ, Bool, List, [], ◌∷◌, ◌++◌, codes, map, if◌then◌else◌}
+use Rattle.std.specs.Prelude.{◌≡◌, ℕ, Bool, List, [], ◌++◌, codes, map, if◌then◌else◌}
 use Rattle.cvss_answer.specs.Answers.{score_rule}
 use Rattle.cvss_answer.specs.Setting.{IsSetAnswer}
 use Rattle.cvss_lines.specs.Answers.{Answer, Accepted, Refused, Rule}

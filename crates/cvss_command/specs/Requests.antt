@@ -3,7 +3,6 @@ use Rattle.std.specs.Prelude.{ℕ, suc, ◌-◌, ◌==◌, Bool, true, false, Li
 use Rattle.std.specs.Global.{Vec}
 use Rattle.cvss_command.specs.declared.requests.Request.{Request}
 use Rattle.cvss_command.specs.declared.requests.Request.TheVariants.{Help, Version, Wrong, Score, Set}
-use Rattle.cvss_command.specs.declared.requests.Topic.{Topic}
 use Rattle.cvss_command.specs.declared.requests.Topic.TheVariants as topic
 
 -- the word begins with a hyphen, and is not one alone
