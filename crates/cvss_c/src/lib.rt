@@ -1,7 +1,7 @@
 //! CVSS vectors for C: read, printed and scored by functions over bytes, each proved up to the call.
 //!
 //! A text is a pointer and a length. A text that is answered goes into a buffer of the caller, which
-//! is left as it was where it is too small. Only records take memory.
+//! is left as it was where it is too small. No function takes memory.
 #![tactic(auto)]
 
 mod exact;
