@@ -25,15 +25,7 @@ def generated():
     words = json.dumps(json.loads((ROOT / "bindings/metrics.json").read_text()), separators=(",", ":"))
     yield f'const version = "{(ROOT / "VERSION").read_text().strip()}";'
     yield f"const TABLES = {words};"
-    module = (HERE / "cvss.wasm").read_bytes()
-    yield f"const SIZE = {len(module)};"
-    yield f'const ASCII85 = "{ascii85(module)}";'
-
-
-def ascii85(content):
-    """Ascii85 without the abbreviation of four zeros, with other letters for what a script escapes."""
-    whole = content + bytes(-len(content) % 4)
-    return base64.a85encode(whole).decode().replace("z", "!!!!!").translate(str.maketrans('"\\<`', "vwxy"))
+    yield f'const BASE64 = "{base64.b64encode((HERE / "cvss.wasm").read_bytes()).decode()}";'
 
 
 def body():

@@ -11,6 +11,8 @@ import sys
 EXPORT = re.compile(r'\(export "(\w+)" \((func|global) (\$[^\s)]+)\)\)')
 WRAPPED = {"i64": "i32", "i32": "i32"}
 EXTEND = {"i64": "(i64.extend_i32_u (local.get {}))", "i32": "(local.get {})"}
+# JavaScript has no call of them, and they would make the module larger
+LEFT_OUT = ("cvss_numbers", "cvss_rounded", "cvss_temporal_with_impact")
 RESULT = {"i64": "(i32.wrap_i64 {})", "i32": "{}", "": "{}"}
 
 
@@ -39,7 +41,8 @@ def narrow_global(module, public, name):
 def main():
     module = sys.stdin.read()
     made = {"func": narrow_function, "global": narrow_global}
-    added = [made[kind](module, public, name) for public, kind, name in EXPORT.findall(module)]
+    exports = [export for export in EXPORT.findall(module) if export[0] not in LEFT_OUT]
+    added = [made[kind](module, public, name) for public, kind, name in exports]
     body = EXPORT.sub("", module).rstrip()
     assert body.endswith(")")
     print(body[:-1], *added, ")", sep="\n")

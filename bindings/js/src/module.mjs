@@ -1,22 +1,14 @@
-// The module of WebAssembly, whose functions are those of cvss.h. Its bytes are in this package as text, so that it is
-// compiled when it is first needed, without a file or a request.
+// The module of WebAssembly, whose functions are those of cvss.h. Its bytes are in this package as base64, so that it
+// is compiled when it is first needed, without a file or a request.
 
-import { ASCII85, SIZE } from "./generated.mjs";
+import { BASE64 } from "./generated.mjs";
 import { start, wasm } from "./memory.mjs";
 
 let compiled = null;
 
-// Ascii85, four bytes in five characters, is a sixteenth shorter than base64. The letters v to y are for four
-// characters that a script would escape.
 function bytes() {
-  const text = ASCII85.replace(/[v-y]/g, (letter) => "\"\\<`"["vwxy".indexOf(letter)]);
-  const view = new DataView(new ArrayBuffer((text.length / 5) * 4));
-  for (let offset = 0; offset < text.length; offset += 5) {
-    let group = 0;
-    for (let index = offset; index < offset + 5; index++) group = group * 85 + text.charCodeAt(index) - 33;
-    view.setUint32((offset / 5) * 4, group);
-  }
-  return new Uint8Array(view.buffer, 0, SIZE);
+  const text = atob(BASE64);
+  return Uint8Array.from({ length: text.length }, (_, index) => text.charCodeAt(index));
 }
 
 export function wasmModule() {
