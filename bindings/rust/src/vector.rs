@@ -317,7 +317,7 @@ impl Cvss {
     /// How the score is computed: a JSON object without spaces.
     ///
     /// For v2 and v3 it has the weights, the sub-scores and the number before the rounding of each
-    /// score; for v4.0 the values that count, the MacroVector with its listed score, what each
+    /// score; for v4.0 the values that count, the `MacroVector` with its listed score, what each
     /// group of metrics takes from it, and the number before the rounding. A number is less than
     /// 10^-6 from the exact one. It is exact if that has at most seven decimals, except for those
     /// of v3 with a changed scope, which have a power.
