@@ -1,7 +1,7 @@
 #!/usr/bin/env python3
-"""Runs the examples and recipes of docs/BINDINGS.md; the examples of docs/FROM_RUST.md, FROM_PYTHON.md and FROM_GO.md; of
-docs/PROGRAMS.md those for jobs; of README.md the first commands and those of Python and Rust; and of both pages those
-of the programs. Reports if docs/PERFORMANCE.md lacks a figure, or docs/BINDINGS.md a name or a command.
+"""Runs the examples and recipes of docs/BINDINGS.md and of the pages of the languages; of docs/PROGRAMS.md the examples for
+jobs; of README.md the first commands and those of Python and Rust; and of both pages those of the programs. Reports if
+docs/PERFORMANCE.md lacks a figure, or docs/BINDINGS.md a name or a command.
 
 Usage: documents.py ROOT FOLDER. ROOT is the folder of the checkout, in which bindings/build has made the library; files
 are made only in FOLDER. An example says in comments what it prints. What needs a missing tool is skipped.
@@ -19,10 +19,12 @@ sys.path.insert(0, str(ROOT / "bench"))
 from skipping import has, python_with, skip
 
 OUT = ROOT / "bindings/out"
-PAGE = (ROOT / "docs/BINDINGS.md").read_text()
+LANGUAGES = {name: (ROOT / f"docs/{name}.md").read_text() for name in ("C", "RUST", "PYTHON", "GO", "JAVASCRIPT")}
+# what they say to those who come from another package
+FROM = {name: page.partition("\n## From ")[2] for name, page in LANGUAGES.items()}
+PAGE = "\n".join([(ROOT / "docs/BINDINGS.md").read_text(), *(page.split("\n## From ")[0] for page in LANGUAGES.values())])
 PROGRAMS = (ROOT / "docs/PROGRAMS.md").read_text()
 PERFORMANCE = (ROOT / "docs/PERFORMANCE.md").read_text()
-FROM = {name: (ROOT / f"docs/FROM_{name}.md").read_text() for name in ("RUST", "PYTHON", "GO")}
 # each valid, rejected and not UTF-8, and ended in each way that the program knows
 EDGES = [
     b"\xff", b"AV:N/AC:L/Au:N/C:N/I:N/A:C/\xe9", b"AV:N\rAC:L", b"\rAV:N", b"AV:N/AC:L/Au:N/C:N/I:N/A:C\r",
@@ -198,22 +200,34 @@ def try_first_commands():
     assert last.startswith("run=ended status=1") and last.endswith("proved=no"), f"the last line of `rt try` is {last!r}"
 
 
+def linked_programs():
+    """The built programs, by the commands that they are installed as, in a folder that is returned with them."""
+    rows = [row.split() for row in (ROOT / "release/programs").read_text().splitlines() if row[0] != "#"]
+    programs = {command: ROOT / f"crates/{crate}/out/{crate}" for crate, command in rows}
+    folder = FOLDER / "programs"
+    folder.mkdir()
+    for command, program in programs.items():
+        (folder / command).symlink_to(program)
+    return programs, folder
+
+
 def try_programs():
     """The examples of README.md and docs/PROGRAMS.md that begin with a `$`: each prints what is below it."""
-    programs = {name: ROOT / f"crates/{name}/out" for name in ("cvss_tool", "cvss_find", "cvss_triage", "cvss_audit")}
-    environment = {**os.environ, "PATH": ":".join([*map(str, programs.values()), os.environ["PATH"]])}
+    programs, folder = linked_programs()
+    environment = {**os.environ, "PATH": f"{folder}:{os.environ['PATH']}"}
     pages = ((ROOT / "README.md").read_text(), PROGRAMS)
     found = [block for page in pages for block in blocks(page, "") if block.startswith("$ ")]
-    examples = [block for block in found if "> findings" not in block]
-    assert all(any(f"| {name}" in block for block in examples) for name in programs if name != "cvss_tool"), examples
-    for block in examples:
-        command, _, wanted = block.removeprefix("$ ").partition("\n")
-        missing = [name for name, folder in programs.items() if name in command and not (folder / name).exists()]
+    examples = [example for block in found if "> findings" not in block for example in re.split(r"(?m)^\$ ", block)[1:]]
+    for name in ("cvss", "cvss_find", "cvss_triage", "cvss_audit"):
+        assert any(re.search(rf"\| {name}\b", example) for example in examples), f"no example of {name}"
+    for example in examples:
+        command, _, wanted = example.partition("\n")
+        missing = [name for name, path in programs.items() if re.search(rf"\b{name}\b", command) and not path.exists()]
         if missing:
             skip(f"the example `{command}`", f"{missing[0]} is not built")
             continue
         done = subprocess.run(["bash", "-c", command], cwd=ROOT, env=environment, stdout=subprocess.PIPE)
-        check(done.stdout, wanted, block)
+        check(done.stdout, wanted, example)
 
 
 # vectors with their scores by the scale of the standard
@@ -308,7 +322,7 @@ def check_names():
     """The tables for users of other packages name what exists, and that for the crate each public name."""
     names = (ROOT / "bindings/stored/crate_names").read_text().split()
     missing = [name for name in names if name not in words_of(FROM["RUST"], 1)]
-    assert names and not missing, f"docs/FROM_RUST.md has no row for {missing}"
+    assert names and not missing, f"docs/RUST.md has no row for {missing}"
     for page, sources, others in (
         ("RUST", "rust/src/*.rs", {"serde", "format", "N", "E", "A"}),
         ("PYTHON", "python/cvss_proved/**/*.py", {"Critical", "python3", "f", "m", "calculator"}),
@@ -316,7 +330,7 @@ def check_names():
     ):
         text = "".join(path.read_text() for path in (ROOT / "bindings").glob(sources))
         unknown = [name for name in words_of(FROM[page], 2) - others if not re.search(rf"\b{name}\b", text)]
-        assert not unknown, f"docs/FROM_{page}.md: there is no {unknown}"
+        assert not unknown, f"docs/{page}.md: there is no {unknown}"
 
 
 def first_column(heading, page=PAGE):
