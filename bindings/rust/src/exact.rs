@@ -21,7 +21,7 @@ const TRILLION: i128 = 1_000_000_000_000;
 pub struct Exact(i128);
 
 impl Exact {
-    /// The exact number nearest to a number; `None` for one that is a million or more from 0, and for
+    /// The exact number nearest to a number; `None` for one that is more than 999,999 from 0, and for
     /// what is no number.
     #[must_use]
     pub fn nearest(number: f64) -> Option<Exact> {

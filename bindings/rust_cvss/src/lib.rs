@@ -1,7 +1,7 @@
 //! CVSS vectors of v2, v3.0, v3.1 and v4.0, with the interface of the crate `cvss` 3.0.0.
 //!
-//! Each text is read, each score computed and each error found by the library of `cvss_proved`, whose
-//! answers are proved. A score or sub-score is the nearest `f64` of the exact one.
+//! Each vector is read, each score computed and each error in a vector found by the library of
+//! `cvss_proved`, whose answers are proved. A score or sub-score is the nearest `f64` of the exact one.
 //!
 //! ```
 //! use cvss::{Cvss, Severity};

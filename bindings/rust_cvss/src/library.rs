@@ -156,7 +156,7 @@ pub(crate) fn numbers(version: Version, components: &str) -> Option<Numbers> {
     Numbers::of(version, components.strip_prefix('/').unwrap_or(components))
 }
 
-/// A number that is rounded as the scores of a version are. One that is no number, or a million or more
+/// A number that is rounded as the scores of a version are. One that is no number, or more than 999,999
 /// from 0, stays as it is.
 #[cfg(any(feature = "v2", feature = "v3"))]
 pub(crate) fn rounded(version: Version, number: f64) -> f64 {

@@ -20,8 +20,8 @@ impl Score {
         self.0
     }
 
-    /// The nearest tenth, after 10^-6 is added, and half away from zero. A number that is a million or
-    /// more from 0 stays as it is.
+    /// The nearest tenth, after 10^-6 is added, and half away from zero. A number that is more than 999,999
+    /// from 0 stays as it is.
     #[must_use]
     pub fn roundup(self) -> Score {
         Score(library::rounded(Version::V20, self.0))

@@ -111,7 +111,7 @@ impl Vector {
     }
 
     /// The temporal score with this impact in place of the vector's own, which may be below 0. It is no
-    /// number where the impact is none, or a million or more from 0.
+    /// number where the impact is none, or more than 999,999 from 0.
     #[must_use]
     pub fn temporal_score_internal(&self, impact: Score) -> Score {
         let tenths = Exact::nearest(impact.value())

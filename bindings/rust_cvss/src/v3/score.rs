@@ -20,7 +20,7 @@ impl Score {
         self.0
     }
 
-    /// The number rounded as v3.1 rounds (Appendix A). One that is a million or more from 0 stays as
+    /// The number rounded as v3.1 rounds (Appendix A). One that is more than 999,999 from 0 stays as
     /// it is.
     #[must_use]
     pub fn roundup(self) -> Score {
