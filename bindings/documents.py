@@ -140,7 +140,7 @@ def try_javascript():
 
 def write_list():
     """The list `vectors` of the recipes: more than two blocks of four million bytes, and its answers."""
-    stored = (ROOT / "crates/cvss_vectors/stdin").read_bytes().splitlines()
+    stored = (ROOT / "crates/test_vectors/stdin").read_bytes().splitlines()
     million = 1_000_000 * b"x"
     pieces = []
     for _ in range(9):

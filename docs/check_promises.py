@@ -35,7 +35,7 @@ def laws_for(path):
 
 def without_law():
     """Each public type without a law."""
-    for crate in [*crates(), "cvss_bytes"]:
+    for crate in [*crates(), "cvss_ffi"]:
         files, exported = sources(crate)
         for path, is_public, text in files:
             found = laws_for(path) | laws_for(ROOT / "crates/cvss/src/lib.rt")

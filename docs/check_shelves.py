@@ -13,7 +13,7 @@ from pathlib import Path
 
 ROOT = Path(__file__).resolve().parent.parent
 # parts of versions and of the C functions, which have no path in `cvss`, and callers that are proved from laws too
-WITHOUT_PROMISES = {"cvss_text", "cvss_bytes", "cvss_examples"}
+WITHOUT_PROMISES = {"cvss_text", "cvss_ffi", "cvss_examples"}
 # such parts in crates whose other modules have one
 PARTS = {ROOT / "crates/cvss_base/src/component.rt", ROOT / "crates/cvss_v4/src/overrides.rt"}
 

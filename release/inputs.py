@@ -31,7 +31,7 @@ def main():
     named = graph()
     tools = subprocess.run([ROOT / "release/tools"], stdout=subprocess.PIPE, check=True).stdout
     rows = (ROOT / "release/programs").read_text().splitlines()
-    for crate in ["cvss_c", *(row.split()[0] for row in rows if row[0] != "#")]:
+    for crate in ["cvss_capi", *(row.split()[0] for row in rows if row[0] != "#")]:
         digest = hashlib.sha256(tools + (ROOT / "crates.txt").read_bytes())
         files = [path for name in below(crate, named) for path in (ROOT / "crates" / name / "src").rglob("*.rt")]
         own = [ROOT / name for name in ("bindings/aarch64/heap.c", "bindings/aarch64/system.c", "release/build_arm64")]

@@ -2,7 +2,7 @@
 """Checks that canonical vectors are recognised on the fast path, which no contract says: each call
 of that path may decline any text, which is then read component by component, more slowly.
 
-It asks the built `cvss_vectors`, by the mark `sight`, about the canonical text of each vector in
+It asks the built `test_vectors`, by the mark `sight`, about the canonical text of each vector in
 its stored lines that has all base metrics. Each call has to recognise the text, and to report the
 stored score. Every value of every metric has to occur in these texts.
 
@@ -39,7 +39,7 @@ def parts(text):
 def recognised():
     """The canonical texts that have to be recognised, with what is reported of each."""
     found = {}
-    for mark, _, answer in stored("cvss_vectors"):
+    for mark, _, answer in stored("test_vectors"):
         if mark in ("", "v2", "v3", "v4") and not answer.startswith("error: "):
             text, score, *_ = answer.split(" ")
             version, components = parts(text)
@@ -64,7 +64,7 @@ def check_values(texts):
 def main():
     found = recognised()
     check_values(found)
-    done = subprocess.run([ROOT / "crates/cvss_vectors/out/cvss_vectors"], check=True, text=True,
+    done = subprocess.run([ROOT / "crates/test_vectors/out/test_vectors"], check=True, text=True,
                           input="".join(f"sight {text}\n" for text in found), capture_output=True)
     answers = done.stdout.splitlines()
     for (text, wanted), answer in zip(found.items(), answers, strict=True):

@@ -3,18 +3,18 @@
 
 The input, and the answers with ample memory, come from stored lines:
 
-- `cvss_vectors` answers all of its lines except those for many values at once (`each`): they go
+- `test_vectors` answers all of its lines except those for many values at once (`each`): they go
   through the parser of each version and of any version, the parsers of metrics and of their values,
   triage and overrides.
-- `cvss_json` reads the text of each vector there as a JSON string, writes the vector as one, and
+- `test_json` reads the text of each vector there as a JSON string, writes the vector as one, and
   copies the error of a rejected text; its own stored lines do the same for ratings and
   nomenclatures. It reports each of these steps by its name.
 - `cvss_tool` answers the texts of any version, one per line, and `cvss_find` the same texts in
   sentences, where the expected answers are those of reference/finding.py.
 - `cvss_audit` answers its own stored documents.
 
-Only these answers may be `out of memory`: in `cvss_vectors` those to a rejected text whose error
-quotes the text, and rows of triage; and the steps of `cvss_json` that build a string or copy such an
+Only these answers may be `out of memory`: in `test_vectors` those to a rejected text whose error
+quotes the text, and rows of triage; and the steps of `test_json` that build a string or copy such an
 error. So a valid text is accepted whichever request is refused, and `cvss_tool` and `cvss_find`
 answer each text as always. If a line can't be read or a buffer can't grow, the run ends early, and
 what it has written are the whole answers to the first lines.
@@ -152,7 +152,7 @@ def carries_text(reason):
 
 
 def expected(mark, answer):
-    """A stored answer, and what `cvss_vectors` may answer instead where it runs out of memory."""
+    """A stored answer, and what `test_vectors` may answer instead where it runs out of memory."""
     error = re.fullmatch(r"error: ((?:override|text) \d+: )?(.*)", answer, re.DOTALL)
     index, reason = error.groups("") if error else ("", "")
     if mark == "fault":
@@ -165,7 +165,7 @@ def expected(mark, answer):
 
 
 def converted(text, answer):
-    """What `cvss_json` answers to a text, and which of its steps may run out of memory instead."""
+    """What `test_json` answers to a text, and which of its steps may run out of memory instead."""
     reason = answer.removeprefix("from_value: ")
     if reason == answer:
         steps = ["to_value"]
@@ -177,14 +177,14 @@ def converted(text, answer):
 
 
 def strings():
-    """The lines of `cvss_json` that convert texts, with what is expected of each."""
-    for mark, asked, answer in stored("cvss_vectors"):
+    """The lines of `test_json` that convert texts, with what is expected of each."""
+    for mark, asked, answer in stored("test_vectors"):
         # A JSON string is UTF-8.
         if mark in ("", "v2", "v3", "v4") and answer != "error: not UTF-8":
             rejected = answer.startswith("error: ")
             said = f"from_value: {answer[7:]}" if rejected else answer.split(" ")[0]
             yield (mark or "cvss").encode() + b" " + asked, converted(asked, said)
-    for mark, asked, answer in stored("cvss_json"):
+    for mark, asked, answer in stored("test_json"):
         if mark in ("cvss", "v2", "v3", "v4", "severity", "nomenclature"):
             yield mark.encode() + b" " + asked, converted(asked, answer)
 
@@ -266,15 +266,15 @@ def refuse_in_turn_over_documents(shim):
 
 
 def main():
-    asked = [("", *LONG), *stored("cvss_vectors")]
+    asked = [("", *LONG), *stored("test_vectors")]
     texts = [(line, [answer]) for mark, line, answer in asked if not mark]
     text = b"\n".join(b"see (" + line + b")." for line, _ in texts)
     with tempfile.TemporaryDirectory() as room:
         shim = build(room)
-        refuse_in_turn(shim, "cvss_vectors", in_batches(
+        refuse_in_turn(shim, "test_vectors", in_batches(
             [(f"{mark} ".encode() * bool(mark) + line, expected(mark, answer))
              for mark, line, answer in asked if mark != "each"]), (0, 1), "lines")
-        refuse_in_turn(shim, "cvss_json", in_batches(list(strings())), (0, 1), "strings")
+        refuse_in_turn(shim, "test_json", in_batches(list(strings())), (0, 1), "strings")
         lines, wanted = zip(*texts)
         refuse_in_turn(shim, "cvss_tool", [(b"\n".join(lines) + b"\n", wanted)], (1, 2))
         refuse_in_turn(shim, "cvss_find", [(text, list(found(text)))], (1, 2), "mentions")

@@ -4,7 +4,7 @@ states would show.
 
 Each error that quotes a part of the text is tried with parts of one byte to a million, of each version
 and of a text of any version, in lines, arguments and JSON strings; what is expected comes from
-`reference.py`. A valid text makes no request for memory: `cvss_vectors` makes as many for it as for a
+`reference.py`. A valid text makes no request for memory: `test_vectors` makes as many for it as for a
 number of the same length.
 
 It needs cc and python3 in addition to the toolchain.
@@ -114,10 +114,10 @@ def try_refusals(runs):
                 for version, text, words in short]
         given = "".join(f"{'' if version == 'cvss' else version + ' '}{text}\n"
                         for version, text, _ in told)
-        runs.expect("cvss_vectors", given.encode(),
+        runs.expect("test_vectors", given.encode(),
                     (0, "".join(f"error: {words}\n" for _, _, words in told).encode(), ""))
         given = "".join(f"{version} {text}\n" for version, text, _ in told)
-        runs.expect("cvss_json", given.encode(),
+        runs.expect("test_json", given.encode(),
                     (0, "".join(f"from_value: {words}\n" for _, _, words in told).encode(), ""))
         lines = [(text, words) for version, text, words in told if version == "cvss"]
         runs.expect("cvss_tool", "".join(f"{text}\n" for text, _ in lines).encode(),
@@ -135,7 +135,7 @@ def try_unknown(runs, word):
     """A word that is no rating, and no nomenclature."""
     told = (f"from_value: invalid CVSS Qualitative Severity Rating: `{word}`\n"
             f"from_value: invalid CVSSv4 nomenclature: `{word}`\n")
-    runs.expect("cvss_json", f"severity {word}\nnomenclature {word}\n".encode(),
+    runs.expect("test_json", f"severity {word}\nnomenclature {word}\n".encode(),
                 (0, told.encode(), ""))
 
 
@@ -143,9 +143,9 @@ def try_whole(runs):
     """The longest text of each version, read, written, ranked and as a JSON string."""
     for version, text in WHOLE.items():
         answer = f"{reference.answer(text.encode())}\n"
-        runs.expect("cvss_vectors", f"{text}\n".encode(), (0, answer.encode(), ""))
+        runs.expect("test_vectors", f"{text}\n".encode(), (0, answer.encode(), ""))
         for mark in (version, "cvss"):
-            runs.expect("cvss_json", f"{mark} {text}\n".encode(), (0, f"{text}\n".encode(), ""))
+            runs.expect("test_json", f"{mark} {text}\n".encode(), (0, f"{text}\n".encode(), ""))
     runs.expect("cvss_triage", WHOLE["v4"].encode(), (0, row(WHOLE["v4"], []), ""))
 
 
@@ -225,10 +225,10 @@ def try_many(runs):
 
 
 def requests(shim, line):
-    """How many requests for memory `cvss_vectors` makes for a line, fifty times."""
+    """How many requests for memory `test_vectors` makes for a line, fifty times."""
     with tempfile.TemporaryFile() as told:
         env = dict(os.environ, LD_PRELOAD=shim, TOLD=str(told.fileno()))
-        subprocess.run([ROOT / "crates/cvss_vectors/out/cvss_vectors"],
+        subprocess.run([ROOT / "crates/test_vectors/out/test_vectors"],
                        input=f"{line}\n".encode() * 50, stdout=subprocess.DEVNULL, env=env,
                        pass_fds=[told.fileno()], check=True)
         return os.fstat(told.fileno()).st_size
@@ -243,9 +243,9 @@ def try_memory(shim):
         for line in (f"{mark}{each}" for mark in ("", f"{version} ") for each in (text, other)):
             number = requests(shim, "tenths " + "0" * (len(line) - len("tenths ")))
             if number == 0:
-                sys.exit("no request of cvss_vectors was counted: nothing was tried")
+                sys.exit("no request of test_vectors was counted: nothing was tried")
             if requests(shim, line) != number:
-                sys.exit(f"cvss_vectors takes memory for {line}")
+                sys.exit(f"test_vectors takes memory for {line}")
             tried += 1
     return tried
 

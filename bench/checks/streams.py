@@ -299,7 +299,7 @@ def try_long(runs):
     for step in (999, 1_000_000):
         runs.expect("cvss_tool", given, (1, answers, ""), READ_STEP=step, WRITE_SLOWLY=1)
     letters = "a" * 1_000_000
-    runs.expect("cvss_vectors", f"v3 CVSS:3.1/{letters}:N\n".encode(),
+    runs.expect("test_vectors", f"v3 CVSS:3.1/{letters}:N\n".encode(),
                 (0, f"error: unknown CVSS metric name: `{letters.upper()}`\n".encode(), ""))
     try_long_names(runs, "n" * 70_000)
     texts = changed_scopes.texts()
@@ -322,12 +322,12 @@ def try_long_names(runs, name):
         "value 3 MS": "invalid CVSSv3 S (Scope) metric",
         "value 4 U": "invalid CVSSv4 U (Provider Urgency) metric",
     }
-    runs.expect("cvss_vectors", "".join(f"{mark} {name}\n" for mark in told).encode(),
+    runs.expect("test_vectors", "".join(f"{mark} {name}\n" for mark in told).encode(),
                 (0, "".join(f"error: {reason}: `{name}`\n" for reason in told.values()).encode(),
                  ""))
     told = {"severity": "invalid CVSS Qualitative Severity Rating",
             "nomenclature": "invalid CVSSv4 nomenclature"}
-    runs.expect("cvss_json", "".join(f"{kind} {name}\n" for kind in told).encode(),
+    runs.expect("test_json", "".join(f"{kind} {name}\n" for kind in told).encode(),
                 (0, "".join(f"from_value: {reason}: `{name}`\n"
                             for reason in told.values()).encode(), ""))
 

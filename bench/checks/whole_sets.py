@@ -103,7 +103,7 @@ def published(texts):
 def environmental(texts):
     """The tenths of the environmental scores; those of v3 are certain."""
     found = []
-    for text, answer in zip(texts, answers("cvss_vectors", [f"scores {text}" for text in texts])):
+    for text, answer in zip(texts, answers("test_vectors", [f"scores {text}" for text in texts])):
         *_, count = answer.removesuffix(" certain").split(" ")
         if text.startswith("CVSS:") != answer.endswith(" certain") or int(count) % TENTH:
             sys.exit(f"{text}: {answer}")
@@ -148,7 +148,7 @@ def compare_effective():
 
 def compare_records(name, texts):
     """A vector's record has its text, and nothing in it differs from the vector."""
-    for text, answer in zip(texts, answers("cvss_json", [f"record {text}" for text in texts])):
+    for text, answer in zip(texts, answers("test_json", [f"record {text}" for text in texts])):
         try:
             record = json.loads(answer)
         except ValueError:

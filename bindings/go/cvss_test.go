@@ -25,7 +25,7 @@ func lines(t *testing.T, path string) []string {
 // The stored lines without a mark or their answers, which stand first, as many as there are facts.
 func storedLines(t *testing.T, name string) []string {
 	t.Helper()
-	stored := lines(t, "crates/cvss_vectors/"+name)
+	stored := lines(t, "crates/test_vectors/"+name)
 	count := len(lines(t, "bindings/stored/facts"))
 	if len(stored) < count {
 		t.Fatalf("%d lines in %s, and %d facts", len(stored), name, count)

@@ -82,7 +82,7 @@ def lines_of(path: Path) -> List[bytes]:
 def stored_lines(root: Path, name: str) -> List[bytes]:
     """The stored lines without a mark or their answers, which stand first, as many as there are facts."""
     count = len(lines_of(root / "bindings" / "stored" / "facts"))
-    return (root / "crates" / "cvss_vectors" / name).read_bytes().split(b"\n")[:count]
+    return (root / "crates" / "test_vectors" / name).read_bytes().split(b"\n")[:count]
 
 
 def check_stored_lines(root: Path) -> None:
@@ -519,7 +519,7 @@ def check_command() -> None:
 
 def check_threads(root: Path) -> None:
     """What a text is told in one of many threads at once is what it is told alone."""
-    lines = [line for line in lines_of(root / "crates" / "cvss_vectors" / "stdin") if not answer(line).startswith("error: ")]
+    lines = [line for line in lines_of(root / "crates" / "test_vectors" / "stdin") if not answer(line).startswith("error: ")]
 
     def told(line: bytes) -> Tuple[str, float]:
         vector = Vector(line)

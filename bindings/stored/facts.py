@@ -1,7 +1,7 @@
 #!/usr/bin/env python3
 """Prints the facts of each line of standard input, from the second implementation in reference/ alone.
 
-Its output for the first lines of crates/cvss_vectors/stdin is in the file `facts` in this folder. The programs of all
+Its output for the first lines of crates/test_vectors/stdin is in the file `facts` in this folder. The programs of all
 languages have to answer the same. For a valid line the facts are its canonical text, the version, the nomenclature,
 whether all base metrics are present, three scores with their ratings, and the metrics; for a rejected one the number of
 the kind, the metric that is named, and the reason. `-` is for what does not exist.

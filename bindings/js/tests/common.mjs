@@ -26,7 +26,7 @@ export function linesOf(path) {
 export const textsOf = (path) => linesOf(path).map(String);
 export const facts = textsOf("bindings/stored/facts");
 // the stored lines without a mark, which are the first
-export const stored = linesOf("crates/cvss_vectors/stdin").slice(0, facts.length);
+export const stored = linesOf("crates/test_vectors/stdin").slice(0, facts.length);
 export const vectors = stored.map((line) => Vector.parse(line)).flatMap(({ ok, vector }) => (ok ? [vector] : []));
 
 const scored = (number, severity) => (number === null ? "- -" : `${number.toFixed(1)} ${severity}`);

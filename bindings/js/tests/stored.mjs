@@ -9,7 +9,7 @@ import { CvssError, Vector, answer, find, rating, score } from "cvss-proved";
 import { KINDS, TEXT, V3, V4, facts, factsOf, linesOf, stored, textsOf, vectors } from "./common.mjs";
 
 function checkStoredLines() {
-  const answers = textsOf("crates/cvss_vectors/stdout").slice(0, facts.length);
+  const answers = textsOf("crates/test_vectors/stdout").slice(0, facts.length);
   stored.forEach((line, index) => {
     // a string is read as its UTF-8 is; bytes that are no UTF-8 have no string
     const text = line.toString();
@@ -41,7 +41,7 @@ function made(make) {
 
 const VERSIONS = { 20: "2.0", 30: "3.0", 31: "3.1", 40: "4.0" };
 
-// What the package answers to a stored line of cvss_c_lines, whose src/main.rt says what each mark asks; null where it
+// What the package answers to a stored line of test_capi, whose src/main.rt says what each mark asks; null where it
 // cannot be asked.
 const MARKS = {
   facts: (text) => factsOf(text),
@@ -70,9 +70,9 @@ const MARKS = {
 };
 
 function checkMarks() {
-  const expected = textsOf("crates/cvss_c_lines/stdout");
+  const expected = textsOf("crates/test_capi/stdout");
   const tried = {};
-  linesOf("crates/cvss_c_lines/stdin").forEach((line, row) => {
+  linesOf("crates/test_capi/stdin").forEach((line, row) => {
     const mark = String(line).split(" ", 1)[0];
     const text = line.subarray(mark.length + 1);
     // metrics are given as strings, and what is no UTF-8 has none

@@ -12,7 +12,7 @@ use std::path::Path;
 fn stored_lines(name: &str) -> String {
     let root = Path::new(env!("CARGO_MANIFEST_DIR")).join("../..");
     let facts = fs::read_to_string(root.join("bindings/stored/facts")).unwrap();
-    let stored = fs::read(root.join("crates/cvss_vectors").join(name)).unwrap();
+    let stored = fs::read(root.join("crates/test_vectors").join(name)).unwrap();
     let lines = stored.split_inclusive(|byte| *byte == b'\n');
     let first = lines.take(facts.lines().count()).flatten().copied();
     String::from_utf8(first.collect()).unwrap()

@@ -21,16 +21,16 @@ abbrev pub IsNoString : Data → Type 0
 IsNoString value = (text : List ℕ) → value ≢ string text
 
 -- what the error says is so: the value is no string, or its text is refused for this reason, or
--- the text is refused and there was no memory to tell the reason
-abbrev pub TellsWhy : (List ℕ → Error → Type 0) → Data → JsonError → Type 0
-TellsWhy Refuses value NotAString = IsNoString value
-TellsWhy Refuses value (Invalid error) = IsStringOf (λ text. Refuses text error) value
-TellsWhy Refuses value OutOfMemory = IsStringOf (λ text. Refuses text Error.OutOfMemory) value
+-- the text is refused and there was no memory to say the reason
+abbrev pub ReportsWhy : (List ℕ → Error → Type 0) → Data → JsonError → Type 0
+ReportsWhy Refuses value NotAString = IsNoString value
+ReportsWhy Refuses value (Invalid error) = IsStringOf (λ text. Refuses text error) value
+ReportsWhy Refuses value OutOfMemory = IsStringOf (λ text. Refuses text Error.OutOfMemory) value
 
--- the error by which a reason that a text is refused for is told
-abbrev pub told_as : Error → JsonError
-told_as Error.OutOfMemory = OutOfMemory
-told_as error = Invalid error
+-- the error by which a reason that a text is refused for is reported
+abbrev pub reported_as : Error → JsonError
+reported_as Error.OutOfMemory = OutOfMemory
+reported_as error = Invalid error
 
 -- the error's text
 abbrev pub json_error_text : JsonError → List ℕ

@@ -22,7 +22,7 @@ pub use Rattle.cvss_base.specs.Rounding
 pub use Rattle.cvss_base.specs.SeverityText
 pub use Rattle.cvss_base.specs.Tenths
 pub use Rattle.cvss_base.specs.Text
-pub use Rattle.cvss_base.specs.Told
+pub use Rattle.cvss_base.specs.Reported
 pub use Rattle.cvss_base.specs.V2Types as TypesV2
 pub use Rattle.cvss_base.specs.V3Types as TypesV3
 pub use Rattle.cvss_base.specs.V4Types as TypesV4

@@ -2,12 +2,12 @@
 
 ghost use Rattle.std.specs.Prelude.{◌≡◌, ◌≢◌, ℕ, List, IfOk, IfErr, Some, Ok, Err, refl};
 ghost use Rattle.cvss_base.specs.SeverityText as severity;
-ghost use Rattle.cvss_base.specs.Told.{TellsFirst, TellsNoSeverity};
-ghost use Rattle.cvss_score.specs.v4.Nomenclature.{TellsNoNomenclature};
+ghost use Rattle.cvss_base.specs.Reported.{ReportsFirst, ReportsNoSeverity};
+ghost use Rattle.cvss_score.specs.v4.Nomenclature.{ReportsNoNomenclature};
 ghost use Rattle.cvss_base.specs.V2Types.{v2_reason};
 ghost use Rattle.cvss_base.specs.V3Types.{v3_reason};
 ghost use Rattle.cvss_base.specs.V4Types.{v4_reason};
-ghost use Rattle.cvss_base.specs.Refusal.{IsFirstRefusal, IsFirstRefusalBehind};
+ghost use Rattle.cvss_base.specs.Refusal.{IsFirstRefusal, IsFirstRefusalAfter};
 ghost use Rattle.cvss_base.specs.Version.{canonical_text, Denotes, IsComplete, IsWellFormed};
 ghost use Rattle.cvss_base.specs.declared.error.Error.{Error};
 ghost use Rattle.cvss_base.specs.declared.error.Error.TheVariants.{OutOfMemory as LacksMemory};
@@ -17,7 +17,7 @@ ghost use Rattle.cvss_score.specs.v4.Nomenclature as nomenclature;
 ghost use Rattle.cvss_v4.specs.Vector.{v4};
 ghost use Rattle.cvss_any.specs.Answers.{text_of};
 ghost use Rattle.cvss_any.specs.Dispatch.{DenotesCvss, IsFirstRefusalCvss, cvss_reason};
-ghost use Rattle.cvss.specs.Json.{IsNoString, StandsFor, TellsWhy, json_error_text, told_as};
+ghost use Rattle.cvss.specs.Json.{IsNoString, StandsFor, ReportsWhy, json_error_text, reported_as};
 ghost use Rattle.cvss.specs.declared.json.JsonError.TheVariants.{NotAString, Invalid, OutOfMemory};
 ghost use Rattle.serde_json.specs.Data.{string};
 ghost use Rattle.serde_json.specs.View.{view};
@@ -53,7 +53,7 @@ impl fmt::Display for JsonError {
 impl std::error::Error for JsonError {}
 
 impl From<Error> for JsonError {
-    ghost from_gives = { λ error told. told ≡ told_as error };
+    ghost from_gives = { λ error reported. reported ≡ reported_as error };
 
     fn from(error: Error) -> JsonError {
         match error {
@@ -64,7 +64,7 @@ impl From<Error> for JsonError {
 }
 
 impl From<AllocError> for JsonError {
-    ghost from_gives = { λ _ told. told ≡ OutOfMemory };
+    ghost from_gives = { λ _ reported. reported ≡ OutOfMemory };
 
     fn from(_error: AllocError) -> JsonError {
         JsonError::OutOfMemory
@@ -79,7 +79,7 @@ pub trait JsonText: fmt::Display + Sized {
     // the text denotes the value
     ghost denotes: { List ℕ → Self → Type 0 };
 
-    // the error tells why the text denotes no value
+    // the error says why the text denotes no value
     ghost refuses: { List ℕ → Error → Type 0 };
 
     /// The JSON string of the text that is printed.
@@ -106,8 +106,8 @@ pub trait JsonText: fmt::Display + Sized {
         ensures accepts { (x : Self) → StandsFor denotes (view value.now) x → result ≡ Ok x }
         // Refused: as no string, or for the reason that the text is refused for.
         ensures not_a_string { IsNoString (view value.now) → result ≡ Err NotAString }
-        ensures refused { IfErr result (TellsWhy refuses (view value.now)) }
-        ensures told { IfErr result (λ error. error ≢ Invalid LacksMemory) };
+        ensures refused { IfErr result (ReportsWhy refuses (view value.now)) }
+        ensures reported { IfErr result (λ error. error ≢ Invalid LacksMemory) };
 
     ghost printed: { (x : Self) → Self.output x ≡ Some (text x) };
 }
@@ -129,7 +129,7 @@ impl JsonText for Severity {
 
     ghost denotes = { λ text x. severity.text_of x ≡ severity.lowered text };
 
-    ghost refuses = { TellsNoSeverity };
+    ghost refuses = { ReportsNoSeverity };
 
     ghost printed = { λ x. refl };
 
@@ -143,7 +143,7 @@ impl JsonText for v4::Nomenclature {
 
     ghost denotes = { λ text x. nomenclature.text_of x ≡ text };
 
-    ghost refuses = { TellsNoNomenclature };
+    ghost refuses = { ReportsNoNomenclature };
 
     ghost printed = { λ x. refl };
 
@@ -157,7 +157,7 @@ impl JsonText for v2::Vector {
 
     ghost denotes = { λ text x. Denotes v2 text x × IsComplete v2 x };
 
-    ghost refuses = { λ text. TellsFirst v2_reason (IsFirstRefusal v2 text) };
+    ghost refuses = { λ text. ReportsFirst v2_reason (IsFirstRefusal v2 text) };
 
     ghost printed = { λ x. refl };
 
@@ -171,7 +171,7 @@ impl JsonText for v3::Vector {
 
     ghost denotes = { λ text x. Denotes v3 text x × IsWellFormed v3 x };
 
-    ghost refuses = { λ text. TellsFirst v3_reason (IsFirstRefusalBehind v3 text) };
+    ghost refuses = { λ text. ReportsFirst v3_reason (IsFirstRefusalAfter v3 text) };
 
     ghost printed = { λ x. refl };
 
@@ -185,7 +185,7 @@ impl JsonText for v4::Vector {
 
     ghost denotes = { λ text x. Denotes v4 text x × IsWellFormed v4 x };
 
-    ghost refuses = { λ text. TellsFirst v4_reason (IsFirstRefusalBehind v4 text) };
+    ghost refuses = { λ text. ReportsFirst v4_reason (IsFirstRefusalAfter v4 text) };
 
     ghost printed = { λ x. refl };
 
@@ -199,7 +199,7 @@ impl JsonText for Cvss {
 
     ghost denotes = { DenotesCvss };
 
-    ghost refuses = { λ text. TellsFirst cvss_reason (IsFirstRefusalCvss text) };
+    ghost refuses = { λ text. ReportsFirst cvss_reason (IsFirstRefusalCvss text) };
 
     ghost printed = { λ x. refl };
 

@@ -5,7 +5,7 @@ ghost use Rattle.std.specs.Prelude.{◌↔◌, IsTrue};
 ghost use Rattle.cvss_base.specs.laws.Errors as same;
 ghost use Rattle.cvss_base.specs.Equality.{EqualsByValue, ClonesByValue, ClonesAlways};
 ghost use Rattle.cvss.specs.laws.BytesErrors as of_bytes;
-ghost use Rattle.cvss.specs.laws.JsonErrors.{TellTheSame};
+ghost use Rattle.cvss.specs.laws.JsonErrors.{ReportTheSame};
 
 use crate::json::JsonError;
 use crate::{
@@ -18,7 +18,7 @@ pub use cvss_laws::any::{
 };
 
 /// Two vectors of any version, two metrics, what is published of two vectors, or two counts to be
-/// printed, are equal exactly if they are one value, and two errors exactly if they tell the same.
+/// printed, are equal exactly if they are one value, and two errors exactly if they say the same.
 pub fn equality_is_that_of_values()
     ensures vector { EqualsByValue ⟦<Cvss as PartialEq>⟧.eq }
     ensures metric { EqualsByValue ⟦<MetricType as PartialEq>⟧.eq }
@@ -27,10 +27,10 @@ pub fn equality_is_that_of_values()
     ensures version { EqualsByValue ⟦<Version as PartialEq>⟧.eq }
     ensures decimal { EqualsByValue ⟦<OneDecimal as PartialEq>⟧.eq }
     ensures json { (x y : JsonError) → IsTrue (⟦<JsonError as PartialEq>⟧.eq x y)
-        ↔ TellTheSame x y }
+        ↔ ReportTheSame x y }
     ensures bytes { (x y : BytesError) → IsTrue (⟦<BytesError as PartialEq>⟧.eq x y)
-        ↔ of_bytes.TellTheSame x y }
-    ensures error { (x y : Error) → IsTrue (⟦<Error as PartialEq>⟧.eq x y) ↔ same.TellTheSame x y }
+        ↔ of_bytes.ReportTheSame x y }
+    ensures error { (x y : Error) → IsTrue (⟦<Error as PartialEq>⟧.eq x y) ↔ same.ReportTheSame x y }
 {
     cvss_base::laws::equality_is_that_of_values();
     v2::laws::vectors_are_their_values();
@@ -39,7 +39,7 @@ pub fn equality_is_that_of_values()
 }
 
 /// A clone of a vector, a metric, what is published or a count is that value, and a clone of an error
-/// tells the same.
+/// says the same.
 pub fn clones_are_equal()
     ensures vector { ClonesByValue ⟦<Cvss as Clone>⟧.is_clone }
     ensures metric { ClonesByValue ⟦<MetricType as Clone>⟧.is_clone }
@@ -53,11 +53,11 @@ pub fn clones_are_equal()
     ensures set_error { ClonesByValue ⟦<SetError<'static> as Clone>⟧.is_clone }
     ensures version { ClonesByValue ⟦<Version as Clone>⟧.is_clone }
     ensures json { (x clone : JsonError) → ⟦<JsonError as Clone>⟧.is_clone x clone
-        → TellTheSame x clone }
+        → ReportTheSame x clone }
     ensures bytes { (x clone : BytesError) → ⟦<BytesError as Clone>⟧.is_clone x clone
-        → of_bytes.TellTheSame x clone }
+        → of_bytes.ReportTheSame x clone }
     ensures error { (x clone : Error) → ⟦<Error as Clone>⟧.is_clone x clone
-        → same.TellTheSame x clone }
+        → same.ReportTheSame x clone }
 {
     cvss_base::laws::clones_are_equal();
 }

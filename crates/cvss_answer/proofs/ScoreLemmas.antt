@@ -21,9 +21,9 @@ at_place (suc n) (suc place) below from =
     let same : from + 1 + place ≡ from + suc place = omega arith in at_place n place (omega arith) (from + 1) ∙ ap Some same
 
 -- a line that stands at a place among the lines of so many scores from one on is that of the score at this place
-pub line_told : (bounds : Bounds) (from n : ℕ) (line : List ℕ) (lines : List (List ℕ)) (place t : ℕ) → Some line ≡ slice_get lines place → from + place ≡ t → place < n
+pub line_reported : (bounds : Bounds) (from n : ℕ) (line : List ℕ) (lines : List (List ℕ)) (place t : ℕ) → Some line ≡ slice_get lines place → from + place ≡ t → place < n
     → lines ≡ map (rated_line bounds) (range_with_len from n) → line ≡ rated_line bounds t
-line_told bounds from n line lines place t is stands within all =
+line_reported bounds from n line lines place t is stands within all =
     let found : Some line ≡ option_map (rated_line bounds) (Some (from + place)) =
     is ∙ ap (λ list. slice_get list place) all ∙ slice_get-map (rated_line bounds) (range_with_len from n) place
     ∙ ap (option_map (rated_line bounds)) (at_place n place within from) in
@@ -45,13 +45,13 @@ pub canonical_answer : (line text : List ℕ) (published : Published) → (is : 
 canonical_answer line text published is =
     let t = published.tenths in
     let own = text_of is.cvss in
-    let told = rating_text t (rating_by is.cvss (score_of_tenths t)) in
-    let same : text ++ score_line published ≡ own ++ (codes " " ++ (told ++ 10 ∷ [])) =
+    let reported = rating_text t (rating_by is.cvss (score_of_tenths t)) in
+    let same : text ++ score_line published ≡ own ++ (codes " " ++ (reported ++ 10 ∷ [])) =
     ap (λ rating. text ++ (codes " " ++ (rating_text t (rating (score_of_tenths t)) ++ 10 ∷ []))) (sym is.is.rated)
-    ∙ ap (λ bytes. bytes ++ (codes " " ++ (told ++ 10 ∷ []))) is.canonical_is in
+    ∙ ap (λ bytes. bytes ++ (codes " " ++ (reported ++ 10 ∷ []))) is.canonical_is in
     same
-    ∙ sym (append_assoc own (codes " ") (told ++ 10 ∷ []))
-    ∙ sym (append_assoc (own ++ codes " ") told (10 ∷ []))
+    ∙ sym (append_assoc own (codes " ") (reported ++ 10 ∷ []))
+    ∙ sym (append_assoc (own ++ codes " ") reported (10 ∷ []))
 
 -- a line is answered once both are written of its vector
 pub canonical_written : (number : ℕ) (line text : List ℕ) (published : Published) (old new : List ℕ) → IsPublishedAs line text published
@@ -67,6 +67,6 @@ canonical_written number line text published old new of written = record {
     scored = of.is.scored;
     is = refl;
   };
-  told = refl;
+  reported = refl;
   written = one_text _ _ _ (written ∙ ap (λ text. old ++ text) (canonical_answer line text published of));
 }

@@ -35,7 +35,7 @@ canonical_written allow number line published old new complete written =
       answers = complete_accepted allow number line text
           (record { utf8 = of.utf8; vector = of.cvss; denoted = of.denoted; tenths = published.tenths; scored = of.is.scored; is = refl })
           complete.complete;
-      told = refl;
+      reported = refl;
       written = one_text _ _ _ (written ∙ ap (λ text. old ++ text) (canonical_answer line line published of));
     }
 
@@ -46,7 +46,7 @@ unfolding IsAnswer IsCompleteAnswer
 vector_written true number line old new cvss utf8 denoted complete writes = record {
   answer = Accepted (vector_answer cvss writes.tenths ∷ []);
   answers = record { utf8 = utf8; vector = cvss; denoted = denoted; tenths = writes.tenths; scored = writes.scored; is = refl };
-  told = refl;
+  reported = refl;
   written = one_text _ _ _ writes.written;
 }
 vector_written false number line old new cvss utf8 denoted complete writes = record {
@@ -55,7 +55,7 @@ vector_written false number line old new cvss utf8 denoted complete writes = rec
     accepted = record { utf8 = utf8; vector = cvss; denoted = denoted; tenths = writes.tenths; scored = writes.scored; is = refl };
     complete = complete;
   };
-  told = refl;
+  reported = refl;
   written = one_text _ _ _ writes.written;
 }
 
@@ -66,13 +66,13 @@ unfolding IsAnswer IsCompleteAnswer
 error_written true number line old new error is written = record {
   answer = Refused ((codes "error: " ++ error_message error) ∷ []);
   answers = record { reason = error_message error; is_reason = said_of_bytes reason_text not_utf8_text line error is; is = refl };
-  told = refl;
+  reported = refl;
   written = one_text _ (codes "error: " ++ error_message error) _ written;
 }
 error_written false number line old new error is written = record {
   answer = Refused ((codes "error: " ++ error_message error) ∷ []);
   answers = inl (record { reason = error_message error; is_reason = said_of_bytes reason_text not_utf8_text line error is; is = refl });
-  told = refl;
+  reported = refl;
   written = one_text _ (codes "error: " ++ error_message error) _ written;
 }
 
@@ -85,6 +85,6 @@ missing_written true number line old new cvss metric utf8 denoted missing writte
 missing_written false number line old new cvss metric utf8 denoted missing written = record {
   answer = Refused ((codes "error: " ++ reason_text (Missing metric)) ∷ []);
   answers = inr (record { utf8 = utf8; vector = cvss; denoted = denoted; metric = metric; missing = missing; is = refl });
-  told = refl;
+  reported = refl;
   written = one_text _ (codes "error: " ++ reason_text (Missing metric)) _ written;
 }

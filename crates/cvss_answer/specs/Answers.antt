@@ -58,14 +58,14 @@ abbrev pub score_rule : Bool → Rule
 score_rule true = IsAnswer
 score_rule false = IsCompleteAnswer
 
--- the vector's answer and a byte 10 are written behind the earlier answers
+-- the vector's answer and a byte 10 are written after the earlier answers
 pub record WritesVector (vector : Cvss) (old new : List ℕ) : Type 0 where
   pub tenths : ℕ
   pub scored : IsScoreOf vector (score_of_tenths tenths)
   pub written : new ≡ old ++ written_text (vector_answer vector tenths)
 
 -- what follows a vector's text in its answer: a score of so many tenths and its rating within these bounds, each
--- behind a blank, and a byte 10
+-- after a blank, and a byte 10
 abbrev pub rated_line : Bounds → ℕ → List ℕ
 rated_line bounds tenths =
     codes " " ++ (rating_text tenths (rating_within bounds (score_of_tenths tenths)) ++ 10 ∷ [])

@@ -6,7 +6,7 @@ ghost use Rattle.cvss_answer.specs.Answers.{rated_line, score_line};
 
 use cvss_any::{Bounds, Published};
 
-/// A published score and its rating, each behind a blank, and a byte 10.
+/// A published score and its rating, each after a blank, and a byte 10.
 pub(crate) fn score_line(published: Published) -> &'static str
     requires { published.tenths ≤ 100 }
     ensures { result.now ≡ score_line published }

@@ -10,7 +10,7 @@ use Rattle.cvss_any.specs.declared.setting.Version.{Version}
 use Rattle.cvss_any.specs.declared.setting.Version.TheVariants.{V20, V30, V31, V40}
 use Rattle.cvss_any.specs.declared.vector.Cvss.{Cvss}
 use Rattle.cvss_any.specs.declared.vector.Cvss.TheVariants.{CvssV20, CvssV30, CvssV31, CvssV40}
-use Rattle.cvss_any.proofs.RouteLemmas.{told_minor}
+use Rattle.cvss_any.proofs.RouteLemmas.{reported_minor}
 use Rattle.cvss_v2.specs.Vector.{v2}
 use Rattle.cvss_v2.specs.declared.vector.Vector as vector_v2
 use Rattle.cvss_v3.specs.Vector.{v3}
@@ -31,8 +31,8 @@ module _ {V K : Type 0} (version : base.Version V K) (text : List ℕ) (v : V) w
     components = built.components;
   }
 
-  denoted_behind : (piece : List ℕ) → IsBuilt version (piece ∷ []) (pieces text) v → base.Denotes version (piece ++ slash ∷ text) v
-  denoted_behind piece built = record {
+  denoted_after : (piece : List ℕ) → IsBuilt version (piece ∷ []) (pieces text) v → base.Denotes version (piece ++ slash ∷ text) v
+  denoted_after piece built = record {
     parts = pieces text;
     text_is = sym (ap (λ front. joined (front ++ pieces text)) built.front_is ∙ joined_pieces piece text (pieces text) refl);
     components = built.components;
@@ -46,24 +46,24 @@ built_v20 text v built = record { denoted = denoted_bare v2 text v built; comple
 
 built_v30 : (text : List ℕ) (v : vector_v3.Vector) → IsBuilt v3 (codes "CVSS:3.0" ∷ []) (pieces text) v → DenotesCvss (text_with V30 text) (CvssV30 v)
 built_v30 text v built = record {
-  denoted = denoted_behind v3 text v (codes "CVSS:3.0") built;
-  well_formed = record { complete = built.complete; supported = record { told = codes "3.0"; front_is = built.front_is; supported = (0, lit< tt, refl) } };
-  version = told_minor v.minor_version 0 (codes "3.0") built.front_is refl;
+  denoted = denoted_after v3 text v (codes "CVSS:3.0") built;
+  well_formed = record { complete = built.complete; supported = record { reported = codes "3.0"; front_is = built.front_is; supported = (0, lit< tt, refl) } };
+  version = reported_minor v.minor_version 0 (codes "3.0") built.front_is refl;
   more = longer (codes "CVSS:3.0") text;
 }
 
 built_v31 : (text : List ℕ) (v : vector_v3.Vector) → IsBuilt v3 (codes "CVSS:3.1" ∷ []) (pieces text) v → DenotesCvss (text_with V31 text) (CvssV31 v)
 built_v31 text v built = record {
-  denoted = denoted_behind v3 text v (codes "CVSS:3.1") built;
-  well_formed = record { complete = built.complete; supported = record { told = codes "3.1"; front_is = built.front_is; supported = (1, lit< tt, refl) } };
-  version = told_minor v.minor_version 1 (codes "3.1") built.front_is refl;
+  denoted = denoted_after v3 text v (codes "CVSS:3.1") built;
+  well_formed = record { complete = built.complete; supported = record { reported = codes "3.1"; front_is = built.front_is; supported = (1, lit< tt, refl) } };
+  version = reported_minor v.minor_version 1 (codes "3.1") built.front_is refl;
   more = longer (codes "CVSS:3.1") text;
 }
 
 built_v40 : (text : List ℕ) (v : vector_v4.Vector) → IsBuilt v4 (codes "CVSS:4.0" ∷ []) (pieces text) v → DenotesCvss (text_with V40 text) (CvssV40 v)
 built_v40 text v built = record {
-  denoted = denoted_behind v4 text v (codes "CVSS:4.0") built;
-  well_formed = record { complete = built.complete; supported = record { told = codes "4.0"; front_is = built.front_is; supported = (0, lit< tt, refl) } };
+  denoted = denoted_after v4 text v (codes "CVSS:4.0") built;
+  well_formed = record { complete = built.complete; supported = record { reported = codes "4.0"; front_is = built.front_is; supported = (0, lit< tt, refl) } };
 }
 
 pub denoted_built : (version : Version) (new : Cvss) (text : List ℕ) → IsBuiltAs version text new → DenotesCvss (text_with version text) new

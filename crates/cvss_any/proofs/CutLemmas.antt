@@ -19,11 +19,11 @@ has_colon [] value = refl
 has_colon (byte ∷ name) value = ap (λ rest. eqb byte colon || rest) (has_colon name value) ∙ or-true (eqb byte colon)
 
 -- the route of a text that is cut at its first slash, and its first piece at its first colon
-pub cut_routed : (text piece prefix told : List ℕ) (rest : List (List ℕ)) (to : Route) → pieces text ≡ piece ∷ rest → rest ≢ [] → AreParts piece prefix told → to ≡ route_of_parts prefix told → to ≡ route_of text
-cut_routed text piece prefix told [] to cut some parts is = absurd (some refl)
-cut_routed text piece prefix told (next ∷ more) to cut some parts is =
-    let colon_in : has colon piece ≡ true = ap (has colon) parts.cut ∙ has_colon prefix told in
-    let by_parts : route_of_pieces (piece ∷ next ∷ more) ≡ route_of_parts prefix told = rw (colon_in, sym parts.name_is, sym parts.value_is) refl in
+pub cut_routed : (text piece prefix reported : List ℕ) (rest : List (List ℕ)) (to : Route) → pieces text ≡ piece ∷ rest → rest ≢ [] → AreParts piece prefix reported → to ≡ route_of_parts prefix reported → to ≡ route_of text
+cut_routed text piece prefix reported [] to cut some parts is = absurd (some refl)
+cut_routed text piece prefix reported (next ∷ more) to cut some parts is =
+    let colon_in : has colon piece ≡ true = ap (has colon) parts.cut ∙ has_colon prefix reported in
+    let by_parts : route_of_pieces (piece ∷ next ∷ more) ≡ route_of_parts prefix reported = rw (colon_in, sym parts.name_is, sym parts.value_is) refl in
     is ∙ sym (ap route_of_pieces cut ∙ by_parts)
 
 -- the first piece of a text
@@ -31,21 +31,21 @@ pub first_utf8 : (text piece : List ℕ) (rest : List (List ℕ)) → pieces tex
 first_utf8 text piece rest cut is = All-head IsUtf8 piece rest (subst (All IsUtf8) cut (IsUtf8-pieces text is))
 
 -- a version piece is cut at its colon
-pub version_parts : (told : List ℕ) → AreParts (version_piece told) (codes "CVSS") told
-version_parts told = record { cut = refl; name_is = refl; value_is = refl }
+pub version_parts : (reported : List ℕ) → AreParts (version_piece reported) (codes "CVSS") reported
+version_parts reported = record { cut = refl; name_is = refl; value_is = refl }
 
 -- a text has a first piece
 pub some_piece : (text : List ℕ) → pieces text ≢ []
 some_piece text none = omega (arith, ap length none, length-slice_split (λ byte. eqb byte slash) text)
 
 -- a text that begins with a piece and a slash
-pieces_behind : (piece rest : List ℕ) → has slash piece ≡ false → pieces (piece ++ (slash ∷ rest)) ≡ piece ∷ pieces rest
-pieces_behind piece rest none = slice_split_at (λ each. eqb each slash) piece slash rest
+pieces_after : (piece rest : List ℕ) → has slash piece ≡ false → pieces (piece ++ (slash ∷ rest)) ≡ piece ∷ pieces rest
+pieces_after piece rest none = slice_split_at (λ each. eqb each slash) piece slash rest
     (λ k d inside. false_from_ne_true _ (λ yes. let found = list_any_at (λ each. eqb each slash) piece k d inside yes in cc)) refl
 
--- a text that begins with the piece that tells the version, and a slash
-pub version_first : (text told rest : List ℕ) (left : List (List ℕ)) → text ≡ version_piece told ++ (slash ∷ rest) → has slash told ≡ false → left ≡ pieces rest → pieces text ≡ version_piece told ∷ left
-version_first text told rest left is none left_is = ap pieces is ∙ (pieces_behind (version_piece told) rest none ∙ ap (λ parts. version_piece told ∷ parts) (sym left_is))
+-- a text that begins with the piece that says the version, and a slash
+pub version_first : (text reported rest : List ℕ) (left : List (List ℕ)) → text ≡ version_piece reported ++ (slash ∷ rest) → has slash reported ≡ false → left ≡ pieces rest → pieces text ≡ version_piece reported ∷ left
+version_first text reported rest left is none left_is = ap pieces is ∙ (pieces_after (version_piece reported) rest none ∙ ap (λ parts. version_piece reported ∷ parts) (sym left_is))
 
 -- a text is cut at a slash that stands in it
 pub cut_at_slash : (text : List ℕ) (at : ℕ) → at < length text → get_or text at 0 ≡ slash → text ≡ take at text ++ (slash ∷ take (length text - suc at) (drop (suc at) text))

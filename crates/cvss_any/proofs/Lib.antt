@@ -6,5 +6,5 @@ mod ReadLemmas
 pub mod RouteLemmas
 mod SettingLemmas
 mod SightLemmas
-mod ToldLemmas
+mod ReportedLemmas
 pub mod UniqueLemmas

@@ -1,4 +1,4 @@
--- Where a text is read that denotes a vector, and what is then told of it.
+-- Where a text is read that denotes a vector, and what is then reported of it.
 use Rattle.std.proofs.Common.{◌≡◌, ◌≢◌, ◌⊎◌, inl, inr, ℕ, ◌<◌, zero, suc, false, List, [], ◌∷◌, ◌++◌, codes, length, get_or, refl, sym, ap, ◌∙◌, arith, lit<, Contains}
 use Rattle.std.proofs.lemmas.Bool.{cases_order}
 use Rattle.std.proofs.lemmas.List.Elements.{All-nil}
@@ -11,52 +11,52 @@ use Rattle.cvss_base.specs.declared.v2.MetricType.TheVariants as kind_v2
 use Rattle.cvss_base.specs.declared.v4.MetricType.TheVariants as kind_v4
 use Rattle.cvss_text.proofs.ComponentLemmas.{piece_held, held_stands}
 use Rattle.cvss_text.proofs.DenotesLemmas.{pieces_of_complete}
-use Rattle.cvss_text.proofs.FrontLemmas.{pieces_denoted_behind}
+use Rattle.cvss_text.proofs.FrontLemmas.{pieces_denoted_after}
 use Rattle.cvss_text.proofs.NumeralLemmas.{numeral-injective, numeral-plain}
 use Rattle.cvss_text.proofs.TextLemmas.{IsPart}
 use Rattle.cvss_text.proofs.WalkLemmas.{value_from}
 use Rattle.cvss_v2_metric.specs.private.TableLaws.{undotted_spelling}
 use Rattle.cvss_v2.specs.Vector.{v2}
-use Rattle.cvss_v2.specs.private.VectorLaws.{v2_is_lawful}
+use Rattle.cvss_v2.specs.private.VectorLaws.{v2_laws}
 use Rattle.cvss_v2.specs.declared.vector.Vector as vector_v2
 use Rattle.cvss_v3.specs.Vector.{v3}
-use Rattle.cvss_v3.specs.private.VectorLaws.{v3_is_lawful, v3_fronts_are_lawful}
+use Rattle.cvss_v3.specs.private.VectorLaws.{v3_laws, v3_front_laws}
 use Rattle.cvss_v3.specs.declared.vector.Vector as vector_v3
 use Rattle.cvss_v4.specs.Vector.{v4}
-use Rattle.cvss_v4.specs.private.VectorLaws.{v4_is_lawful, v4_fronts_are_lawful}
+use Rattle.cvss_v4.specs.private.VectorLaws.{v4_laws, v4_front_laws}
 use Rattle.cvss_v4.specs.declared.vector.Vector as vector_v4
 use Rattle.cvss_any.specs.Route.{Route, ToV20, ToV30, ToV31, ToV40, route_of, route_of_pieces}
 use Rattle.cvss_any.specs.Dispatch.{DenotesV2, DenotesV3, DenotesV4, DenotesCvss}
 use Rattle.cvss_any.specs.declared.vector.Cvss.{Cvss}
 use Rattle.cvss_any.specs.declared.vector.Cvss.TheVariants.{CvssV20, CvssV30, CvssV31, CvssV40}
 
--- the piece that tells a minor version of CVSS v3
+-- the piece that says a minor version of CVSS v3
 abbrev v3_front : ℕ → List (List ℕ)
 v3_front minor = version_piece (codes "3." ++ numeral minor) ∷ []
 
 -- the pieces of a text that denotes a vector of CVSS v3
 v3_pieces : (text : List ℕ) (vector : vector_v3.Vector) (denotes : Denotes v3 text vector) → pieces text ≡ version_piece (codes "3." ++ numeral vector.minor_version) ∷ denotes.parts
 v3_pieces text vector denotes =
-    pieces_denoted_behind v3 v3_is_lawful v3_fronts_are_lawful text vector denotes (codes "3." ++ numeral vector.minor_version) refl (numeral-plain vector.minor_version)
+    pieces_denoted_after v3 v3_laws v3_front_laws text vector denotes (codes "3." ++ numeral vector.minor_version) refl (numeral-plain vector.minor_version)
 
--- where a text goes that begins with a version piece of CVSS v3, with more behind it or not
-abbrev route_behind : ℕ → List (List ℕ) → Route
-route_behind minor parts = route_of_pieces (version_piece (codes "3." ++ numeral minor) ∷ parts)
+-- where a text goes that begins with a version piece of CVSS v3, with more after it or not
+abbrev route_after : ℕ → List (List ℕ) → Route
+route_after minor parts = route_of_pieces (version_piece (codes "3." ++ numeral minor) ∷ parts)
 
--- two pieces, the first of which tells 3.0 or 3.1
-two_pieces : (told : List ℕ) (parts : List (List ℕ)) (to : Route) → parts ≢ [] → ((next : List ℕ) (more : List (List ℕ)) → route_of_pieces (version_piece told ∷ next ∷ more) ≡ to) → route_of_pieces (version_piece told ∷ parts) ≡ to
-two_pieces told [] to some routed = absurd (some refl)
-two_pieces told (next ∷ more) to some routed = routed next more
+-- two pieces, the first of which says 3.0 or 3.1
+two_pieces : (reported : List ℕ) (parts : List (List ℕ)) (to : Route) → parts ≢ [] → ((next : List ℕ) (more : List (List ℕ)) → route_of_pieces (version_piece reported ∷ next ∷ more) ≡ to) → route_of_pieces (version_piece reported ∷ parts) ≡ to
+two_pieces reported [] to some routed = absurd (some refl)
+two_pieces reported (next ∷ more) to some routed = routed next more
 
 -- a vector that a text denotes with more than the version piece has some component
 pub v3_parts : (text : List ℕ) (minor : ℕ) (vector : vector_v3.Vector) (denotes : DenotesV3 text (version_piece (codes "3." ++ numeral minor)) minor vector) → denotes.denoted.parts ≢ []
 v3_parts text minor vector denotes none = denotes.more (denotes.denoted.text_is ∙ rw (none, denotes.version) refl)
 
-v3_routed : (text : List ℕ) (minor : ℕ) (to : Route) (vector : vector_v3.Vector) → DenotesV3 text (version_piece (codes "3." ++ numeral minor)) minor vector → ((next : List ℕ) (more : List (List ℕ)) → route_behind minor (next ∷ more) ≡ to) → route_of text ≡ to
+v3_routed : (text : List ℕ) (minor : ℕ) (to : Route) (vector : vector_v3.Vector) → DenotesV3 text (version_piece (codes "3." ++ numeral minor)) minor vector → ((next : List ℕ) (more : List (List ℕ)) → route_after minor (next ∷ more) ≡ to) → route_of text ≡ to
 v3_routed text minor to vector denotes routed =
     let parts = denotes.denoted.parts in
     ap route_of_pieces (v3_pieces text vector denotes.denoted)
-    ∙ (ap (λ each. route_behind each parts) denotes.version
+    ∙ (ap (λ each. route_after each parts) denotes.version
     ∙ two_pieces (codes "3." ++ numeral minor) parts to (v3_parts text minor vector denotes) routed)
 
 pub v30_routed : (text : List ℕ) (vector : vector_v3.Vector) → DenotesV3 text (codes "CVSS:3.0") 0 vector → route_of text ≡ ToV30
@@ -66,36 +66,36 @@ pub v31_routed : (text : List ℕ) (vector : vector_v3.Vector) → DenotesV3 tex
 v31_routed text vector denotes = v3_routed text 1 ToV31 vector denotes (λ next more. refl)
 
 -- the version that CVSS v4.0 supports
-pub only_one : (told other : List ℕ) → Contains (other ∷ []) told → told ≡ other
-only_one told other (zero, within, is) = sym is
-only_one told other (suc place, within, is) = absurd (omega (arith, within))
+pub only_one : (reported other : List ℕ) → Contains (other ∷ []) reported → reported ≡ other
+only_one reported other (zero, within, is) = sym is
+only_one reported other (suc place, within, is) = absurd (omega (arith, within))
 
 -- the versions that CVSS v3 supports
-one_of_two : (told first second : List ℕ) → Contains (first ∷ second ∷ []) told → (told ≡ first) ⊎ (told ≡ second)
-one_of_two told first second (zero, within, is) = inl (sym is)
-one_of_two told first second (suc zero, within, is) = inr (sym is)
-one_of_two told first second (suc (suc place), within, is) = absurd (omega (arith, within))
+one_of_two : (reported first second : List ℕ) → Contains (first ∷ second ∷ []) reported → (reported ≡ first) ⊎ (reported ≡ second)
+one_of_two reported first second (zero, within, is) = inl (sym is)
+one_of_two reported first second (suc zero, within, is) = inr (sym is)
+one_of_two reported first second (suc (suc place), within, is) = absurd (omega (arith, within))
 
 -- a vector of CVSS v4.0 with all base metrics has some component
 pub v4_parts : (text : List ℕ) (vector : vector_v4.Vector) (denotes : DenotesV4 text vector) → denotes.denoted.parts ≢ []
 v4_parts text vector denotes none =
     let value = value_from (v4.value_of vector kind_v4.AC) (denotes.well_formed.complete.present kind_v4.AC (0, lit< tt, refl)) in
-    let stands = held_stands v4 v4_is_lawful vector denotes.denoted.parts kind_v4.AC value.0 denotes.denoted.components value.1 in
+    let stands = held_stands v4 v4_laws vector denotes.denoted.parts kind_v4.AC value.0 denotes.denoted.components value.1 in
     omega (arith, stands.within, ap length none)
 
 v4_pieces : (text : List ℕ) (vector : vector_v4.Vector) (denotes : DenotesV4 text vector) → pieces text ≡ version_piece (codes "4.0") ∷ denotes.denoted.parts
 v4_pieces text vector denotes =
-    let told = denotes.well_formed.supported.told in
-    let is : told ≡ codes "4.0" = only_one told (codes "4.0") denotes.well_formed.supported.supported in
+    let reported = denotes.well_formed.supported.reported in
+    let is : reported ≡ codes "4.0" = only_one reported (codes "4.0") denotes.well_formed.supported.supported in
     let front : v4.front vector ≡ version_piece (codes "4.0") ∷ [] = denotes.well_formed.supported.front_is ∙ ap (λ each. version_piece each ∷ []) is in
-    pieces_denoted_behind v4 v4_is_lawful v4_fronts_are_lawful text vector denotes.denoted (codes "4.0") front refl
+    pieces_denoted_after v4 v4_laws v4_front_laws text vector denotes.denoted (codes "4.0") front refl
 
 pub v40_routed : (text : List ℕ) (vector : vector_v4.Vector) → DenotesV4 text vector → route_of text ≡ ToV40
 v40_routed text vector denotes =
     ap route_of_pieces (v4_pieces text vector denotes)
     ∙ two_pieces (codes "4.0") denotes.denoted.parts ToV40 (v4_parts text vector denotes) (λ next more. refl)
 
--- a first piece that is a component of CVSS v2 tells no version
+-- a first piece that is a component of CVSS v2 says no version
 held_routed : (kind : type_v2.MetricType) (spelling next : List ℕ) (more : List (List ℕ)) → has dot spelling ≡ false → route_of_pieces (component (name_of kind) spelling ∷ next ∷ more) ≡ ToV20
 held_routed kind spelling next more undotted = elim kind as (λ each. route_of_pieces (component (name_of each) spelling ∷ next ∷ more) ≡ ToV20) [
   | kind_v2.A ↦ rw undotted refl
@@ -117,8 +117,8 @@ v2_parts text vector denotes =
     let components = denotes.denoted.components in
     let av = value_from (v2.value_of vector kind_v2.AV) (denotes.complete.present kind_v2.AV (0, lit< tt, refl)) in
     let ac = value_from (v2.value_of vector kind_v2.AC) (denotes.complete.present kind_v2.AC (1, lit< tt, refl)) in
-    let av_at = held_stands v2 v2_is_lawful vector parts kind_v2.AV av.0 components av.1 in
-    let ac_at = held_stands v2 v2_is_lawful vector parts kind_v2.AC ac.0 components ac.1 in
+    let av_at = held_stands v2 v2_laws vector parts kind_v2.AV av.0 components av.1 in
+    let ac_at = held_stands v2 v2_laws vector parts kind_v2.AC ac.0 components ac.1 in
     let apart : av_at.place ≢ ac_at.place = λ same. names_apart _ _ (sym av_at.is ∙ (ap (piece_at parts) same ∙ ac_at.is)) in
     elim (cases_order av_at.place ac_at.place) [
       | inl same ↦ absurd (apart same)
@@ -131,36 +131,36 @@ v2_parts text vector denotes =
 pub v20_routed : (text : List ℕ) (vector : vector_v2.Vector) → DenotesV2 text vector → route_of text ≡ ToV20
 v20_routed text vector denotes =
     let parts = denotes.denoted.parts in
-    let are : pieces text ≡ parts = pieces_of_complete v2 v2_is_lawful vector text denotes.denoted (All-nil IsPart) denotes.complete in
+    let are : pieces text ≡ parts = pieces_of_complete v2 v2_laws vector text denotes.denoted (All-nil IsPart) denotes.complete in
     let some = v2_parts text vector denotes in
-    let first = piece_held v2 v2_is_lawful vector parts 0 denotes.denoted.components (omega (arith, some)) in
+    let first = piece_held v2 v2_laws vector parts 0 denotes.denoted.components (omega (arith, some)) in
     ap route_of_pieces are ∙ first_held_routed parts first.kind (v2.spelling first.kind first.value) some (undotted_spelling first.kind first.value) first.is
 
 -- a text that CVSS v3 reads has the minor version by which it was routed
-pub told_minor : (minor other : ℕ) (told : List ℕ) → v3_front minor ≡ version_piece told ∷ [] → told ≡ codes "3." ++ numeral other → minor ≡ other
-told_minor minor other told front is =
+pub reported_minor : (minor other : ℕ) (reported : List ℕ) → v3_front minor ≡ version_piece reported ∷ [] → reported ≡ codes "3." ++ numeral other → minor ≡ other
+reported_minor minor other reported front is =
     let piece = rw is at front in
     let numerals : numeral minor ≡ numeral other = cc in
     numeral-injective minor other numerals
 
 minor_is : (vector : vector_v3.Vector) → IsWellFormed v3 vector → (vector.minor_version ≡ 0) ⊎ (vector.minor_version ≡ 1)
-minor_is vector formed = elim (one_of_two formed.supported.told (codes "3.0") (codes "3.1") formed.supported.supported) [
-  | inl is ↦ inl (told_minor vector.minor_version 0 formed.supported.told formed.supported.front_is is)
-  | inr is ↦ inr (told_minor vector.minor_version 1 formed.supported.told formed.supported.front_is is)
+minor_is vector formed = elim (one_of_two formed.supported.reported (codes "3.0") (codes "3.1") formed.supported.supported) [
+  | inl is ↦ inl (reported_minor vector.minor_version 0 formed.supported.reported formed.supported.front_is is)
+  | inr is ↦ inr (reported_minor vector.minor_version 1 formed.supported.reported formed.supported.front_is is)
 ]
 
-not_v31 : (parts : List (List ℕ)) → route_behind 0 parts ≡ ToV31 → ⊥
+not_v31 : (parts : List (List ℕ)) → route_after 0 parts ≡ ToV31 → ⊥
 not_v31 [] is = cc
 not_v31 (next ∷ more) is = cc
 
-not_v30 : (parts : List (List ℕ)) → route_behind 1 parts ≡ ToV30 → ⊥
+not_v30 : (parts : List (List ℕ)) → route_after 1 parts ≡ ToV30 → ⊥
 not_v30 [] is = cc
 not_v30 (next ∷ more) is = cc
 
 module _ (text : List ℕ) (vector : vector_v3.Vector) where
   -- where the text is routed as this minor version is
-  routed_as : (to : Route) (minor : ℕ) → route_of text ≡ to → (denotes : Denotes v3 text vector) → vector.minor_version ≡ minor → route_behind minor denotes.parts ≡ to
-  routed_as to minor route denotes is = ap (λ each. route_behind each denotes.parts) (sym is) ∙ (sym (ap route_of_pieces (v3_pieces text vector denotes)) ∙ route)
+  routed_as : (to : Route) (minor : ℕ) → route_of text ≡ to → (denotes : Denotes v3 text vector) → vector.minor_version ≡ minor → route_after minor denotes.parts ≡ to
+  routed_as to minor route denotes is = ap (λ each. route_after each denotes.parts) (sym is) ∙ (sym (ap route_of_pieces (v3_pieces text vector denotes)) ∙ route)
 
   pub v30_denoted : route_of text ≡ ToV30 → Denotes v3 text vector → IsWellFormed v3 vector → DenotesV3 text (codes "CVSS:3.0") 0 vector
   v30_denoted route denotes formed = record {

@@ -24,7 +24,7 @@ use Rattle.cvss_v3.specs.Vector.{v3}
 use Rattle.cvss_v3.specs.declared.vector.Vector as vector_v3
 use Rattle.cvss_v4.specs.Vector.{v4}
 use Rattle.cvss_v4.specs.declared.vector.Vector as vector_v4
-use Rattle.cvss_v4.specs.private.VectorLaws.{v4_is_lawful}
+use Rattle.cvss_v4.specs.private.VectorLaws.{v4_laws}
 
 fewer : (index : Option ℕ) (n : ℕ) → n ≤ 32 → IfSome index (λ i. i ≤ n) → IfSome index (λ i. i ≤ 32)
 fewer None n most bound = tt
@@ -59,7 +59,7 @@ pub scored_with : (cvss new : Cvss) (metrics : List ℕ) → IsWith cvss metrics
 scored_with (CvssV20 v) new metrics is scored = subst HasScore (sym is.is) tt
 scored_with (CvssV30 v) new metrics is scored = subst HasScore (sym is.is) tt
 scored_with (CvssV31 v) new metrics is scored = subst HasScore (sym is.is) tt
-scored_with (CvssV40 v) new metrics is scored = subst HasScore (sym is.is) (IsComplete-set v4 v4_is_lawful v (components_in metrics) is.own is.holds scored)
+scored_with (CvssV40 v) new metrics is scored = subst HasScore (sym is.is) (IsComplete-set v4 v4_laws v (components_in metrics) is.own is.holds scored)
 
 pub scored_built : (version : version_of_cvss.Version) (new : Cvss) (metrics : List ℕ) → IsBuiltAs version metrics new → HasScore new
 scored_built V20 new metrics is = subst HasScore (sym is.is) tt

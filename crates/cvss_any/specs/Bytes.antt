@@ -3,21 +3,21 @@ use Rattle.std.specs.Prelude.{ℕ, List, codes}
 use Rattle.std.specs.Str.{IsUtf8}
 use Rattle.cvss_base.specs.ErrorText.{error_text}
 use Rattle.cvss_base.specs.Refusal.{Refusal}
-use Rattle.cvss_base.specs.Told.{Tells, TellsFirst}
+use Rattle.cvss_base.specs.Reported.{Reports, ReportsFirst}
 use Rattle.cvss_any.specs.Dispatch.{IsFirstRefusalCvss, cvss_reason}
 use Rattle.cvss_any.specs.declared.bytes_error.BytesError.{BytesError}
 use Rattle.cvss_any.specs.declared.bytes_error.BytesError.TheVariants.{NotUtf8, Invalid}
 use Rattle.cvss_any.specs.declared.metric_type.MetricType.{MetricType}
 
--- what the error says is so: the bytes are not UTF-8, or they are and the error tells the first reason
-abbrev pub TellsWhyNot : List ℕ → BytesError → Type 0
-TellsWhyNot bytes NotUtf8 = ¬ (IsUtf8 bytes)
-TellsWhyNot bytes (Invalid error) = IsUtf8 bytes × TellsFirst cvss_reason (IsFirstRefusalCvss bytes) error
+-- what the error says is so: the bytes are not UTF-8, or they are and the error says the first reason
+abbrev pub ReportsWhyNot : List ℕ → BytesError → Type 0
+ReportsWhyNot bytes NotUtf8 = ¬ (IsUtf8 bytes)
+ReportsWhyNot bytes (Invalid error) = IsUtf8 bytes × ReportsFirst cvss_reason (IsFirstRefusalCvss bytes) error
 
 -- the error says that the bytes are not UTF-8, or that they are, and that this is the reason
 abbrev pub IsRefusedAs : List ℕ → Refusal MetricType → BytesError → Type 0
 IsRefusedAs bytes reason NotUtf8 = ¬ (IsUtf8 bytes)
-IsRefusedAs bytes reason (Invalid error) = IsUtf8 bytes × Tells cvss_reason reason error
+IsRefusedAs bytes reason (Invalid error) = IsUtf8 bytes × Reports cvss_reason reason error
 
 -- the error's text
 abbrev pub bytes_error_text : BytesError → List ℕ

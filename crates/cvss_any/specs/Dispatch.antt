@@ -2,11 +2,11 @@
 -- section 2.4; v3.1 specification, section 6; v4.0 specification, section 7.
 use Rattle.std.specs.Prelude.{◌≡◌, ◌≢◌, ℕ, List, codes, Option, Some, None}
 use Rattle.std.specs.String.{string_bytes}
-use Rattle.cvss_base.specs.Refusal.{Refusal, BadComponent, WrongPrefix, WrongVersion, UnknownName, BadValue, Repeated, Missing, IsFirstRefusal, IsFirstRefusalBehind}
+use Rattle.cvss_base.specs.Refusal.{Refusal, BadComponent, WrongPrefix, WrongVersion, UnknownName, BadValue, Repeated, Missing, IsFirstRefusal, IsFirstRefusalAfter}
 use Rattle.cvss_base.specs.Version.{Denotes, IsComplete, IsWellFormed}
 use Rattle.cvss_base.specs.declared.error.Error.{Error}
 use Rattle.cvss_base.specs.declared.error.Error.TheVariants.{InvalidMetricV2, DuplicateMetricV2, MissingMandatoryMetricV2, InvalidMetricV3, DuplicateMetricV3, InvalidMetricV4, DuplicateMetricV4, MissingMandatoryMetricV4}
-use Rattle.cvss_any.specs.Route.{NoVersion, OnePiece, OtherPrefix, OtherVersion, Route, ToV20, ToV30, ToV31, ToV40, ToUntold, route_of}
+use Rattle.cvss_any.specs.Route.{NoVersion, OnePiece, OtherPrefix, OtherVersion, Route, ToV20, ToV30, ToV31, ToV40, ToNoVersion, route_of}
 use Rattle.cvss_v2.specs.Vector.{v2}
 use Rattle.cvss_v2.specs.declared.vector.Vector as vector_v2
 use Rattle.cvss_v3.specs.Vector.{v3}
@@ -23,7 +23,7 @@ pub record DenotesV2 (text : List ℕ) (vector : vector_v2.Vector) : Type 0 wher
   pub denoted : Denotes v2 text vector
   pub complete : IsComplete v2 vector
 
--- the text denotes a vector of this minor version, and is not the piece alone that tells the version
+-- the text denotes a vector of this minor version, and is not the piece alone that says the version
 pub record DenotesV3 (text piece : List ℕ) (minor : ℕ) (vector : vector_v3.Vector) : Type 0 where
   pub denoted : Denotes v3 text vector
   pub well_formed : IsWellFormed v3 vector
@@ -46,17 +46,17 @@ DenotesCvss text (CvssV40 vector) = DenotesV4 text vector
 abbrev pub wrapped : {K : Type 0} → (K → MetricType) → Refusal K → Refusal MetricType
 wrapped wrap (BadComponent piece) = BadComponent piece
 wrapped wrap (WrongPrefix prefix) = WrongPrefix prefix
-wrapped wrap (WrongVersion told) = WrongVersion told
+wrapped wrap (WrongVersion reported) = WrongVersion reported
 wrapped wrap (UnknownName name) = UnknownName name
 wrapped wrap (BadValue kind value) = BadValue (wrap kind) value
 wrapped wrap (Repeated kind) = Repeated (wrap kind)
 wrapped wrap (Missing kind) = Missing (wrap kind)
 
--- why no version is told, as a reason for a refusal
-abbrev pub untold : NoVersion → Refusal MetricType
-untold (OnePiece piece) = BadComponent piece
-untold (OtherPrefix prefix) = WrongPrefix prefix
-untold (OtherVersion told) = WrongVersion told
+-- why no version is reported, as a reason for a refusal
+abbrev pub without_version : NoVersion → Refusal MetricType
+without_version (OnePiece piece) = BadComponent piece
+without_version (OtherPrefix prefix) = WrongPrefix prefix
+without_version (OtherVersion reported) = WrongVersion reported
 
 -- the reason is one of a version's own
 pub record IsReasonOf {K : Type 0} (wrap : K → MetricType) (IsFirst : Refusal K → Type 0) (reason : Refusal MetricType) : Type 0 where
@@ -67,16 +67,16 @@ pub record IsReasonOf {K : Type 0} (wrap : K → MetricType) (IsFirst : Refusal 
 -- the first reason why a text that is read there is refused
 abbrev pub IsFirstReasonAt : Route → List ℕ → Refusal MetricType → Type 0
 IsFirstReasonAt ToV20 text = IsReasonOf V2 (IsFirstRefusal v2 text)
-IsFirstReasonAt ToV30 text = IsReasonOf V3 (IsFirstRefusalBehind v3 text)
-IsFirstReasonAt ToV31 text = IsReasonOf V3 (IsFirstRefusalBehind v3 text)
-IsFirstReasonAt ToV40 text = IsReasonOf V4 (IsFirstRefusalBehind v4 text)
-IsFirstReasonAt (ToUntold why) text = λ reason. reason ≡ untold why
+IsFirstReasonAt ToV30 text = IsReasonOf V3 (IsFirstRefusalAfter v3 text)
+IsFirstReasonAt ToV31 text = IsReasonOf V3 (IsFirstRefusalAfter v3 text)
+IsFirstReasonAt ToV40 text = IsReasonOf V4 (IsFirstRefusalAfter v4 text)
+IsFirstReasonAt (ToNoVersion why) text = λ reason. reason ≡ without_version why
 
 -- the first reason why the text is refused
 abbrev pub IsFirstRefusalCvss : List ℕ → Refusal MetricType → Type 0
 IsFirstRefusalCvss text = IsFirstReasonAt (route_of text) text
 
--- what errors tell of the metrics of any version
+-- what errors say of the metrics of any version
 abbrev pub cvss_reason : Error → Option (Refusal MetricType)
 cvss_reason (InvalidMetricV2 kind value) = Some (BadValue (V2 kind) (string_bytes value))
 cvss_reason (DuplicateMetricV2 kind) = Some (Repeated (V2 kind))

@@ -49,7 +49,7 @@ IsBuiltReason V30 text index = IsReasonOf metric.V3 (IsBuildReason v3 (pieces te
 IsBuiltReason V31 text index = IsReasonOf metric.V3 (IsBuildReason v3 (pieces text) index)
 IsBuiltReason V40 text index = IsReasonOf metric.V4 (IsBuildReason v4 (pieces text) index)
 
--- the text of a version with components, as it is read: behind the piece that tells the version, where there is one
+-- the text of a version with components, as it is read: after the piece that says the version, where there is one
 abbrev pub text_with : Version → List ℕ → List ℕ
 text_with V20 text = text
 text_with V30 text = codes "CVSS:3.0/" ++ text

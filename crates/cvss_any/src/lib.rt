@@ -1,4 +1,4 @@
-//! A vector of any version: read, printed and scored by the rules of the version that its text tells.
+//! A vector of any version: read, printed and scored by the rules of the version that its text says.
 #![tactic(auto)]
 
 mod bytes_error;

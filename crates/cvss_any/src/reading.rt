@@ -1,20 +1,20 @@
-//! How a text is read by the rules of the version that it tells. It takes no memory: a fault borrows
+//! How a text is read by the rules of the version that it says. It takes no memory: a fault borrows
 //! the part of the text that it names.
 
 ghost use Rattle.std.specs.Prelude.{◌≡◌, [], ◌∷◌, codes, Err, IfErr, IfOk, IsUtf8};
 ghost use Rattle.cvss_base.specs.Text.{pieces};
-ghost use Rattle.cvss_base.specs.Told.{Tells};
+ghost use Rattle.cvss_base.specs.Reported.{Reports};
 ghost use Rattle.cvss_base.specs.Version.{version_piece};
 ghost use Rattle.cvss_text.specs.private.Pieces.{pieces_left};
-ghost use Rattle.cvss_text.specs.private.Walk.{IsTellable, reason_of};
+ghost use Rattle.cvss_text.specs.private.Walk.{IsPrintable, reason_of};
 ghost use Rattle.cvss_any.specs.Bytes.{IsRefusedAs};
 ghost use Rattle.cvss_any.specs.declared.metric_type.MetricType.TheVariants.{V2};
-ghost use Rattle.cvss_any.specs.Dispatch.{cvss_reason, untold, wrapped};
-ghost use Rattle.cvss_any.specs.private.Steps.{IsRead, IsTellableFault, reason_read};
+ghost use Rattle.cvss_any.specs.Dispatch.{cvss_reason, without_version, wrapped};
+ghost use Rattle.cvss_any.specs.private.Steps.{IsRead, IsPrintableFault, reason_read};
 ghost use Rattle.cvss_any.specs.Published.{IsPublishedAs};
 ghost use Rattle.cvss_any.specs.Refusals.{IsReadErrorFor};
 ghost use Rattle.cvss_any.specs.Route.{ToV20, ToV30, ToV31, ToV40, route_of};
-ghost use Rattle.cvss_any.specs.private.Views as is_told;
+ghost use Rattle.cvss_any.specs.private.Views as is_reported;
 ghost use Rattle.cvss_any.specs.private.Views.{why_of};
 ghost use Rattle.cvss_v2.specs.Vector.{v2};
 
@@ -26,14 +26,14 @@ use crate::vector::Cvss;
 use crate::{v2, v3, v4};
 use cvss_base::Error;
 use cvss_text::buffer::TextBuffer;
-use cvss_text::front::{Fronted, read_started};
+use cvss_text::front::{Prefixed, read_started};
 use cvss_text::pieces::Pieces;
-use cvss_text::print::text_behind;
+use cvss_text::print::text_after;
 use cvss_text::refusing;
 use cvss_text::walk::{Fault, fill_vector};
 use std::alloc::Global;
 
-/// Why a text denotes no vector, as the version found by whose rules it was read. That a text tells
+/// Why a text denotes no vector, as the version found by whose rules it was read. That a text says
 /// no version is said as CVSS v2 says it.
 #[derive(Drop)]
 pub(crate) enum ReadFault<'a> {
@@ -51,14 +51,14 @@ pub(crate) fn read(text: &[u8]) -> Result<Cvss, ReadFault<'_>>
         Route::V30(left) => read_v30(text, left),
         Route::V31(left) => read_v31(text, left),
         Route::V40(left) => read_v40(text, left),
-        Route::Untold(why) => Err(ReadFault::V2(fault_of(why))),
+        Route::Unversioned(why) => Err(ReadFault::V2(fault_of(why))),
     }
 }
 
-/// The fault that a text tells no version.
+/// The fault that a text says no version.
 fn fault_of<'a>(why: NoVersion<'a>) -> Fault<'a, cvss_base::v2::MetricType>
-    ensures reason { wrapped V2 (reason_of v2 result) ≡ untold (why_of why.entry) }
-    ensures tellable { is_told.IsTellable why.entry → IsTellable v2 result }
+    ensures reason { wrapped V2 (reason_of v2 result) ≡ without_version (why_of why.entry) }
+    ensures printable { is_reported.IsPrintable why.entry → IsPrintable v2 result }
 {
     match why {
         NoVersion::InvalidComponent(piece) => Fault::InvalidComponent(piece),
@@ -83,7 +83,7 @@ fn read_v20(text: &[u8]) -> Result<Cvss, ReadFault<'_>>
 #[inline(never)]
 fn read_v30<'a>(text: &'a [u8], left: Pieces<'a>) -> Result<Cvss, ReadFault<'a>>
     requires routed { route_of text.now ≡ ToV30 }
-    requires behind { pieces text.now ≡ version_piece (codes "3.0") ∷ pieces_left left }
+    requires after { pieces text.now ≡ version_piece (codes "3.0") ∷ pieces_left left }
     ensures { IsRead text.now result }
 {
     let mut vector = v3::Vector::start(b"3.0").unwrap();
@@ -96,7 +96,7 @@ fn read_v30<'a>(text: &'a [u8], left: Pieces<'a>) -> Result<Cvss, ReadFault<'a>>
 #[inline(never)]
 fn read_v31<'a>(text: &'a [u8], left: Pieces<'a>) -> Result<Cvss, ReadFault<'a>>
     requires routed { route_of text.now ≡ ToV31 }
-    requires behind { pieces text.now ≡ version_piece (codes "3.1") ∷ pieces_left left }
+    requires after { pieces text.now ≡ version_piece (codes "3.1") ∷ pieces_left left }
     ensures { IsRead text.now result }
 {
     let mut vector = v3::Vector::start(b"3.1").unwrap();
@@ -109,7 +109,7 @@ fn read_v31<'a>(text: &'a [u8], left: Pieces<'a>) -> Result<Cvss, ReadFault<'a>>
 #[inline(never)]
 fn read_v40<'a>(text: &'a [u8], left: Pieces<'a>) -> Result<Cvss, ReadFault<'a>>
     requires routed { route_of text.now ≡ ToV40 }
-    requires behind { pieces text.now ≡ version_piece (codes "4.0") ∷ pieces_left left }
+    requires after { pieces text.now ≡ version_piece (codes "4.0") ∷ pieces_left left }
     ensures { IsRead text.now result }
 {
     let mut vector = v4::Vector::start(b"4.0").unwrap();
@@ -134,7 +134,7 @@ pub(crate) fn publish<'a, 'b>(
         Route::V30(left) => publish_v30(text, left, buffer),
         Route::V31(left) => publish_v31(text, left, buffer),
         Route::V40(left) => publish_v40(text, left, buffer),
-        Route::Untold(why) => Err(ReadFault::V2(fault_of(why))),
+        Route::Unversioned(why) => Err(ReadFault::V2(fault_of(why))),
     }
 }
 
@@ -169,7 +169,7 @@ fn publish_v30<'a, 'b>(
     buffer: &'b mut TextBuffer,
 ) -> Result<(&'b [u8], Published), ReadFault<'a>>
     requires routed { route_of text.now ≡ ToV30 }
-    requires behind { pieces text.now ≡ version_piece (codes "3.0") ∷ pieces_left left }
+    requires after { pieces text.now ≡ version_piece (codes "3.0") ∷ pieces_left left }
     requires empty { buffer.old ≡ [] }
     ensures published { IfOk result (λ given. IsPublishedAs text.now given.0.now given.1) }
     ensures refused { IfErr result (λ fault. IsRead text.now (Err fault)) }
@@ -177,7 +177,7 @@ fn publish_v30<'a, 'b>(
     let mut vector = v3::Vector::start(b"3.0").unwrap();
     match read_started(text, left, &mut vector) {
         Ok(()) => {
-            let given = text_behind(*b"CVSS:3.0", &vector, buffer);
+            let given = text_after(*b"CVSS:3.0", &vector, buffer);
             let published = Published {
                 tenths: vector.tenths(),
                 bounds: Bounds::SinceV3,
@@ -195,7 +195,7 @@ fn publish_v31<'a, 'b>(
     buffer: &'b mut TextBuffer,
 ) -> Result<(&'b [u8], Published), ReadFault<'a>>
     requires routed { route_of text.now ≡ ToV31 }
-    requires behind { pieces text.now ≡ version_piece (codes "3.1") ∷ pieces_left left }
+    requires after { pieces text.now ≡ version_piece (codes "3.1") ∷ pieces_left left }
     requires empty { buffer.old ≡ [] }
     ensures published { IfOk result (λ given. IsPublishedAs text.now given.0.now given.1) }
     ensures refused { IfErr result (λ fault. IsRead text.now (Err fault)) }
@@ -203,7 +203,7 @@ fn publish_v31<'a, 'b>(
     let mut vector = v3::Vector::start(b"3.1").unwrap();
     match read_started(text, left, &mut vector) {
         Ok(()) => {
-            let given = text_behind(*b"CVSS:3.1", &vector, buffer);
+            let given = text_after(*b"CVSS:3.1", &vector, buffer);
             let published = Published {
                 tenths: vector.tenths(),
                 bounds: Bounds::SinceV3,
@@ -221,7 +221,7 @@ fn publish_v40<'a, 'b>(
     buffer: &'b mut TextBuffer,
 ) -> Result<(&'b [u8], Published), ReadFault<'a>>
     requires routed { route_of text.now ≡ ToV40 }
-    requires behind { pieces text.now ≡ version_piece (codes "4.0") ∷ pieces_left left }
+    requires after { pieces text.now ≡ version_piece (codes "4.0") ∷ pieces_left left }
     requires empty { buffer.old ≡ [] }
     ensures published { IfOk result (λ given. IsPublishedAs text.now given.0.now given.1) }
     ensures refused { IfErr result (λ fault. IsRead text.now (Err fault)) }
@@ -229,7 +229,7 @@ fn publish_v40<'a, 'b>(
     let mut vector = v4::Vector::start(b"4.0").unwrap();
     match read_started(text, left, &mut vector) {
         Ok(()) => {
-            let given = text_behind(*b"CVSS:4.0", &vector, buffer);
+            let given = text_after(*b"CVSS:4.0", &vector, buffer);
             let published = Published {
                 tenths: vector.tenths(),
                 bounds: Bounds::SinceV3,
@@ -240,10 +240,10 @@ fn publish_v40<'a, 'b>(
     }
 }
 
-/// The error that tells a fault, or that there is no memory for the text that the fault names.
+/// The error that says a fault, or that there is no memory for the text that the fault names.
 pub(crate) fn error_of(alloc: Global, fault: ReadFault<'_>) -> Error
-    requires { IsTellableFault fault }
-    ensures { Tells cvss_reason (reason_read fault.entry) result }
+    requires { IsPrintableFault fault }
+    ensures { Reports cvss_reason (reason_read fault.entry) result }
 {
     match fault {
         ReadFault::V2(fault) => refusing::error_of::<v2::Vector>(alloc, fault),
@@ -254,7 +254,7 @@ pub(crate) fn error_of(alloc: Global, fault: ReadFault<'_>) -> Error
 
 /// The error of bytes in which a fault was found: that they are no text, or that of the fault.
 pub(crate) fn bytes_error_of(alloc: Global, text: &[u8], fault: ReadFault<'_>) -> BytesError
-    requires { IsUtf8 text.now → IsTellableFault fault }
+    requires { IsUtf8 text.now → IsPrintableFault fault }
     ensures { IsRefusedAs text.now (reason_read fault.entry) result }
 {
     match str::from_utf8(text) {

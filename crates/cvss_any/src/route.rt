@@ -5,23 +5,23 @@ ghost use Rattle.cvss_base.specs.Text.{component, dot, has, pieces, slash};
 ghost use Rattle.cvss_base.specs.Version.{version_piece};
 ghost use Rattle.cvss_text.specs.private.Pieces.{pieces_left};
 ghost use Rattle.cvss_any.specs.Route.{route_of, route_of_parts};
-ghost use Rattle.cvss_any.specs.private.Views.{IsBehindVersion, IsTellableRoute, as_route};
+ghost use Rattle.cvss_any.specs.private.Views.{IsAfterVersion, IsPrintableRoute, as_route};
 
 use cvss_base::PREFIX;
 use cvss_text::pieces::{Pieces, front_of, parts_of, pieces_of};
-use cvss_text::sight::behind_five;
+use cvss_text::sight::after_five;
 
 /// By the rules of which version a text is read.
 #[derive(Drop)]
 pub enum Route<'a> {
     /// All of the text is read.
     V20,
-    /// Each of these with the pieces behind the one that tells the version.
+    /// Each of these with the pieces after the one that says the version.
     V30(Pieces<'a>),
     V31(Pieces<'a>),
     V40(Pieces<'a>),
-    /// No version is told, so no rules apply.
-    Untold(NoVersion<'a>),
+    /// No version is reported, so no rules apply.
+    Unversioned(NoVersion<'a>),
 }
 
 /// Why a text is read by no rules, with the part of the text that is at fault.
@@ -29,38 +29,38 @@ pub enum Route<'a> {
 pub enum NoVersion<'a> {
     /// The text has one piece, or its first piece has no colon.
     InvalidComponent(&'a [u8]),
-    /// A version is told, but not behind `CVSS`.
+    /// A version is reported, but not after `CVSS`.
     InvalidPrefix(&'a [u8]),
-    /// The version that is told is not supported.
+    /// The version that is reported is not supported.
     UnsupportedVersion(&'a [u8]),
 }
 
-/// By the rules of which version a text is read: the first of its pieces tells it, and it has two at
+/// By the rules of which version a text is read: the first of its pieces says it, and it has two at
 /// least. It takes no memory.
 #[inline(always)]
 pub fn route_of_text(text: &[u8]) -> Route<'_>
     ensures route { as_route result ≡ route_of text.now }
-    ensures behind { IsBehindVersion (pieces text.now) result }
-    ensures tellable { IsUtf8 text.now → IsTellableRoute result }
+    ensures after { IsAfterVersion (pieces text.now) result }
+    ensures printable { IsUtf8 text.now → IsPrintableRoute result }
 {
-    match told_at_sight(text) {
-        Some((told, rest)) => route_by_version(told, pieces_of(rest)),
+    match reported_at_sight(text) {
+        Some((reported, rest)) => route_by_version(reported, pieces_of(rest)),
         None => route_by_front(text),
     }
 }
 
-/// The version of two digits that a text tells behind `CVSS`, and what stands behind the slash after
-/// it. `None` tells nothing of the text.
+/// The version of two digits that a text says after `CVSS`, and what follows the slash after
+/// it. `None` says nothing of the text.
 #[inline(always)]
-fn told_at_sight(text: &[u8]) -> Option<(&[u8], &[u8])>
+fn reported_at_sight(text: &[u8]) -> Option<(&[u8], &[u8])>
     ensures text { IfSome result
         (λ cut. text.now ≡ version_piece cut.0.now ++ (slash ∷ cut.1.now)) }
     ensures slash { IfSome result (λ cut. has slash cut.0.now ≡ false) }
     ensures dot { IfSome result (λ cut. has dot cut.0.now ≡ true) }
 {
-    let rest = behind_five(text, *b"CVSS:")?;
+    let rest = after_five(text, *b"CVSS:")?;
     match rest {
-        [b'0'..=b'9', b'.', b'0'..=b'9', b'/', behind @ ..] => Some((&rest[..3], behind)),
+        [b'0'..=b'9', b'.', b'0'..=b'9', b'/', after @ ..] => Some((&rest[..3], after)),
         _ => None,
     }
 }
@@ -68,51 +68,51 @@ fn told_at_sight(text: &[u8]) -> Option<(&[u8], &[u8])>
 /// By the rules of which version a text is read, where the end of its first piece has to be sought.
 fn route_by_front(text: &[u8]) -> Route<'_>
     ensures route { as_route result ≡ route_of text.now }
-    ensures behind { IsBehindVersion (pieces text.now) result }
-    ensures tellable { IsUtf8 text.now → IsTellableRoute result }
+    ensures after { IsAfterVersion (pieces text.now) result }
+    ensures printable { IsUtf8 text.now → IsPrintableRoute result }
 {
-    let (front, behind) = front_of(text);
-    if behind.is_empty() {
-        return Route::Untold(NoVersion::InvalidComponent(front));
+    let (front, after) = front_of(text);
+    if after.is_empty() {
+        return Route::Unversioned(NoVersion::InvalidComponent(front));
     }
     match parts_of(front) {
-        Some((prefix, told)) => route_by(prefix, told, behind),
-        None => Route::Untold(NoVersion::InvalidComponent(front)),
+        Some((prefix, reported)) => route_by(prefix, reported, after),
+        None => Route::Unversioned(NoVersion::InvalidComponent(front)),
     }
 }
 
-/// By which rules a text is read whose first piece has this prefix and tells this version.
-fn route_by<'a>(prefix: &'a [u8], told: &'a [u8], behind: Pieces<'a>) -> Route<'a>
-    ensures route { as_route result ≡ route_of_parts prefix.now told.now }
-    ensures behind { IsBehindVersion (component prefix.now told.now ∷ pieces_left behind.entry) result }
-    ensures tellable { IsUtf8 prefix.now → IsUtf8 told.now → IsTellableRoute result }
+/// By which rules a text is read whose first piece has this prefix and says this version.
+fn route_by<'a>(prefix: &'a [u8], reported: &'a [u8], after: Pieces<'a>) -> Route<'a>
+    ensures route { as_route result ≡ route_of_parts prefix.now reported.now }
+    ensures after { IsAfterVersion (component prefix.now reported.now ∷ pieces_left after.entry) result }
+    ensures printable { IsUtf8 prefix.now → IsUtf8 reported.now → IsPrintableRoute result }
 {
-    if !told.contains(&b'.') {
+    if !reported.contains(&b'.') {
         return Route::V20;
     }
     if prefix != PREFIX.as_bytes() {
-        return Route::Untold(NoVersion::InvalidPrefix(prefix));
+        return Route::Unversioned(NoVersion::InvalidPrefix(prefix));
     }
-    route_by_version(told, behind)
+    route_by_version(reported, after)
 }
 
-/// By which rules a text is read whose first piece has the prefix `CVSS` and tells this version, in
+/// By which rules a text is read whose first piece has the prefix `CVSS` and says this version, in
 /// which a dot stands.
 #[inline(always)]
-fn route_by_version<'a>(told: &'a [u8], behind: Pieces<'a>) -> Route<'a>
-    requires { has dot told.now ≡ true }
-    ensures route { as_route result ≡ route_of_parts (codes "CVSS") told.now }
-    ensures behind { IsBehindVersion (version_piece told.now ∷ pieces_left behind.entry) result }
-    ensures tellable { IsUtf8 told.now → IsTellableRoute result }
+fn route_by_version<'a>(reported: &'a [u8], after: Pieces<'a>) -> Route<'a>
+    requires { has dot reported.now ≡ true }
+    ensures route { as_route result ≡ route_of_parts (codes "CVSS") reported.now }
+    ensures after { IsAfterVersion (version_piece reported.now ∷ pieces_left after.entry) result }
+    ensures printable { IsUtf8 reported.now → IsPrintableRoute result }
 {
-    if told == "3.1".as_bytes() {
-        return Route::V31(behind);
+    if reported == "3.1".as_bytes() {
+        return Route::V31(after);
     }
-    if told == "4.0".as_bytes() {
-        return Route::V40(behind);
+    if reported == "4.0".as_bytes() {
+        return Route::V40(after);
     }
-    if told == "3.0".as_bytes() {
-        return Route::V30(behind);
+    if reported == "3.0".as_bytes() {
+        return Route::V30(after);
     }
-    Route::Untold(NoVersion::UnsupportedVersion(told))
+    Route::Unversioned(NoVersion::UnsupportedVersion(reported))
 }

@@ -14,8 +14,8 @@ use crate::{v2, v3, v4};
 const VERSION_PIECE_LENGTH: usize = 8;
 
 impl Cvss {
-    /// The vector whose canonical text this is, where that is seen at once: `None` tells nothing of
-    /// the text, of which `read_in_any_order` tells. It takes no memory.
+    /// The vector whose canonical text this is, where that is seen at once: `None` says nothing of
+    /// the text, of which `read_in_any_order` says. It takes no memory.
     pub fn read_canonical(text: &[u8]) -> Option<Cvss>
         ensures canonical { IfSome result (λ cvss. text.now ≡ text_of cvss) }
         ensures denoted { IfSome result (λ cvss. DenotesCvss text.now cvss) }

@@ -32,9 +32,9 @@ impl Cvss {
     ghost use Rattle.std.specs.Str.{IsUtf8};
     ghost use Rattle.cvss_base.specs.Refusal.{Refusal};
     ghost use Rattle.cvss_base.specs.Tenths.{IsInTenths, IsFromZeroToTen};
-    ghost use Rattle.cvss_base.specs.Told.{Tells, TellsFirst};
+    ghost use Rattle.cvss_base.specs.Reported.{Reports, ReportsFirst};
     ghost use Rattle.cvss_any.specs.Answers.{HasScore, IsScoreOf, IsScoreText, score_of_tenths, rating_by, metrics_of};
-    ghost use Rattle.cvss_any.specs.Bytes.{IsRefusedAs, TellsWhyNot};
+    ghost use Rattle.cvss_any.specs.Bytes.{IsRefusedAs, ReportsWhyNot};
     ghost use Rattle.cvss_any.specs.Dispatch.{DenotesCvss, IsFirstRefusalCvss, cvss_reason};
     ghost use Rattle.cvss_any.specs.MetricsLeft.{metrics_left};
     ghost use Rattle.cvss_any.specs.Published.{IsPublished, IsPublishedAs, rating_within};
@@ -43,7 +43,7 @@ impl Cvss {
     ghost use Rattle.cvss_any.specs.declared.refusal.ReadError.TheVariants as read_error;
     ghost use Rattle.cvss_any.specs.declared.metric_type.MetricType.{MetricType};
 
-    /// The vector that a text denotes, by the rules of the version that it tells: CVSS v3.0, v3.1
+    /// The vector that a text denotes, by the rules of the version that it says: CVSS v3.0, v3.1
     /// and v4.0 by a first piece `CVSS:` and version, and CVSS v2 without one. The two texts
     /// `CVSS:3.0` and `CVSS:3.1` denote none. Accepting takes no memory.
     ///
@@ -61,9 +61,9 @@ impl Cvss {
         ensures scored { IfOk result (λ cvss. HasScore cvss) }
         // Refused: for the first reason, and wherever there is one. Memory is the answer only where
         // the reason carries text.
-        ensures refused { IfErr result (TellsFirst cvss_reason (IsFirstRefusalCvss text.now)) }
+        ensures refused { IfErr result (ReportsFirst cvss_reason (IsFirstRefusalCvss text.now)) }
         ensures refuses { (reason : Refusal MetricType) → IsFirstRefusalCvss text.now reason
-            → IsErrAnd result (Tells cvss_reason reason) }
+            → IsErrAnd result (Reports cvss_reason reason) }
     {
         match read(text.as_bytes()) {
             Ok(cvss) => Ok(cvss),
@@ -71,7 +71,7 @@ impl Cvss {
         }
     }
 
-    /// The vector that bytes denote, by the rules of the version that they tell. They are read once:
+    /// The vector that bytes denote, by the rules of the version that they say. They are read once:
     /// whether they are UTF-8 is asked only where they are refused, since a text that is accepted is
     /// ASCII.
     ///
@@ -87,7 +87,7 @@ impl Cvss {
         ensures utf8 { OnOk result (IsUtf8 text.now) }
         // Refused: as no text wherever it is none, and else for the first reason, and wherever there
         // is one. Memory is the answer only where the reason carries text.
-        ensures refused { IfErr result (TellsWhyNot text.now) }
+        ensures refused { IfErr result (ReportsWhyNot text.now) }
         ensures not_utf8 { ¬ (IsUtf8 text.now) → result ≡ Err NotUtf8 }
         ensures refuses { (reason : Refusal MetricType) → IsFirstRefusalCvss text.now reason
             → IsErrAnd result (IsRefusedAs text.now reason) }
@@ -159,7 +159,7 @@ impl Cvss {
     }
 
     /// The vector that a text denotes, if there is one, without looking first whether the text is a
-    /// canonical one: for a text of which `read_canonical` told nothing. It takes no memory.
+    /// canonical one: for a text of which `read_canonical` reported nothing. It takes no memory.
     pub fn read_in_any_order(text: &[u8]) -> Option<Cvss>
         ensures denoted { IfSome result (λ cvss. DenotesCvss text.now cvss) }
         ensures accepts { (cvss : Cvss) → DenotesCvss text.now cvss → result ≡ Some cvss }

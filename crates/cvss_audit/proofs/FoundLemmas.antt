@@ -50,7 +50,7 @@ module _ (source : Source) (places : List Place) where
     split = sym all;
     found = [];
     are_found = tt;
-    told = refl;
+    reported = refl;
     passed = [];
     pass = inl refl;
     appended = Appends-nil w;
@@ -91,7 +91,7 @@ module _ (source : Source) (places : List Place) where
     split = split_more before.seen place left left' before.split next;
     found = before.found ++ wrote.found ∷ [];
     are_found = AreFound-push source before.seen before.found place wrote.found before.are_found wrote.is_found;
-    told = ap₂ (λ (a b : Bool). a && b) before.told wrote.told ∙ sym (all_agree-push before.found wrote.found);
+    reported = ap₂ (λ (a b : Bool). a && b) before.reported wrote.reported ∙ sym (all_agree-push before.found wrote.found);
     passed = before.passed;
     pass = before.pass;
     appended = Appends-kept w w' w'' before.passed before.appended kept.1;
@@ -106,14 +106,14 @@ module _ (source : Source) (places : List Place) where
         split = split_more before.seen place left left' before.split next;
         found = before.found ++ wrote.found ∷ [];
         are_found = AreFound-push source before.seen before.found place wrote.found before.are_found wrote.is_found;
-        told = ap₂ (λ (a b : Bool). a && b) before.told wrote.told ∙ sym (all_agree-push before.found wrote.found);
+        reported = ap₂ (λ (a b : Bool). a && b) before.reported wrote.reported ∙ sym (all_agree-push before.found wrote.found);
         passed = before.passed ++ middle;
         pass = inr (written_found (before.found ++ wrote.found ∷ []), begins, all);
         appended = Appends-trans w w' w'' before.passed middle before.appended flushed.1;
         together = ap (λ bytes. (before.passed ++ middle) ++ bytes) flushed.0 ∙ append-nil (before.passed ++ middle) ∙ all;
       }
 
-  -- a write failed behind one more place
+  -- a write failed after one more place
   pub StopsFound-write : (place : Place) (left left' : List Place) (old waits middle : List ℕ) (w w' w'' : Option (List ℕ)) (agree agrees : Bool) (fault : RunFault)
       → left ≡ place ∷ left' → StreamsFound source places left old waits w w' agree → WritesPlace source place waits middle agrees
       → (fault ≡ Write) × ((count : ℕ) × Appends w' w'' (take count middle)) → StopsFound source places old w w'' fault
@@ -132,15 +132,15 @@ module _ (source : Source) (places : List Place) where
   }
 
 -- whether the answer to a document accepts it, and what is written for it
-told_answer : (found : List Found)
+reported_answer : (found : List Found)
     → (all_agree found ≡ is_accepted (answer_of found)) × (flat_map written_text (texts_of found) ≡ written_answer (answer_of found))
-told_answer found = told (all_agree found) where
+reported_answer found = reported (all_agree found) where
   answer : Bool → Answer
   answer b = if b then Accepted (texts_of found) else Refused (texts_of found)
 
-  told : (b : Bool) → (b ≡ is_accepted (answer b)) × (flat_map written_text (texts_of found) ≡ written_answer (answer b))
-  told true = (refl, refl)
-  told false = (refl, refl)
+  reported : (b : Bool) → (b ≡ is_accepted (answer b)) × (flat_map written_text (texts_of found) ≡ written_answer (answer b))
+  reported true = (refl, refl)
+  reported false = (refl, refl)
 
 -- what may be written of a document
 pass_document : (number : ℕ) (line old passed : List ℕ) (document : Data) → read line ≡ Some document
@@ -164,11 +164,11 @@ Streams-document number line old new w w' agree document utf8 reads streams = re
     are_found = subst (λ seen. AreFound (number, id_of document) seen streams.found) (sym (streams.split ∙ append-nil streams.seen)) streams.are_found;
     is = refl;
   })));
-  told = streams.told ∙ (told_answer streams.found).0;
+  reported = streams.reported ∙ (reported_answer streams.found).0;
   passed = streams.passed;
   is_passed = pass_document number line old streams.passed document reads streams.pass;
   appended = streams.appended;
-  together = streams.together ∙ ap (λ bytes. old ++ bytes) (told_answer streams.found).1;
+  together = streams.together ∙ ap (λ bytes. old ++ bytes) (reported_answer streams.found).1;
 }
 
 -- a fault in the midst of a document
@@ -187,10 +187,10 @@ Stops-document number line old w w' fault document reads stops = record {
 -- an answer of which nothing is written yet
 pub Streams-waiting : (number : ℕ) (line old new : List ℕ) (w : Option (List ℕ)) (accepted : Bool) (answer : Answer) → IsAnswer number line answer
     → accepted ≡ is_accepted answer → new ≡ old ++ written_answer answer → Streams IsAnswer Begins number line old new w w accepted
-Streams-waiting number line old new w accepted answer is told written = record {
+Streams-waiting number line old new w accepted answer is reported written = record {
   answer = answer;
   answers = is;
-  told = told;
+  reported = reported;
   passed = [];
   is_passed = inl refl;
   appended = Appends-nil w;

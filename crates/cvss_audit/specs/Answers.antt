@@ -6,15 +6,15 @@ use Rattle.cvss_any.specs.Dispatch.{DenotesCvss, IsFirstRefusalCvss, cvss_reason
 use Rattle.cvss_base.specs.ErrorText.{error_text}
 use Rattle.cvss_base.specs.declared.error.Error.{Error}
 use Rattle.cvss_base.specs.declared.error.Error.TheVariants.{OutOfMemory}
-use Rattle.cvss_base.specs.Told.{TellsFirst}
+use Rattle.cvss_base.specs.Reported.{ReportsFirst}
 use Rattle.cvss_any.specs.declared.vector.Cvss.{Cvss}
 use Rattle.cvss_lines.specs.Answers.{Answer, Accepted, Refused, written_text}
-use Rattle.cvss_tree.specs.Texts.{IsTextOf}
+use Rattle.cvss_json_tree.specs.Texts.{IsTextOf}
 use Rattle.cvss_document.specs.Differences.{AreDifferencesAt, Difference}
-use Rattle.cvss_record.specs.Groups.{AreScoresOf}
-use Rattle.cvss_tree.specs.Objects.{object_of}
+use Rattle.cvss_json_record.specs.Groups.{AreScoresOf}
+use Rattle.cvss_json_tree.specs.Objects.{object_of}
 use Rattle.cvss_document.specs.Places.{Place, places_in}
-use Rattle.cvss_record.specs.declared.score.Scores.{Scores}
+use Rattle.cvss_json_record.specs.declared.score.Scores.{Scores}
 use Rattle.serde_json.specs.Data.{Data}
 use Rattle.serde_json.specs.Read.{read}
 use Rattle.cvss_audit.specs.Objects.{accepted_members, place_members, refusal_member, refusal_value}
@@ -25,7 +25,7 @@ abbrev pub nothing_differs : List Difference → Bool
 nothing_differs [] = true
 nothing_differs (difference ∷ differences) = false
 
--- the text denotes a vector, and the object tells what it is and where the document says otherwise
+-- the text denotes a vector, and the object says what it is and where the document says otherwise
 pub record IsAcceptedPlace (source : Source) (place : Place) (text : List ℕ) (value : Data) (agrees : Bool) : Type 0 where
   pub cvss : Cvss
   pub scores : Scores
@@ -34,37 +34,37 @@ pub record IsAcceptedPlace (source : Source) (place : Place) (text : List ℕ) (
   pub are_scores : AreScoresOf cvss scores
   pub are_differences : AreDifferencesAt cvss place differences
   pub is : value ≡ object_of (place_members source place ++ accepted_members cvss scores differences)
-  pub told : agrees ≡ nothing_differs differences
+  pub reported : agrees ≡ nothing_differs differences
 
--- the text denotes no vector, and the object tells the first reason
+-- the text denotes no vector, and the object says the first reason
 pub record IsRefusedPlace (source : Source) (place : Place) (text : List ℕ) (value : Data) (agrees : Bool) : Type 0 where
   pub error : Error
-  pub first : TellsFirst cvss_reason (IsFirstRefusalCvss text) error
+  pub first : ReportsFirst cvss_reason (IsFirstRefusalCvss text) error
   pub no_want : error ≢ OutOfMemory
   pub is : value ≡ object_of (place_members source place ++ refusal_member (error_text error) ∷ [])
-  pub told : agrees ≡ false
+  pub reported : agrees ≡ false
 
--- where a vector should stand there is no string, and the object tells so
+-- where a vector should stand there is no string, and the object says so
 pub record IsNoString (source : Source) (place : Place) (value : Data) (agrees : Bool) : Type 0 where
   pub is : value ≡ object_of (place_members source place ++ refusal_member (codes "not a string") ∷ [])
-  pub told : agrees ≡ false
+  pub reported : agrees ≡ false
 
 -- what is written for a place, and whether its vector is accepted and nothing differs
 pub record Found : Type 0 where
   pub text : List ℕ
   pub agrees : Bool
 
--- the object tells of the text at the place
+-- the object says of the text at the place
 abbrev pub IsTextObject : Source → Place → List ℕ → Data → Bool → Type 0
 IsTextObject source place text value agrees =
     IsAcceptedPlace source place text value agrees ⊎ IsRefusedPlace source place text value agrees
 
--- the object tells of what stands at the place
+-- the object says of what stands at the place
 abbrev pub IsObjectOf : Source → Place → Option (List ℕ) → Data → Bool → Type 0
 IsObjectOf source place (Some text) value agrees = IsTextObject source place text value agrees
 IsObjectOf source place None value agrees = IsNoString source place value agrees
 
--- the object tells of the place
+-- the object says of the place
 abbrev pub IsPlaceObject : Source → Place → Data → Bool → Type 0
 IsPlaceObject source place value agrees = IsObjectOf source place place.2 value agrees
 
@@ -119,7 +119,7 @@ pub record IsPassedOver (line : List ℕ) (answer : Answer) : Type 0 where
   pub blank : is_passed_over line ≡ true
   pub is : answer ≡ Accepted []
 
--- one text answers the line, an object that tells why it is refused
+-- one text answers the line, an object that says why it is refused
 pub record IsRefusedLine (number : ℕ) (reason : List ℕ) (answer : Answer) : Type 0 where
   pub text : List ℕ
   pub is_text : IsTextOf (refusal_value number reason) text
@@ -137,7 +137,7 @@ pub record IsNoJson (number : ℕ) (line : List ℕ) (answer : Answer) : Type 0 
   pub not_json : read line ≡ None
   pub refused : IsRefusedLine number (codes "not JSON") answer
 
--- the line is a JSON document, and the answer tells of each place in it where a vector stands
+-- the line is a JSON document, and the answer says of each place in it where a vector stands
 pub record IsDocument (number : ℕ) (line : List ℕ) (answer : Answer) : Type 0 where
   pub utf8 : IsUtf8 line
   pub document : Data

@@ -16,10 +16,10 @@ use Rattle.cvss_v3.specs.Vector.{value_at}
 use Rattle.cvss_any.specs.declared.vector.Cvss.{Cvss}
 use Rattle.cvss_any.specs.declared.vector.Cvss.TheVariants.{CvssV20, CvssV30, CvssV31, CvssV40}
 use Rattle.cvss_document.specs.Differences.{Difference}
-use Rattle.cvss_tree.specs.Objects.{Member, object_of}
+use Rattle.cvss_json_tree.specs.Objects.{Member, object_of}
 use Rattle.cvss_document.specs.Places.{Place}
 use Rattle.cvss_document.specs.Scores.{score_value}
-use Rattle.cvss_record.specs.declared.score.Scores.{Scores}
+use Rattle.cvss_json_record.specs.declared.score.Scores.{Scores}
 use Rattle.serde_json.specs.Data.{Data, unsigned, number, string, array}
 use Rattle.serde_json.specs.View.{items_of}
 use Rattle.cvss_audit.specs.Sources.{Source}
@@ -72,8 +72,8 @@ scores_value (CvssV31 _) scores = object_of (score_members scores)
 scores_value (CvssV40 vector) scores = object_of (v4_members vector scores.base)
 
 -- the vector's canonical text, its scores, and the rating of its score
-abbrev pub told_members : Cvss → Scores → List Member
-told_members cvss scores =
+abbrev pub reported_members : Cvss → Scores → List Member
+reported_members cvss scores =
     (codes "vector", string (text_of cvss))
     ∷ (codes "scores", scores_value cvss scores)
     ∷ (codes "severity", string (severity_text (rating_by cvss (score_of_tenths scores.base))))
@@ -114,4 +114,4 @@ differs_members differences = list_member (codes "differs") (map difference_valu
 -- what an accepted vector is, and where the document says otherwise
 abbrev pub accepted_members : Cvss → Scores → List Difference → List Member
 accepted_members cvss scores differences =
-    told_members cvss scores ++ (missing_members cvss ++ differs_members differences)
+    reported_members cvss scores ++ (missing_members cvss ++ differs_members differences)

@@ -2,13 +2,13 @@
 
 ghost use Rattle.std.specs.Prelude.{◌≡◌, IfOk, OnOk, map};
 ghost use Rattle.cvss_audit.specs.Objects.{difference_value, differs_members};
-ghost use Rattle.cvss_tree.specs.Trees.{members_view, tree_view};
+ghost use Rattle.cvss_json_tree.specs.Trees.{members_view, tree_view};
 ghost use Rattle.cvss_document.specs.Differences.{difference_view, said_view};
-ghost use Rattle.cvss_tree.specs.Objects.{with_members};
+ghost use Rattle.cvss_json_tree.specs.Objects.{with_members};
 
 use crate::members::put_list;
 use cvss_document::{Difference, Said};
-use cvss_tree::{Tree, put_tree};
+use cvss_json_tree::{Tree, put_tree};
 use serde_json::Map;
 use std::alloc::{AllocError, Global};
 
@@ -22,14 +22,14 @@ pub(crate) fn put_differences<'a>(
         ≡ with_members (differs_members (map difference_view differences.entry.items))
         (members_view members.old.entries)) }
 {
-    let mut told = Vec::new(alloc);
+    let mut reported = Vec::new(alloc);
     for difference in differences {
-        told.push(difference_tree(alloc, difference)?)?;
+        reported.push(difference_tree(alloc, difference)?)?;
     }
-    put_list(members, alloc, "differs", told)
+    put_list(members, alloc, "differs", reported)
 }
 
-/// The object that tells a difference. What is said is written from where it stands.
+/// The object that says a difference. What is said is written from where it stands.
 fn difference_tree<'a>(alloc: Global, difference: Difference<'a>) -> Result<Tree<'a>, AllocError>
     ensures { IfOk result (λ tree. tree_view tree
         ≡ difference_value (difference_view difference.entry)) }

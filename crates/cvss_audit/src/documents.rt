@@ -5,7 +5,7 @@ ghost use Rattle.cvss_audit.specs.Answers.{Begins, IsAnswer, is_passed_over};
 ghost use Rattle.cvss_audit.specs.Objects.{refusal_value};
 ghost use Rattle.cvss_audit.specs.Sources.{id_of};
 ghost use Rattle.cvss_audit.specs.private.Writing.{StopsFound, StreamsFound};
-ghost use Rattle.cvss_tree.specs.Texts.{WritesObject};
+ghost use Rattle.cvss_json_tree.specs.Texts.{WritesObject};
 ghost use Rattle.cvss_document.specs.Places.{places_in};
 ghost use Rattle.serde_json.specs.View.{view};
 
@@ -13,8 +13,8 @@ use crate::members::{put_line, put_refusal};
 use crate::place::answer_place;
 use crate::source::Source;
 use cvss_document::vectors_in;
+use cvss_json_tree::write_tree_object;
 use cvss_lines::{Gathered, RunFault, Streaming};
-use cvss_tree::write_tree_object;
 use serde_json::{Map, Value};
 use std::alloc::{AllocError, Global};
 use std::io::Write;
@@ -78,7 +78,7 @@ fn refuse_line(
     write_tree_object(alloc, &members, answers)
 }
 
-/// Writes an object for each place in a document where a vector stands, one after another. Tells
+/// Writes an object for each place in a document where a vector stands, one after another. Says
 /// whether none is refused and nothing differs.
 fn answer_document<W: Write>(
     alloc: Global,

@@ -1,12 +1,12 @@
 //! The members of the objects that are written.
 
 ghost use Rattle.std.specs.Prelude.{◌≡◌, ◌∷◌, [], IfOk, OnOk, map, option_map, string_bytes};
-ghost use Rattle.cvss_audit.specs.Objects.{accepted_members, line_member, list_member, optional_member, place_members, refusal_member, score_members, scores_value, text_member, told_members, v4_members};
+ghost use Rattle.cvss_audit.specs.Objects.{accepted_members, line_member, list_member, optional_member, place_members, refusal_member, score_members, scores_value, text_member, reported_members, v4_members};
 ghost use Rattle.cvss_audit.specs.Sources.{source_view};
-ghost use Rattle.cvss_tree.specs.Trees as trees;
-ghost use Rattle.cvss_tree.specs.Trees.{tree_view};
+ghost use Rattle.cvss_json_tree.specs.Trees as trees;
+ghost use Rattle.cvss_json_tree.specs.Trees.{tree_view};
 ghost use Rattle.cvss_document.specs.Differences.{difference_view};
-ghost use Rattle.cvss_tree.specs.Objects.{object_of, with_members};
+ghost use Rattle.cvss_json_tree.specs.Objects.{object_of, with_members};
 ghost use Rattle.cvss_document.specs.Places.{place_view};
 ghost use Rattle.serde_json.specs.View.{members_view, view};
 
@@ -16,8 +16,8 @@ use crate::source::Source;
 use cvss_any::Cvss;
 use cvss_base::TENTH;
 use cvss_document::{Difference, Place, score_value};
-use cvss_record::Scores;
-use cvss_tree::{Tree, put_tree};
+use cvss_json_record::Scores;
+use cvss_json_tree::{Tree, put_tree};
 use cvss_v4::Vector;
 use serde_json::{Map, Value, json, put};
 use std::alloc::{AllocError, Global};
@@ -93,26 +93,26 @@ pub(crate) fn put_accepted<'a>(
         ≡ with_members (accepted_members cvss.now scores.now
         (map difference_view differences.entry.items)) (trees.members_view members.old.entries)) }
 {
-    put_told(members, alloc, cvss, scores)?;
+    put_reported(members, alloc, cvss, scores)?;
     put_missing(members, alloc, cvss)?;
     put_differences(members, alloc, differences)
 }
 
 /// Puts a vector's text, its scores and the rating of its score.
-fn put_told(
+fn put_reported(
     members: &mut Map<String, Tree<'_>>,
     alloc: Global,
     cvss: &Cvss,
     scores: &Scores,
 ) -> Result<(), AllocError>
     ensures { OnOk result (trees.members_view members.new.entries
-        ≡ with_members (told_members cvss.now scores.now)
+        ≡ with_members (reported_members cvss.now scores.now)
         (trees.members_view members.old.entries)) }
 {
     let text = Value::String(cvss.to_string(alloc)?);
     put_tree(members, alloc, "vector", Tree::Own(text))?;
-    let told = scores_value(alloc, cvss, scores)?;
-    put_tree(members, alloc, "scores", Tree::Own(told))?;
+    let reported = scores_value(alloc, cvss, scores)?;
+    put_tree(members, alloc, "scores", Tree::Own(reported))?;
     let severity = cvss.severity_of(i128::from(scores.base) * TENTH);
     put_tree(members, alloc, "severity", Tree::Text(severity.as_str()))
 }

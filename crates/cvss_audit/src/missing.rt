@@ -2,16 +2,16 @@
 
 ghost use Rattle.std.specs.Prelude.{◌≡◌, IfOk, OnOk, map, option_map};
 ghost use Rattle.cvss_audit.specs.Objects.{missing_at, missing_members, missing_v3};
-ghost use Rattle.cvss_tree.specs.Trees.{members_view, tree_view};
-ghost use Rattle.cvss_tree.specs.Objects.{with_members};
+ghost use Rattle.cvss_json_tree.specs.Trees.{members_view, tree_view};
+ghost use Rattle.cvss_json_tree.specs.Objects.{with_members};
 
 use crate::members::put_list;
 use cvss_any::Cvss;
 use cvss_base::MetricGroup;
 use cvss_base::v3::MetricType;
+use cvss_json_tree::Tree;
 use cvss_text::print::Printed;
 use cvss_text::walk::Components;
-use cvss_tree::Tree;
 use cvss_v3::Vector;
 use serde_json::Map;
 use std::alloc::{AllocError, Global};
@@ -53,7 +53,7 @@ fn missing_at<'a>(vector: &Vector, kind: MetricType) -> Option<Tree<'a>>
     ensures { option_map tree_view result ≡ missing_at vector.now kind }
 {
     match kind.group() {
-        MetricGroup::Base if vector.slashed(kind).is_none() => Some(Tree::Text(kind.name())),
+        MetricGroup::Base if vector.with_slash(kind).is_none() => Some(Tree::Text(kind.name())),
         _ => None,
     }
 }

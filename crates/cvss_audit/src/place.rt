@@ -4,7 +4,7 @@ ghost use Rattle.std.specs.Prelude.{IfOk};
 ghost use Rattle.cvss_audit.specs.Answers.{IsNoString, IsPlaceObject, IsTextObject};
 ghost use Rattle.cvss_audit.specs.Sources.{source_view};
 ghost use Rattle.cvss_audit.specs.private.Writing.{WritesPlace};
-ghost use Rattle.cvss_tree.specs.Trees.{members_view};
+ghost use Rattle.cvss_json_tree.specs.Trees.{members_view};
 ghost use Rattle.cvss_document.specs.Places.{place_view};
 ghost use Rattle.serde_json.specs.Data.{object};
 
@@ -13,13 +13,13 @@ use crate::source::Source;
 use cvss_any::Cvss;
 use cvss_base::Error;
 use cvss_document::{Place, differences_at};
+use cvss_json_record::Scores;
+use cvss_json_tree::{Tree, write_tree_object};
 use cvss_lines::Gathered;
-use cvss_record::Scores;
-use cvss_tree::{Tree, write_tree_object};
 use serde_json::Map;
 use std::alloc::{AllocError, Global};
 
-/// Writes the object of a place. Tells whether its vector is accepted and nothing differs.
+/// Writes the object of a place. Says whether its vector is accepted and nothing differs.
 pub(crate) fn answer_place(
     alloc: Global,
     source: Source<'_>,
@@ -40,8 +40,8 @@ fn place_object<'a>(
     source: Source<'a>,
     place: &'a Place<'a>,
 ) -> Result<(Map<String, Tree<'a>>, bool), AllocError>
-    ensures { IfOk result (λ told. IsPlaceObject (source_view source.entry) (place_view place.now)
-        (object (members_view told.0.entries)) told.1) }
+    ensures { IfOk result (λ reported. IsPlaceObject (source_view source.entry) (place_view place.now)
+        (object (members_view reported.0.entries)) reported.1) }
 {
     match place.text {
         Some(text) => text_object(alloc, source, place, text),
@@ -56,8 +56,8 @@ fn text_object<'a>(
     place: &'a Place<'a>,
     text: &str,
 ) -> Result<(Map<String, Tree<'a>>, bool), AllocError>
-    ensures { IfOk result (λ told. IsTextObject (source_view source.entry) (place_view place.now)
-        text.now (object (members_view told.0.entries)) told.1) }
+    ensures { IfOk result (λ reported. IsTextObject (source_view source.entry) (place_view place.now)
+        text.now (object (members_view reported.0.entries)) reported.1) }
 {
     let mut members = Map::new(alloc);
     put_place(&mut members, alloc, source, place)?;
@@ -82,8 +82,8 @@ fn no_string_object<'a>(
     source: Source<'a>,
     place: &'a Place<'a>,
 ) -> Result<(Map<String, Tree<'a>>, bool), AllocError>
-    ensures { IfOk result (λ told. IsNoString (source_view source.entry) (place_view place.now)
-        (object (members_view told.0.entries)) told.1) }
+    ensures { IfOk result (λ reported. IsNoString (source_view source.entry) (place_view place.now)
+        (object (members_view reported.0.entries)) reported.1) }
 {
     let mut members = Map::new(alloc);
     put_place(&mut members, alloc, source, place)?;

@@ -7,30 +7,30 @@ use Rattle.cvss_base.specs.Tenths.{tenths_text}
 use Rattle.cvss_base.specs.declared.tenths.TheConstants.{DIGITS, TEXTS}
 use Rattle.cvss_base.proofs.TestLemmas.{all_below, below_passes}
 
--- the text behind an element of a list
+-- the text after an element of a list
 pub index-now : (texts : List (Bor (List ℕ))) (place : ℕ) (none : Bor (List ℕ))
     → (slice_index_or texts place none).now ≡ slice_index_or (map (λ text. text.now) texts) place none.now
 index-now texts place none = sym (get_or-map (λ text. text.now) texts place none)
 
 -- whether each number below the count has its text at its place
-abbrev Tells : (ℕ → List ℕ) → List (List ℕ) → ℕ → Type 0
-Tells text_of texts count = all_below (λ number. bytes_eq (slice_index_or texts number []) (text_of number)) count ≡ true
+abbrev Reports : (ℕ → List ℕ) → List (List ℕ) → ℕ → Type 0
+Reports text_of texts count = all_below (λ number. bytes_eq (slice_index_or texts number []) (text_of number)) count ≡ true
 
-text_told : (text_of : ℕ → List ℕ) (texts : List (List ℕ)) (count number : ℕ) → Tells text_of texts count
+text_reported : (text_of : ℕ → List ℕ) (texts : List (List ℕ)) (count number : ℕ) → Reports text_of texts count
     → number < count → slice_index_or texts number [] ≡ text_of number
-text_told text_of texts count number all below =
+text_reported text_of texts count number all below =
     (bytes_eq-Decides _ _).0 (below_passes (λ number. bytes_eq (slice_index_or texts number []) (text_of number)) count number all below)
 
-each_digit : Tells decimal (map (λ text. text.now) DIGITS) 11
+each_digit : Reports decimal (map (λ text. text.now) DIGITS) 11
 unfolding all_below digits
 each_digit = refl
 
-pub digit_told : (number : ℕ) → number < 11 → slice_index_or (map (λ text. text.now) DIGITS) number [] ≡ decimal number
-digit_told number = text_told decimal (map (λ text. text.now) DIGITS) 11 number each_digit
+pub digit_reported : (number : ℕ) → number < 11 → slice_index_or (map (λ text. text.now) DIGITS) number [] ≡ decimal number
+digit_reported number = text_reported decimal (map (λ text. text.now) DIGITS) 11 number each_digit
 
-each_tenth : Tells tenths_text (map (λ text. text.now) TEXTS) 101
+each_tenth : Reports tenths_text (map (λ text. text.now) TEXTS) 101
 unfolding all_below digits
 each_tenth = refl
 
-pub tenth_told : (tenths : ℕ) → tenths < 101 → slice_index_or (map (λ text. text.now) TEXTS) tenths [] ≡ tenths_text tenths
-tenth_told tenths = text_told tenths_text (map (λ text. text.now) TEXTS) 101 tenths each_tenth
+pub tenth_reported : (tenths : ℕ) → tenths < 101 → slice_index_or (map (λ text. text.now) TEXTS) tenths [] ≡ tenths_text tenths
+tenth_reported tenths = text_reported tenths_text (map (λ text. text.now) TEXTS) 101 tenths each_tenth

@@ -16,7 +16,7 @@ options_by_value items None (Some y) = (λ e. absurd cc, λ e. absurd cc)
 options_by_value items (Some x) None = (λ e. absurd cc, λ e. absurd cc)
 options_by_value items (Some x) (Some y) = (λ e. ap Some ((items x y).0 e), λ e. (items x y).1 cc)
 
--- a test that tells whether two texts are one is their comparison
+-- a test that says whether two texts are one is their comparison
 pub bytes_eq_when : (test : Bool) (text other : List ℕ) → (IsTrue test ↔ (text ≡ other)) → test ≡ bytes_eq text other
 bytes_eq_when true text other same = sym ((bytes_eq-Decides text other).1 (same.0 refl))
 bytes_eq_when false text other same =

@@ -6,7 +6,7 @@ mod NamedLemmas
 mod OrderLemmas
 pub mod PrintedLemmas
 pub mod RoundingLemmas
-pub mod SlashedLemmas
+pub mod WithSlashLemmas
 pub mod SpellingLemmas
 pub mod TenthsLemmas
 pub mod TestLemmas

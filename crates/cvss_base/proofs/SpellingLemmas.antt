@@ -18,9 +18,9 @@ abbrev pub differ : List (List ℕ) → Bool
 differ [] = true
 differ (spelling ∷ others) = not (list_any (str_eq_ignore_ascii_case spelling) others) && differ others
 
--- the spelling stands behind the slash, the name and the colon
-spelling_behind : (name spelling : List ℕ) → drop (length name + 2) (slash ∷ component name spelling) ≡ spelling
-spelling_behind name spelling =
+-- the spelling follows the slash, the name and the colon
+spelling_after : (name spelling : List ℕ) → drop (length name + 2) (slash ∷ component name spelling) ≡ spelling
+spelling_after name spelling =
     let one_more : length name + 2 ≡ suc (length name + 1) = omega arith in
     rw one_more (drop-append-add name (colon ∷ spelling) 1)
 
@@ -30,7 +30,7 @@ pub spelling_got : (bytes name spelling : List ℕ) (got : Option (Bor (List ℕ
     → (unwrap_or got other).now ≡ spelling
 spelling_got bytes name spelling None other is past = absurd (omega (arith, past, simp length-append at (ap length is)))
 spelling_got bytes name spelling (Some x) other is found =
-    found.2 ∙ (take_all _ (drop (length name + 2) bytes) (omega (arith, length-drop (length name + 2) bytes)) ∙ rw is (spelling_behind name spelling))
+    found.2 ∙ (take_all _ (drop (length name + 2) bytes) (omega (arith, length-drop (length name + 2) bytes)) ∙ rw is (spelling_after name spelling))
 
 -- a value is found by each test of spellings that it passes, and that no spelling passes which is not alike
 pub read_first : {A : Type 0} (spelling : A → List ℕ) (values : List A) (test : List ℕ → Bool) (value : A)

@@ -8,7 +8,7 @@ pub mod Rounding
 pub mod SeverityText
 pub mod Tenths
 pub mod Text
-pub mod Told
+pub mod Reported
 pub mod V2Types
 pub mod V3Types
 pub mod V4Types

@@ -48,8 +48,8 @@ pub record IsNamedBefore {V K : Type 0} (version : Version V K) (parts : List (L
 abbrev pub FaultAt : {V K : Type 0} → Version V K → List (List ℕ) → ℕ → Refusal K → Type 0
 FaultAt version parts place (UnknownName name) =
     (name ≡ name_at version parts place) × ((kind : _) → version.name kind ≢ name)
-FaultAt {K} version parts place (BadValue blamed value) =
-    (kind : K) × (blamed ≡ version.blamed kind) × (version.name kind ≡ name_at version parts place)
+FaultAt {K} version parts place (BadValue reported_kind value) =
+    (kind : K) × (reported_kind ≡ version.reported_kind kind) × (version.name kind ≡ name_at version parts place)
     × (value ≡ value_at version parts place) × ¬ (Spells (reading version kind) value)
 FaultAt version parts place (Repeated kind) =
     (version.name kind ≡ name_at version parts place)
@@ -98,34 +98,34 @@ abbrev pub BadPiecesFirst : {K : Type 0} → (Refusal K → Type 0) → List (Li
 BadPiecesFirst IsReason parts (BadComponent piece) = IsFirstBadPiece parts piece
 BadPiecesFirst IsReason parts reason = AreComponentsBefore parts (length parts) × IsReason reason
 
--- the first reason why the text, which has no piece that tells a version, is refused
+-- the first reason why the text, which has no piece that says a version, is refused
 abbrev pub IsFirstRefusal : {V K : Type 0} → Version V K → List ℕ → Refusal K → Type 0
 IsFirstRefusal version text = BadPiecesFirst (IsFirstReason version (pieces text)) (pieces text)
 
--- the piece that has to tell the version does not begin with CVSS
+-- the piece that has to say the version does not begin with CVSS
 pub record IsWrongPrefix (piece prefix : List ℕ) : Type 0 where
   pub is : prefix ≡ name_part piece
   pub wrong : prefix ≢ codes "CVSS"
 
--- it does, but the version that it tells is not supported
-pub record IsWrongVersion {V K : Type 0} (version : Version V K) (piece told : List ℕ) : Type 0 where
+-- it does, but the version that it says is not supported
+pub record IsWrongVersion {V K : Type 0} (version : Version V K) (piece reported : List ℕ) : Type 0 where
   pub prefix : name_part piece ≡ codes "CVSS"
-  pub is : told ≡ value_part piece
-  pub wrong : ¬ (Contains version.supported told)
+  pub is : reported ≡ value_part piece
+  pub wrong : ¬ (Contains version.supported reported)
 
--- it tells a supported version
-pub record TellsVersion {V K : Type 0} (version : Version V K) (piece : List ℕ) : Type 0 where
+-- it says a supported version
+pub record ReportsVersion {V K : Type 0} (version : Version V K) (piece : List ℕ) : Type 0 where
   pub prefix : name_part piece ≡ codes "CVSS"
   pub supported : Contains version.supported (value_part piece)
 
--- what is wrong with a text of components: the first of them is no version piece, or else those behind
+-- what is wrong with a text of components: the first of them is no version piece, or else those after
 -- it have this first reason
-abbrev pub IsReasonBehind : {V K : Type 0} → Version V K → List (List ℕ) → Refusal K → Type 0
-IsReasonBehind version parts (WrongPrefix prefix) = IsWrongPrefix (piece_at parts 0) prefix
-IsReasonBehind version parts (WrongVersion told) = IsWrongVersion version (piece_at parts 0) told
-IsReasonBehind version parts reason =
-    TellsVersion version (piece_at parts 0) × IsFirstReason version (drop 1 parts) reason
+abbrev pub IsReasonAfter : {V K : Type 0} → Version V K → List (List ℕ) → Refusal K → Type 0
+IsReasonAfter version parts (WrongPrefix prefix) = IsWrongPrefix (piece_at parts 0) prefix
+IsReasonAfter version parts (WrongVersion reported) = IsWrongVersion version (piece_at parts 0) reported
+IsReasonAfter version parts reason =
+    ReportsVersion version (piece_at parts 0) × IsFirstReason version (drop 1 parts) reason
 
--- the first reason why the text, whose first piece has to tell the version, is refused
-abbrev pub IsFirstRefusalBehind : {V K : Type 0} → Version V K → List ℕ → Refusal K → Type 0
-IsFirstRefusalBehind version text = BadPiecesFirst (IsReasonBehind version (pieces text)) (pieces text)
+-- the first reason why the text, whose first piece has to say the version, is refused
+abbrev pub IsFirstRefusalAfter : {V K : Type 0} → Version V K → List ℕ → Refusal K → Type 0
+IsFirstRefusalAfter version text = BadPiecesFirst (IsReasonAfter version (pieces text)) (pieces text)

@@ -45,10 +45,10 @@ abbrev pub component : List ℕ → List ℕ → List ℕ
 component name value = name ++ (colon ∷ value)
 
 -- the text with its ASCII letters turned to upper case
-abbrev pub raised : List ℕ → List ℕ
-raised text = map to_ascii_uppercase text
+abbrev pub uppercased : List ℕ → List ℕ
+uppercased text = map to_ascii_uppercase text
 
 -- the text as it is compared: raised where any case is read, and else as it is
 abbrev pub read_as : Bool → List ℕ → List ℕ
-read_as true text = raised text
+read_as true text = uppercased text
 read_as false text = text

@@ -42,7 +42,7 @@ group_of kind = (row_of kind).2
 abbrev pub declared : List MetricType
 declared = A ∷ AC ∷ AV ∷ Au ∷ C ∷ I ∷ E ∷ RL ∷ RC ∷ CDP ∷ TD ∷ CR ∷ IR ∷ AR ∷ []
 
--- what the errors of CVSS v2 tell
+-- what the errors of CVSS v2 say
 abbrev pub v2_reason : Error → Option (Refusal MetricType)
 v2_reason (InvalidMetricV2 kind value) = Some (BadValue kind (string_bytes value))
 v2_reason (DuplicateMetricV2 kind) = Some (Repeated kind)

@@ -51,7 +51,7 @@ group_of kind = (row_of kind).2
 abbrev pub declared : List MetricType
 declared = A ∷ AC ∷ AV ∷ C ∷ I ∷ PR ∷ S ∷ UI ∷ E ∷ RL ∷ RC ∷ CR ∷ IR ∷ AR ∷ MAV ∷ MAC ∷ MPR ∷ MUI ∷ MS ∷ MC ∷ MI ∷ MA ∷ []
 
--- what the errors of CVSS v3 tell
+-- what the errors of CVSS v3 say
 abbrev pub v3_reason : Error → Option (Refusal MetricType)
 v3_reason (InvalidMetricV3 kind value) = Some (BadValue kind (string_bytes value))
 v3_reason (DuplicateMetricV3 kind) = Some (Repeated kind)

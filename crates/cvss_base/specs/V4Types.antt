@@ -61,7 +61,7 @@ group_of kind = (row_of kind).2
 abbrev pub declared : List MetricType
 declared = AC ∷ AT ∷ AV ∷ PR ∷ SA ∷ SC ∷ SI ∷ UI ∷ VA ∷ VC ∷ VI ∷ E ∷ AR ∷ CR ∷ IR ∷ MAC ∷ MAT ∷ MAV ∷ MPR ∷ MSA ∷ MSC ∷ MSI ∷ MUI ∷ MVA ∷ MVC ∷ MVI ∷ AU ∷ R ∷ RE ∷ S ∷ U ∷ V ∷ []
 
--- what the errors of CVSS v4 tell
+-- what the errors of CVSS v4 say
 abbrev pub v4_reason : Error → Option (Refusal MetricType)
 v4_reason (InvalidMetricV4 kind value) = Some (BadValue kind (string_bytes value))
 v4_reason (DuplicateMetricV4 kind) = Some (Repeated kind)

@@ -20,10 +20,10 @@ pub record Version (V K : Type 0) : Type 1 where
   -- the metrics that each vector has, in the order in which they are missed
   pub mandatory : List K
   -- the metric that a refused value is reported under
-  pub blamed : K → K
-  -- the piece that tells the version, where there is one
+  pub reported_kind : K → K
+  -- the piece that says the version, where there is one
   pub front : V → List (List ℕ)
-  -- the versions that this piece may tell
+  -- the versions that this piece may say
   pub supported : List (List ℕ)
 
 -- the text as the version reads it
@@ -54,7 +54,7 @@ canonical_text version v = joined (version.front v ++ components_of version v)
 pub record AreComponentsOf {V K : Type 0} (version : Version V K) (parts : List (List ℕ)) (v : V) : Type 0 where
   pub each_once : IsPermutation (map (read version) (components_of version v)) (map (read version) parts)
 
--- the text is the piece that tells the version, and then pieces that are the vector's components
+-- the text is the piece that says the version, and then pieces that are the vector's components
 pub record Denotes {V K : Type 0} (version : Version V K) (text : List ℕ) (v : V) : Type 0 where
   pub parts : List (List ℕ)
   pub text_is : text ≡ joined (version.front v ++ parts)
@@ -69,17 +69,17 @@ abbrev pub numeral : ℕ → List ℕ
 numeral zero = codes "0"
 numeral (suc n) = map (λ digit. 48 + digit) (digits_of 10 (suc n))
 
--- the piece that tells a version
+-- the piece that says a version
 abbrev pub version_piece : List ℕ → List ℕ
-version_piece told = component (codes "CVSS") told
+version_piece reported = component (codes "CVSS") reported
 
--- the vector's piece tells a version that is supported
+-- the vector's piece says a version that is supported
 pub record IsSupported {V K : Type 0} (version : Version V K) (v : V) : Type 0 where
-  pub told : List ℕ
-  pub front_is : version.front v ≡ version_piece told ∷ []
-  pub supported : Contains version.supported told
+  pub reported : List ℕ
+  pub front_is : version.front v ≡ version_piece reported ∷ []
+  pub supported : Contains version.supported reported
 
--- a vector behind a version piece is well formed: it is complete, and its version is supported
+-- a vector after a version piece is well formed: it is complete, and its version is supported
 pub record IsWellFormed {V K : Type 0} (version : Version V K) (v : V) : Type 0 where
   pub complete : IsComplete version v
   pub supported : IsSupported version v

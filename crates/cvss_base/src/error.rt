@@ -4,7 +4,7 @@ ghost use Rattle.std.specs.Prelude.{◌≡◌, Some, ◌++◌, codes};
 ghost use Rattle.std.specs.Fmt.{DisplaysOnOk};
 ghost use Rattle.cvss_base.specs.declared.error.Error.TheVariants.{OutOfMemory};
 ghost use Rattle.cvss_base.specs.ErrorText.{error_text, quoted, described};
-ghost use Rattle.cvss_base.specs.private.Unknown.{TellsUnknown};
+ghost use Rattle.cvss_base.specs.private.Unknown.{ReportsUnknown};
 
 use crate::named::Named;
 use crate::{v2, v3, v4};
@@ -80,7 +80,7 @@ pub enum Error {
 impl Error {
     /// The error that no metric has this name.
     pub(crate) fn unknown_metric(alloc: Global, name: &str) -> Error
-        ensures { TellsUnknown name.now result }
+        ensures { ReportsUnknown name.now result }
     {
         match String::from_str(alloc, name) {
             Ok(name) => Error::UnknownMetric { name },
@@ -105,7 +105,7 @@ impl fmt::Display for Error {
                 write_quoted("invalid CVSS string prefix: ", prefix.as_str(), f)
             }
             Error::UnsupportedVersion { version } => {
-                write_behind("unsupported CVSS version: ", version.as_str(), f)
+                write_after("unsupported CVSS version: ", version.as_str(), f)
             }
             Error::InvalidMetricV2 { metric_type, value } => {
                 write_invalid("invalid CVSSv2 ", *metric_type, value.as_str(), f)
@@ -162,7 +162,7 @@ fn write_quoted<W: fmt::Write>(
 }
 
 /// Writes a text as it stands.
-fn write_behind<W: fmt::Write>(
+fn write_after<W: fmt::Write>(
     before: &'static str,
     text: &str,
     f: &mut fmt::Formatter<W>,

@@ -3,7 +3,7 @@
 ghost use Rattle.std.specs.Prelude.{◌≡◌, ◌↔◌, ◌^◌, IsTrue, codes, pos};
 ghost use Rattle.cvss_base.specs.Equality.{EqualsByValue, ClonesByValue, ClonesAlways};
 ghost use Rattle.cvss_base.specs.laws.Order.{ComparesAs};
-ghost use Rattle.cvss_base.specs.laws.Errors.{TellTheSame};
+ghost use Rattle.cvss_base.specs.laws.Errors.{ReportTheSame};
 ghost use Rattle.cvss_base.specs.laws.Severities.{severities};
 ghost use Rattle.cvss_base.specs.SeverityText as severity;
 ghost use Rattle.cvss_base.specs.V2Types as v2_types;
@@ -25,24 +25,24 @@ pub fn orders_are_declared()
 {}
 
 /// Two severities, groups or metric types are equal exactly if they are one value, and two errors exactly if
-/// they tell the same.
+/// they say the same.
 pub fn equality_is_that_of_values()
     ensures severity { EqualsByValue ⟦<Severity as PartialEq>⟧.eq }
     ensures group { EqualsByValue ⟦<MetricGroup as PartialEq>⟧.eq }
     ensures v2 { EqualsByValue ⟦<v2::MetricType as PartialEq>⟧.eq }
     ensures v3 { EqualsByValue ⟦<v3::MetricType as PartialEq>⟧.eq }
     ensures v4 { EqualsByValue ⟦<v4::MetricType as PartialEq>⟧.eq }
-    ensures error { (x y : Error) → IsTrue (⟦<Error as PartialEq>⟧.eq x y) ↔ TellTheSame x y }
+    ensures error { (x y : Error) → IsTrue (⟦<Error as PartialEq>⟧.eq x y) ↔ ReportTheSame x y }
 {}
 
-/// A clone of a severity, a group or a metric type is that value, and a clone of an error tells the same.
+/// A clone of a severity, a group or a metric type is that value, and a clone of an error says the same.
 pub fn clones_are_equal()
     ensures severity { ClonesByValue ⟦<Severity as Clone>⟧.is_clone }
     ensures group { ClonesByValue ⟦<MetricGroup as Clone>⟧.is_clone }
     ensures v2 { ClonesByValue ⟦<v2::MetricType as Clone>⟧.is_clone }
     ensures v3 { ClonesByValue ⟦<v3::MetricType as Clone>⟧.is_clone }
     ensures v4 { ClonesByValue ⟦<v4::MetricType as Clone>⟧.is_clone }
-    ensures error { (x clone : Error) → ⟦<Error as Clone>⟧.is_clone x clone → TellTheSame x clone }
+    ensures error { (x clone : Error) → ⟦<Error as Clone>⟧.is_clone x clone → ReportTheSame x clone }
 {}
 
 /// To clone a severity, a group or a metric type takes no memory, so it is never refused.
@@ -54,7 +54,7 @@ pub fn values_are_cloned_without_memory()
     ensures v4 { ClonesAlways ⟦<v4::MetricType as Clone>⟧.is_infallible }
 {}
 
-/// What a severity gives to a hasher tells it from the others.
+/// What a severity gives to a hasher says it from the others.
 pub fn severities_hash_by_value()
     ensures { (x y : Severity) → ⟦<Severity as Hash>⟧.hash_input x
         ≡ ⟦<Severity as Hash>⟧.hash_input y → x ≡ y }

@@ -2,7 +2,7 @@
 
 ghost use Rattle.std.specs.Prelude.{◌≡◌, IfOk, IfErr, Some, Ok, ℕ, List, find, bytes_eq};
 ghost use Rattle.cvss_base.specs.declared.group.MetricGroup.{MetricGroup};
-ghost use Rattle.cvss_base.specs.private.Unknown.{TellsUnknown};
+ghost use Rattle.cvss_base.specs.private.Unknown.{ReportsUnknown};
 
 use crate::error::Error;
 use crate::group::MetricGroup;
@@ -39,7 +39,7 @@ pub(crate) fn from_name<N: Named>(alloc: Global, all: &[N], name: &str) -> Resul
     requires { all.now ≡ N.declared }
     ensures named { IfOk result (λ kind. (N.row_of kind).0 ≡ name.now) }
     ensures read { (kind : N) → (N.row_of kind).0 ≡ name.now → result ≡ Ok kind }
-    ensures refused { IfErr result (TellsUnknown name.now) }
+    ensures refused { IfErr result (ReportsUnknown name.now) }
 {
     match kind_of(all, name) {
         Some(kind) => Ok(kind),

@@ -3,7 +3,7 @@
 ghost use Rattle.std.specs.Prelude.{◌≡◌, IfOk, IfErr, IfSome, Some};
 ghost use Rattle.cvss_base.specs.Rating.{rating_of_score};
 ghost use Rattle.cvss_base.specs.SeverityText.{text_of, lowered};
-ghost use Rattle.cvss_base.specs.Told.{TellsNoSeverity};
+ghost use Rattle.cvss_base.specs.Reported.{ReportsNoSeverity};
 
 use crate::error::Error;
 use crate::number::{ONE, TENTH};
@@ -51,7 +51,7 @@ impl Severity {
         ensures named { IfOk result (λ severity. text_of severity ≡ lowered text.now) }
         ensures read { (severity : Severity) → text_of severity ≡ lowered text.now
             → result ≡ Ok severity }
-        ensures refused { IfErr result (TellsNoSeverity text.now) }
+        ensures refused { IfErr result (ReportsNoSeverity text.now) }
     {
         match Severity::read(text) {
             Some(severity) => Ok(severity),

@@ -1,4 +1,4 @@
--- What is written of an answer behind a prefix.
+-- What is written of an answer after a prefix.
 use Rattle.std.proofs.Common.{◌≡◌, ℕ, Bool, true, false, List, [], ◌∷◌, ◌++◌, flat_map, map, refl, sym, ap, ◌∙◌, append_assoc, append-nil}
 use Rattle.cvss_answer.specs.Answers.{IsAnswer, IsCompleteAnswer}
 use Rattle.cvss_answer.specs.Setting.{IsSetAnswer}
@@ -51,7 +51,7 @@ accepted_prefixed : (prefix : List ℕ) (answer : Answer) → is_accepted answer
 accepted_prefixed prefix (Accepted texts) = refl
 accepted_prefixed prefix (Refused texts) = refl
 
--- an answer behind a prefix, once both are written
+-- an answer after a prefix, once both are written
 pub WritesAnswer-prefixed : (task : Task) (prefix : List ℕ) (number : ℕ) (line old middle new : List ℕ) (accepted : Bool) → middle ≡ old ++ prefix
     → WritesAnswer (rule_of task) number line middle new accepted → WritesAnswer (IsPrefixed prefix (rule_of task)) number line old new accepted
 unfolding IsOneText
@@ -62,7 +62,7 @@ WritesAnswer-prefixed task prefix number line old middle new accepted before wri
     record {
       answer = with_prefix prefix own;
       answers = record { own = own; answers = writes.answers; is = refl };
-      told = writes.told ∙ accepted_prefixed prefix own;
+      reported = writes.reported ∙ accepted_prefixed prefix own;
       written = writes.written
           ∙ ap (λ texts. middle ++ flat_map written_text texts) one.1
           ∙ ap (λ bytes. middle ++ bytes) (append-nil (written_text one.0))

@@ -27,17 +27,17 @@ WritesText text written written' served =
     ((served ≡ nothing_served) × Appends written written' text)
     ⊎ ((served ≡ after nothing_served (Err Write)) × ((count : ℕ) × Appends written written' (take count text)))
 
--- each of the metrics behind a slash
-abbrev pub slashed : List (Vec ℕ) → List ℕ
-slashed metrics = flat_map (λ metric. 47 ∷ metric.items) metrics
+-- each of the metrics after a slash
+abbrev pub with_slash : List (Vec ℕ) → List ℕ
+with_slash metrics = flat_map (λ metric. 47 ∷ metric.items) metrics
 
--- so many arguments behind the subcommand
+-- so many arguments after the subcommand
 abbrev pub metrics_of : ℕ → List (Vec ℕ) → List (Vec ℕ)
 metrics_of count arguments = take count (drop 1 arguments)
 
 -- these, with slashes between them
 abbrev pub joined_metrics : ℕ → List (Vec ℕ) → List ℕ
-joined_metrics count arguments = drop 1 (slashed (metrics_of count arguments))
+joined_metrics count arguments = drop 1 (with_slash (metrics_of count arguments))
 
 -- the last so many of the arguments
 abbrev pub operands_of : ℕ → List (Vec ℕ) → List (Vec ℕ)

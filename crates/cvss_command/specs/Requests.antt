@@ -1,4 +1,4 @@
--- What the arguments of a command ask for. What is not understood is told by how many words there are from it on.
+-- What the arguments of a command ask for. What is not understood is reported by how many words there are from it on.
 use Rattle.std.specs.Prelude.{ℕ, suc, ◌-◌, ◌==◌, Bool, true, false, List, [], ◌∷◌, length, codes, if◌then◌else◌, bytes_eq}
 use Rattle.std.specs.Global.{Vec}
 use Rattle.cvss_command.specs.declared.requests.Request.{Request}
@@ -11,7 +11,7 @@ is_option [] = false
 is_option (byte ∷ []) = false
 is_option (byte ∷ next ∷ bytes) = byte == 45
 
--- the words behind `score`: options, and behind the last of them or behind `--` the operands, which are counted
+-- the words after `score`: options, and after the last of them or after `--` the operands, which are counted
 abbrev pub score_request : Bool → List (Vec ℕ) → Request
 score_request allow_incomplete [] = Score allow_incomplete 0
 score_request allow_incomplete (word ∷ words) =
@@ -25,7 +25,7 @@ score_request allow_incomplete (word ∷ words) =
 abbrev pub set_found : ℕ → ℕ → ℕ → Request
 set_found metrics left operands = if metrics == 0 then Wrong left else Set metrics operands
 
--- the words behind `set`, of which there are so many: metrics, and behind `--` the operands; both are counted
+-- the words after `set`, of which there are so many: metrics, and after `--` the operands; both are counted
 abbrev pub set_request : ℕ → List (Vec ℕ) → Request
 set_request count [] = set_found count 0 0
 set_request count (word ∷ words) =
@@ -34,7 +34,7 @@ set_request count (word ∷ words) =
     else if is_option word.items then Wrong (suc (length words))
     else set_request count words
 
--- the word behind `help`
+-- the word after `help`
 abbrev pub help_on : List ℕ → Request
 help_on word =
     if bytes_eq word (codes "score") then Help topic.Score
@@ -42,13 +42,13 @@ help_on word =
     else if bytes_eq word (codes "help") then Help topic.All
     else Wrong 1
 
--- the words behind `help`
+-- the words after `help`
 abbrev pub help_request : List (Vec ℕ) → Request
 help_request [] = Help topic.All
 help_request (word ∷ []) = help_on word.items
 help_request (word ∷ next ∷ words) = Wrong (suc (length words))
 
--- nothing more is understood behind a word
+-- nothing more is understood after a word
 abbrev pub alone : Request → List (Vec ℕ) → Request
 alone request [] = request
 alone request (word ∷ words) = Wrong (suc (length words))

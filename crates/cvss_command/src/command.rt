@@ -1,7 +1,7 @@
 //! The whole command.
 
 ghost use Rattle.std.specs.Prelude.{◌≡◌, IfOk, drop};
-ghost use Rattle.cvss_command.specs.Done.{Does, WritesText, help_of, metrics_of, operands_of, slashed};
+ghost use Rattle.cvss_command.specs.Done.{Does, WritesText, help_of, metrics_of, operands_of, with_slash};
 ghost use Rattle.cvss_command.specs.Operands.{ServesAll, many_files};
 ghost use Rattle.cvss_command.specs.Requests.{request_of};
 
@@ -50,10 +50,10 @@ pub fn run_command<F: Files, R: Read, W: Write, E: Write>(
             Ok(serve_all(alloc, task, operands, files, reader, writer, report))
         }
         Request::Set { metrics, operands } => {
-            let Ok(joined) = slashed(alloc, metrics_of(arguments, metrics)) else {
+            let Ok(joined) = with_slash(alloc, metrics_of(arguments, metrics)) else {
                 return Ok(Served::nothing().after(Err(RunFault::Memory)));
             };
-            let Ok(metrics) = str::from_utf8(behind_first(&joined)) else {
+            let Ok(metrics) = str::from_utf8(after_the_first(&joined)) else {
                 return Err(arguments.len().saturating_sub(1));
             };
             let task = Task::Set { metrics };
@@ -111,7 +111,7 @@ fn metrics_of(arguments: &[Vec<u8>], count: usize) -> &[Vec<u8>]
     ensures { result.now ≡ metrics_of count arguments.now }
 {
     match arguments {
-        [_, behind @ ..] => &behind[..count.min(behind.len())],
+        [_, after @ ..] => &after[..count.min(after.len())],
         [] => arguments,
     }
 }
@@ -127,8 +127,8 @@ fn are_many(operands: &[Vec<u8>]) -> bool
 }
 
 /// Each of the metrics after a slash.
-fn slashed(alloc: Global, metrics: &[Vec<u8>]) -> Result<Vec<u8>, AllocError>
-    ensures { IfOk result (λ bytes. bytes.items ≡ slashed metrics.now) }
+fn with_slash(alloc: Global, metrics: &[Vec<u8>]) -> Result<Vec<u8>, AllocError>
+    ensures { IfOk result (λ bytes. bytes.items ≡ with_slash metrics.now) }
 {
     let mut bytes = Vec::new(alloc);
     for metric in metrics {
@@ -139,11 +139,11 @@ fn slashed(alloc: Global, metrics: &[Vec<u8>]) -> Result<Vec<u8>, AllocError>
 }
 
 /// All bytes but the first.
-fn behind_first(bytes: &[u8]) -> &[u8]
+fn after_the_first(bytes: &[u8]) -> &[u8]
     ensures { result.now ≡ drop 1 bytes.now }
 {
     match bytes {
-        [_, behind @ ..] => behind,
+        [_, after @ ..] => after,
         [] => bytes,
     }
 }

@@ -23,5 +23,5 @@ finite tenths within =
     ∙ ap (λ all. get_or all tenths true) all_finite
     ∙ get_or-map-range_with_len (λ _. true) 0 256 tenths tenths true within (zero-add tenths)
 
-pub number_is : (tenths : ℕ) (told : Float) → tenths < 256 → told ≡ score_number tenths → unwrap_or (option_map number (of_float told)) null ≡ score_value tenths
-number_is tenths told within is = rw is (rw (finite tenths within) refl)
+pub number_is : (tenths : ℕ) (reported : Float) → tenths < 256 → reported ≡ score_number tenths → unwrap_or (option_map number (of_float reported)) null ≡ score_value tenths
+number_is tenths reported within is = rw is (rw (finite tenths within) refl)

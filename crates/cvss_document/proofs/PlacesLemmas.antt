@@ -24,14 +24,14 @@ under_both step pointer (place ∷ places) =
     ap (λ at. (at, place.1, place.2, place.3, place.4) ∷ map (under step) (map (under pointer) places)) (sym (append_assoc step pointer place.0))
     ∙ ap (λ more. under (step ++ pointer) place ∷ more) (under_both step pointer places)
 
-places_behind : (front old new : List Level) (given : List Place) → places_in_levels old ≡ given ++ places_in_levels new
+places_after : (front old new : List Level) (given : List Place) → places_in_levels old ≡ given ++ places_in_levels new
     → places_in_levels (front ++ old) ≡ map (under (pointer_to front)) given ++ places_in_levels (front ++ new)
-places_behind [] old new given is = is ∙ ap (λ places. places ++ places_in_levels new) (sym (map-id given))
-places_behind (level ∷ front) old new given is =
+places_after [] old new given is = is ∙ ap (λ places. places ++ places_in_levels new) (sym (map-id given))
+places_after (level ∷ front) old new given is =
     let seen = map (under (pointer_to front)) given in
     let left = places_in_levels (front ++ new) in
     let step = step_text level.step in
-    ap (λ places. map (under step) (places ++ places_in_rest level.rest)) (places_behind front old new given is)
+    ap (λ places. map (under step) (places ++ places_in_rest level.rest)) (places_after front old new given is)
     ∙ ap (map (under step)) (append_assoc seen left (places_in_rest level.rest))
     ∙ map-append (under step) seen (left ++ places_in_rest level.rest)
     ∙ ap (λ places. places ++ map (under step) (left ++ places_in_rest level.rest)) (under_both step (pointer_to front) given)
@@ -44,7 +44,7 @@ steps-append (level ∷ front) levels = omega (arith, steps-append front levels)
 Visits-at : (front old new levels : List Level) (given places : List Place) → Visits old given new
     → places ≡ map (under (pointer_to front)) given → levels ≡ front ++ new → Visits (front ++ old) places levels
 Visits-at front old new levels given places visits seen are = record {
-  places = places_behind front old new given visits.places
+  places = places_after front old new given visits.places
       ∙ ap₂ (λ here left. here ++ places_in_levels left) (sym seen) (sym are);
   fewer = omega (arith, visits.fewer, ap steps_left are, steps-append front old, steps-append front new);
 }
@@ -79,12 +79,12 @@ pub record PassesOver (places : List Place) (steps : ℕ) (left : List Place) (f
   pub same : places ≡ left
   pub fewer : fewer_steps ≤ steps
 
--- a step behind values that are passed over
+-- a step after values that are passed over
 pub Visits-over : {places : List Place} (front levels : List Level) (step : Step) (old now : Rest)
     → PassesOver (places_in_rest old) (steps_in_rest old) (places_in_rest now) (steps_in_rest now)
     → Visits (front ++ level_of step now ∷ []) places levels → Visits (front ++ level_of step old ∷ []) places levels
 Visits-over front levels step old now over visits = record {
-  places = places_behind front (level_of step old ∷ []) (level_of step now ∷ []) [] (ap (map (under (step_text step))) over.same) ∙ visits.places;
+  places = places_after front (level_of step old ∷ []) (level_of step now ∷ []) [] (ap (map (under (step_text step))) over.same) ∙ visits.places;
   fewer = omega (arith, visits.fewer, over.fewer, steps-append front (level_of step old ∷ []), steps-append front (level_of step now ∷ []));
 }
 
@@ -110,13 +110,13 @@ Visits-own front levels step old rest own places is less seen are =
     (record { places = ap (map (under (step_text step))) is ∙ map-append (under (step_text step)) own (places_in_rest rest); fewer = omega (arith, less) })
     (seen ∙ ap (λ text. map (under text) own) pointer ∙ sym (under_both (pointer_to front) (step_text step) own)) are
 
--- a step that leaves what is behind a value, and the value in it
-pub Visits-inner : (front middle levels : List Level) (step : Step) (old behind : Rest) (inner : Level)
-    → places_in_rest old ≡ places_in_levels (inner ∷ []) ++ places_in_rest behind
-    → steps_in_rest old ≡ 1 + steps_in_rest inner.rest + steps_in_rest behind
-    → middle ≡ front ++ level_of step behind ∷ [] → levels ≡ middle ++ inner ∷ []
+-- a step that leaves what is after a value, and the value in it
+pub Visits-inner : (front middle levels : List Level) (step : Step) (old after : Rest) (inner : Level)
+    → places_in_rest old ≡ places_in_levels (inner ∷ []) ++ places_in_rest after
+    → steps_in_rest old ≡ 1 + steps_in_rest inner.rest + steps_in_rest after
+    → middle ≡ front ++ level_of step after ∷ [] → levels ≡ middle ++ inner ∷ []
     → Visits (front ++ level_of step old ∷ []) [] levels
-Visits-inner front middle levels step old behind inner places steps first second =
-    Visits-at front (level_of step old ∷ []) (level_of step behind ∷ inner ∷ []) levels [] []
+Visits-inner front middle levels step old after inner places steps first second =
+    Visits-at front (level_of step old ∷ []) (level_of step after ∷ inner ∷ []) levels [] []
     (record { places = ap (map (under (step_text step))) places; fewer = omega (arith, steps) }) refl
-    (second ∙ ap (λ before. before ++ inner ∷ []) first ∙ append_assoc front (level_of step behind ∷ []) (inner ∷ []))
+    (second ∙ ap (λ before. before ++ inner ∷ []) first ∙ append_assoc front (level_of step after ∷ []) (inner ∷ []))

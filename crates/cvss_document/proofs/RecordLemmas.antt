@@ -13,27 +13,27 @@ use Rattle.serde_json.specs.Data.{Data, float, number, string}
 use Rattle.serde_json.specs.Read.{number_of}
 use Rattle.cvss_any.specs.Answers.{text_of}
 use Rattle.cvss_any.specs.declared.vector.Cvss.{Cvss}
-use Rattle.cvss_object.specs.Json as object
-use Rattle.cvss_object.specs.Json.{string_text, tenths_text}
-use Rattle.cvss_record.proofs.PlainLemmas.{plain_text}
-use Rattle.cvss_record.proofs.WordLemmas.{due_fits, is_clear, is_due, is_other, is_plain, name_fits}
-use Rattle.cvss_record.specs.Fields.{name_of}
-use Rattle.cvss_record.specs.Record as written
-use Rattle.cvss_record.specs.Record.{Due, text, score, nothing, due_of, due_text, rating_due, spelled_at, tells_group, word_due}
-use Rattle.cvss_record.specs.declared.field.Field.{Field}
-use Rattle.cvss_record.specs.declared.field.Field.TheVariants.{V2, V3, V4, Score, Rating, Text, Version}
-use Rattle.cvss_record.specs.declared.group.Group.{Group}
-use Rattle.cvss_record.specs.declared.group.Group.TheVariants.{Base, Temporal, Environmental}
-use Rattle.cvss_record.specs.declared.score.Scores.{Scores}
-use Rattle.cvss_record.specs.Groups.{tenths_at}
-use Rattle.cvss_record.specs.laws.Members.{ascend}
-use Rattle.cvss_words.specs.Words.{Row}
-use Rattle.cvss_words.specs.WordsV2 as words_v2
-use Rattle.cvss_words.specs.WordsV3 as words_v3
-use Rattle.cvss_words.specs.WordsV4 as words_v4
-use Rattle.cvss_tree.specs.Objects.{Member}
-use Rattle.cvss_tree.specs.Texts.{IsTextOf}
-use Rattle.cvss_tree.specs.laws.ObjectTexts.{AreInOrder, AreMemberTexts, IsUnescaped}
+use Rattle.cvss_json_write.specs.Json as object
+use Rattle.cvss_json_write.specs.Json.{string_text, tenths_text}
+use Rattle.cvss_json_record.proofs.PlainLemmas.{plain_text}
+use Rattle.cvss_json_record.proofs.WordLemmas.{due_fits, is_clear, is_due, is_other, is_plain, name_fits}
+use Rattle.cvss_json_record.specs.Fields.{name_of}
+use Rattle.cvss_json_record.specs.Record as written
+use Rattle.cvss_json_record.specs.Record.{Due, text, score, nothing, due_of, due_text, rating_due, spelled_at, reports_group, word_due}
+use Rattle.cvss_json_record.specs.declared.field.Field.{Field}
+use Rattle.cvss_json_record.specs.declared.field.Field.TheVariants.{V2, V3, V4, Score, Rating, Text, Version}
+use Rattle.cvss_json_record.specs.declared.group.Group.{Group}
+use Rattle.cvss_json_record.specs.declared.group.Group.TheVariants.{Base, Temporal, Environmental}
+use Rattle.cvss_json_record.specs.declared.score.Scores.{Scores}
+use Rattle.cvss_json_record.specs.Groups.{tenths_at}
+use Rattle.cvss_json_record.specs.laws.Members.{ascend}
+use Rattle.cvss_json_names.specs.Words.{Row}
+use Rattle.cvss_json_names.specs.WordsV2 as words_v2
+use Rattle.cvss_json_names.specs.WordsV3 as words_v3
+use Rattle.cvss_json_names.specs.WordsV4 as words_v4
+use Rattle.cvss_json_tree.specs.Objects.{Member}
+use Rattle.cvss_json_tree.specs.Texts.{IsTextOf}
+use Rattle.cvss_json_tree.specs.laws.ObjectTexts.{AreInOrder, AreMemberTexts, IsUnescaped}
 use Rattle.cvss_document.specs.Scores.{score_number}
 use Rattle.cvss_document.specs.laws.Records.{AreInRange, member_at, value_at, value_of}
 use Rattle.cvss_document.proofs.ScoreLemmas.{is_number, nearest}
@@ -112,7 +112,7 @@ module _ (string_reads : (bytes : List ℕ) → IsUnescaped bytes → IsTextOf (
     (cvss : Cvss) (scores : Scores) (range : AreInRange scores) where
   due_same : (due : Option Due) → is_due due ≡ true → InRange due → AreSame (option_and_then value_of due) (option_and_then due_text due)
   due_same None fits within = tt
-  due_same (Some (text told)) fits within = string_reads told (unescaped told (and_parts _ _ (and_parts (leb (length told) 16) (is_other told) fits).1).0)
+  due_same (Some (text reported)) fits within = string_reads reported (unescaped reported (and_parts _ _ (and_parts (leb (length reported) 16) (is_other reported) fits).1).0)
   due_same (Some (score tenths)) fits within = float_reads (score_number tenths) (tenths_text tenths) (is_number tenths within) (nearest tenths within)
   due_same (Some nothing) fits within = tt
 
@@ -124,8 +124,8 @@ module _ (string_reads : (bytes : List ℕ) → IsUnescaped bytes → IsTextOf (
   value_same (V2 kind) = field_same (V2 kind) (word_range (words_v2.words_of kind) (spelled_at cvss (V2 kind)))
   value_same (V3 kind) = field_same (V3 kind) (word_range (words_v3.words_of kind) (spelled_at cvss (V3 kind)))
   value_same (V4 kind) = field_same (V4 kind) (word_range (words_v4.words_of kind) (spelled_at cvss (V4 kind)))
-  value_same (Score group) = same_if (tells_group cvss group) _ _ (field_same (Score group) (group_range scores range group))
-  value_same (Rating group) = same_if (tells_group cvss group) _ _ (field_same (Rating group) (rating_range cvss (tenths_at scores group)))
+  value_same (Score group) = same_if (reports_group cvss group) _ _ (field_same (Score group) (group_range scores range group))
+  value_same (Rating group) = same_if (reports_group cvss group) _ _ (field_same (Rating group) (rating_range cvss (tenths_at scores group)))
   value_same Version = field_same Version tt
 
   pub are_texts : (fields : List Field) → AreMemberTexts (filter_map (member_at cvss scores) fields) (filter_map (written.member_at cvss scores) fields)

@@ -10,7 +10,7 @@ use Rattle.json.specs.Print.{IsNumber}
 use Rattle.json.specs.Word.{after_number}
 use Rattle.serde_json.specs.Data.{Num, float}
 use Rattle.serde_json.specs.Read.{number_of}
-use Rattle.cvss_object.specs.Json.{decimal_text, places_text, tenths_text}
+use Rattle.cvss_json_write.specs.Json.{decimal_text, places_text, tenths_text}
 use Rattle.cvss_document.specs.Scores.{score_number}
 
 -- two functions agree at each score if they do where they are computed

@@ -8,17 +8,17 @@ use Rattle.serde_json.specs.Data.{Data, Members, no_members, member, string}
 use Rattle.serde_json.specs.Find.{as_number, get_member}
 use Rattle.serde_json.specs.View.{view}
 use Rattle.cvss_document.specs.Due.{agrees, due_at, due_value}
-use Rattle.cvss_record.specs.Record.{Due, text, score, rating_due}
-use Rattle.cvss_record.specs.Groups.{AreScoresOf}
-use Rattle.cvss_tree.specs.Objects.{Member}
+use Rattle.cvss_json_record.specs.Record.{Due, text, score, rating_due}
+use Rattle.cvss_json_record.specs.Groups.{AreScoresOf}
+use Rattle.cvss_json_tree.specs.Objects.{Member}
 use Rattle.cvss_document.specs.Places.{Around, Place}
-use Rattle.cvss_words.specs.Versions.{version_of}
+use Rattle.cvss_json_names.specs.Versions.{version_of}
 use Rattle.cvss_document.specs.declared.difference.Difference as code
 use Rattle.cvss_document.specs.declared.difference.Said.{Said}
 use Rattle.cvss_document.specs.declared.difference.Said.TheVariants.{Value, Name}
 use Rattle.cvss_document.specs.declared.place.Form.{Form}
 use Rattle.cvss_document.specs.declared.place.Form.TheVariants.{Record, GitHub, Osv}
-use Rattle.cvss_record.specs.declared.score.Scores.{Scores}
+use Rattle.cvss_json_record.specs.declared.score.Scores.{Scores}
 
 -- a member's name, what it says, and what would agree
 abbrev pub Difference : Type 0
@@ -81,13 +81,13 @@ member_differences cvss scores Record object = record_differences cvss scores ob
 member_differences cvss scores GitHub object = score_differences scores object
 member_differences cvss scores Osv object = type_differences cvss object
 
--- the names of members that tell the version of what they hold, as CVE records, CSAF and GitHub have them
+-- the names of members that say the version of what they hold, as CVE records, CSAF and GitHub have them
 abbrev pub version_names : List (List ℕ)
 version_names =
     codes "cvssV2_0" ∷ codes "cvssV3_0" ∷ codes "cvssV3_1" ∷ codes "cvssV4_0"
     ∷ codes "cvss_v2" ∷ codes "cvss_v3" ∷ codes "cvss_v4" ∷ []
 
--- those of them that tell the version of the vector
+-- those of them that say the version of the vector
 abbrev pub names_of : Cvss → List (List ℕ)
 names_of (CvssV20 _) = codes "cvssV2_0" ∷ codes "cvss_v2" ∷ []
 names_of (CvssV30 _) = codes "cvssV3_0" ∷ codes "cvss_v3" ∷ []
@@ -98,7 +98,7 @@ names_of (CvssV40 _) = codes "cvssV4_0" ∷ codes "cvss_v4" ∷ []
 abbrev pub is_among : List ℕ → List (List ℕ) → Bool
 is_among name names = list_any (λ each. bytes_eq name each) names
 
--- the name of the member that the object is differs if it tells another version
+-- the name of the member that the object is differs if it says another version
 abbrev pub name_differences : Cvss → List ℕ → List Difference
 name_differences cvss name =
     if is_among name version_names && not (is_among name (names_of cvss))
@@ -110,14 +110,14 @@ abbrev pub severity_differences : Cvss → ℕ → Members → List Difference
 severity_differences cvss tenths object =
     differences_at (λ said. difference_from (codes "baseSeverity", said) (rating_due cvss tenths)) (codes "baseSeverity") object
 
--- the records of the version tell ratings
+-- the records of the version say ratings
 abbrev pub is_rated : Cvss → Bool
 is_rated (CvssV20 _) = false
 is_rated (CvssV30 _) = true
 is_rated (CvssV31 _) = true
 is_rated (CvssV40 _) = true
 
--- NVD tells the rating of a vector of CVSS v2 beside the member `cvssData` that holds the vector
+-- NVD says the rating of a vector of CVSS v2 beside the member `cvssData` that holds the vector
 abbrev pub rating_differences : Cvss → ℕ → Around → List Difference
 rating_differences cvss tenths around =
     if not (is_rated cvss) && bytes_eq (codes "cvssData") around.0 then severity_differences cvss tenths around.1 else []

@@ -4,9 +4,9 @@ use Rattle.std.specs.Float.Ieee.{eq}
 use Rattle.cvss_any.specs.declared.vector.Cvss.{Cvss}
 use Rattle.serde_json.specs.Data.{Data, null, string}
 use Rattle.serde_json.specs.Find.{as_number, as_str, to_float}
-use Rattle.cvss_record.specs.Fields.{fields_of, name_of}
-use Rattle.cvss_record.specs.Record.{Due, text, score, nothing, due_of}
-use Rattle.cvss_record.specs.declared.score.Scores.{Scores}
+use Rattle.cvss_json_record.specs.Fields.{fields_of, name_of}
+use Rattle.cvss_json_record.specs.Record.{Due, text, score, nothing, due_of}
+use Rattle.cvss_json_record.specs.declared.score.Scores.{Scores}
 use Rattle.cvss_document.specs.Scores.{score_number, score_value}
 
 -- the value is the string of this text

@@ -1,5 +1,5 @@
 -- Where vectors stand in a JSON document, and how: beside the members of FIRST's schemas, as GitHub's
--- advisories have them, and as OSV's. Places are told as JSON Pointers: RFC 6901.
+-- advisories have them, and as OSV's. Places are reported as JSON Pointers: RFC 6901.
 use Rattle.std.specs.Prelude.{ℕ, ◌+◌, ◌==◌, ◌||◌, Bool, false, List, [], ◌∷◌, ◌++◌, codes, map, flat_map, bytes_eq, if◌then◌else◌, is_some, Option, Some, None, option_map, option_and_then, unwrap_or}
 use Rattle.std.specs.Char.{encode_utf8}
 use Rattle.std.specs.Fmt.{decimal}
@@ -25,7 +25,7 @@ given_at name members =
 
 -- the type that OSV gives a score of CVSS
 abbrev pub is_osv_type : List ℕ → Bool
-is_osv_type told = list_any (λ each. bytes_eq told each) (codes "CVSS_V2" ∷ codes "CVSS_V3" ∷ codes "CVSS_V4" ∷ [])
+is_osv_type reported = list_any (λ each. bytes_eq reported each) (codes "CVSS_V2" ∷ codes "CVSS_V3" ∷ codes "CVSS_V4" ∷ [])
 
 -- a score whose type is CVSS's, as OSV has it
 abbrev pub osv_score : Members → Option Data

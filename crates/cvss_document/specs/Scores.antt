@@ -1,4 +1,4 @@
--- The numbers of scores, as a record tells them.
+-- The numbers of scores, as a record says them.
 use Rattle.std.specs.Prelude.{ℕ, pos, Float}
 use Rattle.std.specs.Float.{binary64}
 use Rattle.std.specs.Float.Ieee.{of_int, div}

@@ -7,14 +7,14 @@ ghost use Rattle.cvss_document.specs.Differences.{AreDifferences, AreDifferences
 ghost use Rattle.cvss_document.specs.Due.{due_value};
 ghost use Rattle.cvss_document.specs.Places.{place_view};
 ghost use Rattle.cvss_document.specs.private.Views.{Adds};
-ghost use Rattle.cvss_record.specs.Record.{due_view};
+ghost use Rattle.cvss_json_record.specs.Record.{due_view};
 ghost use Rattle.serde_json.specs.View.{members_view, view};
 
 use crate::due::{agrees, due_at, due_value};
 use crate::place::{Form, Place, member};
 use crate::surroundings::push_around;
 use cvss_any::Cvss;
-use cvss_record::{Due, Scores};
+use cvss_json_record::{Due, Scores};
 use serde_json::{Map, Value};
 use std::alloc::{AllocError, Global};
 
@@ -63,7 +63,7 @@ pub fn differences<'a>(
 /// Where the document says otherwise at a place than the vector whose text stands there. First the
 /// members of the object that holds it: of a record all, of GitHub's advisory a number at `score`, of
 /// OSV's record its `type`. Then what is around the object: the version that the name of a member
-/// tells which the object is, and the rating that NVD tells of a vector of CVSS v2 beside `cvssData`.
+/// says which the object is, and the rating that NVD says of a vector of CVSS v2 beside `cvssData`.
 ///
 /// # Errors
 ///

@@ -2,13 +2,13 @@
 
 ghost use Rattle.std.specs.Prelude.{◌≡◌, option_map, IfOk};
 ghost use Rattle.cvss_document.specs.Due.{agrees, due_at, due_value};
-ghost use Rattle.cvss_record.specs.Record.{due_view};
+ghost use Rattle.cvss_json_record.specs.Record.{due_view};
 ghost use Rattle.serde_json.specs.View.{view};
 
 use crate::scores::{score_number, score_value};
 use cvss_any::Cvss;
-use cvss_record::{Due, Scores, due_of, fields_of};
-use cvss_words::NOT_DEFINED;
+use cvss_json_names::NOT_DEFINED;
+use cvss_json_record::{Due, Scores, due_of, fields_of};
 use serde_json::Value;
 use std::alloc::{AllocError, Global};
 

@@ -7,9 +7,9 @@ ghost use Rattle.cvss_base.specs.Equality.{ClonesAlways, ClonesByValue, EqualsBy
 ghost use Rattle.cvss_document.specs.Places.{places_in};
 ghost use Rattle.cvss_document.specs.laws.Pointers.{HasNamesOnce, LeadsTo};
 ghost use Rattle.cvss_document.specs.laws.Records.{AreInRange, record_members};
-ghost use Rattle.cvss_record.specs.Record.{IsRecordText};
-ghost use Rattle.cvss_tree.specs.Objects.{object_of};
-ghost use Rattle.cvss_tree.specs.Texts.{IsTextOf};
+ghost use Rattle.cvss_json_record.specs.Record.{IsRecordText};
+ghost use Rattle.cvss_json_tree.specs.Objects.{object_of};
+ghost use Rattle.cvss_json_tree.specs.Texts.{IsTextOf};
 ghost use Rattle.serde_json.specs.Data.{Data, object};
 
 use crate::{Around, Form};
@@ -24,12 +24,12 @@ pub fn pointers_lead_to_objects()
 /// A vector's record reads back as the object with its members: strings, and of each score the double
 /// that is nearest to it.
 pub fn records_read_back()
-    ensures { (cvss : Cvss) (text : List ℕ) (told : IsRecordText cvss text)
-        → AreInRange told.scores
-        → IsTextOf (object_of (record_members cvss told.scores)) text }
+    ensures { (cvss : Cvss) (text : List ℕ) (reported : IsRecordText cvss text)
+        → AreInRange reported.scores
+        → IsTextOf (object_of (record_members cvss reported.scores)) text }
 {
-    cvss_record::laws::members_are_in_order();
-    cvss_tree::laws::written_objects_read_back();
+    cvss_json_record::laws::members_are_in_order();
+    cvss_json_tree::laws::written_objects_read_back();
 }
 
 /// Two forms are equal exactly if they are one value.

@@ -68,17 +68,17 @@ fn osv_score(members: &Map<String, Value>) -> Option<&Value>
     ensures { option_map (λ value. view value.now) result
         ≡ osv_score (members_view members.now.entries) }
 {
-    let told = text_at(members, "type")?;
-    if !is_osv_type(told) {
+    let reported = text_at(members, "type")?;
+    if !is_osv_type(reported) {
         return None;
     }
     given_at(members, "score")
 }
 
-fn is_osv_type(told: &str) -> bool
-    ensures { result ≡ is_osv_type told.now }
+fn is_osv_type(reported: &str) -> bool
+    ensures { result ≡ is_osv_type reported.now }
 {
-    told == "CVSS_V2" || told == "CVSS_V3" || told == "CVSS_V4"
+    reported == "CVSS_V2" || reported == "CVSS_V3" || reported == "CVSS_V4"
 }
 
 /// The text of the member with this name, if it is a string.

@@ -14,7 +14,7 @@ use serde_json::{Map, Value};
 use std::alloc::{AllocError, Global};
 use std::collections::btree_map::Iter;
 
-/// The places in a document where a vector stands, each told when it is asked for. What is kept in
+/// The places in a document where a vector stands, each reported when it is asked for. What is kept in
 /// the meantime grows with the depth of the document alone.
 #[derive(Drop)]
 pub struct Places<'a> {
@@ -135,7 +135,7 @@ impl<'a> Places<'a> {
     }
 
     /// Visits the next item of an array that is one itself or an object: what is in it is visited
-    /// before those behind it.
+    /// before those after it.
     fn visit_items(
         &mut self,
         step: Step<'a>,
@@ -158,7 +158,7 @@ impl<'a> Places<'a> {
     }
 
     /// Visits the next member of an object that is one itself or an array: what is in it is visited
-    /// before those behind it.
+    /// before those after it.
     fn visit_members(
         &mut self,
         step: Step<'a>,

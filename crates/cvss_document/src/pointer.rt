@@ -15,7 +15,7 @@ pub(crate) enum Step<'a> {
     Item(usize),
 }
 
-/// Writes a step behind those before it.
+/// Writes a step after those before it.
 pub(crate) fn push_step(text: &mut String, step: Step<'_>) -> Result<(), AllocError>
     ensures { OnOk result (string_bytes text.new ≡ string_bytes text.old ++ step_text step.entry) }
 {

@@ -9,8 +9,8 @@ ghost use Rattle.cvss_document.specs.private.Views.{Adds};
 use crate::difference::{Difference, Said, push_difference, push_if_other};
 use crate::place::{Around, member};
 use cvss_any::Cvss;
-use cvss_record::{Due, Scores, rating};
-use cvss_words::version;
+use cvss_json_names::version;
+use cvss_json_record::{Due, Scores, rating};
 use std::alloc::{AllocError, Global};
 
 /// Adds the differences of what is around an object.
@@ -31,7 +31,7 @@ pub(crate) fn push_around<'a>(
     push_rating(found, alloc, cvss, scores.base, around)
 }
 
-/// Adds the difference of the name of a member, if it tells another version than the vector's.
+/// Adds the difference of the name of a member, if it says another version than the vector's.
 fn push_name<'a>(
     found: &mut Vec<Difference<'a>>,
     alloc: Global,
@@ -40,7 +40,7 @@ fn push_name<'a>(
 ) -> Result<(), AllocError>
     ensures { OnOk result (Adds found.old.items (name_differences cvss.now name.now) found.new.items) }
 {
-    if tells_version(name) && !tells_version_of(cvss, name) {
+    if reports_version(name) && !reports_version_of(cvss, name) {
         let due = Due::Text(version(cvss));
         push_difference(found, alloc, name, Said::Name(name), due)
     } else {
@@ -48,8 +48,8 @@ fn push_name<'a>(
     }
 }
 
-/// Whether a member of this name tells the version of what it holds.
-fn tells_version(name: &str) -> bool
+/// Whether a member of this name says the version of what it holds.
+fn reports_version(name: &str) -> bool
     ensures { result ≡ is_among name.now version_names }
 {
     matches!(
@@ -58,8 +58,8 @@ fn tells_version(name: &str) -> bool
     )
 }
 
-/// Whether a member of this name tells the vector's version.
-fn tells_version_of(cvss: &Cvss, name: &str) -> bool
+/// Whether a member of this name says the vector's version.
+fn reports_version_of(cvss: &Cvss, name: &str) -> bool
     ensures { result ≡ is_among name.now (names_of cvss.now) }
 {
     match cvss {
@@ -70,7 +70,7 @@ fn tells_version_of(cvss: &Cvss, name: &str) -> bool
     }
 }
 
-/// Adds the difference of the rating that NVD tells of a vector of CVSS v2 beside its record, if it is
+/// Adds the difference of the rating that NVD says of a vector of CVSS v2 beside its record, if it is
 /// another one than that of so many tenths.
 fn push_rating<'a>(
     found: &mut Vec<Difference<'a>>,

@@ -9,9 +9,9 @@ use Rattle.cvss.specs.Answers.{text_of}
 use Rattle.cvss.specs.Dispatch.{DenotesCvss, DenotesV3, IsFirstRefusalCvss, cvss_reason}
 use Rattle.cvss.specs.ErrorType.{Error}
 use Rattle.cvss.specs.ErrorType.TheVariants.{OutOfMemory}
-use Rattle.cvss.specs.Json.{StandsFor, TellsWhy, told_as}
+use Rattle.cvss.specs.Json.{StandsFor, ReportsWhy, reported_as}
 use Rattle.cvss.specs.laws.GivenBack.{IsGivenBack}
-use Rattle.cvss.specs.Told.{TellsFirst}
+use Rattle.cvss.specs.Reported.{ReportsFirst}
 use Rattle.cvss.specs.VectorTypeV3.{Vector}
 use Rattle.cvss.specs.VectorV3.{v3}
 use Rattle.cvss.specs.Version.{AreComponentsOf, components_of, read}
@@ -19,7 +19,7 @@ use Rattle.cvss.specs.CvssType.{Cvss}
 use Rattle.cvss.specs.CvssType.TheVariants.{CvssV20, CvssV30, CvssV31, CvssV40}
 use Rattle.cvss.specs.declared.json.JsonError.{JsonError}
 use Rattle.cvss.specs.declared.json.JsonError.TheVariants.{NotAString, Invalid, OutOfMemory as NoMemory}
-use Rattle.cvss_examples.specs.Conversions.{IsCanonicalText, IsTextOf, IsValueOf, TellsNoText}
+use Rattle.cvss_examples.specs.Conversions.{IsCanonicalText, IsTextOf, IsValueOf, ReportsNoText}
 use Rattle.serde_json.specs.Data.{Data, string}
 
 is_empty : {X : Type 0} (xs : List X) → length xs ≡ 0 → xs ≡ []
@@ -89,29 +89,29 @@ pub read_as : (text : List ℕ) (value : Data) (read : Cvss) → value ≡ strin
 read_as text value read is stands =
     subst (λ each. DenotesCvss each read) (one_string (sym stands.is_string ∙ is)) stands.holds
 
-tells_no_text : (text : List ℕ) (value : Data) → value ≡ string text → (error : JsonError)
-    → TellsWhy (λ each. TellsFirst cvss_reason (IsFirstRefusalCvss each)) value error → error ≢ Invalid OutOfMemory → TellsNoText text error
-tells_no_text text value is NotAString why told = why text is
-tells_no_text text value is (Invalid error) why told = (
-  subst (λ each. TellsFirst cvss_reason (IsFirstRefusalCvss each) error) (one_string (sym why.is_string ∙ is)) why.holds,
-  λ lacks. told (ap Invalid lacks),
+reports_no_text : (text : List ℕ) (value : Data) → value ≡ string text → (error : JsonError)
+    → ReportsWhy (λ each. ReportsFirst cvss_reason (IsFirstRefusalCvss each)) value error → error ≢ Invalid OutOfMemory → ReportsNoText text error
+reports_no_text text value is NotAString why reported = why text is
+reports_no_text text value is (Invalid error) why reported = (
+  subst (λ each. ReportsFirst cvss_reason (IsFirstRefusalCvss each) error) (one_string (sym why.is_string ∙ is)) why.holds,
+  λ lacks. reported (ap Invalid lacks),
 )
-tells_no_text text value is NoMemory why told = tt
+reports_no_text text value is NoMemory why reported = tt
 
 -- why the string of a text stands for nothing is why the text denotes nothing
 pub refused_as : (result : Result Cvss JsonError) (text : List ℕ) (value : Data) → value ≡ string text
-    → IfErr result (TellsWhy (λ each. TellsFirst cvss_reason (IsFirstRefusalCvss each)) value)
-    → IfErr result (λ error. error ≢ Invalid OutOfMemory) → IfErr result (TellsNoText text)
-refused_as (Ok read) text value is why told = tt
-refused_as (Err error) text value is why told = tells_no_text text value is error why told
+    → IfErr result (ReportsWhy (λ each. ReportsFirst cvss_reason (IsFirstRefusalCvss each)) value)
+    → IfErr result (λ error. error ≢ Invalid OutOfMemory) → IfErr result (ReportsNoText text)
+refused_as (Ok read) text value is why reported = tt
+refused_as (Err error) text value is why reported = reports_no_text text value is error why reported
 
-told_as_tells : (text : List ℕ) (error : Error) → TellsFirst cvss_reason (IsFirstRefusalCvss text) error → TellsNoText text (told_as error)
-told_as_tells text OutOfMemory first = tt
-told_as_tells text error first = (first, λ lacks. absurd cc)
+reported_as_reports : (text : List ℕ) (error : Error) → ReportsFirst cvss_reason (IsFirstRefusalCvss text) error → ReportsNoText text (reported_as error)
+reported_as_reports text OutOfMemory first = tt
+reported_as_reports text error first = (first, λ lacks. absurd cc)
 
--- the first reason why a text is refused is told
-pub refusal_told : {T : Type 0} (result : Result T JsonError) (text : List ℕ) (error : Error) → IsErrAnd result (λ told. told ≡ told_as error)
-    → TellsFirst cvss_reason (IsFirstRefusalCvss text) error → IfErr result (TellsNoText text)
-refusal_told result text error exit first =
-    let told = err_from_is_err_and result exit in
-    rw (told.1, told.2) (told_as_tells text error first)
+-- the first reason why a text is refused is reported
+pub refusal_reported : {T : Type 0} (result : Result T JsonError) (text : List ℕ) (error : Error) → IsErrAnd result (λ reported. reported ≡ reported_as error)
+    → ReportsFirst cvss_reason (IsFirstRefusalCvss text) error → IfErr result (ReportsNoText text)
+refusal_reported result text error exit first =
+    let reported = err_from_is_err_and result exit in
+    rw (reported.1, reported.2) (reported_as_reports text error first)

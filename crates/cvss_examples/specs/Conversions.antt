@@ -4,7 +4,7 @@ use Rattle.cvss.specs.Answers.{text_of}
 use Rattle.cvss.specs.Dispatch.{DenotesCvss, IsFirstRefusalCvss, cvss_reason}
 use Rattle.cvss.specs.ErrorType.TheVariants.{OutOfMemory as LacksMemory}
 use Rattle.cvss.specs.Json.{IsNoString, IsStringOf, StandsFor}
-use Rattle.cvss.specs.Told.{TellsFirst}
+use Rattle.cvss.specs.Reported.{ReportsFirst}
 use Rattle.cvss.specs.declared.json.JsonError.{JsonError}
 use Rattle.cvss.specs.declared.json.JsonError.TheVariants.{NotAString, Invalid, OutOfMemory}
 use Rattle.cvss.specs.CvssType.{Cvss}
@@ -28,16 +28,16 @@ pub record IsCanonicalText (text other : List ℕ) : Type 0 where
   pub denoted : DenotesCvss text vector
   pub is : other ≡ text_of vector
 
--- the error tells the first reason why the text denotes no vector; or there was no memory
-abbrev pub TellsNoText : List ℕ → JsonError → Type 0
-TellsNoText text NotAString = ⊥
-TellsNoText text (Invalid error) = TellsFirst cvss_reason (IsFirstRefusalCvss text) error × (error ≢ LacksMemory)
-TellsNoText text OutOfMemory = ⊤
+-- the error says the first reason why the text denotes no vector; or there was no memory
+abbrev pub ReportsNoText : List ℕ → JsonError → Type 0
+ReportsNoText text NotAString = ⊥
+ReportsNoText text (Invalid error) = ReportsFirst cvss_reason (IsFirstRefusalCvss text) error × (error ≢ LacksMemory)
+ReportsNoText text OutOfMemory = ⊤
 
--- the error tells that the value is no string, or the first reason why its text denotes no vector; or there
+-- the error says that the value is no string, or the first reason why its text denotes no vector; or there
 -- was no memory
-abbrev pub TellsNoValue : Data → JsonError → Type 0
-TellsNoValue value NotAString = IsNoString value
-TellsNoValue value (Invalid error) =
-    IsStringOf (λ text. TellsFirst cvss_reason (IsFirstRefusalCvss text) error) value × (error ≢ LacksMemory)
-TellsNoValue value OutOfMemory = ⊤
+abbrev pub ReportsNoValue : Data → JsonError → Type 0
+ReportsNoValue value NotAString = IsNoString value
+ReportsNoValue value (Invalid error) =
+    IsStringOf (λ text. ReportsFirst cvss_reason (IsFirstRefusalCvss text) error) value × (error ≢ LacksMemory)
+ReportsNoValue value OutOfMemory = ⊤

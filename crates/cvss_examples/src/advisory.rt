@@ -1,4 +1,4 @@
-//! An advisory: what is told of a text.
+//! An advisory: what is reported of a text.
 
 ghost use Rattle.std.specs.Prelude.{IfOk, string_bytes};
 ghost use Rattle.cvss.specs.Answers.{HasScore};

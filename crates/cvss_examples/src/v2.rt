@@ -12,7 +12,7 @@ ghost use Rattle.cvss.specs.VectorV2.{v2};
 ghost use Rattle.cvss.specs.Version.{Denotes, IsComplete};
 ghost use Rattle.cvss.specs.WeightsV2.{weights_of};
 ghost use Rattle.cvss_examples.specs.Adjusted.{IsAdjustedTemporal};
-ghost use Rattle.cvss_examples.specs.Canonical.{IsCanonicalTextOf, TellsRefusal};
+ghost use Rattle.cvss_examples.specs.Canonical.{IsCanonicalTextOf, ReportsRefusal};
 
 use cvss::Error;
 use cvss::v2::{Score, Vector, laws};
@@ -33,7 +33,7 @@ pub fn read_and_printed(alloc: Global, text: &str) -> Result<String, Error>
     ensures canonical { IfOk result (λ printed.
         IsCanonicalTextOf v2 (IsComplete v2) text.now (string_bytes printed)) }
     // Refused: for the first reason, and no vector's text for another than want of memory.
-    ensures refused { IfErr result (TellsRefusal v2_reason (IsFirstRefusal v2 text.now)) }
+    ensures refused { IfErr result (ReportsRefusal v2_reason (IsFirstRefusal v2 text.now)) }
     ensures accepts { (vector : Vector) → Denotes v2 text.now vector → IsComplete v2 vector
         → IfErr result (λ error. error ≡ OutOfMemory) }
 {
@@ -45,7 +45,7 @@ pub fn read_and_printed(alloc: Global, text: &str) -> Result<String, Error>
 pub fn twice_is_once(alloc: Global, text: &str) -> Result<bool, Error>
     ensures same { IfOk result (λ same. IsTrue same) }
     // Refused: for the first reason, and no vector's text for another than want of memory.
-    ensures refused { IfErr result (TellsRefusal v2_reason (IsFirstRefusal v2 text.now)) }
+    ensures refused { IfErr result (ReportsRefusal v2_reason (IsFirstRefusal v2 text.now)) }
     ensures accepts { (vector : Vector) → Denotes v2 text.now vector → IsComplete v2 vector
         → IfErr result (λ error. error ≡ OutOfMemory) }
 {

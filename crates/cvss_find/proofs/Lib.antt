@@ -1,3 +1,3 @@
 mod AloneLemmas
 mod FoundLemmas
-mod TellingLemmas
+mod ReportingLemmas

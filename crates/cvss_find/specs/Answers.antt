@@ -4,49 +4,49 @@ use Rattle.std.specs.Fmt.{decimal}
 use Rattle.std.specs.List.{list_all}
 use Rattle.cvss_answer.specs.Answers as vectors
 use Rattle.cvss_lines.specs.Answers.{Answer, Accepted, Refused, is_accepted, texts_of}
-use Rattle.cvss_mention.specs.Mentions.{AreFound, Placed, mentions_of}
+use Rattle.cvss_scan.specs.Mentions.{AreFound, Placed, mentions_of}
 
--- the line's number, which counts from 1, and the place of a mention's first byte in it, which counts from 0 and is told from 1
+-- the line's number, which counts from 1, and the place of a mention's first byte in it, which counts from 0 and is reported from 1
 abbrev pub place_text : ℕ → ℕ → List ℕ
 place_text number place = decimal number ++ (codes ":" ++ (decimal (place + 1) ++ codes " "))
 
--- what is told of a mention, and whether it is accepted
-pub record Told : Type 0 where
+-- what is reported of a mention, and whether it is accepted
+pub record Reported : Type 0 where
   pub text : List ℕ
   pub accepts : Bool
 
--- told is where the mention stands, and what is answered to a line that is the mention alone
-pub record IsTold (number : ℕ) (mention : Placed) (told : Told) : Type 0 where
+-- reported is where the mention stands, and what is answered to a line that is the mention alone
+pub record IsReported (number : ℕ) (mention : Placed) (reported : Reported) : Type 0 where
   pub answer : Answer
   pub text : List ℕ
   pub answers : vectors.IsAnswer number mention.text answer
   pub one_text : texts_of answer ≡ text ∷ []
-  pub is : told.text ≡ place_text number mention.place ++ text
-  pub accepted : told.accepts ≡ is_accepted answer
+  pub is : reported.text ≡ place_text number mention.place ++ text
+  pub accepted : reported.accepts ≡ is_accepted answer
 
--- these are told of the mentions, in their order
-abbrev pub AreTold : ℕ → List Placed → List Told → Type 0
-AreTold number [] [] = ⊤
-AreTold number [] (told ∷ more) = ⊥
-AreTold number (mention ∷ mentions) [] = ⊥
-AreTold number (mention ∷ mentions) (told ∷ more) = IsTold number mention told × AreTold number mentions more
+-- these are reported of the mentions, in their order
+abbrev pub AreReported : ℕ → List Placed → List Reported → Type 0
+AreReported number [] [] = ⊤
+AreReported number [] (reported ∷ more) = ⊥
+AreReported number (mention ∷ mentions) [] = ⊥
+AreReported number (mention ∷ mentions) (reported ∷ more) = IsReported number mention reported × AreReported number mentions more
 
 -- each mention is accepted
-abbrev pub all_accepted : List Told → Bool
-all_accepted told = list_all (λ each. each.accepts) told
+abbrev pub all_accepted : List Reported → Bool
+all_accepted reported = list_all (λ each. each.accepts) reported
 
 -- the texts for the mentions
-abbrev pub told_texts : List Told → List (List ℕ)
-told_texts told = map (λ each. each.text) told
+abbrev pub reported_texts : List Reported → List (List ℕ)
+reported_texts reported = map (λ each. each.text) reported
 
 -- the answer to a line: a text for each mention. The line is accepted if each mention is.
-abbrev pub answer_of : List Told → Answer
-answer_of told = if all_accepted told then Accepted (told_texts told) else Refused (told_texts told)
+abbrev pub answer_of : List Reported → Answer
+answer_of reported = if all_accepted reported then Accepted (reported_texts reported) else Refused (reported_texts reported)
 
--- this is an answer to the line of this number: it tells of the mentions in the line that are found
+-- this is an answer to the line of this number: it says of the mentions in the line that are found
 pub record IsAnswer (number : ℕ) (line : List ℕ) (answer : Answer) : Type 0 where
   pub found : List Placed
   pub are_found : AreFound (mentions_of line) found
-  pub told : List Told
-  pub are_told : AreTold number found told
-  pub is : answer ≡ answer_of told
+  pub reported : List Reported
+  pub are_reported : AreReported number found reported
+  pub is : answer ≡ answer_of reported

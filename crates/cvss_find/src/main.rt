@@ -4,13 +4,13 @@
 
 mod help;
 pub mod laws;
-mod telling;
+mod reporting;
 
 use cvss_lines::{Summary, exit_status};
 use cvss_program::{ProgramFault, arguments, run_program};
 use help::USAGE;
+pub use reporting::Texts;
 use std::process::ExitCode;
-pub use telling::Texts;
 
 fn main(rt: HostRuntime) -> ExitCode {
     let result = find(&rt);

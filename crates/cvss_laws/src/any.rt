@@ -5,9 +5,9 @@ ghost use Rattle.std.specs.Prelude.{◌≡◌, ◌↔◌, ℕ, List, Some};
 ghost use Rattle.cvss_base.specs.declared.v2.MetricType as type_v2;
 ghost use Rattle.cvss_base.specs.declared.v3.MetricType as type_v3;
 ghost use Rattle.cvss_base.specs.declared.v4.MetricType as type_v4;
-ghost use Rattle.cvss_base.specs.Refusal.{Refusal, IsFirstRefusal, IsFirstRefusalBehind};
+ghost use Rattle.cvss_base.specs.Refusal.{Refusal, IsFirstRefusal, IsFirstRefusalAfter};
 ghost use Rattle.cvss_base.specs.ErrorText.{error_text};
-ghost use Rattle.cvss_base.specs.Told.{reason_told};
+ghost use Rattle.cvss_base.specs.Reported.{reason_reported};
 ghost use Rattle.cvss_base.specs.laws.Rounding.{IsOneCount};
 ghost use Rattle.cvss_v2.specs.Vector as of_v2;
 ghost use Rattle.cvss_v3.specs.Vector as of_v3;
@@ -34,10 +34,10 @@ pub fn texts_have_one_first_refusal()
     ensures v2 { (text : List ℕ) → (one other : Refusal type_v2.MetricType)
         → IsFirstRefusal of_v2.v2 text one → IsFirstRefusal of_v2.v2 text other → one ≡ other }
     ensures v3 { (text : List ℕ) → (one other : Refusal type_v3.MetricType)
-        → IsFirstRefusalBehind of_v3.v3 text one → IsFirstRefusalBehind of_v3.v3 text other
+        → IsFirstRefusalAfter of_v3.v3 text one → IsFirstRefusalAfter of_v3.v3 text other
         → one ≡ other }
     ensures v4 { (text : List ℕ) → (one other : Refusal type_v4.MetricType)
-        → IsFirstRefusalBehind of_v4.v4 text one → IsFirstRefusalBehind of_v4.v4 text other
+        → IsFirstRefusalAfter of_v4.v4 text one → IsFirstRefusalAfter of_v4.v4 text other
         → one ≡ other }
     ensures any { (text : List ℕ) → (one other : Refusal MetricType)
         → IsFirstRefusalCvss text one → IsFirstRefusalCvss text other → one ≡ other }
@@ -46,7 +46,7 @@ pub fn texts_have_one_first_refusal()
 /// An error that has a reason prints the text of that reason.
 pub fn errors_print_their_reasons()
     ensures { (error : Error) (reason : Refusal MetricType)
-        → reason_told cvss_reason error ≡ Some reason → error_text error ≡ reason_text reason }
+        → reason_reported cvss_reason error ≡ Some reason → error_text error ≡ reason_text reason }
 {}
 
 /// A vector has one score.

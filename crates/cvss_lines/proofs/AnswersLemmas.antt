@@ -2,24 +2,24 @@
 use Rattle.std.proofs.Common.{◌≡◌, ℕ, ◌+◌, ◌-◌, ◌^◌, Bool, true, false, cond, if◌then◌else◌, min, List, [], ◌∷◌, ◌++◌, refl, sym, ap, ◌∙◌, subst, append-nil, arith, count_by}
 use Rattle.std.proofs.lemmas.List.Sums.{sum_by-append}
 use Rattle.std.proofs.lemmas.Grind.{flat_map-append}
-use Rattle.cvss_lines.specs.Answers.{Answer, IsAnswers, Rule, is_accepted, is_refused, next_number, number_behind, written_answer, written_answers}
+use Rattle.cvss_lines.specs.Answers.{Answer, IsAnswers, Rule, is_accepted, is_refused, next_number, number_after, written_answer, written_answers}
 use Rattle.cvss_lines.specs.Runs.{saturating_count, summary_of}
 use Rattle.cvss_lines.specs.private.Steps.{Counts}
 use Rattle.cvss_lines.specs.declared.summary.Summary.{Summary}
 
 -- one line more has its answer
 pub IsAnswers-push : (rule : Rule) (number : ℕ) (ls : List (List ℕ)) (xs : List Answer) (line : List ℕ) (x : Answer)
-    → IsAnswers rule number ls xs → rule (number_behind number ls) line x → IsAnswers rule number (ls ++ line ∷ []) (xs ++ x ∷ [])
+    → IsAnswers rule number ls xs → rule (number_after number ls) line x → IsAnswers rule number (ls ++ line ∷ []) (xs ++ x ∷ [])
 IsAnswers-push rule number [] [] line x p q = (q, tt)
 IsAnswers-push rule number [] (y ∷ xs) line x p q = absurd p
 IsAnswers-push rule number (l ∷ ls) [] line x p q = absurd p
 IsAnswers-push rule number (l ∷ ls) (y ∷ xs) line x p q = (p.0, IsAnswers-push rule (next_number number) ls xs line x p.1 q)
 
--- the number behind one line more
-pub number_behind-push : (number : ℕ) (ls : List (List ℕ)) (line : List ℕ)
-    → number_behind number (ls ++ line ∷ []) ≡ next_number (number_behind number ls)
-number_behind-push number [] line = refl
-number_behind-push number (l ∷ ls) line = number_behind-push (next_number number) ls line
+-- the number after one line more
+pub number_after-push : (number : ℕ) (ls : List (List ℕ)) (line : List ℕ)
+    → number_after number (ls ++ line ∷ []) ≡ next_number (number_after number ls)
+number_after-push number [] line = refl
+number_after-push number (l ∷ ls) line = number_after-push (next_number number) ls line
 
 -- what is written for one answer more
 pub written_answers-push : (xs : List Answer) (x : Answer) → written_answers (xs ++ x ∷ []) ≡ written_answers xs ++ written_answer x

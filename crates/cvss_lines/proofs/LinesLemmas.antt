@@ -18,7 +18,7 @@ none_pass bytes none k d below =
 -- what holds of bytes without a line end, and of a line before bytes of which it holds, holds of all
 by_lines : (P : List ℕ → Type 0)
     → ((bytes : List ℕ) → NoLineEnd bytes → P bytes)
-    → ((piece behind : List ℕ) → NoLineEnd piece → P behind → P (piece ++ 10 ∷ behind))
+    → ((piece after : List ℕ) → NoLineEnd piece → P after → P (piece ++ 10 ∷ after))
     → (bytes : List ℕ) → P bytes
 by_lines P last ended bytes = from [] bytes (All-nil _) where
   from : (front rest : List ℕ) → NoLineEnd front → P (front ++ rest)
@@ -43,15 +43,15 @@ first_ends bytes place is below =
       ends ∙ ap (λ rest. take place bytes ++ 10 ∷ rest) (ap (λ n. drop n bytes) (sym (add-one place)) ∙ sym (take_rest bytes (place + 1))),
     )
 
--- these lines are ended in the bytes, and this stands behind them
+-- these lines are ended in the bytes, and this follows them
 abbrev pub Cut : List ℕ → List (List ℕ) → List ℕ → Type 0
 Cut bytes ls rest = (ended_lines bytes ≡ ls) × (unended_piece bytes ≡ rest)
 
--- the last of a list is the last of what stands behind its first, where there is more
-behind_first : (piece : List ℕ) (pieces : List (List ℕ)) → 0 < length pieces
+-- the last of a list is the last of what follows its first, where there is more
+after_the_first : (piece : List ℕ) (pieces : List (List ℕ)) → 0 < length pieces
     → (all_but_last (piece ∷ pieces) ≡ piece ∷ all_but_last pieces) × (last_piece (piece ∷ pieces) ≡ last_piece pieces)
-behind_first piece [] some = absurd (omega arith)
-behind_first piece (next ∷ more) some = (refl, refl)
+after_the_first piece [] some = absurd (omega arith)
+after_the_first piece (next ∷ more) some = (refl, refl)
 
 -- bytes without a line end
 pub Cut-none : (bytes : List ℕ) → NoLineEnd bytes → Cut bytes [] bytes
@@ -59,46 +59,46 @@ Cut-none bytes none =
     let pieces = slice_split_none is_line_end bytes (none_pass bytes none) in
     (ap (λ p. map line_text (all_but_last p)) pieces, ap last_piece pieces)
 
--- a line, and what stands behind it
-pub Cut-line : (piece behind : List ℕ) → NoLineEnd piece
-    → Cut (piece ++ 10 ∷ behind) (line_text piece ∷ ended_lines behind) (unended_piece behind)
-Cut-line piece behind none =
-    let pieces = slice_split_at is_line_end piece 10 behind (none_pass piece none) refl in
-    let more = behind_first piece (slice_split is_line_end behind) (omega (arith, length-slice_split is_line_end behind)) in
+-- a line, and what follows it
+pub Cut-line : (piece after : List ℕ) → NoLineEnd piece
+    → Cut (piece ++ 10 ∷ after) (line_text piece ∷ ended_lines after) (unended_piece after)
+Cut-line piece after none =
+    let pieces = slice_split_at is_line_end piece 10 after (none_pass piece none) refl in
+    let more = after_the_first piece (slice_split is_line_end after) (omega (arith, length-slice_split is_line_end after)) in
     (ap (λ p. map line_text (all_but_last p)) pieces ∙ ap (map line_text) more.0, ap last_piece pieces ∙ more.1)
 
--- a line that ends behind what was read
-pub Cut-more : (read piece behind : List ℕ) → NoLineEnd piece
-    → Cut (read ++ (piece ++ 10 ∷ behind)) (ended_lines read ++ line_text (unended_piece read ++ piece) ∷ ended_lines behind) (unended_piece behind)
-Cut-more read piece behind none = by_lines
-    (λ read. Cut (read ++ (piece ++ 10 ∷ behind)) (ended_lines read ++ line_text (unended_piece read ++ piece) ∷ ended_lines behind) (unended_piece behind))
+-- a line that ends after what was read
+pub Cut-more : (read piece after : List ℕ) → NoLineEnd piece
+    → Cut (read ++ (piece ++ 10 ∷ after)) (ended_lines read ++ line_text (unended_piece read ++ piece) ∷ ended_lines after) (unended_piece after)
+Cut-more read piece after none = by_lines
+    (λ read. Cut (read ++ (piece ++ 10 ∷ after)) (ended_lines read ++ line_text (unended_piece read ++ piece) ∷ ended_lines after) (unended_piece after))
     (λ bytes ends.
     let own = Cut-none bytes ends in
-    let all = Cut-line (bytes ++ piece) behind (All-append (λ byte. byte ≢ 10) bytes piece ends none) in
-    let seam = append_assoc bytes piece (10 ∷ behind) in
+    let all = Cut-line (bytes ++ piece) after (All-append (λ byte. byte ≢ 10) bytes piece ends none) in
+    let seam = append_assoc bytes piece (10 ∷ after) in
     (cc, cc))
     (λ first more ends rest.
     let own = Cut-line first more ends in
-    let all = Cut-line first (more ++ (piece ++ 10 ∷ behind)) ends in
-    let seam = append_assoc first (10 ∷ more) (piece ++ 10 ∷ behind) in
+    let all = Cut-line first (more ++ (piece ++ 10 ∷ after)) ends in
+    let seam = append_assoc first (10 ∷ more) (piece ++ 10 ∷ after) in
     (cc, cc))
     read
 
--- bytes without a line end behind what was read
+-- bytes without a line end after what was read
 pub Cut-rest : (read rest : List ℕ) → NoLineEnd rest → Cut (read ++ rest) (ended_lines read) (unended_piece read ++ rest)
 Cut-rest read rest none = by_lines (λ read. Cut (read ++ rest) (ended_lines read) (unended_piece read ++ rest))
     (λ bytes ends.
     let own = Cut-none bytes ends in
     let all = Cut-none (bytes ++ rest) (All-append (λ byte. byte ≢ 10) bytes rest ends none) in
     (cc, cc))
-    (λ first more ends behind.
+    (λ first more ends after.
     let own = Cut-line first more ends in
     let all = Cut-line first (more ++ rest) ends in
     let seam = append_assoc first (10 ∷ more) rest in
     (cc, cc))
     read
 
--- the end of the input ends a line where there are bytes behind the last line end
+-- the end of the input ends a line where there are bytes after the last line end
 pub last_line-some : (bytes : List ℕ) → 0 < length bytes → last_line bytes ≡ line_text bytes ∷ []
 last_line-some [] some = absurd (omega arith)
 last_line-some (byte ∷ bytes) some = refl
@@ -109,9 +109,9 @@ one_line bytes none some =
     let own = Cut-none bytes none in
     ap (λ ls. ls ++ last_line (unended_piece bytes)) own.0 ∙ ap last_line own.1 ∙ last_line-some bytes some
 
--- a line comes off an input, and the lines behind it are left
-pub line_off : (input piece behind : List ℕ) → NoLineEnd piece → input ≡ piece ++ 10 ∷ behind
-    → (lines input ≡ line_text piece ∷ lines behind) × (length behind < length input)
-line_off input piece behind none is =
-    let cut = Cut-line piece behind none in
-    (cc, omega (arith, ap length is, length-append piece (10 ∷ behind)))
+-- a line comes off an input, and the lines after it are left
+pub line_off : (input piece after : List ℕ) → NoLineEnd piece → input ≡ piece ++ 10 ∷ after
+    → (lines input ≡ line_text piece ∷ lines after) × (length after < length input)
+line_off input piece after none is =
+    let cut = Cut-line piece after none in
+    (cc, omega (arith, ap length is, length-append piece (10 ∷ after)))

@@ -32,44 +32,44 @@ module _ (rule : Rule) (beginning : Beginning) where
       }
 
   module _ (chunk rest : List ℕ) (w w' : Option (List ℕ)) (first now : Pending) (p : HasRead chunk rest w w' first now) where
-    pub HasRead_line : (piece behind : List ℕ) (w'' : Option (List ℕ)) (next : Pending) → NoLineEnd piece → rest ≡ piece ++ 10 ∷ behind
+    pub HasRead_line : (piece after : List ℕ) (w'' : Option (List ℕ)) (next : Pending) → NoLineEnd piece → rest ≡ piece ++ 10 ∷ after
         → Answers rule beginning (line_text (now.cut.items ++ piece) ∷ []) w' w'' now.progress next.progress
-        → next.cut.items ≡ [] → HasRead chunk behind w w'' first next
-    HasRead_line piece behind w'' next none is line cleared = record {
+        → next.cut.items ≡ [] → HasRead chunk after w w'' first next
+    HasRead_line piece after w'' next none is line cleared = record {
       done = p.done ++ (piece ++ 10 ∷ []);
-      whole = p.whole ∙ ap (λ r. p.done ++ r) (is ∙ sym (append_assoc piece (10 ∷ []) behind))
-          ∙ sym (append_assoc p.done (piece ++ 10 ∷ []) behind);
+      whole = p.whole ∙ ap (λ r. p.done ++ r) (is ∙ sym (append_assoc piece (10 ∷ []) after))
+          ∙ sym (append_assoc p.done (piece ++ 10 ∷ []) after);
       reads = λ start read a. subst (λ r. Awaits rule beginning start w'' r next) (append_assoc read p.done (piece ++ 10 ∷ []))
           (Awaits-line start w' w'' now next (read ++ p.done) piece (p.reads start read a) none line cleared);
     }
 
     -- what was read and the rest are what was read and the chunk
-    whole_behind : (read : List ℕ) → (read ++ p.done) ++ rest ≡ read ++ chunk
-    whole_behind read = append_assoc read p.done rest ∙ ap (λ r. read ++ r) (sym p.whole)
+    whole_after : (read : List ℕ) → (read ++ p.done) ++ rest ≡ read ++ chunk
+    whole_after read = append_assoc read p.done rest ∙ ap (λ r. read ++ r) (sym p.whole)
 
     -- a fault in one more line
-    pub HasRead_stopped : (piece behind : List ℕ) (w'' : Option (List ℕ)) (fault : RunFault) → NoLineEnd piece → rest ≡ piece ++ 10 ∷ behind
+    pub HasRead_stopped : (piece after : List ℕ) (w'' : Option (List ℕ)) (fault : RunFault) → NoLineEnd piece → rest ≡ piece ++ 10 ∷ after
         → StopsAnswering rule beginning (line_text (now.cut.items ++ piece) ∷ []) w' w'' now.progress fault
         → StopsReading rule beginning chunk w w'' first fault
-    HasRead_stopped piece behind w'' fault none is stops = λ start read a.
+    HasRead_stopped piece after w'' fault none is stops = λ start read a.
         let here = p.reads start read a in
         let line = line_text (now.cut.items ++ piece) in
         let before = ended_lines (read ++ p.done) in
-        let all : before ++ line ∷ ended_lines behind ≡ ended_lines (read ++ chunk) =
-        ap (λ kept. before ++ line_text (kept ++ piece) ∷ ended_lines behind) here.kept ∙ sym (Cut-more (read ++ p.done) piece behind none).0
-        ∙ ap (λ r. ended_lines ((read ++ p.done) ++ r)) (sym is) ∙ ap ended_lines (whole_behind read) in
+        let all : before ++ line ∷ ended_lines after ≡ ended_lines (read ++ chunk) =
+        ap (λ kept. before ++ line_text (kept ++ piece) ∷ ended_lines after) here.kept ∙ sym (Cut-more (read ++ p.done) piece after none).0
+        ∙ ap (λ r. ended_lines ((read ++ p.done) ++ r)) (sym is) ∙ ap ended_lines (whole_after read) in
         subst (λ ls. Stops rule beginning start w'' ls ls fault) all
         (Stops-more rule beginning start w'' before (before ++ line ∷ []) _ _ fault
-        (AreFirst-more rule beginning before (line ∷ ended_lines behind))
-        (λ bytes begun. subst (λ ls. AreBegun rule beginning 1 ls bytes) (append_assoc before (line ∷ []) (ended_lines behind))
-        (AreBegun-more rule beginning (before ++ line ∷ []) (ended_lines behind) bytes begun))
+        (AreFirst-more rule beginning before (line ∷ ended_lines after))
+        (λ bytes begun. subst (λ ls. AreBegun rule beginning 1 ls bytes) (append_assoc before (line ∷ []) (ended_lines after))
+        (AreBegun-more rule beginning (before ++ line ∷ []) (ended_lines after) bytes begun))
         (stops start before here.stands))
 
     -- memory is refused for the rest
     pub HasRead_memory : NoLineEnd rest → StopsReading rule beginning chunk w w' first Memory
     HasRead_memory none = λ start read a.
         subst (λ ls. Stops rule beginning start w' ls ls Memory)
-        (sym (Cut-rest (read ++ p.done) rest none).0 ∙ ap ended_lines (whole_behind read))
+        (sym (Cut-rest (read ++ p.done) rest none).0 ∙ ap ended_lines (whole_after read))
         (Stops-memory rule beginning start w' _ now.progress (p.reads start read a).stands)
 
     -- the rest is kept
@@ -77,7 +77,7 @@ module _ (rule : Rule) (beginning : Beginning) where
     HasRead_all cut none kept = λ start read a.
         let here = p.reads start read a in
         let ended = Cut-rest (read ++ p.done) rest none in
-        subst (λ r. Awaits rule beginning start w' r (record now { cut = cut })) (whole_behind read)
+        subst (λ r. Awaits rule beginning start w' r (record now { cut = cut })) (whole_after read)
         (record {
           stands = subst (λ ls. Stands rule beginning start w' ls now.progress) (sym ended.0) here.stands;
           kept = kept ∙ ap (λ k. k ++ rest) here.kept ∙ sym ended.1;

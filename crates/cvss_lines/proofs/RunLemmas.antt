@@ -13,7 +13,7 @@ use Rattle.cvss_lines.specs.declared.gathered.Gathered.{Gathered}
 use Rattle.cvss_lines.specs.declared.pending.Pending.{Pending}
 use Rattle.cvss_lines.specs.declared.progress.Progress.{Progress}
 use Rattle.cvss_lines.specs.declared.summary.Summary.{Summary}
-use Rattle.cvss_lines.proofs.StepsLemmas.{Stands-written, cut_answers, told}
+use Rattle.cvss_lines.proofs.StepsLemmas.{Stands-written, cut_answers, reported}
 
 module _ (rule : Rule) (beginning : Beginning) where
   -- between two reads: all answers to the lines that a byte 10 ends in what was read are written
@@ -72,9 +72,9 @@ module _ {rule : Rule} {beginning : Beginning} where
           none_waits = none;
         }
 
-    -- the lines that are ended behind a chunk
-    pub behind_chunk : (chunk : List ℕ) → Consumes u u' chunk → AreLinesOf u0 u' (ended_lines (b.input ++ chunk)) (b.input ++ chunk)
-    behind_chunk chunk read = ended_in (Consumes-trans u0 u u' b.input chunk b.consumed read)
+    -- the lines that are ended after a chunk
+    pub after_chunk : (chunk : List ℕ) → Consumes u u' chunk → AreLinesOf u0 u' (ended_lines (b.input ++ chunk)) (b.input ++ chunk)
+    after_chunk chunk read = ended_in (Consumes-trans u0 u u' b.input chunk b.consumed read)
 
     -- all lines, where a read gives no byte and there is room
     pub at_end : (count : ℕ) (buffer : List ℕ) → Consumes u u' (take count buffer) × (count ≡ 0 → 0 < length buffer → IsAtEnd u')
@@ -137,7 +137,7 @@ module _ {rule : Rule} {beginning : Beginning} where
           inr (record { bytes = x.bytes; within = within x.bytes x.begun; count = x.count; appended = x.appended });
     }
 
-    -- a fault of the writer behind all of them
+    -- a fault of the writer after all of them
     pub StreamEnds-cut : {w w' v : Option (List ℕ)} {now : Progress} {fault : RunFault} → Stands rule beginning w v all now
         → (fault ≡ Write) × ((count : ℕ) × Appends v w' (take count now.answers.bytes.items)) → StreamEnds rule beginning u u' w w' (Err fault)
     StreamEnds-cut {w} {w'} {v} {now} s cut = record {
@@ -177,9 +177,9 @@ module _ {rule : Rule} {beginning : Beginning} where
   }
 
   -- a run that ends with the fault that a call gave
-  pub StreamEnds-told : {u u' w w' : Option (List ℕ)} (outcome : Result Summary RunFault) {given : RunFault}
+  pub StreamEnds-reported : {u u' w w' : Option (List ℕ)} (outcome : Result Summary RunFault) {given : RunFault}
       → IsErrAnd outcome (λ fault. fault ≡ given) → StreamEnds rule beginning u u' w w' (Err given) → StreamEnds rule beginning u u' w w' outcome
-  StreamEnds-told {u} {u'} {w} {w'} outcome {given} is ends = told outcome given (StreamEnds rule beginning u u' w w') is ends
+  StreamEnds-reported {u} {u'} {w} {w'} outcome {given} is ends = reported outcome given (StreamEnds rule beginning u u' w w') is ends
 
 -- where no answer may be begun, what ends in the midst of one is nothing
 module _ (rule : Rule) (u u' w w' : Option (List ℕ)) where

@@ -11,18 +11,18 @@ use Rattle.cvss_lines.specs.declared.fault.RunFault.{RunFault}
 use Rattle.cvss_lines.specs.declared.fault.RunFault.TheVariants.{Memory}
 use Rattle.cvss_lines.specs.declared.gathered.Gathered.{Gathered}
 use Rattle.cvss_lines.specs.declared.progress.Progress.{Progress}
-use Rattle.cvss_lines.proofs.AnswersLemmas.{IsAnswers-push, number_behind-push, summary_of-push, written_answers-push}
+use Rattle.cvss_lines.proofs.AnswersLemmas.{IsAnswers-push, number_after-push, summary_of-push, written_answers-push}
 
 -- a result whose fault is the one that a call gave
-pub told : {T : Type 0} (r : Result T RunFault) (given : RunFault) (P : Result T RunFault → Type 0)
+pub reported : {T : Type 0} (r : Result T RunFault) (given : RunFault) (P : Result T RunFault → Type 0)
     → IsErrAnd r (λ fault. fault ≡ given) → P (Err given) → P r
-told (Ok x) given P is p = absurd is
-told (Err fault) given P is p = subst (λ f. P (Err f)) (sym is) p
+reported (Ok x) given P is p = absurd is
+reported (Err fault) given P is p = subst (λ f. P (Err f)) (sym is) p
 
 -- what holds of the fault that a call gave holds of the result's
-pub told_fault : {T : Type 0} (r : Result T RunFault) (given : RunFault) (P : RunFault → Type 0) → IsErrAnd r (λ fault. fault ≡ given)
+pub reported_fault : {T : Type 0} (r : Result T RunFault) (given : RunFault) (P : RunFault → Type 0) → IsErrAnd r (λ fault. fault ≡ given)
     → P given → IfErr r P
-told_fault r given P is p = told r given (λ result. IfErr result P) is p
+reported_fault r given P is p = reported r given (λ result. IfErr result P) is p
 
 -- a fault promises nothing of an end that is well
 pub none_ok : {T E : Type 0} (P : Type 0) (outcome : Result T E) → IsErr outcome → OnOk outcome P
@@ -97,8 +97,8 @@ module _ (rule : Rule) (beginning : Beginning) where
       together = append_assoc s.passed x.passed next.answers.bytes.items ∙ ap (λ more. s.passed ++ more) x.together
           ∙ sym (append_assoc s.passed now.answers.bytes.items (written_answer x.answer))
           ∙ ap (λ front. front ++ written_answer x.answer) s.together ∙ sym (written_answers-push s.answers x.answer);
-      counted = summary_of-push now.summary next.summary s.answers x.answer s.counted (counts x.answer x.told);
-      numbered = numbered ∙ ap next_number s.numbered ∙ sym (number_behind-push 1 lines line);
+      counted = summary_of-push now.summary next.summary s.answers x.answer s.counted (counts x.answer x.reported);
+      numbered = numbered ∙ ap next_number s.numbered ∙ sym (number_after-push 1 lines line);
     }
 
     -- a fault in the midst of the next line

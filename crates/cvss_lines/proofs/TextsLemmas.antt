@@ -11,7 +11,7 @@ pub one_text : (old text new : List ℕ) → new ≡ old ++ written_text text
     → new ≡ old ++ flat_map written_text (text ∷ [])
 one_text old text new is = is ∙ ap (λ bytes. old ++ bytes) (sym (append-nil (written_text text)))
 
--- what is written in some calls stands behind what waited
+-- what is written in some calls follows what waited
 pub appended : {T E : Type 0} (result : Result T E) (old new : Gathered) (bytes : List ℕ)
     → OnOk result (WritesInCalls (λ (old : Gathered) (text : List ℕ) (new : Gathered). new.bytes.items ≡ old.bytes.items ++ text) old bytes new)
     → OnOk result (new.bytes.items ≡ old.bytes.items ++ bytes)

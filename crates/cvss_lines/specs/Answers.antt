@@ -28,10 +28,10 @@ Rule = ℕ → List ℕ → Answer → Type 0
 abbrev pub next_number : ℕ → ℕ
 next_number number = min (number + 1) (2 ^ 64 - 1)
 
--- the number of the line behind these, of which the first has this number
-abbrev pub number_behind : ℕ → List (List ℕ) → ℕ
-number_behind number [] = number
-number_behind number (line ∷ lines) = number_behind (next_number number) lines
+-- the number of the line after these, of which the first has this number
+abbrev pub number_after : ℕ → List (List ℕ) → ℕ
+number_after number [] = number
+number_after number (line ∷ lines) = number_after (next_number number) lines
 
 -- by the rule each line has its answer, in the order of the lines, of which the first has this number
 abbrev pub IsAnswers : Rule → ℕ → List (List ℕ) → List Answer → Type 0
@@ -52,9 +52,9 @@ written_answer answer = flat_map written_text (texts_of answer)
 abbrev pub written_answers : List Answer → List ℕ
 written_answers answers = flat_map written_answer answers
 
--- an answer to the line of this number is written behind the earlier ones, and whether it accepts is told
+-- an answer to the line of this number is written after the earlier ones, and whether it accepts is reported
 pub record WritesAnswer (rule : Rule) (number : ℕ) (line old new : List ℕ) (accepted : Bool) : Type 0 where
   pub answer : Answer
   pub answers : rule number line answer
-  pub told : accepted ≡ is_accepted answer
+  pub reported : accepted ≡ is_accepted answer
   pub written : new ≡ old ++ written_answer answer

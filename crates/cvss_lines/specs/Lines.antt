@@ -27,7 +27,7 @@ last_piece (piece ∷ next ∷ more) = last_piece (next ∷ more)
 abbrev pub ended_lines : List ℕ → List (List ℕ)
 ended_lines input = map line_text (all_but_last (slice_split is_line_end input))
 
--- what stands behind the last byte 10
+-- what follows the last byte 10
 abbrev pub unended_piece : List ℕ → List ℕ
 unended_piece input = last_piece (slice_split is_line_end input)
 

@@ -2,7 +2,7 @@
 -- answered so. Lines are numbered from 1.
 use Rattle.std.specs.Prelude.{◌≡◌, ◌≢◌, ℕ, ◌⊎◌, Bool, List, [], ◌∷◌, ◌++◌, take, Option, Result, IfOk, IsErrOf}
 use Rattle.std.specs.Io.KnownBytes.{Appends, Consumes, IsAtEnd, Keeps}
-use Rattle.cvss_lines.specs.Answers.{Answer, IsAnswers, Rule, is_accepted, number_behind, written_answer, written_answers}
+use Rattle.cvss_lines.specs.Answers.{Answer, IsAnswers, Rule, is_accepted, number_after, written_answer, written_answers}
 use Rattle.cvss_lines.specs.Lines.{ended_lines, lines as all_lines}
 use Rattle.cvss_lines.specs.Runs.{AnswersAll, AnswersCut, AnswersEnded, AnswersFirst}
 use Rattle.cvss_lines.specs.declared.fault.RunFault.{RunFault}
@@ -22,13 +22,13 @@ abbrev pub IsPassed : Beginning → ℕ → List ℕ → List ℕ → List ℕ �
 IsPassed beginning number line old passed =
     (passed ≡ []) ⊎ ((begun : List ℕ) × beginning number line begun × (passed ≡ old ++ begun))
 
--- the line is answered: the answer stands behind what waited, of which some may be written, and whether it accepts
--- is told
+-- the line is answered: the answer follows what waited, of which some may be written, and whether it accepts
+-- is reported
 pub record Streams (rule : Rule) (beginning : Beginning) (number : ℕ) (line old new : List ℕ)
     (written written' : Option (List ℕ)) (accepted : Bool) : Type 0 where
   pub answer : Answer
   pub answers : rule number line answer
-  pub told : accepted ≡ is_accepted answer
+  pub reported : accepted ≡ is_accepted answer
   pub passed : List ℕ
   pub is_passed : IsPassed beginning number line old passed
   pub appended : Appends written written' passed
@@ -57,7 +57,7 @@ pub record Stops (beginning : Beginning) (number : ℕ) (line old : List ℕ) (w
   pub write : fault ≡ Write → FailsToWrite beginning number line old written written'
 
 -- the bytes are the answers to some of the lines, of which the first has this number, and a beginning of the answer
--- to the line behind those
+-- to the line after those
 pub record AreBegun (rule : Rule) (beginning : Beginning) (number : ℕ) (lines : List (List ℕ)) (bytes : List ℕ) : Type 0 where
   pub front : List (List ℕ)
   pub line : List ℕ
@@ -66,7 +66,7 @@ pub record AreBegun (rule : Rule) (beginning : Beginning) (number : ℕ) (lines 
   pub answers : List Answer
   pub answered : IsAnswers rule number front answers
   pub begun : List ℕ
-  pub begins : beginning (number_behind number front) line begun
+  pub begins : beginning (number_after number front) line begun
   pub are : bytes ≡ written_answers answers ++ begun
 
 -- the bytes end in the midst of the answer to a line that a byte 10 ends in what was read, or of the last one at the

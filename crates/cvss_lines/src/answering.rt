@@ -11,12 +11,12 @@ pub trait Answering {
     /// Which answers a line has.
     ghost rule: { Rule };
 
-    /// Appends an answer to the line of this number, a byte 10 behind each of its texts. Tells whether
+    /// Appends an answer to the line of this number, a byte 10 after each of its texts. Says whether
     /// the line was accepted. Lines are numbered from 1, and the number stops at `u64::MAX`.
     ///
     /// # Errors
     ///
-    /// Want of memory alone. What stands behind the earlier answers is not to be written then.
+    /// Want of memory alone. What follows the earlier answers is not to be written then.
     fn answer_line(
         alloc: Global,
         number: u64,

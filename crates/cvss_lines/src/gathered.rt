@@ -13,7 +13,7 @@ use std::io::Write;
 /// From how many bytes on answers are written in the midst of a line.
 const FULL: usize = 64 * 1024;
 
-/// Answers that wait to be written, as bytes, a byte 10 behind each text: a line that is its own
+/// Answers that wait to be written, as bytes, a byte 10 after each text: a line that is its own
 /// answer's text is copied as it stands.
 #[derive(Drop)]
 pub struct Gathered {

@@ -3,7 +3,7 @@ ghost use Rattle.cvss_lines.specs.Lines.{line_text, lines};
 
 use crate::search::line_end_or_len;
 
-/// The first line of a whole input, and what stands behind it.
+/// The first line of a whole input, and what follows it.
 #[tactic(auto, using(crate::proofs::LinesLemmas::one_line))]
 pub fn first_line(input: &[u8]) -> Option<(&[u8], &[u8])>
     ensures { MatchOption result (lines input.now ≡ [])
@@ -11,7 +11,7 @@ pub fn first_line(input: &[u8]) -> Option<(&[u8], &[u8])>
         × (length cut.1.now < length input.now)) }
 {
     match cut_at_line_end(input) {
-        Some((piece, behind)) => Some((line_text(piece), behind)),
+        Some((piece, after)) => Some((line_text(piece), after)),
         None if input.is_empty() => None,
         None => Some((line_text(input), &[])),
     }

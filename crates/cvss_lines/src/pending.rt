@@ -30,7 +30,7 @@ impl Pending {
         }
     }
 
-    /// Answers the lines that end in a chunk of the input, and keeps what stands behind them.
+    /// Answers the lines that end in a chunk of the input, and keeps what follows them.
     pub(crate) fn answer_chunk<S: Service, W: Write>(
         &mut self,
         service: &S,
@@ -44,9 +44,9 @@ impl Pending {
             (W.contents writer.old) (W.contents writer.new) self.old) }
     {
         let mut rest = chunk;
-        while let Some((piece, behind)) = cut_at_line_end(rest) {
+        while let Some((piece, after)) = cut_at_line_end(rest) {
             self.end_line(service, alloc, piece, writer)?;
-            rest = behind;
+            rest = after;
         }
         self.cut.extend_from_slice(rest)?;
         Ok(())

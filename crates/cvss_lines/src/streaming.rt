@@ -18,8 +18,8 @@ pub trait Streaming {
     /// What may be written of an answer before the rest of it is known.
     ghost beginning: { Beginning };
 
-    /// Appends an answer to the line of this number, a byte 10 behind each of its texts, and may write
-    /// what waits. Tells whether the line was accepted. Lines are numbered from 1, and the number stops
+    /// Appends an answer to the line of this number, a byte 10 after each of its texts, and may write
+    /// what waits. Says whether the line was accepted. Lines are numbered from 1, and the number stops
     /// at `u64::MAX`.
     ///
     /// # Errors

@@ -21,21 +21,21 @@ pub record RefusesArguments (written written' : Option (List ℕ)) (result : Res
   pub refused : result ≡ Err Arguments
   pub unwritten : Keeps written written'
 
--- what the program tells of how a run has ended
-abbrev pub told_of : Result Summary RunFault → Result Summary ProgramFault
-told_of (Ok summary) = Ok summary
-told_of (Err fault) = Err (Run fault)
+-- what the program says of how a run has ended
+abbrev pub reported_of : Result Summary RunFault → Result Summary ProgramFault
+reported_of (Ok summary) = Ok summary
+reported_of (Err fault) = Err (Run fault)
 
 -- what is read and written, and how a run ends
 abbrev pub Ending : Type 1
 Ending = Option (List ℕ) → Option (List ℕ) → Option (List ℕ) → Option (List ℕ) → Result Summary RunFault → Type 0
 
--- the program has run over the input, and tells how the run has ended
+-- the program has run over the input, and says how the run has ended
 pub record RunsOver (ends : Ending) (unread unread' written written' : Option (List ℕ)) (result : Result Summary ProgramFault)
     : Type 0 where
   pub outcome : Result Summary RunFault
   pub ended : ends unread unread' written written' outcome
-  pub told : result ≡ told_of outcome
+  pub reported : result ≡ reported_of outcome
 
 -- what the program does, by what its arguments ask for; it reads only where they ask for a run
 pub record Performs (ends : Ending) (usage : List ℕ) (asked : Request) (unread unread' written written' : Option (List ℕ))

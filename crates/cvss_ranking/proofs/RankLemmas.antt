@@ -2,7 +2,7 @@
 use Rattle.std.proofs.Common.{◌≡◌, inl, inr, ℕ, ◌+◌, List, [], ◌∷◌, ◌++◌, below_more}
 use Rattle.std.proofs.lemmas.Bool.{cases_order}
 use Rattle.cvss_base.specs.declared.v4.MetricType.{MetricType}
-use Rattle.cvss_base.specs.Refusal.{Refusal, piece_at, IsFirstRefusalBehind}
+use Rattle.cvss_base.specs.Refusal.{Refusal, piece_at, IsFirstRefusalAfter}
 use Rattle.cvss_v4.specs.declared.vector.Vector.{Vector}
 use Rattle.cvss_v4.specs.Vector.{v4}
 use Rattle.cvss_ranking.specs.Faults.{HasNoRefusalBefore, IsFirstRefused}
@@ -18,9 +18,9 @@ AreRows-push overrides (first ∷ texts) (other ∷ rows) text row are is =
     (are.0, AreRows-push overrides texts rows text row are.1 is)
 
 -- one text more that is not refused
-pub HasNoRefusalBefore-more : (texts : List (List ℕ)) (place : ℕ) → HasNoRefusalBefore texts place → ((reason : Refusal MetricType) → IsFirstRefusalBehind v4 (piece_at texts place) reason → ⊥) → HasNoRefusalBefore texts (place + 1)
+pub HasNoRefusalBefore-more : (texts : List (List ℕ)) (place : ℕ) → HasNoRefusalBefore texts place → ((reason : Refusal MetricType) → IsFirstRefusalAfter v4 (piece_at texts place) reason → ⊥) → HasNoRefusalBefore texts (place + 1)
 HasNoRefusalBefore-more texts place before none = record {
-  none = λ earlier reason below. below_more (λ each. (other : Refusal MetricType) → IsFirstRefusalBehind v4 (piece_at texts each) other → ⊥) place (λ each inside other. before.none each other inside) none earlier below reason;
+  none = λ earlier reason below. below_more (λ each. (other : Refusal MetricType) → IsFirstRefusalAfter v4 (piece_at texts each) other → ⊥) place (λ each inside other. before.none each other inside) none earlier below reason;
 }
 
 -- the first text that is refused stands at one place

@@ -1,12 +1,12 @@
--- The first fault of overrides and texts, and the error that tells it.
+-- The first fault of overrides and texts, and the error that says it.
 use Rattle.std.specs.Prelude.{◌≡◌, ◌⊎◌, ℕ, ◌<◌, true, Some, List, length, ◌++◌, codes}
 use Rattle.std.specs.Fmt.{decimal}
 use Rattle.cvss_base.specs.ErrorText.{error_text}
 use Rattle.cvss_base.specs.declared.error.Error.{Error}
 use Rattle.cvss_base.specs.declared.v4.MetricType.{MetricType}
 use Rattle.cvss_v4.specs.Overriding.{Objection, OfOtherGroup, OfText, HasNoObjectionBefore, IsFirstObjection}
-use Rattle.cvss_base.specs.Refusal.{Refusal, carries_text, piece_at, IsFirstRefusalBehind}
-use Rattle.cvss_base.specs.Told.{reason_told}
+use Rattle.cvss_base.specs.Refusal.{Refusal, carries_text, piece_at, IsFirstRefusalAfter}
+use Rattle.cvss_base.specs.Reported.{reason_reported}
 use Rattle.cvss_base.specs.V4Types.{v4_reason}
 use Rattle.cvss_v4.specs.Vector.{v4}
 use Rattle.cvss_ranking.specs.declared.error.TriageError.{TriageError}
@@ -19,12 +19,12 @@ pub data Fault : Type 0 where
 
 -- no text before this place is refused
 pub record HasNoRefusalBefore (texts : List (List ℕ)) (place : ℕ) : Type 0 where
-  pub none : (earlier : ℕ) (reason : Refusal MetricType) → earlier < place → ¬ (IsFirstRefusalBehind v4 (piece_at texts earlier) reason)
+  pub none : (earlier : ℕ) (reason : Refusal MetricType) → earlier < place → ¬ (IsFirstRefusalAfter v4 (piece_at texts earlier) reason)
 
 -- the first text that is refused, and why
 pub record IsFirstRefused (texts : List (List ℕ)) (place : ℕ) (reason : Refusal MetricType) : Type 0 where
   pub within : place < length texts
-  pub is : IsFirstRefusalBehind v4 (piece_at texts place) reason
+  pub is : IsFirstRefusalAfter v4 (piece_at texts place) reason
   pub earlier : HasNoRefusalBefore texts place
 
 -- the first fault: overrides go before texts
@@ -33,32 +33,32 @@ IsFirstFault texts overrides (InOverride place objection) = IsFirstObjection ove
 IsFirstFault texts overrides (InText place reason) =
     HasNoObjectionBefore overrides (length overrides) × IsFirstRefused texts place reason
 
--- the refusal that an error of the library tells is this one
-pub record TellsReason (reason : Refusal MetricType) (error : Error) : Type 0 where
-  pub is : reason_told v4_reason error ≡ Some reason
+-- the refusal that an error of the library says is this one
+pub record ReportsReason (reason : Refusal MetricType) (error : Error) : Type 0 where
+  pub is : reason_reported v4_reason error ≡ Some reason
 
--- the error tells the fault; or there was no memory, of which an override needs none unless its refusal
+-- the error says the fault; or there was no memory, of which an override needs none unless its refusal
 -- carries text
-abbrev pub TellsFault : Fault → TriageError → Type 0
-TellsFault (InOverride place OfOtherGroup) told = told ≡ NotEnvironmental place
-TellsFault (InOverride place (OfText reason)) told =
-    ((error : Error) × (told ≡ Override place error) × TellsReason reason error)
-    ⊎ ((told ≡ OutOfMemory) × (carries_text reason ≡ true))
-TellsFault (InText place reason) told =
-    ((error : Error) × (told ≡ Text place error) × TellsReason reason error) ⊎ (told ≡ OutOfMemory)
+abbrev pub ReportsFault : Fault → TriageError → Type 0
+ReportsFault (InOverride place OfOtherGroup) reported = reported ≡ NotEnvironmental place
+ReportsFault (InOverride place (OfText reason)) reported =
+    ((error : Error) × (reported ≡ Override place error) × ReportsReason reason error)
+    ⊎ ((reported ≡ OutOfMemory) × (carries_text reason ≡ true))
+ReportsFault (InText place reason) reported =
+    ((error : Error) × (reported ≡ Text place error) × ReportsReason reason error) ⊎ (reported ≡ OutOfMemory)
 
--- the error tells the first fault
-pub record TellsFirstFault (texts overrides : List (List ℕ)) (told : TriageError) : Type 0 where
+-- the error says the first fault
+pub record ReportsFirstFault (texts overrides : List (List ℕ)) (reported : TriageError) : Type 0 where
   pub fault : Fault
   pub first : IsFirstFault texts overrides fault
-  pub tells : TellsFault fault told
+  pub reports : ReportsFault fault reported
 
--- the error tells the first text that is refused, and why
-pub record TellsFirstRefused (texts : List (List ℕ)) (told : TriageError) : Type 0 where
+-- the error says the first text that is refused, and why
+pub record ReportsFirstRefused (texts : List (List ℕ)) (reported : TriageError) : Type 0 where
   pub place : ℕ
   pub reason : Refusal MetricType
   pub first : IsFirstRefused texts place reason
-  pub tells : TellsFault (InText place reason) told
+  pub reports : ReportsFault (InText place reason) reported
 
 -- the error's text
 abbrev pub triage_error_text : TriageError → List ℕ

@@ -1,12 +1,12 @@
 //! Why texts get no rows.
 
 ghost use Rattle.std.specs.Prelude.{◌≡◌, ℕ, Some};
-ghost use Rattle.cvss_v4.specs.Overriding.{Objection, TellsObjection};
+ghost use Rattle.cvss_v4.specs.Overriding.{Objection, ReportsObjection};
 ghost use Rattle.cvss_base.specs.Refusal.{Refusal};
-ghost use Rattle.cvss_base.specs.Told.{Tells};
+ghost use Rattle.cvss_base.specs.Reported.{Reports};
 ghost use Rattle.cvss_base.specs.V4Types.{v4_reason};
 ghost use Rattle.cvss_base.specs.declared.v4.MetricType.{MetricType};
-ghost use Rattle.cvss_ranking.specs.Faults.{InOverride, InText, TellsFault, triage_error_text};
+ghost use Rattle.cvss_ranking.specs.Faults.{InOverride, InText, ReportsFault, triage_error_text};
 ghost use Rattle.cvss_ranking.specs.declared.error.TriageError.TheVariants.{OutOfMemory};
 
 use cvss_base::Error;
@@ -30,8 +30,8 @@ pub enum TriageError {
 impl TriageError {
     /// The error that the text at this place is refused.
     pub(crate) fn of_text(index: usize, error: Error) -> TriageError
-        ensures { (reason : Refusal MetricType) → Tells v4_reason reason error
-            → TellsFault (InText index reason) result }
+        ensures { (reason : Refusal MetricType) → Reports v4_reason reason error
+            → ReportsFault (InText index reason) result }
     {
         match error {
             Error::OutOfMemory => TriageError::OutOfMemory,
@@ -41,8 +41,8 @@ impl TriageError {
 }
 
 impl From<OverrideError> for TriageError {
-    ghost from_gives = { λ refused told. (place : ℕ) (objection : Objection)
-        → TellsObjection place objection refused → TellsFault (InOverride place objection) told };
+    ghost from_gives = { λ refused reported. (place : ℕ) (objection : Objection)
+        → ReportsObjection place objection refused → ReportsFault (InOverride place objection) reported };
 
     fn from(refused: OverrideError) -> Self {
         match refused {
@@ -57,7 +57,7 @@ impl From<OverrideError> for TriageError {
 }
 
 impl From<AllocError> for TriageError {
-    ghost from_gives = { λ _ told. told ≡ OutOfMemory };
+    ghost from_gives = { λ _ reported. reported ≡ OutOfMemory };
 
     fn from(_: AllocError) -> Self {
         TriageError::OutOfMemory
@@ -65,7 +65,7 @@ impl From<AllocError> for TriageError {
 }
 
 impl<T: Drop> From<AllocFailed<T>> for TriageError {
-    ghost from_gives = { λ _ told. told ≡ OutOfMemory };
+    ghost from_gives = { λ _ reported. reported ≡ OutOfMemory };
 
     fn from(_: AllocFailed<T>) -> Self {
         TriageError::OutOfMemory

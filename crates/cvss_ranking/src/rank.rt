@@ -3,7 +3,7 @@
 ghost use Rattle.std.specs.Prelude.{◌≡◌, ◌⊎◌, ℕ, IfOk, IfErr, OnOk, IsErrAnd, length, map};
 ghost use Rattle.cvss_base.specs.declared.v4.MetricType.{MetricType};
 ghost use Rattle.cvss_base.specs.Refusal.{Refusal};
-ghost use Rattle.cvss_ranking.specs.Faults.{Fault, InText, IsFirstFault, IsFirstRefused, HasNoRefusalBefore, TellsFault, TellsFirstFault, TellsFirstRefused};
+ghost use Rattle.cvss_ranking.specs.Faults.{Fault, InText, IsFirstFault, IsFirstRefused, HasNoRefusalBefore, ReportsFault, ReportsFirstFault, ReportsFirstRefused};
 ghost use Rattle.cvss_ranking.specs.Triage.{AreRanked, AreRows};
 ghost use Rattle.cvss_ranking.specs.declared.error.TriageError.TheVariants.{OutOfMemory};
 
@@ -27,13 +27,13 @@ pub fn apply(alloc: Global, texts: &[&str], overrides: &[&str]) -> Result<Vec<Ro
         (map (λ text. text.now) overrides.now) rows.items) }
     // Refused: for the first fault, and wherever there is one. Memory is the answer to a fault of
     // an override only where the reason carries text.
-    ensures refused { IfErr result (λ told. (told ≡ OutOfMemory)
-        ⊎ TellsFirstFault (map (λ text. text.now) texts.now)
-        (map (λ text. text.now) overrides.now) told) }
+    ensures refused { IfErr result (λ reported. (reported ≡ OutOfMemory)
+        ⊎ ReportsFirstFault (map (λ text. text.now) texts.now)
+        (map (λ text. text.now) overrides.now) reported) }
     ensures refuses { (fault : Fault)
         → IsFirstFault (map (λ text. text.now) texts.now)
         (map (λ text. text.now) overrides.now) fault
-        → IsErrAnd result (TellsFault fault) }
+        → IsErrAnd result (ReportsFault fault) }
 {
     let overrides = Vector::from_overrides(alloc, overrides)?;
     let mut rows = rows_of(alloc, texts, &overrides)?;
@@ -47,11 +47,11 @@ fn rows_of(alloc: Global, texts: &[&str], overrides: &Vector) -> Result<Vec<Row>
         AreRows overrides.now (map (λ text. text.now) texts.now) rows.items) }
     ensures unrefused { OnOk result (HasNoRefusalBefore (map (λ text. text.now) texts.now)
         (length (map (λ text. text.now) texts.now))) }
-    ensures refused { IfErr result (λ told. (told ≡ OutOfMemory)
-        ⊎ TellsFirstRefused (map (λ text. text.now) texts.now) told) }
+    ensures refused { IfErr result (λ reported. (reported ≡ OutOfMemory)
+        ⊎ ReportsFirstRefused (map (λ text. text.now) texts.now) reported) }
     ensures refuses { (place : ℕ) (reason : Refusal MetricType)
         → IsFirstRefused (map (λ text. text.now) texts.now) place reason
-        → IsErrAnd result (TellsFault (InText place reason)) }
+        → IsErrAnd result (ReportsFault (InText place reason)) }
 {
     let mut rows = Vec::with_capacity(alloc, texts.len())?;
     for (index, text) in texts.iter().enumerate() {

@@ -1,4 +1,4 @@
-//! What triage tells of one text.
+//! What triage says of one text.
 
 ghost use Rattle.std.specs.Prelude.{◌≡◌, IfOk, IsPermutation, IsSorted};
 ghost use Rattle.cvss_base.specs.Rating.{rating_of_score};

@@ -40,7 +40,7 @@ fn audits_texts_of_all_versions(rt: HostRuntime) {
     }
 }
 
-/// Texts with what an advisory tells of each.
+/// Texts with what an advisory says of each.
 const ADVISORIES: [(&str, &str); 4] = [
     (
         "A:C/I:N/C:N/Au:N/AC:L/AV:N",
@@ -58,9 +58,9 @@ const ADVISORIES: [(&str, &str); 4] = [
 ];
 
 #[test]
-fn tells_the_vector_or_the_reason(rt: HostRuntime) -> Tried {
-    for (text, told) in &ADVISORIES {
-        assert!(rt; advisory(rt.alloc(), text)?.as_str() == *told, "{text}");
+fn reports_the_vector_or_the_reason(rt: HostRuntime) -> Tried {
+    for (text, reported) in &ADVISORIES {
+        assert!(rt; advisory(rt.alloc(), text)?.as_str() == *reported, "{text}");
     }
     Ok(())
 }

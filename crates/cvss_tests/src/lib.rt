@@ -1,5 +1,5 @@
 //! Tests of what no stored line shows: types and their traits, values that no text denotes, JSON
-//! values that are no strings, and callers. Texts, scores and refusals are lines of `cvss_vectors`;
+//! values that are no strings, and callers. Texts, scores and refusals are lines of `test_vectors`;
 //! runs over readers and writers that no file is are tests of `cvss_tool`.
 #![tactic(auto)]
 

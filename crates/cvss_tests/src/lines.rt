@@ -33,7 +33,7 @@ const FAULTS: [(&str, RunFault); 3] = [
 ];
 
 #[test]
-fn tells_every_fault(rt: HostRuntime) -> Tried {
+fn reports_every_fault(rt: HostRuntime) -> Tried {
     are_printed(&rt, rt.alloc(), &FAULTS)
 }
 
@@ -49,8 +49,8 @@ fn cuts_off_the_first_line(rt: HostRuntime) {
     is_cut_off(&rt, b"b\r", b"b", b"");
 }
 
-/// Compares a text's first line and what stands behind it.
-fn is_cut_off(rt: &impl Abort, text: &[u8], line: &[u8], behind: &[u8]) {
+/// Compares a text's first line and what follows it.
+fn is_cut_off(rt: &impl Abort, text: &[u8], line: &[u8], after: &[u8]) {
     let (cut, rest) = first_line(text).unwrap_or((b"", b"no line"));
-    assert!(rt; cut == line && rest == behind);
+    assert!(rt; cut == line && rest == after);
 }

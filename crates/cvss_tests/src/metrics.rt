@@ -129,18 +129,23 @@ fn values_are_read_in_any_case(rt: HostRuntime) {
     use cvss::v3::Metric as _;
     use cvss::v4::metric::Metric as _;
     use v3::metric::base::AttackVector;
-    assert!(rt; matches!(AttackVector::read_raised("n"), Some(AttackVector::Network)));
+    assert!(rt;
+        matches!(
+            AttackVector::read_uppercased("n"),
+            Some(AttackVector::Network)
+        )
+    );
     assert!(rt; ProviderUrgency::read("red").is_none());
     assert!(rt;
         matches!(
-            ProviderUrgency::read_raised("red"),
+            ProviderUrgency::read_uppercased("red"),
             Some(ProviderUrgency::Red)
         )
     );
 }
 
 #[test]
-fn metrics_are_told_apart(rt: HostRuntime) {
+fn metrics_are_distinguished(rt: HostRuntime) {
     use v3::metric::base::{AttackVector, Scope};
     assert!(rt; Scope::Changed.is_changed() && !Scope::Unchanged.is_changed());
     assert!(rt; matches!(AttackVector::MODIFIED_TYPE, v3::MetricType::MAV));

@@ -1,4 +1,4 @@
-//! Tests of triage: how refusals are told apart.
+//! Tests of triage: how refusals are distinguished.
 
 use crate::values::{Tried, are_printed};
 use cvss::Error;

@@ -1,4 +1,4 @@
-//! What is asked of the values of every public type: that they are told apart, copied and printed.
+//! What is asked of the values of every public type: that they are distinguished, copied and printed.
 
 use std::alloc::{AllocError, Global};
 use std::fmt;
@@ -16,7 +16,7 @@ pub(crate) fn are_equal<T: PartialEq>(rt: &impl Abort, rows: &[(T, T)]) {
 }
 
 /// Whether a value equals the one of its own text, and no other.
-fn is_told_apart<T: PartialEq>(rows: &[(&str, T)], text: &str, value: &T) -> bool {
+fn is_distinguished<T: PartialEq>(rows: &[(&str, T)], text: &str, value: &T) -> bool {
     let mut apart = true;
     for (other_text, other) in rows {
         let same = text == *other_text;
@@ -31,7 +31,7 @@ where
     T: Clone + PartialEq,
 {
     for (text, value) in rows {
-        assert!(rt; is_told_apart(rows, text, &value.clone()?), "{text}");
+        assert!(rt; is_distinguished(rows, text, &value.clone()?), "{text}");
     }
     Ok(())
 }

@@ -3,7 +3,7 @@
 use crate::values::{Tried, are_printed, prints};
 use cvss::{Cvss, v2, v3, v4};
 
-/// The version that a vector tells.
+/// The version that a vector says.
 fn version_of(vector: &Cvss) -> &'static str {
     match vector {
         Cvss::CvssV20(_) => "2.0",
@@ -25,7 +25,7 @@ const VERSIONS: [(&str, &str); 4] = [
 ];
 
 #[test]
-fn a_text_is_a_vector_of_the_version_that_it_tells(rt: HostRuntime) -> Tried {
+fn a_text_is_a_vector_of_the_version_that_it_reports(rt: HostRuntime) -> Tried {
     for (text, version) in &VERSIONS {
         let cvss = Cvss::from_str(rt.alloc(), text)?;
         assert!(rt; version_of(&cvss) == *version, "{text}");

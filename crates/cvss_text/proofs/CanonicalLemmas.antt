@@ -5,7 +5,7 @@ use Rattle.std.proofs.lemmas.List.Elements.{All-head}
 use Rattle.std.proofs.lemmas.List.Sorted.{IsPermutation-refl}
 use Rattle.cvss_base.specs.Text.{slash, pieces, joined}
 use Rattle.cvss_base.specs.Version.{Version, components_of, canonical_text, AreComponentsOf, Denotes}
-use Rattle.cvss_text.specs.private.Walk.{IsLawful}
+use Rattle.cvss_text.specs.private.Walk.{VersionLaws}
 use Rattle.cvss_text.proofs.DenotesLemmas.{vectors_same}
 use Rattle.cvss_text.proofs.TextLemmas.{is_colon, IsPart}
 use Rattle.cvss_text.proofs.JoinLemmas.{pieces-joined, are_parts}
@@ -36,7 +36,7 @@ cancel_front : (front xs ys : List (List ℕ)) → joined (front ++ xs) ≡ join
 cancel_front [] xs ys same = same
 cancel_front (first ∷ front) xs ys same = cancel_front front xs ys (cancel_first first (front ++ xs) (front ++ ys) same)
 
-module _ {V K : Type 0} (version : Version V K) (lawful : IsLawful version) where
+module _ {V K : Type 0} (version : Version V K) (version_laws : VersionLaws version) where
   own_components : (v : V) → AreComponentsOf version (components_of version v) v
   own_components v = record { each_once = IsPermutation-refl _ }
 
@@ -46,8 +46,8 @@ module _ {V K : Type 0} (version : Version V K) (lawful : IsLawful version) wher
   pub denoted_once : (v w : V) (text : List ℕ) → version.front v ≡ version.front w → Denotes version text v → Denotes version text w → v ≡ w
   denoted_once v w text front of_v of_w =
       let texts : joined (version.front w ++ of_v.parts) ≡ joined (version.front w ++ of_w.parts) = ap (λ pieces. joined (pieces ++ of_v.parts)) (sym front) ∙ (sym of_v.text_is ∙ of_w.text_is) in
-      let parts : of_v.parts ≡ of_w.parts = joined_same _ _ (are_parts version lawful v of_v.parts of_v.components) (are_parts version lawful w of_w.parts of_w.components) (cancel_front (version.front w) _ _ texts) in
-      vectors_same version lawful v w of_w.parts front (subst (λ each. AreComponentsOf version each v) parts of_v.components) of_w.components
+      let parts : of_v.parts ≡ of_w.parts = joined_same _ _ (are_parts version version_laws v of_v.parts of_v.components) (are_parts version version_laws w of_w.parts of_w.components) (cancel_front (version.front w) _ _ texts) in
+      vectors_same version version_laws v w of_w.parts front (subst (λ each. AreComponentsOf version each v) parts of_v.components) of_w.components
 
   pub canonical_text-same : (v w : V) → version.front v ≡ version.front w → canonical_text version v ≡ canonical_text version w → v ≡ w
   canonical_text-same v w front same = denoted_once v w (canonical_text version w) front (subst (λ text. Denotes version text v) same (canonical_text-denotes v)) (canonical_text-denotes w)

@@ -7,7 +7,7 @@ use Rattle.std.proofs.lemmas.List.Sorted.{IsPermutation-middle, IsPermutation-co
 use Rattle.cvss_base.specs.Text.{IsComponent, name_part, value_part, component}
 use Rattle.cvss_base.specs.Version.{Version, read, component_of, components_of, AreComponentsOf}
 use Rattle.cvss_base.specs.Refusal.{piece_at}
-use Rattle.cvss_text.specs.private.Walk.{IsLawful, Adds}
+use Rattle.cvss_text.specs.private.Walk.{VersionLaws, Adds}
 use Rattle.cvss_text.proofs.TextLemmas.{read-component, component-parts}
 use Rattle.cvss_text.proofs.LawLemmas.{IsCutAt, component_read, printed_once}
 
@@ -52,7 +52,7 @@ pub record StandsAt {V K : Type 0} (version : Version V K) (parts : List (List �
 abbrev pub HoldsHere : {V K : Type 0} → Version V K → (List ℕ → Type 0) → V → K → Type 0
 HoldsHere version P v kind = (value : version.Value kind) → version.value_of v kind ≡ Some value → P (component (version.name kind) (read version (version.spelling kind value)))
 
-module _ {V K : Type 0} (version : Version V K) (lawful : IsLawful version) where
+module _ {V K : Type 0} (version : Version V K) (version_laws : VersionLaws version) where
   -- the components, cut at one metric
   components_cut : (v : V) (kind : K) (cut : IsCutAt version.printed kind) → components_of version v ≡ filter_map (component_of version v) cut.before ++ cons_option (component_of version v kind) (filter_map (component_of version v) cut.after)
   components_cut v kind cut = ap (filter_map (component_of version v)) cut.is ∙ filter_map-append (component_of version v) cut.before (kind ∷ cut.after)
@@ -60,7 +60,7 @@ module _ {V K : Type 0} (version : Version V K) (lawful : IsLawful version) wher
   -- the components, as they are read, cut at a metric that has a value
   pub components_with : (v : V) (kind : K) (value : version.Value kind) (cut : IsCutAt version.printed kind) → version.value_of v kind ≡ Some value → map (read version) (components_of version v) ≡ map (read version) (filter_map (component_of version v) cut.before) ++ component (version.name kind) (read version (version.spelling kind value)) ∷ map (read version) (filter_map (component_of version v) cut.after)
   components_with v kind value cut held =
-      ap (map (read version)) (components_cut v kind cut) ∙ rw held (map-append (read version) (filter_map (component_of version v) cut.before) (component (version.name kind) (version.spelling kind value) ∷ filter_map (component_of version v) cut.after) ∙ rw (component_read version lawful kind (version.spelling kind value)))
+      ap (map (read version)) (components_cut v kind cut) ∙ rw held (map-append (read version) (filter_map (component_of version v) cut.before) (component (version.name kind) (version.spelling kind value) ∷ filter_map (component_of version v) cut.after) ∙ rw (component_read version version_laws kind (version.spelling kind value)))
 
   components_without : (v : V) (kind : K) (cut : IsCutAt version.printed kind) → version.value_of v kind ≡ None → map (read version) (components_of version v) ≡ map (read version) (filter_map (component_of version v) cut.before) ++ map (read version) (filter_map (component_of version v) cut.after)
   components_without v kind cut empty =
@@ -70,7 +70,7 @@ module _ {V K : Type 0} (version : Version V K) (lawful : IsLawful version) wher
   pub adds_component : (old new : V) (parts : List (List ℕ)) (piece : List ℕ) → Adds version old piece new → IsComponent piece → AreComponentsOf version parts old → AreComponentsOf version (parts ++ piece ∷ []) new
   adds_component old new parts piece adds is components =
       let kind = adds.kind in
-      let cut = printed_once version lawful kind in
+      let cut = printed_once version version_laws kind in
       let kept : (list : List K) → All (λ other. other ≢ kind) list → filter_map (component_of version new) list ≡ filter_map (component_of version old) list =
       λ list others. filter_map-agree (component_of version new) (component_of version old) list (λ k d inside. ap (λ held. option_map (component (version.name (get_or list k d))) (option_map (version.spelling (get_or list k d)) held)) (unless (adds.puts.others (get_or list k d)) (others k d inside))) in
       let before = map (read version) (filter_map (component_of version old) cut.before) in
@@ -87,7 +87,7 @@ module _ {V K : Type 0} (version : Version V K) (lawful : IsLawful version) wher
   -- a value of the vector stands among the pieces
   pub held_stands : (v : V) (parts : List (List ℕ)) (kind : K) (value : version.Value kind) → AreComponentsOf version parts v → version.value_of v kind ≡ Some value → StandsAt version parts kind value
   held_stands v parts kind value components held =
-      let cut = printed_once version lawful kind in
+      let cut = printed_once version version_laws kind in
       let text = component (version.name kind) (read version (version.spelling kind value)) in
       let among : Contains (map (read version) (components_of version v)) text =
       subst (λ list. Contains list text) (sym (components_with v kind value cut held)) (Contains-append_right (map (read version) (filter_map (component_of version v) cut.before)) (text ∷ map (read version) (filter_map (component_of version v) cut.after)) text (0, omega arith, refl)) in
@@ -98,7 +98,7 @@ module _ {V K : Type 0} (version : Version V K) (lawful : IsLawful version) wher
   -- what holds so of each metric, holds of all components
   holds_with : (P : List ℕ → Type 0) (v : V) (kind : K) (rest : List (List ℕ)) (held : Option (version.Value kind)) → version.value_of v kind ≡ held → HoldsHere version P v kind → All (λ text. P (read version text)) rest → All (λ text. P (read version text)) (cons_option (option_map (component (version.name kind)) (option_map (version.spelling kind) held)) rest)
   holds_with P v kind rest None is here all = all
-  holds_with P v kind rest (Some value) is here all = All-cons (λ text. P (read version text)) (component (version.name kind) (version.spelling kind value)) rest (rw (component_read version lawful kind (version.spelling kind value)) (here value is)) all
+  holds_with P v kind rest (Some value) is here all = All-cons (λ text. P (read version text)) (component (version.name kind) (version.spelling kind value)) rest (rw (component_read version version_laws kind (version.spelling kind value)) (here value is)) all
 
   holds_read : (P : List ℕ → Type 0) (v : V) (kinds : List K) → All (HoldsHere version P v) kinds → All (λ text. P (read version text)) (filter_map (component_of version v) kinds)
   holds_read P v [] each = All-nil (λ text. P (read version text))

@@ -1,4 +1,4 @@
--- Vectors that are found equal have the same values: a search finds what their comparison tells.
+-- Vectors that are found equal have the same values: a search finds what their comparison says.
 use denote.Enum.Bare.{Bare, sameb, same_true, true_same}
 use denote.Enum.Declared.{Declared}
 use Rattle.std.proofs.Common.{◌≡◌, ◌↔◌, ℕ, Bool, ◌&&◌, Option, IsTrue, eqb}
@@ -8,24 +8,24 @@ use Rattle.std.specs.Option.{option_eq}
 use Rattle.cvss_base.proofs.EqualityLemmas.{options_by_value}
 
 -- a test that is true exactly where the fact holds
-pub record Tells (test : Bool) (Fact : Type 0) : Type 0 where
-  pub tells : IsTrue test ↔ Fact
+pub record Reports (test : Bool) (Fact : Type 0) : Type 0 where
+  pub reports : IsTrue test ↔ Fact
 
-pub enums : (D : Declared) (x y : D.D) → Bare D.parts → Tells (sameb D x y) (x ≡ y)
-enums D x y bare = record { tells = (same_true D bare x y, true_same D x y) }
+pub enums : (D : Declared) (x y : D.D) → Bare D.parts → Reports (sameb D x y) (x ≡ y)
+enums D x y bare = record { reports = (same_true D bare x y, true_same D x y) }
 
 -- a test, and a fact that holds where it is true, which the search need not know
-pub record Telling (test : Bool) : Type 1 where
+pub record Reporting (test : Bool) : Type 1 where
   pub Fact : Type 0
   pub fact : IsTrue test → Fact
 
-abbrev pub numbers : (m n : ℕ) → Telling (eqb m n)
+abbrev pub numbers : (m n : ℕ) → Reporting (eqb m n)
 numbers m n = record { Fact = m ≡ n; fact = (Decides-eqb m n).0 }
 
-abbrev pub options : {X : Type 0} (same : X → X → Bool) (o p : Option X) → ((x y : X) → Tells (same x y) (x ≡ y)) → Telling (option_eq same o p)
-options same o p each = record { Fact = o ≡ p; fact = (options_by_value (λ x y. (each x y).tells) o p).0 }
+abbrev pub options : {X : Type 0} (same : X → X → Bool) (o p : Option X) → ((x y : X) → Reports (same x y) (x ≡ y)) → Reporting (option_eq same o p)
+options same o p each = record { Fact = o ≡ p; fact = (options_by_value (λ x y. (each x y).reports) o p).0 }
 
-abbrev pub both : (a b : Bool) → Telling a → Telling b → Telling (a && b)
+abbrev pub both : (a b : Bool) → Reporting a → Reporting b → Reporting (a && b)
 both a b left right = record {
   Fact = left.Fact × right.Fact;
   fact = λ h. let parts = and_parts a b h in (left.fact parts.0, right.fact parts.1);

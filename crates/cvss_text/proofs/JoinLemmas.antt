@@ -7,7 +7,7 @@ use Rattle.std.proofs.lemmas.List.Splits.{slice_split_none, slice_split_at}
 use Rattle.cvss_base.specs.Text.{slash, pieces, joined, IsComponent}
 use Rattle.cvss_base.specs.Version.{Version, AreComponentsOf}
 use Rattle.cvss_base.specs.Refusal.{piece_at}
-use Rattle.cvss_text.specs.private.Walk.{IsLawful}
+use Rattle.cvss_text.specs.private.Walk.{VersionLaws}
 use Rattle.cvss_text.proofs.TextLemmas.{is_slash, IsPart, IsPart-read, IsPart-component, All-from_count, foreign_bytes-read, foreign_sorts}
 use Rattle.cvss_text.proofs.LawLemmas.{name_plain}
 use Rattle.cvss_text.proofs.ComponentLemmas.{piece_held}
@@ -41,12 +41,12 @@ IsUtf8-joined (part ∷ next ∷ parts) all =
 pub IsUtf8-parts : (parts : List (List ℕ)) → All IsPart parts → IsUtf8 (joined parts)
 IsUtf8-parts parts are = IsUtf8-joined parts (All-weaker IsPart IsUtf8 IsUtf8-part parts are)
 
-module _ {V K : Type 0} (version : Version V K) (lawful : IsLawful version) (v : V) (parts : List (List ℕ)) (components : AreComponentsOf version parts v) where
+module _ {V K : Type 0} (version : Version V K) (version_laws : VersionLaws version) (v : V) (parts : List (List ℕ)) (components : AreComponentsOf version parts v) where
   pub are_parts : All IsPart parts
   are_parts = All-from_get_or IsPart parts [] (λ place within.
-      let held = piece_held version lawful v parts place components within in
-      let plain = foreign_bytes-read version.any_case (version.spelling held.kind held.value) ∙ lawful.spelling_plain held.kind held.value in
-      IsPart-read version.any_case (piece_at parts place) (rw held.is (IsPart-component (version.name held.kind) _ (name_plain version lawful held.kind) plain)))
+      let held = piece_held version version_laws v parts place components within in
+      let plain = foreign_bytes-read version.any_case (version.spelling held.kind held.value) ∙ version_laws.spelling_plain held.kind held.value in
+      IsPart-read version.any_case (piece_at parts place) (rw held.is (IsPart-component (version.name held.kind) _ (name_plain version version_laws held.kind) plain)))
 
   pub piece_is_component : (place : ℕ) → place < length parts → IsComponent (piece_at parts place)
   piece_is_component place within = record { one_colon = (are_parts place [] within).one_colon }

@@ -8,7 +8,7 @@ use Rattle.std.proofs.lemmas.Slice.Eq.{bytes_eq-Decides}
 use Rattle.cvss_base.specs.Text.{component, name_part, value_part}
 use Rattle.cvss_base.specs.Version.{Version, read}
 use Rattle.cvss_base.specs.private.Component.{foreign_bytes}
-use Rattle.cvss_text.specs.private.Walk.{IsLawful, IsCut, place_of}
+use Rattle.cvss_text.specs.private.Walk.{VersionLaws, IsCut, place_of}
 use Rattle.cvss_base.proofs.FindLemmas.{found_passes, not_found}
 use Rattle.cvss_text.proofs.TextLemmas.{read-component, foreign_bytes-read, name_part-component, value_part-component}
 
@@ -20,25 +20,25 @@ pub record IsCutAt {K : Type 0} (printed : List K) (kind : K) : Type 0 where
   pub not_before : All (λ other. other ≢ kind) before
   pub not_after : All (λ other. other ≢ kind) after
 
-module _ {V K : Type 0} (version : Version V K) (lawful : IsLawful version) where
+module _ {V K : Type 0} (version : Version V K) (version_laws : VersionLaws version) where
   -- what holds of each printed metric holds of each metric
   at_each : {Y : Type 0} (f g : K → Y) → map f version.printed ≡ map g version.printed → (kind : K) → f kind ≡ g kind
   at_each f g same kind =
       let place = place_of version kind in
-      let left : slice_get (map f version.printed) place ≡ Some (f kind) = slice_get-map f version.printed place ∙ ap (option_map f) (lawful.placed kind) in
-      let right : slice_get (map g version.printed) place ≡ Some (g kind) = slice_get-map g version.printed place ∙ ap (option_map g) (lawful.placed kind) in
+      let left : slice_get (map f version.printed) place ≡ Some (f kind) = slice_get-map f version.printed place ∙ ap (option_map f) (version_laws.placed kind) in
+      let right : slice_get (map g version.printed) place ≡ Some (g kind) = slice_get-map g version.printed place ∙ ap (option_map g) (version_laws.placed kind) in
       same_Some (f kind) (g kind) (sym left ∙ (ap (λ list. slice_get list place) same ∙ right))
 
   pub name_read : (kind : K) → read version (version.name kind) ≡ version.name kind
-  name_read = at_each (λ kind. read version (version.name kind)) version.name lawful.names_read
+  name_read = at_each (λ kind. read version (version.name kind)) version.name version_laws.names_read
 
   pub name_plain : (kind : K) → foreign_bytes (version.name kind) ≡ 0
-  name_plain = at_each (λ kind. foreign_bytes (version.name kind)) (λ _. 0) lawful.names_plain
+  name_plain = at_each (λ kind. foreign_bytes (version.name kind)) (λ _. 0) version_laws.names_plain
 
   pub names_differ : (kind other : K) → version.name kind ≡ version.name other → kind ≡ other
   names_differ kind other same =
       let one_place : place_of version kind ≡ place_of version other = ap (λ text. position_or_len (λ each. bytes_eq (version.name each) text) version.printed) same in
-      same_Some kind other (sym (lawful.placed kind) ∙ (ap (slice_get version.printed) one_place ∙ lawful.placed other))
+      same_Some kind other (sym (version_laws.placed kind) ∙ (ap (slice_get version.printed) one_place ∙ version_laws.placed other))
 
   -- the component with a metric's name, as it is read
   pub component_read : (kind : K) (text : List ℕ) → read version (component (version.name kind) text) ≡ component (version.name kind) (read version text)
@@ -47,19 +47,19 @@ module _ {V K : Type 0} (version : Version V K) (lawful : IsLawful version) wher
 
   pub only_place : (kind : K) (place : ℕ) (d : K) → place < length version.printed → get_or version.printed place d ≡ kind → place ≡ place_of version kind
   only_place kind place d within is =
-      let told : place_of version (get_or version.printed place d) ≡ 0 + place =
-      sym (get_or-map (place_of version) version.printed place d 0 within) ∙ (ap (λ list. get_or list place 0) lawful.in_order ∙ get_or-range_with_len 0 (length version.printed) place 0 within) in
-      omega (arith, told, ap (place_of version) is)
+      let reported : place_of version (get_or version.printed place d) ≡ 0 + place =
+      sym (get_or-map (place_of version) version.printed place d 0 within) ∙ (ap (λ list. get_or list place 0) version_laws.in_order ∙ get_or-range_with_len 0 (length version.printed) place 0 within) in
+      omega (arith, reported, ap (place_of version) is)
 
   pub printed_once : (kind : K) → IsCutAt version.printed kind
   printed_once kind =
       let printed = version.printed in
       let place = place_of version kind in
-      let within : place < length printed = slice_get_within printed place kind (lawful.placed kind) in
+      let within : place < length printed = slice_get_within printed place kind (version_laws.placed kind) in
       record {
         before = take place printed;
         after = drop (place + 1) printed;
-        is = sym (take-append-drop place printed) ∙ ap (λ rest. take place printed ++ rest) (drop_more printed place kind within ∙ ap (λ here. here ∷ drop (place + 1) printed) (get_or_from_slice_get printed place kind kind (lawful.placed kind)));
+        is = sym (take-append-drop place printed) ∙ ap (λ rest. take place printed ++ rest) (drop_more printed place kind within ∙ ap (λ here. here ∷ drop (place + 1) printed) (get_or_from_slice_get printed place kind kind (version_laws.placed kind)));
         not_before = λ k d inside is. omega (arith, length-take-le place printed (omega arith), only_place kind k d (omega (arith, length-take-le place printed (omega arith))) (sym (get_or-take place printed k d (omega (arith, length-take-le place printed (omega arith)))) ∙ is));
         not_after = λ k d inside is. omega (arith, only_place kind (place + 1 + k) d (omega (arith, length-drop (place + 1) printed)) (sym (get_or-drop (place + 1) printed k d) ∙ is));
       }
@@ -71,8 +71,8 @@ module _ {V K : Type 0} (version : Version V K) (lawful : IsLawful version) wher
   pub named_unknown : (name : List ℕ) → None ≡ find (λ each. bytes_eq name (version.name each)) version.printed → (kind : K) → version.name kind ≢ name
   named_unknown name none kind named =
       let place = place_of version kind in
-      let fails = not_found (λ each. bytes_eq name (version.name each)) version.printed place kind (sym none) (slice_get_within version.printed place kind (lawful.placed kind)) in
-      let here = get_or_from_slice_get version.printed place kind kind (lawful.placed kind) in
+      let fails = not_found (λ each. bytes_eq name (version.name each)) version.printed place kind (sym none) (slice_get_within version.printed place kind (version_laws.placed kind)) in
+      let here = get_or_from_slice_get version.printed place kind kind (version_laws.placed kind) in
       let passes : bytes_eq name (version.name kind) ≡ true = (bytes_eq-Decides name (version.name kind)).1 (sym named) in
       let no : true ≡ false = sym passes ∙ (ap (λ each. bytes_eq name (version.name each)) (sym here) ∙ fails) in cc
 
@@ -87,7 +87,7 @@ module _ {V K : Type 0} (version : Version V K) (lawful : IsLawful version) wher
         cut = is ∙ ap (λ each. component each value) (sym is_name);
       }
 
-  -- a piece is cut at a colon behind so many bytes, which are a metric's name
+  -- a piece is cut at a colon after so many bytes, which are a metric's name
   pub IsCut_at : (piece : List ℕ) (n : ℕ) (kind : K) → get_or piece n 0 ≡ 58 → version.name kind ≡ read version (map (λ k. get_or piece k 0) (range_with_len 0 n))
       → IsCut version piece kind (take (length piece - suc n) (drop (suc n) piece))
   IsCut_at piece n kind colon named =

@@ -38,7 +38,7 @@ pieces-first text at found =
 pub pieces-last : (text : List ℕ) → position is_slash text ≡ None → pieces text ≡ text ∷ []
 pieces-last text none = slice_split_none is_slash text (λ k d inside. fails_before_first is_slash text k d (omega (arith, first_nowhere is_slash text none)))
 
--- the first piece ends at the first slash or at the end, and the others are those behind it
+-- the first piece ends at the first slash or at the end, and the others are those after it
 pub pieces-cut : (text : List ℕ) (found : Option ℕ) (rest : Option (Bor (List ℕ))) → position is_slash text ≡ found → IsGetRangeResult text (unwrap_or found (length text) + 1) (length text) rest → pieces text ≡ take (unwrap_or found (length text)) text ∷ option_map_or (λ left. pieces left.now) rest []
 pieces-cut text None None is cut = pieces-last text is ∙ rw (take_all (length text) text (omega arith))
 pieces-cut text None (Some left) is cut = absurd (omega (arith, cut.0.0))
@@ -70,8 +70,8 @@ cut_at_ascii front rest byte ascii is =
     let at = length front in
     let within : at < length whole = omega (arith, length-append front (byte ∷ rest)) in
     let before = IsUtf8-take whole at is (IsCharBoundary-before_ascii whole at within (omega (arith, get_or_at front byte rest 0 at refl))) in
-    let behind = IsUtf8-drop whole (at + 1) is (IsCharBoundary-after_ascii whole at is within (omega (arith, get_or_at front byte rest 0 at refl))) in
-    (rw (take_at front (byte ∷ rest) at refl) at before, rw (sym (drop-drop 1 at whole) ∙ ap (drop 1) (drop_at front (byte ∷ rest) at refl)) at behind)
+    let after = IsUtf8-drop whole (at + 1) is (IsCharBoundary-after_ascii whole at is within (omega (arith, get_or_at front byte rest 0 at refl))) in
+    (rw (take_at front (byte ∷ rest) at refl) at before, rw (sym (drop-drop 1 at whole) ∙ ap (drop 1) (drop_at front (byte ∷ rest) at refl)) at after)
 
 -- each piece
 parts_of_joined : (parts : List (List ℕ)) → IsUtf8 (joined parts) → All IsUtf8 parts

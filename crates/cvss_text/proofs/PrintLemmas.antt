@@ -4,40 +4,40 @@ use Rattle.std.specs.List.{cons_option}
 use Rattle.std.proofs.lemmas.List.{drop_more, take_rest}
 use Rattle.cvss_base.specs.Text.{joined, slash}
 use Rattle.cvss_base.specs.Version.{Version, component_of}
-use Rattle.cvss_text.specs.private.Printing.{slashed, slashed_text, slashed_texts}
+use Rattle.cvss_text.specs.private.Printing.{with_slash, text_with_slash, texts_with_slash}
 
--- a first piece and the components of some metrics, joined: the piece, and each component behind a slash
-joined-cons_option : (first : List ℕ) (part : Option (List ℕ)) (parts : List (List ℕ)) → joined (first ∷ cons_option part parts) ≡ joined ((first ++ unwrap_or (slashed part) []) ∷ parts)
+-- a first piece and the components of some metrics, joined: the piece, and each component after a slash
+joined-cons_option : (first : List ℕ) (part : Option (List ℕ)) (parts : List (List ℕ)) → joined (first ∷ cons_option part parts) ≡ joined ((first ++ unwrap_or (with_slash part) []) ∷ parts)
 joined-cons_option first None parts = ap (λ text. joined (text ∷ parts)) (sym (append-nil first))
 joined-cons_option first (Some part) [] = refl
 joined-cons_option first (Some part) (next ∷ parts) = sym (append_assoc first (slash ∷ part) (slash ∷ joined (next ∷ parts)))
 
 module _ {V K : Type 0} (version : Version V K) (v : V) where
-  pub joined-slashed : (first : List ℕ) (kinds : List K) → joined (first ∷ filter_map (component_of version v) kinds) ≡ first ++ slashed_texts version v kinds
-  joined-slashed first [] = sym (append-nil first)
-  joined-slashed first (kind ∷ kinds) =
+  pub joined-with_slash : (first : List ℕ) (kinds : List K) → joined (first ∷ filter_map (component_of version v) kinds) ≡ first ++ texts_with_slash version v kinds
+  joined-with_slash first [] = sym (append-nil first)
+  joined-with_slash first (kind ∷ kinds) =
       joined-cons_option first (component_of version v kind) (filter_map (component_of version v) kinds)
-      ∙ joined-slashed (first ++ slashed_text version v kind) kinds
-      ∙ append_assoc first (slashed_text version v kind) (slashed_texts version v kinds)
+      ∙ joined-with_slash (first ++ text_with_slash version v kind) kinds
+      ∙ append_assoc first (text_with_slash version v kind) (texts_with_slash version v kinds)
 
-  -- the first component without its slash, and the others behind slashes
-  joined_from : (text : List ℕ) (part : Option (List ℕ)) (kinds : List K) → Some text ≡ slashed part
-      → drop 1 text ++ slashed_texts version v kinds ≡ joined (cons_option part (filter_map (component_of version v) kinds))
+  -- the first component without its slash, and the others after slashes
+  joined_from : (text : List ℕ) (part : Option (List ℕ)) (kinds : List K) → Some text ≡ with_slash part
+      → drop 1 text ++ texts_with_slash version v kinds ≡ joined (cons_option part (filter_map (component_of version v) kinds))
   joined_from text None kinds is = absurd (let no : Some text ≡ None = is in cc)
-  joined_from text (Some piece) kinds is = let text_is : text ≡ slash ∷ piece = cc in rw text_is (sym (joined-slashed piece kinds))
+  joined_from text (Some piece) kinds is = let text_is : text ≡ slash ∷ piece = cc in rw text_is (sym (joined-with_slash piece kinds))
 
-  pub joined_first : (kinds : List K) (kind : K) (text : List ℕ) → 1 ≤ length kinds → kind ≡ get_or kinds 0 kind → Some text ≡ slashed (component_of version v kind)
-      → drop 1 text ++ slashed_texts version v (take (length kinds - 1) (drop 1 kinds)) ≡ joined (filter_map (component_of version v) kinds)
+  pub joined_first : (kinds : List K) (kind : K) (text : List ℕ) → 1 ≤ length kinds → kind ≡ get_or kinds 0 kind → Some text ≡ with_slash (component_of version v kind)
+      → drop 1 text ++ texts_with_slash version v (take (length kinds - 1) (drop 1 kinds)) ≡ joined (filter_map (component_of version v) kinds)
   joined_first kinds kind text some first is =
       let kinds_are : kinds ≡ kind ∷ drop 1 kinds = drop_more kinds 0 kind (omega arith) ∙ ap (λ each. each ∷ drop 1 kinds) (sym first) in
       rw (take_rest kinds 1) (joined_from text (component_of version v kind) (drop 1 kinds) is)
       ∙ ap (λ all. joined (filter_map (component_of version v) all)) (sym kinds_are)
 
-  -- all components behind slashes, without the first slash
-  pub joined_after_first : (kinds : List K) → drop 1 (slashed_texts version v kinds) ≡ joined (filter_map (component_of version v) kinds)
+  -- all components after slashes, without the first slash
+  pub joined_after_first : (kinds : List K) → drop 1 (texts_with_slash version v kinds) ≡ joined (filter_map (component_of version v) kinds)
   joined_after_first [] = refl
   joined_after_first (kind ∷ kinds) = after_first (component_of version v kind) kinds (joined_after_first kinds) where
-    after_first : (part : Option (List ℕ)) (kinds : List K) → drop 1 (slashed_texts version v kinds) ≡ joined (filter_map (component_of version v) kinds)
-        → drop 1 (unwrap_or (slashed part) [] ++ slashed_texts version v kinds) ≡ joined (cons_option part (filter_map (component_of version v) kinds))
+    after_first : (part : Option (List ℕ)) (kinds : List K) → drop 1 (texts_with_slash version v kinds) ≡ joined (filter_map (component_of version v) kinds)
+        → drop 1 (unwrap_or (with_slash part) [] ++ texts_with_slash version v kinds) ≡ joined (cons_option part (filter_map (component_of version v) kinds))
     after_first None kinds others = others
-    after_first (Some piece) kinds others = sym (joined-slashed piece kinds)
+    after_first (Some piece) kinds others = sym (joined-with_slash piece kinds)

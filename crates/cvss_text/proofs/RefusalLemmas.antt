@@ -2,8 +2,8 @@
 use Rattle.std.proofs.Common.{◌≡◌, ℕ, ◌<◌, List, Contains, drop, arith, sym, ap, ◌∙◌, subst, slice_get}
 use Rattle.std.proofs.lemmas.Option.{same_Some}
 use Rattle.cvss_base.specs.Version.{Version, reading}
-use Rattle.cvss_base.specs.Refusal.{Refusal, BadComponent, WrongPrefix, WrongVersion, UnknownName, BadValue, Repeated, Missing, Spells, piece_at, name_at, value_at, FaultAt, IsFirstBadPiece, IsFirstFault, IsFirstMissing, IsFirstReason, IsReasonBehind, BadPiecesFirst}
-use Rattle.cvss_text.specs.private.Walk.{IsLawful}
+use Rattle.cvss_base.specs.Refusal.{Refusal, BadComponent, WrongPrefix, WrongVersion, UnknownName, BadValue, Repeated, Missing, Spells, piece_at, name_at, value_at, FaultAt, IsFirstBadPiece, IsFirstFault, IsFirstMissing, IsFirstReason, IsReasonAfter, BadPiecesFirst}
+use Rattle.cvss_text.specs.private.Walk.{VersionLaws}
 use Rattle.cvss_text.proofs.LawLemmas.{names_differ}
 
 -- of two least places with a fact, neither is before the other
@@ -15,30 +15,30 @@ bad_pieces_same parts piece other first second =
     let same = same_place first.place second.place (λ before. first.bad (rw first.is (second.earlier.each first.place before))) (λ before. second.bad (rw second.is (first.earlier.each second.place before))) in
     first.is ∙ (ap (piece_at parts) same ∙ sym second.is)
 
-module _ {V K : Type 0} (version : Version V K) (lawful : IsLawful version) (parts : List (List ℕ)) where
+module _ {V K : Type 0} (version : Version V K) (version_laws : VersionLaws version) (parts : List (List ℕ)) where
   -- a value cannot be both bad and repeated
   no_spelling_both : (place : ℕ) (kind other : K) (value : List ℕ) → version.name kind ≡ name_at version parts place → version.name other ≡ name_at version parts place → value ≡ value_at version parts place → ¬ (Spells (reading version kind) value) → Spells (reading version other) (value_at version parts place) → ⊥
   no_spelling_both place kind other value named also_named is no_spelling spelling =
-      let one = names_differ version lawful other kind (also_named ∙ sym named) in
+      let one = names_differ version version_laws other kind (also_named ∙ sym named) in
       no_spelling (subst (λ each. Spells (reading version each) value) one (subst (Spells (reading version other)) (sym is) spelling))
 
   -- a place has one fault
   pub faults_same : (place : ℕ) (reason other : Refusal K) → FaultAt version parts place reason → FaultAt version parts place other → reason ≡ other
   faults_same place (UnknownName name) (UnknownName other) (is, _) (also, _) = ap UnknownName (is ∙ sym also)
-  faults_same place (UnknownName name) (BadValue blamed value) (is, unknown) (kind, _, named, _, _) = absurd (unknown kind (named ∙ sym is))
+  faults_same place (UnknownName name) (BadValue reported_kind value) (is, unknown) (kind, _, named, _, _) = absurd (unknown kind (named ∙ sym is))
   faults_same place (UnknownName name) (Repeated kind) (is, unknown) (named, _, _) = absurd (unknown kind (named ∙ sym is))
   faults_same place (UnknownName name) _ _ none = absurd none
-  faults_same place (BadValue blamed value) (UnknownName other) (kind, _, named, _, _) (is, unknown) = absurd (unknown kind (named ∙ sym is))
-  faults_same place (BadValue blamed value) (BadValue also_blamed also) (kind, blames, named, is, _) (other, also_blames, also_named, also_is, _) =
-      let one = names_differ version lawful kind other (named ∙ sym also_named) in
-      let one_blamed : blamed ≡ also_blamed = blames ∙ (ap version.blamed one ∙ sym also_blames) in
+  faults_same place (BadValue reported_kind value) (UnknownName other) (kind, _, named, _, _) (is, unknown) = absurd (unknown kind (named ∙ sym is))
+  faults_same place (BadValue reported_kind value) (BadValue also_reported also) (kind, blames, named, is, _) (other, also_blames, also_named, also_is, _) =
+      let one = names_differ version version_laws kind other (named ∙ sym also_named) in
+      let one_reported : reported_kind ≡ also_reported = blames ∙ (ap version.reported_kind one ∙ sym also_blames) in
       let one_value : value ≡ also = is ∙ sym also_is in
       cc
-  faults_same place (BadValue blamed value) (Repeated other) (kind, _, named, is, no_spelling) (also_named, spelling, _) = absurd (no_spelling_both place kind other value named also_named is no_spelling spelling)
-  faults_same place (BadValue blamed value) _ _ none = absurd none
+  faults_same place (BadValue reported_kind value) (Repeated other) (kind, _, named, is, no_spelling) (also_named, spelling, _) = absurd (no_spelling_both place kind other value named also_named is no_spelling spelling)
+  faults_same place (BadValue reported_kind value) _ _ none = absurd none
   faults_same place (Repeated kind) (UnknownName other) (named, _, _) (is, unknown) = absurd (unknown kind (named ∙ sym is))
-  faults_same place (Repeated other) (BadValue blamed value) (also_named, spelling, _) (kind, _, named, is, no_spelling) = absurd (no_spelling_both place kind other value named also_named is no_spelling spelling)
-  faults_same place (Repeated kind) (Repeated other) (named, _, _) (also_named, _, _) = ap Repeated (names_differ version lawful kind other (named ∙ sym also_named))
+  faults_same place (Repeated other) (BadValue reported_kind value) (also_named, spelling, _) (kind, _, named, is, no_spelling) = absurd (no_spelling_both place kind other value named also_named is no_spelling spelling)
+  faults_same place (Repeated kind) (Repeated other) (named, _, _) (also_named, _, _) = ap Repeated (names_differ version version_laws kind other (named ∙ sym also_named))
   faults_same place (Repeated kind) _ _ none = absurd none
   faults_same place _ _ none _ = absurd none
 
@@ -59,18 +59,18 @@ module _ {V K : Type 0} (version : Version V K) (lawful : IsLawful version) (par
   reasons_same reason (Missing other) first second = absurd (second.faultless.none first.place reason first.within first.fault)
   reasons_same reason other first second = first_faults_same reason other first second
 
-module _ {V K : Type 0} (version : Version V K) (lawful : IsLawful version) (parts : List (List ℕ)) where
-  -- two reasons behind a version piece are one
-  pub reasons_behind_same : (reason other : Refusal K) → IsReasonBehind version parts reason → IsReasonBehind version parts other → reason ≡ other
-  reasons_behind_same (WrongPrefix prefix) (WrongPrefix other) first second = ap WrongPrefix (first.is ∙ sym second.is)
-  reasons_behind_same (WrongPrefix prefix) (WrongVersion other) first second = absurd (first.wrong (first.is ∙ second.prefix))
-  reasons_behind_same (WrongPrefix prefix) _ first (tells, _) = absurd (first.wrong (first.is ∙ tells.prefix))
-  reasons_behind_same (WrongVersion told) (WrongPrefix other) first second = absurd (second.wrong (second.is ∙ first.prefix))
-  reasons_behind_same (WrongVersion told) (WrongVersion other) first second = ap WrongVersion (first.is ∙ sym second.is)
-  reasons_behind_same (WrongVersion told) _ first (tells, _) = absurd (first.wrong (subst (Contains version.supported) (sym first.is) tells.supported))
-  reasons_behind_same _ (WrongPrefix other) (tells, _) second = absurd (second.wrong (second.is ∙ tells.prefix))
-  reasons_behind_same _ (WrongVersion other) (tells, _) second = absurd (second.wrong (subst (Contains version.supported) (sym second.is) tells.supported))
-  reasons_behind_same reason other (_, first) (_, second) = reasons_same version lawful (drop 1 parts) reason other first second
+module _ {V K : Type 0} (version : Version V K) (version_laws : VersionLaws version) (parts : List (List ℕ)) where
+  -- two reasons after a version piece are one
+  pub reasons_after_same : (reason other : Refusal K) → IsReasonAfter version parts reason → IsReasonAfter version parts other → reason ≡ other
+  reasons_after_same (WrongPrefix prefix) (WrongPrefix other) first second = ap WrongPrefix (first.is ∙ sym second.is)
+  reasons_after_same (WrongPrefix prefix) (WrongVersion other) first second = absurd (first.wrong (first.is ∙ second.prefix))
+  reasons_after_same (WrongPrefix prefix) _ first (reports, _) = absurd (first.wrong (first.is ∙ reports.prefix))
+  reasons_after_same (WrongVersion reported) (WrongPrefix other) first second = absurd (second.wrong (second.is ∙ first.prefix))
+  reasons_after_same (WrongVersion reported) (WrongVersion other) first second = ap WrongVersion (first.is ∙ sym second.is)
+  reasons_after_same (WrongVersion reported) _ first (reports, _) = absurd (first.wrong (subst (Contains version.supported) (sym first.is) reports.supported))
+  reasons_after_same _ (WrongPrefix other) (reports, _) second = absurd (second.wrong (second.is ∙ reports.prefix))
+  reasons_after_same _ (WrongVersion other) (reports, _) second = absurd (second.wrong (subst (Contains version.supported) (sym second.is) reports.supported))
+  reasons_after_same reason other (_, first) (_, second) = reasons_same version version_laws (drop 1 parts) reason other first second
 
 module _ {K : Type 0} (IsReason : Refusal K → Type 0) (parts : List (List ℕ)) where
   -- two first refusals of the pieces are one, where two later reasons are

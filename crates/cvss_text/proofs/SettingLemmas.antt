@@ -11,7 +11,7 @@ use Rattle.cvss_base.specs.Text.{IsComponent, pieces}
 use Rattle.cvss_base.specs.Version.{Version, AreComponentsOf, IsComplete, component_of, components_of, read}
 use Rattle.cvss_text.specs.Setting.{IsBuildReason, IsBuilt, IsFirstWrong, IsSet, IsSetReason, IsWrongAt, components_in}
 use Rattle.cvss_text.specs.private.SettingSteps.{HasReadGiven, IsAnswered, IsCopied, IsWrongFor}
-use Rattle.cvss_text.specs.private.Walk.{Adds, HasNoValue, IsFaultOf, IsLawful, place_of, reason_of}
+use Rattle.cvss_text.specs.private.Walk.{Adds, HasNoValue, IsFaultOf, VersionLaws, place_of, reason_of}
 use Rattle.cvss_text.specs.declared.walk.Fault.{Fault}
 use Rattle.cvss_text.proofs.DenotesLemmas.{no_fault_held, no_reason, values_same, vectors_same}
 use Rattle.cvss_text.proofs.JoinLemmas.{piece_is_component}
@@ -27,7 +27,7 @@ pub components_in-none : (text : List ℕ) → length text ≤ 0 → components_
 components_in-none [] none = refl
 components_in-none (byte ∷ bytes) none = absurd (omega (arith, none))
 
--- a piece that was yielded behind so many others
+-- a piece that was yielded after so many others
 pub piece_here : (parts : List (List ℕ)) (index yielded : ℕ) (bytes piece : List ℕ) → index ≡ yielded → bytes ≡ piece → yielded < length parts → piece ≡ get_or parts yielded piece
     → (index < length parts) × (bytes ≡ piece_at parts index)
 piece_here parts index yielded bytes piece at is within here =
@@ -55,7 +55,7 @@ pub record IsCompletedTo {V K : Type 0} (version : Version V K) (given own : V) 
   pub kept : (kind : K) → index ≤ place_of version kind → version.value_of v kind ≡ version.value_of given kind
   pub front : version.front v ≡ version.front given
 
-module _ {V K : Type 0} (version : Version V K) (lawful : IsLawful version) where
+module _ {V K : Type 0} (version : Version V K) (version_laws : VersionLaws version) where
   -- nothing is wrong with a component that has no fault
   right_at : (parts : List (List ℕ)) (index : ℕ) → IsComponent (piece_at parts index) → ((reason : Refusal K) → FaultAt version parts index reason → ⊥) → (reason : Refusal K) → IsWrongAt version parts index reason → ⊥
   right_at parts index is none (BadComponent piece) wrong = wrong.1 is
@@ -68,19 +68,19 @@ module _ {V K : Type 0} (version : Version V K) (lawful : IsLawful version) wher
 
   pub right_held : (v : V) (parts : List (List ℕ)) (index : ℕ) → AreComponentsOf version parts v → index < length parts → (reason : Refusal K) → IsWrongAt version parts index reason → ⊥
   right_held v parts index are within =
-      right_at parts index (piece_is_component version lawful v parts are index within) (no_fault_held version lawful v parts index are within)
+      right_at parts index (piece_is_component version version_laws v parts are index within) (no_fault_held version version_laws v parts index are within)
 
   -- the start and a step of reading them
   pub HasReadGiven-none : (parts : List (List ℕ)) (v : V) → HasNoValue version v → HasReadGiven version parts 0 v
   HasReadGiven-none parts v empty = record {
-    read = HasRead-none version lawful parts v empty;
+    read = HasRead-none version version_laws parts v empty;
     right = record { none = λ earlier reason below. absurd (omega arith) };
   }
 
   module _ (parts : List (List ℕ)) (index : ℕ) (within : index < length parts) (piece : List ℕ) (here : piece ≡ piece_at parts index) where
     pub HasReadGiven-more : (old new : V) → IsComponent piece → Adds version old piece new → HasReadGiven version parts index old → HasReadGiven version parts (index + 1) new
     HasReadGiven-more old new is adds before =
-        let all = HasRead-more version lawful parts index within piece here old new is adds before.read in
+        let all = HasRead-more version version_laws parts index within piece here old new is adds before.read in
         let right = right_at parts index (subst IsComponent here is) (λ reason fault. all.faultless.none index reason (omega arith) fault) in
         record {
           read = all;
@@ -89,7 +89,7 @@ module _ {V K : Type 0} (version : Version V K) (lawful : IsLawful version) wher
 
     wrong_at : (v : V) → HasReadGiven version parts index v → (reason : Refusal K) → IsWrongFor version v (piece_at parts index) reason → IsWrongAt version parts index reason
     wrong_at v before (BadComponent text) is = is
-    wrong_at v before reason is = (is.0, fault_at version lawful v parts index (omega arith) before.read.components reason is.1)
+    wrong_at v before reason is = (is.0, fault_at version version_laws v parts index (omega arith) before.read.components reason is.1)
 
     pub IsFirstWrong-at : (v : V) (reason : Refusal K) → IsWrongFor version v piece reason → HasReadGiven version parts index v → IsFirstWrong version parts index reason
     IsFirstWrong-at v reason is before = record {
@@ -115,7 +115,7 @@ module _ {V K : Type 0} (version : Version V K) (lawful : IsLawful version) wher
   wrongs_same parts index (BadComponent _) (BadComponent _) a b = ap BadComponent (a.0 ∙ sym b.0)
   wrongs_same parts index (BadComponent _) other a b = absurd (a.1 b.0)
   wrongs_same parts index one (BadComponent _) a b = absurd (b.1 a.0)
-  wrongs_same parts index one other a b = faults_same version lawful parts index one other a.1 b.1
+  wrongs_same parts index one other a b = faults_same version version_laws parts index one other a.1 b.1
 
   first_wrongs_same : (parts : List (List ℕ)) (i j : ℕ) (one other : Refusal K) → IsFirstWrong version parts i one → IsFirstWrong version parts j other → (i ≡ j) × (one ≡ other)
   first_wrongs_same parts i j one other first second =
@@ -146,9 +146,9 @@ module _ {V K : Type 0} (version : Version V K) (lawful : IsLawful version) wher
   module _ (v : V) (parts : List (List ℕ)) where
     pub set_once : (new other : V) → IsSet version v parts new → IsSet version v parts other → new ≡ other
     set_once new other is also =
-        lawful.one_vector new other (is.front_is ∙ sym also.front_is) (λ kind.
+        version_laws.one_vector new other (is.front_is ∙ sym also.front_is) (λ kind.
         is.values kind
-        ∙ ap (λ each. option_or each (version.value_of v kind)) (values_same version lawful is.given also.given parts is.components also.components kind)
+        ∙ ap (λ each. option_or each (version.value_of v kind)) (values_same version version_laws is.given also.given parts is.components also.components kind)
         ∙ sym (also.values kind))
 
     pub set_no_reason : (new : V) (index : Option ℕ) (reason : Refusal K) → IsSet version v parts new → IsSetReason version parts index reason → ⊥
@@ -165,7 +165,7 @@ module _ {V K : Type 0} (version : Version V K) (lawful : IsLawful version) wher
     pub IsSet-none : (empty : V) → HasNoValue version empty → parts ≡ [] → IsSet version v parts v
     IsSet-none empty valueless none = record {
       given = empty;
-      components = subst (λ each. AreComponentsOf version each empty) (sym none) (HasRead-none version lawful [] empty valueless).components;
+      components = subst (λ each. AreComponentsOf version each empty) (sym none) (HasRead-none version version_laws [] empty valueless).components;
       values = λ kind. sym (or_none (version.value_of empty kind) (version.value_of v kind) (valueless.none kind));
       front_is = refl;
     }
@@ -179,11 +179,11 @@ module _ {V K : Type 0} (version : Version V K) (lawful : IsLawful version) wher
   -- build: one vector, one reason, and not both
   module _ (front parts : List (List ℕ)) where
     pub built_once : (v w : V) → IsBuilt version front parts v → IsBuilt version front parts w → v ≡ w
-    built_once v w is also = vectors_same version lawful v w parts (is.front_is ∙ sym also.front_is) is.components also.components
+    built_once v w is also = vectors_same version version_laws v w parts (is.front_is ∙ sym also.front_is) is.components also.components
 
     pub built_no_reason : (v : V) (index : Option ℕ) (reason : Refusal K) → IsBuilt version front parts v → IsBuildReason version parts index reason → ⊥
     built_no_reason v (Some index) reason is why = right_held v parts index is.components why.within reason why.is
-    built_no_reason v None (Missing kind) is why = no_reason version lawful v parts is.components is.complete (Missing kind) why.1
+    built_no_reason v None (Missing kind) is why = no_reason version version_laws v parts is.components is.complete (Missing kind) why.1
     built_no_reason v None _ is why = absurd why
 
   pub build_reasons_same : (parts : List (List ℕ)) (i j : Option ℕ) (one other : Refusal K) → IsBuildReason version parts i one → IsBuildReason version parts j other → (i ≡ j) × (one ≡ other)
@@ -192,7 +192,7 @@ module _ {V K : Type 0} (version : Version V K) (lawful : IsLawful version) wher
   build_reasons_same parts (Some i) None one (Missing other) first second = absurd (second.0.none i one first.within first.is)
   build_reasons_same parts (Some i) None one _ first second = absurd second
   build_reasons_same parts None (Some j) (Missing one) other first second = absurd (first.0.none j other second.within second.is)
-  build_reasons_same parts None None (Missing one) (Missing other) first second = (refl, reasons_same version lawful parts (Missing one) (Missing other) first.1 second.1)
+  build_reasons_same parts None None (Missing one) (Missing other) first second = (refl, reasons_same version version_laws parts (Missing one) (Missing other) first.1 second.1)
   build_reasons_same parts None None (Missing one) _ first second = absurd second
   build_reasons_same parts None _ _ _ first second = absurd first
 
@@ -200,7 +200,7 @@ module _ {V K : Type 0} (version : Version V K) (lawful : IsLawful version) wher
   IsCompletedTo-start given own = record { copied = λ kind below. absurd (omega (arith, below)); kept = λ kind _. refl; front = refl }
 
   one_at_place : (kind other : K) → place_of version other ≡ place_of version kind → kind ≡ other
-  one_at_place kind other same = same_Some kind other (sym (lawful.placed kind) ∙ (ap (slice_get version.printed) (sym same) ∙ lawful.placed other))
+  one_at_place kind other same = same_Some kind other (sym (version_laws.placed kind) ∙ (ap (slice_get version.printed) (sym same) ∙ version_laws.placed other))
 
   module _ (given own : V) (index : ℕ) (kind : K) (at : place_of version kind ≡ index) (old new : V) (is : IsCopied version own kind old new) (before : IsCompletedTo version given own index old) where
     copied_here : version.value_of new kind ≡ option_or (version.value_of given kind) (version.value_of own kind)
@@ -227,4 +227,4 @@ module _ {V K : Type 0} (version : Version V K) (lawful : IsLawful version) wher
 
   pub IsCompletedTo-all : (given own v : V) → IsCompletedTo version given own (length version.printed) v → (kind : K) → version.value_of v kind ≡ option_or (version.value_of given kind) (version.value_of own kind)
   IsCompletedTo-all given own v all kind =
-      all.copied kind (slice_get_within version.printed (place_of version kind) kind (lawful.placed kind))
+      all.copied kind (slice_get_within version.printed (place_of version kind) kind (version_laws.placed kind))

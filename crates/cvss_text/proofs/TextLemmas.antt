@@ -8,7 +8,7 @@ use Rattle.std.proofs.lemmas.List.{map-append, take-map, drop-map, take_at, drop
 use Rattle.std.proofs.lemmas.List.Elements.{All-head, All-tail}
 use Rattle.std.proofs.lemmas.List.Folds.{fold-map}
 use Rattle.std.proofs.lemmas.List.Sums.{sum_by-cons, sum_by-append, get_or-le-sum_by, split_at_first, passes_at_first, fails_before_first, position_or_len_is}
-use Rattle.cvss_base.specs.Text.{slash, colon, IsComponent, name_part, value_part, component, raised, read_as}
+use Rattle.cvss_base.specs.Text.{slash, colon, IsComponent, name_part, value_part, component, uppercased, read_as}
 use Rattle.cvss_base.specs.private.Component.{is_foreign, foreign_bytes}
 
 abbrev pub is_slash : ℕ → Bool
@@ -23,20 +23,20 @@ pub record IsPart (piece : List ℕ) : Type 0 where
   pub one_foreign : foreign_bytes piece ≡ 1
 
 -- raising letters makes and takes no colon, and no foreign byte
-raised_colon : (byte : ℕ) → is_colon (to_ascii_uppercase byte) ≡ is_colon byte
-raised_colon byte = grind (arith, nat_tests)
+uppercased_colon : (byte : ℕ) → is_colon (to_ascii_uppercase byte) ≡ is_colon byte
+uppercased_colon byte = grind (arith, nat_tests)
 
-raised_foreign : (byte : ℕ) → is_foreign (to_ascii_uppercase byte) ≡ is_foreign byte
-raised_foreign byte = grind (arith, nat_tests)
+uppercased_foreign : (byte : ℕ) → is_foreign (to_ascii_uppercase byte) ≡ is_foreign byte
+uppercased_foreign byte = grind (arith, nat_tests)
 
 -- a test that does not see whether letters are raised
 module _ (p : ℕ → Bool) (keeps : (byte : ℕ) → p (to_ascii_uppercase byte) ≡ p byte) where
-  position-raised : (text : List ℕ) → position_or_len p (raised text) ≡ position_or_len p text
-  position-raised [] = refl
-  position-raised (byte ∷ text) = cc (keeps byte, position-raised text)
+  position-uppercased : (text : List ℕ) → position_or_len p (uppercased text) ≡ position_or_len p text
+  position-uppercased [] = refl
+  position-uppercased (byte ∷ text) = cc (keeps byte, position-uppercased text)
 
-  count_by-raised : (text : List ℕ) → count_by p (raised text) ≡ count_by p text
-  count_by-raised text = fold-map (λ n x. n + cond (p x) 1 0) to_ascii_uppercase 0 text ∙ simp keeps
+  count_by-uppercased : (text : List ℕ) → count_by p (uppercased text) ≡ count_by p text
+  count_by-uppercased text = fold-map (λ n x. n + cond (p x) 1 0) to_ascii_uppercase 0 text ∙ simp keeps
 
 -- how the parts of a piece are read
 pub read-component : (any_case : Bool) (name value : List ℕ) → read_as any_case (component name value) ≡ component (read_as any_case name) (read_as any_case value)
@@ -44,20 +44,20 @@ read-component true name value = map-append to_ascii_uppercase name (colon ∷ v
 read-component false name value = refl
 
 pub name_part-read : (any_case : Bool) (piece : List ℕ) → name_part (read_as any_case piece) ≡ read_as any_case (name_part piece)
-name_part-read true piece = rw (position-raised is_colon raised_colon piece) (take-map to_ascii_uppercase _ piece)
+name_part-read true piece = rw (position-uppercased is_colon uppercased_colon piece) (take-map to_ascii_uppercase _ piece)
 name_part-read false piece = refl
 
 pub value_part-read : (any_case : Bool) (piece : List ℕ) → value_part (read_as any_case piece) ≡ read_as any_case (value_part piece)
-value_part-read true piece = rw (position-raised is_colon raised_colon piece) (drop-map to_ascii_uppercase _ piece)
+value_part-read true piece = rw (position-uppercased is_colon uppercased_colon piece) (drop-map to_ascii_uppercase _ piece)
 value_part-read false piece = refl
 
 pub foreign_bytes-read : (any_case : Bool) (piece : List ℕ) → foreign_bytes (read_as any_case piece) ≡ foreign_bytes piece
-foreign_bytes-read true piece = count_by-raised is_foreign raised_foreign piece
+foreign_bytes-read true piece = count_by-uppercased is_foreign uppercased_foreign piece
 foreign_bytes-read false piece = refl
 
 pub IsPart-read : (any_case : Bool) (piece : List ℕ) → IsPart (read_as any_case piece) → IsPart piece
 IsPart-read true piece is = record {
-  one_colon = sym (count_by-raised is_colon raised_colon piece) ∙ is.one_colon;
+  one_colon = sym (count_by-uppercased is_colon uppercased_colon piece) ∙ is.one_colon;
   one_foreign = sym (foreign_bytes-read true piece) ∙ is.one_foreign;
 }
 IsPart-read false piece is = is
@@ -106,15 +106,15 @@ module _ (name value : List ℕ) (no_colon : count_by is_colon name ≡ 0) where
   pub name_before : name_part (component name value) ≡ name
   name_before = rw colon_place (take_at name (colon ∷ value) (length name) refl)
 
-  pub value_behind : value_part (component name value) ≡ value
-  value_behind = rw colon_place (sym (drop-drop 1 (length name) (component name value)) ∙ ap (drop 1) (drop_at name (colon ∷ value) (length name) refl))
+  pub value_after : value_part (component name value) ≡ value
+  value_after = rw colon_place (sym (drop-drop 1 (length name) (component name value)) ∙ ap (drop 1) (drop_at name (colon ∷ value) (length name) refl))
 
 module _ (name value : List ℕ) (name_plain : foreign_bytes name ≡ 0) where
   pub name_part-component : name_part (component name value) ≡ name
   name_part-component = name_before name value (omega (arith, foreign_sorts name))
 
   pub value_part-component : value_part (component name value) ≡ value
-  value_part-component = value_behind name value (omega (arith, foreign_sorts name))
+  value_part-component = value_after name value (omega (arith, foreign_sorts name))
 
   counted : (p : ℕ → Bool) → count_by p (component name value) ≡ count_by p name + (cond (p colon) 1 0 + count_by p value)
   counted p = sum_by-append (λ x. cond (p x) 1 0) name (colon ∷ value) ∙ ap (λ n. count_by p name + n) (count_by-cons p colon value)

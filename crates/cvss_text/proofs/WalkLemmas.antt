@@ -11,7 +11,7 @@ use Rattle.cvss_base.specs.Text.{colon, pieces, IsComponent, name_part, value_pa
 use Rattle.cvss_base.specs.Version.{Version, read, component_of, AreComponentsOf, reading}
 use Rattle.cvss_base.specs.Refusal.{Refusal, AreComponentsBefore, BadComponent, UnknownName, BadValue, Repeated, Missing, Spells, piece_at, FaultAt, IsNamedBefore, IsFirstBadPiece, IsFirstMissing}
 use Rattle.cvss_base.specs.private.Component.{foreign_bytes}
-use Rattle.cvss_text.specs.private.Walk.{IsLawful, IsCut, IsCutFirst, IsReadFirst, IsFirstOfPieces, HasNoValue, Puts, Adds, HasRead, IsFaultOf, LacksFirst}
+use Rattle.cvss_text.specs.private.Walk.{VersionLaws, IsCut, IsCutFirst, IsReadFirst, IsFirstOfPieces, HasNoValue, Puts, Adds, HasRead, IsFaultOf, LacksFirst}
 use Rattle.cvss_text.proofs.TextLemmas.{is_slash, All-from_count, name_part-read, value_part-read, name_part-component, value_part-component, foreign_bytes-read, foreign_sorts, IsPart-component}
 use Rattle.cvss_text.proofs.LawLemmas.{name_plain, names_differ, IsCut_named}
 use Rattle.cvss_text.proofs.ComponentLemmas.{adds_component, held_stands, piece_held}
@@ -25,15 +25,15 @@ none_absent : {A : Type 0} (option : Option A) → option ≡ None → IsSome op
 none_absent option none is = let value = value_from option is in none-some value.0 (sym none ∙ value.1)
 
 -- pieces that begin with bytes that are no slash
-onto_first_piece : (front rest first : List ℕ) (behind : List (List ℕ)) → All (λ byte. is_slash byte ≡ false) front → pieces rest ≡ first ∷ behind → pieces (front ++ rest) ≡ (front ++ first) ∷ behind
-onto_first_piece [] rest first behind none found = found
-onto_first_piece (byte ∷ front) rest first behind none found =
+onto_first_piece : (front rest first : List ℕ) (after : List (List ℕ)) → All (λ byte. is_slash byte ≡ false) front → pieces rest ≡ first ∷ after → pieces (front ++ rest) ≡ (front ++ first) ∷ after
+onto_first_piece [] rest first after none found = found
+onto_first_piece (byte ∷ front) rest first after none found =
     slice_split-cons_no is_slash byte (front ++ rest) (All-head (λ each. is_slash each ≡ false) byte front none)
-    ∙ ap (onto_first byte) (onto_first_piece front rest first behind (All-tail (λ each. is_slash each ≡ false) byte front none) found)
+    ∙ ap (onto_first byte) (onto_first_piece front rest first after (All-tail (λ each. is_slash each ≡ false) byte front none) found)
 
-pieces-behind : (name rest value : List ℕ) (behind : List (List ℕ)) → foreign_bytes name ≡ 0 → pieces rest ≡ value ∷ behind → pieces (component name rest) ≡ component name value ∷ behind
-pieces-behind name rest value behind plain found =
-    onto_first_piece name (colon ∷ rest) (colon ∷ value) behind (All-from_count is_slash name (omega (arith, foreign_sorts name, plain)))
+pieces-after : (name rest value : List ℕ) (after : List (List ℕ)) → foreign_bytes name ≡ 0 → pieces rest ≡ value ∷ after → pieces (component name rest) ≡ component name value ∷ after
+pieces-after name rest value after plain found =
+    onto_first_piece name (colon ∷ rest) (colon ∷ value) after (All-from_count is_slash name (omega (arith, foreign_sorts name, plain)))
     (slice_split-cons_no is_slash colon rest refl ∙ ap (onto_first colon) found)
 
 -- the vector holds the components before those that are left, none of which has a fault
@@ -44,30 +44,30 @@ pub record HasReadTo {V K : Type 0} (version : Version V K) (parts left : List (
   pub components : AreComponentsBefore parts place
   pub read : HasRead version parts place v
 
-module _ {V K : Type 0} (version : Version V K) (lawful : IsLawful version) where
+module _ {V K : Type 0} (version : Version V K) (version_laws : VersionLaws version) where
   -- the name and the value of a piece that stands for a component
   pub name_from : (piece : List ℕ) (kind : K) (text : List ℕ) → read version piece ≡ component (version.name kind) text → read version (name_part piece) ≡ version.name kind
   name_from piece kind text is =
-      sym (name_part-read version.any_case piece) ∙ (ap name_part is ∙ name_part-component (version.name kind) text (name_plain version lawful kind))
+      sym (name_part-read version.any_case piece) ∙ (ap name_part is ∙ name_part-component (version.name kind) text (name_plain version version_laws kind))
 
   pub value_from_piece : (piece : List ℕ) (kind : K) (text : List ℕ) → read version piece ≡ component (version.name kind) text → read version (value_part piece) ≡ text
   value_from_piece piece kind text is =
-      sym (value_part-read version.any_case piece) ∙ (ap value_part is ∙ value_part-component (version.name kind) text (name_plain version lawful kind))
+      sym (value_part-read version.any_case piece) ∙ (ap value_part is ∙ value_part-component (version.name kind) text (name_plain version version_laws kind))
 
   -- where the vector holds the components before a place, its values are the metrics named there
   module _ (v : V) (parts : List (List ℕ)) (place : ℕ) (within : place ≤ length parts) (components : AreComponentsOf version (take place parts) v) where
     pub named_is_held : (kind : K) → IsNamedBefore version parts place kind → IsSome (version.value_of v kind)
     named_is_held kind named =
         let taken = length-take-le place parts within in
-        let held = piece_held version lawful v (take place parts) named.earlier components (omega (arith, taken, named.is_before)) in
+        let held = piece_held version version_laws v (take place parts) named.earlier components (omega (arith, taken, named.is_before)) in
         let here = get_or-take place parts named.earlier [] named.is_before in
-        let is_kind : held.kind ≡ kind = names_differ version lawful held.kind kind (sym (name_from (piece_at parts named.earlier) held.kind _ (ap (read version) (sym here) ∙ held.is)) ∙ named.same_name) in
+        let is_kind : held.kind ≡ kind = names_differ version version_laws held.kind kind (sym (name_from (piece_at parts named.earlier) held.kind _ (ap (read version) (sym here) ∙ held.is)) ∙ named.same_name) in
         subst (λ each. IsSome (version.value_of v each)) is_kind (rw held.held)
 
     pub held_is_named : (kind : K) → IsSome (version.value_of v kind) → IsNamedBefore version parts place kind
     held_is_named kind held =
         let value = value_from (version.value_of v kind) held in
-        let stands = held_stands version lawful v (take place parts) kind value.0 components value.1 in
+        let stands = held_stands version version_laws v (take place parts) kind value.0 components value.1 in
         let before : stands.place < place = omega (arith, length-take-le place parts within, stands.within) in
         record { earlier = stands.place; is_before = before; same_name = name_from (piece_at parts stands.place) kind _ (ap (read version) (sym (get_or-take place parts stands.place [] before)) ∙ stands.is) }
 
@@ -79,23 +79,23 @@ module _ {V K : Type 0} (version : Version V K) (lawful : IsLawful version) wher
     -- a component that goes into the vector has no fault
     pub no_fault_at : (new : V) → Adds version v (piece_at parts place) new → (reason : Refusal K) → FaultAt version parts place reason → ⊥
     no_fault_at new adds (UnknownName name) (is, unknown) = unknown adds.kind (adds.named ∙ sym is)
-    no_fault_at new adds (BadValue blamed value) (kind, _, named, is, no_spelling) =
-        let is_kind : adds.kind ≡ kind = names_differ version lawful adds.kind kind (adds.named ∙ sym named) in
+    no_fault_at new adds (BadValue reported_kind value) (kind, _, named, is, no_spelling) =
+        let is_kind : adds.kind ≡ kind = names_differ version version_laws adds.kind kind (adds.named ∙ sym named) in
         no_spelling (subst (λ each. Spells (reading version each) value) is_kind (record { value = adds.puts.fills.value; spelled = adds.puts.fills.spelled ∙ sym is }))
     no_fault_at new adds (Repeated kind) (named, _, earlier) =
-        let is_kind : adds.kind ≡ kind = names_differ version lawful adds.kind kind (adds.named ∙ sym named) in
+        let is_kind : adds.kind ≡ kind = names_differ version version_laws adds.kind kind (adds.named ∙ sym named) in
         none_absent (version.value_of v kind) (subst (λ each. version.value_of v each ≡ None) is_kind adds.puts.fills.was_empty) (named_is_held kind earlier)
     no_fault_at new adds _ none = none
 
   -- a text that begins with a metric's name and a colon: no slash stands before the value
-  pub IsCutFirst-behind : (text rest value : List ℕ) (kind : K) (behind : List (List ℕ)) → IsCut version text kind rest → pieces rest ≡ value ∷ behind → IsCutFirst version text kind value behind
-  IsCutFirst-behind text rest value kind behind is found =
+  pub IsCutFirst-after : (text rest value : List ℕ) (kind : K) (after : List (List ℕ)) → IsCut version text kind rest → pieces rest ≡ value ∷ after → IsCutFirst version text kind value after
+  IsCutFirst-after text rest value kind after is found =
       let name = name_part text in
-      let plain : foreign_bytes name ≡ 0 = sym (foreign_bytes-read version.any_case name) ∙ (ap foreign_bytes (sym is.named) ∙ name_plain version lawful kind) in
+      let plain : foreign_bytes name ≡ 0 = sym (foreign_bytes-read version.any_case name) ∙ (ap foreign_bytes (sym is.named) ∙ name_plain version version_laws kind) in
       record {
         piece = component name value;
-        first = ap pieces is.cut ∙ pieces-behind name rest value behind plain found;
-        is = IsCut_named version lawful (component name value) name value kind refl is.named;
+        first = ap pieces is.cut ∙ pieces-after name rest value after plain found;
+        is = IsCut_named version version_laws (component name value) name value kind refl is.named;
       }
 
   -- a piece that was read has one colon, since no name and no value has one
@@ -104,8 +104,8 @@ module _ {V K : Type 0} (version : Version V K) (lawful : IsLawful version) wher
       let name = name_part piece in
       let spelling = version.spelling kind puts.fills.value in
       let part = IsPart-component name value
-      (sym (foreign_bytes-read version.any_case name) ∙ (ap foreign_bytes (sym is.named) ∙ name_plain version lawful kind))
-      (sym (foreign_bytes-read version.any_case value) ∙ (ap foreign_bytes (sym puts.fills.spelled) ∙ (foreign_bytes-read version.any_case spelling ∙ lawful.spelling_plain kind puts.fills.value))) in
+      (sym (foreign_bytes-read version.any_case name) ∙ (ap foreign_bytes (sym is.named) ∙ name_plain version version_laws kind))
+      (sym (foreign_bytes-read version.any_case value) ∙ (ap foreign_bytes (sym puts.fills.spelled) ∙ (foreign_bytes-read version.any_case spelling ∙ version_laws.spelling_plain kind puts.fills.value))) in
       subst IsComponent (sym is.cut) (record { one_colon = part.one_colon })
 
   -- the start, a step and the end of the walk
@@ -121,7 +121,7 @@ module _ {V K : Type 0} (version : Version V K) (lawful : IsLawful version) wher
     HasRead-more old new is adds before =
         let added = subst (λ text. Adds version old text new) here adds in
         record {
-          components = rw (take_more parts place [] within) (adds_component version lawful old new (take place parts) (piece_at parts place) added (rw here at is) before.components);
+          components = rw (take_more parts place [] within) (adds_component version version_laws old new (take place parts) (piece_at parts place) added (rw here at is) before.components);
           faultless = record { none = λ earlier reason below. below_more (λ each. (fault : Refusal K) → FaultAt version parts each fault → ⊥) place (λ each inside fault. before.faultless.none each fault inside) (no_fault_at old parts place (omega arith) before.components new added) earlier below reason };
         }
 
@@ -169,11 +169,11 @@ module _ {V K : Type 0} (version : Version V K) (lawful : IsLawful version) wher
     pub first_utf8 : All IsUtf8 parts → All IsUtf8 (pieces text)
     first_utf8 all = subst (All IsUtf8) (sym to.left_is ∙ cut) (All-drop IsUtf8 to.place parts all)
 
-    pub HasReadTo-more : (new : V) (behind : List (List ℕ)) → IsReadFirst version text v new behind → HasReadTo version parts behind new
-    HasReadTo-more new behind first =
+    pub HasReadTo-more : (new : V) (after : List (List ℕ)) → IsReadFirst version text v new after → HasReadTo version parts after new
+    HasReadTo-more new after first =
         let here : first.piece ≡ piece_at parts to.place = ap (λ list. piece_at list 0) (sym first.first) ∙ first_at_place in
-        let both : first.piece ∷ behind ≡ piece_at parts to.place ∷ drop (to.place + 1) parts = sym first.first ∙ (sym cut ∙ (to.left_is ∙ drop_more parts to.place [] place_within)) in
-        let rest : behind ≡ drop (to.place + 1) parts = cc in
+        let both : first.piece ∷ after ≡ piece_at parts to.place ∷ drop (to.place + 1) parts = sym first.first ∙ (sym cut ∙ (to.left_is ∙ drop_more parts to.place [] place_within)) in
+        let rest : after ≡ drop (to.place + 1) parts = cc in
         record { place = to.place + 1; within = omega (arith, place_within); left_is = rest; components = record { each = λ k below. below_more (λ each. IsComponent (piece_at parts each)) to.place to.components.each (subst IsComponent here first.component) k below }; read = HasRead-more parts to.place place_within first.piece here v new first.component first.adds to.read }
 
     -- the fault of a component is the first reason, where all that are left are components

@@ -13,6 +13,6 @@ listed_metrics version v kinds = filter_map (λ kind. option_map (λ spelling. (
 abbrev pub metrics_left : {V K : Type 0} → Version V K → List K → Metrics V K → List (K × List ℕ)
 metrics_left version order metrics = listed_metrics version metrics.vector (drop metrics.place order)
 
--- an item, by the text behind its reference
+-- an item, by the text after its reference
 abbrev pub as_listed : {K : Type 0} → K × Bor (List ℕ) → K × List ℕ
 as_listed item = (item.0, item.1.now)

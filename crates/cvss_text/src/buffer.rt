@@ -67,14 +67,14 @@ impl TextBuffer {
 
     /// Appends a component with a slash before it.
     #[inline(always)]
-    pub fn push_component(&mut self, slashed: &'static str)
-        requires least { 3 ≤ length slashed.now }
-        requires most { length slashed.now ≤ 8 }
+    pub fn push_component(&mut self, with_slash: &'static str)
+        requires least { 3 ≤ length with_slash.now }
+        requires most { length with_slash.now ≤ 8 }
         requires room { length self.old ≤ 256 }
-        ensures text { self.new ≡ self.old ++ slashed.now }
+        ensures text { self.new ≡ self.old ++ with_slash.now }
         ensures room { length self.new ≤ length self.old + 8 }
     {
-        match slashed.as_bytes() {
+        match with_slash.as_bytes() {
             [a, b, c] => self.push([*a, *b, *c]),
             [a, b, c, d] => self.push([*a, *b, *c, *d]),
             [a, b, c, d, e] => self.push([*a, *b, *c, *d, *e]),

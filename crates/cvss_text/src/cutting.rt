@@ -1,4 +1,4 @@
-//! How a component is cut into the metric that it names and the value behind its colon, once for all
+//! How a component is cut into the metric that it names and the value after its colon, once for all
 //! versions.
 
 ghost use Rattle.std.specs.Prelude.{◌≡◌, bytes_eq, find, IfOk, IfErr, All, IsUtf8};
@@ -6,11 +6,11 @@ ghost use Rattle.cvss_text.specs.private.Pieces.{pieces_left};
 ghost use Rattle.cvss_base.specs.Text.{IsComponent, pieces, read_as};
 ghost use Rattle.cvss_base.specs.Version.{read};
 ghost use Rattle.cvss_base.specs.Refusal.{piece_at};
-ghost use Rattle.cvss_text.specs.private.Walk.{IsCutAnswer, IsCutFirst, IsFaultOf, IsTellable, reason_of};
+ghost use Rattle.cvss_text.specs.private.Walk.{IsCutAnswer, IsCutFirst, IsFaultOf, IsPrintable, reason_of};
 
 use crate::pieces::{Pieces, front_of, parts_of};
 use crate::walk::{Components, Fault};
-use cvss_base::component::is_raised_as;
+use cvss_base::component::is_uppercased_as;
 
 /// The metric with this name.
 fn kind_named<V: Components>(name: &[u8]) -> Option<V::Kind>
@@ -24,7 +24,7 @@ fn kind_named<V: Components>(name: &[u8]) -> Option<V::Kind>
     ))
 }
 
-/// The metric that a piece names, and the value behind its colon.
+/// The metric that a piece names, and the value after its colon.
 pub fn cut_component<'a, V: Components>(
     piece: &'a [u8],
 ) -> Result<(V::Kind, &'a [u8]), Fault<'a, V::Kind>>
@@ -36,7 +36,7 @@ pub fn cut_component<'a, V: Components>(
     }
 }
 
-/// The metric that a piece names, and the value behind its colon, by a search for the colon.
+/// The metric that a piece names, and the value after its colon, by a search for the colon.
 fn cut_at_colon<'a, V: Components>(
     piece: &'a [u8],
 ) -> Result<(V::Kind, &'a [u8]), Fault<'a, V::Kind>>
@@ -51,8 +51,8 @@ fn cut_at_colon<'a, V: Components>(
     }
 }
 
-/// The metric that the first piece of a text names, the value behind its colon, and the pieces behind
-/// that. The end of the piece is sought behind the colon, since no name has a slash.
+/// The metric that the first piece of a text names, the value after its colon, and the pieces after
+/// that. The end of the piece is sought after the colon, since no name has a slash.
 #[inline(always)]
 pub(crate) fn cut_first<'a, V: Components>(
     text: &'a [u8],
@@ -61,7 +61,7 @@ pub(crate) fn cut_first<'a, V: Components>(
         IsCutFirst V.version text.now cut.0 cut.1.now (pieces_left cut.2)) }
     ensures refused { IfErr result (λ fault. (v : V) → IsComponent (piece_at (pieces text.now) 0)
         → IsFaultOf V.version v (piece_at (pieces text.now) 0) (reason_of V.version fault)) }
-    ensures tellable { All IsUtf8 (pieces text.now) → IfErr result (IsTellable V.version) }
+    ensures printable { All IsUtf8 (pieces text.now) → IfErr result (IsPrintable V.version) }
 {
     if let Some(cut) = V::cut(text) {
         let (value, left) = front_of(cut.1);
@@ -78,7 +78,7 @@ fn is_read_as(any_case: bool, text: &[u8], name: &[u8]) -> bool
     ensures { result ≡ bytes_eq (read_as any_case text.now) name.now }
 {
     if any_case {
-        is_raised_as(text, name)
+        is_uppercased_as(text, name)
     } else {
         text == name
     }

@@ -1,27 +1,27 @@
-//! Texts that begin with a piece that tells their version, once for all versions that have one.
+//! Texts that begin with a piece that says their version, once for all versions that have one.
 
 ghost use Rattle.std.specs.Prelude.{IfSome, IfNone, IfOk, IfErr, Contains, IsUtf8};
 ghost use Rattle.cvss_base.specs.Text.{IsComponent};
 ghost use Rattle.cvss_text.specs.private.Pieces.{pieces_left};
-ghost use Rattle.cvss_text.specs.private.Walk.{Starts, StartsWith, IsStarted, IsAnswerBehind, IsFrontFault, IsTellable, IsLawfulFront, filled, reason_of};
+ghost use Rattle.cvss_text.specs.private.Walk.{Starts, StartsWith, IsStarted, IsAnswerAfter, IsFrontFault, IsPrintable, FrontLaws, filled, reason_of};
 
 use crate::pieces::{Pieces, first_bad_piece, front_of, parts_of};
 use crate::walk::{Components, Fault, read_complete};
 use cvss_base::PREFIX;
 
-/// A vector of some version, whose text begins with the piece that tells the version.
-pub trait Fronted: Components {
-    /// A vector without values, of the version that is told exactly so, if that is supported.
-    fn start(told: &[u8]) -> Option<Self>
-        ensures started { IfSome result (Starts Self.version told.now) }
-        ensures unsupported { IfNone result (¬ (Contains Self.version.supported told.now)) };
+/// A vector of some version, whose text begins with the piece that says the version.
+pub trait Prefixed: Components {
+    /// A vector without values, of the version that is reported exactly so, if that is supported.
+    fn start(reported: &[u8]) -> Option<Self>
+        ensures started { IfSome result (Starts Self.version reported.now) }
+        ensures unsupported { IfNone result (¬ (Contains Self.version.supported reported.now)) };
 
-    ghost plain: { IsLawfulFront Self.version };
+    ghost plain: { FrontLaws Self.version };
 }
 
 /// Reads a text that begins with a version piece, or finds the first reason why it is refused.
-pub fn read_behind<'a, V: Fronted>(text: &'a [u8]) -> Result<V, Fault<'a, V::Kind>>
-    ensures { IsAnswerBehind V.version text.now result }
+pub fn read_after<'a, V: Prefixed>(text: &'a [u8]) -> Result<V, Fault<'a, V::Kind>>
+    ensures { IsAnswerAfter V.version text.now result }
 {
     let (front, left) = front_of(text);
     match start(front) {
@@ -36,35 +36,35 @@ pub fn read_behind<'a, V: Fronted>(text: &'a [u8]) -> Result<V, Fault<'a, V::Kin
     }
 }
 
-/// Reads a text whose version piece is read already, from the pieces behind that, into the vector that
+/// Reads a text whose version piece is read already, from the pieces after that, into the vector that
 /// it starts, or finds the first reason why it is refused.
 #[inline(always)]
-pub fn read_started<'a, V: Fronted>(
+pub fn read_started<'a, V: Prefixed>(
     text: &'a [u8],
     left: Pieces<'a>,
     vector: &mut V,
 ) -> Result<(), Fault<'a, V::Kind>>
     requires { IsStarted V.version text.now (pieces_left left) vector.old }
-    ensures { IsAnswerBehind V.version text.now (filled result vector.new) }
+    ensures { IsAnswerAfter V.version text.now (filled result vector.new) }
 {
     read_complete(left, vector)
 }
 
 /// The vector without values that a version piece starts.
-fn start<'a, V: Fronted>(front: &'a [u8]) -> Result<V, Fault<'a, V::Kind>>
+fn start<'a, V: Prefixed>(front: &'a [u8]) -> Result<V, Fault<'a, V::Kind>>
     ensures started { IfOk result (StartsWith V.version front.now) }
     ensures refused { IfErr result (λ fault.
         IsComponent front.now → IsFrontFault V.version front.now (reason_of V.version fault)) }
-    ensures tellable { IsUtf8 front.now → IfErr result (IsTellable V.version) }
+    ensures printable { IsUtf8 front.now → IfErr result (IsPrintable V.version) }
 {
-    let Some((name, told)) = parts_of(front) else {
+    let Some((name, reported)) = parts_of(front) else {
         return Err(Fault::InvalidComponent(front));
     };
     if name != PREFIX.as_bytes() {
         return Err(Fault::InvalidPrefix(name));
     }
-    match V::start(told) {
+    match V::start(reported) {
         Some(empty) => Ok(empty),
-        None => Err(Fault::UnsupportedVersion(told)),
+        None => Err(Fault::UnsupportedVersion(reported)),
     }
 }

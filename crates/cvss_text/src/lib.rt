@@ -1,6 +1,6 @@
 //! How the text of a vector is read and printed, once for all versions: pieces, the walk over them,
 //! the version piece, printing, listing, setting metrics, recognising a canonical text, and the errors
-//! that tell why a text is no vector.
+//! that say why a text is no vector.
 #![tactic(auto)]
 
 pub mod buffer;

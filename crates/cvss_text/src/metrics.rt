@@ -59,11 +59,11 @@ impl<V: Listed> Iterator for Metrics<V> {
 pub(crate) fn spelled<V: Printed>(vector: &V, kind: V::Kind) -> Option<&'static str>
     ensures { option_copied result ≡ held V.version vector.now kind }
 {
-    Some(behind_colon(vector.slashed(kind)?))
+    Some(after_colon(vector.with_slash(kind)?))
 }
 
-/// What stands behind the first colon.
-fn behind_colon(component: &'static str) -> &'static str
+/// What follows the first colon.
+fn after_colon(component: &'static str) -> &'static str
     ensures { result.now ≡ value_part component.now }
 {
     match component.split_once(':') {

@@ -44,7 +44,7 @@ impl<'a> Iterator for Pieces<'a> {
     }
 }
 
-/// The first piece of a text, and those behind it.
+/// The first piece of a text, and those after it.
 pub fn front_of(text: &[u8]) -> (&[u8], Pieces<'_>)
     ensures { pieces text.now ≡ result.0.now ∷ pieces_left result.1 }
 {

@@ -3,7 +3,7 @@
 ghost use Rattle.std.specs.Prelude.{◌≡◌, ◌↔◌, ◌≤◌, ◌++◌, ◌∷◌, [], IsTrue, All, length, option_copied};
 ghost use Rattle.std.specs.Fmt.{WritesOnOk};
 ghost use Rattle.cvss_base.specs.Version.{component_of, canonical_text};
-ghost use Rattle.cvss_text.specs.private.Printing.{slashed, slashed_texts};
+ghost use Rattle.cvss_text.specs.private.Printing.{with_slash, texts_with_slash};
 
 use crate::buffer::TextBuffer;
 use crate::walk::Components;
@@ -12,19 +12,19 @@ use std::fmt;
 /// A vector of some version, as it is printed.
 pub trait Printed: Components {
     /// A slash and the vector's component for a metric.
-    fn slashed(&self, kind: Self::Kind) -> Option<&'static str>
-        ensures { option_copied result ≡ slashed (component_of Self.version self.now kind) };
+    fn with_slash(&self, kind: Self::Kind) -> Option<&'static str>
+        ensures { option_copied result ≡ with_slash (component_of Self.version self.now kind) };
 
     /// Appends all components in printing order, each with a slash before it.
     fn write_metrics(&self, buffer: &mut TextBuffer)
         requires { length buffer.old ≤ 8 }
-        ensures { buffer.new ≡ buffer.old ++ slashed_texts Self.version self.now Self.version.printed };
+        ensures { buffer.new ≡ buffer.old ++ texts_with_slash Self.version self.now Self.version.printed };
 }
 
-/// Writes the canonical text of a vector behind the piece that tells its version into an empty buffer,
+/// Writes the canonical text of a vector after the piece that says its version into an empty buffer,
 /// and gives it.
 #[inline(always)]
-pub fn text_behind<'a, V: Printed>(
+pub fn text_after<'a, V: Printed>(
     piece: [u8; 8],
     vector: &V,
     buffer: &'a mut TextBuffer,
@@ -56,15 +56,15 @@ pub fn same_components<V: Printed>(left: &V, right: &V) -> bool
         ↔ (canonical_text V.version left.now ≡ canonical_text V.version right.now) }
     ensures vectors { IsTrue result ↔ (left.now ≡ right.now) }
 {
-    same_slashed(left, right)
+    same_with_slash(left, right)
 }
 
 /// Whether two vectors have the same component for each metric.
-fn same_slashed<V: Printed>(left: &V, right: &V) -> bool
-    ensures { IsTrue result ↔ All (λ kind. slashed (component_of V.version left.now kind)
-        ≡ slashed (component_of V.version right.now kind)) V.version.printed }
+fn same_with_slash<V: Printed>(left: &V, right: &V) -> bool
+    ensures { IsTrue result ↔ All (λ kind. with_slash (component_of V.version left.now kind)
+        ≡ with_slash (component_of V.version right.now kind)) V.version.printed }
 {
-    V::printed().iter().all(|kind| same_text(left.slashed(*kind), right.slashed(*kind)))
+    V::printed().iter().all(|kind| same_text(left.with_slash(*kind), right.with_slash(*kind)))
 }
 
 fn same_text(left: Option<&'static str>, right: Option<&'static str>) -> bool

@@ -1,36 +1,36 @@
-//! The errors that tell why a text is no vector, and the parsers that answer them.
+//! The errors that say why a text is no vector, and the parsers that answer them.
 
 ghost use Rattle.std.specs.Prelude.{◌≡◌, true, Some, IfOk, IfErr, OnErr, IsErrAnd, IsSomeAnd, Contains, Ok, Option, [], string_bytes, IsUtf8};
 ghost use Rattle.cvss_base.specs.declared.error.Error.{Error};
-ghost use Rattle.cvss_base.specs.Refusal.{Refusal, BadValue, Repeated, Missing, carries_text, IsFirstRefusal, IsFirstRefusalBehind};
-ghost use Rattle.cvss_base.specs.Told.{Tells, TellsFirst, reason_told};
+ghost use Rattle.cvss_base.specs.Refusal.{Refusal, BadValue, Repeated, Missing, carries_text, IsFirstRefusal, IsFirstRefusalAfter};
+ghost use Rattle.cvss_base.specs.Reported.{Reports, ReportsFirst, reason_reported};
 ghost use Rattle.cvss_base.specs.Version.{read, Denotes, IsComplete, IsWellFormed};
-ghost use Rattle.cvss_text.specs.private.Walk.{IsEmpty, IsTellable, reason_of};
+ghost use Rattle.cvss_text.specs.private.Walk.{IsEmpty, IsPrintable, reason_of};
 
-use crate::front::{Fronted, read_behind};
+use crate::front::{Prefixed, read_after};
 use crate::walk::{Components, Fault, read_vector};
 use cvss_base::Error;
 use std::alloc::{AllocError, Global};
 
-/// A vector of some version, whose refusals errors tell.
+/// A vector of some version, whose refusals errors say.
 pub trait Refused: Components {
     ghost reason: { Error → Option (Refusal Self.Kind) };
 
     /// The error that the metric has no such value.
     fn invalid_metric(kind: Self::Kind, value: String) -> Error
-        ensures { reason_told reason result ≡ Some (BadValue kind (string_bytes value)) };
+        ensures { reason_reported reason result ≡ Some (BadValue kind (string_bytes value)) };
 
     /// The error that the metric stands twice.
     fn duplicate_metric(kind: Self::Kind) -> Error
-        ensures { reason_told reason result ≡ Some (Repeated kind) };
+        ensures { reason_reported reason result ≡ Some (Repeated kind) };
 
     /// The error that the metric is missing, if each vector must have it.
     fn missing_metric(kind: Self::Kind) -> Option<Error>
         ensures { Contains Self.version.mandatory kind
-            → IsSomeAnd result (λ error. reason_told reason error ≡ Some (Missing kind)) };
+            → IsSomeAnd result (λ error. reason_reported reason error ≡ Some (Missing kind)) };
 }
 
-/// The vector that a text of components denotes, or the error that tells why there is none.
+/// The vector that a text of components denotes, or the error that says why there is none.
 pub fn vector_of<V: Refused>(alloc: Global, text: &str, empty: V) -> Result<V, Error>
     requires { IsEmpty V.version empty }
     // Accepted: what is given is what the text denotes, and each such vector is given.
@@ -40,9 +40,9 @@ pub fn vector_of<V: Refused>(alloc: Global, text: &str, empty: V) -> Result<V, E
         → IsComplete V.version v → result ≡ Ok v }
     // Refused: for the first reason, and wherever there is one. Memory is the answer only where
     // the reason carries text.
-    ensures refused { IfErr result (TellsFirst V.reason (IsFirstRefusal V.version text.now)) }
+    ensures refused { IfErr result (ReportsFirst V.reason (IsFirstRefusal V.version text.now)) }
     ensures refuses { (reason : Refusal V.Kind) → IsFirstRefusal V.version text.now reason
-        → IsErrAnd result (Tells V.reason reason) }
+        → IsErrAnd result (Reports V.reason reason) }
 {
     match read_vector(text.as_bytes(), empty) {
         Ok(vector) => Ok(vector),
@@ -50,8 +50,8 @@ pub fn vector_of<V: Refused>(alloc: Global, text: &str, empty: V) -> Result<V, E
     }
 }
 
-/// The vector that a text behind a version piece denotes, or the error that tells why there is none.
-pub fn vector_behind<V: Refused + Fronted>(alloc: Global, text: &str) -> Result<V, Error>
+/// The vector that a text after a version piece denotes, or the error that says why there is none.
+pub fn vector_after<V: Refused + Prefixed>(alloc: Global, text: &str) -> Result<V, Error>
     // Accepted: what is given is what the text denotes, and each such vector is given.
     ensures denoted { IfOk result (λ v. Denotes V.version text.now v) }
     ensures well_formed { IfOk result (λ v. IsWellFormed V.version v) }
@@ -59,20 +59,20 @@ pub fn vector_behind<V: Refused + Fronted>(alloc: Global, text: &str) -> Result<
         → result ≡ Ok v }
     // Refused: for the first reason, and wherever there is one. Memory is the answer only where
     // the reason carries text.
-    ensures refused { IfErr result (TellsFirst V.reason (IsFirstRefusalBehind V.version text.now)) }
-    ensures refuses { (reason : Refusal V.Kind) → IsFirstRefusalBehind V.version text.now reason
-        → IsErrAnd result (Tells V.reason reason) }
+    ensures refused { IfErr result (ReportsFirst V.reason (IsFirstRefusalAfter V.version text.now)) }
+    ensures refuses { (reason : Refusal V.Kind) → IsFirstRefusalAfter V.version text.now reason
+        → IsErrAnd result (Reports V.reason reason) }
 {
-    match read_behind(text.as_bytes()) {
+    match read_after(text.as_bytes()) {
         Ok(vector) => Ok(vector),
         Err(fault) => Err(error_of::<V>(alloc, fault)),
     }
 }
 
-/// The error that tells a fault, or that there is no memory for the text that the fault names.
+/// The error that says a fault, or that there is no memory for the text that the fault names.
 pub fn error_of<V: Refused>(alloc: Global, fault: Fault<'_, V::Kind>) -> Error
-    requires { IsTellable V.version fault }
-    ensures { Tells V.reason (reason_of V.version fault.entry) result }
+    requires { IsPrintable V.version fault }
+    ensures { Reports V.reason (reason_of V.version fault.entry) result }
 {
     match copied_error::<V>(alloc, fault) {
         Ok(error) => error,
@@ -81,9 +81,9 @@ pub fn error_of<V: Refused>(alloc: Global, fault: Fault<'_, V::Kind>) -> Error
 }
 
 fn copied_error<V: Refused>(alloc: Global, fault: Fault<'_, V::Kind>) -> Result<Error, AllocError>
-    requires { IsTellable V.version fault }
-    ensures told { IfOk result (λ error.
-        reason_told V.reason error ≡ Some (reason_of V.version fault.entry)) }
+    requires { IsPrintable V.version fault }
+    ensures reported { IfOk result (λ error.
+        reason_reported V.reason error ≡ Some (reason_of V.version fault.entry)) }
     ensures lacks_memory { OnErr result (carries_text (reason_of V.version fault.entry) ≡ true) }
 {
     Ok(match fault {

@@ -3,7 +3,7 @@
 ghost use Rattle.std.specs.Prelude.{◌≡◌, ◌∷◌, ◌++◌, IsTrue, IfSome, IfNone, Some, None};
 ghost use Rattle.cvss_base.specs.Text.{slash, colon};
 
-/// Puts the value that was read of a text into its place, and gives what stands behind it; if none
+/// Puts the value that was read of a text into its place, and gives what follows it; if none
 /// was read, no value, and the text.
 #[inline(always)]
 pub fn put_read<'a, M: Copy>(
@@ -26,23 +26,23 @@ pub fn put_read<'a, M: Copy>(
     }
 }
 
-/// What stands behind a slash, a metric's name of one to three letters, and a colon.
+/// What follows a slash, a metric's name of one to three letters, and a colon.
 #[inline(always)]
-pub fn behind_name<'a>(name: &str, text: &'a [u8]) -> Option<&'a [u8]>
+pub fn rest_after_name<'a>(name: &str, text: &'a [u8]) -> Option<&'a [u8]>
     ensures { IfSome result
         (λ value. text.now ≡ slash ∷ (name.now ++ (colon ∷ value.now))) }
 {
     match name.as_bytes() {
-        [only] => behind_three(text, [b'/', *only, b':']),
-        [first, second] => behind_four(text, [b'/', *first, *second, b':']),
-        [first, second, third] => behind_five(text, [b'/', *first, *second, *third, b':']),
+        [only] => after_three(text, [b'/', *only, b':']),
+        [first, second] => after_four(text, [b'/', *first, *second, b':']),
+        [first, second, third] => after_five(text, [b'/', *first, *second, *third, b':']),
         _ => None,
     }
 }
 
-/// What stands behind three bytes with which a text begins.
+/// What follows three bytes with which a text begins.
 #[inline(always)]
-fn behind_three(text: &[u8], three: [u8; 3]) -> Option<&[u8]>
+fn after_three(text: &[u8], three: [u8; 3]) -> Option<&[u8]>
     ensures { IfSome result (λ rest. text.now ≡ three ++ rest.now) }
 {
     let [a, b, c] = three;
@@ -54,9 +54,9 @@ fn behind_three(text: &[u8], three: [u8; 3]) -> Option<&[u8]>
     }
 }
 
-/// What stands behind four bytes with which a text begins.
+/// What follows four bytes with which a text begins.
 #[inline(always)]
-pub fn behind_four(text: &[u8], four: [u8; 4]) -> Option<&[u8]>
+pub fn after_four(text: &[u8], four: [u8; 4]) -> Option<&[u8]>
     ensures { IfSome result (λ rest. text.now ≡ four ++ rest.now) }
 {
     match text {
@@ -65,13 +65,13 @@ pub fn behind_four(text: &[u8], four: [u8; 4]) -> Option<&[u8]>
     }
 }
 
-/// What stands behind five bytes with which a text begins.
+/// What follows five bytes with which a text begins.
 #[inline(always)]
-pub fn behind_five(text: &[u8], five: [u8; 5]) -> Option<&[u8]>
+pub fn after_five(text: &[u8], five: [u8; 5]) -> Option<&[u8]>
     ensures { IfSome result (λ rest. text.now ≡ five ++ rest.now) }
 {
     let [a, b, c, d, e] = five;
-    match behind_four(text, [a, b, c, d])? {
+    match after_four(text, [a, b, c, d])? {
         [last, rest @ ..] if *last == e => Some(rest),
         _ => None,
     }

@@ -6,7 +6,7 @@ ghost use Rattle.cvss_text.specs.private.Pieces.{pieces_left};
 ghost use Rattle.cvss_base.specs.Text.{IsComponent, pieces};
 ghost use Rattle.cvss_base.specs.Version.{Version, read, IsComplete};
 ghost use Rattle.cvss_base.specs.Refusal.{AreComponentsBefore, piece_at};
-ghost use Rattle.cvss_text.specs.private.Walk.{HasNoValue, IsAnswerBare, IsEmpty, IsFilled, IsPut, IsCut, IsReadFirst, IsLawful, Puts, Adds, HasRead, IsFaultOf, IsFirstOfPieces, filled, first_missing, IsTellable, reason_of};
+ghost use Rattle.cvss_text.specs.private.Walk.{HasNoValue, IsAnswerBare, IsEmpty, IsFilled, IsPut, IsCut, IsReadFirst, VersionLaws, Puts, Adds, HasRead, IsFaultOf, IsFirstOfPieces, filled, first_missing, IsPrintable, reason_of};
 
 use crate::cutting::{cut_component, cut_first};
 use crate::pieces::{Pieces, first_bad_piece, pieces_of};
@@ -57,14 +57,14 @@ pub trait Components: Copy {
     fn name(kind: Self::Kind) -> &'static str
         ensures { result.now ≡ version.name kind };
 
-    /// The metric that a piece begins with, and what stands behind the colon after its name. It may
+    /// The metric that a piece begins with, and what follows the colon after its name. It may
     /// be `None` for any piece, which is then cut the longer way.
     fn cut(piece: &[u8]) -> Option<(Self::Kind, &[u8])>
         ensures { IfSome result (λ cut. IsCut version piece.now cut.0 cut.1.now) };
 
     /// The metric that a refused value is reported under.
-    fn blamed(kind: Self::Kind) -> Self::Kind
-        ensures { result ≡ version.blamed kind };
+    fn reported_kind(kind: Self::Kind) -> Self::Kind
+        ensures { result ≡ version.reported_kind kind };
 
     /// Puts a value into its place, which has to be empty.
     fn put(&mut self, kind: Self::Kind, value: &[u8]) -> Result<(), Slip>
@@ -74,7 +74,7 @@ pub trait Components: Copy {
     fn first_missing(&self) -> Option<Self::Kind>
         ensures { result ≡ first_missing version self.now };
 
-    ghost lawful: { IsLawful version };
+    ghost version_laws: { VersionLaws version };
 }
 
 /// Puts the value that was read of a text into its place, which has to be empty. None was read where
@@ -105,7 +105,7 @@ pub fn read_component<'a, V: Components>(
     ensures read { OnOk result (Adds V.version vector.old piece.now vector.new) }
     ensures refused { IfErr result (λ fault. IsComponent piece.now
         → IsFaultOf V.version vector.old piece.now (reason_of V.version fault)) }
-    ensures tellable { IsUtf8 piece.now → IfErr result (IsTellable V.version) }
+    ensures printable { IsUtf8 piece.now → IfErr result (IsPrintable V.version) }
 {
     let (kind, value) = cut_component::<V>(piece)?;
     put_component(kind, value, vector)
@@ -121,16 +121,16 @@ fn put_component<'a, V: Components>(
         (Puts V.version vector.old kind (read V.version value.now) vector.new) }
     ensures refused { IfErr result (λ fault. (piece : List ℕ) → IsCut V.version piece kind value.now
         → IsFaultOf V.version vector.old piece (reason_of V.version fault)) }
-    ensures tellable { IsUtf8 value.now → IfErr result (IsTellable V.version) }
+    ensures printable { IsUtf8 value.now → IfErr result (IsPrintable V.version) }
 {
     match vector.put(kind, value) {
         Ok(()) => Ok(()),
-        Err(Slip::Invalid) => Err(Fault::InvalidMetric(V::blamed(kind), value)),
+        Err(Slip::Invalid) => Err(Fault::InvalidMetric(V::reported_kind(kind), value)),
         Err(Slip::Repeated) => Err(Fault::DuplicateMetric(kind)),
     }
 }
 
-/// Reads the first component of a text into the vector, and gives the pieces behind it.
+/// Reads the first component of a text into the vector, and gives the pieces after it.
 #[inline(always)]
 fn read_first<'a, V: Components>(
     text: &'a [u8],
@@ -141,7 +141,7 @@ fn read_first<'a, V: Components>(
     ensures refused { IfErr result (λ fault. IsComponent (piece_at (pieces text.now) 0)
         → IsFaultOf V.version vector.old (piece_at (pieces text.now) 0)
         (reason_of V.version fault)) }
-    ensures tellable { All IsUtf8 (pieces text.now) → IfErr result (IsTellable V.version) }
+    ensures printable { All IsUtf8 (pieces text.now) → IfErr result (IsPrintable V.version) }
 {
     let (kind, value, left) = cut_first::<V>(text)?;
     put_component(kind, value, vector)?;
@@ -163,12 +163,12 @@ fn read_components<'a, V: Components>(
     ensures front { OnOk result (V.version.front vector.new ≡ V.version.front vector.old) }
     ensures refused { IfErr result (λ fault.
         IsFirstOfPieces V.version (pieces_left left.entry) (reason_of V.version fault)) }
-    ensures tellable { All IsUtf8 (pieces_left left.entry) → IfErr result (IsTellable V.version) }
+    ensures printable { All IsUtf8 (pieces_left left.entry) → IfErr result (IsPrintable V.version) }
 {
     let mut rest = left;
     while let Some(text) = rest.text() {
         match read_first(text, vector) {
-            Ok(behind) => rest = behind,
+            Ok(after) => rest = after,
             // The pieces before are components, so the first that is none is sought from here on.
             Err(fault) => match first_bad_piece(text) {
                 Some(piece) => return Err(Fault::InvalidComponent(piece)),
@@ -193,7 +193,7 @@ pub(crate) fn read_complete<'a, V: Components>(
     ensures complete { OnOk result (IsComplete V.version vector.new) }
     ensures refused { IfErr result (λ fault.
         IsFirstOfPieces V.version (pieces_left left.entry) (reason_of V.version fault)) }
-    ensures tellable { All IsUtf8 (pieces_left left.entry) → IfErr result (IsTellable V.version) }
+    ensures printable { All IsUtf8 (pieces_left left.entry) → IfErr result (IsPrintable V.version) }
 {
     read_components(left, vector)?;
     match vector.first_missing() {

@@ -5,11 +5,11 @@ use Rattle.std.proofs.lemmas.List.{map-append}
 use Rattle.std.proofs.lemmas.List.Elements.{All-push}
 
 -- the text of one line more
-pub lines_more : (texts : List (Bor (List ℕ))) (text : Bor (List ℕ)) (line : List ℕ) (all rest behind : List (List ℕ)) → all ≡ map (λ each. each.now) texts ++ rest → rest ≡ line ∷ behind → text.now ≡ line → all ≡ map (λ each. each.now) (texts ++ text ∷ []) ++ behind
-lines_more texts text line all rest behind so_far next is =
-    so_far ∙ ap (λ lines. map (λ (each : Bor (List ℕ)). each.now) texts ++ lines) (next ∙ ap (λ first. first ∷ behind) (sym is))
-    ∙ sym (append_assoc (map (λ (each : Bor (List ℕ)). each.now) texts) (text.now ∷ []) behind)
-    ∙ ap (λ front. front ++ behind) (sym (map-append (λ (each : Bor (List ℕ)). each.now) texts (text ∷ [])))
+pub lines_more : (texts : List (Bor (List ℕ))) (text : Bor (List ℕ)) (line : List ℕ) (all rest after : List (List ℕ)) → all ≡ map (λ each. each.now) texts ++ rest → rest ≡ line ∷ after → text.now ≡ line → all ≡ map (λ each. each.now) (texts ++ text ∷ []) ++ after
+lines_more texts text line all rest after so_far next is =
+    so_far ∙ ap (λ lines. map (λ (each : Bor (List ℕ)). each.now) texts ++ lines) (next ∙ ap (λ first. first ∷ after) (sym is))
+    ∙ sym (append_assoc (map (λ (each : Bor (List ℕ)). each.now) texts) (text.now ∷ []) after)
+    ∙ ap (λ front. front ++ after) (sym (map-append (λ (each : Bor (List ℕ)). each.now) texts (text ∷ [])))
 
 pub utf8_more : (texts : List (Bor (List ℕ))) (text : Bor (List ℕ)) (line : List ℕ) → All IsUtf8 (map (λ each. each.now) texts) → text.now ≡ line → IsUtf8 line → All IsUtf8 (map (λ each. each.now) (texts ++ text ∷ []))
 utf8_more texts text line all is utf8 =

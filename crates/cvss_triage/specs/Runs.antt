@@ -4,7 +4,7 @@ use Rattle.std.specs.Io.KnownBytes.{Consumes, Appends, IsAtEnd, Keeps}
 use Rattle.std.specs.Str.{IsUtf8}
 use Rattle.cvss_v4.specs.Overriding.{AreOverrides}
 use Rattle.cvss_v4.specs.declared.vector.Vector.{Vector}
-use Rattle.cvss_ranking.specs.Faults.{TellsFirstFault}
+use Rattle.cvss_ranking.specs.Faults.{ReportsFirstFault}
 use Rattle.cvss_ranking.specs.declared.error.TriageError.TheVariants.{OutOfMemory}
 use Rattle.cvss_ranking.specs.declared.row.Row.{Row}
 use Rattle.cvss_ranking.specs.Triage.{AreRanked}
@@ -43,44 +43,44 @@ pub record RanksCut (overrides : List (List ℕ)) (unread unread' written writte
   pub count : ℕ
   pub appended : Appends written written' (take count text)
 
--- the fault tells what is wrong with the overrides and an input's lines: the first fault of the overrides
+-- the fault says what is wrong with the overrides and an input's lines: the first fault of the overrides
 -- and of the lines before any that is not UTF-8; or that such a line, before which nothing is wrong, is not
 -- UTF-8; or that there was no memory
-abbrev pub TellsOf : List (List ℕ) → List ℕ → TriageFault → Type 0
-TellsOf overrides input (Refused error) =
+abbrev pub ReportsOf : List (List ℕ) → List ℕ → TriageFault → Type 0
+ReportsOf overrides input (Refused error) =
     (count : ℕ) × All IsUtf8 (take count (lines input))
-    × TellsFirstFault (take count (lines input)) overrides error × (error ≢ OutOfMemory)
-TellsOf overrides input (NotText index) =
+    × ReportsFirstFault (take count (lines input)) overrides error × (error ≢ OutOfMemory)
+ReportsOf overrides input (NotText index) =
     (rows : List Row) × IsNoText (lines input) index × AreRanked (take index (lines input)) overrides rows
-TellsOf overrides input Memory = ⊤
-TellsOf overrides input (ArgumentNotText index) = ⊥
-TellsOf overrides input UnknownOption = ⊥
-TellsOf overrides input Read = ⊥
-TellsOf overrides input Write = ⊥
+ReportsOf overrides input Memory = ⊤
+ReportsOf overrides input (ArgumentNotText index) = ⊥
+ReportsOf overrides input UnknownOption = ⊥
+ReportsOf overrides input Read = ⊥
+ReportsOf overrides input Write = ⊥
 
--- the fault tells what is wrong, once all of the input is read; or that the reader, the writer or memory failed
-abbrev pub IsTold : List (List ℕ) → Option (List ℕ) → Option (List ℕ) → TriageFault → Type 0
-IsTold overrides unread unread' Read = ⊤
-IsTold overrides unread unread' Write = ⊤
-IsTold overrides unread unread' Memory = ⊤
-IsTold overrides unread unread' fault =
-    (input : List ℕ) × ReadsAll unread unread' input × TellsOf overrides input fault
+-- the fault says what is wrong, once all of the input is read; or that the reader, the writer or memory failed
+abbrev pub IsReported : List (List ℕ) → Option (List ℕ) → Option (List ℕ) → TriageFault → Type 0
+IsReported overrides unread unread' Read = ⊤
+IsReported overrides unread unread' Write = ⊤
+IsReported overrides unread unread' Memory = ⊤
+IsReported overrides unread unread' fault =
+    (input : List ℕ) × ReadsAll unread unread' input × ReportsOf overrides input fault
 
--- the fault tells what is wrong with arguments of which this one is no text: the first fault of those before
+-- the fault says what is wrong with arguments of which this one is no text: the first fault of those before
 -- it, or else that it is none
-abbrev pub TellsArgument : List (List ℕ) → ℕ → TriageFault → Type 0
-TellsArgument arguments place (Refused error) = TellsFirstFault [] (take place arguments) error × (error ≢ OutOfMemory)
-TellsArgument arguments place (ArgumentNotText index) =
+abbrev pub ReportsArgument : List (List ℕ) → ℕ → TriageFault → Type 0
+ReportsArgument arguments place (Refused error) = ReportsFirstFault [] (take place arguments) error × (error ≢ OutOfMemory)
+ReportsArgument arguments place (ArgumentNotText index) =
     (index ≡ place) × (vector : Vector) × AreOverrides (take place arguments) vector
-TellsArgument arguments place (NotText index) = ⊥
-TellsArgument arguments place UnknownOption = ⊥
-TellsArgument arguments place Memory = ⊤
-TellsArgument arguments place Read = ⊥
-TellsArgument arguments place Write = ⊥
+ReportsArgument arguments place (NotText index) = ⊥
+ReportsArgument arguments place UnknownOption = ⊥
+ReportsArgument arguments place Memory = ⊤
+ReportsArgument arguments place Read = ⊥
+ReportsArgument arguments place Write = ⊥
 
 -- an argument is no text; nothing is read then
-pub record IsToldUnread (arguments : List (List ℕ)) (unread unread' : Option (List ℕ)) (fault : TriageFault) : Type 0 where
+pub record IsReportedUnread (arguments : List (List ℕ)) (unread unread' : Option (List ℕ)) (fault : TriageFault) : Type 0 where
   pub place : ℕ
   pub no_text : IsNoText arguments place
-  pub told : TellsArgument arguments place fault
+  pub reported : ReportsArgument arguments place fault
   pub kept : Keeps unread unread'

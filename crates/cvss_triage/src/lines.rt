@@ -13,12 +13,12 @@ pub(crate) fn texts_of(alloc: Global, input: &[u8]) -> Result<(Vec<&str>, bool),
 {
     let mut texts = Vec::new(alloc);
     let mut rest = input;
-    while let Some((line, behind)) = first_line(rest) {
+    while let Some((line, after)) = first_line(rest) {
         let Ok(text) = str::from_utf8(line) else {
             return Ok((texts, false));
         };
         texts.push(text)?;
-        rest = behind;
+        rest = after;
     }
     Ok((texts, true))
 }

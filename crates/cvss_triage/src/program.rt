@@ -4,7 +4,7 @@ ghost use Rattle.std.specs.Prelude.{◌≡◌, ◌≢◌, ◌⊎◌, ℕ, IfErr,
 ghost use Rattle.std.specs.Io.KnownBytes.{Appends, Keeps};
 ghost use Rattle.cvss_program.specs.Requests.{asked as asked_of};
 ghost use Rattle.cvss_program.specs.Arguments.{bytes_of};
-ghost use Rattle.cvss_triage.specs.Runs.{Ranks, RanksCut, IsTold, IsToldUnread};
+ghost use Rattle.cvss_triage.specs.Runs.{Ranks, RanksCut, IsReported, IsReportedUnread};
 
 use crate::fault::TriageFault;
 use crate::run::run_arguments;
@@ -60,9 +60,9 @@ pub fn run_program<R: Read, W: Write>(
         (R.remaining reader.old) (R.remaining reader.new)
         (W.contents writer.old) (W.contents writer.new) }
     ensures refused { asked_of arguments.now ≡ Request.Run
-        → IfErr result (λ fault. IsTold (bytes_of arguments.now)
+        → IfErr result (λ fault. IsReported (bytes_of arguments.now)
         (R.remaining reader.old) (R.remaining reader.new) fault
-        ⊎ IsToldUnread (bytes_of arguments.now)
+        ⊎ IsReportedUnread (bytes_of arguments.now)
         (R.remaining reader.old) (R.remaining reader.new) fault) }
     ensures silent { asked_of arguments.now ≡ Request.Run
         → IfErr result (λ fault. fault ≢ TriageFault.Write

@@ -3,7 +3,7 @@
 ghost use Rattle.std.specs.Prelude.{◌≡◌, ◌≢◌, ◌⊎◌, ℕ, List, IfOk, IfErr, IsErrOf, OnOk, length, map, take, string_bytes};
 ghost use Rattle.std.specs.Io.KnownBytes.{Keeps};
 ghost use Rattle.cvss_program.specs.Arguments.{bytes_of};
-ghost use Rattle.cvss_triage.specs.Runs.{AreRowsOf, Ranks, RanksCut, IsTold, IsToldUnread, TellsArgument, TellsOf};
+ghost use Rattle.cvss_triage.specs.Runs.{AreRowsOf, Ranks, RanksCut, IsReported, IsReportedUnread, ReportsArgument, ReportsOf};
 
 use crate::arguments::texts_of_arguments;
 use crate::fault::TriageFault;
@@ -34,9 +34,9 @@ pub fn run_arguments<R: Read, W: Write>(
         (R.remaining reader.old) (R.remaining reader.new)
         (W.contents writer.old) (W.contents writer.new) }
     ensures refused { IfErr result (λ fault.
-        IsTold (bytes_of arguments.now)
+        IsReported (bytes_of arguments.now)
         (R.remaining reader.old) (R.remaining reader.new) fault
-        ⊎ IsToldUnread (bytes_of arguments.now)
+        ⊎ IsReportedUnread (bytes_of arguments.now)
         (R.remaining reader.old) (R.remaining reader.new) fault) }
     ensures silent { IfErr result (λ fault. fault ≢ TriageFault.Write
         → Keeps (W.contents writer.old) (W.contents writer.new)) }
@@ -52,7 +52,7 @@ pub fn run_arguments<R: Read, W: Write>(
 fn argument_fault(alloc: Global, overrides: &[&str]) -> TriageFault
     ensures { (arguments : List (List ℕ))
         → map (λ text. text.now) overrides.now ≡ take (length overrides.now) arguments
-        → TellsArgument arguments (length overrides.now) result }
+        → ReportsArgument arguments (length overrides.now) result }
 {
     match apply(alloc, &[], overrides) {
         Ok(_) => TriageFault::ArgumentNotText {
@@ -83,7 +83,7 @@ pub fn run<R: Read, W: Write>(
     ensures cut { IsErrOf result TriageFault.Write → RanksCut (map (λ text. text.now) overrides.now)
         (R.remaining reader.old) (R.remaining reader.new)
         (W.contents writer.old) (W.contents writer.new) }
-    ensures refused { IfErr result (IsTold (map (λ text. text.now) overrides.now)
+    ensures refused { IfErr result (IsReported (map (λ text. text.now) overrides.now)
         (R.remaining reader.old) (R.remaining reader.new)) }
     ensures silent { IfErr result (λ fault. fault ≢ TriageFault.Write
         → Keeps (W.contents writer.old) (W.contents writer.new)) }
@@ -98,7 +98,7 @@ pub fn run<R: Read, W: Write>(
 fn ranked_text(alloc: Global, overrides: &[&str], input: &[u8]) -> Result<String, TriageFault>
     ensures ranked { IfOk result (λ text.
         AreRowsOf (map (λ text. text.now) overrides.now) input.now (string_bytes text)) }
-    ensures refused { IfErr result (TellsOf (map (λ text. text.now) overrides.now) input.now) }
+    ensures refused { IfErr result (ReportsOf (map (λ text. text.now) overrides.now) input.now) }
 {
     let (texts, all) = texts_of(alloc, input)?;
     let rows = apply(alloc, &texts, overrides)?;

@@ -24,7 +24,7 @@ value_at v CR = v.cr
 value_at v IR = v.ir
 value_at v AR = v.ar
 
--- CVSS v2: names and values are read as they are written, and no piece tells the version
+-- CVSS v2: names and values are read as they are written, and no piece says the version
 abbrev pub v2 : Version Vector MetricType
 v2 = record {
   any_case = false;
@@ -34,7 +34,7 @@ v2 = record {
   value_of = value_at;
   printed = printed;
   mandatory = mandatory;
-  blamed = λ kind. kind;
+  reported_kind = λ kind. kind;
   front = λ _. [];
   supported = [];
 }

@@ -1,3 +1,3 @@
 pub mod Bounds
-pub mod Slashed
+pub mod WithSlash
 pub mod VectorLaws

@@ -52,7 +52,7 @@ pub struct Vector {
 impl Vector {
     ghost use Rattle.std.specs.Str.{IsUtf8};
     ghost use Rattle.cvss_base.specs.Refusal.{Refusal, IsFirstRefusal};
-    ghost use Rattle.cvss_base.specs.Told.{Tells, TellsFirst};
+    ghost use Rattle.cvss_base.specs.Reported.{Reports, ReportsFirst};
     ghost use Rattle.cvss_base.specs.V2Types.{v2_reason};
     ghost use Rattle.cvss_base.specs.Version.{canonical_text, Denotes, IsComplete};
     ghost use Rattle.cvss_text.specs.private.Walk.{IsEmpty};
@@ -75,9 +75,9 @@ impl Vector {
             → IsComplete v2 vector → result ≡ Ok vector }
         // Refused: for the first reason, and wherever there is one. Memory is the answer only where
         // the reason carries text.
-        ensures refused { IfErr result (TellsFirst v2_reason (IsFirstRefusal v2 text.now)) }
+        ensures refused { IfErr result (ReportsFirst v2_reason (IsFirstRefusal v2 text.now)) }
         ensures refuses { (reason : Refusal MetricType) → IsFirstRefusal v2 text.now reason
-            → IsErrAnd result (Tells v2_reason reason) }
+            → IsErrAnd result (Reports v2_reason reason) }
     {
         vector_of(alloc, text, Vector::empty())
     }

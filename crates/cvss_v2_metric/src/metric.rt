@@ -4,7 +4,7 @@ ghost use Rattle.std.specs.Prelude.{◌≡◌, ◌∷◌, ◌*◌, ◌^◌, pos,
 ghost use Rattle.std.specs.Fmt.{WritesOnOk, WritesStyledOnOk};
 ghost use Rattle.cvss_base.specs.Refusal.{BadValue};
 ghost use Rattle.cvss_base.specs.Text.{slash};
-ghost use Rattle.cvss_base.specs.Told.{Tells};
+ghost use Rattle.cvss_base.specs.Reported.{Reports};
 ghost use Rattle.cvss_base.specs.V2Types.{v2_reason, name_of};
 ghost use Rattle.cvss_base.specs.declared.v2.MetricType.{MetricType};
 ghost use Rattle.cvss_base.specs.Exact.{IsWithinLimit};
@@ -44,7 +44,7 @@ pub trait Spelled: Copy + 'static {
         ensures weight { result.1 ≡ weight_of KIND (value self) };
 
     /// A slash and the component that stands for the value in a vector.
-    final fn slashed(self) -> &'static str
+    final fn with_slash(self) -> &'static str
         ensures { result.now ≡ slash ∷ metric_component KIND (value self) }
     {
         self.row().0
@@ -57,7 +57,7 @@ pub trait Spelled: Copy + 'static {
         ensures styled { WritesStyledOnOk W.write_str_gives f.old result
             (metric_component KIND (value self)) f.new }
     {
-        write_component(self.slashed(), f)
+        write_component(self.with_slash(), f)
     }
 
     /// The value's weight in thousandths (guide, section 3.2).
@@ -100,11 +100,11 @@ pub trait Metric: Spelled + Eq + Ord + fmt::Debug + fmt::Display {
         ⟦<Self as Clone>⟧.is_clone ⟦<Self as Clone>⟧.is_infallible };
 
     /// How the value is spelled in a vector.
-    #[tactic(auto, using(cvss_base::proofs::SlashedLemmas::behind_colon))]
+    #[tactic(auto, using(cvss_base::proofs::WithSlashLemmas::after_colon))]
     final fn as_str(self) -> &'static str
         ensures { result.now ≡ spelling_of Self.KIND (Self.value self) }
     {
-        &self.slashed()[Self::KIND.name().len() + 2..]
+        &self.with_slash()[Self::KIND.name().len() + 2..]
     }
 
     /// The value with this spelling.
@@ -125,7 +125,7 @@ pub trait Metric: Spelled + Eq + Ord + fmt::Debug + fmt::Display {
         ensures spelled { IfOk result (λ metric. spelling_of Self.KIND (Self.value metric) ≡ text.now) }
         ensures read { (metric : Self) → spelling_of Self.KIND (Self.value metric) ≡ text.now
             → result ≡ Ok metric }
-        ensures refused { IfErr result (Tells v2_reason (BadValue TYPE text.now)) }
+        ensures refused { IfErr result (Reports v2_reason (BadValue TYPE text.now)) }
     {
         match Self::read(text) {
             Some(metric) => Ok(metric),
@@ -154,7 +154,7 @@ fn spelling<M: Spelled>(value: M) -> &'static [u8]
     ensures { result.now ≡ spelling_of M.KIND (M.value value) }
 {
     value
-        .slashed()
+        .with_slash()
         .as_bytes()
         .get(M::KIND.name().len() + 2..)
         .unwrap_or(&[])

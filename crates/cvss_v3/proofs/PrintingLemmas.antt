@@ -8,19 +8,19 @@ use Rattle.cvss_base.specs.declared.v3.MetricType.TheVariants.{A}
 use Rattle.cvss_v3_metric.specs.Table.{Value, metric_component}
 
 -- a slash and a component
-abbrev slashed_length : (kind : MetricType) → Value kind → ℕ
-slashed_length kind value = length (slash ∷ metric_component kind value)
+abbrev length_with_slash : (kind : MetricType) → Value kind → ℕ
+length_with_slash kind value = length (slash ∷ metric_component kind value)
 
-is_three : (kind : MetricType) (value : Value kind) → leb 3 (slashed_length kind value) ≡ true
+is_three : (kind : MetricType) (value : Value kind) → leb 3 (length_with_slash kind value) ≡ true
 is_three A = search rules
 is_three _ = search rules
 
-is_eight : (kind : MetricType) (value : Value kind) → leb (slashed_length kind value) 8 ≡ true
+is_eight : (kind : MetricType) (value : Value kind) → leb (length_with_slash kind value) 8 ≡ true
 is_eight A = search rules
 is_eight _ = search rules
 
-pub at_least_three : (kind : MetricType) (value : Value kind) → 3 ≤ slashed_length kind value
-at_least_three kind value = leb-true 3 (slashed_length kind value) (is_three kind value)
+pub at_least_three : (kind : MetricType) (value : Value kind) → 3 ≤ length_with_slash kind value
+at_least_three kind value = leb-true 3 (length_with_slash kind value) (is_three kind value)
 
-pub at_most_eight : (kind : MetricType) (value : Value kind) → slashed_length kind value ≤ 8
-at_most_eight kind value = leb-true (slashed_length kind value) 8 (is_eight kind value)
+pub at_most_eight : (kind : MetricType) (value : Value kind) → length_with_slash kind value ≤ 8
+at_most_eight kind value = leb-true (length_with_slash kind value) 8 (is_eight kind value)

@@ -4,7 +4,7 @@ use Rattle.cvss_base.specs.Version.{numeral, Version, version_piece}
 use Rattle.cvss_base.specs.V3Types.{name_of}
 use Rattle.cvss_base.specs.declared.v3.MetricType.{MetricType}
 use Rattle.cvss_base.specs.declared.v3.MetricType.TheVariants.{A, AC, AV, C, I, PR, S, UI, E, RL, RC, CR, IR, AR, MAV, MAC, MPR, MUI, MS, MC, MI, MA}
-use Rattle.cvss_v3_metric.specs.Table.{Value, spelling_of, printed, blamed}
+use Rattle.cvss_v3_metric.specs.Table.{Value, spelling_of, printed, reported_kind}
 use Rattle.cvss_v3.specs.declared.vector.Vector.{Vector}
 
 -- the vector's value for a metric
@@ -32,7 +32,7 @@ value_at v MC = v.mc
 value_at v MI = v.mi
 value_at v MA = v.ma
 
--- CVSS v3: names and values are read in any case, no metric is mandatory, and the first piece tells
+-- CVSS v3: names and values are read in any case, no metric is mandatory, and the first piece says
 -- version 3.0 or 3.1
 abbrev pub v3 : Version Vector MetricType
 v3 = record {
@@ -43,7 +43,7 @@ v3 = record {
   value_of = value_at;
   printed = printed;
   mandatory = [];
-  blamed = blamed;
+  reported_kind = reported_kind;
   front = λ v. version_piece (codes "3." ++ numeral v.minor_version) ∷ [];
   supported = codes "3.0" ∷ codes "3.1" ∷ [];
 }

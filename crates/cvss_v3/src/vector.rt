@@ -13,9 +13,9 @@ mod sight;
 mod units;
 
 use cvss_base::Error;
-use cvss_text::front::read_behind;
+use cvss_text::front::read_after;
 use cvss_text::print::same_components;
-use cvss_text::refusing::vector_behind;
+use cvss_text::refusing::vector_after;
 use cvss_v3_metric::base::{
     AttackComplexity, AttackVector, Availability, Confidentiality, Integrity, PrivilegesRequired,
     Scope, UserInteraction,
@@ -60,14 +60,14 @@ pub struct Vector {
 
 impl Vector {
     ghost use Rattle.std.specs.Str.{IsUtf8};
-    ghost use Rattle.cvss_base.specs.Refusal.{Refusal, IsFirstRefusalBehind};
-    ghost use Rattle.cvss_base.specs.Told.{Tells, TellsFirst};
+    ghost use Rattle.cvss_base.specs.Refusal.{Refusal, IsFirstRefusalAfter};
+    ghost use Rattle.cvss_base.specs.Reported.{Reports, ReportsFirst};
     ghost use Rattle.cvss_base.specs.V3Types.{v3_reason};
     ghost use Rattle.cvss_base.specs.Version.{canonical_text, Denotes, IsWellFormed};
     ghost use Rattle.cvss_base.specs.declared.v3.MetricType.{MetricType};
     ghost use Rattle.cvss_v3.specs.Vector.{v3};
 
-    /// The vector that a text denotes: `CVSS:3.0` or `CVSS:3.1` and then, each behind a slash, its
+    /// The vector that a text denotes: `CVSS:3.0` or `CVSS:3.1` and then, each after a slash, its
     /// components in any order, each once (v3.1 specification, section 6), and in any ASCII case.
     /// No metric has to be there, though the specification demands the base metrics. Accepting
     /// takes no memory.
@@ -77,7 +77,7 @@ impl Vector {
     /// The first reason why the text is no such vector: `InvalidComponent`, `InvalidPrefix`,
     /// `UnsupportedVersion`, `UnknownMetric`, `InvalidMetricV3` or `DuplicateMetricV3`; `OutOfMemory`
     /// in place of one that carries text. Names and values are shown in upper case, and a bad value
-    /// of a modified metric is told of its base metric.
+    /// of a modified metric is reported of its base metric.
     pub fn from_str(alloc: Global, text: &str) -> Result<Vector, Error>
         // Accepted: what is given is what the text denotes, and each such vector is given.
         ensures denoted { IfOk result (λ vector. Denotes v3 text.now vector) }
@@ -86,11 +86,11 @@ impl Vector {
             → IsWellFormed v3 vector → result ≡ Ok vector }
         // Refused: for the first reason, and wherever there is one. Memory is the answer only where
         // the reason carries text.
-        ensures refused { IfErr result (TellsFirst v3_reason (IsFirstRefusalBehind v3 text.now)) }
-        ensures refuses { (reason : Refusal MetricType) → IsFirstRefusalBehind v3 text.now reason
-            → IsErrAnd result (Tells v3_reason reason) }
+        ensures refused { IfErr result (ReportsFirst v3_reason (IsFirstRefusalAfter v3 text.now)) }
+        ensures refuses { (reason : Refusal MetricType) → IsFirstRefusalAfter v3 text.now reason
+            → IsErrAnd result (Reports v3_reason reason) }
     {
-        vector_behind(alloc, text)
+        vector_after(alloc, text)
     }
 
     /// The vector that a text denotes, if there is one. It takes no memory.
@@ -101,7 +101,7 @@ impl Vector {
             → IsWellFormed v3 vector → result ≡ Some vector }
         ensures utf8 { IsSome result → IsUtf8 text.now }
     {
-        read_behind(text).ok()
+        read_after(text).ok()
     }
 
     /// Whether two vectors have one canonical text, which is whether they are equal.

@@ -205,23 +205,23 @@ own_or I MI value other = value
 own_or A MA value other = value
 own_or kind found value other = other
 
--- the value of the modified metric that a modified value is: the one that it is told to be, or that of the value set
+-- the value of the modified metric that a modified value is: the one that it is reported to be, or that of the value set
 abbrev pub modified_value : {A : Type 0} (kind : MetricType) → (A → Value kind) → (Modified A → Option AnyValue) → Modified A → Value (replacing kind)
 modified_value kind value own metric =
     let mapped = replacing_value kind (modified_map value metric) in
     option_map_or (λ any. own_or kind any.kind any.value mapped) (own metric) mapped
 
 -- the metric that a refused value is reported under: that of the base where it is a modified one
-abbrev pub blamed : MetricType → MetricType
-blamed MAV = AV
-blamed MAC = AC
-blamed MPR = PR
-blamed MUI = UI
-blamed MS = S
-blamed MC = C
-blamed MI = I
-blamed MA = A
-blamed kind = kind
+abbrev pub reported_kind : MetricType → MetricType
+reported_kind MAV = AV
+reported_kind MAC = AC
+reported_kind MPR = PR
+reported_kind MUI = UI
+reported_kind MS = S
+reported_kind MC = C
+reported_kind MI = I
+reported_kind MA = A
+reported_kind kind = kind
 
 -- the order in which a vector is printed
 abbrev pub printed : List MetricType

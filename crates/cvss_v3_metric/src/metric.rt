@@ -3,12 +3,12 @@
 ghost use Rattle.std.specs.Prelude.{◌≡◌, [], ◌∷◌, ◌*◌, ◌^◌, ◌↔◌, pos, IsTrue, IsSome, IfSome, IfOk, IfErr, Some, unwrap_or};
 ghost use Rattle.std.specs.Fmt.{WritesOnOk, WritesStyledOnOk};
 ghost use Rattle.cvss_base.specs.Refusal.{BadValue};
-ghost use Rattle.cvss_base.specs.Told.{Tells};
+ghost use Rattle.cvss_base.specs.Reported.{Reports};
 ghost use Rattle.cvss_base.specs.V3Types.{v3_reason, name_of};
 ghost use Rattle.cvss_base.specs.Exact.{IsWithinLimit};
 ghost use Rattle.cvss_base.specs.declared.v3.MetricType.{MetricType};
-ghost use Rattle.cvss_base.specs.Text.{slash, raised};
-ghost use Rattle.cvss_v3_metric.specs.Table.{Value, spelling_of, weight_of, metric_component, blamed};
+ghost use Rattle.cvss_base.specs.Text.{slash, uppercased};
+ghost use Rattle.cvss_v3_metric.specs.Table.{Value, spelling_of, weight_of, metric_component, reported_kind};
 ghost use Rattle.cvss_v3_metric.specs.Metrics.{IsMetric};
 
 use cvss_base::Error;
@@ -44,7 +44,7 @@ pub trait Spelled: Copy + 'static {
             → result ≡ Some metric };
 
     /// A slash and the component that stands for the value in a vector.
-    final fn slashed(self) -> &'static str
+    final fn with_slash(self) -> &'static str
         ensures { result.now ≡ slash ∷ metric_component KIND (value self) }
     {
         self.row().0
@@ -54,7 +54,7 @@ pub trait Spelled: Copy + 'static {
     final fn letter(self) -> u8
         ensures { spelling_of KIND (value self) ≡ result ∷ [] }
     {
-        let text = self.slashed().as_bytes();
+        let text = self.with_slash().as_bytes();
         text[text.len() - 1]
     }
 
@@ -65,7 +65,7 @@ pub trait Spelled: Copy + 'static {
         ensures styled { WritesStyledOnOk W.write_str_gives f.old result
             (metric_component KIND (value self)) f.new }
     {
-        write_component(self.slashed(), f)
+        write_component(self.with_slash(), f)
     }
 
     /// The value's weight in hundredths, if it has one (v3.1 specification, section 7.4).
@@ -78,8 +78,8 @@ pub trait Spelled: Copy + 'static {
     /// The value with this spelling, in any ASCII case.
     final fn read_bytes(text: &[u8]) -> Option<Self>
         ensures spelled { IfSome result
-            (λ metric. spelling_of KIND (value metric) ≡ raised text.now) }
-        ensures read { (metric : Self) → spelling_of KIND (value metric) ≡ raised text.now
+            (λ metric. spelling_of KIND (value metric) ≡ uppercased text.now) }
+        ensures read { (metric : Self) → spelling_of KIND (value metric) ≡ uppercased text.now
             → result ≡ Some metric }
     {
         match text {
@@ -113,31 +113,31 @@ pub trait Metric: Spelled + Eq + Ord + fmt::Debug + fmt::Display {
         ⟦<Self as PartialEq>⟧.eq ⟦<Self as Clone>⟧.is_clone ⟦<Self as Clone>⟧.is_infallible };
 
     /// How the value is spelled in a vector.
-    #[tactic(auto, using(cvss_base::proofs::SlashedLemmas::behind_colon))]
+    #[tactic(auto, using(cvss_base::proofs::WithSlashLemmas::after_colon))]
     final fn as_str(self) -> &'static str
         ensures { result.now ≡ spelling_of Self.KIND (Self.value self) }
     {
-        &self.slashed()[Self::KIND.name().len() + 2..]
+        &self.with_slash()[Self::KIND.name().len() + 2..]
     }
 
     /// The value with this spelling, in any ASCII case.
-    final fn read_raised(text: &str) -> Option<Self>
+    final fn read_uppercased(text: &str) -> Option<Self>
         ensures spelled { IfSome result
-            (λ metric. spelling_of Self.KIND (Self.value metric) ≡ raised text.now) }
-        ensures read { (metric : Self) → spelling_of Self.KIND (Self.value metric) ≡ raised text.now
+            (λ metric. spelling_of Self.KIND (Self.value metric) ≡ uppercased text.now) }
+        ensures read { (metric : Self) → spelling_of Self.KIND (Self.value metric) ≡ uppercased text.now
             → result ≡ Some metric }
     {
         Self::read_bytes(text.as_bytes())
     }
 
     /// The value with this spelling, exactly as it is written.
-    #[tactic(auto, using(crate::specs::private::TableLaws::raised_spelling))]
+    #[tactic(auto, using(crate::specs::private::TableLaws::uppercased_spelling))]
     final fn read(text: &str) -> Option<Self>
         ensures spelled { IfSome result (λ metric. spelling_of Self.KIND (Self.value metric) ≡ text.now) }
         ensures read { (metric : Self) → spelling_of Self.KIND (Self.value metric) ≡ text.now
             → result ≡ Some metric }
     {
-        let metric = Self::read_raised(text)?;
+        let metric = Self::read_uppercased(text)?;
         if metric.as_str() == text {
             Some(metric)
         } else {
@@ -154,7 +154,7 @@ pub trait Metric: Spelled + Eq + Ord + fmt::Debug + fmt::Display {
         ensures spelled { IfOk result (λ metric. spelling_of Self.KIND (Self.value metric) ≡ text.now) }
         ensures read { (metric : Self) → spelling_of Self.KIND (Self.value metric) ≡ text.now
             → result ≡ Ok metric }
-        ensures refused { IfErr result (Tells v3_reason (BadValue FAULT_TYPE text.now)) }
+        ensures refused { IfErr result (Reports v3_reason (BadValue FAULT_TYPE text.now)) }
     {
         match Self::read(text) {
             Some(metric) => Ok(metric),
@@ -186,8 +186,8 @@ pub trait Metric: Spelled + Eq + Ord + fmt::Debug + fmt::Display {
 }
 
 /// The metric that a refused value is reported under: of a modified metric its base metric.
-pub fn blamed(kind: MetricType) -> MetricType
-    ensures { result ≡ blamed kind }
+pub fn reported_kind(kind: MetricType) -> MetricType
+    ensures { result ≡ reported_kind kind }
 {
     match kind {
         MetricType::MAV => MetricType::AV,

@@ -16,7 +16,7 @@ module _ {V K : Type 0} (version : Version V K) (v : V) where
 
   -- whether nothing is missing is whether the vector is complete
   pub complete_test : (missing : Option K) (none : Bool) → is_some missing ≡ not none → missing ≡ first_missing version v → IsTrue none ↔ IsComplete version v
-  complete_test None true told is = (λ _. IsComplete-from version v (sym is), λ _. refl)
-  complete_test None false told is = absurd cc
-  complete_test (Some kind) true told is = absurd cc
-  complete_test (Some kind) false told is = (λ none. absurd cc, λ complete. absurd (complete_lacks_none kind complete (sym is)))
+  complete_test None true reported is = (λ _. IsComplete-from version v (sym is), λ _. refl)
+  complete_test None false reported is = absurd cc
+  complete_test (Some kind) true reported is = absurd cc
+  complete_test (Some kind) false reported is = (λ none. absurd cc, λ complete. absurd (complete_lacks_none kind complete (sym is)))

@@ -23,13 +23,13 @@ use Rattle.cvss_v4.specs.Overriding.{AreOverrides, IsOverridden, NamesOther, Obj
 use Rattle.cvss_v4.specs.private.OverridingSteps.{AddsOverride, IsObjectionTo, HasReadOverrides}
 use Rattle.cvss_v4.specs.Table.{Value, value_at}
 use Rattle.cvss_v4.specs.Vector.{v4}
-use Rattle.cvss_v4.specs.private.VectorLaws.{v4_is_lawful, one_minor_version, vector_of, vector_has}
+use Rattle.cvss_v4.specs.private.VectorLaws.{v4_laws, one_minor_version, vector_of, vector_has}
 use Rattle.cvss_v4.specs.declared.vector.Vector.{Vector}
 
 -- a text that names an environmental metric names no other
 pub names_no_other : (kind : MetricType) (name : List ℕ) → name_of kind ≡ name → group_of kind ≡ Environmental → NamesOther name → ⊥
 names_no_other kind name named is other =
-    other.other (subst (λ each. group_of each ≡ Environmental) (names_differ v4 v4_is_lawful kind other.kind (named ∙ sym other.named)) is)
+    other.other (subst (λ each. group_of each ≡ Environmental) (names_differ v4 v4_laws kind other.kind (named ∙ sym other.named)) is)
 
 -- a component with a fault is no override
 pub component_objection : (v : Vector) (text : List ℕ) (reason : Refusal MetricType) → IsComponent text → (NamesOther (read v4 (name_part text)) → ⊥) → IsFaultOf v4 v text reason → IsObjectionTo v text (OfText reason)
@@ -46,7 +46,7 @@ no_objection_at texts place kind is named environment none (OfText reason) at = 
 pub HasReadOverrides-none : (texts : List (List ℕ)) (v : Vector) → v.minor_version ≡ 0 → HasNoValue v4 v → HasReadOverrides texts 0 v
 HasReadOverrides-none texts v version empty = record {
   version = version;
-  read = HasRead-none v4 v4_is_lawful texts v empty;
+  read = HasRead-none v4 v4_laws texts v empty;
   environmental = record { each = λ kind some. absurd (none_is_none (value_at v kind) (empty.none kind) some) };
   faultless = record { none = λ earlier objection below. absurd (omega arith) };
 }
@@ -55,7 +55,7 @@ module _ (texts : List (List ℕ)) (place : ℕ) (within : place < length texts)
   pub HasReadOverrides-more : (old new : Vector) → IsComponent text → AddsOverride old text new → HasReadOverrides texts place old → HasReadOverrides texts (place + 1) new
   HasReadOverrides-more old new is added before =
       let adds = added.adds in
-      let all = HasRead-more v4 v4_is_lawful texts place within text here old new is adds before.read in
+      let all = HasRead-more v4 v4_laws texts place within text here old new is adds before.read in
       let named : name_of adds.kind ≡ name_at v4 texts place = adds.named ∙ ap (λ each. read v4 (name_part each)) here in
       let none = no_objection_at texts place adds.kind (subst IsComponent here is) named added.environmental (λ reason fault. all.faultless.none place reason (omega arith) fault) in
       record {
@@ -66,7 +66,7 @@ module _ (texts : List (List ℕ)) (place : ℕ) (within : place < length texts)
       }
 
   objection_at : (v : Vector) → HasReadOverrides texts place v → (objection : Objection) → IsObjectionTo v (piece_at texts place) objection → ObjectionAt texts place objection
-  objection_at v before (OfText (Repeated kind)) (is, none, fault) = (is, none, fault_at v4 v4_is_lawful v texts place (omega arith) before.read.components (Repeated kind) fault)
+  objection_at v before (OfText (Repeated kind)) (is, none, fault) = (is, none, fault_at v4 v4_laws v texts place (omega arith) before.read.components (Repeated kind) fault)
   objection_at v before objection is = is
 
   pub IsFirstObjection-at : (v : Vector) (objection : Objection) → IsObjectionTo v text objection → HasReadOverrides texts place v → IsFirstObjection texts place objection
@@ -78,7 +78,7 @@ module _ (texts : List (List ℕ)) (place : ℕ) (within : place < length texts)
 
 pub AreOverrides-all : (texts : List (List ℕ)) (v : Vector) → HasReadOverrides texts (length texts) v → AreOverrides texts v
 AreOverrides-all texts v all = record {
-  components = AreComponentsOf-all v4 v4_is_lawful texts v all.read;
+  components = AreComponentsOf-all v4 v4_laws texts v all.read;
   environmental = all.environmental;
 }
 
@@ -86,14 +86,14 @@ AreOverrides-all texts v all = record {
 pub one_overrides : (texts : List (List ℕ)) (v w : Vector) → v.minor_version ≡ 0 → w.minor_version ≡ 0 → AreOverrides texts v → AreOverrides texts w → v ≡ w
 one_overrides texts v w of_v of_w are_v are_w =
     let front : v4.front v ≡ v4.front w = ap (λ n. version_piece (codes "4." ++ numeral n) ∷ []) (of_v ∙ sym of_w) in
-    vectors_same v4 v4_is_lawful v w texts front are_v.components are_w.components
+    vectors_same v4 v4_laws v w texts front are_v.components are_w.components
 
 -- nothing is wrong with overrides
 pub no_objection_held : (texts : List (List ℕ)) (v : Vector) (place : ℕ) → AreOverrides texts v → place < length texts → (objection : Objection) → ObjectionAt texts place objection → ⊥
 no_objection_held texts v place are within =
-    let held = piece_held v4 v4_is_lawful v texts place are.components within in
-    let named : name_of held.kind ≡ name_at v4 texts place = sym (name_from v4 v4_is_lawful (piece_at texts place) held.kind _ held.is) in
-    no_objection_at texts place held.kind (piece_is_component v4 v4_is_lawful v texts are.components place within) named (are.environmental.each held.kind (rw held.held)) (no_fault_held v4 v4_is_lawful v texts place are.components within)
+    let held = piece_held v4 v4_laws v texts place are.components within in
+    let named : name_of held.kind ≡ name_at v4 texts place = sym (name_from v4 v4_laws (piece_at texts place) held.kind _ held.is) in
+    no_objection_at texts place held.kind (piece_is_component v4 v4_laws v texts are.components place within) named (are.environmental.each held.kind (rw held.held)) (no_fault_held v4 v4_laws v texts place are.components within)
 
 -- one objection at a place
 objections_same : (texts : List (List ℕ)) (place : ℕ) (one other : Objection) → ObjectionAt texts place one
@@ -106,7 +106,7 @@ objections_same texts place (OfText (BadComponent _)) (OfText (BadComponent _)) 
 objections_same texts place (OfText (BadComponent _)) (OfText _) a b = absurd (a.1 b.0)
 objections_same texts place (OfText _) OfOtherGroup a b = absurd (a.1 b.1)
 objections_same texts place (OfText _) (OfText (BadComponent _)) a b = absurd (b.1 a.0)
-objections_same texts place (OfText one) (OfText other) a b = ap OfText (faults_same v4 v4_is_lawful texts place one other a.2 b.2)
+objections_same texts place (OfText one) (OfText other) a b = ap OfText (faults_same v4 v4_laws texts place one other a.2 b.2)
 
 -- two first objections are one
 pub first_objections_same : (texts : List (List ℕ)) (p q : ℕ) (one other : Objection) → IsFirstObjection texts p one

@@ -27,12 +27,12 @@ named AC = refl
 named _ = refl
 
 -- a slash, a name, a colon and a spelling
-slashed-length : (kind : MetricType) (rank : ℕ) → length (slash ∷ metric_component kind rank) ≡ 2 + length (name_of kind) + length (spelling_at kind rank)
-slashed-length kind rank = omega (arith, length-append (name_of kind) (colon ∷ spelling_at kind rank))
+with_slash-length : (kind : MetricType) (rank : ℕ) → length (slash ∷ metric_component kind rank) ≡ 2 + length (name_of kind) + length (spelling_at kind rank)
+with_slash-length kind rank = omega (arith, length-append (name_of kind) (colon ∷ spelling_at kind rank))
 
 pub at_least_three : (kind : MetricType) (rank : ℕ) → 3 ≤ length (slash ∷ metric_component kind rank)
-at_least_three kind rank = omega (arith, slashed-length kind rank, leb-true 1 (length (name_of kind)) (named kind))
+at_least_three kind rank = omega (arith, with_slash-length kind rank, leb-true 1 (length (name_of kind)) (named kind))
 
 pub at_most_eight : (kind : MetricType) (rank : ℕ) → length (slash ∷ metric_component kind rank) ≤ 8
 at_most_eight kind rank =
-    omega (arith, slashed-length kind rank, within_longest (spellings_of kind) rank, leb-true (length (name_of kind) + longest (spellings_of kind)) 6 (most kind))
+    omega (arith, with_slash-length kind rank, within_longest (spellings_of kind) rank, leb-true (length (name_of kind) + longest (spellings_of kind)) 6 (most kind))

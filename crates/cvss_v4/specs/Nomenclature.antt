@@ -10,7 +10,7 @@ use Rattle.cvss_v4.specs.Table.{value_at}
 use Rattle.cvss_v4.specs.declared.vector.Vector.{Vector}
 use Rattle.cvss_score.specs.declared.v4.nomenclature.Nomenclature.{Nomenclature}
 -- what is said of nomenclatures without a vector is passed on
-pub use Rattle.cvss_score.specs.v4.Nomenclature.{text_of, nomenclature_with, named_score_text, TellsNoNomenclature}
+pub use Rattle.cvss_score.specs.v4.Nomenclature.{text_of, nomenclature_with, named_score_text, ReportsNoNomenclature}
 
 -- the vector has a value for a metric of the group, be it that the metric is not defined
 abbrev pub has_group : Vector → MetricGroup → Bool

@@ -5,7 +5,7 @@ use Rattle.std.specs.Option.{option_or}
 use Rattle.cvss_base.specs.ErrorText.{error_text}
 use Rattle.cvss_base.specs.Refusal.{Refusal, BadComponent, piece_at, name_at, FaultAt}
 use Rattle.cvss_base.specs.Text.{IsComponent}
-use Rattle.cvss_base.specs.Told.{Tells}
+use Rattle.cvss_base.specs.Reported.{Reports}
 use Rattle.cvss_base.specs.V4Types.{v4_reason, name_of, group_of}
 use Rattle.cvss_base.specs.Version.{AreComponentsOf}
 use Rattle.cvss_base.specs.declared.error.Error.{Error}
@@ -64,18 +64,18 @@ pub record IsFirstObjection (texts : List (List ℕ)) (place : ℕ) (objection :
   pub is : ObjectionAt texts place objection
   pub earlier : HasNoObjectionBefore texts place
 
--- the error tells what is wrong with the text at a place
-abbrev pub TellsObjection : ℕ → Objection → OverrideError → Type 0
-TellsObjection place OfOtherGroup told = told ≡ NotEnvironmental place
-TellsObjection place (OfText reason) told =
-    (error : Error) × (told ≡ Refused place error) × Tells v4_reason reason error
+-- the error says what is wrong with the text at a place
+abbrev pub ReportsObjection : ℕ → Objection → OverrideError → Type 0
+ReportsObjection place OfOtherGroup reported = reported ≡ NotEnvironmental place
+ReportsObjection place (OfText reason) reported =
+    (error : Error) × (reported ≡ Refused place error) × Reports v4_reason reason error
 
--- the error tells the first text with which something is wrong, and what
-pub record TellsFirstObjection (texts : List (List ℕ)) (told : OverrideError) : Type 0 where
+-- the error says the first text with which something is wrong, and what
+pub record ReportsFirstObjection (texts : List (List ℕ)) (reported : OverrideError) : Type 0 where
   pub place : ℕ
   pub objection : Objection
   pub first : IsFirstObjection texts place objection
-  pub tells : TellsObjection place objection told
+  pub reports : ReportsObjection place objection reported
 
 -- the error's text
 abbrev pub override_error_text : OverrideError → List ℕ

@@ -7,7 +7,7 @@ use Rattle.cvss_v4_metric.specs.Table.{printed, mandatory}
 use Rattle.cvss_v4.specs.Table.{Value, spelling_of, value_at}
 use Rattle.cvss_v4.specs.declared.vector.Vector.{Vector}
 
--- CVSS v4.0: names and values are read in any case, and the first piece tells version 4.0
+-- CVSS v4.0: names and values are read in any case, and the first piece says version 4.0
 abbrev pub v4 : Version Vector MetricType
 v4 = record {
   any_case = true;
@@ -17,7 +17,7 @@ v4 = record {
   value_of = value_at;
   printed = printed;
   mandatory = mandatory;
-  blamed = λ kind. kind;
+  reported_kind = λ kind. kind;
   front = λ v. version_piece (codes "4." ++ numeral v.minor_version) ∷ [];
   supported = codes "4.0" ∷ [];
 }

@@ -13,7 +13,7 @@ use crate::vector::{OverrideError, Vector};
 use cvss_score::v4::{Nomenclature, Score};
 
 /// Two vectors, scores or nomenclatures are equal exactly if they are one value, and two errors of
-/// overrides exactly if they are of one kind, at one place, and tell the same.
+/// overrides exactly if they are of one kind, at one place, and say the same.
 pub fn equality_is_that_of_values()
     ensures vector { EqualsByValue ⟦<Vector as PartialEq>⟧.eq }
     ensures score { EqualsByValue ⟦<Score as PartialEq>⟧.eq }
@@ -26,7 +26,7 @@ pub fn equality_is_that_of_values()
 }
 
 /// A clone of a vector, a score or a nomenclature is that value, and a clone of an error of overrides
-/// is of its kind, at its place, and tells the same.
+/// is of its kind, at its place, and says the same.
 pub fn clones_are_equal()
     ensures vector { ClonesByValue ⟦<Vector as Clone>⟧.is_clone }
     ensures score { ClonesByValue ⟦<Score as Clone>⟧.is_clone }

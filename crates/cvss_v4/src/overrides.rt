@@ -7,7 +7,7 @@ ghost use Rattle.cvss_base.specs.Text.{IsComponent};
 ghost use Rattle.cvss_base.specs.V4Types.{group_of};
 ghost use Rattle.cvss_base.specs.declared.group.MetricGroup.TheVariants.{Environmental};
 ghost use Rattle.cvss_v4.specs.Overriding.{AreOverrides, HasNoObjectionBefore, IsFirstObjection};
-ghost use Rattle.cvss_v4.specs.private.OverridingSteps.{AddsOverride, IsObjectionTo, IsTellableFault, objection_of};
+ghost use Rattle.cvss_v4.specs.private.OverridingSteps.{AddsOverride, IsObjectionTo, IsPrintableFault, objection_of};
 ghost use Rattle.cvss_v4.specs.declared.overrides.OverrideFault.TheVariants.{Component};
 
 use crate::vector::Vector;
@@ -45,7 +45,7 @@ pub fn read_overrides<'a>(overrides: &[&'a str]) -> Result<Vector, (usize, Overr
         (length (map (λ text. text.now) overrides.now))) }
     ensures refused { IfErr result (λ refused. IsFirstObjection
         (map (λ text. text.now) overrides.now) refused.0 (objection_of refused.1)) }
-    ensures tellable { IfErr result (λ refused. IsTellableFault refused.1) }
+    ensures printable { IfErr result (λ refused. IsPrintableFault refused.1) }
 {
     let mut vector = Vector::empty();
     for (index, text) in overrides.iter().enumerate() {
@@ -62,7 +62,7 @@ fn read_override<'a>(text: &'a [u8], overrides: &mut Vector) -> Result<(), Overr
     ensures read { OnOk result (AddsOverride overrides.old text.now overrides.new) }
     ensures refused { IfErr result
         (λ fault. IsObjectionTo overrides.old text.now (objection_of fault)) }
-    ensures tellable { IsUtf8 text.now → IfErr result IsTellableFault }
+    ensures printable { IsUtf8 text.now → IfErr result IsPrintableFault }
 {
     if !is_component(text) {
         return Err(OverrideFault::Component(Fault::InvalidComponent(text)));

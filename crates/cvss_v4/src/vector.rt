@@ -14,9 +14,9 @@ mod scores;
 mod sight;
 
 use cvss_base::Error;
-use cvss_text::front::read_behind;
+use cvss_text::front::read_after;
 use cvss_text::print::same_components;
-use cvss_text::refusing::vector_behind;
+use cvss_text::refusing::vector_after;
 use cvss_text::walk::Components;
 use cvss_v4_metric::{base, environmental, supplemental, threat};
 pub use listing::Metrics;
@@ -65,14 +65,14 @@ pub struct Vector {
 
 impl Vector {
     ghost use Rattle.std.specs.Str.{IsUtf8};
-    ghost use Rattle.cvss_base.specs.Refusal.{Refusal, IsFirstRefusalBehind};
-    ghost use Rattle.cvss_base.specs.Told.{Tells, TellsFirst};
+    ghost use Rattle.cvss_base.specs.Refusal.{Refusal, IsFirstRefusalAfter};
+    ghost use Rattle.cvss_base.specs.Reported.{Reports, ReportsFirst};
     ghost use Rattle.cvss_base.specs.V4Types.{v4_reason};
     ghost use Rattle.cvss_base.specs.Version.{canonical_text, Denotes, IsComplete, IsWellFormed};
     ghost use Rattle.cvss_base.specs.declared.v4.MetricType.{MetricType};
     ghost use Rattle.cvss_v4.specs.Vector.{v4};
 
-    /// The vector that a text denotes: `CVSS:4.0` and then, each behind a slash, its components,
+    /// The vector that a text denotes: `CVSS:4.0` and then, each after a slash, its components,
     /// each once, with all base metrics among them (v4.0 specification, section 7), in any order,
     /// where the specification demands one, and in any ASCII case. Accepting takes no memory.
     ///
@@ -90,11 +90,11 @@ impl Vector {
             → IsWellFormed v4 vector → result ≡ Ok vector }
         // Refused: for the first reason, and wherever there is one. Memory is the answer only where
         // the reason carries text.
-        ensures refused { IfErr result (TellsFirst v4_reason (IsFirstRefusalBehind v4 text.now)) }
-        ensures refuses { (reason : Refusal MetricType) → IsFirstRefusalBehind v4 text.now reason
-            → IsErrAnd result (Tells v4_reason reason) }
+        ensures refused { IfErr result (ReportsFirst v4_reason (IsFirstRefusalAfter v4 text.now)) }
+        ensures refuses { (reason : Refusal MetricType) → IsFirstRefusalAfter v4 text.now reason
+            → IsErrAnd result (Reports v4_reason reason) }
     {
-        vector_behind(alloc, text)
+        vector_after(alloc, text)
     }
 
     /// The vector that a text denotes, if there is one. It takes no memory.
@@ -105,7 +105,7 @@ impl Vector {
             → IsWellFormed v4 vector → result ≡ Some vector }
         ensures utf8 { IsSome result → IsUtf8 text.now }
     {
-        read_behind(text).ok()
+        read_after(text).ok()
     }
 
     /// Whether the vector has all base metrics, as each vector has that was read from a text.

@@ -4,8 +4,8 @@ ghost use Rattle.std.specs.Prelude.{◌≡◌, ◌↔◌, [], ◌∷◌, ℕ, Is
 ghost use Rattle.std.specs.Fmt.{WritesOnOk, WritesStyledOnOk};
 ghost use Rattle.std.specs.Str.{str_eq_ignore_ascii_case};
 ghost use Rattle.cvss_base.specs.Refusal.{BadValue};
-ghost use Rattle.cvss_base.specs.Text.{slash, raised};
-ghost use Rattle.cvss_base.specs.Told.{Tells};
+ghost use Rattle.cvss_base.specs.Text.{slash, uppercased};
+ghost use Rattle.cvss_base.specs.Reported.{Reports};
 ghost use Rattle.cvss_base.specs.V4Types.{v4_reason, name_of};
 ghost use Rattle.cvss_base.specs.declared.v4.MetricType.{MetricType};
 ghost use Rattle.cvss_v4_metric.specs.Metrics.{IsMetric};
@@ -13,7 +13,7 @@ ghost use Rattle.cvss_v4_metric.specs.Reading.{IsReading};
 ghost use Rattle.cvss_v4_metric.specs.Table.{spelling_at, spellings_of, metric_component};
 
 use cvss_base::Error;
-use cvss_base::component::{is_raised_as, write_component};
+use cvss_base::component::{is_uppercased_as, write_component};
 pub use cvss_base::v4::MetricType;
 use std::alloc::Global;
 use std::fmt;
@@ -33,7 +33,7 @@ pub trait Spelled: Copy + 'static {
         ensures covers { (metric : Self) → slice_get result.now (rank metric) ≡ Some metric };
 
     /// A slash and the component that stands for the value in a vector.
-    fn slashed(self) -> &'static str
+    fn with_slash(self) -> &'static str
         ensures { result.now ≡ slash ∷ metric_component KIND (rank self) };
 
     /// Writes the component that stands for the value in a vector, and the same under any options.
@@ -43,7 +43,7 @@ pub trait Spelled: Copy + 'static {
         ensures styled { WritesStyledOnOk W.write_str_gives f.old result
             (metric_component KIND (rank self)) f.new }
     {
-        write_component(self.slashed(), f)
+        write_component(self.with_slash(), f)
     }
 
     /// The value that this letter spells, exactly as it is written.
@@ -63,8 +63,8 @@ pub trait Spelled: Copy + 'static {
     #[inline(always)]
     final fn read_bytes(text: &[u8]) -> Option<Self>
         ensures spelled { IfSome result
-            (λ metric. raised (spelling_at KIND (rank metric)) ≡ raised text.now) }
-        ensures read { (metric : Self) → raised (spelling_at KIND (rank metric)) ≡ raised text.now
+            (λ metric. uppercased (spelling_at KIND (rank metric)) ≡ uppercased text.now) }
+        ensures read { (metric : Self) → uppercased (spelling_at KIND (rank metric)) ≡ uppercased text.now
             → result ≡ Some metric }
     {
         Self::values()
@@ -96,16 +96,16 @@ pub trait Metric: Spelled + Eq + Ord + Default + fmt::Debug + fmt::Display {
     final fn as_str(self) -> &'static str
         ensures { result.now ≡ spelling_at Self.KIND (Self.rank self) }
     {
-        &self.slashed()[Self::KIND.name().len() + 2..]
+        &self.with_slash()[Self::KIND.name().len() + 2..]
     }
 
     /// The value that `read` gives for the text in upper case.
     #[tactic(auto, using(crate::proofs::ReadingLemmas::read_alike))]
-    final fn read_raised(text: &str) -> Option<Self>
+    final fn read_uppercased(text: &str) -> Option<Self>
         ensures spelled { IfSome result
-            (λ metric. IsReading (spelling_at Self.KIND (Self.rank metric)) (raised text.now)) }
+            (λ metric. IsReading (spelling_at Self.KIND (Self.rank metric)) (uppercased text.now)) }
         ensures read { (metric : Self)
-            → IsReading (spelling_at Self.KIND (Self.rank metric)) (raised text.now)
+            → IsReading (spelling_at Self.KIND (Self.rank metric)) (uppercased text.now)
             → result ≡ Some metric }
     {
         Self::read_bytes(text.as_bytes())
@@ -136,7 +136,7 @@ pub trait Metric: Spelled + Eq + Ord + Default + fmt::Debug + fmt::Display {
             (λ metric. IsReading (spelling_at Self.KIND (Self.rank metric)) text.now) }
         ensures read { (metric : Self) → IsReading (spelling_at Self.KIND (Self.rank metric)) text.now
             → result ≡ Ok metric }
-        ensures refused { IfErr result (Tells v4_reason (BadValue TYPE text.now)) }
+        ensures refused { IfErr result (Reports v4_reason (BadValue TYPE text.now)) }
     {
         match Self::read(text) {
             Some(metric) => Ok(metric),
@@ -157,7 +157,7 @@ fn spelling<M: Spelled>(value: M) -> &'static [u8]
     ensures { result.now ≡ spelling_at M.KIND (M.rank value) }
 {
     value
-        .slashed()
+        .with_slash()
         .as_bytes()
         .get(M::KIND.name().len() + 2..)
         .unwrap_or(&[])
@@ -188,8 +188,8 @@ fn is_alike(text: &[u8], other: &[u8]) -> bool
 
 /// Whether a text is a spelling as it is printed or in upper case, given that it is so in some case.
 fn is_reading(spelling: &str, text: &str) -> bool
-    requires { raised spelling.now ≡ raised text.now }
+    requires { uppercased spelling.now ≡ uppercased text.now }
     ensures { IsTrue result ↔ IsReading spelling.now text.now }
 {
-    spelling == text || is_raised_as(text.as_bytes(), text.as_bytes())
+    spelling == text || is_uppercased_as(text.as_bytes(), text.as_bytes())
 }

@@ -31,7 +31,7 @@ impl Spelled for ExploitMaturity {
         &[NotDefined, Unreported, ProofOfConcept, Attacked]
     }
 
-    fn slashed(self) -> &'static str {
+    fn with_slash(self) -> &'static str {
         match self {
             Self::NotDefined => "/E:X",
             Self::Unreported => "/E:U",

@@ -1,15 +1,15 @@
 -- The answers that the program writes to the lines of its input, each of which is the text of a vector.
 use Rattle.std.specs.Prelude.{ℕ, List, [], ◌∷◌, ◌++◌, codes, Some}
 use Rattle.std.specs.Str.{IsUtf8}
-use Rattle.cvss_any.specs.Bytes.{TellsWhyNot, bytes_error_text}
+use Rattle.cvss_any.specs.Bytes.{ReportsWhyNot, bytes_error_text}
 use Rattle.cvss_any.specs.Dispatch.{DenotesCvss}
 use Rattle.cvss_any.specs.declared.bytes_error.BytesError.{BytesError}
 use Rattle.cvss_any.specs.declared.bytes_error.BytesError.TheVariants.{NotUtf8, Invalid}
 use Rattle.cvss_any.specs.declared.vector.Cvss.{Cvss}
-use Rattle.cvss_account.specs.Account.{IsAccountText}
+use Rattle.cvss_explain.specs.Account.{IsAccountText}
 use Rattle.cvss_lines.specs.Answers.{Answer, Accepted, Refused}
-use Rattle.cvss_tree.specs.Texts.{IsTextOf}
-use Rattle.cvss_tree.specs.Objects.{Member, object_of}
+use Rattle.cvss_json_tree.specs.Texts.{IsTextOf}
+use Rattle.cvss_json_tree.specs.Objects.{Member, object_of}
 use Rattle.serde_json.specs.Data.{Data, number as number_value, string, unsigned}
 
 -- the number of the line
@@ -33,10 +33,10 @@ pub record IsAcceptance (number : ℕ) (line text : List ℕ) : Type 0 where
   pub denoted : DenotesCvss line cvss
   pub explains : IsAccountText (Some number) cvss text
 
--- the line is no text, or a text that is no vector, and the object tells the first reason
+-- the line is no text, or a text that is no vector, and the object says the first reason
 pub record IsRefusal (number : ℕ) (line text : List ℕ) : Type 0 where
   pub error : BytesError
-  pub told : TellsWhyNot line error
+  pub reported : ReportsWhyNot line error
   pub is_text : IsTextOf (refusal_value number line error) text
 
 -- this is an answer to the line of this number: one text

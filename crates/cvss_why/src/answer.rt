@@ -2,18 +2,18 @@
 
 ghost use Rattle.std.specs.Prelude.{◌≡◌, OnOk};
 ghost use Rattle.cvss_any.specs.Answers.{HasScore};
-ghost use Rattle.cvss_any.specs.Bytes.{TellsWhyNot};
-ghost use Rattle.cvss_tree.specs.Texts.{WritesObject};
-ghost use Rattle.cvss_tree.specs.Objects.{with_members};
+ghost use Rattle.cvss_any.specs.Bytes.{ReportsWhyNot};
+ghost use Rattle.cvss_json_tree.specs.Texts.{WritesObject};
+ghost use Rattle.cvss_json_tree.specs.Objects.{with_members};
 ghost use Rattle.cvss_why.specs.Answers.{IsAnswer, given_members, refusal_value};
 ghost use Rattle.cvss_why.specs.private.Writing.{WritesAccount};
 ghost use Rattle.serde_json.specs.View.{members_view};
 
-use cvss_account::put_account;
 use cvss_any::{BytesError, Cvss};
+use cvss_explain::put_account;
+use cvss_json_tree::write_object;
+use cvss_json_write::Page;
 use cvss_lines::{Answering, Gathered};
-use cvss_object::Page;
-use cvss_tree::write_object;
 use serde_json::{Map, Value, put};
 use std::alloc::{AllocError, Global};
 
@@ -62,7 +62,7 @@ fn write_refusal(
     error: &BytesError,
     answers: &mut Gathered,
 ) -> Result<(), AllocError>
-    requires { TellsWhyNot line.now error.now }
+    requires { ReportsWhyNot line.now error.now }
     ensures { OnOk result (WritesObject (refusal_value number line.now error.now)
         answers.old.bytes.items answers.new.bytes.items) }
 {
@@ -81,7 +81,7 @@ fn put_given(
     line: &[u8],
     error: &BytesError,
 ) -> Result<(), AllocError>
-    requires { TellsWhyNot line.now error.now }
+    requires { ReportsWhyNot line.now error.now }
     ensures { OnOk result (members_view members.new.entries
         ≡ with_members (given_members line.now error.now) (members_view members.old.entries)) }
 {

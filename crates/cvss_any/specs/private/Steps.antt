@@ -11,20 +11,20 @@ use Rattle.cvss_v4.specs.Vector.{v4}
 use Rattle.cvss_any.specs.Answers.{HasScore}
 use Rattle.cvss_any.specs.declared.metric_type.MetricType.TheVariants.{V2, V3, V4}
 use Rattle.cvss_any.specs.declared.reading.ReadFault.{ReadFault}
-use Rattle.cvss_any.specs.declared.reading.ReadFault.TheVariants as told
+use Rattle.cvss_any.specs.declared.reading.ReadFault.TheVariants as reported
 use Rattle.cvss_any.specs.declared.vector.Cvss.{Cvss}
 
 -- the reason that a fault stands for, whatever version found it
 abbrev pub reason_read : ReadFault → Refusal MetricType
-reason_read (told.V2 fault) = spec.wrapped V2 (walk.reason_of v2 fault)
-reason_read (told.V3 fault) = spec.wrapped V3 (walk.reason_of v3 fault)
-reason_read (told.V4 fault) = spec.wrapped V4 (walk.reason_of v4 fault)
+reason_read (reported.V2 fault) = spec.wrapped V2 (walk.reason_of v2 fault)
+reason_read (reported.V3 fault) = spec.wrapped V3 (walk.reason_of v3 fault)
+reason_read (reported.V4 fault) = spec.wrapped V4 (walk.reason_of v4 fault)
 
--- and it can be told
-abbrev pub IsTellableFault : ReadFault → Type 0
-IsTellableFault (told.V2 fault) = walk.IsTellable v2 fault
-IsTellableFault (told.V3 fault) = walk.IsTellable v3 fault
-IsTellableFault (told.V4 fault) = walk.IsTellable v4 fault
+-- and it can be reported
+abbrev pub IsPrintableFault : ReadFault → Type 0
+IsPrintableFault (reported.V2 fault) = walk.IsPrintable v2 fault
+IsPrintableFault (reported.V3 fault) = walk.IsPrintable v3 fault
+IsPrintableFault (reported.V4 fault) = walk.IsPrintable v4 fault
 
 -- what reading a text answers: the vector that it denotes, or the first reason why there is none
 pub record IsRead (text : List ℕ) (answer : Result Cvss ReadFault) : Type 0 where
@@ -34,4 +34,4 @@ pub record IsRead (text : List ℕ) (answer : Result Cvss ReadFault) : Type 0 wh
   pub utf8 : OnOk answer (IsUtf8 text)
   pub refused : IfErr answer (λ fault. spec.IsFirstRefusalCvss text (reason_read fault))
   pub refuses : (reason : Refusal MetricType) → spec.IsFirstRefusalCvss text reason → IsErrAnd answer (λ fault. reason_read fault ≡ reason)
-  pub tellable : IsUtf8 text → IfErr answer IsTellableFault
+  pub printable : IsUtf8 text → IfErr answer IsPrintableFault

@@ -7,23 +7,23 @@ use Rattle.cvss_any.specs.Route as spec
 use Rattle.cvss_any.specs.declared.route.NoVersion.{NoVersion}
 use Rattle.cvss_any.specs.declared.route.NoVersion.TheVariants.{InvalidComponent, InvalidPrefix, UnsupportedVersion}
 use Rattle.cvss_any.specs.declared.route.Route.{Route}
-use Rattle.cvss_any.specs.declared.route.Route.TheVariants.{V20, V30, V31, V40, Untold}
+use Rattle.cvss_any.specs.declared.route.Route.TheVariants.{V20, V30, V31, V40, Unversioned}
 
--- why no version is told, as its definition says it
+-- why no version is reported, as its definition says it
 abbrev pub why_of : NoVersion → spec.NoVersion
 why_of (InvalidComponent piece) = spec.OnePiece piece.now
 why_of (InvalidPrefix prefix) = spec.OtherPrefix prefix.now
-why_of (UnsupportedVersion told) = spec.OtherVersion told.now
+why_of (UnsupportedVersion reported) = spec.OtherVersion reported.now
 
--- it can be told: its text is UTF-8
-abbrev pub IsTellable : NoVersion → Type 0
-IsTellable (InvalidComponent piece) = IsUtf8 piece.now
-IsTellable (InvalidPrefix prefix) = IsUtf8 prefix.now
-IsTellable (UnsupportedVersion told) = IsUtf8 told.now
+-- it can be reported: its text is UTF-8
+abbrev pub IsPrintable : NoVersion → Type 0
+IsPrintable (InvalidComponent piece) = IsUtf8 piece.now
+IsPrintable (InvalidPrefix prefix) = IsUtf8 prefix.now
+IsPrintable (UnsupportedVersion reported) = IsUtf8 reported.now
 
-abbrev pub IsTellableRoute : Route → Type 0
-IsTellableRoute (Untold fault) = IsTellable fault
-IsTellableRoute _ = ⊤
+abbrev pub IsPrintableRoute : Route → Type 0
+IsPrintableRoute (Unversioned fault) = IsPrintable fault
+IsPrintableRoute _ = ⊤
 
 -- where a text is read, as its definition says it
 abbrev pub as_route : Route → spec.Route
@@ -31,11 +31,11 @@ as_route V20 = spec.ToV20
 as_route (V30 left) = spec.ToV30
 as_route (V31 left) = spec.ToV31
 as_route (V40 left) = spec.ToV40
-as_route (Untold fault) = spec.ToUntold (why_of fault)
+as_route (Unversioned fault) = spec.ToNoVersion (why_of fault)
 
--- the pieces of a text that tells its version are the one that tells it, and those with which it is handed on
-abbrev pub IsBehindVersion : List (List ℕ) → Route → Type 0
-IsBehindVersion parts (V30 left) = parts ≡ version_piece (codes "3.0") ∷ pieces_left left
-IsBehindVersion parts (V31 left) = parts ≡ version_piece (codes "3.1") ∷ pieces_left left
-IsBehindVersion parts (V40 left) = parts ≡ version_piece (codes "4.0") ∷ pieces_left left
-IsBehindVersion parts _ = ⊤
+-- the pieces of a text that says its version are the one that says it, and those with which it is handed on
+abbrev pub IsAfterVersion : List (List ℕ) → Route → Type 0
+IsAfterVersion parts (V30 left) = parts ≡ version_piece (codes "3.0") ∷ pieces_left left
+IsAfterVersion parts (V31 left) = parts ≡ version_piece (codes "3.1") ∷ pieces_left left
+IsAfterVersion parts (V40 left) = parts ≡ version_piece (codes "4.0") ∷ pieces_left left
+IsAfterVersion parts _ = ⊤

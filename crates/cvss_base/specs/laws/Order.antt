@@ -5,7 +5,7 @@ use Rattle.std.specs.Ordering.{nat_cmp}
 use Rattle.std.specs.Str.{bytes_eq}
 use Rattle.std.specs.declared.cmp.Ordering.{Ordering}
 
--- the place of an item in a list, which its text tells
+-- the place of an item in a list, which its text says
 abbrev pub place_in : {A : Type 0} → (A → List ℕ) → List A → A → ℕ
 place_in text items item = position_or_len (λ other. bytes_eq (text other) (text item)) items
 

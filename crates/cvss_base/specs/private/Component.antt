@@ -12,5 +12,5 @@ foreign_bytes text = count_by is_foreign text
 
 -- the text is a slash and some more
 pub record StartsWithSlash (text : List ℕ) : Type 0 where
-  pub behind : List ℕ
-  pub is : text ≡ slash ∷ behind
+  pub after : List ℕ
+  pub is : text ≡ slash ∷ after

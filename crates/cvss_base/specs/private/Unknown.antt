@@ -5,7 +5,7 @@ use Rattle.cvss_base.specs.declared.error.Error.{Error}
 use Rattle.cvss_base.specs.declared.error.Error.TheVariants.{UnknownMetric, OutOfMemory}
 
 -- the error says that no metric has this name, or that there was no memory for the name
-abbrev pub TellsUnknown : List ℕ → Error → Type 0
-TellsUnknown text (UnknownMetric name) = string_bytes name ≡ text
-TellsUnknown text OutOfMemory = Unit {0}
-TellsUnknown text _ = ⊥
+abbrev pub ReportsUnknown : List ℕ → Error → Type 0
+ReportsUnknown text (UnknownMetric name) = string_bytes name ≡ text
+ReportsUnknown text OutOfMemory = Unit {0}
+ReportsUnknown text _ = ⊥

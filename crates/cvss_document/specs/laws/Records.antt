@@ -5,12 +5,12 @@ use Rattle.cvss_any.specs.Answers.{text_of}
 use Rattle.cvss_any.specs.declared.vector.Cvss.{Cvss}
 use Rattle.serde_json.specs.Data.{Data, string}
 use Rattle.cvss_document.specs.Scores.{score_value}
-use Rattle.cvss_record.specs.Fields.{fields_of, name_of}
-use Rattle.cvss_record.specs.Record.{Due, text, score, nothing, due_of, has_member}
-use Rattle.cvss_record.specs.declared.field.Field.{Field}
-use Rattle.cvss_record.specs.declared.field.Field.TheVariants.{Text}
-use Rattle.cvss_record.specs.declared.score.Scores.{Scores}
-use Rattle.cvss_tree.specs.Objects.{Member}
+use Rattle.cvss_json_record.specs.Fields.{fields_of, name_of}
+use Rattle.cvss_json_record.specs.Record.{Due, text, score, nothing, due_of, has_member}
+use Rattle.cvss_json_record.specs.declared.field.Field.{Field}
+use Rattle.cvss_json_record.specs.declared.field.Field.TheVariants.{Text}
+use Rattle.cvss_json_record.specs.declared.score.Scores.{Scores}
+use Rattle.cvss_json_tree.specs.Objects.{Member}
 
 -- what a member says, as a value
 abbrev pub value_of : Due → Option Data

@@ -6,19 +6,19 @@ use Rattle.cvss_base.specs.Version.{numeral, components_of, version_piece, IsWel
 use Rattle.cvss_base.specs.Text.{slash, joined}
 use Rattle.cvss_text.proofs.CanonicalLemmas.{canonical_text-denotes}
 use Rattle.cvss_v2.specs.Vector.{v2}
-use Rattle.cvss_v2.specs.private.VectorLaws.{v2_is_lawful}
+use Rattle.cvss_v2.specs.private.VectorLaws.{v2_laws}
 use Rattle.cvss_v3.specs.Vector.{v3}
-use Rattle.cvss_v3.specs.private.VectorLaws.{v3_is_lawful}
+use Rattle.cvss_v3.specs.private.VectorLaws.{v3_laws}
 use Rattle.cvss_v3.specs.declared.vector.Vector.{Vector}
 use Rattle.cvss_v4.specs.Vector.{v4}
-use Rattle.cvss_v4.specs.private.VectorLaws.{v4_is_lawful}
+use Rattle.cvss_v4.specs.private.VectorLaws.{v4_laws}
 use Rattle.cvss_any.specs.Answers.{text_of}
 use Rattle.cvss_any.specs.Dispatch.{DenotesCvss, DenotesV3}
 use Rattle.cvss_laws.specs.any.GivenBack.{IsGivenBack, HasVersionAndMetric}
 use Rattle.cvss_any.specs.declared.vector.Cvss.{Cvss}
 use Rattle.cvss_any.specs.declared.vector.Cvss.TheVariants.{CvssV20, CvssV30, CvssV31, CvssV40}
 
--- a version piece with more behind it is longer than it is alone
+-- a version piece with more after it is longer than it is alone
 longer : (piece : List ℕ) (parts : List (List ℕ)) → parts ≢ [] → joined (piece ∷ parts) ≡ piece → ⊥
 longer piece [] some same = some refl
 longer piece (part ∷ parts) some same = omega (arith, ap length same, length-append piece (slash ∷ joined (part ∷ parts)))
@@ -28,7 +28,7 @@ formed : (minor : ℕ) (vector : Vector) → vector.minor_version ≡ minor → 
 formed minor vector version supported = record {
   complete = record { present = λ kind none. absurd (omega (arith, none.1)) };
   supported = record {
-    told = codes "3." ++ numeral minor;
+    reported = codes "3." ++ numeral minor;
     front_is = ap (λ each. version_piece (codes "3." ++ numeral each) ∷ []) version;
     supported = supported;
   };
@@ -36,7 +36,7 @@ formed minor vector version supported = record {
 
 given : (minor : ℕ) (vector : Vector) → Contains v3.supported (codes "3." ++ numeral minor) → HasVersionAndMetric minor vector → DenotesV3 (text_of (CvssV30 vector)) (version_piece (codes "3." ++ numeral minor)) minor vector
 given minor vector supported has = record {
-  denoted = canonical_text-denotes v3 v3_is_lawful vector;
+  denoted = canonical_text-denotes v3 v3_laws vector;
   well_formed = formed minor vector has.version supported;
   version = has.version;
   more = λ same. longer (version_piece (codes "3." ++ numeral vector.minor_version)) (components_of v3 vector) has.metric (same ∙ ap (λ each. version_piece (codes "3." ++ numeral each)) (sym has.version));
@@ -49,7 +49,7 @@ has_metric minor vector is = record {
 }
 
 pub own_text : (cvss : Cvss) → (DenotesCvss (text_of cvss) cvss ↔ IsGivenBack cvss)
-own_text (CvssV20 v) = (λ is. is.complete, λ complete. record { denoted = canonical_text-denotes v2 v2_is_lawful v; complete = complete })
+own_text (CvssV20 v) = (λ is. is.complete, λ complete. record { denoted = canonical_text-denotes v2 v2_laws v; complete = complete })
 own_text (CvssV30 v) = (has_metric 0 v, given 0 v (0, lit< tt, refl))
 own_text (CvssV31 v) = (has_metric 1 v, given 1 v (1, lit< tt, refl))
-own_text (CvssV40 v) = (λ is. is.well_formed, λ well_formed. record { denoted = canonical_text-denotes v4 v4_is_lawful v; well_formed = well_formed })
+own_text (CvssV40 v) = (λ is. is.well_formed, λ well_formed. record { denoted = canonical_text-denotes v4 v4_laws v; well_formed = well_formed })

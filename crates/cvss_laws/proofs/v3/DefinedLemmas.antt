@@ -1,6 +1,6 @@
 -- A metric that is X and one that is absent give the same weights.
 use Rattle.std.proofs.Common.{◌≡◌, false, ◌⊎◌, inl, inr, codes, Option, Some, None, IfSome, refl, sym, ap, ◌∙◌}
-use Rattle.cvss_base.specs.Text.{raised}
+use Rattle.cvss_base.specs.Text.{uppercased}
 use Rattle.cvss_base.specs.declared.v3.MetricType.{MetricType}
 use Rattle.cvss_base.specs.declared.v3.MetricType.TheVariants.{A, AC, AV, C, I, PR, S, UI, E, RL, RC, CR, IR, AR, MAV, MAC, MPR, MUI, MS, MC, MI, MA}
 use Rattle.cvss_v3_metric.specs.Table.{Value, spelling_of}
@@ -41,7 +41,7 @@ as_absent : {B : Type 0} (kind : MetricType) (x : Value kind) → spelling_of ki
     → (value : Option (Value kind)) → IsUndefined kind value → of value ≡ of None
 as_absent kind x is of same None undefined = refl
 as_absent kind x is of same (Some value) undefined =
-    ap (λ each. of (Some each)) (one_value kind value x (ap raised (undefined ∙ sym is))) ∙ same
+    ap (λ each. of (Some each)) (one_value kind value x (ap uppercased (undefined ∙ sym is))) ∙ same
 
 optional_same : {B : Type 0} (kind : MetricType) (x : Value kind) → spelling_of kind x ≡ codes "X" → (of : Option (Value kind) → B) → of (Some x) ≡ of None
     → (v w : Option (Value kind)) → AreTheSame kind v w → of v ≡ of w

@@ -13,16 +13,16 @@ use Rattle.cvss_score.proofs.v4_lemmas.TestLemmas.{Finite, Classes}
 -- when two classes are the same, which are then one, and a test of it
 pub record Same {C : Type 0} (AreSame : C → C → Type 0) : Type 0 where
   pub same : C → C → Bool
-  pub tells : (x y : C) → same x y ≡ true → AreSame x y
+  pub reports : (x y : C) → same x y ≡ true → AreSame x y
   pub one : (x y : C) → AreSame x y → x ≡ y
 
 abbrev pub one_number : Same (λ (x y : ℕ). x ≡ y)
-one_number = record { same = λ x y. x == y; tells = λ x y h. eqb-true x y h; one = λ x y same. same }
+one_number = record { same = λ x y. x == y; reports = λ x y h. eqb-true x y h; one = λ x y same. same }
 
 abbrev pub one_pair : Same (λ (x y : ℕ × ℕ). (x.0 ≡ y.0) × (x.1 ≡ y.1))
 one_pair = record {
   same = λ x y. (x.0 == y.0) && (x.1 == y.1);
-  tells = λ x y h. let parts = and_parts (x.0 == y.0) (x.1 == y.1) h in (eqb-true x.0 y.0 parts.0, eqb-true x.1 y.1 parts.1);
+  reports = λ x y h. let parts = and_parts (x.0 == y.0) (x.1 == y.1) h in (eqb-true x.0 y.0 parts.0, eqb-true x.1 y.1 parts.1);
   one = λ x y same i. (same.0 i, same.1 i);
 }
 
@@ -66,4 +66,4 @@ module _ {V C : Type 0} (scale : Scale V C) {IsClass : C → Type 0} {AreSame : 
       λ k d in_list.
       let m = slice_index_or (maximal class) k d in
       let parts = and_parts (are.same (scale.class m) class) (scale.sum m == scale.least class) (all k d in_list) in
-      (are.tells (scale.class m) class parts.0, eqb-true (scale.sum m) (scale.least class) parts.1)
+      (are.reports (scale.class m) class parts.0, eqb-true (scale.sum m) (scale.least class) parts.1)

@@ -70,7 +70,7 @@ module _ {V C : Type 0} (scale : Scale V C) {IsClass : C → Type 0} {AreSame : 
       let v = values (farthest class) in
       let parts = and_parts (are.same (scale.class v) class) (scale.sum v + 1 == scale.least class + scale.depth class)
       (classes.each is_farthest h class is_class) in
-      let of_class = are.tells (scale.class v) class parts.0 in
+      let of_class = are.reports (scale.class v) class parts.0 in
       let one_least = ap scale.least (are.one (scale.class v) class of_class) in
       let next = eqb-true (scale.sum v + 1) (scale.least class + scale.depth class) parts.1 in
       record {

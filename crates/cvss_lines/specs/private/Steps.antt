@@ -1,7 +1,7 @@
 -- How a run stands between two steps, and what its private code does in each.
 use Rattle.std.specs.Prelude.{◌≡◌, ℕ, ◌+◌, ◌-◌, ◌^◌, min, if◌then◌else◌, ◌<◌, ◌≤◌, ◌≢◌, ◌⊎◌, All, List, length, slice_index, ◌++◌, take, Option}
 use Rattle.std.specs.Io.KnownBytes.{Appends}
-use Rattle.cvss_lines.specs.Answers.{Answer, IsAnswers, Rule, is_accepted, is_refused, number_behind, written_answers}
+use Rattle.cvss_lines.specs.Answers.{Answer, IsAnswers, Rule, is_accepted, is_refused, number_after, written_answers}
 use Rattle.cvss_lines.specs.Lines.{ended_lines, lines as all_lines, unended_piece}
 use Rattle.cvss_lines.specs.Runs.{summary_of}
 use Rattle.cvss_lines.specs.Streaming.{AreBegun, Beginning}
@@ -48,7 +48,7 @@ pub record Stands (rule : Rule) (beginning : Beginning) (start written : Option 
   pub appended : Appends start written passed
   pub together : passed ++ progress.answers.bytes.items ≡ written_answers answers
   pub counted : progress.summary ≡ summary_of answers
-  pub numbered : progress.number ≡ number_behind 1 lines
+  pub numbered : progress.number ≡ number_after 1 lines
 
 -- memory was refused: what is written are whole answers to some lines, or ends in the midst of one
 pub record Lacks (rule : Rule) (beginning : Beginning) (start written : Option (List ℕ)) (some all : List (List ℕ)) : Type 0 where
@@ -70,7 +70,7 @@ pub record Stops (rule : Rule) (beginning : Beginning) (start written : Option (
   pub memory : fault ≡ Memory → Lacks rule beginning start written some all
   pub write : fault ≡ Write → Breaks rule beginning start written all
 
--- these lines are answered behind whatever lines were
+-- these lines are answered after whatever lines were
 abbrev pub Answers : Rule → Beginning → List (List ℕ) → Option (List ℕ) → Option (List ℕ) → Progress → Progress → Type 0
 Answers rule beginning more written written' old new = (start : Option (List ℕ)) → (lines : List (List ℕ))
     → Stands rule beginning start written lines old → Stands rule beginning start written' (lines ++ more) new
@@ -80,13 +80,13 @@ abbrev pub StopsAnswering : Rule → Beginning → List (List ℕ) → Option (L
 StopsAnswering rule beginning more written written' old fault = (start : Option (List ℕ)) → (lines : List (List ℕ))
     → Stands rule beginning start written lines old → Stops rule beginning start written' lines (lines ++ more) fault
 
--- the lines that a byte 10 ends in what was read are answered, and what stands behind them is kept
+-- the lines that a byte 10 ends in what was read are answered, and what follows them is kept
 pub record Awaits (rule : Rule) (beginning : Beginning) (start written : Option (List ℕ)) (read : List ℕ) (pending : Pending)
     : Type 0 where
   pub stands : Stands rule beginning start written (ended_lines read) pending.progress
   pub kept : pending.cut.items ≡ unended_piece read
 
--- this piece of the input is read behind whatever was
+-- this piece of the input is read after whatever was
 abbrev pub Reads : Rule → Beginning → List ℕ → Option (List ℕ) → Option (List ℕ) → Pending → Pending → Type 0
 Reads rule beginning piece written written' old new = (start : Option (List ℕ)) → (read : List ℕ)
     → Awaits rule beginning start written read old → Awaits rule beginning start written' (read ++ piece) new

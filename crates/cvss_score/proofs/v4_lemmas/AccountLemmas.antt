@@ -1,4 +1,4 @@
--- What is told of a group of metrics.
+-- What is reported of a group of metrics.
 use Rattle.std.proofs.Common.{◌≡◌, ℕ, zero, suc, ◌-◌, ◌*◌, ◌/◌, ◌≤◌, Option, Some, None, option_map, unwrap_or, unsigned_abs, refl, arith, pos, ◌-ℤ◌, ap, ◌∙◌}
 use Rattle.cvss_base.specs.Exact.{Exact, ratio, ◌over◌, tenths, whole, ◌⊗◌, ◌≈◌}
 use Rattle.cvss_base.proofs.ExactLemmas.{equal_sym}
@@ -32,12 +32,12 @@ few_taken value taken zero to_hundred one bound = omega arith
 few_taken value taken (suc zero) to_hundred one bound = omega arith
 few_taken value taken (suc (suc more)) to_hundred one bound = absurd (omega arith)
 
--- a group is told by its terms
-pub is_told : (v : Effective) (value : ℕ) (group : Group) (terms : Terms) (told : GroupAccount)
+-- a group is reported by its terms
+pub is_reported : (v : Effective) (value : ℕ) (group : Group) (terms : Terms) (reported : GroupAccount)
     → IsListed (listed_value (macro_vector v)) value → IsSound (table_value v) group → AreTerms value group terms
-    → told.next ≡ terms.next → told.distance ≡ terms.distance → told.depth ≡ 840 / terms.part
-    → told.taken ≡ taken_by value terms → IsGroupAccount (table_value v) group told
-is_told v value group terms told listed sound are is_next is_distance is_depth is_taken =
+    → reported.next ≡ terms.next → reported.distance ≡ terms.distance → reported.depth ≡ 840 / terms.part
+    → reported.taken ≡ taken_by value terms → IsGroupAccount (table_value v) group reported
+is_reported v value group terms reported listed sound are is_next is_distance is_depth is_taken =
     let is_value : value ≡ table_value v = rw listed.is_value refl in
     record {
       next = is_next ∙ are.next;

@@ -91,7 +91,7 @@ module _ {V C : Type 0} (scale : Scale V C) where
       λ class is. tabled_is _ _ _ _ (classes.each is_tabled tabled class is) in
       let of_values : (v : V) → (classes.is_class (scale.class v) ≡ true) × (is_within v ≡ true) =
       λ v. and_parts (classes.is_class (scale.class v)) (is_within v) (values.each _ within v) in
-      let is_class : (v : V) → IsClass (scale.class v) = λ v. classes.tells (scale.class v) (of_values v).0 in
+      let is_class : (v : V) → IsClass (scale.class v) = λ v. classes.reports (scale.class v) (of_values v).0 in
       record {
         is_class = is_class;
         within = λ v. rw (of_class (scale.class v) (is_class v)).is_least (within_is _ _ _ _ (of_values v).1);

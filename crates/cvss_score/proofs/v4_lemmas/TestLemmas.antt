@@ -111,7 +111,7 @@ pub record Classes {C : Type 0} (IsClass : C → Type 0) : Type 0 where
   pub every : (C → Bool) → Bool
   pub each : (p : C → Bool) → every p ≡ true → (class : C) → IsClass class → p class ≡ true
   pub is_class : C → Bool
-  pub tells : (class : C) → is_class class ≡ true → IsClass class
+  pub reports : (class : C) → is_class class ≡ true → IsClass class
 
 -- the classes of two groups together
 abbrev pub both : {A B : Type 0} {IsA : A → Type 0} {IsB : B → Type 0} → Classes IsA → Classes IsB → Classes (λ (v : A × B). IsA v.0 × IsB v.1)
@@ -119,7 +119,7 @@ both a b = record {
   every = λ p. a.every (λ x. b.every (λ y. p (x, y)));
   each = λ p h v is. b.each (λ y. p (v.0, y)) (a.each (λ x. b.every (λ y. p (x, y))) h v.0 is.0) v.1 is.1;
   is_class = λ v. a.is_class v.0 && b.is_class v.1;
-  tells = λ v h. let parts = and_parts (a.is_class v.0) (b.is_class v.1) h in (a.tells v.0 parts.0, b.tells v.1 parts.1);
+  reports = λ v h. let parts = and_parts (a.is_class v.0) (b.is_class v.1) h in (a.reports v.0 parts.0, b.reports v.1 parts.1);
 }
 
 pub at_least : (limit number : ℕ) → leb limit number ≡ true → limit ≤ number
@@ -134,7 +134,7 @@ numbers limit = record {
   every = λ p. below p (suc limit);
   each = λ p h class is. each_below p (suc limit) class (omega (arith, is)) h;
   is_class = λ class. leb class limit;
-  tells = λ class h. at_least class limit h;
+  reports = λ class h. at_least class limit h;
 }
 
 -- the pairs of EQ3 and EQ6, of which 2,0 is none
@@ -157,8 +157,8 @@ pairs =
       every = λ p. all.every (λ class. is_none class || p class);
       each = λ p h class is. not_none class.0 class.1 (p class) is.both (all.each (λ class. is_none class || p class) h class (is.eq3, is.eq6));
       is_class = λ class. all.is_class class && not (is_none class);
-      tells = λ class h.
+      reports = λ class h.
           let parts = and_parts (all.is_class class) (not (is_none class)) h in
-          let limits = all.tells class parts.0 in
+          let limits = all.reports class parts.0 in
           record { eq3 = limits.0; eq6 = limits.1; both = second class.0 class.1 limits.1 parts.1 };
     }

@@ -26,7 +26,7 @@ abbrev pub named_score_text : ℤ → Nomenclature → List ℕ
 named_score_text value nomenclature = score_text value ++ codes " (" ++ text_of nomenclature ++ codes ")"
 
 -- the error says that no nomenclature has this name, or that there was no memory for the name
-abbrev pub TellsNoNomenclature : List ℕ → Error → Type 0
-TellsNoNomenclature text (InvalidNomenclatureV4 nomenclature) = string_bytes nomenclature ≡ text
-TellsNoNomenclature text OutOfMemory = Unit {0}
-TellsNoNomenclature text _ = ⊥
+abbrev pub ReportsNoNomenclature : List ℕ → Error → Type 0
+ReportsNoNomenclature text (InvalidNomenclatureV4 nomenclature) = string_bytes nomenclature ≡ text
+ReportsNoNomenclature text OutOfMemory = Unit {0}
+ReportsNoNomenclature text _ = ⊥

@@ -1,7 +1,7 @@
 //! Which groups of metrics a score rests on (v4.0 specification, section 1.3).
 
 ghost use Rattle.std.specs.Prelude.{◌≡◌, IfOk, IfErr, Ok, Some, is_some};
-ghost use Rattle.cvss_score.specs.v4.Nomenclature.{text_of, nomenclature_with, TellsNoNomenclature};
+ghost use Rattle.cvss_score.specs.v4.Nomenclature.{text_of, nomenclature_with, ReportsNoNomenclature};
 
 use cvss_base::Error;
 use cvss_v4_metric::threat::ExploitMaturity;
@@ -39,7 +39,7 @@ impl Nomenclature {
         ensures named { IfOk result (λ nomenclature. text_of nomenclature ≡ text.now) }
         ensures read { (nomenclature : Nomenclature) → text_of nomenclature ≡ text.now
             → result ≡ Ok nomenclature }
-        ensures refused { IfErr result (TellsNoNomenclature text.now) }
+        ensures refused { IfErr result (ReportsNoNomenclature text.now) }
     {
         match text {
             "CVSS-B" => Ok(Nomenclature::CvssB),

@@ -12,15 +12,15 @@ use Rattle.cvss_base.specs.laws.Order.{place_in}
 use Rattle.cvss_base.specs.private.Component.{foreign_bytes}
 use Rattle.cvss_base.specs.Text.{pieces, IsComponent, name_part, value_part, component}
 use Rattle.cvss_base.specs.Version.{Version, read, reading, version_piece, AreComponentsOf, Denotes, IsComplete, IsWellFormed}
-use Rattle.cvss_base.specs.Refusal.{Refusal, BadComponent, WrongPrefix, WrongVersion, UnknownName, BadValue, Repeated, Missing, Spells, HasNoFaultBefore, IsFirstReason, BadPiecesFirst, IsReasonBehind, IsWrongPrefix, IsWrongVersion}
+use Rattle.cvss_base.specs.Refusal.{Refusal, BadComponent, WrongPrefix, WrongVersion, UnknownName, BadValue, Repeated, Missing, Spells, HasNoFaultBefore, IsFirstReason, BadPiecesFirst, IsReasonAfter, IsWrongPrefix, IsWrongVersion}
 
--- the place of a metric in the printing order, which its name tells
+-- the place of a metric in the printing order, which its name says
 abbrev pub place_of : {V K : Type 0} → Version V K → K → ℕ
 place_of version kind = place_in version.name version.printed kind
 
 -- what the walk needs to know of a version
-pub record IsLawful {V K : Type 0} (version : Version V K) : Type 0 where
-  -- each metric is printed at one place, which its name tells
+pub record VersionLaws {V K : Type 0} (version : Version V K) : Type 0 where
+  -- each metric is printed at one place, which its name says
   pub placed : (kind : K) → slice_get version.printed (place_of version kind) ≡ Some kind
   pub in_order : map (place_of version) version.printed ≡ range_with_len 0 (length version.printed)
   -- names are read as they are, and have no foreign byte
@@ -38,7 +38,7 @@ pub record IsLawful {V K : Type 0} (version : Version V K) : Type 0 where
 pub record HasNoValue {V K : Type 0} (version : Version V K) (v : V) : Type 0 where
   pub none : (kind : K) → version.value_of v kind ≡ None
 
--- the vector has no value, and no piece that tells its version
+-- the vector has no value, and no piece that says its version
 pub record IsEmpty {V K : Type 0} (version : Version V K) (v : V) : Type 0 where
   pub frontless : version.front v ≡ []
   pub valueless : HasNoValue version v
@@ -71,49 +71,49 @@ pub record IsPut {V K : Type 0} (version : Version V K) (old : V) (kind : K) (te
   pub put : OnOk answer (Puts version old kind text new)
   pub slip : IfErr answer (IsSlip (reading version kind) (version.value_of old kind) text)
 
--- the piece is a component of this metric, and the value is what stands behind its first colon
+-- the piece is a component of this metric, and the value is what follows its first colon
 pub record IsCut {V K : Type 0} (version : Version V K) (piece : List ℕ) (kind : K) (value : List ℕ) : Type 0 where
   pub named : version.name kind ≡ read version (name_part piece)
   pub value_is : value ≡ value_part piece
   pub cut : piece ≡ component (name_part piece) value
 
--- the first piece of the text is such a component, and these pieces stand behind it
-pub record IsCutFirst {V K : Type 0} (version : Version V K) (text : List ℕ) (kind : K) (value : List ℕ) (behind : List (List ℕ)) : Type 0 where
+-- the first piece of the text is such a component, and these pieces follow it
+pub record IsCutFirst {V K : Type 0} (version : Version V K) (text : List ℕ) (kind : K) (value : List ℕ) (after : List (List ℕ)) : Type 0 where
   pub piece : List ℕ
-  pub first : pieces text ≡ piece ∷ behind
+  pub first : pieces text ≡ piece ∷ after
   pub is : IsCut version piece kind value
 
 -- why a piece starts no vector
 abbrev pub IsFrontFault : {V K : Type 0} → Version V K → List ℕ → Refusal K → Type 0
 IsFrontFault version piece (WrongPrefix prefix) = IsWrongPrefix piece prefix
-IsFrontFault version piece (WrongVersion told) = IsWrongVersion version piece told
+IsFrontFault version piece (WrongVersion reported) = IsWrongVersion version piece reported
 IsFrontFault version piece _ = ⊥
 
--- a vector without values, whose piece tells this version
-pub record Starts {V K : Type 0} (version : Version V K) (told : List ℕ) (v : V) : Type 0 where
-  pub front_is : version.front v ≡ version_piece told ∷ []
+-- a vector without values, whose piece says this version
+pub record Starts {V K : Type 0} (version : Version V K) (reported : List ℕ) (v : V) : Type 0 where
+  pub front_is : version.front v ≡ version_piece reported ∷ []
   pub valueless : HasNoValue version v
-  pub supported : Contains version.supported told
+  pub supported : Contains version.supported reported
 
 -- the piece is a version piece, and the vector is the one that it starts
 pub record StartsWith {V K : Type 0} (version : Version V K) (piece : List ℕ) (v : V) : Type 0 where
   pub is : piece ≡ version_piece (value_part piece)
   pub starts : Starts version (value_part piece) v
 
--- the first piece of the text starts the vector, and these pieces stand behind it
-pub record IsStarted {V K : Type 0} (version : Version V K) (text : List ℕ) (behind : List (List ℕ)) (v : V) : Type 0 where
+-- the first piece of the text starts the vector, and these pieces follow it
+pub record IsStarted {V K : Type 0} (version : Version V K) (text : List ℕ) (after : List (List ℕ)) (v : V) : Type 0 where
   pub piece : List ℕ
-  pub cut : pieces text ≡ piece ∷ behind
+  pub cut : pieces text ≡ piece ∷ after
   pub starts : StartsWith version piece v
 
 -- the vector's front is a version piece without a foreign byte
 pub record HasVersionPiece {V K : Type 0} (version : Version V K) (v : V) : Type 0 where
-  pub told : List ℕ
-  pub front_is : version.front v ≡ version_piece told ∷ []
-  pub plain : foreign_bytes told ≡ 0
+  pub reported : List ℕ
+  pub front_is : version.front v ≡ version_piece reported ∷ []
+  pub plain : foreign_bytes reported ≡ 0
 
 -- what the walk needs to know of version pieces: no byte of them is foreign
-pub record IsLawfulFront {V K : Type 0} (version : Version V K) : Type 0 where
+pub record FrontLaws {V K : Type 0} (version : Version V K) : Type 0 where
   pub fronts : (v : V) → HasVersionPiece version v
   pub plain : map foreign_bytes version.supported ≡ map (λ _. 0) version.supported
 
@@ -138,10 +138,10 @@ pub record Adds {V K : Type 0} (version : Version V K) (old : V) (piece : List �
   pub named : version.name kind ≡ read version (name_part piece)
   pub puts : Puts version old kind (read version (value_part piece)) new
 
--- the first piece of the text is a component, which goes into the vector, and these pieces stand behind it
-pub record IsReadFirst {V K : Type 0} (version : Version V K) (text : List ℕ) (old new : V) (behind : List (List ℕ)) : Type 0 where
+-- the first piece of the text is a component, which goes into the vector, and these pieces follow it
+pub record IsReadFirst {V K : Type 0} (version : Version V K) (text : List ℕ) (old new : V) (after : List (List ℕ)) : Type 0 where
   pub piece : List ℕ
-  pub first : pieces text ≡ piece ∷ behind
+  pub first : pieces text ≡ piece ∷ after
   pub component : IsComponent piece
   pub adds : Adds version old piece new
 
@@ -154,28 +154,28 @@ pub record HasRead {V K : Type 0} (version : Version V K) (parts : List (List �
 abbrev pub reason_of : {V K : Type 0} → Version V K → Fault K → Refusal K
 reason_of version (InvalidComponent piece) = BadComponent piece.now
 reason_of version (InvalidPrefix prefix) = WrongPrefix prefix.now
-reason_of version (UnsupportedVersion told) = WrongVersion told.now
+reason_of version (UnsupportedVersion reported) = WrongVersion reported.now
 reason_of version (UnknownMetric name) = UnknownName (read version name.now)
 reason_of version (InvalidMetric kind value) = BadValue kind (read version value.now)
 reason_of version (DuplicateMetric kind) = Repeated kind
 reason_of version (MissingMandatoryMetric kind) = Missing kind
 
--- the fault can be told: its text is UTF-8, and the metric that is missing is a mandatory one
-abbrev pub IsTellable : {V K : Type 0} → Version V K → Fault K → Type 0
-IsTellable version (InvalidComponent piece) = IsUtf8 piece.now
-IsTellable version (InvalidPrefix prefix) = IsUtf8 prefix.now
-IsTellable version (UnsupportedVersion told) = IsUtf8 told.now
-IsTellable version (UnknownMetric name) = IsUtf8 name.now
-IsTellable version (InvalidMetric kind value) = IsUtf8 value.now
-IsTellable version (DuplicateMetric kind) = ⊤
-IsTellable version (MissingMandatoryMetric kind) = Contains version.mandatory kind
+-- the fault can be reported: its text is UTF-8, and the metric that is missing is a mandatory one
+abbrev pub IsPrintable : {V K : Type 0} → Version V K → Fault K → Type 0
+IsPrintable version (InvalidComponent piece) = IsUtf8 piece.now
+IsPrintable version (InvalidPrefix prefix) = IsUtf8 prefix.now
+IsPrintable version (UnsupportedVersion reported) = IsUtf8 reported.now
+IsPrintable version (UnknownMetric name) = IsUtf8 name.now
+IsPrintable version (InvalidMetric kind value) = IsUtf8 value.now
+IsPrintable version (DuplicateMetric kind) = ⊤
+IsPrintable version (MissingMandatoryMetric kind) = Contains version.mandatory kind
 
 -- the fault of a component, where the vector holds those before it
 abbrev pub IsFaultOf : {V K : Type 0} → Version V K → V → List ℕ → Refusal K → Type 0
 IsFaultOf {V} {K} version v piece (UnknownName name) =
     (name ≡ read version (name_part piece)) × ((kind : K) → version.name kind ≢ name)
-IsFaultOf {V} {K} version v piece (BadValue blamed value) =
-    (kind : K) × (blamed ≡ version.blamed kind) × (version.name kind ≡ read version (name_part piece))
+IsFaultOf {V} {K} version v piece (BadValue reported_kind value) =
+    (kind : K) × (reported_kind ≡ version.reported_kind kind) × (version.name kind ≡ read version (name_part piece))
     × (value ≡ read version (value_part piece)) × ¬ (Spells (reading version kind) value)
 IsFaultOf version v piece (Repeated kind) =
     (version.name kind ≡ read version (name_part piece))
@@ -191,7 +191,7 @@ pub record IsCutAnswer {V K : Type 0} (version : Version V K) (piece : List ℕ)
   pub cut : IfOk answer (λ cut. IsCut version piece cut.0 cut.1.now)
   pub refused : IfErr answer (λ fault. (v : V) → IsComponent piece → IsFaultOf version v piece (reason_of version fault))
   pub unnamed : OnErr answer (IsComponent piece → (kind : K) → version.name kind ≢ read version (name_part piece))
-  pub tellable : IsUtf8 piece → IfErr answer (IsTellable version)
+  pub printable : IsUtf8 piece → IfErr answer (IsPrintable version)
 
 -- what filling a vector gives: the vector, where nothing is wrong
 abbrev pub filled : {V K : Type 0} → Result (Unit {0}) (Fault K) → V → Result V (Fault K)
@@ -205,10 +205,10 @@ pub record IsAnswer {V K : Type 0} (version : Version V K) (IsFormed : V → Typ
   pub well_formed : IfOk answer IsFormed
   pub accepts : (v : V) → Denotes version text v → IsFormed v → answer ≡ Ok v
   pub utf8 : OnOk answer (IsUtf8 text)
-  -- refused: for the first reason, and wherever there is one, which can be told
+  -- refused: for the first reason, and wherever there is one, which can be reported
   pub refused : IfErr answer (λ fault. BadPiecesFirst IsReason (pieces text) (reason_of version fault))
   pub refuses : (reason : Refusal K) → BadPiecesFirst IsReason (pieces text) reason → IsErrAnd answer (λ fault. reason_of version fault ≡ reason)
-  pub tellable : IsUtf8 text → IfErr answer (IsTellable version)
+  pub printable : IsUtf8 text → IfErr answer (IsPrintable version)
 
 -- a complete vector without a version piece
 pub record IsBare {V K : Type 0} (version : Version V K) (v : V) : Type 0 where
@@ -220,5 +220,5 @@ abbrev pub IsAnswerBare : {V K : Type 0} → Version V K → List ℕ → Result
 IsAnswerBare version text = IsAnswer version (IsBare version) (IsFirstReason version (pieces text)) text
 
 -- and one of a text that begins with a version piece
-abbrev pub IsAnswerBehind : {V K : Type 0} → Version V K → List ℕ → Result V (Fault K) → Type 0
-IsAnswerBehind version text = IsAnswer version (IsWellFormed version) (IsReasonBehind version (pieces text)) text
+abbrev pub IsAnswerAfter : {V K : Type 0} → Version V K → List ℕ → Result V (Fault K) → Type 0
+IsAnswerAfter version text = IsAnswer version (IsWellFormed version) (IsReasonAfter version (pieces text)) text

@@ -1,7 +1,7 @@
 -- What the walk over a text needs to know of CVSS v2.
 use Rattle.std.specs.Prelude.{◌≡◌, Option, refl}
 use Rattle.std.proofs.Common.{lit<}
-use Rattle.cvss_text.specs.private.Walk.{IsLawful}
+use Rattle.cvss_text.specs.private.Walk.{VersionLaws}
 use Rattle.cvss_base.specs.declared.v2.MetricType.{MetricType}
 use Rattle.cvss_base.specs.declared.v2.MetricType.TheVariants.{A, AC, AV, Au, C, I, E, RL, RC, CDP, TD, CR, IR, AR}
 use Rattle.cvss_v2.specs.declared.vector.Vector.{Vector}
@@ -36,8 +36,8 @@ vector_has value = elim [ A ↦ refl | _ ↦ refl ]
 one_vector : (v w : Vector) → ((kind : MetricType) → value_at v kind ≡ value_at w kind) → v ≡ w
 one_vector v w same = λ i. vector_of (λ kind. same kind i)
 
-pub v2_is_lawful : IsLawful v2
-v2_is_lawful = record {
+pub v2_laws : VersionLaws v2
+v2_laws = record {
   placed = elim [ A ↦ refl | _ ↦ refl ];
   in_order = refl;
   names_read = refl;

@@ -1,4 +1,4 @@
-//! How a piece is cut behind the name of a metric, where it is as long as a name.
+//! How a piece is cut after the name of a metric, where it is as long as a name.
 
 ghost use Rattle.std.specs.Prelude.{◌≡◌, ◌∷◌, [], ◌++◌, IfSome};
 ghost use Rattle.cvss_base.specs.Text.{colon};
@@ -6,7 +6,7 @@ ghost use Rattle.cvss_base.specs.V2Types.{name_of};
 
 use cvss_v2_metric::MetricType;
 
-/// The metric with whose name and a colon a piece begins, and what stands behind these.
+/// The metric with whose name and a colon a piece begins, and what follows these.
 #[inline(always)]
 pub(super) fn cut_named(piece: &[u8]) -> Option<(MetricType, &[u8])>
     ensures { IfSome result (λ cut. piece.now ≡ name_of cut.0 ++ (colon ∷ cut.1.now)) }

@@ -2,11 +2,11 @@
 
 ghost use Rattle.std.specs.Prelude.{◌≡◌, ◌≤◌, ◌+◌, ◌++◌, [], Some, length, option_map};
 ghost use Rattle.std.specs.Option.{option_copied};
-ghost use Rattle.cvss_text.specs.private.Printing.{slashed};
+ghost use Rattle.cvss_text.specs.private.Printing.{with_slash};
 ghost use Rattle.cvss_base.specs.Version.{canonical_text, component_of, held};
 ghost use Rattle.cvss_v2_metric.specs.Table.{spelling_of};
 ghost use Rattle.cvss_v2.specs.Vector.{v2};
-ghost use Rattle.cvss_v2.specs.private.Slashed.{slashed_value};
+ghost use Rattle.cvss_v2.specs.private.WithSlash.{value_with_slash};
 
 use crate::vector::Vector;
 use cvss_text::buffer::TextBuffer;
@@ -15,22 +15,22 @@ use cvss_v2_metric::{MetricType, Spelled};
 use std::fmt;
 
 impl Printed for Vector {
-    fn slashed(&self, kind: MetricType) -> Option<&'static str> {
+    fn with_slash(&self, kind: MetricType) -> Option<&'static str> {
         match kind {
-            MetricType::AV => self.slashed_at(kind, self.av),
-            MetricType::AC => self.slashed_at(kind, self.ac),
-            MetricType::Au => self.slashed_at(kind, self.au),
-            MetricType::C => self.slashed_at(kind, self.c),
-            MetricType::I => self.slashed_at(kind, self.i),
-            MetricType::A => self.slashed_at(kind, self.a),
-            MetricType::E => self.slashed_at(kind, self.e),
-            MetricType::RL => self.slashed_at(kind, self.rl),
-            MetricType::RC => self.slashed_at(kind, self.rc),
-            MetricType::CDP => self.slashed_at(kind, self.cdp),
-            MetricType::TD => self.slashed_at(kind, self.td),
-            MetricType::CR => self.slashed_at(kind, self.cr),
-            MetricType::IR => self.slashed_at(kind, self.ir),
-            MetricType::AR => self.slashed_at(kind, self.ar),
+            MetricType::AV => self.with_slash_at(kind, self.av),
+            MetricType::AC => self.with_slash_at(kind, self.ac),
+            MetricType::Au => self.with_slash_at(kind, self.au),
+            MetricType::C => self.with_slash_at(kind, self.c),
+            MetricType::I => self.with_slash_at(kind, self.i),
+            MetricType::A => self.with_slash_at(kind, self.a),
+            MetricType::E => self.with_slash_at(kind, self.e),
+            MetricType::RL => self.with_slash_at(kind, self.rl),
+            MetricType::RC => self.with_slash_at(kind, self.rc),
+            MetricType::CDP => self.with_slash_at(kind, self.cdp),
+            MetricType::TD => self.with_slash_at(kind, self.td),
+            MetricType::CR => self.with_slash_at(kind, self.cr),
+            MetricType::IR => self.with_slash_at(kind, self.ir),
+            MetricType::AR => self.with_slash_at(kind, self.ar),
         }
     }
 
@@ -46,13 +46,13 @@ impl Printed for Vector {
 
 impl Vector {
     /// A slash and the component of the value that the vector has for a metric.
-    fn slashed_at<M: Spelled>(&self, kind: MetricType, value: Option<M>) -> Option<&'static str>
+    fn with_slash_at<M: Spelled>(&self, kind: MetricType, value: Option<M>) -> Option<&'static str>
         requires kind { kind ≡ M.KIND }
         requires value { held v2 self.now M.KIND
             ≡ option_map (λ metric. spelling_of M.KIND (M.value metric)) value }
-        ensures { option_copied result ≡ slashed (component_of v2 self.now kind) }
+        ensures { option_copied result ≡ with_slash (component_of v2 self.now kind) }
     {
-        Some(value?.slashed())
+        Some(value?.with_slash())
     }
 }
 
@@ -60,11 +60,11 @@ impl Vector {
 #[inline(always)]
 fn write_value<M: Spelled>(value: Option<M>, buffer: &mut TextBuffer)
     requires { length buffer.old ≤ 256 }
-    ensures text { buffer.new ≡ buffer.old ++ slashed_value M.KIND M.value value }
+    ensures text { buffer.new ≡ buffer.old ++ value_with_slash M.KIND M.value value }
     ensures room { length buffer.new ≤ length buffer.old + 8 }
 {
     if let Some(metric) = value {
-        buffer.push_component(metric.slashed());
+        buffer.push_component(metric.with_slash());
     }
 }
 
@@ -77,8 +77,8 @@ fn write_three<K: Spelled, L: Spelled, M: Spelled>(
     buffer: &mut TextBuffer,
 )
     requires { length buffer.old ≤ 240 }
-    ensures text { buffer.new ≡ buffer.old ++ (slashed_value K.KIND K.value first.now
-        ++ (slashed_value L.KIND L.value second.now ++ slashed_value M.KIND M.value third.now)) }
+    ensures text { buffer.new ≡ buffer.old ++ (value_with_slash K.KIND K.value first.now
+        ++ (value_with_slash L.KIND L.value second.now ++ value_with_slash M.KIND M.value third.now)) }
     ensures room { length buffer.new ≤ length buffer.old + 24 }
 {
     write_value(*first, buffer);

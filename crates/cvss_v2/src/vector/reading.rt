@@ -3,7 +3,7 @@
 ghost use Rattle.cvss_text.specs.private.Walk.{IsFilled};
 ghost use Rattle.cvss_v2_metric.specs.Table.{spelling_of};
 ghost use Rattle.cvss_v2.specs.Vector.{v2};
-ghost use Rattle.cvss_v2.specs.private.VectorLaws.{v2_is_lawful};
+ghost use Rattle.cvss_v2.specs.private.VectorLaws.{v2_laws};
 
 use super::cutting::cut_named;
 use crate::vector::Vector;
@@ -19,7 +19,7 @@ impl Components for Vector {
 
     ghost version = { v2 };
 
-    ghost lawful = { v2_is_lawful };
+    ghost version_laws = { v2_laws };
 
     fn any_case() -> bool {
         false
@@ -33,7 +33,7 @@ impl Components for Vector {
         kind.name()
     }
 
-    fn blamed(kind: MetricType) -> MetricType {
+    fn reported_kind(kind: MetricType) -> MetricType {
         kind
     }
 

@@ -1,4 +1,4 @@
-//! The errors that tell why a text is no vector.
+//! The errors that say why a text is no vector.
 
 ghost use Rattle.cvss_base.specs.V2Types.{v2_reason};
 

@@ -3,24 +3,24 @@
 //! way, by components in any order, is `reading`.
 
 ghost use Rattle.std.specs.Prelude.{◌≡◌, IfSome, None, [], ◌∷◌, ◌++◌};
-ghost use Rattle.cvss_text.specs.private.Printing.{slashed_texts};
+ghost use Rattle.cvss_text.specs.private.Printing.{texts_with_slash};
 ghost use Rattle.cvss_text.specs.private.Walk.{first_missing};
 ghost use Rattle.cvss_base.specs.Text.{slash};
 ghost use Rattle.cvss_base.specs.Version.{canonical_text, IsComplete};
 ghost use Rattle.cvss_base.specs.declared.v2.MetricType.TheVariants.{A, AC, AV, Au, C, I, E, RL, RC, CDP, TD, CR, IR, AR};
 ghost use Rattle.cvss_v2_metric.specs.Table.{spelling_of, metric_component, printed};
 ghost use Rattle.cvss_v2.specs.Vector.{v2};
-ghost use Rattle.cvss_v2.specs.private.Slashed.{slashed_value};
+ghost use Rattle.cvss_v2.specs.private.WithSlash.{value_with_slash};
 
 mod base;
 
 use crate::vector::Vector;
 use base::base_at_sight;
-use cvss_text::sight::{behind_name, put_read};
+use cvss_text::sight::{put_read, rest_after_name};
 use cvss_v2_metric::Spelled;
 
 impl Vector {
-    /// The vector whose canonical text this is, where that is seen at once: `None` tells nothing of
+    /// The vector whose canonical text this is, where that is seen at once: `None` says nothing of
     /// the text. It takes no memory.
     #[inline(always)]
     pub fn read_canonical(text: &[u8]) -> Option<Vector>
@@ -36,12 +36,12 @@ impl Vector {
     }
 }
 
-/// The vector of the base metrics and of the optional ones that are the whole text behind them.
+/// The vector of the base metrics and of the optional ones that are the whole text after them.
 #[inline(always)]
 fn whole_at_sight(base: Vector, text: &[u8]) -> Option<Vector>
     requires { first_missing v2 base ≡ None }
-    ensures text { IfSome result (λ vector. slashed_texts v2 base (AV ∷ AC ∷ Au ∷ C ∷ I ∷ A ∷ [])
-        ++ text.now ≡ slashed_texts v2 vector printed) }
+    ensures text { IfSome result (λ vector. texts_with_slash v2 base (AV ∷ AC ∷ Au ∷ C ∷ I ∷ A ∷ [])
+        ++ text.now ≡ texts_with_slash v2 vector printed) }
     ensures present { IfSome result (λ vector. first_missing v2 vector ≡ None) }
 {
     let mut vector = base;
@@ -49,12 +49,12 @@ fn whole_at_sight(base: Vector, text: &[u8]) -> Option<Vector>
     if rest.is_empty() { Some(vector) } else { None }
 }
 
-/// Puts the optional metrics with which a text begins into the vector, and gives what stands behind
+/// Puts the optional metrics with which a text begins into the vector, and gives what follows
 /// them.
 // A call of its own keeps the vector in memory, where each metric is stored once.
 #[inline(never)]
 fn others_at_sight<'a>(vector: &mut Vector, text: &'a [u8]) -> &'a [u8]
-    ensures text { text.now ≡ slashed_texts v2 vector.new
+    ensures text { text.now ≡ texts_with_slash v2 vector.new
         (E ∷ RL ∷ RC ∷ CDP ∷ TD ∷ CR ∷ IR ∷ AR ∷ []) ++ result.now }
     ensures kept { vector.new ≡ record vector.old {
       e = vector.new.e;
@@ -74,7 +74,7 @@ fn others_at_sight<'a>(vector: &mut Vector, text: &'a [u8]) -> &'a [u8]
 }
 
 /// Puts the values of three metrics into their places, as far as a text begins with their components,
-/// and gives what stands behind these.
+/// and gives what follows these.
 #[inline(always)]
 fn put_three_at_sight<'a, K: Spelled, L: Spelled, M: Spelled>(
     first: &mut Option<K>,
@@ -82,8 +82,8 @@ fn put_three_at_sight<'a, K: Spelled, L: Spelled, M: Spelled>(
     third: &mut Option<M>,
     text: &'a [u8],
 ) -> &'a [u8]
-    ensures { text.now ≡ slashed_value K.KIND K.value first.new
-        ++ (slashed_value L.KIND L.value second.new ++ (slashed_value M.KIND M.value third.new
+    ensures { text.now ≡ value_with_slash K.KIND K.value first.new
+        ++ (value_with_slash L.KIND L.value second.new ++ (value_with_slash M.KIND M.value third.new
         ++ result.now)) }
 {
     let text = put_at_sight(first, text);
@@ -92,26 +92,26 @@ fn put_three_at_sight<'a, K: Spelled, L: Spelled, M: Spelled>(
 }
 
 /// Puts the value of a metric into its place, if a text begins with a slash and its component, and
-/// gives what stands behind that; else no value, and the text.
+/// gives what follows that; else no value, and the text.
 #[inline(always)]
 fn put_at_sight<'a, M: Spelled>(place: &mut Option<M>, text: &'a [u8]) -> &'a [u8]
-    ensures { text.now ≡ slashed_value M.KIND M.value place.new ++ result.now }
+    ensures { text.now ≡ value_with_slash M.KIND M.value place.new ++ result.now }
 {
     put_read(place, component_at_sight(text), text)
 }
 
 /// The value of a metric, where a text begins with a slash and its component, and what stands
-/// behind that.
+/// after that.
 #[inline(always)]
 fn component_at_sight<M: Spelled>(text: &[u8]) -> Option<(M, &[u8])>
     ensures { IfSome result
         (λ read. text.now ≡ slash ∷ (metric_component M.KIND (M.value read.0) ++ read.1.now)) }
 {
-    value_at_sight(behind_name(M::KIND.name(), text)?)
+    value_at_sight(rest_after_name(M::KIND.name(), text)?)
 }
 
 /// The value of a metric, where a text begins with its spelling up to a slash, and what stands
-/// behind that. No spelling has more than three letters.
+/// after that. No spelling has more than three letters.
 #[inline(always)]
 fn value_at_sight<M: Spelled>(text: &[u8]) -> Option<(M, &[u8])>
     ensures { IfSome result
@@ -125,7 +125,7 @@ fn value_at_sight<M: Spelled>(text: &[u8]) -> Option<(M, &[u8])>
     Some((M::read_bytes(value)?, rest))
 }
 
-/// The value of a metric, where a text begins with the letter that spells it, and what stands behind
+/// The value of a metric, where a text begins with the letter that spells it, and what follows
 /// that.
 #[inline(always)]
 fn letter_at_sight<M: Spelled>(text: &[u8]) -> Option<(M, &[u8])>

@@ -1,6 +1,6 @@
 -- What the walk over a text needs to know of CVSS v3.
 use Rattle.std.specs.Prelude.{◌≡◌, ℕ, ◌++◌, codes, Option, refl}
-use Rattle.cvss_text.specs.private.Walk.{IsLawful, IsLawfulFront}
+use Rattle.cvss_text.specs.private.Walk.{VersionLaws, FrontLaws}
 use Rattle.cvss_base.specs.Version.{numeral}
 use Rattle.cvss_base.specs.declared.v3.MetricType.{MetricType}
 use Rattle.cvss_base.specs.declared.v3.MetricType.TheVariants.{A, AC, AV, C, I, PR, S, UI, E, RL, RC, CR, IR, AR, MAV, MAC, MPR, MUI, MS, MC, MI, MA}
@@ -52,8 +52,8 @@ vector_has minor_version value = elim [ A ↦ refl | _ ↦ refl ]
 one_vector : (v w : Vector) → v3.front v ≡ v3.front w → ((kind : MetricType) → value_at v kind ≡ value_at w kind) → v ≡ w
 one_vector v w front same = λ i. vector_of (one_minor_version v w front i) (λ kind. same kind i)
 
-pub v3_is_lawful : IsLawful v3
-v3_is_lawful = record {
+pub v3_laws : VersionLaws v3
+v3_laws = record {
   placed = elim [ A ↦ refl | _ ↦ refl ];
   in_order = refl;
   names_read = refl;
@@ -64,8 +64,8 @@ v3_is_lawful = record {
   some_piece = λ v front. absurd cc;
 }
 
-pub v3_fronts_are_lawful : IsLawfulFront v3
-v3_fronts_are_lawful = record {
-  fronts = λ v. record { told = codes "3." ++ numeral v.minor_version; front_is = refl; plain = numeral-plain v.minor_version };
+pub v3_front_laws : FrontLaws v3
+v3_front_laws = record {
+  fronts = λ v. record { reported = codes "3." ++ numeral v.minor_version; front_is = refl; plain = numeral-plain v.minor_version };
   plain = refl;
 }

@@ -1,4 +1,4 @@
-//! How a piece is cut behind the name of a metric in any ASCII case, where it is as long as a name.
+//! How a piece is cut after the name of a metric in any ASCII case, where it is as long as a name.
 
 ghost use Rattle.std.specs.Prelude.{◌≡◌, ◌∷◌, [], IsTrue, IfSome};
 ghost use Rattle.std.specs.Char.{to_ascii_uppercase, is_ascii_uppercase};
@@ -8,7 +8,7 @@ ghost use Rattle.cvss_v3.specs.Vector.{v3};
 
 use cvss_v3_metric::MetricType;
 
-/// The metric with whose name and a colon a piece begins, and what stands behind these.
+/// The metric with whose name and a colon a piece begins, and what follows these.
 #[inline(always)]
 pub(super) fn cut_named(piece: &[u8]) -> Option<(MetricType, &[u8])>
     ensures { IfSome result (λ cut. IsCut v3 piece.now cut.0 cut.1.now) }

@@ -4,7 +4,7 @@ ghost use Rattle.std.specs.Prelude.{◌≡◌, ◌≤◌, ◌+◌, ◌++◌, Som
 ghost use Rattle.std.specs.Fmt.{WritesOnOk};
 ghost use Rattle.std.specs.Option.{option_copied};
 ghost use Rattle.cvss_base.specs.Version.{numeral, canonical_text, component_of, held, version_piece};
-ghost use Rattle.cvss_text.specs.private.Printing.{slashed, slashed_texts};
+ghost use Rattle.cvss_text.specs.private.Printing.{with_slash, texts_with_slash};
 ghost use Rattle.cvss_v3_metric.specs.Table.{spelling_of, printed};
 ghost use Rattle.cvss_v3.specs.Vector.{v3};
 ghost use Rattle.cvss_v3.specs.private.Shown.{shown};
@@ -16,30 +16,30 @@ use cvss_v3_metric::{MetricType, Spelled};
 use std::fmt;
 
 impl Printed for Vector {
-    fn slashed(&self, kind: MetricType) -> Option<&'static str> {
+    fn with_slash(&self, kind: MetricType) -> Option<&'static str> {
         match kind {
-            MetricType::AV => self.slashed_at(kind, self.av),
-            MetricType::AC => self.slashed_at(kind, self.ac),
-            MetricType::PR => self.slashed_at(kind, self.pr),
-            MetricType::UI => self.slashed_at(kind, self.ui),
-            MetricType::S => self.slashed_at(kind, self.s),
-            MetricType::C => self.slashed_at(kind, self.c),
-            MetricType::I => self.slashed_at(kind, self.i),
-            MetricType::A => self.slashed_at(kind, self.a),
-            MetricType::E => self.slashed_at(kind, self.e),
-            MetricType::RL => self.slashed_at(kind, self.rl),
-            MetricType::RC => self.slashed_at(kind, self.rc),
-            MetricType::CR => self.slashed_at(kind, self.cr),
-            MetricType::IR => self.slashed_at(kind, self.ir),
-            MetricType::AR => self.slashed_at(kind, self.ar),
-            MetricType::MAV => self.slashed_at(kind, self.mav),
-            MetricType::MAC => self.slashed_at(kind, self.mac),
-            MetricType::MPR => self.slashed_at(kind, self.mpr),
-            MetricType::MUI => self.slashed_at(kind, self.mui),
-            MetricType::MS => self.slashed_at(kind, self.ms),
-            MetricType::MC => self.slashed_at(kind, self.mc),
-            MetricType::MI => self.slashed_at(kind, self.mi),
-            MetricType::MA => self.slashed_at(kind, self.ma),
+            MetricType::AV => self.with_slash_at(kind, self.av),
+            MetricType::AC => self.with_slash_at(kind, self.ac),
+            MetricType::PR => self.with_slash_at(kind, self.pr),
+            MetricType::UI => self.with_slash_at(kind, self.ui),
+            MetricType::S => self.with_slash_at(kind, self.s),
+            MetricType::C => self.with_slash_at(kind, self.c),
+            MetricType::I => self.with_slash_at(kind, self.i),
+            MetricType::A => self.with_slash_at(kind, self.a),
+            MetricType::E => self.with_slash_at(kind, self.e),
+            MetricType::RL => self.with_slash_at(kind, self.rl),
+            MetricType::RC => self.with_slash_at(kind, self.rc),
+            MetricType::CR => self.with_slash_at(kind, self.cr),
+            MetricType::IR => self.with_slash_at(kind, self.ir),
+            MetricType::AR => self.with_slash_at(kind, self.ar),
+            MetricType::MAV => self.with_slash_at(kind, self.mav),
+            MetricType::MAC => self.with_slash_at(kind, self.mac),
+            MetricType::MPR => self.with_slash_at(kind, self.mpr),
+            MetricType::MUI => self.with_slash_at(kind, self.mui),
+            MetricType::MS => self.with_slash_at(kind, self.ms),
+            MetricType::MC => self.with_slash_at(kind, self.mc),
+            MetricType::MI => self.with_slash_at(kind, self.mi),
+            MetricType::MA => self.with_slash_at(kind, self.ma),
         }
     }
 
@@ -56,13 +56,13 @@ impl Printed for Vector {
 
 impl Vector {
     /// A slash and the component of the value that the vector has for a metric.
-    fn slashed_at<M: Spelled>(&self, kind: MetricType, value: Option<M>) -> Option<&'static str>
+    fn with_slash_at<M: Spelled>(&self, kind: MetricType, value: Option<M>) -> Option<&'static str>
         requires kind { kind ≡ M.KIND }
         requires value { held v3 self.now M.KIND
             ≡ option_map (λ metric. spelling_of M.KIND (M.value metric)) value }
-        ensures { option_copied result ≡ slashed (component_of v3 self.now kind) }
+        ensures { option_copied result ≡ with_slash (component_of v3 self.now kind) }
     {
-        Some(value?.slashed())
+        Some(value?.with_slash())
     }
 }
 
@@ -74,7 +74,7 @@ fn write_value<M: Spelled>(value: Option<M>, buffer: &mut TextBuffer)
     ensures room { length buffer.new ≤ length buffer.old + 8 }
 {
     if let Some(metric) = value {
-        buffer.push_component(metric.slashed());
+        buffer.push_component(metric.with_slash());
     }
 }
 
@@ -97,7 +97,7 @@ fn write_three<K: Spelled, L: Spelled, M: Spelled>(
 }
 
 impl Vector {
-    /// Writes the piece that tells the version.
+    /// Writes the piece that says the version.
     #[tactic(auto, using(cvss_text::proofs::NumeralLemmas::decimal_numeral))]
     fn write_version<W: fmt::Write>(&self, f: &mut fmt::Formatter<W>) -> fmt::Result
         ensures { WritesOnOk W.write_str_gives f.old result
@@ -114,7 +114,7 @@ impl Vector {
     #[inline(always)]
     fn write_base(&self, buffer: &mut TextBuffer)
         requires { length buffer.old ≤ 192 }
-        ensures text { buffer.new ≡ buffer.old ++ slashed_texts v3 self.now (take 8 printed) }
+        ensures text { buffer.new ≡ buffer.old ++ texts_with_slash v3 self.now (take 8 printed) }
         ensures room { length buffer.new ≤ length buffer.old + 64 }
     {
         write_three(&self.av, &self.ac, &self.pr, buffer);

@@ -1,20 +1,20 @@
 //! How a vector is filled from its components.
 
 ghost use Rattle.std.specs.Prelude.{◌≡◌};
-ghost use Rattle.cvss_base.specs.Text.{raised};
+ghost use Rattle.cvss_base.specs.Text.{uppercased};
 ghost use Rattle.cvss_text.specs.private.Walk.{HasNoValue, IsFilled};
 ghost use Rattle.cvss_v3_metric.specs.Table.{spelling_of};
 ghost use Rattle.cvss_v3.specs.Vector.{v3};
 ghost use Rattle.cvss_v3.specs.private.MinorVersion.{minor_version_of};
-ghost use Rattle.cvss_v3.specs.private.VectorLaws.{v3_is_lawful, v3_fronts_are_lawful};
+ghost use Rattle.cvss_v3.specs.private.VectorLaws.{v3_laws, v3_front_laws};
 
 use super::cutting::cut_named;
 use crate::vector::Vector;
 use MetricType::*;
 use cvss_score::v3::Rules;
-use cvss_text::front::Fronted;
+use cvss_text::front::Prefixed;
 use cvss_text::walk::{Components, Slip, fill_place};
-use cvss_v3_metric::{MetricType, Spelled, blamed};
+use cvss_v3_metric::{MetricType, Spelled, reported_kind};
 
 /// The metrics in printing order (v3.1 specification, section 6).
 const PRINTED: [MetricType; 22] = [
@@ -26,7 +26,7 @@ impl Components for Vector {
 
     ghost version = { v3 };
 
-    ghost lawful = { v3_is_lawful };
+    ghost version_laws = { v3_laws };
 
     fn any_case() -> bool {
         true
@@ -44,8 +44,8 @@ impl Components for Vector {
         cut_named(piece)
     }
 
-    fn blamed(kind: MetricType) -> MetricType {
-        blamed(kind)
+    fn reported_kind(kind: MetricType) -> MetricType {
+        reported_kind(kind)
     }
 
     fn put(&mut self, kind: MetricType, value: &[u8]) -> Result<(), Slip> {
@@ -80,13 +80,13 @@ impl Components for Vector {
     }
 }
 
-impl Fronted for Vector {
-    ghost plain = { v3_fronts_are_lawful };
+impl Prefixed for Vector {
+    ghost plain = { v3_front_laws };
 
-    fn start(told: &[u8]) -> Option<Vector> {
-        if told == b"3.0".as_slice() {
+    fn start(reported: &[u8]) -> Option<Vector> {
+        if reported == b"3.0".as_slice() {
             Some(Vector::empty(Rules::V30))
-        } else if told == b"3.1".as_slice() {
+        } else if reported == b"3.1".as_slice() {
             Some(Vector::empty(Rules::V31))
         } else {
             None
@@ -114,7 +114,7 @@ impl Vector {
 
 /// Reads a value into its place, which has to be empty.
 fn fill<M: Spelled>(place: &mut Option<M>, text: &[u8]) -> Result<(), Slip>
-    ensures { IsFilled (λ x. raised (spelling_of M.KIND (M.value x))) place.old (raised text.now)
+    ensures { IsFilled (λ x. uppercased (spelling_of M.KIND (M.value x))) place.old (uppercased text.now)
         result place.new }
 {
     fill_place(place, M::read_bytes(text))

@@ -5,18 +5,18 @@
 ghost use Rattle.std.specs.Prelude.{◌≡◌, IfSome, Contains, ◌∷◌, ◌++◌, [], codes, drop, take};
 ghost use Rattle.cvss_base.specs.Text.{slash};
 ghost use Rattle.cvss_base.specs.Version.{numeral, canonical_text, version_piece, IsWellFormed};
-ghost use Rattle.cvss_text.specs.private.Printing.{slashed_texts};
+ghost use Rattle.cvss_text.specs.private.Printing.{texts_with_slash};
 ghost use Rattle.cvss_v3_metric.specs.Table.{metric_component, printed};
 ghost use Rattle.cvss_v3.specs.Vector.{v3};
 ghost use Rattle.cvss_v3.specs.private.Shown.{shown};
 
 use crate::vector::Vector;
 use cvss_score::v3::Rules;
-use cvss_text::sight::{behind_four, behind_name, put_read};
+use cvss_text::sight::{after_four, put_read, rest_after_name};
 use cvss_v3_metric::Spelled;
 
 impl Vector {
-    /// The vector whose canonical text this is, where that is seen at once: `None` tells nothing of
+    /// The vector whose canonical text this is, where that is seen at once: `None` says nothing of
     /// the text. It takes no memory.
     pub fn read_canonical(text: &[u8]) -> Option<Vector>
         ensures canonical { IfSome result (λ vector. text.now ≡ canonical_text v3 vector) }
@@ -31,8 +31,8 @@ impl Vector {
     }
 }
 
-/// The vector without metrics of the version that the piece tells with which a text begins, if it is
-/// supported, and what stands behind that piece.
+/// The vector without metrics of the version that the piece says with which a text begins, if it is
+/// supported, and what follows that piece.
 #[inline(always)]
 fn version_at_sight(text: &[u8]) -> Option<(Vector, &[u8])>
     ensures piece { IfSome result (λ read. text.now
@@ -40,17 +40,17 @@ fn version_at_sight(text: &[u8]) -> Option<(Vector, &[u8])>
     ensures supported { IfSome result
         (λ read. Contains v3.supported (codes "3." ++ numeral read.0.minor_version)) }
 {
-    let text = behind_four(text, *b"CVSS")?;
-    match behind_four(text, *b":3.1") {
+    let text = after_four(text, *b"CVSS")?;
+    match after_four(text, *b":3.1") {
         Some(rest) => Some((Vector::empty(Rules::V31), rest)),
-        None => Some((Vector::empty(Rules::V30), behind_four(text, *b":3.0")?)),
+        None => Some((Vector::empty(Rules::V30), after_four(text, *b":3.0")?)),
     }
 }
 
-/// The vector whose components, in printing order and each behind a slash, are the whole text.
+/// The vector whose components, in printing order and each after a slash, are the whole text.
 #[inline(always)]
 fn metrics_at_sight(text: &[u8]) -> Option<Vector>
-    ensures { IfSome result (λ vector. text.now ≡ slashed_texts v3 vector printed) }
+    ensures { IfSome result (λ vector. text.now ≡ texts_with_slash v3 vector printed) }
 {
     let (base, text) = base_at_sight(text)?;
     if text.is_empty() {
@@ -65,8 +65,8 @@ fn metrics_at_sight(text: &[u8]) -> Option<Vector>
 #[inline(always)]
 fn base_at_sight(text: &[u8]) -> Option<(Vector, &[u8])>
     ensures text { IfSome result (λ read. text.now
-        ≡ slashed_texts v3 read.0 (take 8 printed) ++ read.1.now) }
-    ensures bare { IfSome result (λ read. slashed_texts v3 read.0 (drop 8 printed) ≡ []) }
+        ≡ texts_with_slash v3 read.0 (take 8 printed) ++ read.1.now) }
+    ensures bare { IfSome result (λ read. texts_with_slash v3 read.0 (drop 8 printed) ≡ []) }
 {
     // No eight base metrics are shorter, so their lengths are compared once.
     if text.len() < 36 {
@@ -88,14 +88,14 @@ fn base_at_sight(text: &[u8]) -> Option<(Vector, &[u8])>
     Some((base, text))
 }
 
-/// Puts the optional metrics with which a text begins into the vector, and gives what stands behind
+/// Puts the optional metrics with which a text begins into the vector, and gives what follows
 /// them.
 // A call of its own keeps the vector in memory, where each metric is stored once.
 #[inline(never)]
 fn others_at_sight<'a>(vector: &mut Vector, text: &'a [u8]) -> &'a [u8]
-    ensures text { text.now ≡ slashed_texts v3 vector.new (drop 8 printed) ++ result.now }
-    ensures base { slashed_texts v3 vector.new (take 8 printed)
-        ≡ slashed_texts v3 vector.old (take 8 printed) }
+    ensures text { text.now ≡ texts_with_slash v3 vector.new (drop 8 printed) ++ result.now }
+    ensures base { texts_with_slash v3 vector.new (take 8 printed)
+        ≡ texts_with_slash v3 vector.old (take 8 printed) }
 {
     let text = put_three_at_sight(&mut vector.e, &mut vector.rl, &mut vector.rc, text);
     let text = put_three_at_sight(&mut vector.cr, &mut vector.ir, &mut vector.ar, text);
@@ -106,7 +106,7 @@ fn others_at_sight<'a>(vector: &mut Vector, text: &'a [u8]) -> &'a [u8]
 }
 
 /// The values of four metrics, where a text begins with a slash and the component of each, and what
-/// stands behind them.
+/// follows them.
 #[inline(always)]
 fn four_at_sight<K: Spelled, L: Spelled, M: Spelled, N: Spelled>(
     text: &[u8],
@@ -125,7 +125,7 @@ fn four_at_sight<K: Spelled, L: Spelled, M: Spelled, N: Spelled>(
 }
 
 /// Puts the values of three metrics into their places, as far as a text begins with their components,
-/// and gives what stands behind these.
+/// and gives what follows these.
 #[inline(always)]
 fn put_three_at_sight<'a, K: Spelled, L: Spelled, M: Spelled>(
     first: &mut Option<K>,
@@ -142,7 +142,7 @@ fn put_three_at_sight<'a, K: Spelled, L: Spelled, M: Spelled>(
 }
 
 /// Puts the value of a metric into its place, if a text begins with a slash and its component, and
-/// gives what stands behind that; else no value, and the text.
+/// gives what follows that; else no value, and the text.
 #[inline(always)]
 fn put_at_sight<'a, M: Spelled>(place: &mut Option<M>, text: &'a [u8]) -> &'a [u8]
     ensures { text.now ≡ shown M.KIND M.value place.new ++ result.now }
@@ -151,13 +151,13 @@ fn put_at_sight<'a, M: Spelled>(place: &mut Option<M>, text: &'a [u8]) -> &'a [u
 }
 
 /// The value of a metric, where a text begins with a slash and its component, and what stands
-/// behind that.
+/// after that.
 #[inline(always)]
 fn component_at_sight<M: Spelled>(text: &[u8]) -> Option<(M, &[u8])>
     ensures { IfSome result
         (λ read. text.now ≡ slash ∷ (metric_component M.KIND (M.value read.0) ++ read.1.now)) }
 {
-    match behind_name(M::KIND.name(), text)? {
+    match rest_after_name(M::KIND.name(), text)? {
         [letter, rest @ ..] => Some((M::read_letter(*letter)?, rest)),
         [] => None,
     }

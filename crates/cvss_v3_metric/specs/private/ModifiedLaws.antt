@@ -15,10 +15,10 @@ use Rattle.cvss_v3_metric.specs.declared.environmental.modified.Modified.TheVari
 use Rattle.cvss_v3_metric.specs.declared.environmental.modified.ModifiedScope.TheVariants as scope
 use Rattle.cvss_v3_metric.specs.Metrics.{IsBaseMetric}
 use Rattle.cvss_v3_metric.specs.Modified.{modified_rank, modified_spelling}
-use Rattle.cvss_v3_metric.specs.Table.{Value, AnyValue, rows_of, spelling_of, weight_of, rank_of, modified_of, replacing, replacing_value, modified_value, blamed}
+use Rattle.cvss_v3_metric.specs.Table.{Value, AnyValue, rows_of, spelling_of, weight_of, rank_of, modified_of, replacing, replacing_value, modified_value, reported_kind}
 
 -- what holds of each metric that can be modified, checked metric by metric
-base_reported : (kind : MetricType) → IsSome (modified_of kind) → blamed (replacing kind) ≡ kind
+base_reported : (kind : MetricType) → IsSome (modified_of kind) → reported_kind (replacing kind) ≡ kind
 base_reported availability = search rules
 base_reported _ = search rules
 
@@ -64,7 +64,7 @@ module _ {A : Type 0} {kind modified_kind : MetricType} {value : A → Value kin
   pub replaces : modified_kind ≡ replacing kind
   replaces = sym (ap (λ found. unwrap_or found MAV) base.replaced)
 
-  pub reported : kind ≡ blamed (replacing kind)
+  pub reported : kind ≡ reported_kind (replacing kind)
   reported = sym (base_reported kind some)
 
   -- a modified value is spelled X, or as the one that is set
@@ -72,7 +72,7 @@ module _ {A : Type 0} {kind modified_kind : MetricType} {value : A → Value kin
   spelled NotDefined = rw (base.own_is NotDefined) (value_spelled kind some NotDefined)
   spelled (Set x) = rw (base.own_is (Set x)) (value_spelled kind some (Set (value x)))
 
-  -- it has a place behind the one that is not defined, as the base metric's values have
+  -- it has a place after the one that is not defined, as the base metric's values have
   pub ranked : (x : Modified A) → rank_of (replacing kind) (modified_value kind value own x) ≡ modified_rank (λ y. rank_of kind (value y)) x
   ranked NotDefined = rw (base.own_is NotDefined) (value_ranked kind some NotDefined)
   ranked (Set x) = rw (base.own_is (Set x)) (value_ranked kind some (Set (value x)))

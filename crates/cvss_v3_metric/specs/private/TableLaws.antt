@@ -2,7 +2,7 @@
 use Rattle.std.specs.Prelude.{◌≡◌, ◌≢◌, ℕ, ◌-◌, ◌<◌, Bool, false, List, [], ◌∷◌, length, get_or, codes, bytes_eq}
 use Rattle.std.specs.List.{list_any}
 use Rattle.std.proofs.Common.{rules}
-use Rattle.cvss_base.specs.Text.{raised, slash}
+use Rattle.cvss_base.specs.Text.{uppercased, slash}
 use Rattle.cvss_base.specs.private.Component.{foreign_bytes}
 use Rattle.cvss_base.specs.declared.v3.MetricType.{MetricType}
 use Rattle.cvss_base.specs.declared.v3.MetricType.TheVariants.{A}
@@ -13,9 +13,9 @@ abbrev pub has_undefined : MetricType → Bool
 has_undefined kind = list_any (λ row. bytes_eq row.0 (codes "X")) (rows_of kind)
 
 -- a spelling is its own raised text
-pub raised_spelling : (kind : MetricType) (value : Value kind) → raised (spelling_of kind value) ≡ spelling_of kind value
-raised_spelling A = search rules
-raised_spelling _ = search rules
+pub uppercased_spelling : (kind : MetricType) (value : Value kind) → uppercased (spelling_of kind value) ≡ spelling_of kind value
+uppercased_spelling A = search rules
+uppercased_spelling _ = search rules
 
 -- no spelling has a slash or a colon
 pub plain_spelling : (kind : MetricType) (value : Value kind) → foreign_bytes (spelling_of kind value) ≡ 0
@@ -23,7 +23,7 @@ plain_spelling A = search rules
 plain_spelling _ = search rules
 
 -- two values with one spelling, as it is read, are one
-pub one_value : (kind : MetricType) (x y : Value kind) → raised (spelling_of kind x) ≡ raised (spelling_of kind y) → x ≡ y
+pub one_value : (kind : MetricType) (x y : Value kind) → uppercased (spelling_of kind x) ≡ uppercased (spelling_of kind y) → x ≡ y
 one_value A = search rules
 one_value _ = search rules
 

@@ -9,7 +9,7 @@ ghost use Rattle.cvss_v3_metric.specs.Table.{scoped_weight, weight_of, metric_co
 ghost use Rattle.cvss_v3_metric.specs.Metrics.{IsBaseMetric};
 ghost use Rattle.cvss_v3_metric.specs.Modified.{replaced, weight_or};
 
-use super::texts::modified_slashed;
+use super::texts::modified_with_slash;
 use crate::base::{PrivilegesRequired, Scope};
 use crate::metric::{Metric, MetricType, Spelled};
 use std::fmt;
@@ -47,8 +47,8 @@ impl<T: BaseMetric> Spelled for Modified<T> {
 
     fn row(self) -> (&'static str, Option<u64>) {
         match self {
-            Modified::NotDefined => (modified_slashed(T::KIND, b'X'), Some(0)),
-            Modified::Modified(value) => (modified_slashed(T::KIND, value.letter()), Some(0)),
+            Modified::NotDefined => (modified_with_slash(T::KIND, b'X'), Some(0)),
+            Modified::Modified(value) => (modified_with_slash(T::KIND, value.letter()), Some(0)),
         }
     }
 
@@ -153,8 +153,8 @@ impl Spelled for ModifiedScope {
 
     fn row(self) -> (&'static str, Option<u64>) {
         match self {
-            Self::NotDefined => (modified_slashed(MetricType::S, b'X'), Some(0)),
-            Self::Modified(scope) => (modified_slashed(MetricType::S, scope.letter()), None),
+            Self::NotDefined => (modified_with_slash(MetricType::S, b'X'), Some(0)),
+            Self::Modified(scope) => (modified_with_slash(MetricType::S, scope.letter()), None),
         }
     }
 

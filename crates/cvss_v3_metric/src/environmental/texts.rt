@@ -9,7 +9,7 @@ ghost use Rattle.cvss_v3_metric.specs.private.ModifiedLaws.{is_modified_letter};
 use crate::metric::MetricType;
 
 /// A slash and the component of the metric that replaces a base metric, by the letter of its value.
-pub(super) fn modified_slashed(base: MetricType, letter: u8) -> &'static str
+pub(super) fn modified_with_slash(base: MetricType, letter: u8) -> &'static str
     requires { IsTrue (is_modified_letter base letter) }
     ensures { result.now ≡ slash ∷ component (name_of (replacing base)) (letter ∷ []) }
 {

@@ -3,7 +3,7 @@ use Rattle.std.specs.Prelude.{◌≡◌, ℕ, List, ⊤}
 use Rattle.cvss_base.specs.Refusal.{BadComponent}
 use Rattle.cvss_base.specs.Text.{IsComponent, name_part}
 use Rattle.cvss_base.specs.Version.{read}
-use Rattle.cvss_text.specs.private.Walk.{Adds, HasRead, IsFaultOf, IsTellable, reason_of}
+use Rattle.cvss_text.specs.private.Walk.{Adds, HasRead, IsFaultOf, IsPrintable, reason_of}
 use Rattle.cvss_base.specs.V4Types.{group_of}
 use Rattle.cvss_base.specs.declared.group.MetricGroup.TheVariants.{Environmental}
 use Rattle.cvss_v4.specs.Overriding.{IsEnvironmental, NamesOther, Objection, OfOtherGroup, OfText, HasNoObjectionBefore}
@@ -29,10 +29,10 @@ abbrev pub objection_of : OverrideFault → Objection
 objection_of OtherGroup = OfOtherGroup
 objection_of (Component fault) = OfText (reason_of v4 fault)
 
--- the fault can be told
-abbrev pub IsTellableFault : OverrideFault → Type 0
-IsTellableFault OtherGroup = ⊤
-IsTellableFault (Component fault) = IsTellable v4 fault
+-- the fault can be reported
+abbrev pub IsPrintableFault : OverrideFault → Type 0
+IsPrintableFault OtherGroup = ⊤
+IsPrintableFault (Component fault) = IsPrintable v4 fault
 
 -- the vector has minor version 0 and holds the overrides before a place, with which nothing is wrong
 pub record HasReadOverrides (texts : List (List ℕ)) (place : ℕ) (v : Vector) : Type 0 where

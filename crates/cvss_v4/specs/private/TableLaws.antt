@@ -1,7 +1,7 @@
 -- What holds of each value of a metric of CVSS v4.0, checked value by value.
 use Rattle.std.specs.Prelude.{◌≡◌}
 use Rattle.std.proofs.Common.{rules}
-use Rattle.cvss_base.specs.Text.{raised}
+use Rattle.cvss_base.specs.Text.{uppercased}
 use Rattle.cvss_base.specs.private.Component.{foreign_bytes}
 use Rattle.cvss_base.specs.declared.v4.MetricType.{MetricType}
 use Rattle.cvss_base.specs.declared.v4.MetricType.TheVariants.{AC}
@@ -13,6 +13,6 @@ plain_spelling AC = search rules
 plain_spelling _ = search rules
 
 -- two values with one spelling, as it is read, are one
-pub one_value : (kind : MetricType) (x y : Value kind) → raised (spelling_of kind x) ≡ raised (spelling_of kind y) → x ≡ y
+pub one_value : (kind : MetricType) (x y : Value kind) → uppercased (spelling_of kind x) ≡ uppercased (spelling_of kind y) → x ≡ y
 one_value AC = search rules
 one_value _ = search rules

@@ -1,6 +1,6 @@
 -- What the walk over a text needs to know of CVSS v4.0.
 use Rattle.std.specs.Prelude.{◌≡◌, ℕ, ◌++◌, codes, Option, refl}
-use Rattle.cvss_text.specs.private.Walk.{IsLawful, IsLawfulFront}
+use Rattle.cvss_text.specs.private.Walk.{VersionLaws, FrontLaws}
 use Rattle.cvss_base.specs.Version.{numeral}
 use Rattle.cvss_base.specs.declared.v4.MetricType.{MetricType}
 use Rattle.cvss_base.specs.declared.v4.MetricType.TheVariants as metric
@@ -62,8 +62,8 @@ vector_has minor_version value = elim [ metric.AC ↦ refl | _ ↦ refl ]
 one_vector : (v w : Vector) → v4.front v ≡ v4.front w → ((kind : MetricType) → value_at v kind ≡ value_at w kind) → v ≡ w
 one_vector v w front same = λ i. vector_of (one_minor_version v w front i) (λ kind. same kind i)
 
-pub v4_is_lawful : IsLawful v4
-v4_is_lawful = record {
+pub v4_laws : VersionLaws v4
+v4_laws = record {
   placed = elim [ metric.AC ↦ refl | _ ↦ refl ];
   in_order = refl;
   names_read = refl;
@@ -74,8 +74,8 @@ v4_is_lawful = record {
   some_piece = λ v front. absurd cc;
 }
 
-pub v4_fronts_are_lawful : IsLawfulFront v4
-v4_fronts_are_lawful = record {
-  fronts = λ v. record { told = codes "4." ++ numeral v.minor_version; front_is = refl; plain = numeral-plain v.minor_version };
+pub v4_front_laws : FrontLaws v4
+v4_front_laws = record {
+  fronts = λ v. record { reported = codes "4." ++ numeral v.minor_version; front_is = refl; plain = numeral-plain v.minor_version };
   plain = refl;
 }

@@ -25,7 +25,7 @@ impl Vector {
         ensures { result ≡ has_group self.now Environmental }
     {
         Vector::printed().iter().any(|kind| is_environmental(kind.group())
-            && self.slashed(*kind).is_some())
+            && self.with_slash(*kind).is_some())
     }
 }
 

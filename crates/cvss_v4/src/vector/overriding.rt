@@ -3,8 +3,8 @@
 
 ghost use Rattle.std.specs.Prelude.{◌≡◌, Some, IfOk, IfErr, OnOk, IsOk, IsErrAnd, Ok, ℕ, length, map};
 ghost use Rattle.cvss_base.specs.Version.{IsComplete};
-ghost use Rattle.cvss_v4.specs.Overriding.{AreOverrides, IsOverridden, Objection, HasNoObjectionBefore, IsFirstObjection, TellsObjection, TellsFirstObjection, override_error_text};
-ghost use Rattle.cvss_v4.specs.private.OverridingSteps.{IsTellableFault, objection_of};
+ghost use Rattle.cvss_v4.specs.Overriding.{AreOverrides, IsOverridden, Objection, HasNoObjectionBefore, IsFirstObjection, ReportsObjection, ReportsFirstObjection, override_error_text};
+ghost use Rattle.cvss_v4.specs.private.OverridingSteps.{IsPrintableFault, objection_of};
 ghost use Rattle.cvss_v4.specs.Vector.{v4};
 
 use crate::overrides::{OverrideFault, read_overrides};
@@ -62,14 +62,14 @@ impl Vector {
             (length (map (λ text. text.now) overrides.now))) }
         // Refused: the first text with which something is wrong, and wherever there is one.
         ensures refused { IfErr result
-            (TellsFirstObjection (map (λ text. text.now) overrides.now)) }
+            (ReportsFirstObjection (map (λ text. text.now) overrides.now)) }
         ensures refuses { (place : ℕ) (objection : Objection)
             → IsFirstObjection (map (λ text. text.now) overrides.now) place objection
-            → IsErrAnd result (TellsObjection place objection) }
+            → IsErrAnd result (ReportsObjection place objection) }
     {
         match read_overrides(overrides) {
             Ok(vector) => Ok(vector),
-            Err((index, fault)) => Err(told(alloc, index, fault)),
+            Err((index, fault)) => Err(reported(alloc, index, fault)),
         }
     }
 
@@ -98,10 +98,10 @@ impl Vector {
     }
 }
 
-/// The error that tells the fault of the text at this place.
-fn told(alloc: Global, index: usize, fault: OverrideFault<'_>) -> OverrideError
-    requires { IsTellableFault fault }
-    ensures { TellsObjection index (objection_of fault.entry) result }
+/// The error that says the fault of the text at this place.
+fn reported(alloc: Global, index: usize, fault: OverrideFault<'_>) -> OverrideError
+    requires { IsPrintableFault fault }
+    ensures { ReportsObjection index (objection_of fault.entry) result }
 {
     match fault {
         OverrideFault::OtherGroup => OverrideError::NotEnvironmental { index },

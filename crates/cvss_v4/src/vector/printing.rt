@@ -4,7 +4,7 @@ ghost use Rattle.std.specs.Prelude.{◌≡◌, ◌≤◌, ◌+◌, ◌++◌, Som
 ghost use Rattle.std.specs.Fmt.{WritesOnOk};
 ghost use Rattle.std.specs.Option.{option_copied};
 ghost use Rattle.cvss_base.specs.Version.{numeral, canonical_text, component_of, held, version_piece};
-ghost use Rattle.cvss_text.specs.private.Printing.{slashed, slashed_texts};
+ghost use Rattle.cvss_text.specs.private.Printing.{with_slash, texts_with_slash};
 ghost use Rattle.cvss_v4_metric.specs.Table.{printed, spelling_at};
 ghost use Rattle.cvss_v4.specs.Vector.{v4};
 ghost use Rattle.cvss_v4.specs.private.Shown.{shown};
@@ -16,40 +16,40 @@ use cvss_v4_metric::{MetricType, Spelled};
 use std::fmt;
 
 impl Printed for Vector {
-    fn slashed(&self, kind: MetricType) -> Option<&'static str> {
+    fn with_slash(&self, kind: MetricType) -> Option<&'static str> {
         match kind {
-            MetricType::AV => self.slashed_at(kind, self.av),
-            MetricType::AC => self.slashed_at(kind, self.ac),
-            MetricType::AT => self.slashed_at(kind, self.at),
-            MetricType::PR => self.slashed_at(kind, self.pr),
-            MetricType::UI => self.slashed_at(kind, self.ui),
-            MetricType::VC => self.slashed_at(kind, self.vc),
-            MetricType::VI => self.slashed_at(kind, self.vi),
-            MetricType::VA => self.slashed_at(kind, self.va),
-            MetricType::SC => self.slashed_at(kind, self.sc),
-            MetricType::SI => self.slashed_at(kind, self.si),
-            MetricType::SA => self.slashed_at(kind, self.sa),
-            MetricType::E => self.slashed_at(kind, self.e),
-            MetricType::CR => self.slashed_at(kind, self.cr),
-            MetricType::IR => self.slashed_at(kind, self.ir),
-            MetricType::AR => self.slashed_at(kind, self.ar),
-            MetricType::MAV => self.slashed_at(kind, self.mav),
-            MetricType::MAC => self.slashed_at(kind, self.mac),
-            MetricType::MAT => self.slashed_at(kind, self.mat),
-            MetricType::MPR => self.slashed_at(kind, self.mpr),
-            MetricType::MUI => self.slashed_at(kind, self.mui),
-            MetricType::MVC => self.slashed_at(kind, self.mvc),
-            MetricType::MVI => self.slashed_at(kind, self.mvi),
-            MetricType::MVA => self.slashed_at(kind, self.mva),
-            MetricType::MSC => self.slashed_at(kind, self.msc),
-            MetricType::MSI => self.slashed_at(kind, self.msi),
-            MetricType::MSA => self.slashed_at(kind, self.msa),
-            MetricType::S => self.slashed_at(kind, self.s),
-            MetricType::AU => self.slashed_at(kind, self.au),
-            MetricType::R => self.slashed_at(kind, self.r),
-            MetricType::V => self.slashed_at(kind, self.v),
-            MetricType::RE => self.slashed_at(kind, self.re),
-            MetricType::U => self.slashed_at(kind, self.u),
+            MetricType::AV => self.with_slash_at(kind, self.av),
+            MetricType::AC => self.with_slash_at(kind, self.ac),
+            MetricType::AT => self.with_slash_at(kind, self.at),
+            MetricType::PR => self.with_slash_at(kind, self.pr),
+            MetricType::UI => self.with_slash_at(kind, self.ui),
+            MetricType::VC => self.with_slash_at(kind, self.vc),
+            MetricType::VI => self.with_slash_at(kind, self.vi),
+            MetricType::VA => self.with_slash_at(kind, self.va),
+            MetricType::SC => self.with_slash_at(kind, self.sc),
+            MetricType::SI => self.with_slash_at(kind, self.si),
+            MetricType::SA => self.with_slash_at(kind, self.sa),
+            MetricType::E => self.with_slash_at(kind, self.e),
+            MetricType::CR => self.with_slash_at(kind, self.cr),
+            MetricType::IR => self.with_slash_at(kind, self.ir),
+            MetricType::AR => self.with_slash_at(kind, self.ar),
+            MetricType::MAV => self.with_slash_at(kind, self.mav),
+            MetricType::MAC => self.with_slash_at(kind, self.mac),
+            MetricType::MAT => self.with_slash_at(kind, self.mat),
+            MetricType::MPR => self.with_slash_at(kind, self.mpr),
+            MetricType::MUI => self.with_slash_at(kind, self.mui),
+            MetricType::MVC => self.with_slash_at(kind, self.mvc),
+            MetricType::MVI => self.with_slash_at(kind, self.mvi),
+            MetricType::MVA => self.with_slash_at(kind, self.mva),
+            MetricType::MSC => self.with_slash_at(kind, self.msc),
+            MetricType::MSI => self.with_slash_at(kind, self.msi),
+            MetricType::MSA => self.with_slash_at(kind, self.msa),
+            MetricType::S => self.with_slash_at(kind, self.s),
+            MetricType::AU => self.with_slash_at(kind, self.au),
+            MetricType::R => self.with_slash_at(kind, self.r),
+            MetricType::V => self.with_slash_at(kind, self.v),
+            MetricType::RE => self.with_slash_at(kind, self.re),
+            MetricType::U => self.with_slash_at(kind, self.u),
         }
     }
 
@@ -67,13 +67,13 @@ impl Printed for Vector {
 
 impl Vector {
     /// A slash and the component of the value that the vector has for a metric.
-    fn slashed_at<M: Spelled>(&self, kind: MetricType, value: Option<M>) -> Option<&'static str>
+    fn with_slash_at<M: Spelled>(&self, kind: MetricType, value: Option<M>) -> Option<&'static str>
         requires kind { kind ≡ M.KIND }
         requires value { held v4 self.now M.KIND
             ≡ option_map (λ x. spelling_at M.KIND (M.rank x)) value }
-        ensures { option_copied result ≡ slashed (component_of v4 self.now kind) }
+        ensures { option_copied result ≡ with_slash (component_of v4 self.now kind) }
     {
-        Some(value?.slashed())
+        Some(value?.with_slash())
     }
 }
 
@@ -85,7 +85,7 @@ fn write_value<M: Spelled>(value: Option<M>, buffer: &mut TextBuffer)
     ensures room { length buffer.new ≤ length buffer.old + 8 }
 {
     if let Some(metric) = value {
-        buffer.push_component(metric.slashed());
+        buffer.push_component(metric.with_slash());
     }
 }
 
@@ -108,7 +108,7 @@ fn write_three<K: Spelled, L: Spelled, M: Spelled>(
 }
 
 impl Vector {
-    /// Writes the piece that tells the version.
+    /// Writes the piece that says the version.
     #[tactic(auto, using(cvss_text::proofs::NumeralLemmas::decimal_numeral))]
     fn write_version<W: fmt::Write>(&self, f: &mut fmt::Formatter<W>) -> fmt::Result
         ensures { WritesOnOk W.write_str_gives f.old result
@@ -124,7 +124,7 @@ impl Vector {
     #[inline(always)]
     fn write_base(&self, buffer: &mut TextBuffer)
         requires { length buffer.old ≤ 168 }
-        ensures text { buffer.new ≡ buffer.old ++ slashed_texts v4 self.now (take 11 printed) }
+        ensures text { buffer.new ≡ buffer.old ++ texts_with_slash v4 self.now (take 11 printed) }
         ensures room { length buffer.new ≤ length buffer.old + 88 }
     {
         write_three(&self.av, &self.ac, &self.at, buffer);
@@ -139,7 +139,7 @@ impl Vector {
     fn write_modified(&self, buffer: &mut TextBuffer)
         requires { length buffer.old ≤ 168 }
         ensures text { buffer.new
-            ≡ buffer.old ++ slashed_texts v4 self.now (take 11 (drop 15 printed)) }
+            ≡ buffer.old ++ texts_with_slash v4 self.now (take 11 (drop 15 printed)) }
         ensures room { length buffer.new ≤ length buffer.old + 88 }
     {
         write_three(&self.mav, &self.mac, &self.mat, buffer);

@@ -1,17 +1,17 @@
 //! How a vector is filled from its components.
 
 ghost use Rattle.std.specs.Prelude.{◌≡◌, IfSome, [], ◌∷◌, ◌++◌, codes};
-ghost use Rattle.cvss_base.specs.Text.{raised};
+ghost use Rattle.cvss_base.specs.Text.{uppercased};
 ghost use Rattle.cvss_base.specs.V4Types.{name_of};
 ghost use Rattle.cvss_text.specs.private.Walk.{HasNoValue, IsCut, IsFilled};
 ghost use Rattle.cvss_v4_metric.specs.Table.{spelling_at};
 ghost use Rattle.cvss_v4.specs.Vector.{v4};
-ghost use Rattle.cvss_v4.specs.private.VectorLaws.{v4_is_lawful, v4_fronts_are_lawful};
+ghost use Rattle.cvss_v4.specs.private.VectorLaws.{v4_laws, v4_front_laws};
 
 use crate::laws::default_vectors_have_no_metric;
 use crate::vector::Vector;
 use MetricType::*;
-use cvss_text::front::Fronted;
+use cvss_text::front::Prefixed;
 use cvss_text::walk::{Components, Slip, fill_place};
 use cvss_v4_metric::{MetricType, Spelled};
 
@@ -26,7 +26,7 @@ impl Components for Vector {
 
     ghost version = { v4 };
 
-    ghost lawful = { v4_is_lawful };
+    ghost version_laws = { v4_laws };
 
     fn any_case() -> bool {
         true
@@ -47,7 +47,7 @@ impl Components for Vector {
         }
     }
 
-    fn blamed(kind: MetricType) -> MetricType {
+    fn reported_kind(kind: MetricType) -> MetricType {
         kind
     }
 
@@ -106,11 +106,11 @@ impl Components for Vector {
     }
 }
 
-impl Fronted for Vector {
-    ghost plain = { v4_fronts_are_lawful };
+impl Prefixed for Vector {
+    ghost plain = { v4_front_laws };
 
-    fn start(told: &[u8]) -> Option<Vector> {
-        if told == b"4.0".as_slice() {
+    fn start(reported: &[u8]) -> Option<Vector> {
+        if reported == b"4.0".as_slice() {
             Some(Vector::empty())
         } else {
             None
@@ -130,7 +130,7 @@ impl Vector {
 }
 
 /// The metric with whose name of one or of three letters and a colon a piece begins, and what stands
-/// behind these. Most names have two, which are looked for first.
+/// after these. Most names have two, which are looked for first.
 #[inline(always)]
 fn cut_one_or_three(piece: &[u8]) -> Option<(MetricType, &[u8])>
     ensures { IfSome result (λ cut. IsCut v4 piece.now cut.0 cut.1.now) }
@@ -147,7 +147,7 @@ fn cut_one_or_three(piece: &[u8]) -> Option<(MetricType, &[u8])>
 /// The metric whose name is this letter, in any ASCII case, as in the functions below.
 #[inline(always)]
 fn named_by_one(letter: u8) -> Option<MetricType>
-    ensures { IfSome result (λ kind. name_of kind ≡ raised (letter ∷ [])) }
+    ensures { IfSome result (λ kind. name_of kind ≡ uppercased (letter ∷ [])) }
 {
     match letter {
         b'E' | b'e' => Some(MetricType::E),
@@ -162,7 +162,7 @@ fn named_by_one(letter: u8) -> Option<MetricType>
 /// The metric whose name is these two letters.
 #[inline(always)]
 fn named_by_two(first: u8, second: u8) -> Option<MetricType>
-    ensures { IfSome result (λ kind. name_of kind ≡ raised (first ∷ second ∷ [])) }
+    ensures { IfSome result (λ kind. name_of kind ≡ uppercased (first ∷ second ∷ [])) }
 {
     match first {
         b'A' | b'a' => match second {
@@ -197,7 +197,7 @@ fn named_by_two(first: u8, second: u8) -> Option<MetricType>
 /// The metric whose name is these three letters, which is a modified one.
 #[inline(always)]
 fn named_by_three(first: u8, second: u8, third: u8) -> Option<MetricType>
-    ensures { IfSome result (λ kind. name_of kind ≡ raised (first ∷ second ∷ third ∷ [])) }
+    ensures { IfSome result (λ kind. name_of kind ≡ uppercased (first ∷ second ∷ third ∷ [])) }
 {
     match first {
         b'M' | b'm' => modified(second, third),
@@ -208,7 +208,7 @@ fn named_by_three(first: u8, second: u8, third: u8) -> Option<MetricType>
 /// The modified metric whose base metric's name is these two letters.
 #[inline(always)]
 fn modified(first: u8, second: u8) -> Option<MetricType>
-    ensures { IfSome result (λ kind. name_of kind ≡ codes "M" ++ raised (first ∷ second ∷ [])) }
+    ensures { IfSome result (λ kind. name_of kind ≡ codes "M" ++ uppercased (first ∷ second ∷ [])) }
 {
     match first {
         b'A' | b'a' => match second {
@@ -237,7 +237,7 @@ fn modified(first: u8, second: u8) -> Option<MetricType>
 
 /// Reads a value into its place, which has to be empty.
 fn fill<M: Spelled>(place: &mut Option<M>, text: &[u8]) -> Result<(), Slip>
-    ensures { IsFilled (λ x. raised (spelling_at M.KIND (M.rank x))) place.old (raised text.now) result place.new }
+    ensures { IsFilled (λ x. uppercased (spelling_at M.KIND (M.rank x))) place.old (uppercased text.now) result place.new }
 {
     fill_place(place, M::read_bytes(text))
 }

@@ -3,7 +3,7 @@
 //! way, by components in any order and any case, is `reading`.
 
 ghost use Rattle.std.specs.Prelude.{◌≡◌, IfSome, None, [], ◌∷◌, ◌++◌, codes, drop, take, option_map, unwrap_or};
-ghost use Rattle.cvss_text.specs.private.Printing.{slashed, slashed_texts};
+ghost use Rattle.cvss_text.specs.private.Printing.{with_slash, texts_with_slash};
 ghost use Rattle.cvss_text.specs.private.Walk.{first_missing};
 ghost use Rattle.cvss_base.specs.Text.{slash, component};
 ghost use Rattle.cvss_base.specs.V4Types.{name_of};
@@ -15,24 +15,24 @@ ghost use Rattle.cvss_v4.specs.Vector.{v4};
 ghost use Rattle.cvss_v4.specs.private.Shown.{shown};
 
 use crate::vector::Vector;
-use cvss_text::sight::{behind_name, put_read};
+use cvss_text::sight::{put_read, rest_after_name};
 use cvss_v4_metric::Spelled;
 use cvss_v4_metric::supplemental::ProviderUrgency;
 
 impl Vector {
-    /// The vector whose canonical text this is, where that is seen at once: `None` tells nothing of
+    /// The vector whose canonical text this is, where that is seen at once: `None` says nothing of
     /// the text. It takes no memory.
     pub fn read_canonical(text: &[u8]) -> Option<Vector>
         ensures canonical { IfSome result (λ vector. text.now ≡ canonical_text v4 vector) }
         ensures well_formed { IfSome result (λ vector. IsWellFormed v4 vector) }
     {
-        metrics_at_sight(behind_version(text)?)
+        metrics_at_sight(after_version(text)?)
     }
 }
 
-/// What stands behind the piece that tells version 4.0.
+/// What follows the piece that says version 4.0.
 #[inline(always)]
-fn behind_version(text: &[u8]) -> Option<&[u8]>
+fn after_version(text: &[u8]) -> Option<&[u8]>
     ensures { IfSome result (λ rest. text.now ≡ version_piece (codes "4.0") ++ rest.now) }
 {
     match text {
@@ -41,10 +41,10 @@ fn behind_version(text: &[u8]) -> Option<&[u8]>
     }
 }
 
-/// The vector whose components, in printing order and each behind a slash, are the whole text.
+/// The vector whose components, in printing order and each after a slash, are the whole text.
 #[inline(always)]
 fn metrics_at_sight(text: &[u8]) -> Option<Vector>
-    ensures text { IfSome result (λ vector. text.now ≡ slashed_texts v4 vector printed) }
+    ensures text { IfSome result (λ vector. text.now ≡ texts_with_slash v4 vector printed) }
     ensures version { IfSome result (λ vector. vector.minor_version ≡ 0) }
     ensures present { IfSome result (λ vector. first_missing v4 vector ≡ None) }
 {
@@ -56,12 +56,12 @@ fn metrics_at_sight(text: &[u8]) -> Option<Vector>
     }
 }
 
-/// The vector of the base metrics and of the optional ones that are the whole text behind them.
+/// The vector of the base metrics and of the optional ones that are the whole text after them.
 #[inline(always)]
 fn whole_at_sight(base: Vector, text: &[u8]) -> Option<Vector>
     requires { first_missing v4 base ≡ None }
-    ensures text { IfSome result (λ vector. slashed_texts v4 base (take 11 printed) ++ text.now
-        ≡ slashed_texts v4 vector printed) }
+    ensures text { IfSome result (λ vector. texts_with_slash v4 base (take 11 printed) ++ text.now
+        ≡ texts_with_slash v4 vector printed) }
     ensures version { IfSome result (λ vector. vector.minor_version ≡ base.minor_version) }
     ensures present { IfSome result (λ vector. first_missing v4 vector ≡ None) }
 {
@@ -75,10 +75,10 @@ fn whole_at_sight(base: Vector, text: &[u8]) -> Option<Vector>
 #[inline(always)]
 fn base_at_sight(text: &[u8]) -> Option<(Vector, &[u8])>
     ensures text { IfSome result (λ read. text.now
-        ≡ slashed_texts v4 read.0 (take 11 printed) ++ read.1.now) }
+        ≡ texts_with_slash v4 read.0 (take 11 printed) ++ read.1.now) }
     ensures version { IfSome result (λ read. read.0.minor_version ≡ 0) }
     ensures present { IfSome result (λ read. first_missing v4 read.0 ≡ None) }
-    ensures bare { IfSome result (λ read. slashed_texts v4 read.0 (drop 11 printed) ≡ []) }
+    ensures bare { IfSome result (λ read. texts_with_slash v4 read.0 (drop 11 printed) ≡ []) }
 {
     // No eleven base metrics are shorter, so their lengths are compared once.
     if text.len() < 55 {
@@ -107,15 +107,15 @@ fn base_at_sight(text: &[u8]) -> Option<(Vector, &[u8])>
 }
 
 /// Puts the optional metrics but for the last with which a text begins into the vector, and gives
-/// what stands behind them.
+/// what follows them.
 // A call of its own keeps the vector in memory, where each metric is stored once.
 #[inline(never)]
 fn others_at_sight<'a>(vector: &mut Vector, text: &'a [u8]) -> &'a [u8]
-    ensures text { text.now ≡ slashed_texts v4 vector.new (take 20 (drop 11 printed))
+    ensures text { text.now ≡ texts_with_slash v4 vector.new (take 20 (drop 11 printed))
         ++ result.now }
     ensures version { vector.new.minor_version ≡ vector.old.minor_version }
-    ensures base { slashed_texts v4 vector.new (take 11 printed)
-        ≡ slashed_texts v4 vector.old (take 11 printed) }
+    ensures base { texts_with_slash v4 vector.new (take 11 printed)
+        ≡ texts_with_slash v4 vector.old (take 11 printed) }
     ensures missing { first_missing v4 vector.new ≡ first_missing v4 vector.old }
 {
     let text = put_three_at_sight(&mut vector.e, &mut vector.cr, &mut vector.ir, text);
@@ -132,7 +132,7 @@ fn others_at_sight<'a>(vector: &mut Vector, text: &'a [u8]) -> &'a [u8]
 /// Its spellings have several letters, and it is the last metric.
 #[inline(always)]
 fn urgency_at_sight(text: &[u8]) -> Option<Option<ProviderUrgency>>
-    ensures { IfSome result (λ urgency. text.now ≡ unwrap_or (slashed (option_map
+    ensures { IfSome result (λ urgency. text.now ≡ unwrap_or (with_slash (option_map
         (component (name_of U)) (option_map (spelling_of U) urgency))) []) }
 {
     if text.is_empty() {
@@ -141,12 +141,12 @@ fn urgency_at_sight(text: &[u8]) -> Option<Option<ProviderUrgency>>
     let urgency = ProviderUrgency::values()
         .iter()
         .copied()
-        .find(|urgency| urgency.slashed().as_bytes() == text)?;
+        .find(|urgency| urgency.with_slash().as_bytes() == text)?;
     Some(Some(urgency))
 }
 
 /// Puts the values of three metrics into their places, as far as a text begins with their components,
-/// and gives what stands behind these.
+/// and gives what follows these.
 #[inline(always)]
 fn put_three_at_sight<'a, K: Spelled, L: Spelled, M: Spelled>(
     first: &mut Option<K>,
@@ -163,7 +163,7 @@ fn put_three_at_sight<'a, K: Spelled, L: Spelled, M: Spelled>(
 }
 
 /// Puts the value of a metric into its place, if a text begins with a slash and its component, and
-/// gives what stands behind that; else no value, and the text.
+/// gives what follows that; else no value, and the text.
 #[inline(always)]
 fn put_at_sight<'a, M: Spelled>(place: &mut Option<M>, text: &'a [u8]) -> &'a [u8]
     ensures { text.now ≡ shown M.KIND M.rank place.new ++ result.now }
@@ -172,7 +172,7 @@ fn put_at_sight<'a, M: Spelled>(place: &mut Option<M>, text: &'a [u8]) -> &'a [u
 }
 
 /// The values of three metrics, where a text begins with a slash and the component of each, and what
-/// stands behind them.
+/// follows them.
 #[inline(always)]
 fn three_at_sight<K: Spelled, L: Spelled, M: Spelled>(text: &[u8]) -> Option<(K, L, M, &[u8])>
     ensures { IfSome result (λ read. text.now
@@ -187,13 +187,13 @@ fn three_at_sight<K: Spelled, L: Spelled, M: Spelled>(text: &[u8]) -> Option<(K,
 }
 
 /// The value of a metric, where a text begins with a slash and its component, and what stands
-/// behind that. A spelling of several letters is not recognised.
+/// after that. A spelling of several letters is not recognised.
 #[inline(always)]
 fn component_at_sight<M: Spelled>(text: &[u8]) -> Option<(M, &[u8])>
     ensures { IfSome result
         (λ read. text.now ≡ slash ∷ (metric_component M.KIND (M.rank read.0) ++ read.1.now)) }
 {
-    match behind_name(M::KIND.name(), text)? {
+    match rest_after_name(M::KIND.name(), text)? {
         [letter, rest @ ..] => Some((M::read_letter(*letter)?, rest)),
         [] => None,
     }

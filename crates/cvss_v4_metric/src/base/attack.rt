@@ -31,7 +31,7 @@ impl Spelled for AttackVector {
         &[Self::Physical, Self::Local, Self::Adjacent, Self::Network]
     }
 
-    fn slashed(self) -> &'static str {
+    fn with_slash(self) -> &'static str {
         match self {
             Self::Physical => "/AV:P",
             Self::Local => "/AV:L",
@@ -79,7 +79,7 @@ impl Spelled for AttackComplexity {
         &[Self::High, Self::Low]
     }
 
-    fn slashed(self) -> &'static str {
+    fn with_slash(self) -> &'static str {
         match self {
             Self::High => "/AC:H",
             Self::Low => "/AC:L",
@@ -125,7 +125,7 @@ impl Spelled for AttackRequirements {
         &[Self::Present, Self::None]
     }
 
-    fn slashed(self) -> &'static str {
+    fn with_slash(self) -> &'static str {
         match self {
             Self::Present => "/AT:P",
             Self::None => "/AT:N",
@@ -171,7 +171,7 @@ impl Spelled for PrivilegesRequired {
         &[Self::High, Self::Low, Self::None]
     }
 
-    fn slashed(self) -> &'static str {
+    fn with_slash(self) -> &'static str {
         match self {
             Self::High => "/PR:H",
             Self::Low => "/PR:L",
@@ -218,7 +218,7 @@ impl Spelled for UserInteraction {
         &[Self::Active, Self::Passive, Self::None]
     }
 
-    fn slashed(self) -> &'static str {
+    fn with_slash(self) -> &'static str {
         match self {
             Self::Active => "/UI:A",
             Self::Passive => "/UI:P",

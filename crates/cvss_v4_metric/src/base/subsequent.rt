@@ -1,4 +1,4 @@
-//! What systems behind the vulnerable one lose (v4.0 specification, section 2.2).
+//! What systems after the vulnerable one lose (v4.0 specification, section 2.2).
 
 ghost use Rattle.std.specs.Prelude.{Some};
 ghost use Rattle.std.proofs.Common.{rules};
@@ -9,7 +9,7 @@ ghost use Rattle.cvss_v4_metric.specs.Table.{metric_component};
 use crate::metric::{Metric, MetricType, Spelled};
 use std::fmt;
 
-/// How much confidentiality systems behind the vulnerable one lose (v4.0 specification, section
+/// How much confidentiality systems after the vulnerable one lose (v4.0 specification, section
 /// 2.2.1).
 #[derive(Clone, Copy, Debug, Default, PartialEq, Eq, PartialOrd, Ord)]
 pub enum ConfidentialityImpactToTheSubsequentSystem {
@@ -30,7 +30,7 @@ impl Spelled for ConfidentialityImpactToTheSubsequentSystem {
         &[Self::None, Self::Low, Self::High]
     }
 
-    fn slashed(self) -> &'static str {
+    fn with_slash(self) -> &'static str {
         match self {
             Self::None => "/SC:N",
             Self::Low => "/SC:L",
@@ -57,7 +57,7 @@ impl fmt::Display for ConfidentialityImpactToTheSubsequentSystem {
     }
 }
 
-/// How much integrity systems behind the vulnerable one lose (v4.0 specification, section 2.2.2).
+/// How much integrity systems after the vulnerable one lose (v4.0 specification, section 2.2.2).
 #[derive(Clone, Copy, Debug, Default, PartialEq, Eq, PartialOrd, Ord)]
 pub enum IntegrityImpactToTheSubsequentSystem {
     None,
@@ -77,7 +77,7 @@ impl Spelled for IntegrityImpactToTheSubsequentSystem {
         &[Self::None, Self::Low, Self::High]
     }
 
-    fn slashed(self) -> &'static str {
+    fn with_slash(self) -> &'static str {
         match self {
             Self::None => "/SI:N",
             Self::Low => "/SI:L",
@@ -104,7 +104,7 @@ impl fmt::Display for IntegrityImpactToTheSubsequentSystem {
     }
 }
 
-/// How much availability systems behind the vulnerable one lose (v4.0 specification, section
+/// How much availability systems after the vulnerable one lose (v4.0 specification, section
 /// 2.2.3).
 #[derive(Clone, Copy, Debug, Default, PartialEq, Eq, PartialOrd, Ord)]
 pub enum AvailabilityImpactToTheSubsequentSystem {
@@ -125,7 +125,7 @@ impl Spelled for AvailabilityImpactToTheSubsequentSystem {
         &[Self::None, Self::Low, Self::High]
     }
 
-    fn slashed(self) -> &'static str {
+    fn with_slash(self) -> &'static str {
         match self {
             Self::None => "/SA:N",
             Self::Low => "/SA:L",

@@ -29,7 +29,7 @@ impl Spelled for ConfidentialityImpactToTheVulnerableSystem {
         &[Self::None, Self::Low, Self::High]
     }
 
-    fn slashed(self) -> &'static str {
+    fn with_slash(self) -> &'static str {
         match self {
             Self::None => "/VC:N",
             Self::Low => "/VC:L",
@@ -76,7 +76,7 @@ impl Spelled for IntegrityImpactToTheVulnerableSystem {
         &[Self::None, Self::Low, Self::High]
     }
 
-    fn slashed(self) -> &'static str {
+    fn with_slash(self) -> &'static str {
         match self {
             Self::None => "/VI:N",
             Self::Low => "/VI:L",
@@ -123,7 +123,7 @@ impl Spelled for AvailabilityImpactToTheVulnerableSystem {
         &[Self::None, Self::Low, Self::High]
     }
 
-    fn slashed(self) -> &'static str {
+    fn with_slash(self) -> &'static str {
         match self {
             Self::None => "/VA:N",
             Self::Low => "/VA:L",

@@ -33,7 +33,7 @@ impl Spelled for ModifiedAttackVector {
         &[Physical, Local, Adjacent, Network, NotDefined]
     }
 
-    fn slashed(self) -> &'static str {
+    fn with_slash(self) -> &'static str {
         match self {
             Self::Physical => "/MAV:P",
             Self::Local => "/MAV:L",
@@ -82,7 +82,7 @@ impl Spelled for ModifiedAttackComplexity {
         &[Self::NotDefined, Self::High, Self::Low]
     }
 
-    fn slashed(self) -> &'static str {
+    fn with_slash(self) -> &'static str {
         match self {
             Self::NotDefined => "/MAC:X",
             Self::High => "/MAC:H",
@@ -129,7 +129,7 @@ impl Spelled for ModifiedAttackRequirements {
         &[Self::NotDefined, Self::Present, Self::None]
     }
 
-    fn slashed(self) -> &'static str {
+    fn with_slash(self) -> &'static str {
         match self {
             Self::NotDefined => "/MAT:X",
             Self::Present => "/MAT:P",
@@ -177,7 +177,7 @@ impl Spelled for ModifiedPrivilegesRequired {
         &[Self::NotDefined, Self::High, Self::Low, Self::None]
     }
 
-    fn slashed(self) -> &'static str {
+    fn with_slash(self) -> &'static str {
         match self {
             Self::NotDefined => "/MPR:X",
             Self::High => "/MPR:H",
@@ -226,7 +226,7 @@ impl Spelled for ModifiedUserInteraction {
         &[Self::NotDefined, Self::Active, Self::Passive, Self::None]
     }
 
-    fn slashed(self) -> &'static str {
+    fn with_slash(self) -> &'static str {
         match self {
             Self::NotDefined => "/MUI:X",
             Self::Active => "/MUI:A",

@@ -31,7 +31,7 @@ impl Spelled for ConfidentialityRequirements {
         &[Self::NotDefined, Self::Low, Self::Medium, Self::High]
     }
 
-    fn slashed(self) -> &'static str {
+    fn with_slash(self) -> &'static str {
         match self {
             Self::NotDefined => "/CR:X",
             Self::Low => "/CR:L",
@@ -80,7 +80,7 @@ impl Spelled for IntegrityRequirements {
         &[Self::NotDefined, Self::Low, Self::Medium, Self::High]
     }
 
-    fn slashed(self) -> &'static str {
+    fn with_slash(self) -> &'static str {
         match self {
             Self::NotDefined => "/IR:X",
             Self::Low => "/IR:L",
@@ -129,7 +129,7 @@ impl Spelled for AvailabilityRequirements {
         &[Self::NotDefined, Self::Low, Self::Medium, Self::High]
     }
 
-    fn slashed(self) -> &'static str {
+    fn with_slash(self) -> &'static str {
         match self {
             Self::NotDefined => "/AR:X",
             Self::Low => "/AR:L",

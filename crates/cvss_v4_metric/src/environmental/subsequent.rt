@@ -1,4 +1,4 @@
-//! What systems behind the vulnerable one lose, in the user's own environment (v4.0 specification,
+//! What systems after the vulnerable one lose, in the user's own environment (v4.0 specification,
 //! section 4.2).
 
 ghost use Rattle.std.specs.Prelude.{Some};
@@ -32,7 +32,7 @@ impl Spelled for ModifiedConfidentialityImpactToTheSubsequentSystem {
         &[Self::NotDefined, Self::Negligible, Self::Low, Self::High]
     }
 
-    fn slashed(self) -> &'static str {
+    fn with_slash(self) -> &'static str {
         match self {
             Self::NotDefined => "/MSC:X",
             Self::Negligible => "/MSC:N",
@@ -84,7 +84,7 @@ impl Spelled for ModifiedIntegrityImpactToTheSubsequentSystem {
         &[NotDefined, Negligible, Low, High, Safety]
     }
 
-    fn slashed(self) -> &'static str {
+    fn with_slash(self) -> &'static str {
         match self {
             Self::NotDefined => "/MSI:X",
             Self::Negligible => "/MSI:N",
@@ -137,7 +137,7 @@ impl Spelled for ModifiedAvailabilityImpactToTheSubsequentSystem {
         &[NotDefined, Negligible, Low, High, Safety]
     }
 
-    fn slashed(self) -> &'static str {
+    fn with_slash(self) -> &'static str {
         match self {
             Self::NotDefined => "/MSA:X",
             Self::Negligible => "/MSA:N",

@@ -32,7 +32,7 @@ impl Spelled for ModifiedConfidentialityImpactToTheVulnerableSystem {
         &[Self::NotDefined, Self::None, Self::Low, Self::High]
     }
 
-    fn slashed(self) -> &'static str {
+    fn with_slash(self) -> &'static str {
         match self {
             Self::NotDefined => "/MVC:X",
             Self::None => "/MVC:N",
@@ -82,7 +82,7 @@ impl Spelled for ModifiedIntegrityImpactToTheVulnerableSystem {
         &[Self::NotDefined, Self::None, Self::Low, Self::High]
     }
 
-    fn slashed(self) -> &'static str {
+    fn with_slash(self) -> &'static str {
         match self {
             Self::NotDefined => "/MVI:X",
             Self::None => "/MVI:N",
@@ -132,7 +132,7 @@ impl Spelled for ModifiedAvailabilityImpactToTheVulnerableSystem {
         &[Self::NotDefined, Self::None, Self::Low, Self::High]
     }
 
-    fn slashed(self) -> &'static str {
+    fn with_slash(self) -> &'static str {
         match self {
             Self::NotDefined => "/MVA:X",
             Self::None => "/MVA:N",

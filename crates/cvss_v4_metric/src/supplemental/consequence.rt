@@ -30,7 +30,7 @@ impl Spelled for Safety {
         &[Self::NotDefined, Self::Present, Self::Negligible]
     }
 
-    fn slashed(self) -> &'static str {
+    fn with_slash(self) -> &'static str {
         match self {
             Self::NotDefined => "/S:X",
             Self::Present => "/S:P",
@@ -79,7 +79,7 @@ impl Spelled for Recovery {
         &[NotDefined, Automatic, User, Irrecoverable]
     }
 
-    fn slashed(self) -> &'static str {
+    fn with_slash(self) -> &'static str {
         match self {
             Self::NotDefined => "/R:X",
             Self::Automatic => "/R:A",
@@ -127,7 +127,7 @@ impl Spelled for Automatable {
         &[Self::NotDefined, Self::Yes, Self::No]
     }
 
-    fn slashed(self) -> &'static str {
+    fn with_slash(self) -> &'static str {
         match self {
             Self::NotDefined => "/AU:X",
             Self::Yes => "/AU:Y",
@@ -174,7 +174,7 @@ impl Spelled for ValueDensity {
         &[Self::NotDefined, Self::Diffuse, Self::Concentrated]
     }
 
-    fn slashed(self) -> &'static str {
+    fn with_slash(self) -> &'static str {
         match self {
             Self::NotDefined => "/V:X",
             Self::Diffuse => "/V:D",

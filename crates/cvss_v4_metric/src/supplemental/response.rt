@@ -30,7 +30,7 @@ impl Spelled for VulnerabilityResponseEffort {
         &[Self::NotDefined, Self::Low, Self::Moderate, Self::High]
     }
 
-    fn slashed(self) -> &'static str {
+    fn with_slash(self) -> &'static str {
         match self {
             Self::NotDefined => "/RE:X",
             Self::Low => "/RE:L",
@@ -82,7 +82,7 @@ impl Spelled for ProviderUrgency {
         &[NotDefined, Red, Amber, Green, Clear]
     }
 
-    fn slashed(self) -> &'static str {
+    fn with_slash(self) -> &'static str {
         match self {
             Self::NotDefined => "/U:X",
             Self::Red => "/U:Red",

@@ -1,6 +1,6 @@
 -- What is written for a vector, after the earlier answers.
 use Rattle.std.specs.Prelude.{◌≡◌, ℕ, List, ◌++◌, Some}
-use Rattle.cvss_account.specs.Account.{IsAccountText}
+use Rattle.cvss_explain.specs.Account.{IsAccountText}
 use Rattle.cvss_any.specs.declared.vector.Cvss.{Cvss}
 use Rattle.cvss_lines.specs.Answers.{written_text}
 

@@ -23,6 +23,6 @@ returns-in_ok-write_error-in-Err c = λ number.
         is_reason = said_of_bytes reason_text not_utf8_text c.args.line.now error c.in-Err.ensures.refused;
         is = refl;
       };
-      told = refl;
+      reported = refl;
       written = one_text _ (codes "error: " ++ reason) _ c.in_ok-write_error-in-Err.ensures;
     }

@@ -21,7 +21,7 @@ returns-in-Err c = λ number.
         is_reason = said_of_bytes reason_text not_utf8_text c.args.line.now error c.in-Err.ensures.refused;
         is = refl;
       });
-      told = refl;
+      reported = refl;
       written = one_text _ (codes "error: " ++ reason) _ c.in_ok-write_error-in-Err.ensures;
     }
 
@@ -41,7 +41,7 @@ returns-in-Err-with_metrics c = λ number.
         first = c.in-Err-with_metrics.ensures.refused;
         is = refl;
       }));
-      told = refl;
+      reported = refl;
       written = one_text _ text _ c.in_ok-write_error-in-Err-with_metrics.ensures;
     }
 
@@ -65,7 +65,7 @@ returns-in_ok-write_vector-in-None c = λ number.
         scored = written.scored;
         is = refl;
       };
-      told = refl;
+      reported = refl;
       written = one_text _ _ _ written.written;
     }
 
@@ -87,6 +87,6 @@ returns-in_ok-write_error-in-Some c = λ number.
         missing = sym c.in-Some.ensures;
         is = refl;
       }));
-      told = refl;
+      reported = refl;
       written = one_text _ text _ c.in_ok-write_error-in-Some.ensures;
     }

@@ -9,7 +9,7 @@ returns-in-Ok-clause-published c =
     let read = v40_ok c.args.text.now vector c.requires.routed c.in-Ok.ensures in
     record {
       cvss = CvssV40 vector;
-      canonical_is = c.text_behind-given.ensures;
+      canonical_is = c.text_after-given.ensures;
       denoted = read.denoted;
       utf8 = read.utf8;
       is = record { scored = c.tenths.ensures.value; rated = refl; to_ten = c.tenths.ensures.range };

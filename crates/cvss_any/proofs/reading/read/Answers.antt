@@ -1,13 +1,13 @@
 use Rattle.std.proofs.Common.{◌∙◌, sym}
 use Rattle.cvss_any.specs.private.Views.{why_of}
-use Rattle.cvss_any.specs.declared.reading.ReadFault.TheVariants as told
+use Rattle.cvss_any.specs.declared.reading.ReadFault.TheVariants as reported
 use Rattle.cvss_any.proofs.ReadLemmas.{IsRead-fault, of_none}
 use Rattle.cvss_any.proofs.reading.read.Goals as goal
 
-pub returns-in-Untold : goal.returns-in-Untold
-returns-in-Untold c =
+pub returns-in-Unversioned : goal.returns-in-Unversioned
+returns-in-Unversioned c =
     let text = c.args.text.now in
-    let why = why_of c.in-Untold.why in
-    let route = sym c.in-Untold.ensures.route in
-    let untold = c.fault_of.ensures in
-    IsRead-fault route (told.V2 c.fault_of.result) (of_none text why route) untold.reason (λ reason is. untold.reason ∙ sym is) (λ utf8. untold.tellable (c.in-Untold.ensures.tellable utf8))
+    let why = why_of c.in-Unversioned.why in
+    let route = sym c.in-Unversioned.ensures.route in
+    let without_version = c.fault_of.ensures in
+    IsRead-fault route (reported.V2 c.fault_of.result) (of_none text why route) without_version.reason (λ reason is. without_version.reason ∙ sym is) (λ utf8. without_version.printable (c.in-Unversioned.ensures.printable utf8))

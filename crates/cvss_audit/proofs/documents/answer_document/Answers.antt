@@ -1,5 +1,5 @@
 use Rattle.std.proofs.Common.{subst}
-use Rattle.cvss_lines.proofs.StepsLemmas.{told_fault}
+use Rattle.cvss_lines.proofs.StepsLemmas.{reported_fault}
 use Rattle.cvss_audit.specs.Sources.{source_view}
 use Rattle.cvss_audit.specs.private.Writing.{StopsFound}
 use Rattle.cvss_document.specs.Places.{places_in}
@@ -18,7 +18,7 @@ loop-places-init g c = record {
 pub returns-in_err-write_if_full-clause-stopped : goal.returns-in_err-write_if_full-clause-stopped
 returns-in_err-write_if_full-clause-stopped g c =
     let next = subst (λ found. IsNextPlace (places_left c.loop-places.places) found (places_left c.next_place.new.self)) c.in-Some.is c.in_ok-place.ensures in
-    told_fault c.from_residual-in_err-write_if_full.result c.in_err-write_if_full.field-0.0 _ c.from_residual-in_err-write_if_full.ensures.1
+    reported_fault c.from_residual-in_err-write_if_full.result c.in_err-write_if_full.field-0.0 _ c.from_residual-in_err-write_if_full.ensures.1
     (subst (λ source. StopsFound source (places_in (view c.args.document.now)) c.args.answers.now.bytes.items (g.W.Write.contents c.args.writer.now)
     (g.W.Write.contents c.write_if_full.new.writer) c.in_err-write_if_full.field-0.0) c.loop-places.invariant.source
     (StopsFound-write (source_view c.of-source.result) (places_in (view c.args.document.now)) _ _ _ _ _ _ _ _ _ _ _ _ next

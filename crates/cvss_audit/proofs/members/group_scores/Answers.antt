@@ -1,7 +1,7 @@
 use Rattle.std.proofs.Common.{ap, ◌∙◌}
 use Rattle.serde_json.proofs.Views.{view-Object}
 use Rattle.serde_json.specs.Data.{object}
-use Rattle.cvss_tree.proofs.ObjectLemmas.{with_members-append}
+use Rattle.cvss_json_tree.proofs.ObjectLemmas.{with_members-append}
 use Rattle.cvss_audit.proofs.members.group_scores.Goals as goal
 
 pub returns : goal.returns

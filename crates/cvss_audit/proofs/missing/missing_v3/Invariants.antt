@@ -1,7 +1,7 @@
 use Rattle.std.proofs.Common.{◌≡◌, ◌++◌, drop, map}
 use Rattle.std.specs.List.{filter_map}
 use Rattle.cvss_audit.specs.Objects.{missing_at, missing_v3}
-use Rattle.cvss_tree.specs.Trees.{tree_view}
+use Rattle.cvss_json_tree.specs.Trees.{tree_view}
 use Rattle.cvss_audit.proofs.missing.missing_v3.Given as goal
 
 abbrev pub invariant-loop-kind : goal.invariant-loop-kind

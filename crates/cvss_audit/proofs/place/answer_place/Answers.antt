@@ -1,6 +1,6 @@
 use Rattle.std.proofs.Common.{refl}
 use Rattle.serde_json.specs.Data.{object}
-use Rattle.cvss_tree.specs.Trees.{members_view}
+use Rattle.cvss_json_tree.specs.Trees.{members_view}
 use Rattle.cvss_audit.proofs.place.answer_place.Goals as goal
 
 pub returns : goal.returns
@@ -13,6 +13,6 @@ returns c =
         is_object = c.in_ok-members.ensures;
         is_text = written.is_text;
       };
-      told = refl;
+      reported = refl;
       written = written.written;
     }

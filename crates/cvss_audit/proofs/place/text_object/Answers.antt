@@ -1,13 +1,13 @@
 use Rattle.std.proofs.Common.{◌≡◌, ℕ, ◌==◌, Bool, List, [], ◌∷◌, ◌++◌, length, map, ap, ◌∙◌, refl, sym, arith, rules, inl, inr}
 use Rattle.std.proofs.lemmas.Bool.{ne_eqb}
-use Rattle.cvss_tree.proofs.ObjectLemmas.{with_members-append}
+use Rattle.cvss_json_tree.proofs.ObjectLemmas.{with_members-append}
 use Rattle.cvss_base.specs.ErrorText.{error_text}
 use Rattle.cvss_document.specs.Differences.{difference_view}
-use Rattle.cvss_tree.specs.Objects.{Member, object_of, with_members}
+use Rattle.cvss_json_tree.specs.Objects.{Member, object_of, with_members}
 use Rattle.cvss_document.specs.Places.{place_view}
 use Rattle.cvss_document.specs.declared.difference.Difference.{Difference}
 use Rattle.serde_json.specs.Data.{Members, no_members, object}
-use Rattle.cvss_tree.specs.Trees.{members_view}
+use Rattle.cvss_json_tree.specs.Trees.{members_view}
 use Rattle.cvss_audit.specs.Answers.{nothing_differs}
 use Rattle.cvss_audit.specs.Objects.{accepted_members, place_members, refusal_member}
 use Rattle.cvss_audit.specs.Sources.{source_view}
@@ -37,7 +37,7 @@ returns-in-Ok c =
       are_differences = c.in_ok-differences-in-Ok.ensures;
       is = put_both (place_members (source_view c.args.source) (place_view c.args.place.now)) (accepted_members c.in-Ok.cvss c.of.result differences)
           _ _ _ (ap members_view c.new-members.ensures.empty) c.in_ok-put_place.ensures c.in_ok-put_accepted-in-Ok.ensures;
-      told = none_differs found.items c.is_empty-agrees.result _ c.is_empty-agrees.ensures (omega (arith, found.ok.0));
+      reported = none_differs found.items c.is_empty-agrees.result _ c.is_empty-agrees.ensures (omega (arith, found.ok.0));
     })
 
 pub returns : goal.returns
@@ -50,5 +50,5 @@ returns c =
       no_want = search rules;
       is = put_both (place_members (source_view c.args.source) (place_view c.args.place.now)) refusal
           _ _ _ (ap members_view c.new-members.ensures.empty) c.in_ok-put_place.ensures refused;
-      told = refl;
+      reported = refl;
     })

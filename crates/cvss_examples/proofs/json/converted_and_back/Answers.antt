@@ -1,7 +1,7 @@
 use Rattle.std.proofs.Common.{◌≡◌, string_bytes, subst, sym}
 use Rattle.std.proofs.lemmas.Result.{IfErr-weaker, IfOk-weaker}
 use Rattle.cvss.specs.declared.json.JsonError.TheVariants.{OutOfMemory}
-use Rattle.cvss_examples.specs.Conversions.{TellsNoText}
+use Rattle.cvss_examples.specs.Conversions.{ReportsNoText}
 use Rattle.cvss_examples.proofs.ConversionLemmas.{converted, stands_for}
 use Rattle.cvss_examples.proofs.json.converted_and_back.Goals as goal
 
@@ -18,5 +18,5 @@ returns-clause-accepts c =
 
 pub returns-clause-refused : goal.returns-clause-refused
 returns-clause-refused c =
-    IfErr-weaker c.text_of.result (λ error. error ≡ OutOfMemory) (TellsNoText c.args.text.now) (λ error is. subst (TellsNoText c.args.text.now) (sym is) tt)
+    IfErr-weaker c.text_of.result (λ error. error ≡ OutOfMemory) (ReportsNoText c.args.text.now) (λ error is. subst (ReportsNoText c.args.text.now) (sym is) tt)
     (returns-clause-accepts c _ c.in_ok-value.ensures.value.denoted)

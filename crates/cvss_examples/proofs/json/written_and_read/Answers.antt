@@ -19,4 +19,4 @@ returns-clause-read c =
 
 pub returns-clause-refused : goal.returns-clause-refused
 returns-clause-refused c =
-    refused_as c.from_value.result (text_of c.args.cvss.now) _ c.in_ok-value.ensures.written c.from_value.ensures.refused c.from_value.ensures.told
+    refused_as c.from_value.result (text_of c.args.cvss.now) _ c.in_ok-value.ensures.written c.from_value.ensures.refused c.from_value.ensures.reported

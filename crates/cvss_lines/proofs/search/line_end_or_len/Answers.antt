@@ -4,10 +4,10 @@ use Rattle.std.proofs.lemmas.List.{get_or-drop, take_rest}
 use Rattle.cvss_lines.specs.private.Steps.{IsFirstLineEnd}
 use Rattle.cvss_lines.proofs.search.line_end_or_len.Goals as goal
 
--- the first byte 10 behind bytes that have none
-behind : (bytes : List ℕ) (at place : ℕ) → at ≤ length bytes → ((k : ℕ) → k < at → get_or bytes k 0 ≢ 10)
+-- the first byte 10 after bytes that have none
+after : (bytes : List ℕ) (at place : ℕ) → at ≤ length bytes → ((k : ℕ) → k < at → get_or bytes k 0 ≢ 10)
     → IsFirstLineEnd (drop at bytes) place → IsFirstLineEnd bytes (at + place)
-behind bytes at place within none p = record {
+after bytes at place within none p = record {
   within = omega (arith, p.within, length-drop at bytes);
   before = λ k below. elim (cases_lt k at) [
     | inl front ↦ none k front
@@ -20,5 +20,5 @@ behind bytes at place within none p = record {
 }
 
 pub returns : goal.returns
-returns c = behind c.args.bytes.now c.loop-at.at c.line_end_by_one.result c.loop-at.invariant.within c.loop-at.invariant.before
+returns c = after c.args.bytes.now c.loop-at.at c.line_end_by_one.result c.loop-at.invariant.within c.loop-at.invariant.before
     (subst (λ rest. IsFirstLineEnd rest c.line_end_by_one.result) (take_rest c.args.bytes.now c.loop-at.at) c.line_end_by_one.ensures)

@@ -10,7 +10,7 @@ returns-in_err-overrides-clause-refused c =
     rw exit.1 (inr (record {
       fault = InOverride refused.place refused.objection;
       first = refused.first;
-      tells = exit.2 refused.place refused.objection refused.tells;
+      reports = exit.2 refused.place refused.objection refused.reports;
     }))
 
 pub returns-in_err-rows-clause-refused : goal.returns-in_err-rows-clause-refused
@@ -21,7 +21,7 @@ returns-in_err-rows-clause-refused c =
       | inr refused ↦ inr (record {
         fault = InText refused.place refused.reason;
         first = (c.in_ok-overrides.ensures.faultless, refused.first);
-        tells = refused.tells;
+        reports = refused.reports;
       })
     ])
 

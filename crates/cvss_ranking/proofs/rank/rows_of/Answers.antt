@@ -1,9 +1,9 @@
 use Rattle.std.proofs.Common.{◌≡◌, ◌<◌, inr, slice_index_or, ℕ, List, [], length, map, take, Bor, sym, subst, arith}
 use Rattle.std.proofs.lemmas.List.{length-map, get_or-map, take_more}
-use Rattle.cvss_base.specs.Refusal.{piece_at, IsFirstRefusalBehind}
+use Rattle.cvss_base.specs.Refusal.{piece_at, IsFirstRefusalAfter}
 use Rattle.cvss_v4.specs.Vector.{v4}
 use Rattle.cvss_base.specs.Version.{Denotes}
-use Rattle.cvss_ranking.specs.Faults.{InText, HasNoRefusalBefore, IsFirstRefused, TellsFault}
+use Rattle.cvss_ranking.specs.Faults.{InText, HasNoRefusalBefore, IsFirstRefused, ReportsFault}
 use Rattle.cvss_ranking.specs.Triage.{IsRow, IsRowOf}
 use Rattle.cvss_ranking.proofs.RankLemmas.{AreRows-push, HasNoRefusalBefore-more, first_place_same}
 use Rattle.cvss_ranking.proofs.rank.rows_of.Goals as goal
@@ -24,7 +24,7 @@ first c =
     let index = c.loop-index.index in
     record {
       within = within texts index c.loop-index-test.true;
-      is = subst (λ text. IsFirstRefusalBehind v4 text c.in-Err.ensures.refused.reason) (sym (here texts index _ c.loop-index-test.true)) c.in-Err.ensures.refused.first;
+      is = subst (λ text. IsFirstRefusalAfter v4 text c.in-Err.ensures.refused.reason) (sym (here texts index _ c.loop-index-test.true)) c.in-Err.ensures.refused.first;
       earlier = c.loop-index.invariant.1;
     }
 
@@ -33,7 +33,7 @@ returns-in-Err-clause-refused c = inr (record {
   place = c.loop-index.index;
   reason = c.in-Err.ensures.refused.reason;
   first = first c;
-  tells = c.of_text.ensures c.in-Err.ensures.refused.reason c.in-Err.ensures.refused.told;
+  reports = c.of_text.ensures c.in-Err.ensures.refused.reason c.in-Err.ensures.refused.reported;
 })
 
 pub returns-in-Err-clause-refuses : goal.returns-in-Err-clause-refuses
@@ -41,8 +41,8 @@ returns-in-Err-clause-refuses c = λ place reason is.
     let texts = c.args.texts.now in
     let index = c.loop-index.index in
     let same = first_place_same (texts_of texts) place index reason c.in-Err.ensures.refused.reason is (first c) in
-    let refused = subst (λ text. IsFirstRefusalBehind v4 text reason) (here texts index _ c.loop-index-test.true) (subst (λ each. IsFirstRefusalBehind v4 (piece_at (texts_of texts) each) reason) same is.is) in
-    subst (λ each. TellsFault (InText each reason) c.of_text.result) (sym same) (c.of_text.ensures reason (c.in-Err.ensures.refuses reason refused))
+    let refused = subst (λ text. IsFirstRefusalAfter v4 text reason) (here texts index _ c.loop-index-test.true) (subst (λ each. IsFirstRefusalAfter v4 (piece_at (texts_of texts) each) reason) same is.is) in
+    subst (λ each. ReportsFault (InText each reason) c.of_text.result) (sym same) (c.of_text.ensures reason (c.in-Err.ensures.refuses reason refused))
 
 pub loop-index-preserved : goal.loop-index-preserved
 loop-index-preserved c =
@@ -59,7 +59,7 @@ loop-index-preserved c =
     } in
     let rows = AreRows-push c.args.overrides.now (take index (texts_of texts)) c.loop-index.rows.items (piece_at (texts_of texts) index) c.in_ok-of-in-Ok.field-0 c.loop-index.invariant.0 row in (
       rw (take_more (texts_of texts) index [] (within texts index c.loop-index-test.true), c.in_ok-push-in-Ok.ensures.items) rows,
-      HasNoRefusalBefore-more (texts_of texts) index c.loop-index.invariant.1 (λ reason refused. c.in-Ok.ensures.refuses reason (subst (λ text. IsFirstRefusalBehind v4 text reason) (sym turn) refused)),
+      HasNoRefusalBefore-more (texts_of texts) index c.loop-index.invariant.1 (λ reason refused. c.in-Ok.ensures.refuses reason (subst (λ text. IsFirstRefusalAfter v4 text reason) (sym turn) refused)),
     )
 
 at_end : (c : goal.After-loop-index) → c.loop-index.index ≡ length (texts_of c.args.texts.now)

@@ -11,19 +11,19 @@ use crate::v4::scoring::classes::MacroVector;
 use crate::v4::scoring::placed::PlacedClass;
 use crate::v4::scoring::values::value_of;
 
-/// How far a class with EQ1 one higher stands behind another among the values.
+/// How far a class with EQ1 one higher follows another among the values.
 const EQ1_STEP: usize = 90;
 
-/// How far a class with EQ2 one higher stands behind another.
+/// How far a class with EQ2 one higher follows another.
 const EQ2_STEP: usize = 45;
 
-/// How far a class with the next pair of EQ3 with EQ6 stands behind another.
+/// How far a class with the next pair of EQ3 with EQ6 follows another.
 const PAIR_STEP: usize = 9;
 
-/// How far a class with EQ4 one higher stands behind another.
+/// How far a class with EQ4 one higher follows another.
 const EQ4_STEP: usize = 3;
 
-/// How far a class with EQ5 one higher stands behind another.
+/// How far a class with EQ5 one higher follows another.
 const EQ5_STEP: usize = 1;
 
 /// A next lower class with the value listed for it, in tenths.

@@ -11,23 +11,23 @@ returns-in-Some-kind_named g c =
     let parts = c.in-Some.ensures in
     record {
       cut = record {
-        named = named_known version g.met.V.Components.lawful _ c.in-Some-kind_named.kind c.in-Some-kind_named.ensures ∙ ap (read version) parts.name_is;
+        named = named_known version g.met.V.Components.version_laws _ c.in-Some-kind_named.kind c.in-Some-kind_named.ensures ∙ ap (read version) parts.name_is;
         value_is = parts.value_is;
         cut = parts.cut ∙ ap (λ name. component name c.in-Some.value.now) parts.name_is;
       };
       refused = tt;
       unnamed = tt;
-      tellable = λ _. tt;
+      printable = λ _. tt;
     }
 
 pub returns-in-None : goal.returns-in-None
 returns-in-None g c =
     let version = g.V.Components.version in
     let parts = c.in-Some.ensures in
-    let unknown = named_unknown version g.met.V.Components.lawful _ c.in-None.ensures in
+    let unknown = named_unknown version g.met.V.Components.version_laws _ c.in-None.ensures in
     record {
       cut = tt;
       refused = λ _ _. (ap (read version) parts.name_is, unknown);
       unnamed = λ _ kind named. unknown kind (named ∙ ap (read version) (sym parts.name_is));
-      tellable = IsUtf8-name _ _ _ parts.cut;
+      printable = IsUtf8-name _ _ _ parts.cut;
     }

@@ -7,8 +7,8 @@ use Rattle.cvss_text.proofs.front.start.Goals as goal
 found_same : (name bytes text : List ℕ) → false ≡ not (bytes_eq name bytes) → bytes ≡ text → name ≡ text
 found_same name bytes text found is = (bytes_eq-Decides _ _).0 (not-false _ (sym found)) ∙ is
 
-pub returns-then-ne-clause-tellable : goal.returns-then-ne-clause-tellable
-returns-then-ne-clause-tellable g c = IsUtf8-name _ _ _ c.in-Some.ensures.cut
+pub returns-then-ne-clause-printable : goal.returns-then-ne-clause-printable
+returns-then-ne-clause-printable g c = IsUtf8-name _ _ _ c.in-Some.ensures.cut
 
 pub returns-in-None-clause-refused : goal.returns-in-None-clause-refused
 returns-in-None-clause-refused g c = λ _. record {
@@ -17,5 +17,5 @@ returns-in-None-clause-refused g c = λ _. record {
   wrong = c.in-None.ensures.unsupported;
 }
 
-pub returns-in-None-clause-tellable : goal.returns-in-None-clause-tellable
-returns-in-None-clause-tellable g c = IsUtf8-value _ _ _ c.in-Some.ensures.cut
+pub returns-in-None-clause-printable : goal.returns-in-None-clause-printable
+returns-in-None-clause-printable g c = IsUtf8-value _ _ _ c.in-Some.ensures.cut

@@ -1,22 +1,22 @@
 use Rattle.std.proofs.Common.{◌≡◌, ℕ, List, ◌∷◌, Option, Some, None, ap, arith, option_map}
 use Rattle.cvss_base.specs.Text.{slash, component, value_part}
 use Rattle.cvss_base.specs.Version.{held}
-use Rattle.cvss_text.specs.private.Printing.{slashed}
+use Rattle.cvss_text.specs.private.Printing.{with_slash}
 use Rattle.cvss_base.specs.private.Component.{foreign_bytes}
 use Rattle.cvss_text.proofs.LawLemmas.{name_plain}
-use Rattle.cvss_text.proofs.TextLemmas.{is_colon, foreign_sorts, count_by-cons, value_behind}
+use Rattle.cvss_text.proofs.TextLemmas.{is_colon, foreign_sorts, count_by-cons, value_after}
 use Rattle.cvss_text.proofs.metrics.spelled.Goals as goal
 
 -- the printed component gives the spelling back
-held-from_slashed : (name : List ℕ) (held : Option (List ℕ)) (text : List ℕ) → foreign_bytes name ≡ 0 → Some text ≡ slashed (option_map (component name) held) → Some (value_part text) ≡ held
-held-from_slashed name None text plain is = absurd (let no : Some text ≡ None = is in cc)
-held-from_slashed name (Some spelling) text plain is =
+held-from_with_slash : (name : List ℕ) (held : Option (List ℕ)) (text : List ℕ) → foreign_bytes name ≡ 0 → Some text ≡ with_slash (option_map (component name) held) → Some (value_part text) ≡ held
+held-from_with_slash name None text plain is = absurd (let no : Some text ≡ None = is in cc)
+held-from_with_slash name (Some spelling) text plain is =
     let text_is : text ≡ component (slash ∷ name) spelling = cc in
-    rw text_is (ap Some (value_behind (slash ∷ name) spelling (omega (arith, count_by-cons is_colon slash name, foreign_sorts name))))
+    rw text_is (ap Some (value_after (slash ∷ name) spelling (omega (arith, count_by-cons is_colon slash name, foreign_sorts name))))
 
 pub returns : goal.returns
 returns g c =
     let version = g.V.Components.version in
-    rw c.behind_colon.ensures
-    (held-from_slashed (version.name c.args.kind) (held version c.args.vector.now c.args.kind) c.in_ok-slashed.field-0.now
-    (name_plain version g.met.V.Components.lawful c.args.kind) c.in_ok-slashed.ensures)
+    rw c.after_colon.ensures
+    (held-from_with_slash (version.name c.args.kind) (held version c.args.vector.now c.args.kind) c.in_ok-with_slash.field-0.now
+    (name_plain version g.met.V.Components.version_laws c.args.kind) c.in_ok-with_slash.ensures)

@@ -10,30 +10,30 @@ use Rattle.cvss_text.proofs.setting.build.Goals as goal
 pub returns-in-Some : goal.returns-in-Some
 returns-in-Some g c =
     let version = g.V.Components.version in
-    let lawful = g.met.V.Components.lawful in
+    let version_laws = g.met.V.Components.version_laws in
     let front = version.front c.args.empty in
     let parts = pieces c.args.text.now in
     let read = c.in-Ok.ensures.read in
-    let missing = IsFirstMissing-from version lawful parts c.in-Ok.given c.in-Some.kind read.read (LacksFirst-from version c.in-Ok.given c.in-Some.kind (sym c.in-Some.ensures)) in
-    IsAnswered-Err version lawful (IsBuilt version front parts) (IsBuildReason version parts) (build_reasons_same version lawful parts) (built_no_reason version lawful front parts) None (MissingMandatoryMetric c.in-Some.kind) (read.right, missing) tt
+    let missing = IsFirstMissing-from version version_laws parts c.in-Ok.given c.in-Some.kind read.read (LacksFirst-from version c.in-Ok.given c.in-Some.kind (sym c.in-Some.ensures)) in
+    IsAnswered-Err version version_laws (IsBuilt version front parts) (IsBuildReason version parts) (build_reasons_same version version_laws parts) (built_no_reason version version_laws front parts) None (MissingMandatoryMetric c.in-Some.kind) (read.right, missing) tt
 
 pub returns-in-None : goal.returns-in-None
 returns-in-None g c =
     let version = g.V.Components.version in
-    let lawful = g.met.V.Components.lawful in
+    let version_laws = g.met.V.Components.version_laws in
     let front = version.front c.args.empty in
     let parts = pieces c.args.text.now in
-    IsAnswered-Ok version lawful (IsBuilt version front parts) (IsBuildReason version parts) (built_once version lawful front parts) (built_no_reason version lawful front parts) c.in-Ok.given
+    IsAnswered-Ok version version_laws (IsBuilt version front parts) (IsBuildReason version parts) (built_once version version_laws front parts) (built_no_reason version version_laws front parts) c.in-Ok.given
     (record {
       front_is = c.in-Ok.ensures.front;
-      components = AreComponentsOf-all version lawful parts c.in-Ok.given c.in-Ok.ensures.read.read;
+      components = AreComponentsOf-all version version_laws parts c.in-Ok.given c.in-Ok.ensures.read.read;
       complete = IsComplete-from version c.in-Ok.given (sym c.in-None.ensures);
     })
 
 pub returns-in-Err : goal.returns-in-Err
 returns-in-Err g c =
     let version = g.V.Components.version in
-    let lawful = g.met.V.Components.lawful in
+    let version_laws = g.met.V.Components.version_laws in
     let front = version.front c.args.empty in
     let parts = pieces c.args.text.now in
-    IsAnswered-Err version lawful (IsBuilt version front parts) (IsBuildReason version parts) (build_reasons_same version lawful parts) (built_no_reason version lawful front parts) (Some c.in-Err.index) c.in-Err.fault c.in-Err.ensures.refused c.in-Err.ensures.bound
+    IsAnswered-Err version version_laws (IsBuilt version front parts) (IsBuildReason version parts) (build_reasons_same version version_laws parts) (built_no_reason version version_laws front parts) (Some c.in-Err.index) c.in-Err.fault c.in-Err.ensures.refused c.in-Err.ensures.bound

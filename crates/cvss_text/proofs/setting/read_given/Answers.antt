@@ -12,7 +12,7 @@ use Rattle.cvss_text.proofs.setting.read_given.Goals as goal
 
 pub loop-piece-init : goal.loop-piece-init
 loop-piece-init g c =
-    (refl, HasReadGiven-none g.V.Components.version g.met.V.Components.lawful (pieces c.args.text.now) c.args.empty c.requires, refl)
+    (refl, HasReadGiven-none g.V.Components.version g.met.V.Components.version_laws (pieces c.args.text.now) c.args.empty c.requires, refl)
 
 pub loop-piece-preserved : goal.loop-piece-preserved
 loop-piece-preserved g c =
@@ -20,7 +20,7 @@ loop-piece-preserved g c =
     let here = piece_here (pieces c.args.text.now) c.loop-piece.index (length c.loop-piece.yielded) c.as_bytes.result.now c.in-Some.piece.now c.loop-piece.invariant.0 c.as_bytes.ensures.value turn.0 turn.1 in
     let read = c.in_default.ensures in (
       omega (arith, c.loop-piece.invariant.0, length-append c.loop-piece.yielded (c.in-Some.piece ∷ [])),
-      HasReadGiven-more g.V.Components.version g.met.V.Components.lawful (pieces c.args.text.now) c.loop-piece.index here.0 c.as_bytes.result.now here.1 c.loop-piece.given c.read_one.new.given read.component read.read c.loop-piece.invariant.1,
+      HasReadGiven-more g.V.Components.version g.met.V.Components.version_laws (pieces c.args.text.now) c.loop-piece.index here.0 c.as_bytes.result.now here.1 c.loop-piece.given c.read_one.new.given read.component read.read c.loop-piece.invariant.1,
       read.read.puts.front ∙ c.loop-piece.invariant.2,
     )
 
@@ -33,12 +33,12 @@ pub returns-in-Err-clause-refused : goal.returns-in-Err-clause-refused
 returns-in-Err-clause-refused g c =
     let turn = YieldsList-turn (YieldsList-from_str_split 47 c.args.text.now (omega arith) (cc) (cc) (cc)) c.loop-piece.yielded _ c.loop-piece.yielded_by _ _ c.in-Some.piece c.in-Some.is c.next.ensures.steps in
     let here = piece_here (pieces c.args.text.now) c.loop-piece.index (length c.loop-piece.yielded) c.as_bytes.result.now c.in-Some.piece.now c.loop-piece.invariant.0 c.as_bytes.ensures.value turn.0 turn.1 in
-    IsFirstWrong-at g.V.Components.version g.met.V.Components.lawful (pieces c.args.text.now) c.loop-piece.index here.0 c.as_bytes.result.now here.1 c.loop-piece.given (reason_of g.V.Components.version c.in-Err.fault) c.in-Err.ensures.refused c.loop-piece.invariant.1
+    IsFirstWrong-at g.V.Components.version g.met.V.Components.version_laws (pieces c.args.text.now) c.loop-piece.index here.0 c.as_bytes.result.now here.1 c.loop-piece.given (reason_of g.V.Components.version c.in-Err.fault) c.in-Err.ensures.refused c.loop-piece.invariant.1
 
 pub returns-in-Err-clause-bound : goal.returns-in-Err-clause-bound
 returns-in-Err-clause-bound g c =
     let turn = YieldsList-turn (YieldsList-from_str_split 47 c.args.text.now (omega arith) (cc) (cc) (cc)) c.loop-piece.yielded _ c.loop-piece.yielded_by _ _ c.in-Some.piece c.in-Some.is c.next.ensures.steps in
-    HasReadGiven-most g.V.Components.version g.met.V.Components.lawful (pieces c.args.text.now) c.loop-piece.index c.loop-piece.given (omega (arith, c.loop-piece.invariant.0, turn.0)) c.loop-piece.invariant.1
+    HasReadGiven-most g.V.Components.version g.met.V.Components.version_laws (pieces c.args.text.now) c.loop-piece.index c.loop-piece.given (omega (arith, c.loop-piece.invariant.0, turn.0)) c.loop-piece.invariant.1
 
 pub returns-clause-read : goal.returns-clause-read
 returns-clause-read g c =

@@ -11,21 +11,21 @@ use Rattle.cvss_text.proofs.setting.set.Goals as goal
 pub returns-then-is_empty : goal.returns-then-is_empty
 returns-then-is_empty g c =
     let version = g.V.Components.version in
-    let lawful = g.met.V.Components.lawful in
+    let version_laws = g.met.V.Components.version_laws in
     let v = c.args.vector.now in
     let parts = components_in c.args.text.now in
-    IsAnswered-Ok version lawful (IsSet version v parts) (IsSetReason version parts) (set_once version lawful v parts) (set_no_reason version lawful v parts) v
-    (IsSet-none version lawful v parts c.args.empty c.requires.valueless (components_in-none c.args.text.now (grind (arith, nat_tests))))
+    IsAnswered-Ok version version_laws (IsSet version v parts) (IsSetReason version parts) (set_once version version_laws v parts) (set_no_reason version version_laws v parts) v
+    (IsSet-none version version_laws v parts c.args.empty c.requires.valueless (components_in-none c.args.text.now (grind (arith, nat_tests))))
 
 pub returns-in-Ok : goal.returns-in-Ok
 returns-in-Ok g c =
     let version = g.V.Components.version in
-    let lawful = g.met.V.Components.lawful in
+    let version_laws = g.met.V.Components.version_laws in
     let v = c.args.vector.now in
     let parts = components_in c.args.text.now in
     let given = c.in-Ok.given in
-    let components = AreComponentsOf-all version lawful (pieces c.args.text.now) given c.in-Ok.ensures.read.read in
-    IsAnswered-Ok version lawful (IsSet version v parts) (IsSetReason version parts) (set_once version lawful v parts) (set_no_reason version lawful v parts) _
+    let components = AreComponentsOf-all version version_laws (pieces c.args.text.now) given c.in-Ok.ensures.read.read in
+    IsAnswered-Ok version version_laws (IsSet version v parts) (IsSetReason version parts) (set_once version version_laws v parts) (set_no_reason version version_laws v parts) _
     (record {
       given = given;
       components = subst (λ each. AreComponentsOf version each given) (components_in-some c.args.text.now (grind (arith, nat_tests))) components;
@@ -36,8 +36,8 @@ returns-in-Ok g c =
 pub returns-in-Err : goal.returns-in-Err
 returns-in-Err g c =
     let version = g.V.Components.version in
-    let lawful = g.met.V.Components.lawful in
+    let version_laws = g.met.V.Components.version_laws in
     let v = c.args.vector.now in
     let parts = components_in c.args.text.now in
     let first = subst (λ each. IsFirstWrong version each c.in-Err.index (reason_of version c.in-Err.fault)) (components_in-some c.args.text.now (grind (arith, nat_tests))) c.in-Err.ensures.refused in
-    IsAnswered-Err version lawful (IsSet version v parts) (IsSetReason version parts) (set_reasons_same version lawful v parts) (set_no_reason version lawful v parts) (Some c.in-Err.index) c.in-Err.fault first c.in-Err.ensures.bound
+    IsAnswered-Err version version_laws (IsSet version v parts) (IsSetReason version parts) (set_reasons_same version version_laws v parts) (set_no_reason version version_laws v parts) (Some c.in-Err.index) c.in-Err.fault first c.in-Err.ensures.bound

@@ -11,8 +11,8 @@ returns-in_err-kind-clause-refused g c =
 pub returns-clause-component : goal.returns-clause-component
 returns-clause-component g c =
     on_ok_weaker c.put_component.result
-    (IsComponent-read g.V.Components.version g.met.V.Components.lawful c.in_ok-kind.ensures.cut)
+    (IsComponent-read g.V.Components.version g.met.V.Components.version_laws c.in_ok-kind.ensures.cut)
     c.put_component.ensures.put
 
-pub returns-clause-tellable : goal.returns-clause-tellable
-returns-clause-tellable g c = λ is. c.put_component.ensures.tellable (IsUtf8-value _ _ _ c.in_ok-kind.ensures.cut.cut is)
+pub returns-clause-printable : goal.returns-clause-printable
+returns-clause-printable g c = λ is. c.put_component.ensures.printable (IsUtf8-value _ _ _ c.in_ok-kind.ensures.cut.cut is)

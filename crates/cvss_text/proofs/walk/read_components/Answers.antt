@@ -5,34 +5,34 @@ use Rattle.cvss_text.proofs.WalkLemmas.{HasReadTo-start, HasReadTo-all, HasReadT
 use Rattle.cvss_text.proofs.walk.read_components.Goals as goal
 
 pub loop-text-init : goal.loop-text-init
-loop-text-init g c = (HasReadTo-start g.V.Components.version g.met.V.Components.lawful (pieces_left c.args.left) c.args.vector.now c.requires, refl)
+loop-text-init g c = (HasReadTo-start g.V.Components.version g.met.V.Components.version_laws (pieces_left c.args.left) c.args.vector.now c.requires, refl)
 
 pub loop-text-preserved : goal.loop-text-preserved
 loop-text-preserved g c =
     let first = c.in-Ok.ensures.read in
-    (HasReadTo-more g.V.Components.version g.met.V.Components.lawful (pieces_left c.args.left) _ c.in-Some.text.now c.loop-text.vector c.in-Some.ensures c.loop-text.invariant.0 c.read_first.new.vector _ first, first.adds.puts.front ∙ c.loop-text.invariant.1)
+    (HasReadTo-more g.V.Components.version g.met.V.Components.version_laws (pieces_left c.args.left) _ c.in-Some.text.now c.loop-text.vector c.in-Some.ensures c.loop-text.invariant.0 c.read_first.new.vector _ first, first.adds.puts.front ∙ c.loop-text.invariant.1)
 
 pub returns-in-Some-first_bad_piece-clause-refused : goal.returns-in-Some-first_bad_piece-clause-refused
 returns-in-Some-first_bad_piece-clause-refused g c =
-    IsFirstBadPiece-to g.V.Components.version g.met.V.Components.lawful (pieces_left c.args.left) _ c.in-Some.text.now c.loop-text.vector c.in-Some.ensures c.loop-text.invariant.0 c.in-Some-first_bad_piece.piece.now c.in-Some-first_bad_piece.ensures
+    IsFirstBadPiece-to g.V.Components.version g.met.V.Components.version_laws (pieces_left c.args.left) _ c.in-Some.text.now c.loop-text.vector c.in-Some.ensures c.loop-text.invariant.0 c.in-Some-first_bad_piece.piece.now c.in-Some-first_bad_piece.ensures
 
-pub returns-in-Some-first_bad_piece-clause-tellable : goal.returns-in-Some-first_bad_piece-clause-tellable
-returns-in-Some-first_bad_piece-clause-tellable g c = λ is.
+pub returns-in-Some-first_bad_piece-clause-printable : goal.returns-in-Some-first_bad_piece-clause-printable
+returns-in-Some-first_bad_piece-clause-printable g c = λ is.
     let bad = c.in-Some-first_bad_piece.ensures in
-    rw bad.is (first_utf8 g.V.Components.version g.met.V.Components.lawful (pieces_left c.args.left) _ c.in-Some.text.now c.loop-text.vector c.in-Some.ensures c.loop-text.invariant.0 is bad.place [] bad.within)
+    rw bad.is (first_utf8 g.V.Components.version g.met.V.Components.version_laws (pieces_left c.args.left) _ c.in-Some.text.now c.loop-text.vector c.in-Some.ensures c.loop-text.invariant.0 is bad.place [] bad.within)
 
 pub returns-in-None-clause-refused : goal.returns-in-None-clause-refused
 returns-in-None-clause-refused g c =
-    IsFirstOfPieces-fault g.V.Components.version g.met.V.Components.lawful (pieces_left c.args.left) _ c.in-Some.text.now c.loop-text.vector c.in-Some.ensures c.loop-text.invariant.0 (reason_of g.V.Components.version c.in-Err.fault) c.in-Err.ensures.refused c.in-None.ensures
+    IsFirstOfPieces-fault g.V.Components.version g.met.V.Components.version_laws (pieces_left c.args.left) _ c.in-Some.text.now c.loop-text.vector c.in-Some.ensures c.loop-text.invariant.0 (reason_of g.V.Components.version c.in-Err.fault) c.in-Err.ensures.refused c.in-None.ensures
 
-pub returns-in-None-clause-tellable : goal.returns-in-None-clause-tellable
-returns-in-None-clause-tellable g c = λ is.
-    c.in-Err.ensures.tellable (first_utf8 g.V.Components.version g.met.V.Components.lawful (pieces_left c.args.left) _ c.in-Some.text.now c.loop-text.vector c.in-Some.ensures c.loop-text.invariant.0 is)
+pub returns-in-None-clause-printable : goal.returns-in-None-clause-printable
+returns-in-None-clause-printable g c = λ is.
+    c.in-Err.ensures.printable (first_utf8 g.V.Components.version g.met.V.Components.version_laws (pieces_left c.args.left) _ c.in-Some.text.now c.loop-text.vector c.in-Some.ensures c.loop-text.invariant.0 is)
 
 pub returns-clause-read : goal.returns-clause-read
 returns-clause-read g c =
-    (HasReadTo-all g.V.Components.version g.met.V.Components.lawful (pieces_left c.args.left) _ c.loop-text.vector c.in_default.ensures c.loop-text.invariant.0).0
+    (HasReadTo-all g.V.Components.version g.met.V.Components.version_laws (pieces_left c.args.left) _ c.loop-text.vector c.in_default.ensures c.loop-text.invariant.0).0
 
 pub returns-clause-components : goal.returns-clause-components
 returns-clause-components g c =
-    (HasReadTo-all g.V.Components.version g.met.V.Components.lawful (pieces_left c.args.left) _ c.loop-text.vector c.in_default.ensures c.loop-text.invariant.0).1
+    (HasReadTo-all g.V.Components.version g.met.V.Components.version_laws (pieces_left c.args.left) _ c.loop-text.vector c.in_default.ensures c.loop-text.invariant.0).1

@@ -12,12 +12,12 @@ returns-in_err-kind-clause-refused g c =
     let exit = err_from_is_err_and c.from_residual.result c.from_residual.ensures.1 in
     rw (exit.1, exit.2) (c.in_err-kind.ensures.refused c.args.vector.now)
 
-pub returns-in_err-put_component-clause-tellable : goal.returns-in_err-put_component-clause-tellable
-returns-in_err-put_component-clause-tellable g c = λ is.
+pub returns-in_err-put_component-clause-printable : goal.returns-in_err-put_component-clause-printable
+returns-in_err-put_component-clause-printable g c = λ is.
     let exit = err_from_is_err_and c.from_residual-in_err-put_component.result c.from_residual-in_err-put_component.ensures.1 in
     let cut = c.in_ok-kind.ensures.cut in
     let piece = All-head IsUtf8 _ _ (subst (All IsUtf8) cut.first is) in
-    rw (exit.1, exit.2) (c.in_err-put_component.ensures.tellable (IsUtf8-value _ _ _ cut.is.cut piece))
+    rw (exit.1, exit.2) (c.in_err-put_component.ensures.printable (IsUtf8-value _ _ _ cut.is.cut piece))
 
 pub returns-clause-read : goal.returns-clause-read
 returns-clause-read g c =
@@ -27,7 +27,7 @@ returns-clause-read g c =
     record {
       piece = cut.piece;
       first = cut.first;
-      component = IsComponent-read version g.met.V.Components.lawful cut.is puts;
+      component = IsComponent-read version g.met.V.Components.version_laws cut.is puts;
       adds = record {
         kind = c.in_ok-kind.kind;
         named = cut.is.named;

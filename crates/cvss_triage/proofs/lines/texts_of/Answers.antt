@@ -9,6 +9,6 @@ loop-line-preserved c =
     let line = c.in-Some.line.now in
     let is = c.in-Ok.ensures.cases in
     rw c.in_ok-push.ensures.items (
-      lines_more texts text line (lines c.args.input.now) (lines c.loop-line.rest.now) (lines c.in-Some.behind.now) c.loop-line.invariant.0 c.in-Some.ensures.0 is.0,
+      lines_more texts text line (lines c.args.input.now) (lines c.loop-line.rest.now) (lines c.in-Some.after.now) c.loop-line.invariant.0 c.in-Some.ensures.0 is.0,
       utf8_more texts text line c.loop-line.invariant.1 is.0 is.1,
     )

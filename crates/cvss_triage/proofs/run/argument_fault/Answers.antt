@@ -1,8 +1,8 @@
 use Rattle.std.proofs.Common.{◌≡◌, ◌⊎◌, [], length, refl, subst}
 use Rattle.cvss_v4.specs.Overriding.{AreOverrides}
-use Rattle.cvss_ranking.specs.Faults.{TellsFirstFault}
+use Rattle.cvss_ranking.specs.Faults.{ReportsFirstFault}
 use Rattle.cvss_ranking.specs.declared.error.TriageError.TheVariants.{OutOfMemory}
-use Rattle.cvss_triage.proofs.RunLemmas.{TellsArgument-from}
+use Rattle.cvss_triage.proofs.RunLemmas.{ReportsArgument-from}
 use Rattle.cvss_triage.proofs.run.argument_fault.Goals as goal
 
 pub returns-in-Ok : goal.returns-in-Ok
@@ -13,5 +13,5 @@ returns-in-Ok c = λ arguments are.
 pub returns : goal.returns
 returns c = λ arguments are.
     let error = c.in-Err.error in
-    let told = subst (λ list. (error ≡ OutOfMemory) ⊎ TellsFirstFault [] list error) are c.in-Err.ensures.refused in
-    rw c.from.ensures (TellsArgument-from arguments (length c.args.overrides.now) error told)
+    let reported = subst (λ list. (error ≡ OutOfMemory) ⊎ ReportsFirstFault [] list error) are c.in-Err.ensures.refused in
+    rw c.from.ensures (ReportsArgument-from arguments (length c.args.overrides.now) error reported)

@@ -1,7 +1,7 @@
 use Rattle.std.proofs.Common.{map, subst}
 use Rattle.std.proofs.lemmas.Result.{err_from_is_err_and}
-use Rattle.cvss_triage.specs.Runs.{ReadsAll, TellsOf}
-use Rattle.cvss_triage.proofs.RunLemmas.{IsTold-from}
+use Rattle.cvss_triage.specs.Runs.{ReadsAll, ReportsOf}
+use Rattle.cvss_triage.proofs.RunLemmas.{IsReported-from}
 use Rattle.cvss_triage.proofs.run.run.Goals as goal
 
 pub returns-in_err-text-clause-refused : goal.returns-in_err-text-clause-refused
@@ -14,5 +14,5 @@ returns-in_err-text-clause-refused g c =
       consumed = c.in_ok-input.ensures.whole.0;
       at_end = c.in_ok-input.ensures.whole.1;
     } in
-    let told = subst (λ bytes. TellsOf overrides bytes error) c.deref.ensures.value c.in_err-text.ensures.refused in
-    rw (exit.1, exit.2) (IsTold-from overrides _ _ input reads error told)
+    let reported = subst (λ bytes. ReportsOf overrides bytes error) c.deref.ensures.value c.in_err-text.ensures.refused in
+    rw (exit.1, exit.2) (IsReported-from overrides _ _ input reads error reported)

@@ -1,12 +1,12 @@
 use Rattle.std.proofs.Common.{rules, arith}
 use Rattle.cvss_base.specs.declared.v2.MetricType.TheVariants.{A}
-use Rattle.cvss_text.proofs.EqualLemmas.{Telling, comparisons}
+use Rattle.cvss_text.proofs.EqualLemmas.{Reporting, comparisons}
 use Rattle.cvss_v2.specs.contracts.vector.VectorEq.TheImpl.Laws.{laws-law}
 use Rattle.cvss_v2.proofs.laws.vectors_are_their_values.Goals as goal
 
 pub returns-clause-equality : goal.returns-clause-equality
 returns-clause-equality c = λ left right. (
-  λ equal. let facts = Telling.fact (search comparisons depth 60) equal in grind arith,
+  λ equal. let facts = Reporting.fact (search comparisons depth 60) equal in grind arith,
   λ same. let own = laws-law.refl left in cc,
 )
 

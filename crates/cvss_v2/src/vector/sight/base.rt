@@ -1,7 +1,7 @@
 //! The base metrics of a text that is recognised.
 
 ghost use Rattle.std.specs.Prelude.{◌≡◌, IfSome, None, [], ◌∷◌, ◌++◌};
-ghost use Rattle.cvss_text.specs.private.Printing.{slashed_texts};
+ghost use Rattle.cvss_text.specs.private.Printing.{texts_with_slash};
 ghost use Rattle.cvss_text.specs.private.Walk.{first_missing};
 ghost use Rattle.cvss_base.specs.Text.{slash};
 ghost use Rattle.cvss_base.specs.declared.v2.MetricType.TheVariants.{A, AC, AV, Au, C, I, E, RL, RC, CDP, TD, CR, IR, AR};
@@ -10,7 +10,7 @@ ghost use Rattle.cvss_v2.specs.Vector.{v2};
 
 use super::letter_at_sight;
 use crate::vector::Vector;
-use cvss_text::sight::behind_name;
+use cvss_text::sight::rest_after_name;
 use cvss_v2_metric::Spelled;
 use cvss_v2_metric::base::AccessVector;
 
@@ -18,9 +18,9 @@ use cvss_v2_metric::base::AccessVector;
 #[inline(always)]
 pub(super) fn base_at_sight(text: &[u8]) -> Option<(Vector, &[u8])>
     ensures text { IfSome result (λ read. slash ∷ text.now
-        ≡ slashed_texts v2 read.0 (AV ∷ AC ∷ Au ∷ C ∷ I ∷ A ∷ []) ++ read.1.now) }
+        ≡ texts_with_slash v2 read.0 (AV ∷ AC ∷ Au ∷ C ∷ I ∷ A ∷ []) ++ read.1.now) }
     ensures present { IfSome result (λ read. first_missing v2 read.0 ≡ None) }
-    ensures bare { IfSome result (λ read. slashed_texts v2 read.0
+    ensures bare { IfSome result (λ read. texts_with_slash v2 read.0
         (E ∷ RL ∷ RC ∷ CDP ∷ TD ∷ CR ∷ IR ∷ AR ∷ []) ≡ []) }
 {
     // No six base metrics are shorter, so their lengths are compared once.
@@ -44,7 +44,7 @@ pub(super) fn base_at_sight(text: &[u8]) -> Option<(Vector, &[u8])>
 }
 
 /// The values of three base metrics, where a text begins with a slash and the component of each, and
-/// what stands behind them.
+/// what follows them.
 #[inline(always)]
 fn three_at_sight<K: Spelled, L: Spelled, M: Spelled>(text: &[u8]) -> Option<(K, L, M, &[u8])>
     ensures { IfSome result (λ read. text.now
@@ -58,7 +58,7 @@ fn three_at_sight<K: Spelled, L: Spelled, M: Spelled>(text: &[u8]) -> Option<(K,
     Some((first, second, third, text))
 }
 
-/// The value of the first metric, with whose component a text begins, and what stands behind it.
+/// The value of the first metric, with whose component a text begins, and what follows it.
 #[inline(always)]
 fn first_at_sight(text: &[u8]) -> Option<(AccessVector, &[u8])>
     ensures { IfSome result (λ read. text.now ≡ metric_component AV read.0 ++ read.1.now) }
@@ -70,11 +70,11 @@ fn first_at_sight(text: &[u8]) -> Option<(AccessVector, &[u8])>
 }
 
 /// The value of a base metric, where a text begins with a slash and its component, and what stands
-/// behind that.
+/// after that.
 #[inline(always)]
 fn base_component_at_sight<M: Spelled>(text: &[u8]) -> Option<(M, &[u8])>
     ensures { IfSome result
         (λ read. text.now ≡ slash ∷ (metric_component M.KIND (M.value read.0) ++ read.1.now)) }
 {
-    letter_at_sight(behind_name(M::KIND.name(), text)?)
+    letter_at_sight(rest_after_name(M::KIND.name(), text)?)
 }

@@ -6,24 +6,24 @@ use Rattle.cvss_v3_metric.specs.declared.environmental.modified.Modified.{Modifi
 use Rattle.cvss_v3_metric.specs.declared.environmental.modified.Modified.TheVariants.{NotDefined, Modified as Set}
 use Rattle.cvss_v3_metric.specs.declared.environmental.modified.ModifiedScope.{ModifiedScope}
 use Rattle.cvss_v3_metric.specs.private.ModifiedLaws.{modified_equality}
-use Rattle.cvss_text.proofs.EqualLemmas.{Tells, Telling, options, comparisons}
+use Rattle.cvss_text.proofs.EqualLemmas.{Reports, Reporting, options, comparisons}
 use Rattle.cvss_v3.specs.contracts.vector.VectorEq.TheImpl.Laws.{laws-law}
 use Rattle.cvss_v3.proofs.laws.vectors_are_their_values.Goals as goal
 
-scopes : (x y : ModifiedScope) → Tells (ghosts.eq x y) (x ≡ y)
-scopes x y = record { tells = search rules }
+scopes : (x y : ModifiedScope) → Reports (ghosts.eq x y) (x ≡ y)
+scopes x y = record { reports = search rules }
 
--- options of modified values, where those of the base metric tell their equality
+-- options of modified values, where those of the base metric say their equality
 abbrev modified : {X : Type 0} (same : Modified X → Modified X → Bool) (o p : Option (Modified X))
-    → ((a b : X) → Tells (same (Set a) (Set b)) (a ≡ b)) → same NotDefined NotDefined ≡ true
-    → ((b : X) → same NotDefined (Set b) ≡ false) → ((a : X) → same (Set a) NotDefined ≡ false) → Telling (option_eq same o p)
+    → ((a b : X) → Reports (same (Set a) (Set b)) (a ≡ b)) → same NotDefined NotDefined ≡ true
+    → ((b : X) → same NotDefined (Set b) ≡ false) → ((a : X) → same (Set a) NotDefined ≡ false) → Reporting (option_eq same o p)
 modified same o p each none before after =
-    let by_value = modified_equality {equals = λ a b. same (Set a) (Set b)} same (λ a b. (each a b).tells) none before after (λ a b. refl) in
-    options same o p (λ x y. record { tells = by_value x y })
+    let by_value = modified_equality {equals = λ a b. same (Set a) (Set b)} same (λ a b. (each a b).reports) none before after (λ a b. refl) in
+    options same o p (λ x y. record { reports = by_value x y })
 
 pub returns-clause-equality : goal.returns-clause-equality
 returns-clause-equality c = λ left right. (
-  λ equal. let facts = Telling.fact (search (modified, comparisons, scopes) depth 60 fits 4000) equal in grind arith,
+  λ equal. let facts = Reporting.fact (search (modified, comparisons, scopes) depth 60 fits 4000) equal in grind arith,
   λ same. let own = laws-law.refl left in cc,
 )
 

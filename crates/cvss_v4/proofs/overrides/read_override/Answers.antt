@@ -7,7 +7,7 @@ use Rattle.cvss_base.specs.V4Types.{group_of}
 use Rattle.cvss_base.specs.declared.group.MetricGroup.TheVariants.{Environmental}
 use Rattle.cvss_v4.proofs.OverridingLemmas.{names_no_other, component_objection}
 use Rattle.cvss_v4.specs.Vector.{v4}
-use Rattle.cvss_v4.specs.private.VectorLaws.{v4_is_lawful}
+use Rattle.cvss_v4.specs.private.VectorLaws.{v4_laws}
 use Rattle.cvss_v4.proofs.overrides.read_override.Goals as goal
 
 pub returns-in_err-kind-clause-refused : goal.returns-in_err-kind-clause-refused
@@ -30,5 +30,5 @@ returns-clause-read c =
     let adds = c.in_ok-read_component.ensures.read in
     record {
       adds = adds;
-      environmental = subst (λ kind. group_of kind ≡ Environmental) (names_differ v4 v4_is_lawful c.in_ok-kind.kind adds.kind (c.in_ok-kind.ensures.cut.named ∙ sym adds.named)) environment;
+      environmental = subst (λ kind. group_of kind ≡ Environmental) (names_differ v4 v4_laws c.in_ok-kind.kind adds.kind (c.in_ok-kind.ensures.cut.named ∙ sym adds.named)) environment;
     }

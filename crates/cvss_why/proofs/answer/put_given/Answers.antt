@@ -1,6 +1,6 @@
 use Rattle.std.proofs.Common.{codes, ap, sym, ◌∙◌}
 use Rattle.std.proofs.lemmas.Result.{on_ok_weaker}
-use Rattle.cvss_tree.specs.Objects.{with_members}
+use Rattle.cvss_json_tree.specs.Objects.{with_members}
 use Rattle.serde_json.specs.Data.{put, string}
 use Rattle.serde_json.specs.View.{members_view}
 use Rattle.cvss_why.proofs.GivenLemmas.{nothing_given, text_given}

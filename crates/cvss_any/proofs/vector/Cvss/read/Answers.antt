@@ -14,4 +14,4 @@ returns-in-Err-clause-not_utf8 c = λ no_text.
 
 pub returns-in-Err-clause-refuses : goal.returns-in-Err-clause-refuses
 returns-in-Err-clause-refuses c = λ reason first.
-    subst (λ told. IsReadErrorFor c.args.text.now told c.read_error_of.result) (c.in-Err.ensures.refuses reason first) c.read_error_of.ensures
+    subst (λ reported. IsReadErrorFor c.args.text.now reported c.read_error_of.result) (c.in-Err.ensures.refuses reason first) c.read_error_of.ensures

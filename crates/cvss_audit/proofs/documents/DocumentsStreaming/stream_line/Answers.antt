@@ -1,7 +1,7 @@
 use Rattle.std.proofs.Common.{◌≡◌, [], ◌∷◌, None, Some, refl, sym, subst, inl, inr, append-nil}
 use Rattle.std.proofs.lemmas.Bool.{iff_false}
 use Rattle.std.proofs.lemmas.Result.{IfOk-weaker, MatchResult-weaker}
-use Rattle.cvss_lines.proofs.StepsLemmas.{told_fault}
+use Rattle.cvss_lines.proofs.StepsLemmas.{reported_fault}
 use Rattle.cvss_lines.proofs.TextsLemmas.{one_text}
 use Rattle.cvss_lines.specs.Answers.{Accepted, Refused}
 use Rattle.cvss_lines.specs.declared.fault.RunFault.TheVariants.{Memory}
@@ -19,7 +19,7 @@ returns-then-is_passed_over-clause-streamed g c =
 
 pub returns-in_err-refuse_line-clause-stopped : goal.returns-in_err-refuse_line-clause-stopped
 returns-in_err-refuse_line-clause-stopped g c =
-    told_fault c.from_residual.result Memory _ c.from_residual.ensures.1
+    reported_fault c.from_residual.result Memory _ c.from_residual.ensures.1
     (Stops-waiting c.args.number c.args.line.now c.args.answers.now.bytes.items (g.W.Write.contents c.args.writer.now))
 
 pub returns-in_default-clause-streamed : goal.returns-in_default-clause-streamed
@@ -35,7 +35,7 @@ returns-in_default-clause-streamed g c =
 
 pub returns-in_err-refuse_line-in-Err-2-clause-stopped : goal.returns-in_err-refuse_line-in-Err-2-clause-stopped
 returns-in_err-refuse_line-in-Err-2-clause-stopped g c =
-    told_fault c.from_residual-in_err-refuse_line-in-Err-2.result Memory _ c.from_residual-in_err-refuse_line-in-Err-2.ensures.1
+    reported_fault c.from_residual-in_err-refuse_line-in-Err-2.result Memory _ c.from_residual-in_err-refuse_line-in-Err-2.ensures.1
     (Stops-waiting c.args.number c.args.line.now c.args.answers.now.bytes.items (g.W.Write.contents c.args.writer.now))
 
 pub returns-in-Ok-from_str-clause-streamed : goal.returns-in-Ok-from_str-clause-streamed

@@ -13,8 +13,8 @@ returns-then-has_values c =
     let object = c.args.object in
     let all = members_view object.now.entries in
     let value = view c.in-Some.value.now in
-    let behind = members_view c.next.new.self in
-    let next = ap members_view c.in-Some.ensures.steps ∙ ap (λ text. member text value behind) (sym c.as_str-name.ensures.value) in
+    let after = members_view c.next.new.self in
+    let next = ap members_view c.in-Some.ensures.steps ∙ ap (λ text. member text value after) (sym c.as_str-name.ensures.value) in
     let kept = ap (λ levels. levels ++ level_of c.args.step (Members object c.next.new.self) ∷ []) c.loop-name.invariant.kept in
     on_ok_weaker c.push-then-has_values.result
     (λ second. Visits-over c.args.self.now.levels.items _ c.args.step (Members object c.args.members) (Members object c.loop-name.rest) c.loop-name.invariant.over

@@ -4,7 +4,7 @@ use Rattle.std.proofs.lemmas.List.{nil_from_length}
 use Rattle.cvss_lines.specs.Lines.{line_text}
 use Rattle.cvss_lines.specs.private.Steps.{Answers, StopsAnswering}
 use Rattle.cvss_lines.specs.declared.fault.RunFault.TheVariants.{Memory}
-use Rattle.cvss_lines.proofs.StepsLemmas.{StopsAnswering-memory, none_ok, told_fault}
+use Rattle.cvss_lines.proofs.StepsLemmas.{StopsAnswering-memory, none_ok, reported_fault}
 use Rattle.cvss_lines.proofs.pending.Pending.end_line.Goals as goal
 
 pub returns-then-is_empty-clause-answered : goal.returns-then-is_empty-clause-answered
@@ -17,7 +17,7 @@ returns-then-is_empty-clause-answered g c =
 
 pub returns-in_err-extend_from_slice-clause-stopped : goal.returns-in_err-extend_from_slice-clause-stopped
 returns-in_err-extend_from_slice-clause-stopped g c =
-    told_fault c.from_residual.result Memory _ c.from_residual.ensures.1
+    reported_fault c.from_residual.result Memory _ c.from_residual.ensures.1
     (StopsAnswering-memory (g.S.Service.rule c.args.service.now) (g.S.Service.beginning c.args.service.now) _ _ c.args.self.now.progress)
 
 pub returns-then-is_empty-clause-stopped : goal.returns-then-is_empty-clause-stopped

@@ -1,8 +1,8 @@
 use Rattle.std.proofs.Common.{sym, ◌∙◌}
 use Rattle.std.proofs.lemmas.Option.{IfSome_then}
-use Rattle.cvss_base.specs.Text.{raised}
+use Rattle.cvss_base.specs.Text.{uppercased}
 use Rattle.cvss_v3_metric.specs.Table.{spelling_of}
-use Rattle.cvss_v3_metric.specs.private.TableLaws.{raised_spelling}
+use Rattle.cvss_v3_metric.specs.private.TableLaws.{uppercased_spelling}
 use Rattle.cvss_v3.proofs.vector.reading.fill.Goals as goal
 
 pub returns : goal.returns
@@ -10,6 +10,6 @@ returns g c =
     let kind = g.M.Spelled.KIND in
     let value = g.M.Spelled.value in
     let read = c.read_bytes.ensures in
-    c.fill_place.ensures (λ x. raised (spelling_of kind (value x))) (raised c.args.text.now)
-    (IfSome_then c.read_bytes.result read.spelled (λ x is. raised_spelling kind (value x) ∙ is))
-    (λ x is. read.read x (sym (raised_spelling kind (value x)) ∙ is))
+    c.fill_place.ensures (λ x. uppercased (spelling_of kind (value x))) (uppercased c.args.text.now)
+    (IfSome_then c.read_bytes.result read.spelled (λ x is. uppercased_spelling kind (value x) ∙ is))
+    (λ x is. read.read x (sym (uppercased_spelling kind (value x)) ∙ is))

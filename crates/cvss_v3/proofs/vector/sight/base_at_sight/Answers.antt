@@ -1,5 +1,5 @@
 use Rattle.std.specs.Prelude.{Some, take}
-use Rattle.cvss_text.specs.private.Printing.{slashed_text}
+use Rattle.cvss_text.specs.private.Printing.{text_with_slash}
 use Rattle.cvss_text.proofs.SightLemmas.{texts_in_turn}
 use Rattle.cvss_v3_metric.specs.Table.{printed}
 use Rattle.cvss_v3.specs.Vector.{v3}
@@ -18,4 +18,4 @@ returns-clause-text g =
       i = Some g.in_ok-s.i;
       a = Some g.in_ok-s.a;
     } in
-    rw g.in_ok-av.ensures (rw g.in_ok-s.ensures (texts_in_turn (slashed_text v3 vector) (take 8 printed) g.in_ok-s.text.now))
+    rw g.in_ok-av.ensures (rw g.in_ok-s.ensures (texts_in_turn (text_with_slash v3 vector) (take 8 printed) g.in_ok-s.text.now))

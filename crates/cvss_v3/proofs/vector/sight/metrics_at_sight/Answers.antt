@@ -1,7 +1,7 @@
 use Rattle.std.proofs.Common.{◌++◌, drop, take, ap, sym, refl, ◌∙◌}
 use Rattle.std.proofs.lemmas.List.{nil_from_length, append-nil}
 use Rattle.std.proofs.lemmas.Bool.{eqb-true}
-use Rattle.cvss_text.specs.private.Printing.{slashed_texts}
+use Rattle.cvss_text.specs.private.Printing.{texts_with_slash}
 use Rattle.cvss_text.proofs.SightLemmas.{joined}
 use Rattle.cvss_v3_metric.specs.Table.{printed}
 use Rattle.cvss_v3.specs.Vector.{v3}
@@ -19,4 +19,4 @@ returns-then-is_empty-2 c =
     let others = c.others_at_sight-rest in
     let alone = nil_from_length _ (eqb-true _ 0 (sym c.if-is_empty-2.ensures)) in
     joined v3 base.base others.new.vector (take 8 printed) (drop 8 printed) c.args.text.now base.text.now base.ensures.text
-    (others.ensures.text ∙ ap (λ l. slashed_texts v3 others.new.vector (drop 8 printed) ++ l) alone ∙ append-nil (slashed_texts v3 others.new.vector (drop 8 printed))) others.ensures.base
+    (others.ensures.text ∙ ap (λ l. texts_with_slash v3 others.new.vector (drop 8 printed) ++ l) alone ∙ append-nil (texts_with_slash v3 others.new.vector (drop 8 printed))) others.ensures.base

@@ -1,6 +1,6 @@
 use Rattle.std.proofs.Common.{ℕ, List, map, Bor, ap, subst}
 use Rattle.std.specs.Prelude.{Ok}
-use Rattle.cvss_v4.specs.Overriding.{TellsObjection}
+use Rattle.cvss_v4.specs.Overriding.{ReportsObjection}
 use Rattle.cvss_v4.specs.private.OverridingSteps.{objection_of}
 use Rattle.cvss_v4.proofs.OverridingLemmas.{one_overrides, no_objection_held, first_objections_same}
 use Rattle.cvss_v4.proofs.vector.Vector.from_overrides.Goals as goal
@@ -23,9 +23,9 @@ returns-in-Err-clause-given c = λ vector are version.
 
 pub returns-in-Err-clause-refused : goal.returns-in-Err-clause-refused
 returns-in-Err-clause-refused c =
-    record { place = c.in-Err.index; objection = objection_of c.in-Err.fault; first = c.in-Err.ensures.refused; tells = c.told.ensures }
+    record { place = c.in-Err.index; objection = objection_of c.in-Err.fault; first = c.in-Err.ensures.refused; reports = c.reported.ensures }
 
 pub returns-in-Err-clause-refuses : goal.returns-in-Err-clause-refuses
 returns-in-Err-clause-refuses c = λ place objection is.
     let same = first_objections_same (texts_of c.args.overrides.now) c.in-Err.index place (objection_of c.in-Err.fault) objection c.in-Err.ensures.refused is in
-    subst (λ each. TellsObjection each objection c.told.result) same.0 (subst (λ each. TellsObjection c.in-Err.index each c.told.result) same.1 c.told.ensures)
+    subst (λ each. ReportsObjection each objection c.reported.result) same.0 (subst (λ each. ReportsObjection c.in-Err.index each c.reported.result) same.1 c.reported.ensures)

@@ -1,6 +1,6 @@
 use Rattle.std.proofs.Common.{refl}
 use Rattle.std.specs.Prelude.{Some, take}
-use Rattle.cvss_text.specs.private.Printing.{slashed_text}
+use Rattle.cvss_text.specs.private.Printing.{text_with_slash}
 use Rattle.cvss_v4_metric.specs.Table.{printed}
 use Rattle.cvss_v4.specs.Vector.{v4}
 use Rattle.cvss_v4.specs.declared.vector.Vector.{Vector}
@@ -23,7 +23,7 @@ returns-clause-text g =
       sa = Some g.in_ok-sc.sa;
     } in
     rw g.in_ok-av.ensures (rw g.in_ok-pr.ensures (rw g.in_ok-ui.ensures (rw g.in_ok-vc.ensures (rw g.in_ok-sc.ensures
-    (texts_in_turn (slashed_text v4 vector) (take 11 printed) g.in_ok-sc.text.now)))))
+    (texts_in_turn (text_with_slash v4 vector) (take 11 printed) g.in_ok-sc.text.now)))))
 
 pub returns-clause-present : goal.returns-clause-present
 returns-clause-present g = refl

@@ -1,7 +1,7 @@
 use Rattle.std.proofs.Common.{◌∷◌, sym, ap, ◌∙◌}
 use Rattle.cvss_base.specs.Text.{slash, component}
 use Rattle.cvss_base.specs.V4Types.{name_of}
-use Rattle.cvss_base.proofs.SlashedLemmas.{behind_colon}
+use Rattle.cvss_base.proofs.WithSlashLemmas.{after_colon}
 use Rattle.cvss_v4_metric.specs.Table.{spelling_at}
 use Rattle.cvss_v4_metric.proofs.metric.Metric.as_str.Goals as goal
 
@@ -9,5 +9,5 @@ pub range_from-requires : goal.range_from-requires
 range_from-requires g c =
     let value = spelling_at g.Self.Spelled.KIND (g.Self.Spelled.rank c.args.self) in
     let named = sym (c.name.ensures ∙ ap name_of c.KIND.ensures) in
-    λ _. behind_colon c.slashed.result.now c.name.result.now value
-    (c.slashed.ensures ∙ ap (λ name. slash ∷ component name value) named) c.slashed.utf8
+    λ _. after_colon c.with_slash.result.now c.name.result.now value
+    (c.with_slash.ensures ∙ ap (λ name. slash ∷ component name value) named) c.with_slash.utf8

@@ -16,7 +16,7 @@ returns-in_ok-write_account-in-Ok c =
         denoted = c.in-Ok.ensures.denoted;
         explains = written.explains;
       };
-      told = refl;
+      reported = refl;
       written = one_text _ _ _ written.written;
     }
 
@@ -26,7 +26,7 @@ returns-in_ok-write_refusal-in-Err c =
     let written = c.in_ok-write_refusal-in-Err.ensures in
     record {
       answer = Refused (written.text ∷ []);
-      answers = record { error = c.in-Err.error; told = c.in-Err.ensures.refused; is_text = written.is_text };
-      told = refl;
+      answers = record { error = c.in-Err.error; reported = c.in-Err.ensures.refused; is_text = written.is_text };
+      reported = refl;
       written = one_text _ _ _ written.written;
     }

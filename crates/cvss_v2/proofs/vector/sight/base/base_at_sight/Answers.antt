@@ -1,7 +1,7 @@
 use Rattle.std.proofs.Common.{refl}
 use Rattle.std.specs.Prelude.{[], ◌∷◌, Some}
 use Rattle.cvss_base.specs.declared.v2.MetricType.TheVariants.{A, AC, AV, Au, C, I}
-use Rattle.cvss_text.specs.private.Printing.{slashed_text}
+use Rattle.cvss_text.specs.private.Printing.{text_with_slash}
 use Rattle.cvss_text.proofs.SightLemmas.{texts_in_turn}
 use Rattle.cvss_v2.specs.Vector.{v2}
 use Rattle.cvss_v2.specs.declared.vector.Vector.{Vector}
@@ -18,7 +18,7 @@ returns-clause-text g =
       a = Some g.in_ok-c.a;
     } in
     rw g.in_ok-av.ensures (rw g.in_ok-ac.ensures (rw g.in_ok-au.ensures (rw g.in_ok-c.ensures
-    (texts_in_turn (slashed_text v2 vector) (AV ∷ AC ∷ Au ∷ C ∷ I ∷ A ∷ []) g.in_ok-c.text.now))))
+    (texts_in_turn (text_with_slash v2 vector) (AV ∷ AC ∷ Au ∷ C ∷ I ∷ A ∷ []) g.in_ok-c.text.now))))
 
 pub returns-clause-present : goal.returns-clause-present
 returns-clause-present g = refl

@@ -2,14 +2,14 @@ use Rattle.std.proofs.Common.{[], ◌++◌, drop, take, sym, ap, ◌∙◌}
 use Rattle.std.proofs.lemmas.Grind.{flat_map-append}
 use Rattle.cvss_base.specs.declared.v3.MetricType.TheVariants.{AR, CR, E, IR, MA, MAC, MAV, MC, MI, MPR, MS, MUI, RC, RL}
 use Rattle.cvss_text.proofs.BufferLemmas.{one_then, three_then, nothing_then}
-use Rattle.cvss_text.specs.private.Printing.{slashed_text}
+use Rattle.cvss_text.specs.private.Printing.{text_with_slash}
 use Rattle.cvss_v3_metric.specs.Table.{printed}
 use Rattle.cvss_v3.specs.Vector.{v3}
 use Rattle.cvss_v3.proofs.vector.printing.VectorPrinted.write_metrics.Goals as goal
 
 pub returns : goal.returns
 returns c =
-    let text = slashed_text v3 c.args.self.now in
+    let text = text_with_slash v3 c.args.self.now in
     one_then _ _ _ _ _ c.write_base.ensures.text
     (three_then _ _ _ (text E) (text RL) (text RC) _ c.write_three.ensures.text
     (three_then _ _ _ (text CR) (text IR) (text AR) _ c.write_three-2.ensures.text

@@ -2,14 +2,14 @@ use Rattle.std.proofs.Common.{[], ◌++◌, drop, take, sym, ap, ◌∙◌}
 use Rattle.std.proofs.lemmas.Grind.{flat_map-append}
 use Rattle.cvss_base.specs.declared.v4.MetricType.TheVariants.{AR, AU, CR, E, IR, R, RE, S, U, V}
 use Rattle.cvss_text.proofs.BufferLemmas.{one_then, three_then, nothing_then}
-use Rattle.cvss_text.specs.private.Printing.{slashed_text}
+use Rattle.cvss_text.specs.private.Printing.{text_with_slash}
 use Rattle.cvss_v4_metric.specs.Table.{printed}
 use Rattle.cvss_v4.specs.Vector.{v4}
 use Rattle.cvss_v4.proofs.vector.printing.VectorPrinted.write_metrics.Goals as goal
 
 pub returns : goal.returns
 returns c =
-    let text = slashed_text v4 c.args.self.now in
+    let text = text_with_slash v4 c.args.self.now in
     one_then _ _ _ _ _ c.write_base.ensures.text
     (three_then _ _ _ (text E) (text CR) (text IR) _ c.write_three.ensures.text
     (one_then _ _ _ (text AR) _ c.write_value.ensures.text

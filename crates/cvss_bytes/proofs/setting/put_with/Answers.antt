@@ -1,6 +1,0 @@
-use Rattle.std.proofs.Common.{inr, refl}
-use Rattle.cvss_bytes.proofs.SettingLemmas.{no_vector}
-use Rattle.cvss_bytes.proofs.setting.put_with.Goals as goal
-
-pub returns-in-Err : goal.returns-in-Err
-returns-in-Err c = inr (no_vector _ _ _ _ c.in-Err.ensures, record { told_is = refl; now_is = refl })

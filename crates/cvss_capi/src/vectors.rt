@@ -1,0 +1,193 @@
+//! What C is reported of the vector that a text denotes.
+
+ghost use Rattle.std.specs.Prelude.{◌≡◌, ℕ, List, None, length, true, false};
+ghost use Rattle.cvss_explain.specs.Account.{IsAccountText};
+ghost use Rattle.cvss_any.specs.Answers.{text_of};
+ghost use Rattle.cvss_any.specs.Dispatch.{DenotesCvss};
+ghost use Rattle.cvss_v4.specs.Vector.{v4};
+ghost use Rattle.cvss_base.specs.Version.{canonical_text};
+ghost use Rattle.cvss_any.specs.declared.vector.Cvss.{Cvss};
+ghost use Rattle.cvss_ffi.specs.Answers.{Answers};
+ghost use Rattle.cvss_ffi.specs.Buffer.{IsLeft, IsWritten};
+ghost use Rattle.cvss_ffi.specs.Defined.{text_without_undefined};
+ghost use Rattle.cvss_ffi.specs.Metrics.{metrics_in_order};
+ghost use Rattle.cvss_ffi.specs.Overriding.{AnswersOverridden};
+ghost use Rattle.cvss_ffi.specs.Scores.{AnswersScoresBy, AreScoresOf, IsRatingNumber, nothing, version_number as number_of_version};
+ghost use Rattle.cvss_json_record.specs.Record.{IsRecordText};
+
+use cvss_any::Cvss;
+use cvss_ffi::canonical::put_canonical_of;
+use cvss_ffi::defined::put_without_undefined;
+use cvss_ffi::metrics::put_metrics;
+use cvss_ffi::numbers::{NOTHING, rating_number, version_number};
+use cvss_ffi::objects::{put_account, put_record};
+use cvss_ffi::overriding::put_overridden;
+use cvss_ffi::scores::put_scores_by;
+use cvss_ffi::{CvssMetric, CvssScores, CvssScoresBy};
+
+/// The version of the vector that a text denotes, as 20, 30, 31 or 40; -1 where it denotes none.
+/// It takes no memory.
+#[unsafe(no_mangle)]
+pub extern "C" fn cvss_version(text: &[u8]) -> i32
+    ensures { Answers text.now (λ cvss. result ≡ number_of_version cvss) (result ≡ nothing) }
+{
+    match Cvss::read_bytes(text) {
+        Some(cvss) => version_number(&cvss),
+        None => NOTHING,
+    }
+}
+
+/// Whether a text denotes a vector, and the vector's scores. Where it denotes none, the scores are
+/// left as they were. It takes no memory.
+#[unsafe(no_mangle)]
+pub extern "C" fn cvss_scores(text: &[u8], scores: &mut CvssScores) -> bool
+    ensures { Answers text.now (λ cvss. (result ≡ true) × AreScoresOf cvss scores.new)
+        ((result ≡ false) × (scores.new ≡ scores.old)) }
+{
+    match Cvss::read_bytes(text) {
+        Some(cvss) => {
+            *scores = CvssScores::of(&cvss);
+            true
+        }
+        None => false,
+    }
+}
+
+/// Whether a text denotes a vector of CVSS v4.0; then the tenths of its scores by nomenclature, CVSS-B,
+/// CVSS-BE, CVSS-BT and CVSS-BTE. Where it denotes none, the numbers are left as they were. It takes no
+/// memory.
+#[unsafe(no_mangle)]
+pub extern "C" fn cvss_nomenclature_scores(text: &[u8], scores: &mut CvssScoresBy) -> bool
+    ensures { Answers text.now (λ cvss. AnswersScoresBy cvss scores.old scores.new result)
+        ((result ≡ false) × (scores.new ≡ scores.old)) }
+{
+    match Cvss::read_bytes(text) {
+        Some(cvss) => put_scores_by(&cvss, scores),
+        None => false,
+    }
+}
+
+/// The number of the rating of so many tenths by the bounds of a version, 20, 30, 31 or 40; -1 of another
+/// version, and of tenths outside 0 to 100. It takes no memory.
+#[unsafe(no_mangle)]
+pub extern "C" fn cvss_rating(version: i32, tenths: i32) -> i32
+    ensures { IsRatingNumber version tenths result }
+{
+    rating_number(version, tenths)
+}
+
+/// The length of the canonical text of the vector that a text denotes, which is written into the
+/// buffer where it fits; 0 where the text denotes none. The canonical text is as long as the text.
+/// It takes no memory.
+#[unsafe(no_mangle)]
+pub extern "C" fn cvss_canonical(text: &[u8], buffer: &mut [u8]) -> usize
+    ensures canonical { Answers text.now
+        (λ cvss. IsWritten (text_of cvss) buffer.old buffer.new result)
+        (IsLeft buffer.old buffer.new result) }
+    ensures length { (cvss : Cvss) → DenotesCvss text.now cvss → result ≡ length text.now }
+{
+    match put_canonical_of(text, buffer) {
+        Some(_) => text.len(),
+        None => 0,
+    }
+}
+
+/// What `cvss_scores` and `cvss_canonical` answer, in one call: the length of the canonical text of
+/// the vector that a text denotes, which is written into the buffer where it fits, and the vector's
+/// scores. 0 where the text denotes none, and then the scores are left as they were. It takes no
+/// memory.
+#[unsafe(no_mangle)]
+pub extern "C" fn cvss_read(text: &[u8], scores: &mut CvssScores, buffer: &mut [u8]) -> usize
+    ensures scores { Answers text.now (λ cvss. AreScoresOf cvss scores.new)
+        (scores.new ≡ scores.old) }
+    ensures canonical { Answers text.now
+        (λ cvss. IsWritten (text_of cvss) buffer.old buffer.new result)
+        (IsLeft buffer.old buffer.new result) }
+    ensures length { (cvss : Cvss) → DenotesCvss text.now cvss → result ≡ length text.now }
+{
+    match put_canonical_of(text, buffer) {
+        Some(cvss) => {
+            *scores = CvssScores::of(&cvss);
+            text.len()
+        }
+        None => 0,
+    }
+}
+
+/// How many metrics the vector has that a text denotes; they are written into the array, in the order
+/// of the vector's canonical text, where they fit. 0 where the text denotes none. It takes no memory.
+#[unsafe(no_mangle)]
+pub extern "C" fn cvss_metrics(text: &[u8], metrics: &mut [CvssMetric]) -> usize
+    ensures { Answers text.now
+        (λ cvss. IsWritten (metrics_in_order cvss) metrics.old metrics.new result)
+        (IsLeft metrics.old metrics.new result) }
+{
+    match Cvss::read_bytes(text) {
+        Some(cvss) => put_metrics(&cvss, metrics),
+        None => 0,
+    }
+}
+
+/// The length of the canonical text, less the metrics that are not defined, of the vector that a text
+/// denotes; it is written into the buffer where it fits. Where no metric is defined, which may be in
+/// CVSS v3 alone, all are kept. 0 where the text denotes none. It takes no memory.
+#[unsafe(no_mangle)]
+pub extern "C" fn cvss_without_undefined(text: &[u8], buffer: &mut [u8]) -> usize
+    ensures { Answers text.now
+        (λ cvss. IsWritten (text_without_undefined cvss) buffer.old buffer.new result)
+        (IsLeft buffer.old buffer.new result) }
+{
+    match Cvss::read_bytes(text) {
+        Some(cvss) => put_without_undefined(&cvss, buffer),
+        None => 0,
+    }
+}
+
+/// The length of the canonical text of the vector of CVSS v4.0 that a text denotes, with overrides in
+/// place: components of environmental metrics, in any order and any ASCII case, each once, joined by
+/// slashes. It is written into the buffer where it fits. 0 where the text denotes no vector of CVSS
+/// v4.0, and where an override is refused. It takes no memory.
+#[unsafe(no_mangle)]
+pub extern "C" fn cvss_overridden(text: &[u8], overrides: &[u8], buffer: &mut [u8]) -> usize
+    ensures { Answers text.now
+        (λ cvss. AnswersOverridden cvss overrides.now
+        (λ new. IsWritten (canonical_text v4 new) buffer.old buffer.new result)
+        (IsLeft buffer.old buffer.new result))
+        (IsLeft buffer.old buffer.new result) }
+{
+    match Cvss::read_bytes(text) {
+        Some(cvss) => put_overridden(&cvss, text, overrides, buffer),
+        None => 0,
+    }
+}
+
+/// The length of the record of the vector that a text denotes, the JSON object of FIRST's schema of
+/// its version, which is written into the buffer where it fits; 0 where the text denotes none. It takes
+/// no memory.
+#[unsafe(no_mangle)]
+pub extern "C" fn cvss_record(text: &[u8], buffer: &mut [u8]) -> usize
+    ensures { Answers text.now
+        (λ cvss. (written : List ℕ) × IsRecordText cvss written
+        × IsWritten written buffer.old buffer.new result)
+        (IsLeft buffer.old buffer.new result) }
+{
+    match Cvss::read_bytes(text) {
+        Some(cvss) => put_record(&cvss, buffer),
+        None => 0,
+    }
+}
+
+/// The length of the explanation of the score of the vector that a text denotes, a JSON object, which is
+/// written into the buffer where it fits; 0 where the text denotes none. It takes no memory.
+#[unsafe(no_mangle)]
+pub extern "C" fn cvss_account(text: &[u8], buffer: &mut [u8]) -> usize
+    ensures { Answers text.now
+        (λ cvss. (explanation : List ℕ) × IsAccountText None cvss explanation
+        × IsWritten explanation buffer.old buffer.new result)
+        (IsLeft buffer.old buffer.new result) }
+{
+    match Cvss::read_bytes(text) {
+        Some(cvss) => put_account(&cvss, buffer),
+        None => 0,
+    }
+}

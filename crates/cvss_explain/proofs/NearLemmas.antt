@@ -1,0 +1,35 @@
+-- The nearest ten millionths are near.
+use Rattle.std.proofs.Common.{◌≡◌, ◌<◌, ℤ, arith}
+use Rattle.std.proofs.lemmas.Int.{ints}
+use Rattle.cvss_base.proofs.ExactLemmas.{at_most_below, below_at_most, equal_at_most, equal_sym, equal_trans, sum_at_most}
+use Rattle.cvss_base.specs.Exact.{Exact, of_count, ◌over◌, ◌⊕◌, ◌≈◌}
+use Rattle.cvss_explain.specs.Near.{AreNearest, IsNear, IsTenth, ten_millionths}
+use Rattle.cvss_base.specs.Tenths.{IsInTenths}
+
+-- the ten millionths of the only count that is so many of them
+settled : (c k m : ℤ) → AreNearest c k → of_count c ≈ ten_millionths m → k ≡ m
+settled c k m nearest same = omega (arith, ints, nearest.not_above, nearest.not_below, same.equal)
+
+-- those nearest to a count that equals a number are near to the number
+pub near_equal : (n : Exact) (c k : ℤ) → 0 < n.bottom → of_count c ≈ n → AreNearest c k → IsNear n k
+near_equal n c k some same nearest =
+    let millionth = 1 over 1_000_000 in
+    let count_at_most = equal_at_most (of_count c) n same in
+    record {
+      within = record {
+        not_above = at_most_below n (of_count c) (ten_millionths k ⊕ millionth) some (equal_at_most n (of_count c) (equal_sym same))
+            (record { below = omega (arith, ints, nearest.not_below) });
+        not_below = below_at_most (ten_millionths k) (of_count c ⊕ millionth) (n ⊕ millionth) (omega arith)
+            (record { below = omega (arith, ints, nearest.not_above) })
+            (sum_at_most (of_count c) n millionth millionth count_at_most (record { at_most = omega (arith, ints) }));
+      };
+      exact = λ m is. settled c k m nearest (equal_trans some same is);
+    }
+
+-- a count of tenths is reported as these tenths
+pub tenth_reported : (IsNumber : ℤ → Type 0) (c k : ℤ) → IsInTenths IsNumber c → AreNearest c k → IsTenth IsNumber k
+tenth_reported IsNumber c k reported nearest = record {
+  tenths = reported.number;
+  is_number = reported.is_number;
+  is = omega (arith, ints, nearest.not_above, nearest.not_below, reported.is_count);
+}

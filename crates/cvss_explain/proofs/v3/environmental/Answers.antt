@@ -1,0 +1,5 @@
+use Rattle.std.proofs.Common.{rules}
+use Rattle.cvss_explain.proofs.v3.environmental.Goals as goal
+
+pub returns-clause-text : goal.returns-clause-text
+returns-clause-text c = rw c.rating.ensures.text (search rules)

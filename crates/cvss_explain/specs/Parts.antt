@@ -1,0 +1,26 @@
+-- The members that the explanations of all versions have.
+use Rattle.std.specs.Prelude.{ℕ, List, [], ◌∷◌, codes, Option, Some, None}
+use Rattle.std.specs.Fmt.{decimal}
+use Rattle.cvss_any.specs.Answers.{rating_by, score_of_tenths, text_of}
+use Rattle.cvss_any.specs.declared.vector.Cvss.{Cvss}
+use Rattle.cvss_base.specs.SeverityText.{text_of as severity_text}
+use Rattle.cvss_json_write.specs.Json.{Member, string_text, tenths_text}
+use Rattle.cvss_json_names.specs.Versions.{version_of}
+
+-- the number of the line that is explained, if it is one of a list
+abbrev pub line_members : Option ℕ → List Member
+line_members None = []
+line_members (Some line) = (codes "line", decimal line) ∷ []
+
+abbrev pub score_member : ℕ → Member
+score_member tenths = (codes "score", tenths_text tenths)
+
+abbrev pub severity_member : Cvss → ℕ → Member
+severity_member cvss tenths = (codes "severity", string_text (severity_text (rating_by cvss (score_of_tenths tenths))))
+
+-- the vector's canonical text
+abbrev pub vector_member : Cvss → Member
+vector_member cvss = (codes "vector", string_text (text_of cvss))
+
+abbrev pub version_member : Cvss → Member
+version_member cvss = (codes "version", string_text (version_of cvss))

@@ -1,0 +1,164 @@
+//! The explanations of the scores of CVSS v3 (v3.1 specification, section 7; v3.0 specification, section 8).
+
+ghost use Rattle.std.specs.Prelude.{◌≡◌, ◌+◌, ◌*◌, ◌≤◌, [], length, map, pos, true, unwrap_or};
+ghost use Rattle.cvss_any.specs.Answers.{score_of_tenths};
+ghost use Rattle.cvss_explain.specs.V3.{IsAccountText, base_members, environmental_members, scope_letter, scope_members, temporal_members, weights_members};
+ghost use Rattle.cvss_base.specs.Rating.{rating_of_score};
+ghost use Rattle.cvss_base.specs.SeverityText.{text_of as severity_text};
+ghost use Rattle.cvss_json_write.specs.declared.member.Scalar.TheVariants.{Decimal};
+ghost use Rattle.cvss_json_write.specs.Json.{WritesMembers};
+ghost use Rattle.cvss_json_write.specs.Scalars.{member_view, members_room};
+ghost use Rattle.cvss_v3.specs.VectorWeights.{weight_in, weights_of};
+
+mod numbers;
+
+use crate::decimal::ten_millionths;
+use crate::parts::{put_line, put_score, put_text};
+use cvss_any::Cvss;
+use cvss_base::TENTH;
+use cvss_base::v3::MetricType;
+use cvss_json_write::{Member, Page, Scalar, put_members, put_object_member};
+use cvss_v3::{Score, Vector};
+use numbers::{BaseNumbers, EnvironmentalNumbers, Scored};
+
+/// Writes why a vector has its score.
+pub(crate) fn put_account(
+    page: &mut Page,
+    line: Option<u64>,
+    cvss: &Cvss,
+    vector: &Vector,
+    tenths: u8,
+)
+    requires { page.old ≡ [] }
+    ensures { IsAccountText line cvss.now vector.now tenths page.new }
+{
+    page.push(b"{");
+    put_object_member(page, false, "base", &base(BaseNumbers::of(vector)));
+    put_object_member(
+        page,
+        true,
+        "environmental",
+        &environmental(EnvironmentalNumbers::of(vector)),
+    );
+    put_line(page, line);
+    put_scopes(page, vector);
+    put_score(page, cvss, tenths);
+    put_object_member(page, true, "temporal", &temporal(Scored::temporal(vector)));
+    put_text(page, cvss);
+    put_object_member(page, true, "weights", &weights(vector));
+    page.push(b"}");
+}
+
+/// Writes the scopes, as they count.
+fn put_scopes(page: &mut Page, vector: &Vector)
+    requires { length page.old + 40 ≤ 4096 }
+    ensures text { WritesMembers true (scope_members (weights_of vector.now)) page.old page.new }
+    ensures room { length page.new ≤ length page.old + 40 }
+{
+    let modified = scope_letter(vector.is_modified_scope_changed());
+    let scope = scope_letter(vector.is_scope_changed());
+    put_members(
+        page,
+        &[
+            ("modifiedScope", Scalar::Text(modified)),
+            ("scope", Scalar::Text(scope)),
+        ],
+    );
+}
+
+fn scope_letter(changed: bool) -> &'static str
+    ensures text { result.now ≡ scope_letter changed }
+    ensures short { length result.now ≤ 1 }
+{
+    if changed { "C" } else { "U" }
+}
+
+fn base(numbers: BaseNumbers) -> [Member; 6]
+    ensures text { map member_view result ≡ base_members numbers }
+    ensures room { members_room result ≤ 300 }
+{
+    let scored = numbers.scored;
+    [
+        ("exploitability", Scalar::Decimal(numbers.exploitability)),
+        ("impact", Scalar::Decimal(numbers.impact)),
+        ("iss", Scalar::Decimal(numbers.iss)),
+        ("number", Scalar::Decimal(scored.number)),
+        ("score", Scalar::Tenths(scored.score)),
+        ("severity", Scalar::Text(rating(scored.score))),
+    ]
+}
+
+fn temporal(scored: Scored) -> [Member; 3]
+    ensures text { map member_view result ≡ temporal_members scored }
+    ensures room { members_room result ≤ 300 }
+{
+    [
+        ("number", Scalar::Decimal(scored.number)),
+        ("score", Scalar::Tenths(scored.score)),
+        ("severity", Scalar::Text(rating(scored.score))),
+    ]
+}
+
+fn environmental(numbers: EnvironmentalNumbers) -> [Member; 8]
+    ensures text { map member_view result ≡ environmental_members numbers }
+    ensures room { members_room result ≤ 500 }
+{
+    let scored = numbers.scored;
+    let exploitability = numbers.exploitability;
+    [
+        ("firstNumber", Scalar::Decimal(numbers.first.number)),
+        ("firstScore", Scalar::Tenths(numbers.first.score)),
+        ("miss", Scalar::Decimal(numbers.miss)),
+        ("modifiedExploitability", Scalar::Decimal(exploitability)),
+        ("modifiedImpact", Scalar::Decimal(numbers.impact)),
+        ("number", Scalar::Decimal(scored.number)),
+        ("score", Scalar::Tenths(scored.score)),
+        ("severity", Scalar::Text(rating(scored.score))),
+    ]
+}
+
+/// What each metric weighs, which the scopes don't.
+fn weights(vector: &Vector) -> [Member; 20]
+    ensures text { map member_view result ≡ weights_members (weights_of vector.now) }
+    ensures room { members_room result ≤ 900 }
+{
+    [
+        ("A", weight(vector, MetricType::A)),
+        ("AC", weight(vector, MetricType::AC)),
+        ("AR", weight(vector, MetricType::AR)),
+        ("AV", weight(vector, MetricType::AV)),
+        ("C", weight(vector, MetricType::C)),
+        ("CR", weight(vector, MetricType::CR)),
+        ("E", weight(vector, MetricType::E)),
+        ("I", weight(vector, MetricType::I)),
+        ("IR", weight(vector, MetricType::IR)),
+        ("MA", weight(vector, MetricType::MA)),
+        ("MAC", weight(vector, MetricType::MAC)),
+        ("MAV", weight(vector, MetricType::MAV)),
+        ("MC", weight(vector, MetricType::MC)),
+        ("MI", weight(vector, MetricType::MI)),
+        ("MPR", weight(vector, MetricType::MPR)),
+        ("MUI", weight(vector, MetricType::MUI)),
+        ("PR", weight(vector, MetricType::PR)),
+        ("RC", weight(vector, MetricType::RC)),
+        ("RL", weight(vector, MetricType::RL)),
+        ("UI", weight(vector, MetricType::UI)),
+    ]
+}
+
+/// What a metric weighs; 0 for a scope.
+fn weight(vector: &Vector, kind: MetricType) -> Scalar
+    ensures { result
+        ≡ Decimal (pos (unwrap_or (weight_in (weights_of vector.now) kind) 0 * 100_000)) }
+{
+    Scalar::Decimal(ten_millionths(vector.weight(kind).unwrap_or(0)))
+}
+
+/// The rating of a score of so many tenths.
+#[tactic(auto, using(crate::proofs::ShortLemmas::severity_short))]
+fn rating(tenths: u8) -> &'static str
+    ensures text { result.now ≡ severity_text (rating_of_score (score_of_tenths tenths)) }
+    ensures short { length result.now ≤ 8 }
+{
+    Score::new(i128::from(tenths) * TENTH).severity().as_str()
+}

@@ -1,0 +1,59 @@
+-- What is not defined counts as what is absent.
+use Rattle.std.proofs.Common.{◌≡◌, ◌≢◌, ◌⊎◌, inl, inr, ℕ, Bool, true, false, List, [], ◌∷◌, ◌++◌, codes, Option, Some, None, IfSome, bytes_eq, if◌then◌else◌, refl, sym, ap, ◌∙◌}
+use Rattle.std.specs.Bool.{Decides}
+use Rattle.std.specs.List.{filter_map, cons_option}
+use Rattle.std.specs.Option.{option_map, option_map_or, option_and_then}
+use Rattle.std.proofs.lemmas.Slice.Eq.{bytes_eq-Decides}
+use Rattle.cvss_base.specs.Text.{component, joined}
+use Rattle.cvss_base.specs.Version.{Version, component_of, components_of}
+use Rattle.cvss_ffi.specs.Defined.{defined_component, if_defined, or_if_none}
+use Rattle.cvss_ffi.specs.laws.DefinedParts.{HasDefinedOf, IsPrintedAsLess}
+
+or_if_none-kept : (parts others : List (List ℕ)) → parts ≢ [] → parts ≡ or_if_none parts others
+or_if_none-kept [] others some = absurd (some refl)
+or_if_none-kept (part ∷ parts) others some = refl
+
+module _ {V K : Type 0} (version : Version V K) (undefined : List ℕ) where
+  components-defined : (v w : V) → HasDefinedOf version undefined v w → (kinds : List K) → filter_map (component_of version w) kinds ≡ filter_map (defined_component version undefined v) kinds
+  components-defined v w part [] = refl
+  components-defined v w part (kind ∷ kinds) =
+      ap (λ value. cons_option (option_map (component (version.name kind)) value) (filter_map (component_of version w) kinds)) (part.held_is kind)
+      ∙ ap (λ parts. cons_option (defined_component version undefined v kind) parts) (components-defined v w part kinds)
+
+  pub printed_as_less : IsPrintedAsLess version undefined
+  printed_as_less v w part some =
+      let parts = components-defined v w part version.printed in
+      ap (λ pieces. joined (pieces ++ components_of version w)) part.front_is
+      ∙ ap (λ kept. joined (version.front v ++ kept)) (or_if_none-kept (components_of version w) (components_of version v) some)
+      ∙ ap (λ kept. joined (version.front v ++ or_if_none kept (components_of version v))) parts
+
+-- the letter of a value, where an absent one counts as X
+abbrev letter : {X : Type 0} → (X → List ℕ) → Option X → List ℕ
+letter spelling value = option_map_or spelling value (codes "X")
+
+module _ {X : Type 0} (spelling : X → List ℕ) where
+  same_value : (undefined : List ℕ) → ((x y : X) → spelling x ≡ spelling y → x ≡ y) → (x : X) (p : Option X) (out : Bool) → Decides out (spelling x ≡ undefined) → option_map spelling p ≡ (if out then None else Some (spelling x)) → (Some x ≡ p) ⊎ ((spelling x ≡ undefined) × IfSome p (λ y. spelling y ≡ undefined))
+  same_value undefined one x None true is_undefined held = inr (is_undefined.0 refl, tt)
+  same_value undefined one x (Some y) true is_undefined held = absurd (let no : Some (spelling y) ≡ None = held in cc)
+  same_value undefined one x None false defined held = absurd (let no : None ≡ Some (spelling x) = held in cc)
+  same_value undefined one x (Some y) false defined held =
+      let texts : spelling y ≡ spelling x = let some : Some (spelling y) ≡ Some (spelling x) = held in cc in
+      inl (ap Some (one x y (sym texts)))
+
+  -- a value is kept, or both are not defined
+  pub same_or_undefined : (undefined : List ℕ) → ((x y : X) → spelling x ≡ spelling y → x ≡ y) → (o p : Option X) → option_map spelling p ≡ option_and_then (if_defined undefined) (option_map spelling o) → (o ≡ p) ⊎ (IfSome o (λ x. spelling x ≡ undefined) × IfSome p (λ y. spelling y ≡ undefined))
+  same_or_undefined undefined one None None held = inl refl
+  same_or_undefined undefined one None (Some y) held = absurd (let no : Some (spelling y) ≡ None = held in cc)
+  same_or_undefined undefined one (Some x) p held = same_value undefined one x p (bytes_eq (spelling x) undefined) (bytes_eq-Decides (spelling x) undefined) held
+
+  same_letter_of : (x : X) (p : Option X) (out : Bool) → Decides out (spelling x ≡ codes "X") → option_map spelling p ≡ (if out then None else Some (spelling x)) → spelling x ≡ letter spelling p
+  same_letter_of x None true is_undefined held = is_undefined.0 refl
+  same_letter_of x (Some y) true is_undefined held = absurd (let no : Some (spelling y) ≡ None = held in cc)
+  same_letter_of x None false defined held = absurd (let no : None ≡ Some (spelling x) = held in cc)
+  same_letter_of x (Some y) false defined held = let some : Some (spelling y) ≡ Some (spelling x) = held in let texts : spelling y ≡ spelling x = cc in sym texts
+
+  -- the letter is kept, where what is absent counts as X
+  pub same_letter : (o p : Option X) → option_map spelling p ≡ option_and_then (if_defined (codes "X")) (option_map spelling o) → letter spelling o ≡ letter spelling p
+  same_letter None None held = refl
+  same_letter None (Some y) held = absurd (let no : Some (spelling y) ≡ None = held in cc)
+  same_letter (Some x) p held = same_letter_of x p (bytes_eq (spelling x) (codes "X")) (bytes_eq-Decides (spelling x) (codes "X")) held

@@ -1,0 +1,16 @@
+use Rattle.std.proofs.Common.{◌++◌, codes, inr, refl}
+use Rattle.cvss_any.specs.Reasons.{error_message, not_utf8_text, reason_text}
+use Rattle.cvss_any.proofs.ErrorLemmas.{said_of_bytes}
+use Rattle.cvss_ffi.proofs.answer.put_other_answer.Goals as goal
+
+pub returns-in-Err : goal.returns-in-Err
+returns-in-Err c =
+    let error = c.in-Err.error in
+    let reason = error_message error in (
+      codes "error: " ++ reason,
+      inr (
+        record { none = λ cvss denotes. absurd (let no = c.in-Err.ensures.accepts cvss denotes in cc) },
+        record { reason = reason; is_reason = said_of_bytes reason_text not_utf8_text c.args.text.now error c.in-Err.ensures.refused; is = refl },
+      ),
+      c.put_error.ensures,
+    )

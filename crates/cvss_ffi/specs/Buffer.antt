@@ -1,0 +1,22 @@
+-- A buffer of the caller, into which a text is written, or an array, into which items are.
+use Rattle.std.specs.Prelude.{◌≡◌, ℕ, List, ◌++◌, length, drop, nat_le, if◌then◌else◌}
+
+-- the buffer with the text at its beginning, and after it as it was
+abbrev pub begun : {X : Type 0} → List X → List X → List X
+begun text old = text ++ drop (length text) old
+
+-- the text's length is reported, and the text stands at the beginning of the buffer where it fits; a buffer that
+-- is too small is left as it was
+pub record IsWritten {X : Type 0} (text old now : List X) (reported : ℕ) : Type 0 where
+  pub reported_is : reported ≡ length text
+  pub now_is : now ≡ if nat_le (length text) (length old) then begun text old else old
+
+-- 0 is reported, and the buffer is left as it was
+pub record IsLeft {X : Type 0} (old now : List X) (reported : ℕ) : Type 0 where
+  pub reported_is : reported ≡ 0
+  pub now_is : now ≡ old
+
+-- the text stands at the beginning of the buffer, up to this place
+pub record HasPut {X : Type 0} (old text now : List X) (place : ℕ) : Type 0 where
+  pub begins : now ≡ begun text old
+  pub place_is : place ≡ length text

@@ -1,0 +1,123 @@
+-- Exact numbers as C sees them: the scores and sub-scores of vectors that may lack mandatory metrics, and numbers that are
+-- rounded as scores are.
+use Rattle.std.specs.Prelude.{◌≡◌, ◌⊎◌, ◌^◌, ◌+ℤ◌, ◌*ℤ◌, ◌<ℤ◌, ℕ, ℤ, pos, neg_ℤ, Bool, true, false, List, [], ◌∷◌, ◌++◌, codes}
+use Rattle.std.specs.Str.{IsUtf8}
+use Rattle.cvss_base.specs.Exact.{Exact, of_count, ◌≈◌}
+use Rattle.cvss_base.specs.Rounding.{IsRoundedV2}
+use Rattle.cvss_base.specs.Version.{Version, AreComponentsOf, numeral, version_piece}
+use Rattle.cvss_score.specs.v2.Scores as scores_v2
+use Rattle.cvss_score.specs.v3.Scores as scores_v3
+use Rattle.cvss_text.specs.Setting.{components_in}
+use Rattle.cvss_v2.specs.declared.vector.Vector as vector_v2
+use Rattle.cvss_v3.specs.declared.vector.Vector as vector_v3
+use Rattle.cvss_v2.specs.Vector.{v2}
+use Rattle.cvss_v3.specs.Vector.{v3}
+use Rattle.cvss_v2.specs.Weights as weights_v2
+use Rattle.cvss_v3.specs.VectorWeights as weights_v3
+use Rattle.cvss_ffi.specs.Scores.{IsScoreInTenths}
+use Rattle.cvss_ffi.specs.declared.exact.CvssNumber.{CvssNumber}
+use Rattle.cvss_ffi.specs.declared.exact.CvssNumbers.{CvssNumbers}
+
+-- the vector of this front with the components of a text, each once and in any order; none is mandatory
+pub record IsPartial {V K : Type 0} (version : Version V K) (front : List (List ℕ)) (metrics : List ℕ) (v : V) : Type 0 where
+  pub utf8 : IsUtf8 metrics
+  pub front_is : version.front v ≡ front
+  pub components : AreComponentsOf version (components_in metrics) v
+
+-- there is no such vector
+pub record IsNoPartial {V K : Type 0} (version : Version V K) (front : List (List ℕ)) (metrics : List ℕ) : Type 0 where
+  pub none : (v : V) → ¬ (IsPartial version front metrics v)
+
+-- the one holds of the vector, or there is none and the other holds
+abbrev pub AnswersPartial : {V K : Type 0} → Version V K → List (List ℕ) → List ℕ → (V → Type 0) → Type 0 → Type 0
+AnswersPartial {V} version front metrics IsOf Otherwise =
+    ((v : V) × IsPartial version front metrics v × IsOf v) ⊎ (IsNoPartial version front metrics × Otherwise)
+
+-- false is reported, and what was to be written is left as it was
+abbrev pub IsKept : {X : Type 0} → X → X → Bool → Type 0
+IsKept old now reported = (reported ≡ false) × (now ≡ old)
+
+-- the count of 10^-24 of a number
+abbrev pub count_in : CvssNumber → ℤ
+count_in number = number.trillionths *ℤ pos (10 ^ 12) +ℤ number.rest
+
+-- what a number stands for
+abbrev pub exact_of : CvssNumber → Exact
+exact_of number = of_count (count_in number)
+
+-- each part is within its bounds, so that the number is less than a million from 0
+pub record IsNumber (number : CvssNumber) : Type 0 where
+  pub from_lowest : neg_ℤ (pos (10 ^ 18)) <ℤ number.trillionths
+  pub to_highest : number.trillionths <ℤ pos (10 ^ 18)
+  pub rest_from_lowest : neg_ℤ (pos (10 ^ 12)) <ℤ number.rest
+  pub rest_to_highest : number.rest <ℤ pos (10 ^ 12)
+
+-- three scores in tenths, and three exact sub-scores
+pub record AreNumbers (IsBase IsTemporal IsEnvironmental : ℤ → Type 0) (impact exploitability adjusted : Exact) (numbers : CvssNumbers) : Type 0 where
+  pub base : IsScoreInTenths IsBase numbers.base
+  pub temporal : IsScoreInTenths IsTemporal numbers.temporal
+  pub environmental : IsScoreInTenths IsEnvironmental numbers.environmental
+  pub reserved_is : numbers.reserved ≡ pos 0
+  pub impact_is : exact_of numbers.impact ≈ impact
+  pub exploitability_is : exact_of numbers.exploitability ≈ exploitability
+  pub adjusted_is : exact_of numbers.adjusted_impact ≈ adjusted
+
+-- those of CVSS v2
+abbrev pub AreNumbersV2 : vector_v2.Vector → CvssNumbers → Type 0
+AreNumbersV2 vector =
+    AreNumbers
+    (scores_v2.IsBaseScore (weights_v2.weights_of vector))
+    (scores_v2.IsTemporalScore (weights_v2.weights_of vector))
+    (scores_v2.IsEnvironmentalScore (weights_v2.weights_of vector))
+    (scores_v2.impact (weights_v2.weights_of vector))
+    (scores_v2.exploitability (weights_v2.weights_of vector))
+    (scores_v2.adjusted_impact (weights_v2.weights_of vector))
+
+-- those of CVSS v3: ISS, Exploitability and MISS
+abbrev pub AreNumbersV3 : vector_v3.Vector → CvssNumbers → Type 0
+AreNumbersV3 vector =
+    AreNumbers
+    (scores_v3.IsBaseScore vector.minor_version (weights_v3.weights_of vector))
+    (scores_v3.IsTemporalScore vector.minor_version (weights_v3.weights_of vector))
+    (scores_v3.IsEnvironmentalScore vector.minor_version (weights_v3.weights_of vector))
+    (scores_v3.iss (weights_v3.weights_of vector))
+    (scores_v3.exploitability (weights_v3.weights_of vector))
+    (scores_v3.miss (weights_v3.weights_of vector))
+
+-- the piece that says a version of CVSS v3
+abbrev pub front_v3 : ℕ → List (List ℕ)
+front_v3 minor = version_piece (codes "3." ++ numeral minor) ∷ []
+
+-- the version is 2.0, 3.0 or 3.1
+abbrev pub IsBeforeV4 : ℤ → Type 0
+IsBeforeV4 version = (version ≡ pos 20) ⊎ ((version ≡ pos 30) ⊎ (version ≡ pos 31))
+
+-- the numbers of the vector of a version, with the components of a text; of v4.0 and other versions there are none
+pub record AnswersNumbers (version : ℤ) (metrics : List ℕ) (old now : CvssNumbers) (reported : Bool) : Type 0 where
+  pub of_v20 : version ≡ pos 20 → AnswersPartial v2 [] metrics (λ v. (reported ≡ true) × AreNumbersV2 v now) (IsKept old now reported)
+  pub of_v30 : version ≡ pos 30 → AnswersPartial v3 (front_v3 0) metrics (λ v. (reported ≡ true) × AreNumbersV3 v now) (IsKept old now reported)
+  pub of_v31 : version ≡ pos 31 → AnswersPartial v3 (front_v3 1) metrics (λ v. (reported ≡ true) × AreNumbersV3 v now) (IsKept old now reported)
+  pub no_version : ¬ (IsBeforeV4 version) → IsKept old now reported
+
+-- so many tenths are the number, rounded as scores of the version are
+pub record IsRoundedFor (version : ℤ) (number : Exact) (tenths : ℤ) : Type 0 where
+  pub of_v20 : version ≡ pos 20 → IsRoundedV2 number tenths
+  pub of_v30 : version ≡ pos 30 → scores_v3.IsRounded 0 number tenths
+  pub of_v31 : version ≡ pos 31 → scores_v3.IsRounded 1 number tenths
+
+-- the number is one, and the version one whose rounding is reported
+abbrev pub IsRoundable : ℤ → CvssNumber → Type 0
+IsRoundable version number = IsBeforeV4 version × IsNumber number
+
+-- the tenths of the rounded number
+abbrev pub AnswersRounded : ℤ → CvssNumber → ℤ → ℤ → Bool → Type 0
+AnswersRounded version number old now reported =
+    (IsRoundable version number × (reported ≡ true) × IsRoundedFor version (exact_of number) now)
+    ⊎ (¬ (IsRoundable version number) × IsKept old now reported)
+
+-- the tenths of the temporal score of the vector of CVSS v2 with these components, with another impact
+abbrev pub AnswersTemporal : List ℕ → CvssNumber → ℤ → ℤ → Bool → Type 0
+AnswersTemporal metrics impact old now reported =
+    (IsNumber impact × AnswersPartial v2 [] metrics
+    (λ v. (reported ≡ true) × scores_v2.IsTemporal (weights_v2.weights_of v) (exact_of impact) now) (IsKept old now reported))
+    ⊎ (¬ (IsNumber impact) × IsKept old now reported)

@@ -1,0 +1,50 @@
+-- Answers to many texts in one call: a line each, ended by a byte 10.
+use Rattle.std.specs.Prelude.{◌≡◌, ◌≢◌, ℕ, ◌+◌, ◌<◌, ◌⊎◌, All, List, [], ◌∷◌, ◌++◌, length, flat_map}
+use Rattle.cvss_ffi.specs.Answers.{IsAnswer}
+use Rattle.cvss_ffi.specs.Buffer.{HasPut}
+use Rattle.cvss_lines.specs.Lines.{line_text}
+
+-- no line ends in these bytes
+abbrev pub HasNoEnd : List ℕ → Type 0
+HasNoEnd bytes = All (λ byte. byte ≢ 10) bytes
+
+-- a line, and the byte that ends it
+abbrev pub ended : List ℕ → List ℕ
+ended line = line ++ 10 ∷ []
+
+-- the answer to the text of a line
+pub record IsLineAnswer (line answer : List ℕ) : Type 0 where
+  pub one_line : HasNoEnd line
+  pub is : IsAnswer (line_text line) answer
+
+-- the one are lines, each ended, and the other their answers, each ended, in the same order
+pub record AreAnswers (lines answers : List ℕ) : Type 0 where
+  pub pairs : List (List ℕ × List ℕ)
+  pub each : All (λ pair. IsLineAnswer pair.0 pair.1) pairs
+  pub lines_are : lines ≡ flat_map (λ pair. ended pair.0) pairs
+  pub answers_are : answers ≡ flat_map (λ pair. ended pair.1) pairs
+
+-- the answer to the next line has no room after so many bytes
+pub record HasNoRoom (texts : List ℕ) (size written : ℕ) : Type 0 where
+  pub next : List ℕ
+  pub after : List ℕ
+  pub texts_are : texts ≡ next ++ 10 ∷ after
+  pub answer : List ℕ
+  pub answered : IsLineAnswer next answer
+  pub large : size < written + length (ended answer)
+
+-- no line ends any more, or the answer to the next line has no room
+abbrev pub IsLast : List ℕ → ℕ → ℕ → Type 0
+IsLast texts size written = HasNoEnd texts ⊎ HasNoRoom texts size written
+
+-- the answers to the first lines stand at the beginning of the buffer, and after them the buffer is as it was;
+-- all lines are answered that end and whose answers have room
+pub record AnswersLines (texts old now : List ℕ) (read written : ℕ) : Type 0 where
+  pub lines : List ℕ
+  pub rest : List ℕ
+  pub texts_are : texts ≡ lines ++ rest
+  pub read_is : read ≡ length lines
+  pub answers : List ℕ
+  pub answered : AreAnswers lines answers
+  pub put : HasPut old answers now written
+  pub last : IsLast rest (length old) written

@@ -1,0 +1,254 @@
+//! Scores and sub-scores of vectors that may lack mandatory metrics, and numbers that are rounded, as C
+//! sees them. It takes no memory.
+
+ghost use Rattle.std.specs.Prelude.{◌≡◌, ◌↔◌, ◌*ℤ◌, ◌^◌, ℤ, pos, true, [], IfSome, IfNone, IsTrue};
+ghost use Rattle.cvss_base.specs.Exact.{IsWithinLimit, of_count};
+ghost use Rattle.cvss_base.specs.Tenths.{IsInTenths};
+ghost use Rattle.cvss_text.specs.private.Walk.{HasNoValue};
+ghost use Rattle.cvss_v2.specs.Vector.{v2};
+ghost use Rattle.cvss_v3.specs.Vector.{v3};
+ghost use Rattle.cvss_ffi.specs.Exact.{AnswersNumbers, AnswersPartial, AnswersRounded, AnswersTemporal, AreNumbersV2, AreNumbersV3, IsBeforeV4, IsKept, IsNoPartial, IsNumber, IsPartial, IsRoundedFor, count_in, front_v3};
+
+use crate::{v2, v3};
+use cvss_base::TENTH;
+use cvss_text::print::Printed;
+use cvss_text::setting::set;
+
+/// An exact number: a count of 10^-12 and a count of 10^-24, added.
+#[derive(Drop)]
+#[repr(C)]
+pub struct CvssNumber {
+    /// The count of 10^-12, less than 10^18 from 0.
+    pub trillionths: i64,
+    /// The count of 10^-24, less than 10^12 from 0.
+    pub rest: i64,
+}
+
+/// The scores, in tenths, and the exact sub-scores of a vector of CVSS v2 or v3.
+#[derive(Drop)]
+#[repr(C)]
+pub struct CvssNumbers {
+    /// The base score.
+    pub base: i32,
+    /// The temporal score.
+    pub temporal: i32,
+    /// The environmental score.
+    pub environmental: i32,
+    /// 0.
+    pub reserved: i32,
+    /// Of CVSS v2 Impact, of v3 ISS.
+    pub impact: CvssNumber,
+    /// Exploitability.
+    pub exploitability: CvssNumber,
+    /// Of CVSS v2 AdjustedImpact, of v3 MISS.
+    pub adjusted_impact: CvssNumber,
+}
+
+const TRILLION: i128 = 1_000_000_000_000;
+
+/// A million, in trillionths.
+const MILLION: i64 = 1_000_000_000_000_000_000;
+
+/// Whether the version is CVSS v2 or v3 and the components make a vector of it, which may lack any
+/// metric; then its numbers are written. Else they are left as they were.
+pub fn put_numbers(version: i32, metrics: &[u8], numbers: &mut CvssNumbers) -> bool
+    ensures { AnswersNumbers version metrics.now numbers.old numbers.new result }
+{
+    match version {
+        20 => put_v2(metrics, numbers),
+        30 => put_v3(0, metrics, numbers),
+        31 => put_v3(1, metrics, numbers),
+        _ => false,
+    }
+}
+
+fn put_v2(metrics: &[u8], numbers: &mut CvssNumbers) -> bool
+    ensures { AnswersPartial v2 [] metrics.now
+        (λ vector. (result ≡ true) × AreNumbersV2 vector numbers.new)
+        (IsKept numbers.old numbers.new result) }
+{
+    match partial(empty_v2(), metrics) {
+        Some(vector) => {
+            *numbers = numbers_of_v2(&vector);
+            true
+        }
+        None => false,
+    }
+}
+
+fn put_v3(minor_version: usize, metrics: &[u8], numbers: &mut CvssNumbers) -> bool
+    ensures { AnswersPartial v3 (front_v3 minor_version) metrics.now
+        (λ vector. (result ≡ true) × AreNumbersV3 vector numbers.new)
+        (IsKept numbers.old numbers.new result) }
+{
+    match partial(empty_v3(minor_version), metrics) {
+        Some(vector) => {
+            *numbers = numbers_of_v3(&vector);
+            true
+        }
+        None => false,
+    }
+}
+
+/// Whether the version is CVSS v2 or v3 and the number less than a million from 0; then the tenths of the
+/// number are written, rounded as the version rounds scores. Else they are left as they were.
+pub fn put_rounded(version: i32, number: &CvssNumber, tenths: &mut i32) -> bool
+    ensures { AnswersRounded version number.now tenths.old tenths.new result }
+{
+    let Some(count) = count_of(number) else {
+        return false;
+    };
+    match rounded(version, count) {
+        Some(rounded) => {
+            *tenths = tenths_of(rounded);
+            true
+        }
+        None => false,
+    }
+}
+
+/// A count of 10^-24, rounded as a version rounds scores.
+fn rounded(version: i32, count: i128) -> Option<i128>
+    requires { IsWithinLimit count }
+    ensures rounded { IfSome result (IsInTenths (IsRoundedFor version (of_count count))) }
+    ensures limit { IfSome result IsWithinLimit }
+    ensures known { IfSome result (λ _. IsBeforeV4 version) }
+    ensures unknown { IfNone result (¬ (IsBeforeV4 version)) }
+{
+    match version {
+        20 => Some(v2::Score::new(count).roundup().value()),
+        30 => Some(v3::Score::new(count).roundup_for_version(0).value()),
+        31 => Some(v3::Score::new(count).roundup_for_version(1).value()),
+        _ => None,
+    }
+}
+
+/// Whether the components make a vector of CVSS v2, which may lack any metric, and the impact is less
+/// than a million from 0; then the tenths of the temporal score with this impact are written. Else they
+/// are left as they were.
+pub fn put_temporal(metrics: &[u8], impact: &CvssNumber, tenths: &mut i32) -> bool
+    ensures { AnswersTemporal metrics.now impact.now tenths.old tenths.new result }
+{
+    let Some(count) = count_of(impact) else {
+        return false;
+    };
+    match partial(empty_v2(), metrics) {
+        Some(vector) => {
+            let score = vector.temporal_score_internal(v2::Score::new(count));
+            *tenths = tenths_of(score.value());
+            true
+        }
+        None => false,
+    }
+}
+
+/// The vector with these components, which a text joins by slashes, each once; none is mandatory. A
+/// vector without metrics is given, whose front the vector has.
+fn partial<V: Printed>(empty: V, metrics: &[u8]) -> Option<V>
+    requires { HasNoValue V.version empty }
+    ensures is { IfSome result (IsPartial V.version (V.version.front empty) metrics.now) }
+    ensures none { IfNone result (IsNoPartial V.version (V.version.front empty) metrics.now) }
+{
+    let Ok(metrics) = str::from_utf8(metrics) else {
+        return None;
+    };
+    match set(&empty, empty, metrics) {
+        Ok(vector) => Some(vector),
+        Err(_) => None,
+    }
+}
+
+/// The vector of CVSS v2 without metrics.
+fn empty_v2() -> v2::Vector
+    ensures { HasNoValue v2 result }
+{
+    v2::Vector::default()
+}
+
+/// The vector of CVSS v3 without metrics, of a minor version.
+fn empty_v3(minor_version: usize) -> v3::Vector
+    ensures version { result.minor_version ≡ minor_version }
+    ensures valueless { HasNoValue v3 result }
+{
+    let mut empty = v3::Vector::default();
+    empty.minor_version = minor_version;
+    empty
+}
+
+fn numbers_of_v2(vector: &v2::Vector) -> CvssNumbers
+    ensures { AreNumbersV2 vector.now result }
+{
+    CvssNumbers {
+        base: i32::from(vector.tenths()),
+        temporal: i32::from(vector.temporal_tenths()),
+        environmental: i32::from(vector.environmental_tenths()),
+        reserved: 0,
+        impact: number_of(vector.impact().value()),
+        exploitability: number_of(vector.exploitability().value()),
+        adjusted_impact: number_of(vector.adjusted_impact().value()),
+    }
+}
+
+fn numbers_of_v3(vector: &v3::Vector) -> CvssNumbers
+    ensures { AreNumbersV3 vector.now result }
+{
+    CvssNumbers {
+        base: i32::from(vector.tenths()),
+        temporal: i32::from(vector.temporal_tenths()),
+        environmental: i32::from(vector.environmental_tenths()),
+        reserved: 0,
+        impact: number_of(vector.impact().value()),
+        exploitability: number_of(vector.exploitability().value()),
+        adjusted_impact: number_of(vector.miss().value()),
+    }
+}
+
+/// The number with this count of 10^-24.
+fn number_of(count: i128) -> CvssNumber
+    requires { IsWithinLimit count }
+    ensures { count_in result ≡ count }
+{
+    CvssNumber {
+        trillionths: (count / TRILLION) as i64,
+        rest: (count % TRILLION) as i64,
+    }
+}
+
+/// The count of 10^-24 of a number, if its parts are within their bounds.
+fn count_of(number: &CvssNumber) -> Option<i128>
+    ensures count { IfSome result (λ count. count ≡ count_in number.now) }
+    ensures number { IfSome result (λ _. IsNumber number.now) }
+    ensures limit { IfSome result IsWithinLimit }
+    ensures none { IfNone result (¬ (IsNumber number.now)) }
+{
+    if is_number(number) {
+        Some(whole_count(number))
+    } else {
+        None
+    }
+}
+
+fn is_number(number: &CvssNumber) -> bool
+    ensures { IsTrue result ↔ IsNumber number.now }
+{
+    number.trillionths > -MILLION
+        && number.trillionths < MILLION
+        && number.rest > -1_000_000_000_000
+        && number.rest < 1_000_000_000_000
+}
+
+fn whole_count(number: &CvssNumber) -> i128
+    requires { IsNumber number.now }
+    ensures count { result ≡ count_in number.now }
+    ensures limit { IsWithinLimit result }
+{
+    i128::from(number.trillionths) * TRILLION + i128::from(number.rest)
+}
+
+/// The tenths of a count of 10^-24 that is a whole number of them.
+fn tenths_of(count: i128) -> i32
+    requires { IsWithinLimit count }
+    ensures { (tenths : ℤ) → count ≡ tenths *ℤ pos (10 ^ 23) → result ≡ tenths }
+{
+    (count / TENTH) as i32
+}

@@ -1,0 +1,70 @@
+//! Laws of the calls, each the contract of a function that does nothing.
+
+ghost use Rattle.std.specs.Prelude.{◌≡◌, codes};
+ghost use Rattle.cvss_v4.specs.Merging.{effective_of};
+ghost use Rattle.cvss_v2.specs.declared.vector.Vector as vector_v2;
+ghost use Rattle.cvss_v3.specs.declared.vector.Vector as vector_v3;
+ghost use Rattle.cvss_v4.specs.declared.vector.Vector as vector_v4;
+ghost use Rattle.cvss_v2.specs.Vector.{v2};
+ghost use Rattle.cvss_v3.specs.Vector.{v3};
+ghost use Rattle.cvss_v4.specs.Vector.{v4};
+ghost use Rattle.cvss_v2.specs.Weights as weights_v2;
+ghost use Rattle.cvss_v3.specs.VectorWeights as weights_v3;
+ghost use Rattle.cvss_base.specs.Equality.{ClonesAlways, ClonesByValue};
+ghost use Rattle.cvss_ffi.specs.laws.DefinedParts.{HasDefinedOf, IsPrintedAsLess};
+
+use crate::{CvssMetric, CvssScores, v2, v3, v4};
+use cvss_text::walk::Components;
+
+/// For each vector there is one that has its defined metrics, and no others.
+#[tactic(auto, using(crate::proofs::PartsLemmas::defined_part_v2, crate::proofs::PartsLemmas::defined_part_v3, crate::proofs::PartsLemmas::defined_part_v4))]
+pub fn vectors_have_defined_parts()
+    ensures v2 { (v : vector_v2.Vector)
+        → (w : vector_v2.Vector) × HasDefinedOf v2 (codes "ND") v w }
+    ensures v3 { (v : vector_v3.Vector)
+        → (w : vector_v3.Vector) × HasDefinedOf v3 (codes "X") v w }
+    ensures v4 { (v : vector_v4.Vector)
+        → (w : vector_v4.Vector) × HasDefinedOf v4 (codes "X") v w }
+{}
+
+/// A vector that has the defined metrics of another, and no others, is printed as the other's text
+/// without its undefined metrics.
+pub fn text_without_undefined_is_canonical()
+    ensures v2 { IsPrintedAsLess v2 (codes "ND") }
+    ensures v3 { IsPrintedAsLess v3 (codes "X") }
+    ensures v4 { IsPrintedAsLess v4 (codes "X") }
+{}
+
+/// It has the other's weights, and in CVSS v4.0 its effective values; so it has its scores.
+pub fn undefined_metrics_change_no_score()
+    ensures v2 { (v w : vector_v2.Vector) → HasDefinedOf v2 (codes "ND") v w
+        → weights_v2.weights_of v ≡ weights_v2.weights_of w }
+    ensures v3 { (v w : vector_v3.Vector) → HasDefinedOf v3 (codes "X") v w
+        → weights_v3.weights_of v ≡ weights_v3.weights_of w }
+    ensures v4 { (v w : vector_v4.Vector) → HasDefinedOf v4 (codes "X") v w
+        → effective_of v ≡ effective_of w }
+{
+    spellings_differ::<v2::Vector>();
+    spellings_differ::<v3::Vector>();
+    cvss_laws::v2::not_defined_weighs_as_absent();
+    cvss_laws::v3::not_defined_weighs_as_absent();
+    cvss_laws::v4::not_defined_scores_as_absent();
+}
+
+/// A clone of scores or of a metric is that value.
+pub fn clones_are_equal()
+    ensures scores { ClonesByValue ⟦<CvssScores as Clone>⟧.is_clone }
+    ensures metric { ClonesByValue ⟦<CvssMetric as Clone>⟧.is_clone }
+{}
+
+/// To clone scores or a metric takes no memory, so it is never refused.
+pub fn values_are_cloned_without_memory()
+    ensures scores { ClonesAlways ⟦<CvssScores as Clone>⟧.is_infallible }
+    ensures metric { ClonesAlways ⟦<CvssMetric as Clone>⟧.is_infallible }
+{}
+
+/// Values of one metric that are spelled alike are one.
+fn spellings_differ<V: Components>()
+    ensures { (kind : V.Kind) → (x y : V.version.Value kind)
+        → V.version.spelling kind x ≡ V.version.spelling kind y → x ≡ y }
+{}

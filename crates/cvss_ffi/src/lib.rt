@@ -1,0 +1,28 @@
+//! What is reported of a text, as bytes in a buffer of the caller and as plain numbers.
+//!
+//! A result goes into a buffer, which is left as it was where it is too small. Nothing takes memory.
+#![tactic(auto)]
+
+pub mod answer;
+pub mod buffer;
+pub mod canonical;
+pub mod defined;
+pub mod exact;
+pub mod laws;
+pub mod lines;
+pub mod mentioned;
+mod message;
+pub mod metrics;
+pub mod numbers;
+pub mod objects;
+pub mod overriding;
+pub mod refusal;
+pub mod scores;
+pub mod setting;
+
+use cvss_v2 as v2;
+use cvss_v3 as v3;
+use cvss_v4 as v4;
+pub use exact::{CvssNumber, CvssNumbers};
+pub use metrics::CvssMetric;
+pub use scores::{CvssScores, CvssScoresBy};

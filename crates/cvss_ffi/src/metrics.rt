@@ -1,0 +1,84 @@
+//! The metrics of a vector, as C sees them.
+
+ghost use Rattle.std.specs.Prelude.{◌≡◌, length};
+ghost use Rattle.cvss_ffi.specs.Buffer.{IsWritten};
+ghost use Rattle.cvss_ffi.specs.Metrics.{metric_of, metrics_at, metrics_in_order, padded as padded_text};
+
+use crate::buffer::put;
+use cvss_any::Cvss;
+use cvss_json_names::spelled;
+use cvss_text::print::Printed;
+
+/// A metric of a vector. Each text stands in eight bytes, with bytes 0 after it.
+#[derive(Clone, Copy)]
+#[repr(C)]
+pub struct CvssMetric {
+    /// The metric's abbreviation, as it stands in a vector.
+    pub name: [u8; 8],
+    /// How its value is spelled.
+    pub value: [u8; 8],
+}
+
+impl CvssMetric {
+    fn of(name: &[u8], value: &[u8]) -> CvssMetric
+        ensures { result ≡ metric_of name.now value.now }
+    {
+        CvssMetric {
+            name: padded(name),
+            value: padded(value),
+        }
+    }
+}
+
+/// The first bytes of a text in eight bytes, with bytes 0 after them.
+fn padded(text: &[u8]) -> [u8; 8]
+    ensures { result ≡ padded_text text.now }
+{
+    let mut field = [0; 8];
+    let first = if text.len() > 8 { &text[..8] } else { text };
+    put(first, &mut field, 0);
+    field
+}
+
+/// Writes the metrics that a vector has, in the order of its canonical text, at the beginning of an
+/// array where they fit, and says how many they are.
+pub fn put_metrics(cvss: &Cvss, metrics: &mut [CvssMetric]) -> usize
+    ensures { IsWritten (metrics_in_order cvss.now) metrics.old metrics.new result }
+{
+    match cvss {
+        Cvss::CvssV20(vector) => put_metrics_of(vector, metrics),
+        Cvss::CvssV30(vector) | Cvss::CvssV31(vector) => put_metrics_of(vector, metrics),
+        Cvss::CvssV40(vector) => put_metrics_of(vector, metrics),
+    }
+}
+
+/// Writes the metrics that a vector of some version has, in printing order, at the beginning of an
+/// array where they fit, and says how many they are.
+fn put_metrics_of<V: Printed>(vector: &V, metrics: &mut [CvssMetric]) -> usize
+    ensures { IsWritten (metrics_at V.version vector.now V.version.printed) metrics.old metrics.new
+        result }
+{
+    let count = count_metrics(vector);
+    if count <= metrics.len() {
+        let mut place = 0;
+        for kind in V::printed() {
+            if let Some(value) = spelled(vector, *kind) {
+                let metric = CvssMetric::of(V::name(*kind).as_bytes(), value);
+                place = put(&[metric], metrics, place);
+            }
+        }
+    }
+    count
+}
+
+fn count_metrics<V: Printed>(vector: &V) -> usize
+    ensures { result ≡ length (metrics_at V.version vector.now V.version.printed) }
+{
+    let mut count = 0;
+    for kind in V::printed() {
+        if spelled(vector, *kind).is_some() {
+            count += 1;
+        }
+    }
+    count
+}

@@ -1,0 +1,65 @@
+//! Numbers for versions, ratings and nomenclatures.
+
+ghost use Rattle.std.specs.Prelude.{◌≡◌};
+ghost use Rattle.cvss_ffi.specs.Scores.{IsRatingNumber, nomenclature_number as number_of_nomenclature, severity_number as number_of_severity, version_number as number_of_version};
+
+use crate::v2;
+use cvss_any::Cvss;
+use cvss_base::{Severity, TENTH, severity_of_score};
+use cvss_score::v4::Nomenclature;
+
+/// What stands for nothing: a text that is refused has no version, and CVSS v4.0 no temporal score.
+pub const NOTHING: i32 = -1;
+
+/// 20, 30, 31 or 40.
+pub fn version_number(cvss: &Cvss) -> i32
+    ensures { result ≡ number_of_version cvss.now }
+{
+    match cvss {
+        Cvss::CvssV20(_) => 20,
+        Cvss::CvssV30(_) => 30,
+        Cvss::CvssV31(_) => 31,
+        Cvss::CvssV40(_) => 40,
+    }
+}
+
+/// The number of the rating of so many tenths by the bounds of a version, 20, 30, 31 or 40; `NOTHING`
+/// of another version, and of tenths outside 0 to 100.
+pub fn rating_number(version: i32, tenths: i32) -> i32
+    ensures { IsRatingNumber version tenths result }
+{
+    if tenths < 0 || tenths > 100 {
+        return NOTHING;
+    }
+    let score = i128::from(tenths) * TENTH;
+    match version {
+        20 => severity_number(v2::Score::new(score).severity()),
+        30 | 31 | 40 => severity_number(severity_of_score(score)),
+        _ => NOTHING,
+    }
+}
+
+/// 0 for none, to 4 for critical.
+pub(crate) fn severity_number(severity: Severity) -> i32
+    ensures { result ≡ number_of_severity severity }
+{
+    match severity {
+        Severity::None => 0,
+        Severity::Low => 1,
+        Severity::Medium => 2,
+        Severity::High => 3,
+        Severity::Critical => 4,
+    }
+}
+
+/// The sum of 1 where there are environmental metrics, and 2 where there are threat metrics.
+pub(crate) fn nomenclature_number(nomenclature: Nomenclature) -> i32
+    ensures { result ≡ number_of_nomenclature nomenclature }
+{
+    match nomenclature {
+        Nomenclature::CvssB => 0,
+        Nomenclature::CvssBE => 1,
+        Nomenclature::CvssBT => 2,
+        Nomenclature::CvssBTE => 3,
+    }
+}

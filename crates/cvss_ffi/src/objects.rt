@@ -1,0 +1,33 @@
+//! The record of a vector, and why it has its score, as JSON without spaces.
+
+ghost use Rattle.std.specs.Prelude.{ℕ, List, None};
+ghost use Rattle.cvss_explain.specs.Account.{IsAccountText};
+ghost use Rattle.cvss_any.specs.Answers.{HasScore};
+ghost use Rattle.cvss_ffi.specs.Buffer.{IsWritten};
+ghost use Rattle.cvss_json_record.specs.Record.{IsRecordText};
+
+use crate::buffer::put_both;
+use cvss_any::Cvss;
+use cvss_json_write::Page;
+
+/// Writes the record of a vector at the beginning of a buffer where it fits, and returns its length.
+pub fn put_record(cvss: &Cvss, buffer: &mut [u8]) -> usize
+    requires { HasScore cvss.now }
+    ensures { (text : List ℕ) × IsRecordText cvss.now text
+        × IsWritten text buffer.old buffer.new result }
+{
+    let mut page = Page::new();
+    cvss_json_record::put_record(&mut page, cvss);
+    put_both(&[], page.bytes(), buffer)
+}
+
+/// Writes why a vector has its score at the beginning of a buffer where it fits, and returns its length.
+pub fn put_account(cvss: &Cvss, buffer: &mut [u8]) -> usize
+    requires { HasScore cvss.now }
+    ensures { (text : List ℕ) × IsAccountText None cvss.now text
+        × IsWritten text buffer.old buffer.new result }
+{
+    let mut page = Page::new();
+    cvss_explain::put_account(&mut page, None, cvss);
+    put_both(&[], page.bytes(), buffer)
+}

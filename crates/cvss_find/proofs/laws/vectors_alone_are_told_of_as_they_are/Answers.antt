@@ -1,6 +1,0 @@
-use Rattle.cvss_find.proofs.AloneLemmas.{answered_alone}
-use Rattle.cvss_find.proofs.laws.vectors_alone_are_told_of_as_they_are.Goals as goal
-
-pub returns : goal.returns
-returns c = λ number line answer accepted answers.
-    answered_alone number line answer (c.accepted_texts_are_mentions.ensures.alone line accepted) accepted answers

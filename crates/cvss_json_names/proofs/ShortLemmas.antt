@@ -1,0 +1,43 @@
+-- No component is longer than nine bytes, so that 32 of them with their slashes take at most 320.
+use Rattle.std.proofs.Common.{◌≡◌, ◌≤◌, ◌*◌, List, [], ◌∷◌, length, Option, Some, None, unwrap_or, true, arith, rules, length-append}
+use Rattle.std.specs.Option.{option_map}
+use Rattle.std.specs.Prelude.{leb}
+use Rattle.std.proofs.lemmas.Bool.Decides.{nat_tests}
+use Rattle.cvss_base.specs.declared.v2.MetricType.TheVariants as metric_v2
+use Rattle.cvss_base.specs.declared.v3.MetricType.TheVariants as metric_v3
+use Rattle.cvss_base.specs.declared.v4.MetricType.TheVariants as metric_v4
+use Rattle.cvss_v2.specs.Vector.{v2}
+use Rattle.cvss_v3.specs.Vector.{v3}
+use Rattle.cvss_v4.specs.Vector.{v4}
+use Rattle.cvss_base.specs.Text.{component}
+use Rattle.cvss_base.specs.Version.{Version}
+use Rattle.cvss_text.specs.private.Printing.{with_slash, text_with_slash, texts_with_slash}
+
+-- no component is longer than nine bytes
+abbrev AreShort : {V K : Type 0} → Version V K → Type 0
+AreShort {K = K} version = (kind : K) (value : version.Value kind) → leb (length (component (version.name kind) (version.spelling kind value))) 9 ≡ true
+
+pub short_v2 : AreShort v2
+short_v2 metric_v2.AV = search rules
+short_v2 _ = search rules
+
+pub short_v3 : AreShort v3
+short_v3 metric_v3.AV = search rules
+short_v3 _ = search rules
+
+pub short_v4 : AreShort v4
+short_v4 metric_v4.AV = search rules
+short_v4 _ = search rules
+
+module _ {V K : Type 0} (version : Version V K) (short : AreShort version) where
+  text-short : (kind : K) (value : Option (version.Value kind)) → length (unwrap_or (with_slash (option_map (component (version.name kind)) (option_map (version.spelling kind) value))) []) ≤ 10
+  text-short kind None = omega arith
+  text-short kind (Some value) = grind (arith, nat_tests, short kind value)
+
+  texts-short : (v : V) (kinds : List K) → length (texts_with_slash version v kinds) ≤ 10 * length kinds
+  texts-short v [] = omega arith
+  texts-short v (kind ∷ kinds) =
+      omega (arith, text-short kind (version.value_of v kind), texts-short v kinds, length-append (text_with_slash version v kind) (texts_with_slash version v kinds))
+
+  pub fits : (v : V) → length version.printed ≤ 32 → length (texts_with_slash version v version.printed) ≤ 320
+  fits v few = omega (arith, few, texts-short v version.printed)

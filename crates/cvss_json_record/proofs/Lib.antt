@@ -1,0 +1,5 @@
+mod FieldFacts
+mod FieldLemmas
+pub mod PlainLemmas
+mod ReportingLemmas
+pub mod WordLemmas

@@ -1,0 +1,156 @@
+-- The names and words of members are short, need no escape in JSON, and are not the name of the vector's text.
+use Rattle.std.proofs.Common.{◌≡◌, ◌≤◌, ℕ, Bool, true, false, not, ◌&&◌, if◌then◌else◌, nat_eq, List, [], ◌∷◌, codes, length, Option, Some, None, bytes_eq, option_map, refl, ap, ◌∙◌, arith}
+use Rattle.std.specs.List.{list_all}
+use Rattle.std.specs.Prelude.{leb}
+use Rattle.std.proofs.lemmas.Bool.{and_parts}
+use Rattle.std.proofs.lemmas.Bool.Decides.{nat_tests}
+use Rattle.cvss_any.specs.declared.vector.Cvss.{Cvss}
+use Rattle.cvss_any.specs.declared.vector.Cvss.TheVariants.{CvssV20, CvssV30, CvssV31, CvssV40}
+use Rattle.cvss_base.specs.declared.severity.Severity.{Severity}
+use Rattle.cvss_base.specs.declared.severity.Severity.TheVariants as severity
+use Rattle.cvss_base.specs.declared.v2.MetricType as type_v2
+use Rattle.cvss_base.specs.declared.v2.MetricType.TheVariants as kind_v2
+use Rattle.cvss_base.specs.declared.v3.MetricType as type_v3
+use Rattle.cvss_base.specs.declared.v3.MetricType.TheVariants as kind_v3
+use Rattle.cvss_base.specs.declared.v4.MetricType as type_v4
+use Rattle.cvss_base.specs.declared.v4.MetricType.TheVariants as kind_v4
+use Rattle.cvss_json_names.specs.Versions.{version_of}
+use Rattle.cvss_json_names.specs.Words.{Row, word_in}
+use Rattle.cvss_json_names.specs.WordsV2 as words_v2
+use Rattle.cvss_json_names.specs.WordsV3 as words_v3
+use Rattle.cvss_json_names.specs.WordsV4 as words_v4
+use Rattle.cvss_json_record.specs.Fields.{fields_of, name_of}
+use Rattle.cvss_json_record.specs.Groups.{tenths_at}
+use Rattle.cvss_json_record.specs.Record.{Due, text, score, nothing, due_of, rating_due, rating_word, spelled_at, word_due}
+use Rattle.cvss_json_record.specs.private.Room.{fields_room}
+use Rattle.cvss_json_record.specs.declared.field.Field.{Field}
+use Rattle.cvss_json_record.specs.declared.field.Field.TheVariants.{V2, V3, V4, Score, Rating, Text, Version}
+use Rattle.cvss_json_record.specs.declared.group.Group.TheVariants.{Base}
+use Rattle.cvss_json_record.specs.declared.score.Scores.{Scores}
+
+-- the byte is none that is escaped in JSON: no control character, no quotation mark and no backslash
+abbrev pub is_clear : ℕ → Bool
+is_clear byte = leb 32 byte && (not (nat_eq byte 34) && not (nat_eq byte 92))
+
+-- the text needs no escape
+abbrev pub is_plain : List ℕ → Bool
+is_plain bytes = list_all is_clear bytes
+
+-- and is not the name of the vector's text
+abbrev pub is_other : List ℕ → Bool
+is_other bytes = is_plain bytes && not (bytes_eq bytes (codes "vectorString"))
+
+abbrev pub is_word : ℕ → List ℕ → Bool
+is_word most word = leb (length word) most && is_other word
+
+-- the name and the words of a metric's member
+abbrev are_words : List ℕ × List Row → Bool
+are_words entry = is_word 40 entry.0 && list_all (λ row. is_word 16 row.1) entry.1
+
+words_v2_fit : (kind : type_v2.MetricType) → are_words (words_v2.entry_of kind) ≡ true
+words_v2_fit kind_v2.AV = refl
+words_v2_fit _ = refl
+
+words_v3_fit : (kind : type_v3.MetricType) → are_words (words_v3.entry_of kind) ≡ true
+words_v3_fit kind_v3.AV = refl
+words_v3_fit _ = refl
+
+words_v4_fit : (kind : type_v4.MetricType) → are_words (words_v4.entry_of kind) ≡ true
+words_v4_fit kind_v4.AV = refl
+words_v4_fit _ = refl
+
+either : (test : List ℕ → Bool) (b : Bool) (one other : List ℕ) → test one ≡ true → test other ≡ true → test (if b then one else other) ≡ true
+either test true one other first second = first
+either test false one other first second = second
+
+-- a test that each word passes is passed by the word of a value, and by none
+within : (test : List ℕ → Bool) (rows : List Row) (spelling : List ℕ) → test [] ≡ true → list_all (λ row. test row.1) rows ≡ true → test (word_in rows spelling) ≡ true
+within test [] spelling none all = none
+within test (row ∷ rows) spelling none all =
+    let both = and_parts (test row.1) (list_all (λ each. test each.1) rows) all in
+    either test (bytes_eq row.0 spelling) row.1 (word_in rows spelling) both.0 (within test rows spelling none both.1)
+
+-- what a member may say
+abbrev pub is_due : Option Due → Bool
+is_due None = true
+is_due (Some (text reported)) = is_word 16 reported
+is_due (Some (score tenths)) = true
+is_due (Some nothing) = true
+
+word_fits : (entry : List ℕ × List Row) (spelling : Option (List ℕ)) → are_words entry ≡ true → is_due (Some (word_due entry.1 spelling)) ≡ true
+word_fits entry None fit = refl
+word_fits entry (Some spelling) fit = within (is_word 16) entry.1 spelling refl (and_parts _ _ fit).1
+
+rating_fits : (rating : Severity) → is_word 16 (rating_word rating) ≡ true
+rating_fits severity.None = refl
+rating_fits _ = refl
+
+score_due_fits : (tenths : Option ℕ) → is_due (option_map score tenths) ≡ true
+score_due_fits None = refl
+score_due_fits (Some tenths) = refl
+
+rating_due_fits : (cvss : Cvss) (tenths : Option ℕ) → is_due (option_map (rating_due cvss) tenths) ≡ true
+rating_due_fits cvss None = refl
+rating_due_fits cvss (Some tenths) = rating_fits _
+
+version_fits : (cvss : Cvss) → is_word 16 (version_of cvss) ≡ true
+version_fits (CvssV20 _) = refl
+version_fits _ = refl
+
+pub due_fits : (cvss : Cvss) (scores : Scores) (field : Field) → is_due (due_of cvss scores field) ≡ true
+due_fits cvss scores (V2 kind) = word_fits (words_v2.entry_of kind) (spelled_at cvss (V2 kind)) (words_v2_fit kind)
+due_fits cvss scores (V3 kind) = word_fits (words_v3.entry_of kind) (spelled_at cvss (V3 kind)) (words_v3_fit kind)
+due_fits cvss scores (V4 kind) = word_fits (words_v4.entry_of kind) (spelled_at cvss (V4 kind)) (words_v4_fit kind)
+due_fits cvss scores (Score group) = score_due_fits (tenths_at scores group)
+due_fits cvss scores (Rating group) = rating_due_fits cvss (tenths_at scores group)
+due_fits cvss scores Text = refl
+due_fits cvss scores Version = version_fits cvss
+
+name_within : (entry : List ℕ × List Row) → are_words entry ≡ true → leb (length entry.0) 40 ≡ true
+name_within entry fit = (and_parts _ _ (and_parts _ _ fit).0).0
+
+short_name : (field : Field) → leb (length (name_of field)) 40 ≡ true
+short_name (V2 kind) = name_within (words_v2.entry_of kind) (words_v2_fit kind)
+short_name (V3 kind) = name_within (words_v3.entry_of kind) (words_v3_fit kind)
+short_name (V4 kind) = name_within (words_v4.entry_of kind) (words_v4_fit kind)
+short_name (Score Base) = refl
+short_name (Score _) = refl
+short_name (Rating Base) = refl
+short_name (Rating _) = refl
+short_name Text = refl
+short_name Version = refl
+
+-- the member is that of the vector's text
+abbrev pub is_text : Field → Bool
+is_text Text = true
+is_text _ = false
+
+name_other : (entry : List ℕ × List Row) → are_words entry ≡ true → is_other entry.0 ≡ true
+name_other entry fit = (and_parts _ _ (and_parts _ _ fit).0).1
+
+pub name_fits : (field : Field) → is_text field ≡ false → is_other (name_of field) ≡ true
+name_fits (V2 kind) other = name_other (words_v2.entry_of kind) (words_v2_fit kind)
+name_fits (V3 kind) other = name_other (words_v3.entry_of kind) (words_v3_fit kind)
+name_fits (V4 kind) other = name_other (words_v4.entry_of kind) (words_v4_fit kind)
+name_fits (Score Base) other = refl
+name_fits (Score _) other = refl
+name_fits (Rating Base) other = refl
+name_fits (Rating _) other = refl
+name_fits Text other = absurd (cc)
+name_fits Version other = refl
+
+-- no name is longer than 40 bytes, and no text that a member says, the vector's aside, than 16
+pub name_short : (field : Field) → length (name_of field) ≤ 40
+name_short field = grind (arith, nat_tests, short_name field)
+
+pub text_short : (cvss : Cvss) (scores : Scores) (field : Field) (reported : List ℕ) → Some (text reported) ≡ due_of cvss scores field → length reported ≤ 16
+text_short cvss scores field reported is =
+    let fit : is_word 16 reported ≡ true = ap is_due is ∙ due_fits cvss scores field in
+    grind (arith, nat_tests, (and_parts (leb (length reported) 16) (is_other reported) fit).0)
+
+-- all members of a record have room on a page
+pub fields_fit : (cvss : Cvss) → fields_room (fields_of cvss) ≤ 4000
+fields_fit (CvssV20 _) = omega arith
+fields_fit (CvssV30 _) = omega arith
+fields_fit (CvssV31 _) = omega arith
+fields_fit (CvssV40 _) = omega arith

@@ -1,0 +1,110 @@
+-- The record of a vector: FIRST's JSON schemas of CVSS v2.0, v3.0, v3.1 and v4.0.
+use Rattle.std.specs.Prelude.{◌≡◌, ℕ, Bool, true, List, codes, Option, Some, None, option_map, option_and_then, unwrap_or, if◌then◌else◌}
+use Rattle.std.specs.List.{filter_map}
+use Rattle.cvss_any.specs.Answers.{rating_by, score_of_tenths, text_of}
+use Rattle.cvss_any.specs.declared.vector.Cvss.{Cvss}
+use Rattle.cvss_any.specs.declared.vector.Cvss.TheVariants.{CvssV20, CvssV30, CvssV31, CvssV40}
+use Rattle.cvss_base.specs.Version.{held}
+use Rattle.cvss_base.specs.declared.severity.Severity.{Severity}
+use Rattle.cvss_base.specs.declared.severity.Severity.TheVariants as severity
+use Rattle.cvss_json_write.specs.Json.{Member, object_text, string_text, tenths_text}
+use Rattle.cvss_v2.specs.Vector.{v2}
+use Rattle.cvss_v3.specs.Vector.{v3}
+use Rattle.cvss_v4.specs.Vector.{v4}
+use Rattle.cvss_json_names.specs.Versions.{version_of}
+use Rattle.cvss_json_names.specs.Words.{Row, word_in}
+use Rattle.cvss_json_names.specs.WordsV2 as words_v2
+use Rattle.cvss_json_names.specs.WordsV3 as words_v3
+use Rattle.cvss_json_names.specs.WordsV4 as words_v4
+use Rattle.cvss_json_record.specs.Fields.{fields_of, name_of}
+use Rattle.cvss_json_record.specs.Groups.{AreScoresOf, has_group, tenths_at}
+use Rattle.cvss_json_record.specs.declared.due.Due as code
+use Rattle.cvss_json_record.specs.declared.due.Due.TheVariants as code_due
+use Rattle.cvss_json_record.specs.declared.field.Field.{Field}
+use Rattle.cvss_json_record.specs.declared.field.Field.TheVariants.{V2, V3, V4, Score, Rating, Text, Version}
+use Rattle.cvss_json_record.specs.declared.group.Group.{Group}
+use Rattle.cvss_json_record.specs.declared.group.Group.TheVariants.{Base, Temporal, Environmental}
+use Rattle.cvss_json_record.specs.declared.score.Scores.{Scores}
+
+-- what a member says: a text, a score of so many tenths, or nothing of a metric that is absent
+pub data Due : Type 0 where
+  text : List ℕ → Due
+  score : ℕ → Due
+  nothing : Due
+
+-- and as the code has it
+abbrev pub due_view : code.Due → Due
+due_view (code_due.Text reported) = text reported.now
+due_view (code_due.Score tenths) = score tenths
+due_view code_due.Nothing = nothing
+
+-- the word of a rating
+abbrev pub rating_word : Severity → List ℕ
+rating_word severity.None = codes "NONE"
+rating_word severity.Low = codes "LOW"
+rating_word severity.Medium = codes "MEDIUM"
+rating_word severity.High = codes "HIGH"
+rating_word severity.Critical = codes "CRITICAL"
+
+-- the rating of a score of so many tenths
+abbrev pub rating_due : Cvss → ℕ → Due
+rating_due cvss tenths = text (rating_word (rating_by cvss (score_of_tenths tenths)))
+
+-- the word for how a metric's value is spelled, if the vector has one
+abbrev pub word_due : List Row → Option (List ℕ) → Due
+word_due words spelling = unwrap_or (option_map (λ each. text (word_in words each)) spelling) nothing
+
+-- how the vector's value is spelled for a metric of its version
+abbrev pub spelled_at : Cvss → Field → Option (List ℕ)
+spelled_at (CvssV20 vector) (V2 kind) = held v2 vector kind
+spelled_at (CvssV30 vector) (V3 kind) = held v3 vector kind
+spelled_at (CvssV31 vector) (V3 kind) = held v3 vector kind
+spelled_at (CvssV40 vector) (V4 kind) = held v4 vector kind
+spelled_at _ _ = None
+
+-- what a member says of the vector, its text aside
+abbrev pub due_of : Cvss → Scores → Field → Option Due
+due_of cvss scores (V2 kind) = Some (word_due (words_v2.words_of kind) (spelled_at cvss (V2 kind)))
+due_of cvss scores (V3 kind) = Some (word_due (words_v3.words_of kind) (spelled_at cvss (V3 kind)))
+due_of cvss scores (V4 kind) = Some (word_due (words_v4.words_of kind) (spelled_at cvss (V4 kind)))
+due_of cvss scores (Score group) = option_map score (tenths_at scores group)
+due_of cvss scores (Rating group) = option_map (rating_due cvss) (tenths_at scores group)
+due_of cvss scores Text = None
+due_of cvss scores Version = Some (text (version_of cvss))
+
+-- what is said, as JSON
+abbrev pub due_text : Due → Option (List ℕ)
+due_text (text reported) = Some (string_text reported)
+due_text (score tenths) = Some (tenths_text tenths)
+due_text nothing = None
+
+-- the vector has a metric of the group, if that is an optional one
+abbrev pub reports_group : Cvss → Group → Bool
+reports_group cvss Base = true
+reports_group cvss Temporal = has_group cvss Temporal
+reports_group cvss Environmental = has_group cvss Environmental
+
+-- the record has the member, which of an optional group's score it has where the vector has a metric of the group
+abbrev pub has_member : Cvss → Field → Bool
+has_member cvss (Score group) = reports_group cvss group
+has_member cvss (Rating group) = reports_group cvss group
+has_member cvss _ = true
+
+-- the value of a member of the vector's record, as JSON, if the record has it
+abbrev pub value_at : Cvss → Scores → Field → Option (List ℕ)
+value_at cvss scores Text = Some (string_text (text_of cvss))
+value_at cvss scores field = if has_member cvss field then option_and_then due_text (due_of cvss scores field) else None
+
+-- the member, if the record has it
+abbrev pub member_at : Cvss → Scores → Field → Option Member
+member_at cvss scores field = option_map (λ value. (name_of field, value)) (value_at cvss scores field)
+
+-- the members of the record, in the order of their names
+abbrev pub record_members : Cvss → Scores → List Member
+record_members cvss scores = filter_map (member_at cvss scores) (fields_of cvss)
+
+-- the text is the vector's record
+pub record IsRecordText (cvss : Cvss) (text : List ℕ) : Type 0 where
+  pub scores : Scores
+  pub are_scores : AreScoresOf cvss scores
+  pub is : text ≡ object_text (record_members cvss scores)

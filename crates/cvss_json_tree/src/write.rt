@@ -1,0 +1,47 @@
+//! How objects are written.
+
+ghost use Rattle.std.specs.Prelude.{OnOk};
+ghost use Rattle.cvss_json_tree.specs.Texts.{WritesObject};
+ghost use Rattle.cvss_json_tree.specs.Trees as trees;
+ghost use Rattle.serde_json.specs.Data.{object};
+ghost use Rattle.serde_json.specs.View.{members_view};
+
+use crate::text::{push_members, push_value};
+use crate::tree::Tree;
+use cvss_lines::Gathered;
+use serde_json::{Map, Value};
+use std::alloc::{AllocError, Global};
+
+/// Writes an object as JSON without spaces, and a byte 10.
+///
+/// # Errors
+///
+/// Want of memory alone.
+pub fn write_object(
+    alloc: Global,
+    members: Map<String, Value>,
+    answers: &mut Gathered,
+) -> Result<(), AllocError>
+    ensures { OnOk result (WritesObject (object (members_view members.entries))
+        answers.old.bytes.items answers.new.bytes.items) }
+{
+    push_value(alloc, &Value::Object(members), answers)?;
+    answers.push(b"\n")
+}
+
+/// Writes an object of which parts stand elsewhere, as JSON without spaces, and a byte 10.
+///
+/// # Errors
+///
+/// Want of memory alone.
+pub fn write_tree_object(
+    alloc: Global,
+    members: &Map<String, Tree<'_>>,
+    answers: &mut Gathered,
+) -> Result<(), AllocError>
+    ensures { OnOk result (WritesObject (object (trees.members_view members.now.entries))
+        answers.old.bytes.items answers.new.bytes.items) }
+{
+    push_members(alloc, members, answers)?;
+    answers.push(b"\n")
+}

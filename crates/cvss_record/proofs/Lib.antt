@@ -1,5 +1,0 @@
-mod FieldFacts
-mod FieldLemmas
-pub mod PlainLemmas
-mod TellingLemmas
-pub mod WordLemmas

@@ -1,0 +1,81 @@
+-- Why what has no slash is passed over.
+use Rattle.std.proofs.Common.{◌≡◌, ◌≢◌, ℕ, ◌+◌, ◌-◌, ◌<◌, ◌≤◌, true, false, not, eqb, List, [], ◌∷◌, ◌++◌, get_or, length, take, drop, refl, sym, ap, ◌∙◌, subst, arith, length-take-le, take-append-drop, take-take, drop-drop, get_or-take}
+use Rattle.std.proofs.lemmas.Bool.{ne_eqb, or_parts}
+use Rattle.std.proofs.lemmas.List.Elements.{All-nil, All-cons, All-from_get_or}
+use Rattle.std.proofs.lemmas.List.Folds.{list_any-append, list_any_none}
+use Rattle.cvss_base.specs.Text.{has, slash}
+use Rattle.cvss_scan.proofs.EndLemmas.{before_and_last}
+use Rattle.cvss_scan.specs.Parts.{is_vector_byte, less_dividers, parts_of}
+use Rattle.cvss_scan.specs.Mentions.{IsFound, placed_from}
+use Rattle.cvss_scan.specs.MentionsLeft.{NoneFound}
+use Rattle.cvss_scan.specs.laws.Whole.{is_other, last_byte}
+use Rattle.cvss_scan.specs.private.Passing.{Passes}
+use Rattle.cvss_scan.proofs.PlaceLemmas.{begins, joined, joined-parts}
+use Rattle.cvss_scan.proofs.SlashLemmas.{found_with_slash}
+use Rattle.cvss_scan.proofs.WholeLemmas.{parts_after, placed_after}
+
+-- no slash stands before a place at or before the first
+pub none_before : (text : List ℕ) (end place : ℕ) → place ≤ end → end ≤ length text → ((k : ℕ) → k < end → get_or text k 0 ≢ 47) → has slash (take place text) ≡ false
+none_before text end place before within none = list_any_none (λ each. eqb each slash) (take place text)
+    (All-from_get_or (λ each. eqb each slash ≡ false) (take place text) 0 (λ k below.
+    let at : k < place = omega (arith, below, length-take-le place text (omega (arith, before, within))) in
+    let differs = none k (omega (arith, at, before)) in
+    let same = get_or-take place text k 0 at in
+    ne_eqb (get_or (take place text) k 0) 47 (λ is. differs (sym same ∙ is))))
+
+-- a part without a slash has no mention that is found
+part_not_found : (part : List ℕ) → has slash part ≡ false → ¬ (IsFound (less_dividers part))
+part_not_found part none found =
+    let first = begins part in
+    let parts = sym (list_any-append (λ each. eqb each slash) (less_dividers part) first.taken_off) ∙ (sym (ap (has slash) first.is) ∙ none) in
+    let less : has slash (less_dividers part) ≡ false = (or_parts (has slash (less_dividers part)) (has slash first.taken_off) parts).0 in
+    let with_slash = found_with_slash (less_dividers part) found in
+    cc
+
+none_found : (place : ℕ) (parts : List (List ℕ)) → has slash (joined parts) ≡ false → NoneFound (placed_from place parts)
+none_found place [] none = All-nil (λ mention. ¬ (IsFound mention.text))
+none_found place (part ∷ parts) none =
+    let both = or_parts (has slash part) (has slash (joined parts)) (sym (list_any-append (λ each. eqb each slash) part (joined parts)) ∙ none) in
+    All-cons (λ mention. ¬ (IsFound mention.text)) _ _ (part_not_found part both.0) (none_found (place + length part) parts both.1)
+
+-- the first bytes of a text have no slash, and the text is cut after them
+pub record NoSlash (text : List ℕ) (count : ℕ) : Type 0 where
+  pub within : count ≤ length text
+  pub none : has slash (take count text) ≡ false
+  pub cut : parts_of text ≡ parts_of (take count text) ++ parts_of (drop count text)
+
+pub passes_no_slash : (text : List ℕ) (place count : ℕ) → NoSlash (drop place text) count
+    → Passes (placed_from place (parts_of (drop place text))) (placed_from (place + count) (parts_of (drop (place + count) text)))
+passes_no_slash text place count passed =
+    let front = take count (drop place text) in
+    let after = drop count (drop place text) in
+    let length_is : length (joined (parts_of front)) ≡ count = ap length (joined-parts front) ∙ length-take-le count (drop place text) passed.within in
+    record {
+      passed = placed_from place (parts_of front);
+      is = ap (placed_from place) passed.cut
+          ∙ placed_after place (parts_of front) (parts_of after)
+          ∙ ap (λ at. placed_from place (parts_of front) ++ placed_from (place + at) (parts_of after)) length_is
+          ∙ ap (λ rest. placed_from place (parts_of front) ++ placed_from (place + count) (parts_of rest)) (drop-drop count place text);
+      none = none_found place (parts_of front) (ap (has slash) (joined-parts front) ∙ passed.none);
+    }
+
+last_after : (before : List ℕ) (last : ℕ) → last_byte (before ++ last ∷ []) ≡ last ∷ []
+last_after [] last = refl
+last_after (byte ∷ []) last = refl
+last_after (byte ∷ next ∷ before) last = last_after (next ∷ before) last
+
+-- the text that ends with a byte of no vector
+pub ends_other : (text : List ℕ) → 1 ≤ length text → is_vector_byte (get_or text (length text - 1) 0) ≡ false → is_other (last_byte text) ≡ true
+ends_other text some other =
+    ap (λ bytes. is_other (last_byte bytes)) (before_and_last text some)
+    ∙ ap is_other (last_after (take (length text - 1) text) (get_or text (length text - 1) 0))
+    ∙ ap not other
+
+-- the parts of a text are those before and after the place, where a run begins
+pub parts_at_start : (text : List ℕ) (end place : ℕ) → place ≤ end → is_other (last_byte (take place (take end text))) ≡ true → parts_of text ≡ parts_of (take place text) ++ parts_of (drop place text)
+parts_at_start text end place before start =
+    ap parts_of (sym (take-append-drop place text))
+    ∙ parts_after (take place text) (drop place text) (subst (λ front. is_other (last_byte front) ≡ true) (take-take place end text before) start)
+
+pub run_starts : (text left : List ℕ) → left ≡ take (length left) text → 1 ≤ length left → is_vector_byte (get_or left (length left - 1) 0) ≡ false → is_other (last_byte (take (length left) text)) ≡ true
+run_starts text left is some other = subst (λ bytes. is_other (last_byte bytes) ≡ true) is (ends_other left some other)

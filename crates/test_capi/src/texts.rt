@@ -1,0 +1,92 @@
+//! Texts that are written into a buffer of the caller.
+
+use crate::buffers::print_written;
+use crate::cut;
+use crate::lists::number;
+use cvss_any::Cvss;
+use cvss_ffi::answer::put_answer_to;
+use cvss_ffi::canonical::put_canonical_of;
+use cvss_ffi::defined::put_without_undefined;
+use cvss_ffi::objects::{put_account, put_record};
+use cvss_ffi::overriding::{put_overridden, put_override_reason};
+use cvss_ffi::refusal::{put_quoted, put_reason};
+use cvss_ffi::setting::{put_build, put_build_reason, put_with, put_with_reason};
+use std::io;
+
+pub(crate) fn canonical(rt: &HostRuntime, text: &[u8]) -> io::Result<()> {
+    print_written(rt, |buffer| match put_canonical_of(text, buffer) {
+        Some(_) => text.len(),
+        None => 0,
+    })
+}
+
+pub(crate) fn without_undefined(rt: &HostRuntime, text: &[u8]) -> io::Result<()> {
+    print_written(rt, |buffer| write_without_undefined(text, buffer))
+}
+
+fn write_without_undefined(text: &[u8], buffer: &mut [u8]) -> usize {
+    match Cvss::read_bytes(text) {
+        Some(cvss) => put_without_undefined(&cvss, buffer),
+        None => 0,
+    }
+}
+
+pub(crate) fn record(rt: &HostRuntime, text: &[u8]) -> io::Result<()> {
+    let alloc = rt.alloc();
+    print_written(rt, |buffer| match Cvss::read_bytes(text) {
+        Some(cvss) => put_record(&cvss, buffer),
+        None => 0,
+    })
+}
+
+pub(crate) fn account(rt: &HostRuntime, text: &[u8]) -> io::Result<()> {
+    print_written(rt, |buffer| match Cvss::read_bytes(text) {
+        Some(cvss) => put_account(&cvss, buffer),
+        None => 0,
+    })
+}
+
+pub(crate) fn answer(rt: &HostRuntime, text: &[u8]) -> io::Result<()> {
+    print_written(rt, |buffer| put_answer_to(text, buffer))
+}
+
+/// Why a text is rejected.
+pub(crate) fn reason(rt: &HostRuntime, text: &[u8]) -> io::Result<()> {
+    print_written(rt, |buffer| put_reason(text, buffer))
+}
+
+/// The vector of a text with the overrides after the first blank, and why it has none.
+pub(crate) fn overridden(rt: &HostRuntime, asked: &[u8]) -> io::Result<()> {
+    let (text, overrides) = cut(asked, b' ');
+    print_written(rt, |buffer| match Cvss::read_bytes(text) {
+        Some(cvss) => put_overridden(&cvss, text, overrides, buffer),
+        None => 0,
+    })?;
+    print!(rt; " ")?;
+    print_written(rt, |buffer| put_override_reason(text, overrides, buffer))
+}
+
+/// The vector of a text with the metrics after the first blank set, and why they are not.
+pub(crate) fn with_metrics(rt: &HostRuntime, asked: &[u8]) -> io::Result<()> {
+    let (text, metrics) = cut(asked, b' ');
+    print_written(rt, |buffer| match Cvss::read_bytes(text) {
+        Some(cvss) => put_with(&cvss, text, metrics, buffer),
+        None => 0,
+    })?;
+    print!(rt; " ")?;
+    print_written(rt, |buffer| put_with_reason(text, metrics, buffer))
+}
+
+/// The vector of a version that the metrics after the first blank make, and why they make none.
+pub(crate) fn built(rt: &HostRuntime, asked: &[u8]) -> io::Result<()> {
+    let (version, metrics) = cut(asked, b' ');
+    let version = i32::try_from(number(version)).unwrap_or(0);
+    print_written(rt, |buffer| put_build(version, metrics, buffer))?;
+    print!(rt; " ")?;
+    print_written(rt, |buffer| put_build_reason(version, metrics, buffer))
+}
+
+/// The part of a text that the reason quotes for which it is rejected.
+pub(crate) fn quoted(rt: &HostRuntime, text: &[u8]) -> io::Result<()> {
+    print_written(rt, |buffer| put_quoted(text, buffer))
+}
