@@ -3,7 +3,7 @@
 
 Each public type that derives PartialEq or Clone has a law for it: two values are equal exactly if they are the same or
 report the same, and a clone is that value; and if the type is Copy, that a clone needs no memory. A law is a clause of
-a module `laws` that names the type's impl, or the law of the trait `Spelled`.
+a module `laws` that names the type's impl, or the law of the trait `MetricValue`.
 
 docs/CONTRACTS.md lists exactly the public calls with preconditions, by the last part of their names.
 
@@ -39,7 +39,7 @@ def without_law():
         files, exported = sources(crate)
         for path, is_public, text in files:
             found = laws_for(path) | laws_for(ROOT / "crates/cvss/src/lib.rt")
-            metrics = re.findall(r"^impl(?:<[^>]*>)? Spelled for (\w+)", text, re.M)
+            metrics = re.findall(r"^impl(?:<[^>]*>)? MetricValue for (\w+)", text, re.M)
             for traits, name in DERIVED.findall(text):
                 if SCORING in str(path) and path.stem != "account" or name in metrics or not (is_public or name in exported):
                     continue

@@ -9,7 +9,7 @@ ghost use Rattle.cvss_answer.specs.Answers.{IsAnswer, WritesVector, score_line};
 use crate::score_line::score_line;
 use crate::segments::push_segments;
 use cvss_any::{Cvss, Message, Published, ReadError, TextBuffer};
-use cvss_lines::{Answering, Gathered};
+use cvss_lines::{Answering, OutputBuffer};
 use std::alloc::{AllocError, Global};
 use std::fmt::{self, Write};
 
@@ -23,9 +23,9 @@ impl Answering for Vectors {
         _alloc: Global,
         _number: u64,
         line: &[u8],
-        answers: &mut Gathered,
+        answers: &mut OutputBuffer,
     ) -> Result<bool, AllocError> {
-        if let Some(published) = Cvss::published_at_sight(line) {
+        if let Some(published) = Cvss::published_on_fast_path(line) {
             write_canonical(line, published, answers)?;
             return Ok(true);
         }
@@ -36,7 +36,7 @@ impl Answering for Vectors {
 /// The answer to a line that is not seen at once to be canonical.
 // A call of its own keeps the buffer out of the frame of a canonical line.
 #[inline(never)]
-fn answer_other_line(line: &[u8], answers: &mut Gathered) -> Result<bool, AllocError>
+fn answer_other_line(line: &[u8], answers: &mut OutputBuffer) -> Result<bool, AllocError>
     ensures { (number : ℕ) → IfOk result (WritesAnswer IsAnswer number line.now
         answers.old.bytes.items answers.new.bytes.items) }
 {
@@ -56,7 +56,10 @@ fn answer_other_line(line: &[u8], answers: &mut Gathered) -> Result<bool, AllocE
 /// Writes why a line is no vector, and a byte 10.
 // A call of its own keeps the segments out of the frame of an accepted line.
 #[inline(never)]
-pub(crate) fn write_error(error: ReadError<'_>, answers: &mut Gathered) -> Result<(), AllocError>
+pub(crate) fn write_error(
+    error: ReadError<'_>,
+    answers: &mut OutputBuffer,
+) -> Result<(), AllocError>
     ensures { OnOk result (answers.new.bytes.items ≡ answers.old.bytes.items
         ++ (codes "error: " ++ (error_message error.entry ++ 10 ∷ []))) }
 {
@@ -74,7 +77,7 @@ pub(crate) fn write_error(error: ReadError<'_>, answers: &mut Gathered) -> Resul
 pub fn write_canonical(
     text: &[u8],
     published: Published,
-    answers: &mut Gathered,
+    answers: &mut OutputBuffer,
 ) -> Result<(), AllocError>
     requires { published.tenths ≤ 100 }
     ensures { OnOk result (answers.new.bytes.items
@@ -85,7 +88,7 @@ pub fn write_canonical(
 }
 
 /// Writes the answer of a vector, and a byte 10.
-pub(crate) fn write_vector(vector: &Cvss, answers: &mut Gathered) -> fmt::Result
+pub(crate) fn write_vector(vector: &Cvss, answers: &mut OutputBuffer) -> fmt::Result
     requires { HasScore vector.now }
     ensures { OnOk result
         (WritesVector vector.now answers.old.bytes.items answers.new.bytes.items) }
@@ -96,7 +99,7 @@ pub(crate) fn write_vector(vector: &Cvss, answers: &mut Gathered) -> fmt::Result
 }
 
 /// Writes a vector's text.
-fn write_text(vector: &Cvss, answers: &mut Gathered) -> fmt::Result
+fn write_text(vector: &Cvss, answers: &mut OutputBuffer) -> fmt::Result
     ensures { OnOk result
         (answers.new.bytes.items ≡ answers.old.bytes.items ++ text_of vector.now) }
 {

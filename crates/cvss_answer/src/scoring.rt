@@ -6,7 +6,7 @@ ghost use Rattle.cvss_lines.specs.Answers.{WritesAnswer};
 
 use crate::answer::{write_canonical, write_error, write_vector};
 use cvss_any::{Cvss, MetricType, ReadError, Refusal};
-use cvss_lines::Gathered;
+use cvss_lines::OutputBuffer;
 use std::alloc::AllocError;
 use std::fmt;
 
@@ -20,12 +20,12 @@ use std::fmt;
 pub fn answer_score(
     line: &[u8],
     allow_incomplete: bool,
-    answers: &mut Gathered,
+    answers: &mut OutputBuffer,
 ) -> Result<bool, AllocError>
     ensures { (number : ℕ) → IfOk result (WritesAnswer (score_rule allow_incomplete) number line.now
         answers.old.bytes.items answers.new.bytes.items) }
 {
-    if let Some(published) = Cvss::complete_at_sight(line) {
+    if let Some(published) = Cvss::complete_on_fast_path(line) {
         write_canonical(line, published, answers)?;
         return Ok(true);
     }
@@ -39,7 +39,7 @@ pub fn answer_score(
 fn answer_read(
     line: &[u8],
     allow_incomplete: bool,
-    answers: &mut Gathered,
+    answers: &mut OutputBuffer,
 ) -> Result<bool, fmt::Error>
     ensures { (number : ℕ) → IfOk result (WritesAnswer (score_rule allow_incomplete) number line.now
         answers.old.bytes.items answers.new.bytes.items) }

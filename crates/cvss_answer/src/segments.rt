@@ -4,13 +4,13 @@ ghost use Rattle.std.specs.Prelude.{◌≡◌, ◌++◌, OnOk};
 ghost use Rattle.cvss_any.specs.Segments.{segment_text, text_of};
 
 use cvss_any::Segment;
-use cvss_lines::Gathered;
+use cvss_lines::OutputBuffer;
 use std::alloc::AllocError;
 
 /// Writes segments one after another.
 pub(crate) fn push_segments(
     segments: &[Segment<'_>],
-    answers: &mut Gathered,
+    answers: &mut OutputBuffer,
 ) -> Result<(), AllocError>
     ensures { OnOk result
         (answers.new.bytes.items ≡ answers.old.bytes.items ++ text_of segments.now) }
@@ -21,7 +21,7 @@ pub(crate) fn push_segments(
     Ok(())
 }
 
-fn push_segment(segment: Segment<'_>, answers: &mut Gathered) -> Result<(), AllocError>
+fn push_segment(segment: Segment<'_>, answers: &mut OutputBuffer) -> Result<(), AllocError>
     ensures { OnOk result
         (answers.new.bytes.items ≡ answers.old.bytes.items ++ segment_text segment.entry) }
 {

@@ -6,7 +6,7 @@ ghost use Rattle.cvss_lines.specs.Answers.{WritesAnswer};
 
 use crate::answer::{write_error, write_vector};
 use cvss_any::{Cvss, ReadError, Refusal};
-use cvss_lines::Gathered;
+use cvss_lines::OutputBuffer;
 use std::alloc::AllocError;
 use std::fmt;
 
@@ -19,7 +19,7 @@ use std::fmt;
 pub fn answer_with_metrics(
     line: &[u8],
     metrics: &str,
-    answers: &mut Gathered,
+    answers: &mut OutputBuffer,
 ) -> Result<bool, AllocError>
     ensures { (number : ℕ) → IfOk result (WritesAnswer (IsSetAnswer metrics.now) number line.now
         answers.old.bytes.items answers.new.bytes.items) }
@@ -30,7 +30,7 @@ pub fn answer_with_metrics(
     }
 }
 
-fn answer_set(line: &[u8], metrics: &str, answers: &mut Gathered) -> Result<bool, fmt::Error>
+fn answer_set(line: &[u8], metrics: &str, answers: &mut OutputBuffer) -> Result<bool, fmt::Error>
     ensures { (number : ℕ) → IfOk result (WritesAnswer (IsSetAnswer metrics.now) number line.now
         answers.old.bytes.items answers.new.bytes.items) }
 {

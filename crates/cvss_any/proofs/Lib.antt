@@ -5,6 +5,6 @@ pub mod ErrorLemmas
 mod ReadLemmas
 pub mod RouteLemmas
 mod SettingLemmas
-mod SightLemmas
+mod FastPathLemmas
 mod ReportedLemmas
 pub mod UniqueLemmas

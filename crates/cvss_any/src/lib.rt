@@ -3,6 +3,7 @@
 
 mod bytes_error;
 mod complete;
+mod fast_path;
 mod message;
 mod metric_type;
 mod metrics;
@@ -12,7 +13,6 @@ mod refusal;
 mod route;
 mod segment;
 mod setting;
-mod sight;
 mod vector;
 
 pub use bytes_error::BytesError;

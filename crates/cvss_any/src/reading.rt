@@ -67,7 +67,7 @@ fn fault_of<'a>(why: NoVersion<'a>) -> Fault<'a, cvss_base::v2::MetricType>
     }
 }
 
-// A call of its own for each version keeps the vectors apart, as in `sight`.
+// A call of its own for each version keeps the vectors apart, as in `fast_path`.
 #[inline(never)]
 fn read_v20(text: &[u8]) -> Result<Cvss, ReadFault<'_>>
     requires { route_of text.now ≡ ToV20 }

@@ -8,8 +8,8 @@ ghost use Rattle.cvss_any.specs.Route.{route_of, route_of_parts};
 ghost use Rattle.cvss_any.specs.private.Views.{IsAfterVersion, IsPrintableRoute, as_route};
 
 use cvss_base::PREFIX;
+use cvss_text::fast_path::after_five;
 use cvss_text::pieces::{Pieces, front_of, parts_of, pieces_of};
-use cvss_text::sight::after_five;
 
 /// By the rules of which version a text is read.
 #[derive(Drop)]
@@ -43,7 +43,7 @@ pub fn route_of_text(text: &[u8]) -> Route<'_>
     ensures after { IsAfterVersion (pieces text.now) result }
     ensures printable { IsUtf8 text.now → IsPrintableRoute result }
 {
-    match reported_at_sight(text) {
+    match reported_on_fast_path(text) {
         Some((reported, rest)) => route_by_version(reported, pieces_of(rest)),
         None => route_by_front(text),
     }
@@ -52,7 +52,7 @@ pub fn route_of_text(text: &[u8]) -> Route<'_>
 /// The version of two digits that a text says after `CVSS`, and what follows the slash after
 /// it. `None` says nothing of the text.
 #[inline(always)]
-fn reported_at_sight(text: &[u8]) -> Option<(&[u8], &[u8])>
+fn reported_on_fast_path(text: &[u8]) -> Option<(&[u8], &[u8])>
     ensures text { IfSome result
         (λ cut. text.now ≡ version_piece cut.0.now ++ (slash ∷ cut.1.now)) }
     ensures slash { IfSome result (λ cut. has slash cut.0.now ≡ false) }

@@ -125,7 +125,7 @@ impl Cvss {
     }
 
     /// The canonical text of the vector that a text denotes, written into an empty buffer, and what is
-    /// published of it. It is faster than `read`, and slower than `published_at_sight`, where that
+    /// published of it. It is faster than `read`, and slower than `published_on_fast_path`, where that
     /// gives an answer.
     ///
     /// # Errors

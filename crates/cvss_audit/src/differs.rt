@@ -45,7 +45,7 @@ fn said_tree<'a>(said: Said<'a>) -> Tree<'a>
     ensures { tree_view result ≡ said_view said.entry }
 {
     match said {
-        Said::Value(value) => Tree::Lent(value),
+        Said::Value(value) => Tree::Borrowed(value),
         Said::Name(name) => Tree::Text(name),
     }
 }

@@ -14,7 +14,7 @@ use crate::place::answer_place;
 use crate::source::Source;
 use cvss_document::vectors_in;
 use cvss_json_tree::write_tree_object;
-use cvss_lines::{Gathered, RunFault, Streaming};
+use cvss_lines::{OutputBuffer, RunFault, Streaming};
 use serde_json::{Map, Value};
 use std::alloc::{AllocError, Global};
 use std::io::Write;
@@ -33,7 +33,7 @@ impl Streaming for Documents {
         alloc: Global,
         number: u64,
         line: &[u8],
-        answers: &mut Gathered,
+        answers: &mut OutputBuffer,
         writer: &mut W,
     ) -> Result<bool, RunFault> {
         if is_passed_over(line) {
@@ -67,7 +67,7 @@ fn refuse_line(
     alloc: Global,
     number: u64,
     reason: &str,
-    answers: &mut Gathered,
+    answers: &mut OutputBuffer,
 ) -> Result<(), AllocError>
     ensures { OnOk result (WritesObject (refusal_value number reason.now)
         answers.old.bytes.items answers.new.bytes.items) }
@@ -84,7 +84,7 @@ fn answer_document<W: Write>(
     alloc: Global,
     number: u64,
     document: &Value,
-    answers: &mut Gathered,
+    answers: &mut OutputBuffer,
     writer: &mut W,
 ) -> Result<bool, RunFault>
     ensures streamed { IfOk result (StreamsFound (number, id_of (view document.now))

@@ -15,7 +15,7 @@ use cvss_base::Error;
 use cvss_document::{Place, differences_at};
 use cvss_json_record::Scores;
 use cvss_json_tree::{Tree, write_tree_object};
-use cvss_lines::Gathered;
+use cvss_lines::OutputBuffer;
 use serde_json::Map;
 use std::alloc::{AllocError, Global};
 
@@ -24,7 +24,7 @@ pub(crate) fn answer_place(
     alloc: Global,
     source: Source<'_>,
     place: &Place<'_>,
-    answers: &mut Gathered,
+    answers: &mut OutputBuffer,
 ) -> Result<bool, AllocError>
     ensures { IfOk result (WritesPlace (source_view source.entry) (place_view place.now)
         answers.old.bytes.items answers.new.bytes.items) }

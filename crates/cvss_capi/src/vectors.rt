@@ -1,7 +1,7 @@
 //! What C is reported of the vector that a text denotes.
 
 ghost use Rattle.std.specs.Prelude.{◌≡◌, ℕ, List, None, length, true, false};
-ghost use Rattle.cvss_explain.specs.Account.{IsAccountText};
+ghost use Rattle.cvss_explain.specs.Explanation.{IsExplanationText};
 ghost use Rattle.cvss_any.specs.Answers.{text_of};
 ghost use Rattle.cvss_any.specs.Dispatch.{DenotesCvss};
 ghost use Rattle.cvss_v4.specs.Vector.{v4};
@@ -20,7 +20,7 @@ use cvss_ffi::canonical::put_canonical_of;
 use cvss_ffi::defined::put_without_undefined;
 use cvss_ffi::metrics::put_metrics;
 use cvss_ffi::numbers::{NOTHING, rating_number, version_number};
-use cvss_ffi::objects::{put_account, put_record};
+use cvss_ffi::objects::{put_explanation, put_record};
 use cvss_ffi::overriding::put_overridden;
 use cvss_ffi::scores::put_scores_by;
 use cvss_ffi::{CvssMetric, CvssScores, CvssScoresBy};
@@ -182,12 +182,12 @@ pub extern "C" fn cvss_record(text: &[u8], buffer: &mut [u8]) -> usize
 #[unsafe(no_mangle)]
 pub extern "C" fn cvss_account(text: &[u8], buffer: &mut [u8]) -> usize
     ensures { Answers text.now
-        (λ cvss. (explanation : List ℕ) × IsAccountText None cvss explanation
+        (λ cvss. (explanation : List ℕ) × IsExplanationText None cvss explanation
         × IsWritten explanation buffer.old buffer.new result)
         (IsLeft buffer.old buffer.new result) }
 {
     match Cvss::read_bytes(text) {
-        Some(cvss) => put_account(&cvss, buffer),
+        Some(cvss) => put_explanation(&cvss, buffer),
         None => 0,
     }
 }

@@ -5,7 +5,7 @@ ghost use Rattle.cvss_command.specs.Answers.{IsPrefixed, prefix_of, rule_of};
 ghost use Rattle.cvss_lines.specs.Answers.{WritesAnswer};
 
 use cvss_answer::{answer_score, answer_with_metrics};
-use cvss_lines::{Gathered, RunFault, Service};
+use cvss_lines::{OutputBuffer, RunFault, Service};
 use std::alloc::{AllocError, Global};
 use std::io::Write;
 
@@ -33,7 +33,7 @@ impl Serving<'_> {
         &self,
         _number: u64,
         line: &[u8],
-        answers: &mut Gathered,
+        answers: &mut OutputBuffer,
     ) -> Result<bool, AllocError>
         ensures { IfOk result (WritesAnswer (IsPrefixed (prefix_of self.now.named self.now.name.now)
             (rule_of self.now.task)) _number line.now
@@ -46,7 +46,7 @@ impl Serving<'_> {
 
 /// Writes the name of a source and a colon, where sources are named.
 #[inline(always)]
-fn write_prefix(named: bool, name: &[u8], answers: &mut Gathered) -> Result<(), AllocError>
+fn write_prefix(named: bool, name: &[u8], answers: &mut OutputBuffer) -> Result<(), AllocError>
     ensures { OnOk result (answers.new.bytes.items
         ≡ answers.old.bytes.items ++ prefix_of named name.now) }
 {
@@ -58,7 +58,11 @@ fn write_prefix(named: bool, name: &[u8], answers: &mut Gathered) -> Result<(), 
 }
 
 #[inline(always)]
-fn answer_by_task(task: Task<'_>, line: &[u8], answers: &mut Gathered) -> Result<bool, AllocError>
+fn answer_by_task(
+    task: Task<'_>,
+    line: &[u8],
+    answers: &mut OutputBuffer,
+) -> Result<bool, AllocError>
     ensures { (number : ℕ) → IfOk result (WritesAnswer (rule_of task.entry) number line.now
         answers.old.bytes.items answers.new.bytes.items) }
 {
@@ -80,7 +84,7 @@ impl Service for Serving<'_> {
         _alloc: Global,
         number: u64,
         line: &[u8],
-        answers: &mut Gathered,
+        answers: &mut OutputBuffer,
         _writer: &mut W,
     ) -> Result<bool, RunFault> {
         Ok(self.answer_line(number, line, answers)?)

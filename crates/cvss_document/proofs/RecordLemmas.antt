@@ -16,10 +16,10 @@ use Rattle.cvss_any.specs.declared.vector.Cvss.{Cvss}
 use Rattle.cvss_json_write.specs.Json as object
 use Rattle.cvss_json_write.specs.Json.{string_text, tenths_text}
 use Rattle.cvss_json_record.proofs.PlainLemmas.{plain_text}
-use Rattle.cvss_json_record.proofs.WordLemmas.{due_fits, is_clear, is_due, is_other, is_plain, name_fits}
+use Rattle.cvss_json_record.proofs.WordLemmas.{expected_fits, is_clear, is_expected, is_other, is_plain, name_fits}
 use Rattle.cvss_json_record.specs.Fields.{name_of}
 use Rattle.cvss_json_record.specs.Record as written
-use Rattle.cvss_json_record.specs.Record.{Due, text, score, nothing, due_of, due_text, rating_due, spelled_at, reports_group, word_due}
+use Rattle.cvss_json_record.specs.Record.{Expected, text, score, nothing, expected_of, expected_text, rating_expected, spelled_at, reports_group, word_expected}
 use Rattle.cvss_json_record.specs.declared.field.Field.{Field}
 use Rattle.cvss_json_record.specs.declared.field.Field.TheVariants.{V2, V3, V4, Score, Rating, Text, Version}
 use Rattle.cvss_json_record.specs.declared.group.Group.{Group}
@@ -75,15 +75,15 @@ AreSame None None = ⊤
 AreSame (Some value) (Some bytes) = IsTextOf value bytes
 AreSame _ _ = ⊥
 
-abbrev InRange : Option Due → Type 0
+abbrev InRange : Option Expected → Type 0
 InRange (Some (score tenths)) = tenths ≤ 100
 InRange _ = ⊤
 
-word_range : (rows : List Row) (spelling : Option (List ℕ)) → InRange (Some (word_due rows spelling))
+word_range : (rows : List Row) (spelling : Option (List ℕ)) → InRange (Some (word_expected rows spelling))
 word_range rows None = tt
 word_range rows (Some spelling) = tt
 
-rating_range : (cvss : Cvss) (tenths : Option ℕ) → InRange (option_map (rating_due cvss) tenths)
+rating_range : (cvss : Cvss) (tenths : Option ℕ) → InRange (option_map (rating_expected cvss) tenths)
 rating_range cvss None = tt
 rating_range cvss (Some tenths) = tt
 
@@ -110,14 +110,14 @@ more name (Some value) None members texts named same are = absurd same
 module _ (string_reads : (bytes : List ℕ) → IsUnescaped bytes → IsTextOf (string bytes) (string_text bytes))
     (float_reads : (value : Float) (bytes : List ℕ) → IsNumber bytes → number_of bytes ≡ Some (float value) → IsTextOf (number (float value)) bytes)
     (cvss : Cvss) (scores : Scores) (range : AreInRange scores) where
-  due_same : (due : Option Due) → is_due due ≡ true → InRange due → AreSame (option_and_then value_of due) (option_and_then due_text due)
-  due_same None fits within = tt
-  due_same (Some (text reported)) fits within = string_reads reported (unescaped reported (and_parts _ _ (and_parts (leb (length reported) 16) (is_other reported) fits).1).0)
-  due_same (Some (score tenths)) fits within = float_reads (score_number tenths) (tenths_text tenths) (is_number tenths within) (nearest tenths within)
-  due_same (Some nothing) fits within = tt
+  expected_same : (expected : Option Expected) → is_expected expected ≡ true → InRange expected → AreSame (option_and_then value_of expected) (option_and_then expected_text expected)
+  expected_same None fits within = tt
+  expected_same (Some (text reported)) fits within = string_reads reported (unescaped reported (and_parts _ _ (and_parts (leb (length reported) 16) (is_other reported) fits).1).0)
+  expected_same (Some (score tenths)) fits within = float_reads (score_number tenths) (tenths_text tenths) (is_number tenths within) (nearest tenths within)
+  expected_same (Some nothing) fits within = tt
 
-  field_same : (field : Field) → InRange (due_of cvss scores field) → AreSame (option_and_then value_of (due_of cvss scores field)) (option_and_then due_text (due_of cvss scores field))
-  field_same field = due_same (due_of cvss scores field) (due_fits cvss scores field)
+  field_same : (field : Field) → InRange (expected_of cvss scores field) → AreSame (option_and_then value_of (expected_of cvss scores field)) (option_and_then expected_text (expected_of cvss scores field))
+  field_same field = expected_same (expected_of cvss scores field) (expected_fits cvss scores field)
 
   value_same : (field : Field) → AreSame (value_at cvss scores field) (written.value_at cvss scores field)
   value_same Text = string_reads (text_of cvss) (unescaped (text_of cvss) (plain_text cvss))

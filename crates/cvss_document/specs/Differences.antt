@@ -7,8 +7,8 @@ use Rattle.cvss_any.specs.declared.vector.Cvss.TheVariants.{CvssV20, CvssV30, Cv
 use Rattle.serde_json.specs.Data.{Data, Members, no_members, member, string}
 use Rattle.serde_json.specs.Find.{as_number, get_member}
 use Rattle.serde_json.specs.View.{view}
-use Rattle.cvss_document.specs.Due.{agrees, due_at, due_value}
-use Rattle.cvss_json_record.specs.Record.{Due, text, score, rating_due}
+use Rattle.cvss_document.specs.Expected.{agrees, expected_at, expected_value}
+use Rattle.cvss_json_record.specs.Record.{Expected, text, score, rating_expected}
 use Rattle.cvss_json_record.specs.Groups.{AreScoresOf}
 use Rattle.cvss_json_tree.specs.Objects.{Member}
 use Rattle.cvss_document.specs.Places.{Around, Place}
@@ -29,9 +29,9 @@ abbrev pub list_of : Members → List Member
 list_of no_members = []
 list_of (member name said rest) = (name, said) ∷ list_of rest
 
--- the difference between what is said and what is due, if there is one
-abbrev pub difference_from : Member → Due → Option Difference
-difference_from said due = if agrees due said.1 then None else Some (said.0, said.1, due_value due)
+-- the difference between what is said and what is expected, if there is one
+abbrev pub difference_from : Member → Expected → Option Difference
+difference_from said expected = if agrees expected said.1 then None else Some (said.0, said.1, expected_value expected)
 
 -- a number at `score`, as GitHub has it beside the text, differs if it is not the vector's score
 abbrev pub github_difference : ℕ → Data → Option Difference
@@ -42,7 +42,7 @@ github_difference tenths said = if is_some (as_number said) then difference_from
 abbrev pub difference_at : Cvss → Scores → Member → Option Difference
 difference_at cvss scores said =
     if bytes_eq (codes "score") said.0 then github_difference scores.base said.1
-    else option_and_then (difference_from said) (due_at cvss scores said.0)
+    else option_and_then (difference_from said) (expected_at cvss scores said.0)
 
 -- the differences of the members of an object: one for each that says otherwise, in the order of their names
 abbrev pub record_differences : Cvss → Scores → Members → List Difference
@@ -108,7 +108,7 @@ name_differences cvss name =
 -- the difference of `baseSeverity` from the rating of so many tenths
 abbrev pub severity_differences : Cvss → ℕ → Members → List Difference
 severity_differences cvss tenths object =
-    differences_at (λ said. difference_from (codes "baseSeverity", said) (rating_due cvss tenths)) (codes "baseSeverity") object
+    differences_at (λ said. difference_from (codes "baseSeverity", said) (rating_expected cvss tenths)) (codes "baseSeverity") object
 
 -- the records of the version say ratings
 abbrev pub is_rated : Cvss → Bool

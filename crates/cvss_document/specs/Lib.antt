@@ -1,5 +1,5 @@
 pub mod Differences
-pub mod Due
+pub mod Expected
 pub mod Places
 pub mod PlacesLeft
 pub mod Scores

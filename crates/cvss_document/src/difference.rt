@@ -4,17 +4,17 @@ ghost use Rattle.std.specs.Prelude.{◌≡◌, ◌∷◌, [], IfOk, OnOk, map};
 ghost use Rattle.std.specs.Option.{option_to_list};
 ghost use Rattle.cvss_any.specs.Answers.{HasScore};
 ghost use Rattle.cvss_document.specs.Differences.{AreDifferences, AreDifferencesAt, difference_at, difference_from, difference_view, github_difference, member_differences, osv_type, record_differences, said_view, score_differences, type_differences};
-ghost use Rattle.cvss_document.specs.Due.{due_value};
+ghost use Rattle.cvss_document.specs.Expected.{expected_value};
 ghost use Rattle.cvss_document.specs.Places.{place_view};
 ghost use Rattle.cvss_document.specs.private.Views.{Adds};
-ghost use Rattle.cvss_json_record.specs.Record.{due_view};
+ghost use Rattle.cvss_json_record.specs.Record.{expected_view};
 ghost use Rattle.serde_json.specs.View.{members_view, view};
 
-use crate::due::{agrees, due_at, due_value};
+use crate::expected::{agrees, expected_at, expected_value};
 use crate::place::{Form, Place, member};
 use crate::surroundings::push_around;
 use cvss_any::Cvss;
-use cvss_json_record::{Due, Scores};
+use cvss_json_record::{Expected, Scores};
 use serde_json::{Map, Value};
 use std::alloc::{AllocError, Global};
 
@@ -146,7 +146,7 @@ fn push_type<'a>(
         (type_differences cvss.now (members_view object.now.entries)) found.new.items) }
 {
     match member(object, "type") {
-        Some(said) => push_if_other(found, alloc, "type", said, Due::Text(osv_type(cvss))),
+        Some(said) => push_if_other(found, alloc, "type", said, Expected::Text(osv_type(cvss))),
         None => Ok(()),
     }
 }
@@ -178,8 +178,8 @@ fn push_member<'a>(
     if name == "score" {
         return push_if_number(found, alloc, scores.base, said);
     }
-    match due_at(cvss, scores, name) {
-        Some(due) => push_if_other(found, alloc, name, said, due),
+    match expected_at(cvss, scores, name) {
+        Some(expected) => push_if_other(found, alloc, name, said, expected),
         None => Ok(()),
     }
 }
@@ -195,46 +195,46 @@ fn push_if_number<'a>(
         (option_to_list (github_difference tenths (view said.now))) found.new.items) }
 {
     if said.is_number() {
-        push_if_other(found, alloc, "score", said, Due::Score(tenths))
+        push_if_other(found, alloc, "score", said, Expected::Score(tenths))
     } else {
         Ok(())
     }
 }
 
-/// Adds the difference between what is said and what is due, if there is one.
+/// Adds the difference between what is said and what is expected, if there is one.
 pub(crate) fn push_if_other<'a>(
     found: &mut Vec<Difference<'a>>,
     alloc: Global,
     member: &'a str,
     said: &'a Value,
-    due: Due,
+    expected: Expected,
 ) -> Result<(), AllocError>
     ensures { OnOk result (Adds found.old.items
-        (option_to_list (difference_from (member.now, view said.now) (due_view due)))
+        (option_to_list (difference_from (member.now, view said.now) (expected_view expected)))
         found.new.items) }
 {
-    if agrees(due, said) {
+    if agrees(expected, said) {
         Ok(())
     } else {
-        push_difference(found, alloc, member, Said::Value(said), due)
+        push_difference(found, alloc, member, Said::Value(said), expected)
     }
 }
 
-/// Adds the difference between what a member says and what is due.
+/// Adds the difference between what a member says and what is expected.
 pub(crate) fn push_difference<'a>(
     found: &mut Vec<Difference<'a>>,
     alloc: Global,
     member: &'a str,
     says: Said<'a>,
-    due: Due,
+    expected: Expected,
 ) -> Result<(), AllocError>
     ensures { OnOk result (Adds found.old.items
-        ((member.now, said_view says.entry, due_value (due_view due)) ∷ []) found.new.items) }
+        ((member.now, said_view says.entry, expected_value (expected_view expected)) ∷ []) found.new.items) }
 {
     found.push(Difference {
         member,
         says,
-        is: due_value(due, alloc)?,
+        is: expected_value(expected, alloc)?,
     })?;
     Ok(())
 }

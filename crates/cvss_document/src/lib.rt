@@ -5,7 +5,7 @@
 #![tactic(auto)]
 
 mod difference;
-mod due;
+mod expected;
 pub mod laws;
 mod place;
 mod places;

@@ -10,7 +10,7 @@ use crate::difference::{Difference, Said, push_difference, push_if_other};
 use crate::place::{Around, member};
 use cvss_any::Cvss;
 use cvss_json_names::version;
-use cvss_json_record::{Due, Scores, rating};
+use cvss_json_record::{Expected, Scores, rating};
 use std::alloc::{AllocError, Global};
 
 /// Adds the differences of what is around an object.
@@ -41,8 +41,8 @@ fn push_name<'a>(
     ensures { OnOk result (Adds found.old.items (name_differences cvss.now name.now) found.new.items) }
 {
     if reports_version(name) && !reports_version_of(cvss, name) {
-        let due = Due::Text(version(cvss));
-        push_difference(found, alloc, name, Said::Name(name), due)
+        let expected = Expected::Text(version(cvss));
+        push_difference(found, alloc, name, Said::Name(name), expected)
     } else {
         Ok(())
     }
@@ -87,8 +87,8 @@ fn push_rating<'a>(
     }
     match member(around.object, "baseSeverity") {
         Some(said) => {
-            let due = Due::Text(rating(cvss, tenths));
-            push_if_other(found, alloc, "baseSeverity", said, due)
+            let expected = Expected::Text(rating(cvss, tenths));
+            push_if_other(found, alloc, "baseSeverity", said, expected)
         }
         None => Ok(()),
     }

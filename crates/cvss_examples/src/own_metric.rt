@@ -9,7 +9,7 @@ ghost use Rattle.cvss_v3_metric.specs.declared.base.access.UserInteraction.TheVa
 ghost use Rattle.cvss_examples.specs.declared.own_metric.Participation.TheVariants.{Needed, Unneeded};
 ghost use Rattle.cvss_examples.specs.Participation.{participation};
 
-use cvss::v3::metric::Spelled;
+use cvss::v3::metric::MetricValue;
 use cvss::v3::metric::environmental::{BaseMetric, Modified};
 use cvss::v3::{Metric, MetricType};
 use std::fmt;
@@ -21,7 +21,7 @@ pub enum Participation {
     Unneeded,
 }
 
-impl Spelled for Participation {
+impl MetricValue for Participation {
     const KIND: MetricType = MetricType::UI;
 
     ghost KIND = { UI };

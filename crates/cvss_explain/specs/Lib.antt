@@ -1,4 +1,4 @@
-pub mod Account
+pub mod Explanation
 pub mod Decimal
 pub mod LettersV4
 pub mod Near

@@ -1,4 +1,4 @@
--- The numbers that accounts of CVSS v2 say: guide, section 3.2.
+-- The numbers that explanations of CVSS v2 say: guide, section 3.2.
 use Rattle.std.specs.Prelude.{ℤ}
 use Rattle.cvss_base.specs.Exact.{tenths, thousandths}
 use Rattle.cvss_score.specs.v2.Scores as scores

@@ -1,4 +1,4 @@
--- The numbers that accounts of CVSS v3 say: v3.1 specification, section 7; v3.0 specification, section 8.
+-- The numbers that explanations of CVSS v3 say: v3.1 specification, section 7; v3.0 specification, section 8.
 use Rattle.std.specs.Prelude.{◌≡◌, ℕ, ℤ, Bool, false}
 use Rattle.cvss_base.specs.Exact.{Exact}
 use Rattle.cvss_base.specs.Tenths.{IsInTenths}

@@ -47,8 +47,8 @@ environmental_members numbers =
     ∷ []
 
 -- the explanation of a score of so many tenths, with these numbers
-abbrev pub account_text : Option ℕ → Vector → ℕ → BaseNumbers → TemporalNumbers → EnvironmentalNumbers → List ℕ
-account_text line vector tenths base temporal environmental =
+abbrev pub explanation_text : Option ℕ → Vector → ℕ → BaseNumbers → TemporalNumbers → EnvironmentalNumbers → List ℕ
+explanation_text line vector tenths base temporal environmental =
     object_text (
     (codes "base", object_text (base_members base))
     ∷ (codes "environmental", object_text (environmental_members environmental))
@@ -63,11 +63,11 @@ account_text line vector tenths base temporal environmental =
     )
 
 -- the text explains the vector's score, of so many tenths
-pub record IsAccountText (line : Option ℕ) (vector : Vector) (tenths : ℕ) (text : List ℕ) : Type 0 where
+pub record IsExplanationText (line : Option ℕ) (vector : Vector) (tenths : ℕ) (text : List ℕ) : Type 0 where
   pub base : BaseNumbers
   pub temporal : TemporalNumbers
   pub environmental : EnvironmentalNumbers
   pub are_base : AreBaseNumbers (weights_of vector) base
   pub are_temporal : AreTemporalNumbers (weights_of vector) temporal
   pub are_environmental : AreEnvironmentalNumbers (weights_of vector) environmental
-  pub is : text ≡ account_text line vector tenths base temporal environmental
+  pub is : text ≡ explanation_text line vector tenths base temporal environmental

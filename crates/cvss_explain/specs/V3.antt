@@ -70,8 +70,8 @@ environmental_members numbers =
     ∷ scored_members numbers.scored
 
 -- the explanation of a score of so many tenths, with these weights and numbers
-abbrev pub account_text : Option ℕ → Cvss → ℕ → Weights → BaseNumbers → Scored → EnvironmentalNumbers → List ℕ
-account_text line cvss tenths w base temporal environmental =
+abbrev pub explanation_text : Option ℕ → Cvss → ℕ → Weights → BaseNumbers → Scored → EnvironmentalNumbers → List ℕ
+explanation_text line cvss tenths w base temporal environmental =
     object_text (
     (codes "base", object_text (base_members base))
     ∷ (codes "environmental", object_text (environmental_members environmental))
@@ -87,11 +87,11 @@ account_text line cvss tenths w base temporal environmental =
     )
 
 -- the text explains the score of so many tenths of the vector, which is one of v3.0 or of v3.1
-pub record IsAccountText (line : Option ℕ) (cvss : Cvss) (vector : Vector) (tenths : ℕ) (text : List ℕ) : Type 0 where
+pub record IsExplanationText (line : Option ℕ) (cvss : Cvss) (vector : Vector) (tenths : ℕ) (text : List ℕ) : Type 0 where
   pub base : BaseNumbers
   pub temporal : Scored
   pub environmental : EnvironmentalNumbers
   pub are_base : AreBaseNumbers vector.minor_version (weights_of vector) base
   pub are_temporal : AreTemporalNumbers vector.minor_version (weights_of vector) temporal
   pub are_environmental : AreEnvironmentalNumbers vector.minor_version (weights_of vector) environmental
-  pub is : text ≡ account_text line cvss tenths (weights_of vector) base temporal environmental
+  pub is : text ≡ explanation_text line cvss tenths (weights_of vector) base temporal environmental

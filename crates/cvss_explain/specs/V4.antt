@@ -4,12 +4,12 @@ use Rattle.std.specs.Fmt.{decimal}
 use Rattle.cvss_any.specs.declared.vector.Cvss.TheVariants.{CvssV40}
 use Rattle.cvss_v4.specs.Nomenclature.{nomenclature_of, text_of as nomenclature_text}
 use Rattle.cvss_json_write.specs.Json.{Member, array_text, decimal_text, object_text, string_text, tenths_text}
-use Rattle.cvss_score.specs.v4.Account.{IsAccount}
+use Rattle.cvss_score.specs.v4.Explanation.{IsExplanation}
 use Rattle.cvss_v4.specs.Merging.{effective_of}
 use Rattle.cvss_score.specs.declared.v4.nomenclature.Nomenclature.{Nomenclature}
-use Rattle.cvss_score.specs.declared.v4.scoring.account.Account.{Account}
-use Rattle.cvss_score.specs.declared.v4.scoring.account.GroupAccount.{GroupAccount}
-use Rattle.cvss_score.specs.declared.v4.scoring.account.GroupAccounts.{GroupAccounts}
+use Rattle.cvss_score.specs.declared.v4.scoring.explanation.Explanation.{Explanation}
+use Rattle.cvss_score.specs.declared.v4.scoring.explanation.GroupExplanation.{GroupExplanation}
+use Rattle.cvss_score.specs.declared.v4.scoring.explanation.GroupExplanations.{GroupExplanations}
 use Rattle.cvss_score.specs.declared.v4.scoring.classes.MacroVector.{MacroVector}
 use Rattle.cvss_score.specs.declared.v4.scoring.next.NextClass.{NextClass}
 use Rattle.cvss_v4.specs.declared.vector.Vector.{Vector}
@@ -38,7 +38,7 @@ next_members (Some next) taken =
     ∷ []
 
 -- what a group of metrics, of this name and class, contributes to the score below the value
-abbrev pub group_text : List ℕ → List ℕ → ℕ → GroupAccount → List ℕ
+abbrev pub group_text : List ℕ → List ℕ → ℕ → GroupExplanation → List ℕ
 group_text name class value group =
     object_text (
     (codes "class", string_text class)
@@ -50,7 +50,7 @@ group_text name class value group =
     )
 
 -- the five groups; none without impact
-abbrev pub groups_text : MacroVector → ℕ → Option GroupAccounts → List ℕ
+abbrev pub groups_text : MacroVector → ℕ → Option GroupExplanations → List ℕ
 groups_text class value None = array_text []
 groups_text class value (Some groups) =
     array_text (
@@ -63,32 +63,32 @@ groups_text class value (Some groups) =
     )
 
 -- the class, the mean of what the groups take from its value, the nomenclature, and the number that is left
-abbrev pub class_members : Account → Nomenclature → List Member
-class_members account nomenclature =
-    (codes "macroVector", string_text (class_text account.class))
-    ∷ (codes "mean", decimal_text (pos (nearest_to account.mean 504_000)))
+abbrev pub class_members : Explanation → Nomenclature → List Member
+class_members explanation nomenclature =
+    (codes "macroVector", string_text (class_text explanation.class))
+    ∷ (codes "mean", decimal_text (pos (nearest_to explanation.mean 504_000)))
     ∷ (codes "nomenclature", string_text (nomenclature_text nomenclature))
-    ∷ (codes "number", decimal_text (pos (nearest_to account.number 504_000)))
+    ∷ (codes "number", decimal_text (pos (nearest_to explanation.number 504_000)))
     ∷ []
 
 -- the explanation of a score of so many tenths, with these numbers
-abbrev pub account_text : Option ℕ → Vector → ℕ → Account → List ℕ
-account_text line vector tenths account =
+abbrev pub explanation_text : Option ℕ → Vector → ℕ → Explanation → List ℕ
+explanation_text line vector tenths explanation =
     object_text (
-    (codes "effective", object_text (effective_members account.effective))
-    ∷ (codes "groups", groups_text account.class account.value account.groups)
+    (codes "effective", object_text (effective_members explanation.effective))
+    ∷ (codes "groups", groups_text explanation.class explanation.value explanation.groups)
     ∷ (line_members line
-    ++ (class_members account (nomenclature_of vector)
+    ++ (class_members explanation (nomenclature_of vector)
     ++ score_member tenths
     ∷ severity_member (CvssV40 vector) tenths
-    ∷ (codes "value", tenths_text account.value)
+    ∷ (codes "value", tenths_text explanation.value)
     ∷ vector_member (CvssV40 vector)
     ∷ version_member (CvssV40 vector)
     ∷ []))
     )
 
 -- the text explains the vector's score, of so many tenths
-pub record IsAccountText (line : Option ℕ) (vector : Vector) (tenths : ℕ) (text : List ℕ) : Type 0 where
-  pub account : Account
-  pub is_account : IsAccount (effective_of vector) account
-  pub is : text ≡ account_text line vector tenths account
+pub record IsExplanationText (line : Option ℕ) (vector : Vector) (tenths : ℕ) (text : List ℕ) : Type 0 where
+  pub explanation : Explanation
+  pub is_explanation : IsExplanation (effective_of vector) explanation
+  pub is : text ≡ explanation_text line vector tenths explanation

@@ -1,4 +1,4 @@
-//! Laws of accounts, each the contract of a function that does nothing.
+//! Laws of explanations, each the contract of a function that does nothing.
 
 ghost use Rattle.std.specs.Prelude.{ℕ, pos};
 ghost use Rattle.cvss_base.specs.Exact.{◌over◌};

@@ -2,12 +2,12 @@
 //! without memory.
 #![tactic(auto)]
 
-mod account;
 mod decimal;
+mod explanation;
 pub mod laws;
 mod parts;
 mod v2;
 mod v3;
 mod v4;
 
-pub use account::put_account;
+pub use explanation::put_explanation;

@@ -2,7 +2,7 @@
 
 ghost use Rattle.std.specs.Prelude.{◌≡◌, ◌*◌, ◌≤◌, [], map, pos};
 ghost use Rattle.cvss_any.specs.declared.vector.Cvss.TheVariants.{CvssV20};
-ghost use Rattle.cvss_explain.specs.V2.{IsAccountText, base_members, environmental_members, temporal_members, weights_members};
+ghost use Rattle.cvss_explain.specs.V2.{IsExplanationText, base_members, environmental_members, temporal_members, weights_members};
 ghost use Rattle.cvss_json_write.specs.declared.member.Scalar.TheVariants.{Decimal};
 ghost use Rattle.cvss_json_write.specs.Scalars.{member_view, members_room};
 ghost use Rattle.cvss_v2.specs.Weights.{weight_in};
@@ -18,7 +18,7 @@ use cvss_v2::Vector;
 use numbers::{BaseNumbers, EnvironmentalNumbers, TemporalNumbers};
 
 /// Writes why a vector has its score.
-pub(crate) fn put_account(
+pub(crate) fn put_explanation(
     page: &mut Page,
     line: Option<u64>,
     cvss: &Cvss,
@@ -27,7 +27,7 @@ pub(crate) fn put_account(
 )
     requires vector { cvss.now ≡ CvssV20 vector.now }
     requires empty { page.old ≡ [] }
-    ensures { IsAccountText line vector.now tenths page.new }
+    ensures { IsExplanationText line vector.now tenths page.new }
 {
     page.push(b"{");
     put_object_member(page, false, "base", &base(BaseNumbers::of(vector)));

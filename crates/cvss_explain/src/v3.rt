@@ -2,7 +2,7 @@
 
 ghost use Rattle.std.specs.Prelude.{◌≡◌, ◌+◌, ◌*◌, ◌≤◌, [], length, map, pos, true, unwrap_or};
 ghost use Rattle.cvss_any.specs.Answers.{score_of_tenths};
-ghost use Rattle.cvss_explain.specs.V3.{IsAccountText, base_members, environmental_members, scope_letter, scope_members, temporal_members, weights_members};
+ghost use Rattle.cvss_explain.specs.V3.{IsExplanationText, base_members, environmental_members, scope_letter, scope_members, temporal_members, weights_members};
 ghost use Rattle.cvss_base.specs.Rating.{rating_of_score};
 ghost use Rattle.cvss_base.specs.SeverityText.{text_of as severity_text};
 ghost use Rattle.cvss_json_write.specs.declared.member.Scalar.TheVariants.{Decimal};
@@ -22,7 +22,7 @@ use cvss_v3::{Score, Vector};
 use numbers::{BaseNumbers, EnvironmentalNumbers, Scored};
 
 /// Writes why a vector has its score.
-pub(crate) fn put_account(
+pub(crate) fn put_explanation(
     page: &mut Page,
     line: Option<u64>,
     cvss: &Cvss,
@@ -30,7 +30,7 @@ pub(crate) fn put_account(
     tenths: u8,
 )
     requires { page.old ≡ [] }
-    ensures { IsAccountText line cvss.now vector.now tenths page.new }
+    ensures { IsExplanationText line cvss.now vector.now tenths page.new }
 {
     page.push(b"{");
     put_object_member(page, false, "base", &base(BaseNumbers::of(vector)));

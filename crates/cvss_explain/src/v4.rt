@@ -2,11 +2,11 @@
 
 ghost use Rattle.std.specs.Prelude.{◌≡◌, ◌+◌, ◌≤◌, [], ◌∷◌, ◌++◌, codes, false, length, true};
 ghost use Rattle.cvss_any.specs.declared.vector.Cvss.TheVariants.{CvssV40};
-ghost use Rattle.cvss_explain.specs.V4.{IsAccountText, class_members, class_text, gap_member, group_text, groups_text, next_members};
+ghost use Rattle.cvss_explain.specs.V4.{IsExplanationText, class_members, class_text, gap_member, group_text, groups_text, next_members};
 ghost use Rattle.cvss_explain.specs.private.Digits.{digits_text};
 ghost use Rattle.cvss_base.specs.Version.{IsComplete};
 ghost use Rattle.cvss_json_write.specs.Json.{WritesMembers, string_text};
-ghost use Rattle.cvss_score.specs.v4.Account.{AreInRange, IsInRange};
+ghost use Rattle.cvss_score.specs.v4.Explanation.{AreInRange, IsInRange};
 ghost use Rattle.cvss_v4.specs.Nomenclature.{text_of as nomenclature_text};
 ghost use Rattle.cvss_v4.specs.Vector.{v4};
 
@@ -16,13 +16,13 @@ use crate::decimal::of_parts;
 use crate::parts::{put_line, put_score, put_text};
 use cvss_any::Cvss;
 use cvss_json_write::{Page, Scalar, put_member, put_members, put_name, put_object_member};
-use cvss_score::v4::scoring::account::GroupAccount;
 use cvss_score::v4::scoring::classes::MacroVector;
-use cvss_v4::{Account, Nomenclature, Vector};
+use cvss_score::v4::scoring::explanation::GroupExplanation;
+use cvss_v4::{Explanation, Nomenclature, Vector};
 use effective::effective;
 
 /// Writes why a complete vector has its score.
-pub(crate) fn put_account(
+pub(crate) fn put_explanation(
     page: &mut Page,
     line: Option<u64>,
     cvss: &Cvss,
@@ -32,32 +32,32 @@ pub(crate) fn put_account(
     requires vector { cvss.now ≡ CvssV40 vector.now }
     requires complete { IsComplete v4 vector.now }
     requires empty { page.old ≡ [] }
-    ensures { IsAccountText line vector.now tenths page.new }
+    ensures { IsExplanationText line vector.now tenths page.new }
 {
-    let account = vector.account();
+    let explanation = vector.explanation();
     page.push(b"{");
-    put_object_member(page, false, "effective", &effective(&account.effective));
+    put_object_member(page, false, "effective", &effective(&explanation.effective));
     put_name(page, true, "groups");
-    put_groups(page, &account);
+    put_groups(page, &explanation);
     put_line(page, line);
-    put_class(page, &account, vector.nomenclature());
+    put_class(page, &explanation, vector.nomenclature());
     put_score(page, cvss, tenths);
-    put_member(page, true, "value", Scalar::Tenths(account.value));
+    put_member(page, true, "value", Scalar::Tenths(explanation.value));
     put_text(page, cvss);
     page.push(b"}");
 }
 
 /// Writes the class of the effective values, the mean of what is taken from its value, the nomenclature
 /// and the number that is left.
-fn put_class(page: &mut Page, account: &Account, nomenclature: Nomenclature)
+fn put_class(page: &mut Page, explanation: &Explanation, nomenclature: Nomenclature)
     requires { length page.old + 300 ≤ 4096 }
-    ensures text { WritesMembers true (class_members account.now nomenclature) page.old page.new }
+    ensures text { WritesMembers true (class_members explanation.now nomenclature) page.old page.new }
     ensures room { length page.new ≤ length page.old + 300 }
 {
-    let mean = of_parts(account.mean, 504_000);
-    let number = of_parts(account.number, 504_000);
+    let mean = of_parts(explanation.mean, 504_000);
+    let number = of_parts(explanation.number, 504_000);
     let nomenclature = nomenclature_text(nomenclature);
-    put_macro_vector(page, "macroVector", &account.class);
+    put_macro_vector(page, "macroVector", &explanation.class);
     put_members(
         page,
         &[
@@ -108,18 +108,18 @@ fn put_digits(page: &mut Page, class: &MacroVector)
 }
 
 /// Writes the array of the five groups, which is empty without impact.
-fn put_groups(page: &mut Page, account: &Account)
-    requires range { AreInRange account.now }
+fn put_groups(page: &mut Page, explanation: &Explanation)
+    requires range { AreInRange explanation.now }
     requires room { length page.old + 2300 ≤ 4096 }
     ensures text { page.new
-        ≡ page.old ++ groups_text account.now.class account.now.value account.now.groups }
+        ≡ page.old ++ groups_text explanation.now.class explanation.now.value explanation.now.groups }
     ensures room { length page.new ≤ length page.old + 2300 }
 {
-    let Some(groups) = &account.groups else {
+    let Some(groups) = &explanation.groups else {
         page.push(b"[]");
         return;
     };
-    let (class, value) = (&account.class, account.value);
+    let (class, value) = (&explanation.class, explanation.value);
     page.push(b"[");
     put_group(page, "EQ1", (class.eq1, None), value, &groups.eq1);
     page.push(b",");
@@ -140,7 +140,7 @@ fn put_group(
     name: &'static str,
     class: (u8, Option<u8>),
     value: u8,
-    group: &GroupAccount,
+    group: &GroupExplanation,
 )
     requires range { IsInRange value group.now }
     requires short { length name.now ≤ 7 }
@@ -181,7 +181,7 @@ fn put_group_class(page: &mut Page, class: (u8, Option<u8>))
 }
 
 /// Writes the gap from a value to that of the next lower class.
-fn put_gap(page: &mut Page, value: u8, group: &GroupAccount)
+fn put_gap(page: &mut Page, value: u8, group: &GroupExplanation)
     requires range { IsInRange value group.now }
     requires room { length page.old + 40 ≤ 4096 }
     ensures text { WritesMembers true (gap_member value group.now.next ∷ []) page.old page.new }
@@ -194,7 +194,7 @@ fn put_gap(page: &mut Page, value: u8, group: &GroupAccount)
 }
 
 /// Writes the next lower class, its value and what is taken of the gap to it.
-fn put_next(page: &mut Page, group: &GroupAccount)
+fn put_next(page: &mut Page, group: &GroupExplanation)
     requires { length page.old + 240 ≤ 4096 }
     ensures text { WritesMembers true (next_members group.now.next group.now.taken)
         page.old page.new }

@@ -7,7 +7,7 @@ use Rattle.cvss_text.proofs.PrintLemmas.{joined-with_slash}
 use Rattle.cvss_base.specs.Text.{component, joined, slash}
 use Rattle.cvss_base.specs.Version.{Version, canonical_text, components_of, held}
 use Rattle.cvss_ffi.specs.Buffer.{HasPut, begun}
-use Rattle.cvss_ffi.specs.Defined.{defined_component, if_defined, or_if_none, text_less}
+use Rattle.cvss_ffi.specs.Defined.{defined_component, if_defined, or_if_none, text_without}
 use Rattle.cvss_ffi.specs.private.Steps.{defined_texts, front_of, kept_parts, text_after}
 
 -- a component that may be left out is no longer than it is
@@ -75,8 +75,8 @@ module _ {V K : Type 0} (version : Version V K) (undefined : List ℕ) (v : V) w
         sym (joined-with_slash version v first version.printed)
         ∙ ap (λ parts. joined (first ∷ parts)) (sym (or_if_none-none _ (components_of version v) _ (joined-defined [] version.printed) none))
 
-  pub text_less_after : (piece : List ℕ) → version.front v ≡ front_of piece → text_after piece (joined (piece ∷ kept_parts version undefined v)) ≡ text_less version undefined v
-  text_less_after piece front =
+  pub text_without_after : (piece : List ℕ) → version.front v ≡ front_of piece → text_after piece (joined (piece ∷ kept_parts version undefined v)) ≡ text_without version undefined v
+  text_without_after piece front =
       joined_after piece (kept_parts version undefined v) ∙ ap (λ pieces. joined (pieces ++ kept_parts version undefined v)) (sym front)
 
 -- the canonical text of a vector, written as a piece, or none, and its components after slashes

@@ -7,7 +7,7 @@ use Rattle.std.proofs.lemmas.Slice.Eq.{bytes_eq-Decides}
 use Rattle.cvss_base.specs.Text.{component, joined}
 use Rattle.cvss_base.specs.Version.{Version, component_of, components_of}
 use Rattle.cvss_ffi.specs.Defined.{defined_component, if_defined, or_if_none}
-use Rattle.cvss_ffi.specs.laws.DefinedParts.{HasDefinedOf, IsPrintedAsLess}
+use Rattle.cvss_ffi.specs.laws.DefinedParts.{HasDefinedOf, IsPrintedAsWithout}
 
 or_if_none-kept : (parts others : List (List ℕ)) → parts ≢ [] → parts ≡ or_if_none parts others
 or_if_none-kept [] others some = absurd (some refl)
@@ -20,8 +20,8 @@ module _ {V K : Type 0} (version : Version V K) (undefined : List ℕ) where
       ap (λ value. cons_option (option_map (component (version.name kind)) value) (filter_map (component_of version w) kinds)) (part.held_is kind)
       ∙ ap (λ parts. cons_option (defined_component version undefined v kind) parts) (components-defined v w part kinds)
 
-  pub printed_as_less : IsPrintedAsLess version undefined
-  printed_as_less v w part some =
+  pub printed_as_without : IsPrintedAsWithout version undefined
+  printed_as_without v w part some =
       let parts = components-defined v w part version.printed in
       ap (λ pieces. joined (pieces ++ components_of version w)) part.front_is
       ∙ ap (λ kept. joined (version.front v ++ kept)) (or_if_none-kept (components_of version w) (components_of version v) some)

@@ -26,12 +26,12 @@ or_if_none [] others = others
 or_if_none (part ∷ parts) others = part ∷ parts
 
 -- a vector's canonical text less its undefined metrics; all are kept where none is defined, as may be in CVSS v3
-abbrev pub text_less : {V K : Type 0} → Version V K → List ℕ → V → List ℕ
-text_less version undefined v =
+abbrev pub text_without : {V K : Type 0} → Version V K → List ℕ → V → List ℕ
+text_without version undefined v =
     joined (version.front v ++ or_if_none (filter_map (defined_component version undefined v) version.printed) (components_of version v))
 
 abbrev pub text_without_undefined : Cvss → List ℕ
-text_without_undefined (CvssV20 vector) = text_less v2 (codes "ND") vector
-text_without_undefined (CvssV30 vector) = text_less v3 (codes "X") vector
-text_without_undefined (CvssV31 vector) = text_less v3 (codes "X") vector
-text_without_undefined (CvssV40 vector) = text_less v4 (codes "X") vector
+text_without_undefined (CvssV20 vector) = text_without v2 (codes "ND") vector
+text_without_undefined (CvssV30 vector) = text_without v3 (codes "X") vector
+text_without_undefined (CvssV31 vector) = text_without v3 (codes "X") vector
+text_without_undefined (CvssV40 vector) = text_without v4 (codes "X") vector

@@ -13,7 +13,7 @@ use crate::buffer::{put, put_after, put_printed};
 use crate::v2;
 use cvss_any::Cvss;
 use cvss_text::walk::Components;
-use cvss_v2_metric::Spelled;
+use cvss_v2_metric::MetricValue;
 
 /// The vector that a text denotes, if there is one. Its canonical text, which is as long as the text,
 /// is written at the beginning of a buffer where it fits. It takes no memory.

@@ -4,7 +4,7 @@ ghost use Rattle.std.specs.Prelude.{◌≡◌, ◌≤◌, ◌+◌, length};
 ghost use Rattle.std.specs.Option.{option_copied};
 ghost use Rattle.cvss_text.specs.private.Printing.{with_slash, texts_with_slash};
 ghost use Rattle.cvss_ffi.specs.Buffer.{IsWritten};
-ghost use Rattle.cvss_ffi.specs.Defined.{defined_component, text_less, text_without_undefined};
+ghost use Rattle.cvss_ffi.specs.Defined.{defined_component, text_without, text_without_undefined};
 ghost use Rattle.cvss_ffi.specs.private.Steps.{IsRead, Puts, PutsParts, defined_texts, front_of, kept_parts, text_after};
 
 use crate::buffer::{LONGEST, put, put_both, put_components};
@@ -25,20 +25,20 @@ pub fn put_without_undefined(cvss: &Cvss, buffer: &mut [u8]) -> usize
     ensures { IsWritten (text_without_undefined cvss.now) buffer.old buffer.new result }
 {
     match cvss {
-        Cvss::CvssV20(vector) => put_less(&[], vector, &NOT_DEFINED_V2, buffer),
-        Cvss::CvssV30(vector) => put_less("CVSS:3.0".as_bytes(), vector, &NOT_DEFINED, buffer),
-        Cvss::CvssV31(vector) => put_less("CVSS:3.1".as_bytes(), vector, &NOT_DEFINED, buffer),
-        Cvss::CvssV40(vector) => put_less("CVSS:4.0".as_bytes(), vector, &NOT_DEFINED, buffer),
+        Cvss::CvssV20(vector) => put_without(&[], vector, &NOT_DEFINED_V2, buffer),
+        Cvss::CvssV30(vector) => put_without("CVSS:3.0".as_bytes(), vector, &NOT_DEFINED, buffer),
+        Cvss::CvssV31(vector) => put_without("CVSS:3.1".as_bytes(), vector, &NOT_DEFINED, buffer),
+        Cvss::CvssV40(vector) => put_without("CVSS:4.0".as_bytes(), vector, &NOT_DEFINED, buffer),
     }
 }
 
 /// Writes the text of a vector without its undefined metrics, of which the piece that says the
 /// version is given, or none. Without one no slash stands before the first component.
-fn put_less<V: Printed>(piece: &[u8], vector: &V, undefined: &[u8], buffer: &mut [u8]) -> usize
+fn put_without<V: Printed>(piece: &[u8], vector: &V, undefined: &[u8], buffer: &mut [u8]) -> usize
     requires front { V.version.front vector.now ≡ front_of piece.now }
     requires room { length piece.now
         + length (texts_with_slash V.version vector.now V.version.printed) ≤ 328 }
-    ensures { IsWritten (text_less V.version undefined.now vector.now) buffer.old buffer.new
+    ensures { IsWritten (text_without V.version undefined.now vector.now) buffer.old buffer.new
         result }
 {
     let mut whole = [0; LONGEST];

@@ -11,7 +11,7 @@ ghost use Rattle.cvss_v4.specs.Vector.{v4};
 ghost use Rattle.cvss_v2.specs.Weights as weights_v2;
 ghost use Rattle.cvss_v3.specs.VectorWeights as weights_v3;
 ghost use Rattle.cvss_base.specs.Equality.{ClonesAlways, ClonesByValue};
-ghost use Rattle.cvss_ffi.specs.laws.DefinedParts.{HasDefinedOf, IsPrintedAsLess};
+ghost use Rattle.cvss_ffi.specs.laws.DefinedParts.{HasDefinedOf, IsPrintedAsWithout};
 
 use crate::{CvssMetric, CvssScores, v2, v3, v4};
 use cvss_text::walk::Components;
@@ -30,9 +30,9 @@ pub fn vectors_have_defined_parts()
 /// A vector that has the defined metrics of another, and no others, is printed as the other's text
 /// without its undefined metrics.
 pub fn text_without_undefined_is_canonical()
-    ensures v2 { IsPrintedAsLess v2 (codes "ND") }
-    ensures v3 { IsPrintedAsLess v3 (codes "X") }
-    ensures v4 { IsPrintedAsLess v4 (codes "X") }
+    ensures v2 { IsPrintedAsWithout v2 (codes "ND") }
+    ensures v3 { IsPrintedAsWithout v3 (codes "X") }
+    ensures v4 { IsPrintedAsWithout v4 (codes "X") }
 {}
 
 /// It has the other's weights, and in CVSS v4.0 its effective values; so it has its scores.

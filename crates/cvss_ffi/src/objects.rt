@@ -1,7 +1,7 @@
 //! The record of a vector, and why it has its score, as JSON without spaces.
 
 ghost use Rattle.std.specs.Prelude.{ℕ, List, None};
-ghost use Rattle.cvss_explain.specs.Account.{IsAccountText};
+ghost use Rattle.cvss_explain.specs.Explanation.{IsExplanationText};
 ghost use Rattle.cvss_any.specs.Answers.{HasScore};
 ghost use Rattle.cvss_ffi.specs.Buffer.{IsWritten};
 ghost use Rattle.cvss_json_record.specs.Record.{IsRecordText};
@@ -22,12 +22,12 @@ pub fn put_record(cvss: &Cvss, buffer: &mut [u8]) -> usize
 }
 
 /// Writes why a vector has its score at the beginning of a buffer where it fits, and returns its length.
-pub fn put_account(cvss: &Cvss, buffer: &mut [u8]) -> usize
+pub fn put_explanation(cvss: &Cvss, buffer: &mut [u8]) -> usize
     requires { HasScore cvss.now }
-    ensures { (text : List ℕ) × IsAccountText None cvss.now text
+    ensures { (text : List ℕ) × IsExplanationText None cvss.now text
         × IsWritten text buffer.old buffer.new result }
 {
     let mut page = Page::new();
-    cvss_explain::put_account(&mut page, None, cvss);
+    cvss_explain::put_explanation(&mut page, None, cvss);
     put_both(&[], page.bytes(), buffer)
 }

@@ -9,7 +9,7 @@ ghost use Rattle.cvss_scan.specs.MentionsLeft.{as_placed};
 
 use cvss_answer::{Vectors, write_canonical};
 use cvss_any::{Cvss, Published};
-use cvss_lines::{Answering, Gathered};
+use cvss_lines::{Answering, OutputBuffer};
 use cvss_scan::{Mention, Mentions};
 use std::alloc::{AllocError, Global};
 use std::fmt::{self, Write};
@@ -25,9 +25,9 @@ impl Answering for Texts {
         alloc: Global,
         number: u64,
         line: &[u8],
-        answers: &mut Gathered,
+        answers: &mut OutputBuffer,
     ) -> Result<bool, AllocError> {
-        match Cvss::published_at_sight(line) {
+        match Cvss::published_on_fast_path(line) {
             Some(published) => report_canonical(number, line, published, answers),
             None => report_mentions(alloc, number, line, answers),
         }
@@ -39,7 +39,7 @@ fn report_canonical(
     number: u64,
     line: &[u8],
     published: Published,
-    answers: &mut Gathered,
+    answers: &mut OutputBuffer,
 ) -> Result<bool, AllocError>
     requires { IsPublishedOf line.now published }
     ensures { IfOk result (WritesAnswer IsAnswer number line.now
@@ -51,7 +51,7 @@ fn report_canonical(
 }
 
 /// Writes the number of a line, a colon, 1 for the place of its first byte, and a blank.
-fn write_first_place(number: u64, answers: &mut Gathered) -> Result<(), AllocError>
+fn write_first_place(number: u64, answers: &mut OutputBuffer) -> Result<(), AllocError>
     ensures { OnOk result (answers.new.bytes.items
         ≡ answers.old.bytes.items ++ place_text number 0) }
 {
@@ -66,7 +66,7 @@ fn report_mentions(
     alloc: Global,
     number: u64,
     line: &[u8],
-    answers: &mut Gathered,
+    answers: &mut OutputBuffer,
 ) -> Result<bool, AllocError>
     ensures { IfOk result (WritesAnswer IsAnswer number line.now
         answers.old.bytes.items answers.new.bytes.items) }
@@ -84,7 +84,7 @@ fn answer_mention(
     alloc: Global,
     number: u64,
     mention: Mention<'_>,
-    answers: &mut Gathered,
+    answers: &mut OutputBuffer,
 ) -> Result<bool, AllocError>
     ensures { IfOk result (WritesReported number (as_placed mention.entry)
         answers.old.bytes.items answers.new.bytes.items) }
@@ -96,7 +96,7 @@ fn answer_mention(
 }
 
 /// Writes the number of a line, a colon, the place of a mention in it, counted from 1, and a blank.
-fn write_place(number: u64, place: usize, answers: &mut Gathered) -> fmt::Result
+fn write_place(number: u64, place: usize, answers: &mut OutputBuffer) -> fmt::Result
     ensures { OnOk result (answers.new.bytes.items
         ≡ answers.old.bytes.items ++ place_text number place) }
 {

@@ -14,12 +14,12 @@ use Rattle.cvss_any.specs.declared.vector.Cvss.TheVariants.{CvssV20}
 use Rattle.cvss_laws.specs.any.GivenBack.{IsGivenBack}
 use Rattle.cvss_json_write.specs.Json.{Member, comma_if, member_text, rest_of_object, string_text, tenths_text}
 use Rattle.cvss_json_record.specs.Fields.{fields_of, name_of}
-use Rattle.cvss_json_record.specs.Record.{Due, text, score, nothing, IsRecordText, due_of, due_text, member_at, reports_group, value_at}
+use Rattle.cvss_json_record.specs.Record.{Expected, text, score, nothing, IsRecordText, expected_of, expected_text, member_at, reports_group, value_at}
 use Rattle.cvss_json_record.specs.declared.field.Field.{Field}
 use Rattle.cvss_json_record.specs.declared.field.Field.TheVariants.{V2, V3, V4, Score, Rating, Text, Version}
 use Rattle.cvss_json_record.specs.declared.score.Scores.{Scores}
 use Rattle.cvss_json_record.proofs.PlainLemmas.{plain_text, plain_tenths}
-use Rattle.cvss_json_record.proofs.WordLemmas.{due_fits, is_clear, is_due, is_other, is_plain, is_text, name_fits}
+use Rattle.cvss_json_record.proofs.WordLemmas.{expected_fits, is_clear, is_expected, is_other, is_plain, is_text, name_fits}
 
 abbrev is_quote : ℕ → Bool
 is_quote byte = nat_eq byte 34
@@ -91,11 +91,11 @@ found_later reported name value members named (number digits plain) finds front 
     ∙ pass name ((58 ∷ digits) ++ rest_of_object true members) named
     ∙ finds (58 ∷ digits) true (number_front digits plain)
 
-due_value : (due : Option Due) → is_due due ≡ true → IsValue (option_and_then due_text due)
-due_value None fits = absent
-due_value (Some (text reported)) fits = string reported (and_parts _ _ fits).1
-due_value (Some (score tenths)) fits = number (tenths_text tenths) (plain_tenths tenths)
-due_value (Some nothing) fits = absent
+expected_value : (expected : Option Expected) → is_expected expected ≡ true → IsValue (option_and_then expected_text expected)
+expected_value None fits = absent
+expected_value (Some (text reported)) fits = string reported (and_parts _ _ fits).1
+expected_value (Some (score tenths)) fits = number (tenths_text tenths) (plain_tenths tenths)
+expected_value (Some nothing) fits = absent
 
 value_if : (b : Bool) (value : Option (List ℕ)) → IsValue value → IsValue (if b then value else None)
 value_if true value is = is
@@ -107,17 +107,17 @@ module _ (cvss : Cvss) (scores : Scores) where
 
   -- another member than the vector's text
   found_after : (field : Field) (fields : List Field) → is_text field ≡ false → Finds (text_of cvss) (members_of fields) → Finds (text_of cvss) (members_of (field ∷ fields))
-  found_after (V2 kind) fields other finds = found_later (text_of cvss) (name_of (V2 kind)) (value_at cvss scores (V2 kind)) (members_of fields) (name_fits (V2 kind) refl) (due_value (due_of cvss scores (V2 kind)) (due_fits cvss scores (V2 kind))) finds
-  found_after (V3 kind) fields other finds = found_later (text_of cvss) (name_of (V3 kind)) (value_at cvss scores (V3 kind)) (members_of fields) (name_fits (V3 kind) refl) (due_value (due_of cvss scores (V3 kind)) (due_fits cvss scores (V3 kind))) finds
-  found_after (V4 kind) fields other finds = found_later (text_of cvss) (name_of (V4 kind)) (value_at cvss scores (V4 kind)) (members_of fields) (name_fits (V4 kind) refl) (due_value (due_of cvss scores (V4 kind)) (due_fits cvss scores (V4 kind))) finds
+  found_after (V2 kind) fields other finds = found_later (text_of cvss) (name_of (V2 kind)) (value_at cvss scores (V2 kind)) (members_of fields) (name_fits (V2 kind) refl) (expected_value (expected_of cvss scores (V2 kind)) (expected_fits cvss scores (V2 kind))) finds
+  found_after (V3 kind) fields other finds = found_later (text_of cvss) (name_of (V3 kind)) (value_at cvss scores (V3 kind)) (members_of fields) (name_fits (V3 kind) refl) (expected_value (expected_of cvss scores (V3 kind)) (expected_fits cvss scores (V3 kind))) finds
+  found_after (V4 kind) fields other finds = found_later (text_of cvss) (name_of (V4 kind)) (value_at cvss scores (V4 kind)) (members_of fields) (name_fits (V4 kind) refl) (expected_value (expected_of cvss scores (V4 kind)) (expected_fits cvss scores (V4 kind))) finds
   found_after (Score group) fields other finds =
       found_later (text_of cvss) (name_of (Score group)) (value_at cvss scores (Score group)) (members_of fields) (name_fits (Score group) refl)
-      (value_if (reports_group cvss group) (option_and_then due_text (due_of cvss scores (Score group))) (due_value (due_of cvss scores (Score group)) (due_fits cvss scores (Score group)))) finds
+      (value_if (reports_group cvss group) (option_and_then expected_text (expected_of cvss scores (Score group))) (expected_value (expected_of cvss scores (Score group)) (expected_fits cvss scores (Score group)))) finds
   found_after (Rating group) fields other finds =
       found_later (text_of cvss) (name_of (Rating group)) (value_at cvss scores (Rating group)) (members_of fields) (name_fits (Rating group) refl)
-      (value_if (reports_group cvss group) (option_and_then due_text (due_of cvss scores (Rating group))) (due_value (due_of cvss scores (Rating group)) (due_fits cvss scores (Rating group)))) finds
+      (value_if (reports_group cvss group) (option_and_then expected_text (expected_of cvss scores (Rating group))) (expected_value (expected_of cvss scores (Rating group)) (expected_fits cvss scores (Rating group)))) finds
   found_after Text fields other finds = absurd (cc)
-  found_after Version fields other finds = found_later (text_of cvss) (name_of Version) (value_at cvss scores Version) (members_of fields) (name_fits Version refl) (due_value (due_of cvss scores Version) (due_fits cvss scores Version)) finds
+  found_after Version fields other finds = found_later (text_of cvss) (name_of Version) (value_at cvss scores Version) (members_of fields) (name_fits Version refl) (expected_value (expected_of cvss scores Version) (expected_fits cvss scores Version)) finds
 
   found_in : (fields : List Field) → list_any is_text fields ≡ true → Finds (text_of cvss) (members_of fields)
   found_in [] has = λ front later other. absurd (cc)

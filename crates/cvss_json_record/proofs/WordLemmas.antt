@@ -21,7 +21,7 @@ use Rattle.cvss_json_names.specs.WordsV3 as words_v3
 use Rattle.cvss_json_names.specs.WordsV4 as words_v4
 use Rattle.cvss_json_record.specs.Fields.{fields_of, name_of}
 use Rattle.cvss_json_record.specs.Groups.{tenths_at}
-use Rattle.cvss_json_record.specs.Record.{Due, text, score, nothing, due_of, rating_due, rating_word, spelled_at, word_due}
+use Rattle.cvss_json_record.specs.Record.{Expected, text, score, nothing, expected_of, rating_expected, rating_word, spelled_at, word_expected}
 use Rattle.cvss_json_record.specs.private.Room.{fields_room}
 use Rattle.cvss_json_record.specs.declared.field.Field.{Field}
 use Rattle.cvss_json_record.specs.declared.field.Field.TheVariants.{V2, V3, V4, Score, Rating, Text, Version}
@@ -71,13 +71,13 @@ within test (row ∷ rows) spelling none all =
     either test (bytes_eq row.0 spelling) row.1 (word_in rows spelling) both.0 (within test rows spelling none both.1)
 
 -- what a member may say
-abbrev pub is_due : Option Due → Bool
-is_due None = true
-is_due (Some (text reported)) = is_word 16 reported
-is_due (Some (score tenths)) = true
-is_due (Some nothing) = true
+abbrev pub is_expected : Option Expected → Bool
+is_expected None = true
+is_expected (Some (text reported)) = is_word 16 reported
+is_expected (Some (score tenths)) = true
+is_expected (Some nothing) = true
 
-word_fits : (entry : List ℕ × List Row) (spelling : Option (List ℕ)) → are_words entry ≡ true → is_due (Some (word_due entry.1 spelling)) ≡ true
+word_fits : (entry : List ℕ × List Row) (spelling : Option (List ℕ)) → are_words entry ≡ true → is_expected (Some (word_expected entry.1 spelling)) ≡ true
 word_fits entry None fit = refl
 word_fits entry (Some spelling) fit = within (is_word 16) entry.1 spelling refl (and_parts _ _ fit).1
 
@@ -85,26 +85,26 @@ rating_fits : (rating : Severity) → is_word 16 (rating_word rating) ≡ true
 rating_fits severity.None = refl
 rating_fits _ = refl
 
-score_due_fits : (tenths : Option ℕ) → is_due (option_map score tenths) ≡ true
-score_due_fits None = refl
-score_due_fits (Some tenths) = refl
+score_expected_fits : (tenths : Option ℕ) → is_expected (option_map score tenths) ≡ true
+score_expected_fits None = refl
+score_expected_fits (Some tenths) = refl
 
-rating_due_fits : (cvss : Cvss) (tenths : Option ℕ) → is_due (option_map (rating_due cvss) tenths) ≡ true
-rating_due_fits cvss None = refl
-rating_due_fits cvss (Some tenths) = rating_fits _
+rating_expected_fits : (cvss : Cvss) (tenths : Option ℕ) → is_expected (option_map (rating_expected cvss) tenths) ≡ true
+rating_expected_fits cvss None = refl
+rating_expected_fits cvss (Some tenths) = rating_fits _
 
 version_fits : (cvss : Cvss) → is_word 16 (version_of cvss) ≡ true
 version_fits (CvssV20 _) = refl
 version_fits _ = refl
 
-pub due_fits : (cvss : Cvss) (scores : Scores) (field : Field) → is_due (due_of cvss scores field) ≡ true
-due_fits cvss scores (V2 kind) = word_fits (words_v2.entry_of kind) (spelled_at cvss (V2 kind)) (words_v2_fit kind)
-due_fits cvss scores (V3 kind) = word_fits (words_v3.entry_of kind) (spelled_at cvss (V3 kind)) (words_v3_fit kind)
-due_fits cvss scores (V4 kind) = word_fits (words_v4.entry_of kind) (spelled_at cvss (V4 kind)) (words_v4_fit kind)
-due_fits cvss scores (Score group) = score_due_fits (tenths_at scores group)
-due_fits cvss scores (Rating group) = rating_due_fits cvss (tenths_at scores group)
-due_fits cvss scores Text = refl
-due_fits cvss scores Version = version_fits cvss
+pub expected_fits : (cvss : Cvss) (scores : Scores) (field : Field) → is_expected (expected_of cvss scores field) ≡ true
+expected_fits cvss scores (V2 kind) = word_fits (words_v2.entry_of kind) (spelled_at cvss (V2 kind)) (words_v2_fit kind)
+expected_fits cvss scores (V3 kind) = word_fits (words_v3.entry_of kind) (spelled_at cvss (V3 kind)) (words_v3_fit kind)
+expected_fits cvss scores (V4 kind) = word_fits (words_v4.entry_of kind) (spelled_at cvss (V4 kind)) (words_v4_fit kind)
+expected_fits cvss scores (Score group) = score_expected_fits (tenths_at scores group)
+expected_fits cvss scores (Rating group) = rating_expected_fits cvss (tenths_at scores group)
+expected_fits cvss scores Text = refl
+expected_fits cvss scores Version = version_fits cvss
 
 name_within : (entry : List ℕ × List Row) → are_words entry ≡ true → leb (length entry.0) 40 ≡ true
 name_within entry fit = (and_parts _ _ (and_parts _ _ fit).0).0
@@ -143,9 +143,9 @@ name_fits Version other = refl
 pub name_short : (field : Field) → length (name_of field) ≤ 40
 name_short field = grind (arith, nat_tests, short_name field)
 
-pub text_short : (cvss : Cvss) (scores : Scores) (field : Field) (reported : List ℕ) → Some (text reported) ≡ due_of cvss scores field → length reported ≤ 16
+pub text_short : (cvss : Cvss) (scores : Scores) (field : Field) (reported : List ℕ) → Some (text reported) ≡ expected_of cvss scores field → length reported ≤ 16
 text_short cvss scores field reported is =
-    let fit : is_word 16 reported ≡ true = ap is_due is ∙ due_fits cvss scores field in
+    let fit : is_word 16 reported ≡ true = ap is_expected is ∙ expected_fits cvss scores field in
     grind (arith, nat_tests, (and_parts (leb (length reported) 16) (is_other reported) fit).0)
 
 -- all members of a record have room on a page

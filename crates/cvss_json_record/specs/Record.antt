@@ -18,8 +18,8 @@ use Rattle.cvss_json_names.specs.WordsV3 as words_v3
 use Rattle.cvss_json_names.specs.WordsV4 as words_v4
 use Rattle.cvss_json_record.specs.Fields.{fields_of, name_of}
 use Rattle.cvss_json_record.specs.Groups.{AreScoresOf, has_group, tenths_at}
-use Rattle.cvss_json_record.specs.declared.due.Due as code
-use Rattle.cvss_json_record.specs.declared.due.Due.TheVariants as code_due
+use Rattle.cvss_json_record.specs.declared.expected.Expected as code
+use Rattle.cvss_json_record.specs.declared.expected.Expected.TheVariants as code_expected
 use Rattle.cvss_json_record.specs.declared.field.Field.{Field}
 use Rattle.cvss_json_record.specs.declared.field.Field.TheVariants.{V2, V3, V4, Score, Rating, Text, Version}
 use Rattle.cvss_json_record.specs.declared.group.Group.{Group}
@@ -27,16 +27,16 @@ use Rattle.cvss_json_record.specs.declared.group.Group.TheVariants.{Base, Tempor
 use Rattle.cvss_json_record.specs.declared.score.Scores.{Scores}
 
 -- what a member says: a text, a score of so many tenths, or nothing of a metric that is absent
-pub data Due : Type 0 where
-  text : List ℕ → Due
-  score : ℕ → Due
-  nothing : Due
+pub data Expected : Type 0 where
+  text : List ℕ → Expected
+  score : ℕ → Expected
+  nothing : Expected
 
 -- and as the code has it
-abbrev pub due_view : code.Due → Due
-due_view (code_due.Text reported) = text reported.now
-due_view (code_due.Score tenths) = score tenths
-due_view code_due.Nothing = nothing
+abbrev pub expected_view : code.Expected → Expected
+expected_view (code_expected.Text reported) = text reported.now
+expected_view (code_expected.Score tenths) = score tenths
+expected_view code_expected.Nothing = nothing
 
 -- the word of a rating
 abbrev pub rating_word : Severity → List ℕ
@@ -47,12 +47,12 @@ rating_word severity.High = codes "HIGH"
 rating_word severity.Critical = codes "CRITICAL"
 
 -- the rating of a score of so many tenths
-abbrev pub rating_due : Cvss → ℕ → Due
-rating_due cvss tenths = text (rating_word (rating_by cvss (score_of_tenths tenths)))
+abbrev pub rating_expected : Cvss → ℕ → Expected
+rating_expected cvss tenths = text (rating_word (rating_by cvss (score_of_tenths tenths)))
 
 -- the word for how a metric's value is spelled, if the vector has one
-abbrev pub word_due : List Row → Option (List ℕ) → Due
-word_due words spelling = unwrap_or (option_map (λ each. text (word_in words each)) spelling) nothing
+abbrev pub word_expected : List Row → Option (List ℕ) → Expected
+word_expected words spelling = unwrap_or (option_map (λ each. text (word_in words each)) spelling) nothing
 
 -- how the vector's value is spelled for a metric of its version
 abbrev pub spelled_at : Cvss → Field → Option (List ℕ)
@@ -63,20 +63,20 @@ spelled_at (CvssV40 vector) (V4 kind) = held v4 vector kind
 spelled_at _ _ = None
 
 -- what a member says of the vector, its text aside
-abbrev pub due_of : Cvss → Scores → Field → Option Due
-due_of cvss scores (V2 kind) = Some (word_due (words_v2.words_of kind) (spelled_at cvss (V2 kind)))
-due_of cvss scores (V3 kind) = Some (word_due (words_v3.words_of kind) (spelled_at cvss (V3 kind)))
-due_of cvss scores (V4 kind) = Some (word_due (words_v4.words_of kind) (spelled_at cvss (V4 kind)))
-due_of cvss scores (Score group) = option_map score (tenths_at scores group)
-due_of cvss scores (Rating group) = option_map (rating_due cvss) (tenths_at scores group)
-due_of cvss scores Text = None
-due_of cvss scores Version = Some (text (version_of cvss))
+abbrev pub expected_of : Cvss → Scores → Field → Option Expected
+expected_of cvss scores (V2 kind) = Some (word_expected (words_v2.words_of kind) (spelled_at cvss (V2 kind)))
+expected_of cvss scores (V3 kind) = Some (word_expected (words_v3.words_of kind) (spelled_at cvss (V3 kind)))
+expected_of cvss scores (V4 kind) = Some (word_expected (words_v4.words_of kind) (spelled_at cvss (V4 kind)))
+expected_of cvss scores (Score group) = option_map score (tenths_at scores group)
+expected_of cvss scores (Rating group) = option_map (rating_expected cvss) (tenths_at scores group)
+expected_of cvss scores Text = None
+expected_of cvss scores Version = Some (text (version_of cvss))
 
 -- what is said, as JSON
-abbrev pub due_text : Due → Option (List ℕ)
-due_text (text reported) = Some (string_text reported)
-due_text (score tenths) = Some (tenths_text tenths)
-due_text nothing = None
+abbrev pub expected_text : Expected → Option (List ℕ)
+expected_text (text reported) = Some (string_text reported)
+expected_text (score tenths) = Some (tenths_text tenths)
+expected_text nothing = None
 
 -- the vector has a metric of the group, if that is an optional one
 abbrev pub reports_group : Cvss → Group → Bool
@@ -93,7 +93,7 @@ has_member cvss _ = true
 -- the value of a member of the vector's record, as JSON, if the record has it
 abbrev pub value_at : Cvss → Scores → Field → Option (List ℕ)
 value_at cvss scores Text = Some (string_text (text_of cvss))
-value_at cvss scores field = if has_member cvss field then option_and_then due_text (due_of cvss scores field) else None
+value_at cvss scores field = if has_member cvss field then option_and_then expected_text (expected_of cvss scores field) else None
 
 -- the member, if the record has it
 abbrev pub member_at : Cvss → Scores → Field → Option Member

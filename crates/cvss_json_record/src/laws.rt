@@ -13,7 +13,7 @@ ghost use Rattle.cvss_json_record.specs.laws.Members.{AreMembers};
 ghost use Rattle.cvss_v2_metric.specs.Table as table_v2;
 ghost use Rattle.cvss_v3_metric.specs.Table as table_v3;
 
-use crate::{Due, Field, Group, Scores};
+use crate::{Expected, Field, Group, Scores};
 use cvss_laws::any::texts_denote_one_vector;
 
 /// A record determines its vector: two vectors that their own texts give back, as each vector is that
@@ -41,7 +41,7 @@ pub fn equality_is_that_of_values()
 
 /// A clone of a member, of what it says, of a group or of scores is that value.
 pub fn clones_are_equal()
-    ensures due { ClonesByValue ⟦<Due as Clone>⟧.is_clone }
+    ensures expected { ClonesByValue ⟦<Expected as Clone>⟧.is_clone }
     ensures field { ClonesByValue ⟦<Field as Clone>⟧.is_clone }
     ensures group { ClonesByValue ⟦<Group as Clone>⟧.is_clone }
     ensures scores { ClonesByValue ⟦<Scores as Clone>⟧.is_clone }
@@ -49,7 +49,7 @@ pub fn clones_are_equal()
 
 /// To clone a member, what it says, a group or scores takes no memory, so it is never refused.
 pub fn values_are_cloned_without_memory()
-    ensures due { ClonesAlways ⟦<Due as Clone>⟧.is_infallible }
+    ensures expected { ClonesAlways ⟦<Expected as Clone>⟧.is_infallible }
     ensures field { ClonesAlways ⟦<Field as Clone>⟧.is_infallible }
     ensures group { ClonesAlways ⟦<Group as Clone>⟧.is_infallible }
     ensures scores { ClonesAlways ⟦<Scores as Clone>⟧.is_infallible }

@@ -2,7 +2,7 @@
 //! FIRST's JSON schemas of CVSS v2.0, v3.0, v3.1 and v4.0. [`put_record`] writes one without memory.
 #![tactic(auto)]
 
-mod due;
+mod expected;
 mod field;
 mod group;
 pub mod laws;
@@ -11,7 +11,7 @@ mod score;
 
 use cvss_v2 as v2;
 use cvss_v3 as v3;
-pub use due::{Due, due_of};
+pub use expected::{Expected, expected_of};
 pub use field::{Field, fields_of};
 pub use group::Group;
 pub use record::put_record;

@@ -7,7 +7,7 @@ ghost use Rattle.cvss_json_write.specs.Json.{Member, rest_of_object};
 ghost use Rattle.cvss_json_record.specs.Record.{IsRecordText, has_member, member_at};
 ghost use Rattle.cvss_json_record.specs.private.Room.{field_room, fields_room};
 
-use crate::due::{Due, due_of};
+use crate::expected::{Expected, expected_of};
 use crate::field::{Field, fields_of};
 use crate::score::Scores;
 use cvss_any::Cvss;
@@ -54,12 +54,12 @@ fn put_field(page: &mut Page, later: bool, cvss: &Cvss, scores: &Scores, field: 
     if !has_member(cvss, field) {
         return later;
     }
-    match due_of(cvss, scores, field) {
-        Some(Due::Text(text)) => {
+    match expected_of(cvss, scores, field) {
+        Some(Expected::Text(text)) => {
             put_member(page, later, field.name(), Scalar::Text(text));
             true
         }
-        Some(Due::Score(tenths)) => {
+        Some(Expected::Score(tenths)) => {
             put_member(page, later, field.name(), Scalar::Tenths(tenths));
             true
         }

@@ -9,7 +9,7 @@ use Rattle.cvss_json_tree.specs.declared.tree.Tree.TheOpen.{Tree-F}
 -- one level, where each value inside is already seen as its data
 abbrev pub tree_step : Tree-F Data → Data
 tree_step (Tree-F.Own value) = view value
-tree_step (Tree-F.Lent value) = view value.now
+tree_step (Tree-F.Borrowed value) = view value.now
 tree_step (Tree-F.Text text) = string text.now
 tree_step (Tree-F.Array items) = array (items_of items.items)
 tree_step (Tree-F.Object members) = object (members_of members.entries)

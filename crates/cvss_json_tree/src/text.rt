@@ -9,18 +9,18 @@ ghost use Rattle.serde_json.specs.View.{view};
 ghost use Rattle.serde_json.specs.Written.{comma_if};
 
 use crate::tree::Tree;
-use cvss_lines::Gathered;
+use cvss_lines::OutputBuffer;
 use serde_json::{Map, Value};
 use std::alloc::{AllocError, Global};
 
 #[cycle(push_tree)]
-fn push_tree(alloc: Global, tree: &Tree<'_>, answers: &mut Gathered) -> Result<(), AllocError>
+fn push_tree(alloc: Global, tree: &Tree<'_>, answers: &mut OutputBuffer) -> Result<(), AllocError>
     ensures { OnOk result (PushesText (tree_view tree.now)
         answers.old.bytes.items answers.new.bytes.items) }
 {
     match tree {
         Tree::Own(value) => push_value(alloc, value, answers),
-        Tree::Lent(value) => push_value(alloc, value, answers),
+        Tree::Borrowed(value) => push_value(alloc, value, answers),
         Tree::Text(text) => push_text(alloc, text, answers),
         Tree::Array(items) => push_items(alloc, items, answers),
         Tree::Object(members) => push_members(alloc, members, answers),
@@ -31,7 +31,7 @@ fn push_tree(alloc: Global, tree: &Tree<'_>, answers: &mut Gathered) -> Result<(
 fn push_items(
     alloc: Global,
     items: &Vec<Tree<'_>>,
-    answers: &mut Gathered,
+    answers: &mut OutputBuffer,
 ) -> Result<(), AllocError>
     ensures { OnOk result (PushesText (array (trees_view items.now.items))
         answers.old.bytes.items answers.new.bytes.items) }
@@ -51,7 +51,7 @@ fn push_items(
 pub(crate) fn push_members(
     alloc: Global,
     members: &Map<String, Tree<'_>>,
-    answers: &mut Gathered,
+    answers: &mut OutputBuffer,
 ) -> Result<(), AllocError>
     ensures { OnOk result (PushesText (object (members_view members.now.entries))
         answers.old.bytes.items answers.new.bytes.items) }
@@ -71,7 +71,7 @@ fn push_name(
     alloc: Global,
     later: bool,
     name: &str,
-    answers: &mut Gathered,
+    answers: &mut OutputBuffer,
 ) -> Result<(), AllocError>
     ensures { OnOk result (answers.new.bytes.items
         ≡ answers.old.bytes.items ++ (comma_if later ++ (quoted name.now ++ 58 ∷ []))) }
@@ -82,14 +82,14 @@ fn push_name(
 }
 
 /// Appends a comma, where something stands before.
-fn push_comma(later: bool, answers: &mut Gathered) -> Result<(), AllocError>
+fn push_comma(later: bool, answers: &mut OutputBuffer) -> Result<(), AllocError>
     ensures { OnOk result (answers.new.bytes.items ≡ answers.old.bytes.items ++ comma_if later) }
 {
     if later { answers.push(b",") } else { Ok(()) }
 }
 
 /// Appends the text of a string.
-fn push_text(alloc: Global, text: &str, answers: &mut Gathered) -> Result<(), AllocError>
+fn push_text(alloc: Global, text: &str, answers: &mut OutputBuffer) -> Result<(), AllocError>
     ensures value { OnOk result (PushesText (string text.now)
         answers.old.bytes.items answers.new.bytes.items) }
     ensures quoted { OnOk result (answers.new.bytes.items
@@ -102,7 +102,7 @@ fn push_text(alloc: Global, text: &str, answers: &mut Gathered) -> Result<(), Al
 pub(crate) fn push_value(
     alloc: Global,
     value: &Value,
-    answers: &mut Gathered,
+    answers: &mut OutputBuffer,
 ) -> Result<(), AllocError>
     ensures { OnOk result (PushesText (view value.now)
         answers.old.bytes.items answers.new.bytes.items) }

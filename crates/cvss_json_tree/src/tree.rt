@@ -14,7 +14,7 @@ pub enum Tree<'a> {
     /// A value of its own.
     Own(Value),
     /// A value that stands elsewhere.
-    Lent(&'a Value),
+    Borrowed(&'a Value),
     /// A string that stands elsewhere.
     Text(&'a str),
     /// An array.

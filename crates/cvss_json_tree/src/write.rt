@@ -8,7 +8,7 @@ ghost use Rattle.serde_json.specs.View.{members_view};
 
 use crate::text::{push_members, push_value};
 use crate::tree::Tree;
-use cvss_lines::Gathered;
+use cvss_lines::OutputBuffer;
 use serde_json::{Map, Value};
 use std::alloc::{AllocError, Global};
 
@@ -20,7 +20,7 @@ use std::alloc::{AllocError, Global};
 pub fn write_object(
     alloc: Global,
     members: Map<String, Value>,
-    answers: &mut Gathered,
+    answers: &mut OutputBuffer,
 ) -> Result<(), AllocError>
     ensures { OnOk result (WritesObject (object (members_view members.entries))
         answers.old.bytes.items answers.new.bytes.items) }
@@ -37,7 +37,7 @@ pub fn write_object(
 pub fn write_tree_object(
     alloc: Global,
     members: &Map<String, Tree<'_>>,
-    answers: &mut Gathered,
+    answers: &mut OutputBuffer,
 ) -> Result<(), AllocError>
     ensures { OnOk result (WritesObject (object (trees.members_view members.now.entries))
         answers.old.bytes.items answers.new.bytes.items) }

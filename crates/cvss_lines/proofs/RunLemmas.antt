@@ -9,7 +9,7 @@ use Rattle.cvss_lines.specs.Streaming.{AreBegun, Beginning, EndsWithin, StreamEn
 use Rattle.cvss_lines.specs.private.Steps.{Awaits, Reads, Stands, Stops}
 use Rattle.cvss_lines.specs.declared.fault.RunFault.{RunFault}
 use Rattle.cvss_lines.specs.declared.fault.RunFault.TheVariants.{Read, Write}
-use Rattle.cvss_lines.specs.declared.gathered.Gathered.{Gathered}
+use Rattle.cvss_lines.specs.declared.buffered.OutputBuffer.{OutputBuffer}
 use Rattle.cvss_lines.specs.declared.pending.Pending.{Pending}
 use Rattle.cvss_lines.specs.declared.progress.Progress.{Progress}
 use Rattle.cvss_lines.specs.declared.summary.Summary.{Summary}
@@ -57,7 +57,7 @@ module _ {rule : Rule} {beginning : Beginning} where
 
   module _ {u0 u u' w0 w : Option (List ℕ)} {now : Pending} (b : Between rule beginning u0 u w0 w now) where
     -- after a chunk
-    pub Between-chunk : {w' w'' : Option (List ℕ)} {next : Pending} (answers : Gathered) (chunk : List ℕ) → Consumes u u' chunk
+    pub Between-chunk : {w' w'' : Option (List ℕ)} {next : Pending} (answers : OutputBuffer) (chunk : List ℕ) → Consumes u u' chunk
         → Reads rule beginning chunk w w' now next → Appends w' w'' next.progress.answers.bytes.items → answers.bytes.items ≡ []
         → Between rule beginning u0 u' w0 w'' (record next { progress = record next.progress { answers = answers } })
     Between-chunk {w'} {w''} {next} answers chunk read reads appended none =

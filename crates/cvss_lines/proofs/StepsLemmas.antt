@@ -9,7 +9,7 @@ use Rattle.cvss_lines.specs.Streaming.{AreBegun, Beginning, IsPassed, Stops as L
 use Rattle.cvss_lines.specs.private.Steps.{AreFirst, ArePassed, Counts, Stands, Stops, StopsAnswering}
 use Rattle.cvss_lines.specs.declared.fault.RunFault.{RunFault}
 use Rattle.cvss_lines.specs.declared.fault.RunFault.TheVariants.{Memory}
-use Rattle.cvss_lines.specs.declared.gathered.Gathered.{Gathered}
+use Rattle.cvss_lines.specs.declared.buffered.OutputBuffer.{OutputBuffer}
 use Rattle.cvss_lines.specs.declared.progress.Progress.{Progress}
 use Rattle.cvss_lines.proofs.AnswersLemmas.{IsAnswers-push, number_after-push, summary_of-push, written_answers-push}
 
@@ -125,7 +125,7 @@ module _ (rule : Rule) (beginning : Beginning) where
     }
 
     -- what waited is written
-    pub Stands-written : (answers : Gathered) → Appends w w' now.answers.bytes.items → answers.bytes.items ≡ []
+    pub Stands-written : (answers : OutputBuffer) → Appends w w' now.answers.bytes.items → answers.bytes.items ≡ []
         → Stands rule beginning start w' lines (record now { answers = answers })
     Stands-written answers appended none = record {
       answers = s.answers;

@@ -4,7 +4,7 @@ use Rattle.std.specs.Fmt.{WritesInCalls}
 use Rattle.std.proofs.lemmas.Fmt.{contents_after_writes}
 use Rattle.std.proofs.lemmas.Result.{on_ok_weaker}
 use Rattle.cvss_lines.specs.Answers.{written_text}
-use Rattle.cvss_lines.specs.declared.gathered.Gathered.{Gathered}
+use Rattle.cvss_lines.specs.declared.buffered.OutputBuffer.{OutputBuffer}
 
 -- a text that is written alone is that of the answer
 pub one_text : (old text new : List ℕ) → new ≡ old ++ written_text text
@@ -12,8 +12,8 @@ pub one_text : (old text new : List ℕ) → new ≡ old ++ written_text text
 one_text old text new is = is ∙ ap (λ bytes. old ++ bytes) (sym (append-nil (written_text text)))
 
 -- what is written in some calls follows what waited
-pub appended : {T E : Type 0} (result : Result T E) (old new : Gathered) (bytes : List ℕ)
-    → OnOk result (WritesInCalls (λ (old : Gathered) (text : List ℕ) (new : Gathered). new.bytes.items ≡ old.bytes.items ++ text) old bytes new)
+pub appended : {T E : Type 0} (result : Result T E) (old new : OutputBuffer) (bytes : List ℕ)
+    → OnOk result (WritesInCalls (λ (old : OutputBuffer) (text : List ℕ) (new : OutputBuffer). new.bytes.items ≡ old.bytes.items ++ text) old bytes new)
     → OnOk result (new.bytes.items ≡ old.bytes.items ++ bytes)
 appended result old new bytes = on_ok_weaker result
-    (contents_after_writes _ (λ (answers : Gathered). answers.bytes.items) (λ old bytes new is. is) old bytes new)
+    (contents_after_writes _ (λ (answers : OutputBuffer). answers.bytes.items) (λ old bytes new is. is) old bytes new)

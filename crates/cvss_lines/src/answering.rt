@@ -3,7 +3,7 @@
 ghost use Rattle.std.specs.Prelude.{IfOk};
 ghost use Rattle.cvss_lines.specs.Answers.{Rule, WritesAnswer};
 
-use crate::gathered::Gathered;
+use crate::buffered::OutputBuffer;
 use std::alloc::{AllocError, Global};
 
 /// A way to answer lines. Each answer is some texts, and accepts its line or refuses it.
@@ -21,7 +21,7 @@ pub trait Answering {
         alloc: Global,
         number: u64,
         line: &[u8],
-        answers: &mut Gathered,
+        answers: &mut OutputBuffer,
     ) -> Result<bool, AllocError>
         ensures { IfOk result (WritesAnswer rule number line.now
             answers.old.bytes.items answers.new.bytes.items) };

@@ -4,8 +4,8 @@
 #![tactic(auto)]
 
 mod answering;
+mod buffered;
 mod fault;
-mod gathered;
 pub mod laws;
 mod lines;
 mod pending;
@@ -18,8 +18,8 @@ mod streaming;
 mod summary;
 
 pub use answering::Answering;
+pub use buffered::{OutputBuffer, write_whole};
 pub use fault::RunFault;
-pub use gathered::{Gathered, write_whole};
 pub use lines::{cut_at_line_end, first_line, line_text};
 pub use reading::read_whole;
 pub use running::{run, run_streaming, serve};

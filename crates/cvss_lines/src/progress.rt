@@ -4,7 +4,7 @@ ghost use Rattle.std.specs.Prelude.{◌≡◌, ◌∷◌, [], IfErr, OnOk};
 ghost use Rattle.cvss_lines.specs.Runs.{summary_of};
 ghost use Rattle.cvss_lines.specs.private.Steps.{Answers, StopsAnswering};
 
-use crate::{Gathered, RunFault, Service, Summary};
+use crate::{OutputBuffer, RunFault, Service, Summary};
 use std::alloc::Global;
 use std::io::Write;
 
@@ -12,7 +12,7 @@ use std::io::Write;
 #[derive(Drop)]
 pub(crate) struct Progress {
     /// The answers that aren't written yet.
-    pub(crate) answers: Gathered,
+    pub(crate) answers: OutputBuffer,
     pub(crate) summary: Summary,
     /// The number of the next line to answer, from 1. It stops at `u64::MAX`.
     pub(crate) number: u64,
@@ -25,7 +25,7 @@ impl Progress {
         ensures number { result.number ≡ 1 }
     {
         Progress {
-            answers: Gathered::new(alloc),
+            answers: OutputBuffer::new(alloc),
             summary: Summary::new(),
             number: 1,
         }

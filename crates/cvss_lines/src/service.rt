@@ -4,7 +4,7 @@ ghost use Rattle.std.specs.Prelude.{IfErr, IfOk};
 ghost use Rattle.cvss_lines.specs.Answers.{Rule};
 ghost use Rattle.cvss_lines.specs.Streaming.{Beginning, Stops, Streams};
 
-use crate::{Gathered, RunFault, Streaming};
+use crate::{OutputBuffer, RunFault, Streaming};
 use std::alloc::Global;
 use std::io::Write;
 use std::marker::PhantomData;
@@ -28,7 +28,7 @@ pub trait Service {
         alloc: Global,
         number: u64,
         line: &[u8],
-        answers: &mut Gathered,
+        answers: &mut OutputBuffer,
         writer: &mut W,
     ) -> Result<bool, RunFault>
         ensures streamed { IfOk result (Streams (rule self.now) (beginning self.now) number line.now
@@ -60,7 +60,7 @@ impl<A: Streaming> Service for Fixed<A> {
         alloc: Global,
         number: u64,
         line: &[u8],
-        answers: &mut Gathered,
+        answers: &mut OutputBuffer,
         writer: &mut W,
     ) -> Result<bool, RunFault> {
         A::stream_line::<W>(alloc, number, line, answers, writer)

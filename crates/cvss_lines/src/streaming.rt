@@ -4,7 +4,7 @@ ghost use Rattle.std.specs.Prelude.{IfErr, IfOk};
 ghost use Rattle.cvss_lines.specs.Answers.{Rule};
 ghost use Rattle.cvss_lines.specs.Streaming.{Beginning, Stops, Streams};
 
-use crate::{Answering, Gathered, RunFault};
+use crate::{Answering, OutputBuffer, RunFault};
 use std::alloc::Global;
 use std::io::Write;
 use std::marker::PhantomData;
@@ -29,7 +29,7 @@ pub trait Streaming {
         alloc: Global,
         number: u64,
         line: &[u8],
-        answers: &mut Gathered,
+        answers: &mut OutputBuffer,
         writer: &mut W,
     ) -> Result<bool, RunFault>
         ensures streamed { IfOk result (Streams rule beginning number line.now
@@ -54,7 +54,7 @@ impl<A: Answering> Streaming for Whole<A> {
         alloc: Global,
         number: u64,
         line: &[u8],
-        answers: &mut Gathered,
+        answers: &mut OutputBuffer,
         _writer: &mut W,
     ) -> Result<bool, RunFault> {
         Ok(A::answer_line(alloc, number, line, answers)?)

@@ -5,7 +5,7 @@ use Rattle.std.proofs.lemmas.List.Elements.{All-nil, All-cons, All-from_get_or}
 use Rattle.std.proofs.lemmas.List.Folds.{list_any-append, list_any_none}
 use Rattle.cvss_base.specs.Text.{has, slash}
 use Rattle.cvss_scan.proofs.EndLemmas.{before_and_last}
-use Rattle.cvss_scan.specs.Parts.{is_vector_byte, less_dividers, parts_of}
+use Rattle.cvss_scan.specs.Parts.{is_vector_byte, without_dividers, parts_of}
 use Rattle.cvss_scan.specs.Mentions.{IsFound, placed_from}
 use Rattle.cvss_scan.specs.MentionsLeft.{NoneFound}
 use Rattle.cvss_scan.specs.laws.Whole.{is_other, last_byte}
@@ -24,12 +24,12 @@ none_before text end place before within none = list_any_none (λ each. eqb each
     ne_eqb (get_or (take place text) k 0) 47 (λ is. differs (sym same ∙ is))))
 
 -- a part without a slash has no mention that is found
-part_not_found : (part : List ℕ) → has slash part ≡ false → ¬ (IsFound (less_dividers part))
+part_not_found : (part : List ℕ) → has slash part ≡ false → ¬ (IsFound (without_dividers part))
 part_not_found part none found =
     let first = begins part in
-    let parts = sym (list_any-append (λ each. eqb each slash) (less_dividers part) first.taken_off) ∙ (sym (ap (has slash) first.is) ∙ none) in
-    let less : has slash (less_dividers part) ≡ false = (or_parts (has slash (less_dividers part)) (has slash first.taken_off) parts).0 in
-    let with_slash = found_with_slash (less_dividers part) found in
+    let parts = sym (list_any-append (λ each. eqb each slash) (without_dividers part) first.taken_off) ∙ (sym (ap (has slash) first.is) ∙ none) in
+    let less : has slash (without_dividers part) ≡ false = (or_parts (has slash (without_dividers part)) (has slash first.taken_off) parts).0 in
+    let with_slash = found_with_slash (without_dividers part) found in
     cc
 
 none_found : (place : ℕ) (parts : List (List ℕ)) → has slash (joined parts) ≡ false → NoneFound (placed_from place parts)

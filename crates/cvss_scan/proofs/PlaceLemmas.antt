@@ -2,7 +2,7 @@
 use Rattle.std.proofs.Common.{◌≡◌, ℕ, ◌+◌, ◌≤◌, Bool, true, false, cond, not, ◌||◌, List, [], ◌∷◌, ◌++◌, length, take, drop, refl, sym, ap, ◌∙◌, append_assoc, arith, length-append, take_at, drop_at}
 use Rattle.std.specs.List.{All, list_all}
 use Rattle.std.proofs.lemmas.List.Elements.{All-nil, All-cons}
-use Rattle.cvss_scan.specs.Parts.{begins_part, is_divider, is_vector_byte, less_dividers, onto_first, parts_of}
+use Rattle.cvss_scan.specs.Parts.{begins_part, is_divider, is_vector_byte, without_dividers, onto_first, parts_of}
 use Rattle.cvss_scan.specs.Mentions.{mentions_of, placed_from}
 use Rattle.cvss_scan.specs.laws.Places.{AreInOrder, StandsIn}
 
@@ -25,7 +25,7 @@ joined-parts (byte ∷ rest) =
 -- a part begins with its mention
 pub record Begins (part : List ℕ) : Type 0 where
   pub taken_off : List ℕ
-  pub is : part ≡ less_dividers part ++ taken_off
+  pub is : part ≡ without_dividers part ++ taken_off
 
 begins_either : (all : Bool) (byte : ℕ) (rest less : List ℕ) (taken_off : List ℕ) → rest ≡ less ++ taken_off
     → (off : List ℕ) × (byte ∷ rest ≡ cond all [] (byte ∷ less) ++ off)
@@ -36,22 +36,22 @@ pub begins : (part : List ℕ) → Begins part
 begins [] = record { taken_off = []; is = refl }
 begins (byte ∷ rest) =
     let after = begins rest in
-    let found = begins_either (list_all is_divider (byte ∷ rest)) byte rest (less_dividers rest) after.taken_off after.is in
+    let found = begins_either (list_all is_divider (byte ∷ rest)) byte rest (without_dividers rest) after.taken_off after.is in
     record { taken_off = found.0; is = found.1 }
 
-shorter : (part : List ℕ) → length (less_dividers part) ≤ length part
-shorter part = let first = begins part in omega (arith, ap length first.is, length-append (less_dividers part) first.taken_off)
+shorter : (part : List ℕ) → length (without_dividers part) ≤ length part
+shorter part = let first = begins part in omega (arith, ap length first.is, length-append (without_dividers part) first.taken_off)
 
-stands : (text before part after : List ℕ) → text ≡ before ++ (part ++ after) → StandsIn text (record { place = length before; text = less_dividers part })
+stands : (text before part after : List ℕ) → text ≡ before ++ (part ++ after) → StandsIn text (record { place = length before; text = without_dividers part })
 stands text before part after is =
     let first = begins part in
-    let rest : part ++ after ≡ less_dividers part ++ (first.taken_off ++ after) =
-    ap (λ front. front ++ after) first.is ∙ append_assoc (less_dividers part) first.taken_off after in
+    let rest : part ++ after ≡ without_dividers part ++ (first.taken_off ++ after) =
+    ap (λ front. front ++ after) first.is ∙ append_assoc (without_dividers part) first.taken_off after in
     record {
       within = omega (arith, ap length is, length-append before (part ++ after), length-append part after, shorter part);
-      is = ap (λ bytes. take (length (less_dividers part)) (drop (length before) bytes)) is
-          ∙ ap (take (length (less_dividers part))) (drop_at before (part ++ after) (length before) refl ∙ rest)
-          ∙ take_at (less_dividers part) (first.taken_off ++ after) (length (less_dividers part)) refl;
+      is = ap (λ bytes. take (length (without_dividers part)) (drop (length before) bytes)) is
+          ∙ ap (take (length (without_dividers part))) (drop_at before (part ++ after) (length before) refl ∙ rest)
+          ∙ take_at (without_dividers part) (first.taken_off ++ after) (length (without_dividers part)) refl;
     }
 
 all_stand : (text before : List ℕ) (place : ℕ) (parts : List (List ℕ)) → place ≡ length before → text ≡ before ++ joined parts → All (StandsIn text) (placed_from place parts)

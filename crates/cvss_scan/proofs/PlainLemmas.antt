@@ -8,7 +8,7 @@ use Rattle.std.proofs.lemmas.Bool.Decides.{nat_tests}
 use Rattle.std.proofs.lemmas.List.Elements.{All-head, All-tail}
 use Rattle.std.proofs.lemmas.List.Folds.{list_all-append}
 use Rattle.cvss_base.specs.Text.{joined, uppercased, read_as, slash}
-use Rattle.cvss_scan.specs.Parts.{begins_with_prefix, is_divider, is_vector_byte, less_dividers}
+use Rattle.cvss_scan.specs.Parts.{begins_with_prefix, is_divider, is_vector_byte, without_dividers}
 use Rattle.cvss_scan.specs.laws.Whole.{IsWhole, has_second_prefix}
 use Rattle.cvss_scan.proofs.WholeLemmas.{starts_before}
 
@@ -110,11 +110,11 @@ not_dividers [] ends = cc
 not_dividers (byte ∷ []) ends = ap (λ divides. divides && true) (not-true (is_divider byte) ends)
 not_dividers (byte ∷ next ∷ rest) ends = ap (λ all. is_divider byte && all) (not_dividers (next ∷ rest) ends) ∙ and-false (is_divider byte)
 
-less_nothing : (text : List ℕ) → ends_whole text ≡ true → less_dividers text ≡ text
+less_nothing : (text : List ℕ) → ends_whole text ≡ true → without_dividers text ≡ text
 less_nothing [] ends = refl
 less_nothing (byte ∷ []) ends = ap (λ all. cond all [] (byte ∷ [])) (not_dividers (byte ∷ []) ends)
 less_nothing (byte ∷ next ∷ rest) ends =
-    ap (λ all. cond all [] (byte ∷ less_dividers (next ∷ rest))) (not_dividers (byte ∷ next ∷ rest) ends)
+    ap (λ all. cond all [] (byte ∷ without_dividers (next ∷ rest))) (not_dividers (byte ∷ next ∷ rest) ends)
     ∙ ap (λ more. byte ∷ more) (less_nothing (next ∷ rest) ends)
 
 pub IsWhole-plain : (text : List ℕ) → IsPlain text → IsWhole text

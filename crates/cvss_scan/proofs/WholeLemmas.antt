@@ -5,7 +5,7 @@ use Rattle.std.specs.List.{Contains, list_all, starts_with}
 use Rattle.std.proofs.lemmas.Bool.{and_parts, or_parts, ne_eqb}
 use Rattle.std.proofs.lemmas.List.Elements.{Contains-append_right}
 use Rattle.cvss_base.specs.Text.{has}
-use Rattle.cvss_scan.specs.Parts.{begins_part, begins_with_prefix, is_vector_byte, less_dividers, onto_first, parts_of}
+use Rattle.cvss_scan.specs.Parts.{begins_part, begins_with_prefix, is_vector_byte, without_dividers, onto_first, parts_of}
 use Rattle.cvss_scan.specs.Mentions.{Placed, mentions_of, placed_from}
 use Rattle.cvss_scan.specs.laws.Whole.{IsMentionedBetween, IsWhole, has_second_prefix, is_other, last_byte}
 use Rattle.cvss_scan.proofs.PlaceLemmas.{joined, joined-parts}
@@ -95,7 +95,7 @@ parts_after (byte ∷ next ∷ before) rest is =
 pub placed_after : (place : ℕ) (parts after : List (List ℕ)) → placed_from place (parts ++ after) ≡ placed_from place parts ++ placed_from (place + length (joined parts)) after
 placed_after place [] after = ap (λ at. placed_from at after) (omega arith)
 placed_after place (part ∷ parts) after =
-    ap (λ more. record { place = place; text = less_dividers part } ∷ more)
+    ap (λ more. record { place = place; text = without_dividers part } ∷ more)
     (placed_after (place + length part) parts after
     ∙ ap (λ at. placed_from (place + length part) parts ++ placed_from at after) (omega (arith, length-append part (joined parts))))
 

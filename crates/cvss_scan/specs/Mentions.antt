@@ -3,7 +3,7 @@ use Rattle.std.specs.Prelude.{◌≡◌, ℕ, ◌+◌, ◌⊎◌, true, List, []
 use Rattle.cvss_any.specs.Dispatch.{DenotesCvss}
 use Rattle.cvss_base.specs.Text.{has, slash}
 use Rattle.cvss_any.specs.declared.vector.Cvss.{Cvss}
-use Rattle.cvss_scan.specs.Parts.{begins_with_prefix, less_dividers, parts_of}
+use Rattle.cvss_scan.specs.Parts.{begins_with_prefix, without_dividers, parts_of}
 
 -- a mention, and the place of its first byte, counted from 0
 pub record Placed : Type 0 where
@@ -14,7 +14,7 @@ pub record Placed : Type 0 where
 abbrev pub placed_from : ℕ → List (List ℕ) → List Placed
 placed_from place [] = []
 placed_from place (part ∷ parts) =
-    record { place = place; text = less_dividers part } ∷ placed_from (place + length part) parts
+    record { place = place; text = without_dividers part } ∷ placed_from (place + length part) parts
 
 -- the mentions of a text
 abbrev pub mentions_of : List ℕ → List Placed

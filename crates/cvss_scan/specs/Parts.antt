@@ -35,7 +35,7 @@ parts_of (byte ∷ rest) =
     else onto_first byte (parts_of rest)
 
 -- a part less the dots, slashes and colons at its end
-abbrev pub less_dividers : List ℕ → List ℕ
-less_dividers [] = []
-less_dividers (byte ∷ rest) =
-    if list_all is_divider (byte ∷ rest) then [] else byte ∷ less_dividers rest
+abbrev pub without_dividers : List ℕ → List ℕ
+without_dividers [] = []
+without_dividers (byte ∷ rest) =
+    if list_all is_divider (byte ∷ rest) then [] else byte ∷ without_dividers rest

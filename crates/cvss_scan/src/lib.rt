@@ -9,4 +9,4 @@ mod passing;
 
 pub use mention::Mention;
 pub use mentions::Mentions;
-pub use part::{begins_with_prefix, first_part, is_vector_byte, less_dividers};
+pub use part::{begins_with_prefix, first_part, is_vector_byte, without_dividers};

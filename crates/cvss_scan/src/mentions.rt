@@ -7,7 +7,7 @@ ghost use Rattle.cvss_scan.specs.MentionsLeft.{IsNext, as_placed, mentions_after
 ghost use Rattle.cvss_scan.specs.private.Passing.{Passes};
 
 use crate::mention::{Mention, is_found};
-use crate::part::{first_part, is_vector_byte, less_dividers};
+use crate::part::{first_part, is_vector_byte, without_dividers};
 use crate::passing::no_slash;
 
 /// The mentions of a text that are found, in order. It takes no memory, and looks at each byte a
@@ -48,7 +48,7 @@ impl<'a> Mentions<'a> {
         self.place += length;
         Some(Mention {
             place,
-            text: less_dividers(&rest[..length]),
+            text: without_dividers(&rest[..length]),
         })
     }
 

@@ -1,7 +1,7 @@
 //! How a text is cut into parts.
 
 ghost use Rattle.std.specs.Prelude.{◌≡◌, ◌<◌, ◌≤◌, ◌∷◌, length, take, drop};
-ghost use Rattle.cvss_scan.specs.Parts.{begins_part, begins_with_prefix, is_divider, is_vector_byte, less_dividers, parts_of};
+ghost use Rattle.cvss_scan.specs.Parts.{begins_part, begins_with_prefix, is_divider, is_vector_byte, without_dividers, parts_of};
 
 /// The length of the first part of a text that has bytes.
 pub fn first_part(text: &[u8]) -> usize
@@ -61,8 +61,8 @@ fn is_divider(byte: u8) -> bool
 }
 
 /// A part less the dots, slashes and colons at its end.
-pub fn less_dividers(part: &[u8]) -> &[u8]
-    ensures { result.now ≡ less_dividers part.now }
+pub fn without_dividers(part: &[u8]) -> &[u8]
+    ensures { result.now ≡ without_dividers part.now }
 {
     let mut text = part;
     while let [front @ .., last] = text {

@@ -1,4 +1,4 @@
-pub mod AccountLemmas
+pub mod ExplanationLemmas
 pub mod ClassLemmas
 pub mod CountLemmas
 pub mod GroupLemmas

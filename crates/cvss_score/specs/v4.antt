@@ -1,4 +1,4 @@
-pub mod Account
+pub mod Explanation
 pub mod AsSevere
 pub mod Classes
 pub mod Distance

@@ -155,7 +155,7 @@ fn metrics_are_distinguished(rt: HostRuntime) {
 
 #[test]
 fn traits_give_the_types_of_metrics(rt: HostRuntime) {
-    use cvss::v3::metric::Spelled as _;
+    use cvss::v3::metric::MetricValue as _;
     use cvss::v3::{Metric, MetricType};
     use v3::metric::base::AttackVector;
     let of_v2 = <v2::metric::base::AccessVector as v2::Metric>::TYPE;

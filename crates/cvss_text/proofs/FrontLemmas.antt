@@ -8,7 +8,7 @@ use Rattle.cvss_text.specs.declared.walk.Fault.{Fault}
 use Rattle.cvss_base.specs.Text.{slash, pieces, joined, value_part, IsComponent}
 use Rattle.cvss_base.specs.Version.{Version, Denotes, IsComplete, AreComponentsOf, version_piece, IsWellFormed}
 use Rattle.cvss_base.specs.Refusal.{Refusal, BadComponent, BadPiecesFirst, WrongPrefix, WrongVersion, AreComponentsBefore, IsFirstBadPiece, piece_at, IsReasonAfter, IsFirstRefusalAfter, ReportsVersion}
-use Rattle.cvss_base.specs.private.Component.{foreign_bytes}
+use Rattle.cvss_base.specs.private.Component.{delimiter_bytes}
 use Rattle.cvss_text.specs.private.Walk.{VersionLaws, IsFirstOfPieces, HasRead, reason_of, FrontLaws, IsAnswer, IsFrontFault, IsStarted, IsPrintable}
 use Rattle.cvss_text.proofs.DenotesLemmas.{vectors_same, pieces_of_complete, no_reason, pieces_of_denoted}
 use Rattle.cvss_text.proofs.JoinLemmas.{are_parts, IsUtf8-parts}
@@ -91,7 +91,7 @@ module _ {V K : Type 0} {version : Version V K} (version_laws : VersionLaws vers
   IsAnswer-read begun (Err fault) all front complete refused printable = IsAnswer-refused fault (begun.reasons (reason_of version fault) refused) printable
 
 module _ {V K : Type 0} (version : Version V K) where
-  front_parts : (v : V) (reported : List ℕ) → version.front v ≡ version_piece reported ∷ [] → foreign_bytes reported ≡ 0 → All IsPart (version.front v)
+  front_parts : (v : V) (reported : List ℕ) → version.front v ≡ version_piece reported ∷ [] → delimiter_bytes reported ≡ 0 → All IsPart (version.front v)
   front_parts v reported front_is plain = subst (All IsPart) (sym front_is) (All-cons IsPart (version_piece reported) [] (IsPart-component (codes "CVSS") reported refl plain) (All-nil IsPart))
 
   piece_reports : (reported : List ℕ) → Contains version.supported reported → ReportsVersion version (version_piece reported)
@@ -100,16 +100,16 @@ module _ {V K : Type 0} (version : Version V K) where
     supported = subst (Contains version.supported) (sym (value_part-component (codes "CVSS") reported refl)) supported;
   }
 
-  reported_plain : FrontLaws version → (reported : List ℕ) → Contains version.supported reported → foreign_bytes reported ≡ 0
+  reported_plain : FrontLaws version → (reported : List ℕ) → Contains version.supported reported → delimiter_bytes reported ≡ 0
   reported_plain front reported (place, within, is) =
-      sym (ap foreign_bytes is)
-      ∙ (sym (get_or-map foreign_bytes version.supported place reported 0 within)
+      sym (ap delimiter_bytes is)
+      ∙ (sym (get_or-map delimiter_bytes version.supported place reported 0 within)
       ∙ (ap (λ list. get_or list place 0) front.plain
       ∙ get_or-map (λ _. 0) version.supported place reported 0 within))
 
 module _ {V K : Type 0} (version : Version V K) (version_laws : VersionLaws version) (front : FrontLaws version) (text : List ℕ) where
   -- the pieces of a text that denotes a vector
-  pub pieces_denoted_after : (v : V) (denotes : Denotes version text v) (reported : List ℕ) → version.front v ≡ version_piece reported ∷ [] → foreign_bytes reported ≡ 0 → pieces text ≡ version_piece reported ∷ denotes.parts
+  pub pieces_denoted_after : (v : V) (denotes : Denotes version text v) (reported : List ℕ) → version.front v ≡ version_piece reported ∷ [] → delimiter_bytes reported ≡ 0 → pieces text ≡ version_piece reported ∷ denotes.parts
   pieces_denoted_after v denotes reported front_is plain =
       pieces_of_denoted version version_laws v text denotes (front_parts version v reported front_is plain) (rw front_is (omega arith))
       ∙ ap (λ front. front ++ denotes.parts) front_is

@@ -8,13 +8,13 @@ use Rattle.cvss_base.specs.Text.{slash, pieces, joined, IsComponent}
 use Rattle.cvss_base.specs.Version.{Version, AreComponentsOf}
 use Rattle.cvss_base.specs.Refusal.{piece_at}
 use Rattle.cvss_text.specs.private.Walk.{VersionLaws}
-use Rattle.cvss_text.proofs.TextLemmas.{is_slash, IsPart, IsPart-read, IsPart-component, All-from_count, foreign_bytes-read, foreign_sorts}
+use Rattle.cvss_text.proofs.TextLemmas.{is_slash, IsPart, IsPart-read, IsPart-component, All-from_count, delimiter_bytes-read, delimiter_sorts}
 use Rattle.cvss_text.proofs.LawLemmas.{name_plain}
 use Rattle.cvss_text.proofs.ComponentLemmas.{piece_held}
 
 -- the pieces of a join are the list that was joined
 uncut : (part : List ℕ) → IsPart part → All (λ byte. is_slash byte ≡ false) part
-uncut part is = All-from_count is_slash part (omega (arith, foreign_sorts part, is.one_colon, is.one_foreign))
+uncut part is = All-from_count is_slash part (omega (arith, delimiter_sorts part, is.one_colon, is.one_delimiter))
 
 pub pieces-joined : (parts : List (List ℕ)) → 0 < length parts → All IsPart parts → pieces (joined parts) ≡ parts
 pieces-joined [] some are = absurd (omega arith)
@@ -28,7 +28,7 @@ pub none_beyond : (text : List ℕ) → count_by (ltb 127) text ≡ 0 → IsAsci
 none_beyond text none = IsAscii-from_all text (λ k d inside. omega (arith, ltb-false 127 _ (All-from_count (ltb 127) text none k d inside)))
 
 pub IsUtf8-part : (part : List ℕ) → IsPart part → IsUtf8 part
-IsUtf8-part part is = IsUtf8-from_ascii part (none_beyond part (omega (arith, foreign_sorts part, is.one_colon, is.one_foreign)))
+IsUtf8-part part is = IsUtf8-from_ascii part (none_beyond part (omega (arith, delimiter_sorts part, is.one_colon, is.one_delimiter)))
 
 -- texts in UTF-8 with slashes between them
 IsUtf8-joined : (parts : List (List ℕ)) → All IsUtf8 parts → IsUtf8 (joined parts)
@@ -45,7 +45,7 @@ module _ {V K : Type 0} (version : Version V K) (version_laws : VersionLaws vers
   pub are_parts : All IsPart parts
   are_parts = All-from_get_or IsPart parts [] (λ place within.
       let held = piece_held version version_laws v parts place components within in
-      let plain = foreign_bytes-read version.any_case (version.spelling held.kind held.value) ∙ version_laws.spelling_plain held.kind held.value in
+      let plain = delimiter_bytes-read version.any_case (version.spelling held.kind held.value) ∙ version_laws.spelling_plain held.kind held.value in
       IsPart-read version.any_case (piece_at parts place) (rw held.is (IsPart-component (version.name held.kind) _ (name_plain version version_laws held.kind) plain)))
 
   pub piece_is_component : (place : ℕ) → place < length parts → IsComponent (piece_at parts place)

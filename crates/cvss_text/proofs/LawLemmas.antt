@@ -7,10 +7,10 @@ use Rattle.std.proofs.lemmas.Option.{slice_get-map, slice_get_within, get_or_fro
 use Rattle.std.proofs.lemmas.Slice.Eq.{bytes_eq-Decides}
 use Rattle.cvss_base.specs.Text.{component, name_part, value_part}
 use Rattle.cvss_base.specs.Version.{Version, read}
-use Rattle.cvss_base.specs.private.Component.{foreign_bytes}
+use Rattle.cvss_base.specs.private.Component.{delimiter_bytes}
 use Rattle.cvss_text.specs.private.Walk.{VersionLaws, IsCut, place_of}
 use Rattle.cvss_base.proofs.FindLemmas.{found_passes, not_found}
-use Rattle.cvss_text.proofs.TextLemmas.{read-component, foreign_bytes-read, name_part-component, value_part-component}
+use Rattle.cvss_text.proofs.TextLemmas.{read-component, delimiter_bytes-read, name_part-component, value_part-component}
 
 -- the printing order, cut at one metric, which stands nowhere else
 pub record IsCutAt {K : Type 0} (printed : List K) (kind : K) : Type 0 where
@@ -32,8 +32,8 @@ module _ {V K : Type 0} (version : Version V K) (version_laws : VersionLaws vers
   pub name_read : (kind : K) → read version (version.name kind) ≡ version.name kind
   name_read = at_each (λ kind. read version (version.name kind)) version.name version_laws.names_read
 
-  pub name_plain : (kind : K) → foreign_bytes (version.name kind) ≡ 0
-  name_plain = at_each (λ kind. foreign_bytes (version.name kind)) (λ _. 0) version_laws.names_plain
+  pub name_plain : (kind : K) → delimiter_bytes (version.name kind) ≡ 0
+  name_plain = at_each (λ kind. delimiter_bytes (version.name kind)) (λ _. 0) version_laws.names_plain
 
   pub names_differ : (kind other : K) → version.name kind ≡ version.name other → kind ≡ other
   names_differ kind other same =
@@ -79,7 +79,7 @@ module _ {V K : Type 0} (version : Version V K) (version_laws : VersionLaws vers
   -- a piece that begins with a metric's name and a colon is cut there
   pub IsCut_named : (piece name value : List ℕ) (kind : K) → piece ≡ component name value → version.name kind ≡ read version name → IsCut version piece kind value
   IsCut_named piece name value kind is named =
-      let plain : foreign_bytes name ≡ 0 = sym (foreign_bytes-read version.any_case name) ∙ (ap foreign_bytes (sym named) ∙ name_plain kind) in
+      let plain : delimiter_bytes name ≡ 0 = sym (delimiter_bytes-read version.any_case name) ∙ (ap delimiter_bytes (sym named) ∙ name_plain kind) in
       let is_name : name_part piece ≡ name = ap name_part is ∙ name_part-component name value plain in
       record {
         named = named ∙ ap (read version) (sym is_name);

@@ -14,6 +14,6 @@ pub mod PrintLemmas
 pub mod PutLemmas
 pub mod RefusalLemmas
 pub mod SettingLemmas
-pub mod SightLemmas
+pub mod FastPathLemmas
 pub mod TextLemmas
 pub mod WalkLemmas

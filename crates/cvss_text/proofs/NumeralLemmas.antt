@@ -5,7 +5,7 @@ use Rattle.std.proofs.lemmas.Bool.Decides.{nat_tests}
 use Rattle.std.proofs.lemmas.Fmt.{decimal_digit, decimal-digits_of}
 use Rattle.std.proofs.lemmas.Int.Digits.{all_below_base_digits_of, number_digits_of}
 use Rattle.cvss_base.specs.Version.{numeral}
-use Rattle.cvss_base.specs.private.Component.{is_foreign, foreign_bytes}
+use Rattle.cvss_base.specs.private.Component.{is_delimiter, delimiter_bytes}
 use Rattle.cvss_text.proofs.TextLemmas.{count_by-cons}
 
 -- what std writes of a number
@@ -29,16 +29,16 @@ pub numeral-injective : (m n : ℕ) → numeral m ≡ numeral n → m ≡ n
 numeral-injective m n same =
     sym (number_back m) ∙ (ap (λ text. number_from_digits 10 (map (λ c. c - 48) text)) same ∙ number_back n)
 
-digit_plain : (digit : ℕ) → digit < 10 → is_foreign (48 + digit) ≡ false
+digit_plain : (digit : ℕ) → digit < 10 → is_delimiter (48 + digit) ≡ false
 digit_plain digit below = grind (arith, nat_tests)
 
-digits_plain : (digits : List ℕ) → AllBelowBase 10 digits → foreign_bytes (map (λ digit. 48 + digit) digits) ≡ 0
+digits_plain : (digits : List ℕ) → AllBelowBase 10 digits → delimiter_bytes (map (λ digit. 48 + digit) digits) ≡ 0
 digits_plain [] all = refl
 digits_plain (digit ∷ digits) all =
     let plain = digit_plain digit all.0 in
-    count_by-cons is_foreign (48 + digit) (map (λ each. 48 + each) digits) ∙ rw (plain, zero-add) (digits_plain digits all.1)
+    count_by-cons is_delimiter (48 + digit) (map (λ each. 48 + each) digits) ∙ rw (plain, zero-add) (digits_plain digits all.1)
 
--- no digit is a foreign byte
-pub numeral-plain : (n : ℕ) → foreign_bytes (numeral n) ≡ 0
+-- no digit is a delimiter byte
+pub numeral-plain : (n : ℕ) → delimiter_bytes (numeral n) ≡ 0
 numeral-plain zero = refl
 numeral-plain (suc n) = digits_plain (digits_of 10 (suc n)) (all_below_base_digits_of 10 (suc n) (omega arith))

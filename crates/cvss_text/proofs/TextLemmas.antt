@@ -9,7 +9,7 @@ use Rattle.std.proofs.lemmas.List.Elements.{All-head, All-tail}
 use Rattle.std.proofs.lemmas.List.Folds.{fold-map}
 use Rattle.std.proofs.lemmas.List.Sums.{sum_by-cons, sum_by-append, get_or-le-sum_by, split_at_first, passes_at_first, fails_before_first, position_or_len_is}
 use Rattle.cvss_base.specs.Text.{slash, colon, IsComponent, name_part, value_part, component, uppercased, read_as}
-use Rattle.cvss_base.specs.private.Component.{is_foreign, foreign_bytes}
+use Rattle.cvss_base.specs.private.Component.{is_delimiter, delimiter_bytes}
 
 abbrev pub is_slash : ℕ → Bool
 is_slash byte = eqb byte slash
@@ -17,17 +17,17 @@ is_slash byte = eqb byte slash
 abbrev pub is_colon : ℕ → Bool
 is_colon byte = eqb byte colon
 
--- the piece has one colon, and no other foreign byte
+-- the piece has one colon, and no other delimiter byte
 pub record IsPart (piece : List ℕ) : Type 0 where
   pub one_colon : count_by is_colon piece ≡ 1
-  pub one_foreign : foreign_bytes piece ≡ 1
+  pub one_delimiter : delimiter_bytes piece ≡ 1
 
--- raising letters makes and takes no colon, and no foreign byte
+-- raising letters makes and takes no colon, and no delimiter byte
 uppercased_colon : (byte : ℕ) → is_colon (to_ascii_uppercase byte) ≡ is_colon byte
 uppercased_colon byte = grind (arith, nat_tests)
 
-uppercased_foreign : (byte : ℕ) → is_foreign (to_ascii_uppercase byte) ≡ is_foreign byte
-uppercased_foreign byte = grind (arith, nat_tests)
+uppercased_delimiter : (byte : ℕ) → is_delimiter (to_ascii_uppercase byte) ≡ is_delimiter byte
+uppercased_delimiter byte = grind (arith, nat_tests)
 
 -- a test that does not see whether letters are raised
 module _ (p : ℕ → Bool) (keeps : (byte : ℕ) → p (to_ascii_uppercase byte) ≡ p byte) where
@@ -51,14 +51,14 @@ pub value_part-read : (any_case : Bool) (piece : List ℕ) → value_part (read_
 value_part-read true piece = rw (position-uppercased is_colon uppercased_colon piece) (drop-map to_ascii_uppercase _ piece)
 value_part-read false piece = refl
 
-pub foreign_bytes-read : (any_case : Bool) (piece : List ℕ) → foreign_bytes (read_as any_case piece) ≡ foreign_bytes piece
-foreign_bytes-read true piece = count_by-uppercased is_foreign uppercased_foreign piece
-foreign_bytes-read false piece = refl
+pub delimiter_bytes-read : (any_case : Bool) (piece : List ℕ) → delimiter_bytes (read_as any_case piece) ≡ delimiter_bytes piece
+delimiter_bytes-read true piece = count_by-uppercased is_delimiter uppercased_delimiter piece
+delimiter_bytes-read false piece = refl
 
 pub IsPart-read : (any_case : Bool) (piece : List ℕ) → IsPart (read_as any_case piece) → IsPart piece
 IsPart-read true piece is = record {
   one_colon = sym (count_by-uppercased is_colon uppercased_colon piece) ∙ is.one_colon;
-  one_foreign = sym (foreign_bytes-read true piece) ∙ is.one_foreign;
+  one_delimiter = sym (delimiter_bytes-read true piece) ∙ is.one_delimiter;
 }
 IsPart-read false piece is = is
 
@@ -89,14 +89,14 @@ module _ (p : ℕ → Bool) where
     | inr past ↦ absurd (omega (arith, count_by-none p text (λ k d inside. fails_before_first p text k d (omega arith))))
   ]
 
--- a foreign byte is a slash, a colon or beyond ASCII
-one_sort : (byte : ℕ) → cond {A = ℕ} (is_foreign byte) 1 0 ≡ cond {A = ℕ} (is_slash byte) 1 0 + cond {A = ℕ} (is_colon byte) 1 0 + cond {A = ℕ} (ltb 127 byte) 1 0
+-- a delimiter byte is a slash, a colon or beyond ASCII
+one_sort : (byte : ℕ) → cond {A = ℕ} (is_delimiter byte) 1 0 ≡ cond {A = ℕ} (is_slash byte) 1 0 + cond {A = ℕ} (is_colon byte) 1 0 + cond {A = ℕ} (ltb 127 byte) 1 0
 one_sort byte = grind (arith, nat_tests)
 
-pub foreign_sorts : (text : List ℕ) → foreign_bytes text ≡ count_by is_slash text + count_by is_colon text + count_by (ltb 127) text
-foreign_sorts [] = refl
-foreign_sorts (byte ∷ text) =
-    omega (arith, one_sort byte, foreign_sorts text, count_by-cons is_foreign byte text, count_by-cons is_slash byte text, count_by-cons is_colon byte text, count_by-cons (ltb 127) byte text)
+pub delimiter_sorts : (text : List ℕ) → delimiter_bytes text ≡ count_by is_slash text + count_by is_colon text + count_by (ltb 127) text
+delimiter_sorts [] = refl
+delimiter_sorts (byte ∷ text) =
+    omega (arith, one_sort byte, delimiter_sorts text, count_by-cons is_delimiter byte text, count_by-cons is_slash byte text, count_by-cons is_colon byte text, count_by-cons (ltb 127) byte text)
 
 -- a component whose name has no colon is cut there
 module _ (name value : List ℕ) (no_colon : count_by is_colon name ≡ 0) where
@@ -109,20 +109,20 @@ module _ (name value : List ℕ) (no_colon : count_by is_colon name ≡ 0) where
   pub value_after : value_part (component name value) ≡ value
   value_after = rw colon_place (sym (drop-drop 1 (length name) (component name value)) ∙ ap (drop 1) (drop_at name (colon ∷ value) (length name) refl))
 
-module _ (name value : List ℕ) (name_plain : foreign_bytes name ≡ 0) where
+module _ (name value : List ℕ) (name_plain : delimiter_bytes name ≡ 0) where
   pub name_part-component : name_part (component name value) ≡ name
-  name_part-component = name_before name value (omega (arith, foreign_sorts name))
+  name_part-component = name_before name value (omega (arith, delimiter_sorts name))
 
   pub value_part-component : value_part (component name value) ≡ value
-  value_part-component = value_after name value (omega (arith, foreign_sorts name))
+  value_part-component = value_after name value (omega (arith, delimiter_sorts name))
 
   counted : (p : ℕ → Bool) → count_by p (component name value) ≡ count_by p name + (cond (p colon) 1 0 + count_by p value)
   counted p = sum_by-append (λ x. cond (p x) 1 0) name (colon ∷ value) ∙ ap (λ n. count_by p name + n) (count_by-cons p colon value)
 
-  pub IsPart-component : foreign_bytes value ≡ 0 → IsPart (component name value)
+  pub IsPart-component : delimiter_bytes value ≡ 0 → IsPart (component name value)
   IsPart-component value_plain = record {
-    one_colon = omega (arith, counted is_colon, foreign_sorts name, foreign_sorts value);
-    one_foreign = omega (arith, counted is_foreign);
+    one_colon = omega (arith, counted is_colon, delimiter_sorts name, delimiter_sorts value);
+    one_delimiter = omega (arith, counted is_delimiter);
   }
 
 -- a piece with a colon is its name, the colon and its value

@@ -10,9 +10,9 @@ use Rattle.std.proofs.lemmas.List.Sorted.{IsPermutation-refl}
 use Rattle.cvss_base.specs.Text.{colon, pieces, IsComponent, name_part, value_part, component}
 use Rattle.cvss_base.specs.Version.{Version, read, component_of, AreComponentsOf, reading}
 use Rattle.cvss_base.specs.Refusal.{Refusal, AreComponentsBefore, BadComponent, UnknownName, BadValue, Repeated, Missing, Spells, piece_at, FaultAt, IsNamedBefore, IsFirstBadPiece, IsFirstMissing}
-use Rattle.cvss_base.specs.private.Component.{foreign_bytes}
+use Rattle.cvss_base.specs.private.Component.{delimiter_bytes}
 use Rattle.cvss_text.specs.private.Walk.{VersionLaws, IsCut, IsCutFirst, IsReadFirst, IsFirstOfPieces, HasNoValue, Puts, Adds, HasRead, IsFaultOf, LacksFirst}
-use Rattle.cvss_text.proofs.TextLemmas.{is_slash, All-from_count, name_part-read, value_part-read, name_part-component, value_part-component, foreign_bytes-read, foreign_sorts, IsPart-component}
+use Rattle.cvss_text.proofs.TextLemmas.{is_slash, All-from_count, name_part-read, value_part-read, name_part-component, value_part-component, delimiter_bytes-read, delimiter_sorts, IsPart-component}
 use Rattle.cvss_text.proofs.LawLemmas.{name_plain, names_differ, IsCut_named}
 use Rattle.cvss_text.proofs.ComponentLemmas.{adds_component, held_stands, piece_held}
 
@@ -31,9 +31,9 @@ onto_first_piece (byte ∷ front) rest first after none found =
     slice_split-cons_no is_slash byte (front ++ rest) (All-head (λ each. is_slash each ≡ false) byte front none)
     ∙ ap (onto_first byte) (onto_first_piece front rest first after (All-tail (λ each. is_slash each ≡ false) byte front none) found)
 
-pieces-after : (name rest value : List ℕ) (after : List (List ℕ)) → foreign_bytes name ≡ 0 → pieces rest ≡ value ∷ after → pieces (component name rest) ≡ component name value ∷ after
+pieces-after : (name rest value : List ℕ) (after : List (List ℕ)) → delimiter_bytes name ≡ 0 → pieces rest ≡ value ∷ after → pieces (component name rest) ≡ component name value ∷ after
 pieces-after name rest value after plain found =
-    onto_first_piece name (colon ∷ rest) (colon ∷ value) after (All-from_count is_slash name (omega (arith, foreign_sorts name, plain)))
+    onto_first_piece name (colon ∷ rest) (colon ∷ value) after (All-from_count is_slash name (omega (arith, delimiter_sorts name, plain)))
     (slice_split-cons_no is_slash colon rest refl ∙ ap (onto_first colon) found)
 
 -- the vector holds the components before those that are left, none of which has a fault
@@ -91,7 +91,7 @@ module _ {V K : Type 0} (version : Version V K) (version_laws : VersionLaws vers
   pub IsCutFirst-after : (text rest value : List ℕ) (kind : K) (after : List (List ℕ)) → IsCut version text kind rest → pieces rest ≡ value ∷ after → IsCutFirst version text kind value after
   IsCutFirst-after text rest value kind after is found =
       let name = name_part text in
-      let plain : foreign_bytes name ≡ 0 = sym (foreign_bytes-read version.any_case name) ∙ (ap foreign_bytes (sym is.named) ∙ name_plain version version_laws kind) in
+      let plain : delimiter_bytes name ≡ 0 = sym (delimiter_bytes-read version.any_case name) ∙ (ap delimiter_bytes (sym is.named) ∙ name_plain version version_laws kind) in
       record {
         piece = component name value;
         first = ap pieces is.cut ∙ pieces-after name rest value after plain found;
@@ -104,8 +104,8 @@ module _ {V K : Type 0} (version : Version V K) (version_laws : VersionLaws vers
       let name = name_part piece in
       let spelling = version.spelling kind puts.fills.value in
       let part = IsPart-component name value
-      (sym (foreign_bytes-read version.any_case name) ∙ (ap foreign_bytes (sym is.named) ∙ name_plain version version_laws kind))
-      (sym (foreign_bytes-read version.any_case value) ∙ (ap foreign_bytes (sym puts.fills.spelled) ∙ (foreign_bytes-read version.any_case spelling ∙ version_laws.spelling_plain kind puts.fills.value))) in
+      (sym (delimiter_bytes-read version.any_case name) ∙ (ap delimiter_bytes (sym is.named) ∙ name_plain version version_laws kind))
+      (sym (delimiter_bytes-read version.any_case value) ∙ (ap delimiter_bytes (sym puts.fills.spelled) ∙ (delimiter_bytes-read version.any_case spelling ∙ version_laws.spelling_plain kind puts.fills.value))) in
       subst IsComponent (sym is.cut) (record { one_colon = part.one_colon })
 
   -- the start, a step and the end of the walk

@@ -5,11 +5,11 @@
 
 pub mod buffer;
 pub mod cutting;
+pub mod fast_path;
 pub mod front;
 pub mod metrics;
 pub mod pieces;
 pub mod print;
 pub mod refusing;
 pub mod setting;
-pub mod sight;
 pub mod walk;

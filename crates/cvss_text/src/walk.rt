@@ -13,7 +13,7 @@ use crate::pieces::{Pieces, first_bad_piece, pieces_of};
 
 /// Why a value does not go into a vector.
 #[derive(Drop)]
-pub enum Slip {
+pub enum ComponentError {
     /// The metric has no such value.
     Invalid,
     /// The vector has a value of this metric.
@@ -67,7 +67,7 @@ pub trait Components: Copy {
         ensures { result ≡ version.reported_kind kind };
 
     /// Puts a value into its place, which has to be empty.
-    fn put(&mut self, kind: Self::Kind, value: &[u8]) -> Result<(), Slip>
+    fn put(&mut self, kind: Self::Kind, value: &[u8]) -> Result<(), ComponentError>
         ensures { IsPut version self.old kind (read version value.now) result self.new };
 
     /// The first metric that every vector has and this one lacks.
@@ -80,17 +80,17 @@ pub trait Components: Copy {
 /// Puts the value that was read of a text into its place, which has to be empty. None was read where
 /// the text spells no value.
 #[inline(always)]
-pub fn fill_place<M: Copy>(place: &mut Option<M>, read: Option<M>) -> Result<(), Slip>
+pub fn fill_place<M: Copy>(place: &mut Option<M>, read: Option<M>) -> Result<(), ComponentError>
     ensures { (spelling : M → List ℕ) (text : List ℕ)
         → IfSome read (λ value. spelling value ≡ text)
         → ((value : M) → spelling value ≡ text → read ≡ Some value)
         → IsFilled spelling place.old text result place.new }
 {
     let Some(value) = read else {
-        return Err(Slip::Invalid);
+        return Err(ComponentError::Invalid);
     };
     if place.is_some() {
-        return Err(Slip::Repeated);
+        return Err(ComponentError::Repeated);
     }
     *place = Some(value);
     Ok(())
@@ -125,8 +125,8 @@ fn put_component<'a, V: Components>(
 {
     match vector.put(kind, value) {
         Ok(()) => Ok(()),
-        Err(Slip::Invalid) => Err(Fault::InvalidMetric(V::reported_kind(kind), value)),
-        Err(Slip::Repeated) => Err(Fault::DuplicateMetric(kind)),
+        Err(ComponentError::Invalid) => Err(Fault::InvalidMetric(V::reported_kind(kind), value)),
+        Err(ComponentError::Repeated) => Err(Fault::DuplicateMetric(kind)),
     }
 }
 

@@ -2,14 +2,14 @@
 
 ghost use Rattle.std.specs.Prelude.{◌≡◌, ◌↔◌, IsTrue, IfSome, IsSome, IfOk, IfErr, IsErrAnd, Some, Ok};
 
-mod account;
 mod cutting;
+mod explanation;
+mod fast_path;
 mod listing;
 mod printing;
 mod reading;
 mod refusing;
 mod scores;
-mod sight;
 mod weighing;
 
 use cvss_base::Error;

@@ -22,7 +22,7 @@ const THOUSANDTH: i128 = 1_000_000_000_000_000_000_000;
 
 /// What stands in vectors as a component: how values are spelled, read from their spelling, and
 /// weighed.
-pub trait Spelled: Copy + 'static {
+pub trait MetricValue: Copy + 'static {
     /// Which metric this is, the same as `Metric::TYPE`.
     const KIND: MetricType;
 
@@ -83,7 +83,7 @@ pub trait Spelled: Copy + 'static {
 
 /// A metric: an enum of the values that the guide gives for its type, which are compared.
 // A trait of its own, so that the proof of whoever reads or prints a vector loads no comparison.
-pub trait Metric: Spelled + Eq + Ord + fmt::Debug + fmt::Display {
+pub trait Metric: MetricValue + Eq + Ord + fmt::Debug + fmt::Display {
     /// Which metric this is.
     const TYPE: MetricType;
 
@@ -150,7 +150,7 @@ pub trait Metric: Spelled + Eq + Ord + fmt::Debug + fmt::Display {
 
 /// How a value is spelled in a vector.
 #[inline(always)]
-fn spelling<M: Spelled>(value: M) -> &'static [u8]
+fn spelling<M: MetricValue>(value: M) -> &'static [u8]
     ensures { result.now ≡ spelling_of M.KIND (M.value value) }
 {
     value

@@ -5,7 +5,7 @@ ghost use Rattle.std.proofs.Common.{rules};
 ghost use Rattle.cvss_base.specs.declared.v2.MetricType.TheVariants.{E, RL, RC};
 ghost use Rattle.cvss_v2_metric.specs.Table.{metric_component};
 
-use crate::metric::{Metric, MetricType, Spelled};
+use crate::metric::{Metric, MetricType, MetricValue};
 use std::fmt;
 
 /// How far techniques or code to exploit are developed (guide, section 2.2.1).
@@ -26,7 +26,7 @@ impl Metric for Exploitability {
     ghost law = { Prim.search rules };
 }
 
-impl Spelled for Exploitability {
+impl MetricValue for Exploitability {
     const KIND: MetricType = MetricType::E;
 
     ghost KIND = { E };
@@ -77,7 +77,7 @@ impl Metric for RemediationLevel {
     ghost law = { Prim.search rules };
 }
 
-impl Spelled for RemediationLevel {
+impl MetricValue for RemediationLevel {
     const KIND: MetricType = MetricType::RL;
 
     ghost KIND = { RL };
@@ -133,7 +133,7 @@ impl Metric for ReportConfidence {
     ghost law = { Prim.search rules };
 }
 
-impl Spelled for ReportConfidence {
+impl MetricValue for ReportConfidence {
     const KIND: MetricType = MetricType::RC;
 
     ghost KIND = { RC };

@@ -22,7 +22,7 @@ pub(crate) const HUNDREDTH: i128 = 10_000_000_000_000_000_000_000;
 
 /// What stands in vectors as a component: how values are spelled, read from their spelling, and
 /// weighed.
-pub trait Spelled: Copy + 'static {
+pub trait MetricValue: Copy + 'static {
     /// Which metric this is, the same as `Metric::TYPE`.
     const KIND: MetricType;
 
@@ -91,7 +91,7 @@ pub trait Spelled: Copy + 'static {
 
 /// A metric: an enum of the values that the specification gives for its type, which are compared.
 // A trait of its own, so that the proof of whoever reads or prints a vector loads no comparison.
-pub trait Metric: Spelled + Eq + Ord + fmt::Debug + fmt::Display {
+pub trait Metric: MetricValue + Eq + Ord + fmt::Debug + fmt::Display {
     /// Which metric this is.
     const TYPE: MetricType;
 

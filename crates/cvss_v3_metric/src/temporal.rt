@@ -5,7 +5,7 @@ ghost use Rattle.std.proofs.Common.{rules};
 ghost use Rattle.cvss_base.specs.declared.v3.MetricType.TheVariants.{E, RL, RC};
 ghost use Rattle.cvss_v3_metric.specs.Table.{metric_component};
 
-use crate::metric::{Metric, MetricType, Spelled};
+use crate::metric::{Metric, MetricType, MetricValue};
 use std::fmt;
 
 /// How far techniques or code to exploit are developed (v3.1 specification, section 3.1).
@@ -18,7 +18,7 @@ pub enum ExploitCodeMaturity {
     Unproven,
 }
 
-impl Spelled for ExploitCodeMaturity {
+impl MetricValue for ExploitCodeMaturity {
     const KIND: MetricType = MetricType::E;
 
     ghost KIND = { E };
@@ -80,7 +80,7 @@ pub enum RemediationLevel {
     OfficialFix,
 }
 
-impl Spelled for RemediationLevel {
+impl MetricValue for RemediationLevel {
     const KIND: MetricType = MetricType::RL;
 
     ghost KIND = { RL };
@@ -141,7 +141,7 @@ pub enum ReportConfidence {
     Unknown,
 }
 
-impl Spelled for ReportConfidence {
+impl MetricValue for ReportConfidence {
     const KIND: MetricType = MetricType::RC;
 
     ghost KIND = { RC };

@@ -5,6 +5,6 @@ pub mod laws;
 pub mod overrides;
 mod vector;
 
-pub use cvss_score::v4::scoring::account::Account;
+pub use cvss_score::v4::scoring::explanation::Explanation;
 pub use cvss_score::v4::{Nomenclature, Score};
 pub use vector::{Metrics, OverrideError, Vector};

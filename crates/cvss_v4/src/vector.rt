@@ -2,6 +2,7 @@
 
 ghost use Rattle.std.specs.Prelude.{◌≡◌, ◌↔◌, IsTrue, IfSome, IsSome, IfOk, IfErr, IsErrAnd, Some, Ok};
 
+mod fast_path;
 mod groups;
 mod listing;
 mod merging;
@@ -11,7 +12,6 @@ mod printing;
 mod reading;
 mod refusing;
 mod scores;
-mod sight;
 
 use cvss_base::Error;
 use cvss_text::front::read_after;

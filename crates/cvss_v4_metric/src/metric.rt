@@ -19,7 +19,7 @@ use std::alloc::Global;
 use std::fmt;
 
 /// What stands in vectors as a component: how values are spelled, read from their spelling.
-pub trait Spelled: Copy + 'static {
+pub trait MetricValue: Copy + 'static {
     /// Which metric this is, the same as `Metric::TYPE`.
     const KIND: MetricType;
 
@@ -76,7 +76,7 @@ pub trait Spelled: Copy + 'static {
 
 /// A metric: an enum of the values that the specification gives for its type, which are compared.
 // A trait of its own, so that the proof of whoever reads or prints a vector loads no comparison.
-pub trait Metric: Spelled + Eq + Ord + Default + fmt::Debug + fmt::Display {
+pub trait Metric: MetricValue + Eq + Ord + Default + fmt::Debug + fmt::Display {
     /// Which metric this is.
     const TYPE: MetricType;
 
@@ -153,7 +153,7 @@ pub trait Metric: Spelled + Eq + Ord + Default + fmt::Debug + fmt::Display {
 
 /// How a value is spelled in a vector.
 #[inline(always)]
-fn spelling<M: Spelled>(value: M) -> &'static [u8]
+fn spelling<M: MetricValue>(value: M) -> &'static [u8]
     ensures { result.now ≡ spelling_at M.KIND (M.rank value) }
 {
     value

@@ -6,7 +6,7 @@ ghost use Rattle.cvss_base.specs.declared.v4.MetricType.TheVariants as metric;
 ghost use Rattle.cvss_v4_metric.specs.Ranks as place;
 ghost use Rattle.cvss_v4_metric.specs.Table.{metric_component};
 
-use crate::metric::{Metric, MetricType, Spelled};
+use crate::metric::{Metric, MetricType, MetricValue};
 use std::fmt;
 
 /// How far attacks or code to exploit are known (v4.0 specification, section 3.1).
@@ -19,7 +19,7 @@ pub enum ExploitMaturity {
     Attacked,
 }
 
-impl Spelled for ExploitMaturity {
+impl MetricValue for ExploitMaturity {
     const KIND: MetricType = MetricType::E;
 
     ghost KIND = { metric.E };

@@ -6,7 +6,7 @@ use Rattle.cvss_any.specs.Dispatch.{DenotesCvss}
 use Rattle.cvss_any.specs.declared.bytes_error.BytesError.{BytesError}
 use Rattle.cvss_any.specs.declared.bytes_error.BytesError.TheVariants.{NotUtf8, Invalid}
 use Rattle.cvss_any.specs.declared.vector.Cvss.{Cvss}
-use Rattle.cvss_explain.specs.Account.{IsAccountText}
+use Rattle.cvss_explain.specs.Explanation.{IsExplanationText}
 use Rattle.cvss_lines.specs.Answers.{Answer, Accepted, Refused}
 use Rattle.cvss_json_tree.specs.Texts.{IsTextOf}
 use Rattle.cvss_json_tree.specs.Objects.{Member, object_of}
@@ -31,7 +31,7 @@ pub record IsAcceptance (number : ℕ) (line text : List ℕ) : Type 0 where
   pub utf8 : IsUtf8 line
   pub cvss : Cvss
   pub denoted : DenotesCvss line cvss
-  pub explains : IsAccountText (Some number) cvss text
+  pub explains : IsExplanationText (Some number) cvss text
 
 -- the line is no text, or a text that is no vector, and the object says the first reason
 pub record IsRefusal (number : ℕ) (line text : List ℕ) : Type 0 where

@@ -6,14 +6,14 @@ ghost use Rattle.cvss_any.specs.Bytes.{ReportsWhyNot};
 ghost use Rattle.cvss_json_tree.specs.Texts.{WritesObject};
 ghost use Rattle.cvss_json_tree.specs.Objects.{with_members};
 ghost use Rattle.cvss_why.specs.Answers.{IsAnswer, given_members, refusal_value};
-ghost use Rattle.cvss_why.specs.private.Writing.{WritesAccount};
+ghost use Rattle.cvss_why.specs.private.Writing.{WritesExplanation};
 ghost use Rattle.serde_json.specs.View.{members_view};
 
 use cvss_any::{BytesError, Cvss};
-use cvss_explain::put_account;
+use cvss_explain::put_explanation;
 use cvss_json_tree::write_object;
 use cvss_json_write::Page;
-use cvss_lines::{Answering, Gathered};
+use cvss_lines::{Answering, OutputBuffer};
 use serde_json::{Map, Value, put};
 use std::alloc::{AllocError, Global};
 
@@ -27,11 +27,11 @@ impl Answering for Vectors {
         alloc: Global,
         number: u64,
         line: &[u8],
-        answers: &mut Gathered,
+        answers: &mut OutputBuffer,
     ) -> Result<bool, AllocError> {
         match Cvss::from_bytes(alloc, line) {
             Ok(vector) => {
-                write_account(number, &vector, answers)?;
+                write_explanation(number, &vector, answers)?;
                 Ok(true)
             }
             Err(error) => {
@@ -43,13 +43,17 @@ impl Answering for Vectors {
 }
 
 /// Writes why a vector has its score, and a byte 10.
-fn write_account(number: u64, vector: &Cvss, answers: &mut Gathered) -> Result<(), AllocError>
+fn write_explanation(
+    number: u64,
+    vector: &Cvss,
+    answers: &mut OutputBuffer,
+) -> Result<(), AllocError>
     requires { HasScore vector.now }
-    ensures { OnOk result (WritesAccount number vector.now
+    ensures { OnOk result (WritesExplanation number vector.now
         answers.old.bytes.items answers.new.bytes.items) }
 {
     let mut page = Page::new();
-    put_account(&mut page, Some(number), vector);
+    put_explanation(&mut page, Some(number), vector);
     answers.push(page.bytes())?;
     answers.push(b"\n")
 }
@@ -60,7 +64,7 @@ fn write_refusal(
     number: u64,
     line: &[u8],
     error: &BytesError,
-    answers: &mut Gathered,
+    answers: &mut OutputBuffer,
 ) -> Result<(), AllocError>
     requires { ReportsWhyNot line.now error.now }
     ensures { OnOk result (WritesObject (refusal_value number line.now error.now)

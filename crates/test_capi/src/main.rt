@@ -8,7 +8,7 @@
 //!   number of the kind of error, the metric that it names, and the reason.
 //! - `canonical TEXT`, `without TEXT`: the canonical text, with all metrics and without the
 //!   undefined ones.
-//! - `record TEXT`, `account TEXT`: JSON objects, of the vector and of how it is scored.
+//! - `record TEXT`, `explanation TEXT`: JSON objects, of the vector and of how it is scored.
 //! - `answer TEXT`: the line that `cvss_tool` prints.
 //! - `answers SIZE TEXTS`: in a buffer of so many bytes, full of `#`, the answers to lines: their
 //!   length, the number of bytes that were read, and the buffer. A `|` ends a line.
@@ -57,7 +57,7 @@ fn answer(rt: &HostRuntime, mark: &[u8], asked: &[u8]) -> io::Result<()> {
         b"canonical" => texts::canonical(rt, asked),
         b"without" => texts::without_undefined(rt, asked),
         b"record" => texts::record(rt, asked),
-        b"account" => texts::account(rt, asked),
+        b"account" => texts::explanation(rt, asked),
         b"answer" => texts::answer(rt, asked),
         b"answers" => lists::answers(rt, asked),
         b"find" => lists::find(rt, asked),

@@ -7,7 +7,7 @@ use cvss_any::Cvss;
 use cvss_ffi::answer::put_answer_to;
 use cvss_ffi::canonical::put_canonical_of;
 use cvss_ffi::defined::put_without_undefined;
-use cvss_ffi::objects::{put_account, put_record};
+use cvss_ffi::objects::{put_explanation, put_record};
 use cvss_ffi::overriding::{put_overridden, put_override_reason};
 use cvss_ffi::refusal::{put_quoted, put_reason};
 use cvss_ffi::setting::{put_build, put_build_reason, put_with, put_with_reason};
@@ -39,9 +39,9 @@ pub(crate) fn record(rt: &HostRuntime, text: &[u8]) -> io::Result<()> {
     })
 }
 
-pub(crate) fn account(rt: &HostRuntime, text: &[u8]) -> io::Result<()> {
+pub(crate) fn explanation(rt: &HostRuntime, text: &[u8]) -> io::Result<()> {
     print_written(rt, |buffer| match Cvss::read_bytes(text) {
-        Some(cvss) => put_account(&cvss, buffer),
+        Some(cvss) => put_explanation(&cvss, buffer),
         None => 0,
     })
 }

@@ -100,10 +100,10 @@ fn version_of(kind: MetricType) -> &'static str {
     }
 }
 
-/// What is known of a canonical text at sight: its vector, the tenths of the score, and how it is
+/// What is known of a canonical text on the fast path: its vector, the tenths of the score, and how it is
 /// rated.
-pub(crate) fn at_sight(rt: &HostRuntime, text: &str) -> io::Result<()> {
-    match seen(text.as_bytes()).zip(Cvss::published_at_sight(text.as_bytes())) {
+pub(crate) fn on_fast_path(rt: &HostRuntime, text: &str) -> io::Result<()> {
+    match seen(text.as_bytes()).zip(Cvss::published_on_fast_path(text.as_bytes())) {
         Some((vector, published)) => {
             println!(rt;
                 "{vector} {} {}",

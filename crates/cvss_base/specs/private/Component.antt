@@ -3,12 +3,12 @@ use Rattle.std.specs.Prelude.{◌≡◌, ℕ, Bool, nat_lt, ◌||◌, List, ◌�
 use Rattle.cvss_base.specs.Text.{slash, colon}
 
 -- a byte that no name and no spelling has: it divides, or is not ASCII
-abbrev pub is_foreign : ℕ → Bool
-is_foreign byte = byte == slash || byte == colon || nat_lt 127 byte
+abbrev pub is_delimiter : ℕ → Bool
+is_delimiter byte = byte == slash || byte == colon || nat_lt 127 byte
 
 -- how many bytes of the text are such
-abbrev pub foreign_bytes : List ℕ → ℕ
-foreign_bytes text = count_by is_foreign text
+abbrev pub delimiter_bytes : List ℕ → ℕ
+delimiter_bytes text = count_by is_delimiter text
 
 -- the text is a slash and some more
 pub record StartsWithSlash (text : List ℕ) : Type 0 where

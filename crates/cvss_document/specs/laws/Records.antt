@@ -6,22 +6,22 @@ use Rattle.cvss_any.specs.declared.vector.Cvss.{Cvss}
 use Rattle.serde_json.specs.Data.{Data, string}
 use Rattle.cvss_document.specs.Scores.{score_value}
 use Rattle.cvss_json_record.specs.Fields.{fields_of, name_of}
-use Rattle.cvss_json_record.specs.Record.{Due, text, score, nothing, due_of, has_member}
+use Rattle.cvss_json_record.specs.Record.{Expected, text, score, nothing, expected_of, has_member}
 use Rattle.cvss_json_record.specs.declared.field.Field.{Field}
 use Rattle.cvss_json_record.specs.declared.field.Field.TheVariants.{Text}
 use Rattle.cvss_json_record.specs.declared.score.Scores.{Scores}
 use Rattle.cvss_json_tree.specs.Objects.{Member}
 
 -- what a member says, as a value
-abbrev pub value_of : Due → Option Data
-value_of (text due) = Some (string due)
+abbrev pub value_of : Expected → Option Data
+value_of (text expected) = Some (string expected)
 value_of (score tenths) = Some (score_value tenths)
 value_of nothing = None
 
 -- the value of a member of the vector's record, if the record has it
 abbrev pub value_at : Cvss → Scores → Field → Option Data
 value_at cvss scores Text = Some (string (text_of cvss))
-value_at cvss scores field = if has_member cvss field then option_and_then value_of (due_of cvss scores field) else None
+value_at cvss scores field = if has_member cvss field then option_and_then value_of (expected_of cvss scores field) else None
 
 -- the member, if the record has it
 abbrev pub member_at : Cvss → Scores → Field → Option Member

@@ -2,7 +2,7 @@
 use Rattle.std.specs.Prelude.{◌≡◌, ◌≢◌, ℕ, ◌||◌, Bool, true, false, List, [], ◌∷◌, ◌++◌, length, not, Contains}
 use Rattle.std.specs.List.{list_all}
 use Rattle.cvss_scan.specs.Mentions.{mentions_of}
-use Rattle.cvss_scan.specs.Parts.{begins_with_prefix, is_vector_byte, less_dividers}
+use Rattle.cvss_scan.specs.Parts.{begins_with_prefix, is_vector_byte, without_dividers}
 
 -- `CVSS:` stands in the text, after its first byte
 abbrev pub has_second_prefix : List ℕ → Bool
@@ -14,7 +14,7 @@ has_second_prefix (byte ∷ rest) = begins_with_prefix rest || has_second_prefix
 pub record IsWhole (text : List ℕ) : Type 0 where
   pub written : list_all is_vector_byte text ≡ true
   pub once : has_second_prefix text ≡ false
-  pub ended : less_dividers text ≡ text
+  pub ended : without_dividers text ≡ text
   pub some : text ≢ []
 
 -- a byte with which no vector is written, or nothing

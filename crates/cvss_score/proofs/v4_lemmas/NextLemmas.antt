@@ -1,7 +1,7 @@
 -- A next lower class with its value.
 use Rattle.std.proofs.Common.{◌≡◌, Option, Some, None, IfSome, option_map, refl, ap, subst}
 use Rattle.std.specs.Option.{option_and_then}
-use Rattle.cvss_score.specs.v4.Account.{with_value}
+use Rattle.cvss_score.specs.v4.Explanation.{with_value}
 use Rattle.cvss_score.specs.v4.Values.{listed_value}
 use Rattle.cvss_score.specs.v4.private.Next.{IsInTable}
 use Rattle.cvss_score.specs.declared.v4.scoring.classes.MacroVector.{MacroVector}

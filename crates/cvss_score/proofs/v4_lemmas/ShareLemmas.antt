@@ -2,7 +2,7 @@
 use Rattle.std.proofs.Common.{◌≡◌, ℕ, ◌-◌, ◌*◌, ◌/◌, ◌<◌, ◌≤◌, Option, Some, None, IfSome, option_map, unwrap_or, refl, arith, pos, sym, subst, ap, ◌∙◌}
 use Rattle.std.proofs.Math.Nat.{mul-le-mul, mul-le-mul_right}
 use Rattle.std.proofs.lemmas.Int.{ints}
-use Rattle.cvss_score.specs.v4.Account.{with_value}
+use Rattle.cvss_score.specs.v4.Explanation.{with_value}
 use Rattle.cvss_score.specs.v4.Gap.{Group, next_lower}
 use Rattle.cvss_score.specs.v4.Values.{table_value}
 use Rattle.cvss_score.specs.v4.private.Next.{IsInTable}

@@ -6,13 +6,13 @@ ghost use Rattle.cvss_v3_metric.specs.Table.{weight_of};
 ghost use Rattle.cvss_score.specs.v3.Weighing.{effective, effective_scope, is_changed as is_scope_changed, privileges_weight};
 ghost use Rattle.cvss_score.specs.v3.private.Weights.{WeighsAtMost};
 
-use cvss_v3_metric::Spelled;
+use cvss_v3_metric::MetricValue;
 use cvss_v3_metric::base::{PrivilegesRequired, Scope};
 use cvss_v3_metric::environmental::{Modified, ModifiedScope};
 
 /// The weight of a value in hundredths, or another where the metric is absent.
 #[inline(always)]
-pub fn weight<M: Spelled>(value: Option<M>, absent: u64) -> u64
+pub fn weight<M: MetricValue>(value: Option<M>, absent: u64) -> u64
     ensures value { result ≡ weight_or (λ metric. weight_of M.KIND (M.value metric)) value absent }
     ensures bound { (most : ℕ) → WeighsAtMost most M.KIND → absent ≤ most → result ≤ most }
 {

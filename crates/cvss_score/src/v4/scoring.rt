@@ -1,9 +1,9 @@
 //! The scoring of effective values (v4.0 specification, section 8.2).
 
-pub mod account;
 pub mod classes;
 mod classified;
 pub mod effective;
+pub mod explanation;
 mod next;
 mod placed;
 mod score;

@@ -4,12 +4,12 @@ use Rattle.std.specs.Prelude.{◌≡◌, ◌≢◌, ℕ, ◌⊎◌, List, [], �
 use Rattle.std.specs.List.{range_with_len}
 use Rattle.std.specs.Borrow.{Bor}
 use Rattle.std.specs.Str.{IsUtf8}
-use Rattle.cvss_text.specs.declared.walk.Slip.{Slip}
-use Rattle.cvss_text.specs.declared.walk.Slip.TheVariants.{Invalid, Repeated as Twice}
+use Rattle.cvss_text.specs.declared.walk.ComponentError.{ComponentError}
+use Rattle.cvss_text.specs.declared.walk.ComponentError.TheVariants.{Invalid, Repeated as Twice}
 use Rattle.cvss_text.specs.declared.walk.Fault.{Fault}
 use Rattle.cvss_text.specs.declared.walk.Fault.TheVariants.{InvalidComponent, InvalidPrefix, UnsupportedVersion, UnknownMetric, InvalidMetric, DuplicateMetric, MissingMandatoryMetric}
 use Rattle.cvss_base.specs.laws.Order.{place_in}
-use Rattle.cvss_base.specs.private.Component.{foreign_bytes}
+use Rattle.cvss_base.specs.private.Component.{delimiter_bytes}
 use Rattle.cvss_base.specs.Text.{pieces, IsComponent, name_part, value_part, component}
 use Rattle.cvss_base.specs.Version.{Version, read, reading, version_piece, AreComponentsOf, Denotes, IsComplete, IsWellFormed}
 use Rattle.cvss_base.specs.Refusal.{Refusal, BadComponent, WrongPrefix, WrongVersion, UnknownName, BadValue, Repeated, Missing, Spells, HasNoFaultBefore, IsFirstReason, BadPiecesFirst, IsReasonAfter, IsWrongPrefix, IsWrongVersion}
@@ -23,11 +23,11 @@ pub record VersionLaws {V K : Type 0} (version : Version V K) : Type 0 where
   -- each metric is printed at one place, which its name says
   pub placed : (kind : K) → slice_get version.printed (place_of version kind) ≡ Some kind
   pub in_order : map (place_of version) version.printed ≡ range_with_len 0 (length version.printed)
-  -- names are read as they are, and have no foreign byte
+  -- names are read as they are, and have no delimiter byte
   pub names_read : map (λ kind. read version (version.name kind)) version.printed ≡ map version.name version.printed
-  pub names_plain : map (λ kind. foreign_bytes (version.name kind)) version.printed ≡ map (λ _. 0) version.printed
-  -- the spellings of a metric differ, as they are read, and have no foreign byte
-  pub spelling_plain : (kind : K) (value : version.Value kind) → foreign_bytes (version.spelling kind value) ≡ 0
+  pub names_plain : map (λ kind. delimiter_bytes (version.name kind)) version.printed ≡ map (λ _. 0) version.printed
+  -- the spellings of a metric differ, as they are read, and have no delimiter byte
+  pub spelling_plain : (kind : K) (value : version.Value kind) → delimiter_bytes (version.spelling kind value) ≡ 0
   pub one_value : (kind : K) (x y : version.Value kind) → read version (version.spelling kind x) ≡ read version (version.spelling kind y) → x ≡ y
   -- a vector is its front and its values
   pub one_vector : (v w : V) → version.front v ≡ version.front w → ((kind : K) → version.value_of v kind ≡ version.value_of w kind) → v ≡ w
@@ -51,14 +51,14 @@ pub record Fills {X : Type 0} (spelling : X → List ℕ) (old : Option X) (text
   pub filled : new ≡ Some value
 
 -- why no value goes into a place
-abbrev pub IsSlip : {X : Type 0} → (X → List ℕ) → Option X → List ℕ → Slip → Type 0
-IsSlip spelling place text Invalid = ¬ (Spells spelling text)
-IsSlip spelling place text Twice = Spells spelling text × IsSome place
+abbrev pub IsComponentError : {X : Type 0} → (X → List ℕ) → Option X → List ℕ → ComponentError → Type 0
+IsComponentError spelling place text Invalid = ¬ (Spells spelling text)
+IsComponentError spelling place text Twice = Spells spelling text × IsSome place
 
 -- what filling a place with the value that has this spelling answers
-pub record IsFilled {X : Type 0} (spelling : X → List ℕ) (old : Option X) (text : List ℕ) (answer : Result (Unit {0}) Slip) (new : Option X) : Type 0 where
+pub record IsFilled {X : Type 0} (spelling : X → List ℕ) (old : Option X) (text : List ℕ) (answer : Result (Unit {0}) ComponentError) (new : Option X) : Type 0 where
   pub filled : OnOk answer (Fills spelling old text new)
-  pub slip : IfErr answer (IsSlip spelling old text)
+  pub component_error : IfErr answer (IsComponentError spelling old text)
 
 -- the vector gains the value with this spelling, and keeps all else
 pub record Puts {V K : Type 0} (version : Version V K) (old : V) (kind : K) (text : List ℕ) (new : V) : Type 0 where
@@ -67,9 +67,9 @@ pub record Puts {V K : Type 0} (version : Version V K) (old : V) (kind : K) (tex
   pub front : version.front new ≡ version.front old
 
 -- what putting a value into a vector answers
-pub record IsPut {V K : Type 0} (version : Version V K) (old : V) (kind : K) (text : List ℕ) (answer : Result (Unit {0}) Slip) (new : V) : Type 0 where
+pub record IsPut {V K : Type 0} (version : Version V K) (old : V) (kind : K) (text : List ℕ) (answer : Result (Unit {0}) ComponentError) (new : V) : Type 0 where
   pub put : OnOk answer (Puts version old kind text new)
-  pub slip : IfErr answer (IsSlip (reading version kind) (version.value_of old kind) text)
+  pub component_error : IfErr answer (IsComponentError (reading version kind) (version.value_of old kind) text)
 
 -- the piece is a component of this metric, and the value is what follows its first colon
 pub record IsCut {V K : Type 0} (version : Version V K) (piece : List ℕ) (kind : K) (value : List ℕ) : Type 0 where
@@ -106,16 +106,16 @@ pub record IsStarted {V K : Type 0} (version : Version V K) (text : List ℕ) (a
   pub cut : pieces text ≡ piece ∷ after
   pub starts : StartsWith version piece v
 
--- the vector's front is a version piece without a foreign byte
+-- the vector's front is a version piece without a delimiter byte
 pub record HasVersionPiece {V K : Type 0} (version : Version V K) (v : V) : Type 0 where
   pub reported : List ℕ
   pub front_is : version.front v ≡ version_piece reported ∷ []
-  pub plain : foreign_bytes reported ≡ 0
+  pub plain : delimiter_bytes reported ≡ 0
 
--- what the walk needs to know of version pieces: no byte of them is foreign
+-- what the walk needs to know of version pieces: no byte of them is delimiter
 pub record FrontLaws {V K : Type 0} (version : Version V K) : Type 0 where
   pub fronts : (v : V) → HasVersionPiece version v
-  pub plain : map foreign_bytes version.supported ≡ map (λ _. 0) version.supported
+  pub plain : map delimiter_bytes version.supported ≡ map (λ _. 0) version.supported
 
 -- the vector lacks this mandatory metric, and none that stands before it
 pub record LacksFirst {V K : Type 0} (version : Version V K) (v : V) (kind : K) : Type 0 where

@@ -11,7 +11,7 @@ ghost use Rattle.cvss_v2.specs.private.WithSlash.{value_with_slash};
 use crate::vector::Vector;
 use cvss_text::buffer::TextBuffer;
 use cvss_text::print::{Printed, write_text};
-use cvss_v2_metric::{MetricType, Spelled};
+use cvss_v2_metric::{MetricType, MetricValue};
 use std::fmt;
 
 impl Printed for Vector {
@@ -46,7 +46,11 @@ impl Printed for Vector {
 
 impl Vector {
     /// A slash and the component of the value that the vector has for a metric.
-    fn with_slash_at<M: Spelled>(&self, kind: MetricType, value: Option<M>) -> Option<&'static str>
+    fn with_slash_at<M: MetricValue>(
+        &self,
+        kind: MetricType,
+        value: Option<M>,
+    ) -> Option<&'static str>
         requires kind { kind ≡ M.KIND }
         requires value { held v2 self.now M.KIND
             ≡ option_map (λ metric. spelling_of M.KIND (M.value metric)) value }
@@ -58,7 +62,7 @@ impl Vector {
 
 /// Appends a slash and the component of a value, if there is one.
 #[inline(always)]
-fn write_value<M: Spelled>(value: Option<M>, buffer: &mut TextBuffer)
+fn write_value<M: MetricValue>(value: Option<M>, buffer: &mut TextBuffer)
     requires { length buffer.old ≤ 256 }
     ensures text { buffer.new ≡ buffer.old ++ value_with_slash M.KIND M.value value }
     ensures room { length buffer.new ≤ length buffer.old + 8 }
@@ -70,7 +74,7 @@ fn write_value<M: Spelled>(value: Option<M>, buffer: &mut TextBuffer)
 
 /// Appends a slash and the component of each of three values that there is.
 #[inline(always)]
-fn write_three<K: Spelled, L: Spelled, M: Spelled>(
+fn write_three<K: MetricValue, L: MetricValue, M: MetricValue>(
     first: &Option<K>,
     second: &Option<L>,
     third: &Option<M>,

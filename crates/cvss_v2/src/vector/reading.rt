@@ -8,8 +8,8 @@ ghost use Rattle.cvss_v2.specs.private.VectorLaws.{v2_laws};
 use super::cutting::cut_named;
 use crate::vector::Vector;
 use MetricType::*;
-use cvss_text::walk::{Components, Slip, fill_place};
-use cvss_v2_metric::{MetricType, Spelled};
+use cvss_text::walk::{ComponentError, Components, fill_place};
+use cvss_v2_metric::{MetricType, MetricValue};
 
 /// The metrics in printing order (guide, section 2.4).
 const PRINTED: [MetricType; 14] = [AV, AC, Au, C, I, A, E, RL, RC, CDP, TD, CR, IR, AR];
@@ -43,7 +43,7 @@ impl Components for Vector {
         Some((kind, value))
     }
 
-    fn put(&mut self, kind: MetricType, value: &[u8]) -> Result<(), Slip> {
+    fn put(&mut self, kind: MetricType, value: &[u8]) -> Result<(), ComponentError> {
         match kind {
             MetricType::AV => fill(&mut self.av, value),
             MetricType::AC => fill(&mut self.ac, value),
@@ -76,7 +76,7 @@ impl Components for Vector {
 }
 
 /// Reads a value into its place, which has to be empty.
-fn fill<M: Spelled>(place: &mut Option<M>, text: &[u8]) -> Result<(), Slip>
+fn fill<M: MetricValue>(place: &mut Option<M>, text: &[u8]) -> Result<(), ComponentError>
     ensures { IsFilled (λ x. spelling_of M.KIND (M.value x)) place.old text.now result place.new }
 {
     fill_place(place, M::read_bytes(text))

@@ -9,7 +9,7 @@ ghost use Rattle.cvss_v2.specs.private.Bounds.{greatest_weight};
 
 use crate::vector::Vector;
 use cvss_score::v2::Weights;
-use cvss_v2_metric::{MetricType, Spelled};
+use cvss_v2_metric::{MetricType, MetricValue};
 
 impl Vector {
     /// What the metrics weigh, of which the equations make the scores.
@@ -61,7 +61,7 @@ impl Vector {
 
     /// The weight of the value that the vector has for a metric, or that of the absent metric.
     #[inline(always)]
-    fn weight_at<M: Spelled>(&self, metric: MetricType, value: Option<M>, absent: u64) -> u64
+    fn weight_at<M: MetricValue>(&self, metric: MetricType, value: Option<M>, absent: u64) -> u64
         requires metric { metric ≡ M.KIND }
         requires value { option_map (weight_of M.KIND) (value_at self.now M.KIND)
             ≡ option_map (λ held. weight_of M.KIND (M.value held)) value }
@@ -76,7 +76,7 @@ impl Vector {
 
 /// The weight of a value in thousandths, or that of an absent metric.
 #[inline(always)]
-fn weight<M: Spelled>(value: Option<M>, absent: u64) -> u64
+fn weight<M: MetricValue>(value: Option<M>, absent: u64) -> u64
     requires { absent ≤ greatest_weight M.KIND }
     ensures weight { result
         ≡ unwrap_or (option_map (λ metric. weight_of M.KIND (M.value metric)) value) absent }

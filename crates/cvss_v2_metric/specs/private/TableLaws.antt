@@ -2,13 +2,13 @@
 use Rattle.std.specs.Prelude.{◌≡◌, false}
 use Rattle.std.proofs.Common.{rules}
 use Rattle.cvss_base.specs.Text.{has, dot}
-use Rattle.cvss_base.specs.private.Component.{foreign_bytes}
+use Rattle.cvss_base.specs.private.Component.{delimiter_bytes}
 use Rattle.cvss_base.specs.declared.v2.MetricType.{MetricType}
 use Rattle.cvss_base.specs.declared.v2.MetricType.TheVariants.{A}
 use Rattle.cvss_v2_metric.specs.Table.{Value, spelling_of}
 
 -- no spelling has a slash or a colon
-pub plain_spelling : (kind : MetricType) (value : Value kind) → foreign_bytes (spelling_of kind value) ≡ 0
+pub plain_spelling : (kind : MetricType) (value : Value kind) → delimiter_bytes (spelling_of kind value) ≡ 0
 plain_spelling A = search rules
 plain_spelling _ = search rules
 

@@ -5,7 +5,7 @@ ghost use Rattle.std.proofs.Common.{rules};
 ghost use Rattle.cvss_base.specs.declared.v2.MetricType.TheVariants.{AV, AC, Au};
 ghost use Rattle.cvss_v2_metric.specs.Table.{metric_component};
 
-use crate::metric::{Metric, MetricType, Spelled};
+use crate::metric::{Metric, MetricType, MetricValue};
 use std::fmt;
 
 /// How near to the component the attacker has to be (guide, section 2.1.1).
@@ -24,7 +24,7 @@ impl Metric for AccessVector {
     ghost law = { Prim.search rules };
 }
 
-impl Spelled for AccessVector {
+impl MetricValue for AccessVector {
     const KIND: MetricType = MetricType::AV;
 
     ghost KIND = { AV };
@@ -70,7 +70,7 @@ impl Metric for AccessComplexity {
     ghost law = { Prim.search rules };
 }
 
-impl Spelled for AccessComplexity {
+impl MetricValue for AccessComplexity {
     const KIND: MetricType = MetricType::AC;
 
     ghost KIND = { AC };
@@ -116,7 +116,7 @@ impl Metric for Authentication {
     ghost law = { Prim.search rules };
 }
 
-impl Spelled for Authentication {
+impl MetricValue for Authentication {
     const KIND: MetricType = MetricType::Au;
 
     ghost KIND = { Au };

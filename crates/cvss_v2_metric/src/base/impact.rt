@@ -5,7 +5,7 @@ ghost use Rattle.std.proofs.Common.{rules};
 ghost use Rattle.cvss_base.specs.declared.v2.MetricType.TheVariants.{C, I, A};
 ghost use Rattle.cvss_v2_metric.specs.Table.{metric_component};
 
-use crate::metric::{Metric, MetricType, Spelled};
+use crate::metric::{Metric, MetricType, MetricValue};
 use std::fmt;
 
 /// What an attack discloses (guide, section 2.1.4).
@@ -24,7 +24,7 @@ impl Metric for ConfidentialityImpact {
     ghost law = { Prim.search rules };
 }
 
-impl Spelled for ConfidentialityImpact {
+impl MetricValue for ConfidentialityImpact {
     const KIND: MetricType = MetricType::C;
 
     ghost KIND = { C };
@@ -70,7 +70,7 @@ impl Metric for IntegrityImpact {
     ghost law = { Prim.search rules };
 }
 
-impl Spelled for IntegrityImpact {
+impl MetricValue for IntegrityImpact {
     const KIND: MetricType = MetricType::I;
 
     ghost KIND = { I };
@@ -116,7 +116,7 @@ impl Metric for AvailabilityImpact {
     ghost law = { Prim.search rules };
 }
 
-impl Spelled for AvailabilityImpact {
+impl MetricValue for AvailabilityImpact {
     const KIND: MetricType = MetricType::A;
 
     ghost KIND = { A };

@@ -5,7 +5,7 @@ ghost use Rattle.std.proofs.Common.{rules};
 ghost use Rattle.cvss_base.specs.declared.v2.MetricType.TheVariants.{CDP, TD};
 ghost use Rattle.cvss_v2_metric.specs.Table.{metric_component};
 
-use crate::metric::{Metric, MetricType, Spelled};
+use crate::metric::{Metric, MetricType, MetricValue};
 use std::fmt;
 
 /// What loss beside the system may come of it (guide, section 2.3.1).
@@ -27,7 +27,7 @@ impl Metric for CollateralDamagePotential {
     ghost law = { Prim.search rules };
 }
 
-impl Spelled for CollateralDamagePotential {
+impl MetricValue for CollateralDamagePotential {
     const KIND: MetricType = MetricType::CDP;
 
     ghost KIND = { CDP };
@@ -79,7 +79,7 @@ impl Metric for TargetDistribution {
     ghost law = { Prim.search rules };
 }
 
-impl Spelled for TargetDistribution {
+impl MetricValue for TargetDistribution {
     const KIND: MetricType = MetricType::TD;
 
     ghost KIND = { TD };

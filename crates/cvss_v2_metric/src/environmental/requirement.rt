@@ -5,7 +5,7 @@ ghost use Rattle.std.proofs.Common.{rules};
 ghost use Rattle.cvss_base.specs.declared.v2.MetricType.TheVariants.{CR, IR, AR};
 ghost use Rattle.cvss_v2_metric.specs.Table.{metric_component};
 
-use crate::metric::{Metric, MetricType, Spelled};
+use crate::metric::{Metric, MetricType, MetricValue};
 use std::fmt;
 
 /// How much confidentiality matters to the user (guide, section 2.3.3).
@@ -25,7 +25,7 @@ impl Metric for ConfidentialityRequirement {
     ghost law = { Prim.search rules };
 }
 
-impl Spelled for ConfidentialityRequirement {
+impl MetricValue for ConfidentialityRequirement {
     const KIND: MetricType = MetricType::CR;
 
     ghost KIND = { CR };
@@ -73,7 +73,7 @@ impl Metric for IntegrityRequirement {
     ghost law = { Prim.search rules };
 }
 
-impl Spelled for IntegrityRequirement {
+impl MetricValue for IntegrityRequirement {
     const KIND: MetricType = MetricType::IR;
 
     ghost KIND = { IR };
@@ -121,7 +121,7 @@ impl Metric for AvailabilityRequirement {
     ghost law = { Prim.search rules };
 }
 
-impl Spelled for AvailabilityRequirement {
+impl MetricValue for AvailabilityRequirement {
     const KIND: MetricType = MetricType::AR;
 
     ghost KIND = { AR };

@@ -13,8 +13,8 @@ use crate::vector::Vector;
 use MetricType::*;
 use cvss_score::v3::Rules;
 use cvss_text::front::Prefixed;
-use cvss_text::walk::{Components, Slip, fill_place};
-use cvss_v3_metric::{MetricType, Spelled, reported_kind};
+use cvss_text::walk::{ComponentError, Components, fill_place};
+use cvss_v3_metric::{MetricType, MetricValue, reported_kind};
 
 /// The metrics in printing order (v3.1 specification, section 6).
 const PRINTED: [MetricType; 22] = [
@@ -48,7 +48,7 @@ impl Components for Vector {
         reported_kind(kind)
     }
 
-    fn put(&mut self, kind: MetricType, value: &[u8]) -> Result<(), Slip> {
+    fn put(&mut self, kind: MetricType, value: &[u8]) -> Result<(), ComponentError> {
         match kind {
             MetricType::AV => fill(&mut self.av, value),
             MetricType::AC => fill(&mut self.ac, value),
@@ -113,7 +113,7 @@ impl Vector {
 }
 
 /// Reads a value into its place, which has to be empty.
-fn fill<M: Spelled>(place: &mut Option<M>, text: &[u8]) -> Result<(), Slip>
+fn fill<M: MetricValue>(place: &mut Option<M>, text: &[u8]) -> Result<(), ComponentError>
     ensures { IsFilled (λ x. uppercased (spelling_of M.KIND (M.value x))) place.old (uppercased text.now)
         result place.new }
 {

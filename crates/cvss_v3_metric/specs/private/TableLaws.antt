@@ -3,7 +3,7 @@ use Rattle.std.specs.Prelude.{◌≡◌, ◌≢◌, ℕ, ◌-◌, ◌<◌, Bool,
 use Rattle.std.specs.List.{list_any}
 use Rattle.std.proofs.Common.{rules}
 use Rattle.cvss_base.specs.Text.{uppercased, slash}
-use Rattle.cvss_base.specs.private.Component.{foreign_bytes}
+use Rattle.cvss_base.specs.private.Component.{delimiter_bytes}
 use Rattle.cvss_base.specs.declared.v3.MetricType.{MetricType}
 use Rattle.cvss_base.specs.declared.v3.MetricType.TheVariants.{A}
 use Rattle.cvss_v3_metric.specs.Table.{Value, rows_of, spelling_of, metric_component}
@@ -18,7 +18,7 @@ uppercased_spelling A = search rules
 uppercased_spelling _ = search rules
 
 -- no spelling has a slash or a colon
-pub plain_spelling : (kind : MetricType) (value : Value kind) → foreign_bytes (spelling_of kind value) ≡ 0
+pub plain_spelling : (kind : MetricType) (value : Value kind) → delimiter_bytes (spelling_of kind value) ≡ 0
 plain_spelling A = search rules
 plain_spelling _ = search rules
 

@@ -8,7 +8,7 @@ ghost use Rattle.cvss_base.specs.declared.v3.MetricType.TheVariants.{PR, UI, MPR
 ghost use Rattle.cvss_v3_metric.specs.Table.{scoped_weight, metric_component};
 
 use crate::environmental::BaseMetric;
-use crate::metric::{HUNDREDTH, Metric, MetricType, Spelled};
+use crate::metric::{HUNDREDTH, Metric, MetricType, MetricValue};
 use std::fmt;
 
 /// The privileges that the attacker has to have before the attack (v3.1 specification, section
@@ -20,7 +20,7 @@ pub enum PrivilegesRequired {
     None,
 }
 
-impl Spelled for PrivilegesRequired {
+impl MetricValue for PrivilegesRequired {
     const KIND: MetricType = MetricType::PR;
 
     ghost KIND = { PR };
@@ -107,7 +107,7 @@ pub enum UserInteraction {
     None,
 }
 
-impl Spelled for UserInteraction {
+impl MetricValue for UserInteraction {
     const KIND: MetricType = MetricType::UI;
 
     ghost KIND = { UI };

@@ -6,7 +6,7 @@ ghost use Rattle.cvss_base.specs.declared.v3.MetricType.TheVariants.{AV, AC, MAV
 ghost use Rattle.cvss_v3_metric.specs.Table.{metric_component, default_complexity};
 
 use crate::environmental::BaseMetric;
-use crate::metric::{Metric, MetricType, Spelled};
+use crate::metric::{Metric, MetricType, MetricValue};
 use std::fmt;
 
 /// How near to the vulnerable component the attacker has to be (v3.1 specification, section 2.1.1).
@@ -18,7 +18,7 @@ pub enum AttackVector {
     Network,
 }
 
-impl Spelled for AttackVector {
+impl MetricValue for AttackVector {
     const KIND: MetricType = MetricType::AV;
 
     ghost KIND = { AV };
@@ -94,7 +94,7 @@ impl Default for AttackComplexity {
     }
 }
 
-impl Spelled for AttackComplexity {
+impl MetricValue for AttackComplexity {
     const KIND: MetricType = MetricType::AC;
 
     ghost KIND = { AC };

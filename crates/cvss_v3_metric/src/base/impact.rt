@@ -6,7 +6,7 @@ ghost use Rattle.cvss_base.specs.declared.v3.MetricType.TheVariants.{C, I, A, MC
 ghost use Rattle.cvss_v3_metric.specs.Table.{metric_component};
 
 use crate::environmental::BaseMetric;
-use crate::metric::{Metric, MetricType, Spelled};
+use crate::metric::{Metric, MetricType, MetricValue};
 use std::fmt;
 
 /// What becomes known to those who may not know it (v3.1 specification, section 2.3.1).
@@ -17,7 +17,7 @@ pub enum Confidentiality {
     High,
 }
 
-impl Spelled for Confidentiality {
+impl MetricValue for Confidentiality {
     const KIND: MetricType = MetricType::C;
 
     ghost KIND = { C };
@@ -83,7 +83,7 @@ pub enum Integrity {
     High,
 }
 
-impl Spelled for Integrity {
+impl MetricValue for Integrity {
     const KIND: MetricType = MetricType::I;
 
     ghost KIND = { I };
@@ -149,7 +149,7 @@ pub enum Availability {
     High,
 }
 
-impl Spelled for Availability {
+impl MetricValue for Availability {
     const KIND: MetricType = MetricType::A;
 
     ghost KIND = { A };

@@ -5,7 +5,7 @@ ghost use Rattle.std.proofs.Common.{rules};
 ghost use Rattle.cvss_base.specs.declared.v3.MetricType.TheVariants.{S};
 ghost use Rattle.cvss_v3_metric.specs.Table.{metric_component};
 
-use crate::metric::{Metric, MetricType, Spelled};
+use crate::metric::{Metric, MetricType, MetricValue};
 use std::fmt;
 
 /// Whether the impact goes beyond the vulnerable component's security authority (v3.1 specification,
@@ -16,7 +16,7 @@ pub enum Scope {
     Changed,
 }
 
-impl Spelled for Scope {
+impl MetricValue for Scope {
     const KIND: MetricType = MetricType::S;
 
     ghost KIND = { S };

@@ -11,7 +11,7 @@ ghost use Rattle.cvss_v3_metric.specs.Modified.{replaced, weight_or};
 
 use super::texts::modified_with_slash;
 use crate::base::{PrivilegesRequired, Scope};
-use crate::metric::{Metric, MetricType, Spelled};
+use crate::metric::{Metric, MetricType, MetricValue};
 use std::fmt;
 
 /// A value that replaces that of the base metric, if one is set. It has no weight of its own.
@@ -38,7 +38,7 @@ pub trait BaseMetric: Metric {
     ghost base_law: { IsBaseMetric Self.KIND MODIFIED_TYPE Self.value own_value };
 }
 
-impl<T: BaseMetric> Spelled for Modified<T> {
+impl<T: BaseMetric> MetricValue for Modified<T> {
     const KIND: MetricType = T::MODIFIED_TYPE;
 
     ghost KIND = { replacing T.KIND };
@@ -144,7 +144,7 @@ pub enum ModifiedScope {
     Modified(Scope),
 }
 
-impl Spelled for ModifiedScope {
+impl MetricValue for ModifiedScope {
     const KIND: MetricType = MetricType::MS;
 
     ghost KIND = { MS };

@@ -5,7 +5,7 @@ ghost use Rattle.std.proofs.Common.{rules};
 ghost use Rattle.cvss_base.specs.declared.v3.MetricType.TheVariants.{CR, IR, AR};
 ghost use Rattle.cvss_v3_metric.specs.Table.{metric_component};
 
-use crate::metric::{Metric, MetricType, Spelled};
+use crate::metric::{Metric, MetricType, MetricValue};
 use std::fmt;
 
 /// How much confidentiality matters to the user of the component (v3.1 specification, section 4.1).
@@ -17,7 +17,7 @@ pub enum ConfidentialityRequirement {
     Low,
 }
 
-impl Spelled for ConfidentialityRequirement {
+impl MetricValue for ConfidentialityRequirement {
     const KIND: MetricType = MetricType::CR;
 
     ghost KIND = { CR };
@@ -76,7 +76,7 @@ pub enum IntegrityRequirement {
     Low,
 }
 
-impl Spelled for IntegrityRequirement {
+impl MetricValue for IntegrityRequirement {
     const KIND: MetricType = MetricType::IR;
 
     ghost KIND = { IR };
@@ -135,7 +135,7 @@ pub enum AvailabilityRequirement {
     Low,
 }
 
-impl Spelled for AvailabilityRequirement {
+impl MetricValue for AvailabilityRequirement {
     const KIND: MetricType = MetricType::AR;
 
     ghost KIND = { AR };

@@ -12,7 +12,7 @@ ghost use Rattle.cvss_v4.specs.private.Shown.{shown};
 use crate::vector::Vector;
 use cvss_text::buffer::TextBuffer;
 use cvss_text::print::{Printed, write_text};
-use cvss_v4_metric::{MetricType, Spelled};
+use cvss_v4_metric::{MetricType, MetricValue};
 use std::fmt;
 
 impl Printed for Vector {
@@ -67,7 +67,11 @@ impl Printed for Vector {
 
 impl Vector {
     /// A slash and the component of the value that the vector has for a metric.
-    fn with_slash_at<M: Spelled>(&self, kind: MetricType, value: Option<M>) -> Option<&'static str>
+    fn with_slash_at<M: MetricValue>(
+        &self,
+        kind: MetricType,
+        value: Option<M>,
+    ) -> Option<&'static str>
         requires kind { kind ≡ M.KIND }
         requires value { held v4 self.now M.KIND
             ≡ option_map (λ x. spelling_at M.KIND (M.rank x)) value }
@@ -79,7 +83,7 @@ impl Vector {
 
 /// Appends a slash and the component of a value, if there is one.
 #[inline(always)]
-fn write_value<M: Spelled>(value: Option<M>, buffer: &mut TextBuffer)
+fn write_value<M: MetricValue>(value: Option<M>, buffer: &mut TextBuffer)
     requires { length buffer.old ≤ 256 }
     ensures text { buffer.new ≡ buffer.old ++ shown M.KIND M.rank value }
     ensures room { length buffer.new ≤ length buffer.old + 8 }
@@ -91,7 +95,7 @@ fn write_value<M: Spelled>(value: Option<M>, buffer: &mut TextBuffer)
 
 /// Appends a slash and the component of each of three values that there is.
 #[inline(always)]
-fn write_three<K: Spelled, L: Spelled, M: Spelled>(
+fn write_three<K: MetricValue, L: MetricValue, M: MetricValue>(
     first: &Option<K>,
     second: &Option<L>,
     third: &Option<M>,

@@ -12,8 +12,8 @@ use crate::laws::default_vectors_have_no_metric;
 use crate::vector::Vector;
 use MetricType::*;
 use cvss_text::front::Prefixed;
-use cvss_text::walk::{Components, Slip, fill_place};
-use cvss_v4_metric::{MetricType, Spelled};
+use cvss_text::walk::{ComponentError, Components, fill_place};
+use cvss_v4_metric::{MetricType, MetricValue};
 
 /// The metrics in printing order (v4.0 specification, section 7).
 const PRINTED: [MetricType; 32] = [
@@ -51,7 +51,7 @@ impl Components for Vector {
         kind
     }
 
-    fn put(&mut self, kind: MetricType, value: &[u8]) -> Result<(), Slip> {
+    fn put(&mut self, kind: MetricType, value: &[u8]) -> Result<(), ComponentError> {
         match kind {
             MetricType::AV => fill(&mut self.av, value),
             MetricType::AC => fill(&mut self.ac, value),
@@ -236,7 +236,7 @@ fn modified(first: u8, second: u8) -> Option<MetricType>
 }
 
 /// Reads a value into its place, which has to be empty.
-fn fill<M: Spelled>(place: &mut Option<M>, text: &[u8]) -> Result<(), Slip>
+fn fill<M: MetricValue>(place: &mut Option<M>, text: &[u8]) -> Result<(), ComponentError>
     ensures { IsFilled (λ x. uppercased (spelling_at M.KIND (M.rank x))) place.old (uppercased text.now) result place.new }
 {
     fill_place(place, M::read_bytes(text))

@@ -5,7 +5,7 @@ ghost use Rattle.cvss_base.specs.Exact.{◌over◌, ◌⊕◌};
 ghost use Rattle.cvss_base.specs.Rounding.{IsRoundedV4};
 ghost use Rattle.cvss_base.specs.Tenths.{IsInTenths, IsFromZeroToTen};
 ghost use Rattle.cvss_base.specs.Version.{IsComplete};
-ghost use Rattle.cvss_score.specs.v4.Account.{AreInRange, IsAccount};
+ghost use Rattle.cvss_score.specs.v4.Explanation.{AreInRange, IsExplanation};
 ghost use Rattle.cvss_v4.specs.Merging.{effective_of};
 ghost use Rattle.cvss_v4.specs.Nomenclature.{nomenclature_of};
 ghost use Rattle.cvss_score.specs.v4.AsSevere.{IsAsSevere};
@@ -14,7 +14,7 @@ ghost use Rattle.cvss_v4.specs.Vector.{v4};
 ghost use Rattle.cvss_score.specs.declared.v4.scoring.effective.Effective.{Effective};
 
 use crate::vector::Vector;
-use cvss_score::v4::scoring::account::Account;
+use cvss_score::v4::scoring::explanation::Explanation;
 use cvss_score::v4::scoring::score_tenths;
 use cvss_score::v4::{Score, score_of};
 
@@ -52,11 +52,11 @@ impl Vector {
     /// Why a complete vector has its score: its effective values, their class, the value listed for
     /// it, what each group of metrics takes from the value, and the number before the rounding
     /// (v4.0 specification, section 8.2).
-    pub fn account(&self) -> Account
+    pub fn explanation(&self) -> Explanation
         requires complete { IsComplete v4 self.now }
-        ensures account { IsAccount (effective_of self.now) result }
+        ensures explanation { IsExplanation (effective_of self.now) result }
         ensures range { AreInRange result }
     {
-        Account::of(&self.effective())
+        Explanation::of(&self.effective())
     }
 }

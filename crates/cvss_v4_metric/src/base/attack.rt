@@ -7,7 +7,7 @@ ghost use Rattle.cvss_base.specs.declared.v4.MetricType.TheVariants as metric;
 ghost use Rattle.cvss_v4_metric.specs.Ranks as place;
 ghost use Rattle.cvss_v4_metric.specs.Table.{metric_component};
 
-use crate::metric::{Metric, MetricType, Spelled};
+use crate::metric::{Metric, MetricType, MetricValue};
 use std::fmt;
 
 /// How near to the vulnerable system the attacker has to be (v4.0 specification, section 2.1.1).
@@ -20,7 +20,7 @@ pub enum AttackVector {
     Network,
 }
 
-impl Spelled for AttackVector {
+impl MetricValue for AttackVector {
     const KIND: MetricType = MetricType::AV;
 
     ghost KIND = { metric.AV };
@@ -68,7 +68,7 @@ pub enum AttackComplexity {
     Low,
 }
 
-impl Spelled for AttackComplexity {
+impl MetricValue for AttackComplexity {
     const KIND: MetricType = MetricType::AC;
 
     ghost KIND = { metric.AC };
@@ -114,7 +114,7 @@ pub enum AttackRequirements {
     None,
 }
 
-impl Spelled for AttackRequirements {
+impl MetricValue for AttackRequirements {
     const KIND: MetricType = MetricType::AT;
 
     ghost KIND = { metric.AT };
@@ -160,7 +160,7 @@ pub enum PrivilegesRequired {
     None,
 }
 
-impl Spelled for PrivilegesRequired {
+impl MetricValue for PrivilegesRequired {
     const KIND: MetricType = MetricType::PR;
 
     ghost KIND = { metric.PR };
@@ -207,7 +207,7 @@ pub enum UserInteraction {
     None,
 }
 
-impl Spelled for UserInteraction {
+impl MetricValue for UserInteraction {
     const KIND: MetricType = MetricType::UI;
 
     ghost KIND = { metric.UI };

@@ -6,7 +6,7 @@ ghost use Rattle.cvss_base.specs.declared.v4.MetricType.TheVariants as metric;
 ghost use Rattle.cvss_v4_metric.specs.Ranks as place;
 ghost use Rattle.cvss_v4_metric.specs.Table.{metric_component};
 
-use crate::metric::{Metric, MetricType, Spelled};
+use crate::metric::{Metric, MetricType, MetricValue};
 use std::fmt;
 
 /// How much confidentiality systems after the vulnerable one lose (v4.0 specification, section
@@ -19,7 +19,7 @@ pub enum ConfidentialityImpactToTheSubsequentSystem {
     High,
 }
 
-impl Spelled for ConfidentialityImpactToTheSubsequentSystem {
+impl MetricValue for ConfidentialityImpactToTheSubsequentSystem {
     const KIND: MetricType = MetricType::SC;
 
     ghost KIND = { metric.SC };
@@ -66,7 +66,7 @@ pub enum IntegrityImpactToTheSubsequentSystem {
     High,
 }
 
-impl Spelled for IntegrityImpactToTheSubsequentSystem {
+impl MetricValue for IntegrityImpactToTheSubsequentSystem {
     const KIND: MetricType = MetricType::SI;
 
     ghost KIND = { metric.SI };
@@ -114,7 +114,7 @@ pub enum AvailabilityImpactToTheSubsequentSystem {
     High,
 }
 
-impl Spelled for AvailabilityImpactToTheSubsequentSystem {
+impl MetricValue for AvailabilityImpactToTheSubsequentSystem {
     const KIND: MetricType = MetricType::SA;
 
     ghost KIND = { metric.SA };

@@ -6,7 +6,7 @@ ghost use Rattle.cvss_base.specs.declared.v4.MetricType.TheVariants as metric;
 ghost use Rattle.cvss_v4_metric.specs.Ranks as place;
 ghost use Rattle.cvss_v4_metric.specs.Table.{metric_component};
 
-use crate::metric::{Metric, MetricType, Spelled};
+use crate::metric::{Metric, MetricType, MetricValue};
 use std::fmt;
 
 /// How much confidentiality the vulnerable system loses (v4.0 specification, section 2.2.1).
@@ -18,7 +18,7 @@ pub enum ConfidentialityImpactToTheVulnerableSystem {
     High,
 }
 
-impl Spelled for ConfidentialityImpactToTheVulnerableSystem {
+impl MetricValue for ConfidentialityImpactToTheVulnerableSystem {
     const KIND: MetricType = MetricType::VC;
 
     ghost KIND = { metric.VC };
@@ -65,7 +65,7 @@ pub enum IntegrityImpactToTheVulnerableSystem {
     High,
 }
 
-impl Spelled for IntegrityImpactToTheVulnerableSystem {
+impl MetricValue for IntegrityImpactToTheVulnerableSystem {
     const KIND: MetricType = MetricType::VI;
 
     ghost KIND = { metric.VI };
@@ -112,7 +112,7 @@ pub enum AvailabilityImpactToTheVulnerableSystem {
     High,
 }
 
-impl Spelled for AvailabilityImpactToTheVulnerableSystem {
+impl MetricValue for AvailabilityImpactToTheVulnerableSystem {
     const KIND: MetricType = MetricType::VA;
 
     ghost KIND = { metric.VA };

@@ -7,7 +7,7 @@ ghost use Rattle.cvss_base.specs.declared.v4.MetricType.TheVariants as metric;
 ghost use Rattle.cvss_v4_metric.specs.Ranks as place;
 ghost use Rattle.cvss_v4_metric.specs.Table.{metric_component};
 
-use crate::metric::{Metric, MetricType, Spelled};
+use crate::metric::{Metric, MetricType, MetricValue};
 use std::fmt;
 
 /// What Attack Vector is in the user's own environment (v4.0 specification, section 4.2).
@@ -21,7 +21,7 @@ pub enum ModifiedAttackVector {
     NotDefined,
 }
 
-impl Spelled for ModifiedAttackVector {
+impl MetricValue for ModifiedAttackVector {
     const KIND: MetricType = MetricType::MAV;
 
     ghost KIND = { metric.MAV };
@@ -71,7 +71,7 @@ pub enum ModifiedAttackComplexity {
     Low,
 }
 
-impl Spelled for ModifiedAttackComplexity {
+impl MetricValue for ModifiedAttackComplexity {
     const KIND: MetricType = MetricType::MAC;
 
     ghost KIND = { metric.MAC };
@@ -118,7 +118,7 @@ pub enum ModifiedAttackRequirements {
     None,
 }
 
-impl Spelled for ModifiedAttackRequirements {
+impl MetricValue for ModifiedAttackRequirements {
     const KIND: MetricType = MetricType::MAT;
 
     ghost KIND = { metric.MAT };
@@ -166,7 +166,7 @@ pub enum ModifiedPrivilegesRequired {
     None,
 }
 
-impl Spelled for ModifiedPrivilegesRequired {
+impl MetricValue for ModifiedPrivilegesRequired {
     const KIND: MetricType = MetricType::MPR;
 
     ghost KIND = { metric.MPR };
@@ -215,7 +215,7 @@ pub enum ModifiedUserInteraction {
     None,
 }
 
-impl Spelled for ModifiedUserInteraction {
+impl MetricValue for ModifiedUserInteraction {
     const KIND: MetricType = MetricType::MUI;
 
     ghost KIND = { metric.MUI };

@@ -7,7 +7,7 @@ ghost use Rattle.cvss_base.specs.declared.v4.MetricType.TheVariants as metric;
 ghost use Rattle.cvss_v4_metric.specs.Ranks as place;
 ghost use Rattle.cvss_v4_metric.specs.Table.{metric_component};
 
-use crate::metric::{Metric, MetricType, Spelled};
+use crate::metric::{Metric, MetricType, MetricValue};
 use std::fmt;
 
 /// How much confidentiality matters to the user's organisation (v4.0 specification, section 4.1).
@@ -20,7 +20,7 @@ pub enum ConfidentialityRequirements {
     High,
 }
 
-impl Spelled for ConfidentialityRequirements {
+impl MetricValue for ConfidentialityRequirements {
     const KIND: MetricType = MetricType::CR;
 
     ghost KIND = { metric.CR };
@@ -69,7 +69,7 @@ pub enum IntegrityRequirements {
     High,
 }
 
-impl Spelled for IntegrityRequirements {
+impl MetricValue for IntegrityRequirements {
     const KIND: MetricType = MetricType::IR;
 
     ghost KIND = { metric.IR };
@@ -118,7 +118,7 @@ pub enum AvailabilityRequirements {
     High,
 }
 
-impl Spelled for AvailabilityRequirements {
+impl MetricValue for AvailabilityRequirements {
     const KIND: MetricType = MetricType::AR;
 
     ghost KIND = { metric.AR };

@@ -7,7 +7,7 @@ ghost use Rattle.cvss_base.specs.declared.v4.MetricType.TheVariants as metric;
 ghost use Rattle.cvss_v4_metric.specs.Ranks as place;
 ghost use Rattle.cvss_v4_metric.specs.Table.{metric_component};
 
-use crate::metric::{Metric, MetricType, Spelled};
+use crate::metric::{Metric, MetricType, MetricValue};
 use std::fmt;
 
 /// What Confidentiality Impact to the Subsequent System is in the user's own environment (v4.0
@@ -21,7 +21,7 @@ pub enum ModifiedConfidentialityImpactToTheSubsequentSystem {
     High,
 }
 
-impl Spelled for ModifiedConfidentialityImpactToTheSubsequentSystem {
+impl MetricValue for ModifiedConfidentialityImpactToTheSubsequentSystem {
     const KIND: MetricType = MetricType::MSC;
 
     ghost KIND = { metric.MSC };
@@ -72,7 +72,7 @@ pub enum ModifiedIntegrityImpactToTheSubsequentSystem {
     Safety,
 }
 
-impl Spelled for ModifiedIntegrityImpactToTheSubsequentSystem {
+impl MetricValue for ModifiedIntegrityImpactToTheSubsequentSystem {
     const KIND: MetricType = MetricType::MSI;
 
     ghost KIND = { metric.MSI };
@@ -125,7 +125,7 @@ pub enum ModifiedAvailabilityImpactToTheSubsequentSystem {
     Safety,
 }
 
-impl Spelled for ModifiedAvailabilityImpactToTheSubsequentSystem {
+impl MetricValue for ModifiedAvailabilityImpactToTheSubsequentSystem {
     const KIND: MetricType = MetricType::MSA;
 
     ghost KIND = { metric.MSA };

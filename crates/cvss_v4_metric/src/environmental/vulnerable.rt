@@ -7,7 +7,7 @@ ghost use Rattle.cvss_base.specs.declared.v4.MetricType.TheVariants as metric;
 ghost use Rattle.cvss_v4_metric.specs.Ranks as place;
 ghost use Rattle.cvss_v4_metric.specs.Table.{metric_component};
 
-use crate::metric::{Metric, MetricType, Spelled};
+use crate::metric::{Metric, MetricType, MetricValue};
 use std::fmt;
 
 /// What Confidentiality Impact to the Vulnerable System is in the user's own environment (v4.0
@@ -21,7 +21,7 @@ pub enum ModifiedConfidentialityImpactToTheVulnerableSystem {
     High,
 }
 
-impl Spelled for ModifiedConfidentialityImpactToTheVulnerableSystem {
+impl MetricValue for ModifiedConfidentialityImpactToTheVulnerableSystem {
     const KIND: MetricType = MetricType::MVC;
 
     ghost KIND = { metric.MVC };
@@ -71,7 +71,7 @@ pub enum ModifiedIntegrityImpactToTheVulnerableSystem {
     High,
 }
 
-impl Spelled for ModifiedIntegrityImpactToTheVulnerableSystem {
+impl MetricValue for ModifiedIntegrityImpactToTheVulnerableSystem {
     const KIND: MetricType = MetricType::MVI;
 
     ghost KIND = { metric.MVI };
@@ -121,7 +121,7 @@ pub enum ModifiedAvailabilityImpactToTheVulnerableSystem {
     High,
 }
 
-impl Spelled for ModifiedAvailabilityImpactToTheVulnerableSystem {
+impl MetricValue for ModifiedAvailabilityImpactToTheVulnerableSystem {
     const KIND: MetricType = MetricType::MVA;
 
     ghost KIND = { metric.MVA };

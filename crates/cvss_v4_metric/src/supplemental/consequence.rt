@@ -7,7 +7,7 @@ ghost use Rattle.cvss_base.specs.declared.v4.MetricType.TheVariants as metric;
 ghost use Rattle.cvss_v4_metric.specs.Ranks as place;
 ghost use Rattle.cvss_v4_metric.specs.Table.{metric_component};
 
-use crate::metric::{Metric, MetricType, Spelled};
+use crate::metric::{Metric, MetricType, MetricValue};
 use std::fmt;
 
 /// Whether persons may come to harm (v4.0 specification, section 5.1).
@@ -19,7 +19,7 @@ pub enum Safety {
     Negligible,
 }
 
-impl Spelled for Safety {
+impl MetricValue for Safety {
     const KIND: MetricType = MetricType::S;
 
     ghost KIND = { metric.S };
@@ -67,7 +67,7 @@ pub enum Recovery {
     Irrecoverable,
 }
 
-impl Spelled for Recovery {
+impl MetricValue for Recovery {
     const KIND: MetricType = MetricType::R;
 
     ghost KIND = { metric.R };
@@ -116,7 +116,7 @@ pub enum Automatable {
     No,
 }
 
-impl Spelled for Automatable {
+impl MetricValue for Automatable {
     const KIND: MetricType = MetricType::AU;
 
     ghost KIND = { metric.AU };
@@ -163,7 +163,7 @@ pub enum ValueDensity {
     Concentrated,
 }
 
-impl Spelled for ValueDensity {
+impl MetricValue for ValueDensity {
     const KIND: MetricType = MetricType::V;
 
     ghost KIND = { metric.V };

@@ -6,7 +6,7 @@ ghost use Rattle.cvss_base.specs.declared.v4.MetricType.TheVariants as metric;
 ghost use Rattle.cvss_v4_metric.specs.Ranks as place;
 ghost use Rattle.cvss_v4_metric.specs.Table.{metric_component};
 
-use crate::metric::{Metric, MetricType, Spelled};
+use crate::metric::{Metric, MetricType, MetricValue};
 use std::fmt;
 
 /// How hard it is to respond to the vulnerability (v4.0 specification, section 5.6).
@@ -19,7 +19,7 @@ pub enum VulnerabilityResponseEffort {
     High,
 }
 
-impl Spelled for VulnerabilityResponseEffort {
+impl MetricValue for VulnerabilityResponseEffort {
     const KIND: MetricType = MetricType::RE;
 
     ghost KIND = { metric.RE };
@@ -70,7 +70,7 @@ pub enum ProviderUrgency {
     Clear,
 }
 
-impl Spelled for ProviderUrgency {
+impl MetricValue for ProviderUrgency {
     const KIND: MetricType = MetricType::U;
 
     ghost KIND = { metric.U };

@@ -1,13 +1,13 @@
 use Rattle.std.proofs.Common.{◌≡◌, List, [], ◌∷◌, ◌++◌, ◌∙◌, ℕ, Some, None, ap, append-nil, codes}
 use Rattle.std.specs.Fmt.{decimal}
-use Rattle.cvss_score.specs.declared.v4.scoring.account.GroupAccounts.{GroupAccounts}
+use Rattle.cvss_score.specs.declared.v4.scoring.explanation.GroupExplanations.{GroupExplanations}
 use Rattle.cvss_score.specs.declared.v4.scoring.classes.MacroVector.{MacroVector}
 use Rattle.cvss_explain.proofs.TextLemmas.{extended, extended-followed, followed}
 use Rattle.cvss_explain.specs.V4.{group_text, groups_text}
 use Rattle.cvss_explain.specs.private.Digits.{digits_text}
 use Rattle.cvss_explain.proofs.v4.put_groups.Goals as goal
 
-module _ (page : List ℕ) (class : MacroVector) (value : ℕ) (groups : GroupAccounts) where
+module _ (page : List ℕ) (class : MacroVector) (value : ℕ) (groups : GroupExplanations) where
   abbrev parts : List ℕ → List ℕ → List ℕ → List ℕ → List (List ℕ)
   parts one two four five =
       codes "["
@@ -41,4 +41,4 @@ pub returns-clause-text : goal.returns-clause-text
 returns-clause-text c =
     rw (c.push-7.ensures, c.put_group-5.ensures.text, c.push-6.ensures, c.put_group-4.ensures.text, c.push-5.ensures, c.put_group-3.ensures.text)
     (rw (c.push-4.ensures, c.put_group-2.ensures.text, c.push-3.ensures, c.put_group.ensures.text, c.push-2.ensures, c.in-Some.is)
-    (written c.args.page.now c.args.account.now.class c.args.account.now.value c.in-Some.groups))
+    (written c.args.page.now c.args.explanation.now.class c.args.explanation.now.value c.in-Some.groups))

@@ -1,6 +1,6 @@
 -- What the private code computes of a group of metrics, in whole numbers.
 use Rattle.std.specs.Prelude.{◌≡◌, ℕ, ◌-◌, ◌*◌, ◌/◌, ◌≤◌, IfSome, option_map, unwrap_or, unsigned_abs, pos}
-use Rattle.cvss_score.specs.v4.Account.{with_value}
+use Rattle.cvss_score.specs.v4.Explanation.{with_value}
 use Rattle.cvss_score.specs.v4.Gap.{Group, next_lower}
 use Rattle.cvss_score.specs.declared.v4.scoring.shares.Terms.{Terms}
 

@@ -1,7 +1,7 @@
 //! The next lower class in each group of metrics, with its value (v4.0 specification, section 8.2).
 
 ghost use Rattle.std.specs.Prelude.{◌≡◌, IfSome, option_map, nat_lt, if◌then◌else◌};
-ghost use Rattle.cvss_score.specs.v4.Account.{with_value};
+ghost use Rattle.cvss_score.specs.v4.Explanation.{with_value};
 ghost use Rattle.cvss_score.specs.v4.Gap.{eq1_next, eq2_next, eq3_eq6_next, eq4_next, eq5_next};
 ghost use Rattle.cvss_score.specs.v4.Classes.{IsMacroVector};
 ghost use Rattle.cvss_score.specs.v4.private.Next.{IsInTable};

@@ -2,17 +2,17 @@ use Rattle.std.proofs.Common.{◌≡◌, ℕ, List, ◌∷◌, Option, Some, Non
 use Rattle.cvss_base.specs.Text.{slash, component, value_part}
 use Rattle.cvss_base.specs.Version.{held}
 use Rattle.cvss_text.specs.private.Printing.{with_slash}
-use Rattle.cvss_base.specs.private.Component.{foreign_bytes}
+use Rattle.cvss_base.specs.private.Component.{delimiter_bytes}
 use Rattle.cvss_text.proofs.LawLemmas.{name_plain}
-use Rattle.cvss_text.proofs.TextLemmas.{is_colon, foreign_sorts, count_by-cons, value_after}
+use Rattle.cvss_text.proofs.TextLemmas.{is_colon, delimiter_sorts, count_by-cons, value_after}
 use Rattle.cvss_text.proofs.metrics.spelled.Goals as goal
 
 -- the printed component gives the spelling back
-held-from_with_slash : (name : List ℕ) (held : Option (List ℕ)) (text : List ℕ) → foreign_bytes name ≡ 0 → Some text ≡ with_slash (option_map (component name) held) → Some (value_part text) ≡ held
+held-from_with_slash : (name : List ℕ) (held : Option (List ℕ)) (text : List ℕ) → delimiter_bytes name ≡ 0 → Some text ≡ with_slash (option_map (component name) held) → Some (value_part text) ≡ held
 held-from_with_slash name None text plain is = absurd (let no : Some text ≡ None = is in cc)
 held-from_with_slash name (Some spelling) text plain is =
     let text_is : text ≡ component (slash ∷ name) spelling = cc in
-    rw text_is (ap Some (value_after (slash ∷ name) spelling (omega (arith, count_by-cons is_colon slash name, foreign_sorts name))))
+    rw text_is (ap Some (value_after (slash ∷ name) spelling (omega (arith, count_by-cons is_colon slash name, delimiter_sorts name))))
 
 pub returns : goal.returns
 returns g c =

@@ -7,4 +7,4 @@ use Rattle.cvss_v2_metric.proofs.metric.spelling.Goals as goal
 pub returns : goal.returns
 returns g c =
     let named = c.name.ensures ∙ ap name_of c.KIND.ensures in
-    ap (λ text. text.now) c.unwrap_or.ensures ∙ spelling_got c.as_bytes.result.now c.name.result.now (spelling_of g.M.Spelled.KIND (g.M.Spelled.value c.args.value)) c.get.result _ (rw (c.as_bytes.ensures.value, named) c.with_slash.ensures) c.get.ensures.lookup.0
+    ap (λ text. text.now) c.unwrap_or.ensures ∙ spelling_got c.as_bytes.result.now c.name.result.now (spelling_of g.M.MetricValue.KIND (g.M.MetricValue.value c.args.value)) c.get.result _ (rw (c.as_bytes.ensures.value, named) c.with_slash.ensures) c.get.ensures.lookup.0

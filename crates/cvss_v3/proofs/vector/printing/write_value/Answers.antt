@@ -3,7 +3,7 @@ use Rattle.cvss_v3.proofs.vector.printing.write_value.Goals as goal
 
 pub push_component-requires : goal.push_component-requires
 push_component-requires g c = record {
-  least = rw c.with_slash.ensures (at_least_three g.M.Spelled.KIND (g.M.Spelled.value c.in-Some.metric));
-  most = rw c.with_slash.ensures (at_most_eight g.M.Spelled.KIND (g.M.Spelled.value c.in-Some.metric));
+  least = rw c.with_slash.ensures (at_least_three g.M.MetricValue.KIND (g.M.MetricValue.value c.in-Some.metric));
+  most = rw c.with_slash.ensures (at_most_eight g.M.MetricValue.KIND (g.M.MetricValue.value c.in-Some.metric));
   room = c.requires;
 }

@@ -27,8 +27,8 @@ unwrap-requires g c = rw c.hundredths.ensures c.requires
 
 pub returns : goal.returns
 returns g c =
-    let kind = g.Self.Spelled.KIND in
-    let small = leb-true _ _ (rw (← c.hundredths.ensures, c.unwrap.ensures) at (bounded_at (rows_of kind) (rank_of kind (g.Self.Spelled.value c.args.self)) (bounded kind))) in
+    let kind = g.Self.MetricValue.KIND in
+    let small = leb-true _ _ (rw (← c.hundredths.ensures, c.unwrap.ensures) at (bounded_at (rows_of kind) (rank_of kind (g.Self.MetricValue.value c.args.self)) (bounded kind))) in
     let is = product c.from.result c.unwrap.result c.from.ensures small in
     record {
       value = rw (← c.hundredths.ensures, c.unwrap.ensures) is;

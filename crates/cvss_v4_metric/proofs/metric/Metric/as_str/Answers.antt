@@ -7,7 +7,7 @@ use Rattle.cvss_v4_metric.proofs.metric.Metric.as_str.Goals as goal
 
 pub range_from-requires : goal.range_from-requires
 range_from-requires g c =
-    let value = spelling_at g.Self.Spelled.KIND (g.Self.Spelled.rank c.args.self) in
+    let value = spelling_at g.Self.MetricValue.KIND (g.Self.MetricValue.rank c.args.self) in
     let named = sym (c.name.ensures ∙ ap name_of c.KIND.ensures) in
     λ _. after_colon c.with_slash.result.now c.name.result.now value
     (c.with_slash.ensures ∙ ap (λ name. slash ∷ component name value) named) c.with_slash.utf8

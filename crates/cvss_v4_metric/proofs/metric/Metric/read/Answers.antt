@@ -23,5 +23,5 @@ returns-then-is_reading-clause-read g c = λ metric reading.
 pub returns-else-is_reading-clause-read : goal.returns-else-is_reading-clause-read
 returns-else-is_reading-clause-read g c = λ metric reading.
     let same = same_Some _ _ (c.in_ok-metric.ensures.read metric (rw c.as_bytes.ensures.value (read_alike _ _ reading))) in
-    let read = subst (λ m. IsReading (spelling_at g.Self.Spelled.KIND (g.Self.Spelled.rank m)) c.args.text.now) (sym same) reading in
+    let read = subst (λ m. IsReading (spelling_at g.Self.MetricValue.KIND (g.Self.MetricValue.rank m)) c.args.text.now) (sym same) reading in
     absurd (false≢true (c.if-is_reading.ensures.1 (rw c.as_str.ensures read)))

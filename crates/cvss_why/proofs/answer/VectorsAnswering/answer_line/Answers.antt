@@ -4,10 +4,10 @@ use Rattle.cvss_lines.proofs.TextsLemmas.{one_text}
 use Rattle.cvss_why.specs.Answers.{IsAnswer}
 use Rattle.cvss_why.proofs.answer.VectorsAnswering.answer_line.Goals as goal
 
-pub returns-in_ok-write_account-in-Ok : goal.returns-in_ok-write_account-in-Ok
+pub returns-in_ok-write_explanation-in-Ok : goal.returns-in_ok-write_explanation-in-Ok
 unfolding IsAnswer
-returns-in_ok-write_account-in-Ok c =
-    let written = c.in_ok-write_account-in-Ok.ensures in
+returns-in_ok-write_explanation-in-Ok c =
+    let written = c.in_ok-write_explanation-in-Ok.ensures in
     record {
       answer = Accepted (written.text ∷ []);
       answers = record {

@@ -1,0 +1,26 @@
+//! The explanation of a vector's score.
+
+ghost use Rattle.std.specs.Prelude.{◌≡◌, []};
+ghost use Rattle.cvss_any.specs.Answers.{HasScore};
+ghost use Rattle.cvss_explain.specs.Explanation.{IsExplanationText};
+
+use crate::{v2, v3, v4};
+use cvss_any::Cvss;
+use cvss_json_write::Page;
+
+/// Writes why a vector has its score: an object with its canonical text and version, the score and its
+/// rating, and the numbers on the way to it; and the number of a line, if there is one.
+pub fn put_explanation(page: &mut Page, line: Option<u64>, cvss: &Cvss)
+    requires scored { HasScore cvss.now }
+    requires empty { page.old ≡ [] }
+    ensures { IsExplanationText line cvss.now page.new }
+{
+    let tenths = cvss.tenths();
+    match cvss {
+        Cvss::CvssV20(vector) => v2::put_explanation(page, line, cvss, vector, tenths),
+        Cvss::CvssV30(vector) | Cvss::CvssV31(vector) => {
+            v3::put_explanation(page, line, cvss, vector, tenths);
+        }
+        Cvss::CvssV40(vector) => v4::put_explanation(page, line, cvss, vector, tenths),
+    }
+}

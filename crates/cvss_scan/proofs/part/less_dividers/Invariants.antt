@@ -1,9 +1,0 @@
-use Rattle.std.proofs.Common.{◌≡◌, length}
-use Rattle.cvss_scan.specs.Parts.{less_dividers}
-use Rattle.cvss_scan.proofs.part.less_dividers.Given as goal
-
-abbrev pub invariant-loop-text : goal.invariant-loop-text
-invariant-loop-text l = less_dividers l.fn.part ≡ less_dividers l.text
-
-abbrev pub decreases-loop-text : goal.decreases-loop-text
-decreases-loop-text l = length l.text
