@@ -218,7 +218,7 @@ def try_programs():
     pages = ((ROOT / "README.md").read_text(), PROGRAMS)
     found = [block for page in pages for block in blocks(page, "") if block.startswith("$ ")]
     examples = [example for block in found if "> findings" not in block for example in re.split(r"(?m)^\$ ", block)[1:]]
-    for name in ("cvss", "cvss_find", "cvss_triage", "cvss_audit"):
+    for name in ("cvss", "cvss find", "cvss audit", "cvss_triage"):
         assert any(re.search(rf"\| {name}\b", example) for example in examples), f"no example of {name}"
     for example in examples:
         command, _, wanted = example.partition("\n")
@@ -237,14 +237,13 @@ V4 = "CVSS:4.0/AV:N/AC:L/AT:N/PR:N/UI:N/VC:N/VI:N/VA:N/SC:N/SI:N/SA:N"
 
 
 def audit_environment():
-    """That of a shell that finds cvss_audit and jq; none where these are not on the machine."""
-    program = ROOT / "crates/cvss_audit/out"
-    if not (program / "cvss_audit").exists():
-        skip("the examples of cvss_audit", "it is not built")
+    """That of a shell that finds cvss and jq; none where these are not on the machine."""
+    if not (ROOT / "crates/cvss_command/out/cvss_command").exists():
+        skip("the examples of cvss audit", "it is not built")
         return None
-    if not has("jq", "the examples of cvss_audit"):
+    if not has("jq", "the examples of cvss audit"):
         return None
-    return {**os.environ, "PATH": f"{program}:{os.environ['PATH']}"}
+    return {**os.environ, "PATH": f"{FOLDER / 'programs'}:{os.environ['PATH']}"}
 
 
 def try_job(environment):
@@ -269,7 +268,7 @@ def try_nulls(environment):
     """A vector of null, as GitHub's GraphQL has it where there is none, is passed over; another value is not."""
     for score, status in (('{"score":0,"vectorString":null}', 0), ('{"score":0,"vectorString":7}', 1), (AGREEING, 0)):
         given = f'{{"nodes":[{{"cvss":{score}}},{{"cvss":{AGREEING}}}]}}'.encode()
-        done = subprocess.run(["cvss_audit"], input=given, stdout=subprocess.PIPE, env=environment)
+        done = subprocess.run(["cvss", "audit"], input=given, stdout=subprocess.PIPE, env=environment)
         assert done.returncode == status, f"status {done.returncode}, and not {status}, over {score}"
 
 
@@ -282,7 +281,7 @@ def try_base_scores(environment):
         done = subprocess.run(block, shell=True, cwd=FOLDER, env=environment, stdout=subprocess.PIPE)
         assert done.returncode == status, f"status {done.returncode}, and not {status}, over {record}: {block}"
         given = json.dumps(record).encode()
-        alone = subprocess.run(["cvss_audit"], input=given, stdout=subprocess.PIPE, env=environment)
+        alone = subprocess.run(["cvss", "audit"], input=given, stdout=subprocess.PIPE, env=environment)
         assert alone.returncode == 1, f"{record} does not differ"
 
 
@@ -300,8 +299,9 @@ def try_removal():
     block = block_with("rm -f")
     programs = re.findall(r"^\w+ (\w+)$", (ROOT / "release/programs").read_text(), re.M)
     libraries = re.findall(r'"\$built/(\S+)" "\$prefix/lib/"', (ROOT / "release/stage").read_text())
-    assert programs and libraries
-    for name in (*(f"bin/{program}" for program in programs), *(f"lib/{library}" for library in libraries)):
+    completions = [f"share/bash-completion/completions/{path.name}" for path in (ROOT / "bindings/completion").iterdir()]
+    assert programs and libraries and completions
+    for name in (*(f"bin/{program}" for program in programs), *(f"lib/{library}" for library in libraries), *completions):
         assert f"{name} " in block, f"{name} is not taken away"
         (home / ".local" / name).parent.mkdir(parents=True, exist_ok=True)
         (home / ".local" / name).touch()

@@ -1,5 +1,5 @@
 #!/usr/bin/env python3
-"""Checks how much memory the built `cvss_audit` takes in addition to the JSON reader: at most 20 bytes for
+"""Checks how much memory the built `cvss audit` takes in addition to the JSON reader: at most 20 bytes for
 each byte of the line, however many vectors are in it, however long their pointers are, and whatever the
 members that disagree say.
 
@@ -20,7 +20,7 @@ sys.path.insert(0, str(ROOT / "bench/inputs"))
 
 from deep_documents import document
 
-PROGRAM = ROOT / "crates/cvss_audit/out/cvss_audit"
+PROGRAM = [ROOT / "crates/cvss_command/out/cvss_command", "audit"]
 MOST = 20
 # What answers are kept before they are written, and the pages that the system gives in advance.
 START = 1 << 20
@@ -95,7 +95,7 @@ def main():
               f"{reader >> 10:,} KiB where no vector is found", flush=True)
         if beside > MOST * len(line) + START:
             sys.exit(f"{kind}: {rate:.1f} bytes a byte beside the reader")
-    print(f"cvss_audit takes at most {most:.1f} bytes a byte of a line beside the JSON reader, "
+    print(f"cvss audit takes at most {most:.1f} bytes a byte of a line beside the JSON reader, "
           f"which takes up to {dearest:.0f}")
 
 

@@ -4,8 +4,11 @@ streams that are closed or full, statuses, and drawn lines beside reference/comp
 
 usage: bench/checks/command.py [COUNT [SEED]]
 """
+import json
 import os
 import random
+import re
+import shutil
 import subprocess
 import sys
 import tempfile
@@ -16,6 +19,7 @@ sys.path[:0] = [str(ROOT / "reference"), str(ROOT / "bench/inputs")]
 
 import complete
 import lines
+import rows
 
 PROGRAM = ROOT / "crates/cvss_command/out/cvss_command"
 V2 = b"AV:N/AC:L/Au:N/C:N/I:N/A:C"
@@ -39,12 +43,20 @@ def expect(status, out, error, *arguments, given=b"", **streams):
     tried += 1
 
 
+def assert_fits(text):
+    """A help text fits a screen."""
+    rows = text.decode().splitlines()
+    assert len(rows) <= 24 and max(map(len, rows)) <= 80, text
+
+
 def try_arguments():
     usage = subprocess.run([PROGRAM, "--help"], stdout=subprocess.PIPE, check=True).stdout
-    for topic in ("score", "set"):
+    for topic in [line.split()[0].decode() for line in usage.splitlines() if re.match(rb"  [a-z]+  ", line)]:
         text = subprocess.run([PROGRAM, "help", topic], stdout=subprocess.PIPE, check=True).stdout
-        assert len(text.splitlines()) <= 24 and f"cvss {topic} ".encode() in text
+        assert re.search(f"^  (.* )?cvss {topic} ".encode(), text, re.MULTILINE), f"no example of {topic}"
         expect(0, text, b"", topic, "--help")
+        assert_fits(text)
+    assert_fits(usage)
     expect(0, usage, b"", "help")
     expect(0, usage, b"", "help", "help")
     expect(0, f"cvss {(ROOT / 'VERSION').read_text().strip()}\n".encode(), b"", "--version")
@@ -70,7 +82,7 @@ def try_hints():
         expect(1, b"error: invalid CVSS string prefix: `" + prefix[:4] + b"`\n", capitals, "score", prefix + bare)
     for text in (b"(" + V2 + b").", b'"' + V2 + b'"', b" " + V2):
         told = subprocess.run([PROGRAM, "score", text], capture_output=True, check=False)
-        assert (told.returncode, told.stderr) == (1, b"cvss: hint: `cvss_find` finds vectors among other text\n"), told
+        assert (told.returncode, told.stderr) == (1, b"cvss: hint: `cvss find` finds vectors among other text\n"), told
     for word, answer in ((CUT, CUT_ANSWER), (b"x:y", b"error: invalid CVSS metric group component: `x:y`\n")):
         expect(1, answer, b"", "score", word)
     expect(0, V2_ANSWER, b"", "score", V2)
@@ -152,6 +164,91 @@ def try_lines(count, seed):
     return count * len(tasks)
 
 
+def compare_rows(form, told, expected):
+    """JSON is compared as members and values, in order, since it may escape a byte in several ways."""
+    if form == "json":
+        told, expected = ([json.loads(line, object_pairs_hook=list) for line in text.splitlines()] for text in (told, expected))
+    assert told == expected, next(pair for pair in zip(told.splitlines() if form == "tsv" else told, expected.splitlines() if form == "tsv" else expected) if pair[0] != pair[1])
+
+
+def try_rows(room, count, seed):
+    """Rows of drawn lines beside reference/rows.py, from standard input and from two files."""
+    draw = random.Random(seed)
+    odd = [b"", b"a\tb\\c\rd:e/f", b'x:"\x01\x1f\x7f/AV:N', b"\xff\t\\", "AV:\u00e9/AC:L".encode(), CUT]
+    drawn = odd + [lines.line(draw, "all", draw.choice(("base", "full", "any", "refused"))).encode() for _ in range(count)]
+    given = b"".join(line + b"\n" for line in drawn)
+    (room / "one").write_bytes(given)
+    odd_name = 'two\t"'
+    (room / odd_name).write_bytes(V2)
+    header = "\t".join(rows.COLUMNS).encode() + b"\n"
+    for form in ("tsv", "json"):
+        for allow in ((), ("--allow-incomplete",)):
+            told = subprocess.run([PROGRAM, "score", f"--{form}", *allow], input=given, capture_output=True, check=False)
+            expected = b"".join(rows.row(form, line, bool(allow)) + b"\n" for line in drawn)
+            assert told.returncode == 1 and not told.stderr, told
+            compare_rows(form, told.stdout, (header if form == "tsv" else b"") + expected)
+        both = b"".join(rows.row(form, line, file=name) + b"\n"
+                        for name, of in ((b"one", drawn), (odd_name.encode(), [V2])) for line in of)
+        told = subprocess.run([PROGRAM, "score", f"--{form}", "one", odd_name], cwd=room, capture_output=True, check=False)
+        compare_rows(form, told.stdout, (b"file\t" + header if form == "tsv" else b"") + both)
+    with open("/dev/full", "wb") as device:
+        expect(2, b"", b"cvss: standard output: No space left on device (os error 28)\n", "score", "--tsv", V2, stdout=device)
+    expect(2, header, b"cvss: gone" + NO_FILE, "score", "--tsv", "gone", cwd=room)
+    expect(0, header, b"", "score", "--tsv")
+    return 4 * len(drawn)
+
+
+def try_large(room):
+    """Ten thousand files, a file of 10 GB without a line end in little memory, and a file that may not be read."""
+    many = [f"n{number}" for number in range(10_000)]
+    for name in many:
+        (room / name).write_bytes(V2)
+    expect(0, b"".join(name.encode() + b":" + V2_ANSWER for name in many), b"", "score", *many, cwd=room)
+    with open(room / "zeros", "wb") as zeros:
+        zeros.truncate(10 * 10 ** 9)
+    told = subprocess.run(["bash", "-c", 'ulimit -v 500000; exec "$0" score zeros', PROGRAM], cwd=room, capture_output=True,
+                          check=False)
+    assert (told.returncode, told.stdout, told.stderr) == (2, b"", b"cvss: out of memory\n"), told
+    (room / "zeros").unlink()
+    if os.geteuid() == 0:
+        room.chmod(0o755)
+        shutil.copy(PROGRAM, room / "cvss")
+        (room / "cvss").chmod(0o755)
+        told = subprocess.run([room / "cvss", "score", "closed"], cwd=room, user=65534, capture_output=True, check=False)
+        assert (told.returncode, told.stderr) == (2, b"cvss: closed: Permission denied (os error 13)\n"), told
+
+
+def try_chunks(seed):
+    """Lines in pieces of any length, as a terminal or a network gives them."""
+    draw = random.Random(seed)
+    given = (V2 + b"\r\n" + CUT + b"\n") * 20 + V2
+    with subprocess.Popen([PROGRAM, "score"], stdin=subprocess.PIPE, stdout=subprocess.PIPE) as program:
+        at = 0
+        while at < len(given):
+            step = draw.randint(1, 40)
+            program.stdin.write(given[at:at + step])
+            program.stdin.flush()
+            at += step
+        told = program.communicate()[0]
+    assert told == (V2_ANSWER + CUT_ANSWER) * 20 + V2_ANSWER, told
+
+
+def try_completion():
+    """What bash completes, by the file that is installed."""
+    script = 'cvss() { "$PROGRAM" "$@"; }; . "$FILE"; COMP_WORDS=("$@"); COMP_CWORD=$(($# - 1)); _cvss; printf "%s\\n" "${COMPREPLY[@]}"'
+    environment = os.environ | {"PROGRAM": str(PROGRAM), "FILE": str(ROOT / "bindings/completion/cvss")}
+
+    def complete_words(*words):
+        told = subprocess.run(["bash", "-c", script, "bash", "cvss", *words], env=environment, capture_output=True, text=True,
+                              check=True, cwd=ROOT)
+        return told.stdout.split()
+
+    assert {"score", "set", "help", "--help", "--version"} <= set(complete_words(""))
+    assert complete_words("sc") == ["score"] and complete_words("help", "se") == ["set"]
+    assert complete_words("score", "--a") == ["--allow-incomplete"] and "--tsv" in complete_words("score", "--")
+    assert complete_words("score", "VERS") == ["VERSION"]
+
+
 def main():
     count = int(sys.argv[1]) if len(sys.argv) > 1 else 2_000
     with tempfile.TemporaryDirectory() as folder:
@@ -160,8 +257,14 @@ def main():
         try_hints()
         try_files(room)
         try_streams(room)
-    answers = try_lines(count, int(sys.argv[2]) if len(sys.argv) > 2 else 2)
-    print(f"cvss: {tried} runs end as they should; {answers} answers are those of reference/complete.py")
+        try_large(room)
+        seed = int(sys.argv[2]) if len(sys.argv) > 2 else 2
+        in_rows = try_rows(room, count, seed)
+    try_chunks(seed)
+    try_completion()
+    answers = try_lines(count, seed)
+    print(f"cvss: {tried} runs end as they should; {answers} answers are those of reference/complete.py, {in_rows} rows those of"
+          " reference/rows.py")
 
 
 if __name__ == "__main__":

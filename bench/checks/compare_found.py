@@ -1,5 +1,5 @@
 #!/usr/bin/env python3
-"""Compares what the built `cvss_find` writes with finding.py, over random texts.
+"""Compares what the built `cvss find` writes with finding.py, over random texts.
 
 usage: bench/checks/compare_found.py [COUNT [SEED]]
 """
@@ -13,34 +13,85 @@ sys.path[:0] = [str(ROOT / "reference"), str(ROOT / "bench/inputs")]
 import finding
 import texts
 
-PROGRAM = ROOT / "crates/cvss_find/out/cvss_find"
+PROGRAM = ROOT / "crates/cvss_command/out/cvss_command"
+
+# Texts, and what is found in each: its column and its answer.
+V2 = b"AV:N/AC:L/Au:N/C:N/I:N/A:P"
+V2_ANSWER = V2.decode() + " 5.0 medium"
+METRICS = b"AV:N/AC:L/PR:N/UI:N/S:U/C:H/I:H/A:H"
+V3 = b"CVSS:3.1/" + METRICS
+V3_ANSWER = V3.decode() + " 9.8 critical"
+PREFIX = "error: invalid CVSS string prefix: `cvss`"
+COMPONENT = "error: invalid CVSS metric group component: "
+MISSING = "error: missing mandatory CVSSv3 UI (User Interaction) metric"
+CUT = b"CVSS:3.1/AV:N/AC:L/PR:N"
+CASES = [
+    (b"score 9.8 (" + V3 + b").", [(12, V3_ANSWER)]),
+    (b"x?v=" + V3.replace(b":", b"%3A").replace(b"/", b"%2F") + b"&y", [(5, V3_ANSWER)]),
+    (b"x?v=" + V3.replace(b"/", b"%2f"), [(5, V3_ANSWER)]),
+    (b"x?v=CVSS:3.1%2F" + METRICS.replace(b":", b"%3a").replace(b"/", b"%2F"), [(5, V3_ANSWER)]),
+    (b"x?v=" + V3.replace(b":", b"%3A"), [(5, V3_ANSWER)]),
+    (V3 + b"%2Fx " + V3 + b"%20" + V2 + b"%29", [(1, V3_ANSWER), (50, V3_ANSWER)]),
+    (b"[" + V2 + b"%29", [(2, V2_ANSWER)]),
+    (b"cvss:3.1/" + METRICS, [(1, PREFIX)]),
+    (b"9.8/cvss:3.1/" + METRICS, [(5, PREFIX)]),
+    (b"CVSS3.1/" + METRICS, [(1, COMPONENT + "`CVSS3.1`")]),
+    (b"(CVSSv3.1/" + METRICS, [(2, COMPONENT + "`CVSSv3.1`")]),
+    (b"7.5/" + V2, [(5, V2_ANSWER)]),
+    (b"10.0/" + V2 + b".", [(6, V2_ANSWER)]),
+    (b"vector:" + V2, [(8, V2_ANSWER)]),
+    (b"score:7.5/" + V2, [(11, V2_ANSWER)]),
+    (b"AC:L/AV:N/Au:N/C:N/I:N/A:P", [(1, V2_ANSWER)]),
+    (b"E:U/" + V2, [(1, V2.decode() + "/E:U 5.0 medium")]),
+    (CUT, [(1, MISSING)]),
+    (b"text " + CUT + b"/", [(6, COMPONENT + "``")]),
+    (b"text " + V3 + b"/", [(6, COMPONENT + "``")]),
+    (V3 + b"/ text", [(1, V3_ANSWER)]),
+    (V3 + b"//", [(1, V3_ANSWER)]),
+    (V3 + b"/.", [(1, V3_ANSWER)]),
+    (b"https://www.first.org/cvss/v3.1/user-guide CVSS:3.1 cvss3.1/av x/" + V2, []),
+]
 
 
-def compare(given):
+def run(given, *arguments):
+    return subprocess.run([PROGRAM, "find", *arguments], input=given, capture_output=True, check=False)
+
+
+def try_cases():
+    for text, found in CASES:
+        expected = [f"1:{column} {answer}\n" for column, answer in found]
+        told = run(text).stdout.decode().splitlines(keepends=True)
+        if told != expected or list(finding.answers(text)) != expected:
+            sys.exit(f"cvss find: {text}: {told}, finding.py {list(finding.answers(text))}, and not {expected}")
+
+
+def compare(given, *arguments):
     """Ends if the program writes something else, or has another status; otherwise returns the answers."""
-    expected = list(finding.answers(given))
-    done = subprocess.run([PROGRAM], input=given, capture_output=True, check=False)
+    expected = list(finding.answers(given, bool(arguments)))
+    done = run(given, *arguments)
     told = done.stdout.decode("utf-8").splitlines(keepends=True)
     for here, there in zip(told, expected):
         if here != there:
-            sys.exit(f"cvss_find writes {here!r}, and not {there!r}")
+            sys.exit(f"cvss find writes {here!r}, and not {there!r}")
     if not expected:
-        sys.exit("no vector is mentioned in the drawn texts: nothing was tried")
+        sys.exit("the drawn texts have no vector: nothing was tried")
     if len(told) != len(expected):
-        sys.exit(f"cvss_find writes {len(told)} lines, and not {len(expected)}")
-    refused = any(answer.split(" ", 1)[1].startswith("error: ") for answer in expected)
-    if (done.returncode, done.stderr) != (int(refused), b""):
-        sys.exit(f"cvss_find: status {done.returncode}, told {done.stderr!r}")
+        sys.exit(f"cvss find writes {len(told)} lines, and not {len(expected)}")
+    rejected = any(answer.split(" ", 1)[1].startswith("error: ") for answer in expected)
+    if (done.returncode, done.stderr) != (int(rejected), b""):
+        sys.exit(f"cvss find: status {done.returncode}, standard error {done.stderr!r}")
     return len(expected)
 
 
 def main():
     count = int(sys.argv[1]) if len(sys.argv) > 1 else 5_000
+    try_cases()
     drawn = texts.drawn(count, int(sys.argv[2]) if len(sys.argv) > 2 else 2)
     # the last line has no end, and each tenth ends with a carriage return too
     ends = (b"\r\n" if number % 10 == 9 else b"\n" for number in range(count - 1))
-    answered = compare(b"".join(line for pair in zip(drawn, [*ends, b""]) for line in pair))
-    print(f"cvss_find: {count} drawn texts, {answered} answers, which are those of finding.py")
+    given = b"".join(line for pair in zip(drawn, [*ends, b""]) for line in pair)
+    answered = compare(given) + compare(given, "--allow-incomplete")
+    print(f"cvss find: {len(CASES)} texts, and {count} drawn ones with {answered} answers, which are those of finding.py")
 
 
 if __name__ == "__main__":

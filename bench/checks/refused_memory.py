@@ -9,13 +9,13 @@ The input, and the answers with ample memory, come from stored lines:
 - `test_json` reads the text of each vector there as a JSON string, writes the vector as one, and
   copies the error of a rejected text; its own stored lines do the same for ratings and
   nomenclatures. It reports each of these steps by its name.
-- `cvss_tool` answers the texts of any version, one per line, and `cvss_find` the same texts in
+- `cvss_tool` answers the texts of any version, one per line, and `cvss find` the same texts in
   sentences, where the expected answers are those of reference/finding.py.
-- `cvss_audit` answers its own stored documents.
+- `cvss audit` answers the stored documents of bench/documents/lines.jsonl.
 
 Only these answers may be `out of memory`: in `test_vectors` those to a rejected text whose error
 quotes the text, and rows of triage; and the steps of `test_json` that build a string or copy such an
-error. So a valid text is accepted whichever request is refused, and `cvss_tool` and `cvss_find`
+error. So a valid text is accepted whichever request is refused, and `cvss_tool` and `cvss find`
 answer each text as always. If a line can't be read or a buffer can't grow, the run ends early, and
 what it has written are the whole answers to the first lines.
 
@@ -118,11 +118,12 @@ def build(room):
 def runs(shim, program, given, *arguments):
     """Runs a program with ample memory, and then with each request refused in turn: the status of
     each run, what it wrote, and what it wrote on standard error."""
+    name, *words = program.split()
     with (tempfile.TemporaryFile() as source, tempfile.TemporaryFile() as out,
           tempfile.TemporaryFile() as errors, tempfile.TemporaryFile() as report):
         source.write(given)
         source.flush()
-        subprocess.run([ROOT / f"crates/{program}/out/{program}", *arguments],
+        subprocess.run([ROOT / f"crates/{name}/out/{name}", *words, *arguments],
                        stdin=source, stdout=out, stderr=errors, check=True,
                        env=dict(os.environ, LD_PRELOAD=shim, REPORT=str(report.fileno())),
                        pass_fds=[report.fileno()])
@@ -190,9 +191,9 @@ def strings():
 
 
 def found(text):
-    """What `cvss_find` answers to each match in a text."""
+    """What `cvss find` answers to each match in a text."""
     for number, line in enumerate(text.split(b"\n"), 1):
-        for place, _, answer in finding.found(line):
+        for place, answer in finding.reported(line):
             yield [f"{number}:{place + 1} {answer}"]
 
 
@@ -242,9 +243,9 @@ def in_batches(pairs):
 
 
 def refuse_in_turn_over_documents(shim):
-    """The same over `cvss_audit`, whose lines have any number of answers."""
-    folder = ROOT / "crates/cvss_audit"
-    given, whole = ((folder / name).read_bytes() for name in ("stdin", "stdout"))
+    """The same over `cvss audit`, whose lines have any number of answers."""
+    folder = ROOT / "bench/documents"
+    given, whole = ((folder / name).read_bytes() for name in ("lines.jsonl", "lines.answers"))
     # Where the answers to a line end: after the last answer that names its number, or none.
     numbers = [json.loads(line)["line"] for line in whole.splitlines()]
     ends = {0, len(whole)}
@@ -253,15 +254,15 @@ def refuse_in_turn_over_documents(shim):
         place += len(line)
         if now != following:
             ends.add(place)
-    ample, *others = runs(shim, "cvss_audit", given)
+    ample, *others = runs(shim, "cvss_command", given, "audit")
     if ample[:2] != (1, whole):
-        sys.exit("cvss_audit: the run with ample memory is not the stored one")
+        sys.exit("cvss audit: the run with ample memory is not the stored one")
     for turn, (status, written, _) in enumerate(others, 1):
         if status != 2 or len(written) not in ends or not whole.startswith(written):
-            sys.exit(f"cvss_audit, turn {turn}: status {status}, wrote {written[:2000]!r}")
+            sys.exit(f"cvss audit, turn {turn}: status {status}, wrote {written[:2000]!r}")
     if not others:
-        sys.exit("cvss_audit: no request was refused: nothing was tried")
-    print(f"cvss_audit: {len(others)} requests refused in turn over {given.count(bytes([10]))} "
+        sys.exit("cvss audit: no request was refused: nothing was tried")
+    print(f"cvss audit: {len(others)} requests refused in turn over {given.count(bytes([10]))} "
           "documents: each run ended early, with the whole answers to the first lines")
 
 
@@ -277,7 +278,7 @@ def main():
         refuse_in_turn(shim, "test_json", in_batches(list(strings())), (0, 1), "strings")
         lines, wanted = zip(*texts)
         refuse_in_turn(shim, "cvss_tool", [(b"\n".join(lines) + b"\n", wanted)], (1, 2))
-        refuse_in_turn(shim, "cvss_find", [(text, list(found(text)))], (1, 2), "mentions")
+        refuse_in_turn(shim, "cvss_command find", [(text, list(found(text)))], (1, 2), "mentions")
         refuse_in_turn_over_documents(shim)
 
 

@@ -178,10 +178,6 @@ def try_arguments(runs):
             runs.expect("cvss_triage", LOW.encode(), (1, b"", f"cvss_triage: argument 1: {told}\n"),
                         [argument])
         runs.expect("cvss_tool", b"", (0, b"", ""), [part] * 20)
-        for program in ("cvss_find", "cvss_audit", "cvss_why"):
-            usage = (ROOT / "bench/checks/usages" / program).read_text()
-            told = f"{program}: no argument is known but `--help`\n{usage}"
-            runs.expect(program, b"", (2, b"", told), [part] * 20)
 
 
 def try_much(runs):
@@ -192,8 +188,8 @@ def try_much(runs):
         runs.expect("cvss_tool", part.encode() + b"\n" + LINE,
                     (1, f"error: {told}\n{FIRST}".encode(), ""))
         runs.expect("cvss_triage", part.encode(), (1, b"", f"cvss_triage: line 1: {told}\n"))
-        runs.expect("cvss_audit", f'{{"vectorString":"{part}"}}'.encode(),
-                    (1, f'{{"at":"","given":"{part}","line":1,"refused":"{told}"}}\n'.encode(), ""))
+        runs.expect("cvss_command", f'{{"vectorString":"{part}"}}'.encode(),
+                    (1, f'{{"at":"","given":"{part}","line":1,"refused":"{told}"}}\n'.encode(), ""), ["audit"])
     count = ALL // len(LINE)
     runs.expect("cvss_tool", LINE * count, (0, FIRST.encode() * count, ""))
     count = ONE_BY_ONE // len(LINE)
@@ -204,7 +200,7 @@ def try_much(runs):
     told = b"error: invalid CVSS metric group component: `\0`\n"
     runs.expect("cvss_tool", b"\0\n" + LINE + b"\0\n", (1, told + FIRST.encode() + told, ""))
     runs.expect("cvss_tool", LINE + b"\0\n", (1, FIRST.encode() + told, ""), READ_STEP=len(LINE))
-    runs.expect("cvss_audit", b"\0", (1, b'{"line":1,"refused":"not JSON"}\n', ""))
+    runs.expect("cvss_command", b"\0", (1, b'{"line":1,"refused":"not JSON"}\n', ""), ["audit"])
 
 
 def try_many(runs):
@@ -213,15 +209,15 @@ def try_many(runs):
     for given, place in ((text * MANY, lambda number: (1, number * len(text) + 2)),
                          (f"{text}\n" * MANY, lambda number: (number + 1, 2))):
         found = "".join("%d:%d %s" % (*place(number), FIRST) for number in range(MANY))
-        runs.expect("cvss_find", given.encode(), (0, found.encode(), ""))
+        runs.expect("cvss_command", given.encode(), (0, found.encode(), ""), ["find"])
     holder, answer = f'{{"vectorString":"{V2}"}}', agreed()
     found = "".join(answer.replace('"at":""', f'"at":"/{number}"') for number in range(MANY))
-    runs.expect("cvss_audit", f"[{','.join([holder] * MANY)}]".encode(), (0, found.encode(), ""))
+    runs.expect("cvss_command", f"[{','.join([holder] * MANY)}]".encode(), (0, found.encode(), ""), ["audit"])
     found = "".join(answer.replace('"line":1', f'"line":{number + 1}') for number in range(MANY))
-    runs.expect("cvss_audit", f"{holder}\n".encode() * MANY, (0, found.encode(), ""))
+    runs.expect("cvss_command", f"{holder}\n".encode() * MANY, (0, found.encode(), ""), ["audit"])
     before, after = accounts.written(accounts.answer(1, LINE.strip())).split('"line":1,')
     found = "".join(f'{before}"line":{number + 1},{after}\n' for number in range(MANY // 10))
-    runs.expect("cvss_why", LINE * (MANY // 10), (0, found.encode(), ""))
+    runs.expect("cvss_command", LINE * (MANY // 10), (0, found.encode(), ""), ["explain", "--json"])
 
 
 def requests(shim, line):

@@ -104,7 +104,7 @@ LINES = [
     (b"A:C/I:N/C:N/Au:N/AC:L/AV:N\r", FIRST),
 ]
 
-# Texts of `cvss_find`; the last of some lines has no end.
+# Texts of `cvss find`; the last of some lines has no end.
 TEXTS = [
     b"",
     b"\r\n\nsee CVSS:3.1 and AV:N/AC:L",
@@ -129,7 +129,7 @@ DOCUMENT = f'{{"vectorString":"{V2}","baseScore":7}}'
 
 
 def audited(says="7", line=1):
-    """What `cvss_audit` answers to a document that says this of the score 7.8 of a vector of v2."""
+    """What `cvss audit` answers to a document that says this of the score 7.8 of a vector of v2."""
     return (f'{{"at":"","differs":[{{"is":7.8,"member":"baseScore","says":{says}}}],"given":"{V2}",'
             f'"line":{line},"scores":{{"base":7.8,"environmental":7.8,"temporal":7.8}},'
             f'"severity":"high","vector":"{V2}"}}\n')
@@ -146,21 +146,11 @@ def no_json(line):
     return f'{{"line":{line},"refused":"not JSON"}}\n'
 
 
-def noted(given, answers):
-    """What it notes on standard error where it looked at nothing, or at one line of a longer document."""
-    if not answers:
-        lines = given.count(b"\n") + (given != b"" and not given.endswith(b"\n"))
-        return f"cvss_audit: no vector was found, lines read: {lines}\n"
-    if answers.startswith(no_json(1)) and given.lstrip()[:1] in (b"{", b"["):
-        return "cvss_audit: one document a line is read: `jq -c . file | cvss_audit`\n"
-    return ""
-
-
 def nested(depth, text=""):
     return "[" * depth + text + "]" * depth
 
 
-# Documents of `cvss_audit` with their answers, and whether something is rejected or differs.
+# Documents of `cvss audit` with their answers, and whether something is found.
 DOCUMENTS = [
     (b"", "", 0),
     (b'{}\n[]\n1\n"CVSS:3.1/AV:N"', "", 0),
@@ -205,6 +195,14 @@ class Runs:
 
     def expect(self, program, given, wanted, arguments=(), **streams):
         """Compares the status, standard output and standard error."""
+        told = self.run(program, given, arguments, streams)
+        if told != wanted:
+            sys.exit(f"{program} {arguments} {streams} over {given[:200]!r}:\n"
+                     f"{str(told)[:2000]}\nand not\n{str(wanted)[:2000]}")
+        self.count += 1
+
+    def run(self, program, given, arguments, streams):
+        """The status, standard output and standard error of a program."""
         env = dict(os.environ, LD_PRELOAD=self.shim, **{key: str(streams[key]) for key in streams})
         path = ROOT / f"crates/{program}/out/{program}"
         with tempfile.TemporaryFile() as file:
@@ -212,10 +210,13 @@ class Runs:
             file.seek(0)
             done = subprocess.run([path, *arguments], stdin=file, capture_output=True, env=env,
                                   check=False)
-        told = (done.returncode, done.stdout, done.stderr.decode())
-        if told != wanted:
-            sys.exit(f"{program} {arguments} {streams} over {given[:200]!r}:\n"
-                     f"{str(told)[:2000]}\nand not\n{str(wanted)[:2000]}")
+        return done.returncode, done.stdout, done.stderr.decode()
+
+    def expect_error(self, given, wanted, arguments, **streams):
+        """Compares the status and standard output of `cvss`, which names an error on standard error."""
+        told = self.run("cvss_command", given, arguments, streams)
+        if told[:2] != wanted or bool(wanted[0]) != told[2].startswith("cvss: "):
+            sys.exit(f"cvss {arguments} {streams} over {given[:200]!r}:\n{str(told)[:2000]}\nand not\n{str(wanted)[:2000]}")
         self.count += 1
 
     def expect_fault(self, program, given, written, words, arguments=(), **streams):
@@ -243,21 +244,13 @@ def try_tool(runs):
 
 
 def try_find(runs):
-    """Texts that reads cut; failed reads; full writers."""
+    """Texts that reads cut, and writes of a byte. How `cvss` reports an error is tried in command.py."""
     for given in TEXTS:
         answers = "".join(finding.answers(given))
         status = 1 if "error: " in answers else 0
         for step in (1, 2, 3, 100_000):
-            runs.expect("cvss_find", given, (status, answers.encode(), ""), READ_STEP=step,
+            runs.expect("cvss_command", given, (status, answers.encode(), ""), ["find"], READ_STEP=step,
                         WRITE_SLOWLY=1)
-    given, answer = f"({V2})\n{V2}".encode(), f"1:2 {FIRST}".encode()
-    for fault in FAULTS:
-        runs.expect_fault("cvss_find", given, answer, "read failed", READ_STEP=20,
-                          READ_LIMIT=len(given), READ_FAULT=fault)
-    for fault in [0] + FAULTS:
-        for room in (0, 3, 10):
-            runs.expect_fault("cvss_find", given, answer[:room], "write failed", WRITE_ROOM=room,
-                              WRITE_FAULT=fault)
 
 
 def try_triage(runs):
@@ -276,18 +269,18 @@ def try_triage(runs):
 
 
 def try_audit(runs):
-    """Documents that reads cut; failed reads; full writers."""
+    """Documents that reads cut; failed reads; full writers. A pipe that its reader has closed is no error."""
     for given, answers, status in DOCUMENTS:
         for step in (1, 7, 100_000):
-            runs.expect("cvss_audit", given, (status, answers.encode(), noted(given, answers)),
-                        READ_STEP=step, WRITE_SLOWLY=1)
+            runs.expect("cvss_command", given, (status, answers.encode(), ""), ["audit"], READ_STEP=step,
+                        WRITE_SLOWLY=1)
     given = f"{DOCUMENT}\n{DOCUMENT}".encode()
     for fault in FAULTS:
-        runs.expect_fault("cvss_audit", given, audited().encode(), "read failed", READ_STEP=50,
-                          READ_LIMIT=len(given), READ_FAULT=fault)
+        runs.expect_error(given, (2, audited().encode()), ["audit"], READ_STEP=50, READ_LIMIT=len(given), READ_FAULT=fault)
+        runs.expect_error(given, (2, b""), ["audit", "--document"], READ_STEP=50, READ_LIMIT=len(given), READ_FAULT=fault)
     for fault in [0] + FAULTS:
         for room in (0, 3, 10):
-            runs.expect_fault("cvss_audit", given, audited().encode()[:room], "write failed",
+            runs.expect_error(given, (0 if fault == errno.EPIPE else 2, audited().encode()[:room]), ["audit"],
                               WRITE_ROOM=room, WRITE_FAULT=fault)
 
 

@@ -17,8 +17,9 @@ PROSE = """see the advisory of last week for what an attacker can do over a netw
 and/or with them e.g. by HTTP/1.1 on port 443: rated 9.8/10 at 10:15 (CVE-2024-12345) in 2.0:3 or
 CVSSv3.1: critical AV:N/AC:L CVSS:3.1 CVSS:4.0/ CVSS CVSS:/ CVSS:// CVSS:3.1/. CVSS:2.0 cvss:3.1/AV:N
 XCVSS:3.1/AV:N CVSS:CVSS:CVSS:3.1/AV:N VSS:3.1 /CVSS:. .:/ a:b ://""".split()
+LOOSE = ["cvss:3.1/", "CVSS3.1/", "CVSSv3.0/", "Cvss:4.0/", "cvss4.0/", "CVSS:3.1%2F", "CVSS%3A3.1/", "CVSS%3A4.0%2F"]
 LINKS = ["https://www.first.org/cvss/calculator/3.1#", "https://example.org/calculator?vector=",
-         "https://example.org/CVSS:3.1/AV:N/", "[score](", "<a href=\"#", "score:", "9.8/", "v3:"]
+         "https://example.org/CVSS:3.1/AV:N/", "[score](", "<a href=\"#", "score:", "9.8/", "v3:", "7.5/", "vector:", "score:10.0/", "x:7.5/", "?v="]
 STRANGE = ["\u00e9", "\u017f", "\uff21\uff36:N", "\u201c", "\u00a0", "\u2215", "\U0001f600", "\0", "\r",
            "\x7f", "\x1b[1m"]
 BROKEN = [b"\xff", b"\x80", b"\xc3", b"\xe2\x80", b"\xed\xa0\x80", b"\xc0\xaf"]
@@ -34,6 +35,9 @@ def vector(draw):
     text = lines.line(draw, draw.choice(("v2", "v3.0", "v3.1", "v4")), kind)
     if draw.random() < 0.25:
         text = text[:draw.randrange(len(text) + 1)]
+    if draw.random() < 0.2:
+        text = draw.choice(LOOSE) + text.partition("/")[2] if draw.random() < 0.5 else text
+        text = text.replace(":", draw.choice((":", "%3A", "%3a"))).replace("/", draw.choice(("/", "%2F", "%2f")))
     return text + draw.choice(ENDS)
 
 

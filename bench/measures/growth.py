@@ -43,24 +43,24 @@ INPUTS = {
 PROSE = (b"The service parses the header of a request before its length is known, so a client that "
          b"sends more than 4,096 bytes writes behind the buffer; versions 2.3.1 and/or later are fixed.\n")
 
-# The texts of `cvss_find` in the same way: of that many bytes, or what is named that often.
+# The texts of `cvss find` in the same way: of that many bytes, or what is named that often.
 TEXTS = {
-    "prose without a vector": (11, lambda size: (PROSE * (size // len(PROSE) + 1))[:size]),
-    "`CVSS:` again and again": (8.6, lambda size: b"CVSS:" * size),
-    "the same, and a slash at the end": (72, lambda size: b"CVSS:" * size + b"/"),
-    "`CVSS:/` again and again": (44, lambda size: b"CVSS:/" * size),
-    "colons": (9.4, lambda size: b":" * size),
-    "slashes": (29.4, lambda size: b"/" * size),
+    "prose without a vector": (18, lambda size: (PROSE * (size // len(PROSE) + 1))[:size]),
+    "`CVSS:` again and again": (13.2, lambda size: b"CVSS:" * size),
+    "the same, and a slash at the end": (300, lambda size: b"CVSS:" * size + b"/"),
+    "`CVSS:/` again and again": (234, lambda size: b"CVSS:/" * size),
+    "colons": (12.3, lambda size: b":" * size),
+    "slashes": (40, lambda size: b"/" * size),
 }
 
-# The documents of `cvss_audit`: the same bound, and by the size in bytes of what kind it is, and of
+# The documents of `cvss audit`: the same bound, and by the size in bytes of what kind it is, and of
 # how many places.
 DOCUMENTS = {
     "vectors in an array under a name of ten letters":
         (611, lambda size: ("names", 10, size // 46)),
     "the same at depth 120": (811, lambda size: ("deep", size // 46)),
     "members that hold vectors": (584, lambda size: ("members", size // 53)),
-    "the same without a vector": (127, lambda size: ("members", size // 53, "nameless")),
+    "the same without a vector": (207, lambda size: ("members", size // 53, "nameless")),
 }
 
 
@@ -108,8 +108,9 @@ def run(program, data, prefix=()):
         given.write(data)
         given.seek(0)
         began = time.monotonic()
-        path = ROOT / f"crates/{program}/out/{program}"
-        done = subprocess.run([*prefix, path], stdin=given, stdout=written,
+        name, *arguments = program.split()
+        path = ROOT / f"crates/{name}/out/{name}"
+        done = subprocess.run([*prefix, path, *arguments], stdin=given, stdout=written,
                               stderr=subprocess.PIPE, check=False)
         seconds = time.monotonic() - began
         written.seek(0)
@@ -150,11 +151,11 @@ def main():
         return
     sizes = [int(size) for size in sys.argv[1:]] or [100_000, 1_000_000]
     wrong = measure("cvss_tool", INPUTS, expected, sizes)
-    wrong += measure("cvss_find", TEXTS, lambda data: "".join(finding.answers(data)).encode(),
+    wrong += measure("cvss_command find", TEXTS, lambda data: "".join(finding.answers(data)).encode(),
                      sizes)
     documents = {name: (most, lambda size, kind=kind: made(kind(size)))
                  for name, (most, kind) in DOCUMENTS.items()}
-    wrong += measure("cvss_audit", documents, audited, [size // 5 for size in sizes])
+    wrong += measure("cvss_command audit", documents, audited, [size // 5 for size in sizes])
     sys.exit("\n".join(wrong) or None)
 
 

@@ -1,5 +1,5 @@
 #!/usr/bin/env python3
-"""Measures how many lines a second the built programs answer, and compares `cvss_find` with `grep -oE` over prose.
+"""Measures how many lines a second the built programs answer, and compares `cvss find` with `grep -oE` over prose.
 
 Prints a row of a table for each program and input: lines a second, nanoseconds a line and megabytes a second, by the
 least processor time of RUNS runs, which other work has disturbed least. The prose has a vector in every hundredth line;
@@ -72,17 +72,17 @@ def main():
         measure(f"`cvss_tool`, {version} base vectors", [program("cvss_tool")], drawn(version, "base", 200_000))
     mixed = drawn("all", "mixed", 500_000)
     measure("`cvss_tool`, mixed lines", [program("cvss_tool")], mixed)
-    measure("`cvss_why`, mixed lines", [program("cvss_why")], mixed[:100_000])
+    measure("`cvss explain --json`, mixed lines", [program("cvss_command"), "explain", "--json"], mixed[:100_000])
     measure("`cvss_triage msi:s cr:h`, v4 base vectors", [program("cvss_triage"), "msi:s", "cr:h"],
             drawn("v4", "base", 200_000))
-    measure("`cvss_audit`, documents", [program("cvss_audit")], documents(20_000))
+    measure("`cvss audit`, documents", [program("cvss_command"), "audit"], documents(20_000))
     text, vectors = prose(100_000)
-    found = measure("`cvss_find`, prose", [program("cvss_find")], text)
+    found = measure("`cvss find`, prose", [program("cvss_command"), "find"], text)
     for locale in "C", "C.UTF-8":
         if measure(f"`grep`, prose, `LC_ALL={locale}`", GREP, text, locale).split() != vectors:
             sys.exit("grep finds other vectors")
     if [line.split()[1] for line in found.splitlines()] != vectors:
-        sys.exit("cvss_find finds other vectors")
+        sys.exit("cvss find finds other vectors")
 
 
 if __name__ == "__main__":

@@ -89,6 +89,12 @@ int32_t cvss_version(const void *text, size_t length);
 bool cvss_scores(const void *text, size_t length, CvssScores *scores);
 
 /*
+ * The score of the vector in tenths: for v2 and v3 the base score, as `base` of cvss_scores. CVSS_NOTHING if the text is
+ * no valid vector. It computes no other score.
+ */
+int32_t cvss_score(const void *text, size_t length);
+
+/*
  * Writes the scores of a v4.0 vector by groups of metrics, in tenths: scores[CVSS_B] with the base metrics alone,
  * scores[CVSS_BE] with base and environmental metrics, scores[CVSS_BT] with base and threat metrics, and
  * scores[CVSS_BTE] with all of them, which is the vector's own score. Returns false, and leaves the array
@@ -136,6 +142,25 @@ enum { CVSS_MOST_METRICS = 32 };
  * unchanged, if the text is no valid vector.
  */
 size_t cvss_metrics(const void *text, size_t length, CvssMetric *metrics, size_t count);
+
+/*
+ * A vector as the values of its metrics. fields[i] is the spelling of the value of the metric that is at i in the canonical
+ * order of the version, a string, filled up with bytes 0; it is empty if the vector lacks the metric. That order, from 0:
+ *
+ *   v2    AV AC Au C I A E RL RC CDP TD CR IR AR
+ *   v3    AV AC PR UI S C I A E RL RC CR IR AR MAV MAC MPR MUI MS MC MI MA
+ *   v4.0  AV AC AT PR UI VC VI VA SC SI SA E CR IR AR MAV MAC MAT MPR MUI MVC MVI MVA MSC MSI MSA S AU R V RE U
+ */
+typedef struct CvssValues {
+    int32_t version;                  /* 20, 30, 31 or 40 */
+    int32_t score;                    /* in tenths, as of cvss_score */
+    int32_t nomenclature;             /* for v4.0 CVSS_B to CVSS_BTE; otherwise CVSS_NOTHING */
+    int32_t reserved;                 /* 0 */
+    char fields[CVSS_MOST_METRICS][8];
+} CvssValues;
+
+/* Returns whether the text is a valid vector, and then writes its values. Otherwise `*values` is unchanged. */
+bool cvss_values(const void *text, size_t length, CvssValues *values);
 
 /*
  * Writes the canonical text without the metrics that are not defined (X, in v2 ND). It has the same scores, and

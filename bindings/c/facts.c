@@ -4,6 +4,7 @@
  */
 #define _POSIX_C_SOURCE 200809L
 #include "cvss.h"
+#include "cvss_words.h"
 
 #include <stdio.h>
 #include <stdlib.h>
@@ -89,11 +90,50 @@ static bool is_read_alike(const char *text, size_t length)
     return is_alike;
 }
 
+/* The value that a vector has for a metric; an empty string if it has none. */
+static const char *value_of(const CvssMetric *metrics, size_t count, const char *name)
+{
+    for (size_t i = 0; i < count; i++)
+        if (strcmp(metrics[i].name, name) == 0)
+            return metrics[i].value;
+    return "";
+}
+
+/* Whether the values are those of the metrics, in the order of the version, and the score is the one of the scores. */
+static bool are_values(const char *text, size_t length, const CvssScores *scores)
+{
+    CvssValues values;
+    CvssMetric metrics[CVSS_MOST_METRICS];
+    size_t count = cvss_metrics(text, length, metrics, CVSS_MOST_METRICS), types_count;
+    if (!cvss_values(text, length, &values) || values.version != scores->version || values.reserved != 0)
+        return false;
+    bool are = values.score == scores->base && values.nomenclature == scores->nomenclature
+        && cvss_score(text, length) == scores->base;
+    const CvssMetricType *types = cvss_metric_types(scores->version, &types_count);
+    for (size_t i = 0; i < CVSS_MOST_METRICS; i++) {
+        char field[8] = "";
+        if (i < types_count)
+            strcpy(field, value_of(metrics, count, types[i].name));
+        are = are && memcmp(field, values.fields[i], 8) == 0;
+    }
+    return are;
+}
+
+/* Whether a rejected text has no score, and leaves the values as they were. */
+static bool has_no_values(const char *text, size_t length)
+{
+    CvssValues values, before;
+    memset(&values, 0x5a, sizeof values);
+    memcpy(&before, &values, sizeof values);
+    return cvss_score(text, length) == CVSS_NOTHING && !cvss_values(text, length, &values)
+        && memcmp(&values, &before, sizeof values) == 0;
+}
+
 static void print_vector(const char *text, size_t length, const CvssScores *scores)
 {
     size_t told;
     char *canonical = written(cvss_canonical, text, length, &told);
-    if (told != length || scores->version != cvss_version(text, length))
+    if (told != length || scores->version != cvss_version(text, length) || !are_values(text, length, scores))
         exit(3);
     printf("%s %d.%d", canonical, (int)(scores->version / 10), (int)(scores->version % 10));
     printf(" %s", scores->nomenclature == CVSS_NOTHING ? "-" : nomenclatures[scores->nomenclature]);
@@ -138,7 +178,7 @@ int main(void)
             exit(3);
         if (cvss_scores(line, length, &scores))
             print_vector(line, length, &scores);
-        else if (memcmp(&scores, &before, sizeof scores) == 0)
+        else if (memcmp(&scores, &before, sizeof scores) == 0 && has_no_values(line, length))
             print_refusal(line, length);
         putchar('\n');
     }

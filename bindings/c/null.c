@@ -15,6 +15,9 @@ int main(void)
     size_t told = cvss_reason(NULL, 0, buffer, sizeof buffer);
     int right = told == sizeof empty - 1 && memcmp(buffer, empty, told) == 0;
     right &= cvss_version(NULL, 0) == CVSS_NOTHING && !cvss_scores(NULL, 0, &scores);
+    CvssValues values = {.reserved = 1};
+    right &= cvss_score(NULL, 0) == CVSS_NOTHING && !cvss_values(NULL, 0, &values) && values.reserved == 1;
+    right &= cvss_score(text, length) == 78 && cvss_values(text, length, &values) && strcmp(values.fields[5], "C") == 0;
     right &= cvss_canonical(NULL, 0, NULL, 0) == 0 && cvss_canonical(text, length, NULL, 0) == length;
     right &= cvss_read(NULL, 0, &scores, NULL, 0) == 0 && cvss_read(text, length, &scores, NULL, 0) == length;
     right &= cvss_metrics(NULL, 0, NULL, 0) == 0 && cvss_metrics(text, length, NULL, 0) == 6;

@@ -74,6 +74,14 @@ static void make_scores(const char *text, size_t length)
     cvss_scores(text, length, &scores);
 }
 
+static void make_score(const char *text, size_t length) { cvss_score(text, length); }
+
+static void make_values(const char *text, size_t length)
+{
+    CvssValues values;
+    cvss_values(text, length, &values);
+}
+
 static void make_read(const char *text, size_t length)
 {
     CvssScores scores;
@@ -154,7 +162,8 @@ static const Call calls[] = {
     {"cvss_with_reason", make_with_reason}, {"cvss_build_reason", make_build_reason},
     {"cvss_refusal_value", make_value}, {"cvss_nomenclature_scores", make_groups},
     {"cvss_numbers", make_numbers},     {"cvss_rounded", make_rounded},
-    {"cvss_temporal_with_impact", make_temporal},
+    {"cvss_temporal_with_impact", make_temporal}, {"cvss_score", make_score},
+    {"cvss_values", make_values},
 };
 
 /* Whether no function makes a request over a text, which a newline follows. */

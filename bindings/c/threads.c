@@ -40,14 +40,18 @@ static void write_numbers(Answered *own, const char *line, size_t size)
     CvssScores scores = {.version = 0};
     CvssMetric metrics[CVSS_MOST_METRICS] = {{"", ""}};
     int32_t by[4] = {0};
+    CvssValues values = {.version = 0};
     size_t start = 0, found = 0;
     cvss_read(line, size, &scores, NULL, 0);
+    cvss_values(line, size, &values);
     cvss_nomenclature_scores(line, size, by);
     cvss_find(line, size, 0, &start, &found);
     advance(own, (size_t)snprintf(own->written + own->end, WRITTEN - own->end, "%d %d %d %d %d %d %d %zu %zu %zu",
                                   (int)scores.version, (int)scores.base, (int)by[CVSS_B], (int)by[CVSS_BE], (int)by[CVSS_BT],
                                   (int)cvss_rating(31, scores.base), (int)cvss_refusal_kind(line, size), start, found,
                                   cvss_metrics(line, size, metrics, CVSS_MOST_METRICS)));
+    advance(own, (size_t)snprintf(own->written + own->end, WRITTEN - own->end, " %d %d %s", (int)cvss_score(line, size),
+                                  (int)values.score, values.fields[4]));
 }
 
 /* Sets metrics in the vector of a line, and builds vectors from the line. */

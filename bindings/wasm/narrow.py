@@ -12,7 +12,7 @@ EXPORT = re.compile(r'\(export "(\w+)" \((func|global) (\$[^\s)]+)\)\)')
 WRAPPED = {"i64": "i32", "i32": "i32"}
 EXTEND = {"i64": "(i64.extend_i32_u (local.get {}))", "i32": "(local.get {})"}
 # JavaScript has no call of them, and they would make the module larger
-LEFT_OUT = ("cvss_numbers", "cvss_rounded", "cvss_temporal_with_impact")
+LEFT_OUT = ("cvss_numbers", "cvss_rounded", "cvss_temporal_with_impact", "cvss_score", "cvss_values")
 RESULT = {"i64": "(i32.wrap_i64 {})", "i32": "{}", "": "{}"}
 
 

@@ -48,7 +48,7 @@ function checkMemory() {
 }
 
 // The functions of cvss.h that the package does not call, and that its module does not have.
-const LEFT_OUT = ["cvss_numbers", "cvss_rounded", "cvss_temporal_with_impact"];
+const LEFT_OUT = ["cvss_numbers", "cvss_rounded", "cvss_score", "cvss_temporal_with_impact", "cvss_values"];
 
 // The module has the other functions of cvss.h, its memory and where free memory begins, and imports nothing.
 function checkModule() {

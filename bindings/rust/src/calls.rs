@@ -51,6 +51,17 @@ pub(crate) struct CvssNumbers {
 /// No vector has more metrics.
 const MOST_METRICS: usize = 32;
 
+/// The struct of the same name in `cvss.h`. What is reserved is not read.
+#[derive(Clone, Copy, Debug, Default, PartialEq, Eq)]
+#[repr(C)]
+pub(crate) struct CvssValues {
+    pub(crate) version: i32,
+    pub(crate) score: i32,
+    pub(crate) nomenclature: i32,
+    reserved: i32,
+    pub(crate) fields: [[u8; 8]; MOST_METRICS],
+}
+
 extern "C" {
     fn cvss_read(
         text: *const u8,
@@ -60,6 +71,8 @@ extern "C" {
         size: usize,
     ) -> usize;
     fn cvss_scores(text: *const u8, length: usize, scores: *mut CvssScores) -> bool;
+    fn cvss_score(text: *const u8, length: usize) -> i32;
+    fn cvss_values(text: *const u8, length: usize, values: *mut CvssValues) -> bool;
     fn cvss_metrics(
         text: *const u8,
         length: usize,
@@ -175,6 +188,23 @@ pub(crate) fn scores(text: &[u8]) -> Option<CvssScores> {
     // overlap.
     let is_vector = unsafe { cvss_scores(text.as_ptr(), text.len(), &mut scores) };
     is_vector.then_some(scores)
+}
+
+/// The tenths of the score of the vector that a text denotes, or -1.
+#[inline]
+pub(crate) fn score(text: &[u8]) -> i32 {
+    // SAFETY: the pointer is that of a slice that lives through the call.
+    unsafe { cvss_score(text.as_ptr(), text.len()) }
+}
+
+/// The values of the metrics of the vector that a text denotes.
+#[inline]
+pub(crate) fn values(text: &[u8]) -> Option<CvssValues> {
+    let mut values = CvssValues::default();
+    // SAFETY: the pointers are those of a slice and of a struct that live through the call and do not
+    // overlap.
+    let is_vector = unsafe { cvss_values(text.as_ptr(), text.len(), &mut values) };
+    is_vector.then_some(values)
 }
 
 /// The metrics of the vector that a text denotes, or none.

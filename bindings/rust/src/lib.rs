@@ -31,6 +31,7 @@ mod scores;
 #[cfg(feature = "serde")]
 mod serialized;
 mod table;
+mod values;
 mod vector;
 mod words;
 
@@ -38,7 +39,8 @@ pub use exact::{temporal_with_impact, Exact, Numbers};
 pub use find::{find, Mention, Mentions};
 pub use numbers::{Group, Nomenclature, Score, Severity, UnknownName, Version};
 pub use refused::{OverrideError, Refused, RefusedKind};
-pub use scores::{scores, Scores};
+pub use scores::{score, scores, Scores};
+pub use values::Values;
 pub use vector::{Cvss, Metric};
 pub use words::{metrics, MetricType, MetricValue};
 

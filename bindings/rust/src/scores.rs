@@ -19,6 +19,20 @@ pub struct Scores {
     pub nomenclature: Option<Nomenclature>,
 }
 
+/// The score of the vector that a text denotes, in v2 and v3 the base score; `None` where it denotes
+/// none. It takes no memory, and less time than [`scores`], since it computes no other score.
+///
+/// ```
+/// let score = cvss_proved::score("CVSS:3.1/AV:N/AC:L/PR:N/UI:N/S:U/C:H/I:H/A:H/E:U").unwrap();
+/// assert_eq!(score.tenths(), 98);
+/// assert_eq!(cvss_proved::score("CVSS:3.1/AV:Q"), None);
+/// ```
+#[must_use]
+#[inline]
+pub fn score(text: &str) -> Option<Score> {
+    Score::of(calls::score(text.as_bytes()))
+}
+
 /// The scores of the vector that a text denotes; `None` where it denotes none. It takes no memory, and
 /// less time than [`Cvss::parse`](crate::Cvss::parse).
 ///

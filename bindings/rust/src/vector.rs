@@ -37,7 +37,7 @@ impl Metric {
 }
 
 /// What is before the bytes 0 of a field.
-fn field_text(field: &[u8; 8]) -> &str {
+pub(crate) fn field_text(field: &[u8; 8]) -> &str {
     let end = field.iter().position(|byte| *byte == 0).unwrap_or(8);
     std::str::from_utf8(&field[..end]).unwrap_or_default()
 }

@@ -1,8 +1,8 @@
 //! The vectors that are kept in the repository, with their answers.
 
 use cvss_proved::{
-    answer, answer_lines, find, metrics, Cvss, Group, Mention, Metric, MetricType, Nomenclature,
-    OverrideError, Refused, RefusedKind, Score, Severity, Version,
+    answer, answer_lines, find, metrics, score, Cvss, Group, Mention, Metric, MetricType,
+    Nomenclature, OverrideError, Refused, RefusedKind, Score, Severity, Values, Version,
 };
 use std::fmt::Display;
 use std::fs;
@@ -96,6 +96,35 @@ fn stored_lines_have_their_facts() {
             Err(refused) => refusal_facts(&refused),
         };
         assert_eq!(told, expected, "{line}");
+    }
+}
+
+/// A vector's values and its score by themselves are those of the vector, whose facts are tried above.
+#[test]
+fn values_are_those_of_the_vector() {
+    for line in stored_lines("stdin").lines() {
+        let values = Values::of(line);
+        let Ok(cvss) = Cvss::parse(line) else {
+            assert_eq!((values, score(line)), (None, None), "{line}");
+            continue;
+        };
+        let values = values.unwrap();
+        let read = (values.version(), values.score(), values.nomenclature());
+        let expected = (cvss.version(), cvss.score(), cvss.nomenclature());
+        assert_eq!(
+            (read, score(line)),
+            (expected, Some(cvss.score())),
+            "{line}"
+        );
+        let types = metrics(cvss.version());
+        let own = cvss.metrics();
+        for metric in types {
+            let held = own.iter().find(|held| held.name() == metric.name);
+            assert_eq!(values.value(metric.name), held.map(Metric::value), "{line}");
+        }
+        assert!(values.fields()[types.len()..]
+            .iter()
+            .all(|field| *field == [0; 8]));
     }
 }
 

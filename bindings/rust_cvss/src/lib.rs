@@ -47,6 +47,8 @@ pub use severity::Severity;
 
 use core::fmt;
 use core::str::FromStr;
+use cvss_proved::{Values, Version};
+use library::Own;
 
 /// What a vector of v3 or v4.0 begins with.
 pub const PREFIX: &str = "CVSS";
@@ -148,21 +150,26 @@ impl FromStr for Cvss {
 
     fn from_str(text: &str) -> Result<Cvss, Error> {
         let has_all = cfg!(all(feature = "v2", feature = "v3", feature = "v4"));
-        if let Some(error) = left_out(text).filter(|_| !has_all) {
+        let left_out = if has_all { None } else { left_out(text) };
+        if let Some(error) = left_out {
             return Err(error);
         }
-        match text.get(..9) {
-            #[cfg(feature = "v3")]
-            Some("CVSS:3.0/") => library::read(text).map(Cvss::CvssV30),
-            #[cfg(feature = "v3")]
-            Some("CVSS:3.1/") => library::read(text).map(Cvss::CvssV31),
-            #[cfg(feature = "v4")]
-            Some("CVSS:4.0/") => library::read(text).map(Cvss::CvssV40),
+        let Some(values) = Values::of(text) else {
+            return Err(library::rejected(text));
+        };
+        let own = match values.version() {
             #[cfg(feature = "v2")]
-            _ => library::read(text).map(Cvss::CvssV20),
-            #[cfg(not(feature = "v2"))]
-            _ => Err(refusing::rejected(text)),
-        }
+            Version::V20 => v2::Vector::of(&values).map(Cvss::CvssV20),
+            #[cfg(feature = "v3")]
+            Version::V30 => v3::Vector::of(&values).map(Cvss::CvssV30),
+            #[cfg(feature = "v3")]
+            Version::V31 => v3::Vector::of(&values).map(Cvss::CvssV31),
+            #[cfg(feature = "v4")]
+            Version::V40 => v4::Vector::of(&values).map(Cvss::CvssV40),
+            #[allow(unreachable_patterns)]
+            _ => None,
+        };
+        own.ok_or_else(|| library::rejected(text))
     }
 }
 

@@ -2,110 +2,105 @@
 
 use crate::refusing::{component_error, error_of, invalid_component};
 use crate::Error;
-use cvss_proved::{Cvss as Read, Scores};
+use cvss_proved::{Cvss as Read, Values};
 #[cfg(any(feature = "v2", feature = "v3"))]
 use cvss_proved::{Exact, Numbers, Version};
 
-/// A metric of a vector, as canonical texts have it.
+/// A metric of a vector, as the library gives it and as texts have it.
 pub(crate) trait Component: Copy {
-    /// The abbreviation and a colon.
-    const NAME: &'static [u8];
+    /// The values by the places of their fields.
+    const PLACED: [Option<Self>; 32];
 
     /// Adds a slash and the component.
     fn push(self, text: &mut String);
 
-    /// The value with this spelling.
-    fn read(spelling: &[u8]) -> Option<Self>;
+    /// The value whose spelling a field of the library has; none if it is empty.
+    fn of(field: [u8; 8]) -> Option<Self> {
+        // no comparison, which the processor would have to guess
+        Self::PLACED[place_of(field)]
+    }
 }
 
-/// The metric with which a canonical text begins, if it is this one, which is then cut off with the slash
-/// after it. `None` where its value is not spelled as a canonical text has it.
-#[allow(clippy::option_option)]
-pub(crate) fn take<C: Component>(rest: &mut &[u8]) -> Option<Option<C>> {
-    let Some(value) = rest.strip_prefix(C::NAME) else {
-        return Some(None);
+/// A spelling in eight bytes, filled up with bytes 0.
+pub(crate) const fn field(spelling: &str) -> [u8; 8] {
+    let spelling = spelling.as_bytes();
+    let mut field = [0; 8];
+    let mut at = 0;
+    while at < spelling.len() {
+        field[at] = spelling[at];
+        at += 1;
+    }
+    field
+}
+
+/// A place from 0 to 31, which no two values of a metric have, and 0 of none. `placed` compares the values.
+pub(crate) const fn place_of(field: [u8; 8]) -> usize {
+    ((field[0] ^ field[1]) & 31) as usize
+}
+
+/// The values with one more, at the place of its spelling.
+macro_rules! placed {
+    ($placed:ident, $spelling:literal, $value:expr) => {
+        let place = $crate::library::place_of($crate::library::field($spelling));
+        assert!(place != 0 && $placed[place].is_none());
+        $placed[place] = Some($value);
     };
-    let end = value.iter().position(|byte| *byte == b'/');
-    let (own, after) = value.split_at(end.unwrap_or(value.len()));
-    *rest = after.get(1..).unwrap_or_default();
-    C::read(own).map(Some)
 }
 
 /// A vector that the library has read.
 pub(crate) trait Own: Sized {
-    /// The vector of a text, if that is as a canonical text would be.
-    fn spelled(text: &str) -> Option<Self>;
-
-    /// The vector, whose scores these are.
-    fn scored(self, scores: Scores) -> Self;
+    /// The vector with these values, if they are of its version.
+    fn of(values: &Values) -> Option<Self>;
 }
 
-/// Reads a text by the rules of the version that it tells, which is that of the vector.
+/// Reads a text by the rules of the version that it reports, which is that of the vector.
 pub(crate) fn read<V: Own>(text: &str) -> Result<V, Error> {
-    // Most texts are canonical already.
-    if let Some(vector) = V::spelled(text) {
-        if let Some(scores) = cvss_proved::scores(text) {
-            return Ok(vector.scored(scores));
-        }
-    }
-    let read = Read::parse(text).map_err(|refused| error_of(&refused))?;
-    let vector = V::spelled(read.as_str()).map(|own| own.scored(read.scores()));
-    vector.ok_or_else(|| Error::UnsupportedVersion {
-        version: read.version().to_string(),
-    })
+    let vector = Values::of(text).and_then(|values| V::of(&values));
+    vector.ok_or_else(|| rejected(text))
 }
 
-/// Writes and reads the metrics of a vector, whose fields are given in printing order.
+/// Why a text is rejected.
+pub(crate) fn rejected(text: &str) -> Error {
+    let refused = Read::parse(text).err();
+    refused.map_or_else(|| component_error(text), |refused| error_of(&refused))
+}
+
+/// Writes and reads the metrics of a vector, whose fields are given in printing order, those of base metrics
+/// before a semicolon.
 macro_rules! components {
-    ($($field:ident)+) => {
+    ($($base:ident)+; $($other:ident)+) => {
         impl Vector {
             /// The longest text of a vector has fewer bytes.
             const LONGEST: usize = 256;
 
-            /// Adds the components, each with a slash before it.
-            fn push_components(&self, text: &mut String) {
+            /// Adds the components of base metrics, each with a slash before it.
+            fn push_base(&self, text: &mut String) {
                 use $crate::library::Component;
                 $(
-                    if let Some(value) = self.$field {
+                    if let Some(value) = self.$base {
                         value.push(text);
                     }
                 )+
             }
 
-            /// The vector with the components of a text, if they are as a canonical text has them.
-            fn filled(mut self, components: &str) -> Option<Vector> {
-                let mut rest = components.as_bytes();
-                $(self.$field = $crate::library::take(&mut rest)?;)+
-                rest.is_empty().then_some(self)
-            }
-        }
-    };
-}
-
-/// Keeps the scores of the vector that a thread has read or scored last: who reads a vector mostly asks
-/// for its scores, and each call of the library gives all three.
-#[cfg(any(feature = "v2", feature = "v3"))]
-macro_rules! remembered {
-    () => {
-        std::thread_local! {
-            static LAST: std::cell::RefCell<Option<(Vector, [f64; 3])>> =
-                const { std::cell::RefCell::new(None) };
-        }
-
-        impl Vector {
-            fn remember(&self, scores: [f64; 3]) {
-                LAST.with(|last| *last.borrow_mut() = Some((self.clone(), scores)));
+            /// Adds the components, each with a slash before it.
+            fn push_components(&self, text: &mut String) {
+                use $crate::library::Component;
+                self.push_base(text);
+                $(
+                    if let Some(value) = self.$other {
+                        value.push(text);
+                    }
+                )+
             }
 
-            /// The base, the temporal and the environmental score.
-            fn scores(&self) -> [f64; 3] {
-                let is_own = |(vector, _): &&(Vector, [f64; 3])| vector == self;
-                let last = LAST.with(|last| last.borrow().as_ref().filter(is_own).map(|own| own.1));
-                last.unwrap_or_else(|| {
-                    let scores = self.computed_scores();
-                    self.remember(scores);
-                    scores
-                })
+            /// The vector with these values.
+            fn filled(mut self, values: &cvss_proved::Values) -> Vector {
+                use $crate::library::Component;
+                let mut fields = values.fields().iter().copied();
+                $(self.$base = fields.next().and_then(Component::of);)+
+                $(self.$other = fields.next().and_then(Component::of);)+
+                self
             }
         }
     };
@@ -122,28 +117,31 @@ macro_rules! listed {
     };
 }
 
-#[cfg(any(feature = "v2", feature = "v3"))]
-pub(crate) use remembered;
-pub(crate) use {components, listed};
+pub(crate) use {components, listed, placed};
 
-/// The base, the temporal and the environmental score of a vector of v2 or v3.
+/// The base score of a vector of v2 or v3 that has base metrics alone and may lack any: of its text if the
+/// library reads it, or else of its components.
 #[cfg(any(feature = "v2", feature = "v3"))]
-pub(crate) fn three(scores: Scores) -> [f64; 3] {
-    let value = |score: Option<cvss_proved::Score>| score.unwrap_or_default().value();
-    [
-        scores.base.value(),
-        value(scores.temporal),
-        value(scores.environmental),
-    ]
+pub(crate) fn base_score(version: Version, text: &str, components: &str) -> f64 {
+    match cvss_proved::score(text) {
+        Some(score) => score.value(),
+        None => scores_of_components(version, components)[0],
+    }
 }
 
-/// Those of a vector that need not be complete: of its text if the library reads it, or else of its
-/// components.
+/// The temporal and the environmental score of a vector that may lack any metric.
 #[cfg(any(feature = "v2", feature = "v3"))]
-pub(crate) fn three_of(version: Version, text: &str, components: &str) -> [f64; 3] {
+pub(crate) fn other_scores(version: Version, text: &str, components: &str) -> [f64; 2] {
+    let value = |score: Option<cvss_proved::Score>| score.unwrap_or_default().value();
     if let Some(scores) = cvss_proved::scores(text) {
-        return three(scores);
+        return [value(scores.temporal), value(scores.environmental)];
     }
+    let [_, temporal, environmental] = scores_of_components(version, components);
+    [temporal, environmental]
+}
+
+#[cfg(any(feature = "v2", feature = "v3"))]
+fn scores_of_components(version: Version, components: &str) -> [f64; 3] {
     let numbers = numbers(version, components);
     numbers.map_or([f64::NAN; 3], |own| {
         own.scores().map(cvss_proved::Score::value)

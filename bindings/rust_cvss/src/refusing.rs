@@ -10,13 +10,6 @@ pub(crate) fn component_error(component: &str) -> Error {
     }
 }
 
-/// The error of a text that no version with a feature reads.
-#[cfg(not(feature = "v2"))]
-pub(crate) fn rejected(text: &str) -> Error {
-    let refused = Read::parse(text).err();
-    refused.map_or_else(|| component_error(text), |refused| error_of(&refused))
-}
-
 /// The first component of a text that has no colon, or more than one.
 pub(crate) fn invalid_component(text: &str) -> Option<String> {
     let refused = Read::parse(text).err()?;

@@ -25,21 +25,16 @@ macro_rules! spelled {
         }
 
         impl $crate::library::Component for $name {
-            const NAME: &'static [u8] = concat!(stringify!($kind), ":").as_bytes();
+            const PLACED: [Option<Self>; 32] = {
+                let mut placed = [None; 32];
+                $($crate::library::placed!(placed, $spelling, Self::$variant);)+
+                placed
+            };
 
             fn push(self, text: &mut String) {
                 text.push_str(match self {
                     $(Self::$variant => concat!("/", stringify!($kind), ":", $spelling),)+
                 });
-            }
-
-            fn read(spelling: &[u8]) -> Option<Self> {
-                $(
-                    if spelling == $spelling.as_bytes() {
-                        return Some(Self::$variant);
-                    }
-                )+
-                None
             }
         }
 

@@ -1,2 +1,2 @@
 pub mod ScoreLemmas
-mod ScoringLemmas
+pub mod ScoringLemmas

@@ -1,5 +1,5 @@
 -- The answers that the program writes to the lines of its input.
-use Rattle.std.specs.Prelude.{◌≡◌, ℕ, ◌⊎◌, Bool, true, false, List, [], ◌∷◌, ◌++◌, codes, Option, None, Some}
+use Rattle.std.specs.Prelude.{◌≡◌, ℕ, ◌⊎◌, Bool, true, false, List, [], ◌∷◌, ◌++◌, codes, None, Some}
 use Rattle.std.specs.Str.{IsUtf8}
 use Rattle.cvss_any.specs.declared.vector.Cvss.{Cvss}
 use Rattle.cvss_any.specs.Answers.{IsScoreOf, rating_text, score_of_tenths, vector_answer}
@@ -47,11 +47,6 @@ unfoldable pub IsCompleteAnswer : ℕ → List ℕ → Answer → Type 0
 IsCompleteAnswer number line (Accepted (text ∷ [])) = IsCompleteAcceptance line text
 IsCompleteAnswer number line (Refused (text ∷ [])) = IsErrorAnswer line text ⊎ IsIncomplete line text
 IsCompleteAnswer number line answer = ⊥
-
--- the first base metric that a vector lacks, unless it may lack some
-abbrev pub missing_by : Bool → Cvss → Option MetricType
-missing_by true cvss = None
-missing_by false cvss = first_missing cvss
 
 -- where vectors may lack base metrics, and where they may not
 abbrev pub score_rule : Bool → Rule

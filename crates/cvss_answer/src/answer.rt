@@ -4,7 +4,7 @@ ghost use Rattle.std.specs.Prelude.{◌≡◌, ℕ, ◌++◌, [], ◌∷◌, ◌
 ghost use Rattle.cvss_any.specs.Answers.{HasScore, text_of};
 ghost use Rattle.cvss_any.specs.Reasons.{error_message};
 ghost use Rattle.cvss_lines.specs.Answers.{WritesAnswer};
-ghost use Rattle.cvss_answer.specs.Answers.{IsAnswer, WritesVector, score_line};
+ghost use Rattle.cvss_answer.specs.Answers.{IsAnswer, WritesVector, score_line, score_rule};
 
 use crate::score_line::score_line;
 use crate::segments::push_segments;
@@ -29,19 +29,23 @@ impl Answering for Vectors {
             write_canonical(line, published, answers)?;
             return Ok(true);
         }
-        answer_other_line(line, answers)
+        answer_other_line(line, true, answers)
     }
 }
 
 /// The answer to a line that is not seen at once to be canonical.
 // A call of its own keeps the buffer out of the frame of a canonical line.
 #[inline(never)]
-fn answer_other_line(line: &[u8], answers: &mut OutputBuffer) -> Result<bool, AllocError>
-    ensures { (number : ℕ) → IfOk result (WritesAnswer IsAnswer number line.now
+pub(crate) fn answer_other_line(
+    line: &[u8],
+    allow_incomplete: bool,
+    answers: &mut OutputBuffer,
+) -> Result<bool, AllocError>
+    ensures { (number : ℕ) → IfOk result (WritesAnswer (score_rule allow_incomplete) number line.now
         answers.old.bytes.items answers.new.bytes.items) }
 {
     let mut buffer = TextBuffer::new();
-    match Cvss::publish(line, &mut buffer) {
+    match Cvss::publish(line, allow_incomplete, &mut buffer) {
         Ok((text, published)) => {
             write_canonical(text, published, answers)?;
             Ok(true)
@@ -54,12 +58,13 @@ fn answer_other_line(line: &[u8], answers: &mut OutputBuffer) -> Result<bool, Al
 }
 
 /// Writes why a line is no vector, and a byte 10.
+///
+/// # Errors
+///
+/// Out of memory. A beginning of the answer may be written then.
 // A call of its own keeps the segments out of the frame of an accepted line.
 #[inline(never)]
-pub(crate) fn write_error(
-    error: ReadError<'_>,
-    answers: &mut OutputBuffer,
-) -> Result<(), AllocError>
+pub fn write_error(error: ReadError<'_>, answers: &mut OutputBuffer) -> Result<(), AllocError>
     ensures { OnOk result (answers.new.bytes.items ≡ answers.old.bytes.items
         ++ (codes "error: " ++ (error_message error.entry ++ 10 ∷ []))) }
 {

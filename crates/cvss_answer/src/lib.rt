@@ -8,6 +8,6 @@ mod scoring;
 mod segments;
 mod setting;
 
-pub use answer::{Vectors, write_canonical};
+pub use answer::{Vectors, write_canonical, write_error};
 pub use scoring::answer_score;
 pub use setting::answer_with_metrics;

@@ -1,15 +1,20 @@
 -- The base metrics that a vector lacks. Only CVSS v3 has texts that lack some, though each base metric has to be in
 -- its vector: v3.1 specification, section 6, and Table 15.
-use Rattle.std.specs.Prelude.{◌≡◌, ℕ, not, List, [], ◌∷◌, find, Option, Some, None, is_some}
+use Rattle.std.specs.Prelude.{◌≡◌, ◌⊎◌, ℕ, not, Bool, true, false, List, [], ◌∷◌, find, Option, Some, None, is_some}
 use Rattle.std.specs.Option.{option_map}
+use Rattle.std.specs.Str.{IsUtf8}
+use Rattle.cvss_base.specs.Refusal.{Missing}
 use Rattle.cvss_base.specs.declared.v3.MetricType as type_v3
 use Rattle.cvss_base.specs.declared.v3.MetricType.TheVariants.{A, AC, AV, C, I, PR, S, UI}
 use Rattle.cvss_v3.specs.Vector.{value_at}
 use Rattle.cvss_v3.specs.declared.vector.Vector as vector_v3
-use Rattle.cvss_any.specs.Published.{IsPublishedOf}
+use Rattle.cvss_any.specs.Dispatch.{DenotesCvss}
+use Rattle.cvss_any.specs.Published.{IsPublishedAs}
+use Rattle.cvss_any.specs.Refusals.{IsReadError, IsReadErrorFor}
 use Rattle.cvss_any.specs.declared.metric_type.MetricType.{MetricType}
 use Rattle.cvss_any.specs.declared.metric_type.MetricType.TheVariants.{V3}
 use Rattle.cvss_any.specs.declared.published.Published.{Published}
+use Rattle.cvss_any.specs.declared.refusal.ReadError.{ReadError}
 use Rattle.cvss_any.specs.declared.vector.Cvss.{Cvss}
 use Rattle.cvss_any.specs.declared.vector.Cvss.TheVariants.{CvssV20, CvssV30, CvssV31, CvssV40}
 
@@ -28,7 +33,30 @@ first_missing (CvssV30 vector) = option_map V3 (first_missing_v3 vector)
 first_missing (CvssV31 vector) = option_map V3 (first_missing_v3 vector)
 first_missing (CvssV40 _) = None
 
--- that is published of the vector whose canonical text this is, which lacks no base metric
-pub record IsPublishedOfComplete (text : List ℕ) (published : Published) : Type 0 where
-  pub of : IsPublishedOf text published
-  pub complete : first_missing of.cvss ≡ None
+-- the first base metric that a vector lacks, unless it may lack some
+abbrev pub missing_by : Bool → Cvss → Option MetricType
+missing_by true cvss = None
+missing_by false cvss = first_missing cvss
+
+-- that is published of the vector that the text denotes, whose canonical text is given; it lacks no base metric, unless
+-- it may
+pub record IsPublishedBy (allow_incomplete : Bool) (text canonical : List ℕ) (published : Published) : Type 0 where
+  pub of : IsPublishedAs text canonical published
+  pub complete : missing_by allow_incomplete of.cvss ≡ None
+
+-- the same, of a text that is its vector's canonical one, and of a vector that may lack none
+abbrev pub IsPublishedOfComplete : List ℕ → Published → Type 0
+IsPublishedOfComplete text published = IsPublishedBy false text text published
+
+-- the text denotes a vector that lacks base metrics and may not, and the error says the first of them
+pub record IsMissingError (allow_incomplete : Bool) (text : List ℕ) (error : ReadError) : Type 0 where
+  pub cvss : Cvss
+  pub denoted : DenotesCvss text cvss
+  pub utf8 : IsUtf8 text
+  pub metric : MetricType
+  pub missing : missing_by allow_incomplete cvss ≡ Some metric
+  pub is : IsReadErrorFor text (Missing metric) error
+
+-- the error is right: the bytes are the text of no vector for this reason, or of one that lacks base metrics and may not
+abbrev pub IsReadErrorBy : Bool → List ℕ → ReadError → Type 0
+IsReadErrorBy allow_incomplete text error = IsReadError text error ⊎ IsMissingError allow_incomplete text error

@@ -1,7 +1,7 @@
 //! Which base metrics a vector lacks. Only a vector of CVSS v3 that was read from a text may lack some.
 
 ghost use Rattle.std.specs.Prelude.{◌≡◌, option_map};
-ghost use Rattle.cvss_any.specs.Complete.{first_missing, first_missing_v3};
+ghost use Rattle.cvss_any.specs.Complete.{first_missing, first_missing_v3, missing_by};
 ghost use Rattle.cvss_any.specs.declared.metric_type.MetricType.TheVariants.{V3};
 
 use crate::metric_type::MetricType;
@@ -22,6 +22,17 @@ impl Cvss {
             Cvss::CvssV30(vector) | Cvss::CvssV31(vector) => missing_of_v3(vector),
         }
     }
+
+    /// The first base metric that the vector lacks, unless it may lack some.
+    pub fn missing_by(&self, allow_incomplete: bool) -> Option<MetricType>
+        ensures { result ≡ missing_by allow_incomplete self.now }
+    {
+        if allow_incomplete {
+            None
+        } else {
+            self.first_missing()
+        }
+    }
 }
 
 /// The first base metric that a vector of CVSS v3 lacks, as one of any version.
@@ -36,7 +47,7 @@ fn missing_of_v3(vector: &v3::Vector) -> Option<MetricType>
 }
 
 #[inline(always)]
-fn first_missing_v3(vector: &v3::Vector) -> Option<base_v3::MetricType>
+pub(crate) fn first_missing_v3(vector: &v3::Vector) -> Option<base_v3::MetricType>
     ensures { result ≡ first_missing_v3 vector.now }
 {
     if vector.av.is_none() {

@@ -1,17 +1,18 @@
 //! How a text is read by the rules of the version that it says. It takes no memory: a fault borrows
 //! the part of the text that it names.
 
-ghost use Rattle.std.specs.Prelude.{◌≡◌, [], ◌∷◌, codes, Err, IfErr, IfOk, IsUtf8};
+ghost use Rattle.std.specs.Prelude.{◌≡◌, Bool, [], ◌∷◌, codes, Err, IfErr, IfOk, IsUtf8, option_map};
 ghost use Rattle.cvss_base.specs.Text.{pieces};
 ghost use Rattle.cvss_base.specs.Reported.{Reports};
 ghost use Rattle.cvss_base.specs.Version.{version_piece};
 ghost use Rattle.cvss_text.specs.private.Pieces.{pieces_left};
 ghost use Rattle.cvss_text.specs.private.Walk.{IsPrintable, reason_of};
 ghost use Rattle.cvss_any.specs.Bytes.{IsRefusedAs};
-ghost use Rattle.cvss_any.specs.declared.metric_type.MetricType.TheVariants.{V2};
+ghost use Rattle.cvss_any.specs.declared.metric_type.MetricType.TheVariants.{V2, V3};
+ghost use Rattle.cvss_any.specs.declared.vector.Cvss.TheVariants.{CvssV30, CvssV31};
 ghost use Rattle.cvss_any.specs.Dispatch.{cvss_reason, without_version, wrapped};
-ghost use Rattle.cvss_any.specs.private.Steps.{IsRead, IsPrintableFault, reason_read};
-ghost use Rattle.cvss_any.specs.Published.{IsPublishedAs};
+ghost use Rattle.cvss_any.specs.Complete.{IsPublishedBy, missing_by};
+ghost use Rattle.cvss_any.specs.private.Steps.{IsRead, IsPrintableFault, IsUnpublished, reason_read};
 ghost use Rattle.cvss_any.specs.Refusals.{IsReadErrorFor};
 ghost use Rattle.cvss_any.specs.Route.{ToV20, ToV30, ToV31, ToV40, route_of};
 ghost use Rattle.cvss_any.specs.private.Views as is_reported;
@@ -19,6 +20,7 @@ ghost use Rattle.cvss_any.specs.private.Views.{why_of};
 ghost use Rattle.cvss_v2.specs.Vector.{v2};
 
 use crate::bytes_error::BytesError;
+use crate::complete::first_missing_v3;
 use crate::published::{Bounds, Published};
 use crate::refusal::{ReadError, Refusal};
 use crate::route::{NoVersion, Route, route_of_text};
@@ -120,19 +122,21 @@ fn read_v40<'a>(text: &'a [u8], left: Pieces<'a>) -> Result<Cvss, ReadFault<'a>>
 }
 
 /// The canonical text of the vector that a text denotes, and what is published of it; or the first
-/// reason why there is none.
+/// reason why there is none, or the first base metric that a vector lacks and may not.
 pub(crate) fn publish<'a, 'b>(
     text: &'a [u8],
+    allow_incomplete: bool,
     buffer: &'b mut TextBuffer,
 ) -> Result<(&'b [u8], Published), ReadFault<'a>>
     requires { buffer.old ≡ [] }
-    ensures published { IfOk result (λ given. IsPublishedAs text.now given.0.now given.1) }
-    ensures refused { IfErr result (λ fault. IsRead text.now (Err fault)) }
+    ensures published { IfOk result
+        (λ given. IsPublishedBy allow_incomplete text.now given.0.now given.1) }
+    ensures refused { IfErr result (IsUnpublished allow_incomplete text.now) }
 {
     match route_of_text(text) {
         Route::V20 => publish_v20(text, buffer),
-        Route::V30(left) => publish_v30(text, left, buffer),
-        Route::V31(left) => publish_v31(text, left, buffer),
+        Route::V30(left) => publish_v30(text, left, allow_incomplete, buffer),
+        Route::V31(left) => publish_v31(text, left, allow_incomplete, buffer),
         Route::V40(left) => publish_v40(text, left, buffer),
         Route::Unversioned(why) => Err(ReadFault::V2(fault_of(why))),
     }
@@ -145,7 +149,8 @@ fn publish_v20<'a, 'b>(
 ) -> Result<(&'b [u8], Published), ReadFault<'a>>
     requires routed { route_of text.now ≡ ToV20 }
     requires empty { buffer.old ≡ [] }
-    ensures published { IfOk result (λ given. IsPublishedAs text.now given.0.now given.1) }
+    ensures published { (allow_incomplete : Bool) → IfOk result
+        (λ given. IsPublishedBy allow_incomplete text.now given.0.now given.1) }
     ensures refused { IfErr result (λ fault. IsRead text.now (Err fault)) }
 {
     let mut vector = v2::Vector::default();
@@ -166,17 +171,22 @@ fn publish_v20<'a, 'b>(
 fn publish_v30<'a, 'b>(
     text: &'a [u8],
     left: Pieces<'a>,
+    allow_incomplete: bool,
     buffer: &'b mut TextBuffer,
 ) -> Result<(&'b [u8], Published), ReadFault<'a>>
     requires routed { route_of text.now ≡ ToV30 }
     requires after { pieces text.now ≡ version_piece (codes "3.0") ∷ pieces_left left }
     requires empty { buffer.old ≡ [] }
-    ensures published { IfOk result (λ given. IsPublishedAs text.now given.0.now given.1) }
-    ensures refused { IfErr result (λ fault. IsRead text.now (Err fault)) }
+    ensures published { IfOk result
+        (λ given. IsPublishedBy allow_incomplete text.now given.0.now given.1) }
+    ensures refused { IfErr result (IsUnpublished allow_incomplete text.now) }
 {
     let mut vector = v3::Vector::start(b"3.0").unwrap();
     match read_started(text, left, &mut vector) {
         Ok(()) => {
+            if let Some(kind) = missing_by(allow_incomplete, &vector) {
+                return Err(ReadFault::V3(Fault::MissingMandatoryMetric(kind)));
+            }
             let given = text_after(*b"CVSS:3.0", &vector, buffer);
             let published = Published {
                 tenths: vector.tenths(),
@@ -192,17 +202,22 @@ fn publish_v30<'a, 'b>(
 fn publish_v31<'a, 'b>(
     text: &'a [u8],
     left: Pieces<'a>,
+    allow_incomplete: bool,
     buffer: &'b mut TextBuffer,
 ) -> Result<(&'b [u8], Published), ReadFault<'a>>
     requires routed { route_of text.now ≡ ToV31 }
     requires after { pieces text.now ≡ version_piece (codes "3.1") ∷ pieces_left left }
     requires empty { buffer.old ≡ [] }
-    ensures published { IfOk result (λ given. IsPublishedAs text.now given.0.now given.1) }
-    ensures refused { IfErr result (λ fault. IsRead text.now (Err fault)) }
+    ensures published { IfOk result
+        (λ given. IsPublishedBy allow_incomplete text.now given.0.now given.1) }
+    ensures refused { IfErr result (IsUnpublished allow_incomplete text.now) }
 {
     let mut vector = v3::Vector::start(b"3.1").unwrap();
     match read_started(text, left, &mut vector) {
         Ok(()) => {
+            if let Some(kind) = missing_by(allow_incomplete, &vector) {
+                return Err(ReadFault::V3(Fault::MissingMandatoryMetric(kind)));
+            }
             let given = text_after(*b"CVSS:3.1", &vector, buffer);
             let published = Published {
                 tenths: vector.tenths(),
@@ -211,6 +226,19 @@ fn publish_v31<'a, 'b>(
             Ok((given, published))
         }
         Err(fault) => Err(ReadFault::V3(fault)),
+    }
+}
+
+/// The first base metric that a vector lacks, unless it may lack some.
+#[inline(always)]
+fn missing_by(allow_incomplete: bool, vector: &v3::Vector) -> Option<cvss_base::v3::MetricType>
+    ensures v30 { option_map V3 result ≡ missing_by allow_incomplete (CvssV30 vector.now) }
+    ensures v31 { option_map V3 result ≡ missing_by allow_incomplete (CvssV31 vector.now) }
+{
+    if allow_incomplete {
+        None
+    } else {
+        first_missing_v3(vector)
     }
 }
 
@@ -223,7 +251,8 @@ fn publish_v40<'a, 'b>(
     requires routed { route_of text.now ≡ ToV40 }
     requires after { pieces text.now ≡ version_piece (codes "4.0") ∷ pieces_left left }
     requires empty { buffer.old ≡ [] }
-    ensures published { IfOk result (λ given. IsPublishedAs text.now given.0.now given.1) }
+    ensures published { (allow_incomplete : Bool) → IfOk result
+        (λ given. IsPublishedBy allow_incomplete text.now given.0.now given.1) }
     ensures refused { IfErr result (λ fault. IsRead text.now (Err fault)) }
 {
     let mut vector = v4::Vector::start(b"4.0").unwrap();

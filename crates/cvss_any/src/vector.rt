@@ -37,7 +37,8 @@ impl Cvss {
     ghost use Rattle.cvss_any.specs.Bytes.{IsRefusedAs, ReportsWhyNot};
     ghost use Rattle.cvss_any.specs.Dispatch.{DenotesCvss, IsFirstRefusalCvss, cvss_reason};
     ghost use Rattle.cvss_any.specs.MetricsLeft.{metrics_left};
-    ghost use Rattle.cvss_any.specs.Published.{IsPublished, IsPublishedAs, rating_within};
+    ghost use Rattle.cvss_any.specs.Complete.{IsPublishedBy, IsReadErrorBy};
+    ghost use Rattle.cvss_any.specs.Published.{IsPublished, rating_within};
     ghost use Rattle.cvss_any.specs.Refusals.{IsReadError, IsReadErrorFor};
     ghost use Rattle.cvss_any.specs.declared.bytes_error.BytesError.TheVariants.{NotUtf8};
     ghost use Rattle.cvss_any.specs.declared.refusal.ReadError.TheVariants as read_error;
@@ -130,16 +131,19 @@ impl Cvss {
     ///
     /// # Errors
     ///
-    /// Those of `read`.
+    /// Those of `read`, and unless it is allowed, that a vector of CVSS v3 lacks base metrics: the
+    /// first of them.
     pub fn publish<'a, 'b>(
         text: &'a [u8],
+        allow_incomplete: bool,
         buffer: &'b mut TextBuffer,
     ) -> Result<(&'b [u8], Published), ReadError<'a>>
         requires { buffer.old ≡ [] }
-        ensures published { IfOk result (λ given. IsPublishedAs text.now given.0.now given.1) }
-        ensures refused { IfErr result (IsReadError text.now) }
+        ensures published { IfOk result
+            (λ given. IsPublishedBy allow_incomplete text.now given.0.now given.1) }
+        ensures refused { IfErr result (IsReadErrorBy allow_incomplete text.now) }
     {
-        match publish(text, buffer) {
+        match publish(text, allow_incomplete, buffer) {
             Ok(given) => Ok(given),
             Err(fault) => Err(read_error_of(text, fault)),
         }
@@ -192,8 +196,19 @@ impl Cvss {
     }
 
     /// The tenths of the score of a vector that has one.
-    #[inline(always)]
+    // A call of its own: inlined wherever it is used, it would be a thirtieth of the module of
+    // WebAssembly.
+    #[inline(never)]
     pub fn tenths(&self) -> u8
+        requires scored { HasScore self.now }
+        ensures value { IsScoreOf self.now (score_of_tenths result) }
+        ensures bound { result ≤ 100 }
+    {
+        self.inlined_tenths()
+    }
+
+    #[inline(always)]
+    fn inlined_tenths(&self) -> u8
         requires scored { HasScore self.now }
         ensures value { IsScoreOf self.now (score_of_tenths result) }
         ensures bound { result ≤ 100 }
@@ -223,7 +238,7 @@ impl Cvss {
         ensures { IsPublished self.now result }
     {
         Published {
-            tenths: self.tenths(),
+            tenths: self.inlined_tenths(),
             bounds: self.bounds(),
         }
     }

@@ -9,22 +9,22 @@ use Rattle.std.proofs.lemmas.List.Folds.{list_all-append}
 use Rattle.std.specs.Io.KnownBytes.{Appends}
 use Rattle.std.specs.Str.{IsUtf8}
 use Rattle.cvss_lines.specs.Answers.{Answer, Accepted, Refused, is_accepted, written_answer, written_text}
-use Rattle.cvss_lines.specs.Streaming.{IsPassed, Stops, Streams, WritesWaiting}
+use Rattle.cvss_lines.specs.Streaming.{IsPassed, WritesWaiting}
 use Rattle.cvss_lines.specs.declared.fault.RunFault.{RunFault}
 use Rattle.cvss_lines.specs.declared.fault.RunFault.TheVariants.{Memory, Write}
 use Rattle.cvss_document.specs.Places.{Place, places_in}
 use Rattle.cvss_audit.specs.Answers.{AreFound, Begins, BeginsFound, Found, IsAnswer, IsFound, all_agree, answer_of, texts_of, written_found}
-use Rattle.cvss_audit.specs.Sources.{Source, id_of}
-use Rattle.cvss_audit.specs.private.Writing.{PassFound, StopsFound, StreamsFound, WritesPlace}
+use Rattle.cvss_audit.specs.Inputs.{Input}
+use Rattle.cvss_audit.specs.private.Writing.{Answers, PassFound, StopsAnswering, StopsFound, StreamsFound, WritesPlace}
 use Rattle.serde_json.specs.Data.{Data}
 use Rattle.serde_json.specs.Read.{read}
 
-AreFound-push : (source : Source) (places : List Place) (found : List Found) (place : Place) (last : Found)
-    → AreFound source places found → IsFound source place last → AreFound source (places ++ place ∷ []) (found ++ last ∷ [])
-AreFound-push source [] [] place last are is = (is, tt)
-AreFound-push source [] (each ∷ more) place last are is = absurd are
-AreFound-push source (each ∷ more) [] place last are is = absurd are
-AreFound-push source (first ∷ places) (each ∷ more) place last are is = (are.0, AreFound-push source places more place last are.1 is)
+AreFound-push : (input : Input) (places : List Place) (found : List Found) (place : Place) (last : Found)
+    → AreFound input places found → IsFound input place last → AreFound input (places ++ place ∷ []) (found ++ last ∷ [])
+AreFound-push input [] [] place last are is = (is, tt)
+AreFound-push input [] (each ∷ more) place last are is = absurd are
+AreFound-push input (each ∷ more) [] place last are is = absurd are
+AreFound-push input (first ∷ places) (each ∷ more) place last are is = (are.0, AreFound-push input places more place last are.1 is)
 
 all_agree-push : (found : List Found) (last : Found) → all_agree (found ++ last ∷ []) ≡ (all_agree found && last.agrees)
 all_agree-push found last =
@@ -41,10 +41,10 @@ written-push found last old middle new before next =
     ∙ flat_map-append written_text (texts_of found) (last.text ∷ [])
     ∙ ap (λ bytes. flat_map written_text (texts_of found) ++ bytes) (append-nil (written_text last.text))))
 
-module _ (source : Source) (places : List Place) where
+module _ (input : Input) (places : List Place) where
   -- before the first place
   pub StreamsFound-start : (left : List Place) (old : List ℕ) (w : Option (List ℕ)) → left ≡ places
-      → StreamsFound source places left old old w w true
+      → StreamsFound input places left old old w w true
   StreamsFound-start left old w all = record {
     seen = [];
     split = sym all;
@@ -65,14 +65,14 @@ module _ (source : Source) (places : List Place) where
 
   -- what is found at one more place is in what was and what may be written
   found_more : (seen : List Place) (place : Place) (left left' : List Place) (found : List Found) (last : Found)
-      → places ≡ seen ++ left → left ≡ place ∷ left' → AreFound source seen found → IsFound source place last
-      → BeginsFound source places (written_found (found ++ last ∷ []))
+      → places ≡ seen ++ left → left ≡ place ∷ left' → AreFound input seen found → IsFound input place last
+      → BeginsFound input places (written_found (found ++ last ∷ []))
   found_more seen place left left' found last split next are is = record {
     first = seen ++ place ∷ [];
     others = left';
     split = split_more seen place left left' split next;
     found = found ++ last ∷ [];
-    are_found = AreFound-push source seen found place last are is;
+    are_found = AreFound-push input seen found place last are is;
     written = refl;
   }
 
@@ -84,13 +84,13 @@ module _ (source : Source) (places : List Place) where
 
   -- after one more place, of which what waited may be written
   pub StreamsFound-next : (place : Place) (left left' : List Place) (old waits middle new : List ℕ) (w w' w'' : Option (List ℕ)) (agree agrees : Bool)
-      → left ≡ place ∷ left' → StreamsFound source places left old waits w w' agree → WritesPlace source place waits middle agrees
-      → WritesWaiting middle new w' w'' → StreamsFound source places left' old new w w'' (agree && agrees)
+      → left ≡ place ∷ left' → StreamsFound input places left old waits w w' agree → WritesPlace input place waits middle agrees
+      → WritesWaiting middle new w' w'' → StreamsFound input places left' old new w w'' (agree && agrees)
   StreamsFound-next place left left' old waits middle new w w' w'' agree agrees next before wrote (inl kept) = record {
     seen = before.seen ++ place ∷ [];
     split = split_more before.seen place left left' before.split next;
     found = before.found ++ wrote.found ∷ [];
-    are_found = AreFound-push source before.seen before.found place wrote.found before.are_found wrote.is_found;
+    are_found = AreFound-push input before.seen before.found place wrote.found before.are_found wrote.is_found;
     reported = ap₂ (λ (a b : Bool). a && b) before.reported wrote.reported ∙ sym (all_agree-push before.found wrote.found);
     passed = before.passed;
     pass = before.pass;
@@ -105,7 +105,7 @@ module _ (source : Source) (places : List Place) where
         seen = before.seen ++ place ∷ [];
         split = split_more before.seen place left left' before.split next;
         found = before.found ++ wrote.found ∷ [];
-        are_found = AreFound-push source before.seen before.found place wrote.found before.are_found wrote.is_found;
+        are_found = AreFound-push input before.seen before.found place wrote.found before.are_found wrote.is_found;
         reported = ap₂ (λ (a b : Bool). a && b) before.reported wrote.reported ∙ sym (all_agree-push before.found wrote.found);
         passed = before.passed ++ middle;
         pass = inr (written_found (before.found ++ wrote.found ∷ []), begins, all);
@@ -115,8 +115,8 @@ module _ (source : Source) (places : List Place) where
 
   -- a write failed after one more place
   pub StopsFound-write : (place : Place) (left left' : List Place) (old waits middle : List ℕ) (w w' w'' : Option (List ℕ)) (agree agrees : Bool) (fault : RunFault)
-      → left ≡ place ∷ left' → StreamsFound source places left old waits w w' agree → WritesPlace source place waits middle agrees
-      → (fault ≡ Write) × ((count : ℕ) × Appends w' w'' (take count middle)) → StopsFound source places old w w'' fault
+      → left ≡ place ∷ left' → StreamsFound input places left old waits w w' agree → WritesPlace input place waits middle agrees
+      → (fault ≡ Write) × ((count : ℕ) × Appends w' w'' (take count middle)) → StopsFound input places old w w'' fault
   StopsFound-write place left left' old waits middle w w' w'' agree agrees fault next before wrote stopped = record {
     no_read = λ read. absurd (cc stopped.0);
     memory = λ memory. absurd (cc stopped.0);
@@ -143,51 +143,51 @@ reported_answer found = reported (all_agree found) where
   reported false = (refl, refl)
 
 -- what may be written of a document
-pass_document : (number : ℕ) (line old passed : List ℕ) (document : Data) → read line ≡ Some document
-    → PassFound (number, id_of document) (places_in document) old passed → IsPassed Begins number line old passed
-pass_document number line old passed document reads (inl none) = inl none
-pass_document number line old passed document reads (inr some) =
+pass_document : (input : Input) (text old passed : List ℕ) (document : Data) → read text ≡ Some document
+    → PassFound input (places_in document) old passed → IsPassed (λ _. Begins input) 1 text old passed
+pass_document input text old passed document reads (inl none) = inl none
+pass_document input text old passed document reads (inr some) =
     inr (some.0, record { document = document; reads = reads; begins = some.1 }, some.2)
 
 -- the answer to a document whose places are all seen
-pub Streams-document : (number : ℕ) (line old new : List ℕ) (w w' : Option (List ℕ)) (agree : Bool) (document : Data) → IsUtf8 line
-    → read line ≡ Some document → StreamsFound (number, id_of document) (places_in document) [] old new w w' agree
-    → Streams IsAnswer Begins number line old new w w' agree
+pub Streams-document : (input : Input) (text old new : List ℕ) (w w' : Option (List ℕ)) (agree : Bool) (document : Data) → IsUtf8 text
+    → read text ≡ Some document → StreamsFound input (places_in document) [] old new w w' agree
+    → Answers input text old new w w' agree
 unfolding IsAnswer
-Streams-document number line old new w w' agree document utf8 reads streams = record {
+Streams-document input text old new w w' agree document utf8 reads streams = record {
   answer = answer_of streams.found;
   answers = inr (inr (inr (record {
     utf8 = utf8;
     document = document;
     reads = reads;
     found = streams.found;
-    are_found = subst (λ seen. AreFound (number, id_of document) seen streams.found) (sym (streams.split ∙ append-nil streams.seen)) streams.are_found;
+    are_found = subst (λ seen. AreFound input seen streams.found) (sym (streams.split ∙ append-nil streams.seen)) streams.are_found;
     is = refl;
   })));
   reported = streams.reported ∙ (reported_answer streams.found).0;
   passed = streams.passed;
-  is_passed = pass_document number line old streams.passed document reads streams.pass;
+  is_passed = pass_document input text old streams.passed document reads streams.pass;
   appended = streams.appended;
   together = streams.together ∙ ap (λ bytes. old ++ bytes) (reported_answer streams.found).1;
 }
 
 -- a fault in the midst of a document
-pub Stops-document : (number : ℕ) (line old : List ℕ) (w w' : Option (List ℕ)) (fault : RunFault) (document : Data) → read line ≡ Some document
-    → StopsFound (number, id_of document) (places_in document) old w w' fault → Stops Begins number line old w w' fault
-Stops-document number line old w w' fault document reads stops = record {
+pub Stops-document : (input : Input) (text old : List ℕ) (w w' : Option (List ℕ)) (fault : RunFault) (document : Data) → read text ≡ Some document
+    → StopsFound input (places_in document) old w w' fault → StopsAnswering input text old w w' fault
+Stops-document input text old w w' fault document reads stops = record {
   no_read = stops.no_read;
   memory = λ is.
       let lacks = stops.memory is in
-      record { passed = lacks.passed; is_passed = pass_document number line old lacks.passed document reads lacks.pass; appended = lacks.appended };
+      record { passed = lacks.passed; is_passed = pass_document input text old lacks.passed document reads lacks.pass; appended = lacks.appended };
   write = λ is.
       let fails = stops.write is in
       record { begun = fails.begun; begins = record { document = document; reads = reads; begins = fails.begins }; count = fails.count; appended = fails.appended };
 }
 
 -- an answer of which nothing is written yet
-pub Streams-waiting : (number : ℕ) (line old new : List ℕ) (w : Option (List ℕ)) (accepted : Bool) (answer : Answer) → IsAnswer number line answer
-    → accepted ≡ is_accepted answer → new ≡ old ++ written_answer answer → Streams IsAnswer Begins number line old new w w accepted
-Streams-waiting number line old new w accepted answer is reported written = record {
+pub Streams-waiting : (input : Input) (text old new : List ℕ) (w : Option (List ℕ)) (accepted : Bool) (answer : Answer) → IsAnswer input text answer
+    → accepted ≡ is_accepted answer → new ≡ old ++ written_answer answer → Answers input text old new w w accepted
+Streams-waiting input text old new w accepted answer is reported written = record {
   answer = answer;
   answers = is;
   reported = reported;
@@ -198,8 +198,8 @@ Streams-waiting number line old new w accepted answer is reported written = reco
 }
 
 -- memory was refused before anything was written
-pub Stops-waiting : (number : ℕ) (line old : List ℕ) (w : Option (List ℕ)) → Stops Begins number line old w w Memory
-Stops-waiting number line old w = record {
+pub Stops-waiting : (input : Input) (text old : List ℕ) (w : Option (List ℕ)) → StopsAnswering input text old w w Memory
+Stops-waiting input text old w = record {
   no_read = λ read. absurd (cc);
   memory = λ _. record { passed = []; is_passed = inl refl; appended = Appends-nil w };
   write = λ write. absurd (cc);

@@ -1,1 +1,4 @@
+mod EndsLemmas
+mod FilesLemmas
 mod FoundLemmas
+mod WholeLemmas

@@ -1,5 +1,7 @@
 pub mod Answers
-pub mod Noting
+pub mod Files
+pub mod Inputs
 pub mod Objects
-pub mod Sources
+pub mod Task
+pub mod Whole
 pub mod private

@@ -1,5 +1,4 @@
--- The objects that the program writes: one for each place where a vector stands, and one for a line that is
--- no JSON.
+-- The objects of an answer: one for each location of a vector, and one for a text that is no JSON.
 use Rattle.std.specs.Prelude.{ℕ, List, [], ◌∷◌, ◌++◌, codes, map, not, ◌&&◌, if◌then◌else◌, is_some, Option, Some, None}
 use Rattle.std.specs.List.{filter_map}
 use Rattle.cvss_any.specs.Answers.{rating_by, score_of_tenths, text_of}
@@ -22,31 +21,35 @@ use Rattle.cvss_document.specs.Scores.{score_value}
 use Rattle.cvss_json_record.specs.declared.score.Scores.{Scores}
 use Rattle.serde_json.specs.Data.{Data, unsigned, number, string, array}
 use Rattle.serde_json.specs.View.{items_of}
-use Rattle.cvss_audit.specs.Sources.{Source}
-
--- the number of the line
-abbrev pub line_member : ℕ → Member
-line_member line = (codes "line", number (unsigned line))
-
--- the reason why the line, or the vector's text, is refused
-abbrev pub refusal_member : List ℕ → Member
-refusal_member reason = (codes "refused", string reason)
-
--- the object for a line that is no JSON
-abbrev pub refusal_value : ℕ → List ℕ → Data
-refusal_value line reason = object_of (line_member line ∷ refusal_member reason ∷ [])
+use Rattle.cvss_audit.specs.Inputs.{Input}
 
 -- a member for a text, if there is one
 abbrev pub text_member : List ℕ → Option (List ℕ) → List Member
 text_member name None = []
 text_member name (Some text) = (name, string text) ∷ []
 
--- where a vector stands, in which document, and its text as it stands there
-abbrev pub place_members : Source → Place → List Member
-place_members source place =
+-- a member for a number, if there is one
+abbrev pub number_member : List ℕ → Option ℕ → List Member
+number_member name None = []
+number_member name (Some count) = (name, number (unsigned count)) ∷ []
+
+-- where the document is from: its file, and its line
+abbrev pub input_members : Input → List Member
+input_members input = text_member (codes "file") input.0 ++ number_member (codes "line") input.1
+
+-- the reason why the document, or the vector's text, is refused
+abbrev pub refusal_member : List ℕ → Member
+refusal_member reason = (codes "refused", string reason)
+
+-- the object for a document that is no JSON
+abbrev pub refusal_value : Input → List ℕ → Data
+refusal_value input reason = object_of (input_members input ++ refusal_member reason ∷ [])
+
+-- where a vector is, in which document, by the id of the nearest object that has one, and its text as it is there
+abbrev pub place_members : Input → Place → List Member
+place_members input place =
     (codes "at", string place.0)
-    ∷ line_member source.0
-    ∷ (text_member (codes "id") source.1 ++ text_member (codes "given") place.2)
+    ∷ (input_members input ++ (text_member (codes "id") place.4.1 ++ text_member (codes "given") place.2))
 
 -- a member for a score, if there is one
 abbrev pub optional_member : List ℕ → Option ℕ → List Member

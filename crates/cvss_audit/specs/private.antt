@@ -1,2 +1,1 @@
-pub mod Watching
 pub mod Writing

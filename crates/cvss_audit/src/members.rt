@@ -1,8 +1,8 @@
 //! The members of the objects that are written.
 
 ghost use Rattle.std.specs.Prelude.{◌≡◌, ◌∷◌, [], IfOk, OnOk, map, option_map, string_bytes};
-ghost use Rattle.cvss_audit.specs.Objects.{accepted_members, line_member, list_member, optional_member, place_members, refusal_member, score_members, scores_value, text_member, reported_members, v4_members};
-ghost use Rattle.cvss_audit.specs.Sources.{source_view};
+ghost use Rattle.cvss_audit.specs.Objects.{accepted_members, input_members, list_member, number_member, optional_member, place_members, refusal_member, score_members, scores_value, text_member, reported_members, v4_members};
+ghost use Rattle.cvss_audit.specs.Inputs.{input_view};
 ghost use Rattle.cvss_json_tree.specs.Trees as trees;
 ghost use Rattle.cvss_json_tree.specs.Trees.{tree_view};
 ghost use Rattle.cvss_document.specs.Differences.{difference_view};
@@ -11,8 +11,8 @@ ghost use Rattle.cvss_document.specs.Places.{place_view};
 ghost use Rattle.serde_json.specs.View.{members_view, view};
 
 use crate::differs::put_differences;
+use crate::input::Input;
 use crate::missing::put_missing;
-use crate::source::Source;
 use cvss_any::Cvss;
 use cvss_base::TENTH;
 use cvss_document::{Difference, Place, score_value};
@@ -22,19 +22,37 @@ use cvss_v4::Vector;
 use serde_json::{Map, Value, json, put};
 use std::alloc::{AllocError, Global};
 
-/// Puts the number of a line.
-pub(crate) fn put_line(
-    members: &mut Map<String, Tree<'_>>,
+/// Puts where a document is from.
+pub(crate) fn put_input<'a>(
+    members: &mut Map<String, Tree<'a>>,
     alloc: Global,
-    number: u64,
+    input: Input<'a>,
 ) -> Result<(), AllocError>
     ensures { OnOk result (trees.members_view members.new.entries
-        ≡ with_members (line_member number ∷ []) (trees.members_view members.old.entries)) }
+        ≡ with_members (input_members (input_view input.entry))
+        (trees.members_view members.old.entries)) }
 {
-    put_tree(members, alloc, "line", Tree::Own(Value::from(number)))
+    put_text(members, alloc, "file", input.file)?;
+    put_number(members, alloc, "line", input.line)
 }
 
-/// Puts why a vector or a line is refused.
+/// Puts a number under a name, if there is one.
+fn put_number(
+    members: &mut Map<String, Tree<'_>>,
+    alloc: Global,
+    name: &str,
+    number: Option<u64>,
+) -> Result<(), AllocError>
+    ensures { OnOk result (trees.members_view members.new.entries
+        ≡ with_members (number_member name.now number) (trees.members_view members.old.entries)) }
+{
+    match number {
+        Some(number) => put_tree(members, alloc, name, Tree::Own(Value::from(number))),
+        None => Ok(()),
+    }
+}
+
+/// Puts why a vector or a document is refused.
 pub(crate) fn put_refusal(
     members: &mut Map<String, Tree<'_>>,
     alloc: Global,
@@ -47,20 +65,20 @@ pub(crate) fn put_refusal(
     put_tree(members, alloc, "refused", Tree::Own(Value::String(reason)))
 }
 
-/// Puts where a vector stands, in which document, and its text as it stands there.
+/// Puts where a vector is, in which document, and its text as it is there.
 pub(crate) fn put_place<'a>(
     members: &mut Map<String, Tree<'a>>,
     alloc: Global,
-    source: Source<'a>,
+    input: Input<'a>,
     place: &'a Place<'a>,
 ) -> Result<(), AllocError>
     ensures { OnOk result (trees.members_view members.new.entries
-        ≡ with_members (place_members (source_view source.entry) (place_view place.now))
+        ≡ with_members (place_members (input_view input.entry) (place_view place.now))
         (trees.members_view members.old.entries)) }
 {
     put_tree(members, alloc, "at", Tree::Text(place.at.as_str()))?;
-    put_line(members, alloc, source.number)?;
-    put_text(members, alloc, "id", source.id)?;
+    put_input(members, alloc, input)?;
+    put_text(members, alloc, "id", place.context.id)?;
     put_text(members, alloc, "given", place.text)
 }
 

@@ -1,18 +1,19 @@
-//! The answer to one place where a vector stands.
+//! The answer to one location of a vector.
 
-ghost use Rattle.std.specs.Prelude.{IfOk};
-ghost use Rattle.cvss_audit.specs.Answers.{IsNoString, IsPlaceObject, IsTextObject};
-ghost use Rattle.cvss_audit.specs.Sources.{source_view};
+ghost use Rattle.std.specs.Prelude.{◌≡◌, ◌&&◌, IfOk, map};
+ghost use Rattle.cvss_audit.specs.Answers.{IsNoString, IsPlaceObject, IsTextObject, is_allowed, nothing_differs};
+ghost use Rattle.cvss_audit.specs.Inputs.{input_view};
 ghost use Rattle.cvss_audit.specs.private.Writing.{WritesPlace};
 ghost use Rattle.cvss_json_tree.specs.Trees.{members_view};
+ghost use Rattle.cvss_document.specs.Differences.{difference_view};
 ghost use Rattle.cvss_document.specs.Places.{place_view};
 ghost use Rattle.serde_json.specs.Data.{object};
 
+use crate::input::Input;
 use crate::members::{put_accepted, put_place, put_refusal};
-use crate::source::Source;
 use cvss_any::Cvss;
 use cvss_base::Error;
-use cvss_document::{Place, differences_at};
+use cvss_document::{Difference, Place, differences_at};
 use cvss_json_record::Scores;
 use cvss_json_tree::{Tree, write_tree_object};
 use cvss_lines::OutputBuffer;
@@ -22,14 +23,14 @@ use std::alloc::{AllocError, Global};
 /// Writes the object of a place. Says whether its vector is accepted and nothing differs.
 pub(crate) fn answer_place(
     alloc: Global,
-    source: Source<'_>,
+    input: Input<'_>,
     place: &Place<'_>,
     answers: &mut OutputBuffer,
 ) -> Result<bool, AllocError>
-    ensures { IfOk result (WritesPlace (source_view source.entry) (place_view place.now)
+    ensures { IfOk result (WritesPlace (input_view input.entry) (place_view place.now)
         answers.old.bytes.items answers.new.bytes.items) }
 {
-    let (members, agrees) = place_object(alloc, source, place)?;
+    let (members, agrees) = place_object(alloc, input, place)?;
     write_tree_object(alloc, &members, answers)?;
     Ok(agrees)
 }
@@ -37,34 +38,34 @@ pub(crate) fn answer_place(
 /// The object of a place, and whether its vector is accepted and nothing differs.
 fn place_object<'a>(
     alloc: Global,
-    source: Source<'a>,
+    input: Input<'a>,
     place: &'a Place<'a>,
 ) -> Result<(Map<String, Tree<'a>>, bool), AllocError>
-    ensures { IfOk result (λ reported. IsPlaceObject (source_view source.entry) (place_view place.now)
+    ensures { IfOk result (λ reported. IsPlaceObject (input_view input.entry) (place_view place.now)
         (object (members_view reported.0.entries)) reported.1) }
 {
     match place.text {
-        Some(text) => text_object(alloc, source, place, text),
-        None => no_string_object(alloc, source, place),
+        Some(text) => text_object(alloc, input, place, text),
+        None => no_string_object(alloc, input, place),
     }
 }
 
 /// The object of a place where a text stands.
 fn text_object<'a>(
     alloc: Global,
-    source: Source<'a>,
+    input: Input<'a>,
     place: &'a Place<'a>,
     text: &str,
 ) -> Result<(Map<String, Tree<'a>>, bool), AllocError>
-    ensures { IfOk result (λ reported. IsTextObject (source_view source.entry) (place_view place.now)
+    ensures { IfOk result (λ reported. IsTextObject (input_view input.entry) (place_view place.now)
         text.now (object (members_view reported.0.entries)) reported.1) }
 {
     let mut members = Map::new(alloc);
-    put_place(&mut members, alloc, source, place)?;
+    put_place(&mut members, alloc, input, place)?;
     match Cvss::from_str(alloc, text) {
         Ok(cvss) => {
             let differences = differences_at(alloc, &cvss, place)?;
-            let agrees = differences.is_empty();
+            let agrees = all_right(input, &cvss, &differences);
             put_accepted(&mut members, alloc, &cvss, &Scores::of(&cvss), differences)?;
             Ok((members, agrees))
         }
@@ -76,17 +77,41 @@ fn text_object<'a>(
     }
 }
 
+/// Whether nothing differs, and the vector lacks nothing that it may not lack.
+fn all_right(input: Input<'_>, cvss: &Cvss, differences: &[Difference<'_>]) -> bool
+    ensures { result ≡ nothing_differs (map difference_view differences.now)
+        && is_allowed (input_view input.entry) cvss.now }
+{
+    nothing_differs(differences) && is_allowed(input, cvss)
+}
+
+fn nothing_differs(differences: &[Difference<'_>]) -> bool
+    ensures { result ≡ nothing_differs (map difference_view differences.now) }
+{
+    match differences {
+        [] => true,
+        [_, ..] => false,
+    }
+}
+
+/// Whether a vector lacks no base metric, or may lack some.
+fn is_allowed(input: Input<'_>, cvss: &Cvss) -> bool
+    ensures { result ≡ is_allowed (input_view input.entry) cvss.now }
+{
+    input.allow_incomplete || cvss.first_missing().is_none()
+}
+
 /// The object of a place where no string stands.
 fn no_string_object<'a>(
     alloc: Global,
-    source: Source<'a>,
+    input: Input<'a>,
     place: &'a Place<'a>,
 ) -> Result<(Map<String, Tree<'a>>, bool), AllocError>
-    ensures { IfOk result (λ reported. IsNoString (source_view source.entry) (place_view place.now)
+    ensures { IfOk result (λ reported. IsNoString (input_view input.entry) (place_view place.now)
         (object (members_view reported.0.entries)) reported.1) }
 {
     let mut members = Map::new(alloc);
-    put_place(&mut members, alloc, source, place)?;
+    put_place(&mut members, alloc, input, place)?;
     let reason = String::from_str(alloc, "not a string")?;
     put_refusal(&mut members, alloc, reason)?;
     Ok((members, false))

@@ -22,7 +22,7 @@ pub extern "C" fn cvss_with(text: &[u8], metrics: &[u8], buffer: &mut [u8]) -> u
         (IsLeft buffer.old buffer.new result) }
 {
     match Cvss::read_bytes(text) {
-        Some(cvss) => put_with(&cvss, text, metrics, buffer),
+        Some(cvss) => put_with(&cvss, metrics, buffer),
         None => 0,
     }
 }

@@ -2,7 +2,7 @@
 
 ghost use Rattle.std.specs.Prelude.{◌≡◌, ℕ, List, None, length, true, false};
 ghost use Rattle.cvss_explain.specs.Explanation.{IsExplanationText};
-ghost use Rattle.cvss_any.specs.Answers.{text_of};
+ghost use Rattle.cvss_any.specs.Answers.{IsScoreOf, text_of};
 ghost use Rattle.cvss_any.specs.Dispatch.{DenotesCvss};
 ghost use Rattle.cvss_v4.specs.Vector.{v4};
 ghost use Rattle.cvss_base.specs.Version.{canonical_text};
@@ -12,7 +12,8 @@ ghost use Rattle.cvss_ffi.specs.Buffer.{IsLeft, IsWritten};
 ghost use Rattle.cvss_ffi.specs.Defined.{text_without_undefined};
 ghost use Rattle.cvss_ffi.specs.Metrics.{metrics_in_order};
 ghost use Rattle.cvss_ffi.specs.Overriding.{AnswersOverridden};
-ghost use Rattle.cvss_ffi.specs.Scores.{AnswersScoresBy, AreScoresOf, IsRatingNumber, nothing, version_number as number_of_version};
+ghost use Rattle.cvss_ffi.specs.Scores.{AnswersScoresBy, AreScoresOf, IsRatingNumber, IsScoreInTenths, nothing, version_number as number_of_version};
+ghost use Rattle.cvss_ffi.specs.Values.{AreValuesOf};
 ghost use Rattle.cvss_json_record.specs.Record.{IsRecordText};
 
 use cvss_any::Cvss;
@@ -22,8 +23,8 @@ use cvss_ffi::metrics::put_metrics;
 use cvss_ffi::numbers::{NOTHING, rating_number, version_number};
 use cvss_ffi::objects::{put_explanation, put_record};
 use cvss_ffi::overriding::put_overridden;
-use cvss_ffi::scores::put_scores_by;
-use cvss_ffi::{CvssMetric, CvssScores, CvssScoresBy};
+use cvss_ffi::scores::{put_scores_by, score_of};
+use cvss_ffi::{CvssMetric, CvssScores, CvssScoresBy, CvssValues};
 
 /// The version of the vector that a text denotes, as 20, 30, 31 or 40; -1 where it denotes none.
 /// It takes no memory.
@@ -47,6 +48,31 @@ pub extern "C" fn cvss_scores(text: &[u8], scores: &mut CvssScores) -> bool
     match Cvss::read_bytes(text) {
         Some(cvss) => {
             *scores = CvssScores::of(&cvss);
+            true
+        }
+        None => false,
+    }
+}
+
+/// The tenths of the published score of the vector that a text denotes, in CVSS v2 and v3 the base score;
+/// -1 where it denotes none. No other score is computed. It takes no memory.
+#[unsafe(no_mangle)]
+pub extern "C" fn cvss_score(text: &[u8]) -> i32
+    ensures { Answers text.now (λ cvss. IsScoreInTenths (IsScoreOf cvss) result) (result ≡ nothing) }
+{
+    score_of(text)
+}
+
+/// Whether a text denotes a vector; then the vector's version, its published score, its nomenclature and the
+/// values of its metrics. Where it denotes none, the values are left as they were. It takes no memory.
+#[unsafe(no_mangle)]
+pub extern "C" fn cvss_values(text: &[u8], values: &mut CvssValues) -> bool
+    ensures { Answers text.now (λ cvss. (result ≡ true) × AreValuesOf cvss values.new)
+        ((result ≡ false) × (values.new ≡ values.old)) }
+{
+    match Cvss::read_bytes(text) {
+        Some(cvss) => {
+            *values = CvssValues::of(&cvss);
             true
         }
         None => false,
@@ -156,7 +182,7 @@ pub extern "C" fn cvss_overridden(text: &[u8], overrides: &[u8], buffer: &mut [u
         (IsLeft buffer.old buffer.new result) }
 {
     match Cvss::read_bytes(text) {
-        Some(cvss) => put_overridden(&cvss, text, overrides, buffer),
+        Some(cvss) => put_overridden(&cvss, overrides, buffer),
         None => 0,
     }
 }

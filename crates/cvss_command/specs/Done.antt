@@ -1,31 +1,41 @@
 -- What the command does, by what its arguments ask for.
-use Rattle.std.specs.Prelude.{◌≡◌, ◌⊎◌, ℕ, ◌-◌, List, ◌∷◌, flat_map, length, take, drop, Option, Result, Ok, Err, IsOkAnd}
+use Rattle.std.specs.Prelude.{◌≡◌, ◌⊎◌, ℕ, ◌-◌, ◌==◌, Bool, true, false, List, ◌∷◌, flat_map, length, take, drop, Option, Some, None, Result, Ok, Err, IsOkAnd, if◌then◌else◌}
 use Rattle.std.specs.Global.{Vec}
-use Rattle.std.specs.Io.KnownBytes.{Appends, Keeps}
+use Rattle.std.specs.Io.KnownBytes.{Keeps}
 use Rattle.std.specs.Str.{IsUtf8}
-use Rattle.cvss_command.specs.Exit.{after, nothing_served}
-use Rattle.cvss_command.specs.Operands.{ServesAll}
+use Rattle.cvss_answer.specs.Setting.{IsSetAnswer}
+use Rattle.cvss_command.specs.Scoring.{AnswersLines, Scores, WritesText}
+use Rattle.cvss_audit.specs.Task.{audit_ends}
+use Rattle.cvss_audit.specs.declared.task.Audit as audit
+use Rattle.cvss_audit.specs.declared.task.Layout.{Layout}
+use Rattle.cvss_audit.specs.declared.task.Layout.TheVariants.{Lines, Whole, Either}
+use Rattle.cvss_command.specs.declared.requests.Options.{Options}
 use Rattle.cvss_command.specs.declared.requests.Request.{Request}
-use Rattle.cvss_command.specs.declared.requests.Request.TheVariants as request
-use Rattle.cvss_command.specs.declared.requests.Topic.{Topic}
-use Rattle.cvss_command.specs.declared.requests.Topic.TheVariants as topic
-use Rattle.cvss_command.specs.declared.served.Served.{Served}
-use Rattle.cvss_command.specs.declared.service.Task.{Task}
-use Rattle.cvss_command.specs.declared.service.Task.TheVariants as task
-use Rattle.cvss_lines.specs.declared.fault.RunFault.TheVariants.{Write, Memory}
-use denote.Ref.{Bor}
+use Rattle.cvss_command.specs.declared.requests.Request.TheVariants.{Help, Version, Wrong, Run}
+use Rattle.cvss_command.specs.declared.subcommand.Subcommand.{Subcommand}
+use Rattle.cvss_command.specs.declared.subcommand.Subcommand.TheVariants.{Score, Find, Explain, Set, Audit}
+use Rattle.cvss_explain_json.specs.Answers as json
+use Rattle.cvss_explain_text.specs.Answers as text
+use Rattle.cvss_find.specs.Answers.{find_rule}
+use Rattle.cvss_lines.specs.Answers.{Rule}
+use Rattle.cvss_lines.specs.Runs.{Ends}
+use Rattle.cvss_lines.specs.declared.fault.RunFault.TheVariants.{Memory}
+use Rattle.cvss_program.specs.Exit.{after, nothing_served}
+use Rattle.cvss_program.specs.Operands.{Endings, ServesAll}
+use Rattle.cvss_program.specs.declared.served.Served.{Served}
 
--- the help on a topic, of these three
-abbrev pub help_of : List ℕ → List ℕ → List ℕ → Topic → List ℕ
-help_of all score set topic.All = all
-help_of all score set topic.Score = score
-help_of all score set topic.Set = set
+-- the help on a subcommand or on all, of these texts
+abbrev pub help_of : List ℕ → List ℕ → List ℕ → List ℕ → List ℕ → List ℕ → Option Subcommand → List ℕ
+help_of all score find explain set audit None = all
+help_of all score find explain set audit (Some Score) = score
+help_of all score find explain set audit (Some Find) = find
+help_of all score find explain set audit (Some Explain) = explain
+help_of all score find explain set audit (Some Set) = set
+help_of all score find explain set audit (Some Audit) = audit
 
--- the text is written, or a beginning of it where the writer fails
-abbrev pub WritesText : List ℕ → Option (List ℕ) → Option (List ℕ) → Served → Type 0
-WritesText text written written' served =
-    ((served ≡ nothing_served) × Appends written written' text)
-    ⊎ ((served ≡ after nothing_served (Err Write)) × ((count : ℕ) × Appends written written' (take count text)))
+-- each line is answered by what is found in it
+abbrev pub FindsVectors : Bool → Endings
+FindsVectors allow_incomplete prefix = Ends (find_rule allow_incomplete prefix)
 
 -- each of the metrics after a slash
 abbrev pub with_slash : List (Vec ℕ) → List ℕ
@@ -43,33 +53,57 @@ joined_metrics count arguments = drop 1 (with_slash (metrics_of count arguments)
 abbrev pub operands_of : ℕ → List (Vec ℕ) → List (Vec ℕ)
 operands_of count arguments = drop (length arguments - count) arguments
 
--- the task is done over the operands
-abbrev pub DoesTask : Task → (List ℕ → Option (List ℕ)) → List (Vec ℕ) → Option (List ℕ) → Option (List ℕ) → Option (List ℕ) → Option (List ℕ) → Result Served ℕ → Type 0
-DoesTask task contents operands unread unread' written written' result =
-    IsOkAnd result (ServesAll task contents operands unread unread' written written')
-
 -- nothing is read or written
 pub record Idle (unread unread' written written' : Option (List ℕ)) (result expected : Result Served ℕ) : Type 0 where
   pub ended : result ≡ expected
   pub unread_kept : Keeps unread unread'
   pub written_kept : Keeps written written'
 
--- metrics that are a text are set in the vectors of the operands
-pub record SetsMetrics (metrics : List ℕ) (contents : List ℕ → Option (List ℕ)) (operands : List (Vec ℕ)) (unread unread' written written' : Option (List ℕ)) (result : Result Served ℕ) : Type 0 where
-  pub text : Bor (List ℕ)
-  pub is : text.now ≡ metrics
-  pub does : DoesTask (task.Set text) contents operands unread unread' written written' result
+-- the operands are answered
+abbrev pub Answers : Endings → Options → List (Vec ℕ) → (List ℕ → Option (List ℕ)) → Option (List ℕ) → Option (List ℕ) → Option (List ℕ) → Option (List ℕ) → Result Served ℕ → Type 0
+Answers ends options arguments contents unread unread' written written' result =
+    IsOkAnd result (ServesAll ends contents (operands_of options.operands arguments) unread unread' written written')
 
-abbrev pub Does : Request → (Topic → List ℕ) → List ℕ → List (Vec ℕ) → (List ℕ → Option (List ℕ)) → Option (List ℕ) → Option (List ℕ) → Option (List ℕ) → Option (List ℕ) → Result Served ℕ → Type 0
-Does (request.Help of) help version arguments contents unread unread' written written' result =
-    IsOkAnd result (WritesText (help of) written written') × Keeps unread unread'
-Does request.Version help version arguments contents unread unread' written written' result =
-    IsOkAnd result (WritesText version written written') × Keeps unread unread'
-Does (request.Wrong left) help version arguments contents unread unread' written written' result =
-    Idle unread unread' written written' result (Err left)
-Does (request.Score allow_incomplete count) help version arguments contents unread unread' written written' result =
-    DoesTask (task.Score allow_incomplete) contents (operands_of count arguments) unread unread' written written' result
-Does (request.Set metrics count) help version arguments contents unread unread' written written' result =
-    SetsMetrics (joined_metrics metrics arguments) contents (operands_of count arguments) unread unread' written written' result
-    ⊎ (¬ (IsUtf8 (joined_metrics metrics arguments)) × Idle unread unread' written written' result (Err (length arguments - 1)))
+-- the metrics are set in the vectors of the operands, unless they are no text or memory runs out
+abbrev pub SetsMetrics : List ℕ → Options → List (Vec ℕ) → (List ℕ → Option (List ℕ)) → Option (List ℕ) → Option (List ℕ) → Option (List ℕ) → Option (List ℕ) → Result Served ℕ → Type 0
+SetsMetrics metrics options arguments contents unread unread' written written' result =
+    Answers (AnswersLines (IsSetAnswer metrics)) options arguments contents unread unread' written written' result
+    ⊎ (¬ (IsUtf8 metrics) × Idle unread unread' written written' result (Err (length arguments - 1)))
     ⊎ Idle unread unread' written written' result (Ok (after nothing_served (Err Memory)))
+
+-- how inputs hold their documents: each is one if that is asked for, standard input has one a line where no operand is
+-- given, and else it is seen from each input
+abbrev pub layout_of : Options → Layout
+layout_of options = if options.flags.document then Whole else if options.operands == 0 then Lines else Either
+
+abbrev pub audit_of : Options → audit.Audit
+audit_of options = record { layout = layout_of options; allow_incomplete = options.flags.allow_incomplete }
+
+-- which explanations answer lines: objects, or texts for people. Vectors of CVSS v3 may lack base metrics, or not.
+abbrev pub explain_rule : Bool → Bool → Rule
+explain_rule true allow_incomplete = json.IsAnswer allow_incomplete
+explain_rule false allow_incomplete = text.IsAnswer allow_incomplete
+
+-- what each subcommand does
+abbrev pub Runs : Subcommand → Options → List (Vec ℕ) → (List ℕ → Option (List ℕ)) → Option (List ℕ) → Option (List ℕ) → Option (List ℕ) → Option (List ℕ) → Result Served ℕ → Type 0
+Runs Score options arguments contents unread unread' written written' result =
+    IsOkAnd result (Scores options.flags.json options.flags.tsv options.flags.allow_incomplete contents (operands_of options.operands arguments)
+    unread unread' written written')
+Runs Find options arguments contents unread unread' written written' result =
+    Answers (FindsVectors options.flags.allow_incomplete) options arguments contents unread unread' written written' result
+Runs Explain options arguments contents unread unread' written written' result =
+    Answers (AnswersLines (explain_rule options.flags.json options.flags.allow_incomplete)) options arguments contents unread unread' written written' result
+Runs Set options arguments contents unread unread' written written' result =
+    SetsMetrics (joined_metrics options.words arguments) options arguments contents unread unread' written written' result
+Runs Audit options arguments contents unread unread' written written' result =
+    Answers (audit_ends (audit_of options)) options arguments contents unread unread' written written' result
+
+abbrev pub Does : Request → (Option Subcommand → List ℕ) → List ℕ → List (Vec ℕ) → (List ℕ → Option (List ℕ)) → Option (List ℕ) → Option (List ℕ) → Option (List ℕ) → Option (List ℕ) → Result Served ℕ → Type 0
+Does (Help of) help version arguments contents unread unread' written written' result =
+    IsOkAnd result (WritesText (help of) written written') × Keeps unread unread'
+Does Version help version arguments contents unread unread' written written' result =
+    IsOkAnd result (WritesText version written written') × Keeps unread unread'
+Does (Wrong left) help version arguments contents unread unread' written written' result =
+    Idle unread unread' written written' result (Err left)
+Does (Run subcommand options) help version arguments contents unread unread' written written' result =
+    Runs subcommand options arguments contents unread unread' written written' result

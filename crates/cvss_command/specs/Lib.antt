@@ -1,6 +1,6 @@
-pub mod Answers
 pub mod Done
-pub mod Exit
-pub mod Operands
+pub mod Flags
 pub mod Requests
-pub mod Sources
+pub mod Scoring
+pub mod Subcommands
+pub mod private

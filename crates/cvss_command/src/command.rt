@@ -1,19 +1,21 @@
 //! The whole command.
 
 ghost use Rattle.std.specs.Prelude.{◌≡◌, IfOk, drop};
-ghost use Rattle.cvss_command.specs.Done.{Does, WritesText, help_of, metrics_of, operands_of, with_slash};
-ghost use Rattle.cvss_command.specs.Operands.{ServesAll, many_files};
+ghost use Rattle.cvss_command.specs.Done.{Does, Runs, SetsMetrics, audit_of, help_of, joined_metrics, metrics_of, operands_of, with_slash};
 ghost use Rattle.cvss_command.specs.Requests.{request_of};
+ghost use Rattle.cvss_command.specs.Scoring.{WritesText};
 
-use crate::files::Files;
-use crate::help::{SCORE_USAGE, SET_USAGE, USAGE, VERSION, help_of};
-use crate::requests::{Request, request_of};
-use crate::run::Run;
-use crate::served::Served;
-use crate::service::Task;
-use crate::sources::{has_name, source_of};
-use crate::watching::WatchedReader;
+use crate::find::Find;
+use crate::help::{
+    AUDIT_USAGE, EXPLAIN_USAGE, FIND_USAGE, SCORE_USAGE, SET_USAGE, USAGE, VERSION, help_of,
+};
+use crate::requests::{Options, Request, request_of};
+use crate::score::score;
+use crate::subcommand::Subcommand;
+use crate::tasks::{Explain, Set};
+use cvss_audit::{Audit, Layout};
 use cvss_lines::{RunFault, write_whole};
+use cvss_program::{EachLine, Files, Served, WatchedReader, serve_operands};
 use std::alloc::{AllocError, Global};
 use std::io::{Read, Write};
 
@@ -32,7 +34,7 @@ pub fn run_command<F: Files, R: Read, W: Write, E: Write>(
     report: &mut E,
 ) -> Result<Served, usize>
     ensures { Does (request_of arguments.now)
-        (help_of USAGE.now SCORE_USAGE.now SET_USAGE.now) VERSION.now
+        (help_of USAGE.now SCORE_USAGE.now FIND_USAGE.now EXPLAIN_USAGE.now SET_USAGE.now AUDIT_USAGE.now) VERSION.now
         arguments.now (F.contents files.now)
         (R.remaining reader.old.reader) (R.remaining reader.new.reader)
         (W.contents writer.old) (W.contents writer.new) result }
@@ -41,52 +43,88 @@ pub fn run_command<F: Files, R: Read, W: Write, E: Write>(
         Request::Help(topic) => Ok(write_text(help_of(topic), writer)),
         Request::Version => Ok(write_text(VERSION, writer)),
         Request::Wrong(left) => Err(left),
-        Request::Score {
-            allow_incomplete,
-            operands,
-        } => {
-            let task = Task::Score { allow_incomplete };
-            let operands = last(arguments, operands);
-            Ok(serve_all(alloc, task, operands, files, reader, writer, report))
-        }
-        Request::Set { metrics, operands } => {
-            let Ok(joined) = with_slash(alloc, metrics_of(arguments, metrics)) else {
-                return Ok(Served::nothing().after(Err(RunFault::Memory)));
-            };
-            let Ok(metrics) = str::from_utf8(after_the_first(&joined)) else {
-                return Err(arguments.len().saturating_sub(1));
-            };
-            let task = Task::Set { metrics };
-            let operands = last(arguments, operands);
-            Ok(serve_all(alloc, task, operands, files, reader, writer, report))
+        Request::Run(subcommand, options) => {
+            let operands = last(arguments, options.operands);
+            match subcommand {
+                Subcommand::Score => {
+                    Ok(score(
+                        alloc,
+                        options.flags,
+                        operands,
+                        files,
+                        reader,
+                        writer,
+                        report,
+                    ))
+                }
+                Subcommand::Find => {
+                    let task = Find {
+                        allow_incomplete: options.flags.allow_incomplete,
+                    };
+                    Ok(serve_operands(alloc, &task, operands, files, reader, writer, report))
+                }
+                Subcommand::Explain => {
+                    let answer = Explain {
+                        alloc,
+                        json: options.flags.json,
+                        allow_incomplete: options.flags.allow_incomplete,
+                    };
+                    let task = EachLine { answer };
+                    Ok(serve_operands(alloc, &task, operands, files, reader, writer, report))
+                }
+                Subcommand::Set => set_metrics(
+                    alloc, arguments, options, files, reader, writer, report,
+                ),
+                Subcommand::Audit => {
+                    let task = audit_of(&options);
+                    Ok(serve_operands(alloc, &task, operands, files, reader, writer, report))
+                }
+            }
         }
     }
 }
 
-/// Does a task over the lines of the operands, or over those of standard input where there is none.
-fn serve_all<F: Files, R: Read, W: Write, E: Write>(
+/// The audit that the options ask for.
+fn audit_of(options: &Options) -> Audit
+    ensures { result ≡ audit_of options.now }
+{
+    let layout = match options.operands {
+        _ if options.flags.document => Layout::Whole,
+        0 => Layout::Lines,
+        _ => Layout::Either,
+    };
+    Audit {
+        layout,
+        allow_incomplete: options.flags.allow_incomplete,
+    }
+}
+
+/// Sets the metrics that follow the subcommand in the vectors of the operands.
+fn set_metrics<F: Files, R: Read, W: Write, E: Write>(
     alloc: Global,
-    task: Task<'_>,
-    operands: &[Vec<u8>],
+    arguments: &[Vec<u8>],
+    options: Options,
     files: &F,
     reader: &mut WatchedReader<R>,
     writer: &mut W,
     report: &mut E,
-) -> Served
-    ensures { ServesAll task.entry (F.contents files.now) operands.now
+) -> Result<Served, usize>
+    ensures { SetsMetrics (joined_metrics options.words arguments.now) options
+        arguments.now (F.contents files.now)
         (R.remaining reader.old.reader) (R.remaining reader.new.reader)
         (W.contents writer.old) (W.contents writer.new) result }
 {
-    let run = Run {
-        alloc,
-        task,
-        many: are_many(operands),
-        files,
+    let Ok(joined) = with_slash(alloc, metrics_of(arguments, options.words)) else {
+        return Ok(Served::nothing().after(Err(RunFault::Memory)));
     };
-    match operands {
-        [] => Served::nothing().after(run.serve_operand(b"-", reader, writer, report)),
-        _ => run.serve(operands, reader, writer, report),
-    }
+    let Ok(metrics) = str::from_utf8(after_the_first(&joined)) else {
+        return Err(arguments.len().saturating_sub(1));
+    };
+    let task = EachLine {
+        answer: Set { metrics },
+    };
+    let operands = last(arguments, options.operands);
+    Ok(serve_operands(alloc, &task, operands, files, reader, writer, report))
 }
 
 /// Writes a text.
@@ -114,16 +152,6 @@ fn metrics_of(arguments: &[Vec<u8>], count: usize) -> &[Vec<u8>]
         [_, after @ ..] => &after[..count.min(after.len())],
         [] => arguments,
     }
-}
-
-/// Whether several operands have names that answers may begin with.
-fn are_many(operands: &[Vec<u8>]) -> bool
-    ensures { result ≡ many_files operands.now }
-{
-    let named = operands
-        .iter()
-        .filter(|operand| has_name(source_of(operand)));
-    named.count() > 1
 }
 
 /// Each of the metrics after a slash.

@@ -1,7 +1,7 @@
 //! What may help with a rejected vector that is a word of the command line.
 
-use crate::sources::{Source, source_of};
 use cvss_any::{Cvss, Version};
+use cvss_program::{Source, source_of};
 use std::fmt;
 
 /// What would make a rejected text a vector.
@@ -20,7 +20,7 @@ impl fmt::Display for Hint {
         f.write_str(match self {
             Hint::Version => "write `CVSS:3.1/` before it",
             Hint::Capitals => "write its prefix in capitals, as `CVSS:3.1/`",
-            Hint::Alone => "`cvss_find` finds vectors among other text",
+            Hint::Alone => "`cvss find` finds vectors among other text",
         })
     }
 }

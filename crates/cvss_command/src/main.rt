@@ -3,28 +3,22 @@
 #![tactic(auto)]
 
 mod command;
-mod files;
+mod find;
+mod flags;
 mod help;
 mod hint;
 mod requests;
-mod run;
-mod served;
-mod service;
-mod sources;
-mod watching;
+mod score;
+mod subcommand;
+mod tasks;
 
 pub use command::run_command;
 use cvss_lines::{RunFault, write_whole};
-use cvss_program::arguments;
-pub use files::{Files, SystemFiles};
+use cvss_program::{Served, SystemFiles, WatchedReader, WatchedWriter, arguments, exit_status};
 use help::USAGE;
-pub use help::help_of;
 use hint::first_hint;
-pub use requests::{Request, Topic, request_of};
-pub use served::{Served, exit_status};
 use std::io::{self, ErrorKind, Write};
 use std::process::ExitCode;
-pub use watching::{WatchedReader, WatchedWriter};
 
 fn main(rt: HostRuntime) -> ExitCode {
     let Ok(arguments) = arguments(rt.alloc(), &rt) else {

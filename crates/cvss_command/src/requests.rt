@@ -1,55 +1,62 @@
 //! What the arguments of the command ask for.
 
-ghost use Rattle.std.specs.Prelude.{◌≡◌, bytes_eq, false, if◌then◌else◌, length};
-ghost use Rattle.cvss_command.specs.Requests.{alone as alone_of, help_on, help_request as help_of, is_option, request_of, score_request as score_of, set_found, set_request as set_of};
-ghost use Rattle.cvss_command.specs.declared.requests.Request.TheVariants.{Score, Wrong};
+ghost use Rattle.std.specs.Prelude.{◌≡◌, bytes_eq, false, length};
+ghost use Rattle.cvss_command.specs.Flags.{no_flags};
+ghost use Rattle.cvss_command.specs.Requests.{alone as alone_of, flag_of, found, help_request as help_of, is_option, named as named_by, read_words, request_of, word_of};
 
-/// What a help text is about.
-#[derive(Drop)]
-pub enum Topic {
-    All,
-    Score,
-    Set,
-}
+use crate::flags::{Flag, Flags};
+use crate::subcommand::Subcommand;
 
 /// What the command is asked for.
 #[derive(Drop)]
-pub enum Request {
-    /// A help text.
-    Help(Topic),
+pub(crate) enum Request {
+    /// The help on a subcommand, or on all.
+    Help(Option<Subcommand>),
     /// The version.
     Version,
     /// The arguments are not understood: so many are left from the first that is not, or none is where
     /// one is missing.
     Wrong(usize),
-    /// The scores of vectors. The last arguments are the operands, so many.
-    Score {
-        allow_incomplete: bool,
-        operands: usize,
-    },
-    /// Vectors with metrics set: so many arguments follow the subcommand, and the last are the
-    /// operands.
-    Set {
-        metrics: usize,
-        operands: usize,
-    },
+    Run(Subcommand, Options),
+}
+
+/// What follows a subcommand.
+#[derive(Drop)]
+pub(crate) struct Options {
+    pub(crate) flags: Flags,
+    /// How many arguments after the subcommand are flags, values of flags and metrics.
+    pub(crate) words: usize,
+    /// How many of the last arguments are vectors and files.
+    pub(crate) operands: usize,
+}
+
+/// What a word after a subcommand is.
+#[derive(Drop)]
+pub(crate) enum Word {
+    /// `--`, after which all words are operands.
+    End,
+    Help,
+    Flag(Flag),
+    /// A flag that the subcommand does not have.
+    Unknown,
+    /// What is set in vectors.
+    Metric,
+    Operand,
 }
 
 /// What arguments ask for.
-pub fn request_of(arguments: &[Vec<u8>]) -> Request
+pub(crate) fn request_of(arguments: &[Vec<u8>]) -> Request
     ensures { result ≡ request_of arguments.now }
 {
     let Some((word, words)) = arguments.split_first() else {
         return Request::Wrong(0);
     };
-    if is(word, "score") {
-        score_request(words)
-    } else if is(word, "set") {
-        set_request(words)
+    if let Some(subcommand) = named(word) {
+        read_words(subcommand, words)
     } else if is(word, "help") {
         help_request(words)
     } else if is(word, "--help") {
-        alone(Request::Help(Topic::All), words)
+        alone(Request::Help(None), words)
     } else if is(word, "--version") {
         alone(Request::Version, words)
     } else {
@@ -57,100 +64,112 @@ pub fn request_of(arguments: &[Vec<u8>]) -> Request
     }
 }
 
-fn score_request(words: &[Vec<u8>]) -> Request
-    ensures { result ≡ score_of false words.now }
+/// The subcommand of this name.
+fn named(word: &[u8]) -> Option<Subcommand>
+    ensures { result ≡ named_by word.now }
 {
-    let mut allow_incomplete = false;
-    let mut left = words;
-    while let Some((word, rest)) = left.split_first() {
-        if is(word, "--") {
-            return Request::Score {
-                allow_incomplete,
-                operands: rest.len(),
-            };
-        }
-        if is(word, "--help") {
-            return Request::Help(Topic::Score);
-        }
-        if !is(word, "--allow-incomplete") {
-            return score_operands(allow_incomplete, word, left.len());
-        }
-        allow_incomplete = true;
-        left = rest;
-    }
-    Request::Score {
-        allow_incomplete,
-        operands: 0,
-    }
+    let all = Subcommand::ALL.iter();
+    all.copied().find(|subcommand| is(word, subcommand.name()))
 }
 
-/// The request where the first of so many words is no option that is known.
-fn score_operands(allow_incomplete: bool, word: &[u8], operands: usize) -> Request
-    ensures { result ≡ (if is_option word.now then Wrong operands
-        else Score allow_incomplete operands) }
+/// What the words after a subcommand ask for.
+fn read_words(subcommand: Subcommand, words: &[Vec<u8>]) -> Request
+    ensures { result ≡ read_words subcommand (length words.now) no_flags false words.now }
 {
-    if is_option(word) {
-        Request::Wrong(operands)
-    } else {
-        Request::Score {
-            allow_incomplete,
-            operands,
-        }
-    }
-}
-
-fn set_request(words: &[Vec<u8>]) -> Request
-    ensures { result ≡ set_of (length words.now) words.now }
-{
+    let mut flags = Flags::none();
+    let mut value = false;
     let mut left = words;
     while let Some((word, rest)) = left.split_first() {
-        if is(word, "--") {
-            let metrics = words.len().saturating_sub(left.len());
-            return set_found(metrics, left.len(), rest.len());
-        }
-        if is(word, "--help") {
-            return Request::Help(Topic::Set);
-        }
-        if is_option(word) {
-            return Request::Wrong(left.len());
+        if value {
+            value = false;
+        } else {
+            match word_of(subcommand, word) {
+                Word::End => {
+                    let read = words.len().saturating_sub(left.len());
+                    return found(subcommand, flags, read, left.len(), rest.len());
+                }
+                Word::Help => return Request::Help(Some(subcommand)),
+                Word::Unknown => return Request::Wrong(left.len()),
+                Word::Operand => {
+                    let read = words.len().saturating_sub(left.len());
+                    return found(subcommand, flags, read, left.len(), left.len());
+                }
+                Word::Metric => {}
+                Word::Flag(flag) => {
+                    flags = flags.with(flag);
+                    value = flag.has_value();
+                }
+            }
         }
         left = rest;
     }
-    set_found(words.len(), 0, 0)
+    if value {
+        Request::Wrong(0)
+    } else {
+        found(subcommand, flags, words.len(), 0, 0)
+    }
 }
 
-/// So many metrics and operands, where some metric has to be.
-fn set_found(metrics: usize, left: usize, operands: usize) -> Request
-    ensures { result ≡ set_found metrics left operands }
+fn word_of(subcommand: Subcommand, word: &[u8]) -> Word
+    ensures { result ≡ word_of subcommand word.now }
 {
-    if metrics == 0 {
-        Request::Wrong(left)
+    if is(word, "--") {
+        Word::End
+    } else if is(word, "--help") {
+        Word::Help
+    } else if is_option(word) {
+        match flag_of(subcommand, word) {
+            Some(flag) => Word::Flag(flag),
+            None => Word::Unknown,
+        }
+    } else if subcommand.sets_metrics() {
+        Word::Metric
     } else {
-        Request::Set { metrics, operands }
+        Word::Operand
     }
+}
+
+/// The flag of this name that a subcommand has.
+fn flag_of(subcommand: Subcommand, word: &[u8]) -> Option<Flag>
+    ensures { result ≡ flag_of subcommand word.now }
+{
+    let known = subcommand.flags().iter();
+    known.copied().find(|flag| is(word, flag.name()))
+}
+
+/// The request of a subcommand after so many words and with so many operands, where there has to be a
+/// metric if the subcommand sets metrics.
+fn found(
+    subcommand: Subcommand,
+    flags: Flags,
+    words: usize,
+    left: usize,
+    operands: usize,
+) -> Request
+    ensures { result ≡ found subcommand flags words left operands }
+{
+    if subcommand.sets_metrics() && words == 0 {
+        return Request::Wrong(left);
+    }
+    let options = Options {
+        flags,
+        words,
+        operands,
+    };
+    Request::Run(subcommand, options)
 }
 
 fn help_request(words: &[Vec<u8>]) -> Request
     ensures { result ≡ help_of words.now }
 {
     match words {
-        [] => Request::Help(Topic::All),
-        [word] => help_on(word),
+        [] => Request::Help(None),
+        [word] if is(word, "help") => Request::Help(None),
+        [word] => match named(word) {
+            Some(subcommand) => Request::Help(Some(subcommand)),
+            None => Request::Wrong(1),
+        },
         [_, more @ ..] => Request::Wrong(more.len()),
-    }
-}
-
-fn help_on(word: &[u8]) -> Request
-    ensures { result ≡ help_on word.now }
-{
-    if is(word, "score") {
-        Request::Help(Topic::Score)
-    } else if is(word, "set") {
-        Request::Help(Topic::Set)
-    } else if is(word, "help") {
-        Request::Help(Topic::All)
-    } else {
-        Request::Wrong(1)
     }
 }
 

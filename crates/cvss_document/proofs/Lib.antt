@@ -3,3 +3,4 @@ mod PlacesLemmas
 mod PointerLemmas
 mod RecordLemmas
 mod ScoreLemmas
+mod TenthLemmas

@@ -1,14 +1,14 @@
 -- What a step of the walk over a document does, wherever the level stands in which it is taken.
-use Rattle.std.proofs.Common.{◌≡◌, ℕ, ◌+◌, ◌<◌, ◌≤◌, List, [], ◌∷◌, ◌++◌, map, Option, None, option_map, Bor, BTreeMap, Global, String, refl, sym, ap, ap₂, ◌∙◌, append_assoc, append-nil, arith}
+use Rattle.std.proofs.Common.{◌≡◌, ℕ, ◌+◌, ◌<◌, ◌≤◌, List, [], ◌∷◌, ◌++◌, map, Option, None, Bor, BTreeMap, Global, String, refl, sym, ap, ap₂, ◌∙◌, append_assoc, append-nil, arith}
 use Rattle.std.proofs.lemmas.Grind.{flat_map-append}
 use Rattle.std.proofs.lemmas.List.{map-append, map-id}
 use Rattle.serde_json.specs.Data.{array, object}
 use Rattle.serde_json.specs.View.{items_view, members_view, view}
 use Rattle.serde_json.specs.declared.value.Value.{Value}
-use Rattle.cvss_document.specs.Places.{Place, around_view, places_in, places_within}
+use Rattle.cvss_document.specs.Places.{Place, context_view, own_context, places_in, places_in_members, places_of, places_within}
 use Rattle.cvss_document.specs.PlacesLeft.{places_in_levels, places_in_rest, step_text, under}
 use Rattle.cvss_document.specs.private.Walking.{Visits, level_of, pointer_to, steps_in, steps_in_rest, steps_left}
-use Rattle.cvss_document.specs.declared.place.Around.{Around}
+use Rattle.cvss_document.specs.declared.place.Context.{Context}
 use Rattle.cvss_document.specs.declared.place.Form.TheVariants.{Record}
 use Rattle.cvss_document.specs.declared.places.Level.{Level}
 use Rattle.cvss_document.specs.declared.places.Rest.{Rest}
@@ -50,11 +50,13 @@ Visits-at front old new levels given places visits seen are = record {
 }
 
 -- before the first step
-pub places_of_document : (document : Bor Value) (none levels : List Level) → none ≡ []
-    → levels ≡ none ++ level_of Document (Whole document None) ∷ [] → places_in_levels levels ≡ places_in (view document.now)
-places_of_document document none levels is are =
-    ap places_in_levels (are ∙ ap (λ before. before ++ level_of Document (Whole document None) ∷ []) is)
-    ∙ map-id (places_in (view document.now))
+pub places_of_document : (document : Bor Value) (context : Context) (none levels : List Level) → none ≡ []
+    → levels ≡ none ++ level_of Document (Whole document context) ∷ [] → context_view context ≡ (None, None)
+    → places_in_levels levels ≡ places_in (view document.now)
+places_of_document document context none levels is are nowhere =
+    ap places_in_levels (are ∙ ap (λ before. before ++ level_of Document (Whole document context) ∷ []) is)
+    ∙ map-id (places_within (context_view context) (view document.now))
+    ∙ ap (λ seen. places_within seen (view document.now)) nowhere
 
 -- a step that leaves nothing of a level
 pub Visits-nothing : (front levels : List Level) (step : Step) (old : Rest) → places_in_rest old ≡ [] → steps_in_rest old ≡ 1
@@ -65,12 +67,12 @@ Visits-nothing front levels step old none one are =
     refl (are ∙ sym (append-nil front))
 
 -- an array: its items are next
-pub Visits-array : (front levels : List Level) (step : Step) (around : Option Around) (value : Bor Value) (items : Bor (List Value))
-    → view value.now ≡ array (items_view items.now) → levels ≡ front ++ level_of step (Items items 0) ∷ []
-    → Visits (front ++ level_of step (Whole value around) ∷ []) [] levels
-Visits-array front levels step around value items is are =
-    Visits-at front (level_of step (Whole value around) ∷ []) _ levels [] [] (record {
-      places = ap (λ seen. map (under (step_text step)) (places_within (option_map around_view around) seen)) is;
+pub Visits-array : (front levels : List Level) (step : Step) (context : Context) (value : Bor Value) (items : Bor (List Value))
+    → view value.now ≡ array (items_view items.now) → levels ≡ front ++ level_of step (Items items 0 context.id) ∷ []
+    → Visits (front ++ level_of step (Whole value context) ∷ []) [] levels
+Visits-array front levels step context value items is are =
+    Visits-at front (level_of step (Whole value context) ∷ []) _ levels [] [] (record {
+      places = ap (λ seen. map (under (step_text step)) (places_within (context_view context) seen)) is;
       fewer = omega (arith, ap steps_in is);
     }) refl are
 
@@ -89,11 +91,14 @@ Visits-over front levels step old now over visits = record {
 }
 
 -- an object: its own places are next
-pub object_over : (around : Option Around) (value : Bor Value) (holder : Bor (BTreeMap (String Global) Value))
+pub object_over : (context own : Context) (value : Bor Value) (holder : Bor (BTreeMap (String Global) Value))
     → view value.now ≡ object (members_view holder.now.entries)
-    → PassesOver (places_in_rest (Whole value around)) (steps_in_rest (Whole value around)) (places_in_rest (Own holder around Record)) (steps_in_rest (Own holder around Record))
-object_over around value holder is = record {
-  same = ap (places_within (option_map around_view around)) is;
+    → context_view own ≡ own_context (context_view context) (members_view holder.now.entries)
+    → PassesOver (places_in_rest (Whole value context)) (steps_in_rest (Whole value context)) (places_in_rest (Own holder own Record)) (steps_in_rest (Own holder own Record))
+object_over context own value holder is own_is = record {
+  same = ap (places_within (context_view context)) is
+      ∙ ap (λ seen. places_of seen (members_view holder.now.entries)
+      ++ places_in_members seen.1 (members_view holder.now.entries) (members_view holder.now.entries)) (sym own_is);
   fewer = omega (arith, ap steps_in is);
 }
 

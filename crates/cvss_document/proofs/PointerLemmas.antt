@@ -11,10 +11,9 @@ use Rattle.std.specs.Option.{IfSome}
 use Rattle.std.specs.Ordering.{match_ordering}
 use Rattle.serde_json.specs.Data.{Data, array, object, Items, no_items, item, Members, no_members, member}
 use Rattle.serde_json.specs.Find.{get_item, get_member}
-use Rattle.cvss_document.specs.Places.{Around, Place, below, escaped, forms_from, place_as, places_in, places_in_items, places_in_members, places_of, places_within, vector_as}
+use Rattle.cvss_document.specs.Places.{Context, Place, below, escaped, forms, own_context, place_as, places_in, places_in_items, places_in_members, places_of, places_within, vector_as}
 use Rattle.cvss_document.specs.laws.Pointers.{LeadsTo, here, by_item, by_member, HasNamesOnce, ItemsHaveNamesOnce, MembersHaveNamesOnce}
 use Rattle.cvss_document.specs.declared.place.Form.{Form}
-use Rattle.cvss_document.specs.declared.place.Form.TheVariants.{Record}
 
 -- a member that no other follows with its name is not hidden by the one before it
 found_at : (order : Ordering) (name sought : List ℕ) (value found : Data) (rest : Members) → slice_cmp nat_cmp sought name ≡ order
@@ -35,57 +34,58 @@ own_more : (place : Option Place) (rest : List Place) (Q : Place → Type 0) →
 own_more None rest Q first more = more
 own_more (Some place) rest Q first more = All-cons Q place rest first more
 
-in_form : (around : Option Around) (own : Members) (form : Form) (text : Option (Option (List ℕ))) (Q : Place → Type 0)
-    → ((text : Option (List ℕ)) → Q ([], form, text, own, around)) → IfSome (option_map (λ text. ([], form, text, own, around)) text) Q
-in_form around own form None Q each = tt
-in_form around own form (Some text) Q each = each text
+in_form : (context : Context) (own : Members) (form : Form) (text : Option (Option (List ℕ))) (Q : Place → Type 0)
+    → ((text : Option (List ℕ)) → Q ([], form, text, own, context)) → IfSome (option_map (λ text. ([], form, text, own, context)) text) Q
+in_form context own form None Q each = tt
+in_form context own form (Some text) Q each = each text
 
-own_places : (around : Option Around) (own : Members) (forms : List Form) (Q : Place → Type 0)
-    → ((form : Form) (text : Option (List ℕ)) → Q ([], form, text, own, around)) → All Q (filter_map (place_as around own) forms)
-own_places around own [] Q each = All-nil Q
-own_places around own (form ∷ forms) Q each =
-    own_more (place_as around own form) (filter_map (place_as around own) forms) Q (in_form around own form (vector_as own form) Q (each form))
-    (own_places around own forms Q each)
+own_places : (context : Context) (own : Members) (forms : List Form) (Q : Place → Type 0)
+    → ((form : Form) (text : Option (List ℕ)) → Q ([], form, text, own, context)) → All Q (filter_map (place_as context own) forms)
+own_places context own [] Q each = All-nil Q
+own_places context own (form ∷ forms) Q each =
+    own_more (place_as context own form) (filter_map (place_as context own) forms) Q (in_form context own form (vector_as context.0 own form) Q (each form))
+    (own_places context own forms Q each)
 
 -- what holds wherever a pointer leads to an object holds of each place
 mutual
-  in_data : (around : Option Around) (value : Data) → HasNamesOnce value → (Q : Place → Type 0)
-      → ((place : Place) → LeadsTo place.0 value (object place.3) → Q place) → All Q (places_within around value)
-  in_data around (array items) once Q each = in_items items items 0 (λ index found is. ap (λ sought. get_item sought items) (zero-add index) ∙ is) once Q each
-  in_data around (object members) once Q each =
-      All-append Q (places_of around members) (places_in_members members members)
-      (own_places around members (forms_from Record) Q (λ form text. each ([], form, text, members, around) (here (object members))))
-      (in_members members members (λ name found is. is) once Q each)
-  in_data around _ once Q each = All-nil Q
+  in_data : (context : Context) (value : Data) → HasNamesOnce value → (Q : Place → Type 0)
+      → ((place : Place) → LeadsTo place.0 value (object place.3) → Q place) → All Q (places_within context value)
+  in_data context (array items) once Q each = in_items context.1 items items 0 (λ index found is. ap (λ sought. get_item sought items) (zero-add index) ∙ is) once Q each
+  in_data context (object members) once Q each =
+      let own = own_context context members in
+      All-append Q (places_of own members) (places_in_members own.1 members members)
+      (own_places own members forms Q (λ form text. each ([], form, text, members, own) (here (object members))))
+      (in_members own.1 members members (λ name found is. is) once Q each)
+  in_data context _ once Q each = All-nil Q
 
-  in_items : (all rest : Items) (start : ℕ)
+  in_items : (id : Option (List ℕ)) (all rest : Items) (start : ℕ)
       → ((index : ℕ) (found : Data) → get_item index rest ≡ Some found → get_item (start + index) all ≡ Some found)
       → ItemsHaveNamesOnce rest → (Q : Place → Type 0)
-      → ((place : Place) → LeadsTo place.0 (array all) (object place.3) → Q place) → All Q (places_in_items start rest)
-  in_items all no_items start held once Q each = All-nil Q
-  in_items all (item value rest) start held once Q each =
+      → ((place : Place) → LeadsTo place.0 (array all) (object place.3) → Q place) → All Q (places_in_items id start rest)
+  in_items id all no_items start held once Q each = All-nil Q
+  in_items id all (item value rest) start held once Q each =
       let at_start : get_item start all ≡ Some value = ap (λ index. get_item index all) (omega arith) ∙ held 0 value refl in
-      All-append Q _ (places_in_items (start + 1) rest)
-      (All-map Q (below (decimal start)) (places_within None value)
-      (in_data None value once.0 (λ place. Q (below (decimal start) place))
+      All-append Q _ (places_in_items id (start + 1) rest)
+      (All-map Q (below (decimal start)) (places_within (None, id) value)
+      (in_data (None, id) value once.0 (λ place. Q (below (decimal start) place))
       (λ place leads. each (below (decimal start) place) (by_item start all value (object place.3) place.0 at_start leads))))
-      (in_items all rest (start + 1)
+      (in_items id all rest (start + 1)
       (λ index found is. ap (λ index. get_item index all) (omega arith) ∙ held (suc index) found is) once.1 Q each)
 
-  in_members : (all rest : Members)
+  in_members : (id : Option (List ℕ)) (all rest : Members)
       → ((name : List ℕ) (found : Data) → get_member name rest ≡ Some found → get_member name all ≡ Some found)
       → MembersHaveNamesOnce rest → (Q : Place → Type 0)
-      → ((place : Place) → LeadsTo place.0 (object all) (object place.3) → Q place) → All Q (places_in_members all rest)
-  in_members all no_members held once Q each = All-nil Q
-  in_members all (member name value rest) held once Q each =
-      All-append Q _ (places_in_members all rest)
-      (All-map Q (below (escaped name)) (places_within (Some (name, all)) value)
-      (in_data (Some (name, all)) value once.1.0 (λ place. Q (below (escaped name) place))
+      → ((place : Place) → LeadsTo place.0 (object all) (object place.3) → Q place) → All Q (places_in_members id all rest)
+  in_members id all no_members held once Q each = All-nil Q
+  in_members id all (member name value rest) held once Q each =
+      All-append Q _ (places_in_members id all rest)
+      (All-map Q (below (escaped name)) (places_within (Some (name, all), id) value)
+      (in_data (Some (name, all), id) value once.1.0 (λ place. Q (below (escaped name) place))
       (λ place leads. each (below (escaped name) place)
       (by_member name all value (object place.3) place.0 (held name value (first_found name value rest)) leads))))
-      (in_members all rest
+      (in_members id all rest
       (λ sought found is. held sought found (found_at (slice_cmp nat_cmp sought name) name sought value found rest refl once.0 is))
       once.1.1 Q each)
 
 pub pointers_lead : (document : Data) → HasNamesOnce document → All (λ place. LeadsTo place.0 document (object place.3)) (places_in document)
-pointers_lead document once = in_data None document once (λ place. LeadsTo place.0 document (object place.3)) (λ place leads. leads)
+pointers_lead document once = in_data (None, None) document once (λ place. LeadsTo place.0 document (object place.3)) (λ place leads. leads)

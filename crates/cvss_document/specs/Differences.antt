@@ -1,23 +1,27 @@
--- Where an object says otherwise than the vector's record.
+-- Where an object disagrees with the vector in it.
 use Rattle.std.specs.Prelude.{◌≡◌, ℕ, Bool, true, false, not, ◌&&◌, List, [], ◌∷◌, ◌++◌, codes, bytes_eq, if◌then◌else◌, is_some, Option, Some, None, option_and_then}
 use Rattle.std.specs.List.{filter_map, list_any}
 use Rattle.std.specs.Option.{option_to_list}
+use Rattle.cvss_any.specs.Answers.{rating_by, score_of_tenths}
 use Rattle.cvss_any.specs.declared.vector.Cvss.{Cvss}
 use Rattle.cvss_any.specs.declared.vector.Cvss.TheVariants.{CvssV20, CvssV30, CvssV31, CvssV40}
+use Rattle.cvss_base.specs.SeverityText.{text_of as severity_text}
 use Rattle.serde_json.specs.Data.{Data, Members, no_members, member, string}
 use Rattle.serde_json.specs.Find.{as_number, get_member}
 use Rattle.serde_json.specs.View.{view}
-use Rattle.cvss_document.specs.Expected.{agrees, expected_at, expected_value}
+use Rattle.cvss_document.specs.Expected.{agrees, expected_at, expected_value, is_text}
 use Rattle.cvss_json_record.specs.Record.{Expected, text, score, rating_expected}
 use Rattle.cvss_json_record.specs.Groups.{AreScoresOf}
 use Rattle.cvss_json_tree.specs.Objects.{Member}
-use Rattle.cvss_document.specs.Places.{Around, Place}
+use Rattle.cvss_document.specs.Places.{Around, Place, is_among, object_at}
+use Rattle.cvss_document.specs.SubScores.{AreSubScoresOf}
 use Rattle.cvss_json_names.specs.Versions.{version_of}
 use Rattle.cvss_document.specs.declared.difference.Difference as code
 use Rattle.cvss_document.specs.declared.difference.Said.{Said}
 use Rattle.cvss_document.specs.declared.difference.Said.TheVariants.{Value, Name}
 use Rattle.cvss_document.specs.declared.place.Form.{Form}
-use Rattle.cvss_document.specs.declared.place.Form.TheVariants.{Record, GitHub, Osv}
+use Rattle.cvss_document.specs.declared.place.Form.TheVariants.{Record, GitHub, Osv, Rating, TrivyV2, TrivyV3, TrivyV40, RustSec, Spdx}
+use Rattle.cvss_document.specs.declared.sub_scores.SubScores.{SubScores}
 use Rattle.cvss_json_record.specs.declared.score.Scores.{Scores}
 
 -- a member's name, what it says, and what would agree
@@ -33,15 +37,15 @@ list_of (member name said rest) = (name, said) ∷ list_of rest
 abbrev pub difference_from : Member → Expected → Option Difference
 difference_from said expected = if agrees expected said.1 then None else Some (said.0, said.1, expected_value expected)
 
--- a number at `score`, as GitHub has it beside the text, differs if it is not the vector's score
-abbrev pub github_difference : ℕ → Data → Option Difference
-github_difference tenths said = if is_some (as_number said) then difference_from (codes "score", said) (score tenths) else None
+-- a number in the member of this name differs if it is not so many tenths
+abbrev pub number_difference : List ℕ → ℕ → Data → Option Difference
+number_difference name tenths said = if is_some (as_number said) then difference_from (name, said) (score tenths) else None
 
 -- the member's difference, if it says otherwise than the vector's record, or is a number at `score` that is not the
 -- vector's
 abbrev pub difference_at : Cvss → Scores → Member → Option Difference
 difference_at cvss scores said =
-    if bytes_eq (codes "score") said.0 then github_difference scores.base said.1
+    if bytes_eq (codes "score") said.0 then number_difference (codes "score") scores.base said.1
     else option_and_then (difference_from said) (expected_at cvss scores said.0)
 
 -- the differences of the members of an object: one for each that says otherwise, in the order of their names
@@ -58,9 +62,26 @@ pub record AreDifferences (cvss : Cvss) (object : Members) (differences : List D
 abbrev pub differences_at : (Data → Option Difference) → List ℕ → Members → List Difference
 differences_at difference name object = option_to_list (option_and_then difference (get_member name object))
 
--- the difference of a score, as GitHub has it
-abbrev pub score_differences : Scores → Members → List Difference
-score_differences scores object = differences_at (github_difference scores.base) (codes "score") object
+-- the difference of a number in the member of this name from so many tenths
+abbrev pub number_differences : List ℕ → ℕ → Members → List Difference
+number_differences name tenths object = differences_at (number_difference name tenths) name object
+
+-- the difference of the member of this name from a text
+abbrev pub text_differences : List ℕ → List ℕ → Members → List Difference
+text_differences name expected object = differences_at (λ said. difference_from (name, said) (text expected)) name object
+
+-- the rating of so many tenths, in lower case
+abbrev pub severity_text_of : Cvss → ℕ → List ℕ
+severity_text_of cvss tenths = severity_text (rating_by cvss (score_of_tenths tenths))
+
+-- a severity differs if it is not the rating of so many tenths; `unknown` says nothing
+abbrev pub severity_difference : List ℕ → Cvss → ℕ → Data → Option Difference
+severity_difference name cvss tenths said =
+    if is_text (codes "unknown") said then None
+    else difference_from (name, said) (text (severity_text_of cvss tenths))
+
+abbrev pub severity_differences : List ℕ → Cvss → ℕ → Members → List Difference
+severity_differences name cvss tenths object = differences_at (severity_difference name cvss tenths) name object
 
 -- the type that OSV gives the score of the vector
 abbrev pub osv_type : Cvss → List ℕ
@@ -69,17 +90,63 @@ osv_type (CvssV30 _) = codes "CVSS_V3"
 osv_type (CvssV31 _) = codes "CVSS_V3"
 osv_type (CvssV40 _) = codes "CVSS_V4"
 
--- the difference of a type, as OSV has it
-abbrev pub type_differences : Cvss → Members → List Difference
-type_differences cvss object =
-    differences_at (λ said. difference_from (codes "type", said) (text (osv_type cvss))) (codes "type") object
+-- the method that CycloneDX gives a rating by the vector
+abbrev pub method_of : Cvss → List ℕ
+method_of (CvssV20 _) = codes "CVSSv2"
+method_of (CvssV30 _) = codes "CVSSv3"
+method_of (CvssV31 _) = codes "CVSSv31"
+method_of (CvssV40 _) = codes "CVSSv4"
 
--- the differences of the members of an object that holds a vector in this form: of a record, those of all its
--- members; of GitHub's advisories, that of the score; of OSV's records, that of the type
+-- the difference of the base score in `metrics`, as grype has it
+abbrev pub metrics_differences : Scores → Option Members → List Difference
+metrics_differences scores None = []
+metrics_differences scores (Some metrics) = number_differences (codes "baseScore") scores.base metrics
+
+-- the differences of a rating, as CycloneDX and grype have it
+abbrev pub given_rating_differences : Cvss → Scores → Members → List Difference
+given_rating_differences cvss scores object =
+    text_differences (codes "method") (method_of cvss) object
+    ++ (metrics_differences scores (object_at (codes "metrics") object)
+    ++ (number_differences (codes "score") scores.base object
+    ++ (severity_differences (codes "severity") cvss scores.base object
+    ++ text_differences (codes "version") (version_of cvss) object)))
+
+-- the member in which Trivy gives the vector
+abbrev pub trivy_name : Cvss → List ℕ
+trivy_name (CvssV20 _) = codes "V2Vector"
+trivy_name (CvssV30 _) = codes "V3Vector"
+trivy_name (CvssV31 _) = codes "V3Vector"
+trivy_name (CvssV40 _) = codes "V40Vector"
+
+-- the name of the member that holds a vector, as Trivy has it, differs if it says another version
+abbrev pub holder_differences : Cvss → List ℕ → List Difference
+holder_differences cvss name = if bytes_eq name (trivy_name cvss) then [] else (name, string name, string (version_of cvss)) ∷ []
+
+-- the differences of a vector and its score, as Trivy has them in members of these names
+abbrev pub trivy_differences : Cvss → Scores → List ℕ → List ℕ → Members → List Difference
+trivy_differences cvss scores score_name name object =
+    number_differences score_name scores.base object
+    ++ holder_differences cvss name
+
+-- the differences of a score and a severity, as SPDX 3 has them
+abbrev pub spdx_differences : Cvss → Scores → Members → List Difference
+spdx_differences cvss scores object =
+    number_differences (codes "security_score") scores.base object
+    ++ severity_differences (codes "security_severity") cvss scores.base object
+
+-- the differences of the members of an object that holds a vector in this form, in the order of their names: of a
+-- record, those of all its members; of GitHub's advisories, that of the score; of OSV's records, that of the type;
+-- RustSec's advisories say no more than the vector
 abbrev pub member_differences : Cvss → Scores → Form → Members → List Difference
 member_differences cvss scores Record object = record_differences cvss scores object
-member_differences cvss scores GitHub object = score_differences scores object
-member_differences cvss scores Osv object = type_differences cvss object
+member_differences cvss scores GitHub object = number_differences (codes "score") scores.base object
+member_differences cvss scores Osv object = text_differences (codes "type") (osv_type cvss) object
+member_differences cvss scores Rating object = given_rating_differences cvss scores object
+member_differences cvss scores TrivyV2 object = trivy_differences cvss scores (codes "V2Score") (codes "V2Vector") object
+member_differences cvss scores TrivyV3 object = trivy_differences cvss scores (codes "V3Score") (codes "V3Vector") object
+member_differences cvss scores TrivyV40 object = trivy_differences cvss scores (codes "V40Score") (codes "V40Vector") object
+member_differences cvss scores RustSec object = []
+member_differences cvss scores Spdx object = spdx_differences cvss scores object
 
 -- the names of members that say the version of what they hold, as CVE records, CSAF and GitHub have them
 abbrev pub version_names : List (List ℕ)
@@ -94,10 +161,6 @@ names_of (CvssV30 _) = codes "cvssV3_0" ∷ codes "cvss_v3" ∷ []
 names_of (CvssV31 _) = codes "cvssV3_1" ∷ codes "cvss_v3" ∷ []
 names_of (CvssV40 _) = codes "cvssV4_0" ∷ codes "cvss_v4" ∷ []
 
--- the name is one of these
-abbrev pub is_among : List ℕ → List (List ℕ) → Bool
-is_among name names = list_any (λ each. bytes_eq name each) names
-
 -- the name of the member that the object is differs if it says another version
 abbrev pub name_differences : Cvss → List ℕ → List Difference
 name_differences cvss name =
@@ -106,8 +169,8 @@ name_differences cvss name =
     else []
 
 -- the difference of `baseSeverity` from the rating of so many tenths
-abbrev pub severity_differences : Cvss → ℕ → Members → List Difference
-severity_differences cvss tenths object =
+abbrev pub base_severity_differences : Cvss → ℕ → Members → List Difference
+base_severity_differences cvss tenths object =
     differences_at (λ said. difference_from (codes "baseSeverity", said) (rating_expected cvss tenths)) (codes "baseSeverity") object
 
 -- the records of the version say ratings
@@ -120,23 +183,35 @@ is_rated (CvssV40 _) = true
 -- NVD says the rating of a vector of CVSS v2 beside the member `cvssData` that holds the vector
 abbrev pub rating_differences : Cvss → ℕ → Around → List Difference
 rating_differences cvss tenths around =
-    if not (is_rated cvss) && bytes_eq (codes "cvssData") around.0 then severity_differences cvss tenths around.1 else []
+    if not (is_rated cvss) && bytes_eq (codes "cvssData") around.0 then base_severity_differences cvss tenths around.1 else []
+
+-- NVD says the sub-scores of a vector beside the member `cvssData` that holds it
+abbrev pub sub_score_differences : Option SubScores → Around → List Difference
+sub_score_differences None around = []
+sub_score_differences (Some reported) around =
+    if bytes_eq (codes "cvssData") around.0
+    then number_differences (codes "exploitabilityScore") reported.exploitability around.1
+    ++ number_differences (codes "impactScore") reported.impact around.1
+    else []
 
 -- the differences of what is around the object
-abbrev pub around_differences : Cvss → Scores → Option Around → List Difference
-around_differences cvss scores None = []
-around_differences cvss scores (Some around) = name_differences cvss around.0 ++ rating_differences cvss scores.base around
+abbrev pub around_differences : Cvss → Scores → Option SubScores → Option Around → List Difference
+around_differences cvss scores parts None = []
+around_differences cvss scores parts (Some around) =
+    name_differences cvss around.0 ++ (rating_differences cvss scores.base around ++ sub_score_differences parts around)
 
 -- the differences at a place: those of the object's members, and then those of what is around it
-abbrev pub differences_of : Cvss → Scores → Place → List Difference
-differences_of cvss scores place =
-    member_differences cvss scores place.1 place.3 ++ around_differences cvss scores place.4
+abbrev pub differences_of : Cvss → Scores → Option SubScores → Place → List Difference
+differences_of cvss scores parts place =
+    member_differences cvss scores place.1 place.3 ++ around_differences cvss scores parts place.4.0
 
 -- these are the differences at the place from the vector
 pub record AreDifferencesAt (cvss : Cvss) (place : Place) (differences : List Difference) : Type 0 where
   pub scores : Scores
   pub are_scores : AreScoresOf cvss scores
-  pub are : differences ≡ differences_of cvss scores place
+  pub parts : Option SubScores
+  pub are_parts : AreSubScoresOf cvss parts
+  pub are : differences ≡ differences_of cvss scores parts place
 
 -- what a member says, as the code holds it
 abbrev pub said_view : Said → Data

@@ -1,2 +1,3 @@
+pub mod Tenths
 pub mod Views
 pub mod Walking

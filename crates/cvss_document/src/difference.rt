@@ -1,9 +1,9 @@
-//! Where an object says otherwise than the vector's record.
+//! Where an object disagrees with the vector in it.
 
 ghost use Rattle.std.specs.Prelude.{◌≡◌, ◌∷◌, [], IfOk, OnOk, map};
 ghost use Rattle.std.specs.Option.{option_to_list};
 ghost use Rattle.cvss_any.specs.Answers.{HasScore};
-ghost use Rattle.cvss_document.specs.Differences.{AreDifferences, AreDifferencesAt, difference_at, difference_from, difference_view, github_difference, member_differences, osv_type, record_differences, said_view, score_differences, type_differences};
+ghost use Rattle.cvss_document.specs.Differences.{AreDifferences, AreDifferencesAt, difference_at, difference_from, difference_view, member_differences, number_difference, number_differences, osv_type, record_differences, said_view, text_differences};
 ghost use Rattle.cvss_document.specs.Expected.{expected_value};
 ghost use Rattle.cvss_document.specs.Places.{place_view};
 ghost use Rattle.cvss_document.specs.private.Views.{Adds};
@@ -12,6 +12,8 @@ ghost use Rattle.serde_json.specs.View.{members_view, view};
 
 use crate::expected::{agrees, expected_at, expected_value};
 use crate::place::{Form, Place, member};
+use crate::ratings::{push_rating_members, push_spdx, push_trivy};
+use crate::sub_scores::SubScores;
 use crate::surroundings::push_around;
 use cvss_any::Cvss;
 use cvss_json_record::{Expected, Scores};
@@ -61,9 +63,10 @@ pub fn differences<'a>(
 }
 
 /// Where the document says otherwise at a place than the vector whose text stands there. First the
-/// members of the object that holds it: of a record all, of GitHub's advisory a number at `score`, of
-/// OSV's record its `type`. Then what is around the object: the version that the name of a member
-/// says which the object is, and the rating that NVD says of a vector of CVSS v2 beside `cvssData`.
+/// members of the object that holds it: of a record all, of the other forms those that the form has
+/// beside the vector. Then what is around the object: the version that the name of a member says
+/// which the object is, and beside `cvssData`, as NVD has it, the rating of a vector of CVSS v2 and
+/// the sub-scores of one of v2 or v3.
 ///
 /// # Errors
 ///
@@ -78,9 +81,17 @@ pub fn differences_at<'a>(
         (map difference_view found.items)) }
 {
     let scores = Scores::of(cvss);
+    let parts = SubScores::of(cvss);
     let mut found = Vec::new(alloc);
     push_object(&mut found, alloc, cvss, &scores, place)?;
-    push_around(&mut found, alloc, cvss, &scores, place.around)?;
+    push_around(
+        &mut found,
+        alloc,
+        cvss,
+        &scores,
+        parts,
+        place.context.around,
+    )?;
     Ok(found)
 }
 
@@ -95,10 +106,26 @@ fn push_object<'a>(
     ensures { OnOk result (Adds found.old.items (member_differences cvss.now scores.now place.now.form
         (members_view place.now.object.now.entries)) found.new.items) }
 {
+    let object = place.object;
     match place.form {
-        Form::Record => push_members(found, alloc, cvss, scores, place.object),
-        Form::GitHub => push_score(found, alloc, scores, place.object),
-        Form::Osv => push_type(found, alloc, cvss, place.object),
+        Form::Record => push_members(found, alloc, cvss, scores, object),
+        Form::GitHub => push_number(found, alloc, "score", scores.base, object),
+        Form::Osv => push_text(found, alloc, "type", osv_type(cvss), object),
+        Form::Rating => push_rating_members(found, alloc, cvss, scores, object),
+        Form::TrivyV2 => push_trivy(found, alloc, cvss, scores, ("V2Score", "V2Vector"), object),
+        Form::TrivyV3 => push_trivy(found, alloc, cvss, scores, ("V3Score", "V3Vector"), object),
+        Form::TrivyV40 => {
+            push_trivy(
+                found,
+                alloc,
+                cvss,
+                scores,
+                ("V40Score", "V40Vector"),
+                object,
+            )
+        }
+        Form::RustSec => Ok(()),
+        Form::Spdx => push_spdx(found, alloc, cvss, scores, object),
     }
 }
 
@@ -119,34 +146,36 @@ fn push_members<'a>(
     Ok(())
 }
 
-/// Adds the difference of the number at `score`, if there is one.
-fn push_score<'a>(
+/// Adds the difference of the number in the member of this name from so many tenths, if there is one.
+pub(crate) fn push_number<'a>(
     found: &mut Vec<Difference<'a>>,
     alloc: Global,
-    scores: &Scores,
+    name: &'a str,
+    tenths: u8,
     object: &'a Map<String, Value>,
 ) -> Result<(), AllocError>
     ensures { OnOk result (Adds found.old.items
-        (score_differences scores.now (members_view object.now.entries)) found.new.items) }
+        (number_differences name.now tenths (members_view object.now.entries)) found.new.items) }
 {
-    match member(object, "score") {
-        Some(said) => push_if_number(found, alloc, scores.base, said),
+    match member(object, name) {
+        Some(said) => push_if_number(found, alloc, name, tenths, said),
         None => Ok(()),
     }
 }
 
-/// Adds the difference of the `type` that OSV has.
-fn push_type<'a>(
+/// Adds the difference of the member of this name from a text, if it is there.
+pub(crate) fn push_text<'a>(
     found: &mut Vec<Difference<'a>>,
     alloc: Global,
-    cvss: &Cvss,
+    name: &'a str,
+    expected: &'static str,
     object: &'a Map<String, Value>,
 ) -> Result<(), AllocError>
     ensures { OnOk result (Adds found.old.items
-        (type_differences cvss.now (members_view object.now.entries)) found.new.items) }
+        (text_differences name.now expected.now (members_view object.now.entries)) found.new.items) }
 {
-    match member(object, "type") {
-        Some(said) => push_if_other(found, alloc, "type", said, Expected::Text(osv_type(cvss))),
+    match member(object, name) {
+        Some(said) => push_if_other(found, alloc, name, said, Expected::Text(expected)),
         None => Ok(()),
     }
 }
@@ -176,7 +205,7 @@ fn push_member<'a>(
         found.new.items) }
 {
     if name == "score" {
-        return push_if_number(found, alloc, scores.base, said);
+        return push_if_number(found, alloc, "score", scores.base, said);
     }
     match expected_at(cvss, scores, name) {
         Some(expected) => push_if_other(found, alloc, name, said, expected),
@@ -184,18 +213,19 @@ fn push_member<'a>(
     }
 }
 
-/// Adds the difference of what stands at `score`, if it is a number.
+/// Adds the difference of what a member says from so many tenths, if it is a number.
 fn push_if_number<'a>(
     found: &mut Vec<Difference<'a>>,
     alloc: Global,
+    name: &'a str,
     tenths: u8,
     said: &'a Value,
 ) -> Result<(), AllocError>
     ensures { OnOk result (Adds found.old.items
-        (option_to_list (github_difference tenths (view said.now))) found.new.items) }
+        (option_to_list (number_difference name.now tenths (view said.now))) found.new.items) }
 {
     if said.is_number() {
-        push_if_other(found, alloc, "score", said, Expected::Score(tenths))
+        push_if_other(found, alloc, name, said, Expected::Score(tenths))
     } else {
         Ok(())
     }

@@ -12,7 +12,7 @@ ghost use Rattle.cvss_json_tree.specs.Objects.{object_of};
 ghost use Rattle.cvss_json_tree.specs.Texts.{IsTextOf};
 ghost use Rattle.serde_json.specs.Data.{Data, object};
 
-use crate::{Around, Form};
+use crate::{Around, Context, Form};
 
 /// In a document whose objects have each name once, as a document has that was read, the pointer of
 /// each place leads to the place's object.
@@ -40,11 +40,13 @@ pub fn equality_is_that_of_values()
 /// A clone of a form, or of what is around a place, is that value.
 pub fn clones_are_equal()
     ensures around { ClonesByValue ⟦<Around<'static> as Clone>⟧.is_clone }
+    ensures context { ClonesByValue ⟦<Context<'static> as Clone>⟧.is_clone }
     ensures form { ClonesByValue ⟦<Form as Clone>⟧.is_clone }
 {}
 
 /// To clone a form, or what is around a place, takes no memory, so it is never refused.
 pub fn values_are_cloned_without_memory()
     ensures around { ClonesAlways ⟦<Around<'static> as Clone>⟧.is_infallible }
+    ensures context { ClonesAlways ⟦<Context<'static> as Clone>⟧.is_infallible }
     ensures form { ClonesAlways ⟦<Form as Clone>⟧.is_infallible }
 {}

@@ -6,14 +6,17 @@
 
 mod difference;
 mod expected;
+mod ids;
 pub mod laws;
 mod place;
 mod places;
 mod pointer;
+mod ratings;
 mod scores;
+mod sub_scores;
 mod surroundings;
 
 pub use difference::{Difference, Said, differences, differences_at};
-pub use place::{Around, Form, Place};
+pub use place::{Around, Context, Form, Place};
 pub use places::{Places, vectors_in};
 pub use scores::{score_number, score_value};

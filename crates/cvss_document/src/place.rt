@@ -1,7 +1,7 @@
 //! A place where a vector stands in a document.
 
 ghost use Rattle.std.specs.Prelude.{◌≡◌, option_map};
-ghost use Rattle.cvss_document.specs.Places.{given_at, has_string, is_osv_type, osv_score, text_at, vector_as};
+ghost use Rattle.cvss_document.specs.Places.{around_view, given_at, has_cvss_method, has_string, is_cvss_method, is_cvss_rating, is_named, is_osv_type, is_prefixed, object_at, osv_score, rating_vector, text_at, vector_as, vector_at};
 ghost use Rattle.serde_json.specs.Find.{get_member};
 ghost use Rattle.serde_json.specs.View.{members_view, view};
 
@@ -16,6 +16,19 @@ pub enum Form {
     GitHub,
     /// As `score`, beside a `type` that is `CVSS_V2`, `CVSS_V3` or `CVSS_V4`, as OSV's records do.
     Osv,
+    /// As `vector`, beside `method`, `score` and `severity`, as CycloneDX's ratings do, or beside
+    /// `version` and `metrics`, as grype does.
+    Rating,
+    /// As `V2Vector`, beside `V2Score`, as Trivy does.
+    TrivyV2,
+    /// As `V3Vector`, beside `V3Score`, as Trivy does.
+    TrivyV3,
+    /// As `V40Vector`, beside `V40Score`, as Trivy does.
+    TrivyV40,
+    /// As `cvss` in a member `advisory`, as RustSec's advisories do, which `cargo audit` prints.
+    RustSec,
+    /// As `security_vectorString`, beside `security_score` and `security_severity`, as SPDX 3 does.
+    Spdx,
 }
 
 /// A place where a vector stands in a document.
@@ -29,11 +42,21 @@ pub struct Place<'a> {
     pub text: Option<&'a str>,
     /// The object.
     pub object: &'a Map<String, Value>,
-    /// What the object is a member of, if it is one.
-    pub around: Option<Around<'a>>,
+    /// What is around the object.
+    pub context: Context<'a>,
 }
 
-/// An object that has another one as a member.
+/// What is around a value in a document.
+#[derive(Clone, Copy)]
+pub struct Context<'a> {
+    /// What the value is a member of, if that is an object.
+    pub around: Option<Around<'a>>,
+    /// The id of the nearest object around the value that has one. To an object's own vectors that
+    /// object is the nearest.
+    pub id: Option<&'a str>,
+}
+
+/// An object that has another value as a member.
 #[derive(Clone, Copy)]
 pub struct Around<'a> {
     /// The name of the member.
@@ -43,16 +66,35 @@ pub struct Around<'a> {
 }
 
 /// The text of the vector that an object holds in a form: none inside where there is no string.
-pub(crate) fn vector_as(members: &Map<String, Value>, form: Form) -> Option<Option<&str>>
+pub(crate) fn vector_as<'a>(
+    around: Option<Around<'_>>,
+    members: &'a Map<String, Value>,
+    form: Form,
+) -> Option<Option<&'a str>>
     ensures { option_map (λ found. option_map (λ text. text.now) found) result
-        ≡ vector_as (members_view members.now.entries) form }
+        ≡ vector_as (option_map around_view around.entry) (members_view members.now.entries) form }
 {
     match form {
-        Form::Record => Some(given_at(members, "vectorString")?.as_str()),
-        Form::GitHub => Some(given_at(members, "vector_string")?.as_str()),
+        Form::Record => vector_at(members, "vectorString"),
+        Form::GitHub => vector_at(members, "vector_string"),
         Form::Osv if has_string(members) => Some(Some(osv_score(members)?.as_str()?)),
         Form::Osv => Some(osv_score(members)?.as_str()),
+        Form::Rating => Some(rating_vector(members)?.as_str()),
+        Form::TrivyV2 => vector_at(members, "V2Vector"),
+        Form::TrivyV3 => vector_at(members, "V3Vector"),
+        Form::TrivyV40 => vector_at(members, "V40Vector"),
+        Form::RustSec if is_named(around, "advisory") => Some(Some(text_at(members, "cvss")?)),
+        Form::RustSec => None,
+        Form::Spdx => vector_at(members, "security_vectorString"),
     }
+}
+
+/// The text of the vector that the member with this name should be, if it is there.
+fn vector_at<'a>(members: &'a Map<String, Value>, name: &str) -> Option<Option<&'a str>>
+    ensures { option_map (λ found. option_map (λ text. text.now) found) result
+        ≡ vector_at name.now (members_view members.now.entries) }
+{
+    Some(given_at(members, name)?.as_str())
 }
 
 /// Whether an object holds a vector in another form than OSV's, so that its `score` may be the number
@@ -81,12 +123,76 @@ fn is_osv_type(reported: &str) -> bool
     reported == "CVSS_V2" || reported == "CVSS_V3" || reported == "CVSS_V4"
 }
 
+/// The vector of a rating, as CycloneDX and grype have it.
+fn rating_vector(members: &Map<String, Value>) -> Option<&Value>
+    ensures { option_map (λ value. view value.now) result
+        ≡ rating_vector (members_view members.now.entries) }
+{
+    given_at(members, "vector").filter(|vector| is_cvss_rating(members, vector))
+}
+
+/// Whether a vector with this value is one of CVSS.
+fn is_cvss_rating(members: &Map<String, Value>, vector: &Value) -> bool
+    ensures { result ≡ is_cvss_rating (members_view members.now.entries) (view vector.now) }
+{
+    if given_at(members, "method").is_some() {
+        return has_cvss_method(members);
+    }
+    object_at(members, "metrics").is_some() || is_prefixed(vector)
+}
+
+fn has_cvss_method(members: &Map<String, Value>) -> bool
+    ensures { result ≡ has_cvss_method (members_view members.now.entries) }
+{
+    match text_at(members, "method") {
+        Some(method) => is_cvss_method(method),
+        None => false,
+    }
+}
+
+fn is_cvss_method(method: &str) -> bool
+    ensures { result ≡ is_cvss_method method.now }
+{
+    matches!(method, "CVSSv2" | "CVSSv3" | "CVSSv31" | "CVSSv4")
+}
+
+/// Whether a value is a text with the prefix of CVSS v3 and v4.
+fn is_prefixed(value: &Value) -> bool
+    ensures { result ≡ is_prefixed (view value.now) }
+{
+    match value.as_str() {
+        Some(text) => text.as_bytes().starts_with(b"CVSS:"),
+        None => false,
+    }
+}
+
+/// Whether an object is the member of this name.
+fn is_named(around: Option<Around<'_>>, name: &str) -> bool
+    ensures { result ≡ is_named name.now (option_map around_view around.entry) }
+{
+    match around {
+        Some(around) => around.name == name,
+        None => false,
+    }
+}
+
 /// The text of the member with this name, if it is a string.
-fn text_at<'a>(members: &'a Map<String, Value>, name: &str) -> Option<&'a str>
+pub(crate) fn text_at<'a>(members: &'a Map<String, Value>, name: &str) -> Option<&'a str>
     ensures { option_map (λ text. text.now) result
         ≡ text_at name.now (members_view members.now.entries) }
 {
     member(members, name)?.as_str()
+}
+
+/// The members of the member with this name, if it is an object.
+pub(crate) fn object_at<'a>(
+    members: &'a Map<String, Value>,
+    name: &str,
+) -> Option<&'a Map<String, Value>>
+    ensures { option_map (λ object. members_view object.now.entries) result
+        ≡ object_at name.now (members_view members.now.entries) }
+{
+    member(members, name)?.as_object()
 }
 
 /// The value of the member with this name, unless it is null.

@@ -1,14 +1,15 @@
 //! Where vectors stand in a document, one place after another.
 
-ghost use Rattle.std.specs.Prelude.{◌≡◌, ◌<◌, ◌++◌, ◌∷◌, [], Option, false, IfOk, OnOk, map, option_map, string_bytes};
+ghost use Rattle.std.specs.Prelude.{◌≡◌, ◌<◌, ◌++◌, ◌∷◌, [], false, IfOk, OnOk, map, option_map, string_bytes};
 ghost use Rattle.std.specs.Option.{option_to_list};
-ghost use Rattle.cvss_document.specs.Places.{Around as Surroundings, around_view, place_as, place_view, places_in, places_within};
+ghost use Rattle.cvss_document.specs.Places.{Context as Surroundings, context_view, place_as, place_view, places_in, places_within};
 ghost use Rattle.cvss_document.specs.PlacesLeft.{IsNextPlace, places_in_rest, places_left, under};
 ghost use Rattle.cvss_document.specs.private.Walking.{Visits, level_of, pointer_to, steps_in_rest};
 ghost use Rattle.serde_json.specs.View.{members_view, view};
 ghost use Rattle.cvss_document.specs.declared.places.Rest.TheVariants.{Items, Members, Own, Whole};
 
-use crate::place::{Around, Form, Place, vector_as};
+use crate::ids::own_context;
+use crate::place::{Around, Context, Form, Place, vector_as};
 use crate::pointer::{Step, push_step};
 use serde_json::{Map, Value};
 use std::alloc::{AllocError, Global};
@@ -33,13 +34,13 @@ pub(crate) struct Level<'a> {
 #[derive(Drop)]
 pub(crate) enum Rest<'a> {
     /// All of it.
-    Whole(&'a Value, Option<Around<'a>>),
+    Whole(&'a Value, Context<'a>),
     /// An object's own vectors from this form on, and all of its members.
-    Own(&'a Map<String, Value>, Option<Around<'a>>, Form),
-    /// The items of an array from this one.
-    Items(&'a [Value], usize),
-    /// Members of an object.
-    Members(&'a Map<String, Value>, Iter<'a, String, Value>),
+    Own(&'a Map<String, Value>, Context<'a>, Form),
+    /// The items of an array from this one, with the id that is the nearest around them.
+    Items(&'a [Value], usize, Option<&'a str>),
+    /// Members of an object, with the id that is the nearest around them.
+    Members(&'a Map<String, Value>, Iter<'a, String, Value>, Option<&'a str>),
 }
 
 /// All places in a document where a vector stands: an object's own before those in it, those of its
@@ -54,7 +55,11 @@ pub fn vectors_in(alloc: Global, document: &Value) -> Result<Places<'_>, AllocEr
     let mut places = Places {
         levels: Vec::new(alloc),
     };
-    places.push(Step::Document, Rest::Whole(document, None))?;
+    let context = Context {
+        around: None,
+        id: None,
+    };
+    places.push(Step::Document, Rest::Whole(document, context))?;
     Ok(places)
 }
 
@@ -82,14 +87,14 @@ impl<'a> Places<'a> {
     {
         let step = level.step;
         match level.rest {
-            Rest::Whole(value, around) => self.visit_whole(alloc, step, value, around),
-            Rest::Own(object, around, form) => self.visit_form(alloc, step, object, around, form),
-            Rest::Items(items, index) => {
-                self.visit_items(step, items, index)?;
+            Rest::Whole(value, context) => self.visit_whole(alloc, step, value, context),
+            Rest::Own(object, context, form) => self.visit_form(alloc, step, object, context, form),
+            Rest::Items(items, index, id) => {
+                self.visit_items(step, items, index, id)?;
                 Ok(None)
             }
-            Rest::Members(object, members) => {
-                self.visit_members(step, object, members)?;
+            Rest::Members(object, members, id) => {
+                self.visit_members(step, object, members, id)?;
                 Ok(None)
             }
         }
@@ -101,18 +106,21 @@ impl<'a> Places<'a> {
         alloc: Global,
         step: Step<'a>,
         value: &'a Value,
-        around: Option<Around<'a>>,
+        context: Context<'a>,
     ) -> Result<Option<Place<'a>>, AllocError>
         ensures { IfOk result (λ found. Visits
-            (self.old.levels.items ++ level_of step.entry (Whole value.entry around.entry) ∷ [])
+            (self.old.levels.items ++ level_of step.entry (Whole value.entry context.entry) ∷ [])
             (option_to_list (option_map place_view found)) self.new.levels.items) }
     {
         match value {
             Value::Array(items) => {
-                self.push(step, Rest::Items(items, 0))?;
+                self.push(step, Rest::Items(items, 0, context.id))?;
                 Ok(None)
             }
-            Value::Object(object) => self.visit_form(alloc, step, object, around, Form::Record),
+            Value::Object(object) => {
+                let own = own_context(context, object);
+                self.visit_form(alloc, step, object, own, Form::Record)
+            }
             _ => Ok(None),
         }
     }
@@ -123,15 +131,15 @@ impl<'a> Places<'a> {
         alloc: Global,
         step: Step<'a>,
         object: &'a Map<String, Value>,
-        around: Option<Around<'a>>,
+        context: Context<'a>,
         form: Form,
     ) -> Result<Option<Place<'a>>, AllocError>
         ensures { IfOk result (λ found. Visits
-            (self.old.levels.items ++ level_of step.entry (Own object.entry around.entry form) ∷ [])
+            (self.old.levels.items ++ level_of step.entry (Own object.entry context.entry form) ∷ [])
             (option_to_list (option_map place_view found)) self.new.levels.items) }
     {
-        self.push(step, after_form(object, around, form))?;
-        self.own_place(alloc, object, around, form)
+        self.push(step, after_form(object, context, form))?;
+        self.own_place(alloc, object, context, form)
     }
 
     /// Visits the next item of an array that is one itself or an object: what is in it is visited
@@ -141,16 +149,18 @@ impl<'a> Places<'a> {
         step: Step<'a>,
         items: &'a [Value],
         from: usize,
+        id: Option<&'a str>,
     ) -> Result<(), AllocError>
         ensures { OnOk result (Visits
-            (self.old.levels.items ++ level_of step.entry (Items items.entry from) ∷ [])
+            (self.old.levels.items ++ level_of step.entry (Items items.entry from id.entry) ∷ [])
             [] self.new.levels.items) }
     {
         let mut index = from;
         while let Some(item) = items.get(index) {
             if has_values(item) {
-                self.push(step, Rest::Items(items, index + 1))?;
-                return self.push(Step::Item(index), Rest::Whole(item, None));
+                self.push(step, Rest::Items(items, index + 1, id))?;
+                let context = Context { around: None, id };
+                return self.push(Step::Item(index), Rest::Whole(item, context));
             }
             index += 1;
         }
@@ -164,9 +174,10 @@ impl<'a> Places<'a> {
         step: Step<'a>,
         object: &'a Map<String, Value>,
         members: Iter<'a, String, Value>,
+        id: Option<&'a str>,
     ) -> Result<(), AllocError>
         ensures { OnOk result (Visits
-            (self.old.levels.items ++ level_of step.entry (Members object.entry members.entry) ∷ [])
+            (self.old.levels.items ++ level_of step.entry (Members object.entry members.entry id.entry) ∷ [])
             [] self.new.levels.items) }
     {
         let mut rest = members;
@@ -174,8 +185,9 @@ impl<'a> Places<'a> {
             if has_values(value) {
                 let name = name.as_str();
                 let around = Some(Around { name, object });
-                self.push(step, Rest::Members(object, rest))?;
-                return self.push(Step::Member(name), Rest::Whole(value, around));
+                self.push(step, Rest::Members(object, rest, id))?;
+                let context = Context { around, id };
+                return self.push(Step::Member(name), Rest::Whole(value, context));
             }
         }
         Ok(())
@@ -186,14 +198,14 @@ impl<'a> Places<'a> {
         &self,
         alloc: Global,
         object: &'a Map<String, Value>,
-        around: Option<Around<'a>>,
+        context: Context<'a>,
         form: Form,
     ) -> Result<Option<Place<'a>>, AllocError>
         ensures { IfOk result (λ found. option_to_list (option_map place_view found)
             ≡ map (under (pointer_to self.now.levels.items)) (option_to_list
-            (place_as (option_map around_view around.entry) (members_view object.now.entries) form))) }
+            (place_as (context_view context.entry) (members_view object.now.entries) form))) }
     {
-        let Some(text) = vector_as(object, form) else {
+        let Some(text) = vector_as(context.around, object, form) else {
             return Ok(None);
         };
         Ok(Some(Place {
@@ -201,7 +213,7 @@ impl<'a> Places<'a> {
             form,
             text,
             object,
-            around,
+            context,
         }))
     }
 
@@ -215,26 +227,29 @@ impl<'a> Places<'a> {
 }
 
 /// What is to be visited of an object after one form.
-fn after_form<'a>(
-    object: &'a Map<String, Value>,
-    around: Option<Around<'a>>,
-    form: Form,
-) -> Rest<'a>
-    ensures places { places_in_rest (Own object.entry around.entry form) ≡ option_to_list
-        (place_as (option_map around_view around.entry) (members_view object.now.entries) form)
+fn after_form<'a>(object: &'a Map<String, Value>, context: Context<'a>, form: Form) -> Rest<'a>
+    ensures places { places_in_rest (Own object.entry context.entry form) ≡ option_to_list
+        (place_as (context_view context.entry) (members_view object.now.entries) form)
         ++ places_in_rest result }
-    ensures fewer { steps_in_rest result < steps_in_rest (Own object.entry around.entry form) }
+    ensures fewer { steps_in_rest result < steps_in_rest (Own object.entry context.entry form) }
 {
-    match form {
-        Form::Record => Rest::Own(object, around, Form::GitHub),
-        Form::GitHub => Rest::Own(object, around, Form::Osv),
-        Form::Osv => Rest::Members(object, object.iter()),
-    }
+    let next = match form {
+        Form::Record => Form::GitHub,
+        Form::GitHub => Form::Osv,
+        Form::Osv => Form::Rating,
+        Form::Rating => Form::TrivyV2,
+        Form::TrivyV2 => Form::TrivyV3,
+        Form::TrivyV3 => Form::TrivyV40,
+        Form::TrivyV40 => Form::RustSec,
+        Form::RustSec => Form::Spdx,
+        Form::Spdx => return Rest::Members(object, object.iter(), context.id),
+    };
+    Rest::Own(object, context, next)
 }
 
 /// Whether a value is an array or an object: in another one there is no place.
 fn has_values(value: &Value) -> bool
-    ensures { (around : Option Surroundings) → result ≡ false → places_within around (view value.now) ≡ [] }
+    ensures { (context : Surroundings) → result ≡ false → places_within context (view value.now) ≡ [] }
 {
     value.is_array() || value.is_object()
 }

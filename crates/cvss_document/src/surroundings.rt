@@ -1,13 +1,14 @@
 //! Where the surroundings of a record say otherwise than its vector: the name of the member that the
-//! record is, and the rating beside it.
+//! record is, and the rating and the sub-scores beside it.
 
 ghost use Rattle.std.specs.Prelude.{◌≡◌, OnOk, option_map};
-ghost use Rattle.cvss_document.specs.Differences.{around_differences, is_among, is_rated, name_differences, names_of, rating_differences, version_names};
-ghost use Rattle.cvss_document.specs.Places.{around_view};
+ghost use Rattle.cvss_document.specs.Differences.{around_differences, is_rated, name_differences, names_of, rating_differences, sub_score_differences, version_names};
+ghost use Rattle.cvss_document.specs.Places.{around_view, is_among};
 ghost use Rattle.cvss_document.specs.private.Views.{Adds};
 
-use crate::difference::{Difference, Said, push_difference, push_if_other};
+use crate::difference::{Difference, Said, push_difference, push_if_other, push_number};
 use crate::place::{Around, member};
+use crate::sub_scores::SubScores;
 use cvss_any::Cvss;
 use cvss_json_names::version;
 use cvss_json_record::{Expected, Scores, rating};
@@ -19,16 +20,19 @@ pub(crate) fn push_around<'a>(
     alloc: Global,
     cvss: &Cvss,
     scores: &Scores,
+    parts: Option<SubScores>,
     around: Option<Around<'a>>,
 ) -> Result<(), AllocError>
     ensures { OnOk result (Adds found.old.items
-        (around_differences cvss.now scores.now (option_map around_view around.entry)) found.new.items) }
+        (around_differences cvss.now scores.now parts (option_map around_view around.entry))
+        found.new.items) }
 {
     let Some(around) = around else {
         return Ok(());
     };
     push_name(found, alloc, cvss, around.name)?;
-    push_rating(found, alloc, cvss, scores.base, around)
+    push_rating(found, alloc, cvss, scores.base, around)?;
+    push_sub_scores(found, alloc, parts, around)
 }
 
 /// Adds the difference of the name of a member, if it says another version than the vector's.
@@ -99,4 +103,30 @@ fn is_rated(cvss: &Cvss) -> bool
     ensures { result ≡ is_rated cvss.now }
 {
     !matches!(cvss, Cvss::CvssV20(_))
+}
+
+/// Adds the differences of the sub-scores that NVD says beside a record.
+fn push_sub_scores<'a>(
+    found: &mut Vec<Difference<'a>>,
+    alloc: Global,
+    parts: Option<SubScores>,
+    around: Around<'a>,
+) -> Result<(), AllocError>
+    ensures { OnOk result (Adds found.old.items
+        (sub_score_differences parts (around_view around.entry)) found.new.items) }
+{
+    match parts {
+        Some(parts) if around.name == "cvssData" => {
+            let object = around.object;
+            push_number(
+                found,
+                alloc,
+                "exploitabilityScore",
+                parts.exploitability,
+                object,
+            )?;
+            push_number(found, alloc, "impactScore", parts.impact, object)
+        }
+        _ => Ok(()),
+    }
 }

@@ -1,7 +1,9 @@
 -- The letters of effective values: CVSS v4.0 specification, sections 2 to 4.
-use Rattle.std.specs.Prelude.{ℕ, List, [], ◌∷◌, codes}
+use Rattle.std.specs.Prelude.{ℕ, List, [], ◌∷◌, codes, map}
 use Rattle.cvss_json_write.specs.Json.{Member, string_text}
-use Rattle.cvss_base.specs.declared.v4.MetricType.TheVariants.{AC, AT, AV, PR, UI}
+use Rattle.cvss_base.specs.declared.v4.MetricType.{MetricType}
+use Rattle.cvss_base.specs.declared.v4.MetricType.TheVariants.{AC, AR, AT, AV, CR, E, IR, PR, SA, SC, SI, UI, VA, VC, VI}
+use Rattle.cvss_base.specs.V4Types.{name_of}
 use Rattle.cvss_v4_metric.specs.Ranks as place
 use Rattle.cvss_v4_metric.specs.Table.{spelling_at}
 use Rattle.cvss_score.specs.declared.v4.scoring.effective.Effective.{Effective}
@@ -36,26 +38,31 @@ requirement_letter = elim [ requirement.High ↦ codes "H" | requirement.Medium 
 abbrev pub exploit_maturity_letter : ExploitMaturity → List ℕ
 exploit_maturity_letter = elim [ exploit_maturity.Attacked ↦ codes "A" | exploit_maturity.ProofOfConcept ↦ codes "P" | exploit_maturity.Unreported ↦ codes "U" ]
 
--- a metric's letter
-abbrev pub letter_member : List ℕ → List ℕ → Member
-letter_member name letter = (name, string_text letter)
+-- the letter of a metric's effective value; AV, PR, UI, AC and AT are spelled as in a vector
+abbrev pub letter_at : Effective → MetricType → List ℕ
+letter_at v AV = spelling_at AV (place.AV v.av)
+letter_at v AC = spelling_at AC (place.AC v.ac)
+letter_at v AT = spelling_at AT (place.AT v.at)
+letter_at v PR = spelling_at PR (place.PR v.pr)
+letter_at v UI = spelling_at UI (place.UI v.ui)
+letter_at v VC = vulnerable_impact_letter v.vc
+letter_at v VI = vulnerable_impact_letter v.vi
+letter_at v VA = vulnerable_impact_letter v.va
+letter_at v SC = subsequent_impact_letter v.sc
+letter_at v SI = safety_impact_letter v.si
+letter_at v SA = safety_impact_letter v.sa
+letter_at v E = exploit_maturity_letter v.e
+letter_at v CR = requirement_letter v.cr
+letter_at v IR = requirement_letter v.ir
+letter_at v AR = requirement_letter v.ar
+letter_at v _ = []
 
--- the letters of all metrics, in the order of their names; AV, PR, UI, AC and AT are spelled as in a vector
+abbrev pub letter_member : Effective → MetricType → Member
+letter_member v kind = (name_of kind, string_text (letter_at v kind))
+
+-- the metrics that have an effective value, in the order of their names
+abbrev pub by_name : List MetricType
+by_name = AC ∷ AR ∷ AT ∷ AV ∷ CR ∷ E ∷ IR ∷ PR ∷ SA ∷ SC ∷ SI ∷ UI ∷ VA ∷ VC ∷ VI ∷ []
+
 abbrev pub effective_members : Effective → List Member
-effective_members v =
-    letter_member (codes "AC") (spelling_at AC (place.AC v.ac))
-    ∷ letter_member (codes "AR") (requirement_letter v.ar)
-    ∷ letter_member (codes "AT") (spelling_at AT (place.AT v.at))
-    ∷ letter_member (codes "AV") (spelling_at AV (place.AV v.av))
-    ∷ letter_member (codes "CR") (requirement_letter v.cr)
-    ∷ letter_member (codes "E") (exploit_maturity_letter v.e)
-    ∷ letter_member (codes "IR") (requirement_letter v.ir)
-    ∷ letter_member (codes "PR") (spelling_at PR (place.PR v.pr))
-    ∷ letter_member (codes "SA") (safety_impact_letter v.sa)
-    ∷ letter_member (codes "SC") (subsequent_impact_letter v.sc)
-    ∷ letter_member (codes "SI") (safety_impact_letter v.si)
-    ∷ letter_member (codes "UI") (spelling_at UI (place.UI v.ui))
-    ∷ letter_member (codes "VA") (vulnerable_impact_letter v.va)
-    ∷ letter_member (codes "VC") (vulnerable_impact_letter v.vc)
-    ∷ letter_member (codes "VI") (vulnerable_impact_letter v.vi)
-    ∷ []
+effective_members v = map (letter_member v) by_name

@@ -14,7 +14,7 @@ const TEN_MILLIONTH: i128 = 100_000_000_000_000_000;
 const HIGHEST: i64 = 10_000_000_000_000;
 
 /// The ten-millionths that are nearest to so many parts of a point, of two the larger.
-pub(crate) fn of_parts(count: u32, parts: u32) -> i64
+pub fn of_parts(count: u32, parts: u32) -> i64
     requires { 0 < parts }
     ensures { result ≡ pos (nearest_to count parts) }
 {
@@ -25,7 +25,7 @@ pub(crate) fn of_parts(count: u32, parts: u32) -> i64
 /// The ten-millionths that are nearest to a count of 10^-24, of two the larger.
 // Some fifty calls would each repeat its division, an eighth of the module of WebAssembly.
 #[inline(never)]
-pub(crate) fn ten_millionths(count: i128) -> i64
+pub fn ten_millionths(count: i128) -> i64
     requires { IsWithinLimit count }
     ensures { AreNearest count result }
 {

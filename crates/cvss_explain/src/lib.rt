@@ -2,12 +2,13 @@
 //! without memory.
 #![tactic(auto)]
 
-mod decimal;
+pub mod decimal;
 mod explanation;
 pub mod laws;
 mod parts;
-mod v2;
-mod v3;
+mod table;
+pub mod v2;
+pub mod v3;
 mod v4;
 
 pub use explanation::put_explanation;

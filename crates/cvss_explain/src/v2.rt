@@ -2,15 +2,17 @@
 
 ghost use Rattle.std.specs.Prelude.{◌≡◌, ◌*◌, ◌≤◌, [], map, pos};
 ghost use Rattle.cvss_any.specs.declared.vector.Cvss.TheVariants.{CvssV20};
-ghost use Rattle.cvss_explain.specs.V2.{IsExplanationText, base_members, environmental_members, temporal_members, weights_members};
+ghost use Rattle.cvss_explain.specs.V2.{IsExplanationText, base_members, environmental_members, temporal_members, weight_member};
 ghost use Rattle.cvss_json_write.specs.declared.member.Scalar.TheVariants.{Decimal};
 ghost use Rattle.cvss_json_write.specs.Scalars.{member_view, members_room};
 ghost use Rattle.cvss_v2.specs.Weights.{weight_in};
 
-mod numbers;
+pub mod numbers;
 
 use crate::decimal::ten_millionths;
 use crate::parts::{put_line, put_score, put_text};
+use crate::table::{Table, put_table};
+use MetricType::*;
 use cvss_any::Cvss;
 use cvss_base::v2::MetricType;
 use cvss_json_write::{Member, Page, Scalar, put_object_member};
@@ -46,7 +48,7 @@ pub(crate) fn put_explanation(
         &temporal(TemporalNumbers::of(vector)),
     );
     put_text(page, cvss);
-    put_object_member(page, true, "weights", &weights(vector));
+    put_table(page, true, "weights", vector, &BY_NAME);
     page.push(b"}");
 }
 
@@ -89,27 +91,18 @@ fn environmental(numbers: EnvironmentalNumbers) -> [Member; 5]
     ]
 }
 
-/// What each metric weighs.
-fn weights(vector: &Vector) -> [Member; 14]
-    ensures text { map member_view result ≡ weights_members vector.now }
-    ensures room { members_room result ≤ 600 }
-{
-    [
-        ("A", weight(vector, MetricType::A)),
-        ("AC", weight(vector, MetricType::AC)),
-        ("AR", weight(vector, MetricType::AR)),
-        ("AV", weight(vector, MetricType::AV)),
-        ("Au", weight(vector, MetricType::Au)),
-        ("C", weight(vector, MetricType::C)),
-        ("CDP", weight(vector, MetricType::CDP)),
-        ("CR", weight(vector, MetricType::CR)),
-        ("E", weight(vector, MetricType::E)),
-        ("I", weight(vector, MetricType::I)),
-        ("IR", weight(vector, MetricType::IR)),
-        ("RC", weight(vector, MetricType::RC)),
-        ("RL", weight(vector, MetricType::RL)),
-        ("TD", weight(vector, MetricType::TD)),
-    ]
+/// The metrics, in the order of their names.
+const BY_NAME: [MetricType; 14] = [A, AC, AR, AV, Au, C, CDP, CR, E, I, IR, RC, RL, TD];
+
+impl Table for Vector {
+    type Key = MetricType;
+
+    ghost text_at = { weight_member };
+
+    /// What a metric weighs.
+    fn member(&self, kind: MetricType) -> Member {
+        (kind.name(), weight(self, kind))
+    }
 }
 
 /// What a metric weighs.

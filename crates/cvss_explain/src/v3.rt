@@ -2,7 +2,7 @@
 
 ghost use Rattle.std.specs.Prelude.{◌≡◌, ◌+◌, ◌*◌, ◌≤◌, [], length, map, pos, true, unwrap_or};
 ghost use Rattle.cvss_any.specs.Answers.{score_of_tenths};
-ghost use Rattle.cvss_explain.specs.V3.{IsExplanationText, base_members, environmental_members, scope_letter, scope_members, temporal_members, weights_members};
+ghost use Rattle.cvss_explain.specs.V3.{IsExplanationText, base_members, environmental_members, scope_letter, scope_members, temporal_members, weight_member};
 ghost use Rattle.cvss_base.specs.Rating.{rating_of_score};
 ghost use Rattle.cvss_base.specs.SeverityText.{text_of as severity_text};
 ghost use Rattle.cvss_json_write.specs.declared.member.Scalar.TheVariants.{Decimal};
@@ -10,10 +10,12 @@ ghost use Rattle.cvss_json_write.specs.Json.{WritesMembers};
 ghost use Rattle.cvss_json_write.specs.Scalars.{member_view, members_room};
 ghost use Rattle.cvss_v3.specs.VectorWeights.{weight_in, weights_of};
 
-mod numbers;
+pub mod numbers;
 
 use crate::decimal::ten_millionths;
 use crate::parts::{put_line, put_score, put_text};
+use crate::table::{Table, put_table};
+use MetricType::*;
 use cvss_any::Cvss;
 use cvss_base::TENTH;
 use cvss_base::v3::MetricType;
@@ -45,7 +47,7 @@ pub(crate) fn put_explanation(
     put_score(page, cvss, tenths);
     put_object_member(page, true, "temporal", &temporal(Scored::temporal(vector)));
     put_text(page, cvss);
-    put_object_member(page, true, "weights", &weights(vector));
+    put_table(page, true, "weights", vector, &WEIGHING_BY_NAME);
     page.push(b"}");
 }
 
@@ -117,33 +119,20 @@ fn environmental(numbers: EnvironmentalNumbers) -> [Member; 8]
     ]
 }
 
-/// What each metric weighs, which the scopes don't.
-fn weights(vector: &Vector) -> [Member; 20]
-    ensures text { map member_view result ≡ weights_members (weights_of vector.now) }
-    ensures room { members_room result ≤ 900 }
-{
-    [
-        ("A", weight(vector, MetricType::A)),
-        ("AC", weight(vector, MetricType::AC)),
-        ("AR", weight(vector, MetricType::AR)),
-        ("AV", weight(vector, MetricType::AV)),
-        ("C", weight(vector, MetricType::C)),
-        ("CR", weight(vector, MetricType::CR)),
-        ("E", weight(vector, MetricType::E)),
-        ("I", weight(vector, MetricType::I)),
-        ("IR", weight(vector, MetricType::IR)),
-        ("MA", weight(vector, MetricType::MA)),
-        ("MAC", weight(vector, MetricType::MAC)),
-        ("MAV", weight(vector, MetricType::MAV)),
-        ("MC", weight(vector, MetricType::MC)),
-        ("MI", weight(vector, MetricType::MI)),
-        ("MPR", weight(vector, MetricType::MPR)),
-        ("MUI", weight(vector, MetricType::MUI)),
-        ("PR", weight(vector, MetricType::PR)),
-        ("RC", weight(vector, MetricType::RC)),
-        ("RL", weight(vector, MetricType::RL)),
-        ("UI", weight(vector, MetricType::UI)),
-    ]
+/// The metrics that weigh, which are all but the scopes, in the order of their names.
+const WEIGHING_BY_NAME: [MetricType; 20] = [
+    A, AC, AR, AV, C, CR, E, I, IR, MA, MAC, MAV, MC, MI, MPR, MUI, PR, RC, RL, UI,
+];
+
+impl Table for Vector {
+    type Key = MetricType;
+
+    ghost text_at = { λ vector kind. weight_member (weights_of vector) kind };
+
+    /// What a metric weighs.
+    fn member(&self, kind: MetricType) -> Member {
+        (kind.name(), weight(self, kind))
+    }
 }
 
 /// What a metric weighs; 0 for a scope.
@@ -155,6 +144,7 @@ fn weight(vector: &Vector, kind: MetricType) -> Scalar
 }
 
 /// The rating of a score of so many tenths.
+#[inline(never)]
 #[tactic(auto, using(crate::proofs::ShortLemmas::severity_short))]
 fn rating(tenths: u8) -> &'static str
     ensures text { result.now ≡ severity_text (rating_of_score (score_of_tenths tenths)) }

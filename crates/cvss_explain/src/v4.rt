@@ -14,12 +14,13 @@ mod effective;
 
 use crate::decimal::of_parts;
 use crate::parts::{put_line, put_score, put_text};
+use crate::table::put_table;
 use cvss_any::Cvss;
-use cvss_json_write::{Page, Scalar, put_member, put_members, put_name, put_object_member};
+use cvss_json_write::{Page, Scalar, put_member, put_members, put_name};
 use cvss_score::v4::scoring::classes::MacroVector;
 use cvss_score::v4::scoring::explanation::GroupExplanation;
 use cvss_v4::{Explanation, Nomenclature, Vector};
-use effective::effective;
+use effective::BY_NAME;
 
 /// Writes why a complete vector has its score.
 pub(crate) fn put_explanation(
@@ -36,7 +37,7 @@ pub(crate) fn put_explanation(
 {
     let explanation = vector.explanation();
     page.push(b"{");
-    put_object_member(page, false, "effective", &effective(&explanation.effective));
+    put_table(page, false, "effective", &explanation.effective, &BY_NAME);
     put_name(page, true, "groups");
     put_groups(page, &explanation);
     put_line(page, line);

@@ -5,7 +5,7 @@ use Rattle.std.specs.Option.{option_map, option_and_then}
 use Rattle.cvss_text.specs.private.Printing.{with_slash, text_with_slash, texts_with_slash}
 use Rattle.cvss_text.proofs.PrintLemmas.{joined-with_slash}
 use Rattle.cvss_base.specs.Text.{component, joined, slash}
-use Rattle.cvss_base.specs.Version.{Version, canonical_text, components_of, held}
+use Rattle.cvss_base.specs.Version.{Version, components_of, held}
 use Rattle.cvss_ffi.specs.Buffer.{HasPut, begun}
 use Rattle.cvss_ffi.specs.Defined.{defined_component, if_defined, or_if_none, text_without}
 use Rattle.cvss_ffi.specs.private.Steps.{defined_texts, front_of, kept_parts, text_after}
@@ -78,13 +78,6 @@ module _ {V K : Type 0} (version : Version V K) (undefined : List ℕ) (v : V) w
   pub text_without_after : (piece : List ℕ) → version.front v ≡ front_of piece → text_after piece (joined (piece ∷ kept_parts version undefined v)) ≡ text_without version undefined v
   text_without_after piece front =
       joined_after piece (kept_parts version undefined v) ∙ ap (λ pieces. joined (pieces ++ kept_parts version undefined v)) (sym front)
-
--- the canonical text of a vector, written as a piece, or none, and its components after slashes
-pub canonical_after : {V K : Type 0} (version : Version V K) (v : V) (piece : List ℕ) → version.front v ≡ front_of piece → text_after piece (piece ++ texts_with_slash version v version.printed) ≡ canonical_text version v
-canonical_after version v piece front =
-    ap (text_after piece) (sym (joined-with_slash version v piece version.printed))
-    ∙ joined_after piece (components_of version v)
-    ∙ ap (λ pieces. joined (pieces ++ components_of version v)) (sym front)
 
 -- a text of no bytes is put nowhere
 pub none_put : (old first text now : List ℕ) (place end : ℕ) → length text ≤ 0 → end ≡ place + length text → HasPut old (first ++ text) now end → HasPut old first now place

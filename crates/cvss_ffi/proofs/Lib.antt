@@ -1,5 +1,4 @@
 pub mod BufferLemmas
-pub mod CanonicalLemmas
 pub mod DefinedLemmas
 pub mod ExactLemmas
 pub mod LengthLemmas
@@ -10,6 +9,4 @@ pub mod PartLemmas
 pub mod PartsLemmas
 pub mod SegmentLemmas
 pub mod SettingLemmas
-pub mod ShortLemmas
 pub mod UndefinedLemmas
-pub mod WordLemmas

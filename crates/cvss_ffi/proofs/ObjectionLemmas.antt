@@ -114,9 +114,6 @@ module _ (texts : List (List ℕ)) where
         };
       }
 
-  pub first_index : (index : ℕ) (objection : Objection) → IsFirstObjection (take 15 texts) index objection → index ≤ 14
-  first_index index objection first = omega (arith, first.within, length-take 15 texts)
-
   -- overrides are no more than the first ones
   pub first_overrides : (v : Vector) → AreOverrides (take 15 texts) v → AreOverrides texts v
   first_overrides v are =

@@ -1,37 +1,17 @@
--- Vectors that are written with metrics set, and why there is none.
-use Rattle.std.proofs.Common.{◌≡◌, ℕ, ℤ, List, [], ◌∷◌, ◌++◌, codes, Option, Err, inl, inr, refl, sym, ap, ◌∙◌, subst, nat_eq, if◌then◌else◌}
+-- Why there is no vector with metrics set.
+use Rattle.std.proofs.Common.{◌≡◌, ℕ, ℤ, List, Option, Err, inl, inr, refl, sym, ap, ◌∙◌, subst, nat_eq, if◌then◌else◌}
 use Rattle.std.specs.Prelude.{unsigned_abs}
 use Rattle.cvss_base.specs.Refusal.{Refusal}
-use Rattle.cvss_base.specs.Version.{numeral, version_piece}
-use Rattle.cvss_any.specs.Dispatch.{DenotesCvss}
 use Rattle.cvss_any.specs.Refusals.{refusal_of}
-use Rattle.cvss_any.specs.Setting.{IsBuiltAs, IsBuiltReason, IsWith}
+use Rattle.cvss_any.specs.Setting.{IsBuiltAs, IsBuiltReason}
 use Rattle.cvss_any.specs.declared.metric_type.MetricType.{MetricType}
 use Rattle.cvss_any.specs.declared.setting.Version.{Version}
 use Rattle.cvss_any.specs.declared.setting.Version.TheVariants.{V20, V30, V31, V40}
 use Rattle.cvss_any.specs.declared.vector.Cvss.{Cvss}
-use Rattle.cvss_any.specs.declared.vector.Cvss.TheVariants.{CvssV20, CvssV30, CvssV31, CvssV40}
-use Rattle.cvss_ffi.proofs.CanonicalLemmas.{front_v40}
 use Rattle.cvss_ffi.specs.Setting.{IsBuiltFrom, IsFromUtf8, IsNoVector, IsWhyNot, number_of}
-use Rattle.cvss_ffi.specs.private.Setting.{HasOwnFront, IsPrintable, IsUnset, IsUnsetFor, unset_text}
+use Rattle.cvss_ffi.specs.private.Setting.{IsUnset, IsUnsetFor, unset_text}
 use Rattle.cvss_ffi.specs.declared.setting.Unset.{Unset}
 use Rattle.cvss_ffi.specs.declared.setting.Unset.TheVariants.{NotUtf8, Rejected}
-
--- a vector that was read has the version piece of its kind, with metrics set too
-own_front : (text : List ℕ) (cvss : Cvss) → DenotesCvss text cvss → HasOwnFront cvss
-own_front text (CvssV20 v) denoted = tt
-own_front text (CvssV30 v) denoted = ap (λ minor. version_piece (codes "3." ++ numeral minor) ∷ []) denoted.version
-own_front text (CvssV31 v) denoted = ap (λ minor. version_piece (codes "3." ++ numeral minor) ∷ []) denoted.version
-own_front text (CvssV40 v) denoted = front_v40 text v denoted
-
-kept_front : (cvss new : Cvss) (metrics : List ℕ) → HasOwnFront cvss → IsWith cvss metrics new → HasOwnFront new
-kept_front (CvssV20 v) new metrics front is = subst HasOwnFront (sym is.is) tt
-kept_front (CvssV30 v) new metrics front is = subst HasOwnFront (sym is.is) (is.holds.front_is ∙ front)
-kept_front (CvssV31 v) new metrics front is = subst HasOwnFront (sym is.is) (is.holds.front_is ∙ front)
-kept_front (CvssV40 v) new metrics front is = subst HasOwnFront (sym is.is) (is.holds.front_is ∙ front)
-
-pub with_front : (text : List ℕ) (cvss new : Cvss) (metrics : List ℕ) → DenotesCvss text cvss → IsWith cvss metrics new → HasOwnFront new
-with_front text cvss new metrics denoted = kept_front cvss new metrics (own_front text cvss denoted)
 
 -- a version has one number
 numbered : ℤ → Version
@@ -68,10 +48,3 @@ module _ (IsIt : Cvss → Type 0) (IsWhy : Option ℕ → Refusal MetricType →
 
   pub said_why : IsUnset IsIt IsWhy metrics (Err unset) → IsWhyNot IsWhy metrics (unset_text unset)
   said_why is = why_not unset is.unset
-
-  printable_each : (each : Unset) → IsUnsetFor IsWhy metrics each → IsPrintable each
-  printable_each NotUtf8 no_text = tt
-  printable_each (Rejected error) why = why.2
-
-  pub printable : IsUnset IsIt IsWhy metrics (Err unset) → IsPrintable unset
-  printable is = printable_each unset is.unset

@@ -9,5 +9,6 @@ pub mod Overriding
 pub mod Refusals
 pub mod Scores
 pub mod Setting
+pub mod Values
 pub mod laws
 pub mod private

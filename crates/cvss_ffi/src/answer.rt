@@ -1,17 +1,17 @@
 //! The line that the program answers to a text.
 
-ghost use Rattle.std.specs.Prelude.{◌≤◌, ◌+◌, ◌++◌, ℕ, List, codes, length};
+ghost use Rattle.std.specs.Prelude.{◌≤◌, ◌+◌, ℕ, List, length};
 ghost use Rattle.cvss_any.specs.Answers.{HasScore};
-ghost use Rattle.cvss_any.specs.Dispatch.{DenotesCvss};
 ghost use Rattle.cvss_ffi.specs.Answers.{IsAnswer, IsAnswerOf};
 ghost use Rattle.cvss_ffi.specs.Buffer.{IsWritten};
-ghost use Rattle.cvss_ffi.specs.private.Steps.{IsRated, Puts};
+ghost use Rattle.cvss_ffi.specs.private.Steps.{IsRated};
 
-use crate::buffer::put;
-use crate::canonical::put_canonical;
+use crate::buffer::put_both;
 use crate::message::put_error;
 use cvss_any::Cvss;
 use cvss_base::tenths::{tenths_of, text_of};
+use cvss_json_names::put_vector;
+use cvss_json_write::Page;
 
 /// Writes the answer to a text at the beginning of a buffer where it fits, and returns its length.
 pub fn put_answer_to(text: &[u8], buffer: &mut [u8]) -> usize
@@ -19,7 +19,7 @@ pub fn put_answer_to(text: &[u8], buffer: &mut [u8]) -> usize
         × IsWritten answer buffer.old buffer.new result }
 {
     match Cvss::read_canonical(text) {
-        Some(cvss) => put_answer(&cvss, text, buffer),
+        Some(cvss) => put_answer(&cvss, buffer),
         None => put_other_answer(text, buffer),
     }
 }
@@ -30,37 +30,25 @@ fn put_other_answer(text: &[u8], buffer: &mut [u8]) -> usize
         × IsWritten answer buffer.old buffer.new result }
 {
     match Cvss::read(text) {
-        Ok(cvss) => put_answer(&cvss, text, buffer),
+        Ok(cvss) => put_answer(&cvss, buffer),
         Err(error) => put_error("error: ", error, buffer),
     }
 }
 
-/// Writes the answer to a text that denotes a vector at the beginning of a buffer where it fits, and
-/// says its length.
-fn put_answer(cvss: &Cvss, text: &[u8], buffer: &mut [u8]) -> usize
-    requires { DenotesCvss text.now cvss.now }
+/// Writes the answer of a vector at the beginning of a buffer where it fits, and returns its length.
+fn put_answer(cvss: &Cvss, buffer: &mut [u8]) -> usize
+    requires { HasScore cvss.now }
     ensures { (answer : List ℕ) × IsAnswerOf answer cvss.now
         × IsWritten answer buffer.old buffer.new result }
 {
     let (score, rating) = rated(cvss);
-    let length = text.len() + score.len() + rating.len() + 2;
-    if length <= buffer.len() {
-        let place = put_canonical(cvss, buffer);
-        put_rating(score, rating, buffer, place);
-    }
-    length
-}
-
-/// Writes a score and its rating, each after a blank.
-fn put_rating(score: &str, rating: &str, buffer: &mut [u8], place: usize) -> usize
-    requires { place + length score.now + length rating.now + 2 ≤ length buffer.old }
-    ensures { Puts (codes " " ++ (score.now ++ codes " " ++ rating.now)) buffer.old place
-        buffer.new result }
-{
-    let place = put(" ".as_bytes(), buffer, place);
-    let place = put(score.as_bytes(), buffer, place);
-    let place = put(" ".as_bytes(), buffer, place);
-    put(rating.as_bytes(), buffer, place)
+    let mut page = Page::new();
+    put_vector(&mut page, cvss);
+    page.push(b" ");
+    page.push(score.as_bytes());
+    page.push(b" ");
+    page.push(rating.as_bytes());
+    put_both(&[], page.bytes(), buffer)
 }
 
 /// The score of a vector that has one, with one decimal, and the score's rating.

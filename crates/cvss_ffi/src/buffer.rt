@@ -1,9 +1,8 @@
 //! Texts in a buffer of the caller, and items in an array, without memory.
 
-ghost use Rattle.std.specs.Prelude.{◌≡◌, ◌≤◌, ◌+◌, ◌++◌, ◌∷◌, [], length};
-ghost use Rattle.cvss_base.specs.Version.{canonical_text};
+ghost use Rattle.std.specs.Prelude.{◌≡◌, ◌≤◌, ◌+◌, ◌++◌, length};
 ghost use Rattle.cvss_text.specs.private.Printing.{texts_with_slash};
-ghost use Rattle.cvss_ffi.specs.Buffer.{HasPut, IsWritten};
+ghost use Rattle.cvss_ffi.specs.Buffer.{IsWritten};
 ghost use Rattle.cvss_ffi.specs.private.Steps.{Puts};
 
 use cvss_text::print::Printed;
@@ -13,6 +12,8 @@ use cvss_text::print::Printed;
 pub(crate) const LONGEST: usize = 328;
 
 /// Writes a text, or items, from a place in a buffer on, and says the place after it.
+// Its copy, inlined wherever it is called, would be a thirtieth of the module of WebAssembly.
+#[inline(never)]
 pub(crate) fn put<T: Copy>(text: &[T], buffer: &mut [T], place: usize) -> usize
     requires room { place + length text.now ≤ length buffer.old }
     ensures place { result ≡ place + length text.now }
@@ -43,33 +44,6 @@ pub(crate) fn put_components<V: Printed>(
         }
     }
     end
-}
-
-/// Writes a first text and the components after it at the beginning of a buffer, and says the
-/// place after them.
-pub(crate) fn put_after<V: Printed>(
-    first: &[u8],
-    vector: &V,
-    kinds: &[V::Kind],
-    buffer: &mut [u8],
-) -> usize
-    requires room { length (first.now ++ texts_with_slash V.version vector.now kinds.now)
-        ≤ length buffer.old }
-    ensures { HasPut buffer.old (first.now ++ texts_with_slash V.version vector.now kinds.now)
-        buffer.new result }
-{
-    let place = put(first, buffer, 0);
-    put_components(vector, kinds, buffer, place)
-}
-
-/// Writes the canonical text of a vector, of which the piece that says the version is given, at the
-/// beginning of a buffer, and says the place after it.
-pub(crate) fn put_printed<V: Printed>(piece: &[u8], vector: &V, buffer: &mut [u8]) -> usize
-    requires front { V.version.front vector.now ≡ piece.now ∷ [] }
-    requires room { length (canonical_text V.version vector.now) ≤ length buffer.old }
-    ensures { HasPut buffer.old (canonical_text V.version vector.now) buffer.new result }
-{
-    put_after(piece, vector, V::printed(), buffer)
 }
 
 /// Writes two texts, one after the other, at the beginning of a buffer where both fit, and says

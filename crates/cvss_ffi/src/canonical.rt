@@ -1,19 +1,15 @@
-//! The canonical text of a vector that was read.
+//! The canonical text of a vector.
 
-ghost use Rattle.std.specs.Prelude.{◌≡◌, ◌≤◌, IfNone, IfSome, length};
+ghost use Rattle.std.specs.Prelude.{◌≡◌, IfNone, IfSome, length};
 ghost use Rattle.cvss_any.specs.Answers.{HasScore, text_of};
 ghost use Rattle.cvss_any.specs.Dispatch.{DenotesCvss};
-ghost use Rattle.cvss_base.specs.Version.{canonical_text, IsComplete};
-ghost use Rattle.cvss_v2.specs.Vector.{v2};
 ghost use Rattle.cvss_ffi.specs.Answers.{IsRefused};
-ghost use Rattle.cvss_ffi.specs.Buffer.{HasPut, IsWritten};
-ghost use Rattle.cvss_ffi.specs.private.Steps.{IsRead};
+ghost use Rattle.cvss_ffi.specs.Buffer.{IsWritten};
 
-use crate::buffer::{put, put_after, put_printed};
-use crate::v2;
+use crate::buffer::put_both;
 use cvss_any::Cvss;
-use cvss_text::walk::Components;
-use cvss_v2_metric::MetricValue;
+use cvss_json_names::put_vector;
+use cvss_json_write::Page;
 
 /// The vector that a text denotes, if there is one. Its canonical text, which is as long as the text,
 /// is written at the beginning of a buffer where it fits. It takes no memory.
@@ -38,9 +34,7 @@ pub fn put_canonical_of(text: &[u8], buffer: &mut [u8]) -> Option<Cvss>
 fn put_where_it_fits(text: &[u8], buffer: &mut [u8])
     ensures { IsWritten text.now buffer.old buffer.new (length text.now) }
 {
-    if text.len() <= buffer.len() {
-        put(text, buffer, 0);
-    }
+    put_both(&[], text, buffer);
 }
 
 /// Writes the canonical text of the vector that a text denotes at the beginning of a buffer where it
@@ -49,36 +43,15 @@ fn put_in_order(cvss: &Cvss, text: &[u8], buffer: &mut [u8])
     requires { DenotesCvss text.now cvss.now }
     ensures { IsWritten (text_of cvss.now) buffer.old buffer.new (length text.now) }
 {
-    if text.len() <= buffer.len() {
-        put_canonical(cvss, buffer);
-    }
+    put_canonical(cvss, buffer);
 }
 
-/// Writes the canonical text at the beginning of a buffer, and says the place after it.
+/// Writes the canonical text of a vector at the beginning of a buffer where it fits, and returns its
+/// length.
 pub(crate) fn put_canonical(cvss: &Cvss, buffer: &mut [u8]) -> usize
-    requires read { IsRead cvss.now }
-    requires room { length (text_of cvss.now) ≤ length buffer.old }
-    ensures { HasPut buffer.old (text_of cvss.now) buffer.new result }
+    ensures { IsWritten (text_of cvss.now) buffer.old buffer.new result }
 {
-    match cvss {
-        Cvss::CvssV20(vector) => put_v2(vector, buffer),
-        Cvss::CvssV30(vector) => put_printed("CVSS:3.0".as_bytes(), vector, buffer),
-        Cvss::CvssV31(vector) => put_printed("CVSS:3.1".as_bytes(), vector, buffer),
-        Cvss::CvssV40(vector) => put_printed("CVSS:4.0".as_bytes(), vector, buffer),
-    }
-}
-
-/// Puts the canonical text of a vector of CVSS v2, where no slash stands before the first component.
-fn put_v2(vector: &v2::Vector, buffer: &mut [u8]) -> usize
-    requires complete { IsComplete v2 vector.now }
-    requires room { length (canonical_text v2 vector.now) ≤ length buffer.old }
-    ensures { HasPut buffer.old (canonical_text v2 vector.now) buffer.new result }
-{
-    let Some(av) = vector.av else { unreachable!() };
-    put_after(
-        &av.with_slash().as_bytes()[1..],
-        vector,
-        &v2::Vector::printed()[1..],
-        buffer,
-    )
+    let mut page = Page::new();
+    put_vector(&mut page, cvss);
+    put_both(&[], page.bytes(), buffer)
 }

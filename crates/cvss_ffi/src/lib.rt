@@ -19,6 +19,7 @@ pub mod overriding;
 pub mod refusal;
 pub mod scores;
 pub mod setting;
+pub mod values;
 
 use cvss_v2 as v2;
 use cvss_v3 as v3;
@@ -26,3 +27,4 @@ use cvss_v4 as v4;
 pub use exact::{CvssNumber, CvssNumbers};
 pub use metrics::CvssMetric;
 pub use scores::{CvssScores, CvssScoresBy};
+pub use values::CvssValues;

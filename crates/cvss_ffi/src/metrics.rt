@@ -31,7 +31,7 @@ impl CvssMetric {
 }
 
 /// The first bytes of a text in eight bytes, with bytes 0 after them.
-fn padded(text: &[u8]) -> [u8; 8]
+pub(crate) fn padded(text: &[u8]) -> [u8; 8]
     ensures { result ≡ padded_text text.now }
 {
     let mut field = [0; 8];

@@ -6,15 +6,15 @@ ghost use Rattle.cvss_v4.specs.private.OverridingSteps.{objection_of};
 ghost use Rattle.cvss_v4.specs.declared.vector.Vector.{Vector};
 ghost use Rattle.cvss_v4.specs.Vector.{v4};
 ghost use Rattle.cvss_base.specs.Version.{canonical_text};
-ghost use Rattle.cvss_any.specs.Dispatch.{DenotesCvss};
 ghost use Rattle.cvss_any.specs.Reasons.{IsReason};
 ghost use Rattle.cvss_ffi.specs.Answers.{Answers};
 ghost use Rattle.cvss_ffi.specs.Buffer.{IsLeft, IsWritten};
 ghost use Rattle.cvss_ffi.specs.Overriding.{AnswersOverridden, IsOverrideReason, IsWithOverrides, objection_text, override_words, overrides_in};
 ghost use Rattle.cvss_ffi.specs.private.Overridden.{IsUnfit};
 
-use crate::buffer::{LONGEST, put_both, put_printed};
-use crate::message::{put_error, put_refusal};
+use crate::buffer::put_both;
+use crate::canonical::put_canonical;
+use crate::message::{named, put_error, put_refusal};
 use crate::v4;
 use cvss_any::{Cvss, Refusal};
 use cvss_v4::overrides::{OverrideFault, read_overrides};
@@ -34,18 +34,16 @@ enum Unfit<'a> {
 }
 
 /// Writes the canonical text of a vector with overrides in place at the beginning of a buffer where
-/// it fits, and returns its length; 0 where they cannot be put into it. The text that denotes the
-/// vector is given.
-pub fn put_overridden(cvss: &Cvss, text: &[u8], overrides: &[u8], buffer: &mut [u8]) -> usize
-    requires { DenotesCvss text.now cvss.now }
+/// it fits, and returns its length; 0 where they cannot be put into it.
+pub fn put_overridden(cvss: &Cvss, overrides: &[u8], buffer: &mut [u8]) -> usize
     ensures { AnswersOverridden cvss.now overrides.now
         (λ new. IsWritten (canonical_text v4 new) buffer.old buffer.new result)
         (IsLeft buffer.old buffer.new result) }
 {
-    let Ok(vector) = overridden(cvss, text, overrides) else {
+    let Ok(vector) = overridden(cvss, overrides) else {
         return 0;
     };
-    put_vector(&vector, buffer)
+    put_canonical(&Cvss::CvssV40(vector), buffer)
 }
 
 /// Writes why a text denotes no vector, or why overrides cannot be put into its vector, at the
@@ -59,20 +57,19 @@ pub fn put_override_reason(text: &[u8], overrides: &[u8], buffer: &mut [u8]) -> 
         × IsWritten reason buffer.old buffer.new result) }
 {
     match Cvss::read(text) {
-        Ok(cvss) => put_unfit(&cvss, text, overrides, buffer),
+        Ok(cvss) => put_unfit(&cvss, overrides, buffer),
         Err(error) => put_error("", error, buffer),
     }
 }
 
 /// Writes why overrides cannot be put into a vector at the beginning of a buffer where it fits, and
-/// returns its length; 0 where they can. The text that denotes the vector is given.
-fn put_unfit(cvss: &Cvss, text: &[u8], overrides: &[u8], buffer: &mut [u8]) -> usize
-    requires { DenotesCvss text.now cvss.now }
+/// returns its length; 0 where they can.
+fn put_unfit(cvss: &Cvss, overrides: &[u8], buffer: &mut [u8]) -> usize
     ensures { AnswersOverridden cvss.now overrides.now (λ _. IsLeft buffer.old buffer.new result)
         ((reason : List ℕ) × IsOverrideReason cvss.now overrides.now reason
         × IsWritten reason buffer.old buffer.new result) }
 {
-    match overridden(cvss, text, overrides) {
+    match overridden(cvss, overrides) {
         Ok(_) => 0,
         Err(Unfit::OtherVersion) => put_both(&[], "no CVSSv4 vector".as_bytes(), buffer),
         Err(Unfit::NotUtf8) => put_both(&[], "not UTF-8".as_bytes(), buffer),
@@ -83,54 +80,22 @@ fn put_unfit(cvss: &Cvss, text: &[u8], overrides: &[u8], buffer: &mut [u8]) -> u
 /// Writes what is wrong with an override at the beginning of a buffer where it fits, and returns its
 /// length.
 fn put_objection(index: usize, fault: OverrideFault<'_>, buffer: &mut [u8]) -> usize
-    requires { index ≤ 14 }
     ensures { IsWritten (override_words index ++ objection_text (objection_of fault.entry))
         buffer.old buffer.new result }
 {
-    let words = override_words(index);
+    let words = named("override ", index);
     match fault {
         OverrideFault::OtherGroup => {
             let reason = "no environmental CVSSv4 metric";
-            put_both(words.as_bytes(), reason.as_bytes(), buffer)
+            put_both(words.bytes(), reason.as_bytes(), buffer)
         }
-        OverrideFault::Component(fault) => put_refusal(words, Refusal::from(fault), buffer),
+        OverrideFault::Component(fault) => put_refusal(words.bytes(), Refusal::from(fault), buffer),
     }
 }
 
-/// The words that name each of the first `TOO_MANY` overrides.
-const WORDS: [&str; TOO_MANY] = [
-    "override 0: ",
-    "override 1: ",
-    "override 2: ",
-    "override 3: ",
-    "override 4: ",
-    "override 5: ",
-    "override 6: ",
-    "override 7: ",
-    "override 8: ",
-    "override 9: ",
-    "override 10: ",
-    "override 11: ",
-    "override 12: ",
-    "override 13: ",
-    "override 14: ",
-];
-
-/// The words that name the override at a place, which is one of the first `TOO_MANY`.
-fn override_words(index: usize) -> &'static str
-    requires { index ≤ 14 }
-    ensures words { result.now ≡ override_words index }
-    ensures bound { length result.now ≤ 32 }
-{
-    let words = &WORDS[index];
-    *words
-}
-
-/// The vector with overrides in place. The text that denotes the vector is given.
-fn overridden<'a>(cvss: &Cvss, text: &[u8], overrides: &'a [u8]) -> Result<v4::Vector, Unfit<'a>>
-    requires { DenotesCvss text.now cvss.now }
+/// The vector with overrides in place.
+fn overridden<'a>(cvss: &Cvss, overrides: &'a [u8]) -> Result<v4::Vector, Unfit<'a>>
     ensures is { IfOk result (IsWithOverrides cvss.now overrides.now) }
-    ensures front { IfOk result (λ new. v4.front new ≡ codes "CVSS:4.0" ∷ []) }
     ensures accepts { (new : Vector) → IsWithOverrides cvss.now overrides.now new → IsOk result }
     ensures unfit { IfErr result (IsUnfit cvss.now overrides.now) }
 {
@@ -153,7 +118,6 @@ fn overrides_of(text: &str) -> Result<v4::Vector, (usize, OverrideFault<'_>)>
         → IsOk result }
     ensures refused { IfErr result (λ refused. IsFirstObjection (overrides_in text.now) refused.0
         (objection_of refused.1)) }
-    ensures index { IfErr result (λ refused. refused.0 ≤ 14) }
 {
     let (pieces, count) = first_pieces(text);
     read_overrides(&pieces[..count])
@@ -175,15 +139,4 @@ fn first_pieces(text: &str) -> ([&str; TOO_MANY], usize)
         count += 1;
     }
     (pieces, count)
-}
-
-/// Writes the canonical text of a vector at the beginning of a buffer where it fits, and says its
-/// length.
-fn put_vector(vector: &v4::Vector, buffer: &mut [u8]) -> usize
-    requires { v4.front vector.now ≡ codes "CVSS:4.0" ∷ [] }
-    ensures { IsWritten (canonical_text v4 vector.now) buffer.old buffer.new result }
-{
-    let mut whole = [0; LONGEST];
-    let length = put_printed("CVSS:4.0".as_bytes(), vector, &mut whole);
-    put_both(&[], &whole[..length], buffer)
 }

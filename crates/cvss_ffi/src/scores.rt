@@ -1,11 +1,13 @@
 //! The scores of a vector, as C sees them.
 
 ghost use Rattle.std.specs.Prelude.{◌≡◌, ◌↔◌, IsTrue};
+ghost use Rattle.cvss_any.specs.Answers.{IsScoreOf};
 ghost use Rattle.cvss_base.specs.Tenths.{IsInTenths, IsFromZeroToTen};
 ghost use Rattle.cvss_base.specs.Version.{IsComplete};
 ghost use Rattle.cvss_v2.specs.Vector.{v2};
 ghost use Rattle.cvss_v4.specs.Vector.{v4};
-ghost use Rattle.cvss_ffi.specs.Scores.{AnswersScoresBy, AreScoresBy, AreScoresOf, AreScoresV2, AreScoresV3, AreScoresV4, HasBaseMetrics, count_of};
+ghost use Rattle.cvss_ffi.specs.Answers.{Answers};
+ghost use Rattle.cvss_ffi.specs.Scores.{AnswersScoresBy, AreScoresBy, AreScoresOf, AreScoresV2, AreScoresV3, AreScoresV4, HasBaseMetrics, IsScoreInTenths, count_of, nothing};
 ghost use Rattle.cvss_ffi.specs.private.Steps.{IsRead};
 
 use crate::numbers::{NOTHING, nomenclature_number, severity_number};
@@ -128,6 +130,19 @@ impl CvssScores {
             is_complete: 1,
             reserved: [0; 7],
         }
+    }
+}
+
+/// The tenths of the published score of the vector that a text denotes; `NOTHING` where it denotes none.
+pub fn score_of(text: &[u8]) -> i32
+    ensures { Answers text.now (λ cvss. IsScoreInTenths (IsScoreOf cvss) result) (result ≡ nothing) }
+{
+    match Cvss::published_on_fast_path(text) {
+        Some(published) => i32::from(published.tenths),
+        None => match Cvss::read_in_any_order(text) {
+            Some(cvss) => i32::from(cvss.tenths()),
+            None => NOTHING,
+        },
     }
 }
 

@@ -1,24 +1,19 @@
 //! Metrics that are set in a vector, and vectors that are built from metrics. It takes no memory.
 
-ghost use Rattle.std.specs.Prelude.{◌≡◌, ◌≤◌, ◌+◌, ℕ, List, IfSome, IfNone, length};
+ghost use Rattle.std.specs.Prelude.{◌≡◌, ℕ, List, IfSome, IfNone};
 ghost use Rattle.cvss_any.specs.Answers.{text_of};
-ghost use Rattle.cvss_any.specs.Dispatch.{DenotesCvss};
 ghost use Rattle.cvss_any.specs.Reasons.{IsReason};
 ghost use Rattle.cvss_any.specs.Setting.{IsBuiltAs, IsBuiltReason, IsWithReason};
 ghost use Rattle.cvss_any.specs.declared.setting.Version as version;
-ghost use Rattle.cvss_base.specs.Version.{canonical_text};
-ghost use Rattle.cvss_text.specs.private.Printing.{texts_with_slash};
 ghost use Rattle.cvss_ffi.specs.Answers.{Answers};
 ghost use Rattle.cvss_ffi.specs.Buffer.{IsLeft, IsWritten};
-ghost use Rattle.cvss_ffi.specs.Setting.{AnswersNew, IsBuildReasonText, IsBuiltFrom, IsFromUtf8, IsWithMetrics, IsWithReasonText, metric_words as words_of, number_of};
-ghost use Rattle.cvss_ffi.specs.private.Setting.{HasOwnFront, IsPrintable, IsUnset, unset_text, words_before};
-ghost use Rattle.cvss_ffi.specs.private.Steps.{front_of};
+ghost use Rattle.cvss_ffi.specs.Setting.{AnswersNew, IsBuildReasonText, IsBuiltFrom, IsFromUtf8, IsWithMetrics, IsWithReasonText, number_of};
+ghost use Rattle.cvss_ffi.specs.private.Setting.{IsUnset, unset_text};
 
-use crate::buffer::{LONGEST, put, put_both, put_components};
-use crate::defined::text_after;
-use crate::message::{put_error, put_refusal};
+use crate::buffer::put_both;
+use crate::canonical::put_canonical;
+use crate::message::{named, put_error, put_refusal};
 use cvss_any::{Cvss, SetError, Version};
-use cvss_text::print::Printed;
 
 /// Why there is no vector with these metrics.
 #[derive(Drop)]
@@ -30,15 +25,14 @@ enum Unset<'a> {
 }
 
 /// Writes the canonical text of a vector with metrics set at the beginning of a buffer where it fits,
-/// and returns its length; 0 where they are rejected. The text that denotes the vector is given.
-pub fn put_with(cvss: &Cvss, text: &[u8], metrics: &[u8], buffer: &mut [u8]) -> usize
-    requires { DenotesCvss text.now cvss.now }
+/// and returns its length; 0 where they are rejected.
+pub fn put_with(cvss: &Cvss, metrics: &[u8], buffer: &mut [u8]) -> usize
     ensures { AnswersNew (IsWithMetrics cvss.now metrics.now)
         (λ new. IsWritten (text_of new) buffer.old buffer.new result)
         (IsLeft buffer.old buffer.new result) }
 {
-    match with_metrics(cvss, text, metrics) {
-        Ok(new) => put_vector(&new, buffer),
+    match with_metrics(cvss, metrics) {
+        Ok(new) => put_canonical(&new, buffer),
         Err(_) => 0,
     }
 }
@@ -55,21 +49,20 @@ pub fn put_with_reason(text: &[u8], metrics: &[u8], buffer: &mut [u8]) -> usize
         × IsWritten reason buffer.old buffer.new result) }
 {
     match Cvss::read(text) {
-        Ok(cvss) => put_unset_of(&cvss, text, metrics, buffer),
+        Ok(cvss) => put_unset_of(&cvss, metrics, buffer),
         Err(error) => put_error("", error, buffer),
     }
 }
 
 /// Writes why metrics are not set in a vector at the beginning of a buffer where it fits, and returns
-/// its length; 0 where they are. The text that denotes the vector is given.
-fn put_unset_of(cvss: &Cvss, text: &[u8], metrics: &[u8], buffer: &mut [u8]) -> usize
-    requires { DenotesCvss text.now cvss.now }
+/// its length; 0 where they are.
+fn put_unset_of(cvss: &Cvss, metrics: &[u8], buffer: &mut [u8]) -> usize
     ensures { AnswersNew (IsWithMetrics cvss.now metrics.now)
         (λ _. IsLeft buffer.old buffer.new result)
         ((reason : List ℕ) × IsWithReasonText cvss.now metrics.now reason
         × IsWritten reason buffer.old buffer.new result) }
 {
-    match with_metrics(cvss, text, metrics) {
+    match with_metrics(cvss, metrics) {
         Ok(_) => 0,
         Err(unset) => put_unset(unset, buffer),
     }
@@ -86,7 +79,7 @@ pub fn put_build(version: i32, metrics: &[u8], buffer: &mut [u8]) -> usize
         return 0;
     };
     match built(version, metrics) {
-        Ok(new) => put_vector(&new, buffer),
+        Ok(new) => put_canonical(&new, buffer),
         Err(_) => 0,
     }
 }
@@ -122,9 +115,8 @@ fn version_of(number: i32) -> Option<Version>
     }
 }
 
-/// The vector with metrics set. The text that denotes the vector is given.
-fn with_metrics<'a>(cvss: &Cvss, text: &[u8], metrics: &'a [u8]) -> Result<Cvss, Unset<'a>>
-    requires { DenotesCvss text.now cvss.now }
+/// The vector with metrics set.
+fn with_metrics<'a>(cvss: &Cvss, metrics: &'a [u8]) -> Result<Cvss, Unset<'a>>
     ensures { IsUnset (IsWithMetrics cvss.now metrics.now) (IsWithReason cvss.now metrics.now)
         metrics.now result }
 {
@@ -153,98 +145,13 @@ fn built(version: Version, metrics: &[u8]) -> Result<Cvss, Unset<'_>>
 
 /// Writes why there is no vector at the beginning of a buffer where it fits, and returns its length.
 fn put_unset(unset: Unset<'_>, buffer: &mut [u8]) -> usize
-    requires { IsPrintable unset }
     ensures { IsWritten (unset_text unset.entry) buffer.old buffer.new result }
 {
     match unset {
         Unset::NotUtf8 => put_both(&[], "not UTF-8".as_bytes(), buffer),
-        Unset::Rejected(error) => put_refusal(metric_words(error.index), error.reason, buffer),
+        Unset::Rejected(error) => match error.index {
+            Some(index) => put_refusal(named("metric ", index).bytes(), error.reason, buffer),
+            None => put_refusal(&[], error.reason, buffer),
+        },
     }
-}
-
-/// The words that name the metric at an index, and no words without one.
-fn metric_words(index: Option<usize>) -> &'static str
-    requires { IfSome index (λ index. index ≤ 32) }
-    ensures words { result.now ≡ words_before index }
-    ensures bound { length result.now ≤ 32 }
-{
-    match index {
-        Some(index) => words_at(index),
-        None => "",
-    }
-}
-
-/// The words that name each of the metrics that can be rejected first.
-const WORDS: [&str; 33] = [
-    "metric 0: ",
-    "metric 1: ",
-    "metric 2: ",
-    "metric 3: ",
-    "metric 4: ",
-    "metric 5: ",
-    "metric 6: ",
-    "metric 7: ",
-    "metric 8: ",
-    "metric 9: ",
-    "metric 10: ",
-    "metric 11: ",
-    "metric 12: ",
-    "metric 13: ",
-    "metric 14: ",
-    "metric 15: ",
-    "metric 16: ",
-    "metric 17: ",
-    "metric 18: ",
-    "metric 19: ",
-    "metric 20: ",
-    "metric 21: ",
-    "metric 22: ",
-    "metric 23: ",
-    "metric 24: ",
-    "metric 25: ",
-    "metric 26: ",
-    "metric 27: ",
-    "metric 28: ",
-    "metric 29: ",
-    "metric 30: ",
-    "metric 31: ",
-    "metric 32: ",
-];
-
-/// The words that name the metric at an index.
-fn words_at(index: usize) -> &'static str
-    requires { index ≤ 32 }
-    ensures words { result.now ≡ words_of index }
-    ensures bound { length result.now ≤ 32 }
-{
-    let words = &WORDS[index];
-    *words
-}
-
-/// Writes the canonical text of a vector at the beginning of a buffer where it fits, and returns its
-/// length.
-fn put_vector(cvss: &Cvss, buffer: &mut [u8]) -> usize
-    requires { HasOwnFront cvss.now }
-    ensures { IsWritten (text_of cvss.now) buffer.old buffer.new result }
-{
-    match cvss {
-        Cvss::CvssV20(vector) => put_text(&[], vector, buffer),
-        Cvss::CvssV30(vector) => put_text("CVSS:3.0".as_bytes(), vector, buffer),
-        Cvss::CvssV31(vector) => put_text("CVSS:3.1".as_bytes(), vector, buffer),
-        Cvss::CvssV40(vector) => put_text("CVSS:4.0".as_bytes(), vector, buffer),
-    }
-}
-
-/// Writes the canonical text of a vector, of which the piece that says the version is given, or none.
-/// Without one no slash is before the first component.
-fn put_text<V: Printed>(piece: &[u8], vector: &V, buffer: &mut [u8]) -> usize
-    requires front { V.version.front vector.now ≡ front_of piece.now }
-    requires room { length piece.now
-        + length (texts_with_slash V.version vector.now V.version.printed) ≤ 328 }
-    ensures { IsWritten (canonical_text V.version vector.now) buffer.old buffer.new result }
-{
-    let mut whole = [0; LONGEST];
-    let place = put(piece, &mut whole, 0);
-    let end = put_components(vector, V::printed(), &mut whole, place);
-    put_both(&[], text_after(piece, &whole[..end]), buffer)
 }

@@ -1,3 +1,4 @@
 mod AloneLemmas
+mod DecodingLemmas
 mod FoundLemmas
 mod ReportingLemmas

@@ -11,7 +11,7 @@ pub mod v4;
 mod versions;
 
 pub use rows::{Row, word_in};
-pub use text::{put_vector_member, spelled};
+pub use text::{put_vector, put_vector_member, spelled};
 pub use versions::version;
 
 /// The word of a value that is not defined, spelled `ND` in CVSS v2 and `X` in v3 and v4.0.

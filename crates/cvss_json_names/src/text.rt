@@ -28,7 +28,7 @@ pub fn put_vector_member(page: &mut Page, later: bool, name: &str, cvss: &Cvss)
 }
 
 /// Writes a vector's canonical text.
-fn put_vector(page: &mut Page, cvss: &Cvss)
+pub fn put_vector(page: &mut Page, cvss: &Cvss)
     requires { length page.old + 350 ≤ 4096 }
     ensures text { page.new ≡ page.old ++ text_of cvss.now }
     ensures room { length page.new ≤ length page.old + 350 }
@@ -96,7 +96,7 @@ fn put_with_slash<V: Printed>(page: &mut Page, vector: &V, kinds: &[V::Kind])
         return;
     };
     if let Some(text) = vector.with_slash(*first) {
-        page.push(text.as_bytes());
+        page.push_text(text.as_bytes());
     }
     put_with_slash(page, vector, rest);
 }

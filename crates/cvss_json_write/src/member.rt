@@ -36,7 +36,7 @@ impl Scalar {
             Scalar::Whole(number) => page.whole(number),
             Scalar::Text(text) => {
                 page.push(b"\"");
-                page.push(text.as_bytes());
+                page.push_text(text.as_bytes());
                 page.push(b"\"");
             }
             Scalar::Null => page.push(b"null"),
@@ -54,7 +54,7 @@ pub fn put_name(page: &mut Page, later: bool, name: &str)
         page.push(b",");
     }
     page.push(b"\"");
-    page.push(name.as_bytes());
+    page.push_text(name.as_bytes());
     page.push(b"\":");
 }
 

@@ -47,6 +47,16 @@ impl Page {
         self.length = end;
     }
 
+    /// Writes a text whose length the compiler does not know.
+    // A call of its own: inlined wherever it is used, it would be a thirtieth of the module of WebAssembly.
+    #[inline(never)]
+    pub fn push_text(&mut self, text: &[u8])
+        requires { length self.old + length text.now ≤ 4096 }
+        ensures { self.new ≡ self.old ++ text.now }
+    {
+        self.push(text);
+    }
+
     /// Writes a whole number.
     pub fn whole(&mut self, number: u64)
         requires { length self.old + 20 ≤ 4096 }

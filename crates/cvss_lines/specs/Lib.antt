@@ -1,6 +1,7 @@
 pub mod Answers
 pub mod Exit
 pub mod Lines
+pub mod Prefixed
 pub mod Runs
 pub mod Streaming
 pub mod private

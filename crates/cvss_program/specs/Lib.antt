@@ -1,3 +1,6 @@
 pub mod Arguments
-pub mod Program
+pub mod Exit
+pub mod Operands
 pub mod Requests
+pub mod Sources
+pub mod Whole

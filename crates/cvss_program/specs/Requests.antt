@@ -16,9 +16,3 @@ asked_by (byte ∷ bytes) =
 abbrev pub asked : List (Vec ℕ) → Request
 asked [] = Run
 asked (first ∷ others) = asked_by first.items
-
--- what arguments ask for that are to be none or `--help` alone: whatever else they are, it is not understood
-abbrev pub asked_alone : List (Vec ℕ) → Request
-asked_alone [] = Run
-asked_alone (only ∷ []) = if bytes_eq only.items (codes "--help") then Usage else Unknown
-asked_alone (first ∷ second ∷ others) = Unknown

@@ -1,12 +1,23 @@
-//! A whole program that answers lines and knows no argument but `--help`, and what its arguments
-//! ask for.
+//! The frame of a program: its arguments, and a task over operands, which are vectors, files or standard
+//! input.
 #![tactic(auto)]
 
 mod command_line;
-pub mod laws;
-mod program;
+mod files;
+mod operands;
 mod requests;
+mod served;
+mod sources;
+mod task;
+mod watching;
+mod whole;
 
 pub use command_line::{CommandLine, arguments, arguments_of};
-pub use program::{ProgramFault, run_program, run_streaming_program};
-pub use requests::{Request, asked, asked_alone};
+pub use files::{Files, SystemFiles};
+pub use operands::{are_many, serve_operands};
+pub use requests::{Request, asked};
+pub use served::{Served, exit_status};
+pub use sources::{Source, has_name, source_of};
+pub use task::{EachLine, LineAnswer, Task};
+pub use watching::{WatchedReader, WatchedWriter};
+pub use whole::read_operand;

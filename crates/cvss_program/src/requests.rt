@@ -1,7 +1,7 @@
 //! What a program's arguments ask for.
 
-ghost use Rattle.std.specs.Prelude.{◌≡◌, bytes_eq, codes};
-ghost use Rattle.cvss_program.specs.Requests.{asked as asked_of, asked_alone as asked_of_all, asked_by as asked_first};
+ghost use Rattle.std.specs.Prelude.{◌≡◌};
+ghost use Rattle.cvss_program.specs.Requests.{asked as asked_of, asked_by as asked_first};
 
 /// What a program is asked for.
 #[derive(Drop)]
@@ -34,22 +34,4 @@ fn asked_by(first: &[u8]) -> Request
         [b'-', ..] => Request::Unknown,
         _ => Request::Run,
     }
-}
-
-/// What arguments ask for that are to be none or `--help` alone: for what there is not if they are
-/// anything else.
-pub fn asked_alone(arguments: &[Vec<u8>]) -> Request
-    ensures { result ≡ asked_of_all arguments.now }
-{
-    match arguments {
-        [] => Request::Run,
-        [only] if is_help(only) => Request::Usage,
-        _ => Request::Unknown,
-    }
-}
-
-fn is_help(argument: &[u8]) -> bool
-    ensures { result ≡ bytes_eq argument.now (codes "--help") }
-{
-    argument == b"--help".as_slice()
 }

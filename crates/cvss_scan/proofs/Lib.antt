@@ -1,9 +1,12 @@
 pub mod AcceptedLemmas
 mod EndLemmas
+mod FindLemmas
+mod LabelLemmas
 mod NextLemmas
 mod PartLemmas
 mod PassLemmas
 mod PlaceLemmas
 mod PlainLemmas
+mod PrefixLemmas
 mod SlashLemmas
 mod WholeLemmas

@@ -1,7 +1,8 @@
 -- How mentions are looked at one after another.
-use Rattle.std.proofs.Common.{◌≡◌, List, [], ◌∷◌, ◌++◌, sym, ap, ◌∙◌, append_assoc}
+use Rattle.std.proofs.Common.{◌≡◌, List, [], ◌∷◌, ◌++◌, sym, ap, ◌∙◌, subst, append_assoc}
 use Rattle.std.proofs.lemmas.List.Elements.{All-append, All-push}
 use Rattle.cvss_scan.specs.Mentions.{IsFound, Placed}
+use Rattle.cvss_scan.specs.MentionsLeft.{IsFirstFound}
 use Rattle.cvss_scan.specs.private.Passing.{Passes}
 
 pub Passes-one : (mentions left after : List Placed) (mention : Placed) → Passes mentions left → left ≡ mention ∷ after → ¬ (IsFound mention.text) → Passes mentions after
@@ -17,4 +18,14 @@ Passes-trans mentions between left first second = record {
   passed = first.passed ++ second.passed;
   is = first.is ∙ ap (λ rest. first.passed ++ rest) second.is ∙ sym (append_assoc first.passed second.passed left);
   none = All-append (λ mention. ¬ (IsFound mention.text)) first.passed second.passed first.none second.none;
+}
+
+-- the next mention is found after those that are passed
+pub IsFirstFound-after : (mentions left after : List Placed) (mention given : Placed) → Passes mentions left → left ≡ mention ∷ after → given ≡ mention → IsFound mention.text
+    → IsFirstFound mentions given after
+IsFirstFound-after mentions left after mention given so_far is same found = record {
+  passed = so_far.passed;
+  is = so_far.is ∙ ap (λ rest. so_far.passed ++ rest) (is ∙ ap (λ first. first ∷ after) (sym same));
+  none = so_far.none;
+  found = subst (λ each. IsFound each.text) (sym same) found;
 }

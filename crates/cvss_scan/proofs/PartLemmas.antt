@@ -2,7 +2,7 @@
 use Rattle.std.proofs.Common.{◌≡◌, ℕ, ◌<◌, ◌≤◌, ◌-◌, get_or, Bool, true, false, not, cond, ◌||◌, if◌then◌else◌, List, [], ◌∷◌, ◌++◌, length, take, drop, refl, sym, ap, ap₂, ◌∙◌, subst, append_assoc, arith, take_at, drop_at}
 use Rattle.std.proofs.lemmas.Bool.{not-false, or_parts}
 use Rattle.std.proofs.lemmas.List.{length-append, take_rest}
-use Rattle.cvss_scan.specs.Parts.{begins_part, begins_with_prefix, is_vector_byte, onto_first, parts_of}
+use Rattle.cvss_scan.specs.Parts.{begins_part, begins_with_prefix, is_run_byte, onto_first, parts_of}
 
 -- bytes at the front of the first part
 abbrev pub joined_onto : List ℕ → List (List ℕ) → List (List ℕ)
@@ -30,15 +30,15 @@ byte_more true front byte parts = refl
 byte_more false front byte [] = refl
 byte_more false front byte (part ∷ parts) = ap (λ first. first ∷ parts) (sym (append_assoc front (byte ∷ []) part))
 
--- the parts of a text that begins with a byte of vectors
-within_run : (byte : ℕ) (rest : List ℕ) → is_vector_byte byte ≡ true
+-- the parts of a text that begins with a byte of a run
+within_run : (byte : ℕ) (rest : List ℕ) → is_run_byte byte ≡ true
     → parts_of (byte ∷ rest) ≡ cond (begins_part rest) ((byte ∷ []) ∷ parts_of rest) (onto_first byte (parts_of rest))
 within_run byte rest vector = ap (λ is. cond (not is || begins_part rest) ((byte ∷ []) ∷ parts_of rest) (onto_first byte (parts_of rest))) vector
 
 -- after one byte more, before which the text is not cut
 pub IsWithinFirst-byte : (text : List ℕ) (byte : ℕ) (after : List ℕ) → IsWithinFirst text (byte ∷ after) → begins_part (byte ∷ after) ≡ false → IsWithinFirst text after
 IsWithinFirst-byte text byte after so_far uncut =
-    let vector = not-false (is_vector_byte byte) (or_parts (not (is_vector_byte byte)) (begins_with_prefix (byte ∷ after)) uncut).0 in
+    let vector = not-false (is_run_byte byte) (or_parts (not (is_run_byte byte)) (begins_with_prefix (byte ∷ after)) uncut).0 in
     record {
       front = so_far.front ++ byte ∷ [];
       some = omega (arith, so_far.some, length-append so_far.front (byte ∷ []));
@@ -55,7 +55,7 @@ first_and_rest [] some = absurd (omega (arith, some))
 first_and_rest (byte ∷ rest) some = ap (λ more. byte ∷ more) (sym (take_rest (byte ∷ rest) 1))
 
 -- after the first byte of a text
-pub IsWithinFirst_first : (text : List ℕ) → 1 ≤ length text → is_vector_byte (get_or text 0 0) ≡ true → IsWithinFirst text (take (length text - 1) (drop 1 text))
+pub IsWithinFirst_first : (text : List ℕ) → 1 ≤ length text → is_run_byte (get_or text 0 0) ≡ true → IsWithinFirst text (take (length text - 1) (drop 1 text))
 IsWithinFirst_first text some vector =
     let byte = get_or text 0 0 in
     let rest = take (length text - 1) (drop 1 text) in
@@ -67,8 +67,8 @@ IsWithinFirst_next text left within some uncut =
     let is = first_and_rest left some in
     IsWithinFirst-byte text (get_or left 0 0) _ (subst (IsWithinFirst text) is within) (sym (ap begins_part is) ∙ uncut)
 
--- a first byte with which no vector is written is a part
-pub first_alone : (text : List ℕ) → 1 ≤ length text → is_vector_byte (get_or text 0 0) ≡ false → parts_of text ≡ take 1 text ∷ parts_of (drop 1 text)
+-- a first byte of no run is a part
+pub first_alone : (text : List ℕ) → 1 ≤ length text → is_run_byte (get_or text 0 0) ≡ false → parts_of text ≡ take 1 text ∷ parts_of (drop 1 text)
 first_alone [] some other = absurd (omega (arith, some))
 first_alone (byte ∷ rest) some other = ap (λ is. cond (not is || begins_part rest) ((byte ∷ []) ∷ parts_of rest) (onto_first byte (parts_of rest))) other
 

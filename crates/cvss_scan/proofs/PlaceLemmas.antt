@@ -1,10 +1,13 @@
 -- Where the mentions of a text stand.
-use Rattle.std.proofs.Common.{◌≡◌, ℕ, ◌+◌, ◌≤◌, Bool, true, false, cond, not, ◌||◌, List, [], ◌∷◌, ◌++◌, length, take, drop, refl, sym, ap, ◌∙◌, append_assoc, arith, length-append, take_at, drop_at}
+use Rattle.std.proofs.Common.{◌≡◌, ℕ, ◌+◌, ◌≤◌, Bool, true, false, cond, not, ◌||◌, List, [], ◌∷◌, ◌++◌, length, take, drop, refl, sym, ap, ◌∙◌, append-nil, append_assoc, arith, length-append, length-drop, length-take-le, take-append-drop, take_at, drop_at}
+use Rattle.std.specs.Prelude.{unwrap_or}
 use Rattle.std.specs.List.{All, list_all}
 use Rattle.std.proofs.lemmas.List.Elements.{All-nil, All-cons}
-use Rattle.cvss_scan.specs.Parts.{begins_part, is_divider, is_vector_byte, without_dividers, onto_first, parts_of}
-use Rattle.cvss_scan.specs.Mentions.{mentions_of, placed_from}
+use Rattle.cvss_base.specs.Text.{has, slash}
+use Rattle.cvss_scan.specs.Parts.{before_percent, begins_part, begins_with_prefix, is_divider, is_run_byte, label_length, without_dividers, onto_first, parts_of, unencoded}
+use Rattle.cvss_scan.specs.Mentions.{label_of, mention_of, mentions_of, placed_from}
 use Rattle.cvss_scan.specs.laws.Places.{AreInOrder, StandsIn}
+use Rattle.cvss_scan.proofs.LabelLemmas.{label_bound}
 
 -- the parts of a text, joined
 abbrev pub joined : List (List ℕ) → List ℕ
@@ -20,38 +23,72 @@ joined_either false byte (part ∷ parts) = refl
 pub joined-parts : (text : List ℕ) → joined (parts_of text) ≡ text
 joined-parts [] = refl
 joined-parts (byte ∷ rest) =
-    joined_either (not (is_vector_byte byte) || begins_part rest) byte (parts_of rest) ∙ ap (λ more. byte ∷ more) (joined-parts rest)
+    joined_either (not (is_run_byte byte) || begins_part rest) byte (parts_of rest) ∙ ap (λ more. byte ∷ more) (joined-parts rest)
 
--- a part begins with its mention
-pub record Begins (part : List ℕ) : Type 0 where
+-- a part begins with the bytes in which its mention is
+pub record Begins (part bytes : List ℕ) : Type 0 where
   pub taken_off : List ℕ
-  pub is : part ≡ without_dividers part ++ taken_off
+  pub is : part ≡ bytes ++ taken_off
 
 begins_either : (all : Bool) (byte : ℕ) (rest less : List ℕ) (taken_off : List ℕ) → rest ≡ less ++ taken_off
     → (off : List ℕ) × (byte ∷ rest ≡ cond all [] (byte ∷ less) ++ off)
 begins_either true byte rest less taken_off is = (byte ∷ rest, refl)
 begins_either false byte rest less taken_off is = (taken_off, ap (λ more. byte ∷ more) is)
 
-pub begins : (part : List ℕ) → Begins part
-begins [] = record { taken_off = []; is = refl }
-begins (byte ∷ rest) =
-    let after = begins rest in
+begins_less : (part : List ℕ) → Begins part (without_dividers part)
+begins_less [] = record { taken_off = []; is = refl }
+begins_less (byte ∷ rest) =
+    let after = begins_less rest in
     let found = begins_either (list_all is_divider (byte ∷ rest)) byte rest (without_dividers rest) after.taken_off after.is in
     record { taken_off = found.0; is = found.1 }
 
-shorter : (part : List ℕ) → length (without_dividers part) ≤ length part
-shorter part = let first = begins part in omega (arith, ap length first.is, length-append (without_dividers part) first.taken_off)
+begins_unencoded_either : (b : Bool) (part : List ℕ) (count : ℕ) → Begins part (cond b (take count part) part)
+begins_unencoded_either true part count = record { taken_off = drop count part; is = sym (take-append-drop count part) }
+begins_unencoded_either false part count = record { taken_off = []; is = sym (append-nil part) }
 
-stands : (text before part after : List ℕ) → text ≡ before ++ (part ++ after) → StandsIn text (record { place = length before; text = without_dividers part })
+pub begins : (part : List ℕ) → Begins part (without_dividers (unencoded part))
+begins part =
+    let first : Begins part (unencoded part) = begins_unencoded_either (has slash (before_percent part)) part _ in
+    let then = begins_less (unencoded part) in
+    record {
+      taken_off = then.taken_off ++ first.taken_off;
+      is = first.is ∙ ap (λ front. front ++ first.taken_off) then.is ∙ append_assoc (without_dividers (unencoded part)) then.taken_off first.taken_off;
+    }
+
+label_either : (b : Bool) (count size : ℕ) → count ≤ size → cond b 0 count ≤ size
+label_either true count size bound = omega arith
+label_either false count size bound = bound
+
+pub label_within : (text : List ℕ) → label_of text ≤ length text
+label_within text = label_either (begins_with_prefix text) (unwrap_or (label_length text) 0) (length text) (label_bound text)
+
+-- the mention of a part ends within it
+shorter : (place : ℕ) (part : List ℕ) → (mention_of place part).place + length (mention_of place part).text ≤ place + length part
+shorter place part =
+    let first = begins part in
+    let bytes = without_dividers (unencoded part) in
+    omega (arith, ap length first.is, length-append bytes first.taken_off, label_within bytes, length-drop (label_of bytes) bytes)
+
+stands : (text before part after : List ℕ) → text ≡ before ++ (part ++ after) → StandsIn text (mention_of (length before) part)
 stands text before part after is =
     let first = begins part in
-    let rest : part ++ after ≡ without_dividers part ++ (first.taken_off ++ after) =
-    ap (λ front. front ++ after) first.is ∙ append_assoc (without_dividers part) first.taken_off after in
+    let bytes = without_dividers (unencoded part) in
+    let label = label_of bytes in
+    let mention = drop label bytes in
+    let front = before ++ take label bytes in
+    let within = label_within bytes in
+    let split : bytes ≡ take label bytes ++ mention = sym (take-append-drop label bytes) in
+    let rest : part ++ after ≡ take label bytes ++ (mention ++ (first.taken_off ++ after)) =
+    ap (λ it. it ++ after) first.is ∙ append_assoc bytes first.taken_off after
+    ∙ ap (λ it. it ++ (first.taken_off ++ after)) split ∙ append_assoc (take label bytes) mention (first.taken_off ++ after) in
+    let all : text ≡ front ++ (mention ++ (first.taken_off ++ after)) =
+    is ∙ ap (λ it. before ++ it) rest ∙ sym (append_assoc before (take label bytes) (mention ++ (first.taken_off ++ after))) in
+    let place_is : length front ≡ length before + label = omega (arith, length-append before (take label bytes), length-take-le label bytes within) in
     record {
-      within = omega (arith, ap length is, length-append before (part ++ after), length-append part after, shorter part);
-      is = ap (λ bytes. take (length (without_dividers part)) (drop (length before) bytes)) is
-          ∙ ap (take (length (without_dividers part))) (drop_at before (part ++ after) (length before) refl ∙ rest)
-          ∙ take_at (without_dividers part) (first.taken_off ++ after) (length (without_dividers part)) refl;
+      within = omega (arith, ap length is, length-append before (part ++ after), length-append part after, shorter (length before) part);
+      is = ap (λ bytes_of. take (length mention) (drop (length before + label) bytes_of)) all
+          ∙ ap (take (length mention)) (drop_at front (mention ++ (first.taken_off ++ after)) (length before + label) place_is)
+          ∙ take_at mention (first.taken_off ++ after) (length mention) refl;
     }
 
 all_stand : (text before : List ℕ) (place : ℕ) (parts : List (List ℕ)) → place ≡ length before → text ≡ before ++ joined parts → All (StandsIn text) (placed_from place parts)
@@ -67,7 +104,7 @@ mentions_stand text = all_stand text [] 0 (parts_of text) refl (sym (joined-part
 ordered_from : (place : ℕ) (parts : List (List ℕ)) → AreInOrder (placed_from place parts)
 ordered_from place [] = tt
 ordered_from place (part ∷ []) = tt
-ordered_from place (part ∷ next ∷ parts) = (omega (arith, shorter part), ordered_from (place + length part) (next ∷ parts))
+ordered_from place (part ∷ next ∷ parts) = (omega (arith, shorter place part), ordered_from (place + length part) (next ∷ parts))
 
 pub mentions_ordered : (text : List ℕ) → AreInOrder (mentions_of text)
 mentions_ordered text = ordered_from 0 (parts_of text)

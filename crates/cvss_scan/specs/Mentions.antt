@@ -1,20 +1,31 @@
 -- The mentions of vectors in a text of any bytes, each with its place, and which of them are found.
-use Rattle.std.specs.Prelude.{◌≡◌, ℕ, ◌+◌, ◌⊎◌, true, List, [], ◌∷◌, length, ⊤}
+use Rattle.std.specs.Prelude.{◌≡◌, ℕ, ◌+◌, ◌⊎◌, ◌&&◌, ◌||◌, Bool, true, List, [], ◌∷◌, drop, if◌then◌else◌, length, ⊤, unwrap_or}
 use Rattle.cvss_any.specs.Dispatch.{DenotesCvss}
 use Rattle.cvss_base.specs.Text.{has, slash}
 use Rattle.cvss_any.specs.declared.vector.Cvss.{Cvss}
-use Rattle.cvss_scan.specs.Parts.{begins_with_prefix, without_dividers, parts_of}
+use Rattle.cvss_scan.specs.Parts.{begins_exactly, begins_loosely, begins_with_prefix, label_length, without_dividers, parts_of, unencoded}
 
 -- a mention, and the place of its first byte, counted from 0
 pub record Placed : Type 0 where
   pub place : ℕ
   pub text : List ℕ
 
+-- how many bytes are before a mention in these: a label, where they do not begin with a prefix
+abbrev pub label_of : List ℕ → ℕ
+label_of text = if begins_with_prefix text then 0 else unwrap_or (label_length text) 0
+
+-- the mention without its label
+abbrev pub without_label : ℕ → List ℕ → Placed
+without_label place text = record { place = place + label_of text; text = drop (label_of text) text }
+
+-- the mention of a part that begins at this place
+abbrev pub mention_of : ℕ → List ℕ → Placed
+mention_of place part = without_label place (without_dividers (unencoded part))
+
 -- the mentions of the parts of a text, of which the first part begins at this place
 abbrev pub placed_from : ℕ → List (List ℕ) → List Placed
 placed_from place [] = []
-placed_from place (part ∷ parts) =
-    record { place = place; text = without_dividers part } ∷ placed_from (place + length part) parts
+placed_from place (part ∷ parts) = mention_of place part ∷ placed_from (place + length part) parts
 
 -- the mentions of a text
 abbrev pub mentions_of : List ℕ → List Placed
@@ -25,14 +36,14 @@ pub record IsAccepted (text : List ℕ) : Type 0 where
   pub cvss : Cvss
   pub denoted : DenotesCvss text cvss
 
--- the text was meant as a vector: it begins with `CVSS:` and has a slash
-pub record IsMeant (text : List ℕ) : Type 0 where
-  pub prefix : begins_with_prefix text ≡ true
-  pub with_slash : has slash text ≡ true
+-- the text was meant as a vector: it begins with `CVSS:` and has a slash, or it begins as a vector whose prefix is
+-- written loosely
+abbrev pub is_meant : List ℕ → Bool
+is_meant text = (begins_exactly text && has slash text) || begins_loosely text
 
 -- a mention is found that is accepted, or was meant as a vector
 abbrev pub IsFound : List ℕ → Type 0
-IsFound text = IsAccepted text ⊎ IsMeant text
+IsFound text = IsAccepted text ⊎ (is_meant text ≡ true)
 
 -- these are exactly the mentions of a list that are found, in their order
 abbrev pub AreFound : List Placed → List Placed → Type 0

@@ -6,7 +6,9 @@ mod mention;
 mod mentions;
 mod part;
 mod passing;
+mod prefix;
 
 pub use mention::Mention;
 pub use mentions::Mentions;
-pub use part::{begins_with_prefix, first_part, is_vector_byte, without_dividers};
+pub use part::{first_part, is_vector_byte};
+pub use prefix::begins_with_prefix;

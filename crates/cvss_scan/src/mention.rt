@@ -1,12 +1,14 @@
 //! A mention of a vector.
 
-ghost use Rattle.std.specs.Prelude.{◌≡◌, ◌↔◌, IfSome, IsTrue, Some};
+ghost use Rattle.std.specs.Prelude.{◌≡◌, ◌↔◌, ◌+◌, ◌<◌, ◌≤◌, ◌^◌, length, IfSome, IsTrue, MatchOption, Some};
 ghost use Rattle.cvss_any.specs.Answers.{HasScore};
 ghost use Rattle.cvss_any.specs.Dispatch.{DenotesCvss};
 ghost use Rattle.cvss_any.specs.declared.vector.Cvss.{Cvss};
-ghost use Rattle.cvss_scan.specs.Mentions.{IsFound};
+ghost use Rattle.cvss_scan.specs.Mentions.{IsFound, is_meant, label_of, mention_of};
+ghost use Rattle.cvss_scan.specs.MentionsLeft.{as_placed};
 
-use crate::part::begins_with_prefix;
+use crate::part::{unencoded, without_dividers};
+use crate::prefix::{begins_exactly, begins_loosely, begins_with_prefix, label_length};
 use cvss_any::Cvss;
 
 /// A mention of a vector in a text: bytes that are accepted as a vector, or that were meant as one.
@@ -30,12 +32,57 @@ impl Mention<'_> {
     }
 }
 
-/// Whether a mention is found: it begins with `CVSS:` and has a slash, or it is accepted.
-pub(crate) fn is_found(text: &[u8]) -> bool
+/// The mention of a part that begins at a place of a text, if it is found.
+pub(crate) fn find_in(place: usize, part: &[u8]) -> Option<Mention<'_>>
+    requires { place + length part.now < 2 ^ 64 }
+    ensures { MatchOption result (¬ (IsFound (mention_of place part.now).text))
+        (λ mention. (as_placed mention ≡ mention_of place part.now)
+        × IsFound (mention_of place part.now).text) }
+{
+    let text = without_dividers(unencoded(part));
+    if is_found(text) {
+        return Some(Mention { place, text });
+    }
+    let label = label_of(text);
+    if label == 0 {
+        return None;
+    }
+    let text = &text[label..];
+    if is_found(text) {
+        return Some(Mention {
+            place: place + label,
+            text,
+        });
+    }
+    None
+}
+
+/// How many bytes are before a mention in these: a label, where they do not begin with a prefix.
+fn label_of(text: &[u8]) -> usize
+    ensures value { result ≡ label_of text.now }
+    ensures within { result ≤ length text.now }
+{
+    if begins_with_prefix(text) {
+        0
+    } else {
+        label_length(text).unwrap_or(0)
+    }
+}
+
+/// Whether a mention is found: it was meant as a vector, or it is accepted.
+fn is_found(text: &[u8]) -> bool
     ensures { IsTrue result ↔ IsFound text.now }
 {
-    if !text.contains(&b'/') {
-        return false;
+    if text.contains(&b'/') {
+        is_meant(text) || Cvss::read_bytes(text).is_some()
+    } else {
+        begins_loosely(text)
     }
-    begins_with_prefix(text) || Cvss::read_bytes(text).is_some()
+}
+
+/// Whether a text was meant as a vector.
+fn is_meant(text: &[u8]) -> bool
+    ensures { result ≡ is_meant text.now }
+{
+    begins_exactly(text) && text.contains(&b'/') || begins_loosely(text)
 }

@@ -1,13 +1,13 @@
 //! The mentions of a text.
 
 ghost use Rattle.std.specs.Iterator.{item_count};
-ghost use Rattle.std.specs.Prelude.{◌≡◌, [], ◌∷◌, MatchOption};
-ghost use Rattle.cvss_scan.specs.Mentions.{mentions_of};
+ghost use Rattle.std.specs.Prelude.{◌≡◌, ◌+◌, ◌<◌, ◌^◌, [], ◌∷◌, IfSome, MatchOption, length};
+ghost use Rattle.cvss_scan.specs.Mentions.{mention_of, mentions_of};
 ghost use Rattle.cvss_scan.specs.MentionsLeft.{IsNext, as_placed, mentions_after, mentions_left};
 ghost use Rattle.cvss_scan.specs.private.Passing.{Passes};
 
-use crate::mention::{Mention, is_found};
-use crate::part::{first_part, is_vector_byte, without_dividers};
+use crate::mention::{Mention, find_in};
+use crate::part::{first_part, is_run_byte};
 use crate::passing::no_slash;
 
 /// The mentions of a text that are found, in order. It takes no memory, and looks at each byte a
@@ -27,17 +27,19 @@ impl<'a> Mentions<'a> {
         Mentions { text, place: 0 }
     }
 
-    /// Those of what stands at a place of the text and after it, with their places in the text.
+    /// Those of what is at a place of the text and after it, with their places in the text.
     pub fn after(text: &'a [u8], place: usize) -> Mentions<'a>
         ensures { mentions_left result ≡ mentions_after text.now place }
     {
         Mentions { text, place }
     }
 
-    /// The mention of the next part, found or not.
-    fn cut_next(&mut self) -> Option<Mention<'a>>
-        ensures { MatchOption result (mentions_left self.old ≡ [])
-            (λ mention. mentions_left self.old ≡ as_placed mention ∷ mentions_left self.new) }
+    /// Where the next part begins, and its bytes.
+    fn cut_next(&mut self) -> Option<(usize, &'a [u8])>
+        ensures cut { MatchOption result (mentions_left self.old ≡ [])
+            (λ part. mentions_left self.old
+            ≡ mention_of part.0 part.1.now ∷ mentions_left self.new) }
+        ensures within { IfSome result (λ part. part.0 + length part.1.now < 2 ^ 64) }
     {
         let rest = self.text.get(self.place..)?;
         if rest.is_empty() {
@@ -46,13 +48,10 @@ impl<'a> Mentions<'a> {
         let place = self.place;
         let length = first_part(rest);
         self.place += length;
-        Some(Mention {
-            place,
-            text: without_dividers(&rest[..length]),
-        })
+        Some((place, &rest[..length]))
     }
 
-    /// Passes over what stands before the next run with a slash.
+    /// Passes over what is before the next run with a slash or a `%`.
     fn pass_no_slash(&mut self)
         ensures { Passes (mentions_left self.old) (mentions_left self.new) }
     {
@@ -66,7 +65,7 @@ impl<'a> Mentions<'a> {
         ensures { Passes (mentions_left self.old) (mentions_left self.new) }
     {
         if let Some(byte) = self.text.get(self.place)
-            && !is_vector_byte(*byte)
+            && !is_run_byte(*byte)
         {
             self.pass_no_slash();
         }
@@ -82,8 +81,8 @@ impl<'a> Iterator for Mentions<'a> {
 
     fn next(&mut self) -> Option<Mention<'a>> {
         self.pass_no_slash();
-        while let Some(mention) = self.cut_next() {
-            if is_found(mention.text) {
+        while let Some((place, part)) = self.cut_next() {
+            if let Some(mention) = find_in(place, part) {
                 return Some(mention);
             }
             self.pass_after_run();

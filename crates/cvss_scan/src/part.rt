@@ -1,7 +1,9 @@
 //! How a text is cut into parts.
 
-ghost use Rattle.std.specs.Prelude.{◌≡◌, ◌<◌, ◌≤◌, ◌∷◌, length, take, drop};
-ghost use Rattle.cvss_scan.specs.Parts.{begins_part, begins_with_prefix, is_divider, is_vector_byte, without_dividers, parts_of};
+ghost use Rattle.std.specs.Prelude.{◌≡◌, ◌≢◌, ℕ, ◌<◌, ◌≤◌, ◌∷◌, length, take, drop, slice_index};
+ghost use Rattle.cvss_scan.specs.Parts.{before_percent, begins_part, is_divider, is_run_byte, is_vector_byte, without_dividers, parts_of, unencoded};
+
+use crate::prefix::begins_with_prefix;
 
 /// The length of the first part of a text that has bytes.
 pub fn first_part(text: &[u8]) -> usize
@@ -13,7 +15,7 @@ pub fn first_part(text: &[u8]) -> usize
     let [first, rest @ ..] = text else {
         return text.len();
     };
-    if !is_vector_byte(*first) {
+    if !is_run_byte(*first) {
         return 1;
     }
     let mut left = rest;
@@ -32,17 +34,10 @@ fn begins_part(bytes: &[u8]) -> bool
     ensures { result ≡ begins_part bytes.now }
 {
     match bytes {
-        [b'C', b'V', b'S', b'S', b':', ..] => true,
-        [byte, ..] => !is_vector_byte(*byte),
+        [b'C' | b'c', b'V' | b'v', ..] => begins_with_prefix(bytes),
+        [byte, ..] => !is_run_byte(*byte),
         [] => false,
     }
-}
-
-/// Whether the bytes begin with `CVSS:`.
-pub fn begins_with_prefix(text: &[u8]) -> bool
-    ensures { result ≡ begins_with_prefix text.now }
-{
-    text.starts_with(b"CVSS:")
 }
 
 /// Whether vectors are written with a byte: an ASCII letter or digit, `.`, `/` or `:`.
@@ -53,6 +48,14 @@ pub fn is_vector_byte(byte: u8) -> bool
     matches!(byte, b'a'..=b'z' | b'A'..=b'Z' | b'.'..=b':')
 }
 
+/// Whether vectors, or percent-encoded ones, are written with a byte.
+#[inline(always)]
+pub(crate) fn is_run_byte(byte: u8) -> bool
+    ensures { result ≡ is_run_byte byte }
+{
+    is_vector_byte(byte) || byte == b'%'
+}
+
 /// Whether no mention ends with a byte: `.`, `/` or `:`.
 fn is_divider(byte: u8) -> bool
     ensures { result ≡ is_divider byte }
@@ -60,8 +63,8 @@ fn is_divider(byte: u8) -> bool
     matches!(byte, b'.' | b'/' | b':')
 }
 
-/// A part less the dots, slashes and colons at its end.
-pub fn without_dividers(part: &[u8]) -> &[u8]
+/// A part without the dots, slashes and colons at its end.
+pub(crate) fn without_dividers(part: &[u8]) -> &[u8]
     ensures { result.now ≡ without_dividers part.now }
 {
     let mut text = part;
@@ -72,4 +75,32 @@ pub fn without_dividers(part: &[u8]) -> &[u8]
         text = front;
     }
     text
+}
+
+/// A part, which ends before its first `%` if a slash is before that: the vector is not
+/// percent-encoded then.
+pub(crate) fn unencoded(part: &[u8]) -> &[u8]
+    ensures { result.now ≡ unencoded part.now }
+{
+    let front = before_percent(part);
+    if front.contains(&b'/') { front } else { part }
+}
+
+/// What is before the first `%`; all, where there is none.
+fn before_percent(text: &[u8]) -> &[u8]
+    ensures { result.now ≡ before_percent text.now }
+{
+    &text[..percent_or_len(text)]
+}
+
+/// The place of the first `%`, or the length where there is none.
+fn percent_or_len(text: &[u8]) -> usize
+    ensures within { result ≤ length text.now }
+    ensures before { (k : ℕ) → k < result → slice_index text.now k ≢ 37 }
+    ensures found { result < length text.now → slice_index text.now result ≡ 37 }
+{
+    match text.iter().position(|byte| *byte == b'%') {
+        Some(place) => place,
+        None => text.len(),
+    }
 }

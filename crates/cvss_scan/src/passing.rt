@@ -1,17 +1,18 @@
-//! What is passed over at once: runs of bytes in which no slash stands, so that nothing in them is
-//! found.
+//! What is passed over at once: runs of bytes without a slash and without a `%`, so that nothing in
+//! them is found.
 
 ghost use Rattle.std.specs.Prelude.{◌≡◌, ◌≢◌, ℕ, ◌++◌, ◌<◌, ◌≤◌, false, true, length, slice_index, take, drop};
 ghost use Rattle.cvss_base.specs.Text.{has, slash};
-ghost use Rattle.cvss_scan.specs.laws.Whole.{is_other, last_byte};
-ghost use Rattle.cvss_scan.specs.Parts.{parts_of};
+ghost use Rattle.cvss_scan.specs.laws.Whole.{is_outside, last_byte};
+ghost use Rattle.cvss_scan.specs.Parts.{parts_of, percent};
 
-use crate::part::is_vector_byte;
+use crate::part::is_run_byte;
 
-/// How many bytes stand before the run that has the first slash; all, where none has one.
+/// How many bytes are before the run that has the first slash or `%`; all, where none has one.
 pub(crate) fn no_slash(text: &[u8]) -> usize
     ensures within { result ≤ length text.now }
     ensures none { has slash (take result text.now) ≡ false }
+    ensures unencoded { has percent (take result text.now) ≡ false }
     ensures cut { parts_of text.now ≡ parts_of (take result text.now) ++ parts_of (drop result text.now) }
 {
     let end = slash_or_len(text);
@@ -22,12 +23,13 @@ pub(crate) fn no_slash(text: &[u8]) -> usize
     }
 }
 
-/// The place of the first slash, or the length where there is none.
+/// The place of the first slash or `%`, or the length where there is none.
 fn slash_or_len(text: &[u8]) -> usize
     ensures within { result ≤ length text.now }
     ensures before { (k : ℕ) → k < result → slice_index text.now k ≢ 47 }
+    ensures unencoded { (k : ℕ) → k < result → slice_index text.now k ≢ 37 }
 {
-    match text.iter().position(|byte| *byte == b'/') {
+    match text.iter().position(|byte| matches!(*byte, b'/' | b'%')) {
         Some(place) => place,
         None => text.len(),
     }
@@ -37,11 +39,11 @@ fn slash_or_len(text: &[u8]) -> usize
 #[tactic(auto, using(crate::proofs::PassLemmas::run_starts))]
 fn run_start(text: &[u8]) -> usize
     ensures within { result ≤ length text.now }
-    ensures start { is_other (last_byte (take result text.now)) ≡ true }
+    ensures start { is_outside (last_byte (take result text.now)) ≡ true }
 {
     let mut left = text;
     while let [before @ .., last] = left {
-        if !is_vector_byte(*last) {
+        if !is_run_byte(*last) {
             break;
         }
         left = before;

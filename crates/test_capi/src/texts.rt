@@ -59,7 +59,7 @@ pub(crate) fn reason(rt: &HostRuntime, text: &[u8]) -> io::Result<()> {
 pub(crate) fn overridden(rt: &HostRuntime, asked: &[u8]) -> io::Result<()> {
     let (text, overrides) = cut(asked, b' ');
     print_written(rt, |buffer| match Cvss::read_bytes(text) {
-        Some(cvss) => put_overridden(&cvss, text, overrides, buffer),
+        Some(cvss) => put_overridden(&cvss, overrides, buffer),
         None => 0,
     })?;
     print!(rt; " ")?;
@@ -70,7 +70,7 @@ pub(crate) fn overridden(rt: &HostRuntime, asked: &[u8]) -> io::Result<()> {
 pub(crate) fn with_metrics(rt: &HostRuntime, asked: &[u8]) -> io::Result<()> {
     let (text, metrics) = cut(asked, b' ');
     print_written(rt, |buffer| match Cvss::read_bytes(text) {
-        Some(cvss) => put_with(&cvss, text, metrics, buffer),
+        Some(cvss) => put_with(&cvss, metrics, buffer),
         None => 0,
     })?;
     print!(rt; " ")?;

@@ -108,5 +108,11 @@ fn form_text(form: Form) -> &'static str {
         Form::Record => "record",
         Form::GitHub => "github",
         Form::Osv => "osv",
+        Form::Rating => "rating",
+        Form::TrivyV2 => "trivy-v2",
+        Form::TrivyV3 => "trivy-v3",
+        Form::TrivyV40 => "trivy-v40",
+        Form::RustSec => "rustsec",
+        Form::Spdx => "spdx",
     }
 }

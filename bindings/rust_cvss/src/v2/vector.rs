@@ -1,6 +1,6 @@
 //! A vector of CVSS v2.
 
-use crate::library::{components, listed, numbers, read_v2, remembered, three, three_of, Own};
+use crate::library::{base_score, components, listed, numbers, other_scores, read_v2, Own};
 use crate::v2::metric::base::{
     AccessComplexity, AccessVector, Authentication, AvailabilityImpact, ConfidentialityImpact,
     IntegrityImpact,
@@ -14,7 +14,7 @@ use crate::v2::{MetricType, Score};
 use crate::Error;
 use core::fmt;
 use core::str::FromStr;
-use cvss_proved::{Exact, Scores, Version};
+use cvss_proved::{Exact, Numbers, Values, Version};
 
 /// A vector of CVSS v2. One that was read has the six base metrics.
 #[derive(Clone, Debug, Default, PartialEq, Eq)]
@@ -49,51 +49,56 @@ pub struct Vector {
     pub ar: Option<AvailabilityRequirement>,
 }
 
-remembered!();
-
-components! { av ac au c i a e rl rc cdp td cr ir ar }
+components! { av ac au c i a; e rl rc cdp td cr ir ar }
 
 impl Vector {
-    /// The components, with slashes between them.
-    fn text(&self) -> String {
+    /// What is pushed, without its first slash.
+    fn text_of(&self, push: fn(&Vector, &mut String)) -> String {
         let mut text = String::with_capacity(Self::LONGEST);
-        self.push_components(&mut text);
+        push(self, &mut text);
         if !text.is_empty() {
             text.remove(0);
         }
         text
     }
 
-    fn computed_scores(&self) -> [f64; 3] {
+    /// The components, with slashes between them.
+    fn text(&self) -> String {
+        self.text_of(Vector::push_components)
+    }
+
+    /// The temporal and the environmental score.
+    fn other_scores(&self) -> [f64; 2] {
         let text = self.text();
-        three_of(Version::V20, &text, &text)
+        other_scores(Version::V20, &text, &text)
     }
 
     /// The base score, not below 0. A metric that is missing weighs nothing.
     #[must_use]
     pub fn score(&self) -> Score {
-        Score::new(self.scores()[0])
+        let text = self.text_of(Vector::push_base);
+        Score::new(base_score(Version::V20, &text, &text))
     }
 
     /// The exploitability sub-score.
     #[must_use]
     pub fn exploitability(&self) -> Score {
-        Score::new(self.sub_score(cvss_proved::Numbers::exploitability))
+        Score::new(self.sub_score(Numbers::exploitability))
     }
 
     /// The impact sub-score.
     #[must_use]
     pub fn impact(&self) -> Score {
-        Score::new(self.sub_score(cvss_proved::Numbers::impact))
+        Score::new(self.sub_score(Numbers::impact))
     }
 
     /// The impact sub-score with the requirements, at most 10.
     #[must_use]
     pub fn adjusted_impact(&self) -> Score {
-        Score::new(self.sub_score(cvss_proved::Numbers::adjusted_impact))
+        Score::new(self.sub_score(Numbers::adjusted_impact))
     }
 
-    fn sub_score(&self, of: fn(&cvss_proved::Numbers) -> Exact) -> f64 {
+    fn sub_score(&self, of: fn(&Numbers) -> Exact) -> f64 {
         let numbers = numbers(Version::V20, &self.text());
         numbers.map_or(f64::NAN, |numbers| of(&numbers).value())
     }
@@ -101,13 +106,13 @@ impl Vector {
     /// The environmental score, not below 0.
     #[must_use]
     pub fn environmental_score(&self) -> Score {
-        Score::new(self.scores()[2])
+        Score::new(self.other_scores()[1])
     }
 
     /// The temporal score, not below 0.
     #[must_use]
     pub fn temporal_score(&self) -> Score {
-        Score::new(self.scores()[1])
+        Score::new(self.other_scores()[0])
     }
 
     /// The temporal score with this impact in place of the vector's own, which may be below 0. It is no
@@ -129,13 +134,9 @@ impl Vector {
 }
 
 impl Own for Vector {
-    fn spelled(text: &str) -> Option<Vector> {
-        Vector::default().filled(text)
-    }
-
-    fn scored(self, scores: Scores) -> Vector {
-        self.remember(three(scores));
-        self
+    fn of(values: &Values) -> Option<Vector> {
+        let is_own = values.version() == Version::V20;
+        is_own.then(|| Vector::default().filled(values))
     }
 }
 

@@ -2,7 +2,7 @@
 
 use super::score::version_of;
 use crate::library::{
-    components, listed, numbers, read_with_version, remembered, three, three_of, Own,
+    base_score, components, listed, numbers, other_scores, read_with_version, Own,
 };
 use crate::v3::metric::base::{
     AttackComplexity, AttackVector, Availability, Confidentiality, Integrity, PrivilegesRequired,
@@ -17,7 +17,7 @@ use crate::v3::{MetricType, Score};
 use crate::{Error, Severity, PREFIX};
 use core::fmt;
 use core::str::FromStr;
-use cvss_proved::{Exact, Numbers, Scores};
+use cvss_proved::{Exact, Numbers, Values, Version};
 
 /// A vector of CVSS v3.0 or v3.1, which may lack any metric.
 #[derive(Clone, Debug, Default, PartialEq, Eq)]
@@ -70,9 +70,7 @@ pub struct Vector {
     pub ma: Option<Modified<Availability>>,
 }
 
-remembered!();
-
-components! { av ac pr ui s c i a e rl rc cr ir ar mav mac mpr mui ms mc mi ma }
+components! { av ac pr ui s c i a; e rl rc cr ir ar mav mac mpr mui ms mc mi ma }
 
 impl Vector {
     /// The vector without metrics of a minor version.
@@ -91,13 +89,19 @@ impl Vector {
         text
     }
 
-    fn computed_scores(&self) -> [f64; 3] {
-        let front = match self.minor_version {
+    /// The piece of the version whose rules count.
+    fn piece(&self) -> &'static str {
+        match self.minor_version {
             0 => "CVSS:3.0",
             _ => "CVSS:3.1",
-        };
-        let text = self.text_after(front);
-        three_of(version_of(self.minor_version), &text, &text[front.len()..])
+        }
+    }
+
+    /// The temporal and the environmental score.
+    fn other_scores(&self) -> [f64; 2] {
+        let piece = self.piece();
+        let text = self.text_after(piece);
+        other_scores(version_of(self.minor_version), &text, &text[piece.len()..])
     }
 
     /// The base score.
@@ -109,19 +113,24 @@ impl Vector {
     /// The base score. A metric that is missing weighs nothing.
     #[must_use]
     pub fn base_score(&self) -> Score {
-        Score::new(self.scores()[0])
+        let piece = self.piece();
+        let mut text = String::with_capacity(Self::LONGEST);
+        text.push_str(piece);
+        self.push_base(&mut text);
+        let version = version_of(self.minor_version);
+        Score::new(base_score(version, &text, &text[piece.len()..]))
     }
 
     /// The temporal score.
     #[must_use]
     pub fn temporal_score(&self) -> Score {
-        Score::new(self.scores()[1])
+        Score::new(self.other_scores()[0])
     }
 
     /// The environmental score.
     #[must_use]
     pub fn environmental_score(&self) -> Score {
-        Score::new(self.scores()[2])
+        Score::new(self.other_scores()[1])
     }
 
     /// The exploitability sub-score.
@@ -158,16 +167,13 @@ impl Vector {
 }
 
 impl Own for Vector {
-    fn spelled(text: &str) -> Option<Vector> {
-        match text.strip_prefix("CVSS:3.1/") {
-            Some(components) => Vector::empty(1).filled(components),
-            None => Vector::empty(0).filled(text.strip_prefix("CVSS:3.0/")?),
-        }
-    }
-
-    fn scored(self, scores: Scores) -> Vector {
-        self.remember(three(scores));
-        self
+    fn of(values: &Values) -> Option<Vector> {
+        let minor_version = match values.version() {
+            Version::V30 => 0,
+            Version::V31 => 1,
+            _ => return None,
+        };
+        Some(Vector::empty(minor_version).filled(values))
     }
 }
 

@@ -25,7 +25,7 @@ use crate::v4::{MetricType, Nomenclature, Score};
 use crate::{Error, PREFIX};
 use core::fmt;
 use core::str::FromStr;
-use cvss_proved::Scores;
+use cvss_proved::Values;
 
 /// A vector of CVSS v4.0. One that was read has the eleven base metrics; `Vector::default()` has none.
 #[derive(Clone, Debug, Default, PartialEq, Eq)]
@@ -69,7 +69,8 @@ pub struct Vector {
 }
 
 components! {
-    av ac at pr ui vc vi va sc si sa e cr ir ar mav mac mat mpr mui mvc mvi mva msc msi msa s au r v re u
+    av ac at pr ui vc vi va sc si sa;
+    e cr ir ar mav mac mat mpr mui mvc mvi mva msc msi msa s au r v re u
 }
 
 impl Vector {
@@ -106,19 +107,16 @@ impl Vector {
 }
 
 impl Own for Vector {
-    fn spelled(text: &str) -> Option<Vector> {
-        Vector::default().filled(text.strip_prefix("CVSS:4.0/")?)
-    }
-
-    fn scored(mut self, scores: Scores) -> Vector {
-        let nomenclature = scores.nomenclature.map(|own| match own {
+    fn of(values: &Values) -> Option<Vector> {
+        let nomenclature = match values.nomenclature()? {
             cvss_proved::Nomenclature::B => Nomenclature::CvssB,
             cvss_proved::Nomenclature::BE => Nomenclature::CvssBE,
             cvss_proved::Nomenclature::BT => Nomenclature::CvssBT,
             cvss_proved::Nomenclature::BTE => Nomenclature::CvssBTE,
-        });
-        self.scored = nomenclature.map(|own| (scores.base.tenths(), own));
-        self
+        };
+        let mut vector = Vector::default().filled(values);
+        vector.scored = Some((values.score().tenths(), nomenclature));
+        Some(vector)
     }
 }
 

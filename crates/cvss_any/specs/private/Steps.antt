@@ -1,14 +1,15 @@
 -- What the private code of the front door does.
-use Rattle.std.specs.Prelude.{◌≡◌, ℕ, List, Result, Ok, OnOk, IfOk, IfErr, IsErrAnd}
+use Rattle.std.specs.Prelude.{◌≡◌, ◌⊎◌, ℕ, Bool, List, Some, Result, Ok, Err, OnOk, IfOk, IfErr, IsErrAnd}
 use Rattle.std.specs.Str.{IsUtf8}
 use Rattle.cvss_text.specs.private.Walk as walk
-use Rattle.cvss_base.specs.Refusal.{Refusal}
+use Rattle.cvss_base.specs.Refusal.{Refusal, Missing}
 use Rattle.cvss_any.specs.Dispatch as spec
 use Rattle.cvss_any.specs.declared.metric_type.MetricType.{MetricType}
 use Rattle.cvss_v2.specs.Vector.{v2}
 use Rattle.cvss_v3.specs.Vector.{v3}
 use Rattle.cvss_v4.specs.Vector.{v4}
 use Rattle.cvss_any.specs.Answers.{HasScore}
+use Rattle.cvss_any.specs.Complete.{missing_by}
 use Rattle.cvss_any.specs.declared.metric_type.MetricType.TheVariants.{V2, V3, V4}
 use Rattle.cvss_any.specs.declared.reading.ReadFault.{ReadFault}
 use Rattle.cvss_any.specs.declared.reading.ReadFault.TheVariants as reported
@@ -35,3 +36,16 @@ pub record IsRead (text : List ℕ) (answer : Result Cvss ReadFault) : Type 0 wh
   pub refused : IfErr answer (λ fault. spec.IsFirstRefusalCvss text (reason_read fault))
   pub refuses : (reason : Refusal MetricType) → spec.IsFirstRefusalCvss text reason → IsErrAnd answer (λ fault. reason_read fault ≡ reason)
   pub printable : IsUtf8 text → IfErr answer IsPrintableFault
+
+-- the text denotes a vector that lacks base metrics and may not, and the fault says the first of them
+pub record IsMissingFault (allow_incomplete : Bool) (text : List ℕ) (fault : ReadFault) : Type 0 where
+  pub cvss : Cvss
+  pub denoted : spec.DenotesCvss text cvss
+  pub utf8 : IsUtf8 text
+  pub metric : MetricType
+  pub missing : missing_by allow_incomplete cvss ≡ Some metric
+  pub reason : reason_read fault ≡ Missing metric
+
+-- why nothing is published of a text
+abbrev pub IsUnpublished : Bool → List ℕ → ReadFault → Type 0
+IsUnpublished allow_incomplete text fault = IsRead text (Err fault) ⊎ IsMissingFault allow_incomplete text fault

@@ -1,52 +1,67 @@
 -- What is written for a place and a document, after the earlier answers.
-use Rattle.std.specs.Prelude.{◌≡◌, ◌≢◌, ℕ, ◌⊎◌, Bool, List, [], ◌++◌, take, Option}
+use Rattle.std.specs.Prelude.{◌≡◌, ◌≢◌, ℕ, ◌⊎◌, Bool, true, false, List, [], ◌++◌, take, Option}
 use Rattle.std.specs.Io.KnownBytes.{Appends}
 use Rattle.cvss_lines.specs.Answers.{written_text}
+use Rattle.cvss_lines.specs.Streaming.{Stops, Streams}
 use Rattle.cvss_document.specs.Places.{Place}
+use Rattle.cvss_lines.specs.declared.summary.Summary.{Summary}
 use Rattle.cvss_lines.specs.declared.fault.RunFault.{RunFault}
 use Rattle.cvss_lines.specs.declared.fault.RunFault.TheVariants.{Read, Write, Memory}
-use Rattle.cvss_audit.specs.Answers.{AreFound, BeginsFound, Found, IsFound, all_agree, written_found}
-use Rattle.cvss_audit.specs.Sources.{Source}
+use Rattle.cvss_audit.specs.Answers.{AreFound, Begins, BeginsFound, Found, IsAnswer, IsFound, all_agree, written_found}
+use Rattle.cvss_audit.specs.Inputs.{Input}
 
 -- what is found at the place and a byte 10 are written after the earlier answers
-pub record WritesPlace (source : Source) (place : Place) (old new : List ℕ) (agrees : Bool) : Type 0 where
+pub record WritesPlace (input : Input) (place : Place) (old new : List ℕ) (agrees : Bool) : Type 0 where
   pub found : Found
-  pub is_found : IsFound source place found
+  pub is_found : IsFound input place found
   pub reported : agrees ≡ found.agrees
   pub written : new ≡ old ++ written_text found.text
 
 -- nothing is written of what is found, or all that waited and what is found at the first of the places
-abbrev pub PassFound : Source → List Place → List ℕ → List ℕ → Type 0
-PassFound source places old passed =
-    (passed ≡ []) ⊎ ((begun : List ℕ) × BeginsFound source places begun × (passed ≡ old ++ begun))
+abbrev pub PassFound : Input → List Place → List ℕ → List ℕ → Type 0
+PassFound input places old passed =
+    (passed ≡ []) ⊎ ((begun : List ℕ) × BeginsFound input places begun × (passed ≡ old ++ begun))
 
 -- what is found at the first of the places follows what waited, of which some may be written; the others are left
-pub record StreamsFound (source : Source) (places left : List Place) (old new : List ℕ) (written written' : Option (List ℕ))
+pub record StreamsFound (input : Input) (places left : List Place) (old new : List ℕ) (written written' : Option (List ℕ))
     (agree : Bool) : Type 0 where
   pub seen : List Place
   pub split : places ≡ seen ++ left
   pub found : List Found
-  pub are_found : AreFound source seen found
+  pub are_found : AreFound input seen found
   pub reported : agree ≡ all_agree found
   pub passed : List ℕ
-  pub pass : PassFound source places old passed
+  pub pass : PassFound input places old passed
   pub appended : Appends written written' passed
   pub together : passed ++ new ≡ old ++ written_found found
 
 -- memory was refused, or a write failed, before all places were answered
-pub record LacksFound (source : Source) (places : List Place) (old : List ℕ) (written written' : Option (List ℕ)) : Type 0 where
+pub record LacksFound (input : Input) (places : List Place) (old : List ℕ) (written written' : Option (List ℕ)) : Type 0 where
   pub passed : List ℕ
-  pub pass : PassFound source places old passed
+  pub pass : PassFound input places old passed
   pub appended : Appends written written' passed
 
-pub record FailsFound (source : Source) (places : List Place) (old : List ℕ) (written written' : Option (List ℕ)) : Type 0 where
+pub record FailsFound (input : Input) (places : List Place) (old : List ℕ) (written written' : Option (List ℕ)) : Type 0 where
   pub begun : List ℕ
-  pub begins : BeginsFound source places begun
+  pub begins : BeginsFound input places begun
   pub count : ℕ
   pub appended : Appends written written' (take count (old ++ begun))
 
-pub record StopsFound (source : Source) (places : List Place) (old : List ℕ) (written written' : Option (List ℕ))
+pub record StopsFound (input : Input) (places : List Place) (old : List ℕ) (written written' : Option (List ℕ))
     (fault : RunFault) : Type 0 where
   pub no_read : fault ≢ Read
-  pub memory : fault ≡ Memory → LacksFound source places old written written'
-  pub write : fault ≡ Write → FailsFound source places old written written'
+  pub memory : fault ≡ Memory → LacksFound input places old written written'
+  pub write : fault ≡ Write → FailsFound input places old written written'
+
+-- the text is answered after what waited
+abbrev pub Answers : Input → List ℕ → List ℕ → List ℕ → Option (List ℕ) → Option (List ℕ) → Bool → Type 0
+Answers input text = Streams (λ _. IsAnswer input) (λ _. Begins input) 1 text
+
+-- a fault in the midst of the text
+abbrev pub StopsAnswering : Input → List ℕ → List ℕ → Option (List ℕ) → Option (List ℕ) → RunFault → Type 0
+StopsAnswering input text = Stops (λ _. Begins input) 1 text
+
+-- the counts of one answer
+abbrev pub summary_of_one : Bool → Summary
+summary_of_one true = record { accepted = 1; refused = 0 }
+summary_of_one false = record { accepted = 0; refused = 1 }

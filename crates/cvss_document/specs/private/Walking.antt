@@ -25,7 +25,7 @@ abbrev mutual
   steps_in (number _) = 1
   steps_in (string _) = 1
   steps_in (array items) = 1 + steps_in_items items
-  steps_in (object members) = 3 + steps_in_members members
+  steps_in (object members) = 9 + steps_in_members members
 
   pub steps_in_items : Items → ℕ
   steps_in_items no_items = 1
@@ -37,10 +37,10 @@ abbrev mutual
 
 -- how many steps visit what is left in a value
 abbrev pub steps_in_rest : Rest → ℕ
-steps_in_rest (rest.Whole value around) = steps_in (view value.now)
-steps_in_rest (rest.Own holder around form) = length (forms_from form) + steps_in_members (members_view holder.now.entries)
-steps_in_rest (rest.Items items index) = steps_in_items (items_view (drop index items.now))
-steps_in_rest (rest.Members holder members) = steps_in_members (members_view members)
+steps_in_rest (rest.Whole value context) = steps_in (view value.now)
+steps_in_rest (rest.Own holder context form) = length (forms_from form) + steps_in_members (members_view holder.now.entries)
+steps_in_rest (rest.Items items index id) = steps_in_items (items_view (drop index items.now))
+steps_in_rest (rest.Members holder members id) = steps_in_members (members_view members)
 
 -- how many steps visit all that is left
 abbrev pub steps_left : List Level → ℕ

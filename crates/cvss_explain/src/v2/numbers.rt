@@ -39,7 +39,8 @@ pub struct EnvironmentalNumbers {
 }
 
 impl BaseNumbers {
-    pub(crate) fn of(vector: &Vector) -> BaseNumbers
+    /// The numbers on the way to a vector's base score (guide, section 3.2.1).
+    pub fn of(vector: &Vector) -> BaseNumbers
         ensures { AreBaseNumbers (weights_of vector.now) result }
     {
         BaseNumbers {
@@ -53,7 +54,8 @@ impl BaseNumbers {
 }
 
 impl TemporalNumbers {
-    pub(crate) fn of(vector: &Vector) -> TemporalNumbers
+    /// The number of a vector's temporal score (guide, section 3.2.2).
+    pub fn of(vector: &Vector) -> TemporalNumbers
         ensures { AreTemporalNumbers (weights_of vector.now) result }
     {
         TemporalNumbers {
@@ -64,7 +66,8 @@ impl TemporalNumbers {
 }
 
 impl EnvironmentalNumbers {
-    pub(crate) fn of(vector: &Vector) -> EnvironmentalNumbers
+    /// The numbers on the way to a vector's environmental score (guide, section 3.2.3).
+    pub fn of(vector: &Vector) -> EnvironmentalNumbers
         ensures { AreEnvironmentalNumbers (weights_of vector.now) result }
     {
         EnvironmentalNumbers {

@@ -38,7 +38,8 @@ pub struct EnvironmentalNumbers {
 }
 
 impl BaseNumbers {
-    pub(crate) fn of(vector: &Vector) -> BaseNumbers
+    /// The numbers on the way to a vector's base score (v3.1 specification, section 7.1).
+    pub fn of(vector: &Vector) -> BaseNumbers
         ensures { AreBaseNumbers vector.now.minor_version (weights_of vector.now) result }
     {
         BaseNumbers {
@@ -51,7 +52,8 @@ impl BaseNumbers {
 }
 
 impl EnvironmentalNumbers {
-    pub(crate) fn of(vector: &Vector) -> EnvironmentalNumbers
+    /// The numbers on the way to a vector's environmental score (v3.1 specification, section 7.3).
+    pub fn of(vector: &Vector) -> EnvironmentalNumbers
         ensures { AreEnvironmentalNumbers vector.now.minor_version (weights_of vector.now) result }
     {
         EnvironmentalNumbers {
@@ -68,7 +70,8 @@ impl EnvironmentalNumbers {
 }
 
 impl Scored {
-    pub(crate) fn temporal(vector: &Vector) -> Scored
+    /// The number of a vector's temporal score and the score (v3.1 specification, section 7.2).
+    pub fn temporal(vector: &Vector) -> Scored
         ensures { AreTemporalNumbers vector.now.minor_version (weights_of vector.now) result }
     {
         Scored::of(vector.temporal_number(), vector.temporal_score())

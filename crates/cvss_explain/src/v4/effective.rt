@@ -1,38 +1,57 @@
 //! The letters of effective values.
 
-ghost use Rattle.std.specs.Prelude.{◌≡◌, ◌≤◌, length, map};
-ghost use Rattle.cvss_explain.specs.LettersV4.{vulnerable_impact_letter, subsequent_impact_letter, safety_impact_letter, requirement_letter, exploit_maturity_letter, effective_members};
-ghost use Rattle.cvss_json_write.specs.Scalars.{member_view, members_room};
+ghost use Rattle.std.specs.Prelude.{◌≡◌, ◌≤◌, length};
+ghost use Rattle.cvss_explain.specs.LettersV4.{vulnerable_impact_letter, subsequent_impact_letter, safety_impact_letter, requirement_letter, exploit_maturity_letter, letter_at, letter_member};
 
+use crate::table::Table;
+use MetricType::*;
+use cvss_base::v4::MetricType;
 use cvss_json_write::{Member, Scalar};
 use cvss_score::v4::scoring::effective::{
     Effective, ExploitMaturity, Requirement, SafetyImpact, SubsequentImpact, VulnerableImpact,
 };
 use cvss_v4_metric::Metric;
 
-/// The letters of the effective values, by the metrics' names.
+/// The metrics that have an effective value, in the order of their names.
+pub(super) const BY_NAME: [MetricType; 15] = [
+    AC, AR, AT, AV, CR, E, IR, PR, SA, SC, SI, UI, VA, VC, VI,
+];
+
+impl Table for Effective {
+    type Key = MetricType;
+
+    ghost text_at = { letter_member };
+
+    /// The letter of an effective value.
+    fn member(&self, kind: MetricType) -> Member {
+        (kind.name(), Scalar::Text(letter(self, kind)))
+    }
+}
+
+/// The letter of the effective value of a metric, and none where it has no such value.
 #[tactic(auto, using(crate::proofs::ShortLemmas::letters))]
-pub(super) fn effective(effective: &Effective) -> [Member; 15]
-    ensures text { map member_view result ≡ effective_members effective.now }
-    ensures room { members_room result ≤ 300 }
+fn letter(effective: &Effective, kind: MetricType) -> &'static str
+    ensures text { result.now ≡ letter_at effective.now kind }
+    ensures short { length result.now ≤ 1 }
 {
-    [
-        ("AC", Scalar::Text(effective.ac.as_str())),
-        ("AR", Scalar::Text(requirement(effective.ar))),
-        ("AT", Scalar::Text(effective.at.as_str())),
-        ("AV", Scalar::Text(effective.av.as_str())),
-        ("CR", Scalar::Text(requirement(effective.cr))),
-        ("E", Scalar::Text(exploit_maturity(effective.e))),
-        ("IR", Scalar::Text(requirement(effective.ir))),
-        ("PR", Scalar::Text(effective.pr.as_str())),
-        ("SA", Scalar::Text(safety_impact(effective.sa))),
-        ("SC", Scalar::Text(subsequent_impact(effective.sc))),
-        ("SI", Scalar::Text(safety_impact(effective.si))),
-        ("UI", Scalar::Text(effective.ui.as_str())),
-        ("VA", Scalar::Text(vulnerable_impact(effective.va))),
-        ("VC", Scalar::Text(vulnerable_impact(effective.vc))),
-        ("VI", Scalar::Text(vulnerable_impact(effective.vi))),
-    ]
+    match kind {
+        MetricType::AV => effective.av.as_str(),
+        MetricType::AC => effective.ac.as_str(),
+        MetricType::AT => effective.at.as_str(),
+        MetricType::PR => effective.pr.as_str(),
+        MetricType::UI => effective.ui.as_str(),
+        MetricType::VC => vulnerable_impact(effective.vc),
+        MetricType::VI => vulnerable_impact(effective.vi),
+        MetricType::VA => vulnerable_impact(effective.va),
+        MetricType::SC => subsequent_impact(effective.sc),
+        MetricType::SI => safety_impact(effective.si),
+        MetricType::SA => safety_impact(effective.sa),
+        MetricType::E => exploit_maturity(effective.e),
+        MetricType::CR => requirement(effective.cr),
+        MetricType::IR => requirement(effective.ir),
+        MetricType::AR => requirement(effective.ar),
+        _ => "",
+    }
 }
 
 /// The letter of VC, VI or VA.

@@ -1,5 +1,5 @@
 -- Why overrides cannot be put into a vector.
-use Rattle.std.specs.Prelude.{◌≤◌, ℕ, List, ⊤}
+use Rattle.std.specs.Prelude.{ℕ, List, ⊤}
 use Rattle.std.specs.Str.{IsUtf8}
 use Rattle.cvss_v4.specs.Overriding.{IsFirstObjection}
 use Rattle.cvss_v4.specs.private.OverridingSteps.{objection_of}
@@ -13,7 +13,7 @@ use Rattle.cvss_ffi.specs.declared.overriding.Unfit.TheVariants.{OtherVersion, N
 abbrev pub IsUnfit : Cvss → List ℕ → Unfit → Type 0
 IsUnfit (CvssV40 vector) text NotUtf8 = ¬ (IsUtf8 text)
 IsUnfit (CvssV40 vector) text (Override index fault) =
-    IsUtf8 text × IsFirstObjection (overrides_in text) index (objection_of fault) × (index ≤ 14)
+    IsUtf8 text × IsFirstObjection (overrides_in text) index (objection_of fault)
 IsUnfit (CvssV40 vector) text OtherVersion = ⊥
 IsUnfit cvss text OtherVersion = ⊤
 IsUnfit cvss text unfit = ⊥

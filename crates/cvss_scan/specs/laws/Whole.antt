@@ -1,19 +1,22 @@
 -- Texts that are mentions as a whole, wherever they stand.
-use Rattle.std.specs.Prelude.{◌≡◌, ◌≢◌, ℕ, ◌||◌, Bool, true, false, List, [], ◌∷◌, ◌++◌, length, not, Contains}
+use Rattle.std.specs.Prelude.{◌≡◌, ◌≢◌, ℕ, ◌||◌, Bool, true, false, List, [], ◌∷◌, ◌++◌, codes, length, not, Contains}
 use Rattle.std.specs.List.{list_all}
-use Rattle.cvss_scan.specs.Mentions.{mentions_of}
-use Rattle.cvss_scan.specs.Parts.{begins_with_prefix, is_vector_byte, without_dividers}
+use Rattle.cvss_base.specs.Text.{has, slash}
+use Rattle.cvss_scan.specs.Mentions.{label_of, mentions_of}
+use Rattle.cvss_scan.specs.Parts.{begins_like, is_run_byte, is_vector_byte, without_dividers}
 
--- `CVSS:` stands in the text, after its first byte
+-- the letters `CVSS`, each in either case, are in the text, after its first byte
 abbrev pub has_second_prefix : List ℕ → Bool
 has_second_prefix [] = false
-has_second_prefix (byte ∷ rest) = begins_with_prefix rest || has_second_prefix rest
+has_second_prefix (byte ∷ rest) = begins_like (codes "CVSS") rest || has_second_prefix rest
 
--- the text has bytes, with all of which vectors are written, `CVSS:` stands nowhere after its first byte, and it
--- does not end with one of `.`, `/` and `:`
+-- the text has bytes, with all of which vectors are written, and of which one is a slash; `CVSS` is nowhere after its
+-- first byte, it has no label before a vector, and it does not end with one of `.`, `/` and `:`
 pub record IsWhole (text : List ℕ) : Type 0 where
   pub written : list_all is_vector_byte text ≡ true
+  pub with_slash : has slash text ≡ true
   pub once : has_second_prefix text ≡ false
+  pub unlabelled : label_of text ≡ 0
   pub ended : without_dividers text ≡ text
   pub some : text ≢ []
 
@@ -21,6 +24,11 @@ pub record IsWhole (text : List ℕ) : Type 0 where
 abbrev pub is_other : List ℕ → Bool
 is_other [] = true
 is_other (byte ∷ rest) = not (is_vector_byte byte)
+
+-- a byte with which no vector is written, nor a percent-encoded one, or nothing
+abbrev pub is_outside : List ℕ → Bool
+is_outside [] = true
+is_outside (byte ∷ rest) = not (is_run_byte byte)
 
 -- the last byte and nothing more
 abbrev pub last_byte : List ℕ → List ℕ
@@ -30,5 +38,5 @@ last_byte (byte ∷ next ∷ rest) = last_byte (next ∷ rest)
 
 -- between bytes with which no vector is written, or the ends, the text is a mention by itself
 abbrev pub IsMentionedBetween : List ℕ → List ℕ → List ℕ → Type 0
-IsMentionedBetween before text after = is_other (last_byte before) ≡ true → is_other after ≡ true
+IsMentionedBetween before text after = is_outside (last_byte before) ≡ true → is_other after ≡ true
     → Contains (mentions_of (before ++ (text ++ after))) (record { place = length before; text = text })

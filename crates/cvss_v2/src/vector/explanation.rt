@@ -29,7 +29,7 @@ impl Vector {
         ensures value { of_count result ≈ f (impact (weights_of self.now)) }
         ensures limit { IsWithinLimit result }
     {
-        Score::new(i128::from(self.weights().impact_factor()) * THOUSANDTH)
+        Score::new(i128::from(self.shared_weights().impact_factor()) * THOUSANDTH)
     }
 
     /// What the base score is the rounding of (guide, section 3.2.1), which is exact and may be
@@ -39,7 +39,7 @@ impl Vector {
             ≈ base_number (impact (weights_of self.now)) (exploitability (weights_of self.now)) }
         ensures limit { IsWithinLimit result }
     {
-        Score::new(i128::from(self.weights().base_number()) * 1_000_000_000)
+        Score::new(i128::from(self.shared_weights().base_number()) * 1_000_000_000)
     }
 
     /// What the temporal score is the rounding of (guide, section 3.2.2), which is exact and may be
@@ -51,7 +51,7 @@ impl Vector {
             (thousandths (weights_of self.now).rl) (thousandths (weights_of self.now).rc) }
         ensures limit { IsWithinLimit result }
     {
-        let weights = self.weights();
+        let weights = self.shared_weights();
         let number = weights.temporal_number(weights.base());
         Score::new(i128::from(number) * 100_000_000_000_000)
     }
@@ -63,7 +63,7 @@ impl Vector {
             (IsBase (weights_of self.now) (adjusted_impact (weights_of self.now))) result }
         ensures limit { IsWithinLimit result }
     {
-        of_tenths(self.weights().adjusted_base())
+        of_tenths(self.shared_weights().adjusted_base())
     }
 
     /// AdjustedTemporal, the temporal score of the adjusted base score (guide, section 3.2.3), which
@@ -73,7 +73,7 @@ impl Vector {
             (IsTemporal (weights_of self.now) (adjusted_impact (weights_of self.now))) result }
         ensures limit { IsWithinLimit result }
     {
-        of_tenths(self.weights().adjusted_temporal())
+        of_tenths(self.shared_weights().adjusted_temporal())
     }
 
     /// What the environmental score is the rounding of (guide, section 3.2.3), which is exact and
@@ -85,7 +85,7 @@ impl Vector {
             (thousandths (weights_of self.now).cdp) (thousandths (weights_of self.now).td) }
         ensures limit { IsWithinLimit result }
     {
-        let weights = self.weights();
+        let weights = self.shared_weights();
         let number = weights.environmental_number(weights.adjusted_temporal());
         Score::new(i128::from(number) * 100_000_000_000_000_000)
     }

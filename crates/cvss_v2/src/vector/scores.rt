@@ -19,7 +19,7 @@ impl Vector {
         ensures low { pos 0 ≤ℤ result }
         ensures high { result ≤ℤ pos (10_001 * 10 ^ 21) }
     {
-        Score::new(i128::from(self.weights().impact()) * 10_000_000_000_000)
+        Score::new(i128::from(self.shared_weights().impact()) * 10_000_000_000_000)
     }
 
     /// The exploitability sub-score (guide, section 3.2.1), which is exact, from 0 to 10.
@@ -30,7 +30,7 @@ impl Vector {
         ensures low { pos 0 ≤ℤ result }
         ensures high { result ≤ℤ pos (10 ^ 25) }
     {
-        Score::new(i128::from(self.weights().exploitability()) * 1_000_000_000_000_000)
+        Score::new(i128::from(self.shared_weights().exploitability()) * 1_000_000_000_000_000)
     }
 
     /// The impact sub-score with the requirements (guide, section 3.2.3), which is exact and at
@@ -41,7 +41,7 @@ impl Vector {
         ensures low { pos 0 ≤ℤ result }
         ensures high { result ≤ℤ pos (10_001 * 10 ^ 21) }
     {
-        Score::new(self.weights().adjusted_impact())
+        Score::new(self.shared_weights().adjusted_impact())
     }
 
     /// The base score (guide, section 3.2.1), not below 0.
@@ -74,7 +74,7 @@ impl Vector {
         ensures value { IsTemporalScore (weights_of self.now) (pos result *ℤ pos (10 ^ 23)) }
         ensures to_ten { result ≤ 100 }
     {
-        self.weights().temporal().max(0) as u8
+        self.shared_weights().temporal().max(0) as u8
     }
 
     /// The environmental score (guide, section 3.2.3), not below 0.
@@ -90,7 +90,7 @@ impl Vector {
         ensures value { IsEnvironmentalScore (weights_of self.now) (pos result *ℤ pos (10 ^ 23)) }
         ensures to_ten { result ≤ 100 }
     {
-        self.weights().environmental().max(0) as u8
+        self.shared_weights().environmental().max(0) as u8
     }
 
     /// The temporal score with another impact in the place of the vector's own, which may be
@@ -100,7 +100,7 @@ impl Vector {
         ensures value { IsInTenths (IsTemporal (weights_of self.now) (of_count impact)) result }
         ensures limit { IsWithinLimit result }
     {
-        let weights = self.weights();
+        let weights = self.shared_weights();
         of_tenths(weights.temporal_of(weights.base_of(impact.value())))
     }
 }

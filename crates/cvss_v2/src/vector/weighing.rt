@@ -36,6 +36,16 @@ impl Vector {
         }
     }
 
+    /// The same, as a call that all share but the base score in tenths, which is computed for each line.
+    // Inlined into each score and number it would be a twentieth of the module of WebAssembly.
+    #[inline(never)]
+    pub(super) fn shared_weights(&self) -> Weights
+        ensures value { result ≡ weights_of self.now }
+        ensures bounded { AreBounded result }
+    {
+        self.weights()
+    }
+
     /// What a metric weighs in this vector, in thousandths.
     pub(super) fn thousandths(&self, metric: MetricType) -> u64
         ensures value { result ≡ weight_in self.now metric }

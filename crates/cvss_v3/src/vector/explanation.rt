@@ -90,7 +90,7 @@ impl Vector {
             → of_count result ≈ impact (weights_of self.now) }
         ensures limit { IsWithinLimit result }
     {
-        let impact = equations::signed_impact(self.base_parts(), Exponent::Fifteen);
+        let impact = equations::signed_impact(self.shared_base_parts(), Exponent::Fifteen);
         Score::new(i128::from(impact) * ELEVENTH)
     }
 
@@ -114,7 +114,7 @@ impl Vector {
             → of_count result ≈ temporal_number base (weights_of self.now) }
         ensures limit { IsWithinLimit result }
     {
-        let product = self.temporal_units(self.base_tenths());
+        let product = self.temporal_units(self.shared_base_tenths());
         Score::new(i128::from(product) * SEVENTH)
     }
 

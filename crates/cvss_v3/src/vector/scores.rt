@@ -56,7 +56,7 @@ impl Vector {
             (pos result *ℤ pos (10 ^ 23)) }
         ensures to_ten { result ≤ 100 }
     {
-        self.times_temporal(self.base_tenths()) as u8
+        self.times_temporal(self.shared_base_tenths()) as u8
     }
 
     /// The environmental score (v3.1 specification, section 7.3; v3.0 specification, section 8.3).
@@ -82,7 +82,7 @@ impl Vector {
         ensures value { of_count result ≈ exploitability (weights_of self.now) }
         ensures limit { IsWithinLimit result }
     {
-        Score::new(i128::from(self.base_parts().exploitability) * 100_000_000_000_000)
+        Score::new(i128::from(self.shared_base_parts().exploitability) * 100_000_000_000_000)
     }
 
     /// ISS, the impact sub-score of the base metrics, which is exact (v3.1 specification, section
@@ -91,7 +91,7 @@ impl Vector {
         ensures value { of_count result ≈ iss (weights_of self.now) }
         ensures limit { IsWithinLimit result }
     {
-        Score::new(i128::from(self.base_parts().sub_score) * 1_000_000_000_000_000_000)
+        Score::new(i128::from(self.shared_base_parts().sub_score) * 1_000_000_000_000_000_000)
     }
 
     /// The rating of the base score (v3.1 specification, section 5).

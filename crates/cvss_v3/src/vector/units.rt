@@ -35,8 +35,21 @@ impl Vector {
         }
     }
 
+    /// The same, as a call that the sub-scores share. The base score has its own, as it is computed for
+    /// each line.
+    // Inlined into each they would be a twentieth of the module of WebAssembly.
+    #[inline(never)]
+    pub(super) fn shared_base_parts(&self) -> Parts
+        ensures value { result ≡ base_parts (weights_of self.now) }
+        ensures possible { ArePossible result }
+        ensures sub_score { result.sub_score ≤ 1_000_000 }
+        ensures exploitability { result.exploitability ≤ 822 * 10 ^ 8 }
+    {
+        self.base_parts()
+    }
+
     /// The parts of what the environmental score is first the rounding of.
-    #[inline(always)]
+    #[inline(never)]
     pub(super) fn modified_parts(&self) -> Parts
         ensures value { result ≡ modified_parts (weights_of self.now) }
         ensures possible { ArePossible result }
@@ -68,7 +81,7 @@ impl Vector {
     }
 
     /// A number of 10^-13 that stands for the first number of the environmental score.
-    #[inline(always)]
+    #[inline(never)]
     pub(super) fn environmental_units(&self) -> u64
         ensures value { (minor : ℕ) → StandsFor minor (weights_of self.now).modified_changed
             (result over (10 ^ 13))
@@ -90,8 +103,17 @@ impl Vector {
         round_tenths(self.base_units(), Rules::of(self.minor_version))
     }
 
+    /// The base score in tenths, as a call that the temporal score and its number share.
+    #[inline(never)]
+    pub(super) fn shared_base_tenths(&self) -> u64
+        ensures value { IsBase self.now.minor_version (weights_of self.now) (pos result) }
+        ensures to_ten { result ≤ 100 }
+    {
+        self.base_tenths()
+    }
+
     /// The first rounding of the environmental score, in tenths.
-    #[inline(always)]
+    #[inline(never)]
     pub(super) fn first_tenths(&self) -> u64
         ensures value { IsRounded self.now.minor_version
             (environmental_number self.now.minor_version (weights_of self.now)) (pos result) }
@@ -101,7 +123,7 @@ impl Vector {
     }
 
     /// So many tenths times E, RL and RC, in 10^-7.
-    #[inline(always)]
+    #[inline(never)]
     pub(super) fn temporal_units(&self, tenths: u64) -> u64
         requires { tenths ≤ 100 }
         ensures value { result over (10 ^ 7) ≈ temporal_number (pos tenths) (weights_of self.now) }

@@ -1,6 +1,6 @@
 //! The environmental metrics of CVSS v3.
 
-use crate::library::Component;
+use crate::library::{placed, Component};
 use crate::spelled::component;
 use crate::v3::metric::base::{
     AttackComplexity, AttackVector, Availability, Confidentiality, Integrity, PrivilegesRequired,
@@ -86,6 +86,22 @@ impl<T: BaseMetric + FromStr<Err = Error>> FromStr for Modified<T> {
     }
 }
 
+/// The values of a base metric, each set as the modified one, and `X`, by the places of their fields.
+macro_rules! modified_values {
+    ($modified:ident, $name:ident) => {{
+        let mut placed = [None; 32];
+        let mut place = 0;
+        while place < 32 {
+            if let Some(value) = $name::PLACED[place] {
+                placed[place] = Some($modified::Modified(value));
+            }
+            place += 1;
+        }
+        placed!(placed, "X", $modified::NotDefined);
+        placed
+    }};
+}
+
 /// The modified scope.
 #[derive(Clone, Copy, Debug, PartialEq, Eq, PartialOrd, Ord)]
 pub enum ModifiedScope {
@@ -116,18 +132,11 @@ impl Metric for ModifiedScope {
 component!(ModifiedScope);
 
 impl Component for ModifiedScope {
-    const NAME: &'static [u8] = b"MS:";
+    const PLACED: [Option<Self>; 32] = modified_values!(ModifiedScope, Scope);
 
     fn push(self, text: &mut String) {
         text.push_str("/MS:");
         text.push_str(self.as_str());
-    }
-
-    fn read(spelling: &[u8]) -> Option<ModifiedScope> {
-        match spelling {
-            b"X" => Some(ModifiedScope::NotDefined),
-            _ => Scope::read(spelling).map(ModifiedScope::Modified),
-        }
     }
 }
 
@@ -162,18 +171,11 @@ macro_rules! base_metrics {
             }
 
             impl Component for Modified<$name> {
-                const NAME: &'static [u8] = concat!(stringify!($kind), ":").as_bytes();
+                const PLACED: [Option<Self>; 32] = modified_values!(Modified, $name);
 
                 fn push(self, text: &mut String) {
                     text.push_str(concat!("/", stringify!($kind), ":"));
                     text.push_str(self.as_str());
-                }
-
-                fn read(spelling: &[u8]) -> Option<Self> {
-                    match spelling {
-                        b"X" => Some(Modified::NotDefined),
-                        _ => Component::read(spelling).map(Modified::Modified),
-                    }
                 }
             }
         )+

@@ -1,22 +1,15 @@
-use Rattle.std.proofs.Common.{◌≡◌, ℕ, ◌==◌, Bool, List, [], ◌∷◌, ◌++◌, length, map, ap, ◌∙◌, refl, sym, arith, rules, inl, inr}
-use Rattle.std.proofs.lemmas.Bool.{ne_eqb}
+use Rattle.std.proofs.Common.{◌≡◌, ◌&&◌, List, [], ◌∷◌, ◌++◌, map, ap, ◌∙◌, refl, sym, rules, inl, inr}
 use Rattle.cvss_json_tree.proofs.ObjectLemmas.{with_members-append}
 use Rattle.cvss_base.specs.ErrorText.{error_text}
 use Rattle.cvss_document.specs.Differences.{difference_view}
 use Rattle.cvss_json_tree.specs.Objects.{Member, object_of, with_members}
 use Rattle.cvss_document.specs.Places.{place_view}
-use Rattle.cvss_document.specs.declared.difference.Difference.{Difference}
 use Rattle.serde_json.specs.Data.{Members, no_members, object}
 use Rattle.cvss_json_tree.specs.Trees.{members_view}
-use Rattle.cvss_audit.specs.Answers.{nothing_differs}
 use Rattle.cvss_audit.specs.Objects.{accepted_members, place_members, refusal_member}
-use Rattle.cvss_audit.specs.Sources.{source_view}
+use Rattle.cvss_audit.specs.Answers.{is_allowed, nothing_differs}
+use Rattle.cvss_audit.specs.Inputs.{input_view}
 use Rattle.cvss_audit.proofs.place.text_object.Goals as goal
-
-none_differs : (differences : List Difference) (agrees : Bool) (count : ℕ) → agrees ≡ (count == 0) → count ≡ length differences
-    → agrees ≡ nothing_differs (map difference_view differences)
-none_differs [] agrees count is same = is ∙ ap (λ n. n == 0) same
-none_differs (difference ∷ differences) agrees count is same = is ∙ ne_eqb count 0 (λ none. omega (arith, same, none))
 
 -- the object of members that are put after those of the place
 put_both : (place rest : List Member) (old middle new : Members) → old ≡ no_members → middle ≡ with_members place old
@@ -35,9 +28,10 @@ returns-in-Ok c =
       denoted = c.in-Ok.ensures.denoted;
       are_scores = c.of.ensures;
       are_differences = c.in_ok-differences-in-Ok.ensures;
-      is = put_both (place_members (source_view c.args.source) (place_view c.args.place.now)) (accepted_members c.in-Ok.cvss c.of.result differences)
+      is = put_both (place_members (input_view c.args.input) (place_view c.args.place.now)) (accepted_members c.in-Ok.cvss c.of.result differences)
           _ _ _ (ap members_view c.new-members.ensures.empty) c.in_ok-put_place.ensures c.in_ok-put_accepted-in-Ok.ensures;
-      reported = none_differs found.items c.is_empty-agrees.result _ c.is_empty-agrees.ensures (omega (arith, found.ok.0));
+      reported = c.all_right-agrees.ensures
+          ∙ ap (λ items. nothing_differs (map difference_view items) && is_allowed (input_view c.args.input) c.in-Ok.cvss) c.deref.ensures.value;
     })
 
 pub returns : goal.returns
@@ -48,7 +42,7 @@ returns c =
       error = c.in-Err.error;
       first = c.in-Err.ensures.refused;
       no_want = search rules;
-      is = put_both (place_members (source_view c.args.source) (place_view c.args.place.now)) refusal
+      is = put_both (place_members (input_view c.args.input) (place_view c.args.place.now)) refusal
           _ _ _ (ap members_view c.new-members.ensures.empty) c.in_ok-put_place.ensures refused;
       reported = refl;
     })

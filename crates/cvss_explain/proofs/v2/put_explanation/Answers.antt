@@ -24,7 +24,7 @@ returns c =
       are_temporal = c.of-3.ensures;
       are_environmental = c.of-2.ensures;
       is = c.push-2.ensures
-          ∙ (rw c.weights.ensures.text at c.put_object_member-4.ensures.text) []
+          ∙ c.put_table.ensures.text []
           ∙ (rw c.requires.vector at c.put_text.ensures.text) weights
           ∙ (rw c.temporal.ensures.text at c.put_object_member-3.ensures.text) text
           ∙ (rw c.requires.vector at c.put_score.ensures.text) temporal

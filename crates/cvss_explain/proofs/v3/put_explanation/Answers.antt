@@ -25,7 +25,7 @@ returns c =
       are_temporal = c.temporal.ensures;
       are_environmental = c.of-2.ensures;
       is = c.push-2.ensures
-          ∙ (rw c.weights.ensures.text at c.put_object_member-4.ensures.text) []
+          ∙ c.put_table.ensures.text []
           ∙ c.put_text.ensures.text weights
           ∙ (rw c.temporal-2.ensures.text at c.put_object_member-3.ensures.text) text
           ∙ c.put_score.ensures.text temporal

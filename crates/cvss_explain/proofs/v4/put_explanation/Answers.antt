@@ -32,6 +32,6 @@ returns c =
           ∙ (rw c.nomenclature.ensures at c.put_class.ensures.text) score
           ∙ c.put_line.ensures.text class
           ∙ rw (c.put_groups.ensures.text, c.put_name.ensures.text) (named _ (codes "groups") (groups_text explanation.class explanation.value explanation.groups) (rest_of_object true line))
-          ∙ (rw c.effective.ensures.text at c.put_object_member.ensures.text) groups
+          ∙ c.put_table.ensures.text groups
           ∙ rw (c.push.ensures, c.requires.empty) refl;
     }

@@ -1,8 +1,5 @@
-use Rattle.std.proofs.Common.{refl, arith}
-use Rattle.cvss_ffi.proofs.BufferLemmas.{IsWritten-put, nothing_put}
+use Rattle.std.proofs.Common.{refl}
 use Rattle.cvss_ffi.proofs.canonical.put_where_it_fits.Goals as goal
 
-pub returns-then-text-buffer : goal.returns-then-text-buffer
-returns-then-text-buffer c =
-    let old = c.args.buffer.now in
-    IsWritten-put _ old _ c.put.result _ (omega arith) refl (c.put.ensures.text old _ (nothing_put old))
+pub returns : goal.returns
+returns c = record { reported_is = refl; now_is = c.put_both.ensures.now_is }

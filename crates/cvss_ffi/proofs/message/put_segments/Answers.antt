@@ -9,6 +9,6 @@ returns-then-length-buffer c =
     let words = c.args.words.now in
     let text = text_of c.args.segments.now in
     let long = length-append words text in
-    let first = rw c.as_bytes.ensures.value at c.put-place.ensures.text old _ (nothing_put old) in
+    let first = c.put-place.ensures.text old _ (nothing_put old) in
     IsWritten-put (words ++ text) old _ c.put_all.result _ (omega (arith, long, c.length_of.ensures, c.if-length-buffer.true)) (omega (arith, long, c.length_of.ensures))
     (c.put_all.ensures.text old words first)

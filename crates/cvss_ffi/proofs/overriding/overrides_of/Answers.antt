@@ -4,7 +4,7 @@ use Rattle.cvss_v4.specs.Overriding.{AreOverrides, IsFirstObjection}
 use Rattle.cvss_v4.specs.private.OverridingSteps.{objection_of}
 use Rattle.cvss_v4.specs.declared.overrides.OverrideFault.{OverrideFault}
 use Rattle.cvss_ffi.specs.Overriding.{overrides_in}
-use Rattle.cvss_ffi.proofs.ObjectionLemmas.{all_overrides, first_index, first_objection, first_overrides}
+use Rattle.cvss_ffi.proofs.ObjectionLemmas.{all_overrides, first_objection, first_overrides}
 use Rattle.cvss_ffi.proofs.overriding.overrides_of.Goals as goal
 
 pub returns-clause-accepted : goal.returns-clause-accepted
@@ -18,7 +18,3 @@ returns-clause-accepts c = λ overrides are.
 pub returns-clause-refused : goal.returns-clause-refused
 returns-clause-refused c =
     IfErr-weaker _ _ _ (λ (refused : ℕ × OverrideFault) first. first_objection (overrides_in c.args.text.now) refused.0 (objection_of refused.1) (subst (λ texts. IsFirstObjection texts refused.0 (objection_of refused.1)) c.first_pieces-count.ensures.pieces first)) c.read_overrides.ensures.refused
-
-pub returns-clause-index : goal.returns-clause-index
-returns-clause-index c =
-    IfErr-weaker _ _ _ (λ (refused : ℕ × OverrideFault) first. first_index (overrides_in c.args.text.now) refused.0 (objection_of refused.1) (subst (λ texts. IsFirstObjection texts refused.0 (objection_of refused.1)) c.first_pieces-count.ensures.pieces first)) c.read_overrides.ensures.refused

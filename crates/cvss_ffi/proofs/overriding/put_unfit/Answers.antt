@@ -3,13 +3,8 @@ use Rattle.cvss_v4.specs.private.OverridingSteps.{objection_of}
 use Rattle.cvss_ffi.specs.Overriding.{objection_text, override_words}
 use Rattle.cvss_ffi.specs.declared.overriding.Unfit.TheVariants.{Override}
 use Rattle.cvss_ffi.specs.private.Overridden.{IsUnfit}
-use Rattle.cvss_ffi.proofs.OverriddenLemmas.{objection_reason, unfit_index}
+use Rattle.cvss_ffi.proofs.OverriddenLemmas.{objection_reason}
 use Rattle.cvss_ffi.proofs.overriding.put_unfit.Goals as goal
-
-pub put_objection-requires : goal.put_objection-requires
-put_objection-requires c =
-    let unfit : IsUnfit c.args.cvss.now c.args.overrides.now (Override c.in-Err-Override.index c.in-Err-Override.fault) = rw c.in-Err-Override.field-0-is at c.in-Err-Override.ensures.unfit in
-    unfit_index c.args.overrides.now c.in-Err-Override.index c.in-Err-Override.fault c.args.cvss.now unfit
 
 pub returns-in-Err-Override : goal.returns-in-Err-Override
 returns-in-Err-Override c =

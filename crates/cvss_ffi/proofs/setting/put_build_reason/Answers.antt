@@ -4,11 +4,8 @@ use Rattle.cvss_any.specs.declared.setting.Version.{Version}
 use Rattle.cvss_ffi.specs.Buffer.{IsWritten}
 use Rattle.cvss_ffi.specs.Setting.{number_of}
 use Rattle.cvss_ffi.specs.private.Setting.{unset_text}
-use Rattle.cvss_ffi.proofs.SettingLemmas.{no_built, said_why, printable}
+use Rattle.cvss_ffi.proofs.SettingLemmas.{no_built, said_why}
 use Rattle.cvss_ffi.proofs.setting.put_build_reason.Goals as goal
-
-pub put_unset-requires : goal.put_unset-requires
-put_unset-requires c = printable _ _ _ _ c.in-Err.ensures
 
 pub returns-in_default : goal.returns-in_default
 returns-in_default c =

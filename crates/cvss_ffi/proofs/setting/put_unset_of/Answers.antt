@@ -1,10 +1,7 @@
 use Rattle.std.proofs.Common.{inr}
 use Rattle.cvss_ffi.specs.private.Setting.{unset_text}
-use Rattle.cvss_ffi.proofs.SettingLemmas.{no_vector, said_why, printable}
+use Rattle.cvss_ffi.proofs.SettingLemmas.{no_vector, said_why}
 use Rattle.cvss_ffi.proofs.setting.put_unset_of.Goals as goal
-
-pub put_unset-requires : goal.put_unset-requires
-put_unset-requires c = printable _ _ _ _ c.in-Err.ensures
 
 pub returns-in-Err : goal.returns-in-Err
 returns-in-Err c = inr (no_vector _ _ _ _ c.in-Err.ensures, (unset_text c.in-Err.unset, said_why _ _ _ _ c.in-Err.ensures, c.put_unset.ensures))

@@ -1,6 +1,5 @@
 use Rattle.std.proofs.Common.{refl, subst}
 use Rattle.cvss_any.specs.Setting.{IsWith}
-use Rattle.cvss_ffi.proofs.SettingLemmas.{with_front}
 use Rattle.cvss_ffi.proofs.setting.with_metrics.Goals as goal
 
 pub returns-in-Ok-with_metrics : goal.returns-in-Ok-with_metrics
@@ -10,7 +9,6 @@ returns-in-Ok-with_metrics c =
     let is = subst (λ metrics. IsWith c.args.cvss.now metrics new) read.0 c.in-Ok-with_metrics.ensures.accepted in
     record {
       is = record { utf8 = read.1; is = is };
-      front = with_front _ _ new _ c.requires is;
       accepts = λ _ _. refl;
       unset = tt;
     }

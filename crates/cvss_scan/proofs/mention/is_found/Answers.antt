@@ -1,5 +1,9 @@
-use Rattle.cvss_scan.proofs.SlashLemmas.{found_with_slash}
+use Rattle.cvss_scan.proofs.FindLemmas.{found_if_loosely, loosely_if_found}
 use Rattle.cvss_scan.proofs.mention.is_found.Goals as goal
 
-pub returns-then-not-contains : goal.returns-then-not-contains
-returns-then-not-contains c = (λ no. absurd (cc no), λ found. let with_slash = found_with_slash c.args.text.now found in absurd (cc (c.contains.ensures.value, c.if-not-contains.true, with_slash)))
+pub returns-else-contains : goal.returns-else-contains
+returns-else-contains c =
+    let text = c.args.text.now in (
+      λ is. found_if_loosely text (cc (is, c.begins_loosely.ensures)),
+      λ found. let is = loosely_if_found text (cc (c.contains.ensures.value, c.if-contains.false)) found in cc (is, c.begins_loosely.ensures),
+    )

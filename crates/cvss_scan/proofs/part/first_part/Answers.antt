@@ -7,13 +7,13 @@ use Rattle.cvss_scan.proofs.part.first_part.Goals as goal
 pub returns-in_default-clause-cut : goal.returns-in_default-clause-cut
 returns-in_default-clause-cut c = absurd (omega arith)
 
-pub returns-then-not-is_vector_byte-clause-cut : goal.returns-then-not-is_vector_byte-clause-cut
-returns-then-not-is_vector_byte-clause-cut c =
-    first_alone c.args.text.now c.in-len1-up.len_at_least (cc (c.is_vector_byte.ensures, c.if-not-is_vector_byte.true))
+pub returns-then-not-is_run_byte-clause-cut : goal.returns-then-not-is_run_byte-clause-cut
+returns-then-not-is_run_byte-clause-cut c =
+    first_alone c.args.text.now c.in-len1-up.len_at_least (cc (c.is_run_byte.ensures, c.if-not-is_run_byte.true))
 
 pub loop-left-init : goal.loop-left-init
 loop-left-init c =
-    IsWithinFirst_first c.args.text.now c.in-len1-up.len_at_least (cc (c.is_vector_byte.ensures, c.if-not-is_vector_byte.false))
+    IsWithinFirst_first c.args.text.now c.in-len1-up.len_at_least (cc (c.is_run_byte.ensures, c.if-not-is_run_byte.false))
 
 pub loop-left-preserved : goal.loop-left-preserved
 loop-left-preserved c =
@@ -53,11 +53,11 @@ slice_bounds-rest-start c = omega arith
 pub slice_bounds-rest-end : goal.slice_bounds-rest-end
 slice_bounds-rest-end c = omega arith
 
-pub returns-then-not-is_vector_byte-clause-within : goal.returns-then-not-is_vector_byte-clause-within
-returns-then-not-is_vector_byte-clause-within c = omega arith
+pub returns-then-not-is_run_byte-clause-within : goal.returns-then-not-is_run_byte-clause-within
+returns-then-not-is_run_byte-clause-within c = omega arith
 
-pub returns-then-not-is_vector_byte-clause-some : goal.returns-then-not-is_vector_byte-clause-some
-returns-then-not-is_vector_byte-clause-some c = omega arith
+pub returns-then-not-is_run_byte-clause-some : goal.returns-then-not-is_run_byte-clause-some
+returns-then-not-is_run_byte-clause-some c = omega arith
 
 pub slice_bounds-after-count : goal.slice_bounds-after-count
 slice_bounds-after-count c = omega arith

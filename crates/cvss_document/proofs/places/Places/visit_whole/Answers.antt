@@ -6,11 +6,11 @@ use Rattle.serde_json.proofs.Views.{view-Array, view-Object}
 use Rattle.serde_json.specs.Data.{array, object}
 use Rattle.serde_json.specs.View.{items_view, members_view, view}
 use Rattle.serde_json.specs.declared.value.Value.{Value, the_lemmas}
-use Rattle.cvss_document.specs.Places.{around_view, place_view, places_within}
+use Rattle.cvss_document.specs.Places.{context_view, own_context, place_view, places_within}
 use Rattle.cvss_document.specs.private.Walking.{Visits, level_of, steps_in}
 use Rattle.cvss_document.specs.declared.places.Rest.TheVariants.{Own, Whole}
 use Rattle.cvss_document.proofs.PlacesLemmas.{Visits-array, Visits-nothing, Visits-over, object_over}
-use Rattle.cvss_document.specs.declared.place.Around.{Around}
+use Rattle.cvss_document.specs.declared.place.Context.{Context}
 use Rattle.cvss_document.specs.declared.place.Form.TheVariants.{Record}
 use Rattle.cvss_document.specs.declared.place.Place as code
 use Rattle.cvss_document.specs.declared.places.Level.{Level}
@@ -19,24 +19,25 @@ use Rattle.cvss_document.proofs.places.Places.visit_whole.Goals as goal
 
 pub returns-in_ok-push-in-Array : goal.returns-in_ok-push-in-Array
 returns-in_ok-push-in-Array c =
-    Visits-array c.args.self.now.levels.items _ c.args.step c.args.around c.args.value c.deref.result
+    Visits-array c.args.self.now.levels.items _ c.args.step c.args.context c.args.value c.deref.result
     (ap view c.in-Array.is ∙ view-Array c.in-Array.items ∙ ap (λ items. array (items_view items)) (sym c.deref.ensures.value)) c.in_ok-push-in-Array.ensures
 
 -- what an object's first form and those after it give is what the object gives
-from_object : (result : Result (Option code.Place) AllocError) (front levels : List Level) (step : Step) (around : Option Around) (value : Bor Value)
+from_object : (result : Result (Option code.Place) AllocError) (front levels : List Level) (step : Step) (context own : Context) (value : Bor Value)
     (holder : Bor (BTreeMap (String Global) Value))
-    → IfOk result (λ found. Visits (front ++ level_of step (Own holder around Record) ∷ []) (option_to_list (option_map place_view found)) levels)
+    → IfOk result (λ found. Visits (front ++ level_of step (Own holder own Record) ∷ []) (option_to_list (option_map place_view found)) levels)
     → view value.now ≡ object (members_view holder.now.entries)
-    → IfOk result (λ found. Visits (front ++ level_of step (Whole value around) ∷ []) (option_to_list (option_map place_view found)) levels)
-from_object result front levels step around value holder visits is =
-    IfOk-weaker result _ _ (λ found own. Visits-over front levels step (Whole value around) (Own holder around Record) (object_over around value holder is) own) visits
+    → context_view own ≡ own_context (context_view context) (members_view holder.now.entries)
+    → IfOk result (λ found. Visits (front ++ level_of step (Whole value context) ∷ []) (option_to_list (option_map place_view found)) levels)
+from_object result front levels step context own value holder visits is own_is =
+    IfOk-weaker result _ _ (λ found given. Visits-over front levels step (Whole value context) (Own holder own Record) (object_over context own value holder is own_is) given) visits
 
 pub returns-in-Object : goal.returns-in-Object
 returns-in-Object c =
-    from_object _ _ _ _ _ c.args.value _ c.visit_form.ensures (ap view c.in-Object.is ∙ view-Object c.in-Object.object)
+    from_object _ _ _ _ _ _ c.args.value _ c.visit_form.ensures (ap view c.in-Object.is ∙ view-Object c.in-Object.object) c.own_context-own.ensures
 
 pub returns-in_default : goal.returns-in_default
 returns-in_default c =
-    let none : places_within (option_map around_view c.args.around) (view c.args.value.now) ≡ [] = search (rules, the_lemmas, c.in_default.not-Array, c.in_default.not-Object) in
+    let none : places_within (context_view c.args.context) (view c.args.value.now) ≡ [] = search (rules, the_lemmas, c.in_default.not-Array, c.in_default.not-Object) in
     let one : steps_in (view c.args.value.now) ≡ 1 = search (rules, the_lemmas, c.in_default.not-Array, c.in_default.not-Object) in
-    Visits-nothing c.args.self.now.levels.items _ c.args.step (Whole c.args.value c.args.around) none one refl
+    Visits-nothing c.args.self.now.levels.items _ c.args.step (Whole c.args.value c.args.context) none one refl

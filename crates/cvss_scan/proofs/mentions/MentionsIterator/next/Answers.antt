@@ -1,10 +1,17 @@
-use Rattle.cvss_scan.proofs.NextLemmas.{Passes-one, Passes-trans}
+use Rattle.cvss_scan.proofs.NextLemmas.{IsFirstFound-after, Passes-one, Passes-trans}
+use Rattle.cvss_scan.specs.Mentions.{mention_of}
 use Rattle.cvss_scan.specs.MentionsLeft.{as_placed, mentions_left}
 use Rattle.cvss_scan.proofs.mentions.MentionsIterator.next.Goals as goal
 
-pub loop-mention-preserved : goal.loop-mention-preserved
-loop-mention-preserved c =
+pub returns-in-Some-find_in-clause-steps : goal.returns-in-Some-find_in-clause-steps
+returns-in-Some-find_in-clause-steps c =
+    IsFirstFound-after (mentions_left c.args.self.now) (mentions_left c.loop-place.self) (mentions_left c.cut_next.new.self)
+    (mention_of c.in-Some.place c.in-Some.part.now) (as_placed c.in-Some-find_in.mention)
+    c.loop-place.invariant c.in-Some.ensures.cut c.in-Some-find_in.ensures.0 c.in-Some-find_in.ensures.1
+
+pub loop-place-preserved : goal.loop-place-preserved
+loop-place-preserved c =
     Passes-trans (mentions_left c.args.self.now) (mentions_left c.cut_next.new.self) (mentions_left c.pass_after_run.new.self)
-    (Passes-one (mentions_left c.args.self.now) (mentions_left c.loop-mention.self) (mentions_left c.cut_next.new.self) (as_placed c.in-Some.mention)
-    c.loop-mention.invariant c.in-Some.ensures (λ found. let yes = c.is_found.ensures.1 found in cc))
+    (Passes-one (mentions_left c.args.self.now) (mentions_left c.loop-place.self) (mentions_left c.cut_next.new.self)
+    (mention_of c.in-Some.place c.in-Some.part.now) c.loop-place.invariant c.in-Some.ensures.cut c.in_default-find_in.ensures)
     c.pass_after_run.ensures

@@ -9,4 +9,4 @@ use Rattle.cvss_v3.proofs.vector.Vector.impact.Goals as goal
 pub returns-clause-value : goal.returns-clause-value
 returns-clause-value c =
     let v = c.args.self.now in
-    equal_trans (lit< tt) (record { equal = omega (arith, ints, ap (λ p. p.sub_score) c.base_parts.ensures.value) }) (base_parts (weights_of v) (weights_listed v)).is_S
+    equal_trans (lit< tt) (record { equal = omega (arith, ints, ap (λ p. p.sub_score) c.shared_base_parts.ensures.value) }) (base_parts (weights_of v) (weights_listed v)).is_S

@@ -12,5 +12,5 @@ pub returns : goal.returns
 returns c =
     let v = c.args.self.now in
     let near = approximates Fifteen (weights_of v).changed _ _ _ _ (base_parts (weights_of v) (weights_listed v)) c.signed_impact-impact.result {x = of_count c.new.result}
-    (record { equal = omega (arith, ints) }) (rw c.base_parts.ensures.value at c.signed_impact-impact.ensures.value) in
+    (record { equal = omega (arith, ints) }) (rw c.shared_base_parts.ensures.value at c.signed_impact-impact.ensures.value) in
     record { close = near.close; exact = near.exact; limit = record { from_lowest = omega (arith, ints); to_highest = omega (arith, ints) } }

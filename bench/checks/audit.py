@@ -1,0 +1,237 @@
+#!/usr/bin/env python3
+"""Tries the built `cvss audit` from outside.
+
+- Each document of bench/documents, in the shape that its tool writes, has planted errors: all are found, and nothing
+  else.
+- Files with one document a line and files that are one document are told apart.
+- Drawn documents of all forms are answered as by reference/documents.py.
+
+usage: bench/checks/audit.py [COUNT [SEED]]
+"""
+import json
+import random
+import subprocess
+import sys
+import tempfile
+from pathlib import Path
+
+ROOT = Path(__file__).resolve().parents[2]
+sys.path[:0] = [str(ROOT / "reference")]
+
+import documents
+import v2
+import v3
+import v4
+
+PROGRAM = ROOT / "crates/cvss_command/out/cvss_command"
+STORED = ROOT / "bench/documents"
+# What is planted in the stored documents, by hand: the pointer, and the members that disagree or why it is found.
+PLANTED = {
+    "cargo_audit": [("/vulnerabilities/list/1/advisory", "refused"), ("/vulnerabilities/list/2/advisory", "missing")],
+    "csaf": [("/vulnerabilities/0/scores/1/cvss_v2", "baseScore")],
+    "cve": [("/containers/cna/metrics/0/cvssV3_1", "baseSeverity"), ("/containers/cna/metrics/1/cvssV3_0", "version cvssV3_0")],
+    "cyclonedx": [("/vulnerabilities/0/ratings/1", "method score severity"), ("/vulnerabilities/0/ratings/3", "severity"),
+                  ("/vulnerabilities/0/ratings/6", "score"), ("/vulnerabilities/0/ratings/7", "refused")],
+    "github": [("/cvss_severities/cvss_v3", "score")],
+    "grype": [("/matches/0/relatedVulnerabilities/0/cvss/0", "baseScore"), ("/matches/0/vulnerability/cvss/1", "baseScore"),
+              ("/matches/0/vulnerability/cvss/2", "version")],
+    "nvd": [("/vulnerabilities/0/cve/metrics/cvssMetricV31/2/cvssData", "exploitabilityScore impactScore"),
+            ("/vulnerabilities/0/cve/metrics/cvssMetricV31/4/cvssData", "scope impactScore"),
+            ("/vulnerabilities/1/cve/metrics/cvssMetricV2/0/cvssData", "baseSeverity exploitabilityScore impactScore")],
+    "osv": [("/severity/1", "type")],
+    "spdx": [("/@graph/3", "security_score security_severity"), ("/@graph/5", "refused"), ("/@graph/7", "security_severity")],
+    "trivy": [("/Results/0/Vulnerabilities/0/CVSS/nvd", "V2Score"), ("/Results/0/Vulnerabilities/0/CVSS/redhat", "V3Score"),
+              ("/Results/0/Vulnerabilities/0/CVSS/wrong", "V2Vector"), ("/Results/0/Vulnerabilities/0/CVSS/wrong", "V40Vector"),
+              ("/Results/0/Vulnerabilities/1/CVSS/nvd", "missing")],
+}
+
+
+def audit(*arguments, given=b""):
+    done = subprocess.run([PROGRAM, "audit", *arguments], input=given, capture_output=True, check=False)
+    if done.returncode == 2 or done.stderr:
+        sys.exit(f"cvss audit {arguments}: status {done.returncode}, {done.stderr}")
+    return done.returncode, [json.loads(line) for line in done.stdout.splitlines()]
+
+
+def finding(told):
+    if "differs" in told:
+        return " ".join(each["member"] for each in told["differs"])
+    return next((member for member in ("refused", "missing") if member in told), None)
+
+
+def expect(told, expected, what):
+    if told != expected:
+        sys.exit(f"{what}: {told}, and not {expected}")
+
+
+def try_stored():
+    names = sorted(path.stem for path in STORED.glob("*.json"))
+    expect(names, sorted(PLANTED), "the stored documents")
+    for name in names:
+        path = STORED / f"{name}.json"
+        answers, clean = documents.answer({}, path.read_bytes())
+        expect(audit(path), (1, answers), name)
+        expect([(told["at"], finding(told)) for told in answers if finding(told)], PLANTED[name], name)
+        one_line = json.dumps(json.loads(path.read_text())).encode()
+        expect(audit(given=one_line), (1, documents.answer({"line": 1}, one_line)[0]), name)
+        expect(audit("--document", given=path.read_bytes()), (1, answers), name)
+    paths = [STORED / f"{name}.json" for name in names]
+    many = [told for path in paths for told in documents.answer({"file": str(path)}, path.read_bytes())[0]]
+    expect(audit(*paths), (1, many), "several files")
+    print(f"{len(names)} stored documents: all that is planted is found, and nothing else")
+
+
+def try_layouts():
+    told = b'{"vectorString":"AV:N/AC:L/Au:N/C:N/I:N/A:C"}'
+    cases = [(told, True), (told + b"\n", True), (b" \r\n\n" + told + b"\n" + told, True), (b"1\n[\n" + told + b"]\n", True),
+             (b"[\n" + told + b",\n" + told + b"\n]\n", False), (b"\n\n {\n\"a\":" + told + b"}", False),
+             (b"", False), (b" \n\t\r\n", False), (b"x\n" + told, False), (b"\xff\n" + told, False), (b"{}\n\xff\n", True),
+             (b" " * 70_000 + told + b"\n[", True), (b"[" + b"\n" * 200_000 + told + b"]", False),
+             (b"[" + b" " * 200_000 + told + b"]\n" + told, True)]
+    with tempfile.TemporaryDirectory() as room:
+        for number, (data, by_line) in enumerate(cases):
+            path = Path(room) / f"{number}"
+            path.write_bytes(data)
+            expect(documents.is_by_line(data), by_line, f"layout {number}")
+            expect(audit(path), answer_file(data), f"layout {number}")
+    print(f"{len(cases)} files with one document a line, or with one")
+
+
+def answer_file(data, allow_incomplete=False):
+    parts = [({"line": number}, line) for number, line in enumerate(documents.reference.lines_of(data), 1)]
+    answers, clean = [], True
+    for source, text in parts if documents.is_by_line(data) else [({}, data)]:
+        more, agree = documents.answer(source, text, allow_incomplete)
+        answers += more
+        clean &= agree
+    return (0 if clean else 1), answers
+
+
+class Drawing:
+    """Documents at random, of which about half say of their vectors what is right."""
+
+    def __init__(self, seed):
+        self.random = random.Random(seed)
+
+    def pick(self, *choices):
+        return self.random.choice(choices)
+
+    def chance(self, part):
+        return self.random.random() < part
+
+    def text(self):
+        version = self.pick("2.0", "3.0", "3.1", "3.1", "4.0")
+        table, mandatory = {"2.0": (v2.METRICS, v2.MANDATORY), "4.0": (v4.METRICS, v4.MANDATORY)}.get(version, (v3.METRICS, list(v3.BASE)))
+        if version[0] == "3" and self.chance(0.1):
+            mandatory = mandatory[:self.random.randrange(8)]
+        names = [name for name in table if name in mandatory or name not in v3.BASE and self.chance(self.pick(0, 0, 0.2))]
+        pieces = [f"{name}:{self.pick(*table[name][1])}" for name in names]
+        if self.chance(0.05):
+            self.random.shuffle(pieces)
+        if self.chance(0.05):
+            pieces.append(self.pick("AV:N", "x", "E:Q", ""))
+        return "/".join(([] if version == "2.0" else [f"CVSS:{version}"]) + pieces)
+
+    def value(self, right):
+        """What is right, or something else."""
+        if right is not None and self.chance(0.6):
+            return right
+        return self.pick(right, None, 0, 10, 9.8, 5.0, 7.5, True, "9.8", "HIGH", "critical", "unknown", "none", "NOT_DEFINED", [], {},
+                         self.random.randrange(101) / 10, "3.1", "2.0", "CVSSv3", "CVSSv31", "CVSSv2", "CVSS_V3", "OWASP")
+
+    def vector(self):
+        return self.text() if self.chance(0.95) else self.pick(None, "x", 3.1, [], {}, "CVSS:3.1/AV:N")
+
+    def known(self, text):
+        try:
+            return documents.Vector(text) if isinstance(text, str) else None
+        except documents.reference.Refused:
+            return None
+
+    def record(self, text, known):
+        told = {"vectorString": text}
+        if known:
+            for member, expected in known.expected().items():
+                if self.chance(0.3):
+                    told[member] = self.value(expected)
+        if self.chance(0.1):
+            told["score"] = self.value(known and known.score / 10)
+        return told
+
+    def form(self):
+        text = self.vector()
+        known = self.known(text)
+        score = known and known.score / 10
+        rating = known and known.rating(known.score)
+        named = documents.VERSION_NAMES[known.version] if known else "3.1"
+        kind = self.random.randrange(9)
+        if kind == 0:
+            return self.record(text, known)
+        if kind == 1:
+            return {"vector_string": text, "score": self.value(score)}
+        if kind == 2:
+            return {"type": self.value(known and documents.OSV_TYPES[known.version]), "score": text}
+        if kind == 3:
+            told = {"vector": text, "method": self.value(known and documents.METHODS[known.version]), "score": self.value(score),
+                    "severity": self.value(rating)}
+        elif kind == 4:
+            told = {"vector": text, "version": self.value(named), "metrics": {"baseScore": self.value(score)} if self.chance(0.9) else self.pick([], None, 1)}
+        elif kind == 5:
+            told = {}
+            for version in ("V2", "V3", "V40"):
+                if self.chance(0.5):
+                    own = self.vector()
+                    told[f"{version}Vector"] = own
+                    told[f"{version}Score"] = self.value((vector := self.known(own)) and vector.score / 10)
+        elif kind == 6:
+            return {self.pick("advisory", "advisory", "other"): {"id": "RUSTSEC-1", "cvss": text}}
+        elif kind == 7:
+            told = {"security_vectorString": text, "security_score": self.value(score), "security_severity": self.value(rating)}
+        else:
+            parts = known.sub_scores() if known else {}
+            told = {self.pick("cvssData", "cvssData", "cvssV3_1", "cvss_v2", "cvss_v4"): self.record(text, known),
+                    "baseSeverity": self.value(rating and rating.upper())}
+            for member in ("exploitabilityScore", "impactScore"):
+                told[member] = self.value(parts[member] / 10 if member in parts else None)
+        return {name: value for name, value in told.items() if self.chance(0.9)}
+
+    def document(self, depth=0):
+        told = {**self.form(), **(self.form() if self.chance(0.2) else {})}
+        for name in ("id", "cve", "ghsa_id", "VulnerabilityID", "spdxId", "cveMetadata"):
+            if self.chance(0.08):
+                told[name] = self.pick(f"{name}-{self.random.randrange(9)}", None, 1, {"id": "inner", "cveId": "own"})
+        if depth < 3:
+            for _ in range(self.random.randrange(3)):
+                name = self.pick("a", "b/c", "d~e", "cvssData", "advisory", "é", "", "cvss_v3", "metrics")
+                inner = self.document(depth + 1)
+                told[name] = inner if self.chance(0.6) else [self.pick(0, "x", None), inner]
+        return told
+
+
+def compare_drawn(count, seed):
+    drawing = Drawing(seed)
+    lines = [json.dumps(drawing.document(), ensure_ascii=drawing.chance(0.5)).encode() for _ in range(count)]
+    for arguments, allow_incomplete in (((), False), (("--allow-incomplete",), True)):
+        status, told = audit(*arguments, given=b"\n".join(lines))
+        at = 0
+        clean = True
+        for number, line in enumerate(lines, 1):
+            expected, agree = documents.answer({"line": number}, line, allow_incomplete)
+            clean &= agree
+            if told[at:at + len(expected)] != expected:
+                sys.exit(f"line {number}: {line.decode()}\n{told[at:at + len(expected)]}\nand not\n{expected}")
+            at += len(expected)
+        expect((status, len(told)), (0 if clean else 1, at), "the answers")
+    print(f"{count} drawn documents (seed {seed}) with {at} vectors: the answers are those of reference/documents.py")
+
+
+def main():
+    count = int(sys.argv[1]) if len(sys.argv) > 1 else 5_000
+    seed = int(sys.argv[2]) if len(sys.argv) > 2 else random.randrange(10**6)
+    try_stored()
+    try_layouts()
+    compare_drawn(count, seed)
+
+
+if __name__ == "__main__":
+    main()

@@ -1,0 +1,147 @@
+#!/usr/bin/env python3
+"""Compares what `cvss explain` writes, as JSON and as text, with accounts.py and explained.py.
+
+The lines are random: vectors with each metric, vectors in any order and case, and rejected ones; with
+`whole` also all vectors with base metrics alone, of each version. A number has at most seven decimals
+and is exact if the exact number has no more; otherwise it is less than 10^-6 from it.
+
+usage: bench/checks/compare_explained.py [whole] [COUNT [SEED]]
+"""
+import json
+import random
+import re
+import subprocess
+import sys
+from fractions import Fraction
+from pathlib import Path
+
+ROOT = Path(__file__).resolve().parents[2]
+sys.path[:0] = [str(ROOT / "reference"), str(ROOT / "bench/inputs")]
+
+import accounts
+import explained
+import lines
+import whole_sets
+
+COMMAND = [ROOT / "crates/cvss_command/out/cvss_command", "explain", "--allow-incomplete"]
+CLOSE = Fraction(1, 1_000_000)
+AT_ONCE = 20_000
+
+
+def has_seven_decimals(number):
+    return (number * 10_000_000).denominator == 1
+
+
+def is_number(told, exact):
+    """Whether a printed number is close enough to the exact one."""
+    if isinstance(told, bool) or not isinstance(told, (int, Fraction)):
+        return False
+    if not has_seven_decimals(told):
+        return False
+    return told == exact if has_seven_decimals(exact) else abs(told - exact) < CLOSE
+
+
+def difference(told, expected, at=""):
+    """Where the output differs from what is expected, and how, if it does."""
+    if isinstance(expected, dict):
+        if not isinstance(told, dict) or told.keys() != expected.keys():
+            return f"{at}: {told}, and not {expected}"
+        pairs = [(told[name], expected[name], f"{at}/{name}") for name in expected]
+    elif isinstance(expected, list):
+        if not isinstance(told, list) or len(told) != len(expected):
+            return f"{at}: {told}, and not {expected}"
+        pairs = [(*pair, f"{at}/{place}") for place, pair in enumerate(zip(told, expected))]
+    else:
+        agrees = (is_number(told, expected) if isinstance(expected, Fraction)
+                  else type(told) is type(expected) and told == expected)
+        return None if agrees else f"{at}: {told}, and not {expected}"
+    return next(filter(None, (difference(*pair) for pair in pairs)), None)
+
+
+def is_as_written(line):
+    """Whether the members are in the order of their names, with nothing between them."""
+    again = json.dumps(json.loads(line), sort_keys=True, separators=(",", ":"), ensure_ascii=False)
+    return again == line
+
+
+def run(given, *options):
+    """What the command writes for lines, and its status."""
+    data = "".join(f"{line}\n" for line in given).encode("utf-8")
+    done = subprocess.run([*COMMAND, *options], input=data, capture_output=True, check=False)
+    if done.stderr:
+        sys.exit(f"cvss explain: {done.stderr!r}")
+    return done.stdout.decode("utf-8"), done.returncode
+
+
+def compare_json(given):
+    """Ends if an object is another than that of accounts.py, or the status is."""
+    out, status = run(given, "--json")
+    told = out.splitlines()
+    if len(told) != len(given):
+        sys.exit(f"cvss explain --json answers {len(told)} of {len(given)} lines")
+    refused = False
+    for number, (line, text) in enumerate(zip(told, given), 1):
+        expected = accounts.answer(number, text.encode("utf-8"))
+        refused = refused or "refused" in expected
+        found = difference(json.loads(line, parse_float=Fraction), expected)
+        if found or not is_as_written(line):
+            sys.exit(f"{text}: {found or line}")
+    if status != int(refused):
+        sys.exit(f"cvss explain --json: status {status}")
+
+
+def is_line(told, expected):
+    """Whether a line of text has these texts, and numbers that are close enough to these."""
+    if told == explained.written([expected])[:-1]:
+        return True
+    pattern = "".join(re.escape(part) if isinstance(part, str) else r"(-?\d+\.(?:\d|\d{1,6}[1-9]))" for part in expected)
+    found = re.fullmatch(pattern, told)
+    numbers = [part for part in expected if isinstance(part, Fraction)]
+    return found is not None and all(is_number(Fraction(own), exact) for own, exact in zip(found.groups(), numbers))
+
+
+def compare_text(given):
+    """Ends if a text is another than that of explained.py, or the status is."""
+    out, status = run(given)
+    answers = out.split("\n\n")
+    if answers.pop() != "" or len(answers) != len(given):
+        sys.exit(f"cvss explain answers {len(answers)} of {len(given)} lines")
+    refused = False
+    for text, answer in zip(given, answers):
+        expected = explained.answer(text.encode("utf-8"))
+        refused = refused or expected[0][0].startswith("error: ")
+        told = answer.split("\n")
+        if len(told) != len(expected) or not all(map(is_line, told, expected)):
+            sys.exit(f"{text}: {answer}\nand not\n{explained.written(expected)}")
+    if status != int(refused):
+        sys.exit(f"cvss explain: status {status}")
+
+
+def compare_all(name, given):
+    for start in range(0, len(given), AT_ONCE):
+        compare_json(given[start:start + AT_ONCE])
+        compare_text(given[start:start + AT_ONCE])
+    print(f"cvss explain: {len(given)} {name}, explained as accounts.py and explained.py do")
+
+
+def main():
+    arguments = sys.argv[1:]
+    is_whole = arguments[:1] == ["whole"]
+    if is_whole:
+        arguments.pop(0)
+        compare_all("v4.0 base vectors", whole_sets.base_of_v4())
+    compare_all("v2 base vectors", whole_sets.base_of_v2())
+    for version in ("CVSS:3.0", "CVSS:3.1"):
+        compare_all(f"{version} base vectors", whole_sets.base_of_v3(version))
+    count = int(arguments[0]) if arguments else 2_000
+    draw = random.Random(int(arguments[1]) if len(arguments) > 1 else 2)
+    compare_all("drawn vectors with each metric",
+                [lines.line(draw, "all", "every") for _ in range(count)])
+    compare_all("drawn vectors of v4.0", [lines.line(draw, "v4", "full") for _ in range(count)])
+    compare_all("drawn lines, some refused",
+                [lines.line(draw, "all", draw.choice(("full", "any", "refused", "mixed")))
+                 for _ in range(count // 5)])
+
+
+if __name__ == "__main__":
+    main()

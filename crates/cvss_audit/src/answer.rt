@@ -1,0 +1,106 @@
+//! The answer to a text, which is a JSON document.
+
+ghost use Rattle.std.specs.Prelude.{◌≡◌, [], IfErr, IfOk, OnOk};
+ghost use Rattle.cvss_audit.specs.Answers.{is_passed_over};
+ghost use Rattle.cvss_audit.specs.Inputs.{input_view};
+ghost use Rattle.cvss_audit.specs.Objects.{refusal_value};
+ghost use Rattle.cvss_audit.specs.private.Writing.{Answers, StopsAnswering, StopsFound, StreamsFound};
+ghost use Rattle.cvss_json_tree.specs.Texts.{WritesObject};
+ghost use Rattle.cvss_document.specs.Places.{places_in};
+ghost use Rattle.serde_json.specs.View.{view};
+
+use crate::input::Input;
+use crate::members::{put_input, put_refusal};
+use crate::place::answer_place;
+use cvss_document::vectors_in;
+use cvss_json_tree::write_tree_object;
+use cvss_lines::{OutputBuffer, RunFault};
+use serde_json::{Map, Value};
+use std::alloc::{AllocError, Global};
+use std::io::Write;
+
+/// Appends an object for each location of a vector in a document, each followed by a byte 10, and may
+/// write what waits. Blanks alone are passed over. Says whether nothing is refused and nothing differs,
+/// and no vector lacks what it may not lack.
+///
+/// # Errors
+///
+/// Out of memory, or a failure of the writer. What waits is not to be written then.
+pub(crate) fn answer_text<W: Write>(
+    alloc: Global,
+    input: Input<'_>,
+    text: &[u8],
+    answers: &mut OutputBuffer,
+    writer: &mut W,
+) -> Result<bool, RunFault>
+    ensures streamed { IfOk result (Answers (input_view input.entry) text.now
+        answers.old.bytes.items answers.new.bytes.items
+        (W.contents writer.old) (W.contents writer.new)) }
+    ensures stopped { IfErr result (StopsAnswering (input_view input.entry) text.now
+        answers.old.bytes.items (W.contents writer.old) (W.contents writer.new)) }
+{
+    if is_passed_over(text) {
+        return Ok(true);
+    }
+    let Ok(text) = str::from_utf8(text) else {
+        refuse_text(alloc, input, "not UTF-8", answers)?;
+        return Ok(false);
+    };
+    match Value::from_str(alloc, text) {
+        Ok(document) => answer_document(alloc, input, &document, answers, writer),
+        Err(error) if error.is_memory() => Err(RunFault::Memory),
+        Err(_) => {
+            refuse_text(alloc, input, "not JSON", answers)?;
+            Ok(false)
+        }
+    }
+}
+
+/// Whether a text has nothing but the blanks of JSON.
+fn is_passed_over(text: &[u8]) -> bool
+    ensures { result ≡ is_passed_over text.now }
+{
+    text.iter()
+        .all(|byte| matches!(byte, b' ' | b'\t' | b'\r' | b'\n'))
+}
+
+/// Writes why a text is no document.
+fn refuse_text(
+    alloc: Global,
+    input: Input<'_>,
+    reason: &str,
+    answers: &mut OutputBuffer,
+) -> Result<(), AllocError>
+    ensures { OnOk result (WritesObject (refusal_value (input_view input.entry) reason.now)
+        answers.old.bytes.items answers.new.bytes.items) }
+{
+    let mut members = Map::new(alloc);
+    put_input(&mut members, alloc, input)?;
+    put_refusal(&mut members, alloc, String::from_str(alloc, reason)?)?;
+    write_tree_object(alloc, &members, answers)
+}
+
+/// Writes an object for each location of a vector in a document, one after another. Says whether none
+/// is refused and nothing differs.
+fn answer_document<W: Write>(
+    alloc: Global,
+    input: Input<'_>,
+    document: &Value,
+    answers: &mut OutputBuffer,
+    writer: &mut W,
+) -> Result<bool, RunFault>
+    ensures streamed { IfOk result (StreamsFound (input_view input.entry)
+        (places_in (view document.now)) [] answers.old.bytes.items answers.new.bytes.items
+        (W.contents writer.old) (W.contents writer.new)) }
+    ensures stopped { IfErr result (StopsFound (input_view input.entry)
+        (places_in (view document.now)) answers.old.bytes.items
+        (W.contents writer.old) (W.contents writer.new)) }
+{
+    let mut places = vectors_in(alloc, document)?;
+    let mut agree = true;
+    while let Some(place) = places.next_place(alloc)? {
+        agree &= answer_place(alloc, input, &place, answers)?;
+        answers.write_if_full(writer)?;
+    }
+    Ok(agree)
+}

@@ -1,0 +1,140 @@
+//! How a file holds its documents.
+
+ghost use Rattle.std.specs.Prelude.{◌≡◌, ◌≢◌, true, IfErr, IfOk, vec_len};
+ghost use Rattle.cvss_lines.specs.declared.fault.RunFault.TheVariants.{Write as WriteFault};
+ghost use Rattle.cvss_audit.specs.Answers.{is_blank};
+ghost use Rattle.cvss_audit.specs.Inputs.{input_view};
+ghost use Rattle.cvss_audit.specs.Files.{FileEnds, HasFirstText, IsBeginning, first_text, is_by_line, is_json, without_blanks};
+
+use crate::documents::Documents;
+use crate::input::Input;
+use crate::whole::answer_whole;
+use cvss_lines::{RunFault, Summary, cut_at_line_end, serve};
+use serde_json::Value;
+use std::alloc::{AllocError, Global};
+use std::io::{Read, Write};
+
+/// How many bytes one read may return.
+const CHUNK: usize = 64 * 1024;
+
+/// Answers an input that has one document a line, or is one document: by its first line that is not
+/// blank, which is a document by itself or is not.
+///
+/// # Errors
+///
+/// Out of memory, or a failure of the reader or the writer.
+pub(crate) fn answer_file<R: Read, W: Write>(
+    alloc: Global,
+    input: Input<'_>,
+    reader: &mut R,
+    writer: &mut W,
+) -> Result<Summary, RunFault>
+    ensures { FileEnds (input_view input.entry) (R.remaining reader.old) (R.remaining reader.new)
+        (W.contents writer.old) (W.contents writer.new) result }
+{
+    let beginning = read_beginning(alloc, reader)?;
+    let by_line = is_by_line(alloc, &beginning)?;
+    let mut whole = beginning.as_slice().chain(reader);
+    if by_line {
+        serve(&Documents { input }, alloc, &mut whole, writer)
+    } else {
+        answer_whole(alloc, input, &mut whole, writer)
+    }
+}
+
+/// Reads until the first line that is not blank has ended, or the input.
+fn read_beginning<R: Read>(alloc: Global, reader: &mut R) -> Result<Vec<u8>, RunFault>
+    ensures read { IfOk result (λ beginning. IsBeginning beginning.items
+        (R.remaining reader.old) (R.remaining reader.new)) }
+    ensures fault { IfErr result (λ fault. fault ≢ WriteFault) }
+{
+    let mut chunk = room_to_read(alloc)?;
+    let mut beginning = Vec::new(alloc);
+    // Each look is at twice as many bytes as the one before, so that all together are linear.
+    let mut next_look = 0;
+    for _ in 0..u64::MAX {
+        let Ok(count) = reader.read(&mut chunk) else {
+            return Err(RunFault::Read);
+        };
+        if count == 0 {
+            return Ok(beginning);
+        }
+        beginning.extend_from_slice(&chunk[..count])?;
+        if beginning.len() >= next_look {
+            if has_first_text(&beginning) {
+                return Ok(beginning);
+            }
+            next_look = beginning.len().saturating_mul(2);
+        }
+    }
+    Err(RunFault::Read)
+}
+
+/// Room for the bytes of one read.
+fn room_to_read(alloc: Global) -> Result<Vec<u8>, AllocError>
+    ensures { IfOk result (λ room. vec_len room ≡ CHUNK) }
+{
+    vec![in alloc; 0; CHUNK]
+}
+
+/// Whether there is one document a line, as the first line that is not blank is one by itself.
+///
+/// # Errors
+///
+/// Out of memory.
+fn is_by_line(alloc: Global, bytes: &[u8]) -> Result<bool, AllocError>
+    ensures { IfOk result (λ by_line. by_line ≡ is_by_line bytes.now) }
+{
+    is_json(alloc, first_text(bytes))
+}
+
+fn is_json(alloc: Global, text: &[u8]) -> Result<bool, AllocError>
+    ensures { IfOk result (λ json. json ≡ is_json text.now) }
+{
+    let Ok(text) = str::from_utf8(text) else {
+        return Ok(false);
+    };
+    match Value::from_str(alloc, text) {
+        Ok(_) => Ok(true),
+        Err(error) if error.is_memory() => Err(AllocError),
+        Err(_) => Ok(false),
+    }
+}
+
+/// The first line that is not blank, without the blanks at its start.
+fn first_text(bytes: &[u8]) -> &[u8]
+    ensures { result.now ≡ first_text bytes.now }
+{
+    let text = without_blanks(bytes);
+    match cut_at_line_end(text) {
+        Some((line, _)) => line,
+        None => text,
+    }
+}
+
+/// Whether the first line that is not blank has ended.
+fn has_first_text(bytes: &[u8]) -> bool
+    ensures { result ≡ true → HasFirstText bytes.now }
+{
+    cut_at_line_end(without_blanks(bytes)).is_some()
+}
+
+/// The bytes from the first on that is no blank.
+fn without_blanks(bytes: &[u8]) -> &[u8]
+    ensures { result.now ≡ without_blanks bytes.now }
+{
+    let mut left = bytes;
+    while let Some((byte, rest)) = left.split_first() {
+        if !is_blank(*byte) {
+            return left;
+        }
+        left = rest;
+    }
+    left
+}
+
+fn is_blank(byte: u8) -> bool
+    ensures { result ≡ is_blank byte }
+{
+    matches!(byte, b' ' | b'\t' | b'\r' | b'\n')
+}

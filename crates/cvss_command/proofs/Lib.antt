@@ -1,2 +1,0 @@
-mod AnswersLemmas
-mod UnreadLemmas

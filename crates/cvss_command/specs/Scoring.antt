@@ -1,0 +1,44 @@
+-- What `cvss score` does.
+use Rattle.std.specs.Prelude.{◌≡◌, ◌⊎◌, ℕ, Bool, true, false, List, take, Option, Err}
+use Rattle.std.specs.Global.{Vec}
+use Rattle.std.specs.Io.KnownBytes.{Appends, Keeps}
+use Rattle.cvss_answer.specs.Answers.{score_rule}
+use Rattle.cvss_lines.specs.Answers.{Rule}
+use Rattle.cvss_lines.specs.Prefixed.{IsPrefixed}
+use Rattle.cvss_lines.specs.Runs.{Ends}
+use Rattle.cvss_lines.specs.declared.fault.RunFault.TheVariants.{Write}
+use Rattle.cvss_program.specs.Exit.{after, nothing_served}
+use Rattle.cvss_program.specs.Operands.{Endings, ServesAll, many_files}
+use Rattle.cvss_program.specs.declared.served.Served.{Served}
+use Rattle.cvss_rows.specs.Rows.{IsRow, header_text}
+use Rattle.cvss_rows.specs.declared.format.Format.{Format}
+use Rattle.cvss_rows.specs.declared.format.Format.TheVariants.{Tsv, Json}
+
+-- the text is written, or a beginning of it where the writer fails
+abbrev pub WritesText : List ℕ → Option (List ℕ) → Option (List ℕ) → Served → Type 0
+WritesText text written written' served =
+    ((served ≡ nothing_served) × Appends written written' text)
+    ⊎ ((served ≡ after nothing_served (Err Write)) × ((count : ℕ) × Appends written written' (take count text)))
+
+-- each line is answered by the rule
+abbrev pub AnswersLines : Rule → Endings
+AnswersLines rule prefix = Ends (IsPrefixed prefix rule)
+
+-- each line is answered by a row
+abbrev pub AnswersRows : Format → Bool → Endings
+AnswersRows format allow_incomplete prefix = Ends (IsRow format allow_incomplete prefix)
+
+-- the names of the columns are written, and then the operands are answered by rows; or a beginning of the names, where the
+-- writer fails
+abbrev pub ServesTable : Bool → (List ℕ → Option (List ℕ)) → List (Vec ℕ) → Option (List ℕ) → Option (List ℕ) → Option (List ℕ) → Option (List ℕ) → Served → Type 0
+ServesTable allow_incomplete contents operands unread unread' written written' served =
+    ((written'' : Option (List ℕ)) × Appends written written'' (header_text (many_files operands))
+    × ServesAll (AnswersRows Tsv allow_incomplete) contents operands unread unread' written'' written' served)
+    ⊎ (Keeps unread unread' × ((count : ℕ) × Appends written written' (take count (header_text (many_files operands))))
+    × (served ≡ after nothing_served (Err Write)))
+
+-- how the vectors are answered, by whether --json and --tsv are given
+abbrev pub Scores : Bool → Bool → Bool → (List ℕ → Option (List ℕ)) → List (Vec ℕ) → Option (List ℕ) → Option (List ℕ) → Option (List ℕ) → Option (List ℕ) → Served → Type 0
+Scores true tsv allow_incomplete = ServesAll (AnswersRows Json allow_incomplete)
+Scores false true allow_incomplete = ServesTable allow_incomplete
+Scores false false allow_incomplete = ServesAll (AnswersLines (score_rule allow_incomplete))

@@ -1,0 +1,28 @@
+-- The subcommands, with their names and options.
+use Rattle.std.specs.Prelude.{Bool, true, false, ℕ, List, [], ◌∷◌, codes}
+use Rattle.cvss_command.specs.declared.flags.Flag.{Flag}
+use Rattle.cvss_command.specs.declared.flags.Flag.TheVariants.{AllowIncomplete, Document, Json, Tsv}
+use Rattle.cvss_command.specs.declared.subcommand.Subcommand.{Subcommand}
+use Rattle.cvss_command.specs.declared.subcommand.Subcommand.TheVariants.{Score, Find, Explain, Set, Audit}
+
+abbrev pub subcommands : List Subcommand
+subcommands = Score ∷ Find ∷ Explain ∷ Set ∷ Audit ∷ []
+
+abbrev pub name_of : Subcommand → List ℕ
+name_of Score = codes "score"
+name_of Find = codes "find"
+name_of Explain = codes "explain"
+name_of Set = codes "set"
+name_of Audit = codes "audit"
+
+-- the options that it has
+unfoldable pub flags_of : Subcommand → List Flag
+flags_of Score = Json ∷ Tsv ∷ AllowIncomplete ∷ []
+flags_of Find = AllowIncomplete ∷ []
+flags_of Explain = Json ∷ AllowIncomplete ∷ []
+flags_of Set = []
+flags_of Audit = AllowIncomplete ∷ Document ∷ []
+
+-- its first words are metrics, and its operands follow `--`
+abbrev pub sets_metrics : Subcommand → Bool
+sets_metrics = elim [ Set ↦ true | _ ↦ false ]

@@ -1,0 +1,59 @@
+-- The answers to lines, each of which is the text of a vector: explanations of scores as JSON objects.
+use Rattle.std.specs.Prelude.{◌≡◌, ◌⊎◌, ℕ, Bool, List, [], ◌∷◌, ◌++◌, codes, None, Some, if◌then◌else◌}
+use Rattle.std.specs.Str.{IsUtf8, is_utf8}
+use Rattle.cvss_any.specs.Complete.{missing_by}
+use Rattle.cvss_any.specs.Bytes.{ReportsWhyNot, bytes_error_text}
+use Rattle.cvss_any.specs.Dispatch.{DenotesCvss}
+use Rattle.cvss_any.specs.Reasons.{reason_text}
+use Rattle.cvss_any.specs.declared.bytes_error.BytesError.{BytesError}
+use Rattle.cvss_any.specs.declared.metric_type.MetricType.{MetricType}
+use Rattle.cvss_any.specs.declared.vector.Cvss.{Cvss}
+use Rattle.cvss_base.specs.Refusal.{Missing}
+use Rattle.cvss_explain.specs.Explanation.{IsExplanationText}
+use Rattle.cvss_lines.specs.Answers.{Answer, Accepted, Refused}
+use Rattle.cvss_json_tree.specs.Texts.{IsTextOf}
+use Rattle.cvss_json_tree.specs.Objects.{Member, object_of}
+use Rattle.serde_json.specs.Data.{Data, number as number_value, string, unsigned}
+
+-- the number of the line
+abbrev pub line_member : ℕ → Member
+line_member line = (codes "line", number_value (unsigned line))
+
+-- the line as it is given, where it is UTF-8
+abbrev pub given_members : List ℕ → List Member
+given_members line = if is_utf8 line then (codes "given", string line) ∷ [] else []
+
+-- the object for a line that is rejected: the line, its number, and the reason
+abbrev pub refusal_value : ℕ → List ℕ → List ℕ → Data
+refusal_value number line reason =
+    object_of (given_members line ++ (line_member number ∷ (codes "refused", string reason) ∷ []))
+
+-- the line is a text that denotes a vector, which lacks no base metric unless it may, and the answer explains its score
+pub record IsAcceptance (allow_incomplete : Bool) (number : ℕ) (line text : List ℕ) : Type 0 where
+  pub utf8 : IsUtf8 line
+  pub cvss : Cvss
+  pub denoted : DenotesCvss line cvss
+  pub complete : missing_by allow_incomplete cvss ≡ None
+  pub explains : IsExplanationText (Some number) cvss text
+
+-- the line is no text, or a text that is no vector, and the object says the first reason
+pub record IsRefusal (number : ℕ) (line text : List ℕ) : Type 0 where
+  pub error : BytesError
+  pub reported : ReportsWhyNot line error
+  pub is_text : IsTextOf (refusal_value number line (bytes_error_text error)) text
+
+-- the line is a text that denotes a vector which lacks base metrics, and the object says the first of them
+pub record IsIncomplete (allow_incomplete : Bool) (number : ℕ) (line text : List ℕ) : Type 0 where
+  pub utf8 : IsUtf8 line
+  pub cvss : Cvss
+  pub denoted : DenotesCvss line cvss
+  pub metric : MetricType
+  pub missing : missing_by allow_incomplete cvss ≡ Some metric
+  pub is_text : IsTextOf (refusal_value number line (reason_text (Missing metric))) text
+
+-- this is an answer to the line of this number: one text. Vectors of CVSS v3 may lack base metrics, or not.
+unfoldable pub IsAnswer : Bool → ℕ → List ℕ → Answer → Type 0
+IsAnswer allow_incomplete number line (Accepted (text ∷ [])) = IsAcceptance allow_incomplete number line text
+IsAnswer allow_incomplete number line (Refused (text ∷ [])) =
+    IsRefusal number line text ⊎ IsIncomplete allow_incomplete number line text
+IsAnswer allow_incomplete number line answer = ⊥

@@ -1,0 +1,6 @@
+//! Explanations of scores as JSON: one object for each line.
+#![tactic(auto)]
+
+mod answer;
+
+pub use answer::answer_explained;

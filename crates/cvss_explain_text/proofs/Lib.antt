@@ -1,0 +1,3 @@
+mod PartLemmas
+mod RejectionLemmas
+mod ShortLemmas

@@ -1,0 +1,30 @@
+-- The answers to lines, each of which is the text of a vector: explanations for people, each with an empty line after it.
+use Rattle.std.specs.Prelude.{◌≡◌, ℕ, Bool, List, [], ◌∷◌, None}
+use Rattle.std.specs.Str.{IsUtf8}
+use Rattle.cvss_any.specs.Complete.{missing_by}
+use Rattle.cvss_answer.specs.Answers.{score_rule}
+use Rattle.cvss_any.specs.Dispatch.{DenotesCvss}
+use Rattle.cvss_any.specs.declared.vector.Cvss.{Cvss}
+use Rattle.cvss_explain_text.specs.Explanation.{IsExplanation}
+use Rattle.cvss_lines.specs.Answers.{Answer, Accepted, Refused, written_text}
+
+-- the line is a text that denotes a vector, which lacks no base metric unless it may, and the answer explains its score
+pub record IsAcceptance (allow_incomplete : Bool) (line text : List ℕ) : Type 0 where
+  pub utf8 : IsUtf8 line
+  pub cvss : Cvss
+  pub denoted : DenotesCvss line cvss
+  pub complete : missing_by allow_incomplete cvss ≡ None
+  pub explains : IsExplanation cvss text
+
+-- the line is rejected as where it is scored
+pub record IsRefusal (allow_incomplete : Bool) (number : ℕ) (line text : List ℕ) : Type 0 where
+  pub error : List ℕ
+  pub rejected : score_rule allow_incomplete number line (Refused (error ∷ []))
+  pub is : text ≡ written_text error
+
+-- this is an answer to the line, whatever its number: one text, whose lines each have a byte 10 at their end, so that an
+-- empty line follows
+unfoldable pub IsAnswer : Bool → ℕ → List ℕ → Answer → Type 0
+IsAnswer allow_incomplete number line (Accepted (text ∷ [])) = IsAcceptance allow_incomplete line text
+IsAnswer allow_incomplete number line (Refused (text ∷ [])) = IsRefusal allow_incomplete number line text
+IsAnswer allow_incomplete number line answer = ⊥

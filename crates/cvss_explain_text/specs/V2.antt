@@ -1,0 +1,75 @@
+-- The explanation of a score of CVSS v2 for people: guide, section 3.2.
+use Rattle.std.specs.Prelude.{◌≡◌, ◌*◌, ◌||◌, ℕ, Bool, if◌then◌else◌, List, [], ◌∷◌, ◌++◌, codes, flat_map, is_some, pos}
+use Rattle.cvss_base.specs.V2Types.{description_of, name_of}
+use Rattle.cvss_base.specs.Version.{held}
+use Rattle.cvss_base.specs.declared.v2.MetricType.{MetricType}
+use Rattle.cvss_explain.specs.NumbersV2.{AreBaseNumbers, AreEnvironmentalNumbers, AreTemporalNumbers}
+use Rattle.cvss_explain.specs.declared.v2.numbers.BaseNumbers.{BaseNumbers}
+use Rattle.cvss_explain.specs.declared.v2.numbers.EnvironmentalNumbers.{EnvironmentalNumbers}
+use Rattle.cvss_explain.specs.declared.v2.numbers.TemporalNumbers.{TemporalNumbers}
+use Rattle.cvss_explain_text.specs.Lines.{Row, line_if, metric_line, rows_text}
+use Rattle.cvss_json_names.specs.Words.{word_in}
+use Rattle.cvss_json_names.specs.WordsV2.{words_of}
+use Rattle.cvss_json_write.specs.Json.{decimal_text, tenths_text}
+use Rattle.cvss_v2.specs.Vector.{v2}
+use Rattle.cvss_v2.specs.Weights.{weight_in, weights_of}
+use Rattle.cvss_v2.specs.declared.vector.Vector.{Vector}
+use Rattle.cvss_v2_metric.specs.Table.{printed}
+
+-- what a metric weighs, which is thousandths
+abbrev pub weight_text : Vector → MetricType → List ℕ
+weight_text vector kind = decimal_text (pos (weight_in vector kind * 10_000))
+
+-- the line of a metric, if the vector has it
+abbrev pub metric_text : Vector → MetricType → List ℕ
+metric_text vector kind =
+    line_if (λ spelling. metric_line (name_of kind) spelling (weight_text vector kind) (description_of kind) (word_in (words_of kind) spelling))
+    (held v2 vector kind)
+
+-- the vector has a temporal metric
+abbrev pub has_temporal : Vector → Bool
+has_temporal v = is_some v.e || is_some v.rl || is_some v.rc
+
+-- the vector has an environmental metric
+abbrev pub has_environmental : Vector → Bool
+has_environmental v = is_some v.cdp || is_some v.td || is_some v.cr || is_some v.ir || is_some v.ar
+
+abbrev pub base_rows : BaseNumbers → List Row
+base_rows numbers =
+    (codes "Impact", decimal_text numbers.impact)
+    ∷ (codes "Exploitability", decimal_text numbers.exploitability)
+    ∷ (codes "f(Impact)", decimal_text numbers.f)
+    ∷ (codes "Before rounding", decimal_text numbers.number)
+    ∷ (codes "Base score", tenths_text numbers.score)
+    ∷ []
+
+abbrev pub temporal_rows : TemporalNumbers → List Row
+temporal_rows numbers =
+    (codes "Before rounding", decimal_text numbers.number) ∷ (codes "Temporal score", tenths_text numbers.score) ∷ []
+
+abbrev pub environmental_rows : EnvironmentalNumbers → List Row
+environmental_rows numbers =
+    (codes "Adjusted impact", decimal_text numbers.adjusted_impact)
+    ∷ (codes "Adjusted base score", decimal_text numbers.adjusted_base)
+    ∷ (codes "Adjusted temporal score", decimal_text numbers.adjusted_temporal)
+    ∷ (codes "Before rounding", decimal_text numbers.number)
+    ∷ (codes "Environmental score", tenths_text numbers.score)
+    ∷ []
+
+-- the lines after the heading: the metrics, and the way to each score whose metrics the vector has
+abbrev pub lines_text : Vector → BaseNumbers → TemporalNumbers → EnvironmentalNumbers → List ℕ
+lines_text vector base temporal environmental =
+    flat_map (metric_text vector) printed
+    ++ rows_text (base_rows base)
+    ++ (if has_temporal vector then rows_text (temporal_rows temporal) else [])
+    ++ (if has_environmental vector then rows_text (environmental_rows environmental) else [])
+
+-- the lines explain the vector's scores
+pub record AreLines (vector : Vector) (text : List ℕ) : Type 0 where
+  pub base : BaseNumbers
+  pub temporal : TemporalNumbers
+  pub environmental : EnvironmentalNumbers
+  pub are_base : AreBaseNumbers (weights_of vector) base
+  pub are_temporal : AreTemporalNumbers (weights_of vector) temporal
+  pub are_environmental : AreEnvironmentalNumbers (weights_of vector) environmental
+  pub is : text ≡ lines_text vector base temporal environmental

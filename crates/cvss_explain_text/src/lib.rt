@@ -1,0 +1,10 @@
+//! Explanations of scores for people: a line for each metric, and the numbers on the way to each score.
+#![tactic(auto)]
+
+mod answer;
+mod lines;
+mod v2;
+mod v3;
+mod v4;
+
+pub use answer::answer_explained;

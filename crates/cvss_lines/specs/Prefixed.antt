@@ -1,0 +1,18 @@
+-- Answers after a prefix, as the name of a file and a colon where several files are read.
+use Rattle.std.specs.Prelude.{◌≡◌, ℕ, List, [], ◌∷◌, ◌++◌, map}
+use Rattle.cvss_lines.specs.Answers.{Answer, Accepted, Refused, Rule, texts_of}
+
+-- the answer, each text of which begins with this
+abbrev pub with_prefix : List ℕ → Answer → Answer
+with_prefix prefix (Accepted texts) = Accepted (map (λ text. prefix ++ text) texts)
+with_prefix prefix (Refused texts) = Refused (map (λ text. prefix ++ text) texts)
+
+-- this is an answer by a rule, each text of which begins with this
+pub record IsPrefixed (prefix : List ℕ) (rule : Rule) (number : ℕ) (line : List ℕ) (answer : Answer) : Type 0 where
+  pub own : Answer
+  pub answers : rule number line own
+  pub is : answer ≡ with_prefix prefix own
+
+-- each answer by the rule is one text
+abbrev pub AnswersByOneText : Rule → Type 0
+AnswersByOneText rule = (number : ℕ) (line : List ℕ) (answer : Answer) → rule number line answer → (text : List ℕ) × (texts_of answer ≡ text ∷ [])

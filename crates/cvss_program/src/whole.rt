@@ -1,0 +1,76 @@
+//! An operand that is read whole.
+
+ghost use Rattle.std.specs.Prelude.{◌≡◌, ◌≢◌, IfErr, IfOk};
+ghost use Rattle.cvss_lines.specs.declared.fault.RunFault.TheVariants.{Write as WriteFault};
+ghost use Rattle.cvss_program.specs.Whole.{IsAllOf, ReadsWhole};
+
+use crate::files::Files;
+use crate::operands::report_error;
+use crate::sources::{Source, source_of};
+use crate::watching::WatchedReader;
+use cvss_lines::{RunFault, read_whole};
+use std::alloc::{AllocError, Global};
+use std::io::{Read, Write};
+
+/// Reads one operand whole, for a subcommand that answers after it has read all: the bytes of a
+/// vector, of a file or of standard input. What cannot be read is reported.
+///
+/// # Errors
+///
+/// Out of memory, or a file or standard input that cannot be read.
+pub fn read_operand<F: Files, R: Read, E: Write>(
+    alloc: Global,
+    operand: &[u8],
+    files: &F,
+    reader: &mut WatchedReader<R>,
+    report: &mut E,
+) -> Result<Vec<u8>, RunFault>
+    ensures read { ReadsWhole (F.contents files.now) operand.now
+        (R.remaining reader.old.reader) (R.remaining reader.new.reader) result }
+    ensures fault { IfErr result (λ fault. fault ≢ WriteFault) }
+{
+    match source_of(operand) {
+        Source::Input => {
+            let bytes = read_whole(alloc, reader);
+            if let Some(error) = reader.error {
+                report_error(operand, error, report);
+            }
+            bytes
+        }
+        Source::Vector => Ok(copy(alloc, operand)?),
+        Source::File => read_file(alloc, operand, files, report),
+    }
+}
+
+fn read_file<F: Files, E: Write>(
+    alloc: Global,
+    name: &[u8],
+    files: &F,
+    report: &mut E,
+) -> Result<Vec<u8>, RunFault>
+    ensures read { IfOk result (IsAllOf (F.contents files.now name.now)) }
+    ensures fault { IfErr result (λ fault. fault ≢ WriteFault) }
+{
+    match files.open(name) {
+        Ok(file) => {
+            let mut file = WatchedReader::new(file);
+            let bytes = read_whole(alloc, &mut file);
+            if let Some(error) = file.error {
+                report_error(name, error, report);
+            }
+            bytes
+        }
+        Err(error) => {
+            report_error(name, error, report);
+            Err(RunFault::Read)
+        }
+    }
+}
+
+fn copy(alloc: Global, bytes: &[u8]) -> Result<Vec<u8>, AllocError>
+    ensures { IfOk result (λ copy. copy.items ≡ bytes.now) }
+{
+    let mut copy = Vec::new(alloc);
+    copy.extend_from_slice(bytes)?;
+    Ok(copy)
+}

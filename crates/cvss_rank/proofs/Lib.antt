@@ -1,0 +1,5 @@
+mod OrderLemmas
+mod OverallLemmas
+mod OverrideLemmas
+mod RankLemmas
+mod ReadingLemmas

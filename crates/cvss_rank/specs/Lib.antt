@@ -1,0 +1,5 @@
+pub mod Overall
+pub mod Overrides
+pub mod Ranking
+pub mod Reading
+pub mod private

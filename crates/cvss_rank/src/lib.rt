@@ -1,0 +1,18 @@
+//! Lines of vectors of any version, ranked by the score that counts all metrics, after metrics of an
+//! organisation's own are set in them.
+#![tactic(auto)]
+
+pub mod laws;
+mod overall;
+mod overrides;
+mod ranking;
+mod reading;
+mod row;
+
+use cvss_v2 as v2;
+use cvss_v3 as v3;
+pub use overall::overall_tenths;
+pub use overrides::{Family, Override, holds_for_some};
+pub use ranking::{BadLine, Ranking, rank};
+pub use reading::{Reason, vector_of};
+pub use row::Row;

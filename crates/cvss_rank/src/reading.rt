@@ -1,0 +1,73 @@
+//! The vector of a line.
+
+ghost use Rattle.std.specs.Prelude.{◌≡◌, ◌⊎◌, Bool, IfErr, IfOk, None};
+ghost use Rattle.cvss_any.specs.Answers.{HasScore};
+ghost use Rattle.cvss_any.specs.Dispatch.{DenotesCvss};
+ghost use Rattle.cvss_any.specs.Refusals.{IsReadError};
+ghost use Rattle.cvss_rank.specs.Reading.{IsIncomplete, IsOnlyMatch, IsReason, IsVectorOf};
+ghost use Rattle.cvss_any.specs.Complete.{missing_by};
+
+use cvss_any::{Cvss, ReadError, Refusal};
+use cvss_scan::Mentions;
+
+/// Why a line has no vector.
+#[derive(Drop)]
+pub enum Reason<'a> {
+    /// No vector is found in it.
+    NoVector,
+    /// Several are.
+    SeveralVectors,
+    /// What is found is rejected: it is no vector, or lacks base metrics and may not.
+    Rejected(ReadError<'a>),
+}
+
+/// The vector that is found in a line. `allow_incomplete`: a vector of CVSS v3 may lack base metrics.
+///
+/// # Errors
+///
+/// Why there is none.
+pub fn vector_of(line: &[u8], allow_incomplete: bool) -> Result<Cvss, Reason<'_>>
+    ensures vector { IfOk result (IsVectorOf allow_incomplete line.now) }
+    ensures scored { IfOk result (λ cvss. HasScore cvss) }
+    ensures reason { IfErr result (IsReason allow_incomplete line.now) }
+{
+    let text = only_match(line)?;
+    match read(text, allow_incomplete) {
+        Ok(cvss) => Ok(cvss),
+        Err(error) => Err(Reason::Rejected(error)),
+    }
+}
+
+/// The only vector that is found in a line.
+fn only_match(line: &[u8]) -> Result<&[u8], Reason<'_>>
+    ensures only { IfOk result (λ text. IsOnlyMatch line.now text.now) }
+    ensures reason { IfErr result (λ reason. (allow_incomplete : Bool)
+        → IsReason allow_incomplete line.now reason) }
+{
+    let mut matches = Mentions::of(line);
+    let Some(only) = matches.next() else {
+        return Err(Reason::NoVector);
+    };
+    match matches.next() {
+        Some(_) => Err(Reason::SeveralVectors),
+        None => Ok(only.text),
+    }
+}
+
+/// The vector that a text denotes, which lacks no base metric unless it may.
+fn read(text: &[u8], allow_incomplete: bool) -> Result<Cvss, ReadError<'_>>
+    ensures denoted { IfOk result (λ cvss. DenotesCvss text.now cvss) }
+    ensures complete { IfOk result (λ cvss. missing_by allow_incomplete cvss ≡ None) }
+    ensures scored { IfOk result (λ cvss. HasScore cvss) }
+    ensures error { IfErr result (λ error. IsReadError text.now error
+        ⊎ IsIncomplete allow_incomplete text.now error) }
+{
+    let cvss = match Cvss::read_canonical(text) {
+        Some(cvss) => cvss,
+        None => Cvss::read(text)?,
+    };
+    match cvss.missing_by(allow_incomplete) {
+        Some(metric) => Err(ReadError::Invalid(Refusal::Missing(metric))),
+        None => Ok(cvss),
+    }
+}

@@ -1,0 +1,74 @@
+-- The cells of a row, and how they are written.
+use Rattle.std.specs.Prelude.{ℕ, ◌+◌, ◌-◌, ◌/◌, ◌%◌, ◌==◌, ◌||◌, ltb, List, [], ◌∷◌, ◌++◌, codes, flat_map, length, take, if◌then◌else◌}
+use Rattle.std.specs.Str.{is_utf8}
+use Rattle.cvss_rows.specs.declared.format.Format.{Format}
+use Rattle.cvss_rows.specs.declared.format.Format.TheVariants.{Tsv, Json}
+
+-- what a cell holds: nothing, words that need no escape, or the text of a number
+pub data Cell : Type 0 where
+  Nothing : Cell
+  Words Number : List ℕ → Cell
+
+-- a hexadecimal digit
+abbrev pub hex_digit : ℕ → ℕ
+hex_digit digit = if ltb digit 10 then 48 + digit else 87 + digit
+
+-- a byte of a text in a row: RFC 8259, section 7, for JSON
+abbrev pub escaped_byte : Format → ℕ → List ℕ
+escaped_byte Tsv byte =
+    if byte == 9 then codes "\\t"
+    else if byte == 13 then codes "\\r"
+    else if byte == 92 then codes "\\\\"
+    else byte ∷ []
+escaped_byte Json byte =
+    if (byte == 34) || (byte == 92) then 92 ∷ byte ∷ []
+    else if ltb byte 32 then codes "\\u00" ++ hex_digit (byte / 16) ∷ hex_digit (byte % 16) ∷ []
+    else byte ∷ []
+
+abbrev pub escaped : Format → List ℕ → List ℕ
+escaped format text = flat_map (escaped_byte format) text
+
+-- what is around a string
+abbrev pub quote : Format → List ℕ
+quote Tsv = []
+quote Json = codes "\""
+
+-- a string
+abbrev pub quoted : Format → List ℕ → List ℕ
+quoted format text = quote format ++ (text ++ quote format)
+
+-- no value
+abbrev pub nothing : Format → List ℕ
+nothing Tsv = []
+nothing Json = codes "null"
+
+abbrev pub cell_text : Format → Cell → List ℕ
+cell_text format Nothing = nothing format
+cell_text format (Words words) = quoted format words
+cell_text format (Number number) = number
+
+-- the given text, or the name of a file, which may be no UTF-8
+abbrev pub given_text : Format → List ℕ → List ℕ
+given_text Tsv line = escaped Tsv line
+given_text Json line = if is_utf8 line then quoted Json (escaped Json line) else nothing Json
+
+-- the name of a file, as answers from several files have it as their prefix, before a colon
+abbrev pub file_of : List ℕ → List ℕ
+file_of prefix = take (length prefix - 1) prefix
+
+-- what is before the given text: the file, where answers have a prefix
+abbrev pub opening : Format → List ℕ → List ℕ
+opening Tsv [] = []
+opening Tsv (byte ∷ bytes) = escaped Tsv (file_of (byte ∷ bytes)) ++ codes "\t"
+opening Json [] = codes "{\"given\":"
+opening Json (byte ∷ bytes) = codes "{\"file\":" ++ (given_text Json (file_of (byte ∷ bytes)) ++ codes ",\"given\":")
+
+-- what is before each other cell, whose column has this name
+abbrev pub before_cell : Format → List ℕ → List ℕ
+before_cell Tsv name = codes "\t"
+before_cell Json name = codes ",\"" ++ (name ++ codes "\":")
+
+-- what is after the last cell
+abbrev pub closing : Format → List ℕ
+closing Tsv = []
+closing Json = codes "}"

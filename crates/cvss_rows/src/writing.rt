@@ -1,0 +1,162 @@
+//! How a row is written.
+
+ghost use Rattle.std.specs.Prelude.{◌≡◌, ◌++◌, [], ◌∷◌, codes, flat_map, map, OnOk};
+ghost use Rattle.cvss_any.specs.Reasons.{error_message};
+ghost use Rattle.cvss_rows.specs.Cells.{before_cell, cell_text, closing, escaped, given_text, nothing, opening, quote, quoted};
+ghost use Rattle.cvss_rows.specs.Rows.{field_text};
+ghost use Rattle.cvss_rows.specs.private.Views.{cell_view, error_cell, field_view};
+
+use crate::cells::{Cell, Field};
+use crate::escaping::{push_given, push_segments};
+use crate::format::Format;
+use cvss_any::{Message, ReadError};
+use cvss_lines::OutputBuffer;
+use std::alloc::AllocError;
+
+/// Writes what is before the fields.
+pub(crate) fn push_start(
+    format: Format,
+    prefix: &[u8],
+    line: &[u8],
+    answers: &mut OutputBuffer,
+) -> Result<(), AllocError>
+    ensures { OnOk result (answers.new.bytes.items
+        ≡ answers.old.bytes.items ++ (opening format prefix.now ++ given_text format line.now)) }
+{
+    push_opening(format, prefix, answers)?;
+    push_given(format, line, answers)
+}
+
+fn push_opening(format: Format, prefix: &[u8], answers: &mut OutputBuffer) -> Result<(), AllocError>
+    ensures { OnOk result (answers.new.bytes.items
+        ≡ answers.old.bytes.items ++ opening format prefix.now) }
+{
+    match (format, prefix) {
+        (Format::Tsv, []) => Ok(()),
+        (Format::Tsv, [file @ .., _]) => {
+            push_given(Format::Tsv, file, answers)?;
+            answers.push(b"\t")
+        }
+        (Format::Json, []) => answers.push(b"{\"given\":"),
+        (Format::Json, [file @ .., _]) => {
+            answers.push(b"{\"file\":")?;
+            push_given(Format::Json, file, answers)?;
+            answers.push(b",\"given\":")
+        }
+    }
+}
+
+/// Writes fields.
+pub(crate) fn push_fields(
+    format: Format,
+    fields: &[Field<'_>],
+    answers: &mut OutputBuffer,
+) -> Result<(), AllocError>
+    ensures { OnOk result (answers.new.bytes.items ≡ answers.old.bytes.items
+        ++ flat_map (field_text format) (map field_view fields.now)) }
+{
+    for (name, cell) in fields {
+        push_field(format, name, *cell, answers)?;
+    }
+    Ok(())
+}
+
+fn push_field(
+    format: Format,
+    name: &'static str,
+    cell: Cell<'_>,
+    answers: &mut OutputBuffer,
+) -> Result<(), AllocError>
+    ensures { OnOk result (answers.new.bytes.items ≡ answers.old.bytes.items
+        ++ (before_cell format name.now ++ cell_text format (cell_view cell.entry))) }
+{
+    push_name(format, name, answers)?;
+    push_cell(format, cell, answers)
+}
+
+/// Writes what is before a cell in the column of this name.
+fn push_name(
+    format: Format,
+    name: &'static str,
+    answers: &mut OutputBuffer,
+) -> Result<(), AllocError>
+    ensures { OnOk result (answers.new.bytes.items
+        ≡ answers.old.bytes.items ++ before_cell format name.now) }
+{
+    match format {
+        Format::Tsv => answers.push(b"\t"),
+        Format::Json => {
+            answers.push(b",\"")?;
+            answers.push(name.as_bytes())?;
+            answers.push(b"\":")
+        }
+    }
+}
+
+fn push_cell(format: Format, cell: Cell<'_>, answers: &mut OutputBuffer) -> Result<(), AllocError>
+    ensures { OnOk result (answers.new.bytes.items
+        ≡ answers.old.bytes.items ++ cell_text format (cell_view cell.entry)) }
+{
+    match cell {
+        Cell::Nothing => push_nothing(format, answers),
+        Cell::Words(words) => {
+            push_quote(format, answers)?;
+            answers.push(words.as_bytes())?;
+            push_quote(format, answers)
+        }
+        Cell::Number(number) => answers.push(number.as_bytes()),
+    }
+}
+
+fn push_nothing(format: Format, answers: &mut OutputBuffer) -> Result<(), AllocError>
+    ensures { OnOk result (answers.new.bytes.items
+        ≡ answers.old.bytes.items ++ nothing format) }
+{
+    match format {
+        Format::Tsv => Ok(()),
+        Format::Json => answers.push(b"null"),
+    }
+}
+
+fn push_quote(format: Format, answers: &mut OutputBuffer) -> Result<(), AllocError>
+    ensures { OnOk result (answers.new.bytes.items ≡ answers.old.bytes.items ++ quote format) }
+{
+    match format {
+        Format::Tsv => Ok(()),
+        Format::Json => answers.push(b"\""),
+    }
+}
+
+/// Writes the error, if there is one, and a byte 10.
+pub(crate) fn push_end(
+    format: Format,
+    error: Option<ReadError<'_>>,
+    answers: &mut OutputBuffer,
+) -> Result<(), AllocError>
+    ensures { OnOk result (answers.new.bytes.items ≡ answers.old.bytes.items
+        ++ (before_cell format (codes "error") ++ (error_cell format error.entry
+        ++ (closing format ++ 10 ∷ [])))) }
+{
+    push_name(format, "error", answers)?;
+    match error {
+        None => push_nothing(format, answers)?,
+        Some(error) => push_error(format, error, answers)?,
+    }
+    match format {
+        Format::Tsv => answers.push(b"\n"),
+        Format::Json => answers.push(b"}\n"),
+    }
+}
+
+fn push_error(
+    format: Format,
+    error: ReadError<'_>,
+    answers: &mut OutputBuffer,
+) -> Result<(), AllocError>
+    ensures { OnOk result (answers.new.bytes.items ≡ answers.old.bytes.items
+        ++ quoted format (escaped format (error_message error.entry))) }
+{
+    push_quote(format, answers)?;
+    push_segments(format, &Message::of(error).segments, answers)?;
+    push_quote(format, answers)
+}
