@@ -70,15 +70,15 @@ class Vector:
         """What each member of the vector's record has to say; `None` for a metric that is absent."""
         table = {20: records.V2, 40: records.V4}.get(self.version, records.V3)
         name = VERSION_NAMES[self.version]
-        told = {"version": name}
+        members = {"version": name}
         for metric, (member, words) in table.items():
             value = self.metrics.get(metric)
-            told[member] = None if value is None else records.word(name, words, value)
+            members[member] = None if value is None else records.word(name, words, value)
         for group, tenths in self.groups.items():
-            told[f"{group}Score"] = tenths / 10
+            members[f"{group}Score"] = tenths / 10
             if self.version != 20:
-                told[f"{group}Severity"] = self.rating(tenths).upper()
-        return told
+                members[f"{group}Severity"] = self.rating(tenths).upper()
+        return members
 
 
 def is_number(value):
@@ -225,23 +225,23 @@ def scores_of(vector):
 def answer_location(source, location, allow_incomplete):
     """The object for a location, and whether nothing is found there."""
     at, text, own_id, disagreeing = location
-    told = {"at": at, **source}
+    members = {"at": at, **source}
     if own_id is not None:
-        told["id"] = own_id
+        members["id"] = own_id
     if not isinstance(text, str):
-        return {**told, "refused": "not a string"}, False
-    told["given"] = text
+        return {**members, "refused": "not a string"}, False
+    members["given"] = text
     try:
         vector = Vector(text)
     except reference.Refused as reason:
-        return {**told, "refused": str(reason)}, False
-    told |= {"vector": vector.canonical, "scores": scores_of(vector), "severity": vector.severity}
+        return {**members, "refused": str(reason)}, False
+    members |= {"vector": vector.canonical, "scores": scores_of(vector), "severity": vector.severity}
     missing, differs = vector.missing(), disagreeing(vector)
     if missing:
-        told["missing"] = missing
+        members["missing"] = missing
     if differs:
-        told["differs"] = differs
-    return told, not differs and (allow_incomplete or not missing)
+        members["differs"] = differs
+    return members, not differs and (allow_incomplete or not missing)
 
 
 def no_constant(word):
@@ -259,7 +259,7 @@ def answer(source, text, allow_incomplete=False):
     except ValueError:
         return [{**source, "refused": "not JSON"}], False
     answers = [answer_location(source, each, allow_incomplete) for each in locations(document)]
-    return [told for told, _ in answers], all(agree for _, agree in answers)
+    return [members for members, _ in answers], all(agree for _, agree in answers)
 
 
 def is_by_line(text):
@@ -277,8 +277,8 @@ def main():
     for source, document in whole:
         answers, agree = answer(source, document, allow_incomplete)
         clean &= agree
-        for told in answers:
-            print(json.dumps(told, sort_keys=True, separators=(",", ":"), ensure_ascii=False))
+        for members in answers:
+            print(json.dumps(members, sort_keys=True, separators=(",", ":"), ensure_ascii=False))
     sys.exit(0 if clean else 1)
 
 

@@ -102,9 +102,9 @@ def score_row(title, scored, rating=""):
 
 
 def lines_of_v2(vector):
-    told = accounts.account_of_v2(vector)
-    base, temporal, environmental = told["base"], told["temporal"], told["environmental"]
-    lines = metric_lines(vector, v2.METRICS, WORDS_OF_V2, lambda name: [told["weights"][name]])
+    numbers = accounts.account_of_v2(vector)
+    base, temporal, environmental = numbers["base"], numbers["temporal"], numbers["environmental"]
+    lines = metric_lines(vector, v2.METRICS, WORDS_OF_V2, lambda name: [numbers["weights"][name]])
     lines += [row("Impact", base["impact"]), row("Exploitability", base["exploitability"]), row("f(Impact)", base["f"]),
               row("Before rounding", base["number"]), score_row("Base score", base["score"])]
     if any(name in vector for name in ("E", "RL", "RC")):
@@ -119,9 +119,9 @@ def lines_of_v2(vector):
 
 
 def lines_of_v3(minor, vector):
-    told = accounts.account_of_v3(minor, vector)
-    base, temporal, environmental = told["base"], told["temporal"], told["environmental"]
-    weights = told["weights"]
+    numbers = accounts.account_of_v3(minor, vector)
+    base, temporal, environmental = numbers["base"], numbers["temporal"], numbers["environmental"]
+    weights = numbers["weights"]
     lines = metric_lines(vector, v3.METRICS, WORDS_OF_V3, lambda name: [weights.get(name, "-")])
     lines += [row("Impact sub-score (ISS)", base["iss"]), row("Impact", base["impact"]),
               row("Exploitability", base["exploitability"]), row("Before rounding", base["number"]),
@@ -159,13 +159,13 @@ def group_line(group):
 
 
 def lines_of_v4(vector):
-    told = accounts.account_of_v4(vector)
-    own, nomenclature = v4.score(vector), told["nomenclature"]
-    lines = metric_lines(vector, v4.METRICS, WORDS_OF_V4, lambda name: [levels(vector, name, told["macroVector"])])
-    lines.append(row(f"MacroVector {told['macroVector']}", told["value"]))
-    lines += [group_line(group) for group in told["groups"]]
-    lines.append(row("Mean of the shares", told["mean"]) if told["groups"] else row("No impact", "0.0"))
-    lines.append(row("Before rounding", told["number"]))
+    numbers = accounts.account_of_v4(vector)
+    own, nomenclature = v4.score(vector), numbers["nomenclature"]
+    lines = metric_lines(vector, v4.METRICS, WORDS_OF_V4, lambda name: [levels(vector, name, numbers["macroVector"])])
+    lines.append(row(f"MacroVector {numbers['macroVector']}", numbers["value"]))
+    lines += [group_line(group) for group in numbers["groups"]]
+    lines.append(row("Mean of the shares", numbers["mean"]) if numbers["groups"] else row("No impact", "0.0"))
+    lines.append(row("Before rounding", numbers["number"]))
     lines.append(score_row(f"{nomenclature} score", Fraction(own, 10), v3.severity(own)))
     for name in ("CVSS-B", "CVSS-BT", "CVSS-BE"):
         tenths = v4.score_by(vector, name)
@@ -187,8 +187,8 @@ def explanation(line):
 
 def answer(line, allow_incomplete=True):
     """The lines of the answer, each a list of texts and exact numbers."""
-    told = complete.answer(line, allow_incomplete=allow_incomplete)
-    return [[told]] if told.startswith("error: ") else explanation(line)
+    scored = complete.answer(line, allow_incomplete=allow_incomplete)
+    return [[scored]] if scored.startswith("error: ") else explanation(line)
 
 
 def decimal(number):

@@ -3,7 +3,7 @@
 
 - Each document of bench/documents, in the shape that its tool writes, has planted errors: all are found, and nothing
   else.
-- Files with one document a line and files that are one document are told apart.
+- Files with one document a line and files that are one document are distinguished.
 - Drawn documents of all forms are answered as by reference/documents.py.
 
 usage: bench/checks/audit.py [COUNT [SEED]]
@@ -53,15 +53,15 @@ def audit(*arguments, given=b""):
     return done.returncode, [json.loads(line) for line in done.stdout.splitlines()]
 
 
-def finding(told):
-    if "differs" in told:
-        return " ".join(each["member"] for each in told["differs"])
-    return next((member for member in ("refused", "missing") if member in told), None)
+def finding(answer):
+    if "differs" in answer:
+        return " ".join(each["member"] for each in answer["differs"])
+    return next((member for member in ("refused", "missing") if member in answer), None)
 
 
-def expect(told, expected, what):
-    if told != expected:
-        sys.exit(f"{what}: {told}, and not {expected}")
+def expect(actual, expected, what):
+    if actual != expected:
+        sys.exit(f"{what}: {actual}, and not {expected}")
 
 
 def try_stored():
@@ -71,23 +71,23 @@ def try_stored():
         path = STORED / f"{name}.json"
         answers, clean = documents.answer({}, path.read_bytes())
         expect(audit(path), (1, answers), name)
-        expect([(told["at"], finding(told)) for told in answers if finding(told)], PLANTED[name], name)
+        expect([(answer["at"], finding(answer)) for answer in answers if finding(answer)], PLANTED[name], name)
         one_line = json.dumps(json.loads(path.read_text())).encode()
         expect(audit(given=one_line), (1, documents.answer({"line": 1}, one_line)[0]), name)
         expect(audit("--document", given=path.read_bytes()), (1, answers), name)
     paths = [STORED / f"{name}.json" for name in names]
-    many = [told for path in paths for told in documents.answer({"file": str(path)}, path.read_bytes())[0]]
+    many = [answer for path in paths for answer in documents.answer({"file": str(path)}, path.read_bytes())[0]]
     expect(audit(*paths), (1, many), "several files")
     print(f"{len(names)} stored documents: all that is planted is found, and nothing else")
 
 
 def try_layouts():
-    told = b'{"vectorString":"AV:N/AC:L/Au:N/C:N/I:N/A:C"}'
-    cases = [(told, True), (told + b"\n", True), (b" \r\n\n" + told + b"\n" + told, True), (b"1\n[\n" + told + b"]\n", True),
-             (b"[\n" + told + b",\n" + told + b"\n]\n", False), (b"\n\n {\n\"a\":" + told + b"}", False),
-             (b"", False), (b" \n\t\r\n", False), (b"x\n" + told, False), (b"\xff\n" + told, False), (b"{}\n\xff\n", True),
-             (b" " * 70_000 + told + b"\n[", True), (b"[" + b"\n" * 200_000 + told + b"]", False),
-             (b"[" + b" " * 200_000 + told + b"]\n" + told, True)]
+    record = b'{"vectorString":"AV:N/AC:L/Au:N/C:N/I:N/A:C"}'
+    cases = [(record, True), (record + b"\n", True), (b" \r\n\n" + record + b"\n" + record, True), (b"1\n[\n" + record + b"]\n", True),
+             (b"[\n" + record + b",\n" + record + b"\n]\n", False), (b"\n\n {\n\"a\":" + record + b"}", False),
+             (b"", False), (b" \n\t\r\n", False), (b"x\n" + record, False), (b"\xff\n" + record, False), (b"{}\n\xff\n", True),
+             (b" " * 70_000 + record + b"\n[", True), (b"[" + b"\n" * 200_000 + record + b"]", False),
+             (b"[" + b" " * 200_000 + record + b"]\n" + record, True)]
     with tempfile.TemporaryDirectory() as room:
         for number, (data, by_line) in enumerate(cases):
             path = Path(room) / f"{number}"
@@ -149,14 +149,14 @@ class Drawing:
             return None
 
     def record(self, text, known):
-        told = {"vectorString": text}
+        members = {"vectorString": text}
         if known:
             for member, expected in known.expected().items():
                 if self.chance(0.3):
-                    told[member] = self.value(expected)
+                    members[member] = self.value(expected)
         if self.chance(0.1):
-            told["score"] = self.value(known and known.score / 10)
-        return told
+            members["score"] = self.value(known and known.score / 10)
+        return members
 
     def form(self):
         text = self.vector()
@@ -172,56 +172,56 @@ class Drawing:
         if kind == 2:
             return {"type": self.value(known and documents.OSV_TYPES[known.version]), "score": text}
         if kind == 3:
-            told = {"vector": text, "method": self.value(known and documents.METHODS[known.version]), "score": self.value(score),
+            members = {"vector": text, "method": self.value(known and documents.METHODS[known.version]), "score": self.value(score),
                     "severity": self.value(rating)}
         elif kind == 4:
-            told = {"vector": text, "version": self.value(named), "metrics": {"baseScore": self.value(score)} if self.chance(0.9) else self.pick([], None, 1)}
+            members = {"vector": text, "version": self.value(named), "metrics": {"baseScore": self.value(score)} if self.chance(0.9) else self.pick([], None, 1)}
         elif kind == 5:
-            told = {}
+            members = {}
             for version in ("V2", "V3", "V40"):
                 if self.chance(0.5):
                     own = self.vector()
-                    told[f"{version}Vector"] = own
-                    told[f"{version}Score"] = self.value((vector := self.known(own)) and vector.score / 10)
+                    members[f"{version}Vector"] = own
+                    members[f"{version}Score"] = self.value((vector := self.known(own)) and vector.score / 10)
         elif kind == 6:
             return {self.pick("advisory", "advisory", "other"): {"id": "RUSTSEC-1", "cvss": text}}
         elif kind == 7:
-            told = {"security_vectorString": text, "security_score": self.value(score), "security_severity": self.value(rating)}
+            members = {"security_vectorString": text, "security_score": self.value(score), "security_severity": self.value(rating)}
         else:
             parts = known.sub_scores() if known else {}
-            told = {self.pick("cvssData", "cvssData", "cvssV3_1", "cvss_v2", "cvss_v4"): self.record(text, known),
+            members = {self.pick("cvssData", "cvssData", "cvssV3_1", "cvss_v2", "cvss_v4"): self.record(text, known),
                     "baseSeverity": self.value(rating and rating.upper())}
             for member in ("exploitabilityScore", "impactScore"):
-                told[member] = self.value(parts[member] / 10 if member in parts else None)
-        return {name: value for name, value in told.items() if self.chance(0.9)}
+                members[member] = self.value(parts[member] / 10 if member in parts else None)
+        return {name: value for name, value in members.items() if self.chance(0.9)}
 
     def document(self, depth=0):
-        told = {**self.form(), **(self.form() if self.chance(0.2) else {})}
+        members = {**self.form(), **(self.form() if self.chance(0.2) else {})}
         for name in ("id", "cve", "ghsa_id", "VulnerabilityID", "spdxId", "cveMetadata"):
             if self.chance(0.08):
-                told[name] = self.pick(f"{name}-{self.random.randrange(9)}", None, 1, {"id": "inner", "cveId": "own"})
+                members[name] = self.pick(f"{name}-{self.random.randrange(9)}", None, 1, {"id": "inner", "cveId": "own"})
         if depth < 3:
             for _ in range(self.random.randrange(3)):
                 name = self.pick("a", "b/c", "d~e", "cvssData", "advisory", "é", "", "cvss_v3", "metrics")
                 inner = self.document(depth + 1)
-                told[name] = inner if self.chance(0.6) else [self.pick(0, "x", None), inner]
-        return told
+                members[name] = inner if self.chance(0.6) else [self.pick(0, "x", None), inner]
+        return members
 
 
 def compare_drawn(count, seed):
     drawing = Drawing(seed)
     lines = [json.dumps(drawing.document(), ensure_ascii=drawing.chance(0.5)).encode() for _ in range(count)]
     for arguments, allow_incomplete in (((), False), (("--allow-incomplete",), True)):
-        status, told = audit(*arguments, given=b"\n".join(lines))
+        status, output = audit(*arguments, given=b"\n".join(lines))
         at = 0
         clean = True
         for number, line in enumerate(lines, 1):
             expected, agree = documents.answer({"line": number}, line, allow_incomplete)
             clean &= agree
-            if told[at:at + len(expected)] != expected:
-                sys.exit(f"line {number}: {line.decode()}\n{told[at:at + len(expected)]}\nand not\n{expected}")
+            if output[at:at + len(expected)] != expected:
+                sys.exit(f"line {number}: {line.decode()}\n{output[at:at + len(expected)]}\nand not\n{expected}")
             at += len(expected)
-        expect((status, len(told)), (0 if clean else 1, at), "the answers")
+        expect((status, len(output)), (0 if clean else 1, at), "the answers")
     print(f"{count} drawn documents (seed {seed}) with {at} vectors: the answers are those of reference/documents.py")
 
 

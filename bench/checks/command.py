@@ -37,9 +37,9 @@ def expect(status, out, error, *arguments, given=b"", **streams):
         streams["input"] = given
     streams.setdefault("stdout", subprocess.PIPE)
     done = subprocess.run([PROGRAM, *arguments], stderr=subprocess.PIPE, check=False, **streams)
-    told = (done.returncode, done.stdout or b"", done.stderr)
-    if told != (status, out, error):
-        sys.exit(f"cvss {arguments}: {told}, and not {(status, out, error)}")
+    outcome = (done.returncode, done.stdout or b"", done.stderr)
+    if outcome != (status, out, error):
+        sys.exit(f"cvss {arguments}: {outcome}, and not {(status, out, error)}")
     tried += 1
 
 
@@ -81,8 +81,8 @@ def try_hints():
     for prefix in (b"cvss:3.1/", b"Cvss:3.0/"):
         expect(1, b"error: invalid CVSS string prefix: `" + prefix[:4] + b"`\n", capitals, "score", prefix + bare)
     for text in (b"(" + V2 + b").", b'"' + V2 + b'"', b" " + V2):
-        told = subprocess.run([PROGRAM, "score", text], capture_output=True, check=False)
-        assert (told.returncode, told.stderr) == (1, b"cvss: hint: `cvss find` finds vectors among other text\n"), told
+        done = subprocess.run([PROGRAM, "score", text], capture_output=True, check=False)
+        assert (done.returncode, done.stderr) == (1, b"cvss: hint: `cvss find` finds vectors among other text\n"), done
     for word, answer in ((CUT, CUT_ANSWER), (b"x:y", b"error: invalid CVSS metric group component: `x:y`\n")):
         expect(1, answer, b"", "score", word)
     expect(0, V2_ANSWER, b"", "score", V2)
@@ -120,9 +120,9 @@ def try_files(room):
     for name in many:
         (room / name).write_bytes(V2)
     expect(0, b"".join(name.encode() + b":" + V2_ANSWER for name in many), b"", "score", *many, cwd=room)
-    told = subprocess.run(["bash", "-c", 'ulimit -n 20; exec "$0" score "$@"', PROGRAM, *many], stdout=subprocess.PIPE,
+    done = subprocess.run(["bash", "-c", 'ulimit -n 20; exec "$0" score "$@"', PROGRAM, *many], stdout=subprocess.PIPE,
                           cwd=room, check=True)
-    assert told.stdout.count(b"\n") == len(many), "a file is left open"
+    assert done.stdout.count(b"\n") == len(many), "a file is left open"
 
 
 def try_streams(room):
@@ -140,13 +140,13 @@ def try_streams(room):
     os.close(folder)
     (room / "long").write_bytes((V2 + b"\n" + CUT + b"\n") * 100_000)
     for command, status in (('"$0" score long long', 0), ('"$0" score gone long', 2), ('"$0" --help', 0)):
-        told = subprocess.run(["bash", "-c", f"{command} 2>/dev/null | true; exit ${{PIPESTATUS[0]}}", PROGRAM], cwd=room,
+        done = subprocess.run(["bash", "-c", f"{command} 2>/dev/null | true; exit ${{PIPESTATUS[0]}}", PROGRAM], cwd=room,
                               check=False)
         # a pipe takes the help before its reader is gone
-        assert told.returncode == status, (command, told.returncode)
-    told = subprocess.run(["bash", "-c", '"$0" score long | head -1; exit ${PIPESTATUS[0]}', PROGRAM], cwd=room,
+        assert done.returncode == status, (command, done.returncode)
+    done = subprocess.run(["bash", "-c", '"$0" score long | head -1; exit ${PIPESTATUS[0]}', PROGRAM], cwd=room,
                           capture_output=True, check=False)
-    assert (told.returncode, told.stdout, told.stderr) == (0, V2_ANSWER, b""), told
+    assert (done.returncode, done.stdout, done.stderr) == (0, V2_ANSWER, b""), done
 
 
 def try_lines(count, seed):
@@ -164,11 +164,11 @@ def try_lines(count, seed):
     return count * len(tasks)
 
 
-def compare_rows(form, told, expected):
+def compare_rows(form, actual, expected):
     """JSON is compared as members and values, in order, since it may escape a byte in several ways."""
     if form == "json":
-        told, expected = ([json.loads(line, object_pairs_hook=list) for line in text.splitlines()] for text in (told, expected))
-    assert told == expected, next(pair for pair in zip(told.splitlines() if form == "tsv" else told, expected.splitlines() if form == "tsv" else expected) if pair[0] != pair[1])
+        actual, expected = ([json.loads(line, object_pairs_hook=list) for line in text.splitlines()] for text in (actual, expected))
+    assert actual == expected, next(pair for pair in zip(actual.splitlines() if form == "tsv" else actual, expected.splitlines() if form == "tsv" else expected) if pair[0] != pair[1])
 
 
 def try_rows(room, count, seed):
@@ -183,14 +183,14 @@ def try_rows(room, count, seed):
     header = "\t".join(rows.COLUMNS).encode() + b"\n"
     for form in ("tsv", "json"):
         for allow in ((), ("--allow-incomplete",)):
-            told = subprocess.run([PROGRAM, "score", f"--{form}", *allow], input=given, capture_output=True, check=False)
+            done = subprocess.run([PROGRAM, "score", f"--{form}", *allow], input=given, capture_output=True, check=False)
             expected = b"".join(rows.row(form, line, bool(allow)) + b"\n" for line in drawn)
-            assert told.returncode == 1 and not told.stderr, told
-            compare_rows(form, told.stdout, (header if form == "tsv" else b"") + expected)
+            assert done.returncode == 1 and not done.stderr, done
+            compare_rows(form, done.stdout, (header if form == "tsv" else b"") + expected)
         both = b"".join(rows.row(form, line, file=name) + b"\n"
                         for name, of in ((b"one", drawn), (odd_name.encode(), [V2])) for line in of)
-        told = subprocess.run([PROGRAM, "score", f"--{form}", "one", odd_name], cwd=room, capture_output=True, check=False)
-        compare_rows(form, told.stdout, (b"file\t" + header if form == "tsv" else b"") + both)
+        done = subprocess.run([PROGRAM, "score", f"--{form}", "one", odd_name], cwd=room, capture_output=True, check=False)
+        compare_rows(form, done.stdout, (b"file\t" + header if form == "tsv" else b"") + both)
     with open("/dev/full", "wb") as device:
         expect(2, b"", b"cvss: standard output: No space left on device (os error 28)\n", "score", "--tsv", V2, stdout=device)
     expect(2, header, b"cvss: gone" + NO_FILE, "score", "--tsv", "gone", cwd=room)
@@ -206,16 +206,16 @@ def try_large(room):
     expect(0, b"".join(name.encode() + b":" + V2_ANSWER for name in many), b"", "score", *many, cwd=room)
     with open(room / "zeros", "wb") as zeros:
         zeros.truncate(10 * 10 ** 9)
-    told = subprocess.run(["bash", "-c", 'ulimit -v 500000; exec "$0" score zeros', PROGRAM], cwd=room, capture_output=True,
+    done = subprocess.run(["bash", "-c", 'ulimit -v 500000; exec "$0" score zeros', PROGRAM], cwd=room, capture_output=True,
                           check=False)
-    assert (told.returncode, told.stdout, told.stderr) == (2, b"", b"cvss: out of memory\n"), told
+    assert (done.returncode, done.stdout, done.stderr) == (2, b"", b"cvss: out of memory\n"), done
     (room / "zeros").unlink()
     if os.geteuid() == 0:
         room.chmod(0o755)
         shutil.copy(PROGRAM, room / "cvss")
         (room / "cvss").chmod(0o755)
-        told = subprocess.run([room / "cvss", "score", "closed"], cwd=room, user=65534, capture_output=True, check=False)
-        assert (told.returncode, told.stderr) == (2, b"cvss: closed: Permission denied (os error 13)\n"), told
+        done = subprocess.run([room / "cvss", "score", "closed"], cwd=room, user=65534, capture_output=True, check=False)
+        assert (done.returncode, done.stderr) == (2, b"cvss: closed: Permission denied (os error 13)\n"), done
 
 
 def try_chunks(seed):
@@ -229,8 +229,8 @@ def try_chunks(seed):
             program.stdin.write(given[at:at + step])
             program.stdin.flush()
             at += step
-        told = program.communicate()[0]
-    assert told == (V2_ANSWER + CUT_ANSWER) * 20 + V2_ANSWER, told
+        output = program.communicate()[0]
+    assert output == (V2_ANSWER + CUT_ANSWER) * 20 + V2_ANSWER, output
 
 
 def try_completion():
@@ -239,9 +239,9 @@ def try_completion():
     environment = os.environ | {"PROGRAM": str(PROGRAM), "FILE": str(ROOT / "bindings/completion/cvss")}
 
     def complete_words(*words):
-        told = subprocess.run(["bash", "-c", script, "bash", "cvss", *words], env=environment, capture_output=True, text=True,
+        done = subprocess.run(["bash", "-c", script, "bash", "cvss", *words], env=environment, capture_output=True, text=True,
                               check=True, cwd=ROOT)
-        return told.stdout.split()
+        return done.stdout.split()
 
     assert {"score", "set", "help", "--help", "--version"} <= set(complete_words(""))
     assert complete_words("sc") == ["score"] and complete_words("help", "se") == ["set"]

@@ -32,29 +32,29 @@ def has_seven_decimals(number):
     return (number * 10_000_000).denominator == 1
 
 
-def is_number(told, exact):
+def is_number(actual, exact):
     """Whether a printed number is close enough to the exact one."""
-    if isinstance(told, bool) or not isinstance(told, (int, Fraction)):
+    if isinstance(actual, bool) or not isinstance(actual, (int, Fraction)):
         return False
-    if not has_seven_decimals(told):
+    if not has_seven_decimals(actual):
         return False
-    return told == exact if has_seven_decimals(exact) else abs(told - exact) < CLOSE
+    return actual == exact if has_seven_decimals(exact) else abs(actual - exact) < CLOSE
 
 
-def difference(told, expected, at=""):
+def difference(actual, expected, at=""):
     """Where the output differs from what is expected, and how, if it does."""
     if isinstance(expected, dict):
-        if not isinstance(told, dict) or told.keys() != expected.keys():
-            return f"{at}: {told}, and not {expected}"
-        pairs = [(told[name], expected[name], f"{at}/{name}") for name in expected]
+        if not isinstance(actual, dict) or actual.keys() != expected.keys():
+            return f"{at}: {actual}, and not {expected}"
+        pairs = [(actual[name], expected[name], f"{at}/{name}") for name in expected]
     elif isinstance(expected, list):
-        if not isinstance(told, list) or len(told) != len(expected):
-            return f"{at}: {told}, and not {expected}"
-        pairs = [(*pair, f"{at}/{place}") for place, pair in enumerate(zip(told, expected))]
+        if not isinstance(actual, list) or len(actual) != len(expected):
+            return f"{at}: {actual}, and not {expected}"
+        pairs = [(*pair, f"{at}/{place}") for place, pair in enumerate(zip(actual, expected))]
     else:
-        agrees = (is_number(told, expected) if isinstance(expected, Fraction)
-                  else type(told) is type(expected) and told == expected)
-        return None if agrees else f"{at}: {told}, and not {expected}"
+        agrees = (is_number(actual, expected) if isinstance(expected, Fraction)
+                  else type(actual) is type(expected) and actual == expected)
+        return None if agrees else f"{at}: {actual}, and not {expected}"
     return next(filter(None, (difference(*pair) for pair in pairs)), None)
 
 
@@ -76,11 +76,11 @@ def run(given, *options):
 def compare_json(given):
     """Ends if an object is another than that of accounts.py, or the status is."""
     out, status = run(given, "--json")
-    told = out.splitlines()
-    if len(told) != len(given):
-        sys.exit(f"cvss explain --json answers {len(told)} of {len(given)} lines")
+    answers = out.splitlines()
+    if len(answers) != len(given):
+        sys.exit(f"cvss explain --json answers {len(answers)} of {len(given)} lines")
     refused = False
-    for number, (line, text) in enumerate(zip(told, given), 1):
+    for number, (line, text) in enumerate(zip(answers, given), 1):
         expected = accounts.answer(number, text.encode("utf-8"))
         refused = refused or "refused" in expected
         found = difference(json.loads(line, parse_float=Fraction), expected)
@@ -90,12 +90,12 @@ def compare_json(given):
         sys.exit(f"cvss explain --json: status {status}")
 
 
-def is_line(told, expected):
+def is_line(actual, expected):
     """Whether a line of text has these texts, and numbers that are close enough to these."""
-    if told == explained.written([expected])[:-1]:
+    if actual == explained.written([expected])[:-1]:
         return True
     pattern = "".join(re.escape(part) if isinstance(part, str) else r"(-?\d+\.(?:\d|\d{1,6}[1-9]))" for part in expected)
-    found = re.fullmatch(pattern, told)
+    found = re.fullmatch(pattern, actual)
     numbers = [part for part in expected if isinstance(part, Fraction)]
     return found is not None and all(is_number(Fraction(own), exact) for own, exact in zip(found.groups(), numbers))
 
@@ -110,8 +110,8 @@ def compare_text(given):
     for text, answer in zip(given, answers):
         expected = explained.answer(text.encode("utf-8"))
         refused = refused or expected[0][0].startswith("error: ")
-        told = answer.split("\n")
-        if len(told) != len(expected) or not all(map(is_line, told, expected)):
+        written = answer.split("\n")
+        if len(written) != len(expected) or not all(map(is_line, written, expected)):
             sys.exit(f"{text}: {answer}\nand not\n{explained.written(expected)}")
     if status != int(refused):
         sys.exit(f"cvss explain: status {status}")

@@ -60,23 +60,23 @@ def run(given, *arguments):
 def try_cases():
     for text, found in CASES:
         expected = [f"1:{column} {answer}\n" for column, answer in found]
-        told = run(text).stdout.decode().splitlines(keepends=True)
-        if told != expected or list(finding.answers(text)) != expected:
-            sys.exit(f"cvss find: {text}: {told}, finding.py {list(finding.answers(text))}, and not {expected}")
+        actual = run(text).stdout.decode().splitlines(keepends=True)
+        if actual != expected or list(finding.answers(text)) != expected:
+            sys.exit(f"cvss find: {text}: {actual}, finding.py {list(finding.answers(text))}, and not {expected}")
 
 
 def compare(given, *arguments):
     """Ends if the program writes something else, or has another status; otherwise returns the answers."""
     expected = list(finding.answers(given, bool(arguments)))
     done = run(given, *arguments)
-    told = done.stdout.decode("utf-8").splitlines(keepends=True)
-    for here, there in zip(told, expected):
+    actual = done.stdout.decode("utf-8").splitlines(keepends=True)
+    for here, there in zip(actual, expected):
         if here != there:
             sys.exit(f"cvss find writes {here!r}, and not {there!r}")
     if not expected:
         sys.exit("the drawn texts have no vector: nothing was tried")
-    if len(told) != len(expected):
-        sys.exit(f"cvss find writes {len(told)} lines, and not {len(expected)}")
+    if len(actual) != len(expected):
+        sys.exit(f"cvss find writes {len(actual)} lines, and not {len(expected)}")
     rejected = any(answer.split(" ", 1)[1].startswith("error: ") for answer in expected)
     if (done.returncode, done.stderr) != (int(rejected), b""):
         sys.exit(f"cvss find: status {done.returncode}, standard error {done.stderr!r}")

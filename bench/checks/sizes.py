@@ -110,19 +110,19 @@ def try_refusals(runs):
     """Each error with a long part: by the rules of each version, and as a JSON string."""
     short = [(version, text, reason(READ[version], text)) for version, text in refused()]
     for size in SIZES:
-        told = [(version, lengthened(text, size), lengthened(words, size))
+        cases = [(version, lengthened(text, size), lengthened(words, size))
                 for version, text, words in short]
         given = "".join(f"{'' if version == 'cvss' else version + ' '}{text}\n"
-                        for version, text, _ in told)
+                        for version, text, _ in cases)
         runs.expect("test_vectors", given.encode(),
-                    (0, "".join(f"error: {words}\n" for _, _, words in told).encode(), ""))
-        given = "".join(f"{version} {text}\n" for version, text, _ in told)
+                    (0, "".join(f"error: {words}\n" for _, _, words in cases).encode(), ""))
+        given = "".join(f"{version} {text}\n" for version, text, _ in cases)
         runs.expect("test_json", given.encode(),
-                    (0, "".join(f"from_value: {words}\n" for _, _, words in told).encode(), ""))
-        lines = [(text, words) for version, text, words in told if version == "cvss"]
+                    (0, "".join(f"from_value: {words}\n" for _, _, words in cases).encode(), ""))
+        lines = [(text, words) for version, text, words in cases if version == "cvss"]
         runs.expect("cvss_tool", "".join(f"{text}\n" for text, _ in lines).encode(),
                     (1, "".join(f"error: {words}\n" for _, words in lines).encode(), ""))
-        for version, text, words in told:
+        for version, text, words in cases:
             if version == "v4":
                 runs.expect("cvss_triage", f"{LOW}\n{text}".encode(),
                             (1, b"", f"cvss_triage: line 2: {words}\n"))
@@ -133,10 +133,10 @@ def try_refusals(runs):
 
 def try_unknown(runs, word):
     """A word that is no rating, and no nomenclature."""
-    told = (f"from_value: invalid CVSS Qualitative Severity Rating: `{word}`\n"
+    answer = (f"from_value: invalid CVSS Qualitative Severity Rating: `{word}`\n"
             f"from_value: invalid CVSSv4 nomenclature: `{word}`\n")
     runs.expect("test_json", f"severity {word}\nnomenclature {word}\n".encode(),
-                (0, told.encode(), ""))
+                (0, answer.encode(), ""))
 
 
 def try_whole(runs):
@@ -162,20 +162,20 @@ def try_arguments(runs):
     for count in range(len(overrides) + 1):
         runs.expect("cvss_triage", LOW.encode(), (0, row(LOW, overrides[:count]), ""),
                     overrides[:count])
-    for more, told in (("cr:l", "duplicate CVSSv4 CR (Confidentiality Requirements) metric"),
+    for more, reason in (("cr:l", "duplicate CVSSv4 CR (Confidentiality Requirements) metric"),
                        ("E:P", "no environmental CVSSv4 metric"),
                        ("x", "invalid CVSS metric group component: `x`")):
-        runs.expect("cvss_triage", LOW.encode(), (1, b"", f"cvss_triage: argument 15: {told}\n"),
+        runs.expect("cvss_triage", LOW.encode(), (1, b"", f"cvss_triage: argument 15: {reason}\n"),
                     [*overrides, more])
     for size in ARGUMENT_SIZES:
         part = "q" * size
-        for argument, told in (
+        for argument, reason in (
                 (part, f"invalid CVSS metric group component: `{part}`"),
                 (f"{part}:N", f"unknown CVSS metric name: `{part.upper()}`"),
                 (f"MAV:{part}",
                  f"invalid CVSSv4 MAV (Modified Attack Vector) metric: `{part.upper()}`"),
                 (f"E:{part}", "no environmental CVSSv4 metric")):
-            runs.expect("cvss_triage", LOW.encode(), (1, b"", f"cvss_triage: argument 1: {told}\n"),
+            runs.expect("cvss_triage", LOW.encode(), (1, b"", f"cvss_triage: argument 1: {reason}\n"),
                         [argument])
         runs.expect("cvss_tool", b"", (0, b"", ""), [part] * 20)
 
@@ -184,12 +184,12 @@ def try_much(runs):
     """Long lines, many lines, more than a million reads and writes, and bytes 0."""
     for length in LONG:
         part = "q" * length
-        told = f"invalid CVSS metric group component: `{part}`"
+        reason = f"invalid CVSS metric group component: `{part}`"
         runs.expect("cvss_tool", part.encode() + b"\n" + LINE,
-                    (1, f"error: {told}\n{FIRST}".encode(), ""))
-        runs.expect("cvss_triage", part.encode(), (1, b"", f"cvss_triage: line 1: {told}\n"))
+                    (1, f"error: {reason}\n{FIRST}".encode(), ""))
+        runs.expect("cvss_triage", part.encode(), (1, b"", f"cvss_triage: line 1: {reason}\n"))
         runs.expect("cvss_command", f'{{"vectorString":"{part}"}}'.encode(),
-                    (1, f'{{"at":"","given":"{part}","line":1,"refused":"{told}"}}\n'.encode(), ""), ["audit"])
+                    (1, f'{{"at":"","given":"{part}","line":1,"refused":"{reason}"}}\n'.encode(), ""), ["audit"])
     count = ALL // len(LINE)
     runs.expect("cvss_tool", LINE * count, (0, FIRST.encode() * count, ""))
     count = ONE_BY_ONE // len(LINE)
@@ -197,9 +197,9 @@ def try_much(runs):
     runs.expect("cvss_triage", f"{LOW}\n".encode() * SLOW_ROWS, (0, row(LOW, []) * SLOW_ROWS, ""),
                 WRITE_SLOWLY=1, READ_STEP=1)
     runs.expect("cvss_triage", f"{LOW}\n".encode() * ROWS, (0, row(LOW, []) * ROWS, ""))
-    told = b"error: invalid CVSS metric group component: `\0`\n"
-    runs.expect("cvss_tool", b"\0\n" + LINE + b"\0\n", (1, told + FIRST.encode() + told, ""))
-    runs.expect("cvss_tool", LINE + b"\0\n", (1, FIRST.encode() + told, ""), READ_STEP=len(LINE))
+    reason = b"error: invalid CVSS metric group component: `\0`\n"
+    runs.expect("cvss_tool", b"\0\n" + LINE + b"\0\n", (1, reason + FIRST.encode() + reason, ""))
+    runs.expect("cvss_tool", LINE + b"\0\n", (1, FIRST.encode() + reason, ""), READ_STEP=len(LINE))
     runs.expect("cvss_command", b"\0", (1, b'{"line":1,"refused":"not JSON"}\n', ""), ["audit"])
 
 
@@ -222,12 +222,12 @@ def try_many(runs):
 
 def requests(shim, line):
     """How many requests for memory `test_vectors` makes for a line, fifty times."""
-    with tempfile.TemporaryFile() as told:
-        env = dict(os.environ, LD_PRELOAD=shim, TOLD=str(told.fileno()))
+    with tempfile.TemporaryFile() as requested:
+        env = dict(os.environ, LD_PRELOAD=shim, TOLD=str(requested.fileno()))
         subprocess.run([ROOT / "crates/test_vectors/out/test_vectors"],
                        input=f"{line}\n".encode() * 50, stdout=subprocess.DEVNULL, env=env,
-                       pass_fds=[told.fileno()], check=True)
-        return os.fstat(told.fileno()).st_size
+                       pass_fds=[requested.fileno()], check=True)
+        return os.fstat(requested.fileno()).st_size
 
 
 def try_memory(shim):

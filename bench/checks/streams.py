@@ -32,7 +32,7 @@ SHIM = r"""
 #include <stdlib.h>
 #include <unistd.h>
 
-static long told(const char *name, long other)
+static long setting(const char *name, long other)
 {
     const char *text = getenv(name);
     return text ? atol(text) : other;
@@ -45,8 +45,8 @@ ssize_t read(int fd, void *room, size_t count)
     if (!next) next = (ssize_t (*)(int, void *, size_t))dlsym(RTLD_NEXT, "read");
     if (fd != 0)
         return next(fd, room, count);
-    long step = told("READ_STEP", 1 << 30), fault = told("READ_FAULT", 0);
-    long left = told("READ_LIMIT", 1 << 30) - given;
+    long step = setting("READ_STEP", 1 << 30), fault = setting("READ_FAULT", 0);
+    long left = setting("READ_LIMIT", 1 << 30) - given;
     if (fault && !failed && left <= 0) {
         failed = 1;
         errno = (int)fault;
@@ -66,7 +66,7 @@ ssize_t write(int fd, const void *bytes, size_t count)
     if (!next) next = (ssize_t (*)(int, const void *, size_t))dlsym(RTLD_NEXT, "write");
     if (fd != 1)
         return next(fd, bytes, count);
-    long left = told("WRITE_ROOM", 1 << 30) - taken, fault = told("WRITE_FAULT", 0);
+    long left = setting("WRITE_ROOM", 1 << 30) - taken, fault = setting("WRITE_FAULT", 0);
     if (failed)
         left = 1 << 30;
     if (left <= 0) {
@@ -76,7 +76,7 @@ ssize_t write(int fd, const void *bytes, size_t count)
     }
     /* one to three bytes a call, in turn */
     turn = turn % 3 + 1;
-    if (told("WRITE_SLOWLY", 0) && count > (size_t)turn) count = turn;
+    if (setting("WRITE_SLOWLY", 0) && count > (size_t)turn) count = turn;
     if (count > (size_t)left) count = left;
     ssize_t put = next(fd, bytes, count);
     if (put > 0) taken += put;
@@ -195,10 +195,10 @@ class Runs:
 
     def expect(self, program, given, wanted, arguments=(), **streams):
         """Compares the status, standard output and standard error."""
-        told = self.run(program, given, arguments, streams)
-        if told != wanted:
+        outcome = self.run(program, given, arguments, streams)
+        if outcome != wanted:
             sys.exit(f"{program} {arguments} {streams} over {given[:200]!r}:\n"
-                     f"{str(told)[:2000]}\nand not\n{str(wanted)[:2000]}")
+                     f"{str(outcome)[:2000]}\nand not\n{str(wanted)[:2000]}")
         self.count += 1
 
     def run(self, program, given, arguments, streams):
@@ -214,9 +214,9 @@ class Runs:
 
     def expect_error(self, given, wanted, arguments, **streams):
         """Compares the status and standard output of `cvss`, which names an error on standard error."""
-        told = self.run("cvss_command", given, arguments, streams)
-        if told[:2] != wanted or bool(wanted[0]) != told[2].startswith("cvss: "):
-            sys.exit(f"cvss {arguments} {streams} over {given[:200]!r}:\n{str(told)[:2000]}\nand not\n{str(wanted)[:2000]}")
+        outcome = self.run("cvss_command", given, arguments, streams)
+        if outcome[:2] != wanted or bool(wanted[0]) != outcome[2].startswith("cvss: "):
+            sys.exit(f"cvss {arguments} {streams} over {given[:200]!r}:\n{str(outcome)[:2000]}\nand not\n{str(wanted)[:2000]}")
         self.count += 1
 
     def expect_fault(self, program, given, written, words, arguments=(), **streams):
@@ -305,7 +305,7 @@ def try_long(runs):
 
 def try_long_names(runs, name):
     """A long name of each type, and a long value of metrics of each version."""
-    told = {
+    reasons = {
         "kind 2": "unknown CVSS metric name",
         "kind 3": "unknown CVSS metric name",
         "kind 4": "unknown CVSS metric name",
@@ -315,14 +315,14 @@ def try_long_names(runs, name):
         "value 3 MS": "invalid CVSSv3 S (Scope) metric",
         "value 4 U": "invalid CVSSv4 U (Provider Urgency) metric",
     }
-    runs.expect("test_vectors", "".join(f"{mark} {name}\n" for mark in told).encode(),
-                (0, "".join(f"error: {reason}: `{name}`\n" for reason in told.values()).encode(),
+    runs.expect("test_vectors", "".join(f"{mark} {name}\n" for mark in reasons).encode(),
+                (0, "".join(f"error: {reason}: `{name}`\n" for reason in reasons.values()).encode(),
                  ""))
-    told = {"severity": "invalid CVSS Qualitative Severity Rating",
+    reasons = {"severity": "invalid CVSS Qualitative Severity Rating",
             "nomenclature": "invalid CVSSv4 nomenclature"}
-    runs.expect("test_json", "".join(f"{kind} {name}\n" for kind in told).encode(),
+    runs.expect("test_json", "".join(f"{kind} {name}\n" for kind in reasons).encode(),
                 (0, "".join(f"from_value: {reason}: `{name}`\n"
-                            for reason in told.values()).encode(), ""))
+                            for reason in reasons.values()).encode(), ""))
 
 
 def main():
