@@ -124,8 +124,17 @@ def compare_all(name, given):
     print(f"cvss explain: {len(given)} {name}, explained as accounts.py and explained.py do")
 
 
+def try_stored():
+    """The objects that answer stored lines, whose bytes are checked too."""
+    given, answers = ((ROOT / "bench/stored" / name).read_bytes() for name in ("explain.lines", "explain.answers"))
+    done = subprocess.run([*COMMAND, "--json"], input=given, capture_output=True, check=False)
+    if (done.returncode, done.stdout, done.stderr) != (1, answers, b""):
+        sys.exit(f"cvss explain --json: the answers to bench/stored/explain.lines are {done}")
+
+
 def main():
     arguments = sys.argv[1:]
+    try_stored()
     is_whole = arguments[:1] == ["whole"]
     if is_whole:
         arguments.pop(0)

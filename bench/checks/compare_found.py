@@ -57,6 +57,14 @@ def run(given, *arguments):
     return subprocess.run([PROGRAM, "find", *arguments], input=given, capture_output=True, check=False)
 
 
+def try_stored():
+    """The answers to stored lines."""
+    lines, answers = ((ROOT / "bench/stored" / name).read_bytes() for name in ("find.lines", "find.answers"))
+    done = run(lines, "--allow-incomplete")
+    if (done.returncode, done.stdout, done.stderr) != (1, answers, b""):
+        sys.exit(f"cvss find: the answers to bench/stored/find.lines are {done}")
+
+
 def try_cases():
     for text, found in CASES:
         expected = [f"1:{column} {answer}\n" for column, answer in found]
@@ -85,6 +93,7 @@ def compare(given, *arguments):
 
 def main():
     count = int(sys.argv[1]) if len(sys.argv) > 1 else 5_000
+    try_stored()
     try_cases()
     drawn = texts.drawn(count, int(sys.argv[2]) if len(sys.argv) > 2 else 2)
     # the last line has no end, and each tenth ends with a carriage return too

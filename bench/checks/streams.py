@@ -319,7 +319,7 @@ def try_long_names(runs, name):
                 (0, "".join(f"error: {reason}: `{name}`\n" for reason in reasons.values()).encode(),
                  ""))
     reasons = {"severity": "invalid CVSS Qualitative Severity Rating",
-            "nomenclature": "invalid CVSSv4 nomenclature"}
+               "nomenclature": "invalid CVSSv4 nomenclature"}
     runs.expect("test_json", "".join(f"{kind} {name}\n" for kind in reasons).encode(),
                 (0, "".join(f"from_value: {reason}: `{name}`\n"
                             for reason in reasons.values()).encode(), ""))
