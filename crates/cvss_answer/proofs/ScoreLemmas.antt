@@ -1,4 +1,4 @@
--- The line of each score stands at its place.
+-- The line of each score is at its place.
 use Rattle.std.proofs.Common.{◌≡◌, ℕ, zero, suc, ◌+◌, ◌*◌, ◌^◌, ◌<◌, ◌≤◌, pos, int_lt, true, false, [], ◌∷◌, ◌++◌, List, codes, map, Some, slice_get, unwrap_or, refl, sym, ap, ◌∙◌, append_assoc, arith, option_map}
 use Rattle.std.proofs.lemmas.Bool.Decides.{nat_tests}
 use Rattle.std.proofs.lemmas.Option.{slice_get-map}
@@ -20,7 +20,7 @@ at_place (suc n) zero below from = let same : from ≡ from + 0 = omega arith in
 at_place (suc n) (suc place) below from =
     let same : from + 1 + place ≡ from + suc place = omega arith in at_place n place (omega arith) (from + 1) ∙ ap Some same
 
--- a line that stands at a place among the lines of so many scores from one on is that of the score at this place
+-- a line that is at a place among the lines of so many scores from one on is that of the score at this place
 pub line_reported : (bounds : Bounds) (from n : ℕ) (line : List ℕ) (lines : List (List ℕ)) (place t : ℕ) → Some line ≡ slice_get lines place → from + place ≡ t → place < n
     → lines ≡ map (rated_line bounds) (range_with_len from n) → line ≡ rated_line bounds t
 line_reported bounds from n line lines place t is stands within all =

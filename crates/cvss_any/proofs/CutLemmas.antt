@@ -47,6 +47,6 @@ pieces_after piece rest none = slice_split_at (λ each. eqb each slash) piece sl
 pub version_first : (text reported rest : List ℕ) (left : List (List ℕ)) → text ≡ version_piece reported ++ (slash ∷ rest) → has slash reported ≡ false → left ≡ pieces rest → pieces text ≡ version_piece reported ∷ left
 version_first text reported rest left is none left_is = ap pieces is ∙ (pieces_after (version_piece reported) rest none ∙ ap (λ parts. version_piece reported ∷ parts) (sym left_is))
 
--- a text is cut at a slash that stands in it
+-- a text is cut at a slash that is in it
 pub cut_at_slash : (text : List ℕ) (at : ℕ) → at < length text → get_or text at 0 ≡ slash → text ≡ take at text ++ (slash ∷ take (length text - suc at) (drop (suc at) text))
 cut_at_slash text at within is = split_at text at 0 within ∙ rw (is, take_rest text (suc at)) refl

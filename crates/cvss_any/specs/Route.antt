@@ -3,7 +3,7 @@
 use Rattle.std.specs.Prelude.{ℕ, List, [], ◌∷◌, codes, if◌then◌else◌, bytes_eq}
 use Rattle.cvss_base.specs.Text.{pieces, name_part, value_part, has, colon, dot}
 
--- why a text says no version that is read: it has one piece or its first piece has no colon; another prefix stands
+-- why a text says no version that is read: it has one piece or its first piece has no colon; another prefix is
 -- before a version; another version is reported
 pub data NoVersion : Type 0 where
   OnePiece OtherPrefix OtherVersion : List ℕ → NoVersion

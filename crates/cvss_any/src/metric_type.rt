@@ -14,7 +14,7 @@ pub enum MetricType {
 }
 
 impl MetricType {
-    /// The metric's short name, as it stands in a vector.
+    /// The metric's short name, as written in a vector.
     pub fn name(self) -> &'static str
         ensures { result.now ≡ name_of self }
     {

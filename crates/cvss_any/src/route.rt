@@ -96,8 +96,8 @@ fn route_by<'a>(prefix: &'a [u8], reported: &'a [u8], after: Pieces<'a>) -> Rout
     route_by_version(reported, after)
 }
 
-/// By which rules a text is read whose first piece has the prefix `CVSS` and says this version, in
-/// which a dot stands.
+/// By which rules a text is read whose first piece has the prefix `CVSS` and says this version, which
+/// has a dot.
 #[inline(always)]
 fn route_by_version<'a>(reported: &'a [u8], after: Pieces<'a>) -> Route<'a>
     requires { has dot reported.now ≡ true }

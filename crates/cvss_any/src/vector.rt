@@ -53,7 +53,7 @@ impl Cvss {
     /// The first reason why the text is no such vector. Where no rules apply it is
     /// `InvalidComponent` with the first piece, if the text has no slash or that piece no colon,
     /// `InvalidPrefix`, or `UnsupportedVersion`; else that of the version's own `from_str`.
-    /// `OutOfMemory` stands in place of one that carries text.
+    /// `OutOfMemory` replaces one that carries text.
     pub fn from_str(alloc: Global, text: &str) -> Result<Cvss, Error>
         // Accepted: what is given is what the text denotes, and each such vector is given; it has a
         // score.

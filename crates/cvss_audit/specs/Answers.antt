@@ -50,7 +50,7 @@ pub record IsRefusedPlace (input : Input) (place : Place) (text : List ℕ) (val
   pub is : value ≡ object_of (place_members input place ++ refusal_member (error_text error) ∷ [])
   pub reported : agrees ≡ false
 
--- where a vector should stand there is no string, and the object says so
+-- where a vector should be there is no string, and the object says so
 pub record IsNoString (input : Input) (place : Place) (value : Data) (agrees : Bool) : Type 0 where
   pub is : value ≡ object_of (place_members input place ++ refusal_member (codes "not a string") ∷ [])
   pub reported : agrees ≡ false
@@ -65,7 +65,7 @@ abbrev pub IsTextObject : Input → Place → List ℕ → Data → Bool → Typ
 IsTextObject input place text value agrees =
     IsAcceptedPlace input place text value agrees ⊎ IsRefusedPlace input place text value agrees
 
--- the object says of what stands at the place
+-- the object says of what is at the place
 abbrev pub IsObjectOf : Input → Place → Option (List ℕ) → Data → Bool → Type 0
 IsObjectOf input place (Some text) value agrees = IsTextObject input place text value agrees
 IsObjectOf input place None value agrees = IsNoString input place value agrees

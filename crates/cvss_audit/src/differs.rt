@@ -29,7 +29,7 @@ pub(crate) fn put_differences<'a>(
     put_list(members, alloc, "differs", reported)
 }
 
-/// The object that says a difference. What is said is written from where it stands.
+/// The object that says a difference. What is said is written from where it is.
 fn difference_tree<'a>(alloc: Global, difference: Difference<'a>) -> Result<Tree<'a>, AllocError>
     ensures { IfOk result (λ tree. tree_view tree
         ≡ difference_value (difference_view difference.entry)) }

@@ -50,7 +50,7 @@ fn place_object<'a>(
     }
 }
 
-/// The object of a place where a text stands.
+/// The object of a place where a text is.
 fn text_object<'a>(
     alloc: Global,
     input: Input<'a>,
@@ -101,7 +101,7 @@ fn is_allowed(input: Input<'_>, cvss: &Cvss) -> bool
     input.allow_incomplete || cvss.first_missing().is_none()
 }
 
-/// The object of a place where no string stands.
+/// The object of a place where no string is.
 fn no_string_object<'a>(
     alloc: Global,
     input: Input<'a>,

@@ -23,7 +23,7 @@ by_place (fields ∷ parts) (inl x) (inr y) = grind (arith, nat_tests)
 by_place (fields ∷ parts) (inr x) (inl y) = grind (arith, nat_tests)
 by_place (fields ∷ parts) (inr x) (inr y) = by_place parts x y ∙ grind (arith, nat_tests)
 
--- so it is that of a list in which each variant stands at its place
+-- so it is that of a list in which each variant is at its place
 pub compares : (enum : Record) (text : enum.D → List ℕ) (items : List enum.D)
     → ((item : enum.D) → place_in text items item ≡ tag_of (declared enum) item)
     → ComparesAs text items (λ x y. by Less Greater enum.parts (equals enum.parts) (enum.as_values x) (enum.as_values y))

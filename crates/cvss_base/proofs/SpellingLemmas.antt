@@ -13,7 +13,7 @@ use Rattle.std.proofs.Math.Seq.{drop-append-add}
 use Rattle.cvss_base.specs.Text.{slash, colon, component}
 use Rattle.cvss_base.proofs.FindLemmas.{found_first, found_from}
 
--- whether no two of the spellings are alike but for the case of their letters
+-- whether no two of the spellings are alike except for the case of their letters
 abbrev pub differ : List (List ℕ) → Bool
 differ [] = true
 differ (spelling ∷ others) = not (list_any (str_eq_ignore_ascii_case spelling) others) && differ others

@@ -12,7 +12,7 @@ slash = 47
 abbrev pub colon : ℕ
 colon = 58
 
--- whether the byte stands in the text
+-- whether the byte is in the text
 abbrev pub has : ℕ → List ℕ → Bool
 has byte text = list_any (λ each. each == byte) text
 
@@ -32,11 +32,11 @@ dot = 46
 pub record IsComponent (piece : List ℕ) : Type 0 where
   pub one_colon : count_by (λ byte. byte == colon) piece ≡ 1
 
--- the name stands before the colon
+-- the name is before the colon
 abbrev pub name_part : List ℕ → List ℕ
 name_part piece = before_first (λ byte. byte == colon) piece
 
--- the value stands after the colon
+-- the value is after the colon
 abbrev pub value_part : List ℕ → List ℕ
 value_part piece = after_first (λ byte. byte == colon) piece
 

@@ -31,7 +31,7 @@ pub enum Error {
         metric_type: v2::MetricType,
         value: String,
     },
-    /// The metric stands twice in the text.
+    /// The metric occurs twice in the text.
     DuplicateMetricV2 {
         metric_type: v2::MetricType,
     },
@@ -44,7 +44,7 @@ pub enum Error {
         metric_type: v3::MetricType,
         value: String,
     },
-    /// The metric stands twice in the text.
+    /// The metric occurs twice in the text.
     DuplicateMetricV3 {
         metric_type: v3::MetricType,
     },
@@ -53,7 +53,7 @@ pub enum Error {
         metric_type: v4::MetricType,
         value: String,
     },
-    /// The metric stands twice in the text.
+    /// The metric occurs twice in the text.
     DuplicateMetricV4 {
         metric_type: v4::MetricType,
     },
@@ -161,7 +161,7 @@ fn write_quoted<W: fmt::Write>(
     write!(f, "{before}`{text}`")
 }
 
-/// Writes a text as it stands.
+/// Writes a text as it is.
 fn write_after<W: fmt::Write>(
     before: &'static str,
     text: &str,

@@ -7,7 +7,7 @@ pub enum MetricGroup {
     Base,
     /// In CVSS v2 and v3 alone.
     Temporal,
-    /// In CVSS v4.0 alone, where it stands in place of the temporal group.
+    /// In CVSS v4.0 alone, where it replaces the temporal group.
     Threat,
     Environmental,
     /// In CVSS v4.0 alone.

@@ -1,4 +1,4 @@
-//! What all that reads, prints and scores stands on: what the text of a vector is and why a text is
+//! What all that reads, prints and scores rests on: what the text of a vector is and why a text is
 //! none (in `specs/`), the names of metrics, errors and severities, and exact numbers with their
 //! roundings and ratings.
 #![tactic(auto)]

@@ -40,7 +40,7 @@ fn nearest_tenths(count: u128) -> u128
     }
 }
 
-/// The sign that stands before a value.
+/// The sign before a value.
 fn sign_of(value: i128) -> &'static str
     ensures { result.now ≡ sign value }
 {

@@ -1,4 +1,4 @@
--- What the walk over a document has still to give of the places where vectors stand in it.
+-- What the walk over a document has still to give of the places where vectors are in it.
 use Rattle.std.specs.Prelude.{◌≡◌, ℕ, List, [], ◌∷◌, ◌++◌, codes, drop, map, Option, None, Some, option_map}
 use Rattle.std.specs.Fmt.{decimal}
 use Rattle.std.specs.List.{filter_map}
@@ -32,7 +32,7 @@ places_in_rest (Members holder members id) =
 abbrev pub under : List ℕ → Place → Place
 under pointer place = (pointer ++ place.0, place.1, place.2, place.3, place.4)
 
--- the places that are left in levels, each of which stands in the one before it: those of the inner ones come first
+-- the places that are left in levels, each of which is in the one before it: those of the inner ones come first
 abbrev pub places_in_levels : List Level → List Place
 places_in_levels [] = []
 places_in_levels (level ∷ inner) = map (under (step_text level.step)) (places_in_levels inner ++ places_in_rest level.rest)

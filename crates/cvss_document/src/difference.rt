@@ -31,7 +31,7 @@ pub struct Difference<'a> {
     pub is: Value,
 }
 
-/// What a member says, as it stands in the document.
+/// What a member says, as it is in the document.
 #[derive(Drop)]
 pub enum Said<'a> {
     /// Its value.
@@ -41,13 +41,13 @@ pub enum Said<'a> {
 }
 
 /// The members of an object that say otherwise than the record of a vector, in the order of their
-/// names. A member that the version's records don't have says nothing, but for a number at `score`,
+/// names. A member that the version's records don't have says nothing, except a number at `score`,
 /// which is to be the vector's score; and neither does the text of the vector. A score of a group is
 /// that of the equations even where the vector lacks the group.
 ///
 /// # Errors
 ///
-/// Want of memory alone.
+/// Out of memory.
 pub fn differences<'a>(
     alloc: Global,
     cvss: &Cvss,
@@ -62,7 +62,7 @@ pub fn differences<'a>(
     Ok(found)
 }
 
-/// Where the document says otherwise at a place than the vector whose text stands there. First the
+/// Where the document says otherwise at a place than the vector whose text is there. First the
 /// members of the object that holds it: of a record all, of the other forms those that the form has
 /// beside the vector. Then what is around the object: the version that the name of a member says
 /// which the object is, and beside `cvssData`, as NVD has it, the rating of a vector of CVSS v2 and
@@ -70,7 +70,7 @@ pub fn differences<'a>(
 ///
 /// # Errors
 ///
-/// Want of memory alone.
+/// Out of memory.
 pub fn differences_at<'a>(
     alloc: Global,
     cvss: &Cvss,

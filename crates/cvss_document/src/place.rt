@@ -1,4 +1,4 @@
-//! A place where a vector stands in a document.
+//! A place where a vector is in a document.
 
 ghost use Rattle.std.specs.Prelude.{◌≡◌, option_map};
 ghost use Rattle.cvss_document.specs.Places.{around_view, given_at, has_cvss_method, has_string, is_cvss_method, is_cvss_rating, is_named, is_osv_type, is_prefixed, object_at, osv_score, rating_vector, text_at, vector_as, vector_at};
@@ -31,14 +31,14 @@ pub enum Form {
     Spdx,
 }
 
-/// A place where a vector stands in a document.
+/// A place where a vector is in a document.
 #[derive(Drop)]
 pub struct Place<'a> {
     /// The JSON Pointer of the object that holds the vector.
     pub at: String,
     /// How the object holds it.
     pub form: Form,
-    /// The vector's text, as it stands; none where a vector should stand and there is no string.
+    /// The vector's text, as it is; none where a vector should be and there is no string.
     pub text: Option<&'a str>,
     /// The object.
     pub object: &'a Map<String, Value>,

@@ -1,4 +1,4 @@
-//! Where vectors stand in a document, one place after another.
+//! Where vectors are in a document, one place after another.
 
 ghost use Rattle.std.specs.Prelude.{◌≡◌, ◌<◌, ◌++◌, ◌∷◌, [], false, IfOk, OnOk, map, option_map, string_bytes};
 ghost use Rattle.std.specs.Option.{option_to_list};
@@ -15,7 +15,7 @@ use serde_json::{Map, Value};
 use std::alloc::{AllocError, Global};
 use std::collections::btree_map::Iter;
 
-/// The places in a document where a vector stands, each reported when it is asked for. What is kept in
+/// The places in a document where a vector is, each reported when it is asked for. What is kept in
 /// the meantime grows with the depth of the document alone.
 #[derive(Drop)]
 pub struct Places<'a> {
@@ -43,12 +43,12 @@ pub(crate) enum Rest<'a> {
     Members(&'a Map<String, Value>, Iter<'a, String, Value>, Option<&'a str>),
 }
 
-/// All places in a document where a vector stands: an object's own before those in it, those of its
+/// All places in a document where a vector is: an object's own before those in it, those of its
 /// members in the order of their names, and those of an array's items in their order.
 ///
 /// # Errors
 ///
-/// Want of memory alone.
+/// Out of memory.
 pub fn vectors_in(alloc: Global, document: &Value) -> Result<Places<'_>, AllocError>
     ensures { IfOk result (λ places. places_left places ≡ places_in (view document.now)) }
 {
@@ -68,7 +68,7 @@ impl<'a> Places<'a> {
     ///
     /// # Errors
     ///
-    /// Want of memory alone, after which places may be passed over.
+    /// Out of memory, after which places may be passed over.
     pub fn next_place(&mut self, alloc: Global) -> Result<Option<Place<'a>>, AllocError>
         ensures { IfOk result (λ found. IsNextPlace (places_left self.old) found (places_left self.new)) }
     {
@@ -80,7 +80,7 @@ impl<'a> Places<'a> {
         Ok(None)
     }
 
-    /// Visits what is next in a level that stands in all that are left.
+    /// Visits what is next in a level that is in all that are left.
     fn visit(&mut self, alloc: Global, level: Level<'a>) -> Result<Option<Place<'a>>, AllocError>
         ensures { IfOk result (λ found. Visits (self.old.levels.items ++ level.entry ∷ [])
             (option_to_list (option_map place_view found)) self.new.levels.items) }

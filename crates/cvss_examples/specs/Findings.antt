@@ -6,7 +6,7 @@ use Rattle.cvss.specs.SeverityType.{Severity}
 use Rattle.cvss.specs.SeverityType.TheVariants.{None, Low, Medium, High, Critical}
 use Rattle.cvss.specs.CvssType.{Cvss}
 
--- how many severities stand below this one
+-- how many severities are below this one
 abbrev pub rank : Severity → ℕ
 rank None = 0
 rank Low = 1

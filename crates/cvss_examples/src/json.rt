@@ -18,7 +18,7 @@ use std::alloc::Global;
 /// The JSON value of a text's vector.
 pub fn value_of(alloc: Global, text: &str) -> Result<Value, JsonError>
     ensures value { IfOk result (λ value. IsValueOf text.now (view value)) }
-    // Refused: for the first reason, and no vector's text for another than want of memory.
+    // Refused: for the first reason, and no vector's text for another than out of memory.
     ensures refused { IfErr result (ReportsNoText text.now) }
     ensures accepts { (cvss : Cvss) → DenotesCvss text.now cvss
         → IfErr result (λ error. error ≡ OutOfMemory) }
@@ -29,7 +29,7 @@ pub fn value_of(alloc: Global, text: &str) -> Result<Value, JsonError>
 /// The canonical text of a JSON value's vector.
 pub fn text_of(alloc: Global, value: &Value) -> Result<String, JsonError>
     ensures text { IfOk result (λ text. IsTextOf (view value.now) (string_bytes text)) }
-    // Refused: for the reason, and no vector's value for another than want of memory.
+    // Refused: for the reason, and no vector's value for another than out of memory.
     ensures refused { IfErr result (ReportsNoValue (view value.now)) }
     ensures accepts { (cvss : Cvss) → StandsFor DenotesCvss (view value.now) cvss
         → IfErr result (λ error. error ≡ OutOfMemory) }

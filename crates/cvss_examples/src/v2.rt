@@ -32,7 +32,7 @@ pub fn printed_and_read(alloc: Global, vector: &Vector) -> Result<Vector, Error>
 pub fn read_and_printed(alloc: Global, text: &str) -> Result<String, Error>
     ensures canonical { IfOk result (λ printed.
         IsCanonicalTextOf v2 (IsComplete v2) text.now (string_bytes printed)) }
-    // Refused: for the first reason, and no vector's text for another than want of memory.
+    // Refused: for the first reason, and no vector's text for another than out of memory.
     ensures refused { IfErr result (ReportsRefusal v2_reason (IsFirstRefusal v2 text.now)) }
     ensures accepts { (vector : Vector) → Denotes v2 text.now vector → IsComplete v2 vector
         → IfErr result (λ error. error ≡ OutOfMemory) }
@@ -44,7 +44,7 @@ pub fn read_and_printed(alloc: Global, text: &str) -> Result<String, Error>
 /// Whether to read and print a text twice is to read and print it once, which it is.
 pub fn twice_is_once(alloc: Global, text: &str) -> Result<bool, Error>
     ensures same { IfOk result (λ same. IsTrue same) }
-    // Refused: for the first reason, and no vector's text for another than want of memory.
+    // Refused: for the first reason, and no vector's text for another than out of memory.
     ensures refused { IfErr result (ReportsRefusal v2_reason (IsFirstRefusal v2 text.now)) }
     ensures accepts { (vector : Vector) → Denotes v2 text.now vector → IsComplete v2 vector
         → IfErr result (λ error. error ≡ OutOfMemory) }
@@ -79,7 +79,7 @@ fn scores_of(vector: &Vector) -> (Score, Score, Score)
     )
 }
 
-/// The temporal score of a vector with its impact adjusted by the requirements, as it stands in the
+/// The temporal score of a vector with its impact adjusted by the requirements, as it is in the
 /// environmental equation (guide, section 3.2.3).
 pub fn adjusted_temporal_score(vector: &Vector) -> Score
     ensures value { IsAdjustedTemporal (weights_of vector.now) result }

@@ -30,7 +30,7 @@ pub fn printed_and_read(alloc: Global, vector: &Vector) -> Result<Vector, Error>
 pub fn read_and_printed(alloc: Global, text: &str) -> Result<String, Error>
     ensures canonical { IfOk result (λ printed.
         IsCanonicalTextOf v3 (IsWellFormed v3) text.now (string_bytes printed)) }
-    // Refused: for the first reason, and no vector's text for another than want of memory.
+    // Refused: for the first reason, and no vector's text for another than out of memory.
     ensures refused { IfErr result (ReportsRefusal v3_reason (IsFirstRefusalAfter v3 text.now)) }
     ensures accepts { (vector : Vector) → Denotes v3 text.now vector → IsWellFormed v3 vector
         → IfErr result (λ error. error ≡ OutOfMemory) }
@@ -42,7 +42,7 @@ pub fn read_and_printed(alloc: Global, text: &str) -> Result<String, Error>
 /// Whether to read and print a text twice is to read and print it once, which it is.
 pub fn twice_is_once(alloc: Global, text: &str) -> Result<bool, Error>
     ensures same { IfOk result (λ same. IsTrue same) }
-    // Refused: for the first reason, and no vector's text for another than want of memory.
+    // Refused: for the first reason, and no vector's text for another than out of memory.
     ensures refused { IfErr result (ReportsRefusal v3_reason (IsFirstRefusalAfter v3 text.now)) }
     ensures accepts { (vector : Vector) → Denotes v3 text.now vector → IsWellFormed v3 vector
         → IfErr result (λ error. error ≡ OutOfMemory) }

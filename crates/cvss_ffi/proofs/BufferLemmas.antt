@@ -17,7 +17,7 @@ present o text is = ap (λ o. unwrap_or o []) is
 pub nothing_put : {X : Type 0} (old : List X) → HasPut old [] old 0
 nothing_put old = record { begins = refl; place_is = refl }
 
--- what was put stands up to the place
+-- what was written is there up to the place
 pub text_put : {X : Type 0} (old text now : List X) (place : ℕ) → HasPut old text now place → take place now ≡ text
 text_put old text now place put =
     ap (take place) put.begins ∙ ap (λ n. take n (text ++ drop (length text) old)) put.place_is ∙ take-append_seam text (drop (length text) old)
@@ -25,7 +25,7 @@ text_put old text now place put =
 pub put_within : {X : Type 0} (old text now : List X) (place : ℕ) → HasPut old text now place → place ≤ length now
 put_within old text now place put = omega (arith, put.place_is, ap length put.begins, length-append text (drop (length text) old))
 
--- a text that fits, and stands there
+-- a text that fits, and is there
 pub IsWritten-put : {X : Type 0} (text old now : List X) (place reported : ℕ) → length text ≤ length old → reported ≡ length text → HasPut old text now place → IsWritten text old now reported
 IsWritten-put text old now place reported fits reported_is put = record {
   reported_is = reported_is;

@@ -31,7 +31,7 @@ module _ (buffer : List ℕ) (place size : ℕ) where
   pub part_kept : (part : List ℕ) → part ≡ mid_of place size buffer → put_mid place size buffer part ≡ buffer
   part_kept part same = ap (put_mid place size buffer) same ∙ put_same place size buffer
 
-  -- a text at the beginning of the part follows what stands before the part
+  -- a text at the beginning of the part follows what is before the part
   pub part_begun : (old first text part : List ℕ) (end : ℕ) → HasPut old first buffer place → end ≡ place + length text → length text ≤ size → place + size ≤ length buffer → part ≡ begun text (mid_of place size buffer) → HasPut old (first ++ text) (put_mid place size buffer part) end
   part_begun old first text part end put end_is fits within part_is =
       let rest = drop (length first) old in

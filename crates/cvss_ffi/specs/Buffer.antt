@@ -5,7 +5,7 @@ use Rattle.std.specs.Prelude.{◌≡◌, ℕ, List, ◌++◌, length, drop, nat_
 abbrev pub begun : {X : Type 0} → List X → List X → List X
 begun text old = text ++ drop (length text) old
 
--- the text's length is reported, and the text stands at the beginning of the buffer where it fits; a buffer that
+-- the text's length is reported, and the text is at the beginning of the buffer where it fits; a buffer that
 -- is too small is left as it was
 pub record IsWritten {X : Type 0} (text old now : List X) (reported : ℕ) : Type 0 where
   pub reported_is : reported ≡ length text
@@ -16,7 +16,7 @@ pub record IsLeft {X : Type 0} (old now : List X) (reported : ℕ) : Type 0 wher
   pub reported_is : reported ≡ 0
   pub now_is : now ≡ old
 
--- the text stands at the beginning of the buffer, up to this place
+-- the text is at the beginning of the buffer, up to this place
 pub record HasPut {X : Type 0} (old text now : List X) (place : ℕ) : Type 0 where
   pub begins : now ≡ begun text old
   pub place_is : place ≡ length text

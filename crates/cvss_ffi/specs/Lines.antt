@@ -37,7 +37,7 @@ pub record HasNoRoom (texts : List ℕ) (size written : ℕ) : Type 0 where
 abbrev pub IsLast : List ℕ → ℕ → ℕ → Type 0
 IsLast texts size written = HasNoEnd texts ⊎ HasNoRoom texts size written
 
--- the answers to the first lines stand at the beginning of the buffer, and after them the buffer is as it was;
+-- the answers to the first lines are at the beginning of the buffer, and after them the buffer is as it was;
 -- all lines are answered that end and whose answers have room
 pub record AnswersLines (texts old now : List ℕ) (read written : ℕ) : Type 0 where
   pub lines : List ℕ

@@ -33,7 +33,7 @@ pub fn put_without_undefined(cvss: &Cvss, buffer: &mut [u8]) -> usize
 }
 
 /// Writes the text of a vector without its undefined metrics, of which the piece that says the
-/// version is given, or none. Without one no slash stands before the first component.
+/// version is given, or none. Without one there is no slash before the first component.
 fn put_without<V: Printed>(piece: &[u8], vector: &V, undefined: &[u8], buffer: &mut [u8]) -> usize
     requires front { V.version.front vector.now ≡ front_of piece.now }
     requires room { length piece.now

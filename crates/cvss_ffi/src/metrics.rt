@@ -9,11 +9,11 @@ use cvss_any::Cvss;
 use cvss_json_names::spelled;
 use cvss_text::print::Printed;
 
-/// A metric of a vector. Each text stands in eight bytes, with bytes 0 after it.
+/// A metric of a vector. Each text is in eight bytes, with bytes 0 after it.
 #[derive(Clone, Copy)]
 #[repr(C)]
 pub struct CvssMetric {
-    /// The metric's abbreviation, as it stands in a vector.
+    /// The metric's abbreviation, as written in a vector.
     pub name: [u8; 8],
     /// How its value is spelled.
     pub value: [u8; 8],

@@ -64,7 +64,7 @@ string_cut front comma name word rest = simp append_assoc refl
 number_cut : (front comma name number rest : List ℕ) → front ++ (comma ++ (member_text (name, number) ++ rest)) ≡ (front ++ comma) ++ 34 ∷ (name ++ 34 ∷ ((58 ∷ number) ++ rest))
 number_cut front comma name number rest = simp append_assoc refl
 
--- what stands before the next quotation mark
+-- what is before the next quotation mark
 number_front : (number : List ℕ) → is_plain number ≡ true → is_other ((58 ∷ number) ++ comma_if true) ≡ true
 number_front number plain = ap (λ b. b && true) (list_all-append is_clear number (44 ∷ []) ∙ ap (λ b. b && true) plain)
 

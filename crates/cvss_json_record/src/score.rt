@@ -13,7 +13,7 @@ use cvss_base::{Severity, TENTH};
 /// The scores of a vector in tenths, from 0 to 100 each.
 #[derive(Clone, Copy, Debug, PartialEq, Eq)]
 pub struct Scores {
-    /// The base score; of CVSS v4.0 the score of the vector as it stands.
+    /// The base score; of CVSS v4.0 the score of the vector as it is.
     pub base: u8,
     /// The temporal score of CVSS v2 and v3.
     pub temporal: Option<u8>,

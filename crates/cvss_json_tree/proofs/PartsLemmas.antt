@@ -110,7 +110,7 @@ opened value bracket rest old new is text = record {
   written = ap (λ bytes. bytes ++ rest) is ∙ append_assoc old (bracket ∷ []) rest;
 }
 
--- a value, and what stands before it
+-- a value, and what is before it
 pub more : (whole : Data) (begun old front rest : List ℕ) {value : Data} {middle new : List ℕ} → middle ≡ old ++ front → (pushed : PushesText value middle new)
     → PushesText whole begun (old ++ (front ++ (pushed.text ++ rest))) → PushesText whole begun (new ++ rest)
 more whole begun old front rest {new = new} before pushed ends =

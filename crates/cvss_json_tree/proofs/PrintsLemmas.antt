@@ -105,7 +105,7 @@ string_print s (json.object ms) same = absurd (cc)
 pub string_quoted : (s text : List ℕ) → IsTextOf (string s) text → text ≡ quoted s
 string_quoted s text is = is.compact ∙ ap print is.in_order.1 ∙ string_print s is.in_order.0 is.in_order.2
 
--- ---- how what is printed for a value stands among others
+-- ---- how what is printed for a value fits among others
 
 abbrev ended : Bool → List Token → Bool
 ended = fold (λ _ t. ends t)

@@ -1,4 +1,4 @@
--- JSON values of which parts stand elsewhere: RFC 8259, section 3.
+-- JSON values of which parts are elsewhere: RFC 8259, section 3.
 use Rattle.std.specs.Prelude.{List, map, String}
 use Rattle.std.specs.declared.alloc.Global.{Global}
 use Rattle.serde_json.specs.Data.{Data, string, array, object, Items, Members}

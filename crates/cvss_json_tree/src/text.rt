@@ -66,7 +66,7 @@ pub(crate) fn push_members(
     answers.push(b"}")
 }
 
-/// Appends a member's name and its colon, after a comma where something stands before.
+/// Appends a member's name and its colon, after a comma where something comes before.
 fn push_name(
     alloc: Global,
     later: bool,
@@ -81,7 +81,7 @@ fn push_name(
     answers.push(b":")
 }
 
-/// Appends a comma, where something stands before.
+/// Appends a comma, where something comes before.
 fn push_comma(later: bool, answers: &mut OutputBuffer) -> Result<(), AllocError>
     ensures { OnOk result (answers.new.bytes.items ≡ answers.old.bytes.items ++ comma_if later) }
 {

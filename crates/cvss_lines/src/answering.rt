@@ -16,7 +16,7 @@ pub trait Answering {
     ///
     /// # Errors
     ///
-    /// Want of memory alone. What follows the earlier answers is not to be written then.
+    /// Out of memory. What follows the earlier answers is not to be written then.
     fn answer_line(
         alloc: Global,
         number: u64,

@@ -14,7 +14,7 @@ use std::io::Write;
 const FULL: usize = 64 * 1024;
 
 /// Answers that wait to be written, as bytes, a byte 10 after each text: a line that is its own
-/// answer's text is copied as it stands.
+/// answer's text is copied as it is.
 #[derive(Drop)]
 pub struct OutputBuffer {
     pub bytes: Vec<u8>,

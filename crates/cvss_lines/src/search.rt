@@ -33,7 +33,7 @@ fn line_end_by_one(bytes: &[u8]) -> usize
     }
 }
 
-/// How many of the `LANES` bytes from `at` on stand before their first byte 10.
+/// How many of the `LANES` bytes from `at` on are before their first byte 10.
 #[inline(always)]
 fn run_in_lanes(bytes: &[u8], at: usize) -> usize
     requires { at + LANES ≤ length bytes.now }

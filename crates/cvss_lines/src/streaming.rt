@@ -24,7 +24,7 @@ pub trait Streaming {
     ///
     /// # Errors
     ///
-    /// Want of memory, and a failure of the writer. What waits is not to be written then.
+    /// Out of memory, or a failure of the writer. What waits is not to be written then.
     fn stream_line<W: Write>(
         alloc: Global,
         number: u64,

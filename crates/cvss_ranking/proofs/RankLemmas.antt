@@ -23,7 +23,7 @@ HasNoRefusalBefore-more texts place before none = record {
   none = λ earlier reason below. below_more (λ each. (other : Refusal MetricType) → IsFirstRefusalAfter v4 (piece_at texts each) other → ⊥) place (λ each inside other. before.none each other inside) none earlier below reason;
 }
 
--- the first text that is refused stands at one place
+-- the first text that is refused is at one place
 pub first_place_same : (texts : List (List ℕ)) (p q : ℕ) (one other : Refusal MetricType) → IsFirstRefused texts p one → IsFirstRefused texts q other → p ≡ q
 first_place_same texts p q one other first second =
     elim (cases_order p q) [ inl same ↦ same | inr apart ↦ elim apart [ inl before ↦ absurd (second.earlier.none p one before first.is) | inr after ↦ absurd (first.earlier.none q other after second.is) ] ]

@@ -13,7 +13,7 @@ use cvss_v4::Vector;
 use std::alloc::Global;
 
 /// The rows of vectors' texts, with an organisation's environmental metrics put in, in falling
-/// order of score; rows of one score stand in the order of their texts' bytes.
+/// order of score; rows of one score are in the order of their texts' bytes.
 ///
 /// The overrides are components of environmental metrics, in any ASCII case, each metric once.
 ///

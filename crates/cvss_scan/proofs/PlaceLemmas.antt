@@ -1,4 +1,4 @@
--- Where the mentions of a text stand.
+-- Where the mentions of a text are.
 use Rattle.std.proofs.Common.{◌≡◌, ℕ, ◌+◌, ◌≤◌, Bool, true, false, cond, not, ◌||◌, List, [], ◌∷◌, ◌++◌, length, take, drop, refl, sym, ap, ◌∙◌, append-nil, append_assoc, arith, length-append, length-drop, length-take-le, take-append-drop, take_at, drop_at}
 use Rattle.std.specs.Prelude.{unwrap_or}
 use Rattle.std.specs.List.{All, list_all}

@@ -25,7 +25,7 @@ pub some_parts : (parts : List (List ℕ)) → parts ≢ [] → 1 ≤ length par
 some_parts [] some = absurd (some refl)
 some_parts (part ∷ parts) some = omega arith
 
--- after a version piece stands a piece more
+-- after a version piece is a piece more
 after_front : (text : List ℕ) (front parts : List (List ℕ)) (piece : List ℕ) → text ≡ joined (front ++ parts) → front ≡ piece ∷ [] → 1 ≤ length parts → has slash text ≡ true
 after_front text front parts piece is front_is some =
     joined_with_slash text (front ++ parts) is (omega (arith, length-append front parts, ap length front_is, some))

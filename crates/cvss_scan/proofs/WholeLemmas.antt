@@ -1,4 +1,4 @@
--- Texts that are mentions as a whole, wherever they stand.
+-- Texts that are mentions as a whole, wherever they are.
 use Rattle.std.proofs.Common.{◌≡◌, ◌≢◌, ℕ, suc, ◌+◌, ◌≤◌, Bool, true, false, cond, not, eqb, ◌||◌, ◌&&◌, List, [], ◌∷◌, ◌++◌, codes, drop, length, take, refl, sym, ap, ap₂, ◌∙◌, ◌⊎◌, inl, inr, subst, append-nil, arith, length-append}
 use Rattle.std.specs.Char.{is_ascii_digit, to_ascii_uppercase}
 use Rattle.std.specs.List.{Contains, position_or_len, list_all, list_any, starts_with}

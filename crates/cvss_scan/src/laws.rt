@@ -10,14 +10,14 @@ ghost use Rattle.cvss_scan.specs.laws.Whole.{IsMentionedBetween, IsWhole};
 use crate::mention::Mention;
 use crate::mentions::Mentions;
 
-/// Each mention stands at its place in the text. Mentions come in order, and do not overlap.
+/// Each mention is at its place in the text. Mentions come in order, and do not overlap.
 #[tactic(auto, using(crate::proofs::PlaceLemmas::mentions_stand, crate::proofs::PlaceLemmas::mentions_ordered))]
 pub fn mentions_stand_at_their_places()
     ensures stand { (text : List ℕ) → All (StandsIn text) (mentions_of text) }
     ensures ordered { (text : List ℕ) → AreInOrder (mentions_of text) }
 {}
 
-/// A text that is one mention stands as one wherever it has on either side the end, or a byte with
+/// A text that is one mention is one wherever it has on either side the end, or a byte with
 /// which no vector is written.
 #[tactic(auto, using(crate::proofs::WholeLemmas::mentioned_between, crate::proofs::WholeLemmas::mentioned_alone))]
 pub fn whole_texts_are_mentions()

@@ -1,4 +1,4 @@
-//! Tests that each public item stands at its path.
+//! Tests that each public item is at its path.
 
 use crate::values::{Tried, are_equal};
 use cvss::json::{JsonError, JsonText};

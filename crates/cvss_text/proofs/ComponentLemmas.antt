@@ -84,7 +84,7 @@ module _ {V K : Type 0} (version : Version V K) (version_laws : VersionLaws vers
       map-append (read version) parts (piece ∷ []) ∙ rw piece_is in
       record { each_once = IsPermutation-along new_is parts_are (IsPermutation-insert_push before after (map (read version) parts) added (IsPermutation-along (sym (components_without old kind cut adds.puts.fills.was_empty)) refl components.each_once)) }
 
-  -- a value of the vector stands among the pieces
+  -- a value of the vector is among the pieces
   pub held_stands : (v : V) (parts : List (List ℕ)) (kind : K) (value : version.Value kind) → AreComponentsOf version parts v → version.value_of v kind ≡ Some value → StandsAt version parts kind value
   held_stands v parts kind value components held =
       let cut = printed_once version version_laws kind in

@@ -1,4 +1,4 @@
--- What a reader of a whole text answers, whether a version piece stands before the components or not;
+-- What a reader of a whole text answers, whether a version piece is before the components or not;
 -- and texts after a version piece.
 use Rattle.std.proofs.Common.{◌≡◌, ℕ, List, [], ◌++◌, length, take, drop, Result, Ok, Err, IfOk, IfErr, sym, ap, ◌∙◌, subst, zero, suc, ◌∷◌, get_or, codes, refl, arith, All, Contains, IsUtf8}
 use Rattle.std.proofs.lemmas.List.{take-append-drop, take_at, drop_at, get_or-map, get_or-take}

@@ -12,7 +12,7 @@ use Rattle.cvss_text.specs.private.Walk.{VersionLaws, IsCut, place_of}
 use Rattle.cvss_base.proofs.FindLemmas.{found_passes, not_found}
 use Rattle.cvss_text.proofs.TextLemmas.{read-component, delimiter_bytes-read, name_part-component, value_part-component}
 
--- the printing order, cut at one metric, which stands nowhere else
+-- the printing order, cut at one metric, which is nowhere else
 pub record IsCutAt {K : Type 0} (printed : List K) (kind : K) : Type 0 where
   pub before : List K
   pub after : List K

@@ -87,7 +87,7 @@ module _ {V K : Type 0} (version : Version V K) (version_laws : VersionLaws vers
         none_absent (version.value_of v kind) (subst (λ each. version.value_of v each ≡ None) is_kind adds.puts.fills.was_empty) (named_is_held kind earlier)
     no_fault_at new adds _ none = none
 
-  -- a text that begins with a metric's name and a colon: no slash stands before the value
+  -- a text that begins with a metric's name and a colon: no slash is before the value
   pub IsCutFirst-after : (text rest value : List ℕ) (kind : K) (after : List (List ℕ)) → IsCut version text kind rest → pieces rest ≡ value ∷ after → IsCutFirst version text kind value after
   IsCutFirst-after text rest value kind after is found =
       let name = name_part text in
@@ -135,7 +135,7 @@ module _ {V K : Type 0} (version : Version V K) (version_laws : VersionLaws vers
     pub HasReadTo-all : HasRead version parts (length parts) v × AreComponentsBefore parts (length parts)
     HasReadTo-all = subst (λ place. HasRead version parts place v × AreComponentsBefore parts place) to_end (to.read, to.components)
 
-  -- the first piece of what is left stands at the place up to which is read
+  -- the first piece of what is left is at the place up to which is read
   module _ (parts left : List (List ℕ)) (text : List ℕ) (v : V) (cut : left ≡ pieces text) (to : HasReadTo version parts left v) where
     pub place_within : to.place < length parts
     place_within = omega (arith, ap length (sym to.left_is ∙ cut), length-slice_split is_slash text, length-drop to.place parts)

@@ -20,7 +20,7 @@ pub trait Refused: Components {
     fn invalid_metric(kind: Self::Kind, value: String) -> Error
         ensures { reason_reported reason result ≡ Some (BadValue kind (string_bytes value)) };
 
-    /// The error that the metric stands twice.
+    /// The error that the metric occurs twice.
     fn duplicate_metric(kind: Self::Kind) -> Error
         ensures { reason_reported reason result ≡ Some (Repeated kind) };
 

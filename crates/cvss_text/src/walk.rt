@@ -33,7 +33,7 @@ pub enum Fault<'a, K> {
     UnknownMetric(&'a [u8]),
     /// The metric has no such value.
     InvalidMetric(K, &'a [u8]),
-    /// The metric stands twice in the text.
+    /// The metric occurs twice in the text.
     DuplicateMetric(K),
     /// A metric that every vector has is missing.
     MissingMandatoryMetric(K),

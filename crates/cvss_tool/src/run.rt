@@ -6,7 +6,7 @@ use cvss_answer::Vectors;
 use std::alloc::Global;
 use std::io::{Read, Write};
 
-/// Answers each line that the reader gives by one line to the writer. What a line is stands at
+/// Answers each line that the reader gives by one line to the writer. Lines are defined at
 /// [`cvss_lines::run`].
 pub fn run<R: Read, W: Write>(
     alloc: Global,

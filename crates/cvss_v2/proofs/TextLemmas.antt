@@ -1,4 +1,4 @@
--- A canonical text is the components of its vector, each after a slash, but for the first slash.
+-- A canonical text is the components of its vector, each after a slash, except for the first slash.
 use Rattle.std.proofs.Common.{◌≡◌, ℕ, List, [], ◌∷◌, ◌++◌, drop, Option, Some, None, IfSome, IsSome, option_map, unwrap_or, refl, sym, ap, ◌∙◌, lit<}
 use Rattle.cvss_text.specs.private.Printing.{with_slash, texts_with_slash}
 use Rattle.cvss_base.specs.Text.{slash, component}
@@ -28,7 +28,7 @@ first_held vector (Some av) held some =
 pub complete : (vector : Vector) → first_missing v2 vector ≡ None → IsComplete v2 vector
 complete = IsComplete-from v2
 
--- a text that is the components of such a vector, each after a slash, but for the first slash
+-- a text that is the components of such a vector, each after a slash, except for the first slash
 pub text_without_slash : (text begun : List ℕ) (seen : Option Vector) → slash ∷ text ≡ begun → IfSome seen (λ vector. first_missing v2 vector ≡ None) → IfSome seen (λ vector. begun ≡ texts_with_slash v2 vector printed) → IfSome seen (λ vector. text ≡ canonical_text v2 vector)
 text_without_slash text begun None begins present whole = tt
 text_without_slash text begun (Some vector) begins present whole =

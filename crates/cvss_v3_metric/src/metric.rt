@@ -20,7 +20,7 @@ use std::fmt;
 /// A hundredth, in counts of 10^-24.
 pub(crate) const HUNDREDTH: i128 = 10_000_000_000_000_000_000_000;
 
-/// What stands in vectors as a component: how values are spelled, read from their spelling, and
+/// What is in vectors as a component: how values are spelled, read from their spelling, and
 /// weighed.
 pub trait MetricValue: Copy + 'static {
     /// Which metric this is, the same as `Metric::TYPE`.
@@ -90,7 +90,7 @@ pub trait MetricValue: Copy + 'static {
 }
 
 /// A metric: an enum of the values that the specification gives for its type, which are compared.
-// A trait of its own, so that the proof of whoever reads or prints a vector loads no comparison.
+// A trait of its own, so that the proof of code that reads or prints a vector loads no comparison.
 pub trait Metric: MetricValue + Eq + Ord + fmt::Debug + fmt::Display {
     /// Which metric this is.
     const TYPE: MetricType;

@@ -18,7 +18,7 @@ pub use cvss_base::v4::MetricType;
 use std::alloc::Global;
 use std::fmt;
 
-/// What stands in vectors as a component: how values are spelled, read from their spelling.
+/// What is in vectors as a component: how values are spelled, read from their spelling.
 pub trait MetricValue: Copy + 'static {
     /// Which metric this is, the same as `Metric::TYPE`.
     const KIND: MetricType;
@@ -75,7 +75,7 @@ pub trait MetricValue: Copy + 'static {
 }
 
 /// A metric: an enum of the values that the specification gives for its type, which are compared.
-// A trait of its own, so that the proof of whoever reads or prints a vector loads no comparison.
+// A trait of its own, so that the proof of code that reads or prints a vector loads no comparison.
 pub trait Metric: MetricValue + Eq + Ord + Default + fmt::Debug + fmt::Display {
     /// Which metric this is.
     const TYPE: MetricType;
@@ -174,7 +174,7 @@ fn is_letter(text: &[u8], letter: u8) -> bool
     }
 }
 
-/// Whether two texts are alike but for the case of their ASCII letters. Most are one letter.
+/// Whether two texts are alike except for the case of their ASCII letters. Most are one letter.
 #[inline(always)]
 #[tactic(auto, using(cvss_base::proofs::EqualityLemmas::bytes_eq_when))]
 fn is_alike(text: &[u8], other: &[u8]) -> bool

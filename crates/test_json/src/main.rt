@@ -5,10 +5,10 @@
 //!   JSON string of what the JSON string of the text stands for; or the step that failed, and why.
 //! - `record TEXT`: the vector's record, a JSON object.
 //! - `differ TEXT OBJECT`: the members of an object that say otherwise than the vector.
-//! - `places DOCUMENT`: where vectors stand in it, and the members there that say otherwise.
+//! - `places DOCUMENT`: where vectors are in it, and the members there that say otherwise.
 //!
 //! Each step of a conversion that can lack memory is distinguished, so that a run in which a request for
-//! memory is refused shows where the want of it was answered.
+//! memory is refused shows where out of memory was answered.
 #![tactic(auto)]
 
 mod records;

@@ -1,4 +1,4 @@
-//! Records, what an object says otherwise, and where vectors stand.
+//! Records, what an object says otherwise, and where vectors are.
 
 ghost use Rattle.cvss.specs.Answers.{HasScore};
 
@@ -65,7 +65,7 @@ fn print_members(rt: &HostRuntime, found: &[Difference<'_>]) -> io::Result<()> {
     println!(rt)
 }
 
-/// Where vectors stand in a document.
+/// Where vectors are in a document.
 pub(crate) fn places(rt: &HostRuntime, document: &str) -> io::Result<()> {
     match Value::from_str(rt.alloc(), document) {
         Ok(document) => print_places(rt, &document),
@@ -93,7 +93,7 @@ fn print_place(rt: &HostRuntime, place: &Place<'_>) -> io::Result<()> {
     print!(rt; ";")
 }
 
-/// What stands at a place beside a vector's text and says otherwise than the vector.
+/// What is at a place beside a vector's text and says otherwise than the vector.
 fn print_differences(rt: &HostRuntime, place: &Place<'_>, text: &str) -> io::Result<()> {
     if let Some(vector) = Cvss::read_bytes(text.as_bytes()) {
         for difference in &differences_at(rt.alloc(), &vector, place)? {

@@ -17,7 +17,7 @@ pub record IsRead (cvss : Cvss) : Type 0 where
   pub text : List ℕ
   pub denoted : DenotesCvss text cvss
 
--- where some text stands up to the first place, this one follows it up to the second
+-- where some text is up to the first place, this one follows it up to the second
 abbrev pub Puts : {X : Type 0} → List X → List X → ℕ → List X → ℕ → Type 0
 Puts {X} text before from after to =
     (old first : List X) → HasPut old first before from → HasPut old (first ++ text) after to
@@ -30,7 +30,7 @@ defined_text version undefined v kind = unwrap_or (with_slash (defined_component
 abbrev pub defined_texts : {V K : Type 0} → Version V K → List ℕ → V → List K → List ℕ
 defined_texts version undefined v kinds = flat_map (defined_text version undefined v) kinds
 
--- where a first text stands up to the first place, the text and these parts, joined, stand up to the second
+-- where a first text is up to the first place, the text and these parts, joined, are up to the second
 abbrev pub PutsParts : List (List ℕ) → List ℕ → ℕ → List ℕ → ℕ → Type 0
 PutsParts parts before from after to =
     (old first : List ℕ) → HasPut old first before from → HasPut old (joined (first ∷ parts)) after to

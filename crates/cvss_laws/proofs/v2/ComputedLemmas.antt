@@ -25,7 +25,7 @@ above_least n = pos n -ℤ pos 8
 abbrev pub place : Exact → ℕ
 place x = unsigned_abs (nearest_tenths x +ℤ pos 8)
 
--- whether x and x + 10^-6 have one nearest tenth, from -0.8 to 10 but for one
+-- whether x and x + 10^-6 have one nearest tenth, from -0.8 to 10 except for one
 unfoldable rounds_alike : ℕ → Exact → Bool
 rounds_alike left_out x =
     (not (eqb (place x) left_out) && ltb (place x) 109)

@@ -1,4 +1,4 @@
--- How a run stands between two steps, and what its private code does in each.
+-- The state of a run between two steps, and what its private code does in each.
 use Rattle.std.specs.Prelude.{◌≡◌, ℕ, ◌+◌, ◌-◌, ◌^◌, min, if◌then◌else◌, ◌<◌, ◌≤◌, ◌≢◌, ◌⊎◌, All, List, length, slice_index, ◌++◌, take, Option}
 use Rattle.std.specs.Io.KnownBytes.{Appends}
 use Rattle.cvss_lines.specs.Answers.{Answer, IsAnswers, Rule, is_accepted, is_refused, number_after, written_answers}

@@ -1,4 +1,4 @@
--- Texts that are mentions as a whole, wherever they stand.
+-- Texts that are mentions as a whole, wherever they are.
 use Rattle.std.specs.Prelude.{◌≡◌, ◌≢◌, ℕ, ◌||◌, Bool, true, false, List, [], ◌∷◌, ◌++◌, codes, length, not, Contains}
 use Rattle.std.specs.List.{list_all}
 use Rattle.cvss_base.specs.Text.{has, slash}

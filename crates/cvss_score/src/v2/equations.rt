@@ -1,4 +1,4 @@
-//! The equations of the guide in whole numbers, exact but for one rounding at the end of each score.
+//! The equations of the guide in whole numbers, exact except for a rounding at the end of each score.
 
 ghost use Rattle.std.specs.Prelude.{◌≡◌, ◌*◌, ◌^◌, ◌≤◌, ◌≤ℤ◌, ◌+ℤ◌, ◌-ℤ◌, ◌*ℤ◌, ◌/◌, ◌<◌, pos, neg_ℤ};
 ghost use Rattle.cvss_base.specs.Exact.{Exact, ratio, ◌over◌, whole, thousandths, tenths, of_count, ◌≈◌, smaller, IsWithinLimit};

@@ -8,7 +8,7 @@ use Rattle.cvss_base.specs.Text.{pieces, has, colon, IsComponent, component, nam
 abbrev pub pieces_left : Pieces → List (List ℕ)
 pieces_left left = option_map_or (λ text. pieces text.now) left.rest []
 
--- the name and the value are what stands before and after the first colon of the piece
+-- the name and the value are what is before and after the first colon of the piece
 pub record AreParts (piece name value : List ℕ) : Type 0 where
   pub cut : piece ≡ component name value
   pub name_is : name ≡ name_part piece

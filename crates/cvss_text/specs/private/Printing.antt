@@ -1,4 +1,4 @@
--- How a vector is printed component by component: each with the slash that stands before it.
+-- How a vector is printed component by component: each with the slash that is before it.
 use Rattle.std.specs.Prelude.{ℕ, List, [], ◌∷◌, flat_map, unwrap_or, Option, option_map}
 use Rattle.cvss_base.specs.Text.{slash}
 use Rattle.cvss_base.specs.Version.{Version, component_of}

@@ -1,4 +1,4 @@
--- What the private walk over the components does at each step. What callers rely on stands in
+-- What the private walk over the components does at each step. What callers rely on is in
 -- Version and Refusal.
 use Rattle.std.specs.Prelude.{◌≡◌, ◌≢◌, ℕ, ◌⊎◌, List, [], ◌∷◌, length, map, take, Option, Some, None, IsSome, Result, Ok, Err, IfOk, OnOk, IfErr, OnErr, IsErrAnd, Contains, slice_get, find, is_none, ◌<◌, ⊤}
 use Rattle.std.specs.List.{range_with_len}
@@ -117,7 +117,7 @@ pub record FrontLaws {V K : Type 0} (version : Version V K) : Type 0 where
   pub fronts : (v : V) → HasVersionPiece version v
   pub plain : map delimiter_bytes version.supported ≡ map (λ _. 0) version.supported
 
--- the vector lacks this mandatory metric, and none that stands before it
+-- the vector lacks this mandatory metric, and none that is before it
 pub record LacksFirst {V K : Type 0} (version : Version V K) (v : V) (kind : K) : Type 0 where
   pub place : ℕ
   pub is : slice_get version.mandatory place ≡ Some kind

@@ -1,4 +1,4 @@
-//! How a canonical text is recognised: its components stand in printing order, each as it is
+//! How a canonical text is recognised: its components are in printing order, each as it is
 //! printed, so that the text is gone through once, with no cutting and no searching. The other
 //! way, by components in any order, is `reading`.
 
@@ -100,7 +100,7 @@ fn put_on_fast_path<'a, M: MetricValue>(place: &mut Option<M>, text: &'a [u8]) -
     put_read(place, component_on_fast_path(text), text)
 }
 
-/// The value of a metric, where a text begins with a slash and its component, and what stands
+/// The value of a metric, where a text begins with a slash and its component, and what is
 /// after that.
 #[inline(always)]
 fn component_on_fast_path<M: MetricValue>(text: &[u8]) -> Option<(M, &[u8])>
@@ -110,7 +110,7 @@ fn component_on_fast_path<M: MetricValue>(text: &[u8]) -> Option<(M, &[u8])>
     value_on_fast_path(rest_after_name(M::KIND.name(), text)?)
 }
 
-/// The value of a metric, where a text begins with its spelling up to a slash, and what stands
+/// The value of a metric, where a text begins with its spelling up to a slash, and what is
 /// after that. No spelling has more than three letters.
 #[inline(always)]
 fn value_on_fast_path<M: MetricValue>(text: &[u8]) -> Option<(M, &[u8])>

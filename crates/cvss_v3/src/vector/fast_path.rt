@@ -1,4 +1,4 @@
-//! How a canonical text is recognised: its components stand in printing order, each as it is
+//! How a canonical text is recognised: its components are in printing order, each as it is
 //! printed, so that the text is gone through once, with no cutting and no searching. The other
 //! way, by components in any order and any case, is `reading`.
 
@@ -150,7 +150,7 @@ fn put_on_fast_path<'a, M: MetricValue>(place: &mut Option<M>, text: &'a [u8]) -
     put_read(place, component_on_fast_path(text), text)
 }
 
-/// The value of a metric, where a text begins with a slash and its component, and what stands
+/// The value of a metric, where a text begins with a slash and its component, and what is
 /// after that.
 #[inline(always)]
 fn component_on_fast_path<M: MetricValue>(text: &[u8]) -> Option<(M, &[u8])>

@@ -1,4 +1,4 @@
-//! How a canonical text is recognised: its components stand in printing order, each as it is
+//! How a canonical text is recognised: its components are in printing order, each as it is
 //! printed, so that the text is gone through once, with no cutting and no searching. The other
 //! way, by components in any order and any case, is `reading`.
 
@@ -106,7 +106,7 @@ fn base_on_fast_path(text: &[u8]) -> Option<(Vector, &[u8])>
     Some((base, text))
 }
 
-/// Puts the optional metrics but for the last with which a text begins into the vector, and gives
+/// Puts the optional metrics, except the last, with which a text begins into the vector, and gives
 /// what follows them.
 // A call of its own keeps the vector in memory, where each metric is stored once.
 #[inline(never)]
@@ -188,7 +188,7 @@ fn three_on_fast_path<K: MetricValue, L: MetricValue, M: MetricValue>(
     Some((first, second, third, text))
 }
 
-/// The value of a metric, where a text begins with a slash and its component, and what stands
+/// The value of a metric, where a text begins with a slash and its component, and what is
 /// after that. A spelling of several letters is not recognised.
 #[inline(always)]
 fn component_on_fast_path<M: MetricValue>(text: &[u8]) -> Option<(M, &[u8])>

@@ -129,7 +129,7 @@ impl Vector {
     }
 }
 
-/// The metric with whose name of one or of three letters and a colon a piece begins, and what stands
+/// The metric with whose name of one or of three letters and a colon a piece begins, and what is
 /// after these. Most names have two, which are looked for first.
 #[inline(always)]
 fn cut_one_or_three(piece: &[u8]) -> Option<(MetricType, &[u8])>

@@ -71,7 +71,7 @@ fn first_on_fast_path(text: &[u8]) -> Option<(AccessVector, &[u8])>
     }
 }
 
-/// The value of a base metric, where a text begins with a slash and its component, and what stands
+/// The value of a base metric, where a text begins with a slash and its component, and what is
 /// after that.
 #[inline(always)]
 fn base_component_on_fast_path<M: MetricValue>(text: &[u8]) -> Option<(M, &[u8])>
