@@ -1,6 +1,6 @@
 //! Programs that answer each line of an input: how the input is cut into lines, in what pieces it is
 //! read and its answers are written, and how a run ends. What answers a line is
-//! an [`Answering`], or a [`Streaming`] where an answer may be long.
+//! an [`Answering`], or a [`Service`] where its rule depends on a value or an answer may be long.
 #![tactic(auto)]
 
 mod answering;
@@ -14,7 +14,6 @@ mod reading;
 mod running;
 mod search;
 mod service;
-mod streaming;
 mod summary;
 
 pub use answering::Answering;
@@ -22,7 +21,6 @@ pub use buffered::{OutputBuffer, write_whole};
 pub use fault::RunFault;
 pub use lines::{cut_at_line_end, first_line, line_text};
 pub use reading::read_whole;
-pub use running::{run, run_streaming, serve};
-pub use service::{Fixed, Service};
-pub use streaming::{Streaming, Whole};
+pub use running::{run, serve};
+pub use service::Service;
 pub use summary::{Summary, exit_status};

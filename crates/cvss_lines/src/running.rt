@@ -3,7 +3,8 @@ ghost use Rattle.cvss_lines.specs.Streaming.{StreamEnds};
 
 use crate::pending::Pending;
 use crate::reading::read_buffer;
-use crate::{Answering, Fixed, RunFault, Service, Streaming, Summary, Whole};
+use crate::service::{Fixed, Service};
+use crate::{Answering, RunFault, Summary};
 use std::alloc::Global;
 use std::io::{Read, Write};
 
@@ -21,22 +22,11 @@ pub fn run<A: Answering, R: Read, W: Write>(
     ensures { Ends A.rule (R.remaining reader.old) (R.remaining reader.new)
         (W.contents writer.old) (W.contents writer.new) result }
 {
-    run_streaming::<Whole<A>, R, W>(alloc, reader, writer)
-}
-
-/// Answers lines as [`run`] does, where an answer may be written before it is whole.
-pub fn run_streaming<A: Streaming, R: Read, W: Write>(
-    alloc: Global,
-    reader: &mut R,
-    writer: &mut W,
-) -> Result<Summary, RunFault>
-    ensures { StreamEnds A.rule A.beginning (R.remaining reader.old) (R.remaining reader.new)
-        (W.contents writer.old) (W.contents writer.new) result }
-{
     serve(&Fixed::<A>::new(), alloc, reader, writer)
 }
 
-/// Answers lines as [`run_streaming`] does, by a rule that is known when the program runs.
+/// Answers lines as [`run`] does, by a rule that is known when the program runs, where an answer may be
+/// written before it is whole.
 pub fn serve<S: Service, R: Read, W: Write>(
     service: &S,
     alloc: Global,

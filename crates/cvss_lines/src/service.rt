@@ -1,16 +1,17 @@
-//! What answers the lines of an input by a rule that is known when the program runs.
+//! What answers the lines of an input by a rule that may depend on a value.
 
 ghost use Rattle.std.specs.Prelude.{IfErr, IfOk};
 ghost use Rattle.cvss_lines.specs.Answers.{Rule};
 ghost use Rattle.cvss_lines.specs.Streaming.{Beginning, Stops, Streams};
 
-use crate::{OutputBuffer, RunFault, Streaming};
+use crate::{Answering, OutputBuffer, RunFault};
 use std::alloc::Global;
 use std::io::Write;
 use std::marker::PhantomData;
 
-/// A way to answer lines that depends on a value, as on the options of a command. An answer may be
-/// written before it is whole, as by a [`Streaming`].
+/// A way to answer lines that depends on a value, as on the options of a command. Where an answer may be
+/// long, the answers that wait may be written in the midst of it. Each answer is some texts, and accepts
+/// its line or refuses it.
 pub trait Service {
     /// Which answers a line has.
     ghost rule: { Self → Rule };
@@ -18,11 +19,13 @@ pub trait Service {
     /// What may be written of an answer before the rest of it is known.
     ghost beginning: { Self → Beginning };
 
-    /// Appends an answer to the line of this number, as [`Streaming::stream_line`] does.
+    /// Appends an answer to the line of this number, a byte 10 after each of its texts, and may write
+    /// the answers that wait. Says whether the line was accepted. Lines are numbered from 1, and the
+    /// number stops at `u64::MAX`.
     ///
     /// # Errors
     ///
-    /// Out of memory, or a failure of the writer.
+    /// Out of memory, or a failure of the writer. What waits is not to be written then.
     fn serve_line<W: Write>(
         &self,
         alloc: Global,
@@ -38,9 +41,10 @@ pub trait Service {
             answers.old.bytes.items (W.contents writer.old) (W.contents writer.new)) };
 }
 
-/// The service that answers as a [`Streaming`] does, whose rule is known when the program is compiled.
+/// The service that answers as an [`Answering`] does, whose rule is known when the program is compiled.
+/// It writes nothing of an answer that is not whole.
 #[derive(Drop)]
-pub struct Fixed<A> {
+pub(crate) struct Fixed<A> {
     of: PhantomData<A>,
 }
 
@@ -50,10 +54,10 @@ impl<A> Fixed<A> {
     }
 }
 
-impl<A: Streaming> Service for Fixed<A> {
+impl<A: Answering> Service for Fixed<A> {
     ghost rule = { λ _. A.rule };
 
-    ghost beginning = { λ _. A.beginning };
+    ghost beginning = { λ _ _ _ _. ⊥ };
 
     fn serve_line<W: Write>(
         &self,
@@ -61,8 +65,8 @@ impl<A: Streaming> Service for Fixed<A> {
         number: u64,
         line: &[u8],
         answers: &mut OutputBuffer,
-        writer: &mut W,
+        _writer: &mut W,
     ) -> Result<bool, RunFault> {
-        A::stream_line::<W>(alloc, number, line, answers, writer)
+        Ok(A::answer_line(alloc, number, line, answers)?)
     }
 }
