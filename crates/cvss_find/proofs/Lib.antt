@@ -1,4 +1,3 @@
 mod AloneLemmas
 mod DecodingLemmas
-mod FoundLemmas
 mod ReportingLemmas

@@ -18,7 +18,7 @@ use Rattle.cvss_scan.proofs.AcceptedLemmas.{accepted_alone, accepted_whole}
 use Rattle.cvss_scan.specs.Mentions.{AreFound, IsAccepted, IsFound, Placed, mentions_of}
 use Rattle.cvss_scan.specs.MentionsLeft.{IsFirstFound, NoneFound}
 use Rattle.cvss_find.proofs.DecodingLemmas.{written_decoded}
-use Rattle.cvss_find.proofs.FoundLemmas.{AreFound-first, AreFound-none}
+use Rattle.cvss_scan.proofs.FoundLemmas.{AreFound-first, AreFound-none}
 
 -- one text answers a vector
 one_text_of : (number : ℕ) (line : List ℕ) (answer : Answer) → IsAnswer number line answer → (text : List ℕ) × (texts_of answer ≡ text ∷ [])

@@ -1,5 +1,3 @@
 mod OrderLemmas
-mod OverallLemmas
 mod OverrideLemmas
 mod RankLemmas
-mod ReadingLemmas

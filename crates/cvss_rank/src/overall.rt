@@ -1,14 +1,14 @@
 //! The overall score of a vector.
 
-ghost use Rattle.std.specs.Prelude.{◌≡◌, ◌≤◌, option_copied};
+ghost use Rattle.std.specs.Prelude.{◌≡◌, ◌≤◌};
 ghost use Rattle.cvss_any.specs.Answers.{HasScore, score_of_tenths};
-ghost use Rattle.cvss_base.specs.Text.{value_part};
 ghost use Rattle.cvss_base.specs.Version.{held};
 ghost use Rattle.cvss_rank.specs.Overall.{IsOverallScore, IsScoreOfV2, IsScoreOfV3, defines_v2, defines_v3, group_v2, group_v3, is_defined, is_group, is_undefined};
 
 use crate::{v2, v3};
 use cvss_any::Cvss;
 use cvss_base::MetricGroup;
+use cvss_text::metrics::spelled;
 use cvss_text::print::Printed;
 use cvss_text::walk::Components;
 
@@ -93,17 +93,10 @@ fn defines_v3(group: MetricGroup, vector: &v3::Vector) -> bool
 fn is_defined<V: Printed>(vector: &V, kind: V::Kind) -> bool
     ensures { result ≡ is_defined (held V.version vector.now kind) }
 {
-    match value(vector, kind) {
+    match spelled(vector, kind) {
         Some(value) => !is_undefined(value),
         None => false,
     }
-}
-
-/// How the vector's value for a metric is written.
-fn value<V: Printed>(vector: &V, kind: V::Kind) -> Option<&'static str>
-    ensures { option_copied result ≡ held V.version vector.now kind }
-{
-    Some(value_part(vector.with_slash(kind)?))
 }
 
 /// Whether both are one group of optional metrics.
@@ -122,14 +115,4 @@ fn is_undefined(value: &str) -> bool
     ensures { result ≡ is_undefined value.now }
 {
     value == "X" || value == "ND"
-}
-
-/// What follows the first colon.
-fn value_part(component: &'static str) -> &'static str
-    ensures { result.now ≡ value_part component.now }
-{
-    match component.split_once(':') {
-        Some((_, value)) => value,
-        None => "",
-    }
 }

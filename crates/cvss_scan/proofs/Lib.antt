@@ -1,6 +1,7 @@
 pub mod AcceptedLemmas
 mod EndLemmas
 mod FindLemmas
+pub mod FoundLemmas
 mod LabelLemmas
 mod NextLemmas
 mod PartLemmas

@@ -56,7 +56,7 @@ impl<V: Listed> Iterator for Metrics<V> {
 }
 
 /// How the vector's value for a metric is spelled.
-pub(crate) fn spelled<V: Printed>(vector: &V, kind: V::Kind) -> Option<&'static str>
+pub fn spelled<V: Printed>(vector: &V, kind: V::Kind) -> Option<&'static str>
     ensures { option_copied result ≡ held V.version vector.now kind }
 {
     Some(after_colon(vector.with_slash(kind)?))
