@@ -8,7 +8,8 @@ use Rattle.std.proofs.lemmas.List.{take_rest}
 use Rattle.std.proofs.lemmas.List.Splits.{slice_split_none, slice_split_at, length-slice_split}
 use Rattle.std.proofs.lemmas.Bool.Decides.{eqb_tells}
 use Rattle.cvss_lines.specs.Lines.{is_line_end, line_text, all_but_last, last_piece, ended_lines, unended_piece, last_line, lines}
-use Rattle.cvss_lines.specs.private.Steps.{IsFirstLineEnd, NoLineEnd}
+use Rattle.cvss_lines.specs.Search.{IsFirstOf}
+use Rattle.cvss_lines.specs.private.Steps.{NoLineEnd}
 
 -- no byte passes the test where no line ends
 none_pass : (bytes : List ℕ) → NoLineEnd bytes → All (λ byte. is_line_end byte ≡ false) bytes
@@ -29,17 +30,17 @@ by_lines P last ended bytes = from [] bytes (All-nil _) where
   ]
 
 -- no line ends in bytes whose first line end is said to be at their length
-pub none_ends : (bytes : List ℕ) (place : ℕ) → IsFirstLineEnd bytes place → place ≡ length bytes → NoLineEnd bytes
-none_ends bytes place is all = All-from_get_or (λ byte. byte ≢ 10) bytes 0 (λ k within. is.before k (omega arith))
+pub none_ends : (bytes : List ℕ) (place : ℕ) → IsFirstOf 10 10 bytes place → place ≡ length bytes → NoLineEnd bytes
+none_ends bytes place is all = All-from_get_or (λ byte. byte ≢ 10) bytes 0 (λ k within. is.without_one k (omega arith))
 
 -- a line end within them ends the first line
-pub first_ends : (bytes : List ℕ) (place : ℕ) → IsFirstLineEnd bytes place → place < length bytes
+pub first_ends : (bytes : List ℕ) (place : ℕ) → IsFirstOf 10 10 bytes place → place < length bytes
     → NoLineEnd (take place bytes) × (bytes ≡ take place bytes ++ 10 ∷ take (length bytes - (place + 1)) (drop (place + 1) bytes))
 first_ends bytes place is below =
-    let ends = split_at bytes place 0 below ∙ ap (λ byte. take place bytes ++ byte ∷ drop (suc place) bytes) (is.found below) in (
+    let ends = split_at bytes place 0 below ∙ ap (λ byte. take place bytes ++ byte ∷ drop (suc place) bytes) (elim (is.found below) [ inl ends ↦ ends | inr ends ↦ ends ]) in (
       All-from_get_or (λ byte. byte ≢ 10) (take place bytes) 0 (λ k within.
           let before : k < place = omega (arith, within, length-take place bytes) in
-          subst (λ byte. byte ≢ 10) (sym (get_or-take place bytes k 0 before)) (is.before k before)),
+          subst (λ byte. byte ≢ 10) (sym (get_or-take place bytes k 0 before)) (is.without_one k before)),
       ends ∙ ap (λ rest. take place bytes ++ 10 ∷ rest) (ap (λ n. drop n bytes) (sym (add-one place)) ∙ sym (take_rest bytes (place + 1))),
     )
 

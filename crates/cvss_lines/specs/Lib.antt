@@ -3,5 +3,6 @@ pub mod Exit
 pub mod Lines
 pub mod Prefixed
 pub mod Runs
+pub mod Search
 pub mod Streaming
 pub mod private

@@ -22,5 +22,6 @@ pub use fault::RunFault;
 pub use lines::{cut_at_line_end, first_line, line_text};
 pub use reading::read_whole;
 pub use running::{run, serve};
+pub use search::either_or_len;
 pub use service::Service;
 pub use summary::{Summary, exit_status};

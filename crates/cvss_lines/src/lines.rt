@@ -1,7 +1,7 @@
 ghost use Rattle.std.specs.Prelude.{◌≡◌, ◌≢◌, ◌<◌, ◌++◌, [], ◌∷◌, All, MatchOption, length};
 ghost use Rattle.cvss_lines.specs.Lines.{line_text, lines};
 
-use crate::search::line_end_or_len;
+use crate::search::either_or_len;
 
 /// The first line of a whole input, and what follows it.
 #[tactic(auto, using(crate::proofs::LinesLemmas::one_line))]
@@ -22,7 +22,7 @@ pub fn cut_at_line_end(bytes: &[u8]) -> Option<(&[u8], &[u8])>
     ensures { MatchOption result (All (λ b. b ≢ 10) bytes.now)
         (λ cut. All (λ b. b ≢ 10) cut.0.now × (bytes.now ≡ cut.0.now ++ 10 ∷ cut.1.now)) }
 {
-    let end = line_end_or_len(bytes);
+    let end = either_or_len(bytes, b'\n', b'\n');
     if end == bytes.len() {
         return None;
     }

@@ -1,48 +1,51 @@
-//! The search for the byte that ends a line.
+//! The search for the first byte of some.
 ghost use Rattle.std.specs.Prelude.{◌≡◌, ◌≢◌, ℕ, ◌+◌, ◌<◌, ◌≤◌, ◌==◌, if◌then◌else◌, length, slice_index};
 ghost use Rattle.std.specs.Int.{trailing_zeros, w64};
-ghost use Rattle.cvss_lines.specs.private.Steps.{IsFirstLineEnd};
+ghost use Rattle.cvss_lines.specs.Search.{IsFirstOf};
 
 use std::simd::prelude::*;
 
 /// How many bytes one step of the search compares.
 const LANES: usize = 16;
 
-/// The place of the first byte 10, or the length where there is none.
-pub(crate) fn line_end_or_len(bytes: &[u8]) -> usize
-    ensures { IsFirstLineEnd bytes.now result }
+/// The place of the first byte that is one of two, or the length where there is none.
+#[inline(always)]
+pub fn either_or_len(bytes: &[u8], one: u8, other: u8) -> usize
+    ensures { IsFirstOf one other bytes.now result }
 {
     let mut at = 0;
     while bytes.len() - at >= LANES {
-        let run = run_in_lanes(bytes, at);
+        let run = run_in_lanes(bytes, at, one).min(run_in_lanes(bytes, at, other));
         if run < LANES {
             return at + run;
         }
         at += LANES;
     }
-    at + line_end_by_one(&bytes[at..])
+    at + either_by_one(&bytes[at..], one, other)
 }
 
-/// The place of the first byte 10, or the length where there is none, sought byte by byte.
-fn line_end_by_one(bytes: &[u8]) -> usize
-    ensures { IsFirstLineEnd bytes.now result }
+/// The place of the first byte that is one of two, or the length where there is none, sought byte by
+/// byte.
+#[inline(always)]
+fn either_by_one(bytes: &[u8], one: u8, other: u8) -> usize
+    ensures { IsFirstOf one other bytes.now result }
 {
-    match bytes.iter().position(|byte| *byte == b'\n') {
+    match bytes.iter().position(|byte| *byte == one || *byte == other) {
         Some(place) => place,
         None => bytes.len(),
     }
 }
 
-/// How many of the `LANES` bytes from `at` on are before their first byte 10.
+/// How many of the `LANES` bytes from `at` on are before the first of them that is this byte.
 #[inline(always)]
-fn run_in_lanes(bytes: &[u8], at: usize) -> usize
+fn run_in_lanes(bytes: &[u8], at: usize, byte: u8) -> usize
     requires { at + LANES ≤ length bytes.now }
     ensures within { result ≤ LANES }
-    ensures before { (k : ℕ) → at ≤ k → k < at + result → slice_index bytes.now k ≢ 10 }
-    ensures found { result < LANES → slice_index bytes.now (at + result) ≡ 10 }
+    ensures before { (k : ℕ) → at ≤ k → k < at + result → slice_index bytes.now k ≢ byte }
+    ensures found { result < LANES → slice_index bytes.now (at + result) ≡ byte }
 {
-    let ends = u8x16::from_slice(&bytes[at..]).simd_eq(u8x16::splat(b'\n'));
-    first_set(ends.to_bitmask())
+    let same = u8x16::from_slice(&bytes[at..]).simd_eq(u8x16::splat(byte));
+    first_set(same.to_bitmask())
 }
 
 /// The place of the lowest bit that is set, or `LANES` where none is.

@@ -1,12 +1,13 @@
 //! What is passed over at once: runs of bytes without a slash and without a `%`, so that nothing in
 //! them is found.
 
-ghost use Rattle.std.specs.Prelude.{◌≡◌, ◌≢◌, ℕ, ◌++◌, ◌<◌, ◌≤◌, false, true, length, slice_index, take, drop};
+ghost use Rattle.std.specs.Prelude.{◌≡◌, ◌++◌, ◌≤◌, false, true, length, take, drop};
 ghost use Rattle.cvss_base.specs.Text.{has, slash};
 ghost use Rattle.cvss_scan.specs.laws.Whole.{is_outside, last_byte};
 ghost use Rattle.cvss_scan.specs.Parts.{parts_of, percent};
 
 use crate::part::is_run_byte;
+use cvss_lines::either_or_len;
 
 /// How many bytes are before the run that has the first slash or `%`; all, where none has one.
 pub(crate) fn no_slash(text: &[u8]) -> usize
@@ -15,23 +16,11 @@ pub(crate) fn no_slash(text: &[u8]) -> usize
     ensures unencoded { has percent (take result text.now) ≡ false }
     ensures cut { parts_of text.now ≡ parts_of (take result text.now) ++ parts_of (drop result text.now) }
 {
-    let end = slash_or_len(text);
+    let end = either_or_len(text, b'/', b'%');
     if end == text.len() {
         end
     } else {
         run_start(&text[..end])
-    }
-}
-
-/// The place of the first slash or `%`, or the length where there is none.
-fn slash_or_len(text: &[u8]) -> usize
-    ensures within { result ≤ length text.now }
-    ensures before { (k : ℕ) → k < result → slice_index text.now k ≢ 47 }
-    ensures unencoded { (k : ℕ) → k < result → slice_index text.now k ≢ 37 }
-{
-    match text.iter().position(|byte| matches!(*byte, b'/' | b'%')) {
-        Some(place) => place,
-        None => text.len(),
     }
 }
 

@@ -1,5 +1,5 @@
 -- The state of a run between two steps, and what its private code does in each.
-use Rattle.std.specs.Prelude.{◌≡◌, ℕ, ◌+◌, ◌-◌, ◌^◌, min, if◌then◌else◌, ◌<◌, ◌≤◌, ◌≢◌, ◌⊎◌, All, List, length, slice_index, ◌++◌, take, Option}
+use Rattle.std.specs.Prelude.{◌≡◌, ℕ, ◌+◌, ◌-◌, ◌^◌, min, if◌then◌else◌, ◌≤◌, ◌≢◌, ◌⊎◌, All, List, length, ◌++◌, take, Option}
 use Rattle.std.specs.Io.KnownBytes.{Appends}
 use Rattle.cvss_lines.specs.Answers.{Answer, IsAnswers, Rule, is_accepted, is_refused, number_after, written_answers}
 use Rattle.cvss_lines.specs.Lines.{ended_lines, lines as all_lines, unended_piece}
@@ -14,12 +14,6 @@ use Rattle.cvss_lines.specs.declared.summary.Summary.{Summary}
 -- no line ends in these bytes
 abbrev pub NoLineEnd : List ℕ → Type 0
 NoLineEnd bytes = All (λ byte. byte ≢ 10) bytes
-
--- the place of the first byte 10, or the length where there is none
-pub record IsFirstLineEnd (bytes : List ℕ) (place : ℕ) : Type 0 where
-  pub within : place ≤ length bytes
-  pub before : (k : ℕ) → k < place → slice_index bytes k ≢ 10
-  pub found : place < length bytes → slice_index bytes place ≡ 10
 
 -- one more answer is counted, by a `u64` that stops at its maximum
 pub record Counts (old : Summary) (answer : Answer) (new : Summary) : Type 0 where
