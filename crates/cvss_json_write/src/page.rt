@@ -47,14 +47,30 @@ impl Page {
         self.length = end;
     }
 
-    /// Writes a text whose length the compiler does not know.
+    /// Writes a text whose length the compiler does not know, eight bytes at a time, each by one store.
     // A call of its own: inlined wherever it is used, it would be a thirtieth of the module of WebAssembly.
     #[inline(never)]
     pub fn push_text(&mut self, text: &[u8])
         requires { length self.old + length text.now ≤ 4096 }
         ensures { self.new ≡ self.old ++ text.now }
     {
-        self.push(text);
+        let mut left = text;
+        while let Some((chunk, rest)) = left.split_first_chunk::<8>() {
+            self.push_array(*chunk);
+            left = rest;
+        }
+        self.push(left);
+    }
+
+    /// Writes bytes whose number is part of their type.
+    #[inline(always)]
+    fn push_array<const N: usize>(&mut self, bytes: [u8; N])
+        requires { length self.old + N ≤ 4096 }
+        ensures { self.new ≡ self.old ++ bytes.entry }
+    {
+        let end = self.length + N;
+        store(bytes, &mut self.bytes[self.length..end]);
+        self.length = end;
     }
 
     /// Writes a whole number.
@@ -102,6 +118,17 @@ impl Page {
     {
         let digits = seven_digits(count);
         self.push(&digits[..place_count(count)]);
+    }
+}
+
+/// Writes bytes over as many others.
+#[inline(always)]
+fn store<const N: usize>(bytes: [u8; N], place: &mut [u8])
+    requires { length place.old ≡ N }
+    ensures { place.new ≡ bytes.entry }
+{
+    if let Some(array) = place.as_mut_array() {
+        *array = bytes;
     }
 }
 
