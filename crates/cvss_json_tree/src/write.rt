@@ -16,7 +16,7 @@ use std::alloc::{AllocError, Global};
 ///
 /// # Errors
 ///
-/// Want of memory alone.
+/// Out of memory.
 pub fn write_object(
     alloc: Global,
     members: Map<String, Value>,
@@ -29,11 +29,11 @@ pub fn write_object(
     answers.push(b"\n")
 }
 
-/// Writes an object of which parts stand elsewhere, as JSON without spaces, and a byte 10.
+/// Writes an object of which parts may be borrowed, as JSON without spaces, and a byte 10.
 ///
 /// # Errors
 ///
-/// Want of memory alone.
+/// Out of memory.
 pub fn write_tree_object(
     alloc: Global,
     members: &Map<String, Tree<'_>>,
