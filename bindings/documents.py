@@ -1,7 +1,7 @@
 #!/usr/bin/env python3
-"""Runs the examples and recipes of docs/BINDINGS.md and of the pages of the languages; of docs/PROGRAMS.md the examples for
-jobs; of README.md the first commands and those of Python and Rust; and of both pages those of the programs. Reports if
-docs/PERFORMANCE.md lacks a figure, or docs/BINDINGS.md a name or a command.
+"""Runs the examples and recipes of docs/BINDINGS.md and of the pages of the languages; of README.md the first commands and
+those of Python, Rust and the programs; and the examples of docs/PROGRAMS.md, docs/AUDIT.md and docs/EXPLANATIONS.md.
+Reports if docs/PERFORMANCE.md lacks a figure, or docs/BINDINGS.md a name or a command.
 
 Usage: documents.py ROOT FOLDER. ROOT is the folder of the checkout, in which bindings/build has made the library; files
 are made only in FOLDER. An example says in comments what it prints. What needs a missing tool is skipped.
@@ -23,7 +23,7 @@ LANGUAGES = {name: (ROOT / f"docs/{name}.md").read_text() for name in ("C", "RUS
 # what they say to those who come from another package
 FROM = {name: page.partition("\n## From ")[2] for name, page in LANGUAGES.items()}
 PAGE = "\n".join([(ROOT / "docs/BINDINGS.md").read_text(), *(page.split("\n## From ")[0] for page in LANGUAGES.values())])
-PROGRAMS = (ROOT / "docs/PROGRAMS.md").read_text()
+PROGRAMS = "\n".join((ROOT / f"docs/{name}.md").read_text() for name in ("PROGRAMS", "AUDIT", "EXPLANATIONS"))
 PERFORMANCE = (ROOT / "docs/PERFORMANCE.md").read_text()
 # each valid, rejected and not UTF-8, and ended in each way that the program knows
 EDGES = [
@@ -212,7 +212,7 @@ def linked_programs():
 
 
 def try_programs():
-    """The examples of README.md and docs/PROGRAMS.md that begin with a `$`: each prints what is below it."""
+    """The examples of README.md and of the pages of the programs that begin with a `$`: each prints what is below it."""
     programs, folder = linked_programs()
     environment = {**os.environ, "PATH": f"{folder}:{os.environ['PATH']}"}
     pages = ((ROOT / "README.md").read_text(), PROGRAMS)
@@ -228,6 +228,10 @@ def try_programs():
             continue
         done = subprocess.run(["bash", "-c", command], cwd=ROOT, env=environment, stdout=subprocess.PIPE)
         check(done.stdout, wanted, example)
+    if programs["cvss"].exists():
+        block = block_with('"macroVector"', page=PROGRAMS)
+        explained = run([programs["cvss"], "explain", "--json", json.loads(block)["vector"]])
+        check(explained, block.replace("\n", "") + "\n", block)
 
 
 # vectors with their scores by the scale of the standard

@@ -40,8 +40,8 @@ def read_table(path):
 
 def version_told(row):
     """The version of a row, for a rejected text by its first bytes."""
-    told = row["text"][5:8] if row["text"].startswith("CVSS:") else ""
-    return row.get("version") or (told if told in ("3.0", "3.1", "4.0") else "2.0")
+    named = row["text"][5:8] if row["text"].startswith("CVSS:") else ""
+    return row.get("version") or (named if named in ("3.0", "3.1", "4.0") else "2.0")
 
 
 def chosen(options):
@@ -61,14 +61,14 @@ def chosen(options):
     return found
 
 
-def is_same(name, told, expected):
+def is_same(name, answer, expected):
     """Whether an answer is the column's: 7.0 and 7 are one number, High and high one rating."""
     if name in NUMBERS and expected != "-":
         try:
-            return Decimal(told) == Decimal(expected)
+            return Decimal(answer) == Decimal(expected)
         except InvalidOperation:
             return False
-    return told.lower() == expected.lower() if name.endswith("rating") else told == expected
+    return answer.lower() == expected.lower() if name.endswith("rating") else answer == expected
 
 
 def fault(row, columns, line):
@@ -78,16 +78,16 @@ def fault(row, columns, line):
     if words and words[0] in ("error", "error:"):
         if "kind" not in row:
             return "refused, and to be accepted"
-        told = words[1] if len(words) > 1 else ""
-        if "kind" in columns and told != row["kind"]:
-            return f"refused as {told or 'nothing'}, and not as {row['kind']}"
+        kind = words[1] if len(words) > 1 else ""
+        if "kind" in columns and kind != row["kind"]:
+            return f"refused as {kind or 'nothing'}, and not as {row['kind']}"
         return None
     if "kind" in row:
         return f"accepted as {line.strip()[:60]}, and to be refused ({row['kind']})"
     if len(words) != len(scored):
         return f"{len(words)} columns in place of {len(scored)}: {line.strip()[:60]}"
-    wrong = [f"{name} {told}, and not {row[name]}" for name, told in zip(scored, words)
-             if not is_same(name, told, row[name])]
+    wrong = [f"{name} {answer}, and not {row[name]}" for name, answer in zip(scored, words)
+             if not is_same(name, answer, row[name])]
     return "; ".join(wrong) or None
 
 
@@ -108,7 +108,7 @@ class Progress:
         self.total = total
         self.shown = sys.stderr.isatty()
 
-    def tell(self, count):
+    def report(self, count):
         if self.shown and (count % 500 == 0 or count == self.total):
             end = "\n" if count == self.total else ""
             print(f"\r{count} of {self.total}", end=end, file=sys.stderr, flush=True)
@@ -129,7 +129,7 @@ def answers(words, rows):
             count += 1
             if count > len(rows):
                 raise Unfit(f"the command answers more than {len(rows)} lines")
-            progress.tell(count)
+            progress.report(count)
             yield line.decode("utf-8", "replace")
         if count < len(rows):
             raise Unfit(f"the command ended with status {command.wait()} after {count} of "
@@ -152,8 +152,8 @@ def print_table(rows, wrong, seconds):
 def print_wrong(wrong, shown):
     for name, found in wrong.items():
         print(f"\n{name}: {len(found)} wrong")
-        for text, told in found[:shown]:
-            print(f"  {text}\n    {told}")
+        for text, reason in found[:shown]:
+            print(f"  {text}\n    {reason}")
         if len(found) > shown:
             print(f"  and {len(found) - shown} more")
 
@@ -193,9 +193,9 @@ def main(arguments):
         rows = chosen(options)
         for line, row in zip(answers(options.command, rows), rows):
             tried.append(row)
-            told = fault(row, options.columns, line)
-            if told:
-                wrong.setdefault(row["class"], []).append((row["text"], told))
+            reason = fault(row, options.columns, line)
+            if reason:
+                wrong.setdefault(row["class"], []).append((row["text"], reason))
     except (Unfit, OSError) as error:
         unfit = error
     print_table(tried, wrong, time.monotonic() - start)

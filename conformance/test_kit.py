@@ -34,9 +34,9 @@ class Files(unittest.TestCase):
         text = (HERE / "README.md").read_text(encoding="utf-8")
         section = text.split("\n## The classes\n")[1].split("\n## ")[0]
         table = [line.split("|") for line in section.splitlines() if line.startswith("| `")]
-        told = {cells[1].strip(" `"): cells[2].strip().replace(",", "") for cells in table}
+        rows = {cells[1].strip(" `"): cells[2].strip().replace(",", "") for cells in table}
         counts = Counter(row["class"] for row in run.chosen(run.parsed(["true"])))
-        self.assertEqual(told, {name: str(count) for name, count in counts.items()})
+        self.assertEqual(rows, {name: str(count) for name, count in counts.items()})
         self.assertIn(f"\n{sum(counts.values()):,} texts with exact answers", text)
         for name in ("scores.tsv", "refused.tsv"):
             content = (HERE / name).read_bytes()

@@ -1,5 +1,5 @@
 /*
- * Prints each vector in the lines of standard input, as the program cvss_find does: the line's number and the column of
+ * Prints each vector in the lines of standard input, as `cvss find` does: the line's number and the column of
  * the match in bytes, both from 1, and what cvss_tool answers to it.
  */
 #define _POSIX_C_SOURCE 200809L

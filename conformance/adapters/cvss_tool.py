@@ -16,9 +16,9 @@ from kinds import kind_of
 def main():
     with subprocess.Popen(sys.argv[1:], stdout=subprocess.PIPE) as program:
         for line in program.stdout:
-            told = line.decode("utf-8").rstrip("\n")
-            reason = told.removeprefix("error: ")
-            print(told if reason == told else f"error: {kind_of(reason)}")
+            answer = line.decode("utf-8").rstrip("\n")
+            reason = answer.removeprefix("error: ")
+            print(answer if reason == answer else f"error: {kind_of(reason)}")
     # 1 says that a line was rejected.
     return 0 if program.returncode in (0, 1) else 2
 

@@ -87,9 +87,9 @@ def accepted(reason, version, vector, text=None):
     plain = canonical(version, vector)
     text = plain if text is None else text
     columns = answers(version, tuple(vector.items()))
-    told = f"{plain} {columns[0]} {columns[4]}"
-    if reference.answer(text.encode()) != told:
-        raise AssertionError(f"{text} is not read as {told}")
+    answer = f"{plain} {columns[0]} {columns[4]}"
+    if reference.answer(text.encode()) != answer:
+        raise AssertionError(f"{text} is not read as {answer}")
     complete = all(name in vector for name in BASE[version])
     return [text.encode(), plain.encode(), version, *columns, "yes" if complete else "no", reason]
 

@@ -94,8 +94,8 @@ def telling(version, score, vectors, name, value):
             if at not in known:
                 known[at] = score(version, vector)
             with replaced(*place):
-                told = score(version, vector)
-            if told != known[at]:
+                other = score(version, vector)
+            if other != known[at]:
                 yield vector
                 break
 

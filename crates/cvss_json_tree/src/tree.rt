@@ -1,4 +1,4 @@
-//! JSON values of which parts are elsewhere.
+//! JSON values of which parts may be borrowed.
 
 ghost use Rattle.std.specs.Prelude.{◌≡◌, OnErr, OnOk};
 ghost use Rattle.cvss_json_tree.specs.Trees.{members_view, tree_view};
@@ -7,15 +7,15 @@ ghost use Rattle.serde_json.specs.Data.{put};
 use serde_json::{Map, Value};
 use std::alloc::{AllocError, Global};
 
-/// A JSON value of which parts may be elsewhere: they are written from there, and a string alone
-/// is copied, while it is written.
+/// A JSON value of which parts may be borrowed: they are written without a copy, except a string,
+/// which is copied while it is written.
 #[derive(Drop)]
 pub enum Tree<'a> {
     /// A value of its own.
     Own(Value),
-    /// A value that is elsewhere.
+    /// A borrowed value.
     Borrowed(&'a Value),
-    /// A string that is elsewhere.
+    /// A borrowed string.
     Text(&'a str),
     /// An array.
     Array(Vec<Tree<'a>>),
@@ -27,7 +27,7 @@ pub enum Tree<'a> {
 ///
 /// # Errors
 ///
-/// Out of memory, after which the members are those before.
+/// Out of memory. The members are unchanged then.
 pub fn put_tree<'a>(
     members: &mut Map<String, Tree<'a>>,
     alloc: Global,

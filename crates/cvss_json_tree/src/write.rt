@@ -29,7 +29,7 @@ pub fn write_object(
     answers.push(b"\n")
 }
 
-/// Writes an object of which parts are elsewhere, as JSON without spaces, and a byte 10.
+/// Writes an object of which parts may be borrowed, as JSON without spaces, and a byte 10.
 ///
 /// # Errors
 ///

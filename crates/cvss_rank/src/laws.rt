@@ -15,7 +15,7 @@ pub fn clones_are_equal()
     ensures of_override { ClonesByValue ⟦<Override<'static> as Clone>⟧.is_clone }
 {}
 
-/// To clone them takes no memory, so it is never refused.
+/// Cloning them takes no memory, so it never fails.
 pub fn values_are_cloned_without_memory()
     ensures family { ClonesAlways ⟦<Family as Clone>⟧.is_infallible }
     ensures of_override { ClonesAlways ⟦<Override<'static> as Clone>⟧.is_infallible }

@@ -7,7 +7,7 @@ ghost use Rattle.cvss_rows.specs.Rows.{header_text};
 #[derive(Clone, Copy, Debug, PartialEq, Eq)]
 pub enum Format {
     /// Values with tabs between them; what there is not is empty. A tab, a carriage return and a backslash
-    /// in the given text or in an error are written `\t`, `\r` and `\\`.
+    /// in a file's name, the given text or an error are written `\t`, `\r` and `\\`.
     Tsv,
     /// A JSON object (RFC 8259). What there is not, and a given text that is not UTF-8, is null.
     Json,

@@ -1,4 +1,4 @@
-//! Where vectors are mentioned in a text of any bytes: in a sentence, in parentheses, in a link.
+//! Finds vectors in a text of any bytes: in a sentence, in parentheses, in a link.
 #![tactic(auto)]
 
 pub mod laws;

@@ -1,4 +1,4 @@
-//! A mention of a vector.
+//! A match of a vector in a text.
 
 ghost use Rattle.std.specs.Prelude.{◌≡◌, ◌↔◌, ◌+◌, ◌<◌, ◌≤◌, ◌^◌, length, IfSome, IsTrue, MatchOption, Some};
 ghost use Rattle.cvss_any.specs.Answers.{HasScore};
@@ -11,18 +11,18 @@ use crate::part::{unencoded, without_dividers};
 use crate::prefix::{begins_exactly, begins_loosely, begins_with_prefix, label_length};
 use cvss_any::Cvss;
 
-/// A mention of a vector in a text: bytes that are accepted as a vector, or that were meant as one.
+/// A match of a vector in a text: bytes that are accepted as a vector, or that were meant as one.
 #[derive(Clone, Copy, Debug)]
 pub struct Mention<'a> {
-    /// The place of the first byte in the text, counted from 0.
+    /// The offset of the first byte in the text, from 0.
     pub place: usize,
-    /// The bytes of the mention.
+    /// The bytes of the match.
     pub text: &'a [u8],
 }
 
 impl Mention<'_> {
-    /// The vector that is mentioned; none where the mention is refused, and `Cvss::from_bytes`
-    /// says why.
+    /// The vector of the match; `None` if the match is rejected, and then `Cvss::from_bytes`
+    /// returns the reason.
     pub fn vector(&self) -> Option<Cvss>
         ensures denoted { IfSome result (λ cvss. DenotesCvss self.now.text.now cvss) }
         ensures accepts { (cvss : Cvss) → DenotesCvss self.now.text.now cvss → result ≡ Some cvss }

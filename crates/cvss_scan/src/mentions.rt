@@ -1,4 +1,4 @@
-//! The mentions of a text.
+//! The matches in a text.
 
 ghost use Rattle.std.specs.Iterator.{item_count};
 ghost use Rattle.std.specs.Prelude.{◌≡◌, ◌+◌, ◌<◌, ◌^◌, [], ◌∷◌, IfSome, MatchOption, length};
@@ -10,12 +10,12 @@ use crate::mention::{Mention, find_in};
 use crate::part::{first_part, is_run_byte};
 use crate::passing::no_slash;
 
-/// The mentions of a text that are found, in order. It takes no memory, and looks at each byte a
+/// The matches in a text, in order. It takes no memory, and looks at each byte a
 /// bounded number of times.
 #[derive(Clone, Copy, Debug)]
 pub struct Mentions<'a> {
     text: &'a [u8],
-    /// Where the part begins that is looked at next.
+    /// The offset of the part that is looked at next.
     place: usize,
 }
 
@@ -27,7 +27,7 @@ impl<'a> Mentions<'a> {
         Mentions { text, place: 0 }
     }
 
-    /// Those of what is at a place of the text and after it, with their places in the text.
+    /// Those from an offset of the text on, with their offsets in the whole text.
     pub fn after(text: &'a [u8], place: usize) -> Mentions<'a>
         ensures { mentions_left result ≡ mentions_after text.now place }
     {

@@ -36,7 +36,7 @@ last_byte [] = []
 last_byte (byte ∷ []) = byte ∷ []
 last_byte (byte ∷ next ∷ rest) = last_byte (next ∷ rest)
 
--- between bytes with which no vector is written, or the ends, the text is a mention by itself
+-- after a byte of no run and before one with which no vector is written, or the ends, the text is a mention by itself
 abbrev pub IsMentionedBetween : List ℕ → List ℕ → List ℕ → Type 0
 IsMentionedBetween before text after = is_outside (last_byte before) ≡ true → is_other after ≡ true
     → Contains (mentions_of (before ++ (text ++ after))) (record { place = length before; text = text })
