@@ -23,6 +23,7 @@ impl Model for Page {
 }
 
 impl Page {
+    /// The empty text.
     pub fn new() -> Page
         ensures { result ≡ [] }
     {
@@ -32,12 +33,14 @@ impl Page {
         }
     }
 
+    /// The bytes of the text.
     pub fn bytes(&self) -> &[u8]
         ensures { result.now ≡ self.now }
     {
         &self.bytes[..self.length]
     }
 
+    /// Writes bytes.
     pub fn push(&mut self, text: &[u8])
         requires { length self.old + length text.now ≤ 4096 }
         ensures { self.new ≡ self.old ++ text.now }
