@@ -66,13 +66,7 @@ fn quoted<'a>(words: &'static str, text: Segment<'a>) -> Message<'a>
     ensures bound { length (text_of result.segments) < 2 ^ 63 + 300 }
 {
     let none = Segment::words("");
-    let segments = [
-        Segment::words(words),
-        text,
-        Segment::words("`"),
-        none,
-        none,
-    ];
+    let segments = [Segment::words(words), text, Segment::words("`"), none, none];
     Message { segments }
 }
 
@@ -82,19 +76,26 @@ fn invalid<'a>(metric: MetricType, value: Segment<'a>) -> Message<'a>
         ++ quoted_text (segment_text value.entry) }
     ensures bound { length (text_of result.segments) < 2 ^ 63 + 300 }
 {
-    let words = match metric {
-        MetricType::V2(_) => "invalid CVSSv2 ",
-        MetricType::V3(_) => "invalid CVSSv3 ",
-        MetricType::V4(_) => "invalid CVSSv4 ",
-    };
     let segments = [
-        Segment::words(words),
+        bad_value(metric),
         Segment::words(metric.words()),
         Segment::words(": `"),
         value,
         Segment::words("`"),
     ];
     Message { segments }
+}
+
+/// The words before a metric that has no such value.
+fn bad_value<'a>(metric: MetricType) -> Segment<'a>
+    ensures text { segment_text result ≡ codes "invalid " ++ version_words metric }
+    ensures short { length (segment_text result) ≤ 30 }
+{
+    Segment::words(match metric {
+        MetricType::V2(_) => "invalid CVSSv2 ",
+        MetricType::V3(_) => "invalid CVSSv3 ",
+        MetricType::V4(_) => "invalid CVSSv4 ",
+    })
 }
 
 /// The words before a metric that occurs twice.
